@@ -52,6 +52,7 @@ pub record HubSeen : Type 0 where
   pub shown : Shown
   pub faults : ℕ
 
+-- A hub that shows this, with this count of faults.
 abbrev pub hub_seen : Shown → ℕ → HubSeen
 hub_seen shown faults = record { shown = shown; faults = faults }
 
@@ -131,20 +132,22 @@ pub record NoneRead (before now : Outside) : Type 0 where
   pub reading : now.reading ≡ before.reading
   pub read_faults : now.read_faults ≡ before.read_faults
 
--- The words ask for the sessions of the hub.
+-- Whether a command is `serve`.
 abbrev pub is_serve : Asked → Bool
 is_serve (Serve addr turns log) = true
 is_serve _ = false
 
+-- The words ask for `serve`.
 abbrev pub AsksToServe : List Bytes → Type 0
 AsksToServe words = (asked : Asked) × (is_serve asked ≡ true) × Asks words asked
 
--- The words ask for a log.
+-- Whether a command has a log.
 abbrev pub has_log : Asked → Bool
 has_log (Serve addr turns log) = is_some log
 has_log (Replay log) = is_some log
 has_log _ = false
 
+-- The words ask for a command with a log.
 abbrev pub AsksForLog : List Bytes → Type 0
 AsksForLog words = (asked : Asked) × (has_log asked ≡ true) × Asks words asked
 

@@ -30,6 +30,7 @@ pub record DiskSeen : Type 0 where
   pub told : Option History
   pub faults : ℕ
 
+-- a disk that went through this, where that is told, with this count of faults
 abbrev pub disk_seen : Option History → ℕ → DiskSeen
 disk_seen told faults = record { told = told; faults = faults }
 
@@ -40,6 +41,7 @@ pub record LogSeen : Type 0 where
   pub before : DiskSeen
   pub now : DiskSeen
 
+-- the log that is asked for by a path, on a disk that was and now is so
 abbrev pub log_at : Bytes → DiskSeen → DiskSeen → LogSeen
 log_at path before now = record { path = path; before = before; now = now }
 

@@ -40,11 +40,12 @@ pub record IsBehind (links : List (Option ℕ)) (head : Option ℕ) (i : ℕ) (b
   pub place : Stands links head i
   pub is : before ≡ last_of place.front
 
--- the links, and the heads, once a slot of bucket k that stood behind `before` is passed over
+-- the links once a slot that stood behind `before` is passed over
 abbrev pub relinked : Option ℕ → Option ℕ → List (Option ℕ) → List (Option ℕ)
 relinked None to links = links
 relinked (Some i) to links = slice_set links i to
 
+-- the heads then: that of bucket k is another where no slot stood before the one that is passed over
 abbrev pub reheaded : Option ℕ → ℕ → Option ℕ → List (Option ℕ) → List (Option ℕ)
 reheaded None k to heads = slice_set heads k to
 reheaded (Some i) k to heads = heads

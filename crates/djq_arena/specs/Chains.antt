@@ -17,9 +17,11 @@ abbrev pub last_from : Option ℕ → List ℕ → Option ℕ
 last_from o [] = o
 last_from o (x ∷ xs) = last_from (Some x) xs
 
+-- the first of a list; none where it is empty
 abbrev pub first_of : List ℕ → Option ℕ
 first_of xs = first_or xs None
 
+-- the last of a list; none where it is empty
 abbrev pub last_of : List ℕ → Option ℕ
 last_of xs = last_from None xs
 
@@ -54,6 +56,7 @@ abbrev pub set_prev : Option ℕ → Option ℕ → List Pair → List Pair
 set_prev None to links = links
 set_prev (Some i) to links = slice_set links i (record { prev = to; next = (pair_at links i).next })
 
+-- another link of a slot to the next one, if there is a slot
 abbrev pub set_next : Option ℕ → Option ℕ → List Pair → List Pair
 set_next None to links = links
 set_next (Some i) to links = slice_set links i (record { prev = (pair_at links i).prev; next = to })

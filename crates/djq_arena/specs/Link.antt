@@ -17,5 +17,6 @@ back : (n : ℕ) (b : Bool) → (n == SLOTS) ≡ b → number (cond b None (Some
 back n true h = sym (eqb-true n SLOTS h)
 back n false h = refl
 
+-- the number of the slot, or none, that a link stands for is the link's own
 pub shown_back : (l : Inside) → record { slot = number (shown l.slot) } ≡ l
 shown_back l = ap (λ (n : ℕ). record { slot = n }) (back l.slot (l.slot == SLOTS) refl)

@@ -84,9 +84,11 @@ pub record IsStore (s : Store) (xs fs : List ℕ) : Type 0 where
 unfoldable pub live_of : Store → List ℕ
 live_of s = trail s.len s.order.items s.live.first
 
+-- the free slots
 unfoldable pub free_of : Store → List ℕ
 free_of s = trail s.spare s.order.items s.free
 
+-- the slots that the store's two chains lead to are those of its rows, in order, and the free ones
 pub record IsSound (s : Store) : Type 0 where
   pub store : IsStore s (live_of s) (free_of s)
 

@@ -69,6 +69,7 @@ is_kept (Done result held) = is_done result
 abbrev pub line_where : Bool → KeptLines
 line_where kept = if kept then Line else Nothing
 
+-- what is kept of an outcome: its line, the batch that it ends, or nothing
 abbrev pub lines_kept : Outcome → KeptLines
 lines_kept (Added result) = line_where (is_done result)
 lines_kept (Deleted result) = line_where (is_removal result)

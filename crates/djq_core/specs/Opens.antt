@@ -26,6 +26,7 @@ OpensTo old before c q (Ok _) new after = (id : CursorId) × OpensCursor old q i
 OpensTo old before c q (Err _) new after = (new.store ≡ old.store) × SameCursors old.cursors new.cursors
     × (new.registered ≡ old.registered) × (after ≡ before)
 
+-- A session opens a cursor over a query, or is told why it doesn't.
 pub record Opens (old : Kept) (before : Talk) (c q : Bytes) (result : Result ⊤ Refusal) (new : Kept) (after : Talk) :
     Type 0 where
   pub answer : Answers (refusal_of old before c q) result (λ _. ⊤) (OutOfMemoryWhere ⊤)

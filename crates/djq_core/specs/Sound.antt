@@ -16,19 +16,21 @@ use Rattle.djq_machine.specs.Batch.{SuitAll}
 use Rattle.djq_core.specs.declared.open.OpenSession.{OpenSession}
 use Rattle.djq_core.specs.Views.{Talk}
 
--- each number of a list is below the later ones
+-- n is below each of these numbers
 abbrev pub IsBelow : ℕ → List ℕ → Type 0
 IsBelow n [] = ⊤
 IsBelow n (m ∷ ms) = (n < m) × IsBelow n ms
 
+-- the numbers of a list rise
 abbrev pub Rises : List ℕ → Type 0
 Rises [] = ⊤
 Rises (n ∷ ns) = IsBelow n ns × Rises ns
 
--- the engine's cursors of a session, and of all sessions
+-- the engine's cursors of a session
 abbrev pub ids_of : List (NamedCursor CursorId) → List CursorId
 ids_of names = map (λ n. n.cursor) names
 
+-- the engine's cursors of all these sessions
 abbrev pub all_ids : List OpenSession → List CursorId
 all_ids [] = []
 all_ids (x ∷ xs) = ids_of (x.session).cursors ++ all_ids xs
@@ -66,6 +68,7 @@ abbrev pub NoneOnceEnded : Option EndCause → List (NamedCursor CursorId) → T
 NoneOnceEnded None names = ⊤
 NoneOnceEnded (Some c) names = names ≡ []
 
+-- none of these sessions that has ended has cursors
 abbrev pub AreEndedWithout : List OpenSession → Type 0
 AreEndedWithout [] = ⊤
 AreEndedWithout (x ∷ xs) = NoneOnceEnded (x.session).cause (x.session).cursors × AreEndedWithout xs
@@ -98,6 +101,7 @@ abbrev pub QuietOnceEnded : Option EndCause → List Bytes → Type 0
 QuietOnceEnded None ws = ⊤
 QuietOnceEnded (Some c) ws = ws ≡ []
 
+-- none of these sessions that has ended watches anything
 abbrev pub AreQuiet : List OpenSession → Type 0
 AreQuiet [] = ⊤
 AreQuiet (x ∷ xs) = QuietOnceEnded (x.session).cause (x.session).watches × AreQuiet xs
@@ -157,6 +161,7 @@ abbrev pub BatchSuits : Store → Option (List HeldRow) → Type 0
 BatchSuits st None = ⊤
 BatchSuits st (Some held) = (length held ≤ HELD) × SuitAll st held
 
+-- Each of these batches, where it is open, holds few rows enough, which suit their relations.
 abbrev pub AreSuited : Store → List (Option (List HeldRow)) → Type 0
 AreSuited st [] = ⊤
 AreSuited st (b ∷ bs) = BatchSuits st b × AreSuited st bs

@@ -21,6 +21,7 @@ abbrev pub query_in : Option Held → Bytes
 query_in None = []
 query_in (Some h) = h.query
 
+-- the position of a cursor that the engine holds
 abbrev pub position_in : Option Held → Position
 position_in None = stale [] 0
 position_in (Some h) = h.position

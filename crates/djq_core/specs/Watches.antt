@@ -19,10 +19,11 @@ abbrev pub RewatchesWhere : List Bytes → Kept → Talk → Result ⊤ Refusal 
 RewatchesWhere watches old before (Ok _) new after = Rewatches watches old before new after
 RewatchesWhere watches old before (Err _) new after = (new ≡ old) × (after ≡ before)
 
--- the queries that are watched, with one more, and without one
+-- the queries that are watched, with one more
 abbrev pub with_query : Bytes → List Bytes → List Bytes
 with_query q ws = if is_among_watches ws q then ws else ws ++ q ∷ []
 
+-- the queries that are watched, without one
 abbrev pub without_query : Bytes → List Bytes → List Bytes
 without_query q ws = drop_first (λ w. bytes_eq w q) ws
 

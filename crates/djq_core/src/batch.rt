@@ -89,7 +89,7 @@ pub(crate) fn run_in_batch<L: Ledgers>(
     }
 }
 
-// A row that was made is held, unless memory is wanting, and that is answered.
+/// A row that was made is held, unless memory is wanting, and that is answered.
 fn hold(session: &mut Session<CursorId, Name>, made: Result<HeldRow, Refusal>)
     requires open { IsSome session.old.batch }
     requires room { REPLY_BYTES + LAST_LINE_BYTES ≤ session.old.room }
@@ -105,7 +105,7 @@ fn hold(session: &mut Session<CursorId, Name>, made: Result<HeldRow, Refusal>)
     session.answer_held(outcome, session.rows_held());
 }
 
-// `done`: the batch is closed, and its rows go in at once. What is left is to tell it and to answer.
+/// `done`: the batch is closed, and its rows go in at once. What is left is to tell it and to answer.
 fn run_done<L: Ledgers>(
     engine: &mut Store,
     session: &mut Session<CursorId, Name>,

@@ -139,7 +139,7 @@ pub(crate) fn run_open(
     session.answer_opened(outcome);
 }
 
-// A new cursor of the store under a name of the session, where nothing refuses it.
+/// A new cursor of the store under a name of the session, where nothing refuses it.
 fn open_cursor(
     engine: &mut Store,
     session: &mut Session<CursorId, Name>,
@@ -215,7 +215,7 @@ pub(crate) fn run_has<L: Ledgers>(
     session.answer_has(outcome);
 }
 
-// The lines that explain a union's members go behind a text.
+/// The lines that explain a union's members go behind a text.
 fn put_members(engine: &Store, union: &Name, count: usize, text: &mut BytesMut) -> Result<(), NoMem>
     requires { IsSomeAnd (listed_of engine.now.store.queries union.now)
         (λ q. count ≡ length (members_of q)) }
@@ -228,11 +228,11 @@ fn put_members(engine: &Store, union: &Name, count: usize, text: &mut BytesMut) 
     Ok(())
 }
 
-// What explains a query or a union is queued: the lines of the one's tree, or of the other's members.
-//
-// # Errors
-//
-// `NoMem` out of memory; nothing is queued.
+/// What explains a query or a union is queued: the lines of the one's tree, or of the other's members.
+///
+/// # Errors
+///
+/// `NoMem` out of memory; nothing is queued.
 fn queue_explained(
     alloc: Global,
     engine: &Store,

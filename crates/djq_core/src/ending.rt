@@ -13,7 +13,7 @@ use djq_model::Name;
 use djq_session::Session;
 use djq_store::{CursorId, Store};
 
-// The store gives up the cursors of a session, and nothing else.
+/// The store gives up the cursors of a session, and nothing else.
 fn give_up_cursors(engine: &mut Store, session: &mut Session<CursorId, Name>)
     requires { IsOwn engine.old session.old }
     ensures { GivesUpCursors engine.old session.old engine.new session.new }
@@ -23,7 +23,7 @@ fn give_up_cursors(engine: &mut Store, session: &mut Session<CursorId, Name>)
     }
 }
 
-// The store counts a session no more among those that watch its queries.
+/// The store counts a session no more among those that watch its queries.
 fn give_up_watches(engine: &mut Store, session: &mut Session<CursorId, Name>)
     requires { HasCount engine.old.registered session.old.watches }
     ensures { GivesUpWatches engine.old session.old engine.new session.new }

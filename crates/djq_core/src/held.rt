@@ -35,7 +35,7 @@ pub(crate) fn new_row(
     }
 }
 
-// A row of these values with a copy of its line.
+/// A row of these values with a copy of its line.
 fn put_together(
     alloc: Global,
     line: &[u8],
@@ -51,7 +51,7 @@ fn put_together(
     })
 }
 
-// A copy of a line.
+/// A copy of a line.
 fn copy_line(alloc: Global, line: &[u8]) -> Result<Sequence<u8>, NoMem>
     ensures { IfOk result (λ copy. copy ≡ line.now) }
 {
@@ -62,7 +62,7 @@ fn copy_line(alloc: Global, line: &[u8]) -> Result<Sequence<u8>, NoMem>
     Ok(copy)
 }
 
-// A row's values, taken.
+/// A row's values, taken.
 fn take_values(alloc: Global, row: &mut Vec<Value>) -> Result<Row, NoMem>
     ensures { IfOk result (λ taken. taken ≡ row.old.items) }
 {

@@ -64,7 +64,7 @@ impl KeptLines {
     }
 }
 
-// The line with this number of a batch: `batch`, the lines of its rows, and `done`.
+/// The line with this number of a batch: `batch`, the lines of its rows, and `done`.
 fn line_of_batch(rows: &[HeldRow], i: usize) -> Option<&[u8]>
     ensures { option_copied result
         ≡ slice_get (codes "batch" ∷ map (λ h. h.line) rows.now ++ codes "done" ∷ []) i }
@@ -84,7 +84,7 @@ fn line_of_batch(rows: &[HeldRow], i: usize) -> Option<&[u8]>
     }
 }
 
-// The line that was run, where it is kept.
+/// The line that was run, where it is kept.
 fn line_where(kept: bool) -> KeptLines
     ensures { result ≡ line_where kept }
 {

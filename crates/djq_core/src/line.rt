@@ -30,7 +30,7 @@ use djq_steps::{Ledgers, Steps};
 use djq_store::{CursorId, Store};
 use std::alloc::Global;
 
-// Runs a command that isn't on a row, and tells what is left to do.
+/// Runs a command that isn't on a row, and tells what is left to do.
 fn run_command<L: Ledgers>(
     alloc: Global,
     engine: &mut Store,
@@ -108,8 +108,8 @@ fn run_command<L: Ledgers>(
     }
 }
 
-// Takes the line in front of a session, with a batch open or without, runs what it says, and tells
-// what is left to do. Room for a reply was kept.
+/// Takes the line in front of a session, with a batch open or without, runs what it says, and tells
+/// what is left to do. Room for a reply was kept.
 fn run_front<L: Ledgers>(
     alloc: Global,
     engine: &mut Store,
@@ -135,8 +135,8 @@ fn run_front<L: Ledgers>(
     run_line(alloc, engine, session, end, rest, row, steps)
 }
 
-// Takes the line in front of a session without a batch, runs what it says, and tells what is left to
-// do. Room for a reply was kept.
+/// Takes the line in front of a session without a batch, runs what it says, and tells what is left to
+/// do. Room for a reply was kept.
 fn run_line<L: Ledgers>(
     alloc: Global,
     engine: &mut Store,
@@ -176,8 +176,8 @@ fn run_line<L: Ledgers>(
     }
 }
 
-// The same of a line that isn't one of a row. It stands apart so that a row's line clears no room for
-// a command.
+/// The same of a line that isn't one of a row. It stands apart so that a row's line clears no room for
+/// a command.
 #[inline(never)]
 fn run_other<L: Ledgers>(
     alloc: Global,
@@ -215,15 +215,15 @@ fn run_other<L: Ledgers>(
     }
 }
 
-// Whether a command is only for a session with a batch open.
+/// Whether a command is only for a session with a batch open.
 fn is_for_batch(command: &Command) -> bool
     ensures { result ≡ is_misplaced {A = ⊤} None command.now }
 {
     matches!(command, Command::Done | Command::Abandon)
 }
 
-// Runs the line in front of a session that goes on, in the order of checks, and tells what is left
-// to do.
+/// Runs the line in front of a session that goes on, in the order of checks, and tells what is left
+/// to do.
 fn step_line<L: Ledgers>(
     alloc: Global,
     engine: &mut Store,

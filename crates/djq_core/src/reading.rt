@@ -45,7 +45,7 @@ pub(crate) fn read_in_batch<'a>(
     }
 }
 
-// The same of a line that isn't one of a row.
+/// The same of a line that isn't one of a row.
 fn read_other<'a>(alloc: Global, line: &[u8]) -> BatchLine<'a>
     requires { begins_row (tokens line.now) ≡ false }
     ensures { (row : Tuple) → ReadsInBatch line.now result row }
@@ -56,7 +56,7 @@ fn read_other<'a>(alloc: Global, line: &[u8]) -> BatchLine<'a>
     }
 }
 
-// What a command that isn't one of a row comes to in a batch.
+/// What a command that isn't one of a row comes to in a batch.
 fn line_of<'a>(command: &Command) -> BatchLine<'a>
     ensures { result ≡ in_batch command.now }
 {
@@ -69,7 +69,7 @@ fn line_of<'a>(command: &Command) -> BatchLine<'a>
     }
 }
 
-// What a line of a row that gives none is answered in a batch.
+/// What a line of a row that gives none is answered in a batch.
 fn row_refusal_of(verb: RowWord, refusal: LineRefusal) -> Refusal
     ensures { result ≡ row_refused_as verb refusal }
 {
@@ -90,7 +90,7 @@ pub(crate) fn refusal_of(refusal: LineRefusal) -> Refusal
     }
 }
 
-// What it is answered where its command would be.
+/// What it is answered where its command would be.
 fn misplaced_of(refusal: LineRefusal) -> Refusal
     ensures { result ≡ misplaced_as refusal }
 {

@@ -233,7 +233,7 @@ impl Machine for Core {
     }
 }
 
-// Whether the line is kept of a step that answers so and leaves no change to tell.
+/// Whether the line is kept of a step that answers so and leaves no change to tell.
 fn is_line_kept(stepped: Stepped) -> bool
     ensures { line_where result ≡ line_kept stepped }
 {
@@ -243,7 +243,7 @@ fn is_line_kept(stepped: Stepped) -> bool
     }
 }
 
-// The first of these sessions of at least this id to which something is due.
+/// The first of these sessions of at least this id to which something is due.
 fn first_due(sessions: &[OpenSession], from: u128) -> Option<u64>
     ensures { result ≡ option_map (λ x. x.id) (find (λ x. nat_le from x.id && is_due x.session) sessions.now) }
 {
@@ -253,7 +253,7 @@ fn first_due(sessions: &[OpenSession], from: u128) -> Option<u64>
         .map(|open| open.id)
 }
 
-// Where the session of an id stands.
+/// Where the session of an id stands.
 #[inline]
 fn place_of(ids: &[u64], id: u64) -> usize
     requires rising { Rises ids.now }

@@ -29,7 +29,7 @@ use djq_reply::{put_at, put_change};
 use djq_session::Session;
 use djq_store::{CursorId, QueryId, Store};
 
-// Whether a change was accepted: rows came that weren't there, or one went with its last copy.
+/// Whether a change was accepted: rows came that weren't there, or one went with its last copy.
 fn is_accepted(outcome: &Outcome) -> bool
     ensures { result ≡ is_accepted outcome.now }
 {
@@ -47,8 +47,8 @@ fn is_accepted(outcome: &Outcome) -> bool
     }
 }
 
-// Prints the delta of a query behind what is printed, and tells whether it is there whole: its log
-// may be lost, or there is no memory for the text.
+/// Prints the delta of a query behind what is printed, and tells whether it is there whole: its log
+/// may be lost, or there is no memory for the text.
 fn print_delta(engine: &Store, id: QueryId, query: &Name, text: &mut BytesMut) -> bool
     requires { IsRegistered engine.now id }
     ensures { Prints engine.now id query.now result text.old.items text.new.items }
@@ -65,7 +65,7 @@ fn print_delta(engine: &Store, id: QueryId, query: &Name, text: &mut BytesMut) -
     put_at(query, engine.seq(), text).is_ok()
 }
 
-// A session that watches is told a delta, or ends: too much is pending, or there is no memory.
+/// A session that watches is told a delta, or ends: too much is pending, or there is no memory.
 fn tell_watcher(engine: &mut Store, session: &mut Session<CursorId, Name>, whole: bool, text: &[u8])
     requires own { IsOwn engine.old session.old }
     requires running { session.old.cause ≡ None }
@@ -87,9 +87,9 @@ fn tell_watcher(engine: &mut Store, session: &mut Session<CursorId, Name>, whole
     }
 }
 
-// A delta is told to all sessions that watch its query. It is printed once. The query is looked for at
-// a place of what a session watches first, and the answer is the one behind that where it stood last:
-// queries are told in order of registration, in which most are watched too.
+/// A delta is told to all sessions that watch its query. It is printed once. The query is looked for at
+/// a place of what a session watches first, and the answer is the one behind that where it stood last:
+/// queries are told in order of registration, in which most are watched too.
 fn tell_query(
     engine: &mut Store,
     sessions: &mut Vec<OpenSession>,
@@ -120,7 +120,7 @@ fn tell_query(
     next
 }
 
-// Whether a session watches one of the queries that a change affected.
+/// Whether a session watches one of the queries that a change affected.
 fn some_watched(engine: &Store) -> bool
     requires { All (IsRegistered engine.now) engine.now.affected }
     ensures { result ≡ false → AffectsUnwatched engine.now }
@@ -133,8 +133,8 @@ fn some_watched(engine: &Store) -> bool
     false
 }
 
-// The deltas of the queries that a change affected are told, in order of registration. It stands apart
-// from the way of a change that nobody watches.
+/// The deltas of the queries that a change affected are told, in order of registration. It stands apart
+/// from the way of a change that nobody watches.
 #[inline(never)]
 fn tell_affected(engine: &mut Store, sessions: &mut Vec<OpenSession>, text: &mut BytesMut)
     requires sound { IsSound engine.old sessions.old.items }
@@ -149,7 +149,7 @@ fn tell_affected(engine: &mut Store, sessions: &mut Vec<OpenSession>, text: &mut
     }
 }
 
-// So they are, where somebody watches one.
+/// So they are, where somebody watches one.
 fn tell_watched(engine: &mut Store, sessions: &mut Vec<OpenSession>, text: &mut BytesMut)
     requires sound { IsSound engine.old sessions.old.items }
     requires registered { All (IsRegistered engine.old) engine.old.affected }
@@ -161,7 +161,7 @@ fn tell_watched(engine: &mut Store, sessions: &mut Vec<OpenSession>, text: &mut 
     }
 }
 
-// The own session is answered, where it goes on. Behind a delta room is made anew.
+/// The own session is answered, where it goes on. Behind a delta room is made anew.
 fn answer_last(engine: &mut Store, session: &mut Session<CursorId, Name>, outcome: &Outcome)
     requires { IsOwn engine.old session.old }
     ensures { Performs (λ st s x e st'. AnswersLast (nat_le (REPLY_BYTES + LAST_LINE_BYTES)

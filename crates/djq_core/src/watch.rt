@@ -19,7 +19,7 @@ pub(crate) fn run_watch(engine: &mut Store, session: &mut Session<CursorId, Name
     session.answer_watched(outcome, engine.seq());
 }
 
-// The session watches a query, where it is registered and isn't watched yet.
+/// The session watches a query, where it is registered and isn't watched yet.
 fn begin_watch(
     engine: &mut Store,
     session: &mut Session<CursorId, Name>,
@@ -51,7 +51,7 @@ pub(crate) fn run_unwatch(engine: &mut Store, session: &mut Session<CursorId, Na
     session.answer_done(outcome);
 }
 
-// The session watches a query no more, where it did.
+/// The session watches a query no more, where it did.
 fn cease_watch(
     engine: &mut Store,
     session: &mut Session<CursorId, Name>,

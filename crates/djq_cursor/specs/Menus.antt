@@ -12,11 +12,12 @@ abbrev pub AreOnce : List (List ℕ) → Type 0
 AreOnce [] = ⊤
 AreOnce (x ∷ xs) = (has xs x ≡ false) × AreOnce xs
 
--- the tuples ahead of one, and those behind it
+-- the tuples ahead of one
 abbrev pub ahead : List (List ℕ) → List ℕ → List (List ℕ)
 ahead [] u = []
 ahead (x ∷ xs) u = cond (same x u) [] (x ∷ ahead xs u)
 
+-- the tuples behind one; none where it isn't there
 abbrev pub behind : List (List ℕ) → List ℕ → List (List ℕ)
 behind [] u = []
 behind (x ∷ xs) u = cond (same x u) xs (behind xs u)

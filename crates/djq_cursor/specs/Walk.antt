@@ -83,10 +83,11 @@ IsOpen t menu (k ∷ ks) s = (menu_at t menu k s ≡ [] → ⊥)
 abbrev pub blank : Tree → List ℕ
 blank t = replicate (length t.head) 0
 
--- the answer that choices from the root down make, and the answers ahead of it
+-- the answer that choices from the root down make
 abbrev pub made_by : Reducts → List Choice → List ℕ
 made_by r cs = here r (blank r.tree) cs
 
+-- the answers ahead of the one that choices from the root down make
 abbrev pub ahead_of : Reducts → Menu → List Choice → List (List ℕ)
 ahead_of r menu cs = before r menu (blank r.tree) cs
 
@@ -94,10 +95,11 @@ ahead_of r menu cs = before r menu (blank r.tree) cs
 abbrev pub all_of : Tree → Menu → List (List ℕ)
 all_of t menu = leaves t menu (levels t) (blank t)
 
--- the choices go down from the root, as far as they come; and they come to the end
+-- the choices go down from the root, as far as they come
 abbrev pub Descends : Reducts → Menu → List Choice → Type 0
 Descends r menu cs = Follows r menu (length r.tree.nodes) (blank r.tree) cs
 
+-- the choices come to the end: no level is left below them
 abbrev pub IsComplete : Reducts → List Choice → Type 0
 IsComplete r cs = levels_below r.tree (reached (length r.tree.nodes) cs) ≡ []
 

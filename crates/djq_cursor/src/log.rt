@@ -13,7 +13,7 @@ pub struct Line {
 }
 
 impl Line {
-    // Takes an answer in place of what it had.
+    /// Takes an answer in place of what it had.
     fn write(&mut self, came: bool, answer: &Answer)
         ensures { self.new ≡ record { came = came; answer = answer.now } }
     {
@@ -22,7 +22,7 @@ impl Line {
     }
 }
 
-// Puts a line behind the others, and says so; false where there is no memory for it.
+/// Puts a line behind the others, and says so; false where there is no memory for it.
 #[inline(never)]
 fn push_line(lines: &mut Vec<Line>, came: bool, answer: &Answer) -> bool
     ensures put { OnTrue result (lines.new.items

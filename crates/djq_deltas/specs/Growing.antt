@@ -33,14 +33,16 @@ abbrev pub AnswersGo : Type 0
 AnswersGo = (before after : List Relation) (q : Listed) (changes : List Change) → HaveRows after before
     → IsDelta (AnswersOf before q) (AnswersOf after q) changes → All (λ c. c.sign ≡ Went) changes
 
--- By a row that comes, and by a batch, they only come; by a row that goes they only go.
+-- By a row that comes, rows only come.
 abbrev pub RowComes : Type 0
 RowComes = (relations : List Relation) (name : Bytes) (row : Tuple)
     → HaveRows relations (row_in relations name row).after
 
+-- By a batch, rows only come.
 abbrev pub RowsCome : Type 0
 RowsCome = (st : Store) (held : List HeldRow) → HaveRows st.relations (rows_in st held).after
 
+-- By a row that goes, rows only go.
 abbrev pub RowGoes : Type 0
 RowGoes = (relations : List Relation) (name : Bytes) (row : Tuple)
     → HaveRows (row_out relations name row).after relations
@@ -50,10 +52,12 @@ abbrev pub SparesOthers : List Relation → RowsChange → Type 0
 SparesOthers before change = (name : Bytes) → change.touches name ≡ false
     → rows_of change.after name ≡ rows_of before name
 
+-- A row that comes or goes leaves each other relation as it was.
 abbrev pub ChangesSpareOthers : Type 0
 ChangesSpareOthers = (relations : List Relation) (name : Bytes) (row : Tuple)
     → SparesOthers relations (row_in relations name row) × SparesOthers relations (row_out relations name row)
 
+-- A batch leaves each relation that it doesn't touch as it was.
 abbrev pub BatchesSpareOthers : Type 0
 BatchesSpareOthers = (st : Store) (held : List HeldRow) → SparesOthers st.relations (rows_in st held)
 

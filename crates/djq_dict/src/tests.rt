@@ -26,7 +26,7 @@ fn keeps_long_texts(rt: HostRuntime) -> Result<(), Fail> {
     Ok(())
 }
 
-// So many texts take the buffers and the buckets past several growths.
+/// So many texts take the buffers and the buckets past several growths.
 #[test]
 fn keeps_numbers_while_it_grows(rt: HostRuntime) -> Result<(), Fail> {
     let mut dict = Dict::new(rt.alloc())?;

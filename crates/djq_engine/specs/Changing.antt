@@ -160,12 +160,13 @@ DeletesFrom at row old Absent new =
     × (new.catalog ≡ old.catalog) × (new.queries.items ≡ old.queries.items)
     × (new.logs.items ≡ old.logs.items)
 
--- What holds where a row came, and where memory was refused for it.
+-- What holds where a row came.
 abbrev pub IfCame : Result AddOutcome InternRefusal → Type 0 → Type 0
 IfCame (Ok First) Holds = Holds
 IfCame (Ok (More n)) Holds = ⊤
 IfCame (Err refusal) Holds = ⊤
 
+-- What holds where memory was refused for a row.
 abbrev pub IfLacking : Result AddOutcome InternRefusal → Type 0 → Type 0
 IfLacking (Ok outcome) Holds = ⊤
 IfLacking (Err Full) Holds = ⊤
@@ -178,12 +179,13 @@ IfStill (Ok (More n)) Holds = Holds
 IfStill (Err Full) Holds = Holds
 IfStill (Err NoMem) Holds = ⊤
 
--- where a row went, and where none did
+-- what holds where a row went
 abbrev pub IfWent : DeleteOutcome → Type 0 → Type 0
 IfWent Last Holds = Holds
 IfWent (Left n) Holds = ⊤
 IfWent Absent Holds = ⊤
 
+-- what holds where no row went
 abbrev pub IfNoneWent : DeleteOutcome → Type 0 → Type 0
 IfNoneWent Last Holds = ⊤
 IfNoneWent (Left n) Holds = Holds
@@ -221,10 +223,11 @@ abbrev pub KeepsLogs : (ℕ → Bool) → Parts → Parts → Type 0
 KeepsLogs reached old new = (i : ℕ) (l : Live) → place_at old.queries.items i ≡ Some l
     → reached i ≡ false → log_at new.logs.items i ≡ log_at old.logs.items i
 
--- whether the query in a place reads the relation, and whether it is watched too
+-- whether the query in a place reads the relation
 abbrev pub reads_at : Parts → ℕ → ℕ → Bool
 reads_at p at i = is_reader (readers_at p.readers.items at) i
 
+-- whether the query in a place reads the relation and is watched
 abbrev pub tells_at : Parts → ℕ → ℕ → Bool
 tells_at p at i = reads_at p at i && watched_at p.watchers.items i
 

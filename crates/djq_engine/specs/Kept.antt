@@ -164,10 +164,11 @@ pub record MovesCursor (old : Kept) (h : Held) (position : Position) (new : Kept
   pub registered : new.registered ≡ old.registered
   pub tellings : SameTellings old new
 
--- what holds of the query of an id, and of that over which a cursor of this id is
+-- what holds of the query of an id
 abbrev pub AtPlace : Kept → QueryId → (Live → Type 0) → Type 0
 AtPlace k id P = IsSomeAnd (place_at k.places id.at) P
 
+-- what holds of the query over which a cursor of this id is
 abbrev pub AtQuery : Kept → CursorId → (Live → Type 0) → Type 0
 AtQuery k id P = AtPlace k id.query P
 
@@ -220,6 +221,7 @@ MoreGivesAt old h q (open_at given ended) false new =
     AreAll (AnswersOf (old.store).relations q) given × MovesCursor old h (open_at given true) new
 MoreGivesAt old h q (stale r m) more new = ⊥
 
+-- Whether a further answer is left for a held cursor is told, and no more is counted than one answer takes.
 pub record MoreGives (old : Kept) (id : CursorId) (result : Bool) (new : Kept) (before now : ℕ) :
     Type 0 where
   pub gives : IsSomeAnd (held_at old.cursors id) (λ h. IsSomeAnd

@@ -37,12 +37,13 @@ LogsTell k (r ∷ rs) (d ∷ ds) = LogTells k r d × LogsTell k rs ds
 LogsTell k [] (d ∷ ds) = ⊥
 LogsTell k (r ∷ rs) [] = ⊥
 
--- What holds of a change that was accepted, and of one for which memory was refused.
+-- What holds of a change that was accepted.
 abbrev pub IfAccepted : RowsOutcome → (RowsChange → Type 0) → Type 0
 IfAccepted (accepted change) Holds = Holds change
 IfAccepted (out_of_memory change) Holds = ⊤
 IfAccepted unchanged Holds = ⊤
 
+-- What holds of a change for which memory was refused.
 abbrev pub IfOutOfMemory : RowsOutcome → (RowsChange → Type 0) → Type 0
 IfOutOfMemory (accepted change) Holds = ⊤
 IfOutOfMemory (out_of_memory change) Holds = Holds change
@@ -159,6 +160,7 @@ add_times (Ok (More copies)) = 0
 add_times (Err NoMemory) = 3
 add_times (Err _) = 0
 
+-- how often where a row is deleted: once where its last copy goes, else not at all
 abbrev pub delete_times : Result DeleteOutcome Refusal → ℕ
 delete_times (Ok Last) = 1
 delete_times (Ok (Left copies)) = 0

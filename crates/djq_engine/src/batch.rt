@@ -25,11 +25,11 @@ use djq_reach::{Group, insert_batch_into_readers};
 use djq_rows::cells_stay;
 use djq_steps::{Ledgers, Steps};
 
-// The queries that read a relation of the groups take the rows in that came, in the catalog already.
-//
-// # Errors
-//
-// `NoMem` out of memory.
+/// The queries that read a relation of the groups take the rows in that came, in the catalog already.
+///
+/// # Errors
+///
+/// `NoMem` out of memory.
 fn take_groups<L: Ledgers>(
     parts: &mut Parts,
     groups: &[Group],

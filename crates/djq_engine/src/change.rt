@@ -25,12 +25,12 @@ use djq_reach::{delete_from_readers, insert_into_readers};
 use djq_rows::{RelationId, RowsRefusal, texts_stay};
 use djq_steps::{Ledgers, Steps};
 
-// Adds a row by its cells, or a copy of it where it is there. The queries that read the relation take
-// in a row that came.
-//
-// # Errors
-//
-// `Full` where there is no place for one more; `NoMem` out of memory, and no row has changed.
+/// Adds a row by its cells, or a copy of it where it is there. The queries that read the relation take
+/// in a row that came.
+///
+/// # Errors
+///
+/// `Full` where there is no place for one more; `NoMem` out of memory, and no row has changed.
 fn put_cells<L: Ledgers>(
     parts: &mut Parts,
     id: RelationId,

@@ -42,7 +42,7 @@ pub fn relation_for_row(
     Ok(id)
 }
 
-// Whether a row that suits a relation is there. An unknown text is in none.
+/// Whether a row that suits a relation is there. An unknown text is in none.
 fn is_there<L: Ledger>(
     catalog: &Catalog,
     id: RelationId,

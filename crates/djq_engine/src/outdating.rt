@@ -20,7 +20,7 @@ use djq_model::{Name, Sequence};
 use djq_reach::{Group, empty_logs, outdate};
 use djq_rows::{Catalog, RelationId};
 
-// The logs of all queries that read a relation are emptied.
+/// The logs of all queries that read a relation are emptied.
 fn empty_readers(
     logs: &mut Vec<DeltaLog>,
     readers: &Vec<Sequence<usize>>,
@@ -42,7 +42,7 @@ fn empty_readers(
     }
 }
 
-// The logs of all queries that read a relation of these rows are emptied.
+/// The logs of all queries that read a relation of these rows are emptied.
 fn empty_held(
     logs: &mut Vec<DeltaLog>,
     readers: &Vec<Sequence<usize>>,
@@ -63,7 +63,7 @@ fn empty_held(
     }
 }
 
-// The open cursors of all queries that read a relation become stale by it.
+/// The open cursors of all queries that read a relation become stale by it.
 fn outdate_named(
     queries: &mut Vec<Option<LiveQuery>>,
     readers: &Vec<Sequence<usize>>,
@@ -81,8 +81,8 @@ fn outdate_named(
     }
 }
 
-// The open cursors of all queries that read a relation of these rows become stale, by the first of
-// these relations that a query reads.
+/// The open cursors of all queries that read a relation of these rows become stale, by the first of
+/// these relations that a query reads.
 fn outdate_held(
     queries: &mut Vec<Option<LiveQuery>>,
     readers: &Vec<Sequence<usize>>,
@@ -100,15 +100,15 @@ fn outdate_held(
     }
 }
 
-// Whether rows of a relation are among these groups.
+/// Whether rows of a relation are among these groups.
 fn has_group(groups: &[Group], relation: RelationId) -> bool
     ensures { result ≡ list_any (λ g. g.relation.at == relation.at) groups.now }
 {
     groups.iter().any(|group| group.relation.at == relation.at)
 }
 
-// The open cursors of all queries that read a relation of the groups become stale by it; of another
-// relation nothing becomes stale.
+/// The open cursors of all queries that read a relation of the groups become stale by it; of another
+/// relation nothing becomes stale.
 fn outdate_grouped(
     queries: &mut Vec<Option<LiveQuery>>,
     readers: &Vec<Sequence<usize>>,
@@ -151,14 +151,14 @@ pub fn outdate_came(
     }
 }
 
-// Whether a place is among these.
+/// Whether a place is among these.
 fn has_place(places: &[usize], place: usize) -> bool
     ensures { result ≡ is_reader places.now place }
 {
     places.iter().any(|at| *at == place)
 }
 
-// Whether the query in a place reads a relation of the groups.
+/// Whether the query in a place reads a relation of the groups.
 fn is_reached(readers: &Vec<Sequence<usize>>, groups: &[Group], place: usize) -> bool
     requires { All (λ g. g.relation.at < length readers.now.items) groups.now }
     ensures { result ≡ is_reader (reached readers.now.items groups.now) place }

@@ -9,7 +9,7 @@ use djq_live::LiveQuery;
 use djq_model::{Name, NoMem, Sequence};
 use std::alloc::Global;
 
-// Whether a place has the query of a name.
+/// Whether a place has the query of a name.
 fn is_named(place: &Option<LiveQuery>, name: &Name) -> bool
     ensures { result ≡ is_query name.now place.now }
 {
@@ -62,7 +62,7 @@ pub fn vacant_place(
     Ok(at)
 }
 
-// Where a place stands in a list of places.
+/// Where a place stands in a list of places.
 fn find_place(places: &[usize], at: usize) -> Option<usize>
     ensures { result ≡ position (λ i. i == at) places.now }
 {

@@ -29,11 +29,11 @@ pub struct Came {
     pub first: usize,
 }
 
-// A held row goes in, and its relation is told; or a copy of it goes in where it is there. Its cells are written.
-//
-// # Errors
-//
-// `Limit` where it has no place, or a text of it finds none; `NoMemory` out of memory.
+/// A held row goes in, and its relation is told; or a copy of it goes in where it is there. Its cells are written.
+///
+/// # Errors
+///
+/// `Limit` where it has no place, or a text of it finds none; `NoMemory` out of memory.
 fn put_row<L: Ledger>(
     catalog: &mut Catalog,
     held: &HeldRow,
@@ -67,7 +67,7 @@ fn put_row<L: Ledger>(
     }
 }
 
-// Where the group of a relation is.
+/// Where the group of a relation is.
 fn find_group(groups: &[Group], relation: RelationId) -> Option<usize>
     ensures { result ≡ position (λ g. g.relation.at == relation.at) groups.now }
 {
@@ -76,11 +76,11 @@ fn find_group(groups: &[Group], relation: RelationId) -> Option<usize>
         .position(|group| group.relation.at == relation.at)
 }
 
-// A row that came joins those of its relation.
-//
-// # Errors
-//
-// `NoMem` out of memory.
+/// A row that came joins those of its relation.
+///
+/// # Errors
+///
+/// `NoMem` out of memory.
 fn join_group(
     alloc: Global,
     groups: &mut Vec<Group>,
@@ -100,7 +100,7 @@ fn join_group(
     }
 }
 
-// A held row that went in last is taken out again, or its copy.
+/// A held row that went in last is taken out again, or its copy.
 fn take_row_back<L: Ledger>(catalog: &mut Catalog, held: &HeldRow, tally: &mut Tally<L>)
     requires { (st : Store) × WentIn st held.now catalog.old.relations }
     ensures back { (st : Store) → WentIn st held.now catalog.old.relations
@@ -132,12 +132,12 @@ pub fn take_back<L: Ledger>(catalog: &mut Catalog, held: &[HeldRow], tally: &mut
     }
 }
 
-// A held row goes in, and joins those of its relation where it came. How many came is told. Its cells are written into
-// room that is lent, so that they are copied once.
-//
-// # Errors
-//
-// `Limit` where it has no place, or a text of it finds none; `NoMemory` out of memory.
+/// A held row goes in, and joins those of its relation where it came. How many came is told. Its cells are written into
+/// room that is lent, so that they are copied once.
+///
+/// # Errors
+///
+/// `Limit` where it has no place, or a text of it finds none; `NoMemory` out of memory.
 fn put_one<L: Ledger>(
     catalog: &mut Catalog,
     alloc: Global,
@@ -171,8 +171,8 @@ fn put_one<L: Ledger>(
     }
 }
 
-// In how many rows in front a row of each group came, once the row at a place went in behind them: where there were
-// fewer groups before it, up to that one.
+/// In how many rows in front a row of each group came, once the row at a place went in behind them: where there were
+/// fewer groups before it, up to that one.
 fn reach(first: usize, at: usize, before: usize, now: usize) -> usize
     requires { at < HELD }
     ensures { result ≡ (if before == now then first else at + 1) }

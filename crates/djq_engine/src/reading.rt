@@ -13,7 +13,7 @@ use djq_model::{Name, NoMem};
 use djq_reduct::Answer;
 use djq_steps::{Ledgers, Listing, Tally};
 
-// Opens a cursor over the query in a place.
+/// Opens a cursor over the query in a place.
 fn open_at(queries: &mut Vec<Option<LiveQuery>>, at: usize) -> Result<usize, NoMem>
     requires { IsSomeAnd (place_at queries.old.items at) (λ l. ⊤) }
     ensures ok { IfOk result (λ k. Moves (OpensAt k) at queries.old.items queries.new.items) }
@@ -25,7 +25,7 @@ fn open_at(queries: &mut Vec<Option<LiveQuery>>, at: usize) -> Result<usize, NoM
     }
 }
 
-// Closes one.
+/// Closes one.
 fn close_at(queries: &mut Vec<Option<LiveQuery>>, at: usize, slot: usize)
     requires { IsSomeAnd (place_at queries.old.items at) (IsReadable slot) }
     ensures { Moves (ClosesAt slot) at queries.old.items queries.new.items }
@@ -36,7 +36,7 @@ fn close_at(queries: &mut Vec<Option<LiveQuery>>, at: usize, slot: usize)
     }
 }
 
-// Reads one.
+/// Reads one.
 fn next_at<L: Ledgers>(
     queries: &mut Vec<Option<LiveQuery>>,
     at: usize,
@@ -54,7 +54,7 @@ fn next_at<L: Ledgers>(
     }
 }
 
-// Tells whether an answer is left for one.
+/// Tells whether an answer is left for one.
 fn more_at<L: Ledgers>(
     queries: &mut Vec<Option<LiveQuery>>,
     at: usize,

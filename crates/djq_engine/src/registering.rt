@@ -25,7 +25,7 @@ use djq_reach::is_watched;
 use djq_rows::{Catalog, RelationId, texts_stay};
 use djq_steps::{Ledgers, Steps};
 
-// Whether a query reads a relation.
+/// Whether a query reads a relation.
 fn reads(query: &Query, relation: &Name) -> bool
     ensures { result ≡ reads query.now relation.now }
 {
@@ -36,7 +36,7 @@ fn reads(query: &Query, relation: &Name) -> bool
         .any(|atom| atom.relation == *relation)
 }
 
-// A place comes last in a list, or it doesn't.
+/// A place comes last in a list, or it doesn't.
 fn join(list: &mut Sequence<usize>, joins: bool, at: usize) -> Result<(), NoMem>
     ensures ok { OnOk result (list.new ≡ (if joins then list.old ++ at ∷ [] else list.old)) }
     ensures err { OnErr result (list.new ≡ list.old) }
@@ -47,7 +47,7 @@ fn join(list: &mut Sequence<usize>, joins: bool, at: usize) -> Result<(), NoMem>
     Ok(())
 }
 
-// A place comes last among the readers of each relation that a query reads.
+/// A place comes last among the readers of each relation that a query reads.
 fn join_readers(
     lists: &mut Vec<Sequence<usize>>,
     catalog: &Catalog,
@@ -69,8 +69,8 @@ fn join_readers(
     Ok(())
 }
 
-// Puts a query in a vacant place, behind the others in order and behind the readers of its
-// relations; or changes nothing that is seen, out of memory.
+/// Puts a query in a vacant place, behind the others in order and behind the readers of its
+/// relations; or changes nothing that is seen, out of memory.
 fn register(parts: &mut Parts, query: LiveQuery) -> Result<(), NoMem>
     requires whole { IsWhole parts.old }
     requires tended { IsTended parts.old }
@@ -104,7 +104,7 @@ fn register(parts: &mut Parts, query: LiveQuery) -> Result<(), NoMem>
     }
 }
 
-// Why a query isn't registered, whatever its hypergraph is.
+/// Why a query isn't registered, whatever its hypergraph is.
 fn judge_query(parts: &Parts, query: &Query) -> Option<Refusal>
     requires { IsWhole parts.now }
     ensures { result ≡ query_refusal (kept_in parts.now).store query.now }
@@ -121,7 +121,7 @@ fn judge_query(parts: &Parts, query: &Query) -> Option<Refusal>
     None
 }
 
-// Whether no cursor is over the query in a place.
+/// Whether no cursor is over the query in a place.
 fn is_idle(queries: &[Option<LiveQuery>], at: usize) -> bool
     requires { IsSomeAnd (place_at queries.now at) (λ l. ⊤) }
     ensures { IsSomeAnd (place_at queries.now at) (λ l. result ≡ are_vacant l.cursors) }

@@ -25,8 +25,8 @@ use djq_reach::{empty_logs, outdate};
 use djq_rows::{RelationId, rows_by_name_or_place, texts_stay};
 use djq_steps::{Ledgers, Steps};
 
-// The queries that read a relation are the affected ones from now on. They are few, so that a loop costs less
-// than a call.
+/// The queries that read a relation are the affected ones from now on. They are few, so that a loop costs less
+/// than a call.
 fn affect(affected: &mut Vec<usize>, readers: &Vec<Sequence<usize>>, id: RelationId)
     requires within { id.at < length readers.now.items }
     requires room { length (readers_at readers.now.items id.at) ≤ vec_capacity affected.old }
@@ -39,7 +39,7 @@ fn affect(affected: &mut Vec<usize>, readers: &Vec<Sequence<usize>>, id: Relatio
     }
 }
 
-// Whether a cursor is over the query in a place, stale or not.
+/// Whether a cursor is over the query in a place, stale or not.
 fn has_cursor(queries: &[Option<LiveQuery>], place: usize) -> bool
     ensures { result ≡ has_cursor (place_at queries.now place) }
 {
@@ -49,15 +49,15 @@ fn has_cursor(queries: &[Option<LiveQuery>], place: usize) -> bool
     }
 }
 
-// Whether one is over a query in these places.
+/// Whether one is over a query in these places.
 fn some_cursor(queries: &[Option<LiveQuery>], places: &[usize]) -> bool
     ensures { result ≡ list_any (λ i. has_cursor (place_at queries.now i)) places.now }
 {
     places.iter().any(|place| has_cursor(queries, *place))
 }
 
-// The open cursors over a relation become stale, by a change of the present number. Its name is copied
-// here alone.
+/// The open cursors over a relation become stale, by a change of the present number. Its name is copied
+/// here alone.
 #[inline(never)]
 fn outdate_open(parts: &mut Parts, id: RelationId, name: &Name)
     requires within { id.at < length parts.old.readers.items }
@@ -70,7 +70,7 @@ fn outdate_open(parts: &mut Parts, id: RelationId, name: &Name)
     outdate(&mut parts.queries, places, *name, parts.seq);
 }
 
-// They do, where there is one.
+/// They do, where there is one.
 fn outdate_readers(parts: &mut Parts, id: RelationId, name: &Name)
     requires within { id.at < length parts.old.readers.items }
     requires once { AreOnce (readers_at parts.old.readers.items id.at) }

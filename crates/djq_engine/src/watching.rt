@@ -18,14 +18,14 @@ use djq_live::showable_cells_stand;
 use djq_model::Name;
 use djq_reduct::Cells;
 
-// Whether a line tells that an answer came or that it went.
+/// Whether a line tells that an answer came or that it went.
 fn sign_of(line: &Line) -> Sign
     ensures { result ≡ sign_of line.now.came }
 {
     if line.came { Sign::Came } else { Sign::Went }
 }
 
-// A line of a log.
+/// A line of a log.
 fn line_at(log: &DeltaLog, nth: usize) -> &Line
     requires { nth < length log.now.lines }
     ensures { slice_get log.now.lines nth ≡ Some result.now }

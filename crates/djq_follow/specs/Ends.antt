@@ -27,6 +27,7 @@ abbrev pub IsTold : Halt → Bytes → Mirrored → Type 0
 IsTold (HaltsOutside n) text answer = (text ≡ outside_line n) × (answer ≡ Outside n)
 IsTold _ text answer = ⊥
 
+-- What is answered where nothing is to be written, though a mirror can't follow any further.
 abbrev pub IsUntold : Halt → Mirrored → Type 0
 IsUntold (HaltsOutside n) answer = answer ≡ NoMemory
 IsUntold HaltsFull answer = answer ≡ TooMany

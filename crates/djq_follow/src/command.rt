@@ -53,8 +53,8 @@ pub fn mirror<S: Source, K: Sink>(
     }
 }
 
-// Reads what a session was sent, and gives what is to be written of it, with the answer where it is;
-// or the answer where nothing is.
+/// Reads what a session was sent, and gives what is to be written of it, with the answer where it is;
+/// or the answer where nothing is.
 fn leave<S: Source>(
     alloc: Global,
     query: Name,
@@ -77,7 +77,7 @@ fn leave<S: Source>(
     }
 }
 
-// What is written of a mirror at the end.
+/// What is written of a mirror at the end.
 fn written(alloc: Global, mirror: &Mirror) -> Result<(BytesMut, Mirrored), Mirrored>
     ensures { MatchResult result
         (λ made. (made.0.items ≡ written mirror.now.held) × (made.1 ≡ Mirrored.Done))
@@ -90,7 +90,7 @@ fn written(alloc: Global, mirror: &Mirror) -> Result<(BytesMut, Mirrored), Mirro
     }
 }
 
-// What is written where the mirror can't follow any further.
+/// What is written where the mirror can't follow any further.
 fn tell_halt(alloc: Global, halt: Halt) -> Result<(BytesMut, Mirrored), Mirrored>
     ensures { MatchResult result (λ made. IsTold halt made.0.items made.1) (IsUntold halt) }
 {
@@ -101,7 +101,7 @@ fn tell_halt(alloc: Global, halt: Halt) -> Result<(BytesMut, Mirrored), Mirrored
     }
 }
 
-// The line that says which line can't be followed.
+/// The line that says which line can't be followed.
 fn tell_outside(alloc: Global, number: u64) -> Result<(BytesMut, Mirrored), Mirrored>
     ensures { MatchResult result
         (λ made. (made.0.items ≡ outside_line number) × (made.1 ≡ Mirrored.Outside number))
@@ -113,7 +113,7 @@ fn tell_outside(alloc: Global, number: u64) -> Result<(BytesMut, Mirrored), Mirr
     }
 }
 
-// The same without the answer.
+/// The same without the answer.
 fn outside_text(alloc: Global, number: u64) -> Result<BytesMut, NoMem>
     ensures { IfOk result (λ text. text.items ≡ outside_line number) }
 {

@@ -95,7 +95,7 @@ impl Follower {
         Some(next_line(self.count))
     }
 
-    // Follows the line whose last bytes these are.
+    /// Follows the line whose last bytes these are.
     fn take_line(&mut self, last: &[u8]) -> Option<Halt>
         requires { HasNoLf last.now }
         ensures { TakesLine self.old last.now result self.new }
@@ -113,7 +113,7 @@ impl Follower {
         }
     }
 
-    // Tells the mirror the line whose last bytes these are.
+    /// Tells the mirror the line whose last bytes these are.
     fn follow_line(&mut self, last: &[u8]) -> Result<(), MirrorRefusal>
         requires { HasNoLf last.now }
         ensures { FollowsLine self.old last.now result self.new }
@@ -129,7 +129,7 @@ impl Follower {
         followed
     }
 
-    // Keeps the front of a line.
+    /// Keeps the front of a line.
     fn keep_front(&mut self, front: &[u8]) -> Option<Halt>
         requires { HasNoLf front.now }
         ensures { KeepsFront self.old front.now result self.new }
@@ -144,7 +144,7 @@ impl Follower {
     }
 }
 
-// The number behind this one, as that of a line that can't be followed.
+/// The number behind this one, as that of a line that can't be followed.
 fn next_line(count: u64) -> Halt
     ensures { IsNextLine count result }
 {

@@ -41,10 +41,11 @@ AtFirst k members P = IsSomeAnd (slice_get (queries_at k.places members) 0) P
 abbrev pub told_in : Kept → ℕ → Option (List Change)
 told_in k i = told_at k (record { at = i })
 
--- the answers that it tells, and how many they are
+-- the answers that are told of the query in a place, with their signs
 abbrev pub changes_in : Kept → ℕ → List Change
 changes_in k i = unwrap_or (told_in k i) []
 
+-- how many answers are told of the query in a place
 abbrev pub count_in : Kept → ℕ → ℕ
 count_in k i = length (changes_in k i)
 

@@ -44,13 +44,15 @@ unmarked = replicate 8 false
 abbrev pub gain_of : List (List Bool) → Row → Gain
 gain_of marks r = record { slot = r.slot; cells = r.cells; by = marks_at marks r.slot }
 
+-- rows of an arena, each with what is kept of its slot
 abbrev pub gains_in : List (List Bool) → List Row → List Gain
 gains_in marks rows = map (gain_of marks) rows
 
--- the slots of the tuples, and their cells
+-- the slots of the tuples
 abbrev pub slots_in : List Gain → List ℕ
 slots_in gains = map (λ g. g.slot) gains
 
+-- the cells of the tuples
 abbrev pub cells_in : List Gain → List (List ℕ)
 cells_in gains = map (λ g. g.cells) gains
 
@@ -90,6 +92,7 @@ AtSlot gains slot P = (front : List Gain) (g : Gain) (back : List Gain) → gain
 abbrev pub with_mark : ℕ → ℕ → Gain → Gain
 with_mark slot nth g = if g.slot == slot then record g { by = slice_set g.by nth true } else g
 
+-- the tuples once that in a slot stands in the nth delta too
 abbrev pub marked_in : ℕ → ℕ → List Gain → List Gain
 marked_in slot nth gains = map (with_mark slot nth) gains
 

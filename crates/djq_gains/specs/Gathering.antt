@@ -62,6 +62,7 @@ is_alone [] by cells = true
 is_alone (l ∷ ls) [] cells = not (has_cells l cells) && is_alone ls [] cells
 is_alone (l ∷ ls) (b ∷ by) cells = (b || not (has_cells l cells)) && is_alone ls by cells
 
+-- whether a tuple that was gathered is told of the union
 abbrev pub is_told : List Live → Gain → Bool
 is_told ls g = is_alone ls g.by g.cells
 

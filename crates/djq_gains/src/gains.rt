@@ -65,7 +65,7 @@ impl Model for Gains {
         × StandSomewhere (gains_in g.marks.items g.tuples.rows) };
 }
 
-// Makes sure that a slot has marks, and takes them away.
+/// Makes sure that a slot has marks, and takes them away.
 fn unmark(marks: &mut Vec<[bool; 8]>, slot: u32)
     requires slot { slot ≤ length marks.old.items }
     requires room { slot < length marks.old.items ⊎ vec_len marks.old < vec_capacity marks.old }
@@ -81,7 +81,7 @@ fn unmark(marks: &mut Vec<[bool; 8]>, slot: u32)
     }
 }
 
-// Lays a tuple into a slot, which has no mark. Where there is no memory, all stays as it was.
+/// Lays a tuple into a slot, which has no mark. Where there is no memory, all stays as it was.
 fn lay(tuples: &mut Arena, marks: &mut Vec<[bool; 8]>, cells: &[u64]) -> Result<u32, AllocError>
     requires wide { length cells.now ≡ tuples.old.width }
     requires room { tuples.old.room ≤ length marks.old.items }
@@ -105,7 +105,7 @@ fn lay(tuples: &mut Arena, marks: &mut Vec<[bool; 8]>, cells: &[u64]) -> Result<
     Ok(slot)
 }
 
-// The slot where a tuple lies; it is laid where there is none.
+/// The slot where a tuple lies; it is laid where there is none.
 fn seat(tuples: &mut Arena, marks: &mut Vec<[bool; 8]>, cells: &[u64]) -> Result<u32, AllocError>
     requires wide { length cells.now ≡ tuples.old.width }
     requires room { tuples.old.room ≤ length marks.old.items }
@@ -124,7 +124,7 @@ fn seat(tuples: &mut Arena, marks: &mut Vec<[bool; 8]>, cells: &[u64]) -> Result
     }
 }
 
-// Marks a slot's tuple as one of the nth delta.
+/// Marks a slot's tuple as one of the nth delta.
 fn mark(marks: &mut Vec<[bool; 8]>, slot: u32, nth: usize)
     requires slot { slot < length marks.old.items }
     requires nth { nth < 8 }

@@ -26,15 +26,15 @@ use djq_live::{QueriesAt, head_types_are};
 use djq_union::Members;
 use std::alloc::{AllocError, Global};
 
-// Whether a place is among these.
+/// Whether a place is among these.
 fn is_among(places: &[usize], place: usize) -> bool
     ensures { result ≡ is_among places.now place }
 {
     places.contains(&place)
 }
 
-// Takes in what is told of the query in a place, as the nth delta. It fails where that is lost, or out
-// of memory.
+/// Takes in what is told of the query in a place, as the nth delta. It fails where that is lost, or out
+/// of memory.
 fn gather_from(
     engine: &Engine,
     place: usize,

@@ -37,8 +37,8 @@ use djq_union::{Listing, Members};
 use std::alloc::Global;
 use std::sync::ledger::Ledger;
 
-// Whether each member has a tuple in its delta, or doesn't have it now. It asks as far as one that has
-// it.
+/// Whether each member has a tuple in its delta, or doesn't have it now. It asks as far as one that has
+/// it.
 fn is_alone<L: Ledger>(
     group: &QueriesAt,
     gains: &Gains,
@@ -63,7 +63,7 @@ fn is_alone<L: Ledger>(
     true
 }
 
-// Lists the tuple in a slot into the log, where it is to be told.
+/// Lists the tuple in a slot into the log, where it is to be told.
 fn tell_one<L: Ledger>(
     group: &QueriesAt,
     gains: &Gains,
@@ -96,7 +96,7 @@ fn tell_one<L: Ledger>(
     }
 }
 
-// Lists into the log what is to be told of all that is gathered.
+/// Lists into the log what is to be told of all that is gathered.
 fn tell<L: Ledger>(
     group: &QueriesAt,
     gains: &Gains,

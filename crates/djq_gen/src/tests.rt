@@ -1,7 +1,7 @@
 use super::*;
 use std::test::Fail;
 
-// The lines of five changes with the seed 1.
+/// The lines of five changes with the seed 1.
 #[test]
 fn gives_the_lines_in_order(rt: HostRuntime) -> Result<(), Fail> {
     let mut load = Load::new(5, 1);
@@ -20,7 +20,7 @@ fn gives_the_lines_in_order(rt: HostRuntime) -> Result<(), Fail> {
     Ok(())
 }
 
-// The first draws with the seed 1, as other programs with this generator give them.
+/// The first draws with the seed 1, as other programs with this generator give them.
 #[test]
 fn draws_the_known_numbers(rt: HostRuntime) -> Result<(), Fail> {
     let known = [
@@ -35,7 +35,7 @@ fn draws_the_known_numbers(rt: HostRuntime) -> Result<(), Fail> {
     Ok(())
 }
 
-// Three lines to begin with, a hundred changes, and three lines of a cursor.
+/// Three lines to begin with, a hundred changes, and three lines of a cursor.
 #[test]
 fn reads_a_cursor_after_a_hundred_changes(rt: HostRuntime) -> Result<(), Fail> {
     let mut load = Load::new(100, 7);

@@ -5,9 +5,11 @@ use Rattle.djq_hyper.specs.declared.var_set.TheConstants.{VARIABLES}
 use Rattle.djq_hyper.specs.declared.var_set.VarSet.TheInside.{Inside}
 use Rattle.djq_hyper.specs.Masks.{variables_of, mask_of, mask_back}
 
+-- the set of a list's variables
 unfoldable pub set_of : List ℕ → Inside
 set_of l = record { mask = mask_of l }
 
+-- the variables of a set make the set again
 pub set_back : (a : Inside) → a.mask < 2 ^ VARIABLES → set_of (variables_of a.mask) ≡ a
 unfolding set_of
 set_back a fits = ap (λ (n : ℕ). let r : Inside = record { mask = n } in r) (mask_back a.mask fits)

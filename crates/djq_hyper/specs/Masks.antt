@@ -32,6 +32,7 @@ kept_same : (b : Bool) (a : ℕ) (l : List ℕ) → has a l ≡ 0 → has a (con
 kept_same true a l none = rw (eq-eqb a a refl) refl
 kept_same false a l none = none
 
+-- a filter of a range keeps no variable that is outside of the range
 pub range_outside : (p : ℕ → Bool) (x a n : ℕ) → (x < a) ⊎ (a + n ≤ x) → has x (filter p (range_with_len a n)) ≡ 0
 range_outside p x a zero out = refl
 range_outside p x a (suc n) out =
@@ -39,6 +40,7 @@ range_outside p x a (suc n) out =
     kept_other (p a) x a (filter p (range_with_len (a + 1) n)) apart
     ∙ range_outside p x (a + 1) n (⊎_elim (λ h. inl (omega arith)) (λ h. inr (omega arith)) out)
 
+-- a filter of a range keeps a variable within the range exactly where it passes
 pub range_within : (p : ℕ → Bool) (x a n : ℕ) → a ≤ x → x < a + n → has x (filter p (range_with_len a n)) ≡ one (p x)
 range_within p x a zero from below = absurd (omega arith)
 range_within p x a (suc n) from below =
@@ -67,6 +69,7 @@ has_variables x n fits =
     ∙ sym (bit_at_above n VARIABLES x fits above))
     (cases_lt x VARIABLES)
 
+-- the bit of a variable in a list's word is set exactly where the list has the variable
 pub bit_at_mask : (x : ℕ) (l : List ℕ) → bit_at (mask_of l) x ≡ has x l
 unfolding mask_of
 bit_at_mask x [] = bit_at-zero x

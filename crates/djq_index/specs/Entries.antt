@@ -36,6 +36,7 @@ unfoldable pub marks : List Entry → List Entry
 marks [] = []
 marks (e ∷ es) = cond e.marked (e ∷ marks es) (marks es)
 
+-- the entries without a mark
 unfoldable pub plain : List Entry → List Entry
 plain [] = []
 plain (e ∷ es) = cond e.marked (plain es) (e ∷ plain es)
@@ -49,6 +50,7 @@ is_marked (e ∷ es) u = cond (same e.tuple u) e.marked (is_marked es u)
 unfoldable pub bare : Entry → Entry
 bare e = record e { marked = false }
 
+-- the same entries without their marks
 unfoldable pub unmarked : List Entry → List Entry
 unmarked es = map bare es
 
@@ -57,5 +59,6 @@ unfoldable pub head_at : List Entry → Option Place
 head_at [] = None
 head_at (e ∷ es) = Some e.at
 
+-- where the last entry lies, if there is one
 unfoldable pub last_at : List Entry → Option Place
 last_at es = head_at (reverse es)

@@ -31,9 +31,11 @@ entry_of notes r = record {
       (note_at notes r.slot).marked;
 }
 
+-- rows, each with its note
 unfoldable pub entries_in : List Note → List Row → List Entry
 entries_in notes rows = map (entry_of notes) rows
 
+-- all entries of a table: its rows, each with its note
 abbrev pub entries_of : Raw → List Entry
 entries_of r = entries_in r.notes.items r.rows.rows
 
@@ -71,6 +73,7 @@ unfoldable pub AreAllMarked : List Entry → Type 0
 AreAllMarked [] = ⊤
 AreAllMarked (e ∷ es) = (e.marked ≡ true) × AreAllMarked es
 
+-- the marked entries stand behind all others
 unfoldable pub AreTrailing : List Entry → Type 0
 AreTrailing [] = ⊤
 AreTrailing (e ∷ es) = (e.marked ≡ true → AreAllMarked es) × AreTrailing es

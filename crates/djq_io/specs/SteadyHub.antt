@@ -5,6 +5,7 @@ use Rattle.djq_io.specs.declared.hub.Told.{Told}
 use Rattle.djq_io.specs.declared.hub.Told.TheVariants.{Sending}
 use Rattle.djq_io.specs.MemHub.{Recorded}
 
+-- whether a call is a send that found its session gone
 abbrev pub is_gone : Told → Bool
 is_gone (Sending id offered Gone taken) = true
 is_gone _ = false

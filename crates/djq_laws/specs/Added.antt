@@ -8,6 +8,7 @@ use Rattle.djq_lines.specs.declared.answer.Sign.{Sign}
 use Rattle.djq_lines.specs.declared.answer.Sign.TheVariants.{Came, Went}
 use Rattle.djq_machine.specs.Delta.{Change, IsDelta}
 
+-- whether two signs are the same
 abbrev pub same_sign : Sign → Sign → Bool
 same_sign Came Came = true
 same_sign Went Went = true

@@ -31,6 +31,7 @@ abbrev pub copies_added : AddOutcome → ℕ
 copies_added First = 1
 copies_added (More copies) = copies
 
+-- the copies of a row that are told to be left
 abbrev pub copies_left : DeleteOutcome → ℕ
 copies_left Last = 0
 copies_left (Left copies) = copies

@@ -91,6 +91,7 @@ pub record TellGiven (replies : List Bytes) (given : List Tuple) (finished : Boo
 abbrev pub position_among : List Cursor → Bytes → Option Position
 position_among cursors c = option_map (λ k. k.position) (cursor_of cursors c)
 
+-- where the cursor of a name stands in a session, if there is one
 abbrev pub position_in : Option Session → Bytes → Option Position
 position_in None c = None
 position_in (Some x) c = position_among x.cursors c

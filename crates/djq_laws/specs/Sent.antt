@@ -32,6 +32,7 @@ dropped_by s _ = []
 abbrev pub all_dropped : ℕ → List Did → Bytes
 all_dropped s done = flat_map (λ d. dropped_by s d.event) done
 
+-- the id with which an event opens a session, where it does
 abbrev pub opened_by : Event → List ℕ
 opened_by (opened s) = s ∷ []
 opened_by _ = []

@@ -35,6 +35,7 @@ pub record WatchesStep (q : Listed) (s : ℕ) (old : State) (d : Did) (new : Sta
 abbrev pub WatchesAlong : Listed → ℕ → State → List Did → State → Type 0
 WatchesAlong q s = Walk (WatchesStep q s)
 
+-- the rows that the batch of a session holds, if there is a session with one open
 abbrev pub batch_in : Option Session → Option (List HeldRow)
 batch_in None = None
 batch_in (Some x) = x.batch

@@ -169,6 +169,7 @@ list_in item _ = None
 abbrev pub atom_over : Bytes → List Term × List Token → Atom × List Token
 atom_over relation r = (record { relation = relation; terms = r.0 }, r.1)
 
+-- an atom, and what is behind it
 abbrev pub atom_in : List Token → Option (Atom × List Token)
 atom_in (word r ∷ ts) = if is_name r then option_map (atom_over r) (list_in term_of ts) else None
 atom_in _ = None
@@ -247,6 +248,7 @@ query_of name (Some head) = option_map (λ body. record {
   comparisons = body.1;
 }) (body_in head.1)
 
+-- a query to the line's end: its name, its head and its body
 abbrev pub query_in : List Token → Option Query
 query_in (word n ∷ ts) = if is_name n then query_of n (list_in name_of ts) else None
 query_in _ = None
@@ -283,6 +285,7 @@ two_names _ = None
 abbrev pub is_count : ℕ → Bool
 is_count k = nat_le 1 k && nat_le k NEXT_COUNT
 
+-- a number, where it is a count of answers
 abbrev pub count_of : Option ℕ → Option ℕ
 count_of (Some k) = if is_count k then Some k else None
 count_of None = None
@@ -346,6 +349,7 @@ command_behind AbandonWord ts = nothing Abandon ts
 command_behind QuitWord ts = nothing Quit ts
 command_behind StopWord ts = nothing Stop ts
 
+-- the command that a keyword and what stands behind it say; none where there is no keyword
 abbrev pub command_with : Option Keyword → List Token → Option Command
 command_with None ts = None
 command_with (Some k) ts = command_behind k ts
@@ -366,6 +370,7 @@ abbrev pub is_small_term : Term → Bool
 is_small_term (Constant v) = is_small_value v
 is_small_term _ = true
 
+-- an atom of which each literal is within its limit
 abbrev pub is_small_atom : Atom → Bool
 is_small_atom a = list_all is_small_term a.terms
 
@@ -397,9 +402,11 @@ pub data Reading : Type 0 where
   -- a command whose literals are within their limits
   says : Command → Reading
 
+-- what a line says, by the command that it says, if it says one
 abbrev pub reading_in : Option Command → Reading
 reading_in None = outside
 reading_in (Some c) = if is_in_range c then says c else past_limit c
 
+-- what a line says
 abbrev pub reading_of : Bytes → Reading
 reading_of line = reading_in (command_of line)

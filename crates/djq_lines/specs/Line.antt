@@ -31,10 +31,12 @@ pub data Front : Type 0 where
   too_long : Front
   a_line : Bytes → Bytes → Front
 
+-- a line with the bytes behind its end; no whole line where it has no end
 abbrev pub line_or_dry : Bytes → Option Bytes → Front
 line_or_dry line None = dry
 line_or_dry line (Some rest) = a_line line rest
 
+-- what stands in front of a session's bytes
 abbrev pub front_of : Bytes → Front
 front_of held = if is_long (before_lf held) then too_long else line_or_dry (without_cr (before_lf held))
     (behind_lf held)

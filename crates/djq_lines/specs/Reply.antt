@@ -80,19 +80,23 @@ refusal_line Unbound = line (codes "err 16 unbound")
 refusal_line Member = line (codes "err 17 member")
 refusal_line Misplaced = line (codes "err 18 batch")
 
--- the lines that end a session, and the one that says that input ended within a line
+-- the line that ends a session after a line that was too long
 abbrev pub end_long : Bytes
 end_long = line (codes "end long")
 
+-- the line that ends a session for which too many bytes are pending
 abbrev pub end_slow : Bytes
 end_slow = line (codes "end slow")
 
+-- the line that ends a session for want of memory
 abbrev pub end_memory : Bytes
 end_memory = line (codes "end memory")
 
+-- the line that ends a session where too many are open
 abbrev pub end_full : Bytes
 end_full = line (codes "end full")
 
+-- the line that says that input ended within a line
 abbrev pub input_cut : Bytes
 input_cut = line (codes "err 13 cut")
 
@@ -123,6 +127,7 @@ last_line end = if end then line (codes "end") else line (codes "more")
 abbrev pub listing_lines : List Tuple → Bool → List Bytes
 listing_lines told end = map answer_line told ++ last_line end ∷ []
 
+-- the bytes of lines, one line behind the other
 abbrev pub text_of : List Bytes → Bytes
 text_of lines = flat_map (λ l. l) lines
 
@@ -132,6 +137,7 @@ abbrev pub stale_line : Bytes → Bytes → ℕ → Bytes
 stale_line cursor relation n =
     numbered (codes "stale " ++ cursor ++ codes " " ++ relation ++ codes " ") n
 
+-- what a command is answered: these words where it was done, else why it was refused
 abbrev pub ok_reply : {A : Type 0} → Bytes → Result A Refusal → Bytes
 ok_reply words (Ok a) = line words
 ok_reply words (Err r) = refusal_line r

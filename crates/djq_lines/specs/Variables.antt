@@ -38,9 +38,11 @@ with_term known (Variable x) = if is_known known x then known else known ++ Some
 with_term known Hole = known ++ None ∷ []
 with_term known (Constant v) = known
 
+-- the variables that are known behind terms
 abbrev pub with_terms : List Label → List Term → List Label
 with_terms known ts = fold with_term known ts
 
+-- the variables that are known behind an atom
 abbrev pub with_atom : List Label → Atom → List Label
 with_atom known a = with_terms known a.terms
 

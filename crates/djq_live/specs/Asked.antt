@@ -45,6 +45,7 @@ abbrev pub column_in : Option Variable → ColumnType
 column_in None = IntColumn
 column_in (Some v) = v.column
 
+-- the type of the columns where the variable of a number stands
 abbrev pub column_of : List Variable → ℕ → ColumnType
 column_of variables x = column_in (slice_get variables x)
 
@@ -70,6 +71,7 @@ pub record IsAtomOf (c : Catalog) (variables : List Variable) (a : Atom) (m : Nu
   pub shown : AreShown (labels variables) a.terms m.terms
   pub suited : AreSuited c.texts variables m.terms (relation_at c.relations m.relation).types
 
+-- atoms by number stand for atoms, one by one
 abbrev pub AreAtomsOf : Catalog → List Variable → List Atom → List NumberedAtom → Type 0
 AreAtomsOf c variables [] [] = ⊤
 AreAtomsOf c variables (a ∷ atoms) (m ∷ ms) =
@@ -91,6 +93,7 @@ pub record IsComparisonOf (texts : List Bytes) (variables : List Variable) (ms :
   pub ordered : has_order n.operator (column_of variables n.variable) ≡ true
   pub has : HasCell texts n.constant
 
+-- comparisons by number stand for comparisons, one by one
 abbrev pub AreComparisonsOf : List Bytes → List Variable → List NumberedAtom → List Comparison
     → List NumberedComparison → Type 0
 AreComparisonsOf texts variables ms [] [] = ⊤
@@ -119,6 +122,7 @@ abbrev pub HasConstant : List Bytes → NumberedTerm → Type 0
 HasConstant texts (Number x) = ⊤
 HasConstant texts (Fixed v) = HasCell texts v
 
+-- the constants among terms have cells
 abbrev pub HaveConstants : List Bytes → List NumberedTerm → Type 0
 HaveConstants texts [] = ⊤
 HaveConstants texts (t ∷ ts) = HasConstant texts t × HaveConstants texts ts

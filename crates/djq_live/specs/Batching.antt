@@ -75,10 +75,11 @@ pub record CanTake (at : ℕ) (atoms : List NumberedAtom) (batch : List (List (L
       → slice_get batch j ≡ Some us → m.relation ≡ at
       → length (entries_at r.tables j) + length us ≤ TUPLES
 
--- the entries gained these tuples, or lost them
+-- the entries gained these tuples
 abbrev pub Adds : List (List ℕ) → List Entry → List Entry → Type 0
 Adds us old new = (u : List ℕ) → count_of new u ≡ count_of old u + times us u
 
+-- the entries lost these tuples
 abbrev pub Drops : List (List ℕ) → List Entry → List Entry → Type 0
 Drops us old new = (u : List ℕ) → count_of old u ≡ count_of new u + times us u
 

@@ -88,10 +88,11 @@ abbrev pub GainsAll : Shape → List (List ℕ) → List Entry → List Entry �
 GainsAll p rows old new = (u : List ℕ)
     → (0 < count_of new u) ↔ ((0 < count_of old u) ⊎ GivesOne (Contains rows) p u)
 
--- they gained the tuple that gives these cells, of which there is one at most; or they lost it
+-- they gained the tuple that gives these cells, of which there is one at most
 abbrev pub Gains : Shape → List ℕ → List Entry → List Entry → Type 0
 Gains p cells old new = GainsAll p (cells ∷ []) old new
 
+-- the entries lost the tuple that gives these cells, of which there is one at most
 abbrev pub Loses : Shape → List ℕ → List Entry → List Entry → Type 0
 Loses p cells old new = (u : List ℕ)
     → (0 < count_of new u) ↔ ((0 < count_of old u) × (Gives p u cells → ⊥))
@@ -135,6 +136,7 @@ AddedCame = (c d : Catalog) (at : ℕ) (cells : List ℕ) (row : Tuple) → IsCa
     → d.relations ≡ with_rows_at c.relations at (with_row (counted_at c.relations at) row)
     → Came c d at cells row
 
+-- A row whose copies are deleted from a catalog went.
 abbrev pub DeletedWent : Type 0
 DeletedWent = (c d : Catalog) (at : ℕ) (cells : List ℕ) (row : Tuple) → IsCatalog d
     → at < length c.relations → StandForRow c at cells row → d.texts ≡ c.texts
@@ -157,10 +159,12 @@ HoldsThese rows p es = (u : List ℕ) → (0 < count_of es u) ↔ GivesOne (Cont
 abbrev pub LeafIsEmpty : Type 0
 LeafIsEmpty = (p : Shape) (es : List Entry) → ((u : List ℕ) → count_of es u ≡ 0) → HoldsThese [] p es
 
+-- A leaf that holds the tuples of some rows and gains those of more holds those of all of them.
 abbrev pub LeafGains : Type 0
 LeafGains = (rows more : List (List ℕ)) (p : Shape) (old new : List Entry)
     → HoldsThese rows p old → GainsAll p more old new → HoldsThese (rows ++ more) p new
 
+-- A leaf that holds the tuples of all rows of a relation holds what it should.
 abbrev pub LeafIsFilled : Type 0
 LeafIsFilled = (c : Catalog) (at : ℕ) (p : Shape) (es : List Entry)
     → HoldsThese (map (cells_of c.texts) (rows_at c.relations at)) p es → Holds c at p es

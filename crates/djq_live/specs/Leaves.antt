@@ -27,6 +27,7 @@ abbrev pub IsCellOf : List Bytes → NumberedTerm → ℕ → Type 0
 IsCellOf texts (Number x) cell = ⊤
 IsCellOf texts (Fixed v) cell = cell ≡ cell_of texts v
 
+-- Cells are so for terms, one by one.
 abbrev pub AreCellsOf : List Bytes → List NumberedTerm → List ℕ → Type 0
 AreCellsOf texts [] [] = ⊤
 AreCellsOf texts (t ∷ ts) (c ∷ cs) = IsCellOf texts t c × AreCellsOf texts ts cs

@@ -52,6 +52,7 @@ MoreGivesAt c old k (open_at given ended) false new =
     AreAll (IsAnswer c.relations old.query) given × MovesTo c old k (open_at given true) new
 MoreGivesAt c old k (stale r m) more new = ⊥
 
+-- What is known, at the cursor in a slot, of whether an answer is left.
 abbrev pub MoreGives : Catalog → Live → ℕ → Bool → Live → Type 0
 MoreGives c old k result new = IsSomeAnd (slot_at old.cursors k)
     (λ p. MoreGivesAt c old k (position_of c.texts old p) result new)

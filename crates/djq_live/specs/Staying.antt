@@ -35,9 +35,11 @@ LivePasses Changed = (c d : Catalog) (at : ℕ) (cells : List ℕ) (row : Tuple)
     → Changed c d at cells row → at < length c.relations
     → reads l.query (relation_at c.relations at).name ≡ false → IsLive c l → StaysOver c d l
 
+-- Where a row of a relation came, each query stays that doesn't read the relation.
 abbrev pub CamePasses : Type 0
 CamePasses = LivePasses (λ c d at cells row. Came c d at cells row)
 
+-- Where a row of a relation went, each query stays that doesn't read the relation.
 abbrev pub WentPasses : Type 0
 WentPasses = LivePasses (λ c d at cells row. Went c d at cells row)
 

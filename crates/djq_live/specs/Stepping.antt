@@ -44,10 +44,11 @@ use Rattle.djq_live.specs.Changes.{Keeps}
 abbrev pub LacksAll : List (List ℕ) → Shape → List Entry → Type 0
 LacksAll rows p es = (u : List ℕ) → GivesOne (Contains rows) p u → count_of es u ≡ 0
 
--- no entry's tuple gives these cells; or each tuple that gives them is there
+-- no entry's tuple gives these cells
 abbrev pub Lacks : List ℕ → Shape → List Entry → Type 0
 Lacks cells p es = (u : List ℕ) → Gives p u cells → count_of es u ≡ 0
 
+-- each tuple that gives these cells is there
 abbrev pub Has : List ℕ → Shape → List Entry → Type 0
 Has cells p es = (u : List ℕ) → Gives p u cells → 0 < count_of es u
 

@@ -36,7 +36,7 @@ use djq_reduct::{Cells, Reducts};
 use djq_steps::{Ledgers, Steps};
 use std::alloc::Global;
 
-// Whether these cells are the same. Rows are short, so that a loop costs less than a call.
+/// Whether these cells are the same. Rows are short, so that a loop costs less than a call.
 fn are_same(cells: &[u64], others: &[u64]) -> bool
     ensures { result ≡ true → cells.now ≡ others.now }
 {
@@ -51,7 +51,7 @@ fn are_same(cells: &[u64], others: &[u64]) -> bool
     true
 }
 
-// Whether each of these rows is its own tuple, so that none has to be made.
+/// Whether each of these rows is its own tuple, so that none has to be made.
 fn are_tuples(pattern: &Pattern, rows: &[Cells]) -> bool
     requires fit { FitAll rows.now pattern.now }
     requires distinct { AreDistinct rows.now }
@@ -70,7 +70,7 @@ fn are_tuples(pattern: &Pattern, rows: &[Cells]) -> bool
     true
 }
 
-// The tuples of rows, of each that has one.
+/// The tuples of rows, of each that has one.
 fn tuples_of(alloc: Global, pattern: &Pattern, rows: &[Cells]) -> Result<Sequence<Cells>, NoMem>
     requires fit { FitAll rows.now pattern.now }
     requires distinct { AreDistinct rows.now }
@@ -87,8 +87,8 @@ fn tuples_of(alloc: Global, pattern: &Pattern, rows: &[Cells]) -> Result<Sequenc
     Ok(tuples)
 }
 
-// The tuples of rows of a relation for an atom: none where it is over another one. Most often the rows are their own
-// tuples, and then none are made.
+/// The tuples of rows of a relation for an atom: none where it is over another one. Most often the rows are their own
+/// tuples, and then none are made.
 fn tuples_for(
     alloc: Global,
     atom: &NumberedAtom,
@@ -134,7 +134,7 @@ pub(crate) fn tuples_of_all(
     Ok(batch)
 }
 
-// The tuples that were made of rows, or the rows.
+/// The tuples that were made of rows, or the rows.
 fn tuples_in<'a>(made: &'a Option<Sequence<Cells>>, rows: &'a [Cells]) -> &'a [Cells]
     ensures { result.now ≡ tuples_in rows.now made.now }
 {
@@ -144,7 +144,7 @@ fn tuples_in<'a>(made: &'a Option<Sequence<Cells>>, rows: &'a [Cells]) -> &'a [C
     }
 }
 
-// Puts tuples into a leaf that lacks them, and tells of the answers that come.
+/// Puts tuples into a leaf that lacks them, and tells of the answers that come.
 fn add_all_and_tell<L: Ledgers>(
     reducts: &mut Reducts,
     leaf: usize,
@@ -176,7 +176,7 @@ fn add_all_and_tell<L: Ledgers>(
     Ok(())
 }
 
-// Puts tuples into a leaf that lacks them.
+/// Puts tuples into a leaf that lacks them.
 fn add_all_to_leaf<L: Ledgers>(
     reducts: &mut Reducts,
     leaf: usize,

@@ -17,7 +17,7 @@ use djq_rows::Catalog;
 use djq_tree::Tree;
 use std::alloc::Global;
 
-// The cell of a value that has one.
+/// The cell of a value that has one.
 fn value_cell(catalog: &Catalog, value: &Value) -> u64
     requires { HasCell catalog.now.texts value.now }
     ensures { result ≡ cell_of catalog.now.texts value.now }
@@ -28,7 +28,7 @@ fn value_cell(catalog: &Catalog, value: &Value) -> u64
     }
 }
 
-// The cell of a constant, which has one; of a variable any.
+/// The cell of a constant, which has one; of a variable any.
 fn constant_cell(catalog: &Catalog, term: &NumberedTerm) -> u64
     requires { HasConstant catalog.now.texts term.now }
     ensures { IsCellOf catalog.now.texts term.now result }
@@ -39,7 +39,7 @@ fn constant_cell(catalog: &Catalog, term: &NumberedTerm) -> u64
     }
 }
 
-// A cell for each term, where the term is a constant its own.
+/// A cell for each term, where the term is a constant its own.
 fn constant_cells(
     alloc: Global,
     catalog: &Catalog,
@@ -55,7 +55,7 @@ fn constant_cells(
     Ok(cells)
 }
 
-// The cells of the constants of comparisons.
+/// The cells of the constants of comparisons.
 fn compared_cells(
     alloc: Global,
     catalog: &Catalog,
@@ -72,8 +72,8 @@ fn compared_cells(
     Ok(cells)
 }
 
-// The pattern of an atom whose constants have cells, over the set of its variables, with the
-// comparisons of these.
+/// The pattern of an atom whose constants have cells, over the set of its variables, with the
+/// comparisons of these.
 fn bind_atom(
     alloc: Global,
     catalog: &Catalog,

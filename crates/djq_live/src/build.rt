@@ -29,7 +29,7 @@ use djq_steps::{Ledgers, Steps};
 use djq_tree::Lines;
 use std::alloc::Global;
 
-// Makes the text of a constant known, if it is one.
+/// Makes the text of a constant known, if it is one.
 fn intern_constant(catalog: &mut Catalog, value: &Value) -> Result<(), InternRefusal>
     ensures interns { InternsConstants catalog.old.texts (value.now ∷ []) result
         catalog.new.texts }
@@ -44,7 +44,7 @@ fn intern_constant(catalog: &mut Catalog, value: &Value) -> Result<(), InternRef
     }
 }
 
-// Makes the text of a term known, if it is a constant.
+/// Makes the text of a term known, if it is a constant.
 fn intern_term(catalog: &mut Catalog, term: &Term) -> Result<(), InternRefusal>
     ensures interns { InternsConstants catalog.old.texts (constant_of term.now) result
         catalog.new.texts }
@@ -59,7 +59,7 @@ fn intern_term(catalog: &mut Catalog, term: &Term) -> Result<(), InternRefusal>
     }
 }
 
-// Makes the constants of an atom known, one after another.
+/// Makes the constants of an atom known, one after another.
 fn intern_terms(catalog: &mut Catalog, terms: &[Term]) -> Result<(), InternRefusal>
     ensures interns { InternsConstants catalog.old.texts (flat_map constant_of terms.now) result
         catalog.new.texts }
@@ -75,7 +75,7 @@ fn intern_terms(catalog: &mut Catalog, terms: &[Term]) -> Result<(), InternRefus
     Ok(())
 }
 
-// Makes the text of a comparison's constant known, if the comparison stands here.
+/// Makes the text of a comparison's constant known, if the comparison stands here.
 fn intern_if(
     catalog: &mut Catalog,
     comparison: &Comparison,
@@ -92,8 +92,8 @@ fn intern_if(
     Ok(())
 }
 
-// Makes the constants of the comparisons known that stand behind so many atoms, and before the
-// next one.
+/// Makes the constants of the comparisons known that stand behind so many atoms, and before the
+/// next one.
 fn intern_behind(
     catalog: &mut Catalog,
     comparisons: &[Comparison],
@@ -114,7 +114,7 @@ fn intern_behind(
     Ok(())
 }
 
-// Makes the constants of the comparisons known that stand behind all atoms.
+/// Makes the constants of the comparisons known that stand behind all atoms.
 fn intern_last(
     catalog: &mut Catalog,
     comparisons: &[Comparison],
@@ -135,7 +135,7 @@ fn intern_last(
     Ok(())
 }
 
-// Makes the constants of an atom known, behind those of the comparisons before it.
+/// Makes the constants of an atom known, behind those of the comparisons before it.
 fn intern_up_to(
     catalog: &mut Catalog,
     comparisons: &[Comparison],

@@ -22,7 +22,7 @@ use djq_rows::{Catalog, RelationId};
 use djq_steps::Tally;
 use std::sync::ledger::Ledger;
 
-// Takes a row, whose tuple isn't there, into a leaf.
+/// Takes a row, whose tuple isn't there, into a leaf.
 fn insert_row<U: Ledger>(
     reducts: &mut Reducts,
     leaf: usize,
@@ -46,7 +46,7 @@ fn insert_row<U: Ledger>(
     Ok(())
 }
 
-// Fills a leaf without tuples with a relation's rows.
+/// Fills a leaf without tuples with a relation's rows.
 fn fill_leaf<R: Ledger, U: Ledger>(
     catalog: &Catalog,
     relation: usize,

@@ -39,7 +39,7 @@ impl Model for HeadedQuery {
     ghost invariant = { λ h. h.cells.items ≡ head_cells h.numbered };
 }
 
-// What a variable's place in a head shows, where these are the head's variables.
+/// What a variable's place in a head shows, where these are the head's variables.
 fn head_cell(variables: &[Variable], set: VarSet, variable: usize) -> HeadCell
     requires { variable < length variables.now }
     ensures { result ≡ head_cell variables.now set variable }
@@ -50,7 +50,7 @@ fn head_cell(variables: &[Variable], set: VarSet, variable: usize) -> HeadCell
     }
 }
 
-// What the places of a query's head show.
+/// What the places of a query's head show.
 fn head_cells(alloc: Global, numbered: &NumberedQuery) -> Result<Vec<HeadCell>, NoMem>
     ensures { IfOk result (λ v. v.items ≡ head_cells numbered.now) }
 {

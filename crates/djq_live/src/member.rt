@@ -46,7 +46,7 @@ fn put_in_order(reducts: &Reducts, head: &[usize], answer: &Answer, cells: &mut 
     }
 }
 
-// Whether two columns are of one type.
+/// Whether two columns are of one type.
 fn same_type(column: ColumnType, other: ColumnType) -> bool
     ensures { result ≡ same_type column other }
 {
@@ -57,7 +57,7 @@ fn same_type(column: ColumnType, other: ColumnType) -> bool
     }
 }
 
-// Whether the variables of two heads are of the same types, one by one.
+/// Whether the variables of two heads are of the same types, one by one.
 fn same_columns(
     variables: &[Variable],
     head: &[usize],

@@ -56,7 +56,7 @@ impl From<NoMem> for Unplanned {
     }
 }
 
-// A query without faults by number.
+/// A query without faults by number.
 fn number_query(alloc: Global, catalog: &Catalog, query: &Query) -> Result<NumberedQuery, NoMem>
     requires { query_fault catalog.now.relations query.now ≡ None }
     ensures { IfOk result (IsNumbered catalog.now.relations query.now) }
@@ -67,7 +67,7 @@ fn number_query(alloc: Global, catalog: &Catalog, query: &Query) -> Result<Numbe
     }
 }
 
-// Why a query has no plan, with the names of its variables.
+/// Why a query has no plan, with the names of its variables.
 fn name_refusal(alloc: Global, variables: &[Variable], refusal: PlanRefusal) -> Unplanned
     ensures { (q : AskedQuery) → labels variables.now ≡ variables_of q.atoms
         → IsRefusal (edges_of q) (head_of q) refusal → IsUnplanned q result }

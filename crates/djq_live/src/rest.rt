@@ -13,7 +13,7 @@ use djq_model::NoMem;
 use djq_query::Variable;
 use std::alloc::Global;
 
-// Whether an edge comes before another one in lexical order.
+/// Whether an edge comes before another one in lexical order.
 fn is_before(edge: VarSet, other: VarSet) -> bool
     ensures { result ≡ is_before edge other }
 {
@@ -32,7 +32,7 @@ fn is_before(edge: VarSet, other: VarSet) -> bool
     !other.is_empty()
 }
 
-// The place of the first edge that doesn't come before this one, past the end where none is so.
+/// The place of the first edge that doesn't come before this one, past the end where none is so.
 fn place_for(edges: &[VarSet], edge: VarSet) -> usize
     ensures { IsPlaceFor edges.now edge result }
 {
@@ -44,7 +44,7 @@ fn place_for(edges: &[VarSet], edge: VarSet) -> usize
     edges.len()
 }
 
-// Puts an edge among edges in lexical order, where it isn't one of them.
+/// Puts an edge among edges in lexical order, where it isn't one of them.
 fn put_edge(edges: &mut Vec<VarSet>, edge: VarSet) -> Result<(), NoMem>
     ensures { OnOk result (edges.new.items ≡ with_edge edge edges.old.items) }
 {
@@ -55,7 +55,7 @@ fn put_edge(edges: &mut Vec<VarSet>, edge: VarSet) -> Result<(), NoMem>
     Ok(())
 }
 
-// Edges in lexical order, each once.
+/// Edges in lexical order, each once.
 fn in_order(alloc: Global, edges: &Edges) -> Result<Edges, NoMem>
     ensures { IfOk result (λ sorted. sorted ≡ in_order edges.now) }
 {

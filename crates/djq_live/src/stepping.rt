@@ -59,7 +59,7 @@ pub(crate) fn list_changes<L: Ledger>(
     }
 }
 
-// Puts a tuple into a leaf that lacks it, and tells of the answers that come.
+/// Puts a tuple into a leaf that lacks it, and tells of the answers that come.
 fn add_and_tell<L: Ledgers>(
     reducts: &mut Reducts,
     leaf: usize,
@@ -91,7 +91,7 @@ fn add_and_tell<L: Ledgers>(
     Ok(())
 }
 
-// Takes a tuple out of a leaf that has it, and tells of the answers that go.
+/// Takes a tuple out of a leaf that has it, and tells of the answers that go.
 fn delete_and_tell<L: Ledgers>(
     reducts: &mut Reducts,
     leaf: usize,
@@ -114,7 +114,7 @@ fn delete_and_tell<L: Ledgers>(
     finish_removal(reducts, leaf, &mut steps.update);
 }
 
-// Puts the tuple of a row, where there is one, into a leaf that lacks it.
+/// Puts the tuple of a row, where there is one, into a leaf that lacks it.
 fn add_to_leaf<L: Ledgers>(
     reducts: &mut Reducts,
     pattern: &Pattern,
@@ -157,7 +157,7 @@ fn add_to_leaf<L: Ledgers>(
     Ok(())
 }
 
-// Takes the tuple of a row, where there is one, out of a leaf that has it.
+/// Takes the tuple of a row, where there is one, out of a leaf that has it.
 fn delete_from_leaf<L: Ledgers>(
     reducts: &mut Reducts,
     pattern: &Pattern,
@@ -278,7 +278,7 @@ pub(crate) fn delete_from_leaves<L: Ledgers>(
     }
 }
 
-// Gives the tuple of a row, where there is one, back out of a leaf that has it; nothing is listed.
+/// Gives the tuple of a row, where there is one, back out of a leaf that has it; nothing is listed.
 fn give_from_leaf<L: Ledgers>(
     reducts: &mut Reducts,
     pattern: &Pattern,

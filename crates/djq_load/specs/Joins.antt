@@ -27,6 +27,7 @@ most_answers = ROWS * ROWS
 abbrev pub IsWithin : Relation → Type 0
 IsWithin r = length r.rows ≤ ROWS
 
+-- What is registered is the query of a load.
 abbrev pub IsJoin : Listed → Type 0
 IsJoin q = q ≡ a_query join
 

@@ -70,6 +70,7 @@ abbrev pub TakesAll : State → State → Type 0
 TakesAll old new = ((pending_of old 1 ≡ []) × (new ≡ old))
     ⊎ ((0 < length (pending_of old 1)) × Makes old (took 1 (pending_of old 1)) new)
 
+-- the cursors of a session; none where there is no session
 abbrev pub cursors_in : Option Session → List Cursor
 cursors_in None = []
 cursors_in (Some x) = x.cursors

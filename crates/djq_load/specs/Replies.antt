@@ -18,6 +18,7 @@ in_front r b =
     else (if b == 10 then r
     else reading r.answers r.sum (b == 101) Other)
 
+-- a line that is no answer goes on to its LF
 abbrev pub in_other : Reading → ℕ → Reading
 in_other r b = if b == 10 then record r { place = Front } else r
 
@@ -50,6 +51,7 @@ read_at (Answer below n) r b = in_answer r below n b
 read_at Text r b = in_text r b
 read_at Escape r b = record r { place = Text }
 
+-- what was read, behind a further byte, by the place at which it stands
 abbrev pub read_byte : Reading → ℕ → Reading
 read_byte r b = read_at r.place r b
 

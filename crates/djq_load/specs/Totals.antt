@@ -66,10 +66,11 @@ pub record IsTold (st : State) (totals : Totals) (reads : ℕ) : Type 0 where
   pub answers : totals.answers ≡ length given
   pub sum : totals.sum ≡ amount_of given % 2 ^ 64
 
--- the line that opens the cursor of a load, and the one that reads it
+-- the line that opens the cursor of a load
 abbrev pub open_line : Bytes
 open_line = codes "open c q\n"
 
+-- the line that reads the cursor of a load
 abbrev pub next_line : Bytes
 next_line = codes "next c 1000\n"
 

@@ -21,6 +21,7 @@ use Rattle.djq_machine.specs.Changes.{RowsChange, RowsOutcome, accepted, out_of_
 abbrev pub suit_refusal : Store → Bytes → Tuple → Option Refusal
 suit_refusal st name row = first_of (row_refusals st name row)
 
+-- why a row isn't held: it doesn't suit a relation, or the batch holds as many as it may
 abbrev pub hold_refusal : Store → List HeldRow → Bytes → Tuple → Option Refusal
 hold_refusal st held name row =
     first_of (row_refusals st name row ++ (nat_le HELD (length held), Limit) ∷ [])

@@ -24,6 +24,7 @@ use Rattle.djq_machine.specs.Run.{Group, groups_in, pending_of}
 abbrev pub IsOpen : State → ℕ → Type 0
 IsOpen st s = IsSome (session_of st s)
 
+-- the end cause of a session, if there is a session that has one
 abbrev pub cause_in : Option Session → Option EndCause
 cause_in None = None
 cause_in (Some x) = x.cause
@@ -32,6 +33,7 @@ cause_in (Some x) = x.cause
 abbrev pub cause_of : State → ℕ → Option EndCause
 cause_of st s = cause_in (session_of st s)
 
+-- the bytes of a session that aren't run; none where there is no session
 abbrev pub held_in : Option Session → Bytes
 held_in None = []
 held_in (Some x) = x.held
@@ -54,6 +56,7 @@ pub record Counts : Type 0 where
   pub update : ℕ
   pub rows : ℕ
 
+-- these counts of listings, of updates and of rows
 abbrev pub counts : ℕ → ℕ → ℕ → Counts
 counts listing update rows = record { listing = listing; update = update; rows = rows }
 

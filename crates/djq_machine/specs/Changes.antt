@@ -36,10 +36,11 @@ one_change name after = record {
 abbrev pub new_rows : List Relation → Bytes → List CountedRow → RowsChange
 new_rows relations name rows = one_change name (with_rows relations name rows)
 
--- the change by which a row comes, and that by which one goes
+-- the change by which a row comes
 abbrev pub row_in : List Relation → Bytes → Tuple → RowsChange
 row_in relations name row = new_rows relations name (with_row (counted_of relations name) row)
 
+-- the change by which a row goes, with all its copies
 abbrev pub row_out : List Relation → Bytes → Tuple → RowsChange
 row_out relations name row = new_rows relations name (without_copies (counted_of relations name) row)
 

@@ -214,6 +214,7 @@ pub record HasStep (old : State) (s : ℕ) (q : Bytes) (t : Tuple) (e : Effect)
   }
   pub state : new ≡ old
 
+-- why a cursor isn't opened, but for memory
 abbrev pub open_refusal : Store → List Cursor → Bytes → Bytes → Option Refusal
 open_refusal st cursors c q = first_of (
     (is_some (cursor_of cursors c), Taken)
@@ -293,6 +294,7 @@ CloseStep old s c e new = (e ≡ says s (line (codes "ok")))
     × (new ≡ with_session old s
     (λ x. record x { cursors = drop_first (λ k. bytes_eq k.name c) x.cursors }))
 
+-- why a session neither begins nor ceases to watch a query: none of that name is registered
 abbrev pub watch_refusal : Store → Bytes → Option Refusal
 watch_refusal st q = first_of ((is_none (listed_of st.queries q), NoQuery) ∷ [])
 

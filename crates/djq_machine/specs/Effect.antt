@@ -7,6 +7,7 @@ use Rattle.djq_lines.specs.Reply.{refusal_line}
 use Rattle.djq_machine.specs.State.{State, with_session, ended_by}
 use Rattle.djq_machine.specs.Keeping.{Keeping, no_line, kept_where}
 
+-- What an event brings about beside the state.
 pub record Effect : Type 0 where
   -- The parts that are queued, in order: to which session, and which bytes. Whether a part comes may depend on those
   -- before it.

@@ -85,6 +85,7 @@ abbrev pub pending_in : Option Session → Bytes
 pending_in None = []
 pending_in (Some x) = x.pending
 
+-- what is pending for the session of an id; nothing where it isn't open
 abbrev pub pending_of : State → ℕ → Bytes
 pending_of st s = pending_in (session_of st s)
 

@@ -44,6 +44,7 @@ pub record Session : Type 0 where
   -- the rows that its batch holds, where one is open
   pub batch : Option (List HeldRow)
 
+-- The state of the join machine: the store, and what is kept of each open session.
 pub record State : Type 0 where
   pub store : Store
   -- whether a session said `stop`

@@ -11,6 +11,7 @@ use Rattle.djq_machine.specs.State.{Session, State, fresh, session_of, with_sess
 use Rattle.djq_machine.specs.Effect.{Effect, nothing, says, EndsWith, queue_all}
 use Rattle.djq_machine.specs.LineStep.{LineOutcome, FrontStep}
 
+-- An event: what comes to the machine.
 pub data Event : Type 0 where
   -- a session opens
   opened : ℕ → Event

@@ -135,6 +135,7 @@ RefusedByTexts old texts new _ = ⊥
 
 -- `rel`
 
+-- why a relation isn't made, but for memory
 abbrev pub rel_refusal : Store → Bytes → List ColumnType → Option Refusal
 rel_refusal st name types = first_of (
     (is_some (relation_of st.relations name), Taken)
@@ -170,6 +171,7 @@ abbrev pub with_copies_of : List Relation → Bytes → Tuple → ℕ → List R
 with_copies_of relations name row n =
     with_rows relations name (with_copies (counted_of relations name) row n)
 
+-- why a row isn't added, but for its texts and for memory
 abbrev pub add_refusal : Store → Bytes → Tuple → Option Refusal
 add_refusal st name row = let rows = rows_of st.relations name in first_of (row_refusals st name row
     ++ (nat_le COPIES (copies_of st name row), Limit)
@@ -201,6 +203,7 @@ pub record AddsRow (old : Store) (name : Bytes) (row : Tuple) (result : Result A
       × RefusedByTexts old (texts_in row) new r)
   pub stays : is_some (add_refusal old name row) ≡ true → new ≡ old
 
+-- why a row isn't deleted
 abbrev pub delete_refusal : Store → Bytes → Tuple → Option Refusal
 delete_refusal st name row = first_of (row_refusals st name row
     ++ ((copies_of st name row == 1) && nat_le LAST_SEQ st.seq, Limit)
@@ -232,6 +235,7 @@ pub record DeletesRow (old : Store) (name : Bytes) (row : Tuple)
 
 -- `query`
 
+-- why a query isn't registered: its name is taken, it has a fault, or there are too many
 abbrev pub query_refusal : Store → Query → Option Refusal
 query_refusal st q = whole_query_refusal st.relations st.queries q
 
@@ -281,6 +285,7 @@ RefusedLate old q new r =
     × RefusedByTexts old (texts_in (constants_of q)) new r)
     ⊎ ((r ≡ NoMemory) × (new ≡ old))
 
+-- A query is registered, or its rest is told; or it is refused, and nothing changes but the texts.
 pub record RegistersQuery (old : Store) (q : Query) (result : Result QueryOutcome Refusal)
     (new : Store) : Type 0 where
   pub answer : Answers (query_refusal old q) result (RegistersAs old q new) (RefusedLate old q new)
@@ -292,6 +297,7 @@ pub record RegistersQuery (old : Store) (q : Query) (result : Result QueryOutcom
 abbrev pub is_member : List Listed → Bytes → Bool
 is_member queries name = list_any (λ l. list_any (λ q. bytes_eq q.name name) (members_of l)) queries
 
+-- why what is registered under a name isn't dropped: nothing is, or it is used or a member of a union
 abbrev pub drop_refusal : Store → Bool → Bytes → Option Refusal
 drop_refusal st used name = first_of (
     (is_none (listed_of st.queries name), NoQuery)
@@ -343,6 +349,7 @@ misfit types t = first_of (
     ∷ (not (fits types t), WrongType)
     ∷ [])
 
+-- why it isn't told whether a tuple is an answer
 abbrev pub has_refusal : Store → Bytes → Tuple → Option Refusal
 has_refusal st name t =
     let types = listed_types st.relations (listed_of st.queries name) in first_of (

@@ -47,12 +47,13 @@ abbrev pub is_union : Option Listed → Bool
 is_union (Some (a_union name qs)) = true
 is_union _ = false
 
--- whether two types are the same, and whether two lists of them are
+-- whether two types are the same
 abbrev pub same_type : ColumnType → ColumnType → Bool
 same_type IntColumn IntColumn = true
 same_type TextColumn TextColumn = true
 same_type _ _ = false
 
+-- whether two lists of types are the same
 abbrev pub same_types : List ColumnType → List ColumnType → Bool
 same_types [] [] = true
 same_types (a ∷ cs) (b ∷ ds) = same_type a b && same_types cs ds
@@ -67,6 +68,7 @@ abbrev pub types_differ : Store → List Bytes → Bool
 types_differ st [] = false
 types_differ st (n ∷ ns) = list_any (λ m. not (same_types (types_under st n) (types_under st m))) ns
 
+-- why a union isn't registered, but for memory
 abbrev pub union_refusal : Store → Bytes → List Bytes → Option Refusal
 union_refusal st name members = first_of (
     (is_some (listed_of st.queries name), Taken)

@@ -106,6 +106,7 @@ abbrev pub listed_steps : RowsChange → Listed → ℕ → List Part → ℕ
 listed_steps change (a_query q) count parts = changes_steps change q count
 listed_steps change (a_union name qs) count parts = parts_steps change (atoms_of qs) parts
 
+-- the most that listing this delta takes
 abbrev pub delta_steps : RowsChange → Delta → ℕ
 delta_steps change d = listed_steps change d.query (length d.changes) d.parts
 
@@ -128,6 +129,7 @@ abbrev pub ends_more : ℕ → Bytes → EndCause → Telling → Telling
 ends_more s text cause m =
     record { state = with_session m.state s (ended_by cause); queued = m.queued ++ (s, text) ∷ [] }
 
+-- a session, where it is there and watches a query
 abbrev pub watching : Bytes → Option Session → Option Session
 watching q None = None
 watching q (Some x) = if is_watching q x then Some x else None

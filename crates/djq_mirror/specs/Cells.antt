@@ -18,6 +18,7 @@ abbrev pub behind_cell : Bytes → Option Bytes
 behind_cell [] = None
 behind_cell (b ∷ bs) = if b == 32 then behind_value bs (literal_at bs) else None
 
+-- a test of the bytes that are left, which fails where there are none
 abbrev pub or_false : (Bytes → Bool) → Option Bytes → Bool
 or_false f None = false
 or_false f (Some bytes) = f bytes

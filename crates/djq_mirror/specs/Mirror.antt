@@ -82,6 +82,7 @@ may_act texts clear = true
 may_act texts (put t) = not (has_text texts t)
 may_act texts (take_out t) = has_text texts t
 
+-- whether a line does something, and the texts are such that it may
 abbrev pub may_turn : List Bytes → Option (Mode × Act) → Bool
 may_turn texts None = false
 may_turn texts (Some turn) = may_act texts turn.1
@@ -103,6 +104,7 @@ Acted old (put t) new =
 Acted old (take_out t) new =
     IsInOrder new × ((u : Bytes) → has_text new u ≡ (not (bytes_eq t u) && has_text old u))
 
+-- what is held behind a line that does this, by what was held
 abbrev pub Turned : Held → Option (Mode × Act) → Held → Type 0
 Turned old None new = ⊥
 Turned old (Some turn) new = (new.mode ≡ turn.0) × Acted old.texts turn.1 new.texts
@@ -128,5 +130,6 @@ abbrev pub written_in : Mode → List Bytes → Bytes
 written_in Live texts = flat_map (λ t. line (61 ∷ t)) texts ++ line (codes "end")
 written_in mode texts = line (codes "none")
 
+-- what is written at the end of a mirror that holds this
 abbrev pub written : Held → Bytes
 written held = written_in held.mode held.texts

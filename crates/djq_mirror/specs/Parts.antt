@@ -13,6 +13,7 @@ abbrev pub behind : ℕ → Bytes → Option Bytes
 behind sign [] = None
 behind sign (b ∷ bs) = if b == sign then Some bs else behind sign bs
 
+-- the parts with one byte more in front of the first
 abbrev pub with_first : ℕ → List Bytes → List Bytes
 with_first b [] = (b ∷ []) ∷ []
 with_first b (p ∷ ps) = (b ∷ p) ∷ ps

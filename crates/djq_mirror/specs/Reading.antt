@@ -80,6 +80,7 @@ turn_by name mode nothing = Some (mode, keep)
 
 -- Words.
 
+-- whether a word is this number as it is printed, and the number is one of 64 bits
 abbrev pub number_as : Bytes → Option ℕ → Bool
 number_as w None = false
 number_as w (Some n) = nat_lt n 18446744073709551616 && bytes_eq w (decimal n)
@@ -92,6 +93,7 @@ is_number w = number_as w (natural_of w)
 abbrev pub is_edge_word : Bytes → Bool
 is_edge_word w = list_all is_variable (parts 44 w)
 
+-- a label: a dash, or variables with commas between them
 abbrev pub is_label_word : Bytes → Bool
 is_label_word w = bytes_eq w (codes "-") || is_edge_word w
 
@@ -119,14 +121,17 @@ is_label_end (l ∷ []) = is_label_word l
 is_label_end (l ∷ o ∷ []) = is_label_word l && bytes_eq o (codes "out")
 is_label_end ws = false
 
+-- behind `leaf`: a relation, a label, and `out` or nothing
 abbrev pub is_leaf_told : List Bytes → Bool
 is_leaf_told [] = false
 is_leaf_told (r ∷ ws) = is_name r && is_label_end ws
 
+-- behind `trim`: the number of a node, a label, and `out` or nothing
 abbrev pub is_trim_told : List Bytes → Bool
 is_trim_told [] = false
 is_trim_told (c ∷ ws) = is_number c && is_label_end ws
 
+-- behind `meet`: the numbers of two nodes, a label, and `out` or nothing
 abbrev pub is_meet_told : List Bytes → Bool
 is_meet_told [] = false
 is_meet_told (g ∷ ws) = is_number g && is_trim_told ws
@@ -170,6 +175,7 @@ fixed_lines =
     ∷ codes "err 11 limit" ∷ codes "err 12 memory" ∷ codes "err 13 cut" ∷ codes "err 14 in use"
     ∷ codes "err 16 unbound" ∷ codes "err 17 member" ∷ codes "err 18 batch" ∷ []
 
+-- whether a line is one of these
 abbrev pub is_fixed : Bytes → Bool
 is_fixed line = list_any (λ fixed. bytes_eq fixed line) fixed_lines
 

@@ -37,6 +37,7 @@ pub data Node : Type 0 where
   trim : ℕ → Node
   meet : ℕ → ℕ → Node
 
+-- the form of a line that a session is sent, with what the line tells
 pub data Reply : Type 0 where
   -- a command was done, or a cursor opened
   done : Reply
@@ -91,6 +92,7 @@ abbrev pub label_text : List Bytes → Bytes
 label_text [] = codes "-"
 label_text (x ∷ xs) = joined (x ∷ xs)
 
+-- what an explained node is, as it is printed
 abbrev pub node_text : Node → Bytes
 node_text (leaf r) = codes "leaf " ++ r
 node_text (trim c) = codes "trim " ++ decimal c
@@ -132,14 +134,16 @@ reply_text bye = bye_line
 abbrev pub IsNumber : ℕ → Type 0
 IsNumber n = n < 2 ^ 64
 
--- a value that is printed: an integer of 64 bits, or a text of at most 255 bytes that is UTF-8
+-- an integer, or a text that is UTF-8
 abbrev pub is_text : Value → Bool
 is_text (Int i) = true
 is_text (Text t) = is_utf8 t
 
+-- a value that is printed: within its limit, and UTF-8 where it is a text
 abbrev pub is_cell : Value → Bool
 is_cell v = is_small_value v && is_text v
 
+-- values that are printed
 abbrev pub are_cells : Tuple → Bool
 are_cells t = list_all is_cell t
 
@@ -147,10 +151,11 @@ are_cells t = list_all is_cell t
 abbrev pub is_variable : Bytes → Bool
 is_variable x = is_name x || bytes_eq x (codes "_")
 
--- the variables of a label; and those of an edge, of which there is one at least
+-- the variables of a label
 abbrev pub is_label : List Bytes → Bool
 is_label xs = list_all is_variable xs
 
+-- the variables of an edge, of which there is one at least
 abbrev pub is_edge : List Bytes → Bool
 is_edge [] = false
 is_edge (x ∷ xs) = is_label (x ∷ xs)
@@ -160,6 +165,7 @@ abbrev pub is_rest : List (List Bytes) → Bool
 is_rest [] = false
 is_rest (e ∷ es) = list_all is_edge (e ∷ es)
 
+-- a node as it is printed: its relation has a name, and the nodes below it have numbers of 64 bits
 abbrev pub IsNode : Node → Type 0
 IsNode (leaf r) = is_name r ≡ true
 IsNode (trim c) = IsNumber c

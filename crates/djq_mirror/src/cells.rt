@@ -1,7 +1,7 @@
-// Values as they are printed, each behind a space.
-//
-// What stands there is read as a literal and printed again: it is a value exactly where the two are
-// the same.
+//! Values as they are printed, each behind a space.
+//!
+//! What stands there is read as a literal and printed again: it is a value exactly where the two are
+//! the same.
 ghost use Rattle.std.specs.Prelude.{◌≡◌, ◌<◌, ◌&&◌, IfOk, length};
 ghost use Rattle.std.specs.Fmt.{signed_decimal};
 ghost use Rattle.std.specs.Option.{option_map};
@@ -19,7 +19,7 @@ use djq_value::{ValueRefusal, print_cell, read_value};
 use itoa::Buffer;
 use std::alloc::Global;
 
-// Whether bytes are values, each behind a space.
+/// Whether bytes are values, each behind a space.
 #[tactic(auto, using(crate::proofs::Celling::cells_behind, crate::proofs::Celling::cells_fail, crate::proofs::Celling::cells_empty, crate::proofs::Celling::cell_shorter))]
 pub(crate) fn are_cells(alloc: Global, bytes: &[u8]) -> Result<bool, NoMem>
     ensures { IfOk result (λ yes. yes ≡ are_cells_in bytes.now) }
@@ -34,7 +34,7 @@ pub(crate) fn are_cells(alloc: Global, bytes: &[u8]) -> Result<bool, NoMem>
     Ok(true)
 }
 
-// What is behind a space and a value in front of these bytes, where they stand there.
+/// What is behind a space and a value in front of these bytes, where they stand there.
 fn behind_cell(alloc: Global, bytes: &[u8]) -> Result<Option<&[u8]>, NoMem>
     requires { 0 < length bytes.now }
     ensures { IfOk result (λ found. option_map (λ b. b.now) found ≡ behind_cell_of bytes.now) }
@@ -46,7 +46,7 @@ fn behind_cell(alloc: Global, bytes: &[u8]) -> Result<Option<&[u8]>, NoMem>
     }
 }
 
-// What is behind a value in front of these bytes, where one stands there.
+/// What is behind a value in front of these bytes, where one stands there.
 fn behind_value(alloc: Global, bytes: &[u8]) -> Result<Option<&[u8]>, NoMem>
     ensures { IfOk result (λ found.
         option_map (λ b. b.now) found ≡ behind_value_of bytes.now (literal_at bytes.now)) }
@@ -64,7 +64,7 @@ fn behind_value(alloc: Global, bytes: &[u8]) -> Result<Option<&[u8]>, NoMem>
     }
 }
 
-// Whether a piece is a value as it is printed.
+/// Whether a piece is a value as it is printed.
 fn is_printed(alloc: Global, value: &Value, piece: &[u8]) -> Result<bool, NoMem>
     ensures { IfOk result (λ yes.
         yes ≡ (is_text value.now && bytes_eq (value_text value.now) piece.now)) }
@@ -93,7 +93,7 @@ fn is_quoted(alloc: Global, text: &[u8], piece: &[u8]) -> Result<bool, NoMem>
     Ok(&printed.as_slice()[1..] == piece)
 }
 
-// Whether bytes are UTF-8.
+/// Whether bytes are UTF-8.
 fn is_utf8(bytes: &[u8]) -> bool
     ensures { result ≡ is_utf8_of bytes.now }
 {

@@ -1,4 +1,4 @@
-// Lines that tell nothing of a listing or of a query, by their words.
+//! Lines that tell nothing of a listing or of a query, by their words.
 ghost use Rattle.std.specs.Prelude.{◌≡◌, ◌||◌, codes};
 ghost use Rattle.std.specs.List.{list_all};
 ghost use Rattle.djq_model.specs.Data.{bytes_eq};
@@ -12,7 +12,7 @@ use crate::parts::Parts;
 use crate::words::{is_edge, is_label, is_number};
 use djq_value::{is_name, is_text};
 
-// Whether a line is one of those that are always the same.
+/// Whether a line is one of those that are always the same.
 pub(crate) fn is_fixed(line: &[u8]) -> bool
     ensures { result ≡ is_fixed_of line.now }
 {
@@ -50,7 +50,7 @@ pub(crate) fn is_fixed(line: &[u8]) -> bool
     lines.contains(&line)
 }
 
-// Whether a line tells nothing, by its first word and those behind it.
+/// Whether a line tells nothing, by its first word and those behind it.
 pub(crate) fn is_worded(first: &[u8], words: &mut Parts<'_>) -> bool
     ensures { result ≡ is_worded_of first.now words.old }
 {
@@ -67,7 +67,7 @@ pub(crate) fn is_worded(first: &[u8], words: &mut Parts<'_>) -> bool
     }
 }
 
-// Whether words are those behind `ok` where numbers are told.
+/// Whether words are those behind `ok` where numbers are told.
 fn is_counted(words: &mut Parts<'_>) -> bool
     ensures { result ≡ is_counted_of words.old }
 {
@@ -86,7 +86,7 @@ fn is_counted(words: &mut Parts<'_>) -> bool
     }
 }
 
-// Whether one number is told behind a word.
+/// Whether one number is told behind a word.
 fn has_one(word: &[u8]) -> bool
     ensures { result ≡ (bytes_eq word.now (codes "absent") || bytes_eq word.now (codes "held")
         || bytes_eq word.now (codes "query") || bytes_eq word.now (codes "union")
@@ -99,7 +99,7 @@ fn has_one(word: &[u8]) -> bool
         || is_text(word, b"watch")
 }
 
-// Whether two numbers are.
+/// Whether two numbers are.
 fn has_two(word: &[u8]) -> bool
     ensures { result ≡ (bytes_eq word.now (codes "added") || bytes_eq word.now (codes "removed")
         || bytes_eq word.now (codes "done")) }
@@ -107,7 +107,7 @@ fn has_two(word: &[u8]) -> bool
     is_text(word, b"added") || is_text(word, b"removed") || is_text(word, b"done")
 }
 
-// Whether words are those behind `no` where a rest is told.
+/// Whether words are those behind `no` where a rest is told.
 fn is_rest(words: &mut Parts<'_>) -> bool
     ensures { result ≡ is_rest_told words.old }
 {
@@ -121,7 +121,7 @@ fn is_rest(words: &mut Parts<'_>) -> bool
     told && is_edge(edge) && are_edges(words)
 }
 
-// Whether all words that are left are edges.
+/// Whether all words that are left are edges.
 fn are_edges(words: &mut Parts<'_>) -> bool
     ensures { result ≡ list_all is_edge_word words.old }
 {
@@ -133,7 +133,7 @@ fn are_edges(words: &mut Parts<'_>) -> bool
     true
 }
 
-// Whether words are those behind `n`, where a node of a tree is told.
+/// Whether words are those behind `n`, where a node of a tree is told.
 fn is_node(words: &mut Parts<'_>) -> bool
     ensures { result ≡ is_node_told words.old }
 {
@@ -143,7 +143,7 @@ fn is_node(words: &mut Parts<'_>) -> bool
     }
 }
 
-// Whether words are those behind a node's number.
+/// Whether words are those behind a node's number.
 fn is_kind(words: &mut Parts<'_>) -> bool
     ensures { result ≡ is_node_kind words.old }
 {
@@ -188,7 +188,7 @@ fn is_meet(words: &mut Parts<'_>) -> bool
     }
 }
 
-// Whether words are a label, and `out` or nothing behind it.
+/// Whether words are a label, and `out` or nothing behind it.
 fn is_labelled(words: &mut Parts<'_>) -> bool
     ensures { result ≡ is_label_end words.old }
 {
@@ -204,7 +204,7 @@ fn is_labelled(words: &mut Parts<'_>) -> bool
     }
 }
 
-// Whether words are the one behind `m`, where a member of a union is told.
+/// Whether words are the one behind `m`, where a member of a union is told.
 fn is_member(words: &mut Parts<'_>) -> bool
     ensures { result ≡ is_member_told words.old }
 {

@@ -85,7 +85,7 @@ impl Mirror {
         }
     }
 
-    // Does what a line tells.
+    /// Does what a line tells.
     fn take(&mut self, told: Told<'_>) -> Result<(), MirrorRefusal>
         ensures { Turns self.old (turn_by self.old.name self.old.held.mode (news_by told.entry))
             result self.new }
@@ -120,7 +120,7 @@ impl Mirror {
     }
 }
 
-// Appends answers as the lines of a listing, and `end`.
+/// Appends answers as the lines of a listing, and `end`.
 fn add_answers(texts: &Texts, out: &mut BytesMut) -> Result<(), NoMem>
     ensures { Adds out.old.items
         (flat_map (λ t. line_of (61 ∷ t)) (texts_of texts.now) ++ line_of (codes "end"))
@@ -132,7 +132,7 @@ fn add_answers(texts: &Texts, out: &mut BytesMut) -> Result<(), NoMem>
     put(out, b"end\n")
 }
 
-// Appends an answer as the line of a listing.
+/// Appends an answer as the line of a listing.
 fn add_answer(text: &[u8], out: &mut BytesMut) -> Result<(), NoMem>
     ensures { Writes out.old.items (line_of (61 ∷ text.now)) result out.new.items }
 {

@@ -1,4 +1,4 @@
-// Bytes that are cut at a sign.
+//! Bytes that are cut at a sign.
 ghost use Rattle.std.specs.Prelude.{◌≡◌, ◌≤◌, length};
 ghost use Rattle.std.specs.Option.{option_map};
 ghost use Rattle.djq_mirror.specs.Parts.{TakesPart, before, behind, parts_left};
@@ -6,7 +6,7 @@ ghost use Rattle.djq_mirror.specs.Parts.{TakesPart, before, behind, parts_left};
 use memchr::memchr;
 use std::marker::Model;
 
-// The bytes before the first of these signs, or all, and what is behind it, where there is one.
+/// The bytes before the first of these signs, or all, and what is behind it, where there is one.
 pub(crate) fn split_at(bytes: &[u8], sign: u8) -> (&[u8], Option<&[u8]>)
     ensures within { length result.0.now ≤ length bytes.now }
     ensures before { result.0.now ≡ before sign bytes.now }
@@ -18,7 +18,7 @@ pub(crate) fn split_at(bytes: &[u8], sign: u8) -> (&[u8], Option<&[u8]>)
     }
 }
 
-// Gives the parts of bytes between signs, one by one. Contracts see the list of those that are left.
+/// Gives the parts of bytes between signs, one by one. Contracts see the list of those that are left.
 #[derive(Debug, Drop)]
 pub(crate) struct Parts<'a> {
     rest: Option<&'a [u8]>,
@@ -37,14 +37,14 @@ impl<'a> Model for Parts<'a> {
 }
 
 impl<'a> Parts<'a> {
-    // The parts of what is behind a sign, where there is one.
+    /// The parts of what is behind a sign, where there is one.
     pub(crate) fn behind(rest: Option<&'a [u8]>, sign: u8) -> Self
         ensures { result ≡ parts_left sign (option_map (λ behind. behind.now) rest.entry) }
     {
         Parts { rest, sign }
     }
 
-    // The next part.
+    /// The next part.
     pub(crate) fn next(&mut self) -> Option<&'a [u8]>
         ensures { TakesPart self.old result self.new }
     {

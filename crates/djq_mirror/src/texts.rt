@@ -1,4 +1,4 @@
-// The answers that are held, by their texts in byte order.
+//! The answers that are held, by their texts in byte order.
 ghost use Rattle.std.specs.Prelude.{◌≡◌, map};
 ghost use Rattle.djq_mirror.specs.Acting.{Acts, texts_of};
 ghost use Rattle.djq_mirror.specs.Mirror.{put, take_out as take_out_of};
@@ -9,10 +9,10 @@ use crate::turn::Act;
 use std::alloc::Global;
 use std::collections::BTreeSet;
 
-// The texts of answers.
+/// The texts of answers.
 pub(crate) type Texts = BTreeSet<Vec<u8>>;
 
-// Does this to the texts. After a refusal they are as before.
+/// Does this to the texts. After a refusal they are as before.
 pub(crate) fn act_on(alloc: Global, texts: &mut Texts, act: Act<'_>) -> Result<(), MirrorRefusal>
     ensures { Acts (texts_of texts.old) (act_by act.entry) result (texts_of texts.new) }
 {
@@ -27,7 +27,7 @@ pub(crate) fn act_on(alloc: Global, texts: &mut Texts, act: Act<'_>) -> Result<(
     }
 }
 
-// Puts a text in that isn't there.
+/// Puts a text in that isn't there.
 fn put_in(alloc: Global, texts: &mut Texts, text: &[u8]) -> Result<(), MirrorRefusal>
     ensures { Acts (texts_of texts.old) (put text.now) result (texts_of texts.new) }
 {
@@ -43,7 +43,7 @@ fn put_in(alloc: Global, texts: &mut Texts, text: &[u8]) -> Result<(), MirrorRef
     Ok(())
 }
 
-// Takes a text out that is there.
+/// Takes a text out that is there.
 fn take_out(texts: &mut Texts, text: &[u8]) -> Result<(), MirrorRefusal>
     ensures { Acts (texts_of texts.old) (take_out_of text.now) result (texts_of texts.new) }
 {

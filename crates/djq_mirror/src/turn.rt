@@ -1,4 +1,4 @@
-// What a line does, by the mode.
+//! What a line does, by the mode.
 ghost use Rattle.std.specs.Prelude.{◌≡◌};
 ghost use Rattle.std.specs.Option.{option_map};
 ghost use Rattle.djq_mirror.specs.Mirror.{turn_of_change, turn_of_count};
@@ -9,7 +9,7 @@ use crate::told::Told;
 use djq_lines::Sign;
 use djq_value::is_text;
 
-// What becomes of the answers that are held.
+/// What becomes of the answers that are held.
 #[derive(Clone, Copy, Debug)]
 pub(crate) enum Act<'a> {
     // They stay.
@@ -22,7 +22,7 @@ pub(crate) enum Act<'a> {
     TakeOut(&'a [u8]),
 }
 
-// The mode behind a line, and what becomes of the answers; none where the line isn't allowed.
+/// The mode behind a line, and what becomes of the answers; none where the line isn't allowed.
 pub(crate) fn turn<'a>(name: &[u8], mode: Mode, told: Told<'a>) -> Option<(Mode, Act<'a>)>
     ensures { option_map (λ t. (t.0, act_by t.1)) result ≡ turn_by name.now mode (news_by told.entry) }
 {
@@ -61,7 +61,7 @@ pub(crate) fn turn<'a>(name: &[u8], mode: Mode, told: Told<'a>) -> Option<(Mode,
     }
 }
 
-// What an answer of the query does that came or went.
+/// What an answer of the query does that came or went.
 fn changed<'a>(mode: Mode, sign: Sign, text: &'a [u8]) -> (Mode, Act<'a>)
     ensures { (result.0, act_by result.1) ≡ turn_of_change mode sign text.now }
 {
@@ -72,7 +72,7 @@ fn changed<'a>(mode: Mode, sign: Sign, text: &'a [u8]) -> (Mode, Act<'a>)
     }
 }
 
-// What the number of a change of the query does.
+/// What the number of a change of the query does.
 fn counted<'a>(mode: Mode) -> (Mode, Act<'a>)
     ensures { (result.0, act_by result.1) ≡ turn_of_count mode }
 {

@@ -1,4 +1,4 @@
-// What a word may be.
+//! What a word may be.
 ghost use Rattle.std.specs.Prelude.{◌≡◌, decimal};
 ghost use Rattle.djq_model.specs.Data.{bytes_eq};
 ghost use Rattle.djq_mirror.specs.Replies.{is_variable as is_variable_of};
@@ -8,7 +8,7 @@ use crate::parts::Parts;
 use djq_value::{is_name, is_text, read_natural};
 use itoa::Buffer;
 
-// Whether a word is a number of 64 bits as it is printed.
+/// Whether a word is a number of 64 bits as it is printed.
 pub(crate) fn is_number(word: &[u8]) -> bool
     ensures { result ≡ is_number_of word.now }
 {
@@ -18,7 +18,7 @@ pub(crate) fn is_number(word: &[u8]) -> bool
     }
 }
 
-// Whether a word is what a number is printed as.
+/// Whether a word is what a number is printed as.
 fn is_decimal(word: &[u8], number: u64) -> bool
     ensures { result ≡ bytes_eq word.now (decimal number) }
 {
@@ -26,14 +26,14 @@ fn is_decimal(word: &[u8], number: u64) -> bool
     word == buffer.format(number).as_bytes()
 }
 
-// Whether a word is a variable: a name, or a hole.
+/// Whether a word is a variable: a name, or a hole.
 fn is_variable(word: &[u8]) -> bool
     ensures { result ≡ is_variable_of word.now }
 {
     is_name(word) || is_text(word, b"_")
 }
 
-// Whether a word is variables with commas between them.
+/// Whether a word is variables with commas between them.
 pub(crate) fn is_edge(word: &[u8]) -> bool
     ensures { result ≡ is_edge_word word.now }
 {
@@ -46,7 +46,7 @@ pub(crate) fn is_edge(word: &[u8]) -> bool
     true
 }
 
-// Whether a word is a label.
+/// Whether a word is a label.
 pub(crate) fn is_label(word: &[u8]) -> bool
     ensures { result ≡ is_label_word word.now }
 {

@@ -25,5 +25,6 @@ value_eq-decides (Text s) (Int j) = (λ e. absurd (cc), λ e. absurd (cc))
 pub tuple_eq-decides : (s t : Tuple) → Decides (tuple_eq s t) (s ≡ t)
 tuple_eq-decides s t = slice_eq-Decides value_eq-decides s t (tuple_eq s t) refl
 
+-- the test of two values is symmetric and transitive
 pub value_eq_laws : IsPartialEquivalence value_eq
 value_eq_laws = partial_equiv_from_equiv (decided value_eq value_eq-decides)

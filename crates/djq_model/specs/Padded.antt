@@ -24,6 +24,7 @@ length_back bytes len h e =
       length-take len bytes,
     )
 
+-- fields with zeros behind a name are those that hold the name
 pub padded_back : (n : Inside) → (n.len ≤ 32) × (n.bytes ≡ zeros_after (take n.len n.bytes))
     → padded (take n.len n.bytes) ≡ n
 padded_back n h = ap₂ (λ b (k : ℕ). record { bytes = b; len = k }) (sym h.1) (length_back n.bytes n.len h.0 h.1)

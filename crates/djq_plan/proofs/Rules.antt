@@ -86,7 +86,7 @@ pub trim_none : (keep : List ℕ) (L : List (List ℕ)) (c : Choice)
 trim_none keep L c others is = rw
     (lowest_none_is (λ i. has_removable keep L i) 0 (length L) (λ j from below. others j (omega arith))) is
 
--- ---- what the code read_at
+-- ---- what the code reads
 
 pub equal_read : (L : List (List ℕ)) (i j : ℕ) (a b : List ℕ) (r : Bool) → a ≡ edge_at L i → b ≡ edge_at L j → r
     ≡ (subset a b && subset b a) → r ≡ true → are_equal L i j ≡ true

@@ -161,7 +161,7 @@ apart_keeps t was now new j k n i b u f not_k not_j above within s own kids =
 pub now_family : (t : Tree) (was now : List Table) (j : ℕ) → ChangedOnlyAt t was now j → IsFamily t now
 now_family t was now j b = b.changed.family t b.ready.family
 
--- above the parent all is ts it was
+-- above the parent all is as it was
 pub ready_up : (t : Tree) (was now : List Table) (j k : ℕ) (n : Node) → ChangedOnlyAt t was now j → IsUnder t k n j
     → Ready t now k
 ready_up t was now j k n b u =

@@ -26,10 +26,11 @@ after_keep t n x = x + paths t * (1 + n)
 abbrev pub after_drop : Tree → ℕ → ℕ → ℕ
 after_drop t n x = x + 1 + 5 * (paths t * n) + paths t * (1 + n)
 
--- a tuple comes to a leaf, and goes from one, without a mark
+-- a tuple comes to a leaf without a mark
 abbrev pub after_add : Tree → ℕ → ℕ → ℕ
 after_add t n x = x + 4 * (paths t * n)
 
+-- a tuple goes from a leaf, without a mark
 abbrev pub after_take : Tree → ℕ → ℕ → ℕ
 after_take t n x = x + 5 * (paths t * n)
 

@@ -34,6 +34,7 @@ reach_one (Trim c) going j ts u w = one (same (pick (key_at ts c) u) w) * one
 reach_one (Meet g s) going j ts u w = cond (g == j) (one (same u w))
     (count_of (group_of (key_at ts g) (entries_at ts g) u) w)
 
+-- what the marked tuples es of the child j reach at a node
 unfoldable pub reach : Node → Bool → ℕ → List Table → List Entry → List ℕ → ℕ
 reach (Leaf a) going j ts es w = 0
 reach (Trim c) going j ts es w = group_size (key_at ts c) es w * one
@@ -47,6 +48,7 @@ cost_one (Leaf a) j ts u = 0
 cost_one (Trim c) j ts u = 3
 cost_one (Meet g s) j ts u = cond (g == j) 2 (1 + 3 * group_size (key_at ts g) (entries_at ts g) u)
 
+-- what that of the tuples es counts
 unfoldable pub cost : Node → ℕ → List Table → List Entry → ℕ
 cost n j ts [] = 0
 cost n j ts (e ∷ es) = 1 + cost_one n j ts e.tuple + cost n j ts es

@@ -58,12 +58,14 @@ pub record ChangedOnlyAt (t : Tree) (was now : List Table) (j : ℕ) : Type 0 wh
   pub ready : Ready t was j
   pub changed : Changed was now j
 
+-- the table of the node j has gained the tuple u, and those above it were right before
 pub record Gaining (t : Tree) (now : List Table) (j : ℕ) (u : List ℕ) : Type 0 where
   pub was : List Table
   pub began : ChangedOnlyAt t was now j
   pub mark : Bool
   pub gains : InsertedAs mark (key_at was j) (entries_at was j) (entries_at now j) u
 
+-- the table of the node j has lost the tuple u, and those above it were right before
 pub record Losing (t : Tree) (now : List Table) (j : ℕ) (u : List ℕ) : Type 0 where
   pub was : List Table
   pub began : ChangedOnlyAt t was now j

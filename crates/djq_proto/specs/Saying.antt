@@ -80,17 +80,21 @@ IsInteger w i = ((n : ℕ) × IsNumeral w n × (i ≡ pos n)) ⊎
 
 -- Which token says an item.
 
+-- a name is said by itself, as a word
 abbrev pub SaysName : Bytes → Token → Type 0
 SaysName n t = IsName n × (t ≡ word n)
 
+-- a column's type is said by the word `int` or `text`
 abbrev pub SaysType : ColumnType → Token → Type 0
 SaysType IntColumn t = t ≡ word (codes "int")
 SaysType TextColumn t = t ≡ word (codes "text")
 
+-- an integer is said by a word that denotes it, a text by a token of its bytes
 abbrev pub SaysValue : Value → Token → Type 0
 SaysValue (Int i) t = (w : Bytes) × (t ≡ word w) × IsInteger w i
 SaysValue (Text s) t = t ≡ text s
 
+-- a variable is said by its name, a hole by `_`, and a constant as a value is
 abbrev pub SaysTerm : Term → Token → Type 0
 SaysTerm (Variable x) t = SaysName x t
 SaysTerm Hole t = t ≡ word (codes "_")

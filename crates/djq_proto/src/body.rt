@@ -1,6 +1,6 @@
-// The body of a query: its atoms and comparisons, as they stand between commas.
-//
-// As in lists, a body is read on out of memory and behind a literal past its limit.
+//! The body of a query: its atoms and comparisons, as they stand between commas.
+//!
+//! As in lists, a body is read on out of memory and behind a literal past its limit.
 ghost use Rattle.std.specs.Prelude.{◌≡◌, List, Option, Some, length, option_map};
 ghost use Rattle.std.specs.List.{list_all};
 ghost use Rattle.djq_model.specs.declared.query.Term.{Term as TermOf};
@@ -23,17 +23,17 @@ use djq_model::{
 use djq_value::{Lexer, Token, next_name};
 use std::alloc::Global;
 
-// The atoms and the comparisons of a body.
+/// The atoms and the comparisons of a body.
 pub(crate) type Body = (Atoms, Comparisons);
 
-// What was read of a body: its items, or why there are none; and whether an atom is among them.
+/// What was read of a body: its items, or why there are none; and whether an atom is among them.
 #[derive(Drop)]
 pub(crate) struct Parts {
     read: Result<Body, LineRefusal>,
     has_atom: bool,
 }
 
-// What stands behind the head of a query, to the line's end.
+/// What stands behind the head of a query, to the line's end.
 pub(crate) fn read_body(alloc: Global, lexer: &mut Lexer<'_>) -> Result<Body, LineRefusal>
     ensures { ReadsAs is_small_body (body_in lexer.old) result }
 {
@@ -43,7 +43,7 @@ pub(crate) fn read_body(alloc: Global, lexer: &mut Lexer<'_>) -> Result<Body, Li
     }
 }
 
-// Items with commas between, one atom at least, to the line's end.
+/// Items with commas between, one atom at least, to the line's end.
 fn read_items(alloc: Global, lexer: &mut Lexer<'_>) -> Result<Body, LineRefusal>
     ensures { ReadsAs is_small_body (with_atoms (items_in 0 lexer.old)) result }
 {
@@ -67,7 +67,7 @@ fn read_items(alloc: Global, lexer: &mut Lexer<'_>) -> Result<Body, LineRefusal>
     }
 }
 
-// The body that was read to its end: it has an atom.
+/// The body that was read to its end: it has an atom.
 fn whole(parts: Parts) -> Result<Body, LineRefusal>
     ensures { (b : BodyOf) → IsRead b parts → ReadsAs is_small_body (with_atoms (Some b)) result }
 {
@@ -84,7 +84,7 @@ fn is_comma(token: &Token<'_>) -> bool
     matches!(token, Token::Comma)
 }
 
-// The parts that were read, and an item more; none where no item is in front.
+/// The parts that were read, and an item more; none where no item is in front.
 fn read_item(alloc: Global, lexer: &mut Lexer<'_>, parts: Parts) -> Option<Parts>
     ensures { (b : BodyOf) → IsRead b parts
         → ReadsOn b (item_in (length b.0) lexer.old) result lexer.new }
@@ -103,7 +103,7 @@ fn read_item(alloc: Global, lexer: &mut Lexer<'_>, parts: Parts) -> Option<Parts
     }
 }
 
-// The constant of a comparison.
+/// The constant of a comparison.
 fn read_constant(alloc: Global, lexer: &mut Lexer<'_>) -> Result<Value, LineRefusal>
     ensures { ReadsPart is_small_value (constant_in lexer.old) result lexer.new }
 {
@@ -113,7 +113,7 @@ fn read_constant(alloc: Global, lexer: &mut Lexer<'_>) -> Result<Value, LineRefu
     }
 }
 
-// The parts and an atom of these terms; none where the terms are outside the grammar.
+/// The parts and an atom of these terms; none where the terms are outside the grammar.
 fn with_atom(parts: Parts, relation: Name, terms: Result<Terms, LineRefusal>) -> Option<Parts>
     ensures { (b : BodyOf) (o : Option (List TermOf))
         → IsRead b parts → ReadsAs (list_all is_small_term) o terms
@@ -143,8 +143,8 @@ fn add_atom(
     Ok((atoms, comparisons))
 }
 
-// The parts and a comparison with this constant, behind the atoms that were read; none where the
-// constant is outside the grammar.
+/// The parts and a comparison with this constant, behind the atoms that were read; none where the
+/// constant is outside the grammar.
 fn with_comparison(
     parts: Parts,
     variable: Name,

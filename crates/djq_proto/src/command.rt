@@ -33,14 +33,14 @@ pub fn read_command(alloc: Global, line: &[u8]) -> Result<Command, LineRefusal>
     read_tokens(alloc, &mut lexer)
 }
 
-// Whether bytes are UTF-8.
+/// Whether bytes are UTF-8.
 pub(crate) fn is_utf8(line: &[u8]) -> bool
     ensures { result ≡ is_utf8_of line.now }
 {
     str::from_utf8(line).is_ok()
 }
 
-// A keyword, and what stands behind it.
+/// A keyword, and what stands behind it.
 fn read_tokens(alloc: Global, lexer: &mut Lexer<'_>) -> Result<Command, LineRefusal>
     ensures { Gives (command_in lexer.old) result }
 {
@@ -53,7 +53,7 @@ fn read_tokens(alloc: Global, lexer: &mut Lexer<'_>) -> Result<Command, LineRefu
     }
 }
 
-// What stands behind a keyword.
+/// What stands behind a keyword.
 fn read_arguments(
     alloc: Global,
     keyword: Keyword,

@@ -1,4 +1,4 @@
-// What one token of a line says: a name, a type, a value, a term.
+//! What one token of a line says: a name, a type, a value, a term.
 ghost use Rattle.std.specs.Prelude.{◌≡◌};
 ghost use Rattle.djq_value.specs.Lexing.{lexeme_of};
 ghost use Rattle.djq_proto.specs.Reading.{ReadsAs};
@@ -8,7 +8,7 @@ use djq_model::{ColumnType, Name, Term, Value};
 use djq_value::{Token, is_text, read_literal, read_name};
 use std::alloc::Global;
 
-// An item of a list: what it is of a token, and which items are in range.
+/// An item of a list: what it is of a token, and which items are in range.
 pub(crate) trait Item: Drop {
     ghost use Rattle.std.specs.Prelude.{Bool, Option};
     ghost use Rattle.djq_value.specs.Token.{Token as Lexeme};

@@ -1,7 +1,7 @@
-// Lists of items: to the line's end, or in parentheses.
-//
-// Out of memory, or behind an item that isn't in range, the line is read on, since an item that is
-// outside the grammar comes first in the order of refusals.
+//! Lists of items: to the line's end, or in parentheses.
+//!
+//! Out of memory, or behind an item that isn't in range, the line is read on, since an item that is
+//! outside the grammar comes first in the order of refusals.
 ghost use Rattle.std.specs.Prelude.{◌≡◌, ◌∷◌, ◌++◌, ◌&&◌, [], Bool, List, Some};
 ghost use Rattle.std.specs.List.{list_all};
 ghost use Rattle.djq_lines.specs.Grammar.{all_of, list_in, more_in, put_first};
@@ -15,7 +15,7 @@ use djq_model::Sequence;
 use djq_value::{Lexer, Token};
 use std::alloc::Global;
 
-// The items that were read, and one more; or why there are none.
+/// The items that were read, and one more; or why there are none.
 pub(crate) fn added<T: Drop>(
     items: Result<Sequence<T>, LineRefusal>,
     item: Result<T, LineRefusal>,
@@ -29,7 +29,7 @@ pub(crate) fn added<T: Drop>(
     Ok(items)
 }
 
-// What was read of two parts; or why one of them isn't there.
+/// What was read of two parts; or why one of them isn't there.
 pub(crate) fn both<T: Drop, U: Drop>(
     one: Result<T, LineRefusal>,
     other: Result<U, LineRefusal>,
@@ -46,14 +46,14 @@ pub(crate) fn both<T: Drop, U: Drop>(
     }
 }
 
-// Whether something is outside the grammar.
+/// Whether something is outside the grammar.
 pub(crate) fn is_outside<T>(read: &Result<T, LineRefusal>) -> bool
     ensures { result ≡ is_outside_of read.now }
 {
     matches!(read, Err(LineRefusal::Syntax))
 }
 
-// Items to the line's end.
+/// Items to the line's end.
 pub(crate) fn read_all<T: Item>(
     alloc: Global,
     lexer: &mut Lexer<'_>,
@@ -71,7 +71,7 @@ pub(crate) fn read_all<T: Item>(
     items
 }
 
-// Items in parentheses, with commas between.
+/// Items in parentheses, with commas between.
 pub(crate) fn read_list<T: Item>(
     alloc: Global,
     lexer: &mut Lexer<'_>,
@@ -85,7 +85,7 @@ pub(crate) fn read_list<T: Item>(
     }
 }
 
-// Items with commas between, behind a `(`, to the `)`.
+/// Items with commas between, behind a `(`, to the `)`.
 pub(crate) fn read_opened<T: Item>(
     alloc: Global,
     lexer: &mut Lexer<'_>,
@@ -100,7 +100,7 @@ pub(crate) fn read_opened<T: Item>(
     }
 }
 
-// The items of a list from one of their tokens on, to the `)`.
+/// The items of a list from one of their tokens on, to the `)`.
 fn read_from<'a, T: Item>(
     alloc: Global,
     lexer: &mut Lexer<'a>,

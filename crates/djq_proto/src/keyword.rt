@@ -1,11 +1,11 @@
-// The first word of a line.
+//! The first word of a line.
 ghost use Rattle.std.specs.Prelude.{◌≡◌};
 ghost use Rattle.djq_lines.specs.Grammar.{keyword_of};
 
 use djq_lines::Keyword;
 use djq_value::is_text;
 
-// The keyword that a word is.
+/// The keyword that a word is.
 pub(crate) fn read_keyword(word: &[u8]) -> Option<Keyword>
     ensures { result ≡ keyword_of word.now }
 {

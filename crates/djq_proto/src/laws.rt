@@ -1,5 +1,5 @@
-// What is read of a line, said of the line alone. The functions do nothing: what they ensure holds
-// of the definitions.
+//! What is read of a line, said of the line alone. The functions do nothing: what they ensure holds
+//! of the definitions.
 ghost use Rattle.djq_proto.specs.Laws.{CommandsAreSaid, CommandsAreSpelled};
 
 /// Tokens are read as a command exactly where they say it.

@@ -1,4 +1,4 @@
-// What stands behind a keyword, to the line's end.
+//! What stands behind a keyword, to the line's end.
 ghost use Rattle.std.specs.Prelude.{◌≡◌, true, Err, Ok};
 ghost use Rattle.std.specs.List.{list_all};
 ghost use Rattle.std.specs.Option.{ok_or};
@@ -17,7 +17,7 @@ use djq_model::{Name, Names, Sequence};
 use djq_value::{Lexer, next_name, next_word, read_natural};
 use std::alloc::Global;
 
-// A name and items, one at least.
+/// A name and items, one at least.
 pub(crate) fn read_named_some<T: Item>(
     alloc: Global,
     lexer: &mut Lexer<'_>,
@@ -35,7 +35,7 @@ pub(crate) fn read_named_some<T: Item>(
     Ok((name, items))
 }
 
-// A name and items, if any.
+/// A name and items, if any.
 pub(crate) fn read_named_any<T: Item>(
     alloc: Global,
     lexer: &mut Lexer<'_>,
@@ -50,7 +50,7 @@ pub(crate) fn read_named_any<T: Item>(
     Ok((name, items))
 }
 
-// A name, and names of which there are two at least.
+/// A name, and names of which there are two at least.
 pub(crate) fn read_members(
     alloc: Global,
     lexer: &mut Lexer<'_>,
@@ -63,7 +63,7 @@ pub(crate) fn read_members(
     read_named_some::<Name>(alloc, lexer)
 }
 
-// Whether three tokens are left.
+/// Whether three tokens are left.
 fn has_three(lexer: &Lexer<'_>) -> bool
     ensures { result ≡ has_three_of lexer.now }
 {
@@ -71,7 +71,7 @@ fn has_three(lexer: &Lexer<'_>) -> bool
     ahead.next().is_some() && ahead.next().is_some() && ahead.next().is_some()
 }
 
-// One name.
+/// One name.
 pub(crate) fn read_one_name(lexer: &mut Lexer<'_>) -> Result<Name, LineRefusal>
     ensures { result ≡ ok_or (one_name lexer.old) Syntax }
 {
@@ -81,7 +81,7 @@ pub(crate) fn read_one_name(lexer: &mut Lexer<'_>) -> Result<Name, LineRefusal>
     }
 }
 
-// Two names.
+/// Two names.
 pub(crate) fn read_two_names(lexer: &mut Lexer<'_>) -> Result<(Name, Name), LineRefusal>
     ensures { result ≡ ok_or (two_names lexer.old) Syntax }
 {
@@ -94,7 +94,7 @@ pub(crate) fn read_two_names(lexer: &mut Lexer<'_>) -> Result<(Name, Name), Line
     }
 }
 
-// A name and a count of answers.
+/// A name and a count of answers.
 pub(crate) fn read_count(lexer: &mut Lexer<'_>) -> Result<(Name, u32), LineRefusal>
     ensures { result ≡ ok_or (name_and_count lexer.old) Syntax }
 {
@@ -110,7 +110,7 @@ pub(crate) fn read_count(lexer: &mut Lexer<'_>) -> Result<(Name, u32), LineRefus
     }
 }
 
-// The count that a word is: digits alone, from 1 to 1000.
+/// The count that a word is: digits alone, from 1 to 1000.
 fn count_in(word: &[u8]) -> Option<u32>
     ensures { result ≡ count_of (natural_of word.now) }
 {
@@ -120,7 +120,7 @@ fn count_in(word: &[u8]) -> Option<u32>
     }
 }
 
-// Nothing.
+/// Nothing.
 pub(crate) fn read_nothing(lexer: &Lexer<'_>, command: Command) -> Result<Command, LineRefusal>
     ensures { result ≡ ok_or (nothing command lexer.now) Syntax }
 {

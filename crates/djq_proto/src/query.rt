@@ -1,4 +1,4 @@
-// The lines that register a query.
+//! The lines that register a query.
 ghost use Rattle.djq_lines.specs.Grammar.{query_in};
 ghost use Rattle.djq_proto.specs.Reading.{ReadsAs, is_small_query};
 
@@ -9,7 +9,7 @@ use djq_model::{Name, Query};
 use djq_value::{Lexer, next_name};
 use std::alloc::Global;
 
-// A query, to the line's end.
+/// A query, to the line's end.
 pub(crate) fn read_query(alloc: Global, lexer: &mut Lexer<'_>) -> Result<Query, LineRefusal>
     ensures { ReadsAs is_small_query (query_in lexer.old) result }
 {

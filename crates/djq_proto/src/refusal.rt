@@ -20,7 +20,7 @@ pub enum LineRefusal {
 }
 
 impl LineRefusal {
-    // The one that comes first in the order of refusals.
+    /// The one that comes first in the order of refusals.
     pub(crate) fn first(self, other: Self) -> Self
         ensures { result ≡ first_of self other }
     {

@@ -40,7 +40,7 @@ impl Splitter {
     }
 }
 
-// The line that ends at the first LF.
+/// The line that ends at the first LF.
 fn line_at(bytes: &[u8], at: usize) -> Front
     requires { IsFirstLf bytes.now at }
     ensures { IsFront bytes.now result }
@@ -56,7 +56,7 @@ fn line_at(bytes: &[u8], at: usize) -> Front
     }
 }
 
-// Whether bytes before an LF are too many.
+/// Whether bytes before an LF are too many.
 fn is_long(line: &[u8]) -> bool
     ensures { result ≡ is_long_line line.now }
 {
@@ -64,7 +64,7 @@ fn is_long(line: &[u8]) -> bool
     len >= LINE_BYTES + 2 || (len == LINE_BYTES + 1 && line[LINE_BYTES] != b'\r')
 }
 
-// The length without one CR at the end.
+/// The length without one CR at the end.
 fn trimmed_len(line: &[u8]) -> usize
     ensures within { result ≤ length line.now }
     ensures trimmed { take result line.now ≡ without_cr line.now }

@@ -4,7 +4,7 @@ use djq_model::{Operator, Term, Value};
 use std::alloc::{AllocError, Global};
 use std::test::Fail;
 
-// One letter for a command.
+/// One letter for a command.
 fn command_letter(command: &Command) -> char {
     match command {
         Command::Rel { .. } => 'r',
@@ -29,7 +29,7 @@ fn command_letter(command: &Command) -> char {
     }
 }
 
-// One letter for what a line says.
+/// One letter for what a line says.
 fn letter(alloc: Global, line: &[u8]) -> char {
     match read_command(alloc, line) {
         Ok(command) => command_letter(&command),
@@ -39,8 +39,8 @@ fn letter(alloc: Global, line: &[u8]) -> char {
     }
 }
 
-// Lines and what they say: a letter for each command, S for none of the grammar, R for a literal
-// past its limit.
+/// Lines and what they say: a letter for each command, S for none of the grammar, R for a literal
+/// past its limit.
 const LINES: [(&[u8], char); 88] = [
     (b"rel r int", 'r'),
     (b"  rel  r_1 int   int ", 'r'),
@@ -139,7 +139,7 @@ fn reads_lines(rt: HostRuntime) {
     }
 }
 
-// Lines of queries and unions, likewise.
+/// Lines of queries and unions, likewise.
 const QUERIES: [(&[u8], char); 60] = [
     (b"union u a b", 'm'),
     (b"union union a a b c d e f g h i", 'm'),
@@ -213,7 +213,7 @@ fn reads_queries(rt: HostRuntime) {
     }
 }
 
-// Lines, what they are to who reads rows, by a letter, and how many values are in the room then.
+/// Lines, what they are to who reads rows, by a letter, and how many values are in the room then.
 const ROWS: [(&[u8], char, usize); 20] = [
     (b"add r 1 -2", 'a', 2),
     (b"  del r \"a\"", 'd', 1),
@@ -256,7 +256,7 @@ fn reads_rows_into_room(rt: HostRuntime) {
     }
 }
 
-// The first value of the row that a line adds.
+/// The first value of the row that a line adds.
 fn value(alloc: Global, line: &[u8]) -> Option<i64> {
     let Ok(Command::Add { row, .. }) = read_command(alloc, line) else {
         return None;
@@ -299,7 +299,7 @@ fn keeps_what_a_query_says(rt: HostRuntime) {
     }
 }
 
-// What the comparisons of a line should say: variable, operator, integer or text, atoms before it.
+/// What the comparisons of a line should say: variable, operator, integer or text, atoms before it.
 const COMPARED: [(&[u8], Operator, Option<i64>, &[u8], usize); 6] = [
     (b"x", Operator::Less, Some(-1), b"", 0),
     (b"x", Operator::LessOrEqual, Some(2), b"", 1),
@@ -337,7 +337,7 @@ fn keeps_what_comparisons_say(rt: HostRuntime) {
     }
 }
 
-// A line of so many values, and of so many columns.
+/// A line of so many values, and of so many columns.
 fn long_line(
     alloc: Global,
     front: &[u8],
@@ -384,7 +384,7 @@ fn takes_texts_of_255_bytes(rt: HostRuntime) -> Result<(), Fail> {
     Ok(())
 }
 
-// So many bytes, and then the end.
+/// So many bytes, and then the end.
 fn bytes(alloc: Global, count: usize, end: &[u8]) -> Result<Vec<u8>, AllocError> {
     let mut bytes = vec![in alloc; b'x'; count]?;
     bytes.extend_from_slice(end)?;

@@ -25,6 +25,7 @@ IsShown ls (Named x) (Fixed w) = ⊥
 IsShown ls Hole (Fixed w) = ⊥
 IsShown ls (Constant v) (Number k) = ⊥
 
+-- the same of terms, one by one
 abbrev pub AreShown : List Label → List Term → List NumberedTerm → Type 0
 AreShown ls [] [] = Unit {0}
 AreShown ls (t ∷ ts) (n ∷ ns) = IsShown ls t n × AreShown ls ts ns
@@ -47,6 +48,7 @@ pub record IsComparisonShown (ls : List Label) (c : Comparison) (n : NumberedCom
     pub operator : n.operator ≡ c.operator
     pub constant : n.constant ≡ c.constant
 
+-- the same of comparisons, one by one
 abbrev pub AreComparisonsShown : List Label → List Comparison → List NumberedComparison → Type 0
 AreComparisonsShown ls [] [] = Unit {0}
 AreComparisonsShown ls (c ∷ cs) (n ∷ ns) = IsComparisonShown ls c n × AreComparisonsShown ls cs ns
@@ -58,11 +60,13 @@ abbrev pub hole_of : Term → NumberedTerm → List ℕ
 hole_of Hole (Number k) = k ∷ []
 hole_of _ _ = []
 
+-- the numbers of the holes among terms
 unfoldable pub holes_among : List Term → List NumberedTerm → List ℕ
 holes_among [] ns = []
 holes_among (t ∷ ts) [] = []
 holes_among (t ∷ ts) (n ∷ ns) = hole_of t n ++ holes_among ts ns
 
+-- the numbers of the holes in a body
 unfoldable pub holes_in : List Atom → List NumberedAtom → List ℕ
 holes_in [] ns = []
 holes_in (a ∷ atoms) [] = []
@@ -85,6 +89,7 @@ pub record IsShownBy (rs : List Relation) (q : Query) (n : Numbered) : Type 0 wh
   pub fresh : Rise 0 (holes_in q.atoms n.atoms)
   pub head : map (slice_get (labels n.variables)) n.head ≡ map (λ x. Some (Some x)) q.head
 
+-- The numbers of a query without a fault stand for it.
 abbrev pub NumbersAreShown : Type 0
 NumbersAreShown = (rs : List Relation) (q : Query) (n : Numbered) → query_fault rs q ≡ None → IsNumbered rs q n
     → IsShownBy rs q n

@@ -33,6 +33,7 @@ pub record Numbered : Type 0 where
 abbrev pub labels : List Variable → List Label
 labels known = map (λ v. v.name) known
 
+-- a term by number, where these variables are known in front of it
 abbrev pub numbered : List Label → Term → NumberedTerm
 numbered known (Named x) = Number (number_of known x)
 numbered known Hole = Number (length known)
@@ -48,6 +49,7 @@ abbrev pub IsNumberedAtom : List Relation → List Label → Atom → NumberedAt
 IsNumberedAtom relations known a n =
     (slice_get relations n.relation ≡ relation_of relations a.relation) × (n.terms ≡ numbered_terms known a.terms)
 
+-- Atoms by number, one by one, where these variables are known in front of them.
 unfoldable pub AreNumbered : List Relation → List Label → List Atom → List NumberedAtom → Type 0
 AreNumbered relations known [] [] = Unit {0}
 AreNumbered relations known (a ∷ atoms) (n ∷ ns) =
@@ -57,20 +59,24 @@ AreNumbered relations known (a ∷ atoms) [] = ⊥
 
 -- The variables with their types: that of the column where each first stands.
 
+-- the variables that are known behind a term in a column of this type
 unfoldable pub with_place : List Variable → Term → ColumnType → List Variable
 with_place known (Named x) c =
     if is_known (labels known) x then known else known ++ record { name = Some x; column = c } ∷ []
 with_place known Hole c = known ++ record { name = None; column = c } ∷ []
 with_place known (Constant v) c = known
 
+-- the variables that are known behind terms in columns of these types
 unfoldable pub with_places : List Variable → List Term → List ColumnType → List Variable
 with_places known [] cs = known
 with_places known (t ∷ ts) [] = known
 with_places known (t ∷ ts) (c ∷ cs) = with_places (with_place known t c) ts cs
 
+-- the variables that are known behind an atom, with their types
 abbrev pub with_columns : List Relation → List Variable → Atom → List Variable
 with_columns relations known a = with_places known a.terms (columns_of relations a.relation)
 
+-- the variables of a body, with their types
 abbrev pub variables_in : List Relation → List Atom → List Variable
 variables_in relations atoms = fold (with_columns relations) [] atoms
 
@@ -94,6 +100,7 @@ abbrev pub is_below : ℕ → NumberedTerm → Bool
 is_below count (Number x) = nat_lt x count
 is_below count (Fixed v) = true
 
+-- whether each variable among terms has a number below this
 abbrev pub are_below : ℕ → List NumberedTerm → Bool
 are_below count terms = list_all (is_below count) terms
 
@@ -115,5 +122,6 @@ abbrev pub terms_in : Option NumberedAtom → List NumberedTerm
 terms_in None = []
 terms_in (Some a) = a.terms
 
+-- the terms of the atom at a place; none past the end
 abbrev pub terms_at : List NumberedAtom → ℕ → List NumberedTerm
 terms_at atoms p = terms_in (slice_get atoms p)

@@ -100,6 +100,7 @@ unfoldable pub slot_of : List ℕ → NumberedTerm → ℕ → Slot
 slot_of label (Number x) c = Place (position_or_len (λ y. y == x) label)
 slot_of label (Fixed v) c = Cell c
 
+-- what stands at the columns of these terms, one by one
 unfoldable pub bound : List ℕ → List NumberedTerm → List ℕ → List Slot
 bound label [] cs = []
 bound label (t ∷ ts) [] = []

@@ -12,7 +12,7 @@ use djq_index::Cells;
 use djq_model::{NoMem, Sequence};
 use std::alloc::Global;
 
-// The variables of a set, in rising order.
+/// The variables of a set, in rising order.
 fn members(label: VarSet) -> Cells
     requires { length label ≤ CELLS }
     ensures { result ≡ label }
@@ -25,14 +25,14 @@ fn members(label: VarSet) -> Cells
     members
 }
 
-// The place of a variable among these, where it is one of them.
+/// The place of a variable among these, where it is one of them.
 fn find(members: &[u64], variable: u64) -> Option<usize>
     ensures { result ≡ position (λ y. y == variable) members.now }
 {
     members.iter().position(|member| *member == variable)
 }
 
-// What stands at a column: the place of a variable, or the cell of a constant.
+/// What stands at a column: the place of a variable, or the cell of a constant.
 fn slot_of(members: &[u64], term: &NumberedTerm, cell: u64) -> Slot
     ensures { result ≡ slot_of members.now term.now cell }
 {
@@ -44,7 +44,7 @@ fn slot_of(members: &[u64], term: &NumberedTerm, cell: u64) -> Slot
     }
 }
 
-// What stands at each column.
+/// What stands at each column.
 fn slots_of(
     alloc: Global,
     members: &[u64],
@@ -61,7 +61,7 @@ fn slots_of(
     Ok(slots)
 }
 
-// The tests that comparisons are for a tuple over these variables.
+/// The tests that comparisons are for a tuple over these variables.
 fn tests_of(
     alloc: Global,
     members: &[u64],

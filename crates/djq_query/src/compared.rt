@@ -1,4 +1,4 @@
-// What is wrong with the comparisons of a body.
+//! What is wrong with the comparisons of a body.
 ghost use Rattle.std.specs.Prelude.{◌≡◌, not};
 ghost use Rattle.std.specs.List.{list_any};
 ghost use Rattle.djq_lines.specs.QueryFault.{
@@ -13,7 +13,7 @@ use crate::relations::{Relations, columns_of};
 use crate::variables::stands_in;
 use djq_model::{Atom, ColumnType, Comparison, Operator, Term};
 
-// Whether an operator has a meaning at a column of this type.
+/// Whether an operator has a meaning at a column of this type.
 fn has_order(operator: Operator, column: ColumnType) -> bool
     ensures { result ≡ has_order_at operator column }
 {
@@ -25,7 +25,7 @@ fn has_order(operator: Operator, column: ColumnType) -> bool
     }
 }
 
-// Whether a term is the comparison's variable at a column to whose type the comparison doesn't suit.
+/// Whether a term is the comparison's variable at a column to whose type the comparison doesn't suit.
 fn is_miscompared(comparison: &Comparison, term: &Term, column: ColumnType) -> bool
     ensures { result ≡ is_miscompared comparison.now term.now column }
 {
@@ -50,7 +50,7 @@ fn any_miscompared(comparison: &Comparison, terms: &[Term], columns: &[ColumnTyp
     false
 }
 
-// Whether a comparison doesn't suit the type of a column where its variable stands.
+/// Whether a comparison doesn't suit the type of a column where its variable stands.
 fn miscompares<R: Relations>(relations: &R, atoms: &[Atom], comparison: &Comparison) -> bool
     ensures { result ≡ any_place (is_miscompared comparison.now) (R.relations relations.now)
         atoms.now }

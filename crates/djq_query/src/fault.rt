@@ -59,7 +59,7 @@ pub fn query_fault<R: Relations>(relations: &R, query: &Query) -> Option<Refusal
     None
 }
 
-// Whether a query has too many atoms, variables, head variables or comparisons.
+/// Whether a query has too many atoms, variables, head variables or comparisons.
 fn is_too_large(query: &Query) -> bool
     ensures { result ≡ is_too_large query.now }
 {

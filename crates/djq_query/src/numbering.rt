@@ -44,7 +44,7 @@ use djq_lines::Refusal;
 use djq_model::{Atom, ColumnType, Comparison, Name, NoMem, Query, Sequence, Term, Text, Value};
 use std::alloc::Global;
 
-// A copy of a value.
+/// A copy of a value.
 fn copy_value(alloc: Global, value: &Value) -> Result<Value, NoMem>
     ensures { IfOk result (λ v. v ≡ value.now) }
 {
@@ -57,7 +57,7 @@ fn copy_value(alloc: Global, value: &Value) -> Result<Value, NoMem>
     }
 }
 
-// Whether a variable has this name.
+/// Whether a variable has this name.
 fn is_named(variable: &Variable, name: &Name) -> bool
     ensures { result ≡ is_label_named name.now variable.now.name }
 {
@@ -67,7 +67,7 @@ fn is_named(variable: &Variable, name: &Name) -> bool
     }
 }
 
-// The number of a name, which is known then, behind the others if it wasn't.
+/// The number of a name, which is known then, behind the others if it wasn't.
 fn number_name(
     known: &mut Sequence<Variable>,
     name: &Name,
@@ -87,14 +87,14 @@ fn number_name(
     }
 }
 
-// The place of a name among those known.
+/// The place of a name among those known.
 fn place_of(known: &[Variable], name: &Name) -> Option<usize>
     ensures { result ≡ position (λ v. is_label_named name.now v.name) known.now }
 {
     known.iter().position(|variable| is_named(variable, name))
 }
 
-// A term by number; a variable that wasn't known is, behind the others.
+/// A term by number; a variable that wasn't known is, behind the others.
 fn number_term(
     alloc: Global,
     known: &mut Sequence<Variable>,
@@ -115,7 +115,7 @@ fn number_term(
     }
 }
 
-// The terms of an atom by number, with the columns' types for the variables that weren't known.
+/// The terms of an atom by number, with the columns' types for the variables that weren't known.
 fn number_terms(
     alloc: Global,
     known: &mut Sequence<Variable>,
@@ -133,7 +133,7 @@ fn number_terms(
     Ok(numbered)
 }
 
-// An atom by number, whose relation is there and has as many columns as the atom has terms.
+/// An atom by number, whose relation is there and has as many columns as the atom has terms.
 fn number_atom<R: Relations>(
     alloc: Global,
     relations: &R,
@@ -156,7 +156,7 @@ fn number_atom<R: Relations>(
     Ok(NumberedAtom { relation, terms })
 }
 
-// The atoms of a body by number.
+/// The atoms of a body by number.
 fn number_body<R: Relations>(
     alloc: Global,
     relations: &R,
@@ -180,7 +180,7 @@ fn number_body<R: Relations>(
     Ok(numbered)
 }
 
-// The numbers of a head's names.
+/// The numbers of a head's names.
 fn number_head(alloc: Global, known: &[Variable], head: &[Name]) -> Result<Sequence<usize>, NoMem>
     ensures { IfOk result (λ ns. ns ≡ map (number_of (labels known.now)) head.now) }
 {
@@ -191,7 +191,7 @@ fn number_head(alloc: Global, known: &[Variable], head: &[Name]) -> Result<Seque
     Ok(numbers)
 }
 
-// A comparison over the number of its variable.
+/// A comparison over the number of its variable.
 fn number_comparison(
     alloc: Global,
     known: &[Variable],
@@ -206,7 +206,7 @@ fn number_comparison(
     })
 }
 
-// Comparisons over the numbers of their variables.
+/// Comparisons over the numbers of their variables.
 fn number_comparisons(
     alloc: Global,
     known: &[Variable],
@@ -243,7 +243,7 @@ pub fn number<R: Relations>(
     }
 }
 
-// A query without a fault by number.
+/// A query without a fault by number.
 fn number_sound<R: Relations>(
     alloc: Global,
     relations: &R,

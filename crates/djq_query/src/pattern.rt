@@ -72,7 +72,7 @@ impl Model for Pattern {
     ghost invariant = { λ p. spec.IsMade (record { width = p.width; slots = p.slots; tests = p.tests }) p.plain };
 }
 
-// The cell that a tuple gives a column.
+/// The cell that a tuple gives a column.
 fn cell_of(tuple: &[u64], slot: Slot) -> u64
     requires { is_within (length tuple.now) slot ≡ true }
     ensures { result ≡ cell_of tuple.now slot }
@@ -83,7 +83,7 @@ fn cell_of(tuple: &[u64], slot: Slot) -> u64
     }
 }
 
-// Writes the cell of a row's column into a tuple, where a variable stands at the column.
+/// Writes the cell of a row's column into a tuple, where a variable stands at the column.
 fn put(tuple: &mut Cells, slot: Slot, cell: u64)
     requires { is_within (length tuple.old) slot ≡ true }
     ensures { tuple.new ≡ put_cell tuple.old slot cell }
@@ -94,7 +94,7 @@ fn put(tuple: &mut Cells, slot: Slot, cell: u64)
     }
 }
 
-// Whether a cell stands to a constant's cell as an operator says.
+/// Whether a cell stands to a constant's cell as an operator says.
 fn passes(operator: Operator, cell: u64, constant: u64) -> bool
     ensures { result ≡ passes operator cell constant }
 {
@@ -108,7 +108,7 @@ fn passes(operator: Operator, cell: u64, constant: u64) -> bool
     }
 }
 
-// Whether a variable's place stands at the column of the same number.
+/// Whether a variable's place stands at the column of the same number.
 fn is_at(slot: Slot, column: usize) -> bool
     ensures { (u : List ℕ) → result ≡ true → cell_of u slot ≡ slice_index u column }
 {
@@ -118,7 +118,7 @@ fn is_at(slot: Slot, column: usize) -> bool
     }
 }
 
-// Whether the variables stand at the columns in their order, and nothing else does.
+/// Whether the variables stand at the columns in their order, and nothing else does.
 fn is_plain(width: usize, slots: &[Slot]) -> bool
     ensures { result ≡ true → IsPlain width slots.now }
 {
@@ -185,7 +185,7 @@ impl Pattern {
         }
     }
 
-    // Writes the only tuple that may give a row.
+    /// Writes the only tuple that may give a row.
     fn write(&self, row: &[u64], tuple: &mut Cells)
         requires { length row.now ≡ length self.now.slots }
         ensures wide { length tuple.new ≡ self.now.width }
@@ -198,7 +198,7 @@ impl Pattern {
         }
     }
 
-    // Whether a tuple put into the atom gives a row.
+    /// Whether a tuple put into the atom gives a row.
     fn fills(&self, tuple: &[u64], row: &[u64]) -> bool
         requires long { length row.now ≡ length self.now.slots }
         requires wide { length tuple.now ≡ self.now.width }
@@ -213,7 +213,7 @@ impl Pattern {
         true
     }
 
-    // Whether a tuple passes every test.
+    /// Whether a tuple passes every test.
     fn passes(&self, tuple: &[u64]) -> bool
         requires { length tuple.now ≡ self.now.width }
         ensures { (result ≡ true) ↔ All (Passes tuple.now) self.now.tests }

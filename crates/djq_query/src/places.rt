@@ -1,4 +1,4 @@
-// The places of a body, each a term with the type of its column: what is wrong at one of them.
+//! The places of a body, each a term with the type of its column: what is wrong at one of them.
 ghost use Rattle.std.specs.Prelude.{◌≡◌, ◌==◌, not, is_none, length};
 ghost use Rattle.std.specs.List.{list_any};
 ghost use Rattle.djq_model.specs.Data.{relation_of};
@@ -13,7 +13,7 @@ ghost use Rattle.djq_query.specs.Clashes.{clashes_with, mixes};
 use crate::relations::{Relations, columns_of};
 use djq_model::{Atom, ColumnType, Name, Term};
 
-// Whether two columns are of one type.
+/// Whether two columns are of one type.
 fn same_type(column: ColumnType, other: ColumnType) -> bool
     ensures { result ≡ are_same column other }
 {
@@ -24,7 +24,7 @@ fn same_type(column: ColumnType, other: ColumnType) -> bool
     }
 }
 
-// Whether a term is a constant of another type than its column.
+/// Whether a term is a constant of another type than its column.
 fn is_misfit(term: &Term, column: ColumnType) -> bool
     ensures { result ≡ is_misfit term.now column }
 {
@@ -35,7 +35,7 @@ fn is_misfit(term: &Term, column: ColumnType) -> bool
     }
 }
 
-// Whether a term is this variable at a column of another type.
+/// Whether a term is this variable at a column of another type.
 fn is_clash(name: &Name, of: ColumnType, term: &Term, column: ColumnType) -> bool
     ensures { result ≡ clashes_with name.now of term.now column }
 {
@@ -68,7 +68,7 @@ fn any_clash(name: &Name, of: ColumnType, terms: &[Term], columns: &[ColumnType]
     false
 }
 
-// Whether a variable of a column of this type stands at a column of another type.
+/// Whether a variable of a column of this type stands at a column of another type.
 fn clashes<R: Relations>(relations: &R, atoms: &[Atom], name: &Name, of: ColumnType) -> bool
     ensures { result ≡ any_place (clashes_with name.now of) (R.relations relations.now) atoms.now }
 {
@@ -85,7 +85,7 @@ fn clashes<R: Relations>(relations: &R, atoms: &[Atom], name: &Name, of: ColumnT
     false
 }
 
-// Whether a term is a variable that stands at a column of another type too.
+/// Whether a term is a variable that stands at a column of another type too.
 fn is_mixed<R: Relations>(relations: &R, atoms: &[Atom], term: &Term, column: ColumnType) -> bool
     ensures { result ≡ mixes (R.relations relations.now) atoms.now term.now column }
 {

@@ -1,4 +1,4 @@
-// The variables of a head and of a body.
+//! The variables of a head and of a body.
 ghost use Rattle.std.specs.Prelude.{◌≡◌, ◌≤◌, ◌<◌, not, length, nat_lt};
 ghost use Rattle.std.specs.List.{list_any};
 ghost use Rattle.djq_value.specs.Literal.{are_different, has_name};
@@ -15,7 +15,7 @@ ghost use Rattle.djq_query.specs.Standing.{is_fresh as is_fresh_behind, CountsUp
 use djq_lines::limits::VARIABLES;
 use djq_model::{Atom, Name, Term};
 
-// Whether a term is the variable of this name.
+/// Whether a term is the variable of this name.
 fn is_variable(term: &Term, name: &Name) -> bool
     ensures { result ≡ is_variable_named name.now term.now }
 {
@@ -26,7 +26,7 @@ fn is_variable(term: &Term, name: &Name) -> bool
     }
 }
 
-// Whether the variable of a name is among terms.
+/// Whether the variable of a name is among terms.
 fn stands_among(terms: &[Term], name: &Name) -> bool
     ensures { result ≡ list_any (is_variable_named name.now) terms.now }
 {
@@ -62,7 +62,7 @@ pub(crate) fn has_unbound(atoms: &[Atom], head: &[Name]) -> bool
     false
 }
 
-// Whether a name is among names.
+/// Whether a name is among names.
 fn has_name(names: &[Name], name: &Name) -> bool
     ensures { result ≡ has_name names.now name.now }
 {
@@ -86,8 +86,8 @@ pub(crate) fn are_different(names: &[Name]) -> bool
     true
 }
 
-// Whether a term brings a variable that isn't in the atoms before, nor among the terms before it in
-// its atom.
+/// Whether a term brings a variable that isn't in the atoms before, nor among the terms before it in
+/// its atom.
 fn is_fresh(before: &[Atom], beside: &[Term], term: &Term) -> bool
     ensures { result ≡ is_fresh_behind before.now beside.now term.now }
 {
@@ -98,8 +98,8 @@ fn is_fresh(before: &[Atom], beside: &[Term], term: &Term) -> bool
     }
 }
 
-// How many variables there are with those of an atom's terms, given how many there are in the atoms
-// before; or a number above the limit, where there are more.
+/// How many variables there are with those of an atom's terms, given how many there are in the atoms
+/// before; or a number above the limit, where there are more.
 fn count_terms(before: &[Atom], terms: &[Term], count: usize) -> usize
     requires few { count ≤ VARIABLES }
     requires counted { count ≡ length (variables_of before.now) }

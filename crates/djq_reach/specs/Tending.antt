@@ -34,6 +34,7 @@ abbrev pub TellsWhere :
 TellsWhere {R} true Changed l old new = Tells Changed l new
 TellsWhere {R} false Changed l old new = new ≡ old
 
+-- A log tells so where the query in this place is watched, and is as before where it isn't.
 abbrev pub TellsAt :
     {R : Type 0} → List ℕ → (Catalog → Catalog → R → Type 0) → ℕ → Live → Log → Log → Type 0
 TellsAt {R} watchers Changed i = TellsWhere (watched_at watchers i) Changed
@@ -115,6 +116,7 @@ work_of at times n flat None = 0
 work_of at times n flat (Some l) =
     so_often times flat (atoms_over l at * flat_bound l) (atoms_over l at * update_bound l n)
 
+-- the same of the query in the place i, with the bound that is chosen for that place
 abbrev pub work_at : List (Option Live) → ℕ → ℕ → ℕ → (ℕ → Bool) → ℕ → ℕ
 work_at gs at times n flat i = work_of at times n (flat i) (place_at gs i)
 

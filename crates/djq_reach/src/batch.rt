@@ -18,7 +18,7 @@ use djq_live::LiveQuery;
 use djq_model::{NoMem, Sequence};
 use djq_steps::{Ledgers, Steps};
 
-// The places of the queries that read a group's relation.
+/// The places of the queries that read a group's relation.
 fn places_of<'a>(readers: &'a [Sequence<usize>], group: &Group) -> &'a [usize]
     requires { group.now.relation.at < length readers.now }
     ensures { result.now ≡ readers_at readers.now group.now.relation.at }
@@ -26,7 +26,7 @@ fn places_of<'a>(readers: &'a [Sequence<usize>], group: &Group) -> &'a [usize]
     readers[group.relation.at].as_slice()
 }
 
-// The logs in those of these places are emptied whose query is watched.
+/// The logs in those of these places are emptied whose query is watched.
 fn clear_watched(logs: &mut Vec<DeltaLog>, watchers: &[u32], places: &[usize])
     requires logged { HaveLogs places.now logs.old.items }
     requires watched { length watchers.now ≡ length logs.old.items }
@@ -40,7 +40,7 @@ fn clear_watched(logs: &mut Vec<DeltaLog>, watchers: &[u32], places: &[usize])
     }
 }
 
-// So are those of the watched queries that read a relation of the groups.
+/// So are those of the watched queries that read a relation of the groups.
 fn clear_logs(
     logs: &mut Vec<DeltaLog>,
     watchers: &[u32],
@@ -58,7 +58,7 @@ fn clear_logs(
     }
 }
 
-// The logs of all queries that read a relation of the groups are emptied.
+/// The logs of all queries that read a relation of the groups are emptied.
 fn empty_all(logs: &mut Vec<DeltaLog>, readers: &[Sequence<usize>], groups: &[Group])
     requires within { All (λ g. g.relation.at < length readers.now) groups.now }
     requires logged { HaveLogs (reached readers.now groups.now) logs.old.items }
@@ -69,7 +69,7 @@ fn empty_all(logs: &mut Vec<DeltaLog>, readers: &[Sequence<usize>], groups: &[Gr
     }
 }
 
-// The queries that read a relation of the groups give their rows back, the last group first.
+/// The queries that read a relation of the groups give their rows back, the last group first.
 fn give_groups_back<L: Ledgers>(
     queries: &mut Vec<Option<LiveQuery>>,
     readers: &[Sequence<usize>],

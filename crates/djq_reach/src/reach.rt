@@ -24,7 +24,7 @@ pub(crate) fn clear_if(log: &mut DeltaLog, wanted: bool)
     }
 }
 
-// A query takes in a row that came. Where it is watched, its log tells anew which answers came.
+/// A query takes in a row that came. Where it is watched, its log tells anew which answers came.
 fn insert_into_query<L: Ledgers>(
     query: &mut LiveQuery,
     wanted: bool,
@@ -50,7 +50,7 @@ fn insert_into_query<L: Ledgers>(
     query.add(relation, cells, wanted, log, steps)
 }
 
-// A query lets out a row that went. Where it is watched, its log tells anew which answers went.
+/// A query lets out a row that went. Where it is watched, its log tells anew which answers went.
 fn delete_from_query<L: Ledgers>(
     query: &mut LiveQuery,
     wanted: bool,
@@ -71,7 +71,7 @@ fn delete_from_query<L: Ledgers>(
     query.delete(relation, cells, wanted, log, steps);
 }
 
-// The query in a place takes in a row that came.
+/// The query in a place takes in a row that came.
 fn insert_at<L: Ledgers>(
     queries: &mut Vec<Option<LiveQuery>>,
     watchers: &[u32],
@@ -108,7 +108,7 @@ fn insert_at<L: Ledgers>(
     }
 }
 
-// It lets out a row that went.
+/// It lets out a row that went.
 fn delete_at<L: Ledgers>(
     queries: &mut Vec<Option<LiveQuery>>,
     watchers: &[u32],
@@ -140,7 +140,7 @@ fn delete_at<L: Ledgers>(
     }
 }
 
-// It gives back a row that it took in.
+/// It gives back a row that it took in.
 fn give_back_at<L: Ledgers>(
     queries: &mut Vec<Option<LiveQuery>>,
     at: usize,
@@ -161,7 +161,7 @@ fn give_back_at<L: Ledgers>(
     }
 }
 
-// Its open cursors become stale.
+/// Its open cursors become stale.
 fn outdate_at(queries: &mut Vec<Option<LiveQuery>>, at: usize, relation: Name, seq: u64)
     requires { IsSomeAnd (place_at queries.old.items at) (λ l. ⊤) }
     ensures { Reach (at ∷ []) (Ages relation seq) queries.old.items queries.new.items }
@@ -223,7 +223,7 @@ pub fn insert_into_readers<L: Ledgers>(
     Ok(())
 }
 
-// The queries in these places give back a row.
+/// The queries in these places give back a row.
 fn give_back<L: Ledgers>(
     queries: &mut Vec<Option<LiveQuery>>,
     places: &[usize],

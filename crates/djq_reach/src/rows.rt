@@ -17,8 +17,8 @@ use djq_reduct::Cells;
 use djq_rows::RelationId;
 use djq_steps::{Ledgers, Steps};
 
-// The query in a place takes in rows that came. Where it is watched, its log tells, behind what it
-// told, which answers came.
+/// The query in a place takes in rows that came. Where it is watched, its log tells, behind what it
+/// told, which answers came.
 fn insert_rows_at<L: Ledgers>(
     queries: &mut Vec<Option<LiveQuery>>,
     watchers: &[u32],
@@ -55,7 +55,7 @@ fn insert_rows_at<L: Ledgers>(
     }
 }
 
-// A query gives back rows that it took in, the last one first.
+/// A query gives back rows that it took in, the last one first.
 fn give_rows_back<L: Ledgers>(
     query: &mut LiveQuery,
     relation: RelationId,
@@ -75,7 +75,7 @@ fn give_rows_back<L: Ledgers>(
     }
 }
 
-// The query in a place gives them back.
+/// The query in a place gives them back.
 fn give_rows_back_at<L: Ledgers>(
     queries: &mut Vec<Option<LiveQuery>>,
     at: usize,

@@ -19,9 +19,11 @@ table_at ts k = slice_index_or ts k no_table
 unfoldable pub entries_at : List Table → ℕ → List Entry
 entries_at ts k = (table_at ts k).entries
 
+-- the columns of the key of the table with a number
 unfoldable pub key_at : List Table → ℕ → List ℕ
 key_at ts k = (table_at ts k).key
 
+-- the width of the table with a number
 unfoldable pub width_at : List Table → ℕ → ℕ
 width_at ts k = (table_at ts k).width
 

@@ -49,7 +49,7 @@ mod tests {
     use djq_tree::{Node, Tree};
     use std::test::Fail;
 
-    // Larger trees are tested where rows come in.
+    /// Larger trees are tested where rows come in.
     #[test]
     fn starts_without_tuples(rt: HostRuntime) -> Result<(), Fail> {
         let alloc = rt.alloc();

@@ -1,4 +1,4 @@
-// The lines that end a session, in the room that is kept for its last line.
+//! The lines that end a session, in the room that is kept for its last line.
 ghost use Rattle.std.specs.Prelude.{◌≡◌, ◌≤◌};
 ghost use Rattle.djq_lines.specs.Reply.{end_line, input_cut};
 ghost use Rattle.djq_lines.specs.declared.limits.TheConstants.{LAST_LINE_BYTES};

@@ -1,8 +1,8 @@
-// The lines of listings and changes, which are of any length.
-//
-// A line of values is written into all the room that there is, which is taken once; what it doesn't
-// need is given back. Where the room may be too small, the line is printed piece by piece, and each
-// piece asks for its own. Out of memory its pieces are taken back, once for the whole line.
+//! The lines of listings and changes, which are of any length.
+//!
+//! A line of values is written into all the room that there is, which is taken once; what it doesn't
+//! need is given back. Where the room may be too small, the line is printed piece by piece, and each
+//! piece asks for its own. Out of memory its pieces are taken back, once for the whole line.
 ghost use Rattle.std.specs.Prelude.{◌≡◌, ◌≤◌, ◌++◌, codes, length};
 ghost use Rattle.djq_lines.specs.Reply.{answer_line, at_line, cells_text, change_line, last_line};
 ghost use Rattle.djq_lines.specs.Reply.{line};
@@ -42,7 +42,7 @@ pub fn put_answer<A: Answered>(answer: &A, out: &mut BytesMut) -> Result<(), NoM
     }
 }
 
-// An answer, from a place on.
+/// An answer, from a place on.
 fn write_answer<A: Answered>(answer: &A, bytes: &mut [u8], at: usize) -> Option<usize>
     requires { at ≤ length bytes.old }
     ensures { Writes bytes.old bytes.new at (answer_line (A.values answer.now)) result }
@@ -54,7 +54,7 @@ fn write_answer<A: Answered>(answer: &A, bytes: &mut [u8], at: usize) -> Option<
     write_values(answer, bytes, front)
 }
 
-// An answer, where the room for it may be too small.
+/// An answer, where the room for it may be too small.
 #[inline(never)]
 fn put_answer_by_pieces<A: Answered>(answer: &A, out: &mut BytesMut) -> Result<(), NoMem>
     ensures { Puts out.old out.new (answer_line (A.values answer.now)) result }
@@ -102,7 +102,7 @@ pub fn put_change<A: Answered>(
     }
 }
 
-// An answer that came or went, from a place on.
+/// An answer that came or went, from a place on.
 fn write_change<A: Answered>(
     sign: Sign,
     query: &[u8],
@@ -122,7 +122,7 @@ fn write_change<A: Answered>(
     write_values(answer, bytes, front)
 }
 
-// An answer that came or went, where the room for it may be too small.
+/// An answer that came or went, where the room for it may be too small.
 #[inline(never)]
 fn put_change_by_pieces<A: Answered>(
     sign: Sign,
@@ -153,7 +153,7 @@ fn add_change<A: Answered>(
     put(out, b"\n")
 }
 
-// What stands in front of the values.
+/// What stands in front of the values.
 fn add_front(sign: Sign, query: &[u8], out: &mut BytesMut) -> Result<(), NoMem>
     ensures { Puts out.old out.new (sign_text_of sign ++ query.now) result }
 {
@@ -238,7 +238,7 @@ pub fn put_last(is_end: bool, out: &mut BytesMut) -> Result<(), NoMem>
     }
 }
 
-// Values, each behind a space.
+/// Values, each behind a space.
 fn add_cells<A: Answered>(answer: &A, out: &mut BytesMut) -> Result<(), NoMem>
     requires { KEPT ≤ out.old.spare }
     ensures { Adds out.old out.new (cells_text (A.values answer.now)) result }
@@ -249,8 +249,8 @@ fn add_cells<A: Answered>(answer: &A, out: &mut BytesMut) -> Result<(), NoMem>
     Ok(())
 }
 
-// Takes all the room but the one that stays behind what is queued, and gives the place where it
-// begins.
+/// Takes all the room but the one that stays behind what is queued, and gives the place where it
+/// begins.
 fn take_room(out: &mut BytesMut) -> usize
     ensures { IsTaken out.old out.new result }
 {
@@ -259,7 +259,7 @@ fn take_room(out: &mut BytesMut) -> usize
     start
 }
 
-// Values, each behind a space, and the line's end, from a place on.
+/// Values, each behind a space, and the line's end, from a place on.
 fn write_values<A: Answered>(answer: &A, bytes: &mut [u8], at: usize) -> Option<usize>
     requires { at ≤ length bytes.old }
     ensures { Writes bytes.old bytes.new at (line (cells_text (A.values answer.now))) result }

@@ -3,7 +3,7 @@ ghost use Rattle.djq_lines.specs.Reply.{line, refusal_line};
 
 use djq_lines::Refusal;
 
-// The words of the line that answers a refusal.
+/// The words of the line that answers a refusal.
 pub(crate) fn refusal_words(refusal: Refusal) -> &'static [u8]
     ensures words { line result.now ≡ refusal_line refusal }
     ensures short { length result.now < 32 }

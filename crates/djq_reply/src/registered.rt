@@ -1,5 +1,5 @@
-// What `query` is answered. A rest is of any length: its line is printed piece by piece, and taken
-// back out of memory.
+//! What `query` is answered. A rest is of any length: its line is printed piece by piece, and taken
+//! back out of memory.
 ghost use Rattle.std.specs.Prelude.{◌≡◌, ◌+◌, ◌≤◌, ◌∷◌, ◌++◌, codes};
 ghost use Rattle.djq_hyper.specs.Naming.{edge_text, listed, name_at};
 ghost use Rattle.djq_lines.specs.Reply.{edges_text, query_reply, rest_line};
@@ -42,7 +42,7 @@ pub fn put_registered(
     }
 }
 
-// Words, and the edges of a rest.
+/// Words, and the edges of a rest.
 fn put_rest(words: &[u8], rest: &NamedRest, out: &mut BytesMut) -> Result<(), NoMem>
     ensures { Puts out.old out.new (rest_line words.now rest.now) result }
 {
@@ -62,7 +62,7 @@ fn add_rest(words: &[u8], rest: &NamedRest, out: &mut BytesMut) -> Result<(), No
     put(out, b"\n")
 }
 
-// Edges, each behind a space.
+/// Edges, each behind a space.
 fn add_edges(names: &Names, edges: &Edges, out: &mut BytesMut) -> Result<(), NoMem>
     requires { KEPT ≤ out.old.spare }
     ensures { Adds out.old out.new (edges_text names.now edges.now) result }
@@ -73,7 +73,7 @@ fn add_edges(names: &Names, edges: &Edges, out: &mut BytesMut) -> Result<(), NoM
     Ok(())
 }
 
-// An edge behind a space.
+/// An edge behind a space.
 fn add_edge(names: &Names, edge: VarSet, out: &mut BytesMut) -> Result<(), NoMem>
     ensures { Adds out.old out.new (32 ∷ edge_text names.now edge) result }
 {
@@ -88,7 +88,7 @@ fn add_edge(names: &Names, edge: VarSet, out: &mut BytesMut) -> Result<(), NoMem
     }
 }
 
-// Variables, each behind a comma.
+/// Variables, each behind a comma.
 fn add_listed(names: &Names, variables: VarSet, out: &mut BytesMut) -> Result<(), NoMem>
     requires { KEPT ≤ out.old.spare }
     ensures { Adds out.old out.new (listed names.now variables) result }
@@ -100,7 +100,7 @@ fn add_listed(names: &Names, variables: VarSet, out: &mut BytesMut) -> Result<()
     Ok(())
 }
 
-// A variable behind a comma.
+/// A variable behind a comma.
 fn add_variable(names: &Names, variable: usize, out: &mut BytesMut) -> Result<(), NoMem>
     ensures { Adds out.old out.new (codes "," ++ name_at names.now variable) result }
 {
@@ -108,7 +108,7 @@ fn add_variable(names: &Names, variable: usize, out: &mut BytesMut) -> Result<()
     put(out, name_of(names, variable))
 }
 
-// The name of a variable; empty where it has none.
+/// The name of a variable; empty where it has none.
 fn name_of(names: &Names, variable: usize) -> &[u8]
     ensures { result.now ≡ name_at names.now variable }
 {

@@ -1,4 +1,4 @@
-// Replies of at most 256 bytes, in room that was kept.
+//! Replies of at most 256 bytes, in room that was kept.
 ghost use Rattle.std.specs.Prelude.{◌≡◌, ◌+◌, ◌<◌, ◌≤◌, ◌++◌, codes, length};
 ghost use Rattle.std.specs.Fmt.{decimal};
 ghost use Rattle.djq_lines.specs.Reply.{add_reply, bye, delete_reply, done_reply, has_reply};
@@ -14,7 +14,7 @@ use djq_lines::{AddOutcome, DeleteOutcome, Refusal, Shape};
 use djq_model::Name;
 use djq_value::{digit_count, extend_digits};
 
-// A line of words.
+/// A line of words.
 #[inline]
 pub(crate) fn say(out: &mut BytesMut, words: &[u8])
     requires { length words.now + 1 ≤ out.old.spare }
@@ -24,7 +24,7 @@ pub(crate) fn say(out: &mut BytesMut, words: &[u8])
     out.extend_reserved(b"\n");
 }
 
-// A number of 20 digits at most.
+/// A number of 20 digits at most.
 #[tactic(auto, using(crate::proofs::Digits::few_digits))]
 fn say_decimal(out: &mut BytesMut, number: u64)
     requires { 20 ≤ out.old.spare }
@@ -33,8 +33,8 @@ fn say_decimal(out: &mut BytesMut, number: u64)
     extend_digits(number, digit_count(number), out);
 }
 
-// Words, a number of 20 digits at most, and what stands behind it. Where it is called the words are
-// known, and are put there without a copy whose length isn't.
+/// Words, a number of 20 digits at most, and what stands behind it. Where it is called the words are
+/// known, and are put there without a copy whose length isn't.
 #[inline(always)]
 #[tactic(auto, using(crate::proofs::Digits::few_digits))]
 fn say_digits(out: &mut BytesMut, words: &[u8], number: u64, behind: &[u8])
@@ -47,7 +47,7 @@ fn say_digits(out: &mut BytesMut, words: &[u8], number: u64, behind: &[u8])
     out.extend_reserved(behind);
 }
 
-// A line of words and a number.
+/// A line of words and a number.
 #[inline(always)]
 pub(crate) fn say_number(out: &mut BytesMut, words: &[u8], number: u64)
     requires { length words.now + 21 + LAST_LINE_BYTES ≤ out.old.spare }
@@ -57,7 +57,7 @@ pub(crate) fn say_number(out: &mut BytesMut, words: &[u8], number: u64)
     say_digits(out, words, number, b"\n");
 }
 
-// A line of words, a number and one of a single digit.
+/// A line of words, a number and one of a single digit.
 #[inline(always)]
 fn say_with_digit(out: &mut BytesMut, words: &[u8], number: u64, digit: u8)
     requires room { length words.now + 23 + LAST_LINE_BYTES ≤ out.old.spare }
@@ -68,7 +68,7 @@ fn say_with_digit(out: &mut BytesMut, words: &[u8], number: u64, digit: u8)
     say_digits(out, words, number, &[b' ', b'0' + digit, b'\n']);
 }
 
-// A line of words and two numbers, each of 20 digits at most.
+/// A line of words and two numbers, each of 20 digits at most.
 #[inline(always)]
 #[tactic(auto, using(crate::proofs::Digits::few_digits))]
 fn say_two_numbers(out: &mut BytesMut, words: &[u8], first: u64, second: u64)

@@ -111,7 +111,7 @@ fn ends_sessions(rt: HostRuntime) -> Result<(), Fail> {
     Ok(())
 }
 
-// The row 1, -2, "a\"".
+/// The row 1, -2, "a\"".
 fn a_row(alloc: Global) -> Result<Row, NoMem> {
     let mut row = Row::new(alloc);
     row.push(Value::Int(1))?;
@@ -162,7 +162,7 @@ fn prints_lines_past_each_growth(rt: HostRuntime) -> Result<(), Fail> {
     Ok(())
 }
 
-// The edges x,y and x,z and y,z, and one without a variable.
+/// The edges x,y and x,z and y,z, and one without a variable.
 fn a_rest(alloc: Global) -> Result<NamedRest, AllocError> {
     let mut names = Names::new(alloc);
     names.push(alloc, b"x")?;
@@ -176,7 +176,7 @@ fn a_rest(alloc: Global) -> Result<NamedRest, AllocError> {
     Ok(NamedRest { edges, names })
 }
 
-// What a query is answered behind room for a short reply.
+/// What a query is answered behind room for a short reply.
 fn registered(alloc: Global, outcome: &Result<QueryOutcome, Refusal>) -> Result<BytesMut, NoMem> {
     let mut out = BytesMut::with_capacity(alloc, REPLY_BYTES + LAST_LINE_BYTES)?;
     put_registered(outcome, &mut out)?;
@@ -196,7 +196,7 @@ fn prints_rests(rt: HostRuntime) -> Result<(), Fail> {
     Ok(())
 }
 
-// So many edges of one variable, whose name has 10 bytes.
+/// So many edges of one variable, whose name has 10 bytes.
 fn a_long_rest(alloc: Global, count: usize) -> Result<NamedRest, AllocError> {
     let mut names = Names::new(alloc);
     names.push(alloc, b"abcdefghij")?;

@@ -23,6 +23,7 @@ use Rattle.djq_lines.specs.declared.limits.TheConstants.{COLUMNS, RELATIONS, ROW
 use Rattle.djq_dict.specs.declared.dict.TheConstants.{MOST_TEXTS}
 use Rattle.djq_rows.specs.Cells.{HaveCells, StandFor, AreCells}
 
+-- the relations with their rows, and the known texts
 pub record Catalog : Type 0 where
   -- in the order in which they were made
   pub relations : List Relation

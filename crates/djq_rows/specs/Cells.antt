@@ -41,6 +41,7 @@ abbrev pub HasCell : List Bytes → Value → Type 0
 HasCell texts (Int i) = FitsSigned w64 i
 HasCell texts (Text t) = knows texts t ≡ true
 
+-- each of these values has a cell
 abbrev pub HaveCells : List Bytes → Tuple → Type 0
 HaveCells texts [] = ⊤
 HaveCells texts (v ∷ vs) = HasCell texts v × HaveCells texts vs

@@ -66,10 +66,11 @@ relation_in texts k = record {
 abbrev pub relations_of : List Bytes → List Kept → List Relation
 relations_of texts ks = map (relation_in texts) ks
 
--- what stands for a relation past the last one, and the one at a place
+-- what stands for a relation past the last one
 abbrev pub no_kept : Kept
 no_kept = record { name = []; types = []; rows = record { width = 0; entries = [] } }
 
+-- the relation that is kept at a place
 abbrev pub kept_at : List Kept → ℕ → Kept
 kept_at ks at = slice_index_or ks at no_kept
 

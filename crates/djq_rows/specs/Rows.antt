@@ -25,13 +25,15 @@ entry_of copies r = record {
   marked = false;
 }
 
+-- rows, each with its copies
 unfoldable pub entries_in : List ℕ → List Row → List Entry
 entries_in copies rows = map (entry_of copies) rows
 
--- the place of a slot, and of one if there is one
+-- the place of a slot
 abbrev pub place : ℕ → Place
 place slot = record { slot = slot }
 
+-- the place of a slot, if there is one
 abbrev pub place_of : Option ℕ → Option Place
 place_of None = None
 place_of (Some slot) = Some (place slot)

@@ -61,6 +61,7 @@ pub record LacksPlace (es : List Entry) (u : List ℕ) : Type 0 where
   pub copies : 0 < count_of es u → COPIES ≤ supports_of es u
   pub rows : count_of es u ≡ 0 → ROWS ≤ length es
 
+-- what adding a tuple does to the rows, by what it answers
 abbrev pub AddsTupleAs : Rows → List ℕ → Result AddOutcome RowsRefusal → Rows → Type 0
 AddsTupleAs old u (Ok First) new = (count_of old.entries u ≡ 0) × (length old.entries < ROWS) × Appended
     old.entries new.entries u
@@ -72,11 +73,13 @@ AddsTupleAs old u (Err Full) new = LacksPlace old.entries u × (new.entries ≡ 
 AddsTupleAs old u (Err NoMem) new =
     (count_of old.entries u ≡ 0) × (length old.entries < ROWS) × (new.entries ≡ old.entries)
 
+-- a tuple is added so, and the rows keep their width, and none stands twice
 pub record AddsTuple (old : Rows) (u : List ℕ) (result : Result AddOutcome RowsRefusal) (new :
     Rows) : Type 0 where
   pub stay : StayApart old new
   pub adds : AddsTupleAs old u result new
 
+-- what deleting a tuple does to the rows, by what it answers
 abbrev pub DeletesTupleAs : Rows → List ℕ → DeleteOutcome → Rows → Type 0
 DeletesTupleAs old u Last new = (supports_of old.entries u ≡ 1) × Dropped old.entries new.entries u
 DeletesTupleAs old u (Left n) new =
@@ -84,6 +87,7 @@ DeletesTupleAs old u (Left n) new =
     × Supported old.entries new.entries u (supports_of old.entries u) n
 DeletesTupleAs old u Absent new = (count_of old.entries u ≡ 0) × (new.entries ≡ old.entries)
 
+-- a tuple is deleted so, and the rows keep their width, and none stands twice
 pub record DeletesTuple (old : Rows) (u : List ℕ) (result : DeleteOutcome) (new : Rows) : Type 0
   where
     pub stay : StayApart old new

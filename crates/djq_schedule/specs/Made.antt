@@ -15,6 +15,7 @@ abbrev pub standing : Stage → Option Order → Option Order
 standing st None = None
 standing st (Some o) = if may_stand st o.0 o.1.0 then Some o else None
 
+-- what a line says that is at most 8192 bytes, where it is in the grammar at this stage
 abbrev pub in_grammar : Stage → Bytes → Option Order
 in_grammar st line = if nat_le (length line) 8192 then standing st (order_of line) else None
 
@@ -26,6 +27,7 @@ coming_of st o = record {
       blocked_after o.0 o.1.0 st.blocked;
 }
 
+-- the stage behind a line
 abbrev pub next_stage : Stage → Order → Stage
 next_stage st o = stage_after o.0 o.1.0 st
 
@@ -47,6 +49,7 @@ turns_from st n [] = Ok []
 turns_from st n (l ∷ ls) = turns_by st n (in_grammar st l)
     (λ o. turns_from (next_stage st o) (n + 1) ls)
 
+-- the stage in front of the first line, where nothing was opened
 abbrev pub first_stage : Stage
 first_stage = record { newest = None; opened = []; ended = []; blocked = [] }
 

@@ -24,15 +24,17 @@ abbrev pub rest_of : Option Bytes → Bytes
 rest_of None = []
 rest_of (Some rest) = rest
 
--- lines, each ended by LF; the last may lack it
+-- lines with one more byte in front of the first of them
 abbrev pub with_first : ℕ → List Bytes → List Bytes
 with_first b [] = (b ∷ []) ∷ []
 with_first b (l ∷ ls) = (b ∷ l) ∷ ls
 
+-- the lines of a schedule, without their LFs
 abbrev pub lines_of : Bytes → List Bytes
 lines_of [] = []
 lines_of (b ∷ bytes) = if b == 10 then [] ∷ lines_of bytes else with_first b (lines_of bytes)
 
+-- the keyword that a word is, if it is one
 abbrev pub keyword_of : Bytes → Option Keyword
 keyword_of word =
     if bytes_eq word (codes "open") then Some Open
@@ -63,16 +65,19 @@ takes_text _ = false
 abbrev pub Order : Type 0
 Order = Keyword × (ℕ × Option Bytes)
 
+-- what a keyword, a session and a text say; none without a session, or where no text may stand
 abbrev pub order_with : Keyword → Option ℕ → Option Bytes → Option Order
 order_with k None text = None
 order_with k (Some id) text = if not (is_none text) && not (takes_text k) then None else Some
     (k, (id, text))
 
+-- what a keyword and the rest of its line say
 abbrev pub order_behind : Option Keyword → Option Bytes → Option Order
 order_behind (Some k) (Some rest) = order_with k (id_of (before 32 rest)) (behind 32 rest)
 order_behind (Some k) None = None
 order_behind None _ = None
 
+-- what a line says, at whatever stage it stands; none where it says nothing
 abbrev pub order_of : Bytes → Option Order
 order_of line = order_behind (keyword_of (before 32 line)) (behind 32 line)
 
@@ -84,9 +89,11 @@ pub record Stage : Type 0 where
   pub ended : List ℕ
   pub blocked : List ℕ
 
+-- whether a session is one of these
 abbrev pub is_among : List ℕ → ℕ → Bool
 is_among ids id = list_any (λ other. nat_eq other id) ids
 
+-- whether an id is above that of the newest session, if there is one
 abbrev pub is_above : Option ℕ → ℕ → Bool
 is_above None id = true
 is_above (Some newest) id = nat_lt newest id
@@ -98,23 +105,28 @@ may_stand st Open id = is_above st.newest id
 may_stand st Free id = is_among st.opened id
 may_stand st _ id = is_among st.opened id && not (is_among st.ended id)
 
+-- the newest session, behind a line
 abbrev pub newest_after : Keyword → ℕ → Option ℕ → Option ℕ
 newest_after Open id newest = Some id
 newest_after _ id newest = newest
 
+-- the sessions that were opened, behind a line
 abbrev pub opened_after : Keyword → ℕ → List ℕ → List ℕ
 opened_after Open id ids = ids ++ id ∷ []
 opened_after _ id ids = ids
 
+-- the sessions whose input ended, behind a line
 abbrev pub ended_after : Keyword → ℕ → List ℕ → List ℕ
 ended_after End id ids = ids ++ id ∷ []
 ended_after _ id ids = ids
 
+-- the sessions that take nothing, behind a line
 abbrev pub blocked_after : Keyword → ℕ → List ℕ → List ℕ
 blocked_after Again id ids = ids ++ id ∷ []
 blocked_after Free id ids = filter (λ other. not (nat_eq other id)) ids
 blocked_after _ id ids = ids
 
+-- where a schedule stands, behind a line
 abbrev pub stage_after : Keyword → ℕ → Stage → Stage
 stage_after k id st = record {
   newest = newest_after k id st.newest;
@@ -125,6 +137,7 @@ stage_after k id st = record {
       blocked_after k id st.blocked;
 }
 
+-- the text of a line; no bytes where it has none
 abbrev pub text_or_none : Option Bytes → Bytes
 text_or_none None = []
 text_or_none (Some text) = text

@@ -37,6 +37,7 @@ abbrev pub ended_by : List Told → Told → Bytes
 ended_by earlier (Sending s offered sent taken) = ended_lines s (begun_line [] (sent_to s earlier)) taken
 ended_by earlier _ = []
 
+-- the lines that end in what calls send, behind those earlier ones, in the order of the calls
 abbrev pub text_behind : List Told → List Told → Bytes
 text_behind earlier [] = []
 text_behind earlier (t ∷ told) = ended_by earlier t ++ text_behind (earlier ++ t ∷ []) told

@@ -39,14 +39,17 @@ pub record IsSent (old : State) (moves : List Move) (new : State) (s : ℕ) : Ty
   pub whole : all_taken s (all_done moves) ++ (all_dropped s (all_done moves) ++ pending_of new s)
       ≡ pending_of old s ++ out s (all_done moves)
 
+-- whether the answer is `Stopped`
 abbrev pub says_stopped : Served → Bool
 says_stopped Stopped = true
 says_stopped _ = false
 
+-- whether the answer is `Over`
 abbrev pub says_over : Served → Bool
 says_over Over = true
 says_over _ = false
 
+-- whether the answer is `HubFault`
 abbrev pub says_fault : Served → Bool
 says_fault HubFault = true
 says_fault _ = false

@@ -10,6 +10,7 @@ pub record Far : Type 0 where
   pub turns : ℕ
   pub kept : List Group
 
+-- so many turns taken, and these groups kept
 abbrev pub far : ℕ → List Group → Far
 far turns kept = record { turns = turns; kept = kept }
 
@@ -28,6 +29,7 @@ pub record Seen : Type 0 where
   pub counted : Counts
   pub far : Far
 
+-- what is seen where the hub shows this, this was counted, and the server has come this far
 abbrev pub seen : Shown → Counts → Far → Seen
 seen hub counted f = record { hub = hub; counted = counted; far = f }
 

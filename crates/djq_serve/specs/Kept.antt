@@ -21,9 +21,11 @@ pub record IsNew (st : State) (ids : Ids) (s : ℕ) : Type 0 where
 abbrev pub IsSettled : State → ℕ → Type 0
 IsSettled st s = IsSome (cause_of st s) ⊎ (is_dry (held_of st s) ≡ true)
 
+-- Each session is settled so.
 abbrev pub AllSettled : State → Type 0
 AllSettled st = (s : ℕ) → IsSettled st s
 
+-- Each session but this one is settled so.
 abbrev pub OthersSettled : ℕ → State → Type 0
 OthersSettled s st = (t : ℕ) → (s == t) ≡ false → IsSettled st t
 

@@ -47,10 +47,12 @@ pub data Phase : Type 0 where
   -- it closes the sessions that are open, and then answers
   closing : Served → Phase
 
+-- The server: the state of its machine, and where it stands.
 pub record Server : Type 0 where
   pub state : State
   pub phase : Phase
 
+-- a server with this state, which stands here
 abbrev pub server : State → Phase → Server
 server state phase = record { state = state; phase = phase }
 
@@ -59,6 +61,7 @@ pub record Move : Type 0 where
   pub told : List Told
   pub done : List Did
 
+-- these calls of the hub and these steps of the machine, as one thing
 abbrev pub move : List Told → List Did → Move
 move told done = record { told = told; done = done }
 
@@ -66,6 +69,7 @@ move told done = record { told = told; done = done }
 abbrev pub all_told : List Move → List Told
 all_told moves = flat_map (λ (m : Move). m.told) moves
 
+-- all steps of the machine
 abbrev pub all_done : List Move → List Did
 all_done moves = flat_map (λ (m : Move). m.done) moves
 
@@ -205,5 +209,6 @@ ServesAt (closing answer) old m new = IsSomeAnd (first_open old) (λ s.
     (m.told ≡ Closing s ∷ []) × Happens (closed s (pending_of old s)) old m.done new.state
     × (new.phase ≡ closing answer))
 
+-- The server does one thing.
 abbrev pub Serves : Server → Move → Server → Type 0
 Serves old m new = ServesAt old.phase old.state m new

@@ -18,6 +18,7 @@ pub record Shown : Type 0 where
   pub script : Option Script
   pub ids : Ids
 
+-- a hub that shows this past, this script and these ids
 abbrev pub shown : Option (List Told) → Option Script → Ids → Shown
 shown past script ids = record { past = past; script = script; ids = ids }
 
@@ -26,6 +27,7 @@ pub record Place : Type 0 where
   pub script : Script
   pub ids : Ids
 
+-- the place of a hub with this to come and these sessions
 abbrev pub place : Script → Ids → Place
 place script ids = record { script = script; ids = ids }
 
@@ -71,10 +73,12 @@ abbrev pub by_turn : (Turn → Bool) → Told → Bool
 by_turn p (Turning turn piece) = p turn
 by_turn p _ = false
 
+-- whether a turn says that nothing will come any more
 abbrev pub turn_is_over : Turn → Bool
 turn_is_over HubOver = true
 turn_is_over _ = false
 
+-- whether a turn says that it failed
 abbrev pub turn_is_failed : Turn → Bool
 turn_is_failed Failed = true
 turn_is_failed _ = false
@@ -87,6 +91,7 @@ has_over told = list_any (by_turn turn_is_over) told
 abbrev pub has_failed : List Told → Bool
 has_failed told = list_any (by_turn turn_is_failed) told
 
+-- 1 where a call takes a turn, else 0
 abbrev pub turn_in : Told → ℕ
 turn_in (Turning turn piece) = 1
 turn_in _ = 0

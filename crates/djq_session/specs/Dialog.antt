@@ -68,6 +68,7 @@ pub record Lacks {C Q : Type 0} (old new : Dialog C Q) (text : Bytes) : Type 0 w
   pub room : old.room ≤ new.room
   pub lacks : old.room < length text + LAST_LINE_BYTES
 
+-- A text is queued, or the room was too small for it.
 abbrev pub MayQueue : {C Q A E : Type 0} → Dialog C Q → Dialog C Q → Bytes → Result A E → Type 0
 MayQueue old new text (Ok a) = Queues old new text
 MayQueue old new text (Err e) = Lacks old new text

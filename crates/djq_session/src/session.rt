@@ -16,11 +16,11 @@ mod output;
 mod replies;
 mod watches;
 
-// A buffer above this size that is empty is given back.
+/// A buffer above this size that is empty is given back.
 const IDLE_BYTES: usize = 16_384;
 
-// What a session begins with: room for its last line, and for so many short replies before it that
-// room is made new for one in hundreds alone.
+/// What a session begins with: room for its last line, and for so many short replies before it that
+/// room is made new for one in hundreds alone.
 const OUTPUT_BYTES: usize = 4_096;
 
 /// What is kept of a session. `C` is kept for each of its cursors, and `Q` names a query that it

@@ -9,10 +9,10 @@ use std::alloc::Global;
 use std::process::Abort;
 use std::test::Fail;
 
-// What is kept for a cursor and for a watch is a number in each test.
+/// What is kept for a cursor and for a watch is a number in each test.
 type Numbered = Session<u32, u32>;
 
-// What stands in front of the bytes that are held: the bytes of a line and where the rest begins.
+/// What stands in front of the bytes that are held: the bytes of a line and where the rest begins.
 fn line_in_front(session: &Numbered) -> Option<(usize, usize)> {
     match session.front() {
         Front::Line { end, rest } => Some((end, rest)),
@@ -20,7 +20,7 @@ fn line_in_front(session: &Numbered) -> Option<(usize, usize)> {
     }
 }
 
-// Takes bytes in front, where so many are held.
+/// Takes bytes in front, where so many are held.
 fn take(session: &mut Numbered, count: usize) -> bool {
     let there = session.held().len() >= count;
     if there {
@@ -29,7 +29,7 @@ fn take(session: &mut Numbered, count: usize) -> bool {
     there
 }
 
-// Takes bytes that are pending, where there are so many.
+/// Takes bytes that are pending, where there are so many.
 fn took(session: &mut Numbered, count: usize) -> bool {
     let there = session.pending().len() >= count;
     if there {
@@ -55,7 +55,7 @@ fn lines_are_taken_in_order(rt: HostRuntime) -> Result<(), Fail> {
     Ok(())
 }
 
-// Lines of 16 bytes, far above what an idle session holds, and all of them taken again.
+/// Lines of 16 bytes, far above what an idle session holds, and all of them taken again.
 fn takes_many(rt: &impl Abort, session: &mut Numbered) -> Result<(), NoMem> {
     for _ in 0..2000 {
         session.feed(b"add r 123456789\n")?;
@@ -82,7 +82,7 @@ fn a_long_input_is_held(rt: HostRuntime) -> Result<(), Fail> {
     Ok(())
 }
 
-// Pieces of 8 bytes, far above what an idle session has pending, are queued and taken again.
+/// Pieces of 8 bytes, far above what an idle session has pending, are queued and taken again.
 fn queues_many(rt: &impl Abort, session: &mut Numbered) -> Result<(), NoMem> {
     for _ in 0..3000 {
         session.queue(b"= 12345\n")?;
@@ -110,7 +110,7 @@ fn a_long_output_is_pending(rt: HostRuntime) -> Result<(), Fail> {
     Ok(())
 }
 
-// Whatever was queued before, the last line of a session stands behind it.
+/// Whatever was queued before, the last line of a session stands behind it.
 fn ends_behind(
     rt: &impl Abort,
     session: &mut Numbered,
@@ -213,7 +213,7 @@ fn commands_are_answered(rt: HostRuntime) -> Result<(), Fail> {
     Ok(())
 }
 
-// The row -2, 1.
+/// The row -2, 1.
 fn a_row(alloc: Global) -> Result<Row, NoMem> {
     let mut row = Row::new(alloc);
     row.push(Value::Int(-2))?;
@@ -242,12 +242,12 @@ fn trees_are_explained(rt: HostRuntime) -> Result<(), Fail> {
     Ok(())
 }
 
-// The name of a cursor of a test.
+/// The name of a cursor of a test.
 fn name_of(number: u8) -> Name {
     Name::new(&[b'c', number])
 }
 
-// Names a cursor, where that is allowed.
+/// Names a cursor, where that is allowed.
 fn add(session: &mut Numbered, name: &Name, cursor: u32) -> Result<bool, NoMem> {
     if session.cursor(name).is_some() || session.cursors() >= CURSORS {
         return Ok(false);
@@ -281,7 +281,7 @@ fn cursors_are_found_by_name(rt: HostRuntime) -> Result<(), Fail> {
     Ok(())
 }
 
-// Watches a query, where it isn't watched.
+/// Watches a query, where it isn't watched.
 fn watch(session: &mut Numbered, query: u32) -> Result<bool, NoMem> {
     if session.watches(query) {
         return Ok(false);
@@ -311,7 +311,7 @@ fn queries_are_watched(rt: HostRuntime) -> Result<(), Fail> {
     Ok(())
 }
 
-// A row that a batch holds, of no values.
+/// A row that a batch holds, of no values.
 fn empty_row(alloc: Global, relation: &Name) -> Result<HeldRow, NoMem> {
     let mut line = Sequence::new(alloc);
     line.push(b'a')?;

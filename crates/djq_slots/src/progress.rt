@@ -24,7 +24,7 @@ pub enum Progress<C> {
 }
 
 impl<C: Drop> Progress<C> {
-    // Makes a cursor stale that goes on.
+    /// Makes a cursor stale that goes on.
     pub(crate) fn outdate(&mut self, relation: Name, seq: u64)
         ensures { self.new ≡ outdated_progress relation seq self.old }
     {

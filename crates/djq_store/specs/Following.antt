@@ -65,12 +65,14 @@ add_turn (Ok (More copies)) = None
 add_turn (Err NoMemory) = Some Lacked
 add_turn (Err _) = None
 
+-- how rows changed, by what came of a row that is deleted
 abbrev pub delete_turn : Result DeleteOutcome Refusal → Option Turn
 delete_turn (Ok Last) = Some Went
 delete_turn (Ok (Left copies)) = None
 delete_turn (Ok Absent) = None
 delete_turn (Err _) = None
 
+-- how rows changed, by what came of a batch
 abbrev pub batch_turn : Result ℕ Refusal → Option Turn
 batch_turn (Ok zero) = None
 batch_turn (Ok (suc n)) = Some Came

@@ -20,6 +20,7 @@ unfoldable pub vacant : {A : Type 0} → ℕ → List (Option A)
 vacant zero = []
 vacant (suc n) = None ∷ vacant n
 
+-- what stands in the places of queries, filled up to as many as may be, and then in those of unions
 unfoldable pub in_places : {A : Type 0} → List (Option A) → List (Option A) → List (Option A)
 in_places queries unions = queries ++ (vacant (QUERIES - length queries) ++ unions)
 
@@ -49,6 +50,7 @@ abbrev pub union_watchers : Option Joined → ℕ
 union_watchers None = 0
 union_watchers (Some j) = j.watchers
 
+-- how many sessions watch what is registered in a place
 abbrev pub sessions_at : List (Option Joined) → List ℕ → ℕ → ℕ
 sessions_at us sessions at =
     by_place at (λ i. slice_index_or sessions i 0) (λ k. union_watchers (joined_at us k))
@@ -113,5 +115,6 @@ seen e us order sessions affected = record {
   places = in_places e.places (map (lender_in e.places) us);
 }
 
+-- what contracts see of a store's parts
 abbrev pub kept_in : Parts → Kept
 kept_in p = seen p.engine p.unions.items p.order.items p.sessions.items p.affected.items

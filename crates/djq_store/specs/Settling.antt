@@ -76,6 +76,7 @@ pub record Settles (e : Kept) (relations : List Bytes) (n : ℕ) (turn : Turn) (
   pub watchers : k.watchers ≡ j.watchers
   pub log : SettlesLogBy (first_read e.places relations j.union.members) e relations turn j k.log
 
+-- A slot behind such a change: one without a union stays so, and the union of another settles.
 abbrev pub SettlesAt : Kept → List Bytes → ℕ → Turn → Option Joined → Option Joined → Type 0
 SettlesAt e relations n turn None new = new ≡ None
 SettlesAt e relations n turn (Some j) None = ⊥

@@ -8,7 +8,7 @@ use crate::joined::Joined;
 use djq_engine::Engine;
 use djq_lines::limits::QUERIES;
 
-// For each place whether the engine's last accepted change affects the query there.
+/// For each place whether the engine's last accepted change affects the query there.
 fn reached_places(engine: &Engine) -> [bool; QUERIES]
     requires { All (λ id. id.at < QUERIES) engine.now.affected }
     ensures { (i : ℕ) → slice_index_or result i false ≡ is_reached engine.now.affected i }
@@ -20,7 +20,7 @@ fn reached_places(engine: &Engine) -> [bool; QUERIES]
     reached
 }
 
-// Whether it does in a place.
+/// Whether it does in a place.
 fn is_reached(reached: &[bool; QUERIES], place: usize) -> bool
     ensures { result ≡ slice_index_or reached.now place false }
 {
@@ -30,14 +30,14 @@ fn is_reached(reached: &[bool; QUERIES], place: usize) -> bool
     }
 }
 
-// Whether it affects one of the queries in these places.
+/// Whether it affects one of the queries in these places.
 fn some_reached(reached: &[bool; QUERIES], places: &[usize]) -> bool
     ensures { result ≡ list_any (λ i. slice_index_or reached.now i false) places.now }
 {
     places.iter().any(|place| is_reached(reached, *place))
 }
 
-// Whether it affects what is registered in a place: a query, or a union of which it affects a member.
+/// Whether it affects what is registered in a place: a query, or a union of which it affects a member.
 fn is_affected(reached: &[bool; QUERIES], unions: &[Option<Joined>], at: usize) -> bool
     ensures { result ≡ is_affected (λ i. slice_index_or reached.now i false) unions.now at }
 {

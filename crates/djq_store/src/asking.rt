@@ -19,7 +19,7 @@ use djq_live::head_types_are;
 use djq_model::{Name, Value};
 use djq_steps::{Ledgers, Listing, Tally};
 
-// Whether a tuple is an answer of the query in a place.
+/// Whether a tuple is an answer of the query in a place.
 fn has_at<L: Ledgers>(
     engine: &Engine,
     at: usize,
@@ -37,7 +37,7 @@ fn has_at<L: Ledgers>(
     engine.has(&name, tuple, listing)
 }
 
-// Whether a tuple is an answer of one of these queries, whose answers have the same types.
+/// Whether a tuple is an answer of one of these queries, whose answers have the same types.
 fn some_has<L: Ledgers>(
     engine: &Engine,
     members: &[usize],

@@ -33,7 +33,7 @@ pub fn is_lacked(turn: Option<Turn>) -> bool
     matches!(turn, Some(Turn::Lacked))
 }
 
-// Whether a relation has more rows than were counted, or all are asked for.
+/// Whether a relation has more rows than were counted, or all are asked for.
 fn has_grown(engine: &Engine, relation: &Name, count: u64, all: bool) -> bool
     ensures { result
         ≡ (all || nat_lt count (length (rows_of engine.now.store.relations relation.now))) }

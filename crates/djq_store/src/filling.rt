@@ -6,7 +6,7 @@ ghost use Rattle.djq_store.specs.Filling.{Fills};
 use crate::joined::Joined;
 use djq_model::NoMem;
 
-// A slot without a union.
+/// A slot without a union.
 fn vacant_slot(unions: &[Option<Joined>]) -> Option<usize>
     ensures { result ≡ position is_none unions.now }
 {

@@ -6,7 +6,7 @@ ghost use Rattle.djq_store.specs.Places.{joined_at};
 use crate::joined::Joined;
 use djq_model::Name;
 
-// Whether a slot has the union of a name.
+/// Whether a slot has the union of a name.
 fn is_named(slot: &Option<Joined>, name: &Name) -> bool
     ensures { result ≡ is_named name.now slot.now }
 {

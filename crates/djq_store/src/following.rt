@@ -66,7 +66,7 @@ pub fn has_union(parts: &Parts) -> bool
     parts.unions.iter().any(|slot| slot.is_some())
 }
 
-// The same where no union is registered, whichever relations change.
+/// The same where no union is registered, whichever relations change.
 fn follow_alone(parts: &mut Parts, turn: Option<Turn>)
     requires alone { has_union parts.old.unions.items ≡ false }
     requires few { IfMade turn (length parts.old.engine.affected ≤ vec_capacity parts.old.affected) }
@@ -141,7 +141,7 @@ pub fn follow_batch<L: Ledger>(
     follow(parts, &names[..count], turn, listing);
 }
 
-// What a change that was made affects is known: by the whole order where a union reads its relations.
+/// What a change that was made affects is known: by the whole order where a union reads its relations.
 fn know_affected(parts: &mut Parts, read: bool)
     requires low { All (λ id. id.at < QUERIES) parts.old.engine.affected }
     requires few { length parts.old.engine.affected ≤ vec_capacity parts.old.affected }

@@ -20,7 +20,7 @@ use djq_live::{LiveQuery, head_types_are};
 use djq_model::{Name, NoMem, Sequence};
 use std::alloc::Global;
 
-// Whether nothing is registered under a name.
+/// Whether nothing is registered under a name.
 fn is_unknown(parts: &Parts, name: &Name) -> bool
     requires { IsWhole parts.now }
     ensures { result ≡ is_none (listed_of (kept_in parts.now).store.queries name.now) }
@@ -29,7 +29,7 @@ fn is_unknown(parts: &Parts, name: &Name) -> bool
     find_union(parts.unions.as_slice(), name).is_none() && parts.engine.query_id(name).is_none()
 }
 
-// Whether a union is registered under a name.
+/// Whether a union is registered under a name.
 fn is_union(parts: &Parts, name: &Name) -> bool
     requires { IsWhole parts.now }
     ensures { result ≡ is_union (listed_of (kept_in parts.now).store.queries name.now) }
@@ -38,7 +38,7 @@ fn is_union(parts: &Parts, name: &Name) -> bool
     find_union(parts.unions.as_slice(), name).is_some()
 }
 
-// Whether one of these names is registered nowhere.
+/// Whether one of these names is registered nowhere.
 fn any_unknown(parts: &Parts, names: &[Name]) -> bool
     requires { IsWhole parts.now }
     ensures { result ≡ list_any (λ n. is_none (listed_of (kept_in parts.now).store.queries n)) names.now }
@@ -46,7 +46,7 @@ fn any_unknown(parts: &Parts, names: &[Name]) -> bool
     names.iter().any(|name| is_unknown(parts, name))
 }
 
-// Whether a union is registered under one of these names.
+/// Whether a union is registered under one of these names.
 fn any_union(parts: &Parts, names: &[Name]) -> bool
     requires { IsWhole parts.now }
     ensures { result ≡ list_any (λ n. is_union (listed_of (kept_in parts.now).store.queries n)) names.now }
@@ -54,14 +54,14 @@ fn any_union(parts: &Parts, names: &[Name]) -> bool
     names.iter().any(|name| is_union(parts, name))
 }
 
-// Whether a name stands among these.
+/// Whether a name stands among these.
 fn stands_among(name: &Name, names: &[Name]) -> bool
     ensures { result ≡ list_any (λ m. bytes_eq m name.now) names.now }
 {
     names.iter().any(|other| *other == *name)
 }
 
-// Whether a name stands among these twice.
+/// Whether a name stands among these twice.
 fn stands_twice(names: &[Name]) -> bool
     ensures { result ≡ stands_twice names.now }
 {
@@ -73,7 +73,7 @@ fn stands_twice(names: &[Name]) -> bool
     false
 }
 
-// The query that is registered under a name.
+/// The query that is registered under a name.
 fn query_of<'a>(parts: &'a Parts, name: &Name) -> &'a LiveQuery
     requires whole { IsWhole parts.now }
     requires known { is_some (listed_of (kept_in parts.now).store.queries name.now) ≡ true }
@@ -88,7 +88,7 @@ fn query_of<'a>(parts: &'a Parts, name: &Name) -> &'a LiveQuery
     }
 }
 
-// Whether the answers of some of these queries have other types than those of the first.
+/// Whether the answers of some of these queries have other types than those of the first.
 fn types_differ(parts: &Parts, names: &[Name]) -> bool
     requires whole { IsWhole parts.now }
     requires queries { AreQueries (kept_in parts.now).store names.now }
@@ -102,7 +102,7 @@ fn types_differ(parts: &Parts, names: &[Name]) -> bool
     false
 }
 
-// Whether the members of a union stand there twice, are unions, or have answers of different types.
+/// Whether the members of a union stand there twice, are unions, or have answers of different types.
 fn are_misfit(parts: &Parts, members: &[Name]) -> bool
     requires whole { IsWhole parts.now }
     requires known { list_any (λ n. is_none (listed_of (kept_in parts.now).store.queries n)) members.now ≡ false }

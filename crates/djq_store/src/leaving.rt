@@ -6,7 +6,7 @@ ghost use Rattle.djq_store.specs.Finding.{has_member};
 
 use crate::joined::Joined;
 
-// Whether a slot has a union with the query in a place as a member.
+/// Whether a slot has a union with the query in a place as a member.
 fn has_member(slot: &Option<Joined>, at: usize) -> bool
     ensures { result ≡ has_member at slot.now }
 {

@@ -20,7 +20,7 @@ use djq_live::LiveQuery;
 use djq_model::{Name, NoMem};
 use djq_steps::{Ledgers, Listing, Tally};
 
-// Opens a cursor over the union in a slot.
+/// Opens a cursor over the union in a slot.
 fn open_at(unions: &mut Vec<Option<Joined>>, slot: usize) -> Result<usize, NoMem>
     requires { IsSomeAnd (joined_at unions.old.items slot) (λ j. ⊤) }
     ensures ok { IfOk result (λ k. MovesUnion (OpensUnion k) slot unions.old.items unions.new.items) }
@@ -32,7 +32,7 @@ fn open_at(unions: &mut Vec<Option<Joined>>, slot: usize) -> Result<usize, NoMem
     }
 }
 
-// Closes one.
+/// Closes one.
 fn close_at(unions: &mut Vec<Option<Joined>>, slot: usize, cursor: usize)
     requires { IsSomeAnd (joined_at unions.old.items slot)
         (λ j. IsSome (slot_at j.union.cursors cursor)) }
@@ -44,7 +44,7 @@ fn close_at(unions: &mut Vec<Option<Joined>>, slot: usize, cursor: usize)
     }
 }
 
-// Reads one.
+/// Reads one.
 fn next_at<L: Ledgers>(
     unions: &mut Vec<Option<Joined>>,
     slot: usize,
@@ -64,7 +64,7 @@ fn next_at<L: Ledgers>(
     }
 }
 
-// Tells whether an answer is left for one.
+/// Tells whether an answer is left for one.
 fn more_at<L: Ledgers>(
     unions: &mut Vec<Option<Joined>>,
     slot: usize,

@@ -28,7 +28,7 @@ use djq_steps::{Ledgers, Steps};
 use djq_united::LiveUnion;
 use std::mem::size_of_val;
 
-// Whether a query was registered.
+/// Whether a query was registered.
 fn is_registered(outcome: &Result<QueryOutcome, Refusal>) -> bool
     ensures { result ≡ is_registered outcome.now }
 {
@@ -38,7 +38,7 @@ fn is_registered(outcome: &Result<QueryOutcome, Refusal>) -> bool
     }
 }
 
-// The query in a place.
+/// The query in a place.
 fn member_in(queries: &[Option<LiveQuery>], place: usize) -> &LiveQuery
     requires { IsSomeAnd (query_at queries.now place) (λ l. ⊤) }
     ensures { query_at queries.now place ≡ Some result.now }
@@ -49,7 +49,7 @@ fn member_in(queries: &[Option<LiveQuery>], place: usize) -> &LiveQuery
     }
 }
 
-// How many atoms a query has. They stand in memory, with 64 bytes or more each, so they are few.
+/// How many atoms a query has. They stand in memory, with 64 bytes or more each, so they are few.
 fn atoms_of(query: &LiveQuery) -> u64
     ensures count { result ≡ length query.now.query.atoms }
     ensures few { result < 2 ^ 58 }
@@ -59,7 +59,7 @@ fn atoms_of(query: &LiveQuery) -> u64
     atoms.len() as u64
 }
 
-// The most lookups and links that an answer of a union of queries takes.
+/// The most lookups and links that an answer of a union of queries takes.
 fn most_of(queries: &[Option<LiveQuery>], members: &[usize]) -> u64
     requires members { AreMembers queries.now members.now }
     requires kept { All IsKeptSomewhere (queries_at queries.now members.now) }

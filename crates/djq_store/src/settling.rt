@@ -32,7 +32,7 @@ pub enum Turn {
     Lacked,
 }
 
-// Whether a query reads a relation.
+/// Whether a query reads a relation.
 fn reads(query: &Query, relation: &Name) -> bool
     ensures { result ≡ reads query.now relation.now }
 {
@@ -43,7 +43,7 @@ fn reads(query: &Query, relation: &Name) -> bool
         .any(|atom| atom.relation == *relation)
 }
 
-// Whether the query in a place does.
+/// Whether the query in a place does.
 fn reads_place(queries: &[Option<LiveQuery>], place: usize, relation: &Name) -> bool
     ensures { result ≡ reads_place relation.now (query_at queries.now place) }
 {
@@ -53,7 +53,7 @@ fn reads_place(queries: &[Option<LiveQuery>], place: usize, relation: &Name) -> 
     }
 }
 
-// Whether it reads one of these relations.
+/// Whether it reads one of these relations.
 fn reads_some(queries: &[Option<LiveQuery>], place: usize, relations: &[Name]) -> bool
     ensures { result ≡ reads_some relations.now (query_at queries.now place) }
 {
@@ -62,7 +62,7 @@ fn reads_some(queries: &[Option<LiveQuery>], place: usize, relations: &[Name]) -
         .any(|relation| reads_place(queries, place, relation))
 }
 
-// Whether a member reads a relation.
+/// Whether a member reads a relation.
 fn some_read(queries: &[Option<LiveQuery>], members: &[usize], relation: &Name) -> bool
     ensures { result ≡ some_read queries.now members.now relation.now }
 {
@@ -71,7 +71,7 @@ fn some_read(queries: &[Option<LiveQuery>], members: &[usize], relation: &Name) 
         .any(|place| reads_place(queries, *place, relation))
 }
 
-// The first of these relations that a member reads.
+/// The first of these relations that a member reads.
 fn first_read(queries: &[Option<LiveQuery>], members: &[usize], relations: &[Name]) -> Option<Name>
     ensures { result ≡ first_read queries.now relations.now members.now }
 {
@@ -83,7 +83,7 @@ fn first_read(queries: &[Option<LiveQuery>], members: &[usize], relations: &[Nam
     None
 }
 
-// Puts the members that read one of these relations to the front, and tells how many they are.
+/// Puts the members that read one of these relations to the front, and tells how many they are.
 fn touched_members(
     queries: &[Option<LiveQuery>],
     members: &[usize],
@@ -105,8 +105,8 @@ fn touched_members(
     count
 }
 
-// Tells of a union that a change outdates: how its answers changed, where a session watches it; and of nothing
-// where memory was refused.
+/// Tells of a union that a change outdates: how its answers changed, where a session watches it; and of nothing
+/// where memory was refused.
 fn tell<L: Ledger>(
     alloc: Global,
     engine: &Engine,
@@ -148,8 +148,8 @@ fn tell<L: Ledger>(
     );
 }
 
-// Settles a union: where a member reads one of these relations, its cursors become stale, and its log tells of
-// the change. Whether one does is told.
+/// Settles a union: where a member reads one of these relations, its cursors become stale, and its log tells of
+/// the change. Whether one does is told.
 fn settle<L: Ledger>(
     alloc: Global,
     engine: &Engine,
@@ -176,7 +176,7 @@ fn settle<L: Ledger>(
     }
 }
 
-// Settles the union in a slot, if there is one.
+/// Settles the union in a slot, if there is one.
 fn settle_slot<L: Ledger>(
     alloc: Global,
     engine: &Engine,

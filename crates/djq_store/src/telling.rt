@@ -12,7 +12,7 @@ use djq_engine::{CursorId, LentAnswer, QueryId};
 use djq_lines::Sign;
 use djq_lines::limits::QUERIES;
 
-// How many lines the log of a union has. `None` where it was lost.
+/// How many lines the log of a union has. `None` where it was lost.
 fn told_len(joined: &Joined) -> Option<usize>
     ensures { result ≡ (if joined.now.log.lost then None else Some (length joined.now.log.lines)) }
 {
@@ -22,7 +22,7 @@ fn told_len(joined: &Joined) -> Option<usize>
     Some(joined.log.lines().len())
 }
 
-// One of them.
+/// One of them.
 fn told_line(joined: &Joined, nth: usize) -> &Line
     requires { nth < length joined.now.log.lines }
     ensures { slice_get joined.now.log.lines nth ≡ Some result.now }
@@ -30,7 +30,7 @@ fn told_line(joined: &Joined, nth: usize) -> &Line
     &joined.log.lines()[nth]
 }
 
-// Whether an answer came or went.
+/// Whether an answer came or went.
 fn sign_of(came: bool) -> Sign
     ensures { result ≡ sign_of came }
 {

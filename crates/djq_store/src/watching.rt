@@ -16,7 +16,7 @@ use crate::store::Store;
 use djq_engine::{Engine, QueryId};
 use djq_lines::limits::QUERIES;
 
-// Each of these queries is watched by one more.
+/// Each of these queries is watched by one more.
 fn watch_members(engine: &mut Engine, members: &[usize])
     requires { All (λ at. IsSomeAnd (registered_at engine.old.registered (id_at at))
         (λ r. r.watchers + length members.now ≤ WATCHERS)) members.now }
@@ -29,7 +29,7 @@ fn watch_members(engine: &mut Engine, members: &[usize])
     }
 }
 
-// Each of these queries is watched by one less.
+/// Each of these queries is watched by one less.
 fn unwatch_members(engine: &mut Engine, members: &[usize])
     requires apart { AllPairs (λ j k. j ≡ k → ⊥) members.now }
     requires watched { All (λ at. IsSomeAnd (registered_at engine.old.registered (id_at at))
@@ -43,7 +43,7 @@ fn unwatch_members(engine: &mut Engine, members: &[usize])
     }
 }
 
-// One more watches the union in a slot.
+/// One more watches the union in a slot.
 fn listen(unions: &mut Vec<Option<Joined>>, slot: usize)
     requires { IsSomeAnd (joined_at unions.old.items slot) (λ j. j.watchers < WATCHERS) }
     ensures { HasWatchers (λ n. n + 1) slot unions.old.items unions.new.items }
@@ -54,7 +54,7 @@ fn listen(unions: &mut Vec<Option<Joined>>, slot: usize)
     }
 }
 
-// One less watches it.
+/// One less watches it.
 fn ignore(unions: &mut Vec<Option<Joined>>, slot: usize)
     requires { IsSomeAnd (joined_at unions.old.items slot) (λ j. 0 < j.watchers) }
     ensures { HasWatchers (λ n. n - 1) slot unions.old.items unions.new.items }
@@ -65,7 +65,7 @@ fn ignore(unions: &mut Vec<Option<Joined>>, slot: usize)
     }
 }
 
-// A session more watches the union in a slot. The first one watches its members through it.
+/// A session more watches the union in a slot. The first one watches its members through it.
 fn watch_union(parts: &mut Parts, slot: usize)
     requires whole { IsWhole parts.old }
     requires few { IsSomeAnd (joined_at parts.old.unions.items slot) (λ j. j.watchers < SESSIONS) }
@@ -84,7 +84,7 @@ fn watch_union(parts: &mut Parts, slot: usize)
     listen(&mut parts.unions, slot);
 }
 
-// A session that watched the union in a slot does so no more. The last one leaves its members.
+/// A session that watched the union in a slot does so no more. The last one leaves its members.
 fn unwatch_union(parts: &mut Parts, slot: usize)
     requires whole { IsWhole parts.old }
     requires some { IsSomeAnd (joined_at parts.old.unions.items slot) (λ j. 0 < j.watchers) }

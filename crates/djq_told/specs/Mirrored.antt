@@ -113,6 +113,7 @@ AsksNoListing (says_command (Next c count)) = ⊥
 AsksNoListing (says_command (Explain q)) = ⊥
 AsksNoListing r = Unit {0}
 
+-- An event runs no line of this session that asks for a listing.
 abbrev pub SaysNoListing : ℕ → Event → Type 0
 SaysNoListing s (stepped t (run l)) = (t == s) ≡ true → AsksNoListing (reading_of l)
 SaysNoListing s event = Unit {0}

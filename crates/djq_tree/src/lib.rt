@@ -44,7 +44,7 @@ mod tests {
     use djq_hyper::{Names, VarSet};
     use std::test::Fail;
 
-    // Larger trees are tested where they are made, in `djq_plan`.
+    /// Larger trees are tested where they are made, in `djq_plan`.
     #[test]
     fn reads_a_leaf(rt: HostRuntime) -> Result<(), Fail> {
         let alloc = rt.alloc();

@@ -23,7 +23,7 @@ use djq_hyper::{Names, VarSet};
 use std::alloc::{AllocError, Global};
 use std::marker::Model;
 
-// For how many nodes it is told at once which their parents are. The parents of others are sought.
+/// For how many nodes it is told at once which their parents are. The parents of others are sought.
 const TOLD: usize = 64;
 
 /// A generalised join tree of a query: how its atoms' tuples are projected and matched, step by
@@ -53,14 +53,14 @@ impl Model for Tree {
     ghost invariant = { λ t. spec.IsTree (record { nodes = t.nodes.items; labels = t.labels.items; out = t.out.items; head = t.head; leaves = t.leaves; second_stage = t.second_stage }) };
 }
 
-// Tells of a node which its parent is, where there is room.
+/// Tells of a node which its parent is, where there is room.
 fn tell(told: &mut [u8; TOLD], node: usize, parent: usize) {
     if node < TOLD && parent <= u8::MAX as usize {
         told[node] = parent as u8;
     }
 }
 
-// The parents of the first nodes.
+/// The parents of the first nodes.
 fn parents_of(nodes: &[Node]) -> [u8; TOLD] {
     let mut told = [0; TOLD];
     for up in 0..nodes.len() {
@@ -189,7 +189,7 @@ impl Tree {
         }
     }
 
-    // The node that is told to have a node as a child, where it does.
+    /// The node that is told to have a node as a child, where it does.
     fn told(&self, at: usize) -> Option<usize>
         ensures { IfSome result (λ up. parent self.now.nodes at ≡ Some up) }
     {

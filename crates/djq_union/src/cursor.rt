@@ -122,8 +122,8 @@ impl<M: Listing> UnionCursor<M> {
         self.is_left_from(members, 0, listing)
     }
 
-    // Goes on with the union of the members from the i-th on: with the first of them, and with the
-    // later ones where they have its answer, or where it has none left.
+    /// Goes on with the union of the members from the i-th on: with the first of them, and with the
+    /// later ones where they have its answer, or where it has none left.
     fn advance_from<G: Members<Member = M>, L: Ledger>(
         &mut self,
         members: &G,
@@ -154,7 +154,7 @@ impl<M: Listing> UnionCursor<M> {
         self.advance_from(members, i + 1, out, listing)
     }
 
-    // Whether an answer is left of the union of the members from the i-th on.
+    /// Whether an answer is left of the union of the members from the i-th on.
     fn is_left_from<G: Members<Member = M>, L: Ledger>(
         &self,
         members: &G,
@@ -179,7 +179,7 @@ impl<M: Listing> UnionCursor<M> {
         self.is_left_from(members, i + 1, listing)
     }
 
-    // How far the listing of the i-th member has come.
+    /// How far the listing of the i-th member has come.
     fn state(&self, i: usize) -> &Option<M::State>
         requires { i < 8 }
         ensures { result.now ≡ slice_index_or self.now i None }
@@ -196,7 +196,7 @@ impl<M: Listing> UnionCursor<M> {
         }
     }
 
-    // Goes on with the listing of the i-th member.
+    /// Goes on with the listing of the i-th member.
     fn move_at<L: Ledger>(
         &mut self,
         i: usize,
@@ -223,7 +223,7 @@ impl<M: Listing> UnionCursor<M> {
     }
 }
 
-// Goes on with a member's listing, which begins where it hasn't.
+/// Goes on with a member's listing, which begins where it hasn't.
 fn go_on<M: Listing, L: Ledger>(
     member: &M,
     state: &mut Option<M::State>,
@@ -246,7 +246,7 @@ fn go_on<M: Listing, L: Ledger>(
     }
 }
 
-// Whether an answer of a member is left, whose listing may not have begun.
+/// Whether an answer of a member is left, whose listing may not have begun.
 fn has_one_left<M: Listing, L: Ledger>(
     member: &M,
     state: &Option<M::State>,
@@ -264,7 +264,7 @@ fn has_one_left<M: Listing, L: Ledger>(
     }
 }
 
-// Whether some member from the i-th on has the answer.
+/// Whether some member from the i-th on has the answer.
 fn has_from<M: Listing, G: Members<Member = M>, L: Ledger>(
     members: &G,
     i: usize,

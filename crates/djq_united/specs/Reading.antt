@@ -82,6 +82,7 @@ MoreGivesAt c qs old k (open_at given ended) false new =
     × MovesTo c qs old k (open_at given true) new
 MoreGivesAt c qs old k (stale r m) more new = ⊥
 
+-- What is known, at a union's cursor in a slot, of whether an answer is left.
 abbrev pub MoreGives : Catalog → List (Option Live) → United → ℕ → Bool → United → Type 0
 MoreGives c qs old k result new = IsSomeAnd (slot_at old.cursors k)
     (λ p. MoreGivesAt c qs old k (position_of c.texts (members_in qs old) p) result new)

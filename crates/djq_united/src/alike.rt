@@ -7,7 +7,7 @@ ghost use Rattle.djq_united.specs.United.{heads_differ};
 
 use djq_live::LiveQuery;
 
-// The query in a place.
+/// The query in a place.
 fn query_in(queries: &[Option<LiveQuery>], place: usize) -> &LiveQuery
     requires { IsSomeAnd (query_at queries.now place) (λ l. ⊤) }
     ensures { query_at queries.now place ≡ Some result.now }

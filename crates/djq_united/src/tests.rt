@@ -204,7 +204,7 @@ fn given<L: Ledgers>(
     both_ways(rt.alloc(), &catalog, &mut steps)
 }
 
-// The members have other numbers for their variables, and share two answers.
+/// The members have other numbers for their variables, and share two answers.
 #[test]
 fn gives_each_answer_once(rt: HostRuntime) -> Result<(), Fail> {
     let pairs = given::<Brand>(&rt, Blanks::new(&rt), &[[1, 2], [2, 1], [3, 4]])?;

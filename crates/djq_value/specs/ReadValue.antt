@@ -12,6 +12,7 @@ use Rattle.djq_value.specs.ValueText.{value_text}
 use Rattle.djq_value.specs.declared.reading.ValueRefusal.{ValueRefusal}
 use Rattle.djq_value.specs.declared.reading.ValueRefusal.TheVariants.{Syntax, IntRange, TextLong, NoMem}
 
+-- the literal that a token says, and what is behind the token; none where it says none
 abbrev pub literal_in : Option (Token × Bytes) → Option (Value × Bytes)
 literal_in None = None
 literal_in (Some p) = option_map (λ v. (v, p.1)) (literal_of p.0)

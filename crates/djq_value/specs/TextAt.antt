@@ -3,6 +3,7 @@ use Rattle.std.specs.Prelude.{◌≡◌, ◌≤◌, ℕ, [], true, false, Option
 use Rattle.djq_model.specs.Data.{Bytes}
 use Rattle.djq_value.specs.Token.{text_in}
 
+-- a text that was found, without what is behind it; nothing where none was
 abbrev pub text_or_none : Option (Bytes × Bytes) → Bytes
 text_or_none None = []
 text_or_none (Some r) = r.0

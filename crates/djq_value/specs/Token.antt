@@ -6,6 +6,7 @@ use Rattle.djq_model.specs.declared.query.Operator.TheVariants.{Less, LessOrEqua
 use Rattle.djq_model.specs.declared.query.Operator.TheVariants.{GreaterOrEqual, Equal, NotEqual}
 use Rattle.djq_model.specs.Data.{Bytes}
 
+-- what a line is made of, but for the spaces
 pub data Token : Type 0 where
   -- a run of bytes that are no spaces and no signs: a keyword, a name, a hole, an integer, or none of them
   word : Bytes → Token
@@ -24,14 +25,16 @@ pub data Token : Type 0 where
 abbrev pub ends_word : ℕ → Bool
 ends_word b = b == 32 || b == 33 || b == 40 || b == 41 || b == 44 || b == 60 || b == 61 || b == 62
 
--- the longest run of word bytes in front, and what is behind it
+-- the longest run of word bytes in front
 abbrev pub word_front : Bytes → Bytes
 word_front bs = take_while (λ b. not (ends_word b)) bs
 
+-- what is behind the longest run of word bytes in front
 abbrev pub behind_word : Bytes → Bytes
 behind_word [] = []
 behind_word (b ∷ bs) = if ends_word b then b ∷ bs else behind_word bs
 
+-- what is behind the spaces in front
 abbrev pub behind_spaces : Bytes → Bytes
 behind_spaces [] = []
 behind_spaces (b ∷ bs) = if b == 32 then behind_spaces bs else b ∷ bs
@@ -103,6 +106,7 @@ token_front (b ∷ bs) = Some (
 abbrev pub token_at : Bytes → Option (Token × Bytes)
 token_at bs = token_front (behind_spaces bs)
 
+-- a token, and more of what is behind it; nothing where there is no token
 abbrev pub and_then : (Bytes → List Token) → Option (Token × Bytes) → List Token
 and_then more None = []
 and_then more (Some t) = t.0 ∷ more t.1

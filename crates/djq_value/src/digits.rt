@@ -1,4 +1,4 @@
-// The digits of a number, written where they stand.
+//! The digits of a number, written where they stand.
 ghost use Rattle.std.specs.Prelude.{◌≡◌, ◌<◌, ◌≤◌, length};
 ghost use Rattle.std.specs.Fmt.{decimal};
 ghost use Rattle.djq_value.specs.Output.{Says};
@@ -19,7 +19,7 @@ pub fn digit_count(number: u64) -> usize
     }
 }
 
-// By one division for each four digits.
+/// By one division for each four digits.
 fn long_count(number: u64) -> usize
     ensures value { result ≡ length (decimal number) }
     ensures few { result ≤ 20 }
@@ -33,7 +33,7 @@ fn long_count(number: u64) -> usize
     count + short_count(left)
 }
 
-// Of a number of at most eight digits, without a division.
+/// Of a number of at most eight digits, without a division.
 #[inline]
 #[tactic(auto, using(crate::proofs::Counting::length_five, crate::proofs::Counting::length_six, crate::proofs::Counting::length_seven, crate::proofs::Counting::length_eight))]
 fn middle_count(number: u64) -> usize
@@ -52,7 +52,7 @@ fn middle_count(number: u64) -> usize
     }
 }
 
-// How many digits a number below 10,000 has.
+/// How many digits a number below 10,000 has.
 fn short_count(number: u64) -> usize
     requires { number < 10000 }
     ensures value { result ≡ length (decimal number) }

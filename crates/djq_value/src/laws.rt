@@ -1,5 +1,5 @@
-// What is read of a line, said of the line alone. The functions do nothing: what they ensure holds
-// of the definitions.
+//! What is read of a line, said of the line alone. The functions do nothing: what they ensure holds
+//! of the definitions.
 ghost use Rattle.djq_value.specs.ReadValue.{IsReadBack, IsSpelledBack};
 ghost use Rattle.djq_value.specs.Spelling.{TokensAreSpelled};
 

@@ -69,7 +69,7 @@ impl<'a> Lexer<'a> {
         Lexer { rest: line }
     }
 
-    // A second lexer at the same place.
+    /// A second lexer at the same place.
     pub fn fork(&self) -> Self
         ensures { result ≡ self.now }
     {
@@ -98,7 +98,7 @@ impl<'a> Lexer<'a> {
         }
     }
 
-    // The word in front, without its token. Where none is given, the lexer stays where it is.
+    /// The word in front, without its token. Where none is given, the lexer stays where it is.
     #[inline]
     pub(crate) fn plain_word(&mut self) -> Option<&'a [u8]>
         ensures { TakesPlainWord self.old result self.new }
@@ -145,7 +145,7 @@ impl<'a> Lexer<'a> {
     }
 }
 
-// The token that begins with the first byte, and what is behind it.
+/// The token that begins with the first byte, and what is behind it.
 pub(crate) fn front_token(bytes: &[u8]) -> (Token<'_>, &[u8])
     requires { 0 < length bytes.now }
     ensures { token_front bytes.now ≡ Some (lexeme_of result.0, result.1.now) }
@@ -167,7 +167,7 @@ pub(crate) fn front_token(bytes: &[u8]) -> (Token<'_>, &[u8])
     }
 }
 
-// What a `<` begins, by what is behind it.
+/// What a `<` begins, by what is behind it.
 fn arrow_or_less(behind: &[u8]) -> (Token<'_>, &[u8])
     ensures { less_front behind.now ≡ (lexeme_of result.0, result.1.now) }
 {
@@ -178,7 +178,7 @@ fn arrow_or_less(behind: &[u8]) -> (Token<'_>, &[u8])
     }
 }
 
-// What a `>` begins, by what is behind it.
+/// What a `>` begins, by what is behind it.
 fn greater(behind: &[u8]) -> (Token<'_>, &[u8])
     ensures { greater_front behind.now ≡ (lexeme_of result.0, result.1.now) }
 {
@@ -188,7 +188,7 @@ fn greater(behind: &[u8]) -> (Token<'_>, &[u8])
     }
 }
 
-// What a `!` begins, by what is behind it.
+/// What a `!` begins, by what is behind it.
 fn not_equal_or_stray(behind: &[u8]) -> (Token<'_>, &[u8])
     ensures { not_front behind.now ≡ (lexeme_of result.0, result.1.now) }
 {
@@ -198,7 +198,7 @@ fn not_equal_or_stray(behind: &[u8]) -> (Token<'_>, &[u8])
     }
 }
 
-// What an opening quote begins, by what is behind it.
+/// What an opening quote begins, by what is behind it.
 fn text_or_stray(behind: &[u8]) -> (Token<'_>, &[u8])
     ensures { text_front (text_in false behind.now) ≡ (lexeme_of result.0, result.1.now) }
 {
@@ -213,7 +213,7 @@ fn text_or_stray(behind: &[u8]) -> (Token<'_>, &[u8])
     }
 }
 
-// Whether a word or a text may end in front of these bytes.
+/// Whether a word or a text may end in front of these bytes.
 pub(crate) fn may_end(behind: &[u8]) -> bool
     ensures { result ≡ may_end_of behind.now }
 {
@@ -223,7 +223,7 @@ pub(crate) fn may_end(behind: &[u8]) -> bool
     }
 }
 
-// How many spaces stand in front.
+/// How many spaces stand in front.
 pub(crate) fn space_count(bytes: &[u8]) -> usize
     ensures within { result ≤ length bytes.now }
     ensures behind { drop result bytes.now ≡ behind_spaces bytes.now }
@@ -235,7 +235,7 @@ pub(crate) fn space_count(bytes: &[u8]) -> usize
     count
 }
 
-// How many bytes in front are of a word.
+/// How many bytes in front are of a word.
 fn word_len(bytes: &[u8]) -> usize
     ensures within { result ≤ length bytes.now }
     ensures word { take result bytes.now ≡ word_front bytes.now }
@@ -248,7 +248,7 @@ fn word_len(bytes: &[u8]) -> usize
     len
 }
 
-// Whether a byte ends a word: spaces and signs do. Letters are above all that do.
+/// Whether a byte ends a word: spaces and signs do. Letters are above all that do.
 #[tactic(auto, using(crate::proofs::Words::inner_above))]
 fn ends_word(byte: u8) -> bool
     ensures { result ≡ ends_word_of byte }

@@ -1,4 +1,4 @@
-// Literals: integers and texts.
+//! Literals: integers and texts.
 ghost use Rattle.djq_value.specs.Lexing.{lexeme_of};
 ghost use Rattle.djq_value.specs.Literal.{integer_of, literal_of};
 ghost use Rattle.djq_value.specs.Reads.{ReadsLiteral};
@@ -42,7 +42,7 @@ pub fn read_literal(alloc: Global, token: &Token<'_>) -> Result<Value, LiteralRe
     }
 }
 
-// The integer that a word is.
+/// The integer that a word is.
 fn read_number(word: &[u8]) -> Result<Value, LiteralRefusal>
     ensures { ReadsLiteral (option_map (λ i. Int i) (integer_of word.now)) result }
 {
@@ -53,7 +53,7 @@ fn read_number(word: &[u8]) -> Result<Value, LiteralRefusal>
     }
 }
 
-// A text, copied.
+/// A text, copied.
 fn read_text(alloc: Global, text: &Quoted<'_>) -> Result<Value, LiteralRefusal>
     ensures { ReadsLiteral (Some (TextValue text.now)) result }
 {

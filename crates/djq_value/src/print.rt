@@ -26,7 +26,7 @@ pub fn print_cell(value: Lent<'_>, out: &mut BytesMut) -> Result<(), NoMem>
     }
 }
 
-// A space and an integer.
+/// A space and an integer.
 fn print_integer(number: i64, out: &mut BytesMut) -> Result<(), NoMem>
     ensures { Puts out.old out.new (32 ∷ signed_decimal number) result }
 {
@@ -43,7 +43,7 @@ fn print_integer(number: i64, out: &mut BytesMut) -> Result<(), NoMem>
     Ok(())
 }
 
-// A space and a text in quotes. Room for the whole of it is taken at once.
+/// A space and a text in quotes. Room for the whole of it is taken at once.
 fn print_text(text: &[u8], out: &mut BytesMut) -> Result<(), NoMem>
     ensures { Puts out.old out.new (32 ∷ quoted text.now) result }
 {
@@ -60,14 +60,14 @@ fn print_text(text: &[u8], out: &mut BytesMut) -> Result<(), NoMem>
     Ok(())
 }
 
-// The number of bytes of a text with its escapes.
+/// The number of bytes of a text with its escapes.
 fn escaped_len(text: &[u8]) -> usize
     ensures { result ≡ length (flat_map escaped text.now) }
 {
     text.len() + escape_count(text)
 }
 
-// How many bytes of a text need an escape.
+/// How many bytes of a text need an escape.
 fn escape_count(text: &[u8]) -> usize
     ensures value { result ≡ count_by is_escaped_of text.now }
     ensures few { result ≤ length text.now }
@@ -75,7 +75,7 @@ fn escape_count(text: &[u8]) -> usize
     text.iter().filter(|b| is_escaped(**b)).count()
 }
 
-// Whether a byte of a text needs an escape. Small letters are above all that do.
+/// Whether a byte of a text needs an escape. Small letters are above all that do.
 #[tactic(auto, using(crate::proofs::Escapes::plain_above))]
 pub(crate) fn is_escaped(byte: u8) -> bool
     ensures { result ≡ is_escaped_of byte }
@@ -83,7 +83,7 @@ pub(crate) fn is_escaped(byte: u8) -> bool
     byte <= b'\\' && ((byte == b'"') | (byte == b'\\') | (byte == b'\n'))
 }
 
-// The bytes of a text with their escapes, in one piece where there is none.
+/// The bytes of a text with their escapes, in one piece where there is none.
 fn extend_escaped(text: &[u8], len: usize, out: &mut BytesMut)
     requires len { len ≡ length (flat_map escaped text.now) }
     requires room { len ≤ out.old.spare }
@@ -96,7 +96,7 @@ fn extend_escaped(text: &[u8], len: usize, out: &mut BytesMut)
     }
 }
 
-// The bytes of a text with their escapes, one by one.
+/// The bytes of a text with their escapes, one by one.
 fn extend_bytes(text: &[u8], out: &mut BytesMut)
     requires { length (flat_map escaped text.now) ≤ out.old.spare }
     ensures { Says out.old out.new (flat_map escaped text.now) }
@@ -106,7 +106,7 @@ fn extend_bytes(text: &[u8], out: &mut BytesMut)
     }
 }
 
-// A byte as it stands in a text that is printed.
+/// A byte as it stands in a text that is printed.
 fn extend_byte(byte: u8, out: &mut BytesMut)
     requires { length (escaped byte) ≤ out.old.spare }
     ensures { Says out.old out.new (escaped byte) }

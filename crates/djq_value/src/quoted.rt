@@ -1,4 +1,4 @@
-// Texts between quotes, as a line has them.
+//! Texts between quotes, as a line has them.
 ghost use Rattle.std.specs.Prelude.{◌≡◌, ◌∷◌, ◌≤◌, drop, false, length, take, IfOk};
 ghost use Rattle.djq_model.specs.declared.value.TheConstants.{TEXT_BYTES};
 ghost use Rattle.djq_value.specs.Token.{text_in};
@@ -34,7 +34,7 @@ impl<'a> Model for Quoted<'a> {
 }
 
 impl<'a> Quoted<'a> {
-    // The text whose opening quote stands before these bytes.
+    /// The text whose opening quote stands before these bytes.
     pub(crate) fn new(from: &'a [u8], end: usize, len: usize) -> Self
         requires { EndsAt from.now end len }
         ensures { result ≡ text_at from.now }
@@ -71,7 +71,7 @@ pub(crate) enum Step {
     Bad,
 }
 
-// What a byte is, behind a backslash or not.
+/// What a byte is, behind a backslash or not.
 fn step_of(escape: bool, byte: u8) -> Step
     ensures { (rest : Bytes) → text_in escape (byte ∷ rest) ≡ stepped result rest }
 {
@@ -86,14 +86,14 @@ fn step_of(escape: bool, byte: u8) -> Step
     }
 }
 
-// Where the text that begins here ends, behind its closing quote, and how many bytes it has.
+/// Where the text that begins here ends, behind its closing quote, and how many bytes it has.
 pub(crate) fn text_end(bytes: &[u8]) -> Option<(usize, usize)>
     ensures { Ends bytes.now result }
 {
     text_end_from(bytes, plain_len(bytes))
 }
 
-// How many bytes in front stand for themselves, whatever is behind them. Alone, its loop is short.
+/// How many bytes in front stand for themselves, whatever is behind them. Alone, its loop is short.
 #[inline(never)]
 fn plain_len(bytes: &[u8]) -> usize
     ensures within { result ≤ length bytes.now }
@@ -107,7 +107,7 @@ fn plain_len(bytes: &[u8]) -> usize
     len
 }
 
-// The same as where it ends, behind so many bytes that stand for themselves.
+/// The same as where it ends, behind so many bytes that stand for themselves.
 fn text_end_from(bytes: &[u8], plain: usize) -> Option<(usize, usize)>
     requires within { plain ≤ length bytes.now }
     requires read { text_in false bytes.now
@@ -130,7 +130,7 @@ fn text_end_from(bytes: &[u8], plain: usize) -> Option<(usize, usize)>
     None
 }
 
-// The bytes of the text that begins here, in one piece where it has no escape.
+/// The bytes of the text that begins here, in one piece where it has no escape.
 fn copied(alloc: Global, bytes: &[u8], end: usize, len: usize) -> Result<Vec<u8>, NoMem>
     requires ends { EndsAt bytes.now end len }
     requires few { len ≤ TEXT_BYTES }
@@ -143,7 +143,7 @@ fn copied(alloc: Global, bytes: &[u8], end: usize, len: usize) -> Result<Vec<u8>
     }
 }
 
-// The bytes of the text that begins here, one by one.
+/// The bytes of the text that begins here, one by one.
 fn unescaped(alloc: Global, bytes: &[u8], len: usize) -> Result<Vec<u8>, NoMem>
     requires { HasText bytes.now len }
     ensures { IfOk result (λ text. text.items ≡ text_at bytes.now) }

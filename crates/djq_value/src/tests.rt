@@ -38,7 +38,7 @@ fn prints_texts_with_their_escapes(rt: HostRuntime) -> Result<(), Fail> {
     Ok(())
 }
 
-// A text of so many bytes, in quotes.
+/// A text of so many bytes, in quotes.
 fn quoted(alloc: Global, count: usize) -> Result<Vec<u8>, AllocError> {
     let mut bytes = Vec::from_slice(alloc, b"\"")?;
     for _ in 0..count {

@@ -1,4 +1,4 @@
-// What a word may be: a keyword or a name.
+//! What a word may be: a keyword or a name.
 ghost use Rattle.std.specs.Prelude.{◌≡◌, Some, None, if◌then◌else◌};
 ghost use Rattle.std.specs.List.{list_all};
 ghost use Rattle.djq_model.specs.Data.{bytes_eq};
@@ -13,14 +13,14 @@ use djq_model::Name;
 /// The most bytes that a name has behind its first.
 const MORE_BYTES: usize = 31;
 
-// Whether a word is this text.
+/// Whether a word is this text.
 pub fn is_text(word: &[u8], text: &[u8]) -> bool
     ensures { result ≡ bytes_eq word.now text.now }
 {
     word == text
 }
 
-// The name that a word is: a letter, then letters, digits and `_`, 32 bytes at most.
+/// The name that a word is: a letter, then letters, digits and `_`, 32 bytes at most.
 pub fn read_name(word: &[u8]) -> Option<Name>
     ensures { result ≡ (if is_name_of word.now then Some word.now else None) }
 {
@@ -41,7 +41,7 @@ pub fn is_name(word: &[u8]) -> bool
     is_letter(word[0]) && tail
 }
 
-// Whether these may be the bytes of a name behind its first.
+/// Whether these may be the bytes of a name behind its first.
 fn is_tail(bytes: &[u8]) -> bool
     ensures { result ≡ is_tail_of bytes.now }
 {
@@ -60,15 +60,15 @@ fn is_letter(byte: u8) -> bool
     byte >= b'a' && byte <= b'z'
 }
 
-// Whether a byte may stand in a name behind its first.
+/// Whether a byte may stand in a name behind its first.
 fn may_follow(byte: u8) -> bool
     ensures { result ≡ may_follow_of byte }
 {
     is_letter(byte) || (byte >= b'0' && byte <= b'9') || byte == b'_'
 }
 
-// How many bytes the name has with which bytes begin, where a space is behind it; none where it ends
-// in another way, or isn't there.
+/// How many bytes the name has with which bytes begin, where a space is behind it; none where it ends
+/// in another way, or isn't there.
 #[inline]
 pub(crate) fn spaced_name_len(bytes: &[u8]) -> Option<usize>
     ensures { IsNameAt bytes.now result }
@@ -82,7 +82,7 @@ pub(crate) fn spaced_name_len(bytes: &[u8]) -> Option<usize>
     }
 }
 
-// The same of the bytes behind a name's first.
+/// The same of the bytes behind a name's first.
 #[inline]
 fn spaced_tail_len(bytes: &[u8]) -> Option<usize>
     ensures { IsTailAt bytes.now result }
@@ -101,7 +101,7 @@ fn spaced_tail_len(bytes: &[u8]) -> Option<usize>
     }
 }
 
-// The word in front, where one is there. The token in front is passed over in any case.
+/// The word in front, where one is there. The token in front is passed over in any case.
 pub fn next_word<'a>(lexer: &mut Lexer<'a>) -> Option<&'a [u8]>
     ensures { TakesWord lexer.old result lexer.new }
 {
@@ -114,7 +114,7 @@ pub fn next_word<'a>(lexer: &mut Lexer<'a>) -> Option<&'a [u8]>
     }
 }
 
-// The name in front, where one is there. The token in front is passed over in any case.
+/// The name in front, where one is there. The token in front is passed over in any case.
 pub fn next_name(lexer: &mut Lexer<'_>) -> Option<Name>
     ensures { TakesName lexer.old result lexer.new }
 {

@@ -1,4 +1,4 @@
-// Values written into bytes that are there, from a place on.
+//! Values written into bytes that are there, from a place on.
 ghost use Rattle.std.specs.Prelude.{◌≡◌, ◌+◌, ◌*◌, ◌∷◌, [], ◌<◌, ◌≤◌, IsTrue, length};
 ghost use Rattle.std.specs.Fmt.{decimal, signed_decimal};
 ghost use Rattle.std.specs.List.{flat_map};
@@ -11,7 +11,7 @@ use crate::print::is_escaped;
 use djq_model::Lent;
 use itoa::write_digits;
 
-// The most that a space and an integer take, with a sign and 20 digits.
+/// The most that a space and an integer take, with a sign and 20 digits.
 const INTEGER_ROOM: usize = 22;
 
 /// Writes a space and a value, as [`print_cell`](crate::print_cell) prints it, and gives where it
@@ -27,7 +27,7 @@ pub fn write_cell(value: Lent<'_>, bytes: &mut [u8], at: usize) -> Option<usize>
     }
 }
 
-// A space and an integer.
+/// A space and an integer.
 #[inline]
 fn write_integer(number: i64, bytes: &mut [u8], at: usize) -> Option<usize>
     requires { at ≤ length bytes.old }
@@ -40,7 +40,7 @@ fn write_integer(number: i64, bytes: &mut [u8], at: usize) -> Option<usize>
     Some(write_signed(number, bytes, front))
 }
 
-// An integer.
+/// An integer.
 #[inline]
 fn write_signed(number: i64, bytes: &mut [u8], at: usize) -> usize
     requires { at + 21 ≤ length bytes.old }
@@ -55,8 +55,8 @@ fn write_signed(number: i64, bytes: &mut [u8], at: usize) -> usize
     }
 }
 
-// A number without a sign. How many digits a short one has is told by the way that leads to it, so
-// that each is written without asking again.
+/// A number without a sign. How many digits a short one has is told by the way that leads to it, so
+/// that each is written without asking again.
 #[inline]
 fn write_natural(number: u64, bytes: &mut [u8], at: usize) -> usize
     requires { at + 20 ≤ length bytes.old }
@@ -69,7 +69,7 @@ fn write_natural(number: u64, bytes: &mut [u8], at: usize) -> usize
     }
 }
 
-// One below 10,000.
+/// One below 10,000.
 #[inline]
 fn write_short(number: u64, bytes: &mut [u8], at: usize) -> usize
     requires short { number < 10000 }
@@ -89,7 +89,7 @@ fn write_short(number: u64, bytes: &mut [u8], at: usize) -> usize
     }
 }
 
-// One whose digits are counted first.
+/// One whose digits are counted first.
 #[inline(never)]
 fn write_long(number: u64, bytes: &mut [u8], at: usize) -> usize
     requires { at + 20 ≤ length bytes.old }
@@ -98,7 +98,7 @@ fn write_long(number: u64, bytes: &mut [u8], at: usize) -> usize
     write_counted(number, digit_count(number), bytes, at)
 }
 
-// One of so many digits.
+/// One of so many digits.
 #[inline]
 fn write_counted(number: u64, count: usize, bytes: &mut [u8], at: usize) -> usize
     requires count { count ≡ length (decimal number) }
@@ -110,7 +110,7 @@ fn write_counted(number: u64, count: usize, bytes: &mut [u8], at: usize) -> usiz
     end
 }
 
-// A space and a text in quotes. There is room where each byte may need an escape.
+/// A space and a text in quotes. There is room where each byte may need an escape.
 #[inline]
 fn write_text(text: &[u8], bytes: &mut [u8], at: usize) -> Option<usize>
     requires { at ≤ length bytes.old }
@@ -126,7 +126,7 @@ fn write_text(text: &[u8], bytes: &mut [u8], at: usize) -> Option<usize>
     Some(write_byte(b'"', bytes, close))
 }
 
-// The bytes of a text with their escapes, in one piece where there is none.
+/// The bytes of a text with their escapes, in one piece where there is none.
 #[inline]
 fn write_escaped(text: &[u8], bytes: &mut [u8], at: usize) -> usize
     requires { at + 2 * length text.now ≤ length bytes.old }
@@ -140,7 +140,7 @@ fn write_escaped(text: &[u8], bytes: &mut [u8], at: usize) -> usize
     }
 }
 
-// The bytes of a text with their escapes, one by one.
+/// The bytes of a text with their escapes, one by one.
 #[inline(never)]
 fn write_each(text: &[u8], bytes: &mut [u8], at: usize) -> usize
     requires { at + 2 * length text.now ≤ length bytes.old }
@@ -154,7 +154,7 @@ fn write_each(text: &[u8], bytes: &mut [u8], at: usize) -> usize
     end
 }
 
-// A byte as it stands in a text that is printed.
+/// A byte as it stands in a text that is printed.
 #[inline]
 fn write_escape(byte: u8, bytes: &mut [u8], at: usize) -> usize
     requires { at + 2 ≤ length bytes.old }
@@ -169,7 +169,7 @@ fn write_escape(byte: u8, bytes: &mut [u8], at: usize) -> usize
     }
 }
 
-// Whether no byte of a text needs an escape.
+/// Whether no byte of a text needs an escape.
 #[inline]
 fn is_plain(text: &[u8]) -> bool
     ensures { IsTrue result → flat_map escaped text.now ≡ text.now }

@@ -29,6 +29,7 @@ replay_app = with_rule (new_app (codes "replay")) log_rule
 abbrev pub changes_rule : Rule
 changes_rule = record (new_rule (codes "N")) { required = true; parser = Some (Unsigned 1 1000000) }
 
+-- the seed of `gen`, from 0 to 2147483647, which must be there
 abbrev pub seed_rule : Rule
 seed_rule = record (new_rule (codes "SEED"))
     { required = true; parser = Some (Unsigned 0 2147483647) }
@@ -41,6 +42,7 @@ gen_app = with_rule (with_rule (new_app (codes "gen")) changes_rule) seed_rule
 abbrev pub query_rule : Rule
 query_rule = record (new_rule (codes "Q")) { required = true }
 
+-- `mirror Q`
 abbrev pub mirror_app : App
 mirror_app = with_rule (new_app (codes "mirror")) query_rule
 

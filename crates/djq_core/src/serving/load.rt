@@ -59,7 +59,7 @@ impl Core {
     }
 }
 
-// Loads a line where no batch is open; and the batch that it opens, where it does.
+/// Loads a line where no batch is open; and the batch that it opens, where it does.
 fn load_alone<L: Ledgers>(
     alloc: Global,
     engine: &mut Store,
@@ -83,14 +83,14 @@ fn load_alone<L: Ledgers>(
     }
 }
 
-// Whether a command opens a batch.
+/// Whether a command opens a batch.
 fn is_batch(command: &Command) -> bool
     ensures { result ≡ is_batch command.now }
 {
     matches!(command, Command::Batch)
 }
 
-// Does a command of a kind that is kept by itself, and refuses any other.
+/// Does a command of a kind that is kept by itself, and refuses any other.
 fn load_command<L: Ledgers>(engine: &mut Store, command: Command, steps: &mut Steps<L>) -> Loaded
     requires idle { IsIdle engine.old }
     requires runnable { IsRunnable command }
@@ -127,7 +127,7 @@ fn load_command<L: Ledgers>(engine: &mut Store, command: Command, steps: &mut St
     }
 }
 
-// Loads a line where a batch is open, which holds these rows; and the batch that is open then.
+/// Loads a line where a batch is open, which holds these rows; and the batch that is open then.
 fn load_in_batch<L: Ledgers>(
     alloc: Global,
     engine: &mut Store,
@@ -158,7 +158,7 @@ fn load_in_batch<L: Ledgers>(
     }
 }
 
-// Holds a row that was made behind the others.
+/// Holds a row that was made behind the others.
 fn load_row(held: Sequence<HeldRow>, made: Result<HeldRow, Refusal>) -> (Loaded, Sequence<HeldRow>)
     ensures { LoadsRow held made result.0 result.1 }
 {
@@ -172,7 +172,7 @@ fn load_row(held: Sequence<HeldRow>, made: Result<HeldRow, Refusal>) -> (Loaded,
     }
 }
 
-// What a result comes to, by whether its line would be kept.
+/// What a result comes to, by whether its line would be kept.
 fn loaded<A>(outcome: &Result<A, Refusal>, kept: bool) -> Loaded
     ensures { result ≡ comes_to outcome.now kept }
 {
@@ -182,7 +182,7 @@ fn loaded<A>(outcome: &Result<A, Refusal>, kept: bool) -> Loaded
     }
 }
 
-// What a line that is refused comes to.
+/// What a line that is refused comes to.
 fn refused(refusal: Refusal) -> Loaded
     ensures { result ≡ refused_by refusal }
 {

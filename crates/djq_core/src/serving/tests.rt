@@ -9,7 +9,7 @@ mod batches;
 mod kept;
 mod unions;
 
-// Whether a session is open.
+/// Whether a session is open.
 fn is_open(core: &Core, id: u64) -> bool
     ensures { result ≡ true → IsOpen core.now.state id }
 {
@@ -22,7 +22,7 @@ fn is_open(core: &Core, id: u64) -> bool
     false
 }
 
-// Whether an id is above those of the open sessions.
+/// Whether an id is above those of the open sessions.
 fn is_above(core: &Core, id: u64) -> bool
     ensures { result ≡ true → All (λ x. x.id < id) core.now.state.sessions }
 {
@@ -35,12 +35,12 @@ fn is_above(core: &Core, id: u64) -> bool
     true
 }
 
-// Opens a session, where that is allowed.
+/// Opens a session, where that is allowed.
 fn open(core: &mut Core, id: u64) -> bool {
     is_above(core, id) && core.open_session(id).is_ok()
 }
 
-// A session says something, and all its lines are run.
+/// A session says something, and all its lines are run.
 fn say<L: Ledgers>(core: &mut Core, steps: &mut Steps<L>, id: u64, text: &[u8]) {
     if !is_open(core, id) {
         return;
@@ -53,7 +53,7 @@ fn say<L: Ledgers>(core: &mut Core, steps: &mut Steps<L>, id: u64, text: &[u8]) 
     }
 }
 
-// Whether a session is answered this, which is then taken.
+/// Whether a session is answered this, which is then taken.
 fn is_told(core: &mut Core, id: u64, want: &[u8]) -> bool {
     if !is_open(core, id) {
         return false;
@@ -65,14 +65,14 @@ fn is_told(core: &mut Core, id: u64, want: &[u8]) -> bool {
     right
 }
 
-// Closes a session.
+/// Closes a session.
 fn close(core: &mut Core, id: u64) {
     if is_open(core, id) {
         core.close_session(id);
     }
 }
 
-// A session says what makes two relations with texts, and a join of them.
+/// A session says what makes two relations with texts, and a join of them.
 fn say_join<L: Ledgers>(core: &mut Core, steps: &mut Steps<L>, id: u64) -> bool {
     say(core, steps, id, b"rel r int text\nrel s text int\n");
     say(core, steps, id, b"add r 1 \"a\"\nadd s \"a\" 2\n");
@@ -84,8 +84,8 @@ fn say_join<L: Ledgers>(core: &mut Core, steps: &mut Steps<L>, id: u64) -> bool 
     )
 }
 
-// A cursor lists the answers of a join with its texts, and becomes stale by a row of either
-// relation.
+/// A cursor lists the answers of a join with its texts, and becomes stale by a row of either
+/// relation.
 fn lists_a_join<L: Ledgers>(rt: &HostRuntime, blanks: Blanks) -> Result<bool, NoMem>
     requires listing { blanks.listing.name ≡ L.listing }
     requires update { blanks.update.name ≡ L.update }
@@ -114,8 +114,8 @@ fn a_join_is_listed(rt: HostRuntime) -> Result<(), NoMem> {
     Ok(())
 }
 
-// The tree of a query beside a join is explained; of queries that aren't free-connex a rest is
-// told, and they aren't registered.
+/// The tree of a query beside a join is explained; of queries that aren't free-connex a rest is
+/// told, and they aren't registered.
 fn judges_queries<L: Ledgers>(rt: &HostRuntime, blanks: Blanks) -> Result<bool, NoMem>
     requires listing { blanks.listing.name ≡ L.listing }
     requires update { blanks.update.name ≡ L.update }
@@ -159,8 +159,8 @@ fn queries_are_judged(rt: HostRuntime) -> Result<(), NoMem> {
     Ok(())
 }
 
-// Two sessions have cursors of the same name; a change outdates both, and the end of one leaves the
-// other's alone.
+/// Two sessions have cursors of the same name; a change outdates both, and the end of one leaves the
+/// other's alone.
 fn shares_an_engine<L: Ledgers>(rt: &HostRuntime, blanks: Blanks) -> Result<bool, NoMem>
     requires listing { blanks.listing.name ≡ L.listing }
     requires update { blanks.update.name ≡ L.update }
@@ -198,8 +198,8 @@ fn two_sessions_share_an_engine(rt: HostRuntime) -> Result<(), NoMem> {
     Ok(())
 }
 
-// A query that two sessions have cursors over is dropped once neither has, and its name is free;
-// `has` finds an answer of the query beside it, in the order of its head, and none that isn't there.
+/// A query that two sessions have cursors over is dropped once neither has, and its name is free;
+/// `has` finds an answer of the query beside it, in the order of its head, and none that isn't there.
 fn drops_and_has<L: Ledgers>(rt: &HostRuntime, blanks: Blanks) -> Result<bool, NoMem>
     requires listing { blanks.listing.name ≡ L.listing }
     requires update { blanks.update.name ≡ L.update }
@@ -258,8 +258,8 @@ fn a_query_in_use_stays(rt: HostRuntime) -> Result<(), NoMem> {
     Ok(())
 }
 
-// As many sessions as may be open are, and one more isn't until one is closed; `stop` is served,
-// and no line behind it.
+/// As many sessions as may be open are, and one more isn't until one is closed; `stop` is served,
+/// and no line behind it.
 fn serves_many<L: Ledgers>(rt: &HostRuntime, blanks: Blanks) -> Result<bool, NoMem>
     requires listing { blanks.listing.name ≡ L.listing }
     requires update { blanks.update.name ≡ L.update }
@@ -288,7 +288,7 @@ fn serves_as_many_sessions_as_may_be(rt: HostRuntime) -> Result<(), NoMem> {
     Ok(())
 }
 
-// Session 1 adds the rows 1000 to 1999.
+/// Session 1 adds the rows 1000 to 1999.
 fn add_thousand<L: Ledgers>(core: &mut Core, steps: &mut Steps<L>) {
     let mut row = *b"add r 1000\n";
     for hundreds in *b"0123456789" {
@@ -303,8 +303,8 @@ fn add_thousand<L: Ledgers>(core: &mut Core, steps: &mut Steps<L>) {
     }
 }
 
-// A listing far above the bytes that are kept for a reply is told whole, while another session
-// stops in its midst.
+/// A listing far above the bytes that are kept for a reply is told whole, while another session
+/// stops in its midst.
 fn lists_whole<L: Ledgers>(rt: &HostRuntime, blanks: Blanks) -> Result<bool, NoMem>
     requires listing { blanks.listing.name ≡ L.listing }
     requires update { blanks.update.name ≡ L.update }
@@ -334,7 +334,7 @@ fn a_long_listing_is_whole(rt: HostRuntime) -> Result<(), NoMem> {
     Ok(())
 }
 
-// Whether a session is answered one of two texts, which is then taken.
+/// Whether a session is answered one of two texts, which is then taken.
 fn is_told_either(core: &mut Core, id: u64, want: &[u8], other: &[u8]) -> bool {
     if !is_open(core, id) {
         return false;
@@ -346,7 +346,7 @@ fn is_told_either(core: &mut Core, id: u64, want: &[u8], other: &[u8]) -> bool {
     right
 }
 
-// A session makes a self-join and watches it.
+/// A session makes a self-join and watches it.
 fn watch_self_join<L: Ledgers>(core: &mut Core, steps: &mut Steps<L>, id: u64) -> bool {
     say(
         core,
@@ -357,8 +357,8 @@ fn watch_self_join<L: Ledgers>(core: &mut Core, steps: &mut Steps<L>, id: u64) -
     is_told(core, id, b"ok\nok query 7\nok watch 0\n")
 }
 
-// The delta of a self-join is told to the session that changes, before its reply, and to another.
-// Lines of one delta come in any order.
+/// The delta of a self-join is told to the session that changes, before its reply, and to another.
+/// Lines of one delta come in any order.
 fn tells_a_self_join<L: Ledgers>(rt: &HostRuntime, blanks: Blanks) -> Result<bool, NoMem>
     requires listing { blanks.listing.name ≡ L.listing }
     requires update { blanks.update.name ≡ L.update }
@@ -389,7 +389,7 @@ fn a_self_join_is_told(rt: HostRuntime) -> Result<(), NoMem> {
     Ok(())
 }
 
-// A row that goes takes two answers of a self-join with it.
+/// A row that goes takes two answers of a self-join with it.
 fn tells_what_goes<L: Ledgers>(rt: &HostRuntime, blanks: Blanks) -> Result<bool, NoMem>
     requires listing { blanks.listing.name ≡ L.listing }
     requires update { blanks.update.name ≡ L.update }
@@ -417,12 +417,12 @@ fn what_goes_is_told(rt: HostRuntime) -> Result<(), NoMem> {
     Ok(())
 }
 
-// Opens sessions 1, 2 and 3.
+/// Opens sessions 1, 2 and 3.
 fn open_three(core: &mut Core) -> bool {
     open(core, 1) && open(core, 2) && open(core, 3)
 }
 
-// Session 1 makes two queries of one relation, and watches the second first.
+/// Session 1 makes two queries of one relation, and watches the second first.
 fn watch_two<L: Ledgers>(core: &mut Core, steps: &mut Steps<L>) -> bool {
     say(
         core,
@@ -437,8 +437,8 @@ fn watch_two<L: Ledgers>(core: &mut Core, steps: &mut Steps<L>) -> bool {
     )
 }
 
-// Two queries of one relation are told in order of registration, to the two that watch, and the
-// third session is told nothing; where no answer came or went `at` is told alone.
+/// Two queries of one relation are told in order of registration, to the two that watch, and the
+/// third session is told nothing; where no answer came or went `at` is told alone.
 fn tells_in_order<L: Ledgers>(rt: &HostRuntime, blanks: Blanks) -> Result<bool, NoMem>
     requires listing { blanks.listing.name ≡ L.listing }
     requires update { blanks.update.name ≡ L.update }
@@ -469,7 +469,7 @@ fn two_queries_are_told_in_order(rt: HostRuntime) -> Result<(), NoMem> {
     Ok(())
 }
 
-// A row that isn't there, a refused line, and a change of another relation tell nothing.
+/// A row that isn't there, a refused line, and a change of another relation tell nothing.
 fn tells_changes_alone<L: Ledgers>(rt: &HostRuntime, blanks: Blanks) -> Result<bool, NoMem>
     requires listing { blanks.listing.name ≡ L.listing }
     requires update { blanks.update.name ≡ L.update }
@@ -499,14 +499,14 @@ fn changes_alone_are_told(rt: HostRuntime) -> Result<(), NoMem> {
     Ok(())
 }
 
-// Session 1 makes a query and watches it.
+/// Session 1 makes a query and watches it.
 fn watch_rows<L: Ledgers>(core: &mut Core, steps: &mut Steps<L>) -> bool {
     say(core, steps, 1, b"rel r int\nquery q(x) <- r(x)\nwatch q\n");
     is_told(core, 1, b"ok\nok query 3\nok watch 0\n")
 }
 
-// A first copy of a row comes and a last one goes: both are told, and make a cursor stale. Further
-// copies that come and go between them aren't, and the cursor goes on.
+/// A first copy of a row comes and a last one goes: both are told, and make a cursor stale. Further
+/// copies that come and go between them aren't, and the cursor goes on.
 fn tells_first_and_last<L: Ledgers>(rt: &HostRuntime, blanks: Blanks) -> Result<bool, NoMem>
     requires listing { blanks.listing.name ≡ L.listing }
     requires update { blanks.update.name ≡ L.update }
@@ -539,7 +539,7 @@ fn first_and_last_copies_are_told(rt: HostRuntime) -> Result<(), NoMem> {
     Ok(())
 }
 
-// Session 1 makes a query, watches it twice, and watches one that isn't there.
+/// Session 1 makes a query, watches it twice, and watches one that isn't there.
 fn watch_twice<L: Ledgers>(core: &mut Core, steps: &mut Steps<L>) -> bool {
     say(
         core,
@@ -554,7 +554,7 @@ fn watch_twice<L: Ledgers>(core: &mut Core, steps: &mut Steps<L>) -> bool {
     )
 }
 
-// A query that is watched isn't dropped; one that was watched twice is given up by one `unwatch`.
+/// A query that is watched isn't dropped; one that was watched twice is given up by one `unwatch`.
 fn ends_a_watch<L: Ledgers>(rt: &HostRuntime, blanks: Blanks) -> Result<bool, NoMem>
     requires listing { blanks.listing.name ≡ L.listing }
     requires update { blanks.update.name ≡ L.update }
@@ -585,7 +585,7 @@ fn a_watch_ends(rt: HostRuntime) -> Result<(), NoMem> {
     Ok(())
 }
 
-// A session that ends, and one that is closed, watch no more: the query can be dropped.
+/// A session that ends, and one that is closed, watch no more: the query can be dropped.
 fn ends_by_leaving<L: Ledgers>(rt: &HostRuntime, blanks: Blanks) -> Result<bool, NoMem>
     requires listing { blanks.listing.name ≡ L.listing }
     requires update { blanks.update.name ≡ L.update }
@@ -609,8 +609,8 @@ fn who_leaves_watches_no_more(rt: HostRuntime) -> Result<(), NoMem> {
     Ok(())
 }
 
-// Session 1 makes ten texts of 64 bytes, and a query of four of them each: 10,000 answers, each of
-// 270 bytes as it is listed.
+/// Session 1 makes ten texts of 64 bytes, and a query of four of them each: 10,000 answers, each of
+/// 270 bytes as it is listed.
 fn add_texts<L: Ledgers>(core: &mut Core, steps: &mut Steps<L>) {
     say(core, steps, 1, b"rel b text\n");
     say(
@@ -626,14 +626,14 @@ fn add_texts<L: Ledgers>(core: &mut Core, steps: &mut Steps<L>) {
     }
 }
 
-// A session lists 4,000 of these answers, and takes none: above a MiB is pending.
+/// A session lists 4,000 of these answers, and takes none: above a MiB is pending.
 fn list_texts<L: Ledgers>(core: &mut Core, steps: &mut Steps<L>, id: u64) -> bool {
     say(core, steps, id, b"open c p\nnext c 1000\nnext c 1000\n");
     say(core, steps, id, b"next c 1000\nnext c 1000\n");
     is_open(core, id) && core.pending(id).len() > 4 * 270_000
 }
 
-// Whether a session ended as slow, which it was told last.
+/// Whether a session ended as slow, which it was told last.
 fn is_slow(core: &Core, id: u64) -> bool {
     if !is_open(core, id) {
         return false;
@@ -645,13 +645,13 @@ fn is_slow(core: &Core, id: u64) -> bool {
     slow && core.pending(id).ends_with(b"more\nend slow\n")
 }
 
-// Whether a session that is open is told this last.
+/// Whether a session that is open is told this last.
 fn is_told_last(core: &Core, id: u64, want: &[u8]) -> bool {
     is_open(core, id) && core.pending(id).ends_with(want)
 }
 
-// Of three sessions that watch, one has too much pending: it ends with `end slow`, told nothing of
-// the delta, and the two others are told.
+/// Of three sessions that watch, one has too much pending: it ends with `end slow`, told nothing of
+/// the delta, and the two others are told.
 fn ends_the_slow<L: Ledgers>(rt: &HostRuntime, blanks: Blanks) -> Result<bool, NoMem>
     requires listing { blanks.listing.name ≡ L.listing }
     requires update { blanks.update.name ≡ L.update }

@@ -1,3 +1,4 @@
+-- Finitely many choices of rows are to be tried, and what only comparisons bind takes a value that passes.
 use Rattle.djq_deltas.proofs.Deciding.{answers_are_decided}
 use Rattle.djq_deltas.proofs.answers_are_decided.Goals as goal
 

@@ -1,3 +1,4 @@
+-- An assignment that finds its rows finds them among more rows too, and added rows are more, deleted fewer.
 use Rattle.djq_deltas.proofs.Growing.{answer_stays, answers_come, answers_go, row_comes, rows_come, row_goes}
 use Rattle.djq_deltas.proofs.answers_follow_rows.Goals as goal
 

@@ -1,3 +1,4 @@
+-- A relation that isn't touched is found as before, so a query that reads no other has the same answers.
 use Rattle.djq_deltas.proofs.Growing.{answers_rest, one_spares, batch_spares}
 use Rattle.djq_deltas.proofs.answers_rest.Goals as goal
 

@@ -1,3 +1,4 @@
+-- Where a batch is open, `abandon` is never refused and leaves the rows as they were before the batch.
 use Rattle.djq_kept.proofs.Reloading.{abandon_runs, abandoned_are_loaded}
 use Rattle.djq_kept.proofs.abandoned_are_loaded.Goals as goal
 

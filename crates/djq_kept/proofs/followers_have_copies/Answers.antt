@@ -1,3 +1,4 @@
+-- A store that follows another has the same relations by name, with the same rows, each with its copies.
 use Rattle.djq_kept.proofs.Sameness.{followers_have_copies}
 use Rattle.djq_kept.proofs.followers_have_copies.Goals as goal
 

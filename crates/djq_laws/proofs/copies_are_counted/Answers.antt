@@ -1,3 +1,4 @@
+-- A relation has a row at most once, and `add`, `del` and each held row change the copies of their row alone.
 use Rattle.djq_laws.proofs.Counting.{rows_have_copies, adds_copy, takes_copy}
 use Rattle.djq_laws.proofs.Tallying.{adds_held}
 use Rattle.djq_laws.proofs.copies_are_counted.Goals as goal

@@ -1,3 +1,4 @@
+-- By induction over the steps: a page that is told comes behind those before, and names keep cursors apart.
 use Rattle.djq_laws.proofs.Listing.{given_is_told, listed_is_told}
 use Rattle.djq_laws.proofs.given_is_told.Goals as goal
 

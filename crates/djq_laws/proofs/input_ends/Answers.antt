@@ -1,3 +1,4 @@
+-- The session that the event is of is there, and has a cause already or gets that of its input's end.
 use Rattle.djq_laws.proofs.Moving.{ended_facts}
 use Rattle.djq_laws.proofs.input_ends.Goals as goal
 

@@ -1,3 +1,4 @@
+-- Sessions that open have greater ids than all before, so nothing more is taken of one that was closed.
 use Rattle.djq_laws.proofs.Dropping.{sent_in_order}
 use Rattle.djq_laws.proofs.sent_in_order.Goals as goal
 

@@ -1,3 +1,4 @@
+-- Each event keeps the store, the sessions and their limits sound, command by command; a run is such steps.
 use Rattle.djq_laws.proofs.Sounding.{runs_keep_sound, opening_is_start, states_are_sound}
 use Rattle.djq_laws.proofs.states_are_sound.Goals as goal
 

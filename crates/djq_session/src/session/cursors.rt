@@ -8,7 +8,7 @@ use super::Session;
 use crate::named::NamedCursor;
 use djq_model::{Name, NoMem};
 
-// Where the cursor of a name stands.
+/// Where the cursor of a name stands.
 fn place_of<C>(cursors: &[NamedCursor<C>], name: &Name) -> Option<usize>
     ensures { result ≡ position (is_named name.now) cursors.now }
 {

@@ -47,7 +47,7 @@ impl<C: Copy, Q: Copy + PartialEq> Session<C, Q> {
         }
     }
 
-    // Gives a large buffer back. It stands apart so that each command's way is free of it.
+    /// Gives a large buffer back. It stands apart so that each command's way is free of it.
     #[cold]
     #[inline(never)]
     fn let_go(&mut self)

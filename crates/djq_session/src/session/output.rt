@@ -62,8 +62,8 @@ impl<C: Copy, Q: Copy + PartialEq> Session<C, Q> {
         }
     }
 
-    // Gives a large buffer back, where there is memory for a small one. It stands apart so that each
-    // command's way is free of it.
+    /// Gives a large buffer back, where there is memory for a small one. It stands apart so that each
+    /// command's way is free of it.
     #[cold]
     #[inline(never)]
     fn shrink(&mut self)

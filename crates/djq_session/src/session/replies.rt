@@ -1,4 +1,4 @@
-// What a session is answered. Short replies stand in the room that `keep` made before the command.
+//! What a session is answered. Short replies stand in the room that `keep` made before the command.
 ghost use Rattle.std.specs.Prelude.{◌+◌, ◌≤◌, ◌++◌, codes};
 ghost use Rattle.djq_lines.specs.Reply.{add_reply, answer_line};
 ghost use Rattle.djq_lines.specs.Reply.{delete_reply, done_reply, has_reply, held_reply, last_line};

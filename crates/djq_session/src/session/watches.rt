@@ -6,14 +6,14 @@ ghost use Rattle.djq_session.specs.Dialog.{PopsWatch};
 use super::Session;
 use djq_model::NoMem;
 
-// Where a query stands among those that are watched.
+/// Where a query stands among those that are watched.
 fn place_of<Q: Copy + PartialEq>(watches: &[Q], query: Q) -> Option<usize>
     ensures { result ≡ position (λ q. Q.eq q query) watches.now }
 {
     watches.iter().position(|watched| *watched == query)
 }
 
-// The same, where one place, which may be past the last, is looked at first.
+/// The same, where one place, which may be past the last, is looked at first.
 fn place_near<Q: Copy + PartialEq>(watches: &[Q], query: Q, near: usize) -> Option<usize>
     ensures watched { is_some result ≡ list_any (λ q. Q.eq q query) watches.now }
     ensures place { IfSome result

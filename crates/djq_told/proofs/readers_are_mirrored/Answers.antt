@@ -1,3 +1,4 @@
+-- By induction over the steps: what a session is told leaves its mirror with what its cursor gave.
 use Rattle.djq_told.proofs.Holding.{mirrored_are_held}
 use Rattle.djq_told.proofs.Mirrored.{watchers_are_mirrored}
 use Rattle.djq_told.proofs.Waiting.{readers_are_mirrored, starts_are_mirrored, ends_are_mirrored, readers_are_read_back}

@@ -1,3 +1,4 @@
+-- Names and values come into a state by lines alone, and a line says none that is past its limits.
 use Rattle.djq_told.proofs.Loaded.{loaded_are_sayable}
 use Rattle.djq_told.proofs.Sayable.{runs_keep_sayable, opening_is_sayable, states_are_sayable}
 use Rattle.djq_told.proofs.states_are_sayable.Goals as goal

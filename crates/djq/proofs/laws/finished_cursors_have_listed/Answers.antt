@@ -1,3 +1,4 @@
+-- What a finished cursor gave is a listing: the headline says of each open cursor what it has given.
 use Rattle.djq.proofs.Finishing.{finished_cursors}
 use Rattle.djq.proofs.laws.finished_cursors_have_listed.Goals as goal
 

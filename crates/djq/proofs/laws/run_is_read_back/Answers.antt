@@ -1,3 +1,4 @@
+-- The opening state is sayable, and what a course from a sayable state sends is read back by a mirror.
 use Rattle.djq.proofs.MirroringBack.{run_is_read_back, run_moments_are_read_back}
 use Rattle.djq.proofs.laws.run_is_read_back.Goals as goal
 

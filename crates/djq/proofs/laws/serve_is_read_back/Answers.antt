@@ -1,3 +1,4 @@
+-- The state that a log's lines give is sayable, and what is served from there is read back by a mirror.
 use Rattle.djq.proofs.MirroringBack.{serve_is_read_back, serve_moments_are_read_back}
 use Rattle.djq.proofs.laws.serve_is_read_back.Goals as goal
 

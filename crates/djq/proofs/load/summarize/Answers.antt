@@ -1,3 +1,4 @@
+-- A new machine stands in the opening state; out of memory the load ran out from there, or nothing was run.
 use Rattle.std.proofs.Common.{refl, subst, inl}
 use Rattle.djq_machine.specs.State.{State, opening}
 use Rattle.djq_machine.specs.Call.{counts}

@@ -1,3 +1,4 @@
+-- Where a batch is open, `abandon` ends it, and what the append did to the journal says how it is kept.
 use Rattle.std.proofs.Common.{rules}
 use Rattle.std.specs.Prelude.{IsSome}
 use Rattle.djq_core.specs.Views.{loading_in}

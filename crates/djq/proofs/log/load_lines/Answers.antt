@@ -1,3 +1,4 @@
+-- A line that is read and run is one more of the lines found; reading changes nothing of the disk.
 use Rattle.std.proofs.Common.{◌≡◌, ◌∙◌, ℕ, List, [], ◌∷◌, ◌++◌, take, refl, sym, ap, subst, inl, inr, arith, Option}
 use Rattle.std.specs.Prelude.{IfSome}
 use Rattle.djq_io.specs.Faults.{Counted}

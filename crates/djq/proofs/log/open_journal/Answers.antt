@@ -1,3 +1,4 @@
+-- The file was opened or made without a fault, and the journal in it stands at its first gate.
 use Rattle.std.proofs.Common.{◌∙◌}
 use Rattle.djq.proofs.Opening.{ready_opened, ready_first}
 use Rattle.djq.proofs.log.open_journal.Goals as goal

@@ -1,3 +1,4 @@
+-- Without a path nothing is loaded; with one, its lines are loaded before the batch they leave open is ended.
 use Rattle.std.proofs.Common.{[], Bor, refl, sym, ap, subst}
 use Rattle.std.specs.Prelude.{Option, Ok, Err}
 use Rattle.djq_model.specs.Data.{Bytes}

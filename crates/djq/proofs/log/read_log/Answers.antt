@@ -1,3 +1,4 @@
+-- What opening the journal did and what loading its lines did come together to what reading the log does.
 use Rattle.djq_machine.specs.Call.{counts}
 use Rattle.djq_core.specs.Views.{loading_in}
 use Rattle.djq.specs.Logged.{disk_seen, log_at}

@@ -1,3 +1,4 @@
+-- What was read of the words is what they ask for, case by case, and a mirror's query is a name.
 use Rattle.std.proofs.Common.{ℕ, List, Bor, Option, ◌∙◌, map, ap, inl, refl, Some, None}
 use Rattle.djq_words.specs.declared.commands.Asked.{Asked}
 use Rattle.djq_words.specs.declared.commands.Asked.TheVariants.{Run, Serve, Replay, Gen, Mirror}

@@ -1,3 +1,4 @@
+-- The lines found make a state without sessions, and what is loaded and kept lasts while the hub is served.
 use Rattle.std.proofs.Common.{◌∙◌, ap, inl, inr, refl, arith}
 use Rattle.djq_io.specs.Hub.{Ids}
 use Rattle.djq_machine.specs.State.{State}

@@ -1,3 +1,4 @@
+-- The turns that the hub was made with are those of the schedule's bytes.
 use Rattle.std.proofs.Common.{List, ℕ, sym, subst}
 use Rattle.std.specs.Prelude.{Result, MatchResult}
 use Rattle.djq_io.specs.declared.hub.Coming.{Coming}

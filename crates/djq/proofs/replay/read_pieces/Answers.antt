@@ -1,3 +1,4 @@
+-- Each piece that is read is put behind the others, so the bytes are all that the source gave until then.
 use Rattle.std.proofs.Common.{ℕ, List, ◌≡◌, ◌++◌, ◌∙◌, refl, sym, ap, subst, length, take}
 use Rattle.std.proofs.Common.{length-append, length-take, arith, rules}
 use Rattle.djq_io.specs.Faults.{Counted}

@@ -1,3 +1,4 @@
+-- The bytes that are replayed are those that were read to the end of the source.
 use Rattle.std.proofs.Common.{ℕ, List, sym, subst, inl}
 use Rattle.djq.specs.Replay.{ReadsWhole}
 use Rattle.djq.proofs.replay.replay.Goals as goal

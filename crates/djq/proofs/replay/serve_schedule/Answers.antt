@@ -1,3 +1,4 @@
+-- A schedule's hub never fails and has at most a turn for each line, so one turn more finds it over.
 use Rattle.std.proofs.Common.{ℕ, ◌+◌, ap, inl}
 use Rattle.std.specs.Prelude.{Ok}
 use Rattle.djq_machine.specs.State.{State}

@@ -1,3 +1,4 @@
+-- The slot stands in what is ahead of the walk, so the walk neither ends before it nor outlasts the links.
 use Rattle.std.proofs.Common.{sym, subst, Option, ℕ, ◌+◌, arith}
 use Rattle.djq_arena.proofs.Following.{Searching, searching, search_on, search_within, searched}
 use Rattle.djq_arena.proofs.Following.{search_further, search_over}

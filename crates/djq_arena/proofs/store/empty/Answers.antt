@@ -1,3 +1,4 @@
+-- Without slots and with empty buckets the store is sound: its rows and its free slots are empty lists.
 use Rattle.std.proofs.Common.{refl, Option, ap, ap₂, ℕ, arith, List, length, []}
 use Rattle.djq_arena.specs.declared.chain.Pair.{Pair}
 use Rattle.djq_arena.proofs.Storing.{sound}

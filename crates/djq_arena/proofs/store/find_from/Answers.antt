@@ -1,3 +1,4 @@
+-- By the walk's invariant, held slots that aren't ahead have other cells; what is ahead gets shorter.
 use Rattle.std.proofs.Common.{◌<◌, sym, subst, length, Option, ℕ, rules}
 use Rattle.djq_arena.proofs.Seeking.{Seeking, seeking, over, stop, stop_within, found, onward, nearer}
 use Rattle.djq_arena.proofs.Seeking.{class_inside}

@@ -1,3 +1,4 @@
+-- A loose slot is in neither chain, so it can come last in the order and first in its bucket.
 use Rattle.std.proofs.Common.{refl}
 use Rattle.djq_arena.specs.Store.{cells_at}
 use Rattle.djq_arena.proofs.Storing.{last_in_order, links}

@@ -1,3 +1,4 @@
+-- By the loop, the slots below the index are in their buckets; each slot's cells end within the array.
 use Rattle.std.proofs.Common.{refl, arith, ◌∙◌, ap, List, ℕ, length, length-set}
 use Rattle.djq_arena.specs.Store.{class}
 use Rattle.djq_arena.proofs.Filling.{row_fits}

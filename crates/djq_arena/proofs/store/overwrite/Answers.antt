@@ -1,3 +1,4 @@
+-- With two cells, each place of the list holds the first, the second or what was there: place by place.
 use Rattle.std.proofs.Common.{◌+◌, arith, rules, get_or-set_same, get_or-set_other, length-set}
 use Rattle.std.proofs.lemmas.Bool.{cases_eq}
 use Rattle.std.proofs.lemmas.List.{places, same_lists}

@@ -1,3 +1,4 @@
+-- With no first free slot none is spare, by the invariant, so each holds a row; a first one is below the room.
 use Rattle.std.proofs.Common.{refl, sym, arith}
 use Rattle.std.proofs.lemmas.Result.{IfOk-weaker}
 use Rattle.djq_arena.proofs.Filling.{newest_free, none_free, on_err, stays}

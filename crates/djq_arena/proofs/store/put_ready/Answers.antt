@@ -1,3 +1,4 @@
+-- Up to the writing nothing has changed; a slot that is prepared and then linked is a row put in.
 use Rattle.std.proofs.Common.{refl}
 use Rattle.djq_arena.proofs.Filling.{stays}
 use Rattle.djq_arena.proofs.RowLemmas.{puts}

@@ -1,3 +1,4 @@
+-- A held slot and its neighbours are within the arrays; without it the others stay chained, and it comes last.
 use Rattle.std.proofs.Common.{refl, sym, ◌∙◌, subst, length, ap, ap₂, List, arith}
 use Rattle.djq_arena.specs.declared.chain.Pair.{Pair}
 use Rattle.djq_arena.specs.declared.chain.Ends.{Ends}

@@ -1,3 +1,4 @@
+-- A held slot stands in the bucket of its cells, and its neighbours in the order are within the arrays.
 use Rattle.std.proofs.Common.{refl, sym, ◌∙◌, subst, length, ap}
 use Rattle.djq_arena.specs.declared.chain.Pair.{Pair}
 use Rattle.djq_arena.specs.Chains.{IsWithin, left}

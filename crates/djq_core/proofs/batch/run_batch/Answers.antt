@@ -1,3 +1,4 @@
+-- Opening a batch changes the session's batch and bytes alone, so it is a step among any other sessions.
 use Rattle.djq_core.proofs.Batching.{does_batch}
 use Rattle.djq_core.proofs.batch.run_batch.Goals as goal
 

@@ -1,3 +1,4 @@
+-- The rows that are lent are those that the session held, so they suit the store and are few enough.
 use Rattle.std.proofs.Common.{◌≡◌, ◌≤◌, List, length, ◌∙◌, sym, ap, subst, refl}
 use Rattle.djq_lines.specs.declared.held.HeldRow.{HeldRow}
 use Rattle.djq_lines.specs.declared.limits.TheConstants.{HELD}

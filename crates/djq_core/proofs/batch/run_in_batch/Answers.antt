@@ -1,3 +1,4 @@
+-- What was read is the front of the session's bytes; what is done behind a line so taken is in Holding.
 use Rattle.std.proofs.Common.{true, false, subst, take, drop, refl, arith}
 use Rattle.djq_model.specs.Data.{Bytes}
 use Rattle.djq_lines.specs.declared.command.Command.TheVariants.{Abandon, Quit, Stop}

@@ -1,3 +1,4 @@
+-- Before each turn the text has the lines of the members so far; at the count it has those of all.
 use Rattle.djq_model.specs.Listed.{listed_of}
 use Rattle.djq_core.proofs.Explaining.{puts_more, puts_last}
 use Rattle.djq_core.proofs.commands.put_members.Goals as goal

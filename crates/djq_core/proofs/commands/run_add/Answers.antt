@@ -1,3 +1,4 @@
+-- What an addition leaves is put together from what the store promises of it and from the store's laws.
 use Rattle.std.proofs.Common.{refl}
 use Rattle.djq_core.proofs.commands.run_add.Goals as goal
 

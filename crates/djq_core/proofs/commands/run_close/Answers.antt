@@ -1,3 +1,4 @@
+-- All cursors of a session are held by the engine, so the one of this name is; or no cursor has the name.
 use Rattle.std.proofs.Common.{sym, subst}
 use Rattle.djq_engine.specs.declared.cursor.CursorId.{CursorId}
 use Rattle.djq_engine.specs.Kept.{IsHeld, ClosesCursor}

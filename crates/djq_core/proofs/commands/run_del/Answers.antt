@@ -1,3 +1,4 @@
+-- What a removal leaves is put together from what the store promises of it and from the store's laws.
 use Rattle.std.proofs.Common.{refl}
 use Rattle.djq_core.proofs.commands.run_del.Goals as goal
 

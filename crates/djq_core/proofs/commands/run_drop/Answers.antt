@@ -1,3 +1,4 @@
+-- What is dropped was in no use, so the cursors and watches of every session are as sound as before.
 use Rattle.std.proofs.Common.{◌∙◌, Bool, false, sym, subst}
 use Rattle.djq_lines.specs.declared.command.Command.TheVariants.{Drop}
 use Rattle.djq_core.specs.Performs.{ExecutesKeeping}

@@ -1,3 +1,4 @@
+-- What the store gave decides which reply the machine has: all lines, a cut for want of memory, a refusal.
 use Rattle.std.proofs.Common.{Err, sym, subst}
 use Rattle.djq_lines.specs.declared.answer.Refusal.{Refusal}
 use Rattle.djq_store.specs.Explaining.{ExplainGives}

@@ -1,3 +1,4 @@
+-- A cursor comes to this session alone; the cursors of all others are held as they were, by Naming.
 use Rattle.djq_core.proofs.Naming.{does_open}
 use Rattle.djq_core.proofs.commands.run_open.Goals as goal
 

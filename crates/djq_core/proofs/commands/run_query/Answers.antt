@@ -1,3 +1,4 @@
+-- No two queries share a name, so the watches stay counted when one comes, whether it is told or cut off.
 use Rattle.std.proofs.Common.{Bool, false, sym, subst}
 use Rattle.djq_lines.specs.declared.command.Command.TheVariants.{Query as Register}
 use Rattle.djq_lines.specs.Reply.{query_reply}

@@ -1,3 +1,4 @@
+-- A session that gave up its cursors and watches may end among any others, with `bye` behind its bytes.
 use Rattle.std.proofs.Common.{Some, refl}
 use Rattle.djq_lines.specs.Reply.{bye}
 use Rattle.djq_lines.specs.declared.answer.EndCause.TheVariants.{Quit}

@@ -1,3 +1,4 @@
+-- A line is kept just where its command is done, and a new relation leaves all cursors and watches alone.
 use Rattle.std.proofs.Common.{◌∙◌, Bool, false, sym, subst}
 use Rattle.djq_lines.specs.declared.command.Command.TheVariants.{Rel}
 use Rattle.djq_core.specs.Performs.{ExecutesKeeping}

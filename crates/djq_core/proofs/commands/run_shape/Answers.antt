@@ -1,3 +1,4 @@
+-- A reply changes the session's bytes alone, so it is a step of the machine among any other sessions.
 use Rattle.djq_core.proofs.Replying.{does_shape}
 use Rattle.djq_core.proofs.commands.run_shape.Goals as goal
 

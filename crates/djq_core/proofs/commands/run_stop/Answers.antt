@@ -1,3 +1,4 @@
+-- A session that gave up all may end among any others with `bye`, and the machine is stopped by that.
 use Rattle.std.proofs.Common.{Some, refl}
 use Rattle.djq_lines.specs.Reply.{bye}
 use Rattle.djq_lines.specs.declared.answer.EndCause.TheVariants.{Stop}

@@ -1,3 +1,4 @@
+-- No two names are the same, so the watches stay counted when a union comes; its members are those lent.
 use Rattle.std.proofs.Common.{◌∙◌, Bool, List, false, sym, subst}
 use Rattle.djq_model.specs.Data.{Bytes}
 use Rattle.djq_lines.specs.declared.command.Command.TheVariants.{Union}

@@ -1,3 +1,4 @@
+-- A session that gave up its cursors and watches may end among any others, with that line queued.
 use Rattle.std.proofs.Common.{Some, refl, ap, ◌∙◌}
 use Rattle.djq_lines.specs.Reply.{end_line}
 use Rattle.djq_core.specs.Views.{Talk}

@@ -1,3 +1,4 @@
+-- Giving up leaves the held bytes as they are, and whether there are any decides on the last line.
 use Rattle.std.proofs.Common.{None, Some, sym, ap, ◌∙◌, refl, eqb, length, subst, true, false, ◌≡◌}
 use Rattle.djq_model.specs.Data.{Bytes}
 use Rattle.djq_lines.specs.Reply.{input_cut}

@@ -1,3 +1,4 @@
+-- Giving up cursors leaves watches and queries alone, so they are counted as before; the two then join.
 use Rattle.std.proofs.Common.{ap}
 use Rattle.djq_core.specs.Views.{Talk}
 use Rattle.djq_core.proofs.GivingUp.{both_given_up, both_kept_told}

@@ -1,3 +1,4 @@
+-- Those popped so far are closed and the rest are still held, so the next one popped is held, by GivingUp.
 use Rattle.djq_core.proofs.GivingUp.{giving_starts, popped_held, giving_goes_on}
 use Rattle.djq_core.proofs.ending.give_up_cursors.Goals as goal
 

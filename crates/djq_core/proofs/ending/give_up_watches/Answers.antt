@@ -1,3 +1,4 @@
+-- A session's watches are counted, so each name popped is a query's that has a watcher, by Unwatching.
 use Rattle.djq_core.proofs.Unwatching.{watches_start, popped_watched, watches_go_on, never_unknown, watches_given_up}
 use Rattle.djq_core.proofs.ending.give_up_watches.Goals as goal
 

@@ -1,3 +1,4 @@
+-- Of `batch`, the rows' lines and `done`, a line at an index in between is the row's at one index less.
 use Rattle.std.proofs.Common.{◌-◌, ◌∙◌, Some, ap, codes, length, sym}
 use Rattle.std.proofs.lemmas.Bool.{false≢true, lt-ltb, ltb-true}
 use Rattle.djq_model.specs.Data.{Bytes}

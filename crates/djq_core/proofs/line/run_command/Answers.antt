@@ -1,3 +1,4 @@
+-- Of these commands only those that change relations, queries or unions are kept; all others leave no line.
 use Rattle.std.proofs.Common.{false, true, refl, sym, subst, arith}
 use Rattle.djq_lines.specs.declared.command.Command.{Command}
 use Rattle.djq_lines.specs.declared.command.Command.TheVariants.{Open, Next, Close, Has, Watch}

@@ -1,3 +1,4 @@
+-- The line in front says the row that was read, of a name of 32 bytes at most; no open batch can misplace it.
 use Rattle.std.proofs.Common.{◌≡◌, ◌∙◌, ap, subst, take, drop, false, Ok, Err}
 use Rattle.djq_model.specs.Data.{Bytes, Tuple}
 use Rattle.djq_lines.specs.Reply.{refusal_line}

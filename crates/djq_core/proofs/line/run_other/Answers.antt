@@ -1,3 +1,4 @@
+-- Only `done` and `abandon` need an open batch, and a line that begins with no row's word isn't on a row.
 use Rattle.std.proofs.Common.{◌∙◌, List, Option, ap, sym, subst, take, drop, false, Ok, Err}
 use Rattle.djq_model.specs.Data.{Bytes}
 use Rattle.djq_lines.specs.Reply.{refusal_line}

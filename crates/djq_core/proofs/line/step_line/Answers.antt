@@ -1,3 +1,4 @@
+-- A blank line is dropped, too much pending or no memory ends the session, and other lines are run, in turn.
 use Rattle.std.proofs.Common.{◌≡◌, ◌<◌, ◌≤◌, Bool, sym, ap, subst, take, drop, length, true, false}
 use Rattle.djq_model.specs.Data.{Bytes}
 use Rattle.djq_lines.specs.declared.limits.TheConstants.{PENDING_BYTES}

@@ -1,3 +1,4 @@
+-- Cause and front decide what step the machine has, and a line in front is of 4,096 bytes at most.
 use Rattle.std.proofs.Common.{◌≤◌, ◌∙◌, length, take, drop, sym, ap, subst}
 use Rattle.djq_model.specs.Data.{Bytes}
 use Rattle.djq_lines.specs.declared.limits.TheConstants.{LINE_BYTES}

@@ -1,3 +1,4 @@
+-- At each turn so many answers are told, each once, of a cursor that is held still, as Telling keeps it.
 use Rattle.std.proofs.Common.{arith, sym}
 use Rattle.djq_lines.specs.Reply.{answer_line}
 use Rattle.djq_core.proofs.Telling.{starts, is_held_still, is_there, goes_on, is_cut, is_ended}

@@ -1,3 +1,4 @@
+-- The cursor of the name is the session's own, so the engine holds it, and still does where the reply is cut.
 use Rattle.std.proofs.Common.{[], ◌∷◌, sym, subst}
 use Rattle.djq_engine.specs.declared.cursor.CursorId.{CursorId}
 use Rattle.djq_session.specs.Dialog.{named}

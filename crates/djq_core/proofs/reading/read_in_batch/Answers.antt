@@ -1,3 +1,4 @@
+-- A line that gives a row says an `add` with a name of 32 bytes at most, and a refused one is refused so.
 use Rattle.std.proofs.Common.{Some, [], sym, subst}
 use Rattle.djq_lines.specs.Grammar.{reading_of}
 use Rattle.djq_lines.specs.declared.answer.Refusal.{Refusal}

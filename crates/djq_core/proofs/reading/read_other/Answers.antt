@@ -1,3 +1,4 @@
+-- A line with no row's word says no command on a row, and what else it says the machine has in a batch too.
 use Rattle.std.proofs.Common.{sym, subst, Some, []}
 use Rattle.djq_lines.specs.Grammar.{reading_of}
 use Rattle.djq_lines.specs.declared.answer.Refusal.{Refusal}

@@ -1,3 +1,4 @@
+-- Whether there was room for a reply decides what the machine answers; making more room changes no cursor.
 use Rattle.std.proofs.Common.{ℕ, ◌∙◌, sym, ap, subst, nat_le, ◌+◌, is_some, Option, false}
 use Rattle.djq_lines.specs.declared.answer.EndCause.{EndCause}
 use Rattle.djq_lines.specs.declared.limits.TheConstants.{REPLY_BYTES, LAST_LINE_BYTES}

@@ -1,3 +1,4 @@
+-- The text has the first lines of the delta, as many as were printed; at the count it has all of them.
 use Rattle.std.proofs.Common.{ℕ, ◌∙◌, sym, ap, ◌++◌}
 use Rattle.djq_lines.specs.Reply.{change_line, at_line}
 use Rattle.djq_engine.specs.Kept.{told_at}

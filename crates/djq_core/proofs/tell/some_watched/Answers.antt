@@ -1,3 +1,4 @@
+-- Each affected query before the index has no watchers; past the last index that is all of them.
 use Rattle.std.proofs.Common.{arith}
 use Rattle.djq_engine.specs.Kept.{IsRegistered}
 use Rattle.djq_core.proofs.Affecting.{at_place}

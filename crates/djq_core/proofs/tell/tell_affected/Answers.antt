@@ -1,3 +1,4 @@
+-- Telling one leaves the affected queries, their registration and the sessions' soundness as they were.
 use Rattle.std.proofs.Common.{ℕ, ◌∙◌, List, length, sym, ap, subst, arith, refl}
 use Rattle.std.specs.Prelude.{slice_get}
 use Rattle.djq_engine.specs.declared.cursor.QueryId.{QueryId}

@@ -1,3 +1,4 @@
+-- Accepted or not, the session that asked stands at its place still, sound, and SEQ is the same.
 use Rattle.std.proofs.Common.{ℕ, ◌≤◌, ◌∙◌, List, Option, sym, ap, subst, nat_le, ◌+◌, set, false}
 use Rattle.std.specs.Prelude.{IsSomeAnd}
 use Rattle.djq_lines.specs.declared.limits.TheConstants.{REPLY_BYTES, LAST_LINE_BYTES}

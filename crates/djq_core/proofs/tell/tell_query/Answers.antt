@@ -1,3 +1,4 @@
+-- All sessions before the index are told, by Spreading; the same session is read and changed at the index.
 use Rattle.std.proofs.Common.{ℕ, suc, ◌<◌, ◌∙◌, List, length, Option, false, sym, ap, subst, arith, refl}
 use Rattle.std.specs.Option.{is_some}
 use Rattle.djq_model.specs.Data.{Bytes}

@@ -1,3 +1,4 @@
+-- What is pending and whether the text is whole decide what the session hears; room alone changes no cursor.
 use Rattle.std.proofs.Common.{subst, sym, ◌≤◌, ◌<◌, length}
 use Rattle.djq_model.specs.Data.{Bytes}
 use Rattle.djq_lines.specs.declared.limits.TheConstants.{PENDING_BYTES}

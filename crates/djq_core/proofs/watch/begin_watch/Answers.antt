@@ -1,3 +1,4 @@
+-- The query of the name is registered, and fewer sessions than there may be watch it, since this one doesn't.
 use Rattle.std.proofs.Common.{sym}
 use Rattle.djq_core.proofs.Rewatching.{begins_none, begins_already, begins_full, begins_done}
 use Rattle.djq_core.proofs.Rewatching.{may_watch, is_registered, on_ok, on_err}

@@ -1,3 +1,4 @@
+-- A session that watches the query is counted among its watchers, so it has one; names are apart.
 use Rattle.std.proofs.Common.{sym}
 use Rattle.djq_core.proofs.Rewatching.{ceases_none, ceases_already, ceases_done, may_unwatch}
 use Rattle.djq_core.proofs.watch.cease_watch.Goals as goal

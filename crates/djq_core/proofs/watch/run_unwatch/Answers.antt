@@ -1,3 +1,4 @@
+-- The session goes on, so it may watch, and what is known around it holds with a watch less, by Rewatching.
 use Rattle.djq_core.proofs.Rewatching.{does_unwatch}
 use Rattle.djq_core.proofs.watch.run_unwatch.Goals as goal
 

@@ -8,7 +8,7 @@ use djq_model::NoMem;
 use djq_steps::{Blanks, Ledgers, Steps};
 use std::marker::Brand;
 
-// The rows of a batch go in at once, and are told as one change; one without rows changes nothing.
+/// The rows of a batch go in at once, and are told as one change; one without rows changes nothing.
 fn adds_at_once<L: Ledgers>(rt: &HostRuntime, blanks: Blanks) -> Result<bool, NoMem>
     requires listing { blanks.listing.name ≡ L.listing }
     requires update { blanks.update.name ≡ L.update }
@@ -48,8 +48,8 @@ fn a_batch_is_one_change(rt: HostRuntime) -> Result<(), NoMem> {
     Ok(())
 }
 
-// A row that doesn't suit a relation isn't held, what isn't for a batch is refused, also where a
-// literal is past its limit, and a batch that is abandoned leaves nothing.
+/// A row that doesn't suit a relation isn't held, what isn't for a batch is refused, also where a
+/// literal is past its limit, and a batch that is abandoned leaves nothing.
 fn refuses_in_a_batch<L: Ledgers>(rt: &HostRuntime, blanks: Blanks) -> Result<bool, NoMem>
     requires listing { blanks.listing.name ≡ L.listing }
     requires update { blanks.update.name ≡ L.update }
@@ -96,7 +96,7 @@ fn a_batch_takes_rows_alone(rt: HostRuntime) -> Result<(), NoMem> {
     Ok(())
 }
 
-// Whether the last step kept these three lines.
+/// Whether the last step kept these three lines.
 fn is_lent_batch(core: &Core, row: &[u8]) -> bool {
     let first = match core.accepted(0) {
         Some(line) => line == b"batch".as_slice(),
@@ -113,7 +113,7 @@ fn is_lent_batch(core: &Core, row: &[u8]) -> bool {
     first && second && third && core.accepted(3).is_none()
 }
 
-// The lines of a batch are kept where it is done, as they were said, and none of them before.
+/// The lines of a batch are kept where it is done, as they were said, and none of them before.
 fn keeps_a_batch<L: Ledgers>(rt: &HostRuntime, blanks: Blanks) -> Result<bool, NoMem>
     requires listing { blanks.listing.name ≡ L.listing }
     requires update { blanks.update.name ≡ L.update }

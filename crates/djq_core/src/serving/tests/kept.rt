@@ -8,7 +8,7 @@ use djq_model::{Name, NoMem};
 use djq_steps::{Blanks, Ledgers, Steps};
 use std::marker::Brand;
 
-// A session says one line, which is run.
+/// A session says one line, which is run.
 fn say_one<L: Ledgers>(core: &mut Core, steps: &mut Steps<L>, id: u64, line: &[u8]) {
     if is_open(core, id) {
         core.feed(id, line);
@@ -18,7 +18,7 @@ fn say_one<L: Ledgers>(core: &mut Core, steps: &mut Steps<L>, id: u64, line: &[u
     }
 }
 
-// Whether the last step kept this line alone.
+/// Whether the last step kept this line alone.
 fn is_lent(core: &Core, want: &[u8]) -> bool {
     let first = match core.accepted(0) {
         Some(line) => line == want,
@@ -27,20 +27,20 @@ fn is_lent(core: &Core, want: &[u8]) -> bool {
     first && core.accepted(1).is_none()
 }
 
-// Whether no session is open.
+/// Whether no session is open.
 fn is_idle(core: &Core) -> bool
     ensures { result ≡ true → core.now.state.sessions ≡ [] }
 {
     core.ids().is_empty()
 }
 
-// Whether a line, loaded, comes to this.
+/// Whether a line, loaded, comes to this.
 fn loads<L: Ledgers>(core: &mut Core, steps: &mut Steps<L>, line: &[u8], want: Loaded) -> bool {
     is_idle(core) && core.load(line, steps) == want
 }
 
-// A line that changes something is lent as it was said, without its end, until the next step; also
-// where it makes a further copy. One that changes nothing isn't.
+/// A line that changes something is lent as it was said, without its end, until the next step; also
+/// where it makes a further copy. One that changes nothing isn't.
 fn lends_what_is_kept<L: Ledgers>(rt: &HostRuntime, blanks: Blanks) -> Result<bool, NoMem>
     requires listing { blanks.listing.name ≡ L.listing }
     requires update { blanks.update.name ≡ L.update }
@@ -76,7 +76,7 @@ fn what_is_kept_is_lent(rt: HostRuntime) -> Result<(), NoMem> {
     Ok(())
 }
 
-// Whether lines that change something are loaded.
+/// Whether lines that change something are loaded.
 fn loads_kept<L: Ledgers>(core: &mut Core, steps: &mut Steps<L>) -> bool {
     loads(core, steps, b"rel r int text", Loaded::Ran)
         && loads(core, steps, b"add r 1 \"a\"", Loaded::Ran)
@@ -91,7 +91,7 @@ fn loads_kept<L: Ledgers>(core: &mut Core, steps: &mut Steps<L>) -> bool {
         && loads(core, steps, b"drop p", Loaded::Ran)
 }
 
-// Whether lines that change nothing behind these, and those of another kind, are refused.
+/// Whether lines that change nothing behind these, and those of another kind, are refused.
 fn refuses_others<L: Ledgers>(core: &mut Core, steps: &mut Steps<L>) -> bool {
     loads(core, steps, b"rel r int", Loaded::Refused)
         && loads(core, steps, b"add r 1", Loaded::Refused)
@@ -109,7 +109,7 @@ fn refuses_others<L: Ledgers>(core: &mut Core, steps: &mut Steps<L>) -> bool {
         )
 }
 
-// What lines that were loaded left is found by a session, and loading goes on behind it.
+/// What lines that were loaded left is found by a session, and loading goes on behind it.
 fn finds_what_is_loaded<L: Ledgers>(rt: &HostRuntime, blanks: Blanks) -> Result<bool, NoMem>
     requires listing { blanks.listing.name ≡ L.listing }
     requires update { blanks.update.name ≡ L.update }

@@ -6,7 +6,7 @@ use djq_model::NoMem;
 use djq_steps::{Blanks, Ledgers, Steps};
 use std::marker::Brand;
 
-// A session makes two relations, a query of each, and their union, and watches it.
+/// A session makes two relations, a query of each, and their union, and watches it.
 fn watch_union<L: Ledgers>(core: &mut Core, steps: &mut Steps<L>, id: u64) -> bool {
     say(
         core,
@@ -21,8 +21,8 @@ fn watch_union<L: Ledgers>(core: &mut Core, steps: &mut Steps<L>, id: u64) -> bo
     )
 }
 
-// What both queries have is told where the first of them gains it and where the last of them loses it, and is
-// listed once.
+/// What both queries have is told where the first of them gains it and where the last of them loses it, and is
+/// listed once.
 fn tells_a_union<L: Ledgers>(rt: &HostRuntime, blanks: Blanks) -> Result<bool, NoMem>
     requires listing { blanks.listing.name ≡ L.listing }
     requires update { blanks.update.name ≡ L.update }
@@ -56,7 +56,7 @@ fn a_union_is_told(rt: HostRuntime) -> Result<(), NoMem> {
     Ok(())
 }
 
-// A union is explained by its members and is asked as a query is; a line that makes none says why.
+/// A union is explained by its members and is asked as a query is; a line that makes none says why.
 fn judges_unions<L: Ledgers>(rt: &HostRuntime, blanks: Blanks) -> Result<bool, NoMem>
     requires listing { blanks.listing.name ≡ L.listing }
     requires update { blanks.update.name ≡ L.update }

@@ -1,3 +1,4 @@
+-- Without the leaf's marked tuples the reducts lack what is marked, so what is changed is what is gained.
 use Rattle.djq_cursor.proofs.Updates.{updated, less_of}
 use Rattle.djq_cursor.proofs.Telling.{gained_is}
 use Rattle.djq_cursor.proofs.delta.changes_are.Goals as goal

@@ -1,3 +1,4 @@
+-- A choice without a next tuple can be taken away, and those left give the same; one with it leaves an answer.
 use Rattle.std.proofs.Common.{◌≡◌, ◌-◌, List, length, ap, sym, subst, ◌∙◌, arith}
 use Rattle.std.specs.Prelude.{take}
 use Rattle.std.proofs.lemmas.List.{take_all}

@@ -1,3 +1,4 @@
+-- Where a listing may be entered no menu is empty, so at the start there is a first answer.
 use Rattle.djq_cursor.proofs.Remaining.{start_left}
 use Rattle.djq_cursor.proofs.left.is_left_by.Goals as goal
 

@@ -1,3 +1,4 @@
+-- A node of `out` has its label within the head, so its columns lie in the answer, and they are few.
 use Rattle.std.proofs.Common.{◌∙◌, List, ℕ, length, ap, ap₂, arith}
 use Rattle.djq_index.specs.Tuple.{pick}
 use Rattle.djq_tree.specs.Labels.{label_at}

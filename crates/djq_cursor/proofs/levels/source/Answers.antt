@@ -1,3 +1,4 @@
+-- A level is a trim, so its tuples are chosen from its child, which the tree has among its nodes.
 use Rattle.std.proofs.Common.{◌∙◌, ap, sym, subst, ℕ, ◌<◌, length}
 use Rattle.djq_cursor.specs.Levels.{child_of, source}
 use Rattle.djq_cursor.proofs.Outs.{source_within}

@@ -1,3 +1,4 @@
+-- The tuple at a live place is the chosen one; it is as wide as its node's label, which lies within the head.
 use Rattle.std.proofs.Common.{◌∙◌, List, ℕ, length, ap, sym}
 use Rattle.djq_tree.specs.Labels.{label_at}
 use Rattle.djq_cursor.specs.Levels.{source}

@@ -1,3 +1,4 @@
+-- What is still to be written from the index on makes the same answer as the whole; cells keep its width.
 use Rattle.std.proofs.Common.{◌∙◌, ◌+◌, List, ℕ, length, drop, slice_index_or, ap, sym, refl, arith}
 use Rattle.std.proofs.lemmas.List.{length-set}
 use Rattle.djq_index.proofs.Columns.{column_below}

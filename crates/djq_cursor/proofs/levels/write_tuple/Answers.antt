@@ -1,3 +1,4 @@
+-- Setting the first cell leaves the answer as long as it was, so the second column still lies in it.
 use Rattle.std.proofs.Common.{◌∙◌, List, ℕ, ◌<◌, length, slice_index_or, ap, sym, subst, rules}
 use Rattle.std.proofs.lemmas.List.{length-set}
 use Rattle.djq_cursor.proofs.Seeking.{second_below}

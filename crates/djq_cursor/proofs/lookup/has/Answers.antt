@@ -1,3 +1,4 @@
+-- The first stage makes no more nodes of `out` than leaves, and a tuple on all of those is on all of `out`.
 use Rattle.std.proofs.Common.{◌≤◌, refl, arith}
 use Rattle.djq_cursor.proofs.Checking.{few_all, few_more, answer_upto}
 use Rattle.djq_cursor.proofs.lookup.has.Goals as goal

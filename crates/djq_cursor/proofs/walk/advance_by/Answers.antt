@@ -1,3 +1,4 @@
+-- Between calls the answer that is kept is what all choices make, and what was given ends with it.
 use Rattle.std.proofs.Common.{◌∙◌, List, ℕ, [], ◌∷◌, ◌++◌, ap, ap₂, sym}
 use Rattle.djq_cursor.proofs.Keeping.{made_stands, stands_made, at_fits, fits_at, given_at}
 use Rattle.djq_cursor.proofs.walk.advance_by.Goals as goal

@@ -1,3 +1,4 @@
+-- Once each level has a choice, the answer as written is what the choices make, and none is ahead of it.
 use Rattle.std.proofs.Common.{◌∙◌, List, ℕ, [], ◌∷◌, ◌++◌, ap, ap₂, sym}
 use Rattle.djq_cursor.specs.declared.places.Choice.{Choice}
 use Rattle.djq_cursor.specs.Walk.{ahead_of}

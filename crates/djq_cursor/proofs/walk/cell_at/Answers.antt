@@ -1,3 +1,4 @@
+-- A level is in `out`, so its only column lies within the head, and the projection is that cell.
 use Rattle.std.proofs.Common.{◌≡◌, ◌∙◌, List, ℕ, ap, ap₂, sym, length, arith}
 use Rattle.djq_index.specs.Tuple.{pick}
 use Rattle.djq_tree.specs.Labels.{label_at}

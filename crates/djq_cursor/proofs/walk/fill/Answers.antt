@@ -1,3 +1,4 @@
+-- The level at the index is the next one below the choices, and menus are open, so it has a first tuple.
 use Rattle.std.proofs.Common.{◌∙◌, [], ◌∷◌, length, slice_index_or, refl, ap, arith}
 use Rattle.std.proofs.lemmas.List.{length-append}
 use Rattle.djq_cursor.specs.declared.places.Choice.{Choice}

@@ -1,3 +1,4 @@
+-- A level without columns has the empty key, whatever the answer is.
 use Rattle.std.proofs.Common.{◌≡◌, ◌∙◌, List, ℕ, [], length, ap, sym, subst, rules}
 use Rattle.std.specs.Prelude.{IfSome, IfNone}
 use Rattle.djq_tree.specs.Labels.{label_at}

@@ -1,3 +1,4 @@
+-- A level is of the second stage, so it is in `out`, and the copied cells are the answer's projection on it.
 use Rattle.std.proofs.Common.{◌≡◌, ◌∙◌, List, ℕ, [], subst}
 use Rattle.std.specs.Prelude.{IfSome, IfNone}
 use Rattle.djq_cursor.specs.Walk.{IsFirstAt}

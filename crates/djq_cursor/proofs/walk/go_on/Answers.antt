@@ -1,3 +1,4 @@
+-- A last choice without a next tuple goes, and what is given stays; with one, it gives one answer more.
 use Rattle.std.proofs.Common.{◌∙◌, [], ◌∷◌, ◌++◌, length, refl, ap, arith}
 use Rattle.std.proofs.lemmas.List.{length-append}
 use Rattle.djq_cursor.specs.declared.places.Choice.{Choice}

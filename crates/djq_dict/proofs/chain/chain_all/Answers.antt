@@ -1,3 +1,4 @@
+-- Before any link is put in, all heads are 0, so each chain is the empty one.
 use Rattle.std.proofs.Common.{length, refl}
 use Rattle.djq_dict.specs.Chains.{hashes_of, nexts_of}
 use Rattle.djq_dict.proofs.Linking.{chained-none, zeros}

@@ -1,3 +1,4 @@
+-- The steps along the chain so far passed no link with the hash, and each next number is a lower one.
 use Rattle.std.proofs.Common.{◌<◌, ℕ, ◌-◌, length, sym, ◌∙◌, ap, arith}
 use Rattle.std.proofs.lemmas.List.{length-map}
 use Rattle.djq_dict.specs.declared.chain.Link.{Link}

@@ -1,3 +1,4 @@
+-- The link's hash says its bucket, and what the head was is where its chain goes on.
 use Rattle.std.proofs.Common.{ℕ, length, refl, sym, ◌∙◌, ap, arith}
 use Rattle.std.proofs.lemmas.Grind.{get_or_default_zero}
 use Rattle.std.proofs.Math.Seq.{map-set_same}

@@ -1,3 +1,4 @@
+-- A write and the sync behind it make one history, in which all outside the piece's part is kept.
 use Rattle.djq_disk.specs.History.{Writes, Syncs}
 use Rattle.djq_disk.specs.WritingDown.{WritesDown}
 use Rattle.djq_disk.specs.declared.disk.DiskDid.TheVariants.{Done, Failed}

@@ -1,3 +1,4 @@
+-- What djq_reach says of the lent readers and watchers holds of the parts, whose lists they are.
 use Rattle.std.proofs.Common.{◌∙◌, ℕ, List, refl, sym, ap, subst, length}
 use Rattle.std.specs.Prelude.{Result, Ok, Err, OnOk, OnErr, ⊤}
 use Rattle.djq_live.specs.Live.{IsKept}

@@ -1,3 +1,4 @@
+-- The lent places are the relation's readers, each kept over the catalog, so the row can go out of each.
 use Rattle.std.proofs.Common.{◌∙◌, ℕ, List, ap, arith, refl, subst, sym}
 use Rattle.std.specs.Prelude.{◌&&◌}
 use Rattle.djq_model.specs.Data.{Bytes, without_copies}

@@ -1,3 +1,4 @@
+-- A row that came wasn't there before, so each reader of its relation can take it in, and give it back.
 use Rattle.std.proofs.Common.{◌∙◌, ℕ, List, ap, arith, refl, subst, sym}
 use Rattle.std.specs.Prelude.{◌&&◌, Ok, Err}
 use Rattle.djq_model.specs.Data.{Bytes, with_row}

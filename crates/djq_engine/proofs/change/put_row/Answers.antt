@@ -1,3 +1,4 @@
+-- Once its texts are known the cells stand for the row, and all queries and logs stay as they were.
 use Rattle.std.proofs.Common.{◌∙◌, ◌≡◌, ℕ, List, refl, arith, subst, true, false}
 use Rattle.std.specs.Prelude.{Some, map}
 use Rattle.djq_model.specs.declared.relation.Relation.{Relation}

@@ -1,3 +1,4 @@
+-- Behind the first test no row may come, so one that isn't there is refused, and one that is needs no room.
 use Rattle.std.proofs.Common.{◌∙◌, sym, arith, inl, inr}
 use Rattle.std.proofs.lemmas.Bool.{false≢true}
 use Rattle.djq_engine.proofs.Judged.{add_limited}

@@ -1,3 +1,4 @@
+-- Cells that are written stand for the row; where none are, a text is unknown, and the row isn't there.
 use Rattle.std.proofs.Common.{◌≡◌, ◌<◌, ◌∙◌, ℕ, Bool, true, false, length, subst, sym, arith}
 use Rattle.std.specs.Prelude.{IfNone}
 use Rattle.djq_model.specs.Data.{has_row}

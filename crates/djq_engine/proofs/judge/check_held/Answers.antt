@@ -1,3 +1,4 @@
+-- The relation that suits is the one found by name; where no row may come, a copy of one that is there may.
 use Rattle.std.proofs.Common.{◌∙◌, sym, ap, arith, inl, inr}
 use Rattle.std.proofs.lemmas.Bool.{false≢true}
 use Rattle.djq_model.specs.Data.{Tuple, has_row}

@@ -1,3 +1,4 @@
+-- What was kept of the places passed is no longer than these, and there is room for the whole order.
 use Rattle.std.proofs.Common.{ℕ, List, ap, arith, length, take}
 use Rattle.std.proofs.lemmas.List.{length-take-le}
 use Rattle.djq_reach.specs.Places.{is_reader}

@@ -1,3 +1,4 @@
+-- The logs of queries that read a relation of the rows passed are empty; one row more adds its readers.
 use Rattle.std.proofs.Common.{List, subst, arith, ◌∙◌}
 use Rattle.std.proofs.lemmas.List.{take_all}
 use Rattle.djq_lines.specs.declared.held.HeldRow.{HeldRow}

@@ -1,3 +1,4 @@
+-- The lent places are the readers of the relation that was found, of which each has a log.
 use Rattle.std.proofs.Common.{List, ℕ, sym, ap, ◌∙◌, arith}
 use Rattle.djq_reach.specs.Places.{is_reader}
 use Rattle.djq_engine.proofs.Storing.{places_read}

@@ -1,3 +1,4 @@
+-- Just logs and cursors change, so all other parts are the same, and there are as many logs as before.
 use Rattle.std.proofs.Common.{refl}
 use Rattle.djq_engine.proofs.outdating.give_up.Goals as goal
 

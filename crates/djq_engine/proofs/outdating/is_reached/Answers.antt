@@ -1,3 +1,4 @@
+-- A place is reached exactly where some group's relation has it as a reader; no group passed has.
 use Rattle.std.proofs.Common.{◌∙◌, ◌<◌, ℕ, List, sym, ap, subst, get_or, length}
 use Rattle.djq_reach.specs.declared.group.Group.{Group}
 use Rattle.djq_reach.specs.Places.{is_reader}

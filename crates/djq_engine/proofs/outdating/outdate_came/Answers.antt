@@ -1,3 +1,4 @@
+-- Stale cursors change no readers and stay stale, so the first tested relation that a query reads counts.
 use Rattle.std.proofs.Common.{List, subst, arith}
 use Rattle.std.proofs.lemmas.List.{take_all}
 use Rattle.djq_lines.specs.declared.held.HeldRow.{HeldRow}

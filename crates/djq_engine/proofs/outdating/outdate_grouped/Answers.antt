@@ -1,3 +1,4 @@
+-- The relation is found by its name, so it passes the test exactly where its place is one of a group's.
 use Rattle.std.proofs.Common.{◌≡◌, ◌∙◌, ℕ, List, true, false, sym, ap, subst, arith}
 use Rattle.djq_rows.specs.Catalog.{relation_at}
 use Rattle.djq_reach.specs.Reaching.{Reach, Ages}

@@ -1,3 +1,4 @@
+-- A cursor that is stale stays so, so of the rows passed the first that its query reads counts.
 use Rattle.std.proofs.Common.{refl}
 use Rattle.std.specs.Prelude.{true}
 use Rattle.djq_engine.proofs.Outdated.{outdates_next}

@@ -1,3 +1,4 @@
+-- The lists behind the index are as they were, so in the next one places differ still.
 use Rattle.std.proofs.Common.{◌∙◌, ap, sym, subst, arith, ◌<◌, length}
 use Rattle.djq_engine.specs.Places.{left}
 use Rattle.djq_reach.specs.Places.{AreOnce}

@@ -1,3 +1,4 @@
+-- In a list of different places the one that is found is the only one of its number.
 use Rattle.std.proofs.Common.{◌==◌, ◌∙◌, ap}
 use Rattle.std.specs.Prelude.{position}
 use Rattle.djq_engine.proofs.Listing.{left_out, none_left_out}

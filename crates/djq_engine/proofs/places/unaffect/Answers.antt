@@ -1,3 +1,4 @@
+-- The test by which places stay says just that they are not the given one.
 use Rattle.std.proofs.Common.{rules}
 use Rattle.std.specs.Prelude.{◌==◌, not}
 use Rattle.std.proofs.lemmas.Fn.{filter_same}

@@ -1,3 +1,4 @@
+-- The group that is found is the first of its relation and gains the row; else a new one has just this row.
 use Rattle.std.proofs.Common.{refl, ◌≡◌, ◌∙◌, ◌∷◌, ◌++◌, [], List, ℕ, sym, ap, subst}
 use Rattle.std.specs.Prelude.{Ok, Err, Result, OnOk, position, ◌==◌}
 use Rattle.djq_reach.specs.declared.group.Group.{Group}

@@ -1,3 +1,4 @@
+-- What the rows passed made of the store is where the next one goes in; at the end these are all rows.
 use Rattle.std.proofs.Common.{◌≡◌, ◌∙◌, ◌+◌, ◌++◌, [], ℕ, List, true, refl, sym, ap, ap₂, subst}
 use Rattle.std.proofs.Common.{arith, length, take, append_assoc, append-nil}
 use Rattle.std.specs.Prelude.{◌==◌, cond}

@@ -1,3 +1,4 @@
+-- A row that came went in last, so it can be taken out again, and only texts that became known are left.
 use Rattle.std.proofs.Common.{◌≡◌, ℕ, List, sym, subst}
 use Rattle.std.specs.Prelude.{Some, Option}
 use Rattle.djq_model.specs.Data.{Bytes}

@@ -1,3 +1,4 @@
+-- Once its texts are known the cells stand for the held row, so each outcome is one of that row.
 use Rattle.std.proofs.Common.{◌≡◌, ◌∙◌, sym, subst}
 use Rattle.std.specs.Prelude.{true, false, Ok, Err}
 use Rattle.djq_model.specs.Data.{Tuple, has_row}

@@ -1,3 +1,4 @@
+-- The held row went in, so its relation is found, its texts are known, and a copy of it is there.
 use Rattle.std.proofs.Common.{◌≡◌, ◌∙◌, sym, ap, subst, arith, length}
 use Rattle.std.specs.Prelude.{Some, None}
 use Rattle.std.proofs.lemmas.Bool.{false≢true}

@@ -1,3 +1,4 @@
+-- The query that is read is the one in the place, of which is required that the cursor fits it.
 use Rattle.djq_engine.specs.Moving.{IsFreshly}
 use Rattle.djq_engine.proofs.Cursors.{read_all}
 use Rattle.djq_engine.proofs.reading.more_at.Goals as goal

@@ -1,3 +1,4 @@
+-- The query that is read is the one in the place, of which is required that its cursors fit it.
 use Rattle.djq_engine.specs.Moving.{IsReadable}
 use Rattle.djq_engine.proofs.Cursors.{read_all}
 use Rattle.djq_engine.proofs.reading.next_at.Goals as goal

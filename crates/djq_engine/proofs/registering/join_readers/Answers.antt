@@ -1,3 +1,4 @@
+-- The lists behind the index are as they were, so a place comes last once in each list that it joins.
 use Rattle.std.proofs.Common.{◌∙◌, ◌<◌, ◌++◌, ◌∷◌, [], ap, arith, cond, length, List, ℕ}
 use Rattle.djq_machine.specs.Stale.{reads}
 use Rattle.djq_model.specs.Data.{Bytes}

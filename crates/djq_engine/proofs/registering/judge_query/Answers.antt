@@ -1,3 +1,4 @@
+-- By the invariant a name is found in a place exactly where it is taken, and the order has all queries.
 use Rattle.std.proofs.Common.{◌∙◌, ap, sym, arith}
 use Rattle.std.specs.Prelude.{position}
 use Rattle.djq_engine.specs.Places.{is_query}

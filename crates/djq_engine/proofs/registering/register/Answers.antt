@@ -1,3 +1,4 @@
+-- A vacant place stands in no list, so once it is taken out again each list is as it was.
 use Rattle.std.proofs.Common.{◌≡◌, ◌∷◌, [], length-append, ◌∙◌, None, Some, refl, sym, ap, ap₂}
 use Rattle.std.proofs.Common.{subst, arith, ℕ, List, length}
 use Rattle.std.proofs.lemmas.List.{get_or-set_same, get_or-set_other, length-set}

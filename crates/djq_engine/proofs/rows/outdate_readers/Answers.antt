@@ -1,3 +1,4 @@
+-- Where no cursor is over any reader of the relation, there is none that could become stale.
 use Rattle.std.proofs.Common.{ℕ, List, Option, ◌∙◌, sym, ap, refl}
 use Rattle.std.specs.List.{list_any}
 use Rattle.djq_live.specs.Live.{Live}

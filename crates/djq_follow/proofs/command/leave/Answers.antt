@@ -1,3 +1,4 @@
+-- The follower keeps the name that was asked for, and how following ended says what is to be written.
 use Rattle.std.proofs.Common.{ℕ, List, ◌≡◌, ◌∙◌, sym, ap, subst}
 use Rattle.djq_mirror.specs.Mirror.{Held, written}
 use Rattle.djq_follow.specs.declared.follower.Halt.{Halt}

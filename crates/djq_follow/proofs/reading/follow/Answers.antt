@@ -1,3 +1,4 @@
+-- The pieces so far, one behind another, are what was given, and the follower has taken just those bytes.
 use Rattle.std.proofs.Common.{ℕ, List, ◌≡◌, ◌∙◌, ◌++◌, length, take, sym, ap, subst, refl, arith}
 use Rattle.std.proofs.Common.{rules, length-append, length-take}
 use Rattle.djq_io.specs.Faults.{Counted}

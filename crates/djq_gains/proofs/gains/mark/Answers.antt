@@ -1,3 +1,4 @@
+-- What is set in a slot for one delta more is said of the tuples that lie there, and of no others.
 use Rattle.std.proofs.Common.{◌≡◌, true, Bool, List, [], slice_set, ap, ◌∙◌}
 use Rattle.std.proofs.lemmas.List.{get_or_read}
 use Rattle.djq_gains.specs.Gathered.{marks_at, gains_in}

@@ -1,3 +1,4 @@
+-- All members' heads are as wide as the first one's, and what is told of those passed is gathered.
 use Rattle.std.proofs.Common.{◌≡◌, ℕ, ◌+◌, ◌<◌, ◌≤◌, Option, Some, List, length, sym, ap, ◌∙◌, subst, arith}
 use Rattle.std.specs.Prelude.{slice_get}
 use Rattle.djq_live.specs.Live.{Live, IsKeptSomewhere}

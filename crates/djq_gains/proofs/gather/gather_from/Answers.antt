@@ -1,3 +1,4 @@
+-- What is told of a registered query has one line for each change, with as many cells as its head.
 use Rattle.std.proofs.Common.{◌≡◌, ℕ, List, length, refl, sym, ◌∙◌, subst, arith}
 use Rattle.std.specs.Prelude.{IsSome, IsSomeAnd}
 use Rattle.std.proofs.lemmas.List.{take_all}

@@ -1,3 +1,4 @@
+-- Each member passed has the tuple in its delta or doesn't have it now; one that fails decides.
 use Rattle.std.proofs.Common.{sym, ap, ◌∙◌, inl, inr, arith}
 use Rattle.std.proofs.lemmas.Bool.{false≢true}
 use Rattle.std.proofs.lemmas.Option.{slice_get_within, get_or_from_slice_get}

@@ -1,3 +1,4 @@
+-- The slot at hand is that of the first tuple that isn't told yet, so each is told once, in order.
 use Rattle.std.proofs.Common.{ℕ, Option, sum_by, sym, ◌∙◌, subst, arith}
 use Rattle.djq_live.specs.Member.{queries_at}
 use Rattle.djq_live.proofs.Telling.{counts_one}

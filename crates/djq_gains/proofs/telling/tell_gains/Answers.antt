@@ -1,3 +1,4 @@
+-- What is gathered is what is told of touched members; as members differ, no line of theirs counts twice.
 use Rattle.std.proofs.Common.{◌≡◌, List, Option, All, length, sum_by, sym, ap, ◌∙◌, subst, arith}
 use Rattle.std.specs.Prelude.{Contains, slice_get}
 use Rattle.std.proofs.lemmas.List.Elements.{All-contains}

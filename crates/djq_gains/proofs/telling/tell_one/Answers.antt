@@ -1,3 +1,4 @@
+-- All that is gathered is as wide as the first member's head, and that is at most sixteen cells.
 use Rattle.std.proofs.Common.{◌≡◌, ℕ, ◌++◌, ◌∷◌, List, length, sym, ap, ◌∙◌, subst, arith}
 use Rattle.std.specs.Prelude.{Contains}
 use Rattle.djq_live.specs.Live.{IsKeptSomewhere}

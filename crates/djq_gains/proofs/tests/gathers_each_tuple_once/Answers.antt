@@ -1,3 +1,4 @@
+-- The first slot is one in which a tuple lies.
 use Rattle.std.proofs.Common.{ℕ, Option, Some, sym, ◌∙◌, ◌≡◌}
 use Rattle.djq_arena.specs.Chains.{first_of}
 use Rattle.djq_gains.specs.Gathered.{Gathered, IsIn, slots_in}

@@ -1,3 +1,4 @@
+-- The constants are those of the definition, and the widened state is the same number.
 use Rattle.std.proofs.Common.{ℕ, ap, ◌+◌, ◌*◌, ◌%◌}
 use Rattle.djq_gen.specs.Draws.{next}
 use Rattle.djq_gen.proofs.draw.next.Goals as goal

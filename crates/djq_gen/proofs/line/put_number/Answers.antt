@@ -1,3 +1,4 @@
+-- A number below 100,000 has at most five digits.
 use Rattle.std.proofs.Common.{ℕ, List, length, ap, ◌∙◌, arith}
 use Rattle.std.proofs.lemmas.Fmt.{length-decimal-le}
 use Rattle.djq_gen.proofs.line.put_number.Goals as goal

@@ -1,3 +1,4 @@
+-- An edge with a first variable gives it a degree; one without is empty, so no degree grows by it.
 use Rattle.djq_hyper.proofs.Checking.{read_at}
 use Rattle.djq_gyo.proofs.Finding.{variable_of, bare_more}
 use Rattle.djq_gyo.proofs.find.find_variable.Goals as goal

@@ -1,3 +1,4 @@
+-- The first variable shared with those of one edge can be taken out; where none is shared, the edge has none.
 use Rattle.std.specs.Prelude.{◌≡◌, ℕ, true}
 use Rattle.std.proofs.Common.{sym, ◌∙◌, arith, inl, inr, ap}
 use Rattle.std.proofs.lemmas.Bool.{cases_lt}

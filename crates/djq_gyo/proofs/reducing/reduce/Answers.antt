@@ -1,3 +1,4 @@
+-- Each step keeps whether there is a join tree and shrinks the edges; stuck edges with a variable have none.
 use Rattle.std.proofs.Common.{◌∙◌}
 use Rattle.djq_gyo.proofs.Stepping.{turn_leads, turn_falls, ended_bare, ended_rest}
 use Rattle.djq_gyo.proofs.reducing.reduce.Goals as goal

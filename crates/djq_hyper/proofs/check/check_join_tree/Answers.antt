@@ -1,3 +1,4 @@
+-- All links of a join tree fit behind those before, and as many that fit as there are edges are one.
 use Rattle.std.specs.Prelude.{◌≡◌, ◌+◌, ◌++◌, ◌∷◌, [], ◌||◌, length, reverse, take, slice_index_or}
 use Rattle.std.specs.Prelude.{ℕ, List, false, true, refl}
 use Rattle.std.proofs.Common.{arith, sym, ap, ◌∙◌, subst}

@@ -1,3 +1,4 @@
+-- The variables seen are those of the links before, so what is shared has to lie in the parent.
 use Rattle.std.specs.Prelude.{◌<◌, length, ℕ, List}
 use Rattle.std.proofs.Common.{arith, rules, sym, ap, ◌∙◌}
 use Rattle.std.proofs.lemmas.Bool.{eqb-false}

@@ -1,3 +1,4 @@
+-- A variable lies in an edge of one more exactly where it lies in one of those passed, or in this one.
 use Rattle.djq_hyper.proofs.Checking.{read_at}
 use Rattle.djq_hyper.proofs.Owning.{once_more}
 use Rattle.djq_hyper.proofs.edges.variables.Goals as goal

@@ -1,3 +1,4 @@
+-- The pass tells of each other variable whether all or some edges with this one have it, or one without.
 use Rattle.std.proofs.Common.{refl, sym, ◌∙◌}
 use Rattle.djq_hyper.specs.Flat.{IsFlatAt}
 use Rattle.djq_hyper.proofs.Checking.{read_at, refused}

@@ -1,3 +1,4 @@
+-- Of the edges passed a variable lies in one at least, or in two; in just one where not in two.
 use Rattle.djq_hyper.proofs.Checking.{read_at}
 use Rattle.djq_hyper.proofs.Owning.{once_more, twice_more, own_variables_of}
 use Rattle.djq_hyper.proofs.own.own_variables.Goals as goal

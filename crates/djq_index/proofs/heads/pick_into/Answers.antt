@@ -1,3 +1,4 @@
+-- The cells below the index are those at the first columns; past the last column they are all of the key's.
 use Rattle.std.proofs.Common.{◌++◌, ◌∷◌, [], sym, ◌∙◌, ap, ap₂, length, length-set, List, ℕ, arith}
 use Rattle.std.proofs.lemmas.List.{take_all, take_more_set}
 use Rattle.djq_index.specs.Tuple.{pick}

@@ -1,3 +1,4 @@
+-- A key of one column picks one cell, that at its column, and the column is below the tuple's width.
 use Rattle.std.proofs.Common.{[], ◌∷◌, sym, ◌∙◌, ap, subst, length, List, ℕ, arith}
 use Rattle.std.specs.Result.{IfOk}
 use Rattle.djq_index.specs.Raw.{IsSeat}

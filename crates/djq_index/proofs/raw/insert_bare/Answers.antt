@@ -1,3 +1,4 @@
+-- A tuple laid last, marked or with no mark before it, leaves the marks last; refused, the entries stay.
 use Rattle.std.proofs.Common.{◌<◌, refl, sym, subst, ℕ}
 use Rattle.djq_index.specs.declared.place.Place.{Place}
 use Rattle.djq_index.specs.declared.raw.Raw.{Raw}

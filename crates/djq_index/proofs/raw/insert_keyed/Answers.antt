@@ -1,3 +1,4 @@
+-- There are no more heads than tuples, by the groups; refused a head, the row laid last goes out again.
 use Rattle.std.proofs.Common.{◌<◌, [], refl, sym, ◌∙◌, subst, ℕ, List, arith}
 use Rattle.std.proofs.lemmas.List.{append-nil}
 use Rattle.djq_index.specs.declared.place.Place.{Place}

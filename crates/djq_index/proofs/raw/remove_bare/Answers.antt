@@ -1,3 +1,4 @@
+-- A tuple's place is a row's slot; the first mark, if it goes, passes to the next row, as marks come last.
 use Rattle.std.proofs.Common.{refl}
 use Rattle.djq_index.specs.declared.raw.Raw.{Raw}
 use Rattle.djq_index.proofs.Leaving.{

@@ -1,3 +1,4 @@
+-- By the groups' invariant a note names its group's head, and neighbours in a group are tuples' slots.
 use Rattle.std.proofs.Common.{◌≡◌, refl, ◌∙◌, ap, arith, length-set}
 use Rattle.djq_index.specs.declared.raw.Note.{Note}
 use Rattle.djq_index.specs.declared.raw.Raw.{Raw}

@@ -1,3 +1,4 @@
+-- A tuple's place is a row's slot; put behind all rows and marked, it leaves the marked ones last.
 use Rattle.std.proofs.Common.{refl, arith}
 use Rattle.djq_index.specs.declared.raw.Raw.{Raw}
 use Rattle.djq_index.proofs.Leaving.{

@@ -1,3 +1,4 @@
+-- By the invariant a note names its group's head; once the slot has left, the group's last is a tuple's slot.
 use Rattle.std.proofs.Common.{◌≡◌, refl, sym, ◌∙◌, subst, ap, length, ℕ, List, arith, length-set}
 use Rattle.djq_arena.specs.declared.chain.Pair.{Pair}
 use Rattle.djq_arena.specs.Chains.{pair_at, IsWithin, left}

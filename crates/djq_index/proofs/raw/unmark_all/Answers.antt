@@ -1,3 +1,4 @@
+-- Marked rows are the last ones, so the next row is marked, too; each step takes one mark off the rest.
 use Rattle.std.proofs.Common.{subst, Option, ℕ, arith}
 use Rattle.djq_index.proofs.Clearing.{Clearing, clearing, cleared, over_none, over_all, step_held}
 use Rattle.djq_index.proofs.Clearing.{step_within, cleared_more}

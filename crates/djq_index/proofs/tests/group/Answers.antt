@@ -1,3 +1,4 @@
+-- After each step the walk is at the first of the rest of the group, whose entries are all in the table.
 use Rattle.std.proofs.Common.{sym, ◌∙◌, subst, drop, take, ◌+◌}
 use Rattle.djq_index.specs.Entries.{group_of}
 use Rattle.djq_index.specs.Table.{IsLive}

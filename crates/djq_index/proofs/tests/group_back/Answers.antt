@@ -1,3 +1,4 @@
+-- The walk back is at the last of a front part of the group, whose entries are all in the table.
 use Rattle.std.proofs.Common.{subst, ◌∷◌}
 use Rattle.djq_index.specs.Entries.{group_of}
 use Rattle.djq_index.specs.Table.{IsLive}

@@ -1,3 +1,4 @@
+-- By the groups' invariant a head knows the ends of its group, and a group without a head is empty.
 use Rattle.std.proofs.Common.{sym, ◌∙◌, arith}
 use Rattle.djq_index.specs.Raw.{entries_of}
 use Rattle.djq_index.proofs.Parts.{no_ends, row_at_row, row_below}

@@ -1,3 +1,4 @@
+-- Those so far are all below the count, and so is the one that comes behind them.
 use Rattle.std.proofs.Common.{subst, sym}
 use Rattle.djq_index.specs.Table.{AreColumns}
 use Rattle.djq_index_bench.proofs.Columns.{none, one_more}

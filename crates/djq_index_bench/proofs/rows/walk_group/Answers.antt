@@ -1,3 +1,4 @@
+-- The place is that of the group's tuple at the step's number, so it is live and the next is behind it.
 use Rattle.std.proofs.Common.{sym, ◌∙◌, subst, drop, take, ◌+◌}
 use Rattle.djq_index.specs.Entries.{group_of}
 use Rattle.djq_index.specs.Table.{IsLive}

@@ -1,3 +1,4 @@
+-- What this write took stands behind what was taken of the piece before.
 use Rattle.std.proofs.Common.{◌-◌, ◌≡◌, ◌++◌, List, ℕ, length, take, drop, arith, subst, sym, length-drop}
 use Rattle.std.proofs.lemmas.List.{take_all}
 use Rattle.std.proofs.Math.Seq.{take-add}

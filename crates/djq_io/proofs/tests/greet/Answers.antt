@@ -1,3 +1,4 @@
+-- A session that the hub has just opened is open, and one whose input ended is open until it is closed.
 use Rattle.std.proofs.Common.{sym, subst}
 use Rattle.std.specs.Prelude.{Contains}
 use Rattle.std.proofs.lemmas.List.Elements.{Contains-push}

@@ -1,3 +1,4 @@
+-- The records are synced behind the closed gate before it is opened, so a stop leaves the group or nothing.
 use Rattle.std.proofs.Common.{inl, [], ◌∷◌}
 use Rattle.djq_disk.specs.History.{History, Syncs}
 use Rattle.djq_disk.specs.WritingDown.{WritesDown}

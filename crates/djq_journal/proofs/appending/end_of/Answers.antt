@@ -1,3 +1,4 @@
+-- Each line takes three bytes and its own, and the first lines of a group end no further than all do.
 use Rattle.std.proofs.Common.{◌+◌, sym, ap, ◌∙◌, arith}
 use Rattle.std.proofs.lemmas.Option.{slice_get_within}
 use Rattle.djq_journal.specs.Appending.{gate_after}

@@ -1,3 +1,4 @@
+-- What is written and what is gathered make up the records of the lines so far, all behind the gate.
 use Rattle.std.proofs.Common.{◌≡◌, ◌+◌, ◌-◌, ◌≤◌, ℕ, List, [], ◌∷◌, ◌++◌, length, take, drop, refl}
 use Rattle.std.proofs.Common.{sym, ap, subst, ◌∙◌, arith, length-take, length-drop, length-append}
 use borrow.Rule.Slice.PartMut.{put_mid}

@@ -1,3 +1,4 @@
+-- The header and a closed gate behind it are a journal without lines.
 use Rattle.djq_disk.specs.WritingDown.{WritesDown}
 use Rattle.std.proofs.Common.{[], ◌∷◌, ◌++◌}
 use Rattle.djq_disk.specs.declared.disk.DiskDid.TheVariants.{Done, Failed}

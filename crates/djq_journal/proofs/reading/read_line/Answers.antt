@@ -1,3 +1,4 @@
+-- The head says the length and the bytes behind it are the line, so its record stands at the gate.
 use Rattle.std.proofs.Common.{◌≡◌, ℕ, ◌+◌, [], ◌∷◌, ◌++◌, List, length, take, drop, sym, subst, ◌∙◌, arith, length-take}
 use Rattle.std.proofs.lemmas.List.{take_at}
 use Rattle.djq_disk.specs.History.{History}

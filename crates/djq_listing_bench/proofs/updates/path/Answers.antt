@@ -1,3 +1,4 @@
+-- The reducts were just made, so their tables have no tuples that could have a mark.
 use Rattle.djq_propagate.proofs.Updating.{bare_empty}
 use Rattle.djq_listing_bench.proofs.updates.path.Goals as goal
 

@@ -1,3 +1,4 @@
+-- The tuple that was found is one of the leaf's entries, so the leaf has it at least once.
 use Rattle.std.proofs.Common.{◌<◌, List, subst}
 use Rattle.djq_index.specs.Entries.{Entry, count_of}
 use Rattle.djq_index.proofs.Apart.{there}

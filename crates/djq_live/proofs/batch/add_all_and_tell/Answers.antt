@@ -1,3 +1,4 @@
+-- Clearing the marks keeps all tuples, so what the marks listed is what the reducts gained since the start.
 use Rattle.std.proofs.Common.{true, length}
 use Rattle.djq_propagate.proofs.Updating.{inserted_gained_all}
 use Rattle.djq_live.proofs.Crowding.{insertions_count, refusals_count}

@@ -1,3 +1,4 @@
+-- Leaves from the index on hold what they held, so their tuples are new; a refused leaf keeps all tables.
 use Rattle.std.proofs.Common.{true, ◌+◌, ◌<◌, length, ℕ, List, refl, sym, subst, ◌∙◌}
 use Rattle.djq_live.specs.Batching.{batch_in, Adds, GrowsBy, CountsMany}
 use Rattle.djq_live.specs.Stepping.{atoms_below}

@@ -1,3 +1,4 @@
+-- A tuple that is lent for a row is its only one; where it is the row, the rows up to it are their own tuples.
 use Rattle.std.proofs.Common.{List, ℕ, subst, arith}
 use Rattle.djq_propagate.proofs.Batching.{read_as}
 use Rattle.std.specs.Prelude.{Some}

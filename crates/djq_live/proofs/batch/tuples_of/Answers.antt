@@ -1,3 +1,4 @@
+-- A tuple that is lent for a row is its only one, and different rows have different tuples.
 use Rattle.std.proofs.Common.{List, ℕ, ◌+◌, subst, sym, arith, take}
 use Rattle.djq_propagate.proofs.Batching.{read_as}
 use Rattle.std.specs.Prelude.{Some}

@@ -1,3 +1,4 @@
+-- Up to the index each atom over the relation has its rows' tuples, whether they were made or are the rows.
 use Rattle.std.proofs.Common.{List, [], ◌∷◌, ap, ℕ, ◌<◌, ◌+◌, length, subst, sym, ◌∙◌, arith}
 use Rattle.std.specs.Prelude.{Option}
 use Rattle.std.proofs.lemmas.List.{map-append}

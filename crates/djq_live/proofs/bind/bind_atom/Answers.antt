@@ -1,3 +1,4 @@
+-- Each term has one cell and each comparison one, so there are as many cells as terms and as comparisons.
 use Rattle.std.proofs.Common.{◌≡◌, List, ℕ, length, sym, subst, ap, ◌∙◌}
 use Rattle.std.proofs.lemmas.List.{length-map}
 use Rattle.djq_query.specs.declared.numbered.NumberedTerm.{NumberedTerm}

@@ -1,3 +1,4 @@
+-- There are as many patterns as atoms seen, so the next one stands at its atom's place, over its leaf's label.
 use Rattle.std.proofs.Common.{List, ℕ, length, refl, sym, subst, ap, arith}
 use Rattle.std.proofs.lemmas.List.{length_push}
 use Rattle.std.proofs.lemmas.Option.{slice_get_read}

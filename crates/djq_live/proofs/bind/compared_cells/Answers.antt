@@ -1,3 +1,4 @@
+-- The constants of all comparisons have cells, so the one at the index has.
 use Rattle.djq_live.proofs.Patterns.{compared_at}
 use Rattle.djq_live.proofs.bind.compared_cells.Goals as goal
 

@@ -1,3 +1,4 @@
+-- All constants of the terms have cells, so the one at the index has; its cell stands behind those before it.
 use Rattle.std.proofs.Common.{◌+◌, List, ℕ, [], ◌∷◌, ◌++◌, take, sym, subst, ap, ◌∙◌}
 use Rattle.std.proofs.lemmas.List.{take_more}
 use Rattle.djq_query.specs.declared.numbered.NumberedTerm.{NumberedTerm}

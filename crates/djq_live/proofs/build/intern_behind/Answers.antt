@@ -1,3 +1,4 @@
+-- Texts known for the comparisons seen and then for the next are those of one more; a refusal is one of all.
 use Rattle.std.proofs.Common.{[], ◌∷◌, ◌∙◌, refl}
 use Rattle.std.specs.Prelude.{◌==◌, if◌then◌else◌}
 use Rattle.djq_model.specs.declared.query.Comparison.{Comparison}

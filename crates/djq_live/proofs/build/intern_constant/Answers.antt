@@ -1,3 +1,4 @@
+-- A value that is refused is so as the only one of a list.
 use Rattle.djq_live.proofs.Constants.{one_refused}
 use Rattle.djq_live.proofs.build.intern_constant.Goals as goal
 

@@ -1,3 +1,4 @@
+-- The body's constants go atom by atom, each behind the comparisons before it, and end with the last ones.
 use Rattle.std.proofs.Common.{◌≡◌, List, subst, ◌∙◌, arith}
 use Rattle.std.specs.Prelude.{Ok, Err}
 use Rattle.djq_model.specs.declared.query.Atom.{Atom}

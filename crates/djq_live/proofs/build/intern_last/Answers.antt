@@ -1,3 +1,4 @@
+-- Texts known up to the index and then for the next comparison are those of one more; a refusal is one of all.
 use Rattle.std.proofs.Common.{[], ◌∷◌, ◌∙◌, refl}
 use Rattle.std.specs.Prelude.{nat_le, if◌then◌else◌}
 use Rattle.djq_model.specs.declared.query.Comparison.{Comparison}

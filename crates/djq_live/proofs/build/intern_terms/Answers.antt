@@ -1,3 +1,4 @@
+-- Texts known for the terms seen and then for the next one are those of one more; a refusal is one of all.
 use Rattle.std.proofs.Common.{◌∙◌}
 use Rattle.djq_lines.specs.Variables.{constant_of}
 use Rattle.djq_live.proofs.Constants.{step_known, step_refused}

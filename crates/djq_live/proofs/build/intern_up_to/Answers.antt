@@ -1,3 +1,4 @@
+-- Constants that are known and further ones make one list; where one of the first is refused, so is the list.
 use Rattle.std.proofs.Common.{List, subst}
 use Rattle.std.specs.List.{flat_map}
 use Rattle.djq_model.specs.declared.query.Term.{Term}

@@ -1,3 +1,4 @@
+-- A row that is added stands behind its relation's other rows, and other relations are as they were.
 use Rattle.djq_live.proofs.Placing.{added_came}
 use Rattle.djq_live.proofs.changes.added_came.Goals as goal
 

@@ -1,3 +1,4 @@
+-- Without its copies a row is out of its relation, whose other rows stay, as do the other relations.
 use Rattle.djq_live.proofs.Placing.{deleted_went}
 use Rattle.djq_live.proofs.changes.deleted_went.Goals as goal
 

@@ -1,3 +1,4 @@
+-- A row of both lists is of the first or of the second, so its tuples were held before or are gained.
 use Rattle.djq_live.proofs.Filled.{leaf_gains}
 use Rattle.djq_live.proofs.changes.leaf_gains.Goals as goal
 

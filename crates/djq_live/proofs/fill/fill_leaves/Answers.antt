@@ -1,3 +1,4 @@
+-- Leaves from the index on are as they were, so the next is empty and its label is that of its atom.
 use Rattle.std.proofs.Common.{◌<◌, length, refl, sym, subst, arith}
 use Rattle.std.proofs.lemmas.Option.{slice_get_read}
 use Rattle.std.specs.Prelude.{slice_index_or}

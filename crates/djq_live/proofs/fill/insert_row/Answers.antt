@@ -1,3 +1,4 @@
+-- The lent tuple is the only one that gives the row, so a leaf that gained it has taken the row in.
 use Rattle.djq_live.proofs.Leafing.{only_lent}
 use Rattle.djq_live.proofs.Taking.{took_row}
 use Rattle.djq_live.proofs.fill.insert_row.Goals as goal

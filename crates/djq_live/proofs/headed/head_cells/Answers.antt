@@ -1,3 +1,4 @@
+-- Past the last place all places of the head have been seen, so no cell is missing.
 use Rattle.std.proofs.Common.{◌≤◌, length, arith}
 use Rattle.djq_live.proofs.HeadCells.{all_cells}
 use Rattle.djq_live.proofs.headed.head_cells.Goals as goal

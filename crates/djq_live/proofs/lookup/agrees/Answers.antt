@@ -1,3 +1,4 @@
+-- A variable of the head has its place within the head, and past the end all places have been compared.
 use Rattle.std.proofs.Common.{ℕ, List, ◌<◌, length, ap, ◌∙◌, refl, rules, arith}
 use Rattle.djq_live.specs.Order.{reading}
 use Rattle.djq_live.proofs.Picking.{member_at, place_low, agree_all}

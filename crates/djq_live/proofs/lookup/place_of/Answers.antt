@@ -1,3 +1,4 @@
+-- Before the index the variable doesn't stand, so it stands there first, or past the end nowhere.
 use Rattle.std.proofs.Common.{◌≡◌, ◌∙◌, length, sym, arith}
 use Rattle.djq_live.proofs.Picking.{from_here, from_next, from_end}
 use Rattle.djq_live.proofs.lookup.place_of.Goals as goal

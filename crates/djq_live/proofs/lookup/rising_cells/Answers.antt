@@ -1,3 +1,4 @@
+-- The next variable of the set is one of the head, so its place is within the head and the cells.
 use Rattle.std.proofs.Common.{ℕ, List, ◌<◌, length, ap, ◌∙◌, rules}
 use Rattle.djq_live.proofs.Picking.{popped, first_within, place_low}
 use Rattle.djq_live.proofs.lookup.rising_cells.Goals as goal

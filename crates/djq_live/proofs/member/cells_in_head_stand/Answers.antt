@@ -1,3 +1,4 @@
+-- Place by place the cell stands for the value shown, and the head's variables have the answers' types.
 use Rattle.djq_live.proofs.Standing.{cells_stand}
 use Rattle.djq_live.proofs.member.cells_in_head_stand.Goals as goal
 

@@ -1,3 +1,4 @@
+-- Up to the index the cells are those of the head's first variables, each of which the tree's head has.
 use Rattle.std.proofs.Common.{
   ◌≡◌,
   ◌<◌,

@@ -1,3 +1,4 @@
+-- Heads of different lengths have lists of types of different lengths, and these aren't the same.
 use Rattle.std.proofs.Common.{◌≡◌, ℕ, Bool, true, false, List, [], ◌∷◌, length, map, refl, arith}
 use Rattle.std.specs.Prelude.{◌&&◌}
 use Rattle.djq_model.specs.declared.relation.ColumnType.{ColumnType}

@@ -1,3 +1,4 @@
+-- Rising sets with the variables of the numbered atoms and head are the query's own edges and head.
 use Rattle.std.proofs.Common.{◌≡◌, ℕ, List, [], length, subst, ap, ◌∙◌, arith}
 use Rattle.djq_lines.specs.Hypergraph.{edges_of, head_of}
 use Rattle.djq_lines.specs.Variables.{variables_of}

@@ -1,3 +1,4 @@
+-- Edges that are put in one after another rise, and they are the rest's, none missing and none more.
 use Rattle.std.proofs.Common.{List, ℕ, sym, subst, ap, map, ◌∙◌}
 use Rattle.std.specs.Prelude.{◌↔◌, Contains}
 use Rattle.djq_lines.specs.Hypergraph.{label_name}

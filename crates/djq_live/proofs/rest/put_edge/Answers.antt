@@ -1,3 +1,4 @@
+-- Edges before the place come before the edge; the one there doesn't, so it is the edge or comes behind it.
 use Rattle.std.proofs.Common.{◌≡◌, ◌<◌, List, ℕ, [], length, sym, subst, ap, ◌∙◌, true, arith}
 use Rattle.std.specs.Prelude.{slice_index_or}
 use Rattle.std.proofs.lemmas.List.{get_or_read}

@@ -1,3 +1,4 @@
+-- Clearing the marks keeps all tuples, so what the marks listed is what the reducts gained by the one tuple.
 use Rattle.std.proofs.Common.{true}
 use Rattle.djq_propagate.proofs.Updating.{inserted_gained}
 use Rattle.djq_live.proofs.Leafing.{inserted_lists}

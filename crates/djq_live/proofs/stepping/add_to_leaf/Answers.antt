@@ -1,3 +1,4 @@
+-- The lent tuple is the only one that gives the row; where there is none, nothing is gained.
 use Rattle.std.proofs.Common.{true, length}
 use Rattle.djq_live.proofs.Leafing.{gained_gains, lists_none, only_lent}
 use Rattle.djq_live.proofs.Sizing.{gained_grows, addition_counts}

@@ -1,3 +1,4 @@
+-- Leaves from the index on hold what they held, so they lack the tuple and have room; a refusal keeps all.
 use Rattle.std.proofs.Common.{true, ◌+◌, ◌<◌, length, ℕ, [], ◌∷◌, sym, subst, ◌∙◌}
 use Rattle.djq_live.specs.Changes.{Gains}
 use Rattle.djq_live.specs.Stepping.{Lacks, atoms_below}

@@ -1,3 +1,4 @@
+-- A removal is marked while its tuple is still there, so what the marks list is what goes with it.
 use Rattle.std.proofs.Common.{false}
 use Rattle.djq_propagate.proofs.Updating.{marked_lost}
 use Rattle.djq_live.proofs.Leafing.{marked_lists}

@@ -1,3 +1,4 @@
+-- The lent tuple is the only one that gives the row; where there is none, nothing is lost and nothing listed.
 use Rattle.std.proofs.Common.{false, length}
 use Rattle.djq_live.proofs.Leafing.{lists_none, lost_loses, only_lent}
 use Rattle.djq_live.proofs.stepping.delete_from_leaf.Goals as goal

@@ -1,3 +1,4 @@
+-- Leaves from the index on still have the tuple, and what goes with each stands in the log behind the last.
 use Rattle.std.proofs.Common.{false, ◌+◌, ◌<◌, length, ℕ, sym, subst, ◌∙◌}
 use Rattle.djq_live.specs.Changes.{Loses}
 use Rattle.djq_live.specs.Stepping.{Has, atoms_below}

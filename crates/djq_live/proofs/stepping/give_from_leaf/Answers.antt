@@ -1,3 +1,4 @@
+-- The lent tuple is the only one that gives the row, so a leaf that lost it lost all that give the row.
 use Rattle.djq_live.proofs.Leafing.{lost_loses, only_lent}
 use Rattle.djq_live.proofs.Sizing.{dropping_counts}
 use Rattle.djq_live.proofs.stepping.give_from_leaf.Goals as goal

@@ -1,3 +1,4 @@
+-- Leaves from the index on hold what they held, so the tuple is still there; the tables only shrink.
 use Rattle.std.proofs.Common.{◌+◌, ◌<◌, length, ℕ, sym, subst, ◌∙◌}
 use Rattle.djq_live.specs.Changes.{Loses}
 use Rattle.djq_live.specs.Stepping.{Has, atoms_below}

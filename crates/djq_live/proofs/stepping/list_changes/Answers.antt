@@ -1,3 +1,4 @@
+-- Each answer told leaves fewer to tell; the log tells what the cursor has told, at its end all that changed.
 use Rattle.std.proofs.Common.{sym, subst, ◌∙◌, List, ℕ, length, []}
 use Rattle.std.specs.Prelude.{◌∷◌}
 use Rattle.djq_machine.specs.Store.{most_steps}

@@ -1,3 +1,4 @@
+-- Answers are few, and a reading that hasn't ended has read some more each time, so the reading ends.
 use Rattle.std.proofs.Common.{◌+◌, rules}
 use Rattle.djq_load.specs.Totals.{next_line}
 use Rattle.djq_load.proofs.Few.{read_few, fewer_left}

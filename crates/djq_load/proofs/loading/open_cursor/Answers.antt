@@ -1,3 +1,4 @@
+-- One line came to an idle session, and its reply `ok open` says that the cursor is there and gave nothing.
 use Rattle.std.proofs.Common.{refl, sym, ◌∙◌, rules, arith}
 use Rattle.djq_load.proofs.Idle.{line_loads, line_idle, line_feeds}
 use Rattle.djq_load.proofs.Cursors.{open_stands}

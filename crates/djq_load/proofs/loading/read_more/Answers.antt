@@ -1,3 +1,4 @@
+-- A cursor that wasn't told its end is served its next page, behind the pages that were read before.
 use Rattle.std.proofs.Common.{refl, arith}
 use Rattle.djq_load.proofs.Idle.{line_loads, line_idle}
 use Rattle.djq_load.proofs.Whole.{read_on, read_served}

@@ -1,3 +1,4 @@
+-- The session was just opened, so it is idle; answers are no more than the square of the most rows.
 use Rattle.std.proofs.Common.{sym, ap}
 use Rattle.std.proofs.lemmas.Result.{on_err_weaker}
 use Rattle.djq_machine.specs.State.{State}

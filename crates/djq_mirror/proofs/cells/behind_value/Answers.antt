@@ -1,3 +1,4 @@
+-- What was read is a literal of that length, which is a value exactly where it is printed the same.
 use Rattle.std.proofs.Common.{ℕ, List, Some, ◌-◌, ◌∙◌, length, drop, sym, ap, arith, length-drop}
 use Rattle.std.proofs.lemmas.Bool.{cond-true, cond-false}
 use Rattle.std.proofs.lemmas.List.{take_all}

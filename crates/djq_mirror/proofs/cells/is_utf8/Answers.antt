@@ -1,3 +1,4 @@
+-- Decoding gives a text exactly where the bytes are UTF-8, and an error exactly where they aren't.
 use Rattle.std.proofs.Common.{◌∙◌}
 use Rattle.std.specs.Str.{is_utf8}
 use Rattle.djq_mirror.proofs.Utf8.{ok_is, utf8_no, utf8_yes}

@@ -1,3 +1,4 @@
+-- The set has a text exactly where its keys do, and in byte order each is there at most once.
 use Rattle.std.proofs.Common.{◌∙◌, sym, ap, map}
 use Rattle.std.proofs.lemmas.Bool.{OnFalse_at}
 use Rattle.djq_mirror.proofs.Sets.{set_has, take_acted}

@@ -1,3 +1,4 @@
+-- A session that the hub has just opened, brings bytes of, or tells the end of is open.
 use Rattle.std.proofs.Common.{sym, subst}
 use Rattle.std.specs.Prelude.{Contains}
 use Rattle.std.proofs.lemmas.List.Elements.{Contains-push}

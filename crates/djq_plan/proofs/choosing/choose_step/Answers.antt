@@ -1,3 +1,4 @@
+-- What is left of a label is what may be removed of it, and no label before the index has any of that.
 use Rattle.std.proofs.Common.{arith, false, ◌≡◌, ◌∙◌, ap, sym, List, ℕ}
 use Rattle.djq_hyper.specs.Hypergraph.{difference}
 use Rattle.djq_tree.specs.Choosing.{removable}

@@ -1,3 +1,4 @@
+-- No label before the index contains this one and more, so the first that does is the lowest.
 use Rattle.std.proofs.Common.{rules, arith, true}
 use Rattle.djq_plan.proofs.Rules.{inside_read, cover_is, cover_none}
 use Rattle.djq_hyper.proofs.Checking.{read_at}

@@ -1,3 +1,4 @@
+-- A stuck stage says that the query is neither free-connex nor flat; two ends make a plan, in Deciding.
 use Rattle.std.proofs.Common.{sym, subst}
 use Rattle.djq_tree.specs.Tree.{Tree}
 use Rattle.djq_plan.specs.Plan.{IsPlan}

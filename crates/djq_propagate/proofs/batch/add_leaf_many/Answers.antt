@@ -1,3 +1,4 @@
+-- No mark was there and what came has none; only the path's tables grew, none beyond the longest leaf.
 use Rattle.std.proofs.Common.{false, ℕ, ◌+◌, ◌*◌, ◌≤◌, length, refl, rules, arith}
 use Rattle.djq_reduct.specs.Tables.{entries_at}
 use Rattle.djq_propagate.specs.Updates.{HasAtMost, HasKept, paths}

@@ -1,3 +1,4 @@
+-- The first tuples, as many as there are, are all of them; none came, so no mark is there, nor a longer table.
 use Rattle.std.proofs.Common.{ℕ, List, subst, sym, arith}
 use Rattle.std.proofs.Math.Seq.{take-length}
 use Rattle.djq_reduct.specs.Tables.{entries_at}

@@ -1,3 +1,4 @@
+-- What came is marked and nothing else, so marks above follow from those below; only the path's tables grew.
 use Rattle.std.proofs.Common.{ℕ, ◌+◌, ◌*◌, ◌≤◌, length, rules}
 use Rattle.djq_reduct.specs.Tables.{entries_at}
 use Rattle.djq_propagate.specs.Updates.{HasAtMost, HasKept, paths}

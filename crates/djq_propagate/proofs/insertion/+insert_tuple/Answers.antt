@@ -1,3 +1,4 @@
+-- A node's gain is its parent's, by the parent's equation; where one is refused, all supports are as before.
 use Rattle.std.proofs.Common.{◌≡◌, ℕ, ◌+◌, ◌-◌, ◌*◌, ◌<◌, ◌≤◌, List, length, take, drop, ap, subst, sym, ◌∙◌, arith}
 use Rattle.djq_index.specs.Entries.{Entry, supports_of, count_of, group_of}
 use Rattle.djq_index.proofs.Changing.{inserted_length, supported_length}

@@ -1,3 +1,4 @@
+-- By the loop those before the index came; as they differ, the next is absent; refused, all that came go.
 use Rattle.std.proofs.Common.{ℕ, List, take, subst, sym, ◌∙◌, arith}
 use Rattle.std.proofs.lemmas.List.{take_all}
 use Rattle.djq_reduct.specs.Tables.{entries_at}

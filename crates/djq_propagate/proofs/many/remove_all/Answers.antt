@@ -1,3 +1,4 @@
+-- By the loop those before the index went; as the tuples differ, the next one is still in the leaf.
 use Rattle.std.proofs.Common.{◌≡◌, ℕ, take, subst, arith}
 use Rattle.djq_propagate.specs.Batches.{HaveGone}
 use Rattle.djq_propagate.proofs.Batching.{read_as, gone_none, gone_more, next_held}

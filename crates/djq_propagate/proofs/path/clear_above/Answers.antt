@@ -1,3 +1,4 @@
+-- Only a parent of the path's end is cleared, which is what the node's test says; marks are among its tuples.
 use Rattle.std.proofs.Common.{◌≡◌, ℕ, ◌+◌, ◌*◌, Bool, cond, refl, ap, sym, ◌∙◌, arith}
 use Rattle.std.proofs.lemmas.Bool.{false≢true}
 use Rattle.djq_index.specs.Tuple.{one}

@@ -1,3 +1,4 @@
+-- By the loop the path's nodes below the index have no marks, and each that was met is one step of the count.
 use Rattle.std.proofs.Common.{◌≡◌, ℕ, ◌+◌, ◌*◌, ◌≤◌, length, ap, subst, sym, arith}
 use Rattle.djq_index.specs.Tuple.{one}
 use Rattle.djq_tree.specs.Tree.{node_at, has_child}

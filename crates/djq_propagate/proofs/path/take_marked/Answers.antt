@@ -1,3 +1,4 @@
+-- The first marked tuple lies in the leaf, so each round makes the leaf shorter until it has no mark.
 use Rattle.std.proofs.Common.{ℕ, List, sym, subst, ◌∙◌, arith}
 use Rattle.djq_index.specs.Table.{IsAt}
 use Rattle.djq_index.specs.Entries.{marks}

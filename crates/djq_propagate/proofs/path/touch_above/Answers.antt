@@ -1,3 +1,4 @@
+-- Of the cases, child or not, second stage or not, removal or not, each way out has one and denies the others.
 use Rattle.std.proofs.Common.{◌≡◌, ℕ, ◌+◌, ◌*◌, Bool, cond, refl, ap, sym, ◌∙◌, arith}
 use Rattle.std.proofs.lemmas.Bool.{false≢true}
 use Rattle.djq_index.specs.Tuple.{one}

@@ -1,3 +1,4 @@
+-- By the loop the walk is at the path's last node below the index, and up to there the marks are made.
 use Rattle.std.proofs.Common.{◌≡◌, ℕ, ◌+◌, ◌*◌, ◌≤◌, true, false, length, subst, sym, arith}
 use Rattle.djq_index.specs.Tuple.{one}
 use Rattle.djq_index.specs.Entries.{marks}

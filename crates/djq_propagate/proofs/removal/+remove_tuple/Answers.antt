@@ -1,3 +1,4 @@
+-- A node's loss is its parent's, by the parent's equation, whose other tables stay; each step goes one up.
 use Rattle.std.proofs.Common.{rules, ◌≡◌, ℕ, ◌+◌, ◌-◌, ◌<◌, List, take, drop, subst, sym, ◌∙◌, arith}
 use Rattle.djq_index.specs.Entries.{supports_of, count_of, group_of}
 use Rattle.djq_index.proofs.Changing.{removed_length, supported_length}

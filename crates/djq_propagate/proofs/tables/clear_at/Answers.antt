@@ -1,3 +1,4 @@
+-- What is said of the table that is written back is said of the node's; supports stay without marks.
 use Rattle.std.proofs.Common.{◌≡◌, ◌+◌, List, length, subst, sym, ap, ◌∙◌}
 use Rattle.djq_index.specs.Entries.{Entry, marks, unmarked}
 use Rattle.djq_index.specs.Table.{AreSupported}

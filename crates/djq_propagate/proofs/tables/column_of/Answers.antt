@@ -1,3 +1,4 @@
+-- The key and the width read are the node's; a table's law has each column of its key below the width.
 use Rattle.std.proofs.Common.{ℕ, List, subst, sym, ◌∙◌, arith}
 use Rattle.djq_index.specs.Table.{AreColumns}
 use Rattle.djq_index.proofs.Columns.{column_below}

@@ -1,3 +1,4 @@
+-- The entries of the table that is read are the node's.
 use Rattle.std.proofs.Common.{◌≡◌, List, MatchOption, subst}
 use Rattle.djq_index.specs.Entries.{Entry, count_of}
 use Rattle.djq_index.specs.Table.{IsAt}

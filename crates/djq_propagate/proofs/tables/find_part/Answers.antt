@@ -1,3 +1,4 @@
+-- By a key of one column a tuple's part is the one cell there.
 use Rattle.std.proofs.Common.{◌≡◌, ℕ, List, MatchOption, subst}
 use Rattle.djq_index.specs.Entries.{count_of}
 use Rattle.djq_index.specs.Table.{IsAt}

@@ -1,3 +1,4 @@
+-- The entries and the key of the table that is read are the node's, and so are its groups.
 use Rattle.std.proofs.Common.{ℕ, List, ap, ◌∙◌}
 use Rattle.djq_index.specs.Entries.{Entry, group_of, head_at}
 use Rattle.djq_reduct.specs.Tables.{entries_at}

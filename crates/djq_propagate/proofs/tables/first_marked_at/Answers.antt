@@ -1,3 +1,4 @@
+-- The entries of the table that is read are the node's, and so are the marked ones.
 use Rattle.std.proofs.Common.{List, ap, ◌∙◌}
 use Rattle.djq_index.specs.Entries.{Entry, marks, head_at}
 use Rattle.djq_propagate.proofs.Tabling.{entries_of}

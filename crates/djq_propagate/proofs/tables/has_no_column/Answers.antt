@@ -1,3 +1,4 @@
+-- The key of the table that is read is the node's, and it is empty if it has no first column.
 use Rattle.std.proofs.Common.{sym, ◌∙◌, rules}
 use Rattle.djq_propagate.proofs.Tabling.{key_of, is_none}
 use Rattle.djq_propagate.proofs.tables.has_no_column.Goals as goal

@@ -1,3 +1,4 @@
+-- What is said of the table written back is said of the node's; a tuple comes with a support or not at all.
 use Rattle.std.proofs.Common.{◌≡◌, ◌<◌, List, [], length, IfOk, OnErr, sym, ◌∙◌}
 use Rattle.djq_index.specs.Entries.{Entry, count_of, marks}
 use Rattle.djq_index.specs.Table.{IsAt}

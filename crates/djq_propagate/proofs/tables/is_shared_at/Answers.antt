@@ -1,3 +1,4 @@
+-- The entries of the table that is read are the node's, and so are each tuple's supports.
 use Rattle.std.proofs.Common.{ℕ, List, subst, sym, ap, ◌∙◌}
 use Rattle.std.specs.Prelude.{nat_lt}
 use Rattle.djq_index.specs.Entries.{Entry, supports_of}

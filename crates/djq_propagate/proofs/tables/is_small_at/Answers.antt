@@ -1,3 +1,4 @@
+-- The entries of the table that is read are the node's, and so is their number, which its law bounds.
 use Rattle.std.proofs.Common.{◌≤◌, List, length, subst}
 use Rattle.djq_index.specs.Entries.{Entry}
 use Rattle.djq_propagate.proofs.Tabling.{entries_of}

@@ -1,3 +1,4 @@
+-- The entries of the table that is read are the node's, and so is each tuple's mark.
 use Rattle.std.proofs.Common.{List, subst, sym, ap, ◌∙◌}
 use Rattle.djq_index.specs.Entries.{Entry, is_marked}
 use Rattle.djq_index.specs.Table.{IsAt, IsLive}

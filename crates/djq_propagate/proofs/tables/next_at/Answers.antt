@@ -1,3 +1,4 @@
+-- The entries and the key of the table that is read are the node's, and so is what follows in a group.
 use Rattle.std.proofs.Common.{ℕ, List, subst, sym, ap, ◌∙◌}
 use Rattle.djq_index.specs.Entries.{Entry, group_of}
 use Rattle.djq_index.specs.Table.{IsLive}

@@ -1,3 +1,4 @@
+-- The entries of the table that is read are the node's, and so is what follows among the marked ones.
 use Rattle.std.proofs.Common.{List, subst, sym, ap, ◌∙◌}
 use Rattle.djq_index.specs.Entries.{Entry, marks}
 use Rattle.djq_index.specs.Table.{IsLive}

@@ -1,3 +1,4 @@
+-- The key of the table that is read is the node's; a table's law has its columns below the tuple's width.
 use Rattle.std.proofs.Common.{ℕ, List, length, subst, sym, ap, ◌∙◌, arith}
 use Rattle.djq_index.specs.Tuple.{pick}
 use Rattle.djq_index.specs.Table.{AreColumns}

@@ -1,3 +1,4 @@
+-- What is said of the table written back is said of the node's; a tuple with one support more has one.
 use Rattle.std.proofs.Common.{ℕ, ◌+◌, List, arith}
 use Rattle.djq_index.specs.Entries.{Entry, supports_of}
 use Rattle.djq_index.specs.Table.{IsAt, IsRaisable}

@@ -1,3 +1,4 @@
+-- The entries and the width read are the node's; a table's law has each of its tuples that wide.
 use Rattle.std.proofs.Common.{ℕ, List, length, subst, sym, ap, ◌∙◌, arith}
 use Rattle.djq_index.specs.Entries.{Entry}
 use Rattle.djq_index.specs.Table.{IsAt, IsLive}

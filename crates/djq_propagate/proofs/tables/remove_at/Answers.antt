@@ -1,3 +1,4 @@
+-- What is said of the table written back is said of the node's; the tuples that stay keep their supports.
 use Rattle.std.proofs.Common.{ℕ, List}
 use Rattle.djq_index.specs.Entries.{Entry}
 use Rattle.djq_index.specs.Table.{IsAt, IsLive}

@@ -1,3 +1,4 @@
+-- At an index below the number of tables the list has the node's table.
 use Rattle.djq_propagate.proofs.Tabling.{read_table}
 use Rattle.djq_propagate.proofs.tables.table_of.Goals as goal
 

@@ -1,3 +1,4 @@
+-- Tables that hold no tuple have no marked one.
 use Rattle.djq_propagate.proofs.Updating.{bare_empty}
 use Rattle.djq_propagate.proofs.tests.planned.Goals as goal
 

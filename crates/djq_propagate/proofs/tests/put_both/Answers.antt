@@ -1,3 +1,4 @@
+-- Different numbers make different tuples of one cell, and the leaf has neither of the two.
 use Rattle.std.proofs.Common.{◌≡◌, ◌≢◌, ℕ, List, [], ◌∷◌, ◌++◌, length, ap, ap₂, subst, sym, ◌∙◌}
 use Rattle.std.proofs.Common.{inl, inr, arith, rules}
 use Rattle.std.specs.Prelude.{slice_index}

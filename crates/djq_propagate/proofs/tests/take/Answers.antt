@@ -1,3 +1,4 @@
+-- A tuple that lies at a place is among the entries, so it is there at least once.
 use Rattle.std.proofs.Common.{◌<◌, List, subst}
 use Rattle.djq_index.specs.Entries.{Entry, count_of}
 use Rattle.djq_index.proofs.Apart.{there}

@@ -1,3 +1,4 @@
+-- Marked ones come last in a group, so if its first tuple is marked all are; an empty group has none unmarked.
 use Rattle.std.proofs.Common.{Bool, ap, sym, ◌∙◌, arith}
 use Rattle.djq_index.specs.Entries.{group_size, plain}
 use Rattle.djq_reduct.specs.Tables.{entries_at, key_at}

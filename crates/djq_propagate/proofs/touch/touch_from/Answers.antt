@@ -1,3 +1,4 @@
+-- What a tuple reaches above is told by the node's kind: its projection, itself, or the guard's group.
 use Rattle.std.proofs.Common.{sym, ◌∙◌, arith}
 use Rattle.djq_index.specs.Tuple.{same, one}
 use Rattle.djq_index.specs.Entries.{count_of, group_of}

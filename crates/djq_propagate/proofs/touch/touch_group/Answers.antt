@@ -1,3 +1,4 @@
+-- By the loop those of the group before the index are marked; the guard is below the meet and stays as it was.
 use Rattle.std.proofs.Common.{ℕ, ◌+◌, List, take, drop, ap, sym, ◌∙◌, arith}
 use Rattle.djq_index.specs.Tuple.{same, one}
 use Rattle.djq_index.specs.Entries.{count_of, group_of}

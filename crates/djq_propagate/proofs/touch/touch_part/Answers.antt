@@ -1,3 +1,4 @@
+-- What is reached at the trim is the tuple's projection alone, and not even that where the test forbids it.
 use Rattle.std.proofs.Common.{◌∙◌, arith}
 use Rattle.djq_index.specs.Tuple.{same, one}
 use Rattle.djq_tree.specs.declared.node.Node.TheVariants.{Trim}

@@ -1,3 +1,4 @@
+-- By the loop what the marks before the index reach is marked; the children are below and stay as they were.
 use Rattle.std.proofs.Common.{ℕ, ◌+◌, List, [], length, take, drop, ap, sym, ◌∙◌, arith}
 use Rattle.djq_index.specs.Entries.{Entry, marks}
 use Rattle.djq_tree.specs.Tree.{node_at}

@@ -1,3 +1,4 @@
+-- A tuple stands once in a table, so where it is absent, or marked, there is nothing left to mark.
 use Rattle.std.proofs.Common.{sym, ◌∙◌, arith}
 use Rattle.djq_index.specs.Tuple.{same, one}
 use Rattle.djq_reduct.specs.Tables.{entries_at}

@@ -1,3 +1,4 @@
+-- No tuple was marked, nor is what came; counts go by how tables grew, over equal meets by one at most.
 use Rattle.std.proofs.Common.{false, ℕ, ◌+◌, ◌*◌, ◌<◌, ◌≤◌, length, sym, ◌∙◌, refl, rules, arith}
 use Rattle.djq_tree.specs.Flat.{HasEqualMeets}
 use Rattle.djq_reduct.specs.Tables.{entries_at}

@@ -1,3 +1,4 @@
+-- No tuple came, so none is marked; counts go by how tables shrank, over equal meets by one at most.
 use Rattle.std.proofs.Common.{sym, arith}
 use Rattle.djq_propagate.proofs.Fewing.{one_died}
 use Rattle.djq_propagate.proofs.Measuring.{drop_by, sized}

@@ -1,3 +1,4 @@
+-- What went leaves marks on the path alone, which is then cleared; counts go by how tables shrank.
 use Rattle.std.proofs.Common.{sym}
 use Rattle.djq_propagate.proofs.Fewing.{few_taken, one_taken}
 use Rattle.djq_propagate.proofs.Measuring.{take_by, take_counted}

@@ -1,3 +1,4 @@
+-- What came is marked and nothing else, so marks above follow from those below; counts go by the growth.
 use Rattle.std.proofs.Common.{ℕ, ◌+◌, ◌*◌, ◌<◌, ◌≤◌, List, length, ap, sym, ◌∙◌, rules, arith}
 use Rattle.djq_index.specs.Entries.{Entry, count_of}
 use Rattle.djq_tree.specs.Flat.{HasEqualMeets}

@@ -1,3 +1,4 @@
+-- No tuple was marked, so the leaf's is the only mark, and the path above is free to be marked.
 use Rattle.djq_index.specs.Tuple.{one, same}
 use Rattle.std.proofs.Common.{arith, length}
 use Rattle.djq_propagate.specs.Updates.{steps, paths}

@@ -1,3 +1,4 @@
+-- Reducts of one tree whose leaves hold the same tuples hold the same at every node.
 use Rattle.djq_propagate.proofs.Updating.{undone}
 use Rattle.djq_propagate.proofs.update.undo_insertion.Goals as goal
 

@@ -1,3 +1,4 @@
+-- A body with an atom more is in range just where the body and the atom's terms are, as Bodies says.
 use Rattle.std.proofs.Common.{◌∷◌, ◌++◌, ◌&&◌, [], List, Some, subst, sym, ◌∙◌}
 use Rattle.std.specs.List.{list_all}
 use Rattle.djq_model.specs.declared.query.Atom.{Atom}

@@ -1,3 +1,4 @@
+-- A body with a comparison more is in range just where the body and the comparison's constant are.
 use Rattle.std.proofs.Common.{◌∷◌, ◌++◌, ◌&&◌, [], Some, length, subst, sym, ◌∙◌}
 use Rattle.djq_value.specs.Literal.{is_small_value}
 use Rattle.djq_model.specs.declared.query.Comparison.{Comparison}

@@ -1,3 +1,4 @@
+-- A name with `(` behind it begins an atom and a name with an operator a comparison, by the grammar's steps.
 use Rattle.std.proofs.Common.{◌∷◌, length, subst, sym, ap, ◌∙◌}
 use Rattle.std.specs.List.{list_all}
 use Rattle.djq_value.specs.Lexing.{lexeme_of}

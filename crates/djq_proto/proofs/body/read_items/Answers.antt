@@ -1,3 +1,4 @@
+-- Before each turn the items are those read and then those of the rest, and what is behind an item is shorter.
 use Rattle.std.proofs.Common.{◌≡◌, ◌∷◌, Some, None, Result, Err, length, refl, sym, ap, subst, ◌∙◌, arith}
 use Rattle.djq_lines.specs.Grammar.{Body, behind_item, item_in, items_in, with_atoms}
 use Rattle.djq_value.specs.Lexing.{lexeme_of}

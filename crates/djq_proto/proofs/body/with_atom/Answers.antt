@@ -1,3 +1,4 @@
+-- Terms that aren't outside the grammar are there, so an atom of them is the item, and the body has an atom.
 use Rattle.std.proofs.Common.{Some, true, option_map, subst, sym, ◌∙◌}
 use Rattle.std.specs.List.{list_all}
 use Rattle.djq_lines.specs.Grammar.{is_small_term}

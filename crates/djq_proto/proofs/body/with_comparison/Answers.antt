@@ -1,3 +1,4 @@
+-- A constant that isn't outside the grammar is there, and with a comparison more there is an atom as before.
 use Rattle.std.proofs.Common.{Some, length, option_map, subst, sym, ◌∙◌}
 use Rattle.djq_value.specs.Literal.{is_small_value}
 use Rattle.djq_lines.specs.Grammar.{compared}

@@ -1,3 +1,4 @@
+-- The standard library's answer is fine just where the bytes are UTF-8 as the spec says, in both directions.
 use Rattle.std.proofs.Common.{◌∙◌}
 use Rattle.std.specs.Str.{is_utf8}
 use Rattle.djq_proto.proofs.Utf8.{ok_is, utf8_no}

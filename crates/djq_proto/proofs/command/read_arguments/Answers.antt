@@ -1,3 +1,4 @@
+-- What refuses a relation's types, a union's members or a query refuses the command made of them, by Making.
 use Rattle.std.proofs.Common.{Result, Ok, subst, sym}
 use Rattle.djq_lines.specs.Grammar.{command_behind, named_some, name_and_members, query_in, type_of}
 use Rattle.djq_lines.specs.declared.command.Command.{Command}

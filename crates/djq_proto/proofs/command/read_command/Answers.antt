@@ -1,3 +1,4 @@
+-- A line that isn't UTF-8 says no command; any other says what its tokens say.
 use Rattle.std.proofs.Common.{◌∙◌, sym, subst, refl, Result, Err}
 use Rattle.std.proofs.lemmas.Bool.{cond-false, cond-true}
 use Rattle.djq_lines.specs.Grammar.{command_in, command_of}

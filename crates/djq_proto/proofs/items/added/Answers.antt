@@ -1,3 +1,4 @@
+-- A list with one item more at its end is in range just where the list and the item are.
 use Rattle.std.proofs.Common.{◌∷◌, ◌++◌, ◌&&◌, [], List, Some, subst, sym, ap, ◌∙◌}
 use Rattle.std.specs.List.{list_all}
 use Rattle.djq_proto.specs.Reading.{ReadsAs}

@@ -1,3 +1,4 @@
+-- An item that isn't outside the grammar is there, so those read and those of the rest are all items still.
 use Rattle.std.proofs.Common.{sym, ◌∙◌}
 use Rattle.djq_value.specs.Lexing.{lexeme_of}
 use Rattle.djq_proto.proofs.Listing.{read_more, reads_some}

@@ -1,3 +1,4 @@
+-- An item that isn't outside the grammar is there; `)` ends the list behind it, and a comma goes on with it.
 use Rattle.std.proofs.Common.{sym, ◌∙◌, ap, ◌∷◌}
 use Rattle.djq_value.specs.Lexing.{lexeme_of}
 use Rattle.djq_value.specs.Token.{comma}

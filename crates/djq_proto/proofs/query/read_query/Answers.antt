@@ -1,3 +1,4 @@
+-- A name and a head that isn't outside the grammar are there, so the query is refused as its body or head is.
 use Rattle.std.proofs.Common.{sym, subst, ◌∙◌, List, true, Some, Result, Err}
 use Rattle.std.specs.List.{list_all}
 use Rattle.djq_model.specs.Data.{Bytes}

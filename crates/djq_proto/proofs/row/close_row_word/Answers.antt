@@ -1,3 +1,4 @@
+-- Bytes that begin with a keyword and a space have it for their first token, and the others behind 4 bytes.
 use Rattle.std.proofs.Common.{codes}
 use Rattle.std.proofs.lemmas.Bool.Decides.{Decides-eqb}
 use Rattle.std.proofs.lemmas.Slice.Eq.{starts_is}

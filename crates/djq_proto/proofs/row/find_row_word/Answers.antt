@@ -1,3 +1,4 @@
+-- A line with another first byte begins with another word, so its tokens begin with no row's keyword.
 use Rattle.std.proofs.Common.{◌∙◌, sym}
 use Rattle.djq_proto.proofs.Beginning.{begins_none}
 use Rattle.djq_proto.proofs.row.find_row_word.Goals as goal

@@ -1,3 +1,4 @@
+-- The row's front was written over, so it is what was read; a line of such numbers has ASCII bytes alone.
 use Rattle.std.proofs.Common.{◌≤◌, ◌<◌, ◌∙◌, [], Ok, ap, arith, length, subst, sym, take}
 use Rattle.std.proofs.lemmas.List.{take_all}
 use Rattle.djq_model.specs.Data.{Tuple}

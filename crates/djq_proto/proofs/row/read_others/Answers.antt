@@ -1,3 +1,4 @@
+-- Numbers read behind numbers are one row of numbers, each of them small, and values are read behind those.
 use Rattle.std.proofs.Common.{◌∙◌, [], ap, arith, sym}
 use Rattle.std.specs.List.{list_all}
 use Rattle.std.proofs.lemmas.Bool.{and_from, eqb-false}

@@ -1,3 +1,4 @@
+-- Before each turn the values read so far give this refusal, and the first in the order is kept with one more.
 use Rattle.std.proofs.Common.{◌∙◌, ◌++◌, ◌∷◌, [], refl, subst, sym}
 use Rattle.djq_value.specs.Lexing.{lexeme_of}
 use Rattle.djq_value.specs.Literal.{is_small_value, literal_of}

@@ -1,3 +1,4 @@
+-- Where a row's keyword is taken in front, the line says its command with the name and values read behind it.
 use Rattle.std.proofs.Common.{Some, subst}
 use Rattle.djq_value.specs.Token.{tokens}
 use Rattle.djq_proto.specs.RowReading.{TakesRowWord}

@@ -1,3 +1,4 @@
+-- The values before are small, so the one that is refused gives the refusal of all that were read so far.
 use Rattle.std.proofs.Common.{◌∙◌, ◌++◌, ◌∷◌, [], Some, subst, sym}
 use Rattle.djq_value.specs.Lexing.{lexeme_of}
 use Rattle.djq_value.specs.Literal.{is_small_value, literal_of}

@@ -1,3 +1,4 @@
+-- The line is what stands before the first LF, without a CR, and what is behind it begins one byte further.
 use Rattle.std.proofs.Common.{◌∙◌, ◌≡◌, ◌≤◌, sym, arith, take, length}
 use Rattle.std.proofs.lemmas.List.{take-take, length-take-le}
 use Rattle.djq_proto.proofs.Cutting.{front_of-long_at, front_of-line}

@@ -1,3 +1,4 @@
+-- Which term stands at the column tells the slot: a variable's place among the members, or a constant's cell.
 use Rattle.djq_query.proofs.Binding.{slot_found, slot_fixed}
 use Rattle.djq_query.proofs.bind.slot_of.Goals as goal
 

@@ -1,3 +1,4 @@
+-- Slots of the terms seen and of those to come make up the whole list; past the end none is to come.
 use Rattle.std.proofs.Common.{◌+◌, ◌∙◌, ap, sym, List, ◌++◌, drop}
 use Rattle.djq_query.specs.declared.pattern.Slot.{Slot}
 use Rattle.djq_query.specs.Pattern.{bound}

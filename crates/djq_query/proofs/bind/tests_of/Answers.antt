@@ -1,3 +1,4 @@
+-- A comparison is one test where its variable is a member, and none elsewhere; past the end none is to come.
 use Rattle.std.proofs.Common.{◌+◌, ◌∙◌, ap, sym, List, ◌++◌, [], drop, append-nil}
 use Rattle.djq_query.specs.declared.pattern.Test.{Test}
 use Rattle.djq_query.specs.Pattern.{tests_of}

@@ -1,3 +1,4 @@
+-- What holds of the comparison at the index is added to what holds of those before, which all suit.
 use Rattle.std.proofs.Common.{sym, ap, ap₂, ◌∙◌}
 use Rattle.std.specs.Prelude.{◌||◌}
 use Rattle.std.proofs.lemmas.List.Folds.{list_any_at, list_any_more}

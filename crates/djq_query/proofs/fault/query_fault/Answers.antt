@@ -1,3 +1,4 @@
+-- The first condition that holds is the fault, since none before it holds of the query's atoms and head.
 use Rattle.std.proofs.Common.{◌≡◌, true, false, ◌∙◌, sym}
 use Rattle.djq_value.specs.Literal.{are_different}
 use Rattle.djq_lines.specs.QueryFault.{reads_unknown, has_wrong_arity, has_misfit, has_clash}

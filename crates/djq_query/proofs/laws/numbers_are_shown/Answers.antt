@@ -1,3 +1,4 @@
+-- Variables come only behind those that are known, so a number keeps the name and the type it was given.
 use Rattle.djq_query.proofs.Showing.{shown_by}
 use Rattle.djq_query.proofs.laws.numbers_are_shown.Goals as goal
 

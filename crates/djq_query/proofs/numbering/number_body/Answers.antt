@@ -1,3 +1,4 @@
+-- Atoms to come are numbered over the names that are known by then, and stand behind those that are done.
 use Rattle.std.proofs.Common.{◌+◌, sym, subst, ap, ◌∙◌, List, ◌++◌, drop}
 use Rattle.std.specs.List.{fold}
 use Rattle.djq_query.specs.declared.numbered.NumberedAtom.{NumberedAtom}

@@ -1,3 +1,4 @@
+-- The place of the first variable with the name, or past all where there is none, is the name's number.
 use Rattle.std.proofs.Common.{◌≡◌, ℕ, ap, ap₂, ◌∙◌, length}
 use Rattle.std.specs.Prelude.{unwrap_or}
 use Rattle.djq_model.specs.declared.value.Value.{Value}

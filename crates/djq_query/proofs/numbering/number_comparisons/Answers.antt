@@ -1,3 +1,4 @@
+-- The comparisons up to the index by number, and the next one behind them, are those one place further.
 use Rattle.std.proofs.Common.{sym, ap₂, ◌∙◌, ◌++◌, ◌∷◌, []}
 use Rattle.djq_query.specs.Numbered.{labels, numbered_comparison}
 use Rattle.djq_query.proofs.Numbers.{compared_step}

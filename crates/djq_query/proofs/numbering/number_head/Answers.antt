@@ -1,3 +1,4 @@
+-- The names up to the index by number, and the next one behind them, are those one place further.
 use Rattle.std.proofs.Common.{sym, ap, ap₂, ◌∙◌, ◌++◌, ◌∷◌, [], length}
 use Rattle.std.specs.Prelude.{unwrap_or}
 use Rattle.djq_query.specs.Numbered.{labels, number_of}

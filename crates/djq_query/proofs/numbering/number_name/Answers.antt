@@ -1,3 +1,4 @@
+-- A name that is found is known and adds no variable; one that isn't comes behind all that are known.
 use Rattle.std.proofs.Common.{◌≡◌, sym, ap, ◌∙◌}
 use Rattle.std.specs.Prelude.{position, Some, None}
 use Rattle.djq_lines.specs.Variables.{is_named}

@@ -1,3 +1,4 @@
+-- A query without a fault has few variables, and each number in it is that of one of them, as Within shows.
 use Rattle.std.proofs.Common.{◌≡◌, List, [], subst, ap, ap₂, ◌∙◌}
 use Rattle.std.specs.Prelude.{map}
 use Rattle.std.specs.List.{fold}

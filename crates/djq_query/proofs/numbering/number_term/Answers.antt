@@ -1,3 +1,4 @@
+-- A hole comes behind the known variables without a name, and a constant adds no variable.
 use Rattle.std.proofs.Common.{sym, ◌∙◌}
 use Rattle.djq_query.proofs.Numbers.{with_hole, with_constant}
 use Rattle.djq_query.proofs.numbering.number_term.Goals as goal

@@ -1,3 +1,4 @@
+-- Terms to come are numbered over the names that are known by then; past the end none is to come.
 use Rattle.std.proofs.Common.{◌+◌, refl, sym, ap, ap₂, ◌∙◌, arith, List, ◌++◌, ◌∷◌, [], drop}
 use Rattle.djq_query.specs.declared.numbered.NumberedTerm.{NumberedTerm}
 use Rattle.djq_query.specs.declared.numbered.Variable.{Variable}

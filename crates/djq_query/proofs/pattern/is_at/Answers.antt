@@ -1,3 +1,4 @@
+-- The slot is a place, which gives the tuple's cell there, and this place has the column's number.
 use Rattle.djq_query.proofs.Matching.{placed_at}
 use Rattle.djq_query.proofs.pattern.is_at.Goals as goal
 

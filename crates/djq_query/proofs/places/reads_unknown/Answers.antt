@@ -1,3 +1,4 @@
+-- A relation is there exactly where its name has a number, so the atom at the index reads a known one.
 use Rattle.std.proofs.Common.{sym, ◌∙◌, ap, ap₂, ◌≡◌, false}
 use Rattle.std.specs.Prelude.{is_none, not, ◌||◌}
 use Rattle.std.proofs.lemmas.List.Folds.{list_any_more}

@@ -1,3 +1,4 @@
+-- What is behind the index is cut to the list's end, so the name there and those behind it decide together.
 use Rattle.std.proofs.Common.{sym, ◌∙◌, ap, ◌≡◌, ◌+◌, drop, true, false}
 use Rattle.std.specs.Prelude.{not, ◌&&◌}
 use Rattle.djq_value.specs.Literal.{are_different, has_name}

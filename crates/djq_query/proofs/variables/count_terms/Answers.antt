@@ -1,3 +1,4 @@
+-- A fresh term adds one variable to those of the terms before it, and any other term adds none.
 use Rattle.std.proofs.Common.{arith, ◌∙◌, ◌+◌}
 use Rattle.djq_lines.specs.Variables.{variables_of}
 use Rattle.djq_query.proofs.Counting.{count_more, count_same, many_terms}

@@ -1,3 +1,4 @@
+-- The readers of one group are among those of all, so they have logs; one group more adds its readers alone.
 use Rattle.std.proofs.Common.{arith, length, take, ℕ, List, Bool, subst, ◌≡◌, true, ◌∙◌, ap}
 use Rattle.std.specs.Prelude.{◌&&◌}
 use Rattle.djq_reach.specs.Places.{is_reader, readers_at, watched_at}

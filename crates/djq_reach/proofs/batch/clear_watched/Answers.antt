@@ -1,3 +1,4 @@
+-- Each of the places has a log, and one place more adds that place alone, where its query is watched.
 use Rattle.std.proofs.Common.{arith, ℕ, Bool, refl, subst, take, slice_index_or}
 use Rattle.std.specs.Prelude.{◌&&◌, ◌==◌}
 use Rattle.djq_reach.specs.Places.{is_reader, watched_at}

@@ -1,3 +1,4 @@
+-- The readers of one group are among those of all, so they have logs; one group more empties theirs alone.
 use Rattle.std.proofs.Common.{arith, length, take, ℕ, List, subst, ◌<◌, ◌≡◌, true, ◌∙◌, ap}
 use Rattle.djq_reach.specs.Places.{is_reader, readers_at}
 use Rattle.djq_reach.specs.Grouping.{reached}

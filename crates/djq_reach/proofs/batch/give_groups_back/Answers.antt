@@ -1,3 +1,4 @@
+-- Over a catalog with the groups that are left the queries are kept, so the last of these groups can go.
 use Rattle.std.proofs.Common.{ℕ, List, arith, length, take, subst, refl, sym, ap, ◌+◌, ◌-◌, ◌∙◌, ◌≡◌, ◌<◌, true, false}
 use Rattle.std.specs.Prelude.{slice_index_or, sum_by}
 use Rattle.std.proofs.lemmas.List.Sums.{sum_by_more}

@@ -1,3 +1,4 @@
+-- Over the chain's catalog with the groups so far the queries are kept, so the next can come and these can go.
 use Rattle.std.proofs.Common.{ℕ, List, arith, length, take, subst, refl, sym, ap, false, ◌+◌, ◌∙◌, ◌≡◌, ◌≤◌}
 use Rattle.std.specs.Prelude.{sum_by, ⊤}
 use Rattle.djq_propagate.specs.Updates.{HasAtMost}

@@ -1,3 +1,4 @@
+-- The place has a query, the one read, and a log; what both become is said of this place alone.
 use Rattle.std.proofs.Common.{◌∙◌, subst, Bool}
 use Rattle.djq_reach.specs.Tending.{TellsAt, TellsWhere}
 use Rattle.djq_live.specs.Changes.{Went}

@@ -1,3 +1,4 @@
+-- Where it is wanted the log was emptied before, so what it tells is what went with this row.
 use Rattle.djq_live.specs.Changes.{Went}
 use Rattle.djq_reach.proofs.Tending.{tells_where}
 use Rattle.djq_reach.proofs.reach.delete_from_query.Goals as goal

@@ -1,3 +1,4 @@
+-- No place stands twice, so the query in the next place is as it was and can still let the row go.
 use Rattle.std.proofs.Common.{◌∙◌, refl}
 use Rattle.djq_live.specs.Updating.{CanDelete}
 use Rattle.djq_reach.specs.Reaching.{LetsOut}

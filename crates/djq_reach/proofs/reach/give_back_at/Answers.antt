@@ -1,3 +1,4 @@
+-- The place has a query, which is the one read, and what is done to it is done in this place alone.
 use Rattle.djq_live.specs.Updating.{CanDelete}
 use Rattle.djq_reach.specs.Reaching.{LetsOut}
 use Rattle.djq_reach.proofs.Reaching.{below_some, place_read, reach_read}

@@ -1,3 +1,4 @@
+-- The place has a query, the one read, and a log; either it took the row in or it is as before, with no line.
 use Rattle.std.proofs.Common.{◌∙◌, subst, Bool}
 use Rattle.djq_live.specs.Changes.{Came}
 use Rattle.djq_live.specs.Updating.{CanAdd}

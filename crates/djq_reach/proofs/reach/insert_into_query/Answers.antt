@@ -1,3 +1,4 @@
+-- Where it is wanted the log was emptied before, so what it tells came with this row; a refusal empties it.
 use Rattle.djq_live.specs.Changes.{Came}
 use Rattle.djq_reach.proofs.Tending.{on_both, on_err, on_ok, on_refused, tells_where}
 use Rattle.djq_reach.proofs.reach.insert_into_query.Goals as goal

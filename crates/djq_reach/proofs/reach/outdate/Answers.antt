@@ -1,3 +1,4 @@
+-- No place stands twice, so the query in the next place is as it was.
 use Rattle.std.specs.Prelude.{⊤}
 use Rattle.djq_reach.specs.Reaching.{Ages}
 use Rattle.djq_reach.proofs.Reaching.{reach_next, still}

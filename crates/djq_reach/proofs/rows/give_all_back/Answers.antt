@@ -1,3 +1,4 @@
+-- No place stands twice, so the query in the next place is as it was and still has the rows to give.
 use Rattle.std.proofs.Common.{◌∙◌, ◌+◌, refl, false, length}
 use Rattle.djq_propagate.specs.Updates.{HasAtMost}
 use Rattle.djq_reach.specs.Batching.{CanGiveAll, LetsOutAll}

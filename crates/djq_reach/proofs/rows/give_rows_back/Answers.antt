@@ -1,3 +1,4 @@
+-- Over a catalog into which the rows that are left came the query is kept, so the last of them can go.
 use Rattle.std.proofs.Common.{ℕ, List, arith, take, length, subst, ◌∙◌, ◌-◌, ◌≤◌}
 use Rattle.djq_propagate.specs.Updates.{HasAtMost}
 use Rattle.djq_reach.proofs.Batching.{Among, all_gone, counts_as_one, counts_gone, fewer_then}

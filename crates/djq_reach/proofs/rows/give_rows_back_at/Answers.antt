@@ -1,3 +1,4 @@
+-- The place has a query, which is the one read; what it gives and counts is said of this place alone.
 use Rattle.std.proofs.Common.{◌+◌, false, length}
 use Rattle.djq_propagate.specs.Updates.{HasAtMost}
 use Rattle.djq_reach.specs.Batching.{CanGiveAll, LetsOutAll}

@@ -1,3 +1,4 @@
+-- No place stands twice, so the next query is as it was; where it refuses, those in front have rows to give.
 use Rattle.std.proofs.Common.{◌+◌, arith, take, ◌∙◌, refl, false, length}
 use Rattle.djq_propagate.specs.Updates.{HasAtMost}
 use Rattle.djq_live.specs.Changes.{CameAll}

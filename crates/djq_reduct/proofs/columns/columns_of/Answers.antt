@@ -1,3 +1,4 @@
+-- Columns of the variables taken and of those left make up the key's; at the end none is left.
 use Rattle.std.proofs.Common.{◌∙◌, List, ℕ, [], ◌∷◌, ◌++◌, ap}
 use Rattle.djq_reduct.specs.Columns.{columns}
 use Rattle.djq_reduct.proofs.Placing.{columns_step, columns_end}

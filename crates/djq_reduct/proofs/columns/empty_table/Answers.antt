@@ -1,3 +1,4 @@
+-- A node's key lies within its label, as the tree's law says, so its columns are columns of the table.
 use Rattle.djq_reduct.proofs.Placing.{columns_within}
 use Rattle.djq_reduct.proofs.columns.empty_table.Goals as goal
 

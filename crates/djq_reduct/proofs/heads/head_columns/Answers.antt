@@ -1,3 +1,4 @@
+-- The columns so far are those of the nodes before the index, and past the end these are all nodes.
 use Rattle.std.proofs.Common.{◌≡◌, ℕ, List, ◌++◌, ◌∷◌, [], length, sym, ap, arith, ◌∙◌}
 use Rattle.djq_tree.specs.Labels.{label_at}
 use Rattle.djq_reduct.specs.Columns.{columns}

@@ -1,3 +1,4 @@
+-- Before each turn the values so far are printed; a value cut in its midst leaves a front of the whole text.
 use Rattle.std.proofs.Common.{◌∷◌}
 use Rattle.std.proofs.lemmas.Option.{get_or_from_slice_get, slice_get_within}
 use Rattle.djq_model.specs.Lent.{value_lent}

@@ -1,3 +1,4 @@
+-- An edge cut in its midst leaves a front of the text of all edges, since those before it are there whole.
 use Rattle.std.proofs.Common.{◌∷◌, ◌<◌, ℕ, List, length, get_or, ap, sym, subst, ◌∙◌}
 use Rattle.djq_hyper.specs.Naming.{edge_text}
 use Rattle.djq_lines.specs.Reply.{edges_text}

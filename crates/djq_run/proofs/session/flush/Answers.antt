@@ -1,3 +1,4 @@
+-- What a write took is one more step of the course, and leaves fewer bytes pending, or none.
 use Rattle.std.proofs.Common.{rules, ◌≤◌, ◌∙◌, length, take, refl, ap, arith}
 use Rattle.djq_machine.specs.Run.{pending_of}
 use Rattle.djq_laws.specs.Moved.{Takes}

@@ -1,3 +1,4 @@
+-- The course so far goes on by what each read does, and each read that doesn't end it gave a byte at least.
 use Rattle.std.proofs.Common.{refl, sym, ◌∙◌, arith}
 use Rattle.djq_machine.specs.Call.{counts}
 use Rattle.djq_laws.specs.Course.{outside}

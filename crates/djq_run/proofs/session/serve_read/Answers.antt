@@ -1,3 +1,4 @@
+-- The session is open behind a piece and behind its input's end, and the course goes on with what follows.
 use Rattle.std.proofs.Common.{◌<◌, ◌≤◌, true, false, length, take, refl, sym, subst, length-take, arith}
 use Rattle.std.specs.Prelude.{Option}
 use Rattle.djq_machine.specs.Call.{counts}

@@ -1,3 +1,4 @@
+-- A send puts its bytes behind what its session's line has so far, and any other call changes no text.
 use Rattle.std.proofs.Common.{ℕ, List, sym, ap, ◌∙◌}
 use Rattle.djq_io.specs.declared.hub.Told.TheVariants.{Sending}
 use Rattle.djq_schedule.proofs.Sending.{sending_at, other_at}

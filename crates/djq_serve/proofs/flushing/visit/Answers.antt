@@ -1,3 +1,4 @@
+-- Where nothing is pending the session has ended, and is closed; else the send's answer says how it goes on.
 use Rattle.std.proofs.Common.{◌≡◌, ◌+◌, ◌<◌, ◌∙◌, ℕ, [], length, sym, ap, rules, arith}
 use Rattle.djq_machine.specs.Step.{took}
 use Rattle.djq_machine.specs.Run.{pending_of}

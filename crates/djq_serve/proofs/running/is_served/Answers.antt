@@ -1,3 +1,4 @@
+-- A session is open exactly where its id is among those that the machine lists.
 use Rattle.std.proofs.Common.{ℕ, List, ◌∙◌, nat_eq, sym, ap}
 use Rattle.std.specs.List.{list_any}
 use Rattle.djq_serve.proofs.Agreeing.{served_by}

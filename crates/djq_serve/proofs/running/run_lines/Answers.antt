@@ -1,3 +1,4 @@
+-- The log has the groups of all lines that were run so far, and each line that is run leaves fewer bytes.
 use Rattle.std.proofs.Common.{ℕ, ◌∙◌, ◌++◌, [], refl, subst}
 use Rattle.std.specs.Prelude.{Some}
 use Rattle.djq_io.specs.Faults.{Counted}

@@ -1,3 +1,4 @@
+-- The first id is that of an open session, and without it one fewer is open, until none is.
 use Rattle.std.proofs.Common.{ℕ, List, ◌≡◌, ◌∙◌, None, Some, length, slice_get, refl, sym, ap, rules, arith}
 use Rattle.djq_serve.specs.Server.{closing, server, first_open}
 use Rattle.djq_serve.proofs.Going.{quietly_none, quietly_then}

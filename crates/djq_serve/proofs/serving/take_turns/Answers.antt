@@ -1,3 +1,4 @@
+-- The moves so far go on by those of each turn, and along them all that batches hold stays lines.
 use Rattle.std.proofs.Common.{◌≡◌, ◌∙◌, refl, rules}
 use Rattle.std.specs.Prelude.{Some}
 use Rattle.djq_machine.specs.Call.{counts}

@@ -1,3 +1,4 @@
+-- Behind the flush serving goes on to the next turn, or to closing where a session said `stop`.
 use Rattle.std.proofs.Common.{sym}
 use Rattle.djq_serve.proofs.Visiting.{turn_stopped, turn_done}
 use Rattle.djq_serve.proofs.turning.end_turn.Goals as goal

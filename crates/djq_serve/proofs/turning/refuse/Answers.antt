@@ -1,3 +1,4 @@
+-- What was offered is the whole line, once, and then the hub closes the session.
 use Rattle.std.proofs.Common.{[], ◌∷◌, ◌∙◌, ap, rules, arith}
 use Rattle.std.proofs.lemmas.List.{take_all}
 use Rattle.djq_io.specs.Hub.{Ids, without}

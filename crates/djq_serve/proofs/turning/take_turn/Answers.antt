@@ -1,3 +1,4 @@
+-- What a turn brings is of a session that the machine has, or of a new one, and serving goes on from there.
 use Rattle.std.proofs.Common.{refl}
 use Rattle.djq_machine.specs.Call.{counts}
 use Rattle.djq_machine.specs.Step.{fed, ended}

@@ -1,3 +1,4 @@
+-- Of the order up to the index the affected ones are kept, which are no more than there is room for.
 use Rattle.std.proofs.Common.{ℕ, List, [], ◌∷◌, ◌++◌, Bool, cond, ap, sym, arith, length, take, refl, ◌∙◌, get_or}
 use Rattle.std.proofs.lemmas.List.{length-take-le}
 use Rattle.std.specs.Prelude.{false, filter, slice_index_or, vec_capacity}

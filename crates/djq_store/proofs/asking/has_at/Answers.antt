@@ -1,3 +1,4 @@
+-- A query stands in the place, so the engine has it registered, and what its name tells is told of it.
 use Rattle.std.proofs.Common.{◌+◌, ◌≤◌, ℕ, length, subst, ap}
 use Rattle.std.specs.Prelude.{is_some}
 use Rattle.djq_model.specs.Listed.{a_query}

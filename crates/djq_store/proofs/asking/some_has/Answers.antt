@@ -1,3 +1,4 @@
+-- No member before the index has the tuple, and each counted its atoms; all have the types of the first.
 use Rattle.std.proofs.Common.{◌∙◌, get_or, subst, ap, arith}
 use Rattle.std.specs.Prelude.{Bool, true, false, IsSomeAnd, Result, Ok}
 use Rattle.djq_lines.specs.declared.answer.Refusal.{Refusal}

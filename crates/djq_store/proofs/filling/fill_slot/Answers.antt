@@ -1,3 +1,4 @@
+-- Where no slot is vacant each has a union, so there are fewer slots than may be, and one more fits behind.
 use Rattle.std.proofs.Common.{◌≡◌, ◌<◌, ◌++◌, ◌∷◌, [], List, ℕ, ap, sym, subst, length, arith, ◌∙◌}
 use Rattle.std.specs.Prelude.{Option, Some}
 use Rattle.djq_lines.specs.declared.limits.TheConstants.{QUERIES}

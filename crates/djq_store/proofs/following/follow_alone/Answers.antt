@@ -1,3 +1,4 @@
+-- No slot has a union, so whichever relations change nothing is settled, and the affected are the engine's.
 use Rattle.std.proofs.Common.{refl, sym, subst}
 use Rattle.std.specs.Prelude.{Option}
 use Rattle.djq_store.specs.declared.settling.Turn.{Turn}

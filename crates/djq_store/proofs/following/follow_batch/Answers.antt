@@ -1,3 +1,4 @@
+-- The names are those of the held rows' relations that grew, or of all of them where memory was refused.
 use Rattle.std.proofs.Common.{◌+◌, ◌≤◌, List, Bool, subst, ◌∙◌, ap, map}
 use Rattle.std.specs.Prelude.{filter}
 use Rattle.djq_model.specs.Data.{Bytes}

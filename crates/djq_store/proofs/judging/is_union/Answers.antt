@@ -1,3 +1,4 @@
+-- A union that is found in a slot by its name is registered under it; where none is, no union is.
 use Rattle.std.proofs.Common.{◌≡◌, Bool, true, false, refl, sym, ◌∙◌}
 use Rattle.djq_model.specs.Listed.{listed_of}
 use Rattle.djq_machine.specs.Union.{is_union}

@@ -1,3 +1,4 @@
+-- Under a name stands a union in a slot or a query of the engine; where neither is found nothing is there.
 use Rattle.std.proofs.Common.{sym, ◌∙◌}
 use Rattle.djq_store.proofs.Judged.{union_known, query_unknown}
 use Rattle.djq_store.proofs.Sought.{unsought_none, unsought_some}

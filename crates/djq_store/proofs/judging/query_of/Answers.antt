@@ -1,3 +1,4 @@
+-- What is registered under the name is no union, so the engine has an id for it, and the query in its place.
 use Rattle.djq_store.proofs.Judged.{under_registered, none_impossible, types_are}
 use Rattle.djq_store.proofs.judging.query_of.Goals as goal
 

@@ -1,3 +1,4 @@
+-- Two places differ as numbers just where they do as words of 64 bits, so the same ones are kept.
 use Rattle.std.proofs.Common.{rules}
 use Rattle.std.specs.Prelude.{◌==◌, not}
 use Rattle.std.proofs.lemmas.Fn.{filter_same}

@@ -1,3 +1,4 @@
+-- Members are 8 at most, with fewer than 2^58 atoms each and heads of 16 at most, so the sum is in 64 bits.
 use Rattle.std.proofs.Common.{◌≡◌, ◌≤◌, ◌<◌, ◌+◌, ◌-◌, ◌*◌, ◌^◌, ◌∙◌, Some, List, length, map, ap, sym, arith}
 use Rattle.std.specs.Prelude.{slice_get}
 use Rattle.std.proofs.lemmas.List.{length-map, take_all}

@@ -1,3 +1,4 @@
+-- No member reads a relation before the index, so the first that one reads is the one at the index.
 use Rattle.std.proofs.Common.{sym, ap, ◌∙◌}
 use Rattle.djq_store.specs.Settling.{some_read}
 use Rattle.djq_store.proofs.Walking.{find_here, find_further}

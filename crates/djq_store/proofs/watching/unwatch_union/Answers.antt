@@ -1,3 +1,4 @@
+-- A watched union is counted once with each of its members, so the last session has one to take from each.
 use Rattle.std.proofs.Common.{◌≡◌, ◌+◌, ◌-◌, ◌<◌, ◌≤◌, ◌∙◌, ℕ, List, [], length, get_or, sym, subst, ap, arith}
 use Rattle.std.proofs.lemmas.List.{get_or_default}
 use Rattle.std.specs.Prelude.{Option, Some, IsSomeAnd, AllPairs, ⊤}

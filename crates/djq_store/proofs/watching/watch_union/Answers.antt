@@ -1,3 +1,4 @@
+-- A member is counted once for each session and each watched union, so a union more that is watched fits.
 use Rattle.std.proofs.Common.{◌≡◌, ◌+◌, ◌<◌, ◌≤◌, ◌∙◌, ℕ, List, [], length, get_or, sym, subst, ap, arith}
 use Rattle.std.proofs.lemmas.List.{get_or_default}
 use Rattle.std.specs.Prelude.{Option, Some, IsSomeAnd, ⊤}

@@ -1,3 +1,4 @@
+-- Where this member has the answer, some member from here on has it, and its tests are among theirs.
 use Rattle.std.proofs.Common.{arith}
 use Rattle.djq_union.proofs.Placing.{has_here}
 use Rattle.djq_union.proofs.Counting.{sum_here}

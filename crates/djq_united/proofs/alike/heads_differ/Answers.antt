@@ -1,3 +1,4 @@
+-- The queries passed have the types of the first one, and so the same types as one another.
 use Rattle.std.proofs.Common.{◌≡◌, Bool, false, sym, ap, subst, ◌∙◌, arith}
 use Rattle.std.specs.Prelude.{not}
 use Rattle.std.proofs.lemmas.Option.{same_Some}

@@ -1,3 +1,4 @@
+-- With the same tables each member has the same answers, and the same states have given the same of them.
 use Rattle.djq_united.proofs.Staying.{unions_stayed}
 use Rattle.djq_united.proofs.laws.unions_stay.Goals as goal
 

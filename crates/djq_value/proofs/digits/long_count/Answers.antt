@@ -1,3 +1,4 @@
+-- A number within 64 bits has 20 digits at most, and one divided by 10,000 has four fewer.
 use Rattle.std.proofs.Common.{arith}
 use Rattle.std.proofs.lemmas.Fmt.{length-decimal-le}
 use Rattle.itoa.proofs.Decimal.{length_four}

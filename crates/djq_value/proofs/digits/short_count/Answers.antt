@@ -1,3 +1,4 @@
+-- A number below 10 has one digit, one below 100 two, and a greater one two more than its hundredth part.
 use Rattle.std.proofs.Common.{◌/◌, sym, arith}
 use Rattle.itoa.proofs.Decimal.{length_one, length_two, length_pair}
 use Rattle.djq_value.proofs.digits.short_count.Goals as goal

@@ -1,3 +1,4 @@
+-- So far the number is that of the digits read and below ten to their count, so one more is within 64 bits.
 use Rattle.std.proofs.Common.{◌<◌, ◌+◌, ◌-◌, ◌*◌, ◌^◌, ◌∙◌, ℕ, Some, arith, ap, get_or, length-take, sym, take}
 use Rattle.std.proofs.lemmas.Bool.{cond-true}
 use Rattle.std.proofs.lemmas.List.{take_rest}

@@ -1,3 +1,4 @@
+-- At most 18 digits denote less than 10^18, so neither the tenfold nor a digit more goes past 64 bits.
 use Rattle.std.proofs.Common.{◌∙◌, ◌≡◌, ◌<◌, ◌≤◌, ◌+◌, ◌-◌, ◌*◌, ◌^◌, take, sym, ap, arith}
 use Rattle.std.proofs.Common.{option_map, Some, ℕ, get_or, length}
 use Rattle.djq_value.specs.Number.{capped}

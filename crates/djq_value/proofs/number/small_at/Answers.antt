@@ -1,3 +1,4 @@
+-- Behind a `-` few digits stand, so the number with its sign is one of 64 bits and is read as such.
 use Rattle.std.proofs.Common.{rules, ◌≡◌, ◌∙◌, ℤ, Some, arith, ap, subst, sym, to_z, of_z, w64}
 use Rattle.std.proofs.lemmas.Bool.{eqb-false}
 use Rattle.std.proofs.lemmas.List.{take_rest}

@@ -1,3 +1,4 @@
+-- What is behind the spaces begins the same word as the whole, so its integer is the one in front.
 use Rattle.std.proofs.Common.{rules, ◌≡◌, ◌+◌, ℤ, Some, subst, sym, to_z, of_z, w64}
 use Rattle.std.proofs.lemmas.List.{take_rest}
 use Rattle.djq_model.specs.Data.{Bytes}

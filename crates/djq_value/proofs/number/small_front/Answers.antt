@@ -1,3 +1,4 @@
+-- Few digits denote less than 2^63, so the number is the same where it is taken with a sign.
 use Rattle.std.proofs.Common.{◌<◌, ℤ, Some, arith, subst, sym, w64}
 use Rattle.std.proofs.lemmas.Int.{to_z_pos}
 use Rattle.djq_value.specs.Small.{IsSmallInFront}

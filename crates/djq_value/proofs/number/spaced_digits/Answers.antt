@@ -1,3 +1,4 @@
+-- One space is in front, so the digits behind it are the first word, which ends one byte further.
 use Rattle.std.proofs.Common.{◌∙◌, Some, arith, subst, sym}
 use Rattle.std.proofs.lemmas.Bool.{eqb-false}
 use Rattle.std.proofs.lemmas.List.{take_rest}

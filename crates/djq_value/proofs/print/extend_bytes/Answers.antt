@@ -1,3 +1,4 @@
+-- What a byte takes with those before it is no more than the whole text takes, so there is room for it.
 use Rattle.std.proofs.Common.{arith}
 use Rattle.std.proofs.lemmas.List.Folds.{length-flat_map-take}
 use Rattle.djq_value.specs.ValueText.{escaped}

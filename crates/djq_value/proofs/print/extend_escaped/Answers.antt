@@ -1,3 +1,4 @@
+-- A text that is no longer with its escapes has no byte that needs one, so it is its own escaped text.
 use Rattle.std.proofs.Common.{◌≡◌, arith}
 use Rattle.std.specs.List.{flat_map}
 use Rattle.djq_value.specs.ValueText.{escaped}

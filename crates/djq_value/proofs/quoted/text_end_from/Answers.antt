@@ -1,3 +1,4 @@
+-- Before each byte so many bytes of the text were read, and the rest is read on behind a backslash or not.
 use Rattle.std.proofs.Common.{◌≡◌, ◌∷◌, ◌+◌, ◌∙◌, sym, ap, true, false, drop, get_or, add-one, arith}
 use Rattle.std.proofs.Common.{drop-cons}
 use Rattle.djq_value.proofs.Scanning.{has_read-backslash, has_read-byte, has_read_as}

@@ -1,3 +1,4 @@
+-- The token behind the spaces is the one in front of all the bytes, and what is behind it is shorter.
 use Rattle.std.proofs.Common.{◌≡◌, ◌∙◌, Err, Some, sym, ap, subst, arith, option_map, false}
 use Rattle.std.proofs.lemmas.List.{take_rest}
 use Rattle.djq_model.specs.Data.{Bytes}

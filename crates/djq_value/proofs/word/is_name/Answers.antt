@@ -1,3 +1,4 @@
+-- With a letter for its first byte a word is a name where the others may follow, and with any other it's none.
 use Rattle.std.proofs.Common.{◌∙◌, sym, arith}
 use Rattle.std.proofs.lemmas.Bool.{eqb-false}
 use Rattle.djq_value.proofs.Words.{is_name-letter, is_name-other}

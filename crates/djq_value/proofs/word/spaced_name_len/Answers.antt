@@ -1,3 +1,4 @@
+-- The first byte is a letter, so with the bytes that may follow, up to a space, it makes a name.
 use Rattle.std.proofs.Common.{◌∙◌, Some, arith, subst, sym}
 use Rattle.std.proofs.lemmas.Bool.{eqb-false}
 use Rattle.std.proofs.lemmas.List.{take_rest}

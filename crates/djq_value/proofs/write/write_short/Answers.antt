@@ -1,3 +1,4 @@
+-- How many digits there are is said by the bounds passed: below 10 one, below 100 two, and so on.
 use Rattle.std.proofs.Common.{◌/◌, sym, arith}
 use Rattle.itoa.proofs.Decimal.{length_one, length_two, length_pair}
 use Rattle.djq_value.proofs.write.write_short.Goals as goal

@@ -1,3 +1,4 @@
+-- What was found has the name of a command, or of none, and the rows are what that command was given.
 use Rattle.std.proofs.Common.{◌≡◌, ◌∙◌, refl, sym, codes}
 use Rattle.std.specs.Prelude.{Some}
 use Rattle.clap.specs.Words.{first_of, found_of, rows_of}

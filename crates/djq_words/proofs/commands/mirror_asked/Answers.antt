@@ -1,3 +1,4 @@
+-- The first value that was given for `Q` is the query, which is asked of exactly where it is a name.
 use Rattle.std.proofs.Common.{ℕ, List, Bor, Option, ◌≡◌, ◌∙◌, sym, ap, subst, option_map, codes, refl}
 use Rattle.std.specs.Prelude.{Some, Bool, true, false}
 use Rattle.clap.specs.Words.{Text, first_of, found_of, rows_of}

@@ -1,3 +1,4 @@
+-- A text spells a number exactly where it is that number's digits, without a sign or a zero in front.
 use Rattle.std.proofs.Common.{◌≢◌, ◌∙◌, sym}
 use Rattle.std.specs.Prelude.{decimal}
 use Rattle.std.proofs.lemmas.Bool.Decides.{Decides-eqb}

@@ -1,3 +1,4 @@
+-- The command set is simple and no argument has a rule on another, so the words alone say its faults.
 use Rattle.std.proofs.Common.{ℕ, List, [], Bor, ◌≡◌, ◌∙◌, map, ap, subst}
 use Rattle.clap.specs.Words.{App, Text, is_simple_and_free, fault_of, HasMatchesOf, HasKind}
 use Rattle.djq_words.specs.Commands.{djq_app}

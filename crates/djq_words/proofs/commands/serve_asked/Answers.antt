@@ -1,3 +1,4 @@
+-- The first values that were given are those asked for, and without a number of turns it is the most.
 use Rattle.std.proofs.Common.{ℕ, List, Bor, Option, ◌≡◌, ◌∙◌, None, sym, ap, subst, option_map, codes, refl}
 use Rattle.clap.specs.Words.{Text, first_of, found_of, rows_of}
 use Rattle.clap.proofs.WalkLemmas.{first_value-rows}

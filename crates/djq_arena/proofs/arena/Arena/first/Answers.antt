@@ -1,3 +1,4 @@
+-- The oldest slot that the store keeps is the first of the rows' slots, by the invariant.
 use Rattle.std.proofs.Common.{◌∙◌, ap}
 use Rattle.djq_arena.specs.Chains.{first_of}
 use Rattle.djq_arena.specs.Rows.{Rows, slots}

@@ -1,3 +1,4 @@
+-- The newest slot that the store keeps is the last of the rows' slots, by the invariant.
 use Rattle.std.proofs.Common.{◌∙◌, ap}
 use Rattle.djq_arena.specs.Chains.{last_of}
 use Rattle.djq_arena.specs.Rows.{Rows, slots}

@@ -1,3 +1,4 @@
+-- The rows' slots are among the invariant's, which are different and below the room; cells give the width.
 use Rattle.std.proofs.Common.{subst}
 use Rattle.djq_arena.specs.Rows.{AreRows}
 use Rattle.djq_arena.proofs.Accounts.{rows_law}

@@ -1,3 +1,4 @@
+-- The count that is kept is that of the chained slots, by the invariant, and each of them gives one row.
 use Rattle.std.proofs.Common.{◌∙◌, ap, length}
 use Rattle.djq_arena.specs.Rows.{Rows}
 use Rattle.djq_arena.proofs.Accounts.{row_count}

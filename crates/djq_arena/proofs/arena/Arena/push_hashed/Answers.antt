@@ -1,3 +1,4 @@
+-- Either way out the store is sound and tidy; where it is tidy, no spare slot means that the arena is full.
 use Rattle.std.proofs.Common.{◌<◌, sym, subst, ℕ, arith}
 use Rattle.std.proofs.lemmas.Result.{IfOk-weaker, on_err_weaker}
 use Rattle.djq_arena.proofs.Accounts.{row_count, same_tidy, same_value, either}

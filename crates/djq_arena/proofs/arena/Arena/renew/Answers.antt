@@ -1,3 +1,4 @@
+-- A split of the rows at a slot is a split of their slots, and of these the store puts that one last.
 use Rattle.djq_arena.proofs.RowLemmas.{held_slot, renewed_rows}
 use Rattle.djq_arena.proofs.arena.Arena.renew.Goals as goal
 

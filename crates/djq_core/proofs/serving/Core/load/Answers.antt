@@ -1,3 +1,4 @@
+-- No session is open, so the engine is idle, and the batch of the loaded lines is the only one to suit.
 use Rattle.std.proofs.Common.{◌∙◌, sym, ap, subst, Option, List}
 use Rattle.djq_lines.specs.declared.held.HeldRow.{HeldRow}
 use Rattle.djq_machine.specs.Loading.{Loading, LoadStep}

@@ -1,3 +1,4 @@
+-- Ids rise and an open session's is there, so the session at its place is the one that the machine finds.
 use Rattle.std.proofs.Common.{◌∙◌, sym, ap}
 use Rattle.djq_machine.specs.State.{State}
 use Rattle.djq_machine.specs.Call.{cause_of}

@@ -1,3 +1,4 @@
+-- A session that gave up all goes from both lists at one place; ids still rise and other batches still suit.
 use Rattle.std.proofs.Common.{List, map, ◌∙◌, sym, ap, subst, set, arith}
 use Rattle.std.specs.List.{remove}
 use Rattle.djq_machine.specs.State.{State}

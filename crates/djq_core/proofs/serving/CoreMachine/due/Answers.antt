@@ -1,3 +1,4 @@
+-- Ids rise, so the first session kept to which something is due is the first that the machine sees.
 use Rattle.std.proofs.Common.{List, ◌&&◌, ◌∙◌, nat_le, find, ap}
 use Rattle.std.specs.Prelude.{option_map}
 use Rattle.djq_session.specs.Dialog.{is_due}

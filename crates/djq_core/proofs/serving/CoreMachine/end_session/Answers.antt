@@ -1,3 +1,4 @@
+-- The session is at its id's place with cursors of its own, and the machine ends it or had ended it before.
 use Rattle.std.proofs.Common.{List, sym, subst, set, ap}
 use Rattle.djq_machine.specs.State.{State}
 use Rattle.djq_core.specs.declared.open.OpenSession.{OpenSession}

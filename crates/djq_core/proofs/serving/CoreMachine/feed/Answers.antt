@@ -1,3 +1,4 @@
+-- The session at its id's place gets the bytes, had ended, or ends for want of memory; all others stay.
 use Rattle.std.proofs.Common.{List, ◌∙◌, false, refl, sym, subst, set, ap}
 use Rattle.djq_machine.specs.State.{State}
 use Rattle.djq_core.specs.declared.open.OpenSession.{OpenSession}

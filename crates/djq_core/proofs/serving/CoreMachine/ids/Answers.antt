@@ -1,3 +1,4 @@
+-- The ids that are kept are those of the sessions, by the invariant, and so those that the machine sees.
 use Rattle.std.proofs.Common.{◌∙◌, sym, ap}
 use Rattle.djq_machine.specs.Call.{ids_of}
 use Rattle.djq_core.specs.Views.{Visible}

@@ -1,3 +1,4 @@
+-- The new id is above all, so ids still rise; a new session has no cursors, no watches and no batch.
 use Rattle.std.proofs.Common.{List, map, ◌<◌, ◌∙◌, sym, ap, subst, length, arith}
 use Rattle.djq_core.specs.declared.open.OpenSession.{OpenSession}
 use Rattle.djq_lines.specs.declared.limits.TheConstants.{SESSIONS}

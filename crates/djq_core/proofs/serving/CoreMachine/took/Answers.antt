@@ -1,3 +1,4 @@
+-- The bytes taken are the front of those that the machine has pending for the session at its id's place.
 use Rattle.std.proofs.Common.{◌≤◌, ◌∙◌, refl, sym, ap, subst, length, set, take}
 use Rattle.djq_model.specs.Data.{Bytes}
 use Rattle.djq_machine.specs.State.{State}

@@ -1,3 +1,4 @@
+-- A line that is read says a command that can be run, and one that opens a batch leaves it without rows.
 use Rattle.std.proofs.Common.{◌∙◌, sym, subst, List, None, Some, Err}
 use Rattle.djq_lines.specs.declared.held.HeldRow.{HeldRow}
 use Rattle.djq_machine.specs.declared.machine.Loaded.TheVariants.{Ran}

@@ -1,3 +1,4 @@
+-- With no session open no query has a cursor or a watcher, and so it is behind whatever is done.
 use Rattle.std.proofs.Common.{◌∙◌, List, subst, sym}
 use Rattle.djq_model.specs.Data.{Bytes, Tuple}
 use Rattle.djq_lines.specs.declared.command.Command.{Command}

@@ -1,3 +1,4 @@
+-- What the line says is read as for a session's batch, and the rows lent are those that are held.
 use Rattle.std.proofs.Common.{ℕ, ◌≤◌, ◌∙◌, Some, sym, subst, length, List}
 use Rattle.djq_model.specs.Data.{Bytes}
 use Rattle.djq_lines.specs.declared.held.HeldRow.{HeldRow}

@@ -1,3 +1,4 @@
+-- The id stands at a place of the list, and each id of the list is that of an open session.
 use Rattle.std.proofs.Common.{ℕ, List, subst}
 use Rattle.std.specs.Prelude.{Contains}
 use Rattle.djq_core.proofs.Seen.{listed_open, listed_at}

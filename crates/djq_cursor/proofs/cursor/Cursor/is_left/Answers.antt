@@ -1,3 +1,4 @@
+-- In reducts no group on the way is empty, and the walk lists each answer once, so what is ahead is an answer.
 use Rattle.djq_cursor.proofs.Listed.{whole_clear, fits_by, cursor_answers}
 use Rattle.djq_cursor.proofs.Remaining.{cursor_left, cursor_done}
 use Rattle.djq_cursor.proofs.cursor.Cursor.is_left.Goals as goal

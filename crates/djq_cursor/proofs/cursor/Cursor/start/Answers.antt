@@ -1,3 +1,4 @@
+-- Before any call nothing was given and no choice was made, whatever the reducts are.
 use Rattle.djq_cursor.proofs.Listed.{start_fits, start_given}
 use Rattle.djq_cursor.proofs.cursor.Cursor.start.Goals as goal
 

@@ -1,3 +1,4 @@
+-- In reducts the walk through whole groups gives all answers and no others, each once, as Listed shows.
 use Rattle.djq_cursor.proofs.Listed.{
   whole_clear,
   fits_by,

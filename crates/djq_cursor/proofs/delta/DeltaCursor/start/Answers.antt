@@ -1,3 +1,4 @@
+-- Before any call nothing was told and no choice was made, whatever the reducts and the leaf are.
 use Rattle.djq_cursor.proofs.Told.{start_fits, start_told}
 use Rattle.djq_cursor.proofs.delta.DeltaCursor.start.Goals as goal
 

@@ -1,3 +1,4 @@
+-- An update's marks make menus of which none is empty, and their walk tells all changed answers, each once.
 use Rattle.djq_cursor.proofs.Updates.{updated}
 use Rattle.djq_cursor.proofs.Telling.{changed_clear}
 use Rattle.djq_cursor.proofs.Told.{fits_by, by_fits, told_some, told_one, told_same, told_end}

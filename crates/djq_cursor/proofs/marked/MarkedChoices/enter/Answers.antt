@@ -1,3 +1,4 @@
+-- The root's table holds the empty tuple at most, and its mark tells whether there is anything to list.
 use Rattle.std.proofs.Common.{◌∙◌, ℕ, ◌-◌, [], length, ap, sym}
 use Rattle.djq_tree.specs.Tree.{Tree}
 use Rattle.djq_reduct.specs.Tables.{entries_at}

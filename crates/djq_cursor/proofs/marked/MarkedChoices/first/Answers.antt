@@ -1,3 +1,4 @@
+-- In a group the marked tuples come last, so its last tuple is where the part that changed begins.
 use Rattle.djq_cursor.proofs.Tuples.{node_is}
 use Rattle.djq_cursor.proofs.Backward.{if_first, if_empty}
 use Rattle.djq_cursor.proofs.marked.MarkedChoices.first.Goals as goal

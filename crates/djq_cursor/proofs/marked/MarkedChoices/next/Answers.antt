@@ -1,3 +1,4 @@
+-- In a group the marked tuples are the last, so the part ends where a marked one follows an unmarked one.
 use Rattle.std.proofs.Common.{◌≡◌, ◌∙◌, Option, Some, None, false, ap, sym, subst}
 use Rattle.djq_index.specs.declared.place.Place.{Place}
 use Rattle.djq_index.specs.Entries.{is_marked}

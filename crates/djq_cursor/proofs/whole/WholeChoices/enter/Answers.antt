@@ -1,3 +1,4 @@
+-- The root is the last node, and its table has the empty tuple exactly where there is an answer.
 use Rattle.std.proofs.Common.{◌∙◌, ℕ, ◌-◌, length, ap}
 use Rattle.djq_tree.specs.Tree.{Tree}
 use Rattle.djq_reduct.specs.Tables.{entries_at}

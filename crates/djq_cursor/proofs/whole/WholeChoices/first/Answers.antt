@@ -1,3 +1,4 @@
+-- What a group of the child's table begins with is what the level's menu begins with, and both may be empty.
 use Rattle.djq_cursor.proofs.Tuples.{node_is}
 use Rattle.djq_cursor.proofs.Placing.{if_first, if_empty}
 use Rattle.djq_cursor.proofs.whole.WholeChoices.first.Goals as goal

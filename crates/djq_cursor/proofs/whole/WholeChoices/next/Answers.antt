@@ -1,3 +1,4 @@
+-- What the child's table gives behind a place is what the level's menu has behind the chosen tuple.
 use Rattle.djq_cursor.proofs.Tuples.{node_is}
 use Rattle.djq_cursor.proofs.Placing.{if_next, if_last}
 use Rattle.djq_cursor.proofs.whole.WholeChoices.next.Goals as goal

@@ -1,3 +1,4 @@
+-- All with the text's hash are candidates, and those so far had other texts, so none is passed over.
 use Rattle.std.proofs.Common.{◌≢◌, ℕ, List, sym, ◌∙◌, arith}
 use Rattle.std.specs.Prelude.{slice_index_or}
 use Rattle.std.proofs.lemmas.Bool.Decides.{Decides-eqb}

@@ -1,3 +1,4 @@
+-- A link's chain goes on below its own number, with all that share its bucket, the latest of them first.
 use Rattle.std.proofs.Common.{◌<◌, length, sym, ◌∙◌, ap, arith}
 use Rattle.std.proofs.lemmas.List.{length-map}
 use Rattle.djq_dict.specs.declared.chain.Link.{Link}

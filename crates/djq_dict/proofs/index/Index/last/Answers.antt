@@ -1,3 +1,4 @@
+-- The bucket's head is the link that was put into it latest, so the chain from there has all with the hash.
 use Rattle.std.proofs.Common.{◌<◌, ℕ, length, ◌∙◌, ap, arith}
 use Rattle.std.proofs.lemmas.Grind.{get_or_default_zero}
 use Rattle.djq_dict.specs.Chains.{bucket_of}

@@ -1,3 +1,4 @@
+-- The links before the new one are in their chains as they were, whatever stands behind them.
 use Rattle.std.proofs.Common.{◌≡◌, [], ◌∷◌, ◌++◌, length, arith, rules}
 use Rattle.std.proofs.lemmas.List.{length-map, map-append}
 use Rattle.djq_dict.specs.declared.chain.Link.{Link}

@@ -1,3 +1,4 @@
+-- There is an end for each text, and the ends rise and stay within the buffer, by the invariant.
 use Rattle.std.proofs.Common.{ℕ, List, length, refl, sym, ◌∙◌, ap, arith}
 use Rattle.std.proofs.lemmas.Option.{slice_get_read}
 use Rattle.djq_dict.specs.Buffer.{Shelf}

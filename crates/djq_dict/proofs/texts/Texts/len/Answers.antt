@@ -1,3 +1,4 @@
+-- Cutting the buffer at its ends gives one text for each end.
 use Rattle.std.proofs.Common.{length, sym, ◌∙◌, ap}
 use Rattle.djq_dict.specs.Buffer.{Shelf}
 use Rattle.djq_dict.proofs.Cutting.{length-pieces}

@@ -1,3 +1,4 @@
+-- The new end is where the buffer now ends, so the old texts are cut as before and the new one is last.
 use Rattle.std.proofs.Common.{◌≡◌, ◌+◌, List, ℕ, [], ◌∷◌, ◌++◌, length, ◌∙◌, ap, rules}
 use Rattle.std.proofs.lemmas.List.{length-append}
 use Rattle.djq_dict.proofs.Cutting.{pieces-push, cut-push}

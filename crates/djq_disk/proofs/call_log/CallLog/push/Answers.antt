@@ -1,3 +1,4 @@
+-- One call more is one step more of the history, since the history is folded from the calls.
 use Rattle.std.proofs.Common.{refl}
 use Rattle.djq_disk.specs.CallLog.{Calls}
 use Rattle.djq_disk.proofs.Telling.{told_made}

@@ -1,3 +1,4 @@
+-- The places that are reached hold, by the invariant, just the queries that the machine outdates and tells.
 use Rattle.std.proofs.Common.{ℕ, List, ◌+◌, ◌≤◌, ◌∙◌, ap, arith, refl, subst, sym, rules, ◌≡◌}
 use Rattle.std.specs.Prelude.{IfErr, Some, Ok, Err}
 use Rattle.djq_model.specs.Data.{with_row}

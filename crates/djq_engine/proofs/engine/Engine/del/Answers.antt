@@ -1,3 +1,4 @@
+-- The judged cells stand for the row, so what goes by them is the row that the machine takes.
 use Rattle.std.proofs.Common.{ℕ, zero, List, ◌+◌, ◌≤◌, ◌∙◌, ap, ap₂, arith, refl, sym, subst}
 use Rattle.std.specs.Prelude.{Option}
 use Rattle.djq_model.specs.Data.{Tuple, without_copies}

@@ -1,3 +1,4 @@
+-- By the invariant each line of a registered query's log can be shown, so its cells stand for its answer.
 use Rattle.std.proofs.Common.{◌≡◌, refl, ◌<◌, ◌∙◌, ℕ, List, ap, arith, length, sym, subst}
 use Rattle.std.specs.Prelude.{Option, IsSomeAnd, slice_get}
 use Rattle.djq_cursor.specs.Log.{Log}

@@ -1,3 +1,4 @@
+-- By the invariant a registered query has a place and a log; what is told of it are the lines of that log.
 use Rattle.std.proofs.Common.{◌<◌, ◌∙◌, ap, arith, length, sym, List, subst}
 use Rattle.djq_cursor.specs.declared.log.Line.{Line}
 use Rattle.djq_cursor.specs.Log.{Log}

@@ -1,3 +1,4 @@
+-- By the invariant each line of a registered query's log can be shown, and the query is kept.
 use Rattle.std.proofs.Common.{◌<◌, ◌∙◌, ap, arith, length, sym, subst}
 use Rattle.std.specs.Prelude.{slice_get, IsSomeAnd}
 use Rattle.djq_cursor.specs.Log.{Log}

@@ -1,3 +1,4 @@
+-- The groups lead from the rows before the batch to those behind it; its first rows outdate what all do.
 use Rattle.std.proofs.Common.{◌≤◌, ◌≡◌, ◌∙◌, ◌+◌, ◌⊎◌, inl, inr, ℕ, List, [], refl, sym, ap, subst, arith, length}
 use Rattle.std.specs.Prelude.{Some, IsSome, filter, Ok}
 use Rattle.std.proofs.lemmas.List.Elements.{All-take}

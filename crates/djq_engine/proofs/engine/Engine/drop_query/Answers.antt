@@ -1,3 +1,4 @@
+-- A query that no cursor is over and nobody watches isn't used, and each list has its place once at most.
 use Rattle.std.proofs.Common.{◌≡◌, ◌∙◌, List, ap, refl, set, subst, sym, arith, length, length-set, ℕ}
 use Rattle.std.specs.Prelude.{◌==◌, not, Option, None, IsSomeAnd, position, ⊤}
 use Rattle.djq_live.specs.Cursors.{are_vacant}

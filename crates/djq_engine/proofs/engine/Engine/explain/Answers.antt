@@ -1,3 +1,4 @@
+-- The place of the name holds its query, whose tree is, by the invariant, the one of the choice rule.
 use Rattle.std.proofs.Common.{◌∙◌, ap, []}
 use Rattle.std.specs.Prelude.{position}
 use Rattle.djq_engine.specs.Places.{is_query}

@@ -1,3 +1,4 @@
+-- The place of the name holds the registered query, whose tables tell its answers, by the invariant.
 use Rattle.std.proofs.Common.{◌≤◌, ◌+◌, ◌∙◌, ap, sym, subst, ℕ}
 use Rattle.std.specs.Prelude.{position}
 use Rattle.djq_engine.specs.Places.{is_query}

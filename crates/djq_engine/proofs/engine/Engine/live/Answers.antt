@@ -1,3 +1,4 @@
+-- By the invariant a registered query stands in the place of its id, and its cursors are the engine's.
 use Rattle.std.proofs.Common.{arith, subst, sym}
 use Rattle.djq_engine.proofs.Attending.{below_queries, query_kept_there, there_not_none}
 use Rattle.djq_reach.proofs.Reaching.{place_read}

@@ -1,3 +1,4 @@
+-- A cursor that is held and not stale stands so in a slot of its query's place; no other place moves.
 use Rattle.std.proofs.Common.{◌∙◌, sym, subst}
 use Rattle.djq_engine.specs.Whole.{kept_in, watches_in}
 use Rattle.djq_engine.proofs.Cursors.{more_gives, freshly, fresh_held, held_cursor}

@@ -1,3 +1,4 @@
+-- A cursor that is held stands in a slot of its query's place; a read of it there leaves all others.
 use Rattle.std.proofs.Common.{◌∙◌, sym, subst}
 use Rattle.djq_engine.specs.Whole.{watches_in}
 use Rattle.djq_engine.proofs.Cursors.{next_gives, readable, held_cursor}

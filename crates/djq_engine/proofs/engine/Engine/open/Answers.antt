@@ -1,3 +1,4 @@
+-- The place of the name holds the query, and the slot that the new cursor takes there was vacant.
 use Rattle.std.proofs.Common.{ap, refl, subst, sym, ◌∙◌, List, length, false}
 use Rattle.std.specs.Prelude.{position, IsSomeAnd, Option, ⊤}
 use Rattle.djq_live.specs.Live.{Live}

@@ -1,3 +1,4 @@
+-- Constants that become known leave queries, cursors and logs as they were; the place taken was vacant.
 use Rattle.std.proofs.Common.{false, ◌≤◌, length, ◌∙◌, ap, refl, sym, subst, ℕ, ◌+◌, ◌*◌, ◌∷◌, ◌++◌, [], List}
 use Rattle.djq_model.specs.declared.relation.Relation.{Relation}
 use Rattle.djq_model.specs.Known.{texts_in}

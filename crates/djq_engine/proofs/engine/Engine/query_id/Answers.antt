@@ -1,3 +1,4 @@
+-- Names differ, by the invariant, so the first place that has the name is that of its registered query.
 use Rattle.std.proofs.Common.{◌∙◌, ap, sym}
 use Rattle.std.specs.Prelude.{position, option_map}
 use Rattle.djq_engine.specs.Kept.{Registered}

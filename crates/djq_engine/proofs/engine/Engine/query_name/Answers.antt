@@ -1,3 +1,4 @@
+-- By the invariant a registered query stands in the place of its id.
 use Rattle.std.proofs.Common.{◌≡◌, ◌∙◌, ap, arith, sym, subst}
 use Rattle.std.specs.Prelude.{Option}
 use Rattle.djq_model.specs.declared.query.Query.{Query}

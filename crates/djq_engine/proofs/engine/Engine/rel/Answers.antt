@@ -1,3 +1,4 @@
+-- No query has an atom over a relation that wasn't there, and the other relations keep their places.
 use Rattle.std.proofs.Common.{refl, [], ◌∷◌, ◌++◌, ◌∙◌, ap, ap₂, List, ℕ, subst, sym}
 use Rattle.djq_model.specs.Data.{Bytes}
 use Rattle.djq_engine.specs.Places.{Watches, told_from}

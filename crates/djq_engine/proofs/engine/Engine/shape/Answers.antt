@@ -1,3 +1,4 @@
+-- The place of the name holds the registered query, which is kept over the catalog, by the invariant.
 use Rattle.std.proofs.Common.{◌∙◌, ap, []}
 use Rattle.std.specs.Prelude.{position}
 use Rattle.djq_engine.specs.Places.{is_query}

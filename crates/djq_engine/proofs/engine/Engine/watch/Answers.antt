@@ -1,3 +1,4 @@
+-- A registered query stands in the place of its id, so the count there is the one that is bounded.
 use Rattle.std.proofs.Common.{◌<◌, ◌+◌, ◌∙◌, ap, arith, ℕ, length, subst, sym}
 use Rattle.std.proofs.lemmas.List.{get_or_default}
 use Rattle.djq_engine.proofs.Attending.{below_queries, has_query, has_that, watched_more}

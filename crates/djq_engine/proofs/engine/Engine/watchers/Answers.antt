@@ -1,3 +1,4 @@
+-- By the invariant a registered query stands in the place of its id, and each place has its count.
 use Rattle.std.proofs.Common.{◌≡◌, ◌<◌, ◌∙◌, arith, length, subst, sym}
 use Rattle.std.proofs.lemmas.List.{get_or_default}
 use Rattle.djq_engine.proofs.Attending.{below_queries, gives_that, query_kept_there}

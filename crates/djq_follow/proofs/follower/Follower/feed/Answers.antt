@@ -1,3 +1,4 @@
+-- The piece is cut at its LFs: each line was taken in turn, and what is left behind the last has no LF.
 use Rattle.std.proofs.Common.{ℕ, List, ◌≡◌, ◌∙◌, ◌-◌, ◌+◌, ◌++◌, ◌∷◌, [], Some, length, take, drop}
 use Rattle.std.proofs.Common.{sym, ap, subst, arith, append_assoc, length-drop}
 use Rattle.std.proofs.lemmas.List.{take_all}

@@ -1,3 +1,4 @@
+-- The tuple in a slot is the arena's row there, since tuples and rows stand in the same order.
 use Rattle.std.proofs.Common.{ap, sym, subst, ◌∙◌}
 use Rattle.djq_gains.specs.Gathered.{Gain, Gathered, IsIn}
 use Rattle.djq_gains.proofs.Noting.{cut_rows, held_by}

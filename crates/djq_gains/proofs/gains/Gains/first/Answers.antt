@@ -1,3 +1,4 @@
+-- The tuples lie in the slots of the arena's rows, in the same order.
 use Rattle.std.proofs.Common.{ℕ, List, ap, sym, ◌∙◌}
 use Rattle.djq_arena.specs.Chains.{first_of}
 use Rattle.djq_gains.specs.Gathered.{Gathered, slots_in}

@@ -1,3 +1,4 @@
+-- A tuple has the cells of a row of the arena, and each of these is as wide as the arena.
 use Rattle.std.proofs.Common.{◌≡◌, length, subst}
 use Rattle.std.specs.Prelude.{Contains}
 use Rattle.djq_gains.specs.Gathered.{Gain, Gathered}

@@ -1,3 +1,4 @@
+-- Tuples and rows stand in the same order, so what is behind a tuple is behind its row.
 use Rattle.std.proofs.Common.{ℕ, List, ap, sym, subst, ◌∙◌}
 use Rattle.djq_arena.specs.Chains.{first_of}
 use Rattle.djq_gains.specs.Gathered.{Gain, Gathered, IsIn, slots_in}

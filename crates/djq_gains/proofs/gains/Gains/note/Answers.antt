@@ -1,3 +1,4 @@
+-- A tuple is the only one in its slot, so a mark for the slot says something of this tuple alone.
 use Rattle.std.proofs.Common.{◌≡◌, ℕ, ◌<◌, List, length, subst, sym, arith}
 use Rattle.std.specs.Prelude.{◌↔◌, ◌⊎◌}
 use Rattle.djq_gains.specs.Gathered.{Gain, Gathered, AreApart, StandSomewhere, Stand, gains_in, marked_in, marks_at}

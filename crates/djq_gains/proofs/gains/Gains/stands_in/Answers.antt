@@ -1,3 +1,4 @@
+-- By the arena's laws a slot is below its room, so it has marks, which are those of the tuple there.
 use Rattle.std.proofs.Common.{◌≡◌, ◌<◌, ℕ, Bool, false, List, [], slice_index_or, ap, sym, subst, ◌∙◌, arith}
 use Rattle.std.proofs.lemmas.List.{get_or_read}
 use Rattle.djq_arena.specs.Chains.{AreBelow}

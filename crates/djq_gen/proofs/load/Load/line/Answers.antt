@@ -1,3 +1,4 @@
+-- Where nothing fixed is due, what is to come begins with the change that the next three draws make.
 use Rattle.std.proofs.Common.{◌+◌, ◌-◌, sym, ◌∙◌}
 use Rattle.djq_gen.specs.Load.{changes}
 use Rattle.djq_gen.proofs.Changing.{changes-first}

@@ -1,3 +1,4 @@
+-- A variable lies in an edge exactly where it is one of the variables of all edges.
 use Rattle.djq_hyper.proofs.Owning.{covered}
 use Rattle.djq_hyper.proofs.edges.Edges.covers.Goals as goal
 

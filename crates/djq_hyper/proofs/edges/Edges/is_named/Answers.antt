@@ -1,3 +1,4 @@
+-- A variable of an edge has a name or is left; one beyond the names shows that they aren't enough.
 use Rattle.std.proofs.Common.{rules, arith}
 use Rattle.djq_hyper.proofs.Owning.{naming_done, unnamed}
 use Rattle.djq_hyper.proofs.edges.Edges.is_named.Goals as goal

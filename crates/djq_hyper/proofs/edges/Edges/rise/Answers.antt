@@ -1,3 +1,4 @@
+-- Each edge passed is a set of variables, and so is the one at the index; at the end these are all.
 use Rattle.std.proofs.Common.{◌≡◌, List, ℕ, length, ap, ◌∙◌, arith}
 use Rattle.std.specs.Prelude.{◌<◌}
 use Rattle.djq_hyper.specs.Hypergraph.{edge_at}

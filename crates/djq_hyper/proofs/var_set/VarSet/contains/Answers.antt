@@ -1,3 +1,4 @@
+-- A variable is in the set exactly where its bit is set in the word, and none is above the limit.
 use Rattle.djq_hyper.proofs.Words.{word_member, word_above}
 use Rattle.djq_hyper.proofs.var_set.VarSet.contains.Goals as goal
 

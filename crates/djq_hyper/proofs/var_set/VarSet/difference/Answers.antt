@@ -1,3 +1,4 @@
+-- The bits of one word that the other lacks are the variables of the one set that the other lacks.
 use Rattle.djq_hyper.proofs.Words.{word_difference}
 use Rattle.djq_hyper.proofs.var_set.VarSet.difference.Goals as goal
 

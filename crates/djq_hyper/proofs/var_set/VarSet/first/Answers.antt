@@ -1,3 +1,4 @@
+-- The lowest bit that is set stands for the least variable, with which the rising list begins.
 use Rattle.std.proofs.Common.{arith, refl}
 use Rattle.djq_hyper.proofs.Words.{word_first, word_none}
 use Rattle.djq_hyper.proofs.var_set.VarSet.first.Goals as goal

@@ -1,3 +1,4 @@
+-- A bit that is set below the limit adds its variable to the set, and no other.
 use Rattle.djq_hyper.proofs.Words.{word_insert_fits, word_insert}
 use Rattle.djq_hyper.proofs.var_set.VarSet.insert.Goals as goal
 

@@ -1,3 +1,4 @@
+-- The bits that both words have are the variables that both sets have.
 use Rattle.djq_hyper.proofs.Words.{word_intersection}
 use Rattle.djq_hyper.proofs.var_set.VarSet.intersection.Goals as goal
 

@@ -1,3 +1,4 @@
+-- A word below its limit is zero exactly where it stands for no variable.
 use Rattle.djq_hyper.proofs.Words.{word_empty}
 use Rattle.djq_hyper.proofs.var_set.VarSet.is_empty.Goals as goal
 

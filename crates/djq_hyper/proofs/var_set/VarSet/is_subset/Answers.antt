@@ -1,3 +1,4 @@
+-- A set lies in another exactly where its word has no bit that the other word lacks.
 use Rattle.djq_hyper.proofs.Words.{word_subset}
 use Rattle.djq_hyper.proofs.var_set.VarSet.is_subset.Goals as goal
 

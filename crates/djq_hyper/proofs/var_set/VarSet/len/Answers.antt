@@ -1,3 +1,4 @@
+-- A word below its limit has as many bits set as its set has variables.
 use Rattle.djq_hyper.proofs.Words.{word_length}
 use Rattle.djq_hyper.proofs.var_set.VarSet.len.Goals as goal
 

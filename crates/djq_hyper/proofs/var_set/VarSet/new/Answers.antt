@@ -1,3 +1,4 @@
+-- The word zero stands for no variable.
 use Rattle.std.proofs.Common.{refl}
 use Rattle.djq_hyper.proofs.Words.{none_of}
 use Rattle.djq_hyper.proofs.var_set.VarSet.new.Goals as goal

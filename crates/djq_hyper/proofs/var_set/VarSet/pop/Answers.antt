@@ -1,3 +1,4 @@
+-- The lowest bit that is set is the first variable, and the word without it has the later ones.
 use Rattle.std.proofs.Common.{arith, refl}
 use Rattle.djq_hyper.proofs.Words.{word_split, word_none}
 use Rattle.djq_hyper.proofs.var_set.VarSet.pop.Goals as goal

@@ -1,3 +1,4 @@
+-- A word's variables are read off from its lowest bit on, so they are in order and below the limit.
 use Rattle.djq_hyper.proofs.Words.{word_rises, word_below}
 use Rattle.djq_hyper.proofs.var_set.VarSet.rises.Goals as goal
 

@@ -1,3 +1,4 @@
+-- The bits that one of two words has are the variables that one of the sets has, below the limit still.
 use Rattle.djq_hyper.proofs.Words.{word_fits, word_union}
 use Rattle.djq_hyper.proofs.var_set.VarSet.union.Goals as goal
 

@@ -1,3 +1,4 @@
+-- A variable at the limit or above it is in no set, and another one goes with its bit.
 use Rattle.std.proofs.Common.{sym, ◌∙◌}
 use Rattle.std.proofs.lemmas.Bool.{le-ltb}
 use Rattle.djq_hyper.specs.declared.var_set.TheConstants.{VARIABLES}

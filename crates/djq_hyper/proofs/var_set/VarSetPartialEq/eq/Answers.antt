@@ -1,3 +1,4 @@
+-- A set's variables make up its word again, so equal lists of variables come from equal words.
 use Rattle.std.proofs.Common.{arith}
 use Rattle.djq_hyper.specs.Insides.{mask_seen}
 use Rattle.djq_hyper.proofs.var_set.VarSetPartialEq.eq.Goals as goal

@@ -1,3 +1,4 @@
+-- There are as many cells as columns gone through, which are at most 16; each column is below the width.
 use Rattle.std.proofs.Common.{ℕ, List, ◌∷◌, ◌++◌, [], length, take, ap, sym, arith, ◌∙◌}
 use Rattle.std.specs.Prelude.{slice_index_or}
 use Rattle.std.proofs.lemmas.List.{length-take-le}

@@ -1,3 +1,4 @@
+-- The columns 2 and 0 are below the width of the tuple, which has three cells.
 use Rattle.std.proofs.Common.{arith}
 use Rattle.djq_index.specs.Table.{AreColumns}
 use Rattle.djq_index.proofs.cells.tests.writes_cells.Goals as goal

@@ -1,3 +1,4 @@
+-- The notes keep their heads, so the groups stay; and without marks there is no first marked slot.
 use Rattle.std.proofs.Common.{None, refl}
 use Rattle.djq_index.specs.declared.raw.Raw.{Raw}
 use Rattle.djq_index.proofs.Clearing.{cleared_raw}

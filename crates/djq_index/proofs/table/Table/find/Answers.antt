@@ -1,3 +1,4 @@
+-- An entry is a row with its note, so a row with these cells is an entry, and without one none has them.
 use Rattle.std.proofs.Common.{sym, subst}
 use Rattle.djq_index.specs.declared.place.Place.{Place}
 use Rattle.djq_index.specs.Table.{IsAt}

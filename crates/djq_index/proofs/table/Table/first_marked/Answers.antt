@@ -1,3 +1,4 @@
+-- The first marked slot is kept, by the invariant, and there the first marked entry lies.
 use Rattle.std.proofs.Common.{sym, ◌∙◌, ap}
 use Rattle.djq_index.specs.Entries.{marks}
 use Rattle.djq_index.specs.Raw.{entries_of, place_of}

@@ -1,3 +1,4 @@
+-- Each tuple has a slot of its own, by the invariant, and the numbers of slots have that bound.
 use Rattle.std.proofs.Common.{◌≤◌, length, subst}
 use Rattle.djq_index.specs.Table.{Table}
 use Rattle.djq_index.proofs.Bounding.{few_entries}

@@ -1,3 +1,4 @@
+-- By its kind the key is empty or whole, so a group is all or one tuple; else a head knows the group's last.
 use Rattle.std.proofs.Common.{refl, sym, ◌∙◌, ap}
 use Rattle.djq_arena.specs.declared.chain.Ends.{Ends}
 use Rattle.djq_arena.specs.Chains.{last_of}

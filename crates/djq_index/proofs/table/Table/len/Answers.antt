@@ -1,3 +1,4 @@
+-- Each entry is a row of the arena with its note, so there are as many of them as rows.
 use Rattle.std.proofs.Common.{◌∙◌, sym, ap, length}
 use Rattle.djq_index.specs.Table.{Table}
 use Rattle.djq_index.proofs.Tabling.{length_entries}

@@ -1,3 +1,4 @@
+-- By its kind, the one group is the order of the rows, or each tuple is alone; else groups are chained.
 use Rattle.std.proofs.Common.{sym, ◌∙◌, ap, ℕ, arith}
 use Rattle.djq_arena.specs.declared.chain.Pair.{Pair}
 use Rattle.djq_arena.specs.Chains.{pair_at}

@@ -1,3 +1,4 @@
+-- Behind a marked entry all are marked, by the invariant, so the next row is the next marked one.
 use Rattle.std.proofs.Common.{sym, ◌∙◌, ap}
 use Rattle.djq_index.specs.declared.place.Place.{Place}
 use Rattle.djq_index.proofs.Parts.{live_held, marked_next}

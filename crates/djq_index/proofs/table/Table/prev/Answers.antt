@@ -1,3 +1,4 @@
+-- By its kind, the row before is the one before in the group, or there is none; else groups are chained.
 use Rattle.std.proofs.Common.{sym, ◌∙◌, ap, ℕ, arith}
 use Rattle.djq_arena.specs.declared.chain.Pair.{Pair}
 use Rattle.djq_arena.specs.Chains.{pair_at}

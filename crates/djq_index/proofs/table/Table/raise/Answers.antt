@@ -1,3 +1,4 @@
+-- The note has the entry's supports, below the bound; with its head and mark kept, groups and marks stay.
 use Rattle.std.proofs.Common.{◌≡◌, ◌<◌, ◌+◌, refl, ◌∙◌, ap, ℕ, arith}
 use Rattle.djq_index.specs.declared.raw.Note.{Note}
 use Rattle.djq_index.specs.declared.raw.Raw.{Raw}

@@ -1,3 +1,4 @@
+-- The slot of a tuple's place is below the room and has a note, whose supports are the entry's.
 use Rattle.std.proofs.Common.{◌∙◌, ap, arith}
 use Rattle.djq_index.specs.declared.raw.Note.{Note}
 use Rattle.djq_index.specs.Raw.{note_at}

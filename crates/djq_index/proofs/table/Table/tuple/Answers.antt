@@ -1,3 +1,4 @@
+-- A tuple's place is the slot of a row, and the tuple is that row's cells.
 use Rattle.std.proofs.Common.{sym}
 use Rattle.djq_index.proofs.Parts.{at_row, live_held}
 use Rattle.djq_index.proofs.table.Table.tuple.Goals as goal

@@ -1,3 +1,4 @@
+-- The first columns, of which there are no more than the width, are columns of that width too.
 use Rattle.std.proofs.Common.{arith, subst, sym, ◌≤◌}
 use Rattle.djq_index.specs.Table.{AreColumns}
 use Rattle.djq_index_bench.proofs.Columns.{wider}

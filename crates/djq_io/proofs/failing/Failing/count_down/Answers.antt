@@ -1,3 +1,4 @@
+-- The calls up to the index are one nearer each, and the one that was the next is now counted as failed.
 use Rattle.std.proofs.Common.{rules, arith, ◌-◌, ◌++◌, length, take, drop}
 use Rattle.std.proofs.lemmas.Grind.{common_steps}
 use Rattle.djq_io.proofs.Counting.{counts_down}

@@ -1,3 +1,4 @@
+-- The sends up to the index are counted down, and the search tells whether one to the session was the next.
 use Rattle.std.proofs.Common.{rules, tests, arith, ◌≡◌, ◌++◌, ◌&&◌, nat_eq, length, take, drop}
 use Rattle.std.proofs.lemmas.Grind.{common_steps}
 use Rattle.std.proofs.lemmas.Iterator.{YieldsList-from_slice}

@@ -1,3 +1,4 @@
+-- A running session's piece is given whole, or cut where the buffer ends and its rest put back in front.
 use Rattle.std.proofs.Common.{rules, arith, ◌≡◌, ◌<◌, ◌≤◌, ap, ◌∙◌, inl, inr, min, length, take, sym, subst}
 use Rattle.djq_io.specs.Hub.{IsRunning}
 use Rattle.djq_io.specs.MemHub.{Recorded}

@@ -1,3 +1,4 @@
+-- The answer goes by the sends that are to fail and by the script, which stays; a session gone met a fault.
 use Rattle.std.proofs.Common.{rules, ◌≡◌, ◌∷◌, [], length, ap}
 use Rattle.djq_io.specs.Sink.{Gains}
 use Rattle.djq_io.specs.Hub.{taken_by}

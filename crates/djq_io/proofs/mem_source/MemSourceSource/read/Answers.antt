@@ -1,3 +1,4 @@
+-- The piece is what the bytes have from the place on, and what is left begins behind it.
 use Rattle.std.proofs.Common.{length, ◌+◌, ◌-◌, ◌≤◌, ◌≡◌, ◌++◌, take, drop, sym, ap, arith, ◌∙◌}
 use Rattle.std.proofs.Common.{length-append, length-take, length-drop}
 use Rattle.djq_io.proofs.Parts.{copied_part, part_then_left, gives_span}

@@ -1,3 +1,4 @@
+-- The places that stay are those of other ids, so the session goes and their counts and bounds stay.
 use Rattle.std.proofs.Common.{rules, arith, ap, ap₂, sym, subst, not, nat_eq, length}
 use Rattle.std.proofs.lemmas.Fn.{filter_same}
 use Rattle.std.specs.Prelude.{Contains}

@@ -1,3 +1,4 @@
+-- Each place is passed once: one with the id has a fault more, and the others and all ids are as they were.
 use Rattle.std.proofs.Common.{rules, arith, ap, sym, ◌∙◌, ◌≡◌, ◌++◌, length, take, drop, map, false, subst}
 use Rattle.std.specs.Prelude.{Contains}
 use Rattle.std.proofs.lemmas.Grind.{common_steps}

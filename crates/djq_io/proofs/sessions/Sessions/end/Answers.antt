@@ -1,3 +1,4 @@
+-- Each place is passed once: one with the id is marked as ended, and all counts are as they were.
 use Rattle.std.proofs.Common.{rules, arith, ap, sym, ◌∙◌, ◌≡◌, ◌++◌, length, take, drop, map, false}
 use Rattle.std.proofs.lemmas.Grind.{common_steps}
 use Rattle.djq_io.specs.Sessions.{Places}

@@ -1,3 +1,4 @@
+-- A place with the id says that the session is open, and a mark on it that its input has ended.
 use Rattle.std.proofs.Common.{ap, sym, ◌&&◌, rules, tests, nat_eq}
 use Rattle.std.proofs.lemmas.Iterator.{YieldsList-from_slice}
 use Rattle.std.proofs.lemmas.Iterator.Search.{any_from_yields_List}

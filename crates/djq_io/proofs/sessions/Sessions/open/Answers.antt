@@ -1,3 +1,4 @@
+-- The new place stands behind the others with no faults, so the counts of those before it stay.
 use Rattle.std.proofs.Common.{rules, arith, ◌≡◌, ◌∷◌, [], ◌++◌, sym, false}
 use Rattle.std.proofs.lemmas.Grind.{common_steps}
 use Rattle.djq_io.specs.declared.sessions.Session.{Session}

@@ -1,3 +1,4 @@
+-- No call was to fail, so none is, and what is put behind the past finds no session gone.
 use Rattle.std.proofs.Common.{refl, ap, ◌∙◌}
 use Rattle.djq_io.specs.Failing.{after_call}
 use Rattle.djq_io.specs.MemHub.{Recorded}

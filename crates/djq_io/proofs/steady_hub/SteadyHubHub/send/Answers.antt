@@ -1,3 +1,4 @@
+-- None is to fail, so no session is found gone; the answer goes by the script, which stays.
 use Rattle.std.proofs.Common.{rules, ◌≡◌, length, ap, sym, subst, ◌∙◌}
 use Rattle.djq_io.specs.FailingSends.{after_send}
 use Rattle.djq_io.specs.Hub.{taken_by}

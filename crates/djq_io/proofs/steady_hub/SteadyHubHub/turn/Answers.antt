@@ -1,3 +1,4 @@
+-- No call was to fail, so none is, and what it brings adds nothing to the past that finds a session gone.
 use Rattle.std.proofs.Common.{refl, ap, ◌∙◌}
 use Rattle.djq_io.specs.Failing.{after_call}
 use Rattle.djq_io.proofs.Steadying.{quiet_more}

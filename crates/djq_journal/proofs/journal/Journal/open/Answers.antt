@@ -1,3 +1,4 @@
+-- What was read behind the sync is the header, so the journal stands at its first gate, at place 8.
 use Rattle.std.proofs.Common.{sym}
 use Rattle.std.proofs.lemmas.Slice.Eq.{bytes_eq-Decides}
 use Rattle.djq_disk.specs.History.{Syncs}

@@ -1,3 +1,4 @@
+-- The log had the journal that was taken, idle behind whatever lines, and the group has a first line.
 use Rattle.std.proofs.Common.{rules, ◌≡◌, ℕ, List, [], sym, subst}
 use Rattle.std.specs.Prelude.{Option, Some}
 use Rattle.djq_disk.specs.History.{WhereTold}

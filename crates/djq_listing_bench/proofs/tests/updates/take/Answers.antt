@@ -1,3 +1,4 @@
+-- A tuple that was found at a place of the leaf's table counts there at least once.
 use Rattle.std.proofs.Common.{◌<◌, List, subst}
 use Rattle.djq_index.specs.Entries.{Entry, count_of}
 use Rattle.djq_index.proofs.Apart.{there}

@@ -1,3 +1,4 @@
+-- The row is new, so its leaves lack its tuple and have room; what was put in can be given back.
 use Rattle.std.proofs.Common.{ℕ, [], ◌∷◌, ◌<◌, length, sym, subst, ◌∙◌, arith}
 use Rattle.djq_live.specs.Changes.{Came, Gains}
 use Rattle.djq_live.specs.Live.{Live}

@@ -1,3 +1,4 @@
+-- A planned query without a fault has a leaf for each atom, over its variables, and no tuples at first.
 use Rattle.std.proofs.Common.{List, length, sym, subst, ap, arith}
 use Rattle.djq_tree.specs.Tree.{Tree}
 use Rattle.djq_query.specs.declared.numbered.NumberedAtom.{NumberedAtom}

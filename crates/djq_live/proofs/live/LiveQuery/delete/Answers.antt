@@ -1,3 +1,4 @@
+-- The row went out of the catalog alone, so each leaf over its relation still has its tuple.
 use Rattle.std.proofs.Common.{length, arith}
 use Rattle.djq_live.specs.Live.{Live}
 use Rattle.djq_live.proofs.Costing.{counts_all, counts_flat}

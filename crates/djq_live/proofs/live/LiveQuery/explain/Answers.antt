@@ -1,3 +1,4 @@
+-- The tree of a kept query is one of its edges, so it has an atom for each leaf and a name for each variable.
 use Rattle.std.proofs.Common.{◌≡◌, ℕ, List, length, sym, subst, ap, map, ◌∙◌, arith}
 use Rattle.djq_model.specs.Data.{Bytes}
 use Rattle.djq_lines.specs.Hypergraph.{label_name, variable_names}

@@ -1,3 +1,4 @@
+-- The row was taken in, so each leaf over its relation has its tuple; without it they are as the rows say.
 use Rattle.std.proofs.Common.{length, arith, subst}
 use Rattle.djq_live.specs.Live.{Live}
 use Rattle.djq_live.specs.Stepping.{HasMore}

@@ -1,3 +1,4 @@
+-- A tuple that suits is as wide as the head, so its cells have room; an answer's texts are all known.
 use Rattle.std.proofs.Common.{◌≡◌, ◌≤◌, length, ap, arith}
 use Rattle.djq_live.specs.Live.{Live}
 use Rattle.djq_live.proofs.Asking.{suits_long, tells_answer, tells_unknown, has_counted}

@@ -1,3 +1,4 @@
+-- An open cursor fits the tables, and an answer of the tree is left exactly where one in values is.
 use Rattle.std.proofs.Common.{arith}
 use Rattle.djq_live.proofs.Advancing.{more_gives, slot_fits}
 use Rattle.djq_live.proofs.Asking.{narrow}

@@ -1,3 +1,4 @@
+-- An open cursor fits the tables, and different answers of the tree show different tuples of values.
 use Rattle.std.proofs.Common.{length, arith}
 use Rattle.djq_live.proofs.Advancing.{next_gives, slot_fits, steps_more}
 use Rattle.djq_live.proofs.Asking.{narrow}

@@ -1,3 +1,4 @@
+-- A cursor that has given nothing fits any tables, so the query goes with one cursor more.
 use Rattle.djq_live.proofs.Advancing.{open_live}
 use Rattle.djq_live.proofs.live.LiveQuery.open.Goals as goal
 

@@ -1,3 +1,4 @@
+-- A stale cursor has nothing to fit, so a query that is kept goes with its cursors once they are stale.
 use Rattle.std.proofs.Common.{sym, subst}
 use Rattle.djq_live.specs.Live.{Live, IsKept}
 use Rattle.djq_live.proofs.Advancing.{made_stale}

@@ -1,3 +1,4 @@
+-- The tree's leaves have the labels of the query's edges, and its head is the query's: both are flat or not.
 use Rattle.std.proofs.Common.{◌∙◌, ap}
 use Rattle.djq_lines.specs.Hypergraph.{edges_of, head_of}
 use Rattle.djq_live.specs.Live.{Live}

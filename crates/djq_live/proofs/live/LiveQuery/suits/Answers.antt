@@ -1,3 +1,4 @@
+-- A name of the head and its number have one type, so the types of the answers are those of the numbers.
 use Rattle.djq_live.proofs.Asking.{tells_type, tells_none}
 use Rattle.djq_live.proofs.live.LiveQuery.suits.Goals as goal
 

@@ -1,3 +1,4 @@
+-- Where a place of the head reads its cell is within the answer, and the cell there stands for what is shown.
 use Rattle.std.proofs.Common.{◌<◌, ◌∙◌, length, ap, sym, rules}
 use Rattle.std.specs.Prelude.{Some, slice_index_or}
 use Rattle.djq_model.specs.declared.value.Value.{Value}

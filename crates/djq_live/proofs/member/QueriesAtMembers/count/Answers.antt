@@ -1,3 +1,4 @@
+-- Each place has a query, so there are as many queries as places.
 use Rattle.std.proofs.Common.{sym}
 use Rattle.djq_live.proofs.AtPlaces.{as_many}
 use Rattle.djq_live.proofs.member.QueriesAtMembers.count.Goals as goal

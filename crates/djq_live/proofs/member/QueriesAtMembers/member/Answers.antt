@@ -1,3 +1,4 @@
+-- Each place has a query, so the query at a number is the one in the place at that number.
 use Rattle.std.proofs.Common.{◌<◌, ◌∙◌, length, rules, arith}
 use Rattle.djq_live.proofs.AtPlaces.{as_many, nth_is, nth_has}
 use Rattle.djq_live.proofs.member.QueriesAtMembers.member.Goals as goal

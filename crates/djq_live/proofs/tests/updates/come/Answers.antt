@@ -1,3 +1,4 @@
+-- The log was empty, so its lines are what the row brought; the later query has the same tree to show them.
 use Rattle.std.proofs.Common.{ap, ◌∙◌}
 use Rattle.djq_live.specs.Changes.{Came}
 use Rattle.djq_live.specs.Live.{Live}

@@ -1,3 +1,4 @@
+-- The log was empty, so its lines are what went with the row, and the later query can show them still.
 use Rattle.std.proofs.Common.{rules, ap, ◌∙◌}
 use Rattle.djq_live.specs.Changes.{Went}
 use Rattle.djq_live.specs.Live.{Live, IsLive}

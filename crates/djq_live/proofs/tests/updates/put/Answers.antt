@@ -1,3 +1,4 @@
+-- A first copy is a row that came; a further one leaves the rows as they are, so the query is kept still.
 use Rattle.std.proofs.Common.{◌≡◌, ℕ, List, sym, subst}
 use Rattle.djq_rows.specs.Catalog.{Catalog, StandForRow}
 use Rattle.djq_live.specs.Live.{IsLive}

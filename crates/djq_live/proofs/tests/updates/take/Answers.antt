@@ -1,3 +1,4 @@
+-- The last copy is a row that went; where one is left, or none was there, the rows are as they were.
 use Rattle.std.proofs.Common.{◌≡◌, ℕ, List, sym, subst}
 use Rattle.djq_rows.specs.Catalog.{Catalog, StandForRow, rows_at}
 use Rattle.djq_live.specs.Live.{IsLive}

@@ -1,3 +1,4 @@
+-- What was read is what the bytes say; where they say nothing they are outside, and all stays as it was.
 use Rattle.std.proofs.Common.{refl, sym, arith}
 use Rattle.djq_mirror.specs.Reading.{news_by}
 use Rattle.djq_mirror.proofs.Turning.{line_ends, outside_none}

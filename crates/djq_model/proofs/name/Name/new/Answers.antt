@@ -1,3 +1,4 @@
+-- Bytes that are copied over the front of 32 zeros have only zeros behind them.
 use Rattle.std.proofs.Common.{◌≡◌, ◌≤◌, ◌++◌, ℕ, List, length, take, drop, replicate, refl}
 use Rattle.std.proofs.lemmas.List.{take_at, drop-replicate}
 use Rattle.djq_model.specs.Padded.{zeros_after}

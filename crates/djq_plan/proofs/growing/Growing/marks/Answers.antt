@@ -1,3 +1,4 @@
+-- A node is current where its number is among the current ones, and the nodes before it are told already.
 use Rattle.std.proofs.Common.{◌∙◌, ap, arith}
 use Rattle.djq_tree.specs.Growing.{Growth}
 use Rattle.djq_plan.proofs.Stepping.{mark_more}

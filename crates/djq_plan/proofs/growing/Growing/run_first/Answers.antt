@@ -1,3 +1,4 @@
+-- Each step that is taken is one of the stage, and the current labels are smaller in all after it.
 use Rattle.std.proofs.Common.{refl}
 use Rattle.djq_tree.specs.Growing.{are_within}
 use Rattle.djq_plan.proofs.Stepping.{ran_none, turn}

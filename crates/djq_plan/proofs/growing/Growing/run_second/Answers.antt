@@ -1,3 +1,4 @@
+-- A set without variables keeps none, so each step is one of the stage; labels are smaller in all after it.
 use Rattle.std.proofs.Common.{[]}
 use Rattle.djq_tree.specs.Growing.{is_root}
 use Rattle.djq_plan.proofs.Stepping.{ran_none, turn}

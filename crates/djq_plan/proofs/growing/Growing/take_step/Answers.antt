@@ -1,3 +1,4 @@
+-- What the rule names stands among the current labels: a trim's place, and the two different ones of a meet.
 use Rattle.std.proofs.Common.{◌∙◌, ap}
 use Rattle.djq_tree.specs.Growing.{Growth}
 use Rattle.djq_plan.proofs.Stepping.{trim_place, meet_places}

@@ -1,3 +1,4 @@
+-- The label rises and has the terms' variables and no others, so every place of a tuple is at some column.
 use Rattle.std.proofs.Common.{◌≡◌, ◌∙◌, ap, ap₂, List, ℕ}
 use Rattle.djq_query.specs.declared.numbered.NumberedTerm.{NumberedTerm}
 use Rattle.djq_query.specs.Pattern.{bound, tests_of}

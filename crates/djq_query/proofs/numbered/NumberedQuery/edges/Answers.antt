@@ -1,3 +1,4 @@
+-- By the query's law an atom's numbers are below the limit, and each edge so far is that of its atom.
 use Rattle.std.proofs.Common.{◌≡◌, ◌+◌, ◌<◌, ℕ, List, length, arith, sym, subst, ap, ◌∙◌, ◌++◌, ◌∷◌}
 use Rattle.std.proofs.Common.{[], get_or, length-append}
 use Rattle.std.specs.List.{list_any}

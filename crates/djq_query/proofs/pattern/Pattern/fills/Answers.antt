@@ -1,3 +1,4 @@
+-- The tuple gives the row up to the index; one column that differs says that it doesn't give the whole row.
 use Rattle.std.proofs.Common.{◌≡◌, ◌<◌, ◌≤◌, List, length, arith, sym, ap, ◌∙◌}
 use Rattle.djq_query.specs.declared.pattern.Slot.{Slot}
 use Rattle.djq_query.specs.Pattern.{Shape}

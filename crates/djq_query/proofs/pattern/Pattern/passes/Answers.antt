@@ -1,3 +1,4 @@
+-- The tests up to the index and the one there hold of the tuple, and past the end these are all.
 use Rattle.std.proofs.Common.{◌≡◌, ◌≤◌, List, length, sym, ap, ◌∙◌, arith}
 use Rattle.djq_query.specs.declared.pattern.Test.{Test}
 use Rattle.djq_query.specs.Pattern.{Shape}

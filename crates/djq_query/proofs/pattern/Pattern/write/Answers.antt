@@ -1,3 +1,4 @@
+-- A tuple that gives the row has the row's cell at each place that was read, and a pattern reads every place.
 use Rattle.std.proofs.Common.{◌≡◌, ◌≤◌, List, length, arith, subst, ap, ◌∙◌}
 use Rattle.djq_query.specs.declared.pattern.Slot.{Slot}
 use Rattle.djq_query.specs.Pattern.{Shape, IsPattern}

@@ -1,3 +1,4 @@
+-- The place of the first relation with the name is its number, and where there is none it has none.
 use Rattle.std.proofs.Common.{◌≡◌, sym, subst, ap, ◌∙◌, ℕ}
 use Rattle.std.specs.Prelude.{Option, position}
 use Rattle.djq_model.specs.declared.relation.Relation.{Relation}

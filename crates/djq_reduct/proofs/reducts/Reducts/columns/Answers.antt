@@ -1,3 +1,4 @@
+-- The lists were found once and stay, one for each node, so what stands at the node is that of its label.
 use Rattle.std.proofs.Common.{ℕ, List, length, ap, arith, ◌∙◌}
 use Rattle.std.specs.Prelude.{slice_index_or}
 use Rattle.djq_tree.specs.Labels.{label_at}

@@ -1,3 +1,4 @@
+-- By induction over the nodes a table is known once its children's are, so equal leaves make equal tables.
 use Rattle.std.proofs.Common.{subst}
 use Rattle.djq_reduct.specs.Reducts.{IsReducts}
 use Rattle.djq_reduct.proofs.Family.{one_family}

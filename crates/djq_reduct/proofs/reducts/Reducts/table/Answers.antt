@@ -1,3 +1,4 @@
+-- There is a table for each node, by the law of reducts, so the one that is read is the node's.
 use Rattle.std.proofs.Common.{◌≡◌, length, ap, arith}
 use Rattle.djq_reduct.specs.Tables.{table_at}
 use Rattle.djq_reduct.specs.Reducts.{Reducts}

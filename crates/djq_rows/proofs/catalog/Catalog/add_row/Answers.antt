@@ -1,3 +1,4 @@
+-- The relation at the place is the one kept there; a row's cells are its own, since no text has two numbers.
 use Rattle.std.proofs.Common.{◌∙◌, ap, sym, refl}
 use Rattle.djq_rows.specs.declared.kept.Kept.{Kept}
 use Rattle.djq_rows.proofs.Standing.{

@@ -1,3 +1,4 @@
+-- A text's number is its place among the known texts, since none of them stands there twice.
 use Rattle.std.proofs.Common.{◌∙◌, ap, subst}
 use Rattle.std.specs.Prelude.{Some}
 use Rattle.djq_model.specs.Data.{Bytes}

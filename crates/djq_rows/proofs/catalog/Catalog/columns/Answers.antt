@@ -1,3 +1,4 @@
+-- The relation that is seen at a place has the types of the one that is kept there.
 use Rattle.std.proofs.Common.{◌∙◌}
 use Rattle.djq_rows.proofs.Standing.{types_seen}
 use Rattle.djq_rows.proofs.catalog.Catalog.columns.Goals as goal

@@ -1,3 +1,4 @@
+-- The copies of a row are those of its cells, since texts differ; a kept row has one at least.
 use Rattle.djq_rows.proofs.Standing.{seen_at, read_kept, copies_done, copies_has}
 use Rattle.djq_rows.proofs.catalog.Catalog.copies.Goals as goal
 

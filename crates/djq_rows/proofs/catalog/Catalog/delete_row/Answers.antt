@@ -1,3 +1,4 @@
+-- The relation at the place is the one kept there; of its entries the one with the row's cells changes alone.
 use Rattle.std.proofs.Common.{refl}
 use Rattle.djq_rows.proofs.Standing.{seen_at, read_kept, delete_parts, delete_done}
 use Rattle.djq_rows.proofs.catalog.Catalog.delete_row.Goals as goal

@@ -1,3 +1,4 @@
+-- A row is in the relation that is seen exactly where its cells are in the kept one, since texts differ.
 use Rattle.djq_rows.proofs.Standing.{seen_at, read_kept, has_done}
 use Rattle.djq_rows.proofs.catalog.Catalog.has_row.Goals as goal
 

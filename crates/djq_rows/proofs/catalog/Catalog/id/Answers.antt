@@ -1,3 +1,4 @@
+-- By the invariant the names are those of the relations, in order, so a name's number is a relation's place.
 use Rattle.std.proofs.Common.{◌∙◌, ap, refl, subst}
 use Rattle.std.specs.Prelude.{Some}
 use Rattle.djq_model.specs.Data.{Bytes}

@@ -1,3 +1,4 @@
+-- A text becomes known behind the others, so every cell stands for what it did, and the relations stay.
 use Rattle.std.proofs.Common.{◌≡◌, ◌∙◌, ap, sym, subst, refl}
 use Rattle.std.specs.Prelude.{Some, Err, Contains}
 use Rattle.std.proofs.lemmas.Bool.{false≢true}

@@ -1,3 +1,4 @@
+-- By the loop the values before the index have cells, which stay as texts come; a refused text was unknown.
 use Rattle.std.proofs.Common.{◌∙◌, take}
 use Rattle.djq_rows.proofs.Encoding.{have_grown}
 use Rattle.djq_rows.proofs.Interning.{

@@ -1,3 +1,4 @@
+-- What holds of the parts gives what holds of the catalog; the texts' bound is the dictionary's.
 use Rattle.std.proofs.Common.{◌≤◌, length, arith}
 use Rattle.djq_dict.specs.declared.dict.TheConstants.{MOST_TEXTS}
 use Rattle.djq_rows.proofs.Standing.{catalog_sound}

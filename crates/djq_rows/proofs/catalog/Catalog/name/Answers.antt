@@ -1,3 +1,4 @@
+-- The relation that is seen at a place has the name of the one that is kept there.
 use Rattle.djq_rows.proofs.Standing.{name_seen}
 use Rattle.djq_rows.proofs.catalog.Catalog.name.Goals as goal
 

@@ -1,3 +1,4 @@
+-- A name that no relation has isn't among the names, so it is learned as the last, at the relation's place.
 use Rattle.std.proofs.Common.{◌≡◌, ◌∙◌, ℕ, ◌++◌, ◌∷◌, [], List, ap, ap₂, sym, refl, subst, arith}
 use Rattle.std.specs.Prelude.{None}
 use Rattle.djq_model.specs.Data.{Bytes, relation_of}

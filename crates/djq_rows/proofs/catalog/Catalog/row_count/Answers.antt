@@ -1,3 +1,4 @@
+-- The relation that is seen at a place has a row for each entry of the one that is kept there.
 use Rattle.std.proofs.Common.{◌∙◌}
 use Rattle.djq_rows.proofs.Standing.{count_seen}
 use Rattle.djq_rows.proofs.catalog.Catalog.row_count.Goals as goal

@@ -1,3 +1,4 @@
+-- The tuples of a kept relation are the cells of its rows, since its cells are in range and texts differ.
 use Rattle.std.proofs.Common.{◌∙◌, ap}
 use Rattle.djq_rows.specs.declared.kept.Kept.{Kept}
 use Rattle.djq_rows.specs.Parts.{tuples_of}

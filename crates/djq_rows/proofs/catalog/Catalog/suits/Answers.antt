@@ -1,3 +1,4 @@
+-- Types and a row fit where they are of one length and each value is of its column's type, one by one.
 use Rattle.std.proofs.Common.{List, false, ◌∙◌, ap, sym, arith}
 use Rattle.djq_model.specs.declared.relation.ColumnType.{ColumnType}
 use Rattle.djq_model.specs.Typed.{fits}

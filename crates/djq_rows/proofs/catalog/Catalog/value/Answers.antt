@@ -1,3 +1,4 @@
+-- A text's cell is below the count of texts, which fits in 32 bits; the text at that place is the value.
 use Rattle.std.proofs.Common.{◌<◌, ◌∙◌, length, sym, subst, arith}
 use Rattle.djq_rows.specs.Cells.{StandsFor, IsCell}
 use Rattle.djq_rows.specs.Catalog.{Catalog}

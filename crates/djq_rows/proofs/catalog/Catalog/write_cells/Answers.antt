@@ -1,3 +1,4 @@
+-- By the loop the values before the index have cells; a row with an unknown text is in no relation.
 use Rattle.std.proofs.Common.{ℕ, ◌∷◌, [], ◌++◌, ◌∙◌, ap}
 use Rattle.djq_rows.proofs.Interning.{cut, told_more, have_upto, unknown_in}
 use Rattle.djq_rows.proofs.Standing.{nowhere}

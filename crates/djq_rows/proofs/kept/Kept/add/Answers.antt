@@ -1,3 +1,4 @@
+-- A row that lies in a slot is there, with the slot's copies, so it is the limit of copies that is met.
 use Rattle.std.proofs.Common.{◌≡◌, ℕ, ◌+◌, refl, ap, arith}
 use Rattle.djq_index.specs.Entries.{supports_of}
 use Rattle.djq_rows.proofs.Grouped.{found}

@@ -1,3 +1,4 @@
+-- A row that no entry has has no supports.
 use Rattle.std.proofs.Common.{sym}
 use Rattle.djq_index.proofs.Apart.{supp_none}
 use Rattle.djq_rows.proofs.kept.Kept.copies.Goals as goal

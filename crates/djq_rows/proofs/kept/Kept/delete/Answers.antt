@@ -1,3 +1,4 @@
+-- A row that lies in a slot is there, with the slot's copies, of which there is one at least.
 use Rattle.std.proofs.Common.{◌≡◌, ◌≤◌, arith}
 use Rattle.djq_index.specs.Entries.{supports_of}
 use Rattle.djq_rows.proofs.Grouped.{found}

@@ -1,3 +1,4 @@
+-- An entry has the row exactly where a slot is found.
 use Rattle.djq_rows.proofs.Grouped.{found_has}
 use Rattle.djq_rows.proofs.kept.Kept.has.Goals as goal
 

@@ -1,3 +1,4 @@
+-- An entry is a row of the arena with its copies, so its slot holds a row, whose cells are its tuple.
 use Rattle.std.proofs.Common.{refl, subst, sym}
 use Rattle.djq_index.specs.Table.{IsAt, IsLive}
 use Rattle.djq_rows.specs.Rows.{Rows, place}

@@ -1,3 +1,4 @@
+-- An entry's slot is below the room, so it has copies, and they are the entry's supports, as slots differ.
 use Rattle.std.proofs.Common.{◌∙◌, ap, refl, subst, sym, arith, length}
 use Rattle.std.proofs.lemmas.List.{get_or_read_under}
 use Rattle.djq_index.specs.Entries.{supports_of}

@@ -1,3 +1,4 @@
+-- An entry is a row of the arena with its copies, so a row of these cells is one, and without one none is.
 use Rattle.std.proofs.Common.{◌≡◌, ap, subst, List}
 use Rattle.std.specs.Prelude.{MatchOption}
 use Rattle.djq_index.specs.Entries.{Entry, count_of}

@@ -1,3 +1,4 @@
+-- What the arena finds by the hash is a row of these cells, and each entry is a row with its copies.
 use Rattle.std.proofs.Common.{◌≡◌, ap, subst, List}
 use Rattle.std.specs.Prelude.{MatchOption}
 use Rattle.djq_index.specs.Entries.{Entry, count_of}

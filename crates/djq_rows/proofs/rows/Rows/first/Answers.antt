@@ -1,3 +1,4 @@
+-- The entries are the arena's rows in the same order, so the oldest row is the first entry.
 use Rattle.std.proofs.Common.{◌∙◌, ap}
 use Rattle.djq_index.specs.Entries.{head_at}
 use Rattle.djq_rows.specs.Rows.{Rows, place_of}

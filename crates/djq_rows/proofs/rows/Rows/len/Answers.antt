@@ -1,3 +1,4 @@
+-- The entries are the arena's rows with their copies, so there are as many.
 use Rattle.std.proofs.Common.{◌∙◌, ap, length}
 use Rattle.djq_rows.specs.Rows.{Rows}
 use Rattle.djq_rows.proofs.Slotted.{entries_long}

@@ -1,3 +1,4 @@
+-- Without rows there are no entries, so none stands twice, and no slot has to have copies.
 use Rattle.std.proofs.Common.{◌≡◌, ◌∙◌, ℕ, List, [], ap, ap₂}
 use Rattle.djq_arena.specs.Rows.{Rows as Slots}
 use Rattle.djq_index.specs.Entries.{Entry}

@@ -1,3 +1,4 @@
+-- The entries are the arena's rows in the same order, so the row behind a row is the entry behind.
 use Rattle.std.proofs.Common.{◌∙◌, ap, subst, sym}
 use Rattle.djq_index.specs.Table.{IsLive}
 use Rattle.djq_rows.specs.Rows.{Rows, place}

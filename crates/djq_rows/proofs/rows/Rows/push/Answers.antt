@@ -1,3 +1,4 @@
+-- The slot that came is no other row's, so the others keep their copies; the new row was absent before.
 use Rattle.std.proofs.Common.{◌≡◌, ◌<◌, ◌≤◌, ◌∙◌, ap, subst, sym, length, arith, List, ℕ}
 use Rattle.djq_index.specs.Entries.{count_of}
 use Rattle.djq_rows.specs.Rows.{Rows, copies_at}

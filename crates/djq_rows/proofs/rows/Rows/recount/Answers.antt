@@ -1,3 +1,4 @@
+-- Slots differ, so only the entry in this one has other supports; the tuples stay, and none stands twice.
 use Rattle.std.proofs.Common.{subst, sym, arith, slice_set}
 use Rattle.djq_index.specs.Entries.{supports_of}
 use Rattle.djq_index.specs.Table.{IsAt, IsLive}

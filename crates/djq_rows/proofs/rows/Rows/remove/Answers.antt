@@ -1,3 +1,4 @@
+-- Without the slot's row the entries are the others, which keep their copies and still differ.
 use Rattle.std.proofs.Common.{subst, sym, arith}
 use Rattle.djq_index.specs.Table.{IsAt, IsLive}
 use Rattle.djq_rows.specs.Rows.{Rows, place, entries_in}

@@ -1,3 +1,4 @@
+-- Where as many are left as there are entries, the walk stands at the first of all.
 use Rattle.djq_rows.proofs.Stepping.{starts}
 use Rattle.djq_rows.proofs.walk.Walk.new.Goals as goal
 

@@ -1,3 +1,4 @@
+-- By the invariant the walk stands at the first entry that is left, or at none where none is left.
 use Rattle.std.proofs.Common.{ℕ, List, ◌∷◌, ◌-◌, ◌+◌, take, drop, length, ◌∙◌, ap, sym, arith}
 use Rattle.djq_rows.specs.Rows.{place, place_of}
 use Rattle.djq_rows.specs.Walking.{tuples_left}

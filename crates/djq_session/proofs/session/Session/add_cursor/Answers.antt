@@ -1,3 +1,4 @@
+-- No cursor has the name and there were fewer than may be, so with one more names differ and are few enough.
 use Rattle.std.proofs.Common.{arith, ◌≡◌, ◌++◌, ◌∷◌, [], false, length, length-append, ◌∙◌, None, ap}
 use Rattle.std.proofs.lemmas.List.Quantifiers.{all_pairs_push}
 use Rattle.djq_model.specs.Data.{bytes_eq}

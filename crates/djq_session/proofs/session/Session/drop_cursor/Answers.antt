@@ -1,3 +1,4 @@
+-- The place found is the first of the name, so what is left is the list without it, still of other names.
 use Rattle.std.proofs.Common.{◌≡◌, ◌∙◌, false, sym, ap, subst, position, Some, None, List}
 use Rattle.std.proofs.lemmas.List.Quantifiers.{all_pairs_remove, position-Some}
 use Rattle.djq_model.specs.Data.{bytes_eq, drop_first}

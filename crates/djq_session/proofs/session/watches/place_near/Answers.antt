@@ -1,3 +1,4 @@
+-- Where a search finds a place the query is watched there, and where it finds none it isn't watched.
 use Rattle.djq_session.proofs.Finding.{placed_any, placed_there}
 use Rattle.djq_session.proofs.session.watches.place_near.Goals as goal
 

@@ -1,3 +1,4 @@
+-- Each cursor is kept and made stale by the same change, so what one step does is done in all slots.
 use Rattle.std.proofs.Common.{rules, ◌≡◌, refl, ap, ◌∙◌}
 use Rattle.djq_slots.specs.Slots.{outdated_slots, outdated_progress}
 use Rattle.djq_slots.proofs.Retained.{retained_all}

@@ -1,3 +1,4 @@
+-- Nothing refuses the names, so they are queries of like types in places, and the union goes behind all else.
 use Rattle.std.proofs.Common.{◌≡◌, List, ℕ, sym, subst, refl, ◌∙◌, map, arith}
 use Rattle.std.specs.Prelude.{Ok, Option, Some}
 use Rattle.djq_model.specs.Listed.{a_union}

@@ -1,3 +1,4 @@
+-- An id below 256 is that of a query in its place, any other a union's, whose answers its first member lends.
 use Rattle.std.proofs.Common.{◌≡◌, ◌-◌, ◌∙◌, ℕ, List, get_or, sym, subst, ap, refl}
 use Rattle.std.specs.Prelude.{Option, Some, IsSomeAnd, ⊤}
 use Rattle.djq_live.specs.Live.{IsShowable, values_of}

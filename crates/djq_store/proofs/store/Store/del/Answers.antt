@@ -1,3 +1,4 @@
+-- What the engine took is what the store does, and its unions follow one relation's change, by Rowed.
 use Rattle.std.proofs.Common.{ℕ, [], ◌∷◌, ◌≡◌, ◌∙◌, refl, sym, subst, true, false}
 use Rattle.djq_machine.specs.State.{Store}
 use Rattle.djq_machine.specs.Store.{DeletesRow}

@@ -1,3 +1,4 @@
+-- Rows suit the store where they suit its engine, whose batch is the store's, with unions behind, by Batched.
 use Rattle.std.proofs.Common.{◌≡◌, ◌∙◌, refl, sym, ap, subst, true}
 use Rattle.std.specs.Prelude.{Option}
 use Rattle.djq_machine.specs.Changes.{RowsOutcome, tried}

@@ -1,3 +1,4 @@
+-- A union is in use by sessions or cursors, a query also by a union that has its place among its members.
 use Rattle.std.proofs.Common.{◌≡◌, ◌+◌, ◌<◌, List, ℕ, sym, subst, ap, ◌∙◌, set, arith}
 use Rattle.std.specs.Prelude.{Option, None, IsSomeAnd, Result, Ok, Err, ⊤}
 use Rattle.djq_model.specs.Data.{Bytes}

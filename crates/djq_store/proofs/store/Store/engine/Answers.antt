@@ -1,3 +1,4 @@
+-- What the store has in places below 256 stands there below it too, with the same relations, texts and SEQ.
 use Rattle.std.proofs.Common.{subst}
 use Rattle.djq_engine.specs.Kept.{Kept}
 use Rattle.djq_store.specs.Lending.{LendsEngine}

@@ -1,3 +1,4 @@
+-- A union has a member for each place that it keeps; where none has the name the engine's lines tell it.
 use Rattle.std.proofs.Common.{◌≡◌, ◌∙◌, List, sym, subst, ap, length}
 use Rattle.std.specs.Prelude.{Option, Some, Ok, Err, IsSomeAnd, ⊤}
 use Rattle.djq_engine.specs.Kept.{Kept}

@@ -1,3 +1,4 @@
+-- The members of the union in its slot are queries in places; where no union has the name the engine tells.
 use Rattle.std.proofs.Common.{◌≡◌, ◌+◌, ◌≤◌, ◌∙◌, ℕ, List, sym, subst, ap}
 use Rattle.std.specs.Prelude.{Option, Some, IsSomeAnd, ⊤}
 use Rattle.djq_model.specs.Listed.{a_union, listed_of}

@@ -1,3 +1,4 @@
+-- By the invariant the order has each place once and names differ, so what is made of it is apart too.
 use Rattle.std.proofs.Common.{◌≡◌, false, subst}
 use Rattle.std.specs.Prelude.{map, AllPairs}
 use Rattle.djq_model.specs.Data.{bytes_eq}

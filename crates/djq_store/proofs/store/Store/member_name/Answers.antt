@@ -1,3 +1,4 @@
+-- Only a union has members, so one stands under the name, and the place of its nth is that of a query.
 use Rattle.std.proofs.Common.{◌≡◌, ◌<◌, ◌∙◌, ℕ, List, length, get_or, sym, subst, ap, arith}
 use Rattle.std.specs.Prelude.{Option, Some, IsSomeAnd, map, slice_get, ⊤}
 use Rattle.djq_model.specs.Listed.{listed_name, listed_of, members_of}

@@ -1,3 +1,4 @@
+-- Where no union has the name the engine's cursor is the store's; else it comes to the union in the slot.
 use Rattle.std.proofs.Common.{sym, subst, ap, refl}
 use Rattle.djq_engine.specs.Kept.{Kept, OpenGives}
 use Rattle.djq_store.specs.Places.{kept_in, seen}

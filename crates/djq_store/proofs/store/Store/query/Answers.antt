@@ -1,3 +1,4 @@
+-- No union has the name and there are fewer than may be, so what the engine says of the query the store does.
 use Rattle.std.proofs.Common.{◌++◌, ◌∷◌, ◌<◌, ◌≤◌, [], List, ℕ, sym, subst, ◌∙◌, length, set, arith}
 use Rattle.std.specs.Prelude.{Result, Err, unwrap_or}
 use Rattle.djq_lines.specs.declared.answer.Refusal.{Refusal}

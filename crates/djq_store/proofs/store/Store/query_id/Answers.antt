@@ -1,3 +1,4 @@
+-- A union's id is 256 and its slot; where no union has the name its id is what the engine has for it.
 use Rattle.std.proofs.Common.{◌≡◌, ◌+◌, ◌∙◌, sym, subst}
 use Rattle.std.specs.Prelude.{Some, option_map}
 use Rattle.djq_engine.specs.Kept.{Kept, registered_of}

@@ -1,3 +1,4 @@
+-- A registered id below 256 is a query's in the engine, and any other that of a union in its slot.
 use Rattle.std.proofs.Common.{◌≡◌, ◌-◌, List, sym, subst}
 use Rattle.std.specs.Prelude.{Option, Some, IsSomeAnd, ⊤}
 use Rattle.djq_model.specs.Data.{Bytes}

@@ -1,3 +1,4 @@
+-- A new relation leaves queries and texts as they are, so what is made of them is seen as before, by Related.
 use Rattle.std.proofs.Common.{◌≡◌, subst}
 use Rattle.djq_machine.specs.Store.{MakesRelation}
 use Rattle.djq_engine.specs.Kept.{Kept, SameCursors, SameTellings}

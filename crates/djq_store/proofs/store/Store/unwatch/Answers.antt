@@ -1,3 +1,4 @@
+-- The engine counts a query's sessions and its watched unions, so with a session it counts one at least.
 use Rattle.std.proofs.Common.{◌≡◌, ◌+◌, ◌-◌, ◌<◌, ◌≤◌, ◌∙◌, ℕ, List, set, sym, subst, ap, arith}
 use Rattle.std.proofs.Math.Nat.{add-sub_of_le}
 use Rattle.std.specs.Prelude.{Option, IsSomeAnd}

@@ -1,3 +1,4 @@
+-- The engine counts a query's sessions, 64 at most, and its watched unions, 256 at most, so one more fits.
 use Rattle.std.proofs.Common.{◌≡◌, ◌+◌, ◌-◌, ◌<◌, ◌≤◌, ◌∙◌, ℕ, List, set, sym, subst, ap, arith}
 use Rattle.std.proofs.Math.Nat.{add-sub_of_le}
 use Rattle.std.specs.Prelude.{Option, IsSomeAnd, is_some}

@@ -1,3 +1,4 @@
+-- How many sessions watch a query stands at its place, and how many watch a union in its slot.
 use Rattle.std.proofs.Common.{◌≡◌, ◌-◌, ◌∙◌, List, sym, subst, arith}
 use Rattle.std.proofs.lemmas.List.{get_or_default}
 use Rattle.std.specs.Prelude.{Option, Some, IsSomeAnd, ⊤}

@@ -1,3 +1,4 @@
+-- What is left of the label has names, as all of it has, and what was written is the front of its text.
 use Rattle.std.proofs.Common.{refl}
 use Rattle.djq_tree.proofs.Labelling.{popped, listed_more, labelled}
 use Rattle.djq_tree.proofs.lines.Lines.push_label.Goals as goal

@@ -1,3 +1,4 @@
+-- A parent is above its child and within the tree, so what is left of a path is its parent's path.
 use Rattle.std.proofs.Common.{rules, sym, ◌∙◌}
 use Rattle.djq_tree.proofs.Climbing.{parent_above, next_step}
 use Rattle.djq_tree.proofs.path.PathIterator.next.Goals as goal

@@ -1,3 +1,4 @@
+-- By the invariant each trim loses a variable that no other trim loses, so there are few nodes.
 use Rattle.std.proofs.Common.{subst}
 use Rattle.djq_tree.specs.Counts.{IsSmall}
 use Rattle.djq_tree.proofs.Trimming.{small_of}

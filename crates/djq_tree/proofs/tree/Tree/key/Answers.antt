@@ -1,3 +1,4 @@
+-- By the invariant a trim's label lies within its child's, and a side's within its guard's.
 use Rattle.std.proofs.Common.{subst, sym, ◌∙◌}
 use Rattle.djq_tree.specs.Tree.{IsTree}
 use Rattle.djq_tree.proofs.Keying.{key_within, side_within, key_read_trim, key_read_guard, key_read_own}

@@ -1,3 +1,4 @@
+-- By the invariant children have lower numbers than the node above, and each node but the root is a child.
 use Rattle.std.proofs.Common.{List, subst, ap, ◌∙◌}
 use Rattle.djq_tree.specs.declared.node.Node.{Node}
 use Rattle.djq_tree.specs.Tree.{Tree, IsTree, parent}

@@ -1,3 +1,4 @@
+-- By the invariant children have lower numbers than the nodes that they are children of.
 use Rattle.djq_tree.proofs.Climbing.{rising_of}
 use Rattle.djq_tree.proofs.tree.Tree.path.Goals as goal
 

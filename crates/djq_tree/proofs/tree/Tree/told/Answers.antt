@@ -1,3 +1,4 @@
+-- By the invariant a node is a child of one node at most, so one that has it as a child is its parent.
 use Rattle.std.proofs.Common.{rules}
 use Rattle.djq_tree.proofs.Keying.{told_parent}
 use Rattle.djq_tree.proofs.tree.Tree.told.Goals as goal

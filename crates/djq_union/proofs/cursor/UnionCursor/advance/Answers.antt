@@ -1,3 +1,4 @@
+-- What was given are different answers of the members, so it is a listing exactly where none is left.
 use Rattle.std.proofs.Common.{arith}
 use Rattle.djq_union.specs.Union.{some_has, union_given}
 use Rattle.djq_union.proofs.Fitting.{end_of, union_some}

@@ -1,3 +1,4 @@
+-- Where each member counts at most so much, their sum is at most their number times that.
 use Rattle.std.proofs.Common.{arith}
 use Rattle.std.proofs.lemmas.List.Sums.{sum_by-le}
 use Rattle.djq_union.proofs.cursor.UnionCursor.is_left.Goals as goal

@@ -1,3 +1,4 @@
+-- Where no member's listing has begun nothing was given, and up to eight members have a state each.
 use Rattle.std.proofs.Common.{refl}
 use Rattle.djq_union.proofs.Fitting.{none_union, none_fits}
 use Rattle.djq_union.proofs.cursor.UnionCursor.start.Goals as goal

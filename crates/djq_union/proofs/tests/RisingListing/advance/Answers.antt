@@ -1,3 +1,4 @@
+-- Rising numbers differ, so those given are all exactly where they are as many as there are.
 use Rattle.std.proofs.Common.{◌+◌, arith}
 use Rattle.djq_union.proofs.Rising.{some_taken, at_end, before_end}
 use Rattle.djq_union.proofs.tests.RisingListing.advance.Goals as goal

@@ -1,3 +1,4 @@
+-- Rising numbers differ, so one is left exactly where fewer were given than there are.
 use Rattle.std.proofs.Common.{arith}
 use Rattle.djq_union.proofs.Rising.{left_taken}
 use Rattle.djq_union.proofs.tests.RisingListing.is_left.Goals as goal

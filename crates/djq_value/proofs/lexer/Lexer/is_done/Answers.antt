@@ -1,3 +1,4 @@
+-- Bytes that are spaces alone have no token, and where there is no token all bytes are spaces.
 use Rattle.std.proofs.Common.{◌∙◌, sym}
 use Rattle.std.proofs.lemmas.Bool.{eqb-true, eq-eqb}
 use Rattle.djq_value.proofs.Lexes.{tokens-done, tokens-empty}

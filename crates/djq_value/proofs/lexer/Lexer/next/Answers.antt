@@ -1,3 +1,4 @@
+-- Tokens are those of what is behind the spaces: none where that is empty, and else the first with the rest.
 use Rattle.std.proofs.Common.{◌∙◌, sym}
 use Rattle.std.proofs.lemmas.List.{take_rest}
 use Rattle.std.proofs.lemmas.Bool.{eqb-true}

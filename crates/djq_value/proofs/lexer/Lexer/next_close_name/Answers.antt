@@ -1,3 +1,4 @@
+-- A name with a space behind it is a whole word, so it is the first token, and the bytes behind give the rest.
 use Rattle.std.proofs.Common.{◌∙◌, ◌∷◌, ap, sym, take}
 use Rattle.std.proofs.lemmas.List.{take_rest}
 use Rattle.djq_value.specs.Token.{tokens, word}

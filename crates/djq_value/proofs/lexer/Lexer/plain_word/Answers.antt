@@ -1,3 +1,4 @@
+-- Behind the spaces some bytes that end no word, the first of them no quote, are a word and the first token.
 use Rattle.std.proofs.Common.{◌-◌, ◌∙◌, ◌∷◌, ap, arith, drop, get_or, length, sym, take}
 use Rattle.std.proofs.lemmas.Bool.{ne_eqb}
 use Rattle.std.proofs.lemmas.List.{take_rest}

@@ -1,3 +1,4 @@
+-- The list of ids has one for each open session, so where it is empty none is open.
 use Rattle.std.proofs.Common.{sym, ◌∙◌}
 use Rattle.std.proofs.lemmas.Bool.{eqb-true}
 use Rattle.djq_core.proofs.Seen.{none_listed}
