@@ -113,12 +113,12 @@ use Rattle.djq_lines.specs.Grammar.{
   reading_in,
   reading_of,
 }
+use Rattle.djq_model.specs.Typed.{same_type}
 use Rattle.djq_machine.specs.State.{Store}
 use Rattle.djq_machine.specs.Store.{answer_types, listed_types}
 use Rattle.djq_machine.specs.Union.{
   stands_twice,
   is_union,
-  same_type,
   same_types,
   types_under,
   types_differ,

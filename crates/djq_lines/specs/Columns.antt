@@ -7,7 +7,7 @@ use Rattle.djq_model.specs.declared.relation.ColumnType.TheVariants.{
 }
 use Rattle.djq_model.specs.declared.relation.Relation.{Relation}
 use Rattle.djq_model.specs.Data.{Bytes, relation_of}
-pub use Rattle.djq_model.specs.Typed.{is_of}
+pub use Rattle.djq_model.specs.Typed.{is_of, same_type}
 
 -- the column types of a relation; none where there is no relation
 abbrev pub types_of : Option Relation → List ColumnType
@@ -17,10 +17,3 @@ types_of (Some r) = r.types
 -- those of the relation of a name
 abbrev pub columns_of : List Relation → Bytes → List ColumnType
 columns_of relations name = types_of (relation_of relations name)
-
--- whether two columns are of one type
-abbrev pub same_type : ColumnType → ColumnType → Bool
-same_type IntColumn IntColumn = true
-same_type TextColumn TextColumn = true
-same_type IntColumn TextColumn = false
-same_type TextColumn IntColumn = false

@@ -1,3 +1,4 @@
+pub mod Inside
 pub mod Above
 pub mod Tabling
 pub mod Filling

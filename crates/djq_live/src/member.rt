@@ -2,7 +2,7 @@
 ghost use Rattle.std.specs.Prelude.{◌≡◌, ◌≤◌, ⊤, ℕ, true, nat_lt, length, map, Some, IsSomeAnd};
 ghost use Rattle.std.specs.List.{list_all};
 ghost use Rattle.djq_hyper.specs.Hypergraph.{member};
-ghost use Rattle.djq_machine.specs.Union.{same_type, same_types};
+ghost use Rattle.djq_machine.specs.Union.{same_types};
 ghost use Rattle.djq_live.specs.Asked.{column_of};
 ghost use Rattle.djq_live.specs.Live.{IsKeptSomewhere};
 ghost use Rattle.djq_live.specs.Order.{reading};
@@ -46,17 +46,6 @@ fn put_in_order(reducts: &Reducts, head: &[usize], answer: &Answer, cells: &mut 
     }
 }
 
-/// Whether two columns are of one type.
-fn same_type(column: ColumnType, other: ColumnType) -> bool
-    ensures { result ≡ same_type column other }
-{
-    match (column, other) {
-        (ColumnType::Int, ColumnType::Int) => true,
-        (ColumnType::Text, ColumnType::Text) => true,
-        _ => false,
-    }
-}
-
 /// Whether the variables of two heads are of the same types, one by one.
 fn same_columns(
     variables: &[Variable],
@@ -73,10 +62,8 @@ fn same_columns(
         return false;
     }
     for at in 0..head.len() {
-        if !same_type(
-            column_at(variables, head[at]),
-            column_at(others, other_head[at]),
-        ) {
+        let column = column_at(variables, head[at]);
+        if !column.is_same(column_at(others, other_head[at])) {
             return false;
         }
     }

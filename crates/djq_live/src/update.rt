@@ -23,7 +23,7 @@ ghost use Rattle.djq_live.specs.Updating.{
 
 use crate::batch::{add_all_to_leaves, give_all_from_leaves, tuples_of_all};
 use crate::live::LiveQuery;
-use crate::stepping::{add_to_leaves, delete_from_leaves, give_from_leaves};
+use crate::stepping::{add_to_leaves, delete_from_leaves};
 use djq_cursor::DeltaLog;
 use djq_model::{Name, NoMem};
 use djq_reduct::Cells;
@@ -90,13 +90,15 @@ impl LiveQuery {
         if done == atoms.len() {
             return Ok(());
         }
-        give_from_leaves(
+        delete_from_leaves(
             &mut self.reducts,
             atoms,
             patterns,
             done,
             relation.at,
             cells,
+            false,
+            log,
             steps,
         );
         log.clear();
@@ -193,6 +195,7 @@ impl LiveQuery {
         requires { CanDelete self.old relation.at cells.now }
         ensures deleted { Follows (λ c d. Went c d relation.at cells.now) self.old self.new }
         ensures same { SameQuery self.old self.new }
+        ensures fewer { HasMore self.new.reducts self.old.reducts }
         ensures log { LogsWhere wanted (λ c d. Went c d relation.at cells.now)
             self.old log.old log.new }
         ensures counted { CountsDelta wanted (λ c d. Went c d relation.at cells.now)
@@ -236,18 +239,8 @@ impl LiveQuery {
         ensures flat { CountsFlat 1 self.old relation.at steps.old.update steps.new.update }
         ensures rows { steps.new.rows ≡ steps.old.rows }
     {
-        let atoms = self.numbered.atoms();
-        let patterns = self.patterns.as_slice();
-        let end = atoms.len();
-        give_from_leaves(
-            &mut self.reducts,
-            atoms,
-            patterns,
-            end,
-            relation.at,
-            cells,
-            steps,
-        );
+        let mut untold = DeltaLog::new(*self.patterns.allocator());
+        self.delete(relation, cells, false, &mut untold, steps);
     }
 
     /// Makes its open cursors stale, by a change of a relation of this number.

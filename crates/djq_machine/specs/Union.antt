@@ -26,9 +26,9 @@ use Rattle.std.specs.Prelude.{
 }
 use Rattle.std.specs.List.{list_any}
 use Rattle.djq_model.specs.declared.relation.ColumnType.{ColumnType}
-use Rattle.djq_model.specs.declared.relation.ColumnType.TheVariants.{Int as IntColumn, Text as TextColumn}
 use Rattle.djq_model.specs.declared.query.Query.{Query}
 use Rattle.djq_model.specs.Data.{Bytes, bytes_eq}
+use Rattle.djq_model.specs.Typed.{same_type}
 use Rattle.djq_model.specs.Listed.{Listed, a_query, a_union, listed_of}
 use Rattle.djq_lines.specs.declared.limits.TheConstants.{MEMBERS, QUERIES}
 use Rattle.djq_lines.specs.declared.answer.Refusal.{Refusal}
@@ -46,12 +46,6 @@ stands_twice (n ∷ ns) = list_any (λ m. bytes_eq m n) ns || stands_twice ns
 abbrev pub is_union : Option Listed → Bool
 is_union (Some (a_union name qs)) = true
 is_union _ = false
-
--- whether two types are the same
-abbrev pub same_type : ColumnType → ColumnType → Bool
-same_type IntColumn IntColumn = true
-same_type TextColumn TextColumn = true
-same_type _ _ = false
 
 -- whether two lists of types are the same
 abbrev pub same_types : List ColumnType → List ColumnType → Bool

@@ -13,6 +13,13 @@ is_of TextColumn (Text t) = true
 is_of IntColumn (Text t) = false
 is_of TextColumn (Int i) = false
 
+-- whether two columns are of one type
+abbrev pub same_type : ColumnType → ColumnType → Bool
+same_type IntColumn IntColumn = true
+same_type TextColumn TextColumn = true
+same_type IntColumn TextColumn = false
+same_type TextColumn IntColumn = false
+
 -- whether each value is of its column's type
 abbrev pub fits : List ColumnType → Tuple → Bool
 fits [] [] = true

@@ -13,7 +13,7 @@ pub enum ColumnType {
 
 impl ColumnType {
     ghost use Rattle.std.specs.Prelude.{◌≡◌};
-    ghost use Rattle.djq_model.specs.Typed.{is_of};
+    ghost use Rattle.djq_model.specs.Typed.{is_of, same_type};
 
     /// Whether a value is of this type.
     pub fn admits(self, value: &Value) -> bool
@@ -22,6 +22,17 @@ impl ColumnType {
         match (self, value) {
             (ColumnType::Int, Value::Int(_)) => true,
             (ColumnType::Text, Value::Text(_)) => true,
+            _ => false,
+        }
+    }
+
+    /// Whether it is the same type as another.
+    pub fn is_same(self, other: ColumnType) -> bool
+        ensures { result ≡ same_type self other }
+    {
+        match (self, other) {
+            (ColumnType::Int, ColumnType::Int) => true,
+            (ColumnType::Text, ColumnType::Text) => true,
             _ => false,
         }
     }
@@ -44,7 +55,7 @@ pub struct CountedRow {
 pub struct Relation {
     /// Its name.
     pub name: Name,
-    /// The types of its columns, from 1 to 8.
+    /// The types of its columns, from 1 to 16.
     pub types: Types,
     /// Its rows, without repeats, each with its copies.
     pub rows: Sequence<CountedRow>,

@@ -3,26 +3,12 @@ ghost use Rattle.std.specs.Prelude.{◌≡◌, ◌==◌, not, is_none, length};
 ghost use Rattle.std.specs.List.{list_any};
 ghost use Rattle.djq_model.specs.Data.{relation_of};
 ghost use Rattle.djq_lines.specs.Columns as spec;
-ghost use Rattle.djq_lines.specs.Columns.{
-  columns_of as columns_named,
-  same_type as are_same,
-};
+ghost use Rattle.djq_lines.specs.Columns.{columns_of as columns_named};
 ghost use Rattle.djq_lines.specs.QueryFault.{any_column, any_place, is_misfit, is_clash};
 ghost use Rattle.djq_query.specs.Clashes.{clashes_with, mixes};
 
 use crate::relations::{Relations, columns_of};
 use djq_model::{Atom, ColumnType, Name, Term};
-
-/// Whether two columns are of one type.
-fn same_type(column: ColumnType, other: ColumnType) -> bool
-    ensures { result ≡ are_same column other }
-{
-    match (column, other) {
-        (ColumnType::Int, ColumnType::Int) => true,
-        (ColumnType::Text, ColumnType::Text) => true,
-        _ => false,
-    }
-}
 
 /// Whether a term is a constant of another type than its column.
 fn is_misfit(term: &Term, column: ColumnType) -> bool
@@ -40,7 +26,7 @@ fn is_clash(name: &Name, of: ColumnType, term: &Term, column: ColumnType) -> boo
     ensures { result ≡ clashes_with name.now of term.now column }
 {
     match term {
-        Term::Variable(variable) => variable == name && !same_type(column, of),
+        Term::Variable(variable) => variable == name && !column.is_same(of),
         Term::Hole => false,
         Term::Constant(_) => false,
     }

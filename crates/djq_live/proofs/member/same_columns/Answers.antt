@@ -2,7 +2,8 @@
 use Rattle.std.proofs.Common.{◌≡◌, ℕ, Bool, true, false, List, [], ◌∷◌, length, map, refl, arith}
 use Rattle.std.specs.Prelude.{◌&&◌}
 use Rattle.djq_model.specs.declared.relation.ColumnType.{ColumnType}
-use Rattle.djq_machine.specs.Union.{same_type, same_types}
+use Rattle.djq_model.specs.Typed.{same_type}
+use Rattle.djq_machine.specs.Union.{same_types}
 use Rattle.djq_live.specs.Asked.{column_of}
 use Rattle.djq_live.proofs.member.same_columns.Goals as goal
 

@@ -4,6 +4,7 @@ use Rattle.djq_tree.specs.Tree.{Tree}
 use Rattle.djq_live.specs.Batching.{GrowsBy, batch_in}
 use Rattle.djq_live.specs.Changes.{CameAll, GainsAll}
 use Rattle.djq_live.specs.Live.{Live}
+use Rattle.djq_live.proofs.Inside.{live_of}
 use Rattle.djq_live.specs.Updating.{CountsDelta}
 use Rattle.djq_live.proofs.Batched.{all_gains, all_there}
 use Rattle.djq_live.proofs.Batches.{can_add_all, came_distinct, in_hand, tuples_as, batch_kept, batch_same}
@@ -14,13 +15,7 @@ use Rattle.djq_live.proofs.live.LiveQuery.add_many.Goals as goal
 
 pub tuples_of_all-requires-clause-long : goal.tuples_of_all-requires-clause-long
 tuples_of_all-requires-clause-long g c =
-    let l : Live = record {
-      query = c.self.inside.query;
-      numbered = c.self.inside.numbered;
-      patterns = c.self.inside.patterns.items;
-      reducts = c.self.inside.reducts;
-      cursors = c.self.inside.cursors;
-    } in
+    let l = live_of c.self.inside in
     let can = can_add_all l c.args.self.now c.args.relation.at c.args.rows.now c.self.view_is c.requires in
     let hand = in_hand l c.args.relation.at c.args.rows.now c.atoms-atoms.result.now c.as_slice-patterns.result.now
     c.atoms-atoms.ensures c.as_slice-patterns.ensures.value can in
@@ -28,13 +23,7 @@ tuples_of_all-requires-clause-long g c =
 
 pub tuples_of_all-requires-clause-fit : goal.tuples_of_all-requires-clause-fit
 tuples_of_all-requires-clause-fit g c =
-    let l : Live = record {
-      query = c.self.inside.query;
-      numbered = c.self.inside.numbered;
-      patterns = c.self.inside.patterns.items;
-      reducts = c.self.inside.reducts;
-      cursors = c.self.inside.cursors;
-    } in
+    let l = live_of c.self.inside in
     let can = can_add_all l c.args.self.now c.args.relation.at c.args.rows.now c.self.view_is c.requires in
     let hand = in_hand l c.args.relation.at c.args.rows.now c.atoms-atoms.result.now c.as_slice-patterns.result.now
     c.atoms-atoms.ensures c.as_slice-patterns.ensures.value can in
@@ -42,25 +31,13 @@ tuples_of_all-requires-clause-fit g c =
 
 pub tuples_of_all-requires-clause-distinct : goal.tuples_of_all-requires-clause-distinct
 tuples_of_all-requires-clause-distinct g c =
-    let l : Live = record {
-      query = c.self.inside.query;
-      numbered = c.self.inside.numbered;
-      patterns = c.self.inside.patterns.items;
-      reducts = c.self.inside.reducts;
-      cursors = c.self.inside.cursors;
-    } in
+    let l = live_of c.self.inside in
     let can = can_add_all l c.args.self.now c.args.relation.at c.args.rows.now c.self.view_is c.requires in
     came_distinct can.before can.after c.args.relation.at c.args.rows.now can.rows can.came
 
 pub add_all_to_leaves-done-requires-clause-can : goal.add_all_to_leaves-done-requires-clause-can
 add_all_to_leaves-done-requires-clause-can g c =
-    let l : Live = record {
-      query = c.self.inside.query;
-      numbered = c.self.inside.numbered;
-      patterns = c.self.inside.patterns.items;
-      reducts = c.self.inside.reducts;
-      cursors = c.self.inside.cursors;
-    } in
+    let l = live_of c.self.inside in
     let can = can_add_all l c.args.self.now c.args.relation.at c.args.rows.now c.self.view_is c.requires in
     let hand = in_hand l c.args.relation.at c.args.rows.now c.atoms-atoms.result.now c.as_slice-patterns.result.now
     c.atoms-atoms.ensures c.as_slice-patterns.ensures.value can in
@@ -71,25 +48,13 @@ add_all_to_leaves-done-requires-clause-can g c =
 
 pub add_all_to_leaves-done-requires-clause-bare : goal.add_all_to_leaves-done-requires-clause-bare
 add_all_to_leaves-done-requires-clause-bare g c =
-    let l : Live = record {
-      query = c.self.inside.query;
-      numbered = c.self.inside.numbered;
-      patterns = c.self.inside.patterns.items;
-      reducts = c.self.inside.reducts;
-      cursors = c.self.inside.cursors;
-    } in
+    let l = live_of c.self.inside in
     let can = can_add_all l c.args.self.now c.args.relation.at c.args.rows.now c.self.view_is c.requires in
     can.kept.bare
 
 pub returns-then-done-atoms-clause-added : goal.returns-then-done-atoms-clause-added
 returns-then-done-atoms-clause-added g c =
-    let l : Live = record {
-      query = c.self.inside.query;
-      numbered = c.self.inside.numbered;
-      patterns = c.self.inside.patterns.items;
-      reducts = c.self.inside.reducts;
-      cursors = c.self.inside.cursors;
-    } in
+    let l = live_of c.self.inside in
     let of = tuples_as c.args.relation.at c.args.rows.now c.atoms-atoms.result.now c.as_slice-patterns.result.now
     (batch_in c.args.rows.now c.in-Ok.batch.items) (batch_in c.args.rows.now c.as_slice-tuples.result.now)
     (ap (batch_in c.args.rows.now) c.as_slice-tuples.ensures.value) c.in-Ok.ensures in
@@ -106,25 +71,13 @@ returns-then-done-atoms-clause-added g c =
 
 pub returns-then-done-atoms-clause-same : goal.returns-then-done-atoms-clause-same
 returns-then-done-atoms-clause-same g c =
-    let l : Live = record {
-      query = c.self.inside.query;
-      numbered = c.self.inside.numbered;
-      patterns = c.self.inside.patterns.items;
-      reducts = c.self.inside.reducts;
-      cursors = c.self.inside.cursors;
-    } in
+    let l = live_of c.self.inside in
     same_query l c.args.self.now c.add_all_to_leaves-done.new.reducts c.self.view_is
     c.add_all_to_leaves-done.ensures.gained.tree
 
 pub returns-then-done-atoms-clause-log : goal.returns-then-done-atoms-clause-log
 returns-then-done-atoms-clause-log g c =
-    let l : Live = record {
-      query = c.self.inside.query;
-      numbered = c.self.inside.numbered;
-      patterns = c.self.inside.patterns.items;
-      reducts = c.self.inside.reducts;
-      cursors = c.self.inside.cursors;
-    } in
+    let l = live_of c.self.inside in
     let of = tuples_as c.args.relation.at c.args.rows.now c.atoms-atoms.result.now c.as_slice-patterns.result.now
     (batch_in c.args.rows.now c.in-Ok.batch.items) (batch_in c.args.rows.now c.as_slice-tuples.result.now)
     (ap (batch_in c.args.rows.now) c.as_slice-tuples.ensures.value) c.in-Ok.ensures in
@@ -144,13 +97,7 @@ returns-then-done-atoms-clause-log g c =
 
 pub returns-then-done-atoms-clause-counted : goal.returns-then-done-atoms-clause-counted
 returns-then-done-atoms-clause-counted g c =
-    let l : Live = record {
-      query = c.self.inside.query;
-      numbered = c.self.inside.numbered;
-      patterns = c.self.inside.patterns.items;
-      reducts = c.self.inside.reducts;
-      cursors = c.self.inside.cursors;
-    } in
+    let l = live_of c.self.inside in
     let of = tuples_as c.args.relation.at c.args.rows.now c.atoms-atoms.result.now c.as_slice-patterns.result.now
     (batch_in c.args.rows.now c.in-Ok.batch.items) (batch_in c.args.rows.now c.as_slice-tuples.result.now)
     (ap (batch_in c.args.rows.now) c.as_slice-tuples.ensures.value) c.in-Ok.ensures in
@@ -165,13 +112,7 @@ returns-then-done-atoms-clause-counted g c =
 
 pub returns-then-done-atoms-clause-grows : goal.returns-then-done-atoms-clause-grows
 returns-then-done-atoms-clause-grows g c =
-    let l : Live = record {
-      query = c.self.inside.query;
-      numbered = c.self.inside.numbered;
-      patterns = c.self.inside.patterns.items;
-      reducts = c.self.inside.reducts;
-      cursors = c.self.inside.cursors;
-    } in
+    let l = live_of c.self.inside in
     let of = tuples_as c.args.relation.at c.args.rows.now c.atoms-atoms.result.now c.as_slice-patterns.result.now
     (batch_in c.args.rows.now c.in-Ok.batch.items) (batch_in c.args.rows.now c.as_slice-tuples.result.now)
     (ap (batch_in c.args.rows.now) c.as_slice-tuples.ensures.value) c.in-Ok.ensures in
@@ -180,13 +121,7 @@ returns-then-done-atoms-clause-grows g c =
 
 pub returns-then-done-atoms-clause-updates : goal.returns-then-done-atoms-clause-updates
 returns-then-done-atoms-clause-updates g c =
-    let l : Live = record {
-      query = c.self.inside.query;
-      numbered = c.self.inside.numbered;
-      patterns = c.self.inside.patterns.items;
-      reducts = c.self.inside.reducts;
-      cursors = c.self.inside.cursors;
-    } in
+    let l = live_of c.self.inside in
     let can = can_add_all l c.args.self.now c.args.relation.at c.args.rows.now c.self.view_is c.requires in
     let of = tuples_as c.args.relation.at c.args.rows.now c.atoms-atoms.result.now c.as_slice-patterns.result.now
     (batch_in c.args.rows.now c.in-Ok.batch.items) (batch_in c.args.rows.now c.as_slice-tuples.result.now)
@@ -199,13 +134,7 @@ returns-then-done-atoms-clause-updates g c =
 
 pub give_all_from_leaves-requires-clause-leaves : goal.give_all_from_leaves-requires-clause-leaves
 give_all_from_leaves-requires-clause-leaves g c =
-    let l : Live = record {
-      query = c.self.inside.query;
-      numbered = c.self.inside.numbered;
-      patterns = c.self.inside.patterns.items;
-      reducts = c.self.inside.reducts;
-      cursors = c.self.inside.cursors;
-    } in
+    let l = live_of c.self.inside in
     let can = can_add_all l c.args.self.now c.args.relation.at c.args.rows.now c.self.view_is c.requires in
     let hand = in_hand l c.args.relation.at c.args.rows.now c.atoms-atoms.result.now c.as_slice-patterns.result.now
     c.atoms-atoms.ensures c.as_slice-patterns.ensures.value can in
@@ -217,13 +146,7 @@ give_all_from_leaves-requires-clause-leaves g c =
 
 pub give_all_from_leaves-requires-clause-long : goal.give_all_from_leaves-requires-clause-long
 give_all_from_leaves-requires-clause-long g c =
-    let l : Live = record {
-      query = c.self.inside.query;
-      numbered = c.self.inside.numbered;
-      patterns = c.self.inside.patterns.items;
-      reducts = c.self.inside.reducts;
-      cursors = c.self.inside.cursors;
-    } in
+    let l = live_of c.self.inside in
     let can = can_add_all l c.args.self.now c.args.relation.at c.args.rows.now c.self.view_is c.requires in
     let hand = in_hand l c.args.relation.at c.args.rows.now c.atoms-atoms.result.now c.as_slice-patterns.result.now
     c.atoms-atoms.ensures c.as_slice-patterns.ensures.value can in
@@ -249,13 +172,7 @@ give_all_from_leaves-requires-clause-bare g c =
 
 pub returns-clause-refused : goal.returns-clause-refused
 returns-clause-refused g c =
-    let l : Live = record {
-      query = c.self.inside.query;
-      numbered = c.self.inside.numbered;
-      patterns = c.self.inside.patterns.items;
-      reducts = c.self.inside.reducts;
-      cursors = c.self.inside.cursors;
-    } in
+    let l = live_of c.self.inside in
     let can = can_add_all l c.args.self.now c.args.relation.at c.args.rows.now c.self.view_is c.requires in
     let hand = in_hand l c.args.relation.at c.args.rows.now c.atoms-atoms.result.now c.as_slice-patterns.result.now
     c.atoms-atoms.ensures c.as_slice-patterns.ensures.value can in
@@ -270,13 +187,7 @@ returns-clause-refused g c =
 
 pub returns-clause-tables : goal.returns-clause-tables
 returns-clause-tables g c =
-    let l : Live = record {
-      query = c.self.inside.query;
-      numbered = c.self.inside.numbered;
-      patterns = c.self.inside.patterns.items;
-      reducts = c.self.inside.reducts;
-      cursors = c.self.inside.cursors;
-    } in
+    let l = live_of c.self.inside in
     let can = can_add_all l c.args.self.now c.args.relation.at c.args.rows.now c.self.view_is c.requires in
     let hand = in_hand l c.args.relation.at c.args.rows.now c.atoms-atoms.result.now c.as_slice-patterns.result.now
     c.atoms-atoms.ensures c.as_slice-patterns.ensures.value can in
@@ -291,25 +202,13 @@ returns-clause-tables g c =
 
 pub returns-clause-same : goal.returns-clause-same
 returns-clause-same g c =
-    let l : Live = record {
-      query = c.self.inside.query;
-      numbered = c.self.inside.numbered;
-      patterns = c.self.inside.patterns.items;
-      reducts = c.self.inside.reducts;
-      cursors = c.self.inside.cursors;
-    } in
+    let l = live_of c.self.inside in
     same_query l c.args.self.now c.give_all_from_leaves.new.reducts c.self.view_is
     (c.give_all_from_leaves.ensures.lost.tree ∙ c.add_all_to_leaves-done.ensures.gained.tree)
 
 pub returns-clause-counted : goal.returns-clause-counted
 returns-clause-counted g c =
-    let l : Live = record {
-      query = c.self.inside.query;
-      numbered = c.self.inside.numbered;
-      patterns = c.self.inside.patterns.items;
-      reducts = c.self.inside.reducts;
-      cursors = c.self.inside.cursors;
-    } in
+    let l = live_of c.self.inside in
     let of = tuples_as c.args.relation.at c.args.rows.now c.atoms-atoms.result.now c.as_slice-patterns.result.now
     (batch_in c.args.rows.now c.in-Ok.batch.items) (batch_in c.args.rows.now c.as_slice-tuples.result.now)
     (ap (batch_in c.args.rows.now) c.as_slice-tuples.ensures.value) c.in-Ok.ensures in
@@ -326,13 +225,7 @@ returns-clause-counted g c =
 
 pub returns-clause-refusal : goal.returns-clause-refusal
 returns-clause-refusal g c =
-    let l : Live = record {
-      query = c.self.inside.query;
-      numbered = c.self.inside.numbered;
-      patterns = c.self.inside.patterns.items;
-      reducts = c.self.inside.reducts;
-      cursors = c.self.inside.cursors;
-    } in
+    let l = live_of c.self.inside in
     let can = can_add_all l c.args.self.now c.args.relation.at c.args.rows.now c.self.view_is c.requires in
     let of = tuples_as c.args.relation.at c.args.rows.now c.atoms-atoms.result.now c.as_slice-patterns.result.now
     (batch_in c.args.rows.now c.in-Ok.batch.items) (batch_in c.args.rows.now c.as_slice-tuples.result.now)

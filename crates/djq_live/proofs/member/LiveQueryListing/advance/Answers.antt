@@ -1,6 +1,7 @@
 -- Different answers of the tree have different cells in the head's order, so both listings end together.
 use Rattle.std.proofs.Common.{◌≤◌, ◌+◌, ◌*◌, ◌∙◌, length, refl, sym, arith}
 use Rattle.djq_live.specs.Live.{Live}
+use Rattle.djq_live.proofs.Inside.{live_of}
 use Rattle.djq_live.proofs.InHead.{
   fits_outside,
   some_given,
@@ -29,13 +30,7 @@ returns-then-not-step-clause-counted g c =
 
 pub put_in_order-requires-clause-wide : goal.put_in_order-requires-clause-wide
 put_in_order-requires-clause-wide g c =
-    let l : Live = record {
-      query = c.self.inside.query;
-      numbered = c.self.inside.numbered;
-      patterns = c.self.inside.patterns.items;
-      reducts = c.self.inside.reducts;
-      cursors = c.self.inside.cursors;
-    } in
+    let l = live_of c.self.inside in
     (step_answer l c.args.state.now c.step.new.self c.if-not-step.ensures.one
     c.step.ensures.answers).wide
 
