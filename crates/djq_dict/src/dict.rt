@@ -4,9 +4,9 @@ ghost use Rattle.djq_dict.specs.Hash.{hash_of};
 ghost use Rattle.djq_dict.specs.Known.{AllDifferent, IsUnknown, Learns};
 
 use crate::index::Index;
-use crate::refusal::{InternRefusal, NoMem};
+use crate::refusal::InternRefusal;
 use crate::texts::Texts;
-use std::alloc::Global;
+use std::alloc::{AllocError, Global};
 use std::hash::{FoldHasher, Hasher};
 use std::marker::Model;
 
@@ -38,7 +38,7 @@ impl Dict {
     /// The dictionary of no text.
     ///
     /// Fails only out of memory.
-    pub fn new(alloc: Global) -> Result<Dict, NoMem>
+    pub fn new(alloc: Global) -> Result<Dict, AllocError>
         ensures { IfOk result (λ d. d ≡ []) }
     {
         Ok(Dict {

@@ -3,8 +3,7 @@ ghost use Rattle.djq_dict.specs.Chains.{IsLastWith};
 ghost use Rattle.djq_dict.specs.declared.dict.TheConstants.{MOST_TEXTS};
 
 use crate::chain::{Chain, Link, bucket_of, chain_all, follow, put_in_front};
-use crate::refusal::NoMem;
-use std::alloc::Global;
+use std::alloc::{AllocError, Global};
 use std::marker::Model;
 
 /// How many buckets an index begins with. It is a power of two, and so are all later numbers of them.
@@ -35,7 +34,7 @@ impl Model for Index {
 
 impl Index {
     /// An index of nothing.
-    pub(crate) fn new(alloc: Global) -> Result<Index, NoMem>
+    pub(crate) fn new(alloc: Global) -> Result<Index, AllocError>
         ensures { IfOk result (λ i. i.hashes ≡ []) }
     {
         let heads = vec![in alloc; Chain::end(); FIRST_BUCKETS]?;
@@ -64,7 +63,7 @@ impl Index {
     }
 
     /// Makes room for one more number. There are at least as many buckets as numbers afterwards.
-    pub(crate) fn reserve(&mut self) -> Result<(), NoMem>
+    pub(crate) fn reserve(&mut self) -> Result<(), AllocError>
         ensures kept { self.new.hashes ≡ self.old.hashes }
         ensures place { OnOk result (0 < self.new.places) }
     {
@@ -76,7 +75,7 @@ impl Index {
     }
 
     /// Doubles the buckets.
-    fn widen(&mut self) -> Result<(), NoMem>
+    fn widen(&mut self) -> Result<(), AllocError>
         ensures { self.new.hashes ≡ self.old.hashes }
     {
         let buckets = self.heads.len().saturating_mul(2);

@@ -33,7 +33,7 @@ mod refusal;
 mod texts;
 
 pub use dict::{Dict, MOST_TEXTS};
-pub use refusal::{InternRefusal, NoMem};
+pub use refusal::InternRefusal;
 
 #[cfg(test)]
 mod tests;

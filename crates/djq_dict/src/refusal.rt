@@ -1,19 +1,6 @@
 use std::alloc::AllocError;
 use thiserror::Error;
 
-/// A growth found no memory.
-#[derive(Clone, Copy, Debug, PartialEq, Eq, Error)]
-#[error("out of memory")]
-pub struct NoMem;
-
-impl From<AllocError> for NoMem {
-    ghost from_gives = { λ _ _. Unit {0} };
-
-    fn from(_error: AllocError) -> NoMem {
-        NoMem
-    }
-}
-
 /// Why a text isn't made known.
 #[derive(Clone, Copy, Debug, PartialEq, Eq, Error)]
 pub enum InternRefusal {
@@ -25,13 +12,13 @@ pub enum InternRefusal {
     NoMem,
 }
 
-impl From<NoMem> for InternRefusal {
+impl From<AllocError> for InternRefusal {
     ghost use Rattle.std.specs.Prelude.{◌≡◌};
     ghost use Rattle.djq_dict.specs.declared.refusal.InternRefusal.TheVariants as refusal;
 
     ghost from_gives = { λ _ r. r ≡ refusal.NoMem };
 
-    fn from(_error: NoMem) -> InternRefusal {
+    fn from(_error: AllocError) -> InternRefusal {
         InternRefusal::NoMem
     }
 }

@@ -1,7 +1,6 @@
 ghost use Rattle.std.specs.Prelude.{◌≡◌, ◌<◌, ◌≤◌, ◌++◌, ◌∷◌, [], length, slice_get, Some, OnOk};
 
-use crate::refusal::NoMem;
-use std::alloc::Global;
+use std::alloc::{AllocError, Global};
 use std::marker::Model;
 
 /// A list of texts whose bytes stand in one buffer.
@@ -53,7 +52,7 @@ impl Texts {
     }
 
     /// Makes room for one more text, of so many bytes.
-    pub(crate) fn reserve(&mut self, bytes: usize) -> Result<(), NoMem>
+    pub(crate) fn reserve(&mut self, bytes: usize) -> Result<(), AllocError>
         ensures kept { self.new.texts ≡ self.old.texts }
         ensures room { OnOk result (bytes ≤ self.new.room) }
         ensures place { OnOk result (0 < self.new.places) }

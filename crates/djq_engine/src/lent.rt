@@ -2,7 +2,7 @@ ghost use Rattle.std.specs.Prelude.{◌≡◌};
 ghost use Rattle.djq_live.specs.Live.{IsLive, IsShowable, values_of};
 
 use djq_live::LiveQuery;
-use djq_model::{Answered, Lent};
+use djq_model::{Answered, ValueRef};
 use djq_reduct::Answer;
 use djq_rows::Catalog;
 use std::marker::Model;
@@ -54,7 +54,7 @@ impl<'a> Answered for LentAnswer<'a> {
         self.query.width()
     }
 
-    fn value(&self, at: usize) -> Lent<'_> {
+    fn value(&self, at: usize) -> ValueRef<'_> {
         self.query.value(self.catalog, self.answer, at)
     }
 }

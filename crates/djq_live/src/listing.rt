@@ -16,7 +16,7 @@ ghost use Rattle.std.specs.Prelude.{
   slice_set,
 };
 ghost use Rattle.djq_model.specs.Answer.{IsAnswer};
-ghost use Rattle.djq_model.specs.Lent.{value_lent};
+ghost use Rattle.djq_model.specs.ValueRef.{value_lent};
 ghost use Rattle.djq_machine.specs.Store.{most_steps, Tells, answer_types, misfit};
 ghost use Rattle.djq_rows.specs.Catalog.{Catalog as CatalogModel};
 ghost use Rattle.djq_live.specs.Cursors.{slot_at, are_vacant, HasOpen};
@@ -29,7 +29,7 @@ use crate::lookup::{has_cells, suits_head};
 use crate::reads::{has_more, read};
 use djq_cursor::Cursor;
 use djq_lines::Refusal;
-use djq_model::{Lent, Name, NoMem, Value};
+use djq_model::{Name, NoMem, Value, ValueRef};
 use djq_reduct::Answer;
 use djq_rows::Catalog;
 use djq_steps::{Ledgers, Listing, Tally};
@@ -182,7 +182,7 @@ impl LiveQuery {
 
     /// A value of an answer, or of one that was taken out, in the head's order. A text is lent by
     /// the catalog.
-    pub fn value<'a>(&self, catalog: &'a Catalog, answer: &Answer, at: usize) -> Lent<'a>
+    pub fn value<'a>(&self, catalog: &'a Catalog, answer: &Answer, at: usize) -> ValueRef<'a>
         requires kept { IsKeptSomewhere self.now }
         requires showable { IsShowable catalog.now.texts self.now answer.now }
         requires within { at < length self.now.query.head }

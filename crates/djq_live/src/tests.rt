@@ -7,8 +7,8 @@ use super::*;
 use djq_index::CELLS;
 use djq_lines::AddOutcome;
 use djq_model::{
-    Atom, ColumnType, Comparison, Lent, Name, NoMem, Operator, Query, Row, Sequence, Term, Text,
-    Types, Value,
+    Atom, ColumnType, Comparison, Name, NoMem, Operator, Query, Row, Sequence, Term, Text, Types,
+    Value, ValueRef,
 };
 use djq_reduct::Answer;
 use djq_rows::{Catalog, RelationId};
@@ -145,10 +145,10 @@ fn build<L: Ledgers>(
 }
 
 /// The number that is lent.
-fn number(lent: Lent<'_>) -> i64 {
+fn number(lent: ValueRef<'_>) -> i64 {
     match lent {
-        Lent::Int(number) => number,
-        Lent::Text(_) => -1,
+        ValueRef::Int(number) => number,
+        ValueRef::Text(_) => -1,
     }
 }
 

@@ -14,7 +14,7 @@ ghost use Rattle.djq_mirror.specs.Cells.{behind_value as behind_value_of};
 ghost use Rattle.djq_mirror.specs.Replies.{is_text};
 
 use bytes::BytesMut;
-use djq_model::{Lent, NoMem, Value};
+use djq_model::{NoMem, Value, ValueRef};
 use djq_value::{ValueRefusal, print_cell, read_value};
 use itoa::Buffer;
 use std::alloc::Global;
@@ -89,7 +89,7 @@ fn is_quoted(alloc: Global, text: &[u8], piece: &[u8]) -> Result<bool, NoMem>
         return Ok(false);
     }
     let mut printed = BytesMut::new(alloc);
-    print_cell(Lent::Text(text), &mut printed)?;
+    print_cell(ValueRef::Text(text), &mut printed)?;
     Ok(&printed.as_slice()[1..] == piece)
 }
 

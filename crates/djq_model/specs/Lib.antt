@@ -2,7 +2,7 @@ pub mod Padded
 pub mod Data
 pub mod Typed
 pub mod Known
-pub mod Lent
+pub mod ValueRef
 pub mod Answer
 pub mod Listed
 pub mod Equality

@@ -1,15 +1,15 @@
 ghost use Rattle.std.specs.Prelude.{◌≡◌, ◌<◌, Some, length, slice_get};
-ghost use Rattle.djq_model.specs.Lent.{value_lent};
+ghost use Rattle.djq_model.specs.ValueRef.{value_lent};
 
-use crate::lent::Lent;
 use crate::value::Row;
+use crate::value_ref::ValueRef;
 
 /// A tuple whose values are lent one at a time, wherever they stand: an answer is told from it
 /// without being made.
 pub trait Answered {
     ghost use Rattle.std.specs.Prelude.{◌≡◌, ◌<◌, Some, length, slice_get};
     ghost use Rattle.djq_model.specs.Data.{Tuple};
-    ghost use Rattle.djq_model.specs.Lent.{value_lent};
+    ghost use Rattle.djq_model.specs.ValueRef.{value_lent};
 
     // The tuple of its values.
     ghost values: { Self → Tuple };
@@ -19,7 +19,7 @@ pub trait Answered {
         ensures { result ≡ length (values self.now) };
 
     /// The value at a place.
-    fn value(&self, at: usize) -> Lent<'_>
+    fn value(&self, at: usize) -> ValueRef<'_>
         requires { at < length (values self.now) }
         ensures { slice_get (values self.now) at ≡ Some (value_lent result) };
 }
@@ -31,7 +31,7 @@ impl Answered for Row {
         self.len()
     }
 
-    fn value(&self, at: usize) -> Lent<'_> {
+    fn value(&self, at: usize) -> ValueRef<'_> {
         self.as_slice()[at].lend()
     }
 }

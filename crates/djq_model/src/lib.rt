@@ -22,21 +22,20 @@
 //! says that these decide equality.
 //!
 //! Inside, a [`Name`] stands inline, so that it is copied without memory, and a [`Text`] is a list
-//! of bytes. A value whose text stands elsewhere is a [`Lent`], and a tuple that is told from where
+//! of bytes. A value whose text stands elsewhere is a [`ValueRef`], and a tuple that is told from where
 //! it stands is [`Answered`]. To read first: `specs/Answer.antt`.
 #![tactic(auto)]
 
 pub use answered::Answered;
-pub use lent::Lent;
 pub use memory::NoMem;
 pub use name::{NAME_BYTES, Name};
 pub use query::{Atom, Atoms, Comparison, Comparisons, Names, Operator, Query, Term, Terms};
 pub use relation::{ColumnType, CountedRow, Relation, Types};
 pub use sequence::Sequence;
 pub use value::{Row, Rows, TEXT_BYTES, Text, Value};
+pub use value_ref::ValueRef;
 
 mod answered;
-mod lent;
 mod memory;
 mod name;
 mod query;
@@ -45,3 +44,4 @@ mod sequence;
 #[cfg(test)]
 mod tests;
 mod value;
+mod value_ref;

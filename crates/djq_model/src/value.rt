@@ -1,8 +1,8 @@
 ghost use Rattle.std.specs.Prelude.{◌≡◌, ◌≤◌, length};
-ghost use Rattle.djq_model.specs.Lent.{value_lent};
+ghost use Rattle.djq_model.specs.ValueRef.{value_lent};
 
-use crate::lent::Lent;
 use crate::sequence::Sequence;
+use crate::value_ref::ValueRef;
 use std::marker::Model;
 
 /// The most bytes of a text.
@@ -71,12 +71,12 @@ pub enum Value {
 
 impl Value {
     /// The value, lent.
-    pub fn lend(&self) -> Lent<'_>
+    pub fn lend(&self) -> ValueRef<'_>
         ensures { value_lent result ≡ self.now }
     {
         match self {
-            Value::Int(number) => Lent::Int(*number),
-            Value::Text(text) => Lent::Text(text.as_bytes()),
+            Value::Int(number) => ValueRef::Int(*number),
+            Value::Text(text) => ValueRef::Text(text.as_bytes()),
         }
     }
 }

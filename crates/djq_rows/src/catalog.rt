@@ -17,7 +17,7 @@ ghost use Rattle.std.specs.Prelude.{
 ghost use Rattle.std.specs.List.{list_all, zip};
 ghost use Rattle.djq_model.specs.Data.{Tuple, has_row, copies_among};
 ghost use Rattle.djq_model.specs.Typed.{is_of, fits};
-ghost use Rattle.djq_model.specs.Lent.{value_lent};
+ghost use Rattle.djq_model.specs.ValueRef.{value_lent};
 ghost use Rattle.djq_model.specs.declared.value.Value.{Value as Datum};
 ghost use Rattle.djq_rows.specs.Cells.{cells_of, StandsFor, IsCell};
 ghost use Rattle.djq_rows.specs.Catalog.{IsCatalog, StandForRow, AreCellsOf, relation_at, counted_at, rows_at};
@@ -43,7 +43,7 @@ use djq_dict::{Dict, InternRefusal};
 use djq_index::{CELLS, Cells};
 use djq_lines::limits::{COLUMNS, RELATIONS};
 use djq_lines::{AddOutcome, DeleteOutcome};
-use djq_model::{ColumnType, Lent, Name, NoMem, Types, Value};
+use djq_model::{ColumnType, Name, NoMem, Types, Value, ValueRef};
 use djq_steps::Tally;
 use std::alloc::Global;
 use std::marker::Model;
@@ -80,12 +80,8 @@ impl Catalog {
     pub fn new(alloc: Global) -> Result<Catalog, NoMem>
         ensures { IfOk result (λ c. c ≡ record { relations = []; texts = [] }) }
     {
-        let Ok(texts) = Dict::new(alloc) else {
-            return Err(NoMem);
-        };
-        let Ok(names) = Dict::new(alloc) else {
-            return Err(NoMem);
-        };
+        let texts = Dict::new(alloc)?;
+        let names = Dict::new(alloc)?;
         Ok(Catalog {
             alloc,
             texts,
@@ -382,17 +378,17 @@ impl Catalog {
     }
 
     /// The value that a cell of a column stands for. Its text is lent, so it takes no memory.
-    pub fn value(&self, column: ColumnType, cell: u64) -> Lent<'_>
+    pub fn value(&self, column: ColumnType, cell: u64) -> ValueRef<'_>
         requires { IsCell self.now.texts column cell }
         ensures { (value : Datum) → StandsFor self.now.texts column cell value
             → value_lent result ≡ value }
     {
         match column {
-            ColumnType::Int => Lent::Int(cell.cast_signed()),
+            ColumnType::Int => ValueRef::Int(cell.cast_signed()),
             ColumnType::Text => {
                 // a number is below the count of texts, which fits
                 let _count = self.texts.len();
-                Lent::Text(self.texts.text(cell as u32))
+                ValueRef::Text(self.texts.text(cell as u32))
             }
         }
     }

@@ -5,7 +5,7 @@ use super::*;
 use djq_index::CELLS;
 use djq_lines::limits::COLUMNS;
 use djq_lines::{AddOutcome, DeleteOutcome};
-use djq_model::{ColumnType, Lent, Name, Row, Text, Types, Value};
+use djq_model::{ColumnType, Name, Row, Text, Types, Value, ValueRef};
 use djq_steps::{Blanks, Ledgers, Steps, Tally};
 use std::alloc::Global;
 use std::marker::Brand;
@@ -153,7 +153,7 @@ fn column_of(value: &Value) -> ColumnType
 }
 
 /// The value that the cell of a value stands for.
-fn read_back<'a>(catalog: &'a Catalog, value: &Value) -> Option<Lent<'a>> {
+fn read_back<'a>(catalog: &'a Catalog, value: &Value) -> Option<ValueRef<'a>> {
     let column = column_of(value);
     match catalog.cell(value) {
         Some(cell) => Some(catalog.value(column, cell)),
@@ -506,8 +506,13 @@ fn lends_values(rt: HostRuntime) -> Result<(), Fail> {
     let text = letter(rt.alloc(), b'b')?;
     assert!(rt; read_back(&catalog, &text).is_none());
     let _cell = catalog.intern(&text)?;
-    assert!(rt; matches!(read_back(&catalog, &text), Some(Lent::Text(b"b"))));
-    assert!(rt; matches!(read_back(&catalog, &Value::Int(-1)), Some(Lent::Int(-1))));
+    assert!(rt; matches!(read_back(&catalog, &text), Some(ValueRef::Text(b"b"))));
+    assert!(rt;
+        matches!(
+            read_back(&catalog, &Value::Int(-1)),
+            Some(ValueRef::Int(-1))
+        )
+    );
     Ok(())
 }
 

@@ -19,9 +19,9 @@
 //! none but sessions that were opened and whose input hasn't ended. `again` and `free` are turns
 //! too, which bring nothing. What a session was sent behind its last line end isn't told.
 //!
-//! Inside, `line` reads a line's keyword, session and text, `sofar` keeps what the lines before it
-//! say of sessions, and `schedule` puts a turn for each at the end of a hub's script. `sent` goes
-//! through what a hub tells of its calls, and keeps for each session what is behind its last line
+//! Inside, `line` reads a line's keyword, session and text, `sessions_so_far` keeps what the lines
+//! before it say of sessions, and `schedule` puts a turn for each at the end of a hub's script. `sent`
+//! goes through what a hub tells of its calls, and keeps for each session what is behind its last line
 //! end.
 #![tactic(auto)]
 

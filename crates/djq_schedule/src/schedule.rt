@@ -29,13 +29,13 @@ pub fn schedule_hub(alloc: Global, bytes: &[u8]) -> Result<MemHub, ScheduleRefus
     ensures { MatchResult result (IsMade bytes.now) (Refuses bytes.now) }
 {
     let mut hub = MemHub::new(alloc);
-    let mut sofar = SessionsSoFar::new(alloc);
+    let mut seen = SessionsSoFar::new(alloc);
     let mut rest = bytes;
     let mut number: u64 = 0;
     'lines: while !rest.is_empty() {
         number += 1;
         let (line, behind) = next_line(rest);
-        match add_line(alloc, &mut hub, &mut sofar, line) {
+        match add_line(alloc, &mut hub, &mut seen, line) {
             Ok(true) => {}
             Ok(false) => return Err(ScheduleRefusal::Outside(number)),
             Err(_) => return Err(ScheduleRefusal::NoMem),
@@ -74,34 +74,34 @@ fn next_line(bytes: &[u8]) -> (&[u8], &[u8])
 fn add_line(
     alloc: Global,
     hub: &mut MemHub,
-    sofar: &mut SessionsSoFar,
+    seen: &mut SessionsSoFar,
     line: &[u8],
 ) -> Result<bool, AllocError>
-    ensures { IfOk result (λ added. AddsLine added sofar.old hub.old line.now sofar.new hub.new) }
+    ensures { IfOk result (λ added. AddsLine added seen.old hub.old line.now seen.new hub.new) }
 {
-    let Some((keyword, id, text)) = read_standing(sofar, line) else {
+    let Some((keyword, id, text)) = read_standing(seen, line) else {
         return Ok(false);
     };
     let turn = make_turn(alloc, keyword, id, text)?;
-    sofar.note(keyword, id)?;
-    let blocked = sofar.blocked(alloc)?;
+    seen.note(keyword, id)?;
+    let blocked = seen.blocked(alloc)?;
     hub.push(Coming { turn, blocked })?;
     Ok(true)
 }
 
 /// What a line says, where it is in the grammar.
 fn read_standing<'a>(
-    sofar: &SessionsSoFar,
+    seen: &SessionsSoFar,
     line: &'a [u8],
 ) -> Option<(Keyword, u64, Option<&'a [u8]>)>
     ensures { option_map (λ o. (o.0, (o.1, option_map (λ text. text.now) o.2))) result ≡ in_grammar
-        sofar.now line.now }
+        seen.now line.now }
 {
     if line.len() > LINE_BYTES {
         return None;
     }
     let (keyword, id, text) = read_order(line)?;
-    if sofar.may_stand(keyword, id) {
+    if seen.may_stand(keyword, id) {
         Some((keyword, id, text))
     } else {
         None

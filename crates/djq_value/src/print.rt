@@ -1,7 +1,7 @@
 ghost use Rattle.std.specs.Prelude.{◌≡◌, ◌*◌, ◌∷◌, ◌≤◌, count_by, length};
 ghost use Rattle.std.specs.Fmt.{signed_decimal};
 ghost use Rattle.std.specs.List.{flat_map};
-ghost use Rattle.djq_model.specs.Lent.{value_lent};
+ghost use Rattle.djq_model.specs.ValueRef.{value_lent};
 ghost use Rattle.djq_value.specs.Output.{Puts, Says};
 ghost use Rattle.djq_value.specs.ValueText.{escaped, is_escaped as is_escaped_of, quoted};
 ghost use Rattle.djq_value.specs.ValueText.{value_text};
@@ -9,7 +9,7 @@ ghost use Rattle.djq_value.specs.ValueText.{value_text};
 use crate::digits::{digit_count, extend_digits};
 use crate::output::KEPT;
 use bytes::BytesMut;
-use djq_model::{Lent, NoMem};
+use djq_model::{NoMem, ValueRef};
 
 /// Appends a space and a value as it is printed: an integer in decimal, a text in quotes with its
 /// escapes.
@@ -17,12 +17,12 @@ use djq_model::{Lent, NoMem};
 /// # Errors
 ///
 /// `NoMem` comes only where the room is too small and can't grow; the output is then as before.
-pub fn print_cell(value: Lent<'_>, out: &mut BytesMut) -> Result<(), NoMem>
+pub fn print_cell(value: ValueRef<'_>, out: &mut BytesMut) -> Result<(), NoMem>
     ensures { Puts out.old out.new (32 ∷ value_text (value_lent value.entry)) result }
 {
     match value {
-        Lent::Int(number) => print_integer(number, out),
-        Lent::Text(text) => print_text(text, out),
+        ValueRef::Int(number) => print_integer(number, out),
+        ValueRef::Text(text) => print_text(text, out),
     }
 }
 

@@ -1,6 +1,6 @@
 use super::*;
 use bytes::BytesMut;
-use djq_model::{Lent, Operator, Value};
+use djq_model::{Operator, Value, ValueRef};
 use std::alloc::{AllocError, Global};
 use std::test::Fail;
 
@@ -18,7 +18,11 @@ fn prints_integers(rt: HostRuntime) {
     ];
     for (number, want) in cases {
         let mut out = BytesMut::new(rt.alloc());
-        assert_eq!(rt; print_cell(Lent::Int(number), &mut out), Ok(()), "{number}");
+        assert_eq!(rt;
+            print_cell(ValueRef::Int(number), &mut out),
+            Ok(()),
+            "{number}"
+        );
         assert_eq!(rt; out.as_slice(), want, "{number}");
     }
 }
@@ -32,7 +36,7 @@ fn prints_texts_with_their_escapes(rt: HostRuntime) -> Result<(), Fail> {
     ];
     for (text, want) in cases {
         let mut out = BytesMut::new(rt.alloc());
-        assert_eq!(rt; print_cell(Lent::Text(text), &mut out), Ok(()));
+        assert_eq!(rt; print_cell(ValueRef::Text(text), &mut out), Ok(()));
         assert_eq!(rt; out.as_slice(), want);
     }
     Ok(())

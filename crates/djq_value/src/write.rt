@@ -2,13 +2,13 @@
 ghost use Rattle.std.specs.Prelude.{◌≡◌, ◌+◌, ◌*◌, ◌∷◌, [], ◌<◌, ◌≤◌, IsTrue, length};
 ghost use Rattle.std.specs.Fmt.{decimal, signed_decimal};
 ghost use Rattle.std.specs.List.{flat_map};
-ghost use Rattle.djq_model.specs.Lent.{value_lent};
+ghost use Rattle.djq_model.specs.ValueRef.{value_lent};
 ghost use Rattle.djq_value.specs.ValueText.{escaped, quoted, value_text};
 ghost use Rattle.djq_value.specs.Writing.{Writes, Written};
 
 use crate::digits::digit_count;
 use crate::print::is_escaped;
-use djq_model::Lent;
+use djq_model::ValueRef;
 use itoa::write_digits;
 
 /// The most that a space and an integer take, with a sign and 20 digits.
@@ -17,13 +17,13 @@ const INTEGER_ROOM: usize = 22;
 /// Writes a space and a value, as [`print_cell`](crate::print_cell) prints it, and gives where it
 /// ends; none where there may be too little room for it.
 #[inline]
-pub fn write_cell(value: Lent<'_>, bytes: &mut [u8], at: usize) -> Option<usize>
+pub fn write_cell(value: ValueRef<'_>, bytes: &mut [u8], at: usize) -> Option<usize>
     requires { at ≤ length bytes.old }
     ensures { Writes bytes.old bytes.new at (32 ∷ value_text (value_lent value.entry)) result }
 {
     match value {
-        Lent::Int(number) => write_integer(number, bytes, at),
-        Lent::Text(text) => write_text(text, bytes, at),
+        ValueRef::Int(number) => write_integer(number, bytes, at),
+        ValueRef::Text(text) => write_text(text, bytes, at),
     }
 }
 

@@ -1,7 +1,7 @@
 -- Before each turn the values so far are printed; a value cut in its midst leaves a front of the whole text.
 use Rattle.std.proofs.Common.{◌∷◌}
 use Rattle.std.proofs.lemmas.Option.{get_or_from_slice_get, slice_get_within}
-use Rattle.djq_model.specs.Lent.{value_lent}
+use Rattle.djq_model.specs.ValueRef.{value_lent}
 use Rattle.djq_lines.specs.Reply.{cells_text}
 use Rattle.djq_value.specs.ValueText.{value_text}
 use Rattle.djq_reply.proofs.Adding.{adds_err, cut_at_item, cut_whole, put_item}

@@ -1,7 +1,7 @@
 -- The value at a place is the answer's there, so with it the text has the values up to the next place.
 use Rattle.std.proofs.Common.{◌∷◌}
 use Rattle.std.proofs.lemmas.Option.{get_or_from_slice_get, slice_get_within}
-use Rattle.djq_model.specs.Lent.{value_lent}
+use Rattle.djq_model.specs.ValueRef.{value_lent}
 use Rattle.djq_value.specs.ValueText.{value_text}
 use Rattle.djq_reply.proofs.Taking.{written_item}
 use Rattle.djq_reply.proofs.growing.write_values.Goals as goal

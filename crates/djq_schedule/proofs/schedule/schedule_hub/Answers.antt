@@ -12,7 +12,7 @@ pub lines-preserved : goal.lines-preserved
 lines-preserved c =
     let some : 0 < length c.lines.rest.now = search rules in
     record {
-      making = line_added c.args.bytes.now c.lines.hub _ c.lines.sofar _ c.lines.number c.lines.rest.now _ _
+      making = line_added c.args.bytes.now c.lines.hub _ c.lines.seen _ c.lines.number c.lines.rest.now _ _
           c.in-Ok-true.field-0 (search rules) some c.lines.invariant.making c.next_line.ensures.line
           c.next_line.ensures.rest c.in-Ok-true.ensures;
     }
@@ -21,5 +21,5 @@ pub returns-in-Ok-false : goal.returns-in-Ok-false
 returns-in-Ok-false c =
     let some : 0 < length c.lines.rest.now = not_empty c.is_empty.result c.lines.rest.now c.is_empty.ensures
     c.lines-test.true in
-    line_outside c.args.bytes.now c.lines.hub _ c.lines.sofar _ c.lines.number c.lines.rest.now _ c.in-Ok-false.field-0
+    line_outside c.args.bytes.now c.lines.hub _ c.lines.seen _ c.lines.number c.lines.rest.now _ c.in-Ok-false.field-0
     c.in-Ok-false.field-0-test some c.lines.invariant.making c.next_line.ensures.line c.in-Ok-false.ensures

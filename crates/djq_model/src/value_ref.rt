@@ -1,8 +1,8 @@
 /// A value whose text stands elsewhere, so that reading it takes no memory.
 ///
-/// Contracts see the value that it is by `value_lent` of `specs/Lent.antt`.
+/// Contracts see the value that it is by `value_lent` of `specs/ValueRef.antt`.
 #[derive(Clone, Copy, Debug)]
-pub enum Lent<'a> {
+pub enum ValueRef<'a> {
     /// A signed integer of 64 bits.
     Int(i64),
     /// The bytes of a text.
