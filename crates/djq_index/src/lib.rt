@@ -22,11 +22,15 @@
 //! so the first of them is all that marks need.
 #![tactic(auto)]
 
+mod appending;
 mod cells;
 mod heads;
+mod inserting;
 mod kind;
+mod marking;
 mod place;
 mod raw;
+mod removing;
 mod table;
 mod walk;
 

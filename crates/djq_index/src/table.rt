@@ -5,12 +5,12 @@ ghost use Rattle.djq_index.specs.Entries.{unmarked, head_at, last_at};
 ghost use Rattle.djq_index.specs.Table.{IsTable, IsAt, IsLive, IsUnmarked, IsRaisable, IsLowerable, AreColumns};
 ghost use Rattle.djq_index.specs.Changes.{Inserted, InsertedAs, Removed, Touched, Supported};
 
+use crate::inserting::{insert_bare, insert_keyed};
 use crate::kind::{Kind, kind_of};
+use crate::marking::{touch_bare, touch_keyed, unmark_all};
 use crate::place::Place;
-use crate::raw::{
-    Note, Raw, insert_bare, insert_keyed, note_of, placed, remove_bare, remove_keyed, set_note,
-    touch_bare, touch_keyed, unmark_all,
-};
+use crate::raw::{Note, Raw, note_of, placed, set_note};
+use crate::removing::{remove_bare, remove_keyed};
 use crate::walk::{ends_in, newest, oldest};
 use djq_arena::{Arena, pair_of};
 use djq_steps::Tally;

@@ -18,7 +18,7 @@ use Rattle.djq_index.proofs.Leaving.{
   leaves_from,
   goes_from,
 }
-use Rattle.djq_index.proofs.raw.remove_keyed.Goals as goal
+use Rattle.djq_index.proofs.removing.remove_keyed.Goals as goal
 
 pub note_of-head-requires : goal.note_of-head-requires
 note_of-head-requires c =

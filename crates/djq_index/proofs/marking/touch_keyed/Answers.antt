@@ -25,7 +25,7 @@ use Rattle.djq_index.proofs.Leaving.{
   touches_from,
   same_tuple_at,
 }
-use Rattle.djq_index.proofs.raw.touch_keyed.Goals as goal
+use Rattle.djq_index.proofs.marking.touch_keyed.Goals as goal
 
 pub note_of-note-requires : goal.note_of-note-requires
 note_of-note-requires c =

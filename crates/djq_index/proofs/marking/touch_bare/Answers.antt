@@ -11,7 +11,7 @@ use Rattle.djq_index.proofs.Leaving.{
   renews_from,
   same_tuple_at,
 }
-use Rattle.djq_index.proofs.raw.touch_bare.Goals as goal
+use Rattle.djq_index.proofs.marking.touch_bare.Goals as goal
 
 pub renew-requires : goal.renew-requires
 renew-requires c =

@@ -1,7 +1,7 @@
 -- Where a slot was free, the row's is below the room and has a note; where none was, there is room for one.
 use Rattle.std.proofs.Common.{length, inl, inr, arith}
 use Rattle.std.proofs.lemmas.Bool.{cases_eq}
-use Rattle.djq_index.proofs.raw.append_row_ready.Goals as goal
+use Rattle.djq_index.proofs.appending.append_row_ready.Goals as goal
 
 pub cover_notes-requires-clause-room : goal.cover_notes-requires-clause-room
 cover_notes-requires-clause-room c =

@@ -2,7 +2,7 @@
 use Rattle.std.proofs.Common.{subst, Option, ℕ, arith}
 use Rattle.djq_index.proofs.Clearing.{Clearing, clearing, cleared, over_none, over_all, step_held}
 use Rattle.djq_index.proofs.Clearing.{step_within, cleared_more}
-use Rattle.djq_index.proofs.raw.unmark_all.Goals as goal
+use Rattle.djq_index.proofs.marking.unmark_all.Goals as goal
 
 pub loop-done-init : goal.loop-done-init
 loop-done-init g c = record {

@@ -1,6 +1,6 @@
 use Rattle.std.proofs.Common.{◌≡◌, ◌+◌}
 use Rattle.djq_index.proofs.Clearing.{Clearing}
-use Rattle.djq_index.proofs.raw.unmark_all.Given as goal
+use Rattle.djq_index.proofs.marking.unmark_all.Given as goal
 
 abbrev pub invariant-loop-done : goal.invariant-loop-done
 invariant-loop-done g l = record {

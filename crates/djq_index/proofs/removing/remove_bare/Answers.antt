@@ -9,7 +9,7 @@ use Rattle.djq_index.proofs.Leaving.{
   gone_removed,
   leaves_from,
 }
-use Rattle.djq_index.proofs.raw.remove_bare.Goals as goal
+use Rattle.djq_index.proofs.removing.remove_bare.Goals as goal
 
 pub next-requires : goal.next-requires
 next-requires c =

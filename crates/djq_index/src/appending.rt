@@ -1,0 +1,128 @@
+//! A tuple is laid into a slot, behind all others.
+ghost use Rattle.std.specs.Prelude.{◌≡◌, ℕ, ◌-◌, ◌<◌, ◌≤◌, ◌⊎◌, false, length, vec_len};
+ghost use Rattle.std.specs.Prelude.{vec_capacity, IfOk, OnErr};
+ghost use Rattle.djq_arena.specs.Chains.{pair_at};
+ghost use Rattle.djq_arena.specs.Rows.{IsFull};
+ghost use Rattle.djq_index.specs.Raw.{CanTake, IsLaid, IsSlotFor, IsUnlaid, note_at};
+
+use crate::raw::Note;
+use djq_arena::{Arena, Link, Pair};
+use std::alloc::AllocError;
+
+/// Makes sure that a slot has a note. There is room for one more where it has none.
+fn cover_notes(notes: &mut Vec<Note>, slot: u32)
+    requires slot { slot ≤ length notes.old.items }
+    requires room { slot < length notes.old.items ⊎ vec_len notes.old < vec_capacity notes.old }
+    ensures covered { slot < length notes.new.items }
+    ensures longer { length notes.old.items ≤ length notes.new.items }
+    ensures same { (k : ℕ) → note_at notes.new.items k ≡ note_at notes.old.items k }
+{
+    if slot as usize == notes.len() {
+        notes.push_reserved(Note {
+            supports: 0,
+            head: 0,
+            marked: false,
+        });
+    }
+}
+
+/// Makes sure that a slot has neighbours. There is room for one more where it has none.
+fn cover_links(links: &mut Vec<Pair>, slot: u32)
+    requires slot { slot ≤ length links.old.items }
+    requires room { slot < length links.old.items ⊎ vec_len links.old < vec_capacity links.old }
+    ensures covered { slot < length links.new.items }
+    ensures longer { length links.old.items ≤ length links.new.items }
+    ensures same { (k : ℕ) → pair_at links.new.items k ≡ pair_at links.old.items k }
+{
+    if slot as usize == links.len() {
+        links.push_reserved(Pair {
+            prev: Link::none(),
+            next: Link::none(),
+        });
+    }
+}
+
+/// Room for the neighbours of one more slot. It stands apart, so that a tuple for which there is room saves fewer
+/// registers.
+#[inline(never)]
+fn grow_links(links: &mut Vec<Pair>) -> Result<(), AllocError>
+    ensures room { IfOk result (λ _. vec_len links.new < vec_capacity links.new) }
+    ensures same { links.new.items ≡ links.old.items }
+{
+    links.reserve(1)
+}
+
+/// Lays a tuple into a slot, behind all others. A new slot finds room for its note. Where there is no memory, the rows
+/// stay as they were.
+#[inline(always)]
+fn append_row_ready(
+    rows: &mut Arena,
+    notes: &mut Vec<Note>,
+    tuple: &[u64],
+) -> Result<u32, AllocError>
+    requires ready { CanTake rows.old notes.old.items tuple.now }
+    requires room { IsFull rows.old → vec_len notes.old < vec_capacity notes.old }
+    ensures laid { IfOk result (λ slot. IsLaid rows.old rows.new notes.old.items notes.new.items slot tuple.now) }
+    ensures slot { IfOk result (λ slot. IsSlotFor rows.old rows.new slot) }
+    ensures refused { OnErr result (IsUnlaid rows.old rows.new notes.old.items notes.new.items) }
+{
+    let slot = rows.push(tuple)?;
+    rows.laws();
+    cover_notes(notes, slot);
+    Ok(slot)
+}
+
+/// The same where a new slot may find no room for its note. It stands apart, so that a tuple for which there is room
+/// saves fewer registers.
+#[inline(never)]
+fn append_row_growing(
+    rows: &mut Arena,
+    notes: &mut Vec<Note>,
+    tuple: &[u64],
+) -> Result<u32, AllocError>
+    requires full { IsFull rows.old }
+    requires ready { CanTake rows.old notes.old.items tuple.now }
+    ensures laid { IfOk result (λ slot. IsLaid rows.old rows.new notes.old.items notes.new.items slot tuple.now) }
+    ensures slot { IfOk result (λ slot. IsSlotFor rows.old rows.new slot) }
+    ensures refused { OnErr result (IsUnlaid rows.old rows.new notes.old.items notes.new.items) }
+{
+    notes.reserve(1)?;
+    append_row_ready(rows, notes, tuple)
+}
+
+/// Lays a tuple into a slot, behind all others. Where there is no memory, the rows stay as they were.
+pub fn append_row(rows: &mut Arena, notes: &mut Vec<Note>, tuple: &[u64]) -> Result<u32, AllocError>
+    requires ready { CanTake rows.old notes.old.items tuple.now }
+    ensures laid { IfOk result (λ slot. IsLaid rows.old rows.new notes.old.items notes.new.items slot tuple.now) }
+    ensures slot { IfOk result (λ slot. IsSlotFor rows.old rows.new slot) }
+    ensures refused { OnErr result (IsUnlaid rows.old rows.new notes.old.items notes.new.items) }
+{
+    if rows.is_full() && notes.len() == notes.capacity() {
+        append_row_growing(rows, notes, tuple)
+    } else {
+        append_row_ready(rows, notes, tuple)
+    }
+}
+
+/// Lays a tuple into a slot that has neighbours.
+pub fn append_linked_row(
+    rows: &mut Arena,
+    notes: &mut Vec<Note>,
+    links: &mut Vec<Pair>,
+    tuple: &[u64],
+) -> Result<u32, AllocError>
+    requires ready { CanTake rows.old notes.old.items tuple.now }
+    requires links { rows.old.room ≤ length links.old.items }
+    ensures laid { IfOk result (λ slot. IsLaid rows.old rows.new notes.old.items notes.new.items slot tuple.now) }
+    ensures refused { OnErr result (IsUnlaid rows.old rows.new notes.old.items notes.new.items) }
+    ensures links { rows.new.room ≤ length links.new.items }
+    ensures same_links { (k : ℕ) → pair_at links.new.items k ≡ pair_at links.old.items k }
+    ensures longer { length links.old.items ≤ length links.new.items }
+{
+    if rows.is_full() && links.len() == links.capacity() {
+        grow_links(links)?;
+    }
+    let slot = append_row(rows, notes, tuple)?;
+    cover_links(links, slot);
+    Ok(slot)
+}

@@ -1,0 +1,71 @@
+//! A tuple is taken out, and its group's head with the last of the group.
+ghost use Rattle.std.specs.Prelude.{◌≡◌, ℕ, ◌+◌, ◌-◌, ◌<◌, List, ◌∷◌, ◌++◌, Some, None};
+ghost use Rattle.djq_arena.specs.Rows.{Row, AreRows, IsHeld};
+ghost use Rattle.djq_index.specs.Table.{IsAt, IsLive};
+ghost use Rattle.djq_index.specs.Changes.{Removed};
+ghost use Rattle.djq_index.specs.Raw.{IsBare, AreHeads, entries_of, passed};
+
+use crate::heads::{prune, unlink};
+use crate::place::Place;
+use crate::raw::{Raw, note_of};
+use djq_arena::Arena;
+
+/// The first marked slot, once this one, which is followed by `next`, is gone.
+fn first_mark_without(marked: Option<u32>, slot: u32, next: Option<u32>) -> Option<u32>
+    ensures { result ≡ passed marked slot next }
+{
+    match marked {
+        None => None,
+        Some(first) => { if first == slot { next } else { Some(first) } }
+    }
+}
+
+/// Takes a row out.
+fn withdraw(rows: &mut Arena, slot: u32)
+    requires { IsHeld rows.old.rows slot }
+    ensures rows { AreRows rows.new }
+    ensures width { rows.new.width ≡ rows.old.width }
+    ensures room { rows.new.room ≡ rows.old.room }
+    ensures removed { (xs : List Row) (r : Row) (ys : List Row) → rows.old.rows ≡ xs ++ r ∷ ys
+        → r.slot ≡ slot → rows.new.rows ≡ xs ++ ys }
+{
+    rows.remove(slot);
+    rows.laws();
+}
+
+/// Takes the tuple at a place out, and its group's head with the last of the group.
+pub fn remove_keyed(raw: &mut Raw, place: Place)
+    requires raw { IsBare raw.old }
+    requires heads { AreHeads raw.old }
+    requires live { IsLive (entries_of raw.old) place }
+    ensures raw { IsBare raw.new }
+    ensures heads { AreHeads raw.new }
+    ensures removed { (u : List ℕ) → IsAt (entries_of raw.old) place u
+        → Removed (entries_of raw.old) (entries_of raw.new) u }
+    ensures kind { raw.new.kind ≡ raw.old.kind }
+    ensures key { raw.new.key.items ≡ raw.old.key.items }
+    ensures width { raw.new.rows.width ≡ raw.old.rows.width }
+{
+    let slot = place.slot();
+    let head = note_of(&raw.notes, slot).head;
+    raw.marked = first_mark_without(raw.marked, slot, raw.rows.next(slot));
+    unlink(&mut raw.links, &mut raw.ends, slot, head);
+    prune(&mut raw.keys, &raw.ends, head);
+    withdraw(&mut raw.rows, slot);
+}
+
+/// Takes the tuple at a place out, whose group needs nothing.
+pub fn remove_bare(raw: &mut Raw, place: Place)
+    requires raw { IsBare raw.old }
+    requires live { IsLive (entries_of raw.old) place }
+    ensures raw { IsBare raw.new }
+    ensures removed { (u : List ℕ) → IsAt (entries_of raw.old) place u
+        → Removed (entries_of raw.old) (entries_of raw.new) u }
+    ensures kind { raw.new.kind ≡ raw.old.kind }
+    ensures key { raw.new.key.items ≡ raw.old.key.items }
+    ensures width { raw.new.rows.width ≡ raw.old.rows.width }
+{
+    let slot = place.slot();
+    raw.marked = first_mark_without(raw.marked, slot, raw.rows.next(slot));
+    withdraw(&mut raw.rows, slot);
+}
