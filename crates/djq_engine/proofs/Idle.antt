@@ -45,6 +45,12 @@ none_at p (j ∷ places) i none h = by (p j) refl (j == i) refl none h (λ n g. 
     by false e true f none h rest = ap p (sym (eqb-true j i f)) ∙ e
     by false e false f none h rest = rest none h
 
+-- Where no cursor is over a query in these places, all queries are as they were.
+pub all_idle : (name : Bytes) (n : ℕ) (places : List ℕ) (gs : List (Option Live))
+    → list_any (λ i. has_cursor (place_at gs i)) places ≡ false → Reach places (Ages name n) gs gs
+all_idle name n places gs none = record {
+  length = refl;
+  each = λ i. by (is_reader places i) (place_at gs i) (none_at (λ k. has_cursor (place_at gs k)) places i none);
 }
   where
     by : (b : Bool) (o : Option Live) → (b ≡ true → has_cursor o ≡ false) → DoneAt (Ages name n) b o o

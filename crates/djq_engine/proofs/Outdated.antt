@@ -65,6 +65,12 @@ same_by : (outdater : Listed → Option Bytes) (l m : Live) → m.query ≡ l.qu
     ≡ outdater (a_query l.query)
 same_by outdater l m e = ap (λ (q : Query). outdater (a_query q)) e
 
+-- one outdater after another
+pub ages_both : (f g h : Listed → Option Bytes) (n : ℕ) (gs hs ks : List (Option Live))
+    → ((q : Listed) → h q ≡ or_first (f q) (g q)) → AgesAll f n gs hs → AgesAll g n hs ks → AgesAll h n gs ks
+ages_both f g h n gs hs ks both a b = record {
+  long = b.long ∙ a.long;
+  each = λ i. by_place (place_at gs i) (place_at hs i) (place_at ks i) (a.each i) (b.each i);
 }
   where
     by_place : (o p q : Option Live) → AgesAt f n o p → AgesAt g n p q → AgesAt h n o q
@@ -73,6 +79,15 @@ same_by outdater l m e = ap (λ (q : Query). outdater (a_query q)) e
         subst (λ (x : Option Bytes). AgesBy x n l q) (sym (both (a_query l.query)))
         (ages_then n l p q (f (a_query l.query)) (λ m. g (a_query m.query)) (λ m e. same_by g l m e) s
         (λ m e. (let u : AgesAt g n (Some m) q = subst (λ (x : Option Live). AgesAt g n x q) e t in u)))
+
+-- nothing becomes stale by no relation
+pub ages_none : (f : Listed → Option Bytes) (n : ℕ) (gs : List (Option Live)) → ((q : Listed) → f q ≡ None)
+    → AgesAll f n gs gs
+ages_none f n gs none = record { long = refl; each = λ i. by_place (place_at gs i) }
+  where
+    by_place : (o : Option Live) → AgesAt f n o o
+    by_place None = refl
+    by_place (Some l) = subst (λ (x : Option Bytes). AgesBy x n l (Some l)) (sym (none (a_query l.query))) refl
 
 -- the first relation of one row more
 pub first_more : (xs : List HeldRow) (h : HeldRow) (test : Bytes → Bool) (q : Listed)
@@ -90,6 +105,74 @@ first_more (x ∷ xs) h test q = step (test x.relation && listed_reads q x.relat
     step true e = refl
     step false e = e
 
+-- one row more, whose relation counts
+pub outdates_next : (held : List HeldRow) (k : ℕ) (d : HeldRow) (test : Bytes → Bool) (n : ℕ)
+    (gs hs ks : List (Option Live)) → k < length held
+    → test (get_or held k d).relation ≡ true → AgesAll (first_read (take k held) test) n gs hs
+    → AgesAll (by_relation (get_or held k d).relation) n hs ks
+    → AgesAll (first_read (take (k + 1) held) test) n gs ks
+outdates_next held k d test n gs hs ks low counts a b =
+    ages_both (first_read (take k held) test) (by_relation (get_or held k d).relation)
+    (first_read (take (k + 1) held) test) n gs hs ks
+    (λ q. ap (λ (xs : List HeldRow). first_read xs test q) (take_more held k d low)
+    ∙ first_more (take k held) (get_or held k d) test q
+    ∙ ap (λ (t : Bool). or_first (first_read (take k held) test q)
+    (cond (t && listed_reads q (get_or held k d).relation) (Some (get_or held k d).relation) None)) counts) a b
+
+-- one row more, whose relation doesn't count
+pub outdates_still : (held : List HeldRow) (k : ℕ) (d : HeldRow) (test : Bytes → Bool) (n : ℕ)
+    (gs hs : List (Option Live)) → k < length held
+    → test (get_or held k d).relation ≡ false → AgesAll (first_read (take k held) test) n gs hs
+    → AgesAll (first_read (take (k + 1) held) test) n gs hs
+outdates_still held k d test n gs hs low counts a =
+    ages_both (first_read (take k held) test) (λ q. None) (first_read (take (k + 1) held) test) n gs hs hs
+    (λ q. ap (λ (xs : List HeldRow). first_read xs test q) (take_more held k d low)
+    ∙ first_more (take k held) (get_or held k d) test q
+    ∙ ap (λ (t : Bool). or_first (first_read (take k held) test q)
+    (cond (t && listed_reads q (get_or held k d).relation) (Some (get_or held k d).relation) None)) counts) a
+    (ages_none (λ q. None) n hs (λ q. refl))
+
+ages_as : (f g : Listed → Option Bytes) (n : ℕ) (gs hs : List (Option Live)) → ((q : Listed) → g q ≡ f q)
+    → AgesAll f n gs hs → AgesAll g n gs hs
+ages_as f g n gs hs same a = record { long = a.long; each = λ i. by_place (place_at gs i) (place_at hs i) (a.each i) }
+  where
+    by_place : (o p : Option Live) → AgesAt f n o p → AgesAt g n o p
+    by_place None p h = h
+    by_place (Some l) p h = subst (λ (x : Option Bytes). AgesBy x n l p) (sym (same (a_query l.query))) h
+
+-- a relation that passes the test outdates those that read it, and another one none
+pub ages_passed : (test : Bytes → Bool) (name : Bytes) (n : ℕ) (gs hs : List (Option Live)) → test name ≡ true
+    → AgesAll (by_relation name) n gs hs → AgesAll (by_tested test name) n gs hs
+ages_passed test name n gs hs e a = ages_as (by_relation name) (by_tested test name) n gs hs
+    (λ q. ap (λ b. cond b (by_relation name q) None) e) a
+
+pub ages_failed : (test : Bytes → Bool) (name : Bytes) (n : ℕ) (gs : List (Option Live)) → test name ≡ false
+    → AgesAll (by_tested test name) n gs gs
+ages_failed test name n gs e = ages_none (by_tested test name) n gs (λ q. ap (λ b. cond b (by_relation name q) None) e)
+
+-- one row more, whose relation is tested
+pub outdates_tested : (held : List HeldRow) (k : ℕ) (d : HeldRow) (test : Bytes → Bool) (n : ℕ)
+    (gs hs ks : List (Option Live)) → k < length held
+    → AgesAll (first_read (take k held) test) n gs hs → AgesAll (by_tested test (get_or held k d).relation) n hs ks
+    → AgesAll (first_read (take (k + 1) held) test) n gs ks
+outdates_tested held k d test n gs hs ks low a b =
+    ages_both (first_read (take k held) test) (by_tested test (get_or held k d).relation)
+    (first_read (take (k + 1) held) test) n gs hs ks
+    (λ q. ap (λ (xs : List HeldRow). first_read xs test q) (take_more held k d low)
+    ∙ first_more (take k held) (get_or held k d) test q
+    ∙ ap (or_first (first_read (take k held) test q))
+    (both (test (get_or held k d).relation) (listed_reads q (get_or held k d).relation) (get_or held k d).relation))
+    a b
+  where
+    both : (t r : Bool) (name : Bytes) → cond (t && r) (Some name) None ≡ cond t (cond r (Some name) None) None
+    both true r name = refl
+    both false r name = refl
+
+pub group_any : (groups : List Group) (at : ℕ) → list_any (λ g. g.relation.at == at) groups
+    ≡ is_reader (relations_of groups) at
+group_any [] at = refl
+group_any (g ∷ groups) at = ap (λ b. (g.relation.at == at) || b) (group_any groups at)
+
 -- ---- who reads a relation
 
 same_reads : (f : Listed → Option Bytes) (n : ℕ) (r : Bytes) (o p : Option Live) → AgesAt f n o p → reads_place r p
@@ -102,8 +185,27 @@ same_reads f n r (Some l) p a = by_outdater (f (a_query l.query)) p a
     by_outdater (Some x) None a = absurd a
     by_outdater (Some x) (Some m) a = ap (λ (z : Live). reads z.query r) a.outdated
 
+-- the readers stay the readers
+pub readers_aged : (relations : List Relation) (readers : List (List ℕ)) (f : Listed → Option Bytes) (n : ℕ)
+    (gs hs : List (Option Live)) → AreReaders relations readers gs → AgesAll f n gs hs
+    → AreReaders relations readers hs
+readers_aged relations readers f n gs hs r a = record {
+  long = r.long;
+  once = r.once;
+  reading = λ k i low. r.reading k i low
+      ∙ sym (same_reads f n (relation_at relations k).name (place_at gs i) (place_at hs i) (a.each i));
 }
 
+-- what was done to the readers of one relation
+pub ages_readers : (relations : List Relation) (readers : List (List ℕ)) (at : ℕ) (name : Bytes) (n : ℕ)
+    (gs hs : List (Option Live)) → AreReaders relations readers gs → at < length relations
+    → (relation_at relations at).name ≡ name → Reach (readers_at readers at) (Ages name n) gs hs
+    → AgesAll (by_relation name) n gs hs
+ages_readers relations readers at name n gs hs r low named reach = record {
+  long = reach.length;
+  each = λ i. by_place (place_at gs i) (place_at hs i)
+      (subst (λ (b : Bool). DoneAt (Ages name n) b (place_at gs i) (place_at hs i))
+      (r.reading at i low ∙ ap (λ (x : Bytes). reads_place x (place_at gs i)) named) (reach.each i));
 }
   where
     by_reads : (b : Bool) (l : Live) (p : Option Live) → DoneAt (Ages name n) b (Some l) p
@@ -139,6 +241,42 @@ clears_both p q r a b c both x y = record {
     by_none i true t f g e = absurd (false≢true (sym e ∙ ap (λ (u : Bool). u || q i) f))
     by_none i false true f g e = absurd (false≢true (sym e ∙ ap₂ (λ (u v : Bool). u || v) f g))
 
+any_more : (xs : List HeldRow) (h : HeldRow) (o : Option Live) → reads_held (xs ++ h ∷ []) o
+    ≡ (reads_held xs o || reads_place h.relation o)
+any_more [] h o = or_none (reads_place h.relation o)
+  where
+    or_none : (b : Bool) → (b || false) ≡ b
+    or_none true = refl
+    or_none false = refl
+any_more (x ∷ xs) h o = step (reads_place x.relation o) (any_more xs h o)
+  where
+    step : (b : Bool) → reads_held (xs ++ h ∷ []) o ≡ (reads_held xs o || reads_place h.relation o)
+        → (b || reads_held (xs ++ h ∷ []) o) ≡ ((b || reads_held xs o) || reads_place h.relation o)
+    step true e = refl
+    step false e = e
+
+-- the logs of the readers of one more row's relation
+pub clears_next : (held : List HeldRow) (k : ℕ) (d : HeldRow) (gs : List (Option Live)) (a b c : List Log)
+    → k < length held
+    → ClearsLogs (λ i. reads_held (take k held) (place_at gs i)) a b
+    → ClearsLogs (λ i. reads_place (get_or held k d).relation (place_at gs i)) b c
+    → ClearsLogs (λ i. reads_held (take (k + 1) held) (place_at gs i)) a c
+clears_next held k d gs a b c low x y =
+    clears_both (λ i. reads_held (take k held) (place_at gs i))
+    (λ i. reads_place (get_or held k d).relation (place_at gs i))
+    (λ i. reads_held (take (k + 1) held) (place_at gs i)) a b c
+    (λ i. ap (λ (xs : List HeldRow). reads_held xs (place_at gs i)) (take_more held k d low)
+    ∙ any_more (take k held) (get_or held k d) (place_at gs i)) x y
+
+-- those in these places were emptied, which are the readers of a relation
+pub clears_readers : (relations : List Relation) (readers : List (List ℕ)) (at : ℕ) (name : Bytes)
+    (gs : List (Option Live)) (a b : List Log) → AreReaders relations readers gs → at < length relations
+    → (relation_at relations at).name ≡ name → Empties (readers_at readers at) a b
+    → ClearsLogs (λ i. reads_place name (place_at gs i)) a b
+clears_readers relations readers at name gs a b r low named e = record {
+  long = e.long;
+  emptied = λ i h. e.emptied i (is i ∙ h);
+  others = λ i h. e.others i (is i ∙ h);
 }
   where
     is : (i : ℕ) → is_reader (readers_at readers at) i ≡ reads_place name (place_at gs i)

@@ -79,6 +79,16 @@ reached_has readers (g ∷ groups) i e =
     )
     by false h k more = let m = more k in (m.0, behind (g.relation.at == m.0) m.0 m.1, m.2)
 
+pub reached_next : (readers : List (List ℕ)) (groups : List Group) (k : ℕ) (g : Group) (i : ℕ) → k < length groups → g
+    ≡ get_or groups k g → is_reader (reached readers (take k groups)) i ≡ false
+    → is_reader (readers_at readers g.relation.at) i ≡ false → is_reader (reached readers (take (k + 1) groups)) i
+    ≡ false
+reached_next readers groups k g i low is e f =
+    ap (λ (xs : List Group). is_reader (reached readers xs) i)
+    (take_more groups k g low ∙ ap (λ (x : Group). take k groups ++ x ∷ []) (sym is))
+    ∙ reached_end readers (take k groups) g i
+    ∙ ap₂ (λ (a b : Bool). a || b) e f
+
 -- a group is among its groups
 pub group_there : (groups : List Group) (k : ℕ) (g : Group) → k < length groups → g ≡ get_or groups k g
     → is_reader (relations_of groups) g.relation.at ≡ true

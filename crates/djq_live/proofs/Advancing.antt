@@ -276,6 +276,14 @@ pub open_live : (c : Catalog) (l m : Live) (cursor : Cursor) (cs : List (Option 
 open_live c l m cursor cs result e live fits opens same =
     open_here c l cursor cs result (subst (IsLive c) (sym e) live) (fits l.reducts) opens same
 
+pub made_stale : (c : Catalog) (old : Live) (relation : Bytes) (n : ℕ)
+    (cs : List (Option Progress)) → cs ≡ outdated_slots relation n old.cursors
+    → IsKept c old → IsLive c (record old { cursors = cs })
+made_stale c old relation n cs e h =
+    with_cursors c old cs h
+    (subst (EachIs (FitsOver old.reducts)) (sym e)
+    (stale_each (FitsOver old.reducts) (λ r m. tt) relation n old.cursors))
+
 -- ---- counts
 
 pub steps_more : (result : Next) (a b : ℕ) → a ≤ b → next_steps result a ≤ next_steps result b

@@ -92,3 +92,28 @@ first_held label a c cell ts true is h = (
       ts h,
 )
 first_held label a c cell ts false is h = (λ there. absurd (false≢true (sym is ∙ there)), h)
+
+held_first : (label : List ℕ) (a : ℕ → ℕ) (c : NumberedComparison) (cell : ℕ) (ts : List Test) (b : Bool)
+    → member c.variable label ≡ b
+    → (member c.variable label ≡ true → passes c.operator (a c.variable) cell ≡ true) → All (Passes (map a label)) ts
+    → All (Passes (map a label)) (cond b (a_test label c cell ∷ []) [] ++ ts)
+held_first label a c cell ts true is f h = All-cons (Passes (map a label)) (a_test label c cell) ts
+    (test_is label a c cell is ∙ f is) h
+held_first label a c cell ts false is f h = h
+
+pub tests_held : (label : List ℕ) (a : ℕ → ℕ) (cs : List NumberedComparison) (cells : List ℕ)
+    → All (Passes (map a label)) (tests_of label cs cells) → AreHeld label a cs cells
+unfolding tests_of test_of
+tests_held label a [] cells h = tt
+tests_held label a (c ∷ cs) [] h = tt
+tests_held label a (c ∷ cs) (cell ∷ cells) h =
+    let parts = first_held label a c cell (tests_of label cs cells) (member c.variable label) refl h in
+    (parts.0, tests_held label a cs cells parts.1)
+
+pub held_tests : (label : List ℕ) (a : ℕ → ℕ) (cs : List NumberedComparison) (cells : List ℕ) → AreHeld label a cs cells
+    → All (Passes (map a label)) (tests_of label cs cells)
+unfolding tests_of test_of
+held_tests label a [] cells h = All-nil (Passes (map a label))
+held_tests label a (c ∷ cs) [] h = All-nil (Passes (map a label))
+held_tests label a (c ∷ cs) (cell ∷ cells) h = held_first label a c cell (tests_of label cs cells)
+    (member c.variable label) refl h.0 (held_tests label a cs cells h.1)

@@ -189,6 +189,13 @@ module _ (readers : List (List ℕ)) (groups : List Group) (gs : List (Option Li
             (tells_past i l (log_at old i) ep f x)
         by i true e false f (Some l) ep (Some m) false t x y = y ∙ x
 
+pub tends_start : (readers : List (List ℕ)) (groups : List Group) (gs : List (Option Live)) (ws : List ℕ)
+    (old new : List Log)
+    → Clears (λ i. is_reader (reached readers groups) i && watched_at ws i) old new
+    → Tends (reached readers groups) (TellsAt ws (λ c d (w : ⊤). Leads readers (take 0 groups) gs c d)) gs old new
+tends_start readers groups gs ws old new h = record {
+  long = h.long;
+  each = λ i. by i (is_reader (reached readers groups) i) refl (watched_at ws i) refl (place_at gs i);
 }
   where
     by : (i : ℕ) (f : Bool) → is_reader (reached readers groups) i ≡ f → (w : Bool) → watched_at ws i ≡ w

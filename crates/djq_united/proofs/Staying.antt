@@ -305,4 +305,22 @@ pub stale_stood : StaleStand
 stale_stood texts more ls ms relation n (Open cursor ended) = refl
 stale_stood texts more ls ms relation n (Stale r m) = refl
 
+-- Once its cursors are stale, a union goes with the same queries, whatever their tables are.
+united_later : (old new : List (Option Live)) (u : United) (relation : Bytes) (n : ℕ)
+    (slots : List (Option Progress)) → slots ≡ outdated_slots relation n u.cursors
+    → IsUnited old u → KeepMembers HasSameShape old new u.members
+    → IsUnited new (record u { cursors = slots })
+united_later old new u relation n slots e united keep = record {
+  members = (members_stayed old new u keep united.members).0;
+  fits = subst (FitAll (members_in new u)) (sym e)
+      (stale_each (FitsOver (members_in new u)) (λ r m. tt) relation n u.cursors);
 }
+
+-- the same where the union is seen from outside
+pub later_seen : (old new : List (Option Live)) (u v : United) (relation : Bytes) (n : ℕ)
+    (slots : List (Option Progress)) → u ≡ v → slots ≡ outdated_slots relation n u.cursors
+    → IsUnited old v → KeepMembers HasSameShape old new v.members
+    → IsUnited new (record u { cursors = slots })
+later_seen old new u v relation n slots e is united keep =
+    united_later old new u relation n slots is (subst (IsUnited old) (sym e) united)
+    (subst (λ (w : United). KeepMembers HasSameShape old new w.members) (sym e) keep)

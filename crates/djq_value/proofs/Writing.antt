@@ -23,3 +23,20 @@ stays_before old mid new at middle text fits p h =
     sym (take-take at middle new (omega (arith, p.ends)))
     ∙ ap (take at) (h ∙ p.items)
     ∙ take_at (take at old) text at (length-take-le at old fits)
+
+-- digits that are written in front of their end
+pub written_digits : (old new digits behind : Bytes) (start at end : ℕ) → start + length digits ≡ end → end
+    ≡ at + length digits
+    → end ≤ length new → drop start new ≡ digits ++ behind → take start new ≡ take start old
+    → Written old new at digits end
+written_digits old new digits behind start at end s e within d t =
+    let same : start ≡ at = omega (arith, s, e) in
+    record {
+      ends = e;
+      within = within;
+      items =
+          ap (λ n. take n new) (sym s) ∙ take-add start (length digits) new
+          ∙ ap (λ xs. take start new ++ take (length digits) xs) d
+          ∙ ap (λ xs. take start new ++ xs) (take_at digits behind (length digits) refl)
+          ∙ ap (λ xs. xs ++ digits) (t ∙ ap (λ n. take n old) same);
+    }
