@@ -21,7 +21,7 @@ fn first_mark_without(marked: Option<u32>, slot: u32, next: Option<u32>) -> Opti
 }
 
 /// Takes a row out.
-fn withdraw(rows: &mut Arena, slot: u32)
+pub fn withdraw(rows: &mut Arena, slot: u32)
     requires { IsHeld rows.old.rows slot }
     ensures rows { AreRows rows.new }
     ensures width { rows.new.width ≡ rows.old.width }

@@ -17,11 +17,11 @@ returns-then-has_group c test tested =
     let passes : test c.args.relation.now ≡ true =
     ap test (sym named) ∙ tested at low ∙ sym (group_any c.args.groups.now at) ∙ sym c.has_group.ensures
     ∙ c.if-has_group.true in
-    ages_passed test c.args.relation.now c.args.seq c.args.queries.now.items c.age.new.queries.items passes
+    ages_passed test c.args.relation.now c.args.seq c.args.queries.now.items c.outdate.new.queries.items passes
     (ages_readers rs c.args.readers.now.items at c.args.relation.now c.args.seq c.args.queries.now.items
-    c.age.new.queries.items c.requires.readers low named
+    c.outdate.new.queries.items c.requires.readers low named
     (subst (λ (ps : List ℕ). Reach ps (Ages c.args.relation.now c.args.seq) c.args.queries.now.items
-    c.age.new.queries.items) places c.age.ensures))
+    c.outdate.new.queries.items) places c.outdate.ensures))
 
 pub returns-else-has_group : goal.returns-else-has_group
 returns-else-has_group c test tested =

@@ -9,5 +9,5 @@ loop-at-preserved c =
     let x = c.index-held-at.result in
     outdates_next c.args.held.now c.loop-at.at x (λ name. true) c.args.seq c.args.queries.now.items
     c.loop-at.queries.items
-    c.outdate_readers.new.queries.items c.loop-at-test.true refl c.loop-at.invariant
-    c.outdate_readers.ensures
+    c.outdate_named.new.queries.items c.loop-at-test.true refl c.loop-at.invariant
+    c.outdate_named.ensures
