@@ -6,7 +6,7 @@ use Rattle.djq_disk.specs.History.{History, WhereTold}
 use Rattle.djq_disk.proofs.Telling.{told_so}
 use Rattle.djq_journal.specs.Standing.{IsIdle}
 use Rattle.djq_journal.specs.Appending.{Appends, gate_after}
-use Rattle.djq_journal.specs.Keeping.{lines_in as whole_lines, IsKeeping, WasKeeping}
+use Rattle.djq_journal.specs.Keeping.{whole_lines, IsKeeping, WasKeeping}
 use Rattle.djq_journal.specs.declared.limits.TheConstants.{LAST_GATE}
 use Rattle.djq_journal.specs.declared.journal.Appended.{Appended}
 use Rattle.djq_journal.specs.declared.journal.Appended.TheVariants.{Done, Failed, Full}

@@ -2,7 +2,7 @@
 use Rattle.std.specs.Prelude.{ℕ, List, [], ◌∷◌, ◌++◌, ◌≡◌, ◌⊎◌, Option, None, Some, IfSome, length, take, drop}
 use Rattle.std.proofs.Common.{refl, sym, ap, ◌∙◌, subst, inl, inr, arith}
 use Rattle.djq_disk.specs.File.{File, settled}
-use Rattle.djq_disk.specs.History.{History, WhereTold, Opens as OpensPath, Sizes}
+use Rattle.djq_disk.specs.History.{History, WhereTold, OpensPath, Sizes}
 use Rattle.djq_disk.specs.Leaving.{LeavesOnly}
 use Rattle.djq_disk.specs.declared.disk.DiskLen.{DiskLen}
 use Rattle.djq_disk.specs.declared.disk.DiskLen.TheVariants.{Len}

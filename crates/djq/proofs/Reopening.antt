@@ -5,7 +5,7 @@ use Rattle.std.proofs.lemmas.Grind.{flat_map-append}
 use Rattle.djq_disk.specs.History.{History}
 use Rattle.djq_disk.specs.Leaving.{LeavesOnly}
 use Rattle.djq_journal.specs.Format.{OpensTo}
-use Rattle.djq_journal.specs.Keeping.{lines_in as whole_lines, OpensWithin, IsKeeping}
+use Rattle.djq_journal.specs.Keeping.{whole_lines, OpensWithin, IsKeeping}
 use Rattle.djq_journal.proofs.Going.{keeps_on}
 use Rattle.djq_model.specs.Data.{Bytes}
 use Rattle.djq_machine.specs.State.{State, opening}

@@ -31,7 +31,7 @@ use Rattle.djq_schedule.proofs.Counting.{AllShort, turn_for_each_line, turns_are
 use Rattle.djq_serve.specs.declared.served.Served.{Served}
 use Rattle.djq_serve.specs.declared.served.Served.TheVariants.{Stopped, Over, TurnsUsed as AllTaken}
 use Rattle.djq_serve.specs.declared.served.Served.TheVariants.{HubFault as HubFailed, DiskFault as DiskFailed, LogFull}
-use Rattle.djq_serve.specs.Told.{Shown, shown, Place, place, Answers as IsAnswered, turn_is_over}
+use Rattle.djq_serve.specs.Told.{Shown, shown, Place, place, IsAnswered, turn_is_over}
 use Rattle.djq_serve.specs.Told.{turn_is_failed, by_turn, has_over, has_failed, turn_in, turns_in}
 use Rattle.djq_serve.specs.Server.{all_told, all_done}
 use Rattle.djq_serve.specs.Logged.{UnkeptIsSilent}

@@ -8,7 +8,7 @@ use Rattle.djq_run.specs.declared.status.Status.{Status}
 use Rattle.djq_run.specs.declared.status.Status.TheVariants.{Done, NoMemory}
 use Rattle.djq_load.specs.declared.loading.Totals.{Totals}
 use Rattle.djq_load.specs.Totals.{RunsLoad, RunsOut}
-use Rattle.djq.specs.Replay.{Written}
+use Rattle.djq.specs.Replay.{Wrote}
 
 -- the number of different rows of a relation
 abbrev pub row_count : State → Bytes → ℕ
@@ -49,6 +49,6 @@ abbrev pub GenEnds : State → Status → ℕ → ℕ → Option (List Write) �
     → ℕ → Counts → Type 0
 GenEnds start status n seed writing faults counted writing' faults' counted' =
     ((text : Bytes) × Generates start n seed counted counted' text
-    × Written status Done text writing faults writing' faults')
+    × Wrote status Done text writing faults writing' faults')
     ⊎ ((status ≡ NoMemory) × LoadsUntold start n seed counted counted'
     × (writing' ≡ writing) × (faults' ≡ faults))

@@ -13,13 +13,13 @@ use Rattle.djq_run.specs.declared.status.Status.{Status}
 use Rattle.djq_run.specs.declared.status.Status.TheVariants.{Done, ReadFault, WriteFault, TurnsUsed, NoMemory, Mirror}
 
 -- the status that it comes to
-abbrev pub status_of : Mirrored → Status
-status_of Followed = Done
-status_of (Halted n) = Mirror n
-status_of FailedRead = ReadFault
-status_of FailedWrite = WriteFault
-status_of TooMany = TurnsUsed
-status_of Lacking = NoMemory
+abbrev pub mirror_status : Mirrored → Status
+mirror_status Followed = Done
+mirror_status (Halted n) = Mirror n
+mirror_status FailedRead = ReadFault
+mirror_status FailedWrite = WriteFault
+mirror_status TooMany = TurnsUsed
+mirror_status Lacking = NoMemory
 
 -- **The theorem of `mirror`.** What the source had is followed as what one session was sent, and what
 -- that leaves of a query's answers is written; nothing else is counted or done.
@@ -27,5 +27,5 @@ pub record MirrorsSource (query : Bytes) (status : Status) (before now : Outside
   pub answer : Mirrored
   pub ends : MirrorEnds answer query before.reading now.reading before.read_faults now.read_faults
       before.writing now.writing before.write_faults now.write_faults
-  pub is : status ≡ status_of answer
+  pub is : status ≡ mirror_status answer
   pub counted : now.counted ≡ before.counted

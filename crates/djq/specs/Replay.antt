@@ -138,9 +138,9 @@ ComesToNothing log status (Ok turns) bytes counted counted' =
 
 -- The sink took all of the text, and the status is this; or it took a first part that isn't the
 -- whole, and then a write failed, which was the last.
-abbrev pub Written : Status → Status → Bytes → Option (List Write) → ℕ → Option (List Write) → ℕ
+abbrev pub Wrote : Status → Status → Bytes → Option (List Write) → ℕ → Option (List Write) → ℕ
     → Type 0
-Written status whole text writing faults writing' faults' =
+Wrote status whole text writing faults writing' faults' =
     ((status ≡ whole) × GainsBytes writing writing' text × (faults' ≡ faults))
     ⊎ ((status ≡ first_fault whole WriteFault) × (n : ℕ) × (n < length text)
     × FailsBehind writing writing' (take n text) (drop n text) × Counted faults faults')
@@ -151,7 +151,7 @@ abbrev pub WritesFor : Option LogSeen → Status → Bytes → Option (List Writ
     → Option (List Write) → ℕ → Counts → Type 0
 WritesFor log status bytes writing faults counted writing' faults' counted' =
     ((text : Bytes) × (whole : Status) × ComesTo log (turns_of bytes) bytes counted counted' text whole
-    × Written status whole text writing faults writing' faults')
+    × Wrote status whole text writing faults writing' faults')
     ⊎ (ComesToNothing log status (turns_of bytes) bytes counted counted'
     × (writing' ≡ writing) × (faults' ≡ faults))
 

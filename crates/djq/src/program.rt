@@ -6,7 +6,7 @@ ghost use Rattle.djq_laws.specs.Course.{outside};
 ghost use Rattle.djq_value.specs.Literal.{is_name};
 ghost use Rattle.djq_serve.specs.Told.{shown};
 ghost use Rattle.djq.specs.Logged.{disk_seen, log_seen, status_of};
-ghost use Rattle.djq.specs.Mirror.{status_of as mirror_status, MirrorsSource};
+ghost use Rattle.djq.specs.Mirror.{mirror_status, MirrorsSource};
 ghost use Rattle.djq.specs.Ends.{ProgramEnds, AsksToServe, AsksForLog, Serves, HubEnds, Explains, hub_seen};
 
 use crate::load::generate;

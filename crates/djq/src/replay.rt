@@ -8,7 +8,7 @@ ghost use Rattle.djq_schedule.specs.Sent.{outside_line};
 ghost use Rattle.djq.specs.Logged.{disk_seen, log_seen};
 ghost use Rattle.djq.specs.Parts.{TellsAll, TellsNone};
 ghost use Rattle.djq.specs.Replay.{ReadsWhole, StopsReading, ComesTo, ComesToNothing, first_fault};
-ghost use Rattle.djq.specs.Replay.{Written as Wrote, WritesFor, ReplayEnds};
+ghost use Rattle.djq.specs.Replay.{Wrote, WritesFor, ReplayEnds};
 
 use crate::log::open_log;
 use crate::program::ended_status;

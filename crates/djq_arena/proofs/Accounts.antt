@@ -7,7 +7,7 @@ use Rattle.djq_arena.specs.declared.store.Store.{Store}
 use Rattle.djq_arena.specs.declared.chain.Ends.{Ends}
 use Rattle.djq_arena.specs.Chains.{AreBelow, first_of, last_of, Linked, pair_at}
 use Rattle.djq_arena.specs.Store.{cells_at, live_of, free_of, IsSound, rows_in, rows_of, IsSame, IsTidy}
-use Rattle.djq_arena.specs.Rows.{Row, Rows, slots, IsHeld, AreWide, AreRows}
+use Rattle.djq_arena.specs.Rows.{Row, SlotRows, slots, IsHeld, AreWideRows, AreRows}
 use Rattle.djq_arena.proofs.Lists.{different_front, below_front}
 use Rattle.djq_arena.proofs.Chaining.{prev_here, next_here}
 use Rattle.djq_arena.proofs.Storing.{held_within}
@@ -58,18 +58,18 @@ unfolding cells_at
 row_wide w n cells i long h = simp (length-take, length-drop) (omega (arith, row_fits i n w h, long))
 
 rows_wide : (w n : ℕ) (cells : List ℕ) (xs : List ℕ) → length cells ≡ n * w → AreBelow n xs
-    → AreWide w (rows_in w cells xs)
-unfolding AreWide rows_in AreBelow
+    → AreWideRows w (rows_in w cells xs)
+unfolding AreWideRows rows_in AreBelow
 rows_wide w n cells [] long b = tt
 rows_wide w n cells (x ∷ xs) long b = (row_wide w n cells x long b.0, rows_wide w n cells xs long b.1)
 
-all_wide : (a : Store) → IsSound a → AreWide a.width (rows_of a)
+all_wide : (a : Store) → IsSound a → AreWideRows a.width (rows_of a)
 unfolding rows_of
 all_wide a h = rows_wide a.width (length a.order.items) a.cells.items (live_of a) h.store.cells
     (below_front (length a.order.items) (live_of a) (free_of a) h.store.below)
 
 -- what an arena shows of its store
-abbrev pub value : Store → Rows
+abbrev pub value : Store → SlotRows
 value a = record { width = a.width; room = length a.order.items; rows = rows_of a }
 
 pub rows_law : (a : Store) → IsSound a → AreRows (value a)

@@ -9,13 +9,13 @@ pub record Row : Type 0 where
   pub cells : List ℕ
 
 -- the width of the rows, the number of slots, and the rows, the oldest first
-pub record Rows : Type 0 where
+pub record SlotRows : Type 0 where
   pub width : ℕ
   pub room : ℕ
   pub rows : List Row
 
 -- each slot holds a row: none is free
-abbrev pub IsFull : Rows → Type 0
+abbrev pub IsFull : SlotRows → Type 0
 IsFull a = length a.rows ≡ a.room
 
 -- the slots of the rows
@@ -39,14 +39,14 @@ pub record IsHeld (rows : List Row) (slot : ℕ) : Type 0 where
   pub row : IsRow rows slot cells
 
 -- each row has this many cells
-unfoldable pub AreWide : ℕ → List Row → Type 0
-AreWide width [] = ⊤
-AreWide width (r ∷ rs) = (length r.cells ≡ width) × AreWide width rs
+unfoldable pub AreWideRows : ℕ → List Row → Type 0
+AreWideRows width [] = ⊤
+AreWideRows width (r ∷ rs) = (length r.cells ≡ width) × AreWideRows width rs
 
 -- what holds of every arena: no two rows lie in one slot, each slot is one of the room, and each row has
 -- the width
-pub record AreRows (a : Rows) : Type 0 where
+pub record AreRows (a : SlotRows) : Type 0 where
   pub different : AreDifferent (slots a.rows)
   pub below : AreBelow a.room (slots a.rows)
   pub numbers : a.room ≤ SLOTS
-  pub wide : AreWide a.width a.rows
+  pub wide : AreWideRows a.width a.rows

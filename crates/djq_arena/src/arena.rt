@@ -19,9 +19,9 @@ pub struct Arena {
 }
 
 impl Model for Arena {
-    ghost use Rattle.djq_arena.specs.Rows.{Rows};
+    ghost use Rattle.djq_arena.specs.Rows.{SlotRows};
 
-    ghost Value = { Rows };
+    ghost Value = { SlotRows };
 
     ghost use Rattle.std.specs.Prelude.{length};
     ghost use Rattle.djq_arena.specs.Store.{rows_of, IsSound, IsTidy};

@@ -7,11 +7,11 @@ use Rattle.std.proofs.lemmas.Bool.{cond-true, cond-false, eq-eqb, eqb-true}
 use Rattle.djq_model.specs.Data.{change_first}
 use Rattle.djq_lines.specs.declared.limits.TheConstants.{SESSIONS}
 use Rattle.djq_engine.specs.declared.cursor.CursorId.{CursorId}
-use Rattle.djq_engine.specs.Kept.{Kept, Held}
+use Rattle.djq_engine.specs.Kept.{Kept, HeldCursor}
 use Rattle.djq_machine.specs.State.{Session, State, session_of, with_session}
 use Rattle.djq_core.specs.declared.open.OpenSession.{OpenSession}
 use Rattle.djq_core.specs.Views.{Talk, session_in, open_in, state_in}
-use Rattle.djq_core.specs.Sound.{IsBelow, Rises, ids_of, all_ids, AreHeld, AreApart, AreOwned}
+use Rattle.djq_core.specs.Sound.{IsBelow, Rises, ids_of_cursors, all_ids, AreHeld, AreApart, AreOwned}
 use Rattle.djq_core.specs.Sound.{NoneOnceEnded, AreEndedWithout, AreCounted, IsSound}
 use Rattle.djq_core.specs.Performs.{among}
 use Rattle.djq_core.proofs.Ids.{held_split, held_join}
@@ -61,26 +61,27 @@ ids_are [] s d back = refl
 ids_are (x ∷ front) s d back = ap (λ (r : List ℕ). x.id ∷ r) (ids_are front s d back)
 
 pub cursors_are : (front : List OpenSession) (s : ℕ) (d : Talk) (back : List OpenSession)
-    → all_ids (among front s d back) ≡ all_ids front ++ (ids_of d.cursors ++ all_ids back)
+    → all_ids (among front s d back) ≡ all_ids front ++ (ids_of_cursors d.cursors ++ all_ids back)
 cursors_are [] s d back = refl
-cursors_are (x ∷ front) s d back = ap (λ (r : List CursorId). ids_of (x.session).cursors ++ r)
+cursors_are (x ∷ front) s d back = ap (λ (r : List CursorId). ids_of_cursors (x.session).cursors ++ r)
     (cursors_are front s d back)
-    ∙ sym (append_assoc (ids_of (x.session).cursors) (all_ids front) (ids_of d.cursors ++ all_ids back))
+    ∙ sym (append_assoc (ids_of_cursors (x.session).cursors) (all_ids front) (ids_of_cursors d.cursors ++ all_ids back))
 
-pub open_are : (hs : List Held) (front : List OpenSession) (s : ℕ) (d : Talk) (back : List OpenSession)
+pub open_are : (hs : List HeldCursor) (front : List OpenSession) (s : ℕ) (d : Talk) (back : List OpenSession)
     → map (open_in hs) (among front s d back) ≡ map (open_in hs) front ++ session_in hs s d ∷ map (open_in hs) back
 open_are hs front s d back = map_append (open_in hs) front (record { id = s; session = d } ∷ back)
 
 -- What is known of a session and of those around it.
-pub record Around (hs : List Held) (front : List OpenSession) (s : ℕ) (d : Talk) (back : List OpenSession) : Type 0
+pub record Around (hs : List HeldCursor) (front : List OpenSession) (s : ℕ) (d : Talk) (back : List OpenSession) :
+    Type 0
   where
     pub rising : Rises (map (λ (x : OpenSession). x.id) front ++ s ∷ map (λ (x : OpenSession). x.id) back)
     pub few : length front + suc (length back) ≤ SESSIONS
     pub held_front : AreHeld hs (all_ids front)
-    pub held_here : AreHeld hs (ids_of d.cursors)
+    pub held_here : AreHeld hs (ids_of_cursors d.cursors)
     pub held_back : AreHeld hs (all_ids back)
-    pub apart : AreApart (all_ids front ++ (ids_of d.cursors ++ all_ids back))
-    pub owned : AreOwned hs (all_ids front ++ (ids_of d.cursors ++ all_ids back))
+    pub apart : AreApart (all_ids front ++ (ids_of_cursors d.cursors ++ all_ids back))
+    pub owned : AreOwned hs (all_ids front ++ (ids_of_cursors d.cursors ++ all_ids back))
     pub ended_front : AreEndedWithout front
     pub ended_here : NoneOnceEnded d.cause d.cursors
     pub ended_back : AreEndedWithout back
@@ -97,8 +98,8 @@ pub parts : (k : Kept) (front : List OpenSession) (s : ℕ) (d : Talk) (back : L
     → IsSound k (among front s d back) → Around k.cursors front s d back
 parts k front s d back sound =
     let held = subst (λ (cs : List CursorId). AreHeld k.cursors cs) (cursors_are front s d back) sound.cursors_held in
-    let one = held_split k.cursors (all_ids front) (ids_of d.cursors ++ all_ids back) held in
-    let two = held_split k.cursors (ids_of d.cursors) (all_ids back) one.1 in
+    let one = held_split k.cursors (all_ids front) (ids_of_cursors d.cursors ++ all_ids back) held in
+    let two = held_split k.cursors (ids_of_cursors d.cursors) (all_ids back) one.1 in
     let ended = ended_split front (record { id = s; session = d } ∷ back) sound.ended in
     record {
       rising = subst Rises (ids_are front s d back) sound.rising;
@@ -120,8 +121,8 @@ whole k front s d back p counted = record {
   rising = subst Rises (sym (ids_are front s d back)) p.rising;
   few = omega (arith, p.few, length-append front (record { id = s; session = d } ∷ back));
   cursors_held = subst (λ (cs : List CursorId). AreHeld k.cursors cs) (sym (cursors_are front s d back))
-      (held_join k.cursors (all_ids front) (ids_of d.cursors ++ all_ids back) p.held_front
-      (held_join k.cursors (ids_of d.cursors) (all_ids back) p.held_here p.held_back));
+      (held_join k.cursors (all_ids front) (ids_of_cursors d.cursors ++ all_ids back) p.held_front
+      (held_join k.cursors (ids_of_cursors d.cursors) (all_ids back) p.held_here p.held_back));
   apart = subst AreApart (sym (cursors_are front s d back)) p.apart;
   owned = subst (AreOwned k.cursors) (sym (cursors_are front s d back)) p.owned;
   ended = ended_join front (record { id = s; session = d } ∷ back) p.ended_front (p.ended_here, p.ended_back);
@@ -130,23 +131,23 @@ whole k front s d back p counted = record {
 
 -- What is found and changed at a session's id.
 
-not_here : (hs : List Held) (x : OpenSession) (s : ℕ) → x.id < s → eqb (open_in hs x).id s ≡ false
+not_here : (hs : List HeldCursor) (x : OpenSession) (s : ℕ) → x.id < s → eqb (open_in hs x).id s ≡ false
 not_here hs x s l = step (eqb x.id s) refl
   where
     step : (v : Bool) → eqb x.id s ≡ v → v ≡ false
     step true e = let same : x.id ≡ s = eqb-true x.id s e in absurd (omega (arith, same, l))
     step false e = refl
 
-here : (hs : List Held) (s : ℕ) (d : Talk) → eqb (session_in hs s d).id s ≡ true
+here : (hs : List HeldCursor) (s : ℕ) (d : Talk) → eqb (session_in hs s d).id s ≡ true
 here hs s d = eq-eqb s s refl
 
-found_in : (hs : List Held) (front : List OpenSession) (s : ℕ) (d : Talk) (rest : List Session)
+found_in : (hs : List HeldCursor) (front : List OpenSession) (s : ℕ) (d : Talk) (rest : List Session)
     → IsAbove s (map (λ (x : OpenSession). x.id) front)
     → find (λ (x : Session). eqb x.id s) (map (open_in hs) front ++ session_in hs s d ∷ rest) ≡ Some (session_in hs s d)
 found_in hs [] s d rest a = cond-true _ _ _ (here hs s d)
 found_in hs (x ∷ front) s d rest a = cond-false _ _ _ (not_here hs x s a.0) ∙ found_in hs front s d rest a.1
 
-changed_in : (hs : List Held) (front : List OpenSession) (s : ℕ) (d : Talk) (rest : List Session)
+changed_in : (hs : List HeldCursor) (front : List OpenSession) (s : ℕ) (d : Talk) (rest : List Session)
     (f : Session → Session) → IsAbove s (map (λ (x : OpenSession). x.id) front)
     → change_first (λ (x : Session). eqb x.id s) f (map (open_in hs) front ++ session_in hs s d ∷ rest)
     ≡ map (open_in hs) front ++ f (session_in hs s d) ∷ rest

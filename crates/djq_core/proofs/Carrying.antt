@@ -6,7 +6,7 @@ use Rattle.djq_lines.specs.declared.answer.Refusal.TheVariants.{NoMemory, Mispla
 use Rattle.djq_lines.specs.declared.command.Command.{Command}
 use Rattle.djq_lines.specs.declared.command.Command.TheVariants.{Add}
 use Rattle.djq_lines.specs.declared.held.HeldRow.{HeldRow}
-use Rattle.djq_lines.specs.Grammar.{Reading, outside, past_limit, says, takes_memory_to_read}
+use Rattle.djq_lines.specs.Grammar.{Reading, outside, past_limit, says_command, takes_memory_to_read}
 use Rattle.djq_machine.specs.State.{Session, State}
 use Rattle.djq_machine.specs.Effect.{Effect, RefusedStep}
 use Rattle.djq_machine.specs.Command.{CommandStep, is_misplaced}
@@ -26,7 +26,7 @@ CarriedOut old s x l c e new false = (is_read : Bool) × ReadAs old s x l c e ne
 -- a command that is done
 pub carried_out : (old : State) (s : ℕ) (x : Session) (l : Bytes) (c : Command) (e : Effect) (new : State)
     → is_misplaced x.batch c ≡ false → CommandStep old s x l c e new
-    → ReadStep old s x l (says c) e new
+    → ReadStep old s x l (says_command c) e new
 carried_out old s x l c e new m d = subst (CarriedOut old s x l c e new) (sym m) (true, d)
 
 -- Of a command that isn't one of a row it makes no difference which line says it.
@@ -43,9 +43,9 @@ refused_line old s x b l outside why e new same is h = subst (λ (w : Refusal). 
 refused_line old s x b l (past_limit c) why e new same is h =
     subst (λ (w : Refusal). RefusedStep old s w e new)
     (is ∙ ap (λ (o : Option (List HeldRow)). past_limit_refusal (is_misplaced o c)) (sym same)) h
-refused_line old s x b l (says c) why e new same (inl (m, is)) h =
+refused_line old s x b l (says_command c) why e new same (inl (m, is)) h =
     subst (CarriedOut old s x l c e new) (sym (ap (λ (o : Option (List HeldRow)). is_misplaced o c) same ∙ m))
     (subst (λ (w : Refusal). RefusedStep old s w e new) is h)
-refused_line old s x b l (says c) why e new same (inr (m, takes, is)) h =
+refused_line old s x b l (says_command c) why e new same (inr (m, takes, is)) h =
     subst (CarriedOut old s x l c e new) (sym (ap (λ (o : Option (List HeldRow)). is_misplaced o c) same ∙ m))
     (false, (takes, subst (λ (w : Refusal). RefusedStep old s w e new) is h))

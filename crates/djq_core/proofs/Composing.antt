@@ -26,7 +26,7 @@ use Rattle.djq_machine.specs.Run.{groups_in}
 use Rattle.djq_machine.specs.State.{Store, Session, State, with_session}
 use Rattle.djq_machine.specs.Changes.{RowsChange, RowsOutcome, accepted, out_of_memory, unchanged}
 use Rattle.djq_machine.specs.Changes.{row_in, row_out, add_outcome, delete_outcome}
-use Rattle.djq_machine.specs.Changes.{is_accepted as is_made, tried, is_outdated, sessions_behind}
+use Rattle.djq_machine.specs.Changes.{is_made, tried, is_outdated, sessions_behind}
 use Rattle.djq_machine.specs.Changes.{changed}
 use Rattle.djq_machine.specs.Effect.{Effect, queue_all}
 use Rattle.djq_machine.specs.Watch.{Delta, Telling, AreDeltas, ListsDeltas, ChangeStep, affected}
@@ -36,14 +36,14 @@ use Rattle.djq_machine.specs.Call.{Counts, KeepsGroup, StepGives}
 use Rattle.djq_machine.specs.Command.{AddStep, HoldStep, DoneStep, CommandStep, is_misplaced, without_batch}
 use Rattle.djq_machine.specs.declared.machine.Stepped.TheVariants.{Ran}
 use Rattle.djq_engine.specs.declared.cursor.CursorId.{CursorId}
-use Rattle.djq_engine.specs.Kept.{Kept, Held, Registered, held_at, outdated_held, Outdates}
+use Rattle.djq_engine.specs.Kept.{Kept, HeldCursor, Registered, held_at, outdated_held, Outdates}
 use Rattle.djq_engine.specs.Kept.{registered_at, is_watched, readers_of, affected_of}
 use Rattle.djq_engine.specs.Watching.{LogsTell, queries_affected}
 use Rattle.djq_core.specs.declared.open.OpenSession.{OpenSession}
 use Rattle.djq_core.specs.declared.change.Outcome.{Outcome}
 use Rattle.djq_core.specs.declared.change.Outcome.TheVariants.{Added, Deleted, Done}
 use Rattle.djq_core.specs.Views.{Talk, session_in, open_in, state_in, lines_of}
-use Rattle.djq_core.specs.Sound.{ids_of, all_ids, AreHeld, IsSound, is_among_watches, watchers_in}
+use Rattle.djq_core.specs.Sound.{ids_of_cursors, all_ids, AreHeld, IsSound, is_among_watches, watchers_in}
 use Rattle.djq_core.specs.Performs.{among}
 use Rattle.djq_core.specs.Changing.{Changed, IsChange, LeavesChange, is_accepted, reply_of, is_kept, lines_kept}
 use Rattle.djq_core.specs.Stepping.{Copies}
@@ -70,14 +70,15 @@ moves_still : (old new : Kept) (o : Option RowsChange) (c : CursorId) → Outdat
     → IsSome (held_at new.cursors c) → IsSome (held_at old.cursors c)
 moves_still old new (Some change) c out i =
     was (held_at old.cursors c)
-    (subst (λ (o : Option Held). IsSome o)
+    (subst (λ (o : Option HeldCursor). IsSome o)
     (out c ∙ outdated_find (old.store).queries change.outdater (new.store).seq old.cursors c) i)
   where
-    was : (o : Option Held) → IsSome (option_map (outdated_held (old.store).queries change.outdater (new.store).seq) o)
+    was : (o : Option HeldCursor) → IsSome (option_map (outdated_held (old.store).queries change.outdater
+        (new.store).seq) o)
         → IsSome o
     was None h = absurd (cc)
     was (Some x) h = refl
-moves_still old new None c out i = subst (λ (o : Option Held). IsSome o) (out c) i
+moves_still old new None c out i = subst (λ (o : Option HeldCursor). IsSome o) (out c) i
 
 moves_open : (old new : Kept) (stopped : Bool) (o : Option RowsChange) (xs : List OpenSession) → Outdates old o new
     → map (open_in new.cursors) xs ≡ sessions_behind (state_in old stopped xs) o (new.store).seq
@@ -96,7 +97,7 @@ pub sound_changed : (old new : Kept) (front : List OpenSession) (s : ℕ) (befor
     → IsSound new (among front s after back)
 sound_changed old new front s before after back o rest out still e sound =
     let p = around_held old.cursors new.cursors front s before back (moves_held old new o (all_ids front) out)
-    (moves_held old new o (ids_of before.cursors) out)
+    (moves_held old new o (ids_of_cursors before.cursors) out)
     (moves_held old new o (all_ids back) out) (λ c i. moves_still old new o c out i)
     (parts old front s before back sound) in
     subst (λ (d : Talk). IsSound new (among front s d back)) (sym e)
@@ -115,7 +116,7 @@ changed_is old new stopped xs o out = ap
 
 -- ---- who watches
 
-watch_seen : (hs : List Held) (q : Bytes) (xs : List OpenSession) → list_any (is_watching q) (map (open_in hs) xs)
+watch_seen : (hs : List HeldCursor) (q : Bytes) (xs : List OpenSession) → list_any (is_watching q) (map (open_in hs) xs)
     ≡ nat_lt 0 (watchers_in xs q)
 watch_seen hs q [] = refl
 watch_seen hs q (x ∷ xs) = step (is_among_watches (x.session).watches q) (watch_seen hs q xs)

@@ -18,11 +18,11 @@ use Rattle.djq_machine.specs.Command.{CommandStep, NextStepAt, IsNextLine}
 use Rattle.djq_session.specs.declared.named.NamedCursor.{NamedCursor}
 use Rattle.djq_session.specs.Dialog.{Replies, named, EndsWith}
 use Rattle.djq_engine.specs.declared.cursor.CursorId.{CursorId}
-use Rattle.djq_engine.specs.Kept.{Kept, Held, held_at, same_id}
+use Rattle.djq_engine.specs.Kept.{Kept, HeldCursor, held_at, same_id}
 use Rattle.djq_core.specs.declared.open.OpenSession.{OpenSession}
 use Rattle.djq_core.specs.declared.listing.Listed.TheVariants.{Whole, Cut as WasCut, Stale as WasStale}
 use Rattle.djq_core.specs.Views.{Talk, query_in, position_in, cursor_in, session_in, state_in}
-use Rattle.djq_core.specs.Sound.{ids_of, all_ids, AreHeld, IsApart, AreApart, IsSound, IsOwn, IsReady, is_among}
+use Rattle.djq_core.specs.Sound.{ids_of_cursors, all_ids, AreHeld, IsApart, AreApart, IsSound, IsOwn, IsReady, is_among}
 use Rattle.djq_core.specs.Listing.{StandsAt, WholeListing, CutListing, ListsAt, Lists}
 use Rattle.djq_core.specs.Ends.{GivesUp, CutsOff}
 use Rattle.djq_core.specs.Performs.{among, to_one, behind, unqueued, Performs, Executes}
@@ -54,7 +54,7 @@ pub record NameCut (names : List (NamedCursor CursorId)) (c : Bytes) (n : NamedC
   pub front : List (NamedCursor CursorId)
   pub back : List (NamedCursor CursorId)
   pub list : names ≡ front ++ n ∷ back
-  pub changed : (hs : List Held) (g : Cursor → Cursor)
+  pub changed : (hs : List HeldCursor) (g : Cursor → Cursor)
       → change_first (λ k. bytes_eq k.name c) g (map (cursor_in hs) names)
       ≡ map (cursor_in hs) front ++ g (cursor_in hs n) ∷ map (cursor_in hs) back
 
@@ -83,29 +83,31 @@ name_cut (x ∷ names) c n h = step (bytes_eq x.name c) refl (λ rest. name_cut 
     }
 
 ids_cut : (names : List (NamedCursor CursorId)) (c : Bytes) (n : NamedCursor CursorId) (cut : NameCut names c n)
-    → ids_of names ≡ ids_of cut.front ++ n.cursor ∷ ids_of cut.back
-ids_cut names c n cut = ap ids_of cut.list ∙ ids_append cut.front (n ∷ cut.back)
+    → ids_of_cursors names ≡ ids_of_cursors cut.front ++ n.cursor ∷ ids_of_cursors cut.back
+ids_cut names c n cut = ap ids_of_cursors cut.list ∙ ids_append cut.front (n ∷ cut.back)
 
 -- the cursors of a session where one of them has moved
-own_moved : (old new : Kept) (names : List (NamedCursor CursorId)) (c : Bytes) (n : NamedCursor CursorId) (h : Held)
+own_moved : (old new : Kept) (names : List (NamedCursor CursorId)) (c : Bytes) (n : NamedCursor CursorId)
+    (h : HeldCursor)
     (p : Position) → NameCut names c n → StandsAt old n.cursor h p new
-    → AreHeld old.cursors (ids_of names) → AreApart (ids_of names) → AreHeld new.cursors (ids_of names)
+    → AreHeld old.cursors (ids_of_cursors names) → AreApart (ids_of_cursors names)
+    → AreHeld new.cursors (ids_of_cursors names)
 own_moved old new names c n h p cut s held apart =
     let ids = ids_cut names c n cut in
-    let a = taken_out (ids_of cut.front) n.cursor (ids_of cut.back) (subst AreApart ids apart) in
-    let hs = held_split old.cursors (ids_of cut.front) (n.cursor ∷ ids_of cut.back)
+    let a = taken_out (ids_of_cursors cut.front) n.cursor (ids_of_cursors cut.back) (subst AreApart ids apart) in
+    let hs = held_split old.cursors (ids_of_cursors cut.front) (n.cursor ∷ ids_of_cursors cut.back)
     (subst (λ (cs : List CursorId). AreHeld old.cursors cs) ids held) in
     subst (λ (cs : List CursorId). AreHeld new.cursors cs) (sym ids)
-    (held_join new.cursors (ids_of cut.front) (n.cursor ∷ ids_of cut.back)
-    (agree_held old.cursors new.cursors (ids_of cut.front)
-    (agree_others old.cursors new.cursors n.cursor (ids_of cut.front) s.others a.0) hs.0) (
+    (held_join new.cursors (ids_of_cursors cut.front) (n.cursor ∷ ids_of_cursors cut.back)
+    (agree_held old.cursors new.cursors (ids_of_cursors cut.front)
+    (agree_others old.cursors new.cursors n.cursor (ids_of_cursors cut.front) s.others a.0) hs.0) (
       (record h { position = p }, s.there, s.apart),
-      agree_held old.cursors new.cursors (ids_of cut.back)
-          (agree_others old.cursors new.cursors n.cursor (ids_of cut.back) s.others a.1.0) hs.1.1,
+      agree_held old.cursors new.cursors (ids_of_cursors cut.back)
+          (agree_others old.cursors new.cursors n.cursor (ids_of_cursors cut.back) s.others a.1.0) hs.1.1,
     ))
 
 -- A cursor among all has moved.
-moved_among : (old new : Kept) (before : Talk) (c : Bytes) (n : NamedCursor CursorId) (h : Held) (p : Position)
+moved_among : (old new : Kept) (before : Talk) (c : Bytes) (n : NamedCursor CursorId) (h : HeldCursor) (p : Position)
     → NameCut before.cursors c n → held_at old.cursors n.cursor ≡ Some h → StandsAt old n.cursor h p new
     → (front back : List OpenSession) (s : ℕ) (stopped : Bool) (room : ℕ) → Around old.cursors front s before back
     → (state_in new stopped (among front s (record before { room = room }) back)
@@ -115,24 +117,24 @@ moved_among : (old new : Kept) (before : Talk) (c : Bytes) (n : NamedCursor Curs
 moved_among old new before c n h p cut held s front back i stopped room a =
     let id = n.cursor in
     let ids = ids_cut before.cursors c n cut in
-    let apart = taken_out (all_ids front ++ ids_of cut.front) id (ids_of cut.back ++ all_ids back)
+    let apart = taken_out (all_ids front ++ ids_of_cursors cut.front) id (ids_of_cursors cut.back ++ all_ids back)
     (subst AreApart (ap (λ (cs : List CursorId). all_ids front ++ (cs ++ all_ids back)) ids
-    ∙ regroup (all_ids front) (ids_of cut.front) (ids_of cut.back) (all_ids back) id) a.apart) in
-    let fronts = apart_split id (all_ids front) (ids_of cut.front) apart.0 in
-    let backs = apart_split id (ids_of cut.back) (all_ids back) apart.1.0 in
+    ∙ regroup (all_ids front) (ids_of_cursors cut.front) (ids_of_cursors cut.back) (all_ids back) id) a.apart) in
+    let fronts = apart_split id (all_ids front) (ids_of_cursors cut.front) apart.0 in
+    let backs = apart_split id (ids_of_cursors cut.back) (all_ids back) apart.1.0 in
     let ga = agree_others old.cursors new.cursors id (all_ids front) s.others fronts.0 in
     let ge = agree_others old.cursors new.cursors id (all_ids back) s.others backs.1 in
-    let gf = agree_others old.cursors new.cursors id (ids_of cut.front) s.others fronts.1 in
-    let gb = agree_others old.cursors new.cursors id (ids_of cut.back) s.others backs.0 in
+    let gf = agree_others old.cursors new.cursors id (ids_of_cursors cut.front) s.others fronts.1 in
+    let gb = agree_others old.cursors new.cursors id (ids_of_cursors cut.back) s.others backs.0 in
     let here : cursor_in new.cursors n ≡ record (cursor_in old.cursors n) { position = p }
-    = ap (λ (o : Option Held). record { name = n.name; query = query_in o; position = position_in o }) s.there
-    ∙ ap (λ (o : Option Held). record { name = n.name; query = query_in o; position = p }) (sym held) in
+    = ap (λ (o : Option HeldCursor). record { name = n.name; query = query_in o; position = position_in o }) s.there
+    ∙ ap (λ (o : Option HeldCursor). record { name = n.name; query = query_in o; position = p }) (sym held) in
     let names : map (cursor_in new.cursors) before.cursors
     ≡ with_position (map (cursor_in old.cursors) before.cursors) c p
     = ap (map (cursor_in new.cursors)) cut.list ∙ map_append (cursor_in new.cursors) cut.front (n ∷ cut.back)
     ∙ joined (agree_names old.cursors new.cursors cut.front gf) here (agree_names old.cursors new.cursors cut.back gb)
     ∙ sym (cut.changed old.cursors (λ k. record k { position = p })) in
-    let hs = held_split old.cursors (ids_of cut.front) (id ∷ ids_of cut.back)
+    let hs = held_split old.cursors (ids_of_cursors cut.front) (id ∷ ids_of_cursors cut.back)
     (subst (λ (cs : List CursorId). AreHeld old.cursors cs) ids a.held_here) in (
       moved old new stopped front i before (record before { room = room }) back
           (λ x. record x { cursors = with_position x.cursors c p }) a ga ge s.store
@@ -142,15 +144,16 @@ moved_among old new before c n h p cut held s front back i stopped room a =
         few = a.few;
         held_front = agree_held old.cursors new.cursors (all_ids front) ga a.held_front;
         held_here = subst (λ (cs : List CursorId). AreHeld new.cursors cs) (sym ids)
-            (held_join new.cursors (ids_of cut.front) (id ∷ ids_of cut.back)
-            (agree_held old.cursors new.cursors (ids_of cut.front) gf hs.0) (
+            (held_join new.cursors (ids_of_cursors cut.front) (id ∷ ids_of_cursors cut.back)
+            (agree_held old.cursors new.cursors (ids_of_cursors cut.front) gf hs.0) (
               (record h { position = p }, s.there, s.apart),
-              agree_held old.cursors new.cursors (ids_of cut.back) gb
+              agree_held old.cursors new.cursors (ids_of_cursors cut.back) gb
                   hs.1.1,
             ));
         held_back = agree_held old.cursors new.cursors (all_ids back) ge a.held_back;
         apart = a.apart;
-        owned = owned_still old.cursors new.cursors (all_ids front ++ (ids_of before.cursors ++ all_ids back)) still
+        owned = owned_still old.cursors new.cursors (all_ids front ++ (ids_of_cursors before.cursors ++ all_ids back))
+            still
             a.owned;
         ended_front = a.ended_front;
         ended_here = a.ended_here;
@@ -163,15 +166,16 @@ moved_among old new before c n h p cut held s front back i stopped room a =
     still x there = step (same_id x n.cursor) refl
       where
         step : (b : Bool) → same_id x n.cursor ≡ b → IsSome (held_at old.cursors x)
-        step true e = subst (λ (o : Option Held). IsSome o)
+        step true e = subst (λ (o : Option HeldCursor). IsSome o)
             (sym (ap (held_at old.cursors) (same_id_same x n.cursor e) ∙ held)) refl
-        step false e = subst (λ (o : Option Held). IsSome o) (s.others x e) there
+        step false e = subst (λ (o : Option HeldCursor). IsSome o) (s.others x e) there
 
     joined : {xs ys zs ws : List Cursor} {x y : Cursor} → xs ≡ ys → x ≡ y → zs ≡ ws → xs ++ x ∷ zs ≡ ys ++ y ∷ ws
     joined e f g = cc
 
 -- the machine runs `next` where its cursor stands
-pub next_at : (old : Kept) (before : Talk) (c : Bytes) (n : NamedCursor CursorId) (h : Held) (q : Listed) (count : ℕ)
+pub next_at : (old : Kept) (before : Talk) (c : Bytes) (n : NamedCursor CursorId) (h : HeldCursor) (q : Listed)
+    (count : ℕ)
     (st st' : State) (s : ℕ) (x : Session) (e : Effect)
     → named before.cursors c ≡ Some n → held_at old.cursors n.cursor ≡ Some h → listed_of (old.store).queries h.query
     ≡ Some q
@@ -181,12 +185,12 @@ next_at old before c n h q count st st' s x e f held known store same step =
     subst (λ (y : Session). CommandStep st s y [] (Next c count) e st') (sym same)
     (at_found old.cursors before.cursors c n (RefusedStep st s NoCursor e st')
     (λ k. IsSomeAnd (listed_of (st.store).queries k.query) (λ p. NextStepAt st s c p count k.position e st')) f
-    (subst (λ (o : Option Held). IsSomeAnd (listed_of (st.store).queries (query_in o))
+    (subst (λ (o : Option HeldCursor). IsSomeAnd (listed_of (st.store).queries (query_in o))
     (λ p. NextStepAt st s c p count (position_in o) e st')) (sym held)
     (subst (λ w. IsSomeAnd (listed_of w.queries h.query) (λ p. NextStepAt st s c p count h.position e st')) (sym store)
     (subst (λ (o : Option Listed). IsSomeAnd o (λ p. NextStepAt st s c p count h.position e st')) (sym known) step))))
 
-does_whole : (old new : Kept) (before after : Talk) (c : Bytes) (n : NamedCursor CursorId) (h : Held) (q : Listed)
+does_whole : (old new : Kept) (before after : Talk) (c : Bytes) (n : NamedCursor CursorId) (h : HeldCursor) (q : Listed)
     (given : List Tuple) (ended : Bool) (count was now : ℕ)
     → named before.cursors c ≡ Some n → held_at old.cursors n.cursor ≡ Some h → listed_of (old.store).queries h.query
     ≡ Some q → h.position ≡ open_at given ended
@@ -228,7 +232,8 @@ does_whole old new before after c n h q given ended count was now f held known a
       counted = w.counted;
     }
 
-does_cut : (old mid new : Kept) (before between last after : Talk) (c : Bytes) (n : NamedCursor CursorId) (h : Held)
+does_cut : (old mid new : Kept) (before between last after : Talk) (c : Bytes) (n : NamedCursor CursorId)
+    (h : HeldCursor)
     (q : Listed) (given : List Tuple) (ended : Bool) (count was now : ℕ)
     → IsReady old before → named before.cursors c ≡ Some n → held_at old.cursors n.cursor ≡ Some h
     → listed_of (old.store).queries h.query ≡ Some q → h.position ≡ open_at given ended
@@ -242,10 +247,11 @@ does_cut old mid new before between last after c n h q given ended count was now
     let up : GivesUp old before new (record before { cursors = []; watches = [] }) = record {
       store = g.store ∙ w.stands.store;
       gone = λ x a. g.gone x
-          (subst (λ (cs : List CursorId). is_among x cs ≡ true) (sym (ap (λ (d : Talk). ids_of d.cursors) w.queued)) a);
+          (subst (λ (cs : List CursorId). is_among x cs ≡ true)
+          (sym (ap (λ (d : Talk). ids_of_cursors d.cursors) w.queued)) a);
       others = λ x a.
-          let same = ap (λ (d : Talk). ids_of d.cursors) w.queued in
-          let here = (apart_split x (ids_of cut.front) (n.cursor ∷ ids_of cut.back)
+          let same = ap (λ (d : Talk). ids_of_cursors d.cursors) w.queued in
+          let here = (apart_split x (ids_of_cursors cut.front) (n.cursor ∷ ids_of_cursors cut.back)
           (subst (IsApart x) (ids_cut before.cursors c n cut) a)).1.0 in
           g.others x (subst (IsApart x) (sym same) a) ∙ w.stands.others x (same_id_flip n.cursor x here);
       session = refl;
@@ -285,7 +291,8 @@ does_cut old mid new before between last after c n h q given ended count was now
       state = refl;
     }))))
 
-does_stale : (old new : Kept) (before mid after : Talk) (c : Bytes) (n : NamedCursor CursorId) (h : Held) (q : Listed)
+does_stale : (old new : Kept) (before mid after : Talk) (c : Bytes) (n : NamedCursor CursorId) (h : HeldCursor)
+    (q : Listed)
     (relation : Bytes) (seq count was now : ℕ) (r : Bytes) (m : ℕ)
     → named before.cursors c ≡ Some n → held_at old.cursors n.cursor ≡ Some h → listed_of (old.store).queries h.query
     ≡ Some q → h.position ≡ stale relation seq
@@ -302,7 +309,7 @@ does_stale old new before mid after c n h q relation seq count was now r m f hel
 
 -- What a listing came to, by where its cursor stood.
 
-whole_at : (old new : Kept) (before after : Talk) (c : Bytes) (n : NamedCursor CursorId) (h : Held) (q : Listed)
+whole_at : (old new : Kept) (before after : Talk) (c : Bytes) (n : NamedCursor CursorId) (h : HeldCursor) (q : Listed)
     (p : Position) (count was now : ℕ)
     → named before.cursors c ≡ Some n → held_at old.cursors n.cursor ≡ Some h → listed_of (old.store).queries h.query
     ≡ Some q → h.position ≡ p
@@ -318,7 +325,7 @@ pub does_next_whole : (old new : Kept) (before after : Talk) (c : Bytes) (n : Na
 does_next_whole old new before after c n count was now f l = whole_at old new before after c n l.cursor l.query
     (l.cursor).position count was now f l.held l.registered refl l.lists
 
-cut_at : (old mid new : Kept) (before between last after : Talk) (c : Bytes) (n : NamedCursor CursorId) (h : Held)
+cut_at : (old mid new : Kept) (before between last after : Talk) (c : Bytes) (n : NamedCursor CursorId) (h : HeldCursor)
     (q : Listed) (p : Position) (count was now : ℕ)
     → IsReady old before → named before.cursors c ≡ Some n → held_at old.cursors n.cursor ≡ Some h
     → listed_of (old.store).queries h.query ≡ Some q → h.position ≡ p
@@ -338,7 +345,7 @@ does_next_cut old mid new before between after c n count was now ready f l cut =
     cut_at old mid new before between (record between { cursors = []; watches = [] }) after c n l.cursor l.query
     (l.cursor).position count was now ready f l.held l.registered refl l.lists cut.gives_up cut.ends
 
-cut_owns : (old mid : Kept) (before between : Talk) (c : Bytes) (n : NamedCursor CursorId) (h : Held) (q : Listed)
+cut_owns : (old mid : Kept) (before between : Talk) (c : Bytes) (n : NamedCursor CursorId) (h : HeldCursor) (q : Listed)
     (p : Position) (count was now : ℕ)
     → IsOwn old before → named before.cursors c ≡ Some n
     → ListsAt old n.cursor before count h q p WasCut mid between was now → IsOwn mid between
@@ -346,9 +353,9 @@ cut_owns old mid before between c n h q (open_at given ended) count was now own 
     let same = ap (λ (d : Talk). d.cursors) w.queued in
     let cut = name_cut before.cursors c n f in
     record {
-      cursors_held = subst (λ (ns : List (NamedCursor CursorId)). AreHeld mid.cursors (ids_of ns)) (sym same)
+      cursors_held = subst (λ (ns : List (NamedCursor CursorId)). AreHeld mid.cursors (ids_of_cursors ns)) (sym same)
           (own_moved old mid before.cursors c n h w.position cut w.stands own.cursors_held own.apart);
-      apart = subst (λ (ns : List (NamedCursor CursorId)). AreApart (ids_of ns)) (sym same) own.apart;
+      apart = subst (λ (ns : List (NamedCursor CursorId)). AreApart (ids_of_cursors ns)) (sym same) own.apart;
       counted = count_moved old.registered mid.registered before.watches between.watches w.stands.registered
           (ap (λ (d : Talk). d.watches) w.queued) own.counted;
     }
@@ -360,7 +367,8 @@ pub owns_still : (old mid : Kept) (before between : Talk) (c : Bytes) (n : Named
 owns_still old mid before between c n count was now own f l = cut_owns old mid before between c n l.cursor l.query
     (l.cursor).position count was now own f l.lists
 
-stale_at : (old new : Kept) (before mid after : Talk) (c : Bytes) (n : NamedCursor CursorId) (h : Held) (q : Listed)
+stale_at : (old new : Kept) (before mid after : Talk) (c : Bytes) (n : NamedCursor CursorId) (h : HeldCursor)
+    (q : Listed)
     (p : Position) (r : Bytes) (m count was now : ℕ)
     → named before.cursors c ≡ Some n → held_at old.cursors n.cursor ≡ Some h → listed_of (old.store).queries h.query
     ≡ Some q → h.position ≡ p
@@ -390,10 +398,10 @@ does_next_none k before after c count was f r =
     (λ p. NextStepAt st s c p count k'.position (to_one s (Some (refusal_line NoCursor)) 0) st)) f (refl, refl))))
 
 -- the cursor of a name is held
-pub named_held : (hs : List Held) (names : List (NamedCursor CursorId)) (c : Bytes) (n : NamedCursor CursorId)
-    → named names c ≡ Some n → AreHeld hs (ids_of names) → AreHeld hs (n.cursor ∷ [])
+pub named_held : (hs : List HeldCursor) (names : List (NamedCursor CursorId)) (c : Bytes) (n : NamedCursor CursorId)
+    → named names c ≡ Some n → AreHeld hs (ids_of_cursors names) → AreHeld hs (n.cursor ∷ [])
 named_held hs names c n f held =
     let cut = name_cut names c n f in
-    let r = held_split hs (ids_of cut.front) (n.cursor ∷ ids_of cut.back)
+    let r = held_split hs (ids_of_cursors cut.front) (n.cursor ∷ ids_of_cursors cut.back)
     (subst (λ (cs : List CursorId). AreHeld hs cs) (ids_cut names c n cut) held) in
     (r.1.0, tt)

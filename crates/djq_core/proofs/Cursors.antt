@@ -8,15 +8,15 @@ use Rattle.djq_model.specs.Listed.{listed_of}
 use Rattle.djq_lines.specs.declared.limits.TheConstants.{CURSORS}
 use Rattle.djq_lines.specs.declared.answer.Refusal.TheVariants.{Taken, NoQuery, Limit}
 use Rattle.djq_machine.specs.State.{Store, Session, Cursor, cursor_of, with_session}
-use Rattle.djq_machine.specs.Conditions.{first_of}
+use Rattle.djq_machine.specs.Conditions.{first_refusal}
 use Rattle.djq_machine.specs.Command.{open_refusal}
 use Rattle.djq_session.specs.declared.named.NamedCursor.{NamedCursor}
 use Rattle.djq_session.specs.Dialog.{named}
 use Rattle.djq_engine.specs.declared.cursor.CursorId.{CursorId}
-use Rattle.djq_engine.specs.Kept.{Kept, Held}
+use Rattle.djq_engine.specs.Kept.{Kept, HeldCursor}
 use Rattle.djq_core.specs.declared.open.OpenSession.{OpenSession}
 use Rattle.djq_core.specs.Views.{Talk, cursor_in, session_in, open_in, state_in}
-use Rattle.djq_core.specs.Sound.{ids_of, all_ids}
+use Rattle.djq_core.specs.Sound.{ids_of_cursors, all_ids}
 use Rattle.djq_core.specs.Opens.{refusal_of}
 use Rattle.djq_core.specs.Performs.{among}
 use Rattle.djq_core.proofs.Ids.{Agree, agree_open}
@@ -72,7 +72,7 @@ cut_found p (y ∷ xs) x h = step (p y) refl (λ rest. cut_found p xs x rest) h
     }
 
 -- the cursor of a name, as it is kept and as the machine sees it
-pub cursor_seen : (hs : List Held) (names : List (NamedCursor CursorId)) (c : Bytes)
+pub cursor_seen : (hs : List HeldCursor) (names : List (NamedCursor CursorId)) (c : Bytes)
     → cursor_of (map (cursor_in hs) names) c ≡ option_map (cursor_in hs) (named names c)
 cursor_seen hs names c = find-map (cursor_in hs) (λ (k : Cursor). bytes_eq k.name c) names
 
@@ -84,13 +84,14 @@ some_map f (Some x) = refl
 pub refusal_same : (k : Kept) (d : Talk) (c q : Bytes) → refusal_of k d c q
     ≡ open_refusal k.store (map (cursor_in k.cursors) d.cursors) c q
 refusal_same k d c q =
-    ap₂ (λ (b : Bool) (n : ℕ). first_of
+    ap₂ (λ (b : Bool) (n : ℕ). first_refusal
     ((b, Taken) ∷ (is_none (listed_of (k.store).queries q), NoQuery) ∷ (nat_le CURSORS n, Limit) ∷ []))
     (sym (some_map (cursor_in k.cursors) (named d.cursors c))
     ∙ ap (λ (o : Option Cursor). is_some o) (sym (cursor_seen k.cursors d.cursors c)))
     (sym (length-map d.cursors (cursor_in k.cursors)))
 
-pub ids_append : (xs ys : List (NamedCursor CursorId)) → ids_of (xs ++ ys) ≡ ids_of xs ++ ids_of ys
+pub ids_append : (xs ys : List (NamedCursor CursorId)) → ids_of_cursors (xs ++ ys) ≡ ids_of_cursors xs
+    ++ ids_of_cursors ys
 ids_append [] ys = refl
 ids_append (x ∷ xs) ys = ap (λ (r : List CursorId). x.cursor ∷ r) (ids_append xs ys)
 

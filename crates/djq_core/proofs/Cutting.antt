@@ -17,7 +17,8 @@ use Rattle.djq_engine.specs.declared.cursor.CursorId.{CursorId}
 use Rattle.djq_engine.specs.Kept.{Kept, SameCursors}
 use Rattle.djq_core.specs.declared.open.OpenSession.{OpenSession}
 use Rattle.djq_core.specs.Views.{Talk, session_in, state_in}
-use Rattle.djq_core.specs.Sound.{ids_of, all_ids, AreHeld, AreApart, HasCount, StaysCounted, IsOwn, IsSound, IsReady}
+use Rattle.djq_core.specs.Sound.{ids_of_cursors, all_ids, AreHeld, AreApart, HasCount, StaysCounted, IsOwn, IsSound}
+use Rattle.djq_core.specs.Sound.{IsReady}
 use Rattle.djq_core.specs.Ends.{GivesUp, CutsOff}
 use Rattle.djq_core.specs.Performs.{among, to_keep, behind, unqueued, Performs, ExecutesKeeping}
 use Rattle.djq_core.proofs.Ids.{agree_same, agree_held, agree_open}
@@ -105,10 +106,10 @@ pub own_still : (old mid : Kept) (before between : Talk) → SameCursors old.cur
 own_still old mid before between same stays roomy own =
     let names = ap (λ (d : Talk). d.cursors) roomy in
     record {
-      cursors_held = subst (λ (ns : List (NamedCursor CursorId)). AreHeld mid.cursors (ids_of ns)) (sym names)
-          (agree_held old.cursors mid.cursors (ids_of before.cursors)
-          (agree_same old.cursors mid.cursors (ids_of before.cursors) same) own.cursors_held);
-      apart = subst (λ (ns : List (NamedCursor CursorId)). AreApart (ids_of ns)) (sym names) own.apart;
+      cursors_held = subst (λ (ns : List (NamedCursor CursorId)). AreHeld mid.cursors (ids_of_cursors ns)) (sym names)
+          (agree_held old.cursors mid.cursors (ids_of_cursors before.cursors)
+          (agree_same old.cursors mid.cursors (ids_of_cursors before.cursors) same) own.cursors_held);
+      apart = subst (λ (ns : List (NamedCursor CursorId)). AreApart (ids_of_cursors ns)) (sym names) own.apart;
       counted = subst (λ (ws : List Bytes). HasCount mid.registered ws) (sym (ap (λ (d : Talk). d.watches) roomy))
           ((own.counted).0, stays (own.counted).0 (own.counted).1);
     }

@@ -15,7 +15,7 @@ use Rattle.djq_lines.specs.declared.answer.Refusal.TheVariants.{Taken, NoQuery, 
 use Rattle.djq_lines.specs.declared.rest.QueryOutcome.{QueryOutcome}
 use Rattle.djq_lines.specs.declared.rest.QueryOutcome.TheVariants.{Registered as HasRegistered, Cyclic, NotConnex}
 use Rattle.djq_machine.specs.State.{Store}
-use Rattle.djq_machine.specs.Conditions.{first_of, Answers, OutOfMemoryWhere}
+use Rattle.djq_machine.specs.Conditions.{first_refusal, Answers, OutOfMemoryWhere}
 use Rattle.djq_session.specs.declared.named.NamedCursor.{NamedCursor}
 use Rattle.djq_session.specs.Dialog.{named}
 use Rattle.djq_engine.specs.declared.cursor.CursorId.{CursorId}
@@ -126,14 +126,15 @@ cursor_named None = refl
 cursor_named (Some n) = refl
 
 limit_answer : (a b e : Bool) → a ≡ false → b ≡ false → e ≡ true
-    → Answers {A = ⊤} (first_of ((a, Taken) ∷ (b, NoQuery) ∷ (e, Limit) ∷ [])) (Err Limit) (λ _. ⊤) (OutOfMemoryWhere ⊤)
+    → Answers {A = ⊤} (first_refusal ((a, Taken) ∷ (b, NoQuery) ∷ (e, Limit) ∷ [])) (Err Limit) (λ _. ⊤)
+    (OutOfMemoryWhere ⊤)
 limit_answer true b e x y z = absurd (cc)
 limit_answer false true e x y z = absurd (cc)
 limit_answer false false true x y z = refl
 limit_answer false false false x y z = absurd (cc)
 
 none_answer : (a b e : Bool) → a ≡ false → b ≡ true
-    → Answers {A = ⊤} (first_of ((a, Taken) ∷ (b, NoQuery) ∷ (e, Limit) ∷ [])) (Err NoQuery) (λ _. ⊤)
+    → Answers {A = ⊤} (first_refusal ((a, Taken) ∷ (b, NoQuery) ∷ (e, Limit) ∷ [])) (Err NoQuery) (λ _. ⊤)
     (OutOfMemoryWhere ⊤)
 none_answer true b e x y = absurd (cc)
 none_answer false true e x y = refl

@@ -20,7 +20,7 @@ use Rattle.djq_lines.specs.declared.command.Command.TheVariants.{Explain}
 use Rattle.djq_lines.specs.Reply.{line, member_line, refusal_line, text_of, end_memory}
 use Rattle.djq_machine.specs.Keeping.{no_line}
 use Rattle.djq_machine.specs.State.{Store, State, with_session, ended_by}
-use Rattle.djq_machine.specs.Conditions.{first_of, Answers, OutOfMemoryWhere}
+use Rattle.djq_machine.specs.Conditions.{first_refusal, Answers, OutOfMemoryWhere}
 use Rattle.djq_machine.specs.Effect.{Effect, RefusedStep}
 use Rattle.djq_machine.specs.Command.{explain_lines, union_lines, ExplainStepOf}
 use Rattle.djq_machine.proofs.Explaining.{explained}
@@ -165,7 +165,7 @@ cut_explained k new before between after name roomy cut tree =
 -- what `explain` answered of what is there, or isn't
 
 abbrev explain_answers : Option Listed → Result Explained Refusal → Type 0
-explain_answers o r = Answers (first_of ((is_none o, NoQuery) ∷ [])) r
+explain_answers o r = Answers (first_refusal ((is_none o, NoQuery) ∷ [])) r
     (λ explained. IsSomeAnd o (λ q. Explains q explained)) (OutOfMemoryWhere (IsSomeAnd o TakesMemory))
 
 told_of : (o : Option Listed) (x : Explained) → explain_answers o (Ok x) → IsSomeAnd o (λ q. Explains q x)

@@ -13,10 +13,10 @@ use Rattle.djq_machine.specs.Effect.{Effect}
 use Rattle.djq_session.specs.declared.named.NamedCursor.{NamedCursor}
 use Rattle.djq_session.specs.Dialog.{PopsCursor}
 use Rattle.djq_engine.specs.declared.cursor.CursorId.{CursorId}
-use Rattle.djq_engine.specs.Kept.{Kept, Held, held_at, same_id, IsHeld, ClosesCursor}
+use Rattle.djq_engine.specs.Kept.{Kept, HeldCursor, held_at, same_id, IsHeld, ClosesCursor}
 use Rattle.djq_core.specs.declared.open.OpenSession.{OpenSession}
 use Rattle.djq_core.specs.Views.{Talk, session_in, state_in}
-use Rattle.djq_core.specs.Sound.{ids_of, all_ids, AreHeld, IsApart, AreApart, IsOwn, IsSound, is_among, listed}
+use Rattle.djq_core.specs.Sound.{ids_of_cursors, all_ids, AreHeld, IsApart, AreApart, IsOwn, IsSound, is_among, listed}
 use Rattle.djq_core.specs.Ends.{GivesUp, GivesUpCursors, GivesUpWatches, cut_text}
 use Rattle.djq_core.specs.Telling.{KeepsTold}
 use Rattle.djq_core.specs.Performs.{among, to_one, behind, unqueued, Performs}
@@ -31,10 +31,10 @@ use Rattle.djq_core.proofs.Watching.{recount, stays_same, stays_on, count_moved}
 pub record Giving (old : Kept) (before : Talk) (k : Kept) (d : Talk) : Type 0 where
   pub own : IsOwn k d
   pub store : k.store ≡ old.store
-  pub others : (c : CursorId) → IsApart c (ids_of before.cursors) → held_at k.cursors c ≡ held_at old.cursors c
+  pub others : (c : CursorId) → IsApart c (ids_of_cursors before.cursors) → held_at k.cursors c ≡ held_at old.cursors c
   pub session : d ≡ record before { cursors = d.cursors }
   pub gone : (gone : List (NamedCursor CursorId)) × (before.cursors ≡ d.cursors ++ gone)
-  pub lost : (c : CursorId) → is_among c (ids_of gone.0) ≡ true → held_at k.cursors c ≡ None
+  pub lost : (c : CursorId) → is_among c (ids_of_cursors gone.0) ≡ true → held_at k.cursors c ≡ None
   pub registered : k.registered ≡ old.registered
   pub affected : k.affected ≡ old.affected
   pub told : k.told ≡ old.told
@@ -56,35 +56,37 @@ giving_starts k d own = record {
 -- the cursor that is popped is held
 pub popped_held : (k : Kept) (d e : Talk) (id : CursorId) → IsOwn k d → PopsCursor d e (Some id) → IsHeld k id
 popped_held k d e id own p =
-    let cs = subst (λ (ns : List (NamedCursor CursorId)). AreHeld k.cursors (ids_of ns)) p.1 own.cursors_held in
-    let r = held_split k.cursors (ids_of e.cursors) (id ∷ [])
+    let cs = subst (λ (ns : List (NamedCursor CursorId)). AreHeld k.cursors (ids_of_cursors ns)) p.1 own.cursors_held in
+    let r = held_split k.cursors (ids_of_cursors e.cursors) (id ∷ [])
     (subst (λ (xs : List CursorId). AreHeld k.cursors xs)
     (ids_append e.cursors (record { name = p.0; cursor = id } ∷ [])) cs) in
-    ap (λ (o : Option Held). is_some o) r.1.0.1
+    ap (λ (o : Option HeldCursor). is_some o) r.1.0.1
 
 pub giving_goes_on : (old : Kept) (before : Talk) (k : Kept) (d e : Talk) (k' : Kept) (id : CursorId)
     → Giving old before k d → PopsCursor d e (Some id) → ClosesCursor k id k'
     → Giving old before k' e
 giving_goes_on old before k d e k' id g p o =
-    let ids : ids_of d.cursors ≡ ids_of e.cursors ++ id ∷ [] = ap ids_of p.1
+    let ids : ids_of_cursors d.cursors ≡ ids_of_cursors e.cursors ++ id ∷ [] = ap ids_of_cursors p.1
     ∙ ids_append e.cursors (record { name = p.0; cursor = id } ∷ []) in
-    let apart = taken_out (ids_of e.cursors) id [] (subst AreApart ids g.own.apart) in
-    let held = held_split k.cursors (ids_of e.cursors) (id ∷ [])
+    let apart = taken_out (ids_of_cursors e.cursors) id [] (subst AreApart ids g.own.apart) in
+    let held = held_split k.cursors (ids_of_cursors e.cursors) (id ∷ [])
     (subst (λ (cs : List CursorId). AreHeld k.cursors cs) ids g.own.cursors_held) in
-    let all : ids_of before.cursors ≡ (ids_of e.cursors ++ id ∷ []) ++ ids_of g.gone.0 = ap ids_of g.gone.1
-    ∙ ids_append d.cursors g.gone.0 ∙ ap (λ (cs : List CursorId). cs ++ ids_of g.gone.0) ids in
+    let all : ids_of_cursors before.cursors ≡ (ids_of_cursors e.cursors ++ id ∷ []) ++ ids_of_cursors g.gone.0 = ap
+    ids_of_cursors g.gone.1
+    ∙ ids_append d.cursors g.gone.0 ∙ ap (λ (cs : List CursorId). cs ++ ids_of_cursors g.gone.0) ids in
     record {
       own = record {
-        cursors_held = agree_held k.cursors k'.cursors (ids_of e.cursors)
-            (agree_others k.cursors k'.cursors id (ids_of e.cursors) o.others apart.0) held.0;
-        apart = subst AreApart (append-nil (ids_of e.cursors)) apart.1.1;
+        cursors_held = agree_held k.cursors k'.cursors (ids_of_cursors e.cursors)
+            (agree_others k.cursors k'.cursors id (ids_of_cursors e.cursors) o.others apart.0) held.0;
+        apart = subst AreApart (append-nil (ids_of_cursors e.cursors)) apart.1.1;
         counted = count_moved k.registered k'.registered d.watches e.watches o.registered
             (ap (λ (x : Talk). x.watches) p.2) g.own.counted;
       };
       store = o.store ∙ g.store;
       others = λ c a.
-          let front = (apart_split c (ids_of e.cursors ++ id ∷ []) (ids_of g.gone.0) (subst (IsApart c) all a)).0 in
-          let one = (apart_split c (ids_of e.cursors) (id ∷ []) front).1 in
+          let front = (apart_split c (ids_of_cursors e.cursors ++ id ∷ []) (ids_of_cursors g.gone.0)
+          (subst (IsApart c) all a)).0 in
+          let one = (apart_split c (ids_of_cursors e.cursors) (id ∷ []) front).1 in
           o.others c (same_id_flip id c one.0) ∙ g.others c a;
       session = p.2 ∙ ap (λ (x : Talk). record x { cursors = e.cursors }) g.session;
       gone = (
@@ -100,7 +102,7 @@ giving_goes_on old before k d e k' id g p o =
     }
   where
     -- the one that is popped is gone, and so are those before it
-    step : (c : CursorId) (b : Bool) → same_id id c ≡ b → (b || is_among c (ids_of g.gone.0)) ≡ true
+    step : (c : CursorId) (b : Bool) → same_id id c ≡ b → (b || is_among c (ids_of_cursors g.gone.0)) ≡ true
         → held_at k'.cursors c ≡ None
     step c true e a = ap (held_at k'.cursors) (sym (same_id_same id c e)) ∙ o.gone
     step c false e a = o.others c (same_id_flip id c e) ∙ g.lost c a
@@ -110,7 +112,7 @@ pub given_up : (old : Kept) (before : Talk) (k : Kept) (d e : Talk) → Giving o
 given_up old before k d e g p = record {
   store = g.store;
   gone = λ c a. g.lost c
-      (subst (λ (ns : List (NamedCursor CursorId)). is_among c (ids_of ns) ≡ true)
+      (subst (λ (ns : List (NamedCursor CursorId)). is_among c (ids_of_cursors ns) ≡ true)
       (g.gone.1 ∙ ap (λ (ns : List (NamedCursor CursorId)). ns ++ g.gone.0) p.0) a);
   others = g.others;
   session = p.1 ∙ g.session ∙ ap (λ (ns : List (NamedCursor CursorId)). record before { cursors = ns }) p.0;
@@ -174,7 +176,7 @@ without (a ∷ xs) bs cs h =
     let s = apart_split a xs (bs ++ cs) h.0 in
     (apart_join a xs cs s.0 (apart_split a bs cs s.1).1, without xs bs cs h.1)
 
-pub agree_apart : (old new : List Held) (bs cs : List CursorId)
+pub agree_apart : (old new : List HeldCursor) (bs cs : List CursorId)
     → ((c : CursorId) → IsApart c bs → held_at new c ≡ held_at old c) → all_apart cs bs → Agree old new cs
 agree_apart old new bs [] h a = tt
 agree_apart old new bs (c ∷ cs) h a = (h c a.0, agree_apart old new bs cs h a.1)
@@ -190,7 +192,7 @@ pub ends_among : (old new : Kept) (before : Talk) (cause : EndCause) (stopped : 
     (record before { cursors = []; watches = []; room = room; cause = Some cause; batch = None; pending = pending })
     back
 ends_among old new before cause stopped room pending g front back s p =
-    let ids = ids_of before.cursors in
+    let ids = ids_of_cursors before.cursors in
     let ga = agree_apart old.cursors new.cursors ids (all_ids front) g.others
     (apart_fronts (all_ids front) ids (all_ids back) p.apart) in
     let ge = agree_apart old.cursors new.cursors ids (all_ids back) g.others

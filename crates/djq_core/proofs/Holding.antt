@@ -9,7 +9,7 @@ use Rattle.djq_lines.specs.declared.command.Command.{Command}
 use Rattle.djq_lines.specs.declared.command.Command.TheVariants.{Add, Done}
 use Rattle.djq_lines.specs.declared.held.HeldRow.{HeldRow}
 use Rattle.djq_lines.specs.Line.{a_line, front_of, is_blank}
-use Rattle.djq_lines.specs.Grammar.{says, reading_of}
+use Rattle.djq_lines.specs.Grammar.{says_command, reading_of}
 use Rattle.djq_lines.specs.Reply.{refusal_line}
 use Rattle.djq_machine.specs.Command.{is_misplaced}
 use Rattle.djq_session.specs.Dialog.{Replies, rows_held}
@@ -40,7 +40,7 @@ module _ (before mid : Talk) (l rest : Bytes) (f : front_of before.held ≡ a_li
   -- a row is held
   pub hold_leaves : (k : Kept) (name : Bytes) (row : Tuple) (made : Result HeldRow Refusal) (count : ℕ) (after : Talk)
       (was : ℕ)
-      → reading_of l ≡ says (Add name row) → count ≡ length (rows_held before.batch)
+      → reading_of l ≡ says_command (Add name row) → count ≡ length (rows_held before.batch)
       → MakesRow k.store count l name row made → Holds mid made after
       → LineLeaves l (Nothing false) k before k after was was
   unfolding open_still
@@ -55,7 +55,7 @@ module _ (before mid : Talk) (l rest : Bytes) (f : front_of before.held ≡ a_li
   -- the batch is done
   pub done_leaves : (old : Kept) (change : Outcome) (new : Kept) (after : Talk) (was now : ℕ) → before.cause ≡ None
       → REPLY_BYTES + LAST_LINE_BYTES ≤ before.room
-      → reading_of l ≡ says Done → AddsAll old (rows_held mid.batch) change new was now → after
+      → reading_of l ≡ says_command Done → AddsAll old (rows_held mid.batch) change new was now → after
       ≡ record mid { batch = None } → LineLeaves l (Telling change) old before new after was now
   done_leaves old change new after was now running room reads adds closed =
       line_leaves (Telling change) old before mid l rest Done new after was now f e said few running room reads
@@ -65,7 +65,8 @@ module _ (before mid : Talk) (l rest : Bytes) (f : front_of before.held ≡ a_li
   -- a command that has its place in a batch
   pub placed_leaves : (old : Kept) (command : Command) (new : Kept) (after : Talk) (was now : ℕ) → before.cause ≡ None
       → REPLY_BYTES + LAST_LINE_BYTES ≤ before.room
-      → reading_of l ≡ says command → is_on_row command ≡ false → is_misplaced {A = List HeldRow} (Some []) command
+      → reading_of l ≡ says_command command → is_on_row command ≡ false → is_misplaced {A = List HeldRow} (Some [])
+      command
       ≡ false → ExecutesKeeping command false false old mid new after was now
       → LineLeaves l (Nothing false) old before new after was now
   placed_leaves old command new after was now running room reads other placed does =
@@ -74,7 +75,8 @@ module _ (before mid : Talk) (l rest : Bytes) (f : front_of before.held ≡ a_li
 
   pub stop_leaves : (old : Kept) (command : Command) (new : Kept) (after : Talk) (was now : ℕ) → before.cause ≡ None
       → REPLY_BYTES + LAST_LINE_BYTES ≤ before.room
-      → reading_of l ≡ says command → is_on_row command ≡ false → is_misplaced {A = List HeldRow} (Some []) command
+      → reading_of l ≡ says_command command → is_on_row command ≡ false → is_misplaced {A = List HeldRow} (Some [])
+      command
       ≡ false → ExecutesKeeping command false true old mid new after was now
       → LineLeaves l Stopping old before new after was now
   stop_leaves old command new after was now running room reads other placed does =

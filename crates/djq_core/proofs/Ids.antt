@@ -7,12 +7,12 @@ use Rattle.djq_model.specs.Data.{Bytes}
 use Rattle.djq_model.specs.Listed.{Listed}
 use Rattle.djq_session.specs.declared.named.NamedCursor.{NamedCursor}
 use Rattle.djq_engine.specs.declared.cursor.CursorId.{CursorId}
-use Rattle.djq_engine.specs.Kept.{Held, held_at, same_id, SameCursors, OthersStay, outdated_held}
+use Rattle.djq_engine.specs.Kept.{HeldCursor, held_at, same_id, SameCursors, OthersStay, outdated_held}
 use Rattle.djq_machine.specs.State.{Cursor, Position, open_at, stale}
 use Rattle.djq_machine.specs.Stale.{outdated, outdater_of, outdated_cursor, outdated_sessions}
 use Rattle.djq_core.specs.declared.open.OpenSession.{OpenSession}
 use Rattle.djq_core.specs.Views.{query_in, position_in, cursor_in, open_in}
-use Rattle.djq_core.specs.Sound.{ids_of, all_ids, GivesApart, AreHeld, IsApart, AreApart, is_among, AreOwned}
+use Rattle.djq_core.specs.Sound.{ids_of_cursors, all_ids, GivesApart, AreHeld, IsApart, AreApart, is_among, AreOwned}
 use Rattle.djq_deltas.proofs.Cases.{first_holds}
 
 second_true : (a b : Bool) → (a && b) ≡ true → b ≡ true
@@ -73,16 +73,16 @@ put_in (x ∷ xs) c ys h a b =
 
 -- Cursors held.
 
-pub held_split : (hs : List Held) (xs ys : List CursorId) → AreHeld hs (xs ++ ys) → AreHeld hs xs × AreHeld hs ys
+pub held_split : (hs : List HeldCursor) (xs ys : List CursorId) → AreHeld hs (xs ++ ys) → AreHeld hs xs × AreHeld hs ys
 held_split hs [] ys h = (tt, h)
 held_split hs (x ∷ xs) ys h = let r = held_split hs xs ys h.1 in ((h.0, r.0), r.1)
 
-pub held_join : (hs : List Held) (xs ys : List CursorId) → AreHeld hs xs → AreHeld hs ys → AreHeld hs (xs ++ ys)
+pub held_join : (hs : List HeldCursor) (xs ys : List CursorId) → AreHeld hs xs → AreHeld hs ys → AreHeld hs (xs ++ ys)
 held_join hs [] ys h g = g
 held_join hs (x ∷ xs) ys h g = (h.0, held_join hs xs ys h.1 g)
 
 -- A cursor that isn't held is none of those that are.
-pub fresh_apart : (hs : List Held) (c : CursorId) (cs : List CursorId) → held_at hs c ≡ None → AreHeld hs cs
+pub fresh_apart : (hs : List HeldCursor) (c : CursorId) (cs : List CursorId) → held_at hs c ≡ None → AreHeld hs cs
     → IsApart c cs
 fresh_apart hs c [] n h = tt
 fresh_apart hs c (d ∷ ds) n h = (step (same_id d c) refl, fresh_apart hs c ds n h.1)
@@ -93,42 +93,44 @@ fresh_apart hs c (d ∷ ds) n h = (step (same_id d c) refl, fresh_apart hs c ds 
     step false e = refl
 
 -- The engine holds these cursors as it did.
-abbrev pub Agree : List Held → List Held → List CursorId → Type 0
+abbrev pub Agree : List HeldCursor → List HeldCursor → List CursorId → Type 0
 Agree old new [] = ⊤
 Agree old new (c ∷ cs) = (held_at new c ≡ held_at old c) × Agree old new cs
 
-pub agree_same : (old new : List Held) (cs : List CursorId) → SameCursors old new → Agree old new cs
+pub agree_same : (old new : List HeldCursor) (cs : List CursorId) → SameCursors old new → Agree old new cs
 agree_same old new [] h = tt
 agree_same old new (c ∷ cs) h = (h c, agree_same old new cs h)
 
-pub agree_others : (old new : List Held) (id : CursorId) (cs : List CursorId) → OthersStay old id new → IsApart id cs
+pub agree_others : (old new : List HeldCursor) (id : CursorId) (cs : List CursorId) → OthersStay old id new
+    → IsApart id cs
     → Agree old new cs
 agree_others old new id [] h a = tt
 agree_others old new id (c ∷ cs) h a = (h c a.0, agree_others old new id cs h a.1)
 
-pub agree_held : (old new : List Held) (cs : List CursorId) → Agree old new cs → AreHeld old cs → AreHeld new cs
+pub agree_held : (old new : List HeldCursor) (cs : List CursorId) → Agree old new cs → AreHeld old cs → AreHeld new cs
 agree_held old new [] g h = tt
 agree_held old new (c ∷ cs) g h = ((h.0.0, g.0 ∙ h.0.1, h.0.2), agree_held old new cs g.1 h.1)
 
-pub agree_names : (old new : List Held) (names : List (NamedCursor CursorId)) → Agree old new (ids_of names)
+pub agree_names : (old new : List HeldCursor) (names : List (NamedCursor CursorId))
+    → Agree old new (ids_of_cursors names)
     → map (cursor_in new) names ≡ map (cursor_in old) names
 agree_names old new [] g = refl
 agree_names old new (n ∷ names) g =
     let rest = agree_names old new names g.1 in
     let here : cursor_in new n
     ≡ cursor_in old n = ap
-    (λ (o : Option Held). record { name = n.name; query = query_in o; position = position_in o }) g.0 in cc
+    (λ (o : Option HeldCursor). record { name = n.name; query = query_in o; position = position_in o }) g.0 in cc
 
-pub agree_split : (old new : List Held) (xs ys : List CursorId) → Agree old new (xs ++ ys) → Agree old new xs
+pub agree_split : (old new : List HeldCursor) (xs ys : List CursorId) → Agree old new (xs ++ ys) → Agree old new xs
     × Agree old new ys
 agree_split old new [] ys g = (tt, g)
 agree_split old new (x ∷ xs) ys g = let r = agree_split old new xs ys g.1 in ((g.0, r.0), r.1)
 
-pub agree_open : (old new : List Held) (xs : List OpenSession) → Agree old new (all_ids xs) → map (open_in new) xs
+pub agree_open : (old new : List HeldCursor) (xs : List OpenSession) → Agree old new (all_ids xs) → map (open_in new) xs
     ≡ map (open_in old) xs
 agree_open old new [] g = refl
 agree_open old new (x ∷ xs) g =
-    let parts = agree_split old new (ids_of (x.session).cursors) (all_ids xs) g in
+    let parts = agree_split old new (ids_of_cursors (x.session).cursors) (all_ids xs) g in
     let rest = agree_open old new xs parts.1 in
     let names = agree_names old new (x.session).cursors parts.0 in
     let here : open_in new x
@@ -171,12 +173,12 @@ apart_or c (x ∷ xs) = step (same_id x c) refl (apart_or c xs)
     step false e (inr h) = inr (ap (λ b. same_id x c || b) h ∙ or_true (same_id x c))
 
 -- the engine holds no more than it did
-pub owned_still : (old new : List Held) (cs : List CursorId)
+pub owned_still : (old new : List HeldCursor) (cs : List CursorId)
     → ((c : CursorId) → IsSome (held_at new c) → IsSome (held_at old c)) → AreOwned old cs → AreOwned new cs
 owned_still old new cs f h c i = h c (f c i)
 
 -- the engine holds one more
-pub owned_more : (old new : List Held) (id : CursorId) (xs ys : List CursorId) → OthersStay old id new
+pub owned_more : (old new : List HeldCursor) (id : CursorId) (xs ys : List CursorId) → OthersStay old id new
     → AreOwned old (xs ++ ys) → AreOwned new (xs ++ id ∷ ys)
 owned_more old new id xs ys o h c i = step (same_id c id) refl
   where
@@ -188,10 +190,10 @@ owned_more old new id xs ys o h c i = step (same_id c id) refl
     step true e =
         let same : id ≡ c = sym (same_id_same c id e) in
         among_back c xs (id ∷ ys) (ap (λ b. b || is_among c ys) (ap (λ d. same_id id d) (sym same) ∙ same_id_refl id))
-    step false e = behind (among_either c xs ys (h c (subst (λ (o : Option Held). IsSome o) (o c e) i)))
+    step false e = behind (among_either c xs ys (h c (subst (λ (o : Option HeldCursor). IsSome o) (o c e) i)))
 
 -- it holds one less
-pub owned_less : (old new : List Held) (id : CursorId) (xs ys : List CursorId) → held_at new id ≡ None
+pub owned_less : (old new : List HeldCursor) (id : CursorId) (xs ys : List CursorId) → held_at new id ≡ None
     → OthersStay old id new → AreOwned old (xs ++ id ∷ ys) → AreOwned new (xs ++ ys)
 owned_less old new id xs ys gone o h c i = step (same_id c id) refl
   where
@@ -202,12 +204,12 @@ owned_less old new id xs ys gone o h c i = step (same_id c id) refl
 
     step : (b : Bool) → same_id c id ≡ b → is_among c (xs ++ ys) ≡ true
     step true e =
-        let none : IsSome {T = Held} None = subst (λ (o : Option Held). IsSome o)
+        let none : IsSome {T = HeldCursor} None = subst (λ (o : Option HeldCursor). IsSome o)
         (ap (held_at new) (same_id_same c id e) ∙ gone) i in absurd (cc)
-    step false e = behind e (among_either c xs (id ∷ ys) (h c (subst (λ (o : Option Held). IsSome o) (o c e) i)))
+    step false e = behind e (among_either c xs (id ∷ ys) (h c (subst (λ (o : Option HeldCursor). IsSome o) (o c e) i)))
 
 -- it holds none of these any more
-pub owned_without : (old new : List Held) (xs ys zs : List CursorId)
+pub owned_without : (old new : List HeldCursor) (xs ys zs : List CursorId)
     → ((c : CursorId) → is_among c ys ≡ true → held_at new c ≡ None)
     → ((c : CursorId) → IsApart c ys → held_at new c ≡ held_at old c)
     → AreOwned old (xs ++ (ys ++ zs)) → AreOwned new (xs ++ zs)
@@ -226,17 +228,20 @@ owned_without old new xs ys zs gone others h c i = step (apart_or c ys)
     behind a (inr e) = among_back c xs zs (not_mine a (among_either c ys zs e))
 
     step : (IsApart c ys) ⊎ (is_among c ys ≡ true) → is_among c (xs ++ zs) ≡ true
-    step (inr e) = let none : IsSome {T = Held} None = subst (λ (o : Option Held). IsSome o) (gone c e) i in absurd (cc)
-    step (inl a) = behind a (among_either c xs (ys ++ zs) (h c (subst (λ (o : Option Held). IsSome o) (others c a) i)))
+    step (inr e) = let none : IsSome {T = HeldCursor} None = subst (λ (o : Option HeldCursor). IsSome o) (gone c e) i
+    in absurd (cc)
+    step (inl a) = behind a (among_either c xs (ys ++ zs) (h c (subst (λ (o : Option HeldCursor). IsSome o)
+    (others c a) i)))
 
 -- A change of rows.
 
 -- each cursor is as the change leaves it
-abbrev pub Outdated : List Listed → (Listed → Option Bytes) → ℕ → List Held → List Held → Type 0
+abbrev pub Outdated : List Listed → (Listed → Option Bytes) → ℕ → List HeldCursor → List HeldCursor → Type 0
 Outdated queries outdater n old new = (c : CursorId) → held_at new c
     ≡ option_map (outdated_held queries outdater n) (held_at old c)
 
-pub outdated_find : (queries : List Listed) (outdater : Listed → Option Bytes) (n : ℕ) (hs : List Held) (c : CursorId)
+pub outdated_find : (queries : List Listed) (outdater : Listed → Option Bytes) (n : ℕ) (hs : List HeldCursor)
+    (c : CursorId)
     → held_at (map (outdated_held queries outdater n) hs) c
     ≡ option_map (outdated_held queries outdater n) (held_at hs c)
 outdated_find queries outdater n [] c = refl
@@ -255,7 +260,7 @@ still_apart queries outdater n None p g = g
 still_apart queries outdater n (Some r) (open_at given ended) g = tt
 still_apart queries outdater n (Some r) (stale s m) g = tt
 
-pub outdated_all_held : (queries : List Listed) (outdater : Listed → Option Bytes) (n : ℕ) (old new : List Held)
+pub outdated_all_held : (queries : List Listed) (outdater : Listed → Option Bytes) (n : ℕ) (old new : List HeldCursor)
     (cs : List CursorId) → Outdated queries outdater n old new → AreHeld old cs → AreHeld new cs
 outdated_all_held queries outdater n old new [] out h = tt
 outdated_all_held queries outdater n old new (c ∷ cs) out h = (
@@ -271,7 +276,7 @@ stale_stays : (o : Option Bytes) (n : ℕ) → stale [] 0 ≡ outdated o n (stal
 stale_stays None n = refl
 stale_stays (Some r) n = refl
 
-outdated_one : (queries : List Listed) (outdater : Listed → Option Bytes) (n : ℕ) (name : Bytes) (o : Option Held)
+outdated_one : (queries : List Listed) (outdater : Listed → Option Bytes) (n : ℕ) (name : Bytes) (o : Option HeldCursor)
     → record {
       name = name;
       query = query_in (option_map (outdated_held queries outdater n) o);
@@ -283,7 +288,7 @@ outdated_one queries outdater n name None = ap (λ (p : Position). record { name
     (stale_stays (outdater_of queries outdater []) n)
 outdated_one queries outdater n name (Some h) = refl
 
-pub outdated_names : (queries : List Listed) (outdater : Listed → Option Bytes) (n : ℕ) (old new : List Held)
+pub outdated_names : (queries : List Listed) (outdater : Listed → Option Bytes) (n : ℕ) (old new : List HeldCursor)
     (names : List (NamedCursor CursorId)) → Outdated queries outdater n old new
     → map (cursor_in new) names ≡ map (outdated_cursor queries outdater n) (map (cursor_in old) names)
 outdated_names queries outdater n old new [] out = refl
@@ -297,11 +302,12 @@ outdated_names queries outdater n old new (x ∷ names) out =
       position = position_in
           (option_map (outdated_held queries outdater n) (held_at old x.cursor));
     }
-    = ap (λ (o : Option Held). record { name = x.name; query = query_in o; position = position_in o }) (out x.cursor) in
+    = ap (λ (o : Option HeldCursor). record { name = x.name; query = query_in o; position = position_in o })
+    (out x.cursor) in
     let here : cursor_in new x ≡ outdated_cursor queries outdater n (cursor_in old x) = moved
     ∙ outdated_one queries outdater n x.name (held_at old x.cursor) in cc
 
-pub outdated_open : (queries : List Listed) (outdater : Listed → Option Bytes) (n : ℕ) (old new : List Held)
+pub outdated_open : (queries : List Listed) (outdater : Listed → Option Bytes) (n : ℕ) (old new : List HeldCursor)
     (xs : List OpenSession) → Outdated queries outdater n old new
     → map (open_in new) xs ≡ outdated_sessions queries outdater n (map (open_in old) xs)
 outdated_open queries outdater n old new [] out = refl

@@ -4,7 +4,7 @@ use Rattle.djq_model.specs.Data.{Bytes}
 use Rattle.djq_lines.specs.declared.limits.TheConstants.{PENDING_BYTES, REPLY_BYTES, LAST_LINE_BYTES}
 use Rattle.djq_lines.specs.declared.command.Command.{Command}
 use Rattle.djq_lines.specs.Line.{a_line, front_of, is_blank}
-use Rattle.djq_lines.specs.Grammar.{says, reading_of}
+use Rattle.djq_lines.specs.Grammar.{says_command, reading_of}
 use Rattle.djq_machine.specs.Call.{Counts}
 use Rattle.djq_machine.specs.declared.machine.Stepped.TheVariants.{Ran}
 use Rattle.djq_engine.specs.Kept.{Kept}
@@ -34,7 +34,7 @@ pub line_leaves : (left : Left) (old : Kept) (before mid : Talk) (l rest : Bytes
     (after : Talk) (was now : ℕ)
     → front_of before.held ≡ a_line l rest → mid ≡ record before { held = rest } → is_blank l ≡ false
     → length before.pending ≤ PENDING_BYTES
-    → before.cause ≡ None → REPLY_BYTES + LAST_LINE_BYTES ≤ before.room → reading_of l ≡ says command
+    → before.cause ≡ None → REPLY_BYTES + LAST_LINE_BYTES ≤ before.room → reading_of l ≡ says_command command
     → (IsAlone left → (is_on_row command ≡ false) × (is_misplaced before.batch command ≡ false))
     → Obeys command left old mid new after was now → LineLeaves l left old before new after was now
 line_leaves (Nothing kept) old before mid l rest command new after was now f e said few running room reads alone o =

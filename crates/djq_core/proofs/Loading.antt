@@ -15,7 +15,7 @@ use Rattle.djq_lines.specs.declared.answer.Refusal.TheVariants.{NoMemory}
 use Rattle.djq_lines.specs.declared.command.Command.{Command}
 use Rattle.djq_lines.specs.declared.command.Command.TheVariants.{Add, Batch, Done, Abandon, Quit, Stop}
 use Rattle.djq_lines.specs.declared.held.HeldRow.{HeldRow}
-use Rattle.djq_lines.specs.Grammar.{Reading, outside, past_limit, says, command_of, reading_of}
+use Rattle.djq_lines.specs.Grammar.{Reading, outside, past_limit, says_command, command_of, reading_of}
 use Rattle.djq_lines.specs.declared.rest.QueryOutcome.{QueryOutcome}
 use Rattle.djq_lines.specs.declared.rest.QueryOutcome.TheVariants.{Registered as HasRegistered, Cyclic, NotConnex}
 use Rattle.djq_machine.specs.State.{Store, State}
@@ -32,7 +32,7 @@ use Rattle.djq_proto.specs.declared.refusal.LineRefusal.{LineRefusal}
 use Rattle.djq_proto.specs.declared.refusal.LineRefusal.TheVariants.{Syntax as Outside, Range, NoMem}
 use Rattle.djq_proto.specs.Reading.{Reads}
 use Rattle.djq_engine.specs.declared.cursor.CursorId.{CursorId}
-use Rattle.djq_engine.specs.Kept.{Kept, Held, Registered, held_at, is_watched, SameCursors}
+use Rattle.djq_engine.specs.Kept.{Kept, HeldCursor, Registered, held_at, is_watched, SameCursors}
 use Rattle.djq_engine.specs.Kept.{Outdates, outdated_held, Uses, DropGives, DropsRegistered}
 use Rattle.djq_engine.specs.Watching.{Enrols}
 use Rattle.djq_store.specs.Registering.{EnrolsUnion}
@@ -64,9 +64,9 @@ idle_sound k sound = record {
       (λ r c. ap (λ (n : ℕ). nat_lt 0 n) (sound.counted.counted r c));
 }
   where
-    by : (c : CursorId) (o : Option Held) → held_at k.cursors c ≡ o → held_at k.cursors c ≡ None
+    by : (c : CursorId) (o : Option HeldCursor) → held_at k.cursors c ≡ o → held_at k.cursors c ≡ None
     by c None e = e
-    by c (Some h) e = absurd (false≢true (sound.owned c (subst (λ (o : Option Held). IsSome o) (sym e) refl)))
+    by c (Some h) e = absurd (false≢true (sound.owned c (subst (λ (o : Option HeldCursor). IsSome o) (sym e) refl)))
 
 sound_idle : (k : Kept) → IsIdle k → IsSound k []
 sound_idle k idle = record {
@@ -74,7 +74,7 @@ sound_idle k idle = record {
   few = omega arith;
   cursors_held = tt;
   apart = tt;
-  owned = λ c i. absurd (false≢true (subst (λ (o : Option Held). IsSome o) (idle.cursorless c) i));
+  owned = λ c i. absurd (false≢true (subst (λ (o : Option HeldCursor). IsSome o) (idle.cursorless c) i));
   ended = tt;
   counted = record {
     counted = λ r c. nobody r.watchers
@@ -123,7 +123,7 @@ pub idle_outdated : (old new : Kept) (o : Option RowsChange) → IsIdle old → 
 idle_outdated old new None idle out still = idle_same old new idle out still
 idle_outdated old new (Some change) idle out still = record {
   cursorless = λ c. out c ∙ outdated_find (old.store).queries change.outdater (new.store).seq old.cursors c
-      ∙ ap (λ (h : Option Held). option_map (outdated_held (old.store).queries change.outdater (new.store).seq) h)
+      ∙ ap (λ (h : Option HeldCursor). option_map (outdated_held (old.store).queries change.outdater (new.store).seq) h)
       (idle.cursorless c);
   unwatched = subst (λ (rs : List Registered). All (λ (r : Registered). is_watched r ≡ false) rs) (sym still)
       idle.unwatched;
@@ -277,7 +277,7 @@ module _ (k : Kept) (line : Bytes) where
 module _ (k : Kept) (line : Bytes) (held : List HeldRow) where
   -- in a batch: a row is held
   pub said_hold : (name : Bytes) (row : Tuple) (made : Result HeldRow Refusal) (how : Loaded) (rows : List HeldRow)
-      → reading_of line ≡ says (Add name row)
+      → reading_of line ≡ says_command (Add name row)
       → MakesRow k.store (length held) line name row made → LoadsRow held made how rows
       → ReadingLoads (loading_by k (Some held)) line (reading_of line) how (loading_by k (Some rows))
       × (BatchSuits k.store (Some held) → BatchSuits k.store (Some rows))
@@ -331,7 +331,7 @@ module _ (k : Kept) (line : Bytes) (held : List HeldRow) where
       )
 
   -- it is done
-  pub said_done : (new : Kept) (result : Result ℕ Refusal) (how : Loaded) → reading_of line ≡ says Done
+  pub said_done : (new : Kept) (result : Result ℕ Refusal) (how : Loaded) → reading_of line ≡ says_command Done
       → AddsBatch k.store held result new.store → how ≡ loaded_by is_done result
       → ReadingLoads (loading_by k (Some held)) line (reading_of line) how (loading_by new None)
   said_done new result how g adds e =
@@ -339,18 +339,18 @@ module _ (k : Kept) (line : Bytes) (held : List HeldRow) where
       (inl (result, adds, e, refl))
 
   -- it is dropped
-  pub said_abandon : reading_of line ≡ says Abandon
+  pub said_abandon : reading_of line ≡ says_command Abandon
       → ReadingLoads (loading_by k (Some held)) line (reading_of line) ran (loading_by k None)
   said_abandon g = subst (λ (r : Reading). ReadingLoads (loading_by k (Some held)) line r ran (loading_by k None))
       (sym g) (inl (refl, refl))
 
   -- a session's end is none of a log's
-  pub said_quit : reading_of line ≡ says Quit
+  pub said_quit : reading_of line ≡ says_command Quit
       → ReadingLoads (loading_by k (Some held)) line (reading_of line) refused (loading_by k (Some held))
   said_quit g = subst (λ (r : Reading). ReadingLoads (loading_by k (Some held)) line r refused
       (loading_by k (Some held))) (sym g) (inl (refl, refl))
 
-  pub said_stop : reading_of line ≡ says Stop
+  pub said_stop : reading_of line ≡ says_command Stop
       → ReadingLoads (loading_by k (Some held)) line (reading_of line) refused (loading_by k (Some held))
   said_stop g = subst (λ (r : Reading). ReadingLoads (loading_by k (Some held)) line r refused
       (loading_by k (Some held))) (sym g) (inl (refl, refl))
@@ -377,7 +377,7 @@ module _ (k : Kept) (line : Bytes) (held : List HeldRow) where
           → ReadingLoads (loading_by k (Some held)) line r (refused_by why) (loading_by k (Some held))
       by outside e = (ap refused_by e, refl)
       by (past_limit c) e = (past_is (is_misplaced {A = List HeldRow} (Some []) c) why e, refl)
-      by (says c) (inl (m, e)) =
+      by (says_command c) (inl (m, e)) =
           inl (subst (λ (h : Loaded). CommandLoads (loading_by k (Some held)) line c h (loading_by k (Some held)))
           (sym (ap refused_by e)) (misplaced_loads c m))
-      by (says c) (inr (m, t, e)) = inr (t, in_any_batch held c ∙ m, ap refused_by e, refl)
+      by (says_command c) (inr (m, t, e)) = inr (t, in_any_batch held c ∙ m, ap refused_by e, refl)

@@ -16,10 +16,10 @@ use Rattle.djq_machine.specs.Command.{open_refusal, with_cursor, CommandStep}
 use Rattle.djq_session.specs.declared.named.NamedCursor.{NamedCursor}
 use Rattle.djq_session.specs.Dialog.{Replies, named, is_named}
 use Rattle.djq_engine.specs.declared.cursor.CursorId.{CursorId}
-use Rattle.djq_engine.specs.Kept.{Kept, Held, held_at, IsHeld, OpensCursor, ClosesCursor}
+use Rattle.djq_engine.specs.Kept.{Kept, HeldCursor, held_at, IsHeld, OpensCursor, ClosesCursor}
 use Rattle.djq_core.specs.declared.open.OpenSession.{OpenSession}
 use Rattle.djq_core.specs.Views.{Talk, query_in, position_in, cursor_in, session_in, state_in}
-use Rattle.djq_core.specs.Sound.{ids_of, all_ids, AreHeld, IsApart, AreApart, NoneOnceEnded}
+use Rattle.djq_core.specs.Sound.{ids_of_cursors, all_ids, AreHeld, IsApart, AreApart, NoneOnceEnded}
 use Rattle.djq_core.specs.Sound.{QuietOnceEnded, StaysCounted, IsReady, AreOwned}
 use Rattle.djq_core.specs.Opens.{Opens}
 use Rattle.djq_core.specs.Performs.{among, to_one, unqueued, Performs, Executes}
@@ -63,7 +63,7 @@ answered M old new before mid after text r same stays still does = record {
 
 -- `open`
 
-new_held : (hs : List Held) (id : CursorId) (q : Bytes) → held_at hs id
+new_held : (hs : List HeldCursor) (id : CursorId) (q : Bytes) → held_at hs id
     ≡ Some (record { id = id; query = q; position = open_at [] false }) → AreHeld hs (id ∷ [])
 new_held hs id q there =
     ((record { id = id; query = q; position = open_at [] false }, there, (λ i j d lt within. absurd (omega arith))), tt)
@@ -85,13 +85,13 @@ opened : (old new : Kept) (before : Talk) (c q : Bytes) (id : CursorId) → Open
 opened old new before c q id o running front back s stopped room p =
     let added : NamedCursor CursorId = record { name = c; cursor = id } in
     let a = fresh_apart old.cursors id (all_ids front) o.fresh p.held_front in
-    let b = fresh_apart old.cursors id (ids_of before.cursors) o.fresh p.held_here in
+    let b = fresh_apart old.cursors id (ids_of_cursors before.cursors) o.fresh p.held_here in
     let e = fresh_apart old.cursors id (all_ids back) o.fresh p.held_back in
     let ga = agree_others old.cursors new.cursors id (all_ids front) o.others a in
-    let gb = agree_others old.cursors new.cursors id (ids_of before.cursors) o.others b in
+    let gb = agree_others old.cursors new.cursors id (ids_of_cursors before.cursors) o.others b in
     let ge = agree_others old.cursors new.cursors id (all_ids back) o.others e in
     let fresh_cursor : cursor_in new.cursors added ≡ record { name = c; query = q; position = open_at [] false }
-    = ap (λ (h : Option Held). record { name = c; query = query_in h; position = position_in h }) o.there in
+    = ap (λ (h : Option HeldCursor). record { name = c; query = query_in h; position = position_in h }) o.there in
     let names : map (cursor_in new.cursors) (before.cursors ++ added ∷ [])
     ≡ map (cursor_in old.cursors) before.cursors ++ record { name = c; query = q; position = open_at [] false } ∷ []
     = map_append (cursor_in new.cursors) before.cursors (added ∷ [])
@@ -106,18 +106,21 @@ opened old new before c q id o running front back s stopped room p =
         held_front = agree_held old.cursors new.cursors (all_ids front) ga p.held_front;
         held_here = subst (λ (cs : List CursorId). AreHeld new.cursors cs)
             (sym (ids_append before.cursors (added ∷ [])))
-            (held_join new.cursors (ids_of before.cursors) (id ∷ [])
-            (agree_held old.cursors new.cursors (ids_of before.cursors) gb p.held_here)
+            (held_join new.cursors (ids_of_cursors before.cursors) (id ∷ [])
+            (agree_held old.cursors new.cursors (ids_of_cursors before.cursors) gb p.held_here)
             (new_held new.cursors id q o.there));
         held_back = agree_held old.cursors new.cursors (all_ids back) ge p.held_back;
         apart = subst (λ (cs : List CursorId). AreApart (all_ids front ++ (cs ++ all_ids back)))
             (sym (ids_append before.cursors (added ∷ [])))
-            (opens_apart (all_ids front) (ids_of before.cursors) id (all_ids back) p.apart a b e);
+            (opens_apart (all_ids front) (ids_of_cursors before.cursors) id (all_ids back) p.apart a b e);
         owned = subst (λ (cs : List CursorId). AreOwned new.cursors (all_ids front ++ (cs ++ all_ids back)))
             (sym (ids_append before.cursors (added ∷ [])))
-            (subst (AreOwned new.cursors) (sym (regroup (all_ids front) (ids_of before.cursors) [] (all_ids back) id))
-            (owned_more old.cursors new.cursors id (all_ids front ++ ids_of before.cursors) (all_ids back) o.others
-            (subst (AreOwned old.cursors) (sym (append_assoc (all_ids front) (ids_of before.cursors) (all_ids back)))
+            (subst (AreOwned new.cursors) (sym (regroup (all_ids front) (ids_of_cursors before.cursors) []
+            (all_ids back) id))
+            (owned_more old.cursors new.cursors id (all_ids front ++ ids_of_cursors before.cursors) (all_ids back)
+            o.others
+            (subst (AreOwned old.cursors) (sym (append_assoc (all_ids front) (ids_of_cursors before.cursors)
+            (all_ids back)))
             p.owned)));
         ended_front = p.ended_front;
         ended_here = subst (λ (cause : _). NoneOnceEnded cause (before.cursors ++ added ∷ [])) (sym running) tt;
@@ -164,19 +167,19 @@ does_open old new before mid after c q (Err e) ready opens r =
 -- `close`
 
 -- a cursor of a name is one that the engine holds
-held_found : (hs : List Held) (front : List (NamedCursor CursorId)) (n : NamedCursor CursorId)
-    (back : List (NamedCursor CursorId)) → AreHeld hs (ids_of (front ++ n ∷ back)) → (h : Held)
+held_found : (hs : List HeldCursor) (front : List (NamedCursor CursorId)) (n : NamedCursor CursorId)
+    (back : List (NamedCursor CursorId)) → AreHeld hs (ids_of_cursors (front ++ n ∷ back)) → (h : HeldCursor)
     × (held_at hs n.cursor ≡ Some h)
 held_found hs [] n back h = (h.0.0, h.0.1)
 held_found hs (x ∷ front) n back h = held_found hs front n back h.1
 
 pub is_held : (k : Kept) (names : List (NamedCursor CursorId)) (c : Bytes) (n : NamedCursor CursorId)
-    → AreHeld k.cursors (ids_of names) → named names c ≡ Some n → IsHeld k n.cursor
+    → AreHeld k.cursors (ids_of_cursors names) → named names c ≡ Some n → IsHeld k n.cursor
 is_held k names c n h f =
     let cut = cut_found (is_named c) names n f in
     let r = held_found k.cursors cut.front n cut.back
-    (subst (λ (xs : List (NamedCursor CursorId)). AreHeld k.cursors (ids_of xs)) cut.list h) in
-    ap (λ (o : Option Held). is_some o) r.1
+    (subst (λ (xs : List (NamedCursor CursorId)). AreHeld k.cursors (ids_of_cursors xs)) cut.list h) in
+    ap (λ (o : Option HeldCursor). is_some o) r.1
 
 -- the cursors of a session around one of them, and those of the others
 closed : (old new : Kept) (before : Talk) (c : Bytes) (n : NamedCursor CursorId) → ClosesCursor old n.cursor new
@@ -189,25 +192,27 @@ closed : (old new : Kept) (before : Talk) (c : Bytes) (n : NamedCursor CursorId)
     × Around new.cursors front s (record before { cursors = drop_first (is_named c) before.cursors }) back
 closed old new before c n o running cut front back s stopped room p =
     let id = n.cursor in
-    let ids : ids_of before.cursors ≡ ids_of cut.front ++ id ∷ ids_of cut.back = ap ids_of cut.list
+    let ids : ids_of_cursors before.cursors ≡ ids_of_cursors cut.front ++ id ∷ ids_of_cursors cut.back = ap
+    ids_of_cursors cut.list
     ∙ ids_append cut.front (n ∷ cut.back) in
-    let kept : ids_of (cut.front ++ cut.back) ≡ ids_of cut.front ++ ids_of cut.back = ids_append cut.front cut.back in
-    let apart = taken_out (all_ids front ++ ids_of cut.front) id (ids_of cut.back ++ all_ids back)
+    let kept : ids_of_cursors (cut.front ++ cut.back) ≡ ids_of_cursors cut.front ++ ids_of_cursors cut.back =
+    ids_append cut.front cut.back in
+    let apart = taken_out (all_ids front ++ ids_of_cursors cut.front) id (ids_of_cursors cut.back ++ all_ids back)
     (subst AreApart (ap (λ (cs : List CursorId). all_ids front ++ (cs ++ all_ids back)) ids
-    ∙ regroup (all_ids front) (ids_of cut.front) (ids_of cut.back) (all_ids back) id) p.apart) in
-    let fronts = apart_split id (all_ids front) (ids_of cut.front) apart.0 in
-    let backs = apart_split id (ids_of cut.back) (all_ids back) apart.1.0 in
+    ∙ regroup (all_ids front) (ids_of_cursors cut.front) (ids_of_cursors cut.back) (all_ids back) id) p.apart) in
+    let fronts = apart_split id (all_ids front) (ids_of_cursors cut.front) apart.0 in
+    let backs = apart_split id (ids_of_cursors cut.back) (all_ids back) apart.1.0 in
     let ga = agree_others old.cursors new.cursors id (all_ids front) o.others fronts.0 in
     let ge = agree_others old.cursors new.cursors id (all_ids back) o.others backs.1 in
-    let gh : Agree old.cursors new.cursors (ids_of (cut.front ++ cut.back)) = subst
+    let gh : Agree old.cursors new.cursors (ids_of_cursors (cut.front ++ cut.back)) = subst
     (λ (cs : List CursorId). Agree old.cursors new.cursors cs) (sym kept)
-    (agree_others old.cursors new.cursors id (ids_of cut.front ++ ids_of cut.back) o.others
-    (apart_join id (ids_of cut.front) (ids_of cut.back) fronts.1 backs.0)) in
-    let held = held_split old.cursors (ids_of cut.front) (id ∷ ids_of cut.back)
+    (agree_others old.cursors new.cursors id (ids_of_cursors cut.front ++ ids_of_cursors cut.back) o.others
+    (apart_join id (ids_of_cursors cut.front) (ids_of_cursors cut.back) fronts.1 backs.0)) in
+    let held = held_split old.cursors (ids_of_cursors cut.front) (id ∷ ids_of_cursors cut.back)
     (subst (λ (cs : List CursorId). AreHeld old.cursors cs) ids p.held_here) in
-    let left : AreHeld old.cursors (ids_of (cut.front ++ cut.back)) = subst
+    let left : AreHeld old.cursors (ids_of_cursors (cut.front ++ cut.back)) = subst
     (λ (cs : List CursorId). AreHeld old.cursors cs) (sym kept)
-    (held_join old.cursors (ids_of cut.front) (ids_of cut.back) held.0 held.1.1) in
+    (held_join old.cursors (ids_of_cursors cut.front) (ids_of_cursors cut.back) held.0 held.1.1) in
     let names : map (cursor_in new.cursors) (drop_first (is_named c) before.cursors)
     ≡ drop_first (λ (k : Cursor). bytes_eq k.name c) (map (cursor_in old.cursors) before.cursors)
     = ap (map (cursor_in new.cursors)) cut.dropped ∙ agree_names old.cursors new.cursors (cut.front ++ cut.back) gh
@@ -221,22 +226,28 @@ closed old new before c n o running cut front back s stopped room p =
         rising = p.rising;
         few = p.few;
         held_front = agree_held old.cursors new.cursors (all_ids front) ga p.held_front;
-        held_here = subst (λ (xs : List (NamedCursor CursorId)). AreHeld new.cursors (ids_of xs)) (sym cut.dropped)
-            (agree_held old.cursors new.cursors (ids_of (cut.front ++ cut.back)) gh left);
+        held_here = subst (λ (xs : List (NamedCursor CursorId)). AreHeld new.cursors (ids_of_cursors xs))
+            (sym cut.dropped)
+            (agree_held old.cursors new.cursors (ids_of_cursors (cut.front ++ cut.back)) gh left);
         held_back = agree_held old.cursors new.cursors (all_ids back) ge p.held_back;
-        apart = subst (λ (xs : List (NamedCursor CursorId)). AreApart (all_ids front ++ (ids_of xs ++ all_ids back)))
+        apart = subst (λ (xs : List (NamedCursor CursorId)). AreApart
+            (all_ids front ++ (ids_of_cursors xs ++ all_ids back)))
             (sym cut.dropped)
             (subst (λ (cs : List CursorId). AreApart (all_ids front ++ (cs ++ all_ids back))) (sym kept)
-            (subst AreApart (ungroup (all_ids front) (ids_of cut.front) (ids_of cut.back) (all_ids back)) apart.1.1));
+            (subst AreApart (ungroup (all_ids front) (ids_of_cursors cut.front) (ids_of_cursors cut.back)
+            (all_ids back)) apart.1.1));
         owned = subst (λ (xs : List (NamedCursor CursorId)). AreOwned new.cursors
-            (all_ids front ++ (ids_of xs ++ all_ids back))) (sym cut.dropped)
+            (all_ids front ++ (ids_of_cursors xs ++ all_ids back))) (sym cut.dropped)
             (subst (λ (cs : List CursorId). AreOwned new.cursors (all_ids front ++ (cs ++ all_ids back))) (sym kept)
-            (subst (AreOwned new.cursors) (ungroup (all_ids front) (ids_of cut.front) (ids_of cut.back) (all_ids back))
-            (owned_less old.cursors new.cursors id (all_ids front ++ ids_of cut.front) (ids_of cut.back ++ all_ids back)
+            (subst (AreOwned new.cursors) (ungroup (all_ids front) (ids_of_cursors cut.front)
+            (ids_of_cursors cut.back) (all_ids back))
+            (owned_less old.cursors new.cursors id (all_ids front ++ ids_of_cursors cut.front)
+            (ids_of_cursors cut.back ++ all_ids back)
             o.gone o.others
             (subst (AreOwned old.cursors)
             (ap (λ (cs : List CursorId). all_ids front ++ (cs ++ all_ids back)) ids
-            ∙ regroup (all_ids front) (ids_of cut.front) (ids_of cut.back) (all_ids back) id) p.owned))));
+            ∙ regroup (all_ids front) (ids_of_cursors cut.front) (ids_of_cursors cut.back) (all_ids back) id)
+            p.owned))));
         ended_front = p.ended_front;
         ended_here = subst (λ (cause : _). NoneOnceEnded cause (drop_first (is_named c) before.cursors)) (sym running)
             tt;
@@ -245,13 +256,14 @@ closed old new before c n o running cut front back s stopped room p =
     )
 
 -- the machine finds a session's cursor where the session does
-pub at_found : (hs : List Held) (names : List (NamedCursor CursorId)) (c : Bytes) (n : NamedCursor CursorId)
+pub at_found : (hs : List HeldCursor) (names : List (NamedCursor CursorId)) (c : Bytes) (n : NamedCursor CursorId)
     (P : Type 0) (Q : Cursor → Type 0)
     → named names c ≡ Some n → Q (cursor_in hs n) → MatchOption (cursor_of (map (cursor_in hs) names) c) P Q
 at_found hs names c n P Q f q = subst (λ (o : Option Cursor). MatchOption o P Q)
     (sym (cursor_seen hs names c ∙ ap (option_map (cursor_in hs)) f)) q
 
-pub at_none : (hs : List Held) (names : List (NamedCursor CursorId)) (c : Bytes) (P : Type 0) (Q : Cursor → Type 0)
+pub at_none : (hs : List HeldCursor) (names : List (NamedCursor CursorId)) (c : Bytes) (P : Type 0) (Q : Cursor
+    → Type 0)
     → named names c ≡ None → P → MatchOption (cursor_of (map (cursor_in hs) names) c) P Q
 at_none hs names c P Q f p = subst (λ (o : Option Cursor). MatchOption o P Q)
     (sym (cursor_seen hs names c ∙ ap (option_map (cursor_in hs)) f)) p

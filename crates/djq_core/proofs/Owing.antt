@@ -7,24 +7,24 @@ use Rattle.djq_machine.specs.State.{Session, State}
 use Rattle.djq_machine.specs.Run.{pending_in}
 use Rattle.djq_machine.specs.Call.{cause_in, first_due}
 use Rattle.djq_session.specs.Dialog.{is_due}
-use Rattle.djq_engine.specs.Kept.{Kept, Held}
+use Rattle.djq_engine.specs.Kept.{Kept, HeldCursor}
 use Rattle.djq_core.specs.declared.open.OpenSession.{OpenSession}
 use Rattle.djq_core.specs.Views.{open_in, state_in}
 use Rattle.djq_core.specs.Sound.{IsBelow, Rises, IsCore}
 
 -- the session of an id
-abbrev at_id : List Held → List OpenSession → ℕ → Option Session
+abbrev at_id : List HeldCursor → List OpenSession → ℕ → Option Session
 at_id hs xs s = find (λ (x : Session). eqb x.id s) (map (open_in hs) xs)
 
 -- whether something is due to it
 abbrev due_in : Option Session → Bool
 due_in o = nat_lt 0 (length (pending_in o)) || is_some (cause_in o)
 
-abbrev first_of : List Held → List OpenSession → ℕ → List ℕ → Option ℕ
+abbrev first_of : List HeldCursor → List OpenSession → ℕ → List ℕ → Option ℕ
 first_of hs xs from is = find (λ s. nat_le from s && due_in (at_id hs xs s)) is
 
 -- a session of a lower id is none of these
-behind : (hs : List Held) (x : OpenSession) (xs : List OpenSession) (from : ℕ) (is : List ℕ) → IsBelow x.id is
+behind : (hs : List HeldCursor) (x : OpenSession) (xs : List OpenSession) (from : ℕ) (is : List ℕ) → IsBelow x.id is
     → first_of hs (x ∷ xs) from is ≡ first_of hs xs from is
 behind hs x xs from [] below = refl
 behind hs x xs from (s ∷ is) below =
@@ -35,7 +35,7 @@ behind hs x xs from (s ∷ is) below =
     other true e = let same : x.id ≡ s = eqb-true x.id s e in absurd (omega (arith, same, below.0))
     other false e = refl
 
-seen_first : (hs : List Held) (xs : List OpenSession) (from : ℕ) → Rises (map (λ (x : OpenSession). x.id) xs)
+seen_first : (hs : List HeldCursor) (xs : List OpenSession) (from : ℕ) → Rises (map (λ (x : OpenSession). x.id) xs)
     → option_map (λ (x : OpenSession). x.id) (find (λ (x : OpenSession). nat_le from x.id && is_due x.session) xs)
     ≡ first_of hs xs from (map (λ (x : OpenSession). x.id) xs)
 seen_first hs [] from rising = refl
@@ -53,7 +53,7 @@ seen_first hs (x ∷ xs) from rising =
     at_first true = refl
     at_first false = refl
 
-seen_ids : (hs : List Held) (xs : List OpenSession) → map (λ (x : OpenSession). x.id) xs
+seen_ids : (hs : List HeldCursor) (xs : List OpenSession) → map (λ (x : OpenSession). x.id) xs
     ≡ map (λ (x : Session). x.id) (map (open_in hs) xs)
 seen_ids hs [] = refl
 seen_ids hs (x ∷ xs) = ap (λ (is : List ℕ). x.id ∷ is) (seen_ids hs xs)

@@ -22,13 +22,13 @@ use Rattle.djq_machine.specs.State.{Session, State, session_of, fresh}
 use Rattle.djq_machine.specs.Effect.{Effect, EndsWith, nothing}
 use Rattle.djq_machine.specs.Step.{EndedStep, Event, opened, fed, took, ended, closed, Acts, is_dry}
 use Rattle.djq_machine.specs.Run.{pending_of, pending_in}
-use Rattle.djq_machine.specs.Call.{Counts, Makes, IsOpen, FedGives, StepGives, cause_of, held_of, ids_of as state_ids}
+use Rattle.djq_machine.specs.Call.{Counts, Makes, IsOpen, FedGives, StepGives, cause_of, held_of, state_ids}
 use Rattle.djq_engine.specs.declared.cursor.CursorId.{CursorId}
-use Rattle.djq_engine.specs.Kept.{Kept, Held as HeldCursor}
+use Rattle.djq_engine.specs.Kept.{Kept, HeldCursor}
 use Rattle.djq_core.specs.declared.open.OpenSession.{OpenSession}
 use Rattle.djq_session.specs.Dialog.{IsFresh}
 use Rattle.djq_core.specs.Views.{Talk, cursor_in, session_in, open_in, state_in, lines_of}
-use Rattle.djq_core.specs.Sound.{IsBelow, Rises, IsSound, IsOwn, IsCore, ids_of, all_ids, AreHeld}
+use Rattle.djq_core.specs.Sound.{IsBelow, Rises, IsSound, IsOwn, IsCore, ids_of_cursors, all_ids, AreHeld}
 use Rattle.djq_core.specs.Sound.{AreApart, NoneOnceEnded, AreOwned}
 use Rattle.djq_core.specs.Ends.{GivesUp, EndsQuietly}
 use Rattle.djq_core.specs.Performs.{among, to_keep, Performs}
@@ -150,7 +150,7 @@ owns k xs at s e h =
     record {
       counted = has_count k (take at xs) s e.session (drop (suc at) xs) h.sound;
       cursors_held = p.held_here;
-      apart = apart_of (all_ids (take at xs)) (ids_of (e.session).cursors) (all_ids (drop (suc at) xs)) p.apart;
+      apart = apart_of (all_ids (take at xs)) (ids_of_cursors (e.session).cursors) (all_ids (drop (suc at) xs)) p.apart;
     }
 
 -- the core with one session changed
@@ -480,8 +480,8 @@ filtered hs (x ∷ front) s d back a b = cond-true _ _ _ (ap not (apart_ids x.id
 
 all_ids_append : (front back : List OpenSession) → all_ids (front ++ back) ≡ all_ids front ++ all_ids back
 all_ids_append [] back = refl
-all_ids_append (x ∷ front) back = ap (λ r. ids_of (x.session).cursors ++ r) (all_ids_append front back)
-    ∙ sym (append_assoc (ids_of (x.session).cursors) (all_ids front) (all_ids back))
+all_ids_append (x ∷ front) back = ap (λ r. ids_of_cursors (x.session).cursors ++ r) (all_ids_append front back)
+    ∙ sym (append_assoc (ids_of_cursors (x.session).cursors) (all_ids front) (all_ids back))
 
 agree_join : (old new : List HeldCursor) (xs ys : _) → Agree old new xs → Agree old new ys → Agree old new (xs ++ ys)
 agree_join old new [] ys g h = h
@@ -500,7 +500,7 @@ closes k new is xs id_room room at s e d stopped core h within g =
     let old = state_in k stopped (among front s e.session back) in
     let p = parts k front s e.session back h.sound in
     let near = above_front (ids front) s (ids back) p.rising in
-    let mine = ids_of (e.session).cursors in
+    let mine = ids_of_cursors (e.session).cursors in
     let ga = agree_apart k.cursors new.cursors mine (all_ids front) g.others
     (apart_fronts (all_ids front) mine (all_ids back) p.apart) in
     let ge = agree_apart k.cursors new.cursors mine (all_ids back) g.others
@@ -591,7 +591,7 @@ opens k is xs id_room room s d st stopped core v less f above =
     ≡ map (open_in k.cursors) xs ++ fresh s ∷ [] = open_are k.cursors xs s d []
     ∙ ap (λ (x : Session). map (open_in k.cursors) xs ++ x ∷ []) (fresh_session k.cursors s d f) in
     let ids : all_ids grown ≡ all_ids xs = cursors_are xs s d []
-    ∙ ap (λ (ns : _). all_ids xs ++ (ids_of ns ++ [])) f.cursors ∙ append-nil (all_ids xs) in
+    ∙ ap (λ (ns : _). all_ids xs ++ (ids_of_cursors ns ++ [])) f.cursors ∙ append-nil (all_ids xs) in
     let rise : map (λ (x : OpenSession). x.id) grown
     ≡ map (λ (x : OpenSession). x.id) xs ++ s ∷ [] = ids_are xs s d [] in
     let sound : IsSound k grown = record {

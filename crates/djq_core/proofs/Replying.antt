@@ -22,18 +22,18 @@ use Rattle.djq_lines.specs.declared.command.Command.TheVariants.{Rel, Query as R
 use Rattle.djq_lines.specs.declared.command.Command.TheVariants.{Shape as AskShape, Drop}
 use Rattle.djq_lines.specs.Reply.{ok_reply, query_reply, union_reply, has_reply, shape_reply}
 use Rattle.djq_lines.specs.declared.answer.Refusal.TheVariants.{NoQuery, InUse}
-use Rattle.djq_machine.specs.Conditions.{first_of, Answers, OutOfMemoryWhere}
+use Rattle.djq_machine.specs.Conditions.{first_refusal, Answers, OutOfMemoryWhere}
 use Rattle.djq_machine.specs.State.{Store, Session, State, Cursor}
 use Rattle.djq_machine.specs.Union.{RegistersUnion}
 use Rattle.djq_machine.specs.Store.{MakesRelation, RegistersQuery, TellsWhether, has_steps}
 use Rattle.djq_machine.specs.Store.{TellsShape, is_member, DropsQuery}
 use Rattle.djq_machine.specs.Effect.{Effect}
 use Rattle.djq_session.specs.Dialog.{Replies}
-use Rattle.djq_engine.specs.Kept.{Kept, Held, held_at, SameCursors, same_id, Uses, DropGives}
+use Rattle.djq_engine.specs.Kept.{Kept, HeldCursor, held_at, SameCursors, same_id, Uses, DropGives}
 use Rattle.djq_engine.specs.Kept.{Registered, registered_of, is_watched}
 use Rattle.djq_core.specs.declared.open.OpenSession.{OpenSession}
 use Rattle.djq_core.specs.Views.{Talk, session_in, open_in, state_in, query_in, cursor_in}
-use Rattle.djq_core.specs.Sound.{ids_of, all_ids, AreHeld, AreCounted, StaysCounted, IsSound}
+use Rattle.djq_core.specs.Sound.{ids_of_cursors, all_ids, AreHeld, AreCounted, StaysCounted, IsSound}
 use Rattle.djq_core.specs.Sound.{is_among, watchers_in, times_in, is_among_watches}
 use Rattle.djq_core.specs.Performs.{among, to_one, to_keep, unqueued, Performs, Executes, ExecutesKeeping}
 use Rattle.djq_core.proofs.Ids.{agree_same, agree_held, agree_open, owned_still, among_either}
@@ -43,21 +43,21 @@ use Rattle.djq_core.proofs.Watching.{recount, stays_same, counted_same, none_wat
 use Rattle.djq_core.proofs.Watching.{found_there, same_name, stays_dropped}
 
 -- a reply changes nothing of a session that the machine sees but its bytes
-pub quiet : (hs : List Held) (s : ℕ) (before after : Talk) (text : Bytes) → Replies before after text
+pub quiet : (hs : List HeldCursor) (s : ℕ) (before after : Talk) (text : Bytes) → Replies before after text
     → session_in hs s (unqueued before after) ≡ session_in hs s before
 quiet hs s before after text r = ap (λ (d : Talk). session_in hs s (unqueued before d)) r
 
 -- the open sessions look the same
-pub open_quiet : (hs : List Held) (front : List OpenSession) (s : ℕ) (d e : Talk) (back : List OpenSession)
+pub open_quiet : (hs : List HeldCursor) (front : List OpenSession) (s : ℕ) (d e : Talk) (back : List OpenSession)
     → session_in hs s e ≡ session_in hs s d
     → map (open_in hs) (among front s e back) ≡ map (open_in hs) (among front s d back)
 open_quiet hs front s d e back same = open_are hs front s e back
     ∙ ap (λ (x : Session). map (open_in hs) front ++ x ∷ map (open_in hs) back) same ∙ sym (open_are hs front s d back)
 
 -- what is known around a session holds at other cursors that are held, and with other bytes
-pub around_held : (old new : List Held) (front : List OpenSession) (s : ℕ) (d : Talk) (back : List OpenSession)
+pub around_held : (old new : List HeldCursor) (front : List OpenSession) (s : ℕ) (d : Talk) (back : List OpenSession)
     → (AreHeld old (all_ids front) → AreHeld new (all_ids front))
-    → (AreHeld old (ids_of d.cursors) → AreHeld new (ids_of d.cursors))
+    → (AreHeld old (ids_of_cursors d.cursors) → AreHeld new (ids_of_cursors d.cursors))
     → (AreHeld old (all_ids back) → AreHeld new (all_ids back))
     → ((c : CursorId) → IsSome (held_at new c) → IsSome (held_at old c)) → Around old front s d back
     → Around new front s d back
@@ -68,13 +68,14 @@ around_held old new front s d back f h b o p = record {
   held_here = h p.held_here;
   held_back = b p.held_back;
   apart = p.apart;
-  owned = owned_still old new (all_ids front ++ (ids_of d.cursors ++ all_ids back)) o p.owned;
+  owned = owned_still old new (all_ids front ++ (ids_of_cursors d.cursors ++ all_ids back)) o p.owned;
   ended_front = p.ended_front;
   ended_here = p.ended_here;
   ended_back = p.ended_back;
 }
 
-pub around_bytes : (hs : List Held) (front : List OpenSession) (s : ℕ) (d : Talk) (held pending : Bytes) (room : ℕ)
+pub around_bytes : (hs : List HeldCursor) (front : List OpenSession) (s : ℕ) (d : Talk) (held pending : Bytes)
+    (room : ℕ)
     (back : List OpenSession)
     → Around hs front s d back → Around hs front s (record d { held = held; pending = pending; room = room }) back
 around_bytes hs front s d held pending room back p = record {
@@ -90,7 +91,7 @@ around_bytes hs front s d held pending room back p = record {
   ended_back = p.ended_back;
 }
 
-pub around_batch : (hs : List Held) (front : List OpenSession) (s : ℕ) (d : Talk) (b : Option (List HeldRow))
+pub around_batch : (hs : List HeldCursor) (front : List OpenSession) (s : ℕ) (d : Talk) (b : Option (List HeldRow))
     (back : List OpenSession)
     → Around hs front s d back → Around hs front s (record d { batch = b }) back
 around_batch hs front s d b back p = record {
@@ -128,12 +129,12 @@ sound_replied k front s before after text back r p counted =
     back refl (λ q. q) counted))
 
 -- what is known around a session holds where all cursors are as before
-pub around_same : (old new : List Held) (front : List OpenSession) (s : ℕ) (d : Talk) (back : List OpenSession)
+pub around_same : (old new : List HeldCursor) (front : List OpenSession) (s : ℕ) (d : Talk) (back : List OpenSession)
     → SameCursors old new → Around old front s d back → Around new front s d back
 around_same old new front s d back same p =
     let move = λ (cs : List CursorId) (h : AreHeld old cs). agree_held old new cs (agree_same old new cs same) h in
-    around_held old new front s d back (move (all_ids front)) (move (ids_of d.cursors)) (move (all_ids back))
-    (λ c i. subst (λ (o : Option Held). IsSome o) (same c) i) p
+    around_held old new front s d back (move (all_ids front)) (move (ids_of_cursors d.cursors)) (move (all_ids back))
+    (λ c i. subst (λ (o : Option HeldCursor). IsSome o) (same c) i) p
 
 -- Something is done and answered, and the cursors stay as they are.
 pub replied_among : (M : State → ℕ → Session → Effect → State → Type 0) (old new : Kept) (before after : Talk)
@@ -282,61 +283,65 @@ does_shape k before after q result tells r = refused _ k before after (shape_rep
 
 -- whether a session uses a query that a cursor of the engine is over
 
-other_query : (h : Held) (q : Bytes) → (h.query ≡ q → ⊥) → bytes_eq h.query q ≡ false
+other_query : (h : HeldCursor) (q : Bytes) → (h.query ≡ q → ⊥) → bytes_eq h.query q ≡ false
 other_query h q d = step (bytes_eq h.query q) refl
   where
     step : (b : Bool) → bytes_eq h.query q ≡ b → b ≡ false
     step true e = absurd (d ((bytes_eq-decides h.query q).0 e))
     step false e = refl
 
-names_unused : (hs : List Held) (q : Bytes) (names : List (NamedCursor CursorId)) → AreHeld hs (ids_of names)
-    → ((id : CursorId) (h : Held) → held_at hs id ≡ Some h → h.query ≡ q → ⊥)
+names_unused : (hs : List HeldCursor) (q : Bytes) (names : List (NamedCursor CursorId))
+    → AreHeld hs (ids_of_cursors names)
+    → ((id : CursorId) (h : HeldCursor) → held_at hs id ≡ Some h → h.query ≡ q → ⊥)
     → list_any (λ (c : Cursor). bytes_eq c.query q) (map (cursor_in hs) names) ≡ false
 names_unused hs q [] held none = refl
 names_unused hs q (n ∷ names) held none =
-    ap₂ (λ b d. b || d) (ap (λ (o : Option Held). bytes_eq (query_in o) q) held.0.1
+    ap₂ (λ b d. b || d) (ap (λ (o : Option HeldCursor). bytes_eq (query_in o) q) held.0.1
     ∙ other_query held.0.0 q (none n.cursor held.0.0 held.0.1))
     (names_unused hs q names held.1 none)
 
-sessions_unused : (hs : List Held) (q : Bytes) (xs : List OpenSession) → AreHeld hs (all_ids xs)
-    → ((id : CursorId) (h : Held) → held_at hs id ≡ Some h → h.query ≡ q → ⊥) → watchers_in xs q ≡ 0
+sessions_unused : (hs : List HeldCursor) (q : Bytes) (xs : List OpenSession) → AreHeld hs (all_ids xs)
+    → ((id : CursorId) (h : HeldCursor) → held_at hs id ≡ Some h → h.query ≡ q → ⊥) → watchers_in xs q ≡ 0
     → list_any (uses q) (map (open_in hs) xs) ≡ false
 sessions_unused hs q [] held none watched = refl
 sessions_unused hs q (x ∷ xs) held none watched =
-    let two = held_split hs (ids_of (x.session).cursors) (all_ids xs) held in
+    let two = held_split hs (ids_of_cursors (x.session).cursors) (all_ids xs) held in
     let z = none_watching x xs q watched in
     ap₂ (λ b d. b || d) (ap₂ (λ b d. b || d) (names_unused hs q (x.session).cursors two.0 none)
     (unwatched (x.session).watches q z.0)) (sessions_unused hs q xs two.1 none z.1)
 
-names_used : (hs : List Held) (q : Bytes) (id : CursorId) (h : Held) (names : List (NamedCursor CursorId))
-    → held_at hs id ≡ Some h → h.query ≡ q → is_among id (ids_of names) ≡ true
+names_used : (hs : List HeldCursor) (q : Bytes) (id : CursorId) (h : HeldCursor) (names : List (NamedCursor CursorId))
+    → held_at hs id ≡ Some h → h.query ≡ q → is_among id (ids_of_cursors names) ≡ true
     → list_any (λ (c : Cursor). bytes_eq c.query q) (map (cursor_in hs) names) ≡ true
 names_used hs q id h [] found same there = absurd (cc)
 names_used hs q id h (n ∷ names) found same there = step (same_id n.cursor id) refl there
     (λ k. names_used hs q id h names found same k)
   where
-    step : (b : Bool) → same_id n.cursor id ≡ b → (b || is_among id (ids_of names)) ≡ true
-        → (is_among id (ids_of names) ≡ true → list_any (λ (c : Cursor). bytes_eq c.query q) (map (cursor_in hs) names)
+    step : (b : Bool) → same_id n.cursor id ≡ b → (b || is_among id (ids_of_cursors names)) ≡ true
+        → (is_among id (ids_of_cursors names) ≡ true → list_any (λ (c : Cursor). bytes_eq c.query q)
+        (map (cursor_in hs) names)
         ≡ true)
         → (bytes_eq (query_in (held_at hs n.cursor)) q || list_any (λ (c : Cursor). bytes_eq c.query q)
         (map (cursor_in hs) names)) ≡ true
     step true e k more =
         let here : bytes_eq (query_in (held_at hs n.cursor)) q ≡ true =
-        ap (λ (o : Option Held). bytes_eq (query_in o) q) (ap (held_at hs) (same_id_same n.cursor id e) ∙ found)
+        ap (λ (o : Option HeldCursor). bytes_eq (query_in o) q) (ap (held_at hs) (same_id_same n.cursor id e) ∙ found)
         ∙ (bytes_eq-decides h.query q).1 same in
         ap (λ b. b || list_any (λ (c : Cursor). bytes_eq c.query q) (map (cursor_in hs) names)) here
     step false e k more =
         ap (λ d. bytes_eq (query_in (held_at hs n.cursor)) q || d) (more k)
         ∙ or_true (bytes_eq (query_in (held_at hs n.cursor)) q)
 
-sessions_used : (hs : List Held) (q : Bytes) (id : CursorId) (h : Held) (xs : List OpenSession) → held_at hs id ≡ Some h
+sessions_used : (hs : List HeldCursor) (q : Bytes) (id : CursorId) (h : HeldCursor) (xs : List OpenSession)
+    → held_at hs id ≡ Some h
     → h.query ≡ q → is_among id (all_ids xs) ≡ true
     → list_any (uses q) (map (open_in hs) xs) ≡ true
 sessions_used hs q id h [] found same there = absurd (cc)
 sessions_used hs q id h (x ∷ xs) found same there = step
-    (among_either id (ids_of (x.session).cursors) (all_ids xs) there) (λ k. sessions_used hs q id h xs found same k)
+    (among_either id (ids_of_cursors (x.session).cursors) (all_ids xs) there) (λ k. sessions_used hs q id h xs found
+    same k)
   where
-    step : (is_among id (ids_of (x.session).cursors) ≡ true) ⊎ (is_among id (all_ids xs) ≡ true)
+    step : (is_among id (ids_of_cursors (x.session).cursors) ≡ true) ⊎ (is_among id (all_ids xs) ≡ true)
         → (is_among id (all_ids xs) ≡ true → list_any (uses q) (map (open_in hs) xs) ≡ true)
         → list_any (uses q) (map (open_in hs) (x ∷ xs)) ≡ true
     step (inl e) more = ap
@@ -345,7 +350,7 @@ sessions_used hs q id h (x ∷ xs) found same there = step
     step (inr e) more = ap (λ d. uses q (open_in hs x) || d) (more e) ∙ or_true (uses q (open_in hs x))
 
 -- a session that watches it uses it
-sessions_watch : (hs : List Held) (q : Bytes) (xs : List OpenSession) → 0 < watchers_in xs q
+sessions_watch : (hs : List HeldCursor) (q : Bytes) (xs : List OpenSession) → 0 < watchers_in xs q
     → list_any (uses q) (map (open_in hs) xs) ≡ true
 sessions_watch hs q [] some = absurd (omega (arith, some))
 sessions_watch hs q (x ∷ xs) some = step (is_among_watches (x.session).watches q) refl (times_in (x.session).watches q)
@@ -407,7 +412,7 @@ use_is : (k : Kept) (q : Bytes) (used : Bool) (xs : List OpenSession) → IsSoun
     ≡ list_any (uses q) (map (open_in k.cursors) xs)
 use_is k q true xs sound (inl u) = sym
     (sessions_used k.cursors q u.0 u.1 xs u.2 u.3
-    (sound.owned u.0 (subst (λ (o : Option Held). IsSome o) (sym u.2) refl)))
+    (sound.owned u.0 (subst (λ (o : Option HeldCursor). IsSome o) (sym u.2) refl)))
 use_is k q true xs sound (inr w) = sym (sessions_watch k.cursors q xs (sees_watched k.registered xs q sound.counted w))
 use_is k q false xs sound u = sym
     (sessions_unused k.cursors q xs sound.cursors_held u.0 (sees_unwatched k.registered xs q sound.counted u.1))
@@ -420,7 +425,7 @@ dropped_unused st st' used q d drops =
     (OutOfMemoryWhere ⊥) drops.answer
   where
     step : (u m b : Bool) (Done : ⊤ → Type 0) (Late : Refusal → Type 0)
-        → Answers (first_of ((b, NoQuery) ∷ (u || m, InUse) ∷ [])) (Ok d) Done Late → u ≡ false
+        → Answers (first_refusal ((b, NoQuery) ∷ (u || m, InUse) ∷ [])) (Ok d) Done Late → u ≡ false
     step false m b D L h = refl
     step true m true D L h = absurd h
     step true m false D L h = absurd h

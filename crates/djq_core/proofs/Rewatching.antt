@@ -13,12 +13,12 @@ use Rattle.djq_lines.specs.declared.answer.Refusal.TheVariants.{NoQuery, NoMemor
 use Rattle.djq_lines.specs.declared.command.Command.TheVariants.{Watch, Unwatch}
 use Rattle.djq_lines.specs.Reply.{ok_reply, watch_reply, refusal_line}
 use Rattle.djq_machine.specs.State.{Store, Session, with_session}
-use Rattle.djq_machine.specs.Conditions.{first_of, Answers, OutOfMemoryWhere}
+use Rattle.djq_machine.specs.Conditions.{first_refusal, Answers, OutOfMemoryWhere}
 use Rattle.djq_machine.specs.Command.{watch_refusal, with_watch, without_watch}
 use Rattle.djq_machine.specs.Watch.{is_watching}
 use Rattle.djq_session.specs.Dialog.{Replies}
 use Rattle.djq_engine.specs.declared.cursor.QueryId.{QueryId}
-use Rattle.djq_engine.specs.Kept.{Kept, Held, Registered, held_at, SameCursors, registered_of}
+use Rattle.djq_engine.specs.Kept.{Kept, HeldCursor, Registered, held_at, SameCursors, registered_of}
 use Rattle.djq_engine.specs.Kept.{registered_at, with_watchers}
 use Rattle.djq_core.specs.declared.open.OpenSession.{OpenSession}
 use Rattle.djq_core.specs.Views.{Talk, session_in, state_in}
@@ -154,7 +154,7 @@ is_there rs st q r e h = ap (λ (o : Option Listed). is_none o)
 -- ---- what is answered
 
 -- what is known around a session holds whatever it watches
-around_watches : (hs : List Held) (front : List OpenSession) (s : ℕ) (d : Talk) (ws : List Bytes)
+around_watches : (hs : List HeldCursor) (front : List OpenSession) (s : ℕ) (d : Talk) (ws : List Bytes)
     (back : List OpenSession) → Around hs front s d back → Around hs front s (record d { watches = ws }) back
 around_watches hs front s d ws back p = record {
   rising = p.rising;
@@ -279,17 +279,17 @@ does_unwatch old new before mid after q (Err e) running w r =
 -- ---- what the calls answer
 
 no_query : (P : Type 0) (b : Bool) → b ≡ true
-    → Answers {A = ⊤} (first_of ((b, NoQuery) ∷ [])) (Err NoQuery) (λ _. ⊤) (OutOfMemoryWhere P)
+    → Answers {A = ⊤} (first_refusal ((b, NoQuery) ∷ [])) (Err NoQuery) (λ _. ⊤) (OutOfMemoryWhere P)
 no_query P true e = refl
 no_query P false e = absurd (cc)
 
 a_query : (P : Type 0) (b : Bool) → b ≡ false
-    → Answers {A = ⊤} (first_of ((b, NoQuery) ∷ [])) (Ok tt) (λ _. ⊤) (OutOfMemoryWhere P)
+    → Answers {A = ⊤} (first_refusal ((b, NoQuery) ∷ [])) (Ok tt) (λ _. ⊤) (OutOfMemoryWhere P)
 a_query P true e = absurd (cc)
 a_query P false e = tt
 
 no_memory : (P : Type 0) (b : Bool) → b ≡ false → P
-    → Answers {A = ⊤} (first_of ((b, NoQuery) ∷ [])) (Err NoMemory) (λ _. ⊤) (OutOfMemoryWhere P)
+    → Answers {A = ⊤} (first_refusal ((b, NoQuery) ∷ [])) (Err NoMemory) (λ _. ⊤) (OutOfMemoryWhere P)
 no_memory P true e p = absurd (cc)
 no_memory P false e p = p
 

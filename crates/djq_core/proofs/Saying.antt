@@ -33,7 +33,7 @@ use Rattle.djq_lines.specs.declared.keyword.Keyword.TheVariants.{Batch as BatchW
 use Rattle.djq_lines.specs.declared.keyword.Keyword.TheVariants.{Done as DoneWord}
 use Rattle.djq_lines.specs.declared.keyword.Keyword.TheVariants.{Abandon as AbandonWord}
 use Rattle.djq_lines.specs.declared.keyword.Keyword.TheVariants.{Quit as QuitWord, Stop as StopWord}
-use Rattle.djq_lines.specs.Grammar.{Reading, outside, past_limit, says, reading_in, reading_of}
+use Rattle.djq_lines.specs.Grammar.{Reading, outside, past_limit, says_command, reading_in, reading_of}
 use Rattle.djq_lines.specs.Grammar.{command_of, command_in, command_with, command_behind}
 use Rattle.djq_lines.specs.Grammar.{is_in_range, takes_memory_to_read, is_count, count_of}
 use Rattle.djq_lines.specs.Grammar.{keyword_of, nothing, type_of, all_of, named_some, named_any}
@@ -56,15 +56,16 @@ use Rattle.djq_core.specs.Batching.{ReadsInBatch, RefusedBy, in_batch, misplaced
 use Rattle.djq_core.specs.Stepping.{IsRunnable, is_on_row, refused_as}
 
 -- what a command in range gives
-read_by : (in_range : Bool) (c : Command) → in_range ≡ true → cond in_range (says c) (past_limit c) ≡ says c
+read_by : (in_range : Bool) (c : Command) → in_range ≡ true → cond in_range (says_command c) (past_limit c)
+    ≡ says_command c
 read_by true c e = refl
 read_by false c e = absurd (cc)
 
-in_says : (o : Option Command) (c : Command) → Gives o (Ok c) → reading_in o ≡ says c
+in_says : (o : Option Command) (c : Command) → Gives o (Ok c) → reading_in o ≡ says_command c
 in_says None c g = absurd (cc (g.0))
-in_says (Some a) c g = read_by (is_in_range a) a g.0.1 ∙ ap (λ (x : Command). says x) (sym g.0.0)
+in_says (Some a) c g = read_by (is_in_range a) a g.0.1 ∙ ap (λ (x : Command). says_command x) (sym g.0.0)
 
-pub reads_as : (line : Bytes) (c : Command) → Reads line (Ok c) → reading_of line ≡ says c
+pub reads_as : (line : Bytes) (c : Command) → Reads line (Ok c) → reading_of line ≡ says_command c
 reads_as line c g = in_says (command_of line) c g
 
 pub in_outside : (o : Option Command) → Gives o (Err Outside) → reading_in o ≡ outside
@@ -74,9 +75,10 @@ in_outside (Some a) g = absurd g.0
 pub in_range_past : (o : Option Command) → Gives o (Err Range) → (c : Command) × (o ≡ Some c)
     × (reading_in o ≡ past_limit c) × (is_in_range c ≡ false)
 in_range_past None g = absurd (cc (g.0))
-in_range_past (Some a) g = (a, refl, ap (λ (b : Bool). cond b (says a) (past_limit a)) g.0, g.0)
+in_range_past (Some a) g = (a, refl, ap (λ (b : Bool). cond b (says_command a) (past_limit a)) g.0, g.0)
 
-pub in_memory : (o : Option Command) → Gives o (Err NoMem) → (c : Command) × (o ≡ Some c) × (reading_in o ≡ says c)
+pub in_memory : (o : Option Command) → Gives o (Err NoMem) → (c : Command) × (o ≡ Some c)
+    × (reading_in o ≡ says_command c)
     × (takes_memory_to_read c ≡ true)
 in_memory None g = absurd (cc (g.0))
 in_memory (Some a) g = (a, refl, read_by (is_in_range a) a g.0, g.1)
@@ -188,8 +190,8 @@ pub refused_in_any : (held : List HeldRow) (r : Reading) (why : Refusal) → Ref
     → RefusedBy (Some held) r why
 refused_in_any held outside why h = h
 refused_in_any held (past_limit c) why h = h ∙ ap past_limit_refusal (sym (in_any_batch held c))
-refused_in_any held (says c) why (inl (m, e)) = inl (in_any_batch held c ∙ m, e)
-refused_in_any held (says c) why (inr (m, t, e)) = inr (in_any_batch held c ∙ m, t, e)
+refused_in_any held (says_command c) why (inl (m, e)) = inl (in_any_batch held c ∙ m, e)
+refused_in_any held (says_command c) why (inr (m, t, e)) = inr (in_any_batch held c ∙ m, t, e)
 
 -- A count that a line says is one at least.
 

@@ -5,7 +5,7 @@ use Rattle.std.specs.Prelude.{All, Contains}
 use Rattle.std.proofs.lemmas.Bool.{eq-eqb}
 use Rattle.std.proofs.lemmas.Grind.{get_or_default_zero}
 use Rattle.djq_machine.specs.State.{Session, State}
-use Rattle.djq_machine.specs.Call.{IsOpen, ids_of}
+use Rattle.djq_machine.specs.Call.{IsOpen, state_ids}
 
 seen_in : (xs : List Session) (s : ℕ) → Contains (map (λ (x : Session). x.id) xs) s
     → is_some (find (λ (x : Session). eqb x.id s) xs) ≡ true
@@ -21,7 +21,7 @@ seen_in (x ∷ xs) s c = step (eqb x.id s) refl c.0 c.1 c.2 (λ d. seen_in xs s 
     step false e (suc k) l h rest = rest (k, omega (arith, l), h)
 
 -- an id that is listed is a session's
-pub listed_open : (st : State) (s : ℕ) → Contains (ids_of st) s → IsOpen st s
+pub listed_open : (st : State) (s : ℕ) → Contains (state_ids st) s → IsOpen st s
 listed_open st s c = seen_in st.sessions s c
 
 -- an id above all that are listed is above all sessions

@@ -18,7 +18,7 @@ use Rattle.djq_core.specs.declared.open.OpenSession.{OpenSession}
 use Rattle.djq_core.specs.Views.{Talk, session_in, open_in, state_in}
 use Rattle.djq_core.specs.Performs.{among, to_keep, unqueued, Performs}
 use Rattle.djq_core.specs.Sound.{IsSound, IsOwn, times_in, watchers_in, is_among_watches, all_ids}
-use Rattle.djq_core.specs.Sound.{ids_of as ids_of_cursors}
+use Rattle.djq_core.specs.Sound.{ids_of_cursors}
 use Rattle.djq_core.specs.Telling.{KeepsTold, HearsDelta, WatchesOn, KeepsUntold, ToldSoFar, GoesOnTelling}
 use Rattle.djq_core.proofs.Around.{parts, found, ids_are}
 use Rattle.djq_core.proofs.Lifting.{queued}

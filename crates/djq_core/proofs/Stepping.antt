@@ -10,7 +10,7 @@ use Rattle.djq_machine.specs.declared.machine.Stepped.{Stepped}
 use Rattle.djq_machine.specs.declared.machine.Stepped.TheVariants.{Ran, Dry, Ended}
 use Rattle.djq_machine.specs.Call.{Counts}
 use Rattle.djq_machine.specs.Changes.{RowsChange, RowsOutcome, row_in, row_out, add_outcome}
-use Rattle.djq_machine.specs.Changes.{delete_outcome, is_accepted as is_made, tried}
+use Rattle.djq_machine.specs.Changes.{delete_outcome, is_made, tried}
 use Rattle.djq_machine.specs.Batch.{batch_outcome}
 use Rattle.djq_engine.specs.declared.cursor.QueryId.{QueryId}
 use Rattle.djq_engine.specs.Kept.{Kept, Registered, Outdates, IsRegistered}

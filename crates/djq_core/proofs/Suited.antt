@@ -7,7 +7,7 @@ use Rattle.djq_lines.specs.declared.held.HeldRow.{HeldRow}
 use Rattle.djq_machine.specs.State.{Store}
 use Rattle.djq_machine.specs.Call.{Counts, StepGives}
 use Rattle.djq_machine.specs.declared.machine.Stepped.{Stepped}
-use Rattle.djq_engine.specs.Kept.{Kept, Held}
+use Rattle.djq_engine.specs.Kept.{Kept, HeldCursor}
 use Rattle.djq_core.specs.declared.open.OpenSession.{OpenSession}
 use Rattle.djq_core.specs.Sound.{BatchSuits, AreSuited, batches_of}
 use Rattle.djq_core.specs.Views.{open_in, state_in}
@@ -18,7 +18,7 @@ abbrev pub own_batches : List OpenSession → List (Option (List HeldRow))
 own_batches xs = map (λ (x : OpenSession). (x.session).batch) xs
 
 -- as the machine sees them
-seen : (hs : List Held) (xs : List OpenSession) → batches (map (open_in hs) xs) ≡ own_batches xs
+seen : (hs : List HeldCursor) (xs : List OpenSession) → batches (map (open_in hs) xs) ≡ own_batches xs
 seen hs [] = refl
 seen hs (x ∷ xs) = ap (λ (bs : List (Option (List HeldRow))). (x.session).batch ∷ bs) (seen hs xs)
 

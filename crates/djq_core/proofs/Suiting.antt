@@ -16,8 +16,8 @@ use Rattle.djq_model.specs.Known.{texts_in, all_learned}
 use Rattle.djq_model.specs.Listed.{Listed, a_query, a_union, listed_name, listed_of}
 use Rattle.djq_model.specs.Typed.{fits}
 use Rattle.djq_lines.specs.Columns.{types_of}
-use Rattle.djq_lines.specs.Conditions.{first_of, Answers, OutOfMemoryWhere}
-use Rattle.djq_lines.specs.Grammar.{Reading, outside, past_limit, says as says_command, reading_of}
+use Rattle.djq_lines.specs.Conditions.{first_refusal, Answers, OutOfMemoryWhere}
+use Rattle.djq_lines.specs.Grammar.{Reading, outside, past_limit, says_command, reading_of}
 use Rattle.djq_lines.specs.Reply.{end_memory}
 use Rattle.djq_lines.specs.Variables.{constants_of}
 use Rattle.djq_lines.specs.declared.limits.TheConstants.{HELD}
@@ -162,7 +162,7 @@ suits_by None p row f h = absurd (cc (h))
 suits_by (Some r) None row f h = absurd (cc (f refl))
 suits_by (Some r) (Some q) row f h =
     let same : q.types ≡ r.types = cc (f refl) in
-    subst (λ (ts : List ColumnType). first_of
+    subst (λ (ts : List ColumnType). first_refusal
     ((not (length row == length ts), Arity) ∷ (not (fits ts row), WrongType) ∷ []) ≡ None) (sym same) h
 
 pub suits_still : (old new : Store) (name : Bytes) (row : Tuple) → KeepTypes old.relations new.relations
@@ -491,7 +491,8 @@ holds st held l name row (Ok x) a own d is = by (is_none (relation_of st.relatio
     by : (b c d e : Bool) → is_none (relation_of st.relations name) ≡ b
         → not (length row == length (types_of (relation_of st.relations name))) ≡ c
         → not (fits (types_of (relation_of st.relations name)) row) ≡ d → nat_le HELD (length held) ≡ e
-        → Answers (first_of ((b, NoRelation) ∷ (c, Arity) ∷ (d, WrongType) ∷ (e, Limit) ∷ [])) (Ok x) (λ (x : ⊤). ⊤)
+        → Answers (first_refusal ((b, NoRelation) ∷ (c, Arity) ∷ (d, WrongType) ∷ (e, Limit) ∷ [])) (Ok x)
+        (λ (x : ⊤). ⊤)
         (OutOfMemoryWhere ⊤)
         → BatchSuits st (Some (held ++ record { line = l; relation = name; row = row } ∷ []))
     by true c d e f g i j k = absurd k

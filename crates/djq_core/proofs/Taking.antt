@@ -5,7 +5,7 @@ use Rattle.djq_lines.specs.declared.limits.TheConstants.{PENDING_BYTES}
 use Rattle.djq_lines.specs.declared.answer.Refusal.{Refusal}
 use Rattle.djq_lines.specs.declared.command.Command.{Command}
 use Rattle.djq_lines.specs.Line.{a_line, front_of, is_blank}
-use Rattle.djq_lines.specs.Grammar.{Reading, says, reading_of}
+use Rattle.djq_lines.specs.Grammar.{Reading, says_command, reading_of}
 use Rattle.djq_lines.specs.Reply.{refusal_line}
 use Rattle.djq_machine.specs.State.{Session, State}
 use Rattle.djq_machine.specs.Keeping.{kept_where}
@@ -117,7 +117,7 @@ runs kept stops old before mid l rest new after was now f e said few p =
 -- a line that says a command
 pub reads_said : (kept stops : Bool) (old : Kept) (before : Talk) (l : Bytes) (command : Command) (new : Kept)
     (after : Talk) (was now : ℕ)
-    → reading_of l ≡ says command → is_misplaced before.batch command ≡ false
+    → reading_of l ≡ says_command command → is_misplaced before.batch command ≡ false
     → Performs (λ st s x e st'. CommandStep st s x l command e st' × (e.kept ≡ kept_where kept)) stops old before new
     after was now
     → Performs (λ st s x e st'. ReadStep st s x l (reading_of l) e st' × (e.kept ≡ kept_where kept)) stops old before
@@ -141,7 +141,7 @@ reads_said kept stops old before l command new after was now r placed p = record
 -- one that isn't one of a row
 pub reads_command : (kept stops : Bool) (old : Kept) (before : Talk) (l : Bytes) (command : Command) (new : Kept)
     (after : Talk) (was now : ℕ)
-    → reading_of l ≡ says command → is_on_row command ≡ false → is_misplaced before.batch command ≡ false
+    → reading_of l ≡ says_command command → is_on_row command ≡ false → is_misplaced before.batch command ≡ false
     → ExecutesKeeping command kept stops old before new after was now
     → Performs (λ st s x e st'. ReadStep st s x l (reading_of l) e st' × (e.kept ≡ kept_where kept)) stops old before
     new after was now

@@ -21,7 +21,7 @@ use Rattle.djq_engine.specs.declared.cursor.CursorId.{CursorId}
 use Rattle.djq_live.specs.declared.listing.Next.{Next}
 use Rattle.djq_live.specs.declared.listing.Next.TheVariants.{Given, End, Stale}
 use Rattle.djq_live.specs.Live.{Live, values_of}
-use Rattle.djq_engine.specs.Kept.{Kept, Held, held_at, same_id, IsHeld, IsFresh, IsOpenAt}
+use Rattle.djq_engine.specs.Kept.{Kept, HeldCursor, held_at, same_id, IsHeld, IsFresh, IsOpenAt}
 use Rattle.djq_engine.specs.Kept.{MovesCursor, read_steps, MoreGives, MoreGivesAt, AnswerIs, IsShown}
 use Rattle.djq_store.specs.Reading.{NextGives, NextGivesAt}
 use Rattle.djq_core.specs.declared.listing.Listed.{Listed as HowListed}
@@ -34,11 +34,11 @@ use Rattle.djq_store.proofs.Found.{found_passes}
 use Rattle.djq_core.proofs.Lines.{text_last}
 
 -- a cursor that is held under an id has it
-held_id : (hs : List Held) (id : CursorId) (h : Held) → held_at hs id ≡ Some h → h.id ≡ id
-held_id hs id h e = same_id_same h.id id (found_passes (λ (x : Held). same_id x.id id) hs h e)
+held_id : (hs : List HeldCursor) (id : CursorId) (h : HeldCursor) → held_at hs id ≡ Some h → h.id ≡ id
+held_id hs id h e = same_id_same h.id id (found_passes (λ (x : HeldCursor). same_id x.id id) hs h e)
 
 -- Answers told so far: as many as were read, in a text that is queued.
-pub record Told (old : Kept) (id : CursorId) (before : Talk) (h : Held) (given : List Tuple) (n : ℕ) (k : Kept)
+pub record Told (old : Kept) (id : CursorId) (before : Talk) (h : HeldCursor) (given : List Tuple) (n : ℕ) (k : Kept)
     (d : Talk) (was now : ℕ) : Type 0 where
   pub told : List Tuple
   pub count : length told ≡ n
@@ -58,17 +58,17 @@ pub record Untold (old : Kept) (before : Talk) (n : ℕ) (k : Kept) (d : Talk) (
   pub session : d ≡ before
   pub counted : now ≡ was
 
-abbrev pub SoFarAt : Kept → CursorId → Talk → Held → Position → ℕ → Kept → Talk → ℕ → ℕ → Type 0
+abbrev pub SoFarAt : Kept → CursorId → Talk → HeldCursor → Position → ℕ → Kept → Talk → ℕ → ℕ → Type 0
 SoFarAt old id before h (open_at given ended) n k d was now = Told old id before h given n k d was now
 SoFarAt old id before h (stale r m) n k d was now = Untold old before n k d was now
 
 -- how far reading a cursor has come
 pub record SoFar (old : Kept) (id : CursorId) (before : Talk) (n : ℕ) (k : Kept) (d : Talk) (was now : ℕ) : Type 0 where
-  pub cursor : Held
+  pub cursor : HeldCursor
   pub held : held_at old.cursors id ≡ Some cursor
   pub so_far : SoFarAt old id before cursor cursor.position n k d was now
 
-starts_at : (k : Kept) (id : CursorId) (d : Talk) (h : Held) (p : Position) (was : ℕ) → h.position ≡ p
+starts_at : (k : Kept) (id : CursorId) (d : Talk) (h : HeldCursor) (p : Position) (was : ℕ) → h.position ≡ p
     → held_at k.cursors id ≡ Some h → GivesApart p → REPLY_BYTES + LAST_LINE_BYTES ≤ d.room
     → SoFarAt k id d h p 0 k d was was
 starts_at k id d h (open_at given ended) was e held apart room = record {
@@ -102,11 +102,11 @@ starts k id d was held room = record {
 }
 
 -- the cursor is still held
-still_held : (old : Kept) (id : CursorId) (before : Talk) (h : Held) (p : Position) (n : ℕ) (k : Kept) (d : Talk)
+still_held : (old : Kept) (id : CursorId) (before : Talk) (h : HeldCursor) (p : Position) (n : ℕ) (k : Kept) (d : Talk)
     (was now : ℕ) → held_at old.cursors id ≡ Some h → SoFarAt old id before h p n k d was now → IsHeld k id
-still_held old id before h (open_at given ended) n k d was now held t = ap (λ (o : Option Held). is_some o)
+still_held old id before h (open_at given ended) n k d was now held t = ap (λ (o : Option HeldCursor). is_some o)
     t.stands.there
-still_held old id before h (stale r m) n k d was now held t = ap (λ (o : Option Held). is_some o)
+still_held old id before h (stale r m) n k d was now held t = ap (λ (o : Option HeldCursor). is_some o)
     (ap (λ (x : Kept). held_at x.cursors id) t.engine ∙ held)
 
 pub is_held_still : (old : Kept) (id : CursorId) (before : Talk) (n : ℕ) (k : Kept) (d : Talk) (was now : ℕ)
@@ -115,9 +115,9 @@ is_held_still old id before n k d was now s = still_held old id before s.cursor 
     s.so_far
 
 -- what a call gives of the cursor where it is
-of_held : (P : Held → Type 0) (hs : List Held) (id : CursorId) (h : Held) → held_at hs id ≡ Some h
+of_held : (P : HeldCursor → Type 0) (hs : List HeldCursor) (id : CursorId) (h : HeldCursor) → held_at hs id ≡ Some h
     → IsSomeAnd (held_at hs id) P → P h
-of_held P hs id h e g = subst (λ (o : Option Held). IsSomeAnd o P) e g
+of_held P hs id h e g = subst (λ (o : Option HeldCursor). IsSomeAnd o P) e g
 
 pub of_query : (P : Listed → Type 0) (o : Option Listed) → IsSomeAnd o P → (q : Listed) × (o ≡ Some q) × P q
 of_query P None g = absurd g
@@ -139,14 +139,15 @@ text_more ts t = ap text_of (map_push ts t)
 
 -- A read, where the cursor is open.
 
-pub record ReadOpen (old : Kept) (id : CursorId) (h : Held) (at : List Tuple) (ended : Bool) (k : Kept) (result : Next)
+pub record ReadOpen (old : Kept) (id : CursorId) (h : HeldCursor) (at : List Tuple) (ended : Bool) (k : Kept)
+    (result : Next)
     (answer : List ℕ) (k' : Kept) (now now' : ℕ) : Type 0 where
   pub query : Listed
   pub registered : listed_of (old.store).queries h.query ≡ Some query
   pub gives : NextGivesAt k (record h { position = open_at at ended }) query (open_at at ended) result answer k'
   pub counted : now' ≤ now + read_steps result query
 
-read_open : (old : Kept) (id : CursorId) (h : Held) (at : List Tuple) (ended : Bool) (k : Kept) (result : Next)
+read_open : (old : Kept) (id : CursorId) (h : HeldCursor) (at : List Tuple) (ended : Bool) (k : Kept) (result : Next)
     (answer : List ℕ) (k' : Kept) (now now' : ℕ)
     → StandsAt old id h (open_at at ended) k → NextGives k id result answer k' now now'
     → ReadOpen old id h at ended k result answer k' now now'
@@ -161,7 +162,8 @@ read_open old id h at ended k result answer k' now now' s g =
     }
 
 -- a cursor that is moved stands elsewhere
-moves_on : (old : Kept) (id : CursorId) (h : Held) (p r : Position) (k k' : Kept) → held_at old.cursors id ≡ Some h
+moves_on : (old : Kept) (id : CursorId) (h : HeldCursor) (p r : Position) (k k' : Kept) → held_at old.cursors id
+    ≡ Some h
     → StandsAt old id h p k → MovesCursor k (record h { position = p }) r k' → GivesApart r
     → StandsAt old id h r k'
 moves_on old id h p r k k' e s m apart =
@@ -188,7 +190,7 @@ one_query : (o : Option Listed) (q r : Listed) → o ≡ Some q → o ≡ Some r
 one_query o q r e f = let s : Some q ≡ Some r = sym e ∙ f in cc
 
 -- What a further answer is: one that is left, and that the engine lends.
-pub record Further (old : Kept) (id : CursorId) (h : Held) (given told : List Tuple) (k' : Kept) (answer : List ℕ)
+pub record Further (old : Kept) (id : CursorId) (h : HeldCursor) (given told : List Tuple) (k' : Kept) (answer : List ℕ)
     (q : Listed) : Type 0 where
   pub tuple : Tuple
   pub left : IsLeft (AnswersOf (old.store).relations q) (given ++ told) tuple
@@ -196,7 +198,8 @@ pub record Further (old : Kept) (id : CursorId) (h : Held) (given told : List Tu
   pub is : AnswerIs k' id answer tuple
   pub stands : StandsAt old id h (open_at (given ++ (told ++ tuple ∷ [])) false) k'
 
-further : (old : Kept) (id : CursorId) (h : Held) (given told : List Tuple) (ended : Bool) (k : Kept) (answer : List ℕ)
+further : (old : Kept) (id : CursorId) (h : HeldCursor) (given told : List Tuple) (ended : Bool) (k : Kept)
+    (answer : List ℕ)
     (k' : Kept) (now now' : ℕ)
     → held_at old.cursors id ≡ Some h → StandsAt old id h (open_at (given ++ told) ended) k
     → (r : ReadOpen old id h (given ++ told) ended k Given answer k' now now')
@@ -227,14 +230,14 @@ lent_is k id answer t u = step (get_or k.places id.query.at None)
     step (Some l) a b = b ∙ sym a
 
 -- A read of a stale cursor gives what made it so.
-pub record ReadStale (old : Kept) (h : Held) (r : Bytes) (m : ℕ) (result : Next) (answer : List ℕ) (k' : Kept)
+pub record ReadStale (old : Kept) (h : HeldCursor) (r : Bytes) (m : ℕ) (result : Next) (answer : List ℕ) (k' : Kept)
     (was now' : ℕ) : Type 0 where
   pub query : Listed
   pub registered : listed_of (old.store).queries h.query ≡ Some query
   pub gives : NextGivesAt old h query (stale r m) result answer k'
   pub counted : now' ≤ was + read_steps result query
 
-read_stale : (old : Kept) (id : CursorId) (before : Talk) (h : Held) (r : Bytes) (m n : ℕ) (k : Kept) (d : Talk)
+read_stale : (old : Kept) (id : CursorId) (before : Talk) (h : HeldCursor) (r : Bytes) (m n : ℕ) (k : Kept) (d : Talk)
     (was now : ℕ) (result : Next) (answer : List ℕ) (k' : Kept) (now' : ℕ)
     → held_at old.cursors id ≡ Some h → h.position ≡ stale r m → Untold old before n k d was now
     → NextGives k id result answer k' now now' → ReadStale old h r m result answer k' was now'
@@ -250,14 +253,14 @@ read_stale old id before h r m n k d was now result answer k' now' e f t g =
     }
 
 -- A further answer is there to be lent.
-there_at : (old : Kept) (id : CursorId) (before : Talk) (h : Held) (p : Position) (n : ℕ) (k : Kept) (d : Talk)
+there_at : (old : Kept) (id : CursorId) (before : Talk) (h : HeldCursor) (p : Position) (n : ℕ) (k : Kept) (d : Talk)
     (was now : ℕ) (answer : List ℕ) (k' : Kept) (now' : ℕ)
     → held_at old.cursors id ≡ Some h → h.position ≡ p → SoFarAt old id before h p n k d was now
     → NextGives k id Given answer k' now now' → IsShown k' id answer × IsHeld k' id
 there_at old id before h (open_at given ended) n k d was now answer k' now' e f t g =
     let r = read_open old id h (given ++ t.told) t.ended k Given answer k' now now' t.stands g in
     let x = further old id h given t.told t.ended k answer k' now now' e t.stands r in
-    (x.there, ap (λ (o : Option Held). is_some o) (x.stands).there)
+    (x.there, ap (λ (o : Option HeldCursor). is_some o) (x.stands).there)
 there_at old id before h (stale a b) n k d was now answer k' now' e f t g =
     let r = read_stale old id before h a b n k d was now Given answer k' now' e f t g in absurd r.gives
 
@@ -268,7 +271,7 @@ is_there old id before n k d was now answer k' now' s g = there_at old id before
     now answer k' now' s.held refl s.so_far g
 
 -- An answer more is told.
-more_at : (old : Kept) (id : CursorId) (before : Talk) (h : Held) (p : Position) (n : ℕ) (k : Kept) (d : Talk)
+more_at : (old : Kept) (id : CursorId) (before : Talk) (h : HeldCursor) (p : Position) (n : ℕ) (k : Kept) (d : Talk)
     (was now : ℕ) (answer : List ℕ) (k' : Kept) (d' : Talk) (now' : ℕ) (tuple : Tuple)
     → held_at old.cursors id ≡ Some h → h.position ≡ p → SoFarAt old id before h p n k d was now
     → NextGives k id Given answer k' now now'
@@ -335,7 +338,7 @@ lacked : (before d d' : Talk) (text line : Bytes) → d
 lacked before d d' text line e l = l.same ∙ ap (λ (y : Talk). record y { room = d'.room }) e
 
 -- a further answer finds no room
-cut_at_answer : (old : Kept) (id : CursorId) (before : Talk) (h : Held) (p : Position) (n count : ℕ) (k : Kept)
+cut_at_answer : (old : Kept) (id : CursorId) (before : Talk) (h : HeldCursor) (p : Position) (n count : ℕ) (k : Kept)
     (d : Talk) (was now : ℕ) (answer : List ℕ) (k' : Kept) (d' : Talk) (now' : ℕ) (tuple : Tuple)
     → held_at old.cursors id ≡ Some h → h.position ≡ p → REPLY_BYTES + LAST_LINE_BYTES ≤ before.room → n < count
     → SoFarAt old id before h p n k d was now → NextGives k id Given answer k' now now'
@@ -382,7 +385,7 @@ is_cut old id before n count k d was now answer k' d' now' tuple room below s g 
     record { cursor = s.cursor; held = s.held; query = r.0; registered = r.1; lists = r.2 }
 
 -- the last line is queued, or finds no room
-last_put : (old : Kept) (id : CursorId) (before : Talk) (h : Held) (given : List Tuple) (e0 : Bool) (n count : ℕ)
+last_put : (old : Kept) (id : CursorId) (before : Talk) (h : HeldCursor) (given : List Tuple) (e0 : Bool) (n count : ℕ)
     (k : Kept) (d : Talk) (was now : ℕ) (q : Listed) (end : Bool) (k' : Kept) (d' : Talk) (now' : ℕ)
     (outcome : Result ⊤ NoMem) (listed : HowListed)
     → REPLY_BYTES + LAST_LINE_BYTES ≤ before.room → (t : Told old id before h given n k d was now)
@@ -447,7 +450,8 @@ last_put old id before h given e0 n count k d was now q end k' d' now' (Err r) l
     )
 
 -- The end is read.
-end_at : (old : Kept) (id : CursorId) (before : Talk) (h : Held) (p : Position) (n count : ℕ) (k : Kept) (d : Talk)
+end_at : (old : Kept) (id : CursorId) (before : Talk) (h : HeldCursor) (p : Position) (n count : ℕ) (k : Kept)
+    (d : Talk)
     (was now : ℕ) (answer : List ℕ) (k' : Kept) (d' : Talk) (now' : ℕ) (outcome : Result ⊤ NoMem) (listed : HowListed)
     → held_at old.cursors id ≡ Some h → h.position ≡ p → REPLY_BYTES + LAST_LINE_BYTES ≤ before.room → n ≤ count
     → SoFarAt old id before h p n k d was now → NextGives k id End answer k' now now'
@@ -477,7 +481,8 @@ is_ended old id before n count k d was now answer k' d' now' outcome listed room
     record { cursor = s.cursor; held = s.held; query = r.0; registered = r.1; lists = r.2 }
 
 -- The cursor is stale.
-stale_at : (old : Kept) (id : CursorId) (before : Talk) (h : Held) (p : Position) (n count : ℕ) (k : Kept) (d : Talk)
+stale_at : (old : Kept) (id : CursorId) (before : Talk) (h : HeldCursor) (p : Position) (n count : ℕ) (k : Kept)
+    (d : Talk)
     (was now : ℕ) (relation : Bytes) (seq : ℕ) (answer : List ℕ) (k' : Kept) (now' : ℕ)
     → held_at old.cursors id ≡ Some h → h.position ≡ p → SoFarAt old id before h p n k d was now
     → NextGives k id (Stale relation seq) answer k' now now'
@@ -501,10 +506,10 @@ is_stale old id before n count k d was now relation seq answer k' now' s g =
 
 -- As many were read as asked for.
 
-fresh_at : (old : Kept) (id : CursorId) (before : Talk) (h : Held) (p : Position) (n : ℕ) (k : Kept) (d : Talk)
+fresh_at : (old : Kept) (id : CursorId) (before : Talk) (h : HeldCursor) (p : Position) (n : ℕ) (k : Kept) (d : Talk)
     (was now : ℕ) → 1 ≤ n → SoFarAt old id before h p n k d was now → IsFresh k id
 fresh_at old id before h (open_at given ended) n k d was now le t = subst
-    (λ (o : Option Held). IsSomeAnd o (λ x. IsOpenAt x.position)) (sym t.stands.there) tt
+    (λ (o : Option HeldCursor). IsSomeAnd o (λ x. IsOpenAt x.position)) (sym t.stands.there) tt
 fresh_at old id before h (stale a b) n k d was now le t = absurd (omega (arith, t.none))
 
 pub is_fresh : (old : Kept) (id : CursorId) (before : Talk) (n : ℕ) (k : Kept) (d : Talk) (was now : ℕ) → 1 ≤ n
@@ -513,14 +518,15 @@ is_fresh old id before n k d was now le s = fresh_at old id before s.cursor (s.c
     s.so_far
 
 -- whether more is left, of a cursor that is open
-pub record MoreOpen (old : Kept) (id : CursorId) (h : Held) (at : List Tuple) (ended : Bool) (k : Kept) (more : Bool)
+pub record MoreOpen (old : Kept) (id : CursorId) (h : HeldCursor) (at : List Tuple) (ended : Bool) (k : Kept)
+    (more : Bool)
     (k' : Kept) (now now' : ℕ) : Type 0 where
   pub query : Listed
   pub registered : listed_of (old.store).queries h.query ≡ Some query
   pub gives : MoreGivesAt k (record h { position = open_at at ended }) query (open_at at ended) more k'
   pub counted : now' ≤ now + answer_steps query
 
-more_open : (old : Kept) (id : CursorId) (h : Held) (at : List Tuple) (ended : Bool) (k : Kept) (more : Bool)
+more_open : (old : Kept) (id : CursorId) (h : HeldCursor) (at : List Tuple) (ended : Bool) (k : Kept) (more : Bool)
     (k' : Kept) (now now' : ℕ)
     → StandsAt old id h (open_at at ended) k → MoreGives k id more k' now now'
     → MoreOpen old id h at ended k more k' now now'
@@ -534,7 +540,8 @@ more_open old id h at ended k more k' now now' s g =
       counted = q.2.1;
     }
 
-asked_at : (old : Kept) (id : CursorId) (before : Talk) (h : Held) (p : Position) (n count : ℕ) (k : Kept) (d : Talk)
+asked_at : (old : Kept) (id : CursorId) (before : Talk) (h : HeldCursor) (p : Position) (n count : ℕ) (k : Kept)
+    (d : Talk)
     (was now : ℕ) (more : Bool) (k' : Kept) (d' : Talk) (now' : ℕ) (outcome : Result ⊤ NoMem) (listed : HowListed)
     → held_at old.cursors id ≡ Some h → h.position ≡ p → REPLY_BYTES + LAST_LINE_BYTES ≤ before.room → n ≡ count
     → 1 ≤ count → SoFarAt old id before h p n k d was now → MoreGives k id more k' now now'

@@ -30,7 +30,7 @@ use Rattle.djq_lines.specs.declared.command.Command.TheVariants.{
   Quit as SayQuit,
   Stop as SayStop,
 }
-use Rattle.djq_lines.specs.Grammar.{Reading, outside, past_limit, says, reading_of, takes_memory_to_read}
+use Rattle.djq_lines.specs.Grammar.{Reading, outside, past_limit, says_command, reading_of, takes_memory_to_read}
 use Rattle.djq_lines.specs.Conditions.{Answers, OutOfMemoryWhere}
 use Rattle.djq_lines.specs.declared.held.HeldRow.{HeldRow}
 use Rattle.djq_lines.specs.Reply.{held_reply, refusal_line}
@@ -72,17 +72,17 @@ row_refused_as Deletes r = misplaced_as r
 abbrev pub RefusedBy : Option (List HeldRow) → Reading → Refusal → Type 0
 RefusedBy batch outside r = r ≡ Syntax
 RefusedBy batch (past_limit c) r = r ≡ past_limit_refusal (is_misplaced batch c)
-RefusedBy batch (says c) r = ((is_misplaced batch c ≡ true) × (r ≡ Misplaced))
+RefusedBy batch (says_command c) r = ((is_misplaced batch c ≡ true) × (r ≡ Misplaced))
     ⊎ ((is_misplaced batch c ≡ false) × (takes_memory_to_read c ≡ true) × (r ≡ NoMemory))
 
 -- What a line says in a batch, where these values are left of its row.
 abbrev pub ReadsInBatch : Bytes → BatchLine → Tuple → Type 0
 ReadsInBatch line (Hold name) row =
-    (reading_of line ≡ says (Add name.now row)) × (length name.now ≤ NAME_BYTES)
-ReadsInBatch line Done row = reading_of line ≡ says SayDone
-ReadsInBatch line Abandon row = reading_of line ≡ says SayAbandon
-ReadsInBatch line Quit row = reading_of line ≡ says SayQuit
-ReadsInBatch line Stop row = reading_of line ≡ says SayStop
+    (reading_of line ≡ says_command (Add name.now row)) × (length name.now ≤ NAME_BYTES)
+ReadsInBatch line Done row = reading_of line ≡ says_command SayDone
+ReadsInBatch line Abandon row = reading_of line ≡ says_command SayAbandon
+ReadsInBatch line Quit row = reading_of line ≡ says_command SayQuit
+ReadsInBatch line Stop row = reading_of line ≡ says_command SayStop
 ReadsInBatch line (Refused r) row = RefusedBy (Some []) (reading_of line) r
 
 -- the row that a line says, to be held for a relation

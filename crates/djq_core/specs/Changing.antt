@@ -32,7 +32,7 @@ use Rattle.djq_lines.specs.declared.command.Command.{Command}
 use Rattle.djq_lines.specs.declared.command.Command.TheVariants.{Add, Del, Done as SayDone}
 use Rattle.djq_lines.specs.declared.held.HeldRow.{HeldRow}
 use Rattle.djq_lines.specs.Line.{a_line, front_of, is_blank}
-use Rattle.djq_lines.specs.Grammar.{says, reading_of}
+use Rattle.djq_lines.specs.Grammar.{says_command, reading_of}
 use Rattle.djq_lines.specs.Reply.{add_reply, delete_reply, done_reply}
 use Rattle.djq_machine.specs.Keeping.{is_done, is_removal}
 use Rattle.djq_machine.specs.Batch.{AddsBatch, batch_outcome}
@@ -131,7 +131,7 @@ pub record LeavesChange (outcome : Outcome) (old : Kept) (before : Talk) (new : 
   pub said : is_blank line ≡ false
   pub few : length before.pending ≤ PENDING_BYTES
   pub command : Command
-  pub reads : reading_of line ≡ says command
+  pub reads : reading_of line ≡ says_command command
   pub changes : IsChange command before.batch old outcome new was now
   -- a batch that is open is closed
   pub taken : after ≡ record before { held = rest; room = after.room; batch = None }

@@ -10,14 +10,15 @@ use Rattle.djq_session.specs.Dialog.{EndsWith}
 use Rattle.djq_engine.specs.declared.cursor.CursorId.{CursorId}
 use Rattle.djq_engine.specs.Kept.{Kept, held_at}
 use Rattle.djq_core.specs.Views.{Talk}
-use Rattle.djq_core.specs.Sound.{ids_of, is_among, IsApart, StaysCounted, listed}
+use Rattle.djq_core.specs.Sound.{ids_of_cursors, is_among, IsApart, StaysCounted, listed}
 use Rattle.djq_core.specs.Performs.{to_one}
 
 -- The cursors of a session are gone, and nothing else.
 pub record GivesUpCursors (old : Kept) (before : Talk) (new : Kept) (after : Talk) : Type 0 where
   pub store : new.store ≡ old.store
-  pub gone : (c : CursorId) → is_among c (ids_of before.cursors) ≡ true → held_at new.cursors c ≡ None
-  pub others : (c : CursorId) → IsApart c (ids_of before.cursors) → held_at new.cursors c ≡ held_at old.cursors c
+  pub gone : (c : CursorId) → is_among c (ids_of_cursors before.cursors) ≡ true → held_at new.cursors c ≡ None
+  pub others : (c : CursorId) → IsApart c (ids_of_cursors before.cursors) → held_at new.cursors c ≡ held_at
+      old.cursors c
   pub session : after ≡ record before { cursors = [] }
   pub registered : new.registered ≡ old.registered
   pub affected : new.affected ≡ old.affected
@@ -33,8 +34,9 @@ pub record GivesUpWatches (old : Kept) (before : Talk) (new : Kept) (after : Tal
 -- Both are gone, and nothing else.
 pub record GivesUp (old : Kept) (before : Talk) (new : Kept) (after : Talk) : Type 0 where
   pub store : new.store ≡ old.store
-  pub gone : (c : CursorId) → is_among c (ids_of before.cursors) ≡ true → held_at new.cursors c ≡ None
-  pub others : (c : CursorId) → IsApart c (ids_of before.cursors) → held_at new.cursors c ≡ held_at old.cursors c
+  pub gone : (c : CursorId) → is_among c (ids_of_cursors before.cursors) ≡ true → held_at new.cursors c ≡ None
+  pub others : (c : CursorId) → IsApart c (ids_of_cursors before.cursors) → held_at new.cursors c ≡ held_at
+      old.cursors c
   pub session : after ≡ record before { cursors = []; watches = [] }
   pub counted : StaysCounted old.registered before.watches new.registered []
 

@@ -10,14 +10,14 @@ use Rattle.djq_machine.specs.State.{Position, open_at, stale}
 use Rattle.djq_machine.specs.Store.{TellsAnswers, answer_steps}
 use Rattle.djq_machine.specs.Command.{IsNextLine}
 use Rattle.djq_engine.specs.declared.cursor.CursorId.{CursorId}
-use Rattle.djq_engine.specs.Kept.{Kept, Held, held_at, OthersStay}
+use Rattle.djq_engine.specs.Kept.{Kept, HeldCursor, held_at, OthersStay}
 use Rattle.djq_core.specs.declared.listing.Listed.{Listed as HowListed}
 use Rattle.djq_core.specs.declared.listing.Listed.TheVariants.{Whole, Cut, Stale}
 use Rattle.djq_core.specs.Views.{Talk}
 use Rattle.djq_core.specs.Sound.{GivesApart}
 
 -- The engine's cursor stands here now, and nothing else of the engine has changed.
-pub record StandsAt (old : Kept) (id : CursorId) (h : Held) (position : Position) (new : Kept) : Type 0 where
+pub record StandsAt (old : Kept) (id : CursorId) (h : HeldCursor) (position : Position) (new : Kept) : Type 0 where
   pub there : held_at new.cursors id ≡ Some (record h { position = position })
   pub others : OthersStay old.cursors id new.cursors
   pub store : new.store ≡ old.store
@@ -25,7 +25,7 @@ pub record StandsAt (old : Kept) (id : CursorId) (h : Held) (position : Position
   pub apart : GivesApart position
 
 -- All lines of a listing are queued.
-pub record WholeListing (old : Kept) (id : CursorId) (before : Talk) (count : ℕ) (h : Held)
+pub record WholeListing (old : Kept) (id : CursorId) (before : Talk) (count : ℕ) (h : HeldCursor)
     (q : Listed) (given : List Tuple) (new : Kept) (after : Talk) (was now : ℕ) : Type 0 where
   pub told : List Tuple
   pub end : Bool
@@ -36,7 +36,7 @@ pub record WholeListing (old : Kept) (id : CursorId) (before : Talk) (count : �
 
 -- Its first lines are queued, and there is no room for the next one: with it the text is above what was kept for a
 -- reply.
-pub record CutListing (old : Kept) (id : CursorId) (before : Talk) (count : ℕ) (h : Held)
+pub record CutListing (old : Kept) (id : CursorId) (before : Talk) (count : ℕ) (h : HeldCursor)
     (q : Listed) (given : List Tuple) (new : Kept) (after : Talk) (was now : ℕ) : Type 0 where
   pub told : List Tuple
   pub answers : All (AnswersOf (old.store).relations q) told
@@ -51,7 +51,7 @@ pub record CutListing (old : Kept) (id : CursorId) (before : Talk) (count : ℕ)
   pub counted : now ≤ was + (length told + 1) * answer_steps q
 
 -- how a listing of a cursor at a position came out
-abbrev pub ListsAt : Kept → CursorId → Talk → ℕ → Held → Listed → Position → HowListed → Kept
+abbrev pub ListsAt : Kept → CursorId → Talk → ℕ → HeldCursor → Listed → Position → HowListed → Kept
     → Talk → ℕ → ℕ → Type 0
 ListsAt old id before count h q (open_at given ended) Whole new after was now = WholeListing old id before count h q
     given new after was now
@@ -65,7 +65,7 @@ ListsAt old id before count h q (stale s m) _ new after was now = ⊥
 -- A listing of the engine's cursor is queued to a session, or told to be stale.
 pub record Lists (old : Kept) (id : CursorId) (before : Talk) (count : ℕ)
     (result : HowListed) (new : Kept) (after : Talk) (was now : ℕ) : Type 0 where
-  pub cursor : Held
+  pub cursor : HeldCursor
   pub held : held_at old.cursors id ≡ Some cursor
   pub query : Listed
   pub registered : listed_of (old.store).queries cursor.query ≡ Some query

@@ -5,7 +5,7 @@ use Rattle.djq_model.specs.Listed.{listed_of}
 use Rattle.djq_lines.specs.declared.limits.TheConstants.{CURSORS}
 use Rattle.djq_lines.specs.declared.answer.Refusal.{Refusal}
 use Rattle.djq_lines.specs.declared.answer.Refusal.TheVariants.{Taken, NoQuery, Limit}
-use Rattle.djq_machine.specs.Conditions.{first_of, Answers, OutOfMemoryWhere}
+use Rattle.djq_machine.specs.Conditions.{first_refusal, Answers, OutOfMemoryWhere}
 use Rattle.djq_session.specs.Dialog.{named}
 use Rattle.djq_engine.specs.declared.cursor.CursorId.{CursorId}
 use Rattle.djq_engine.specs.Kept.{Kept, OpensCursor, SameCursors}
@@ -13,7 +13,7 @@ use Rattle.djq_core.specs.Views.{Talk}
 
 -- why a cursor isn't opened
 abbrev pub refusal_of : Kept → Talk → Bytes → Bytes → Option Refusal
-refusal_of k d c q = first_of (
+refusal_of k d c q = first_refusal (
     (is_some (named d.cursors c), Taken)
     ∷ (is_none (listed_of (k.store).queries q), NoQuery)
     ∷ (nat_le CURSORS (length d.cursors), Limit)

@@ -10,7 +10,7 @@ use Rattle.djq_lines.specs.declared.limits.TheConstants.{SESSIONS, REPLY_BYTES, 
 use Rattle.djq_lines.specs.declared.held.HeldRow.{HeldRow}
 use Rattle.djq_session.specs.declared.named.NamedCursor.{NamedCursor}
 use Rattle.djq_engine.specs.declared.cursor.CursorId.{CursorId}
-use Rattle.djq_engine.specs.Kept.{Kept, Held, Registered, held_at, same_id, registered_of}
+use Rattle.djq_engine.specs.Kept.{Kept, HeldCursor, Registered, held_at, same_id, registered_of}
 use Rattle.djq_machine.specs.State.{Store, Position, open_at, stale}
 use Rattle.djq_machine.specs.Batch.{SuitAll}
 use Rattle.djq_core.specs.declared.open.OpenSession.{OpenSession}
@@ -27,13 +27,13 @@ Rises [] = ⊤
 Rises (n ∷ ns) = IsBelow n ns × Rises ns
 
 -- the engine's cursors of a session
-abbrev pub ids_of : List (NamedCursor CursorId) → List CursorId
-ids_of names = map (λ n. n.cursor) names
+abbrev pub ids_of_cursors : List (NamedCursor CursorId) → List CursorId
+ids_of_cursors names = map (λ n. n.cursor) names
 
 -- the engine's cursors of all these sessions
 abbrev pub all_ids : List OpenSession → List CursorId
 all_ids [] = []
-all_ids (x ∷ xs) = ids_of (x.session).cursors ++ all_ids xs
+all_ids (x ∷ xs) = ids_of_cursors (x.session).cursors ++ all_ids xs
 
 -- the answers that an open cursor has given are different
 abbrev pub GivesApart : Position → Type 0
@@ -41,9 +41,9 @@ GivesApart (open_at given ended) = AreDifferent given
 GivesApart (stale r n) = ⊤
 
 -- The engine holds each of these cursors, which has given different answers.
-abbrev pub AreHeld : List Held → List CursorId → Type 0
+abbrev pub AreHeld : List HeldCursor → List CursorId → Type 0
 AreHeld hs [] = ⊤
-AreHeld hs (c ∷ cs) = ((h : Held) × (held_at hs c ≡ Some h) × GivesApart h.position) × AreHeld hs cs
+AreHeld hs (c ∷ cs) = ((h : HeldCursor) × (held_at hs c ≡ Some h) × GivesApart h.position) × AreHeld hs cs
 
 -- a cursor is none of these
 abbrev pub IsApart : CursorId → List CursorId → Type 0
@@ -60,7 +60,7 @@ abbrev pub is_among : CursorId → List CursorId → Bool
 is_among c cs = list_any (λ d. same_id d c) cs
 
 -- The engine holds no other cursors than these.
-abbrev pub AreOwned : List Held → List CursorId → Type 0
+abbrev pub AreOwned : List HeldCursor → List CursorId → Type 0
 AreOwned hs cs = (c : CursorId) → IsSome (held_at hs c) → is_among c cs ≡ true
 
 -- a session that has ended has no cursors
@@ -146,8 +146,8 @@ pub record IsSound (k : Kept) (xs : List OpenSession) : Type 0 where
 
 -- A session's own cursors are held by the engine, and no two are the same; and what it watches is counted.
 pub record IsOwn (k : Kept) (d : Talk) : Type 0 where
-  pub cursors_held : AreHeld k.cursors (ids_of d.cursors)
-  pub apart : AreApart (ids_of d.cursors)
+  pub cursors_held : AreHeld k.cursors (ids_of_cursors d.cursors)
+  pub apart : AreApart (ids_of_cursors d.cursors)
   pub counted : HasCount k.registered d.watches
 
 -- A session's command begins: it goes on, and there is room for a reply and for its last line.

@@ -5,7 +5,7 @@ use Rattle.djq_lines.specs.declared.held.HeldRow.{HeldRow}
 use Rattle.djq_session.specs.declared.named.NamedCursor.{NamedCursor}
 use Rattle.djq_session.specs.Dialog.{Dialog}
 use Rattle.djq_engine.specs.declared.cursor.CursorId.{CursorId}
-use Rattle.djq_engine.specs.Kept.{Kept, Held, held_at}
+use Rattle.djq_engine.specs.Kept.{Kept, HeldCursor, held_at}
 use Rattle.djq_machine.specs.Loading.{Loading}
 use Rattle.djq_machine.specs.State.{Position, stale, Cursor, Session, State}
 use Rattle.djq_core.specs.declared.kept.KeptLines.{KeptLines}
@@ -17,22 +17,22 @@ abbrev pub Talk : Type 0
 Talk = Dialog CursorId Bytes
 
 -- the query and the position of a cursor that the engine holds; it holds each that a session has
-abbrev pub query_in : Option Held → Bytes
+abbrev pub query_in : Option HeldCursor → Bytes
 query_in None = []
 query_in (Some h) = h.query
 
 -- the position of a cursor that the engine holds
-abbrev pub position_in : Option Held → Position
+abbrev pub position_in : Option HeldCursor → Position
 position_in None = stale [] 0
 position_in (Some h) = h.position
 
 -- a cursor of a session
-abbrev pub cursor_in : List Held → NamedCursor CursorId → Cursor
+abbrev pub cursor_in : List HeldCursor → NamedCursor CursorId → Cursor
 cursor_in hs n = record
     { name = n.name; query = query_in (held_at hs n.cursor); position = position_in (held_at hs n.cursor) }
 
 -- a session of this id
-abbrev pub session_in : List Held → ℕ → Talk → Session
+abbrev pub session_in : List HeldCursor → ℕ → Talk → Session
 session_in hs s d = record {
   id = s;
   held = d.held;
@@ -44,7 +44,7 @@ session_in hs s d = record {
 }
 
 -- an open session
-abbrev pub open_in : List Held → OpenSession → Session
+abbrev pub open_in : List HeldCursor → OpenSession → Session
 open_in hs x = session_in hs x.id x.session
 
 -- the state of the join machine

@@ -47,7 +47,7 @@ use Rattle.djq_cursor.specs.declared.cursor.State.{State}
 use Rattle.djq_cursor.specs.declared.cursor.State.TheVariants.{Start}
 use Rattle.djq_cursor.specs.declared.cursor.Cursor.{Cursor}
 use Rattle.djq_cursor.specs.declared.places.Choice.{Choice}
-use Rattle.djq_cursor.specs.Listing.{IsLeft, IsListing}
+use Rattle.djq_cursor.specs.Listing.{IsTupleLeft, IsListing}
 use Rattle.djq_cursor.specs.Menus.{has, AreOnce, behind}
 use Rattle.djq_cursor.specs.Levels.{group_at}
 use Rattle.djq_cursor.specs.Walk.{
@@ -186,7 +186,7 @@ start_left r menu entered b state cs is clear e =
 -- ---- in answers
 
 next_is_left : (Answer : List ℕ → Type 0) (all given : List (List ℕ)) → Whole Answer all
-    → HasNext given all → (u : List ℕ) × IsLeft Answer given u
+    → HasNext given all → (u : List ℕ) × IsTupleLeft Answer given u
 next_is_left Answer all given w h = (
   h.next,
   record {
@@ -212,14 +212,14 @@ left_or_all Answer all given false w left none =
     (λ e. given_listing Answer all given w none, λ listing. refl)
 
 some_left : (Answer : List ℕ → Type 0) (all given : List (List ℕ)) (b : Bool) → Whole Answer all
-    → OnTrue b (HasNext given all) → OnTrue b ((u : List ℕ) × IsLeft Answer given u)
+    → OnTrue b (HasNext given all) → OnTrue b ((u : List ℕ) × IsTupleLeft Answer given u)
 some_left Answer all given true w left = next_is_left Answer all given w left
 some_left Answer all given false w left = tt
 
 pub cursor_left : (r : Reducts) (c : Cursor) (b : Bool) → IsReducts r
     → OnTrue b (HasNext (given_by r (group_at r) (has_root r) c.state c.places)
     (all_given r (group_at r) (has_root r)))
-    → OnTrue b ((u : List ℕ) × IsLeft (IsAnswerOf r) (given r c) u)
+    → OnTrue b ((u : List ℕ) × IsTupleLeft (IsAnswerOf r) (given r c) u)
 unfolding given
 cursor_left r c b h left = some_left (IsAnswerOf r) (all_given r (group_at r) (has_root r))
     (given r c) b (whole_answers r h) left

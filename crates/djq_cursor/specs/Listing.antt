@@ -11,7 +11,7 @@ pub record AreSome (P : List ℕ → Type 0) (ts : List (List ℕ)) : Type 0 whe
   pub all : All P ts
 
 -- a tuple that has a property, and isn't among these
-pub record IsLeft (P : List ℕ → Type 0) (ts : List (List ℕ)) (t : List ℕ) : Type 0 where
+pub record IsTupleLeft (P : List ℕ → Type 0) (ts : List (List ℕ)) (t : List ℕ) : Type 0 where
   pub is : P t
   pub fresh : Contains ts t → ⊥
 

@@ -1,7 +1,7 @@
 ghost use Rattle.std.specs.Prelude.{◌≡◌, ◌↔◌, ◌+◌, ◌*◌, ◌≤◌, false, [], ◌∷◌, ◌++◌, length, ℕ, List};
 ghost use Rattle.std.specs.Bool.{OnTrue, OnFalse};
 ghost use Rattle.djq_reduct.specs.Reducts as spec;
-ghost use Rattle.djq_cursor.specs.Listing.{AreSome, IsLeft, IsListing};
+ghost use Rattle.djq_cursor.specs.Listing.{AreSome, IsTupleLeft, IsListing};
 ghost use Rattle.djq_reduct.specs.Answers.{IsAnswerOf};
 ghost use Rattle.djq_cursor.specs.Given.{Fits, given};
 
@@ -98,7 +98,7 @@ impl Cursor {
         requires { Fits reducts.now self.now }
         ensures answers { AreSome (IsAnswerOf reducts.now) (given reducts.now self.now) }
         ensures left { OnTrue result ((u : List ℕ)
-            × IsLeft (IsAnswerOf reducts.now) (given reducts.now self.now) u) }
+            × IsTupleLeft (IsAnswerOf reducts.now) (given reducts.now self.now) u) }
         ensures end { result ≡ false
             ↔ IsListing (IsAnswerOf reducts.now) (given reducts.now self.now) }
         ensures counted { listing.new ≤ listing.old + (length reducts.now.tree.head + 1) }

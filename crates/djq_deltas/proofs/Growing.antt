@@ -8,7 +8,7 @@ use Rattle.djq_model.specs.declared.relation.Relation.{Relation}
 use Rattle.djq_model.specs.declared.relation.CountedRow.{CountedRow}
 use Rattle.djq_model.specs.declared.query.Query.{Query}
 use Rattle.djq_model.specs.declared.query.Atom.{Atom}
-use Rattle.djq_model.specs.Data.{Bytes, Tuple, bytes_eq, tuple_eq, relation_of, tuples_of}
+use Rattle.djq_model.specs.Data.{Bytes, Tuple, bytes_eq, tuple_eq, relation_of, plain_of}
 use Rattle.djq_model.specs.Data.{counted_in, counted_of, rows_of, without_row, with_row, without_copies}
 use Rattle.djq_model.specs.Answer.{IsAnswer}
 use Rattle.djq_model.specs.Equality.{bytes_eq-decides}
@@ -69,13 +69,13 @@ answers_go before after q changes more d =
 
 -- a relation has more rows
 more_rows : (rs : List Relation) (name : Bytes) (rows : List CountedRow)
-    → ((row : Tuple) → Contains (rows_of rs name) row → Contains (tuples_of rows) row)
+    → ((row : Tuple) → Contains (rows_of rs name) row → Contains (plain_of rows) row)
     → HaveRows rs (with_rows rs name rows)
 more_rows rs name rows more n row h = by (bytes_eq n name) refl
   where
     -- there are rows only where there is a relation
-    here : (o : Option Relation) → Contains (tuples_of (counted_in o)) row → Contains (tuples_of rows) row
-        → Contains (tuples_of (counted_in (option_map (λ (r : Relation). record r { rows = rows }) o))) row
+    here : (o : Option Relation) → Contains (plain_of (counted_in o)) row → Contains (plain_of rows) row
+        → Contains (plain_of (counted_in (option_map (λ (r : Relation). record r { rows = rows }) o))) row
     here None k c = absurd (nothing_there row k)
     here (Some r) k c = c
 
@@ -84,19 +84,19 @@ more_rows rs name rows more n row h = by (bytes_eq n name) refl
         let same : n ≡ name = (bytes_eq-decides n name).0 e in
         let k : Contains (rows_of rs name) row = subst (λ (m : Bytes). Contains (rows_of rs m) row) same h in
         subst (λ (m : Bytes). Contains (rows_of (with_rows rs name rows) m) row) (sym same)
-        (subst (λ (o : Option Relation). Contains (tuples_of (counted_in o)) row) (sym (relation_here rs name rows))
+        (subst (λ (o : Option Relation). Contains (plain_of (counted_in o)) row) (sym (relation_here rs name rows))
         (here (relation_of rs name) k (more row k)))
     by false e = subst (λ (ts : List Tuple). Contains ts row) (sym (rows_apart rs name rows n e)) h
 
 -- a relation has fewer
 fewer_rows : (rs : List Relation) (name : Bytes) (rows : List CountedRow)
-    → ((row : Tuple) → Contains (tuples_of rows) row → Contains (rows_of rs name) row)
+    → ((row : Tuple) → Contains (plain_of rows) row → Contains (rows_of rs name) row)
     → HaveRows (with_rows rs name rows) rs
 fewer_rows rs name rows fewer n row h = by (bytes_eq n name) refl
   where
     here : (o : Option Relation)
-        → Contains (tuples_of (counted_in (option_map (λ (r : Relation). record r { rows = rows }) o))) row
-        → Contains (tuples_of rows) row
+        → Contains (plain_of (counted_in (option_map (λ (r : Relation). record r { rows = rows }) o))) row
+        → Contains (plain_of rows) row
     here None k = absurd (nothing_there row k)
     here (Some r) k = k
 
@@ -107,7 +107,7 @@ fewer_rows rs name rows fewer n row h = by (bytes_eq n name) refl
         subst (λ (m : Bytes). Contains (rows_of (with_rows rs name rows) m) row) same h in
         subst (λ (m : Bytes). Contains (rows_of rs m) row) (sym same)
         (fewer row (here (relation_of rs name)
-        (subst (λ (o : Option Relation). Contains (tuples_of (counted_in o)) row) (relation_here rs name rows) k)))
+        (subst (λ (o : Option Relation). Contains (plain_of (counted_in o)) row) (relation_here rs name rows) k)))
     by false e = subst (λ (ts : List Tuple). Contains ts row) (rows_apart rs name rows n e) h
 
 with_one : (rs : List Relation) (name : Bytes) (row : Tuple)

@@ -9,7 +9,7 @@ use Rattle.djq_lines.specs.declared.answer.Sign.TheVariants.{Came, Went}
 use Rattle.djq_lines.specs.declared.held.HeldRow.{HeldRow}
 use Rattle.djq_machine.specs.State.{Store}
 use Rattle.djq_machine.specs.Changes.{RowsChange, row_in, row_out}
-use Rattle.djq_machine.specs.Batch.{rows_in}
+use Rattle.djq_machine.specs.Batch.{rows_held}
 use Rattle.djq_machine.specs.Delta.{Change, IsDelta}
 use Rattle.djq_machine.specs.Watch.{is_touched}
 
@@ -40,7 +40,7 @@ RowComes = (relations : List Relation) (name : Bytes) (row : Tuple)
 
 -- By a batch, rows only come.
 abbrev pub RowsCome : Type 0
-RowsCome = (st : Store) (held : List HeldRow) → HaveRows st.relations (rows_in st held).after
+RowsCome = (st : Store) (held : List HeldRow) → HaveRows st.relations (rows_held st held).after
 
 -- By a row that goes, rows only go.
 abbrev pub RowGoes : Type 0
@@ -59,7 +59,7 @@ ChangesSpareOthers = (relations : List Relation) (name : Bytes) (row : Tuple)
 
 -- A batch leaves each relation that it doesn't touch as it was.
 abbrev pub BatchesSpareOthers : Type 0
-BatchesSpareOthers = (st : Store) (held : List HeldRow) → SparesOthers st.relations (rows_in st held)
+BatchesSpareOthers = (st : Store) (held : List HeldRow) → SparesOthers st.relations (rows_held st held)
 
 -- A query that reads no relation that a change touches keeps its answers.
 abbrev pub AnswersRest : Type 0

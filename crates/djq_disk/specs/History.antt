@@ -30,8 +30,8 @@ abbrev pub moved_to : File → History → History
 moved_to file h = record { paths = h.paths; past = h.past ++ h.file ∷ []; file = file }
 
 -- An open adds its path, whatever it answers.
-abbrev pub Opens : List ℕ → History → History → Type 0
-Opens path old new = new ≡ record old { paths = old.paths ++ path ∷ [] }
+abbrev pub OpensPath : List ℕ → History → History → Type 0
+OpensPath path old new = new ≡ record old { paths = old.paths ++ path ∷ [] }
 
 -- The length that is answered is the file's, and nothing changes.
 abbrev pub Sizes : DiskLen → History → History → Type 0

@@ -2,7 +2,7 @@
 use Rattle.std.specs.Prelude.{◌≡◌, ℕ, List, ◌++◌}
 use Rattle.std.specs.List.{AllByRecursion}
 use Rattle.djq_disk.specs.File.{File, IsImage}
-use Rattle.djq_disk.specs.History.{History, Opens, Sizes, Reads, Writes, Syncs}
+use Rattle.djq_disk.specs.History.{History, OpensPath, Sizes, Reads, Writes, Syncs}
 use Rattle.djq_disk.specs.declared.disk.DiskLen.{DiskLen}
 use Rattle.djq_disk.specs.declared.disk.DiskRead.{DiskRead}
 use Rattle.djq_disk.specs.declared.disk.DiskDid.{DiskDid}
@@ -27,7 +27,8 @@ ReadsAsImage file = IsImage file file.bytes
 
 -- It stays so in each call of a disk, whatever it answers.
 pub record StaysAnImage : Type 0 where
-  pub opening : (path : List ℕ) (old new : History) → Opens path old new → ReadsAsImage old.file → ReadsAsImage new.file
+  pub opening : (path : List ℕ) (old new : History) → OpensPath path old new → ReadsAsImage old.file
+      → ReadsAsImage new.file
   pub sizing : (answer : DiskLen) (old new : History) → Sizes answer old new → ReadsAsImage old.file
       → ReadsAsImage new.file
   pub reading : (answer : DiskRead) (at : ℕ) (buf : List ℕ) (old new : History) → Reads answer at buf old new

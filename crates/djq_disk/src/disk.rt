@@ -33,7 +33,7 @@ pub enum DiskDid {
 /// A disk with one file.
 pub trait Disk {
     ghost use Rattle.std.specs.Prelude.{◌≡◌, ℕ, ◌+◌, ◌<◌, ◌≤◌, length, Option};
-    ghost use Rattle.djq_disk.specs.History.{History, WhereTold, Opens, Sizes, Reads, Fits, Writes, Syncs};
+    ghost use Rattle.djq_disk.specs.History.{History, WhereTold, OpensPath, Sizes, Reads, Fits, Writes, Syncs};
     ghost use Rattle.djq_disk.specs.DiskFaults.{CountsOpen, CountsLen, CountsRead, CountsDid};
 
     // What it went through, where the disk tells it.
@@ -44,7 +44,7 @@ pub trait Disk {
 
     /// Opens the file at the path, where it makes it if none is there.
     fn open(&mut self, path: &str) -> DiskOpen
-        ensures told { WhereTold (told self.old) (told self.new) (Opens path.now) }
+        ensures told { WhereTold (told self.old) (told self.new) (OpensPath path.now) }
         ensures faults { CountsOpen result (faults self.old) (faults self.new) };
 
     /// How many bytes the file has.

@@ -2,7 +2,7 @@ ghost use Rattle.std.specs.Prelude.{◌≡◌, ◌+◌, ◌<◌, ◌≤◌, [], 
 ghost use Rattle.std.specs.Option.{option_copied};
 ghost use Rattle.djq_io.specs.Failing.{after_call, failed_count};
 ghost use Rattle.djq_disk.specs.File.{put};
-ghost use Rattle.djq_disk.specs.History.{WhereTold, Opens, Sizes, IsPart, Reads, Fits, Writes, Syncs};
+ghost use Rattle.djq_disk.specs.History.{WhereTold, OpensPath, Sizes, IsPart, Reads, Fits, Writes, Syncs};
 ghost use Rattle.djq_disk.specs.DiskFaults.{CountsOpen, CountsLen, CountsRead, CountsDid};
 ghost use Rattle.djq_disk.specs.CallLog.{told_by, GainsCall};
 ghost use Rattle.djq_disk.specs.MemDisk.{did_of, put_by};
@@ -154,7 +154,7 @@ impl Disk for MemDisk {
     fn open(&mut self, path: &str) -> DiskOpen
         ensures call { GainsCall (Opening path.now result) self.old.log self.new.log }
         ensures to_fail { self.new.to_fail ≡ after_call self.old.to_fail }
-        ensures told { WhereTold (told_by self.old.log) (told_by self.new.log) (Opens path.now) }
+        ensures told { WhereTold (told_by self.old.log) (told_by self.new.log) (OpensPath path.now) }
         ensures faults { CountsOpen result (failed_count self.old.to_fail) (failed_count self.new.to_fail) }
     {
         let answer = if self.to_fail.count_down() {

@@ -1,5 +1,5 @@
 ghost use Rattle.std.specs.Prelude.{◌≡◌, ℕ, ◌+◌, ◌<◌, ◌≤◌, length, None};
-ghost use Rattle.djq_disk.specs.History.{History, WhereTold, Opens, Sizes, Reads, Fits, Writes, Syncs};
+ghost use Rattle.djq_disk.specs.History.{History, WhereTold, OpensPath, Sizes, Reads, Fits, Writes, Syncs};
 ghost use Rattle.djq_disk.specs.DiskFaults.{CountsOpen, CountsLen, CountsRead, CountsDid};
 
 use crate::disk::{Disk, DiskDid, DiskLen, DiskOpen, DiskRead};

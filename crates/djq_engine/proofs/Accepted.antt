@@ -10,7 +10,7 @@ use Rattle.djq_model.specs.Listed.{Listed}
 use Rattle.djq_lines.specs.declared.held.HeldRow.{HeldRow}
 use Rattle.djq_machine.specs.State.{Store}
 use Rattle.djq_machine.specs.Changes.{RowsChange, RowsOutcome, is_outdated, tried}
-use Rattle.djq_machine.specs.Batch.{AddsBatch, with_all, has_come, first_read, rows_in, batch_outcome}
+use Rattle.djq_machine.specs.Batch.{AddsBatch, with_all, has_come, first_read, rows_held, batch_outcome}
 use Rattle.djq_machine.specs.Delta.{Change, IsDelta}
 use Rattle.djq_machine.specs.Watch.{delta_steps}
 use Rattle.djq_cursor.specs.Log.{Log}
@@ -75,7 +75,7 @@ module _ (old mid new : Parts) (s : IsWhole old) (t : IsTended old) (held : List
   outdater = first_read held (has_come st held)
 
   abbrev change : RowsChange
-  change = rows_in st held
+  change = rows_held st held
 
   abbrev places : List ℕ
   places = reached old.readers.items groups

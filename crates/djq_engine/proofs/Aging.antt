@@ -15,7 +15,7 @@ use Rattle.djq_live.specs.Cursors.{slot_at, outdated_progress, outdated_slots}
 use Rattle.djq_live.specs.Live.{Live, IsLive, position_of}
 use Rattle.djq_live.specs.Staying.{StaysOver}
 use Rattle.djq_engine.specs.declared.cursor.CursorId.{CursorId}
-use Rattle.djq_engine.specs.Kept.{Held, held_at, same_id, outdated_held}
+use Rattle.djq_engine.specs.Kept.{HeldCursor, held_at, same_id, outdated_held}
 use Rattle.djq_reach.specs.Places.{place_at, is_reader, readers_at, reads_place}
 use Rattle.djq_engine.specs.Places.{is_live, query_in, queries_in, held_as, held_of, held_from}
 use Rattle.djq_engine.specs.Sound.{IsSound}
@@ -74,7 +74,7 @@ outdated_at name n [] (suc k) = refl
 outdated_at name n (s ∷ slots) zero = refl
 outdated_at name n (s ∷ slots) (suc k) = outdated_at name n slots k
 
-abbrev pub held_with : CursorId → Bytes → Position → Held
+abbrev pub held_with : CursorId → Bytes → Position → HeldCursor
 held_with id q p = record { id = id; query = q; position = p }
 
 -- Relations that have other rows, and the same names.

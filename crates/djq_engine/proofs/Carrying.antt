@@ -4,7 +4,7 @@ use Rattle.std.proofs.Common.{sym, ap, ap₂, ◌∙◌, subst, length, length-s
 use Rattle.std.specs.Prelude.{◌==◌, ◌&&◌, Option, None, Some, IsSomeAnd, is_some, filter, cond}
 use Rattle.std.proofs.lemmas.Bool.{false≢true, eqb-true, eq-eqb}
 use Rattle.std.proofs.lemmas.List.{get_or-set_same, get_or-set_other, set-get_or}
-use Rattle.djq_model.specs.Data.{Bytes, Tuple, tuples_of, tuple_eq, has_row, with_row, without_copies}
+use Rattle.djq_model.specs.Data.{Bytes, Tuple, plain_of, tuple_eq, has_row, with_row, without_copies}
 use Rattle.djq_model.specs.Equality.{tuple_eq-decides}
 use Rattle.djq_model.specs.declared.relation.Relation.{Relation}
 use Rattle.djq_model.specs.declared.relation.CountedRow.{CountedRow}
@@ -22,14 +22,14 @@ use Rattle.djq_reach.proofs.Reaching.{same_refl}
 
 -- ---- rows
 
-pub without_last : (rows : List CountedRow) (row : Tuple) → has_row (tuples_of rows) row ≡ false
+pub without_last : (rows : List CountedRow) (row : Tuple) → has_row (plain_of rows) row ≡ false
     → without_copies (with_row rows row) row ≡ rows
 without_last [] row e = ap (λ (b : Bool). cond b [] (record { row = row; copies = 1 } ∷ []))
     ((tuple_eq-decides row row).1 refl)
 without_last (r ∷ rs) row e = by_test (tuple_eq r.row row) e (without_last rs row)
   where
-    by_test : (b : Bool) → cond b true (has_row (tuples_of rs) row) ≡ false
-        → (has_row (tuples_of rs) row ≡ false → without_copies (with_row rs row) row ≡ rs)
+    by_test : (b : Bool) → cond b true (has_row (plain_of rs) row) ≡ false
+        → (has_row (plain_of rs) row ≡ false → without_copies (with_row rs row) row ≡ rs)
         → cond b (with_row rs row) (r ∷ without_copies (with_row rs row) row) ≡ r ∷ rs
     by_test true h more = absurd (false≢true (sym h))
     by_test false h more = ap (λ (xs : List CountedRow). r ∷ xs) (more h)

@@ -7,12 +7,12 @@ use Rattle.std.proofs.lemmas.List.{get_or-set_same, get_or-set_other, get_or_def
 use Rattle.djq_model.specs.declared.relation.Relation.{Relation}
 use Rattle.djq_model.specs.declared.relation.ColumnType.{ColumnType}
 use Rattle.djq_model.specs.declared.relation.CountedRow.{CountedRow}
-use Rattle.djq_model.specs.Data.{Bytes, Tuple, tuples_of, tuples_in}
+use Rattle.djq_model.specs.Data.{Bytes, Tuple, plain_of, tuples_in}
 use Rattle.djq_model.specs.Typed.{fits}
 use Rattle.djq_lines.specs.declared.limits.TheConstants.{COPIES}
 use Rattle.djq_rows.specs.Cells.{HaveCells, StandFor}
 use Rattle.djq_rows.specs.Laws.{CellsStay}
-use Rattle.djq_rows.specs.Catalog.{Catalog, IsCatalog, IsKept, no_relation, relation_at, counted_at}
+use Rattle.djq_rows.specs.Catalog.{Catalog, IsCatalog, IsKeptRelation, no_relation, relation_at, counted_at}
 use Rattle.djq_rows.specs.Catalog.{rows_at, with_rows_at}
 use Rattle.djq_live.specs.Changes.{HasSameRows, StandForRows}
 use Rattle.djq_reach.specs.declared.group.Group.{Group}
@@ -27,19 +27,21 @@ pub other_at : (rs : List Relation) (at : ℕ) (rows : List CountedRow) (k : ℕ
     → relation_at (with_rows_at rs at rows) k ≡ relation_at rs k
 other_at rs at rows k d = get_or-set_other rs at k (let r = relation_at rs at in record r { rows = rows }) no_relation d
 
-kept_as : (texts : List Bytes) (r s : Relation) → s.types ≡ r.types → s.rows ≡ r.rows → IsKept texts r → IsKept texts s
+kept_as : (texts : List Bytes) (r s : Relation) → s.types ≡ r.types → s.rows ≡ r.rows → IsKeptRelation texts r
+    → IsKeptRelation texts s
 kept_as texts r s types rows k = record {
   some = subst (λ (ts : List ColumnType). 0 < length ts) (sym types) k.some;
   narrow = omega (arith, k.narrow, ap (λ (ts : List ColumnType). length ts) types);
   typed = subst (λ (ts : List ColumnType). All (λ row. fits ts row ≡ true) (tuples_in s)) (sym types)
-      (subst (λ (xs : List CountedRow). All (λ row. fits r.types row ≡ true) (tuples_of xs)) (sym rows) k.typed);
-  differ = subst (λ (xs : List CountedRow). AllPairs (λ s t. s ≡ t → ⊥) (tuples_of xs)) (sym rows) k.differ;
-  cells = subst (λ (xs : List CountedRow). All (HaveCells texts) (tuples_of xs)) (sym rows) k.cells;
-  few = omega (arith, k.few, ap (λ (xs : List CountedRow). length (tuples_of xs)) rows);
+      (subst (λ (xs : List CountedRow). All (λ row. fits r.types row ≡ true) (plain_of xs)) (sym rows) k.typed);
+  differ = subst (λ (xs : List CountedRow). AllPairs (λ s t. s ≡ t → ⊥) (plain_of xs)) (sym rows) k.differ;
+  cells = subst (λ (xs : List CountedRow). All (HaveCells texts) (plain_of xs)) (sym rows) k.cells;
+  few = omega (arith, k.few, ap (λ (xs : List CountedRow). length (plain_of xs)) rows);
   counted = subst (λ (xs : List CountedRow). All (λ c. (1 ≤ c.copies) × (c.copies ≤ COPIES)) xs) (sym rows) k.counted;
 }
 
-kept_later : CellsStay → (texts more : List Bytes) (r : Relation) → IsKept texts r → IsKept (texts ++ more) r
+kept_later : CellsStay → (texts more : List Bytes) (r : Relation) → IsKeptRelation texts r
+    → IsKeptRelation (texts ++ more) r
 kept_later law texts more r k = record {
   some = k.some;
   narrow = k.narrow;
@@ -51,7 +53,7 @@ kept_later law texts more r k = record {
 }
 
 catalog_with : (e : Catalog) (at : ℕ) (rows : List CountedRow) → IsCatalog e → at < length e.relations
-    → IsKept e.texts (let r = relation_at e.relations at in record r { rows = rows })
+    → IsKeptRelation e.texts (let r = relation_at e.relations at in record r { rows = rows })
     → IsCatalog (record e { relations = with_rows_at e.relations at rows })
 catalog_with e at rows ie low k = record {
   few = omega (arith, ie.few, long_with e.relations at rows);
@@ -60,7 +62,7 @@ catalog_with e at rows ie low k = record {
       ie.names i j no_relation l high
       (sym (name_is i (omega (arith, l, high))) ∙ sym (at_default i d (omega (arith, l, m))) ∙ same
       ∙ at_default j d m ∙ name_is j high);
-  kept = λ i d l. subst (λ (r : Relation). IsKept e.texts r)
+  kept = λ i d l. subst (λ (r : Relation). IsKeptRelation e.texts r)
       (sym (get_or_default (with_rows_at e.relations at rows) i d no_relation l))
       (kept_at i (i == at) refl (omega (arith, l, long_with e.relations at rows)));
   many = ie.many;
@@ -77,14 +79,14 @@ catalog_with e at rows ie low k = record {
         (get_or_default (with_rows_at e.relations at rows) i d no_relation l)
 
     kept_at : (i : ℕ) (b : Bool) → (i == at) ≡ b → i < length e.relations
-        → IsKept e.texts (relation_at (with_rows_at e.relations at rows) i)
+        → IsKeptRelation e.texts (relation_at (with_rows_at e.relations at rows) i)
     kept_at i true f l =
-        subst (λ (r : Relation). IsKept e.texts r)
+        subst (λ (r : Relation). IsKeptRelation e.texts r)
         (sym (ap (relation_at (with_rows_at e.relations at rows)) (eqb-true i at f)
         ∙ get_or-set_same e.relations at (let r = relation_at e.relations at in record r { rows = rows })
         no_relation low)) k
     kept_at i false f l =
-        subst (λ (r : Relation). IsKept e.texts r)
+        subst (λ (r : Relation). IsKeptRelation e.texts r)
         (sym (other_at e.relations at rows i (λ s. false≢true (sym f ∙ eq-eqb i at s)))) (ie.kept i no_relation l)
 
 -- ---- rows that cells stand for
@@ -197,7 +199,8 @@ module _ (c d : Catalog) (ic : IsCatalog c) (id : IsCatalog d) (law : CellsStay)
       (let r = relation_at (start_of groups).relations g.relation.at in record r
       { rows = counted_at c.relations g.relation.at })
       (start_types groups (within_rest g groups w) g.relation.at) refl
-      (subst (λ (ts : List Bytes). IsKept ts (relation_at c.relations g.relation.at)) (sym (start_texts groups ∙ texts))
+      (subst (λ (ts : List Bytes). IsKeptRelation ts (relation_at c.relations g.relation.at))
+      (sym (start_texts groups ∙ texts))
       (kept_later law c.texts more (relation_at c.relations g.relation.at)
       (ic.kept g.relation.at no_relation low))))
 
@@ -238,7 +241,7 @@ module _ (c d : Catalog) (ic : IsCatalog c) (id : IsCatalog d) (law : CellsStay)
             };
             stand = stand_as d e at (start_texts groups) (start_types groups wr at ∙ sym (types at)) g.rows here.0
                 (subst (λ (cells : List (List ℕ)). StandForRows d at cells here.0) group_rows here.2);
-            rows = ap tuples_of now ∙ here.1 ∙ ap (λ (xs : List CountedRow). tuples_of xs ++ here.0) (sym was);
+            rows = ap plain_of now ∙ here.1 ∙ ap (λ (xs : List CountedRow). plain_of xs ++ here.0) (sym was);
             others = λ k l apart. sym (ap tuples_in (other_at e.relations at (counted_at c.relations at) k apart));
           };
           back = record {
@@ -273,7 +276,7 @@ module _ (c d : Catalog) (ic : IsCatalog c) (id : IsCatalog d) (law : CellsStay)
 
   start_rows : (groups : List Group) → AreGrouped c.relations d groups → (r : ℕ) → rows_at (start_of groups).relations r
       ≡ rows_at c.relations r
-  start_rows groups k r = ap tuples_of (start_counted groups k.within r) ∙ by r (is_reader (relations_of groups) r) refl
+  start_rows groups k r = ap plain_of (start_counted groups k.within r) ∙ by r (is_reader (relations_of groups) r) refl
     where
       none_for : (gs : List Group) (r : ℕ) → is_reader (relations_of gs) r ≡ false → rows_for gs r ≡ []
       none_for [] r e = refl
@@ -285,7 +288,7 @@ module _ (c d : Catalog) (ic : IsCatalog c) (id : IsCatalog d) (law : CellsStay)
           step false f more = more f
 
       by : (r : ℕ) (b : Bool) → is_reader (relations_of groups) r ≡ b
-          → tuples_of (cond b (counted_at c.relations r) (counted_at d.relations r)) ≡ rows_at c.relations r
+          → plain_of (cond b (counted_at c.relations r) (counted_at d.relations r)) ≡ rows_at c.relations r
       by r true e = refl
       by r false e =
           let x = k.rows r in

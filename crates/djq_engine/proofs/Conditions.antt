@@ -3,7 +3,7 @@ use Rattle.std.proofs.Common.{◌≡◌, List, [], ◌∷◌, ◌++◌, Bool, tr
 use Rattle.std.specs.Prelude.{Option, None, Some, Result, Ok, Err, OnErr, cond, not, ◌&&◌}
 use Rattle.djq_lines.specs.declared.answer.Refusal.{Refusal}
 use Rattle.djq_lines.specs.declared.answer.Refusal.TheVariants.{NoMemory}
-use Rattle.djq_machine.specs.Conditions.{first_of, Answers, OutOfMemoryWhere}
+use Rattle.djq_machine.specs.Conditions.{first_refusal, Answers, OutOfMemoryWhere}
 
 pub answers_refused : {A : Type 0} (o : Option Refusal) (x : Refusal) (D : A → Type 0) (L : Refusal → Type 0) → o
     ≡ Some x → Answers o (Err x) D L
@@ -45,27 +45,32 @@ err_as (Err r) P Q f h = f h
 
 -- conditions in front of others
 
-pub front_refuses : (xs ys : List (Bool × Refusal)) (x : Refusal) → first_of xs ≡ Some x → first_of (xs ++ ys) ≡ Some x
+pub front_refuses : (xs ys : List (Bool × Refusal)) (x : Refusal) → first_refusal xs ≡ Some x
+    → first_refusal (xs ++ ys) ≡ Some x
 front_refuses [] ys x e = absurd cc
 front_refuses (c ∷ cs) ys x e = front_step c.0 c.1 e (front_refuses cs ys x)
   where
-    front_step : (b : Bool) (r : Refusal) → cond b (Some r) (first_of cs) ≡ Some x
-        → (first_of cs ≡ Some x → first_of (cs ++ ys) ≡ Some x) → cond b (Some r) (first_of (cs ++ ys)) ≡ Some x
+    front_step : (b : Bool) (r : Refusal) → cond b (Some r) (first_refusal cs) ≡ Some x
+        → (first_refusal cs ≡ Some x → first_refusal (cs ++ ys) ≡ Some x) → cond b (Some r) (first_refusal (cs ++ ys))
+        ≡ Some x
     front_step true r e more = e
     front_step false r e more = more e
 
-pub front_passes : (xs ys : List (Bool × Refusal)) → first_of xs ≡ None → first_of (xs ++ ys) ≡ first_of ys
+pub front_passes : (xs ys : List (Bool × Refusal)) → first_refusal xs ≡ None → first_refusal (xs ++ ys)
+    ≡ first_refusal ys
 front_passes [] ys e = refl
 front_passes (c ∷ cs) ys e = front_step c.0 c.1 e (front_passes cs ys)
   where
-    front_step : (b : Bool) (r : Refusal) → cond b (Some r) (first_of cs) ≡ None
-        → (first_of cs ≡ None → first_of (cs ++ ys) ≡ first_of ys) → cond b (Some r) (first_of (cs ++ ys)) ≡ first_of ys
+    front_step : (b : Bool) (r : Refusal) → cond b (Some r) (first_refusal cs) ≡ None
+        → (first_refusal cs ≡ None → first_refusal (cs ++ ys) ≡ first_refusal ys)
+        → cond b (Some r) (first_refusal (cs ++ ys)) ≡ first_refusal ys
     front_step true r e more = absurd cc
     front_step false r e more = more e
 
 -- the first condition doesn't hold where none does
-pub first_false : (b : Bool) (r : Refusal) (cs : List (Bool × Refusal)) → first_of ((b, r) ∷ cs) ≡ None → (b ≡ false)
-    × (first_of cs ≡ None)
+pub first_false : (b : Bool) (r : Refusal) (cs : List (Bool × Refusal)) → first_refusal ((b, r) ∷ cs) ≡ None
+    → (b ≡ false)
+    × (first_refusal cs ≡ None)
 first_false true r cs e = absurd cc
 first_false false r cs e = (refl, e)
 

@@ -8,7 +8,7 @@ use Rattle.djq_model.specs.declared.query.Query.{Query}
 use Rattle.djq_model.specs.Data.{Bytes}
 use Rattle.djq_model.specs.Listed.{Listed, a_query, listed_of}
 use Rattle.djq_lines.specs.declared.answer.Refusal.TheVariants.{NoQuery, NoMemory}
-use Rattle.djq_machine.specs.Conditions.{first_of}
+use Rattle.djq_machine.specs.Conditions.{first_refusal}
 use Rattle.djq_machine.specs.State.{Position, open_at, stale}
 use Rattle.djq_machine.specs.Store.{answer_steps}
 use Rattle.djq_reduct.specs.Answers.{IsAnswerOf}
@@ -20,7 +20,7 @@ use Rattle.djq_live.specs.declared.listing.Next.TheVariants.{Given, End, Stale a
 use Rattle.djq_live.specs.Live.{Live, IsLive, position_of, values_of}
 use Rattle.djq_live.specs.Reading as live
 use Rattle.djq_engine.specs.declared.cursor.CursorId.{CursorId}
-use Rattle.djq_engine.specs.Kept.{Held, Kept, held_at, MovesCursor, OpensCursor, OpenGives}
+use Rattle.djq_engine.specs.Kept.{HeldCursor, Kept, held_at, MovesCursor, OpensCursor, OpenGives}
 use Rattle.djq_engine.specs.Kept.{ClosesCursor, NextGives, NextGivesAt, read_steps, MoreGives}
 use Rattle.djq_engine.specs.Kept.{MoreGivesAt, IsHeld, IsThere, AnswerIs, IsFresh, IsOpenAt}
 use Rattle.djq_reach.specs.Places.{place_at}
@@ -63,28 +63,28 @@ opens_read gs i p l m (Err r) h is some o lives = tt
 
 -- a cursor that is held stands in a slot
 
-pub record HeldCursor (gs : List (Option Live)) (id : CursorId) : Type 0 where
+pub record HasCursor (gs : List (Option Live)) (id : CursorId) : Type 0 where
   pub query : Live
   pub there : place_at gs id.query.at ≡ Some query
   pub progress : Progress
   pub slot : slot_at query.cursors id.cursor ≡ Some progress
 
 found : (texts : List Bytes) (gs : List (Option Live)) (id : CursorId) (o : Option Live) → place_at gs id.query.at ≡ o
-    → IsSome (held_of texts id o) → HeldCursor gs id
+    → IsSome (held_of texts id o) → HasCursor gs id
 found texts gs id None e h = absurd cc
 found texts gs id (Some l) e h = by_slot (slot_at l.cursors id.cursor) refl h
   where
     by_slot : (o : Option Progress) → slot_at l.cursors id.cursor ≡ o → IsSome (option_map (held_as texts l id) o)
-        → HeldCursor gs id
+        → HasCursor gs id
     by_slot None f h = absurd cc
     by_slot (Some p) f h = record { query = l; there = e; progress = p; slot = f }
 
 pub held_cursor : (c : Catalog) (gs : List (Option Live)) (order : List ℕ) (seq : ℕ) (w : Watches) (id : CursorId)
-    → IsHeld (kept_of c gs order seq w) id → HeldCursor gs id
+    → IsHeld (kept_of c gs order seq w) id → HasCursor gs id
 held_cursor c gs order seq w id h = found c.texts gs id (place_at gs id.query.at) refl
-    (subst (λ (o : Option Held). IsSome o) (held_is c.texts gs id) h)
+    (subst (λ (o : Option HeldCursor). IsSome o) (held_is c.texts gs id) h)
 
-some_held : (o : Option Held) (P : Held → Type 0) → IsSomeAnd o P → IsSome o
+some_held : (o : Option HeldCursor) (P : HeldCursor → Type 0) → IsSomeAnd o P → IsSome o
 some_held None P h = absurd h
 some_held (Some x) P h = refl
 
@@ -99,7 +99,7 @@ pub same_live : (x y : Live) (o : Option Live) → o ≡ Some x → o ≡ Some y
 same_live x y o e f = cc
 
 module _ (c : Catalog) (gs : List (Option Live)) (order : List ℕ) (readers : List (List ℕ)) (seq : ℕ) (w : Watches)
-    (s : IsSound c gs order readers) (id : CursorId) (h : HeldCursor gs id) where
+    (s : IsSound c gs order readers) (id : CursorId) (h : HasCursor gs id) where
   pub readable : IsSomeAnd (place_at gs id.query.at) (IsReadable id.cursor)
   readable = subst (λ (o : Option Live). IsSomeAnd o (IsReadable id.cursor)) (sym h.there)
       (record {
@@ -113,11 +113,12 @@ module _ (c : Catalog) (gs : List (Option Live)) (order : List ℕ) (readers : L
       ∙ ap (option_map (held_as c.texts h.query id)) h.slot
 
   -- what holds of the cursor and its query
-  of_both : (P : Held → Listed → Type 0) → P (held_as c.texts h.query id h.progress) (a_query h.query.query)
+  of_both : (P : HeldCursor → Listed → Type 0) → P (held_as c.texts h.query id h.progress) (a_query h.query.query)
       → IsSomeAnd (held_at (held_from c.texts zero gs) id)
       (λ x. IsSomeAnd (listed_of (queries_in gs order) x.query) (λ q. P x q))
   of_both P x =
-      subst (λ (o : Option Held). IsSomeAnd o (λ x. IsSomeAnd (listed_of (queries_in gs order) x.query) (λ q. P x q)))
+      subst (λ (o : Option HeldCursor). IsSomeAnd o (λ x. IsSomeAnd (listed_of (queries_in gs order) x.query)
+      (λ q. P x q)))
       (sym cursor_found)
       (subst (λ (o : Option Listed). IsSomeAnd o (λ q. P (held_as c.texts h.query id h.progress) q))
       (sym (query_kept c gs order readers s id.query.at h.query h.there)) x)
@@ -128,7 +129,7 @@ module _ (c : Catalog) (gs : List (Option Live)) (order : List ℕ) (readers : L
       subst (λ (o : Option Live). IsSomeAnd o (IsFreshly id.cursor)) (sym h.there)
       (record {
         fresh = by_progress h.progress h.slot
-            (subst (λ (o : Option Held). IsSomeAnd o (λ x. IsOpenAt x.position)) cursor_found f);
+            (subst (λ (o : Option HeldCursor). IsSomeAnd o (λ x. IsOpenAt x.position)) cursor_found f);
         fits =
             (s.live id.query.at h.query h.there).fits id.cursor;
       })
@@ -155,7 +156,7 @@ module _ (c : Catalog) (gs : List (Option Live)) (order : List ℕ) (readers : L
               (record {
                 there = moved_there c gs order readers s id h.query m h.there same (Some t.progress) cs t.moved sets
                     ∙ ap (λ (p : Position).
-                    (let x : Option Held = Some (record { id = id; query = h.query.query.name; position = p }) in
+                    (let x : Option HeldCursor = Some (record { id = id; query = h.query.query.name; position = p }) in
                     x)) t.stands;
                 others = moved_others c gs order readers s id h.query m h.there same (Some t.progress) cs t.moved sets;
                 store = moved_store c gs order readers s id h.query m h.there same seq;
@@ -296,15 +297,17 @@ module _ (c : Catalog) (gs : List (Option Live)) (order : List ℕ) (readers : L
   pub open_refused : None ≡ position (is_query query) gs
       → OpenGives (kept_of c gs order seq w) query (Err NoQuery) (kept_of c gs order seq w)
   open_refused e = record {
-    answer = answers_refused (first_of ((is_none (listed_of (queries_in gs order) query), NoQuery) ∷ [])) NoQuery
+    answer = answers_refused (first_refusal ((is_none (listed_of (queries_in gs order) query), NoQuery) ∷ [])) NoQuery
         (λ id. OpensCursor (kept_of c gs order seq w) query id (kept_of c gs order seq w)) _
-        (ap (λ (o : Option Listed). first_of ((is_none o, NoQuery) ∷ [])) (no_query_of c gs order readers s query e));
+        (ap (λ (o : Option Listed). first_refusal ((is_none o, NoQuery) ∷ [])) (no_query_of c gs order readers s query
+        e));
     stays = λ r f. refl;
   }
 
-  passes : (at : ℕ) → Named gs query at → first_of ((is_none (listed_of (queries_in gs order) query), NoQuery) ∷ [])
+  passes : (at : ℕ) → Named gs query at → first_refusal ((is_none (listed_of (queries_in gs order) query), NoQuery)
+      ∷ [])
       ≡ None
-  passes at n = ap (λ (o : Option Listed). first_of ((is_none o, NoQuery) ∷ []))
+  passes at n = ap (λ (o : Option Listed). first_refusal ((is_none o, NoQuery) ∷ []))
       (query_named c gs order readers s query at n)
 
   pub open_lacks : (at : ℕ) (hs : List (Option Live)) → Named gs query at → hs ≡ gs → IsSound c hs order readers
@@ -313,7 +316,7 @@ module _ (c : Catalog) (gs : List (Option Live)) (order : List ℕ) (readers : L
     subst (λ (xs : List (Option Live)). IsSound c xs order readers) (sym e) s,
     subst (λ (xs : List (Option Live)). OpenGives (kept_of c gs order seq w) query (Err NoMemory)
         (kept_of c xs order seq w)) (sym e) (record {
-          answer = answers_lacking (first_of ((is_none (listed_of (queries_in gs order) query), NoQuery) ∷ []))
+          answer = answers_lacking (first_refusal ((is_none (listed_of (queries_in gs order) query), NoQuery) ∷ []))
               (λ id. OpensCursor (kept_of c gs order seq w) query id (kept_of c gs order seq w)) _ (passes at n) tt;
           stays = λ r f. refl;
         }),
@@ -339,14 +342,15 @@ module _ (c : Catalog) (gs : List (Option Live)) (order : List ℕ) (readers : L
               there = moved_there c gs order readers s id l v.new n.there same (Some (Open o.cursor false)) cs o.others
                   o.sets
                   ∙ ap (λ (us : List (List ℕ)).
-                  (let x : Option Held = Some
+                  (let x : Option HeldCursor = Some
                   (record {
                     id = id;
                     query = l.query.name;
                     position = open_at (map (values_of c.texts l) us) false;
                   }) in x)) (o.none l.reducts)
                   ∙ ap (λ (name : Bytes).
-                  (let x : Option Held = Some (record { id = id; query = name; position = open_at [] false }) in x))
+                  (let x : Option HeldCursor = Some (record { id = id; query = name; position = open_at [] false }) in
+                  x))
                   n.called;
               others = moved_others c gs order readers s id l v.new n.there same (Some (Open o.cursor false)) cs
                   o.others o.sets;
@@ -368,7 +372,7 @@ module _ (c : Catalog) (gs : List (Option Live)) (order : List ℕ) (readers : L
       let y = opened id hs n v in (
         y.0,
         record {
-          answer = answers_done (first_of ((is_none (listed_of (queries_in gs order) query), NoQuery) ∷ [])) id
+          answer = answers_done (first_refusal ((is_none (listed_of (queries_in gs order) query), NoQuery) ∷ [])) id
               (λ id. OpensCursor (kept_of c gs order seq w) query id (kept_of c hs order seq w)) _
               (passes id.query.at n) y.1;
           stays = λ r e. absurd (cc);

@@ -15,7 +15,7 @@ use Rattle.djq_lines.specs.declared.held.HeldRow.{HeldRow}
 use Rattle.djq_machine.specs.State.{Store}
 use Rattle.djq_machine.specs.Changes.{RowsChange, accepted, is_outdated}
 use Rattle.djq_machine.specs.Store.{most_steps}
-use Rattle.djq_machine.specs.Batch.{with_all, has_come, first_read, rows_in, batch_outcome, store_behind, count_came}
+use Rattle.djq_machine.specs.Batch.{with_all, has_come, first_read, rows_held, batch_outcome, store_behind, count_came}
 use Rattle.djq_machine.specs.Delta.{Change, IsDelta}
 use Rattle.djq_machine.specs.Watch.{delta_steps}
 use Rattle.djq_rows.specs.Catalog.{Catalog, relation_at, rows_at}
@@ -36,7 +36,7 @@ use Rattle.djq_engine.proofs.Naming.{There, live_there}
 use Rattle.djq_engine.proofs.Reached.{reached_has, reached_outdates, atoms_touched, answers_same, delta_as}
 
 pub outcome_some : (st : Store) (held : List HeldRow) (n : ℕ) → (n ≡ 0 → ⊥) → batch_outcome st held (Ok n)
-    ≡ accepted (rows_in st held)
+    ≡ accepted (rows_held st held)
 outcome_some st held zero d = absurd (d refl)
 outcome_some st held (suc n) d = refl
 

@@ -7,7 +7,7 @@ use Rattle.djq_model.specs.declared.relation.Relation.{Relation}
 use Rattle.djq_model.specs.declared.relation.CountedRow.{CountedRow}
 use Rattle.djq_model.specs.declared.relation.ColumnType.{ColumnType}
 use Rattle.djq_model.specs.Data.{Bytes, Tuple, bytes_eq, change_first, relation_of, counted_in}
-use Rattle.djq_model.specs.Data.{counted_of, tuples_of, has_row, copies_among, with_row, with_copies}
+use Rattle.djq_model.specs.Data.{counted_of, plain_of, has_row, copies_among, with_row, with_copies}
 use Rattle.djq_model.specs.Known.{texts_in, all_learned}
 use Rattle.djq_model.specs.Typed.{fits}
 use Rattle.djq_lines.specs.Columns.{types_of}
@@ -16,7 +16,7 @@ use Rattle.djq_lines.specs.declared.answer.Refusal.{Refusal}
 use Rattle.djq_lines.specs.declared.answer.Refusal.TheVariants.{NoRelation, Arity, WrongType}
 use Rattle.djq_lines.specs.declared.held.HeldRow.{HeldRow}
 use Rattle.djq_machine.specs.State.{Store}
-use Rattle.djq_machine.specs.Conditions.{first_of}
+use Rattle.djq_machine.specs.Conditions.{first_refusal}
 use Rattle.djq_machine.specs.Store.{with_rows}
 use Rattle.djq_machine.specs.Batch.{suit_refusal, is_there, with_held, with_all, count_came}
 use Rattle.djq_machine.specs.Batch.{has_come, place_refusal, HavePlaces}
@@ -31,7 +31,7 @@ module _ (st : Store) (h : HeldRow) (at : ℕ) (s : Suits st.relations h.relatio
   counted_here = ap counted_in s.found
 
   pub there_here : is_there st h ≡ has_row (rows_at st.relations at) h.row
-  there_here = ap (λ (rows : List CountedRow). has_row (tuples_of rows) h.row) counted_here
+  there_here = ap (λ (rows : List CountedRow). has_row (plain_of rows) h.row) counted_here
 
   -- other rows by name are other rows in its place
   rows_here : NamesTell → AllPairs (λ r s. r.name ≢ s.name) st.relations → (rows : List CountedRow)
@@ -186,7 +186,7 @@ all_queries st (x ∷ xs) = all_queries (with_held st x) xs ∙ held_queries st 
 
 unfoldable pub refusal_by : Option Relation → Tuple → Option Refusal
 refusal_by o row =
-    first_of ((is_none o, NoRelation) ∷ (not (length row == length (types_of o)), Arity) ∷
+    first_refusal ((is_none o, NoRelation) ∷ (not (length row == length (types_of o)), Arity) ∷
     (not (fits (types_of o) row), WrongType) ∷ [])
 
 columns : Option Relation → Option (List ColumnType)
@@ -194,7 +194,7 @@ columns o = option_map (λ (r : Relation). r.types) o
 
 refusal_as : Option (List ColumnType) → Tuple → Option Refusal
 refusal_as None row = Some NoRelation
-refusal_as (Some ts) row = first_of ((not (length row == length ts), Arity) ∷ (not (fits ts row), WrongType) ∷ [])
+refusal_as (Some ts) row = first_refusal ((not (length row == length ts), Arity) ∷ (not (fits ts row), WrongType) ∷ [])
 
 refusal_is : (o : Option Relation) (row : Tuple) → refusal_by o row ≡ refusal_as (columns o) row
 unfolding refusal_by columns refusal_as

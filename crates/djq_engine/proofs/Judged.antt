@@ -5,7 +5,7 @@ use Rattle.std.specs.Prelude.{◌==◌, ◌&&◌, not, nat_le, Option, None, Som
 use Rattle.std.proofs.lemmas.Bool.{eq-eqb, le-leb, lt-leb}
 use Rattle.djq_model.specs.declared.relation.Relation.{Relation}
 use Rattle.djq_model.specs.declared.relation.CountedRow.{CountedRow}
-use Rattle.djq_model.specs.Data.{Bytes, Tuple, relation_of, tuples_of, counted_in, counted_of}
+use Rattle.djq_model.specs.Data.{Bytes, Tuple, relation_of, plain_of, counted_in, counted_of}
 use Rattle.djq_model.specs.Data.{rows_of, has_row, copies_among}
 use Rattle.djq_model.proofs.Counted.{no_copies}
 use Rattle.djq_model.specs.Typed.{fits}
@@ -13,7 +13,7 @@ use Rattle.djq_lines.specs.declared.limits.TheConstants.{ROWS, COPIES, LAST_SEQ}
 use Rattle.djq_lines.specs.declared.answer.Refusal.{Refusal}
 use Rattle.djq_lines.specs.declared.answer.Refusal.TheVariants.{NoRelation, Arity, WrongType, Limit}
 use Rattle.djq_lines.specs.Columns.{types_of}
-use Rattle.djq_machine.specs.Conditions.{first_of}
+use Rattle.djq_machine.specs.Conditions.{first_refusal}
 use Rattle.djq_machine.specs.Store.{row_refusals, add_refusal, delete_refusal}
 use Rattle.djq_machine.specs.Batch.{suit_refusal}
 use Rattle.djq_rows.specs.Catalog.{relation_at, counted_at, rows_at}
@@ -23,43 +23,44 @@ use Rattle.djq_reach.proofs.Among.{apart}
 use Rattle.djq_live.proofs.Rowing.{fits_long}
 
 module _ (rs : List Relation) (name : Bytes) (row : Tuple) where
-  pub suited_none : relation_of rs name ≡ None → first_of (row_refusals (bare rs 0) name row) ≡ Some NoRelation
-  suited_none e = ap (λ (o : Option Relation). first_of
+  pub suited_none : relation_of rs name ≡ None → first_refusal (row_refusals (bare rs 0) name row) ≡ Some NoRelation
+  suited_none e = ap (λ (o : Option Relation). first_refusal
       ((is_none o, NoRelation) ∷ (not (length row == length (types_of o)), Arity) ∷
       (not (fits (types_of o) row), WrongType) ∷ [])) e
 
   pub by_parts : (r : Relation) (a b : Bool) → relation_of rs name ≡ Some r → (length row == length r.types) ≡ a
       → fits r.types row ≡ b
-      → first_of (row_refusals (bare rs 0) name row) ≡ cond (not a) (Some Arity) (cond (not b) (Some WrongType) None)
+      → first_refusal (row_refusals (bare rs 0) name row) ≡ cond (not a) (Some Arity)
+      (cond (not b) (Some WrongType) None)
   by_parts r a b e f h =
-      ap (λ (o : Option Relation). first_of
+      ap (λ (o : Option Relation). first_refusal
       ((is_none o, NoRelation) ∷ (not (length row == length (types_of o)), Arity) ∷
       (not (fits (types_of o) row), WrongType) ∷ [])) e
       ∙ ap₂ (λ x y. cond (not x) (Some Arity) (cond (not y) (Some WrongType) None)) f h
 
   pub suited_arity : (r : Relation) → relation_of rs name ≡ Some r → (length row ≡ length r.types → ⊥)
-      → first_of (row_refusals (bare rs 0) name row) ≡ Some Arity
+      → first_refusal (row_refusals (bare rs 0) name row) ≡ Some Arity
   suited_arity r e d = by_parts r false (fits r.types row) e (apart (length row) (length r.types) d) refl
 
   pub suited_type : (r : Relation) → relation_of rs name ≡ Some r → length row ≡ length r.types → fits r.types row
-      ≡ false → first_of (row_refusals (bare rs 0) name row) ≡ Some WrongType
+      ≡ false → first_refusal (row_refusals (bare rs 0) name row) ≡ Some WrongType
   suited_type r e l f = by_parts r true false e (eq-eqb (length row) (length r.types) l) f
 
   -- the conditions behind them
   abbrev adding : List CountedRow → ℕ → List (Bool × Refusal)
   adding rows seq = (nat_le COPIES (copies_among rows row), Limit)
-      ∷ (not (has_row (tuples_of rows) row) && nat_le ROWS (length (tuples_of rows)), Limit)
-      ∷ (not (has_row (tuples_of rows) row) && nat_le LAST_SEQ seq, Limit) ∷ []
+      ∷ (not (has_row (plain_of rows) row) && nat_le ROWS (length (plain_of rows)), Limit)
+      ∷ (not (has_row (plain_of rows) row) && nat_le LAST_SEQ seq, Limit) ∷ []
 
   abbrev deleting : List CountedRow → ℕ → List (Bool × Refusal)
   deleting rows seq = ((copies_among rows row == 1) && nat_le LAST_SEQ seq, Limit) ∷ []
 
   module _ (seq : ℕ) where
-    pub add_unsuited : (x : Refusal) → first_of (row_refusals (bare rs 0) name row) ≡ Some x
+    pub add_unsuited : (x : Refusal) → first_refusal (row_refusals (bare rs 0) name row) ≡ Some x
         → add_refusal (bare rs seq) name row ≡ Some x
     add_unsuited x e = front_refuses (row_refusals (bare rs 0) name row) (adding (counted_of rs name) seq) x e
 
-    pub delete_unsuited : (x : Refusal) → first_of (row_refusals (bare rs 0) name row) ≡ Some x
+    pub delete_unsuited : (x : Refusal) → first_refusal (row_refusals (bare rs 0) name row) ≡ Some x
         → delete_refusal (bare rs seq) name row ≡ Some x
     delete_unsuited x e = front_refuses (row_refusals (bare rs 0) name row) (deleting (counted_of rs name) seq) x e
 
@@ -68,9 +69,9 @@ module _ (rs : List Relation) (name : Bytes) (row : Tuple) where
       counted_found = ap counted_in s.found
 
       pub rows_found : rows_of rs name ≡ rows_at rs at
-      rows_found = ap tuples_of counted_found
+      rows_found = ap plain_of counted_found
 
-      pub suits_pass : first_of (row_refusals (bare rs 0) name row) ≡ None
+      pub suits_pass : first_refusal (row_refusals (bare rs 0) name row) ≡ None
       suits_pass = by_parts (relation_at rs at) true true s.found
           (eq-eqb (length row) (length (relation_at rs at).types) (fits_long (relation_at rs at).types row s.suits))
           s.suits
@@ -79,10 +80,10 @@ module _ (rs : List Relation) (name : Bytes) (row : Tuple) where
       place_by : (many there full last : Bool) → nat_le COPIES (copies_among (counted_at rs at) row) ≡ many
           → has_row (rows_at rs at) row ≡ there → nat_le ROWS (length (rows_at rs at)) ≡ full → nat_le LAST_SEQ seq
           ≡ last
-          → first_of (adding (counted_of rs name) seq)
+          → first_refusal (adding (counted_of rs name) seq)
           ≡ cond many (Some Limit) (cond (not there && full) (Some Limit) (cond (not there && last) (Some Limit) None))
       place_by many there full last m e f h =
-          ap (λ (rows : List CountedRow). first_of (adding rows seq)) counted_found
+          ap (λ (rows : List CountedRow). first_refusal (adding rows seq)) counted_found
           ∙ ap (λ (b : Bool). cond b (Some Limit)
           (cond (not (has_row (rows_at rs at) row) && nat_le ROWS (length (rows_at rs at))) (Some Limit)
           (cond (not (has_row (rows_at rs at) row) && nat_le LAST_SEQ seq) (Some Limit) None))) m
@@ -129,23 +130,23 @@ module _ (rs : List Relation) (name : Bytes) (row : Tuple) where
 
       -- a row that isn't there has no place at a limit, and else it has
       pub place_limited : has_row (rows_at rs at) row ≡ false → (ROWS ≤ length (rows_at rs at)) ⊎ (seq ≡ LAST_SEQ)
-          → first_of (adding (counted_of rs name) seq) ≡ Some Limit
+          → first_refusal (adding (counted_of rs name) seq) ≡ Some Limit
       place_limited e h =
           place_by false false (nat_le ROWS (length (rows_at rs at))) (nat_le LAST_SEQ seq) (none_yet e) e refl refl
           ∙ limits (nat_le ROWS (length (rows_at rs at))) (nat_le LAST_SEQ seq) (by_limit h)
 
       pub place_passes : has_row (rows_at rs at) row ≡ false → length (rows_at rs at) < ROWS → seq < LAST_SEQ
-          → first_of (adding (counted_of rs name) seq) ≡ None
+          → first_refusal (adding (counted_of rs name) seq) ≡ None
       place_passes e l m = place_by false false false false (none_yet e) e (lt-leb ROWS (length (rows_at rs at)) l)
           (lt-leb LAST_SEQ seq m)
 
       -- one that is has a place where it has fewer copies than there may be
       pub place_more : has_row (rows_at rs at) row ≡ true → copies_among (counted_at rs at) row < COPIES
-          → first_of (adding (counted_of rs name) seq) ≡ None
+          → first_refusal (adding (counted_of rs name) seq) ≡ None
       place_more e l = place_by false true (nat_le ROWS (length (rows_at rs at))) (nat_le LAST_SEQ seq)
           (lt-leb COPIES (copies_among (counted_at rs at) row) l) e refl refl
 
-      pub place_most : COPIES ≤ copies_among (counted_at rs at) row → first_of (adding (counted_of rs name) seq)
+      pub place_most : COPIES ≤ copies_among (counted_at rs at) row → first_refusal (adding (counted_of rs name) seq)
           ≡ Some Limit
       place_most l = place_by true (has_row (rows_at rs at) row) (nat_le ROWS (length (rows_at rs at)))
           (nat_le LAST_SEQ seq) (le-leb COPIES (copies_among (counted_at rs at) row) l) refl refl refl
@@ -165,7 +166,7 @@ module _ (rs : List Relation) (name : Bytes) (row : Tuple) where
           → delete_refusal (bare rs seq) name row ≡ cond (one && last) (Some Limit) None
       delete_by one last e h =
           front_passes (row_refusals (bare rs 0) name row) (deleting (counted_of rs name) seq) suits_pass
-          ∙ ap (λ (rows : List CountedRow). first_of (deleting rows seq)) counted_found
+          ∙ ap (λ (rows : List CountedRow). first_refusal (deleting rows seq)) counted_found
           ∙ ap₂ (λ x y. cond (x && y) (Some Limit) None) e h
 
       pub delete_absent : has_row (rows_at rs at) row ≡ false → (delete_refusal (bare rs seq) name row ≡ None)

@@ -15,7 +15,7 @@ use Rattle.djq_live.specs.Updating.{change_of}
 use Rattle.djq_reach.specs.Places.{place_at, log_at}
 use Rattle.djq_engine.specs.declared.cursor.CursorId.{CursorId}
 use Rattle.djq_engine.specs.declared.parts.Parts.{Parts}
-use Rattle.djq_engine.specs.Kept.{Held, IsOver, ArePlaced, AreListed, AreHeld, AreTold, CellsAre, registered_at}
+use Rattle.djq_engine.specs.Kept.{HeldCursor, IsOver, ArePlaced, AreListed, AreHeld, AreTold, CellsAre, registered_at}
 use Rattle.djq_engine.specs.Places.{query_in, id_at, held_as, held_of, registered_as, told_of, told_from}
 use Rattle.djq_engine.specs.Whole.{kept_in, IsWhole, IsTended}
 use Rattle.djq_engine.proofs.Affecting.{all_made}
@@ -60,7 +60,7 @@ module _ (p : Parts) (s : IsWhole p) where
   are_listed i l e = registered_gives p.catalog p.queries.items p.order p.readers.items p.watchers.items s (id_at i)
       (λ r. r.query ≡ a_query l.query) (record { query = l; is = e }) (ap query_in e)
 
-  abbrev IsHeldAt : CursorId → Held → Type 0
+  abbrev IsHeldAt : CursorId → HeldCursor → Type 0
   IsHeldAt id h = (h.id ≡ id)
       × IsSomeAnd (registered_at (kept_in p).registered id.query) (λ r. h.query ≡ listed_name r.query)
 
@@ -68,7 +68,7 @@ module _ (p : Parts) (s : IsWhole p) where
   are_held id h held = by_place (place_at p.queries.items id.query.at) refl
       (sym (held_is (p.catalog).texts p.queries.items id) ∙ held)
     where
-      same_held : (x y : Held) → Some x ≡ Some y → x ≡ y
+      same_held : (x y : HeldCursor) → Some x ≡ Some y → x ≡ y
       same_held x y e = cc
 
       by_slot : (l : Live) → place_at p.queries.items id.query.at ≡ Some l → (o : Option Progress)
@@ -76,10 +76,11 @@ module _ (p : Parts) (s : IsWhole p) where
       by_slot l e None f = absurd cc
       by_slot l e (Some q) f =
           let same = same_held (held_as (p.catalog).texts l id q) h f in (
-            ap (λ (x : Held). x.id) (sym same),
+            ap (λ (x : HeldCursor). x.id) (sym same),
             registered_gives p.catalog p.queries.items p.order p.readers.items p.watchers.items s id.query
                 (λ r. h.query ≡ listed_name r.query) (record { query = l; is = e })
-                (ap (λ (x : Held). x.query) (sym same) ∙ ap (λ (o : Option Live). listed_name (query_in o)) (sym e)),
+                (ap (λ (x : HeldCursor). x.query) (sym same) ∙ ap (λ (o : Option Live). listed_name (query_in o))
+                (sym e)),
           )
 
       by_place : (o : Option Live) → place_at p.queries.items id.query.at ≡ o

@@ -9,7 +9,7 @@ use Rattle.std.proofs.lemmas.List.Elements.{All-take}
 use Rattle.djq_model.specs.declared.relation.Relation.{Relation}
 use Rattle.djq_model.specs.declared.relation.ColumnType.{ColumnType}
 use Rattle.djq_model.specs.declared.relation.CountedRow.{CountedRow}
-use Rattle.djq_model.specs.Data.{Bytes, Tuple, bytes_eq, tuples_of, has_row, copies_among, with_row, with_copies}
+use Rattle.djq_model.specs.Data.{Bytes, Tuple, bytes_eq, plain_of, has_row, copies_among, with_row, with_copies}
 use Rattle.djq_model.specs.Equality.{bytes_eq-decides}
 use Rattle.djq_model.specs.Known.{texts_in, all_learned}
 use Rattle.djq_model.proofs.Counted.{tuples_with_row, tuples_with_copies}
@@ -236,14 +236,14 @@ module _ (st : Store) (xs : List HeldRow) (c : Catalog) (count : ℕ) (groups : 
               ap (rows_at (with_rows_at c.relations at
               (with_copies (counted_at c.relations at) h.row (copies_among (counted_at c.relations at) h.row + 1))))
               (eqb-true r at f)
-              ∙ ap tuples_of (rows_with c.relations at
+              ∙ ap plain_of (rows_with c.relations at
               (with_copies (counted_at c.relations at) h.row (copies_among (counted_at c.relations at) h.row + 1))
               low)
               ∙ tuples_with_copies (counted_at c.relations at) h.row
               (copies_among (counted_at c.relations at) h.row + 1)
               ∙ ap (rows_at c.relations) (sym (eqb-true r at f))
           by false f =
-              ap (λ (x : Relation). tuples_of x.rows)
+              ap (λ (x : Relation). plain_of x.rows)
               (other_at c.relations at
               (with_copies (counted_at c.relations at) h.row (copies_among (counted_at c.relations at) h.row + 1)) r
               (λ s. false≢true (sym f ∙ eq-eqb r at s)))
@@ -316,7 +316,7 @@ module _ (st : Store) (xs : List HeldRow) (c : Catalog) (count : ℕ) (groups : 
               let x = (p.grouped).rows q.relation.at in (
                 x.0 ++ h.row ∷ [],
                 ap (λ (rs : List Relation). rows_at rs q.relation.at) n.relations
-                    ∙ ap tuples_of (rows_with c.relations q.relation.at
+                    ∙ ap plain_of (rows_with c.relations q.relation.at
                     (with_row (counted_at c.relations q.relation.at) h.row) low)
                     ∙ tuples_with_row (counted_at c.relations q.relation.at) h.row
                     ∙ ap (λ (rows : List Tuple). rows ++ h.row ∷ []) x.1
@@ -334,7 +334,7 @@ module _ (st : Store) (xs : List HeldRow) (c : Catalog) (count : ℕ) (groups : 
               let x = (p.grouped).rows r in (
                 x.0,
                 ap (λ (rs : List Relation). rows_at rs r) n.relations
-                    ∙ ap (λ (y : Relation). tuples_of y.rows)
+                    ∙ ap (λ (y : Relation). plain_of y.rows)
                     (other_at c.relations q.relation.at (with_row (counted_at c.relations q.relation.at) h.row) r
                     (λ s. false≢true (sym e ∙ eq-eqb q.relation.at r (sym s)))) ∙ x.1,
                 subst (λ (cs : List (List ℕ)). StandForRows d r cs x.0)

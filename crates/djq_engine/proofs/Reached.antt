@@ -7,7 +7,7 @@ use Rattle.std.proofs.lemmas.Bool.{eqb-true, eq-eqb, false≢true}
 use Rattle.djq_model.specs.declared.relation.Relation.{Relation}
 use Rattle.djq_model.specs.declared.query.Query.{Query}
 use Rattle.djq_model.specs.declared.query.Atom.{Atom}
-use Rattle.djq_model.specs.Data.{Bytes, Tuple, bytes_eq, relation_of, counted_in, tuples_of, rows_of}
+use Rattle.djq_model.specs.Data.{Bytes, Tuple, bytes_eq, relation_of, counted_in, plain_of, rows_of}
 use Rattle.djq_model.specs.Answer.{IsAnswer, Satisfies}
 use Rattle.djq_model.specs.Listed.{Listed, a_query}
 use Rattle.djq_model.specs.Equality.{bytes_eq-decides}
@@ -226,11 +226,11 @@ rows_of_same [] [] l n e name = refl
 rows_of_same [] (d ∷ ds) l n e name = absurd (omega (arith, l))
 rows_of_same (c ∷ cs) [] l n e name = absurd (omega (arith, l))
 rows_of_same (c ∷ cs) (d ∷ ds) l n e name =
-    ap (λ (x : Bytes). tuples_of (counted_in (cond (bytes_eq x name) (Some d) (relation_of ds name)))) (n zero)
+    ap (λ (x : Bytes). plain_of (counted_in (cond (bytes_eq x name) (Some d) (relation_of ds name)))) (n zero)
     ∙ by (bytes_eq c.name name) (rows_of_same cs ds (omega (arith, l)) (λ r. n (suc r)) (λ r. e (suc r)) name)
   where
-    by : (b : Bool) → rows_of ds name ≡ rows_of cs name → tuples_of (counted_in (cond b (Some d) (relation_of ds name)))
-        ≡ tuples_of (counted_in (cond b (Some c) (relation_of cs name)))
+    by : (b : Bool) → rows_of ds name ≡ rows_of cs name → plain_of (counted_in (cond b (Some d) (relation_of ds name)))
+        ≡ plain_of (counted_in (cond b (Some c) (relation_of cs name)))
     by true more = e zero
     by false more = more
 

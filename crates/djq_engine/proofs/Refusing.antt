@@ -23,7 +23,7 @@ use Rattle.djq_lines.specs.Hypergraph.{edges_of, head_of}
 use Rattle.djq_lines.specs.QueryFault.{query_fault, query_faults}
 use Rattle.djq_lines.specs.Variables.{constants_of}
 use Rattle.djq_machine.specs.State.{Store}
-use Rattle.djq_machine.specs.Conditions.{first_of, Answers}
+use Rattle.djq_machine.specs.Conditions.{first_refusal, Answers}
 use Rattle.djq_machine.specs.Store.{query_refusal, RegistersQuery, RegistersAs, RefusedLate}
 use Rattle.djq_machine.specs.Store.{most_steps, LearnsAll, LearnsFirst, FindsNoPlace, drop_refusal, is_member}
 use Rattle.djq_rows.specs.Catalog.{Catalog, IsCatalog}
@@ -35,7 +35,7 @@ use Rattle.djq_live.specs.Live.{Live, IsLive, ShowableStays}
 use Rattle.djq_live.specs.Staying.{StaysOver, LiveStays}
 use Rattle.djq_engine.specs.declared.cursor.CursorId.{CursorId}
 use Rattle.djq_engine.specs.declared.parts.Parts.{Parts}
-use Rattle.djq_engine.specs.Kept.{Held, Registered as Enlisted, registered_of, same_query}
+use Rattle.djq_engine.specs.Kept.{HeldCursor, Registered as Enlisted, registered_of, same_query}
 use Rattle.djq_engine.specs.Kept.{is_watched, held_at, SameCursors, DropGives, TellsOf}
 use Rattle.djq_reach.specs.Places.{place_at, watched_at}
 use Rattle.djq_engine.specs.Places.{query_in, queries_in, store_of, kept_of, held_as, held_from}
@@ -61,13 +61,14 @@ use Rattle.djq_engine.proofs.Cursors.{same_live}
 
 -- ---- the conditions of `query`
 
-append_none : (xs ys : List (Bool × Refusal)) → first_of (xs ++ ys) ≡ None → (first_of xs ≡ None) × (first_of ys ≡ None)
+append_none : (xs ys : List (Bool × Refusal)) → first_refusal (xs ++ ys) ≡ None → (first_refusal xs ≡ None)
+    × (first_refusal ys ≡ None)
 append_none [] ys e = (refl, e)
 append_none (x ∷ xs) ys e = step x.0 x.1 e (append_none xs ys)
   where
-    step : (b : Bool) (r : Refusal) → cond b (Some r) (first_of (xs ++ ys)) ≡ None
-        → (first_of (xs ++ ys) ≡ None → (first_of xs ≡ None) × (first_of ys ≡ None))
-        → (cond b (Some r) (first_of xs) ≡ None) × (first_of ys ≡ None)
+    step : (b : Bool) (r : Refusal) → cond b (Some r) (first_refusal (xs ++ ys)) ≡ None
+        → (first_refusal (xs ++ ys) ≡ None → (first_refusal xs ≡ None) × (first_refusal ys ≡ None))
+        → (cond b (Some r) (first_refusal xs) ≡ None) × (first_refusal ys ≡ None)
     step true r e more = absurd cc
     step false r e more = more e
 
@@ -82,9 +83,9 @@ module _ (c : Catalog) (gs : List (Option Live)) (order : List ℕ) (readers : L
   refusal_by : (t : Bool) → is_some (listed_of (queries_in gs order) q.name) ≡ t
       → query_refusal (store_of c gs order seq) q
       ≡ cond t (Some Taken)
-      (first_of (query_faults c.relations q ++ (nat_le QUERIES (length (queries_in gs order)), Limit) ∷ []))
+      (first_refusal (query_faults c.relations q ++ (nat_le QUERIES (length (queries_in gs order)), Limit) ∷ []))
   refusal_by t e = ap (λ b. cond b (Some Taken)
-      (first_of (query_faults c.relations q ++ (nat_le QUERIES (length (queries_in gs order)), Limit) ∷ []))) e
+      (first_refusal (query_faults c.relations q ++ (nat_le QUERIES (length (queries_in gs order)), Limit) ∷ []))) e
 
   pub judged_taken : (o : Option ℕ) → o ≡ position (is_query q.name) gs → is_some o ≡ true → Some Taken
       ≡ query_refusal (store_of c gs order seq) q
@@ -295,12 +296,12 @@ no_member : (gs : List (Option Live)) (name : Bytes) (xs : List ℕ) → is_memb
 no_member gs name [] = refl
 no_member gs name (x ∷ xs) = ap₂ (λ (a b : Bool). a || b) (no_members name (place_at gs x)) (no_member gs name xs)
 
-query_of_held : Option Held → Bytes
+query_of_held : Option HeldCursor → Bytes
 query_of_held None = []
 query_of_held (Some x) = x.query
 
 -- a cursor that is held is over the query in its place
-over_place : (texts : List Bytes) (gs : List (Option Live)) (id : CursorId) (h : Held)
+over_place : (texts : List Bytes) (gs : List (Option Live)) (id : CursorId) (h : HeldCursor)
     → held_at (held_from texts zero gs) id ≡ Some h
     → (l : Live) × (place_at gs id.query.at ≡ Some l) × (h.query ≡ l.query.name)
     × (is_some (slot_at l.cursors id.cursor) ≡ true)
@@ -355,7 +356,7 @@ module _ (old : Parts) (s : IsWhole old) (name : Bytes) where
     found : listed_of (queries_in old.queries.items old.order) name ≡ Some (a_query n.query.query)
     found = query_named old.catalog old.queries.items old.order old.readers.items s name at n
 
-    used : are_vacant n.query.cursors ≡ false → (id : CursorId) × (h : Held)
+    used : are_vacant n.query.cursors ≡ false → (id : CursorId) × (h : HeldCursor)
         × (held_at (kept_in old).cursors id ≡ Some h) × (h.query ≡ name)
     used e =
         let k = one_filled n.query.cursors (λ z. false≢true (sym e ∙ eq-eqb (count_by is_some n.query.cursors) 0 z)) in
@@ -400,7 +401,8 @@ module _ (old : Parts) (s : IsWhole old) (name : Bytes) where
       tellings = record { affected = refl; told = refl };
     }
 
-    unused : are_vacant n.query.cursors ≡ true → (id : CursorId) (h : Held) → held_at (kept_in old).cursors id ≡ Some h
+    unused : are_vacant n.query.cursors ≡ true → (id : CursorId) (h : HeldCursor) → held_at (kept_in old).cursors id
+        ≡ Some h
         → h.query ≡ name → ⊥
     unused e id h held named =
         let o = over_place (old.catalog).texts old.queries.items id h held in

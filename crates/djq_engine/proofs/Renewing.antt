@@ -15,7 +15,7 @@ use Rattle.djq_live.specs.Cursors.{slot_at, outdated_progress, outdated_slots}
 use Rattle.djq_live.specs.Live.{Live, IsLive, position_of}
 use Rattle.djq_live.specs.Staying.{StaysOver}
 use Rattle.djq_engine.specs.declared.cursor.CursorId.{CursorId}
-use Rattle.djq_engine.specs.Kept.{Held, held_at, same_id, outdated_held}
+use Rattle.djq_engine.specs.Kept.{HeldCursor, held_at, same_id, outdated_held}
 use Rattle.djq_reach.specs.Places.{place_at, is_reader, reads_place}
 use Rattle.djq_reach.specs.Reaching.{DoneAt, Reach, Renews}
 use Rattle.djq_engine.specs.Places.{is_live, query_in, queries_in, held_as, held_of, held_from}
@@ -195,7 +195,7 @@ module _ (c d : Catalog) (gs ks : List (Option Live)) (order : List ℕ) (reader
 
   -- cursors
 
-  abbrev aged : Held → Held
+  abbrev aged : HeldCursor → HeldCursor
   aged = outdated_held (queries_in gs order) outdater n
 
   outdater_is : (i : ℕ) (l : Live) → place_at gs i ≡ Some l → outdater_of (queries_in gs order) outdater l.query.name

@@ -8,7 +8,7 @@ use Rattle.djq_model.specs.declared.relation.Relation.{Relation}
 use Rattle.djq_model.specs.declared.relation.ColumnType.{ColumnType}
 use Rattle.djq_model.specs.declared.relation.CountedRow.{CountedRow}
 use Rattle.djq_model.specs.declared.value.Value.TheVariants.{Int, Text}
-use Rattle.djq_model.specs.Data.{Bytes, Tuple, tuples_of, has_row, copies_among, with_row, with_copies, without_copies}
+use Rattle.djq_model.specs.Data.{Bytes, Tuple, plain_of, has_row, copies_among, with_row, with_copies, without_copies}
 use Rattle.djq_model.specs.Known.{knows, texts_in, learned, all_learned}
 use Rattle.djq_model.proofs.Counted.{tuples_with_row, came_copies}
 use Rattle.djq_lines.specs.declared.answer.AddOutcome.{AddOutcome}
@@ -136,7 +136,7 @@ module _ (c d : Catalog) (at : ℕ) (low : at < length c.relations) (cells : Lis
       ∙ rows_with c.relations at (with_row (counted_at c.relations at) row) low
 
   pub rows_now : rows_at d.relations at ≡ rows_at c.relations at ++ row ∷ []
-  rows_now = ap tuples_of counted_now ∙ tuples_with_row (counted_at c.relations at) row
+  rows_now = ap plain_of counted_now ∙ tuples_with_row (counted_at c.relations at) row
 
   one_now : copies_among (counted_at d.relations at) row ≡ 1
   one_now = ap (λ (rows : List CountedRow). copies_among rows row) counted_now

@@ -8,7 +8,7 @@ use Rattle.std.proofs.lemmas.List.Elements.{All-cons, All-nil, All-head, All-tai
 use Rattle.djq_model.specs.declared.relation.Relation.{Relation}
 use Rattle.djq_model.specs.declared.relation.CountedRow.{CountedRow}
 use Rattle.djq_model.specs.Data.{Bytes, Tuple, bytes_eq, tuple_eq, change_first, relation_of}
-use Rattle.djq_model.specs.Data.{counted_in, counted_of, tuples_of, rows_of, has_row, copies_among}
+use Rattle.djq_model.specs.Data.{counted_in, counted_of, plain_of, rows_of, has_row, copies_among}
 use Rattle.djq_model.specs.Data.{with_row, with_copies, without_copies}
 use Rattle.djq_model.specs.Known.{texts_in, all_learned}
 use Rattle.djq_model.proofs.Counted.{tuples_with_row, tuples_with_copies, copies_hold, came_copies, changed_copies}
@@ -66,13 +66,13 @@ rows_back (r ∷ rs) name = by (bytes_eq r.name name) (rows_back rs name)
 
 -- ---- copies
 
-copies_back : (rows : List CountedRow) (row : Tuple) (n : ℕ) → has_row (tuples_of rows) row ≡ true
+copies_back : (rows : List CountedRow) (row : Tuple) (n : ℕ) → has_row (plain_of rows) row ≡ true
     → with_copies (with_copies rows row n) row (copies_among rows row) ≡ rows
 copies_back [] row n h = refl
 copies_back (c ∷ rows) row n h = by (tuple_eq c.row row) refl h (copies_back rows row n)
   where
-    by : (b : Bool) → tuple_eq c.row row ≡ b → cond b true (has_row (tuples_of rows) row) ≡ true
-        → (has_row (tuples_of rows) row ≡ true → with_copies (with_copies rows row n) row (copies_among rows row)
+    by : (b : Bool) → tuple_eq c.row row ≡ b → cond b true (has_row (plain_of rows) row) ≡ true
+        → (has_row (plain_of rows) row ≡ true → with_copies (with_copies rows row n) row (copies_among rows row)
         ≡ rows)
         → with_copies (cond b (record c { copies = n } ∷ rows) (c ∷ with_copies rows row n)) row
         (cond b c.copies (copies_among rows row)) ≡ c ∷ rows
@@ -184,9 +184,9 @@ module _ (rs : List Relation) (name : Bytes) (row : Tuple) (at : ℕ) (now new :
       one = ap (λ (ys : List CountedRow). copies_among ys row) counted ∙ came_copies (counted_of rs name) row absent
 
       has : has_row (rows_at now at) row ≡ true
-      has = ap (λ (ys : List CountedRow). has_row (tuples_of ys) row) counted
+      has = ap (λ (ys : List CountedRow). has_row (plain_of ys) row) counted
           ∙ ap (λ (ts : List Tuple). has_row ts row) (tuples_with_row (counted_of rs name) row)
-          ∙ last_there (tuples_of (counted_of rs name)) row
+          ∙ last_there (plain_of (counted_of rs name)) row
 
       by : (o : DeleteOutcome) → DeletesRow now at row o new → new ≡ rs
       by Last h =
@@ -215,7 +215,7 @@ module _ (rs : List Relation) (name : Bytes) (row : Tuple) (at : ℕ) (now new :
           ∙ changed_copies (counted_of rs name) row (copies_among (counted_of rs name) row + 1) has
 
       there_now : has_row (rows_at now at) row ≡ true
-      there_now = ap (λ (ys : List CountedRow). has_row (tuples_of ys) row) counted
+      there_now = ap (λ (ys : List CountedRow). has_row (plain_of ys) row) counted
           ∙ ap (λ (ts : List Tuple). has_row ts row)
           (tuples_with_copies (counted_of rs name) row (copies_among (counted_of rs name) row + 1)) ∙ has
 
@@ -293,17 +293,17 @@ row_there st h at now w there found = by (is_there st h) refl w.are
         x).relations
         → has_row (rows_at now at) h.row ≡ true
     by true f e =
-        ap (λ (ys : List CountedRow). has_row (tuples_of ys) h.row)
+        ap (λ (ys : List CountedRow). has_row (plain_of ys) h.row)
         (counted (with_copies (counted_of st.relations h.relation) h.row
         (copies_among (counted_of st.relations h.relation) h.row + 1)) e)
         ∙ ap (λ (ts : List Tuple). has_row ts h.row)
         (tuples_with_copies (counted_of st.relations h.relation) h.row
         (copies_among (counted_of st.relations h.relation) h.row + 1)) ∙ f
     by false f e =
-        ap (λ (ys : List CountedRow). has_row (tuples_of ys) h.row)
+        ap (λ (ys : List CountedRow). has_row (plain_of ys) h.row)
         (counted (with_row (counted_of st.relations h.relation) h.row) e)
         ∙ ap (λ (ts : List Tuple). has_row ts h.row) (tuples_with_row (counted_of st.relations h.relation) h.row)
-        ∙ last_there (tuples_of (counted_of st.relations h.relation)) h.row
+        ∙ last_there (plain_of (counted_of st.relations h.relation)) h.row
 
 -- it suits its relation still
 pub suits_last : (st : Store) (h : HeldRow) (now : List Relation) (n : ℕ) → WentIn st h now

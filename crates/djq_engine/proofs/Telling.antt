@@ -11,7 +11,7 @@ use Rattle.djq_lines.specs.declared.answer.Refusal.TheVariants.{NoQuery, Arity, 
 use Rattle.djq_lines.specs.declared.answer.Shape.{Shape}
 use Rattle.djq_lines.specs.Hypergraph.{variable_names}
 use Rattle.djq_tree.specs.Explaining.{explain_of}
-use Rattle.djq_machine.specs.Conditions.{first_of}
+use Rattle.djq_machine.specs.Conditions.{first_refusal}
 use Rattle.djq_machine.specs.Store.{TellsWhether, Tells, has_refusal, has_steps, answer_types}
 use Rattle.djq_machine.specs.Store.{listed_types, misfit, TellsShape, IsShapeOf}
 use Rattle.djq_rows.specs.Catalog.{Catalog}
@@ -54,7 +54,7 @@ module _ (c : Catalog) (gs : List (Option Live)) (order : List ℕ) (readers : L
   pub tells_none : None ≡ position (is_query name) gs → TellsWhether (store_of c gs order seq) name tuple (Err NoQuery)
   tells_none e = record {
     answer = answers_refused (has_refusal (store_of c gs order seq) name tuple) NoQuery _ _
-        (ap (λ (o : Option Listed). first_of
+        (ap (λ (o : Option Listed). first_refusal
         ((is_none o, NoQuery) ∷ (not (length tuple == length (listed_types c.relations o)), Arity) ∷
         (not (fits (listed_types c.relations o) tuple), WrongType) ∷ []))
         (no_query_of c gs order readers s name e));
@@ -66,7 +66,7 @@ module _ (c : Catalog) (gs : List (Option Live)) (order : List ℕ) (readers : L
         ∙ ap (λ (x : Live). Some (a_query x.query)) (same_live n.query l (place_at gs at) n.there there)
 
     refusal_is : has_refusal (store_of c gs order seq) name tuple ≡ misfit (answer_types c.relations l.query) tuple
-    refusal_is = ap (λ (o : Option Listed). first_of
+    refusal_is = ap (λ (o : Option Listed). first_refusal
         ((is_none o, NoQuery) ∷ (not (length tuple == length (listed_types c.relations o)), Arity) ∷
         (not (fits (listed_types c.relations o) tuple), WrongType) ∷ [])) found
 
@@ -92,31 +92,34 @@ module _ (c : Catalog) (gs : List (Option Live)) (order : List ℕ) (readers : L
   -- `explain` and `shape`
 
   missing : None ≡ position (is_query name) gs
-      → first_of ((is_none (listed_of (queries_in gs order) name), NoQuery) ∷ []) ≡ Some NoQuery
-  missing e = ap (λ (o : Option Listed). first_of ((is_none o, NoQuery) ∷ [])) (no_query_of c gs order readers s name e)
+      → first_refusal ((is_none (listed_of (queries_in gs order) name), NoQuery) ∷ []) ≡ Some NoQuery
+  missing e = ap (λ (o : Option Listed). first_refusal ((is_none o, NoQuery) ∷ [])) (no_query_of c gs order readers s
+      name e)
 
   pub explain_none : None ≡ position (is_query name) gs → ExplainGives (store_of c gs order seq) name (Err NoQuery)
   explain_none e = record {
-    answer = answers_refused (first_of ((is_none (listed_of (queries_in gs order) name), NoQuery) ∷ [])) NoQuery _ _
+    answer = answers_refused (first_refusal ((is_none (listed_of (queries_in gs order) name), NoQuery) ∷ [])) NoQuery
+        _ _
         (missing e);
   }
 
   pub shape_none : None ≡ position (is_query name) gs → TellsShape (store_of c gs order seq) name (Err NoQuery)
   shape_none e = record {
-    answer = answers_refused (first_of ((is_none (listed_of (queries_in gs order) name), NoQuery) ∷ [])) NoQuery _ _
+    answer = answers_refused (first_refusal ((is_none (listed_of (queries_in gs order) name), NoQuery) ∷ [])) NoQuery
+        _ _
         (missing e);
   }
 
   module _ (at : ℕ) (n : Named gs name at) (l : Live) (there : place_at gs at ≡ Some l) where
-    passes : first_of ((is_none (listed_of (queries_in gs order) name), NoQuery) ∷ []) ≡ None
-    passes = ap (λ (o : Option Listed). first_of ((is_none o, NoQuery) ∷ [])) (found at n l there)
+    passes : first_refusal ((is_none (listed_of (queries_in gs order) name), NoQuery) ∷ []) ≡ None
+    passes = ap (λ (o : Option Listed). first_refusal ((is_none o, NoQuery) ∷ [])) (found at n l there)
 
     pub query_kept : IsKeptSomewhere l
     query_kept = (c, (s.live at l there).kept)
 
     pub explain_lacks : ExplainGives (store_of c gs order seq) name (Err NoMemory)
     explain_lacks = record {
-      answer = answers_lacking (first_of ((is_none (listed_of (queries_in gs order) name), NoQuery) ∷ []))
+      answer = answers_lacking (first_refusal ((is_none (listed_of (queries_in gs order) name), NoQuery) ∷ []))
           (λ lines. IsSomeAnd (listed_of (queries_in gs order) name) (λ q. Explains q lines)) _ passes
           (subst (λ (o : Option Listed). IsSomeAnd o HasTree) (sym (found at n l there))
           (l.reducts.tree, (s.live at l there).kept.named));
@@ -126,7 +129,7 @@ module _ (c : Catalog) (gs : List (Option Live)) (order : List ℕ) (readers : L
         ≡ explain_of (map (λ a. a.relation) l.query.atoms) (variable_names l.query) l.reducts.tree
         → ExplainGives (store_of c gs order seq) name (Ok lines)
     explain_done lines e = record {
-      answer = answers_done (first_of ((is_none (listed_of (queries_in gs order) name), NoQuery) ∷ [])) lines
+      answer = answers_done (first_refusal ((is_none (listed_of (queries_in gs order) name), NoQuery) ∷ [])) lines
           (λ lines. IsSomeAnd (listed_of (queries_in gs order) name) (λ q. Explains q lines)) _ passes
           (subst (λ (o : Option Listed). IsSomeAnd o (λ q. Explains q lines)) (sym (found at n l there))
           (record { tree = l.reducts.tree; named = (s.live at l there).kept.named; are = e }));
@@ -135,7 +138,7 @@ module _ (c : Catalog) (gs : List (Option Live)) (order : List ℕ) (readers : L
     pub shape_done : (shape : Shape) → IsShapeOf (a_query l.query) shape
         → TellsShape (store_of c gs order seq) name (Ok shape)
     shape_done shape is = record {
-      answer = answers_done (first_of ((is_none (listed_of (queries_in gs order) name), NoQuery) ∷ [])) shape
+      answer = answers_done (first_refusal ((is_none (listed_of (queries_in gs order) name), NoQuery) ∷ [])) shape
           (λ shape. IsSomeAnd (listed_of (queries_in gs order) name) (λ q. IsShapeOf q shape)) _ passes
           (subst (λ (o : Option Listed). IsSomeAnd o (λ q. IsShapeOf q shape)) (sym (found at n l there)) is);
     }

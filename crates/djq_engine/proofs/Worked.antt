@@ -9,7 +9,7 @@ use Rattle.djq_lines.specs.declared.held.HeldRow.{HeldRow}
 use Rattle.djq_machine.specs.State.{Store}
 use Rattle.djq_machine.specs.Stale.{listed_reads}
 use Rattle.djq_machine.specs.Changes.{RowsChange, is_outdated}
-use Rattle.djq_machine.specs.Batch.{is_there, with_held, has_come, count_came, first_read, rows_in as rows_held}
+use Rattle.djq_machine.specs.Batch.{is_there, with_held, has_come, count_came, first_read, rows_held}
 use Rattle.djq_machine.proofs.Reading.{reads_atom}
 use Rattle.djq_propagate.specs.Updates.{HasAtMost}
 use Rattle.djq_query.specs.declared.numbered.NumberedAtom.{NumberedAtom}

@@ -13,7 +13,7 @@ use Rattle.djq_tree.specs.Tree.{Tree}
 use Rattle.djq_tree.specs.Growing.{IsTreeOf}
 use Rattle.djq_tree.specs.Explaining.{explain_of}
 use Rattle.djq_machine.specs.State.{Store, Position, open_at, stale}
-use Rattle.djq_machine.specs.Conditions.{first_of, Answers, OutOfMemoryWhere}
+use Rattle.djq_machine.specs.Conditions.{first_refusal, Answers, OutOfMemoryWhere}
 use Rattle.djq_machine.specs.Store.{DropsQuery, IsLeft, AreAll, answer_steps}
 use Rattle.djq_machine.specs.Stale.{outdated, outdater_of}
 use Rattle.djq_machine.specs.Changes.{RowsChange, is_outdated}
@@ -30,7 +30,7 @@ use Rattle.djq_engine.specs.declared.cursor.CursorId.{CursorId}
 use Rattle.djq_engine.specs.declared.cursor.QueryId.{QueryId}
 
 -- A cursor that the engine keeps: over which query, and how far it has come.
-pub record Held : Type 0 where
+pub record HeldCursor : Type 0 where
   pub id : CursorId
   pub query : Bytes
   pub position : Position
@@ -47,7 +47,7 @@ pub record Registered : Type 0 where
 -- place.
 pub record Kept : Type 0 where
   pub store : Store
-  pub cursors : List Held
+  pub cursors : List HeldCursor
   pub registered : List Registered
   pub affected : List QueryId
   pub told : List (Option (List Change))
@@ -99,26 +99,26 @@ abbrev pub same_id : CursorId → CursorId → Bool
 same_id a b = (a.query.at == b.query.at) && (a.cursor == b.cursor)
 
 -- the cursor of an id
-abbrev pub held_at : List Held → CursorId → Option Held
+abbrev pub held_at : List HeldCursor → CursorId → Option HeldCursor
 held_at hs id = find (λ h. same_id h.id id) hs
 
 -- All cursors are as before.
-abbrev pub SameCursors : List Held → List Held → Type 0
+abbrev pub SameCursors : List HeldCursor → List HeldCursor → Type 0
 SameCursors old new = (id : CursorId) → held_at new id ≡ held_at old id
 
 -- All other cursors are as before.
-abbrev pub OthersStay : List Held → CursorId → List Held → Type 0
+abbrev pub OthersStay : List HeldCursor → CursorId → List HeldCursor → Type 0
 OthersStay old id new = (other : CursorId) → same_id other id ≡ false
     → held_at new other ≡ held_at old other
 
 -- a cursor after a change of this number
-abbrev pub outdated_held : List Listed → (Listed → Option Bytes) → ℕ → Held → Held
+abbrev pub outdated_held : List Listed → (Listed → Option Bytes) → ℕ → HeldCursor → HeldCursor
 outdated_held queries outdater n h = record h {
   position = outdated (outdater_of queries outdater h.query) n h.position;
 }
 
 -- the cursors behind a change of this number that was made or tried, where there was one
-abbrev pub cursors_behind : Kept → Option RowsChange → ℕ → List Held
+abbrev pub cursors_behind : Kept → Option RowsChange → ℕ → List HeldCursor
 cursors_behind old None n = old.cursors
 cursors_behind old (Some change) n =
     map (outdated_held old.store.queries change.outdater n) old.cursors
@@ -152,12 +152,12 @@ pub record OpensCursor (old : Kept) (query : Bytes) (id : CursorId) (new : Kept)
 -- What `open` answers.
 pub record OpenGives (old : Kept) (query : Bytes) (result : Result CursorId Refusal) (new : Kept) :
     Type 0 where
-  pub answer : Answers (first_of ((is_none (listed_of (old.store).queries query), NoQuery) ∷ []))
+  pub answer : Answers (first_refusal ((is_none (listed_of (old.store).queries query), NoQuery) ∷ []))
       result (λ id. OpensCursor old query id new) (OutOfMemoryWhere ⊤)
   pub stays : (r : Refusal) → result ≡ Err r → new ≡ old
 
 -- A cursor is moved, and nothing else.
-pub record MovesCursor (old : Kept) (h : Held) (position : Position) (new : Kept) : Type 0 where
+pub record MovesCursor (old : Kept) (h : HeldCursor) (position : Position) (new : Kept) : Type 0 where
   pub there : held_at new.cursors h.id ≡ Some (record h { position = position })
   pub others : OthersStay old.cursors h.id new.cursors
   pub store : new.store ≡ old.store
@@ -187,7 +187,7 @@ AnswerIs k id answer t = AtQuery k id (λ l. t ≡ values_of k.store.texts l ans
 
 -- What a read of a cursor gives: one answer that is left; the end exactly where none is; or what
 -- made it stale.
-abbrev pub NextGivesAt : Kept → Held → Listed → Position → Next → List ℕ → Kept → Type 0
+abbrev pub NextGivesAt : Kept → HeldCursor → Listed → Position → Next → List ℕ → Kept → Type 0
 NextGivesAt old h q (open_at given ended) Given answer new =
     (t : Tuple) × IsLeft (AnswersOf (old.store).relations q) given t
     × IsThere new h.id answer × AnswerIs new h.id answer t
@@ -213,7 +213,7 @@ pub record NextGives (old : Kept) (id : CursorId) (result : Next) (answer : List
 
 -- Whether a further answer is left is known of a cursor that isn't stale; where none is, it stands
 -- at its end.
-abbrev pub MoreGivesAt : Kept → Held → Listed → Position → Bool → Kept → Type 0
+abbrev pub MoreGivesAt : Kept → HeldCursor → Listed → Position → Bool → Kept → Type 0
 MoreGivesAt old h q (open_at given ended) true new =
     ((t : Tuple) × IsLeft (AnswersOf (old.store).relations q) given t)
     × MovesCursor old h (open_at given false) new
@@ -253,10 +253,10 @@ pub record ClosesCursor (old : Kept) (id : CursorId) (new : Kept) : Type 0 where
 -- it.
 abbrev pub Uses : Kept → Bytes → Bool → Type 0
 Uses k query true =
-    ((id : CursorId) × (h : Held) × (held_at k.cursors id ≡ Some h) × (h.query ≡ query))
+    ((id : CursorId) × (h : HeldCursor) × (held_at k.cursors id ≡ Some h) × (h.query ≡ query))
     ⊎ IsSomeAnd (registered_of k.registered query) (λ r. is_watched r ≡ true)
 Uses k query false =
-    ((id : CursorId) (h : Held) → held_at k.cursors id ≡ Some h → h.query ≡ query → ⊥)
+    ((id : CursorId) (h : HeldCursor) → held_at k.cursors id ≡ Some h → h.query ≡ query → ⊥)
     × IfSome (registered_of k.registered query) (λ r. is_watched r ≡ false)
 
 -- the registered queries once a query was dropped, or wasn't
@@ -302,7 +302,7 @@ HasTree (a_union name qs) = ⊤
 -- What `explain` answers. A query whose lines find no memory has a tree too.
 pub record ExplainGives (st : Store) (query : Bytes) (result : Result (List ℕ) Refusal) :
     Type 0 where
-  pub answer : Answers (first_of ((is_none (listed_of st.queries query), NoQuery) ∷ []))
+  pub answer : Answers (first_refusal ((is_none (listed_of st.queries query), NoQuery) ∷ []))
       result (λ lines. IsSomeAnd (listed_of st.queries query) (λ q. Explains q lines))
       (OutOfMemoryWhere (IsSomeAnd (listed_of st.queries query) HasTree))
 
@@ -361,7 +361,7 @@ AreListed k = (i : ℕ) (l : Live) → place_at k.places i ≡ Some l
 
 -- A cursor is over a registered query.
 abbrev pub AreHeld : Kept → Type 0
-AreHeld k = (id : CursorId) (h : Held) → held_at k.cursors id ≡ Some h
+AreHeld k = (id : CursorId) (h : HeldCursor) → held_at k.cursors id ≡ Some h
     → (h.id ≡ id)
     × IsSomeAnd (registered_at k.registered id.query) (λ r. h.query ≡ listed_name r.query)
 

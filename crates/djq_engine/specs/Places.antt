@@ -15,7 +15,7 @@ use Rattle.djq_cursor.specs.Log.{Log}
 use Rattle.djq_reach.specs.Places.{place_at, watchers_at}
 use Rattle.djq_engine.specs.declared.cursor.CursorId.{CursorId}
 use Rattle.djq_engine.specs.declared.cursor.QueryId.{QueryId}
-use Rattle.djq_engine.specs.Kept.{Held, Registered, Kept}
+use Rattle.djq_engine.specs.Kept.{HeldCursor, Registered, Kept}
 
 -- whether one is
 abbrev pub is_live : List (Option Live) → ℕ → Bool
@@ -44,11 +44,11 @@ abbrev pub left : ℕ → List ℕ → List ℕ
 left at places = filter (λ i. not (i == at)) places
 
 -- a cursor of a query, as contracts see it
-abbrev pub held_as : List Bytes → Live → CursorId → Progress → Held
+abbrev pub held_as : List Bytes → Live → CursorId → Progress → HeldCursor
 held_as texts l id p = record { id = id; query = l.query.name; position = position_of texts l p }
 
 -- the cursors in slots from this one on, of the query at a place
-abbrev pub held_in : List Bytes → Live → ℕ → ℕ → List (Option Progress) → List Held
+abbrev pub held_in : List Bytes → Live → ℕ → ℕ → List (Option Progress) → List HeldCursor
 held_in texts l at k [] = []
 held_in texts l at k (None ∷ slots) = held_in texts l at (suc k) slots
 held_in texts l at k (Some p ∷ slots) =
@@ -56,14 +56,14 @@ held_in texts l at k (Some p ∷ slots) =
     ∷ held_in texts l at (suc k) slots
 
 -- the cursors of all queries from this place on
-abbrev pub held_from : List Bytes → ℕ → List (Option Live) → List Held
+abbrev pub held_from : List Bytes → ℕ → List (Option Live) → List HeldCursor
 held_from texts at [] = []
 held_from texts at (None ∷ gs) = held_from texts (suc at) gs
 held_from texts at (Some l ∷ gs) =
     held_in texts l at zero l.cursors ++ held_from texts (suc at) gs
 
 -- the cursor of an id over the query in its place
-abbrev pub held_of : List Bytes → CursorId → Option Live → Option Held
+abbrev pub held_of : List Bytes → CursorId → Option Live → Option HeldCursor
 held_of texts id None = None
 held_of texts id (Some l) = option_map (held_as texts l id) (slot_at l.cursors id.cursor)
 

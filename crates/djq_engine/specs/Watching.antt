@@ -19,7 +19,7 @@ use Rattle.djq_lines.specs.declared.rest.QueryOutcome.{QueryOutcome}
 use Rattle.djq_lines.specs.declared.rest.QueryOutcome.TheVariants.{Registered as HasRegistered}
 use Rattle.djq_machine.specs.Stale.{listed_reads}
 use Rattle.djq_machine.specs.Changes.{RowsChange, RowsOutcome, accepted, out_of_memory, unchanged, tried, is_outdated}
-use Rattle.djq_machine.specs.Batch.{rows_in}
+use Rattle.djq_machine.specs.Batch.{rows_held}
 use Rattle.djq_machine.specs.Store.{IsShapeOf}
 use Rattle.djq_machine.specs.Watch.{Delta, ListsDeltas, deltas_steps}
 use Rattle.djq_engine.specs.declared.cursor.QueryId.{QueryId}
@@ -148,9 +148,9 @@ batch_times held (Err _) = 0
 -- a row comes, each of them bounded by its rows and by as many more as the batch has.
 pub record CountsBatch (times : ℕ) (old : Kept) (held : List HeldRow) (before now : ℕ) : Type 0
   where
-    pub counted : (n : ℕ) → AreBounded old (rows_in old.store held) n (λ q. false) → now ≤ before
-        + sum_by (λ r. times * update_steps (rows_in old.store held) (n + length held) r.query)
-        (readers_of old.registered (rows_in old.store held))
+    pub counted : (n : ℕ) → AreBounded old (rows_held old.store held) n (λ q. false) → now ≤ before
+        + sum_by (λ r. times * update_steps (rows_held old.store held) (n + length held) r.query)
+        (readers_of old.registered (rows_held old.store held))
 
 -- how often: a further copy of a row reaches no query; where memory is refused, rows that were taken
 -- in are given back

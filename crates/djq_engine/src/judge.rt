@@ -2,7 +2,7 @@
 ghost use Rattle.std.specs.Prelude.{◌≡◌, ◌<◌, ◌≤◌, ◌+◌, true, None, Some, IfOk, IfErr, length};
 ghost use Rattle.djq_model.specs.Data.{has_row};
 ghost use Rattle.djq_model.specs.Typed.{fits};
-ghost use Rattle.djq_machine.specs.Conditions.{first_of};
+ghost use Rattle.djq_machine.specs.Conditions.{first_refusal};
 ghost use Rattle.djq_machine.specs.Store.{row_refusals, add_refusal, delete_refusal};
 ghost use Rattle.djq_machine.specs.Batch.{suit_refusal, place_refusal};
 ghost use Rattle.djq_rows.specs.Catalog.{relation_at, rows_at};
@@ -28,7 +28,7 @@ pub fn relation_for_row(
 ) -> Result<RelationId, Refusal>
     ensures ok { IfOk result (λ id. Suits catalog.now.relations name.now row.now id.at) }
     ensures err { IfErr result (λ r.
-        first_of (row_refusals (bare catalog.now.relations 0) name.now row.now) ≡ Some r) }
+        first_refusal (row_refusals (bare catalog.now.relations 0) name.now row.now) ≡ Some r) }
 {
     let Some(id) = catalog.id(name) else {
         return Err(Refusal::NoRelation);

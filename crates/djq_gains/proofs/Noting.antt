@@ -36,7 +36,7 @@ use Rattle.std.proofs.lemmas.List.{map-append, get_or-replicate, get_or_past}
 use Rattle.std.proofs.lemmas.List.Elements.{Contains-append_left, Contains-append_cases, Contains-push_cases}
 use Rattle.std.proofs.lemmas.List.Quantifiers.{all_pairs_push}
 use Rattle.djq_arena.specs.Chains.{IsOut, AreDifferent, AreBelow}
-use Rattle.djq_arena.specs.Rows.{Row, Rows, AreRows, AreWide, IsAbsent, IsRow, IsHeld, slots}
+use Rattle.djq_arena.specs.Rows.{Row, SlotRows, AreRows, AreWideRows, IsAbsent, IsRow, IsHeld, slots}
 use Rattle.djq_arena.proofs.Lists.{different_here, out_front, out_back, below_here}
 use Rattle.djq_arena.proofs.RowLemmas.{slots-append}
 use Rattle.djq_union.proofs.Lists.{head_or_tail}
@@ -107,7 +107,7 @@ slots_push : (rows : List Row) (r : Row) → slots (rows ++ r ∷ []) ≡ slots 
 unfolding slots
 slots_push rows r = map-append (λ (q : Row). q.slot) rows (r ∷ [])
 
-pub laid_rows : (marks more : List (List Bool)) (a : Rows) (rows : List Row) (slot : ℕ)
+pub laid_rows : (marks more : List (List Bool)) (a : SlotRows) (rows : List Row) (slot : ℕ)
     (cells : List ℕ) → AreRows a
     → a.rows ≡ rows ++ record { slot = slot; cells = cells } ∷ []
     → marks_at more slot ≡ unmarked
@@ -451,14 +451,14 @@ slots_are marks [] = refl
 slots_are marks (r ∷ rows) = ap (λ (ns : List ℕ). r.slot ∷ ns) (slots_are marks rows)
 
 -- each tuple has the rows' width
-wide_at : (width : ℕ) (rows : List Row) (r : Row) (k : ℕ) → AreWide width rows → k < length rows
+wide_at : (width : ℕ) (rows : List Row) (r : Row) (k : ℕ) → AreWideRows width rows → k < length rows
     → slice_index_or rows k r ≡ r → length r.cells ≡ width
-unfolding AreWide
+unfolding AreWideRows
 wide_at width [] r k wide low is = absurd (omega arith)
 wide_at width (q ∷ rows) r zero wide low is = ap (λ (x : Row). length x.cells) (sym is) ∙ wide.0
 wide_at width (q ∷ rows) r (suc k) wide low is = wide_at width rows r k wide.1 (omega arith) is
 
-pub wide_gain : (width : ℕ) (marks : List (List Bool)) (rows : List Row) → AreWide width rows
+pub wide_gain : (width : ℕ) (marks : List (List Bool)) (rows : List Row) → AreWideRows width rows
     → (g : Gain) → Contains (gains_in marks rows) g → length g.cells ≡ width
 wide_gain width marks rows wide g there =
     let i = image_of (gain_of marks) rows g there in

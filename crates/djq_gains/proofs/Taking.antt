@@ -42,7 +42,7 @@ use Rattle.djq_model.specs.Data.{Bytes, Tuple}
 use Rattle.djq_lines.specs.declared.answer.Sign.{Sign}
 use Rattle.djq_lines.specs.declared.answer.Sign.TheVariants.{Came}
 use Rattle.djq_machine.specs.Delta.{Change}
-use Rattle.djq_rows.specs.Cells.{cell_of, cells_of, StandFor}
+use Rattle.djq_rows.specs.Cells.{cell_for, cells_of, StandFor}
 use Rattle.djq_live.specs.Member.{head_types, query_at}
 use Rattle.djq_live.proofs.Rowing.{fits_long}
 use Rattle.djq_engine.specs.Kept.{Kept, TellsCells, CellsAre}
@@ -81,7 +81,7 @@ counted (Some changes) n h = record { changes = changes; is = refl; long = same_
 pub stand_long : (texts : List Bytes) (types : List ColumnType) (cells : List ℕ) (t : Tuple)
     → StandFor texts types cells t → length cells ≡ length types
 stand_long texts types cells t stand =
-    ap (λ (u : List ℕ). length u) stand.are ∙ length-map t (cell_of texts) ∙ fits_long types t stand.of
+    ap (λ (u : List ℕ). length u) stand.are ∙ length-map t (cell_for texts) ∙ fits_long types t stand.of
 
 -- the line at a number
 pub record IsLine (k : Kept) (place n width : ℕ) (cells : List ℕ) : Type 0 where

@@ -5,7 +5,7 @@ use Rattle.std.proofs.Common.{arith, append_assoc, Bool, false, inl, inr, length
 use Rattle.std.proofs.Common.{get_or-set_same, get_or-set_other}
 use Rattle.std.proofs.lemmas.List.{append-nil, map-append, take_all}
 use Rattle.std.proofs.lemmas.Bool.{cases_Bool, cases_eq, false≢true}
-use Rattle.djq_arena.specs.Rows.{Row, Rows, AreRows, IsHeld, slots}
+use Rattle.djq_arena.specs.Rows.{Row, SlotRows, AreRows, IsHeld, slots}
 use Rattle.djq_arena.specs.Chains.{first_of, AreDifferent}
 use Rattle.djq_index.specs.declared.place.Place.{Place}
 use Rattle.djq_index.specs.declared.raw.Note.{Note}
@@ -194,7 +194,7 @@ middle : (ps us : List Entry) (e : Entry) (rest : List Entry) → (ps ++ us) ++ 
 middle ps us e rest = append_assoc ps us (e ∷ rest)
     ∙ ap (λ (es : List Entry). ps ++ es) (sym (append_assoc us (e ∷ []) rest))
 
-module _ (old now : List Note) (rows : Rows) (i j : ℕ) (law : AreRows rows) (fits : rows.room ≤ length old)
+module _ (old now : List Note) (rows : SlotRows) (i j : ℕ) (law : AreRows rows) (fits : rows.room ≤ length old)
     (c : Clearing old now rows.rows (Some i) j) where
   ms : List Entry
   ms = marks (entries_in old rows.rows)
@@ -281,7 +281,7 @@ cleared_bare a b raw kind key rows long marked is = record {
   rows = rw rows raw.rows;
   columns = rw (key, rows) raw.columns;
   kind = kind_kept a.kind b.kind a.rows.width b.rows.width a.key.items b.key.items kind
-      (ap (λ (rs : Rows). rs.width) rows) key raw.kind;
+      (ap (λ (rs : SlotRows). rs.width) rows) key raw.kind;
   notes = rw (rows, long) raw.notes;
   apart = alike_apart (entries_of a) (entries_of b) (notes_alike a b rows) raw.apart;
   trailing = subst AreTrailing (sym is) (trailing_unmarked (entries_of a));

@@ -5,7 +5,7 @@ use Rattle.std.proofs.Common.{sym, ◌∙◌, arith, inl, inr, length-set}
 use Rattle.std.proofs.lemmas.List.{append-nil}
 use Rattle.djq_arena.specs.declared.chain.Pair.{Pair}
 use Rattle.djq_arena.specs.declared.chain.Ends.{Ends}
-use Rattle.djq_arena.specs.Rows.{Row, Rows, AreRows, IsRow, slots}
+use Rattle.djq_arena.specs.Rows.{Row, SlotRows, AreRows, IsRow, slots}
 use Rattle.djq_arena.specs.Chains.{first_of, AreDifferent, AreBelow, IsOut, IsWithin, pair_at, entered}
 use Rattle.djq_arena.specs.Store.{extended, beside}
 use Rattle.djq_arena.proofs.Lists.{different_here, different_front, below_here, below_front, last_within, below_more}
@@ -32,7 +32,7 @@ many_zero : (key : List ℕ) (w : List ℕ) → group_size key [] w ≡ 0
 unfolding group_size
 many_zero key w = refl
 
-module _ (a : Raw) (rows : Rows) (notes : List Note) (i : ℕ) (u : List ℕ)
+module _ (a : Raw) (rows : SlotRows) (notes : List Note) (i : ℕ) (u : List ℕ)
     (r : IsLaid a.rows rows a.notes.items notes i u) where
   laid_slots : slots rows.rows ≡ slots_at (entries_of a) ++ i ∷ []
   laid_slots = ap slots r.laid ∙ slots_row a.rows.rows (record { slot = i; cells = u }) []
@@ -58,14 +58,14 @@ module _ (a : Raw) (rows : Rows) (notes : List Note) (i : ℕ) (u : List ℕ)
   slot_number = omega (arith, laid_room, r.rows_law.numbers)
 
 -- the tuple is there
-module _ (m : Bool) (a b : Raw) (rows : Rows) (notes : List Note) (i h : ℕ) (u : List ℕ) (raw : IsBare a)
+module _ (m : Bool) (a b : Raw) (rows : SlotRows) (notes : List Note) (i h : ℕ) (u : List ℕ) (raw : IsBare a)
     (plain : m ≡ false → marks (entries_of a) ≡ []) (absent : count_of (entries_of a) u ≡ 0)
     (r : IsLaid a.rows rows a.notes.items notes i u)
     (f : IsNoted m a b rows notes i h) where
   pub came_entries : entries_of b
       ≡ entries_of a ++ (record { at = record { slot = i }; tuple = u; supports = 1; marked = m }) ∷ []
   came_entries =
-      ap₂ (λ (ns : List Note) (rs : Rows). entries_in ns rs.rows) f.notes_are f.rows_are
+      ap₂ (λ (ns : List Note) (rs : SlotRows). entries_in ns rs.rows) f.notes_are f.rows_are
       ∙ ap (λ (rs : List Row). entries_in (slice_set notes i (record { supports = 1; head = h; marked = m })) rs) r.laid
       ∙ entries_set notes i (record { supports = 1; head = h; marked = m }) a.rows.rows (record { slot = i; cells = u })
       [] refl (slot_notes a rows notes i u r) (subst (λ rs. AreDifferent (slots rs)) r.laid r.rows_law.different)
@@ -77,7 +77,7 @@ module _ (m : Bool) (a b : Raw) (rows : Rows) (notes : List Note) (i h : ℕ) (u
     rows = rw f.rows_are r.rows_law;
     columns = rw (f.rows_are, f.key, r.width) raw.columns;
     kind = kind_kept a.kind b.kind a.rows.width b.rows.width a.key.items b.key.items f.kind
-        (ap (λ (rs : Rows). rs.width) f.rows_are ∙ r.width) f.key raw.kind;
+        (ap (λ (rs : SlotRows). rs.width) f.rows_are ∙ r.width) f.key raw.kind;
     notes = rw (f.rows_are, f.notes_are, length-set) r.room_notes;
     apart = rw came_entries
         (apart_in (entries_of a) (record { at = record { slot = i }; tuple = u; supports = 1; marked = m }) []
@@ -117,7 +117,8 @@ module _ (m : Bool) (a b : Raw) (rows : Rows) (notes : List Note) (i h : ℕ) (u
   }
 
 -- and its head
-module _ (a : Raw) (rows : Rows) (notes : List Note) (links : List Pair) (keys : Rows) (ends : List Ends) (i h : ℕ)
+module _ (a : Raw) (rows : SlotRows) (notes : List Note) (links : List Pair) (keys : SlotRows) (ends : List Ends)
+    (i h : ℕ)
     (u : List ℕ) (hs : AreHeads a) (r : IsReady a rows notes links keys ends i h u) where
   pub slot_links : i < length links
   slot_links = omega (arith, laid_room a rows notes i u r.laid, r.room_links)
@@ -161,7 +162,8 @@ module _ (a : Raw) (rows : Rows) (notes : List Note) (links : List Pair) (keys :
       (last_within (length links) None (slots_at (group_of a.key.items (entries_of a) (pick a.key.items u))) tt
       (group_below (length links) a.key.items (entries_of a) (pick a.key.items u) old_below))
 
-module _ (m : Bool) (a b : Raw) (rows : Rows) (notes : List Note) (links : List Pair) (keys : Rows) (ends : List Ends)
+module _ (m : Bool) (a b : Raw) (rows : SlotRows) (notes : List Note) (links : List Pair) (keys : SlotRows)
+    (ends : List Ends)
     (i h : ℕ) (u : List ℕ)
     (raw : IsBare a) (plain : m ≡ false → marks (entries_of a) ≡ []) (hs : AreHeads a)
     (absent : count_of (entries_of a) u ≡ 0) (r : IsReady a rows notes links keys ends i h u)

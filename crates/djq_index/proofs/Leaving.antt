@@ -6,7 +6,7 @@ use Rattle.std.proofs.lemmas.List.{append-nil}
 use Rattle.std.proofs.lemmas.Bool.{cases_Bool}
 use Rattle.djq_arena.specs.declared.chain.Pair.{Pair}
 use Rattle.djq_arena.specs.declared.chain.Ends.{Ends}
-use Rattle.djq_arena.specs.Rows.{Row, Rows, AreRows, IsRow, IsHeld, slots}
+use Rattle.djq_arena.specs.Rows.{Row, SlotRows, AreRows, IsRow, IsHeld, slots}
 use Rattle.djq_arena.specs.Chains.{Linked, first_of, AreDifferent, AreBelow, IsOut, IsWithin, pair_at, entered, left}
 use Rattle.djq_arena.specs.Store.{extended, shrunk, beside}
 use Rattle.djq_arena.proofs.Lists.{different_here, different_out, below_front, below_back}
@@ -387,7 +387,7 @@ module _ (a b : Raw) (p : Place) (u : List ℕ) (note : Note) (raw : IsBare a) (
 
   renoted_is : entries_of b ≡ xs a p u raw f ++ after ∷ ys a p u raw f
   unfolding xs ys after
-  renoted_is = ap₂ (λ (ns : List Note) (rs : Rows). entries_in ns rs.rows) r.notes r.rows
+  renoted_is = ap₂ (λ (ns : List Note) (rs : SlotRows). entries_in ns rs.rows) r.notes r.rows
       ∙ ap (entries_in (slice_set a.notes.items p.slot note)) f.rows
       ∙ entries_set a.notes.items p.slot note f.front (record { slot = p.slot; cells = u }) f.back refl note_within
       (subst (λ rs. AreDifferent (slots rs)) f.rows raw.rows.different)
@@ -413,7 +413,7 @@ module _ (a b : Raw) (p : Place) (u : List ℕ) (note : Note) (raw : IsBare a) (
     rows = rw r.rows raw.rows;
     columns = rw (r.key, r.rows) raw.columns;
     kind = kind_kept a.kind b.kind a.rows.width b.rows.width a.key.items b.key.items r.kind
-        (ap (λ (rs : Rows). rs.width) r.rows) r.key raw.kind;
+        (ap (λ (rs : SlotRows). rs.width) r.rows) r.key raw.kind;
     notes = rw (r.rows, r.notes, length-set) raw.notes;
     apart = alike_apart (entries_of a) (entries_of b) renoted_alike raw.apart;
     trailing = rw renoted_is
@@ -685,7 +685,7 @@ module _ (a b : Raw) (p : Place) (u : List ℕ) (raw : IsBare a) (hs : AreHeads 
     ends = rw (t.keys, t.ends, length-set, t.known_is, length-set) hs.ends;
     groups = subst (AreGroups b.key.items b.notes.items b.links.items b.keys.rows b.ends.items)
         (sym (touched_is a b p u raw f plain_one at t.renews))
-        (subst (λ (ks : Rows). AreGroups b.key.items b.notes.items b.links.items ks.rows b.ends.items
+        (subst (λ (ks : SlotRows). AreGroups b.key.items b.notes.items b.links.items ks.rows b.ends.items
         ((xs a p u raw f ++ ys a p u raw f) ++ new_entry a b p u raw f plain_one at t.renews ∷ [])) (sym t.keys)
         (subst (λ (ks : List ℕ). AreGroups ks b.notes.items b.links.items a.keys.rows b.ends.items
         ((xs a p u raw f ++ ys a p u raw f) ++ new_entry a b p u raw f plain_one at t.renews ∷ []))
@@ -702,9 +702,9 @@ renews_from a m b i j ji k kind key notes marked law width room renewed = record
   kind = k.kind ∙ kind;
   key = k.key ∙ key;
   rows_law = rw k.rows law;
-  width = ap (λ (rs : Rows). rs.width) k.rows ∙ width;
-  room = ap (λ (rs : Rows). rs.room) k.rows ∙ room;
-  renewed = λ rs r ss is at. ap (λ (qs : Rows). qs.rows) k.rows ∙ renewed rs r ss is (at ∙ sym ji);
+  width = ap (λ (rs : SlotRows). rs.width) k.rows ∙ width;
+  room = ap (λ (rs : SlotRows). rs.room) k.rows ∙ room;
+  renewed = λ rs r ss is at. ap (λ (qs : SlotRows). qs.rows) k.rows ∙ renewed rs r ss is (at ∙ sym ji);
   notes = k.notes ∙ ap₂
       (λ (n : ℕ) (ns : List Note). slice_set ns n
       (record { supports = (note_at ns n).supports; head = (note_at ns n).head; marked = true })) ji notes;

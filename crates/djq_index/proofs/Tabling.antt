@@ -2,7 +2,7 @@
 use Rattle.std.proofs.Common.{◌≡◌, ℕ, suc, List, [], ◌∷◌, length, Some, None, refl, ap, sym, ◌∙◌, arith}
 use Rattle.djq_arena.specs.declared.chain.Pair.{Pair}
 use Rattle.djq_arena.specs.declared.chain.Ends.{Ends}
-use Rattle.djq_arena.specs.Rows.{Row, Rows, AreRows, slots, AreWide as AreWideRows}
+use Rattle.djq_arena.specs.Rows.{Row, SlotRows, AreRows, slots, AreWideRows}
 use Rattle.djq_arena.specs.Chains.{Linked, first_of, AreDifferent, IsOut}
 use Rattle.djq_index.specs.declared.place.Place.{Place}
 use Rattle.djq_index.specs.declared.raw.Note.{Note}
@@ -95,7 +95,8 @@ pub empty_bare : (b : Raw) (width : ℕ) (key : List ℕ) → b.key.items ≡ ke
 empty_bare b width key key_is rows law columns kind marked = record {
   rows = law;
   columns = rw (key_is, rows) columns;
-  kind = kind_kept b.kind b.kind width b.rows.width key b.key.items refl (ap (λ (r : Rows). r.width) rows) key_is kind;
+  kind = kind_kept b.kind b.kind width b.rows.width key b.key.items refl (ap (λ (r : SlotRows). r.width) rows) key_is
+      kind;
   notes = rw rows (omega arith);
   apart = rw none no_apart;
   trailing = rw none no_trail;
@@ -103,7 +104,7 @@ empty_bare b width key key_is rows law columns kind marked = record {
 }
   where
     none : entries_of b ≡ []
-    none = empty_entries b (ap (λ (r : Rows). r.rows) rows)
+    none = empty_entries b (ap (λ (r : SlotRows). r.rows) rows)
 
 pub empty_heads : (b : Raw) (width : ℕ) (key : List ℕ) → b.key.items ≡ key → b.rows
     ≡ record { width = width; room = 0; rows = [] } → b.keys ≡ record { width = length key; room = 0; rows = [] }
@@ -113,7 +114,7 @@ empty_heads b width key key_is rows keys law = record {
   key_width = rw (keys, key_is) refl;
   links = rw rows (omega arith);
   ends = rw keys (omega arith);
-  groups = rw (empty_entries b (ap (λ (r : Rows). r.rows) rows), keys)
+  groups = rw (empty_entries b (ap (λ (r : SlotRows). r.rows) rows), keys)
       (no_groups b.key.items b.notes.items b.links.items b.ends.items);
 }
 
@@ -128,7 +129,7 @@ empty_raw b width key key_is rows keys law heads columns kind marked = record {
 abbrev table_with : ℕ → List ℕ → List Entry → Table
 table_with width key entries = record { width = width; key = key; entries = entries }
 
-pub new_table : (notes : List Note) (rows : Rows) (width : ℕ) (key held : List ℕ) → held ≡ key → rows
+pub new_table : (notes : List Note) (rows : SlotRows) (width : ℕ) (key held : List ℕ) → held ≡ key → rows
     ≡ record { width = width; room = 0; rows = [] }
     → table_with rows.width held (entries_in notes rows.rows) ≡ table_with width key []
 new_table notes rows width key held key_is is = rw (is, key_is, entries_nil notes) refl

@@ -4,7 +4,7 @@ use Rattle.std.specs.Prelude.{[], ◌∷◌, ◌++◌, map, length, slice_index,
 use Rattle.std.specs.Prelude.{vec_capacity, Option, Some, None}
 use Rattle.djq_arena.specs.declared.chain.Pair.{Pair}
 use Rattle.djq_arena.specs.declared.chain.Ends.{Ends}
-use Rattle.djq_arena.specs.Rows.{Row, Rows, AreRows, IsAbsent, IsRow, IsFull}
+use Rattle.djq_arena.specs.Rows.{Row, SlotRows, AreRows, IsAbsent, IsRow, IsFull}
 use Rattle.djq_arena.specs.Chains.{Linked, first_of, pair_at, entered}
 use Rattle.djq_arena.specs.Store.{ends_of, extended, beside}
 use Rattle.djq_index.specs.declared.place.Place.{Place}
@@ -134,14 +134,14 @@ passed None i next = None
 passed (Some m) i next = cond (m == i) next (Some m)
 
 -- rows, with the notes beside them, take the tuple u
-pub record CanTake (rows : Rows) (notes : List Note) (u : List ℕ) : Type 0 where
+pub record CanTake (rows : SlotRows) (notes : List Note) (u : List ℕ) : Type 0 where
   pub rows_law : AreRows rows
   pub wide : length u ≡ rows.width
   pub few : length rows.rows < SLOTS
   pub room_notes : rows.room ≤ length notes
 
 -- the tuple u is laid into the slot i, behind all others
-pub record IsLaid (old rows : Rows) (before notes : List Note) (i : ℕ) (u : List ℕ) : Type 0 where
+pub record IsLaid (old rows : SlotRows) (before notes : List Note) (i : ℕ) (u : List ℕ) : Type 0 where
   pub rows_law : AreRows rows
   pub width : rows.width ≡ old.width
   pub laid : rows.rows ≡ old.rows ++ record { slot = i; cells = u } ∷ []
@@ -149,13 +149,13 @@ pub record IsLaid (old rows : Rows) (before notes : List Note) (i : ℕ) (u : Li
   pub same_notes : (k : ℕ) → note_at notes k ≡ note_at before k
 
 -- the slot i is one that was free, or the next where none was
-pub record IsSlotFor (old rows : Rows) (i : ℕ) : Type 0 where
+pub record IsSlotFor (old rows : SlotRows) (i : ℕ) : Type 0 where
   pub room : rows.room ≡ max old.room (i + 1)
   pub fits : i ≤ old.room
   pub reused : ¬ IsFull old → i < old.room
 
 -- a tuple found no memory, since no slot was free: the rows stay
-pub record IsUnlaid (old rows : Rows) (before notes : List Note) : Type 0 where
+pub record IsUnlaid (old rows : SlotRows) (before notes : List Note) : Type 0 where
   pub rows_law : AreRows rows
   pub width : rows.width ≡ old.width
   pub same_rows : rows.rows ≡ old.rows
@@ -165,7 +165,8 @@ pub record IsUnlaid (old rows : Rows) (before notes : List Note) : Type 0 where
   pub full : IsFull old
 
 -- and has a head
-pub record IsReady (a : Raw) (rows : Rows) (notes : List Note) (links : List Pair) (keys : Rows) (ends : List Ends)
+pub record IsReady (a : Raw) (rows : SlotRows) (notes : List Note) (links : List Pair) (keys : SlotRows)
+    (ends : List Ends)
     (i h : ℕ) (u : List ℕ) : Type 0 where
   pub laid : IsLaid a.rows rows a.notes.items notes i u
   pub room_links : rows.room ≤ length links
@@ -177,7 +178,7 @@ pub record IsReady (a : Raw) (rows : Rows) (notes : List Note) (links : List Pai
   pub seat : IsSeat a.keys.rows keys.rows a.ends.items ends h (pick a.key.items u)
 
 -- the tuple in slot i is there, marked or not and with one support; h stands for its group's head
-pub record IsNoted (mark : Bool) (a b : Raw) (rows : Rows) (notes : List Note) (i h : ℕ) : Type 0 where
+pub record IsNoted (mark : Bool) (a b : Raw) (rows : SlotRows) (notes : List Note) (i h : ℕ) : Type 0 where
   pub kind : b.kind ≡ a.kind
   pub key : b.key.items ≡ a.key.items
   pub rows_are : b.rows ≡ rows
@@ -185,7 +186,8 @@ pub record IsNoted (mark : Bool) (a b : Raw) (rows : Rows) (notes : List Note) (
   pub marked : b.marked ≡ cond mark (beside a.marked (Some i) a.marked) a.marked
 
 -- and joins the group of head h
-pub record IsSettled (mark : Bool) (a b : Raw) (rows : Rows) (notes : List Note) (links : List Pair) (keys : Rows)
+pub record IsSettled (mark : Bool) (a b : Raw) (rows : SlotRows) (notes : List Note) (links : List Pair)
+    (keys : SlotRows)
     (ends : List Ends) (i h : ℕ) : Type 0 where
   pub noted : IsNoted mark a b rows notes i h
   pub links_are : b.links.items ≡ entered (ends_at ends h).last i links

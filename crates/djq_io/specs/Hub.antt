@@ -17,8 +17,8 @@ abbrev pub no_ids : Ids
 no_ids = record { newest = None; open_ids = []; ended_ids = [] }
 
 -- an id above that of every session before
-abbrev pub IsNew : Ids → ℕ → Type 0
-IsNew ids id = IfSome ids.newest (λ newest. newest < id)
+abbrev pub IsNewId : Ids → ℕ → Type 0
+IsNewId ids id = IfSome ids.newest (λ newest. newest < id)
 
 -- an open session whose input hasn't ended
 abbrev pub IsRunning : Ids → ℕ → Type 0
@@ -43,7 +43,7 @@ without ids id = record ids {
 -- What a turn may answer, and what it does to the ids: sessions open with rising ids; bytes, some
 -- and at most as many as there is room for, and the end of input come for running sessions alone.
 abbrev pub Turns : Turn → ℕ → Ids → Ids → Type 0
-Turns (Opened id) room old new = IsNew old id × (new ≡ with_opened old id)
+Turns (Opened id) room old new = IsNewId old id × (new ≡ with_opened old id)
 Turns (Bytes id n) room old new = (1 ≤ n) × (n ≤ room) × IsRunning old id × (new ≡ old)
 Turns (Ended id) room old new = IsRunning old id × EndsInput id old new
 Turns Idle room old new = new ≡ old

@@ -6,7 +6,7 @@ use Rattle.djq_io.specs.declared.hub.Turn.{Turn}
 use Rattle.djq_io.specs.declared.hub.Turn.TheVariants.{Opened, Bytes, Ended, Idle, Over, Failed}
 use Rattle.djq_io.specs.declared.hub.Sent.{Sent}
 use Rattle.djq_io.specs.declared.hub.Sent.TheVariants.{Took, Again, Gone}
-use Rattle.djq_io.specs.Hub.{Ids, IsNew, IsRunning}
+use Rattle.djq_io.specs.Hub.{Ids, IsNewId, IsRunning}
 
 -- A script: the ids whose sends answer `Again` now, and the turns to come.
 pub record Script : Type 0 where
@@ -31,7 +31,7 @@ Cuts old id part new = (rest : List ℕ) × (after : List Coming) × (rest ≢ [
 -- A turn of a script that brings nothing: it has nothing, or it isn't one that can come. No id
 -- opens that isn't new, and none that was closed or has ended brings bytes or ends.
 abbrev pub IsIdle : Ids → Incoming → Type 0
-IsIdle ids (Opens id) = IsNew ids id → ⊥
+IsIdle ids (Opens id) = IsNewId ids id → ⊥
 IsIdle ids (Brings id piece) = IsRunning ids id → piece ≡ []
 IsIdle ids (Ends id) = IsRunning ids id → ⊥
 IsIdle ids Nothing = Unit {0}
@@ -40,7 +40,7 @@ IsIdle ids Nothing = Unit {0}
 -- of whose piece only as much as fits is given; `Idle` where it brings nothing; `Over` where there
 -- is none; or a failure, after which the script is as it was.
 abbrev pub Follows : Ids → Turn → List ℕ → Script → Script → Type 0
-Follows ids (Opened id) buf old new = IsNew ids id × Passes old (Opens id) new
+Follows ids (Opened id) buf old new = IsNewId ids id × Passes old (Opens id) new
 Follows ids (Bytes id n) buf old new =
     IsRunning ids id × (Passes old (Brings id (take n buf)) new ⊎ ((n ≡ length buf) × Cuts old id (take n buf) new))
 Follows ids (Ended id) buf old new = IsRunning ids id × Passes old (Ends id) new

@@ -3,7 +3,7 @@ ghost use Rattle.djq_io.specs.Sessions.{faults_of};
 ghost use Rattle.djq_io.specs.SessionsInside.{after_end, after_fault};
 ghost use Rattle.djq_io.specs.Faults.{Counted};
 ghost use Rattle.djq_io.specs.HubFaults.{SameCounts, SameCountsBut};
-ghost use Rattle.djq_io.specs.Hub.{no_ids, IsNew, IsRunning, with_opened, EndsInput, without};
+ghost use Rattle.djq_io.specs.Hub.{no_ids, IsNewId, IsRunning, with_opened, EndsInput, without};
 
 use std::alloc::{AllocError, Global};
 use std::marker::Model;
@@ -103,7 +103,7 @@ impl Sessions {
 
     /// The least id above all before, or `None` where there is none.
     pub fn next_id(&self) -> Option<u64>
-        ensures { IfSome result (λ id. IsNew self.now.ids id) }
+        ensures { IfSome result (λ id. IsNewId self.now.ids id) }
     {
         match self.newest {
             None => Some(1),
@@ -113,7 +113,7 @@ impl Sessions {
 
     /// Whether a session with this id would be newer than all before.
     pub fn is_new(&self, id: u64) -> bool
-        ensures { IsTrue result ↔ IsNew self.now.ids id }
+        ensures { IsTrue result ↔ IsNewId self.now.ids id }
     {
         self.newest.is_none_or(|newest| newest < id)
     }
@@ -129,7 +129,7 @@ impl Sessions {
 
     /// Opens a session.
     pub fn open(&mut self, id: u64)
-        requires new { IsNew self.old.ids id }
+        requires new { IsNewId self.old.ids id }
         requires room { 0 < self.old.room }
         ensures ids { self.new.ids ≡ with_opened self.old.ids id }
         ensures faults { SameCounts self.old.ids.open_ids (faults_of self.old.counts) (faults_of self.new.counts) }

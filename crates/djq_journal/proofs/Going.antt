@@ -9,21 +9,21 @@ use Rattle.djq_disk.proofs.Keeping.{leaves_none, leaves_more, leaves_so}
 use Rattle.djq_journal.specs.Format.{OpensTo}
 use Rattle.djq_journal.specs.Standing.{IsIdle}
 use Rattle.djq_journal.specs.Appending.{IsBeforeOrAfter}
-use Rattle.djq_journal.specs.Keeping.{lines_in, OpensWithin, IsKeeping, KeepsOn}
+use Rattle.djq_journal.specs.Keeping.{whole_lines, OpensWithin, IsKeeping, KeepsOn}
 use Rattle.djq_journal.proofs.Lasting.{idle_lasts}
 
 -- the lines of some groups and one more
 lines_more : (found : List (List ℕ)) (groups : List (List (List ℕ))) (group : List (List ℕ))
-    → (found ++ lines_in groups) ++ group ≡ found ++ lines_in (groups ++ group ∷ [])
+    → (found ++ whole_lines groups) ++ group ≡ found ++ whole_lines (groups ++ group ∷ [])
 lines_more found groups group =
-    append_assoc found (lines_in groups) group
+    append_assoc found (whole_lines groups) group
     ∙ ap (λ (xs : List (List ℕ)). found ++ xs)
     (sym (flat_map-append (λ (g : List (List ℕ)). g) groups (group ∷ [])
-    ∙ ap (λ (xs : List (List ℕ)). lines_in groups ++ xs) (append-nil group)))
+    ∙ ap (λ (xs : List (List ℕ)). whole_lines groups ++ xs) (append-nil group)))
 
 -- the lines of all groups
 opens_all : (found : List (List ℕ)) (groups : List (List (List ℕ))) (file : List ℕ)
-    → OpensTo (found ++ lines_in groups) file → OpensWithin found groups (length groups) file
+    → OpensTo (found ++ whole_lines groups) file → OpensWithin found groups (length groups) file
 opens_all found groups file opens = record
     { whole = groups; later = []; cut = sym (append-nil groups); acknowledged = omega arith; opens = opens }
 
@@ -41,7 +41,7 @@ more_groups found groups group file o = record {
 -- the lines before an append, or those and the group: at least all groups before it
 before_or_after : (found : List (List ℕ)) (groups : List (List (List ℕ))) (group : List (List ℕ)) (least : ℕ)
     (file : List ℕ) → least ≤ length groups
-    → IsBeforeOrAfter (found ++ lines_in groups) group file → OpensWithin found (groups ++ group ∷ []) least file
+    → IsBeforeOrAfter (found ++ whole_lines groups) group file → OpensWithin found (groups ++ group ∷ []) least file
 before_or_after found groups group least file few (inl before) = record
     { whole = groups; later = group ∷ []; cut = refl; acknowledged = few; opens = before }
 before_or_after found groups group least file few (inr after) = record {
@@ -53,27 +53,28 @@ before_or_after found groups group least file few (inr after) = record {
 }
 
 keeping_now : (found : List (List ℕ)) (groups : List (List (List ℕ))) (gate : ℕ) (file : File)
-    → IsIdle (found ++ lines_in groups) gate file
+    → IsIdle (found ++ whole_lines groups) gate file
     → LeavesOnly (OpensWithin found groups (length groups)) file
 keeping_now found groups gate file idle image is = opens_all found groups image
-    (idle_lasts (found ++ lines_in groups) gate file image idle is)
+    (idle_lasts (found ++ whole_lines groups) gate file image idle is)
 
 -- an append leaves whole groups at each moment
 append_leaves : (found : List (List ℕ)) (groups : List (List (List ℕ))) (group : List (List ℕ)) (gate : ℕ)
     (start old new : History) → IsKeeping found groups gate start old
-    → LeavesSince (IsBeforeOrAfter (found ++ lines_in groups) group) old new
+    → LeavesSince (IsBeforeOrAfter (found ++ whole_lines groups) group) old new
     → LeavesSince (OpensWithin found (groups ++ group ∷ []) 0) start new
 append_leaves found groups group gate start old new keeping leaves =
     leaves_more (OpensWithin found (groups ++ group ∷ []) 0) start old new
     (leaves_so (OpensWithin found groups 0) (OpensWithin found (groups ++ group ∷ []) 0) start old
     (more_groups found groups group) keeping.leaves)
-    (leaves_so (IsBeforeOrAfter (found ++ lines_in groups) group) (OpensWithin found (groups ++ group ∷ []) 0) old new
+    (leaves_so (IsBeforeOrAfter (found ++ whole_lines groups) group) (OpensWithin found (groups ++ group ∷ []) 0) old
+    new
     (λ image. before_or_after found groups group 0 image (omega arith)) leaves)
 
 pub keeps_on : KeepsOn
 keeps_on = record {
   none = λ found gate h idle.
-      let same : IsIdle (found ++ lines_in []) gate h.file = subst (λ (ls : List (List ℕ)). IsIdle ls gate h.file)
+      let same : IsIdle (found ++ whole_lines []) gate h.file = subst (λ (ls : List (List ℕ)). IsIdle ls gate h.file)
       (sym (append-nil found)) idle in
       record { idle = same; leaves = leaves_none (OpensWithin found [] 0) h (keeping_now found [] gate h.file same) };
   more = λ found groups gate start old keeping. record {

@@ -4,7 +4,7 @@ use Rattle.std.specs.Prelude.{Option, None, Some, slice_get}
 use Rattle.djq_disk.specs.History.{History, WhereTold}
 use Rattle.djq_journal.specs.Standing.{IsIdle}
 use Rattle.djq_journal.specs.Appending.{Appends, gate_after}
-use Rattle.djq_journal.specs.Keeping.{lines_in, IsKeeping}
+use Rattle.djq_journal.specs.Keeping.{whole_lines, IsKeeping}
 use Rattle.djq_journal.specs.Logging.{grouped, HasKept, Keeps, Overfull}
 use Rattle.djq_journal.specs.declared.journal.Appended.TheVariants.{Done, Failed as Unappended, Full as Overflows}
 use Rattle.djq_journal.specs.declared.limits.TheConstants.{LAST_GATE}
@@ -49,19 +49,19 @@ pub keeps_all : (gate next : ℕ) (group : List (List ℕ)) (old new : History) 
 keeps_all gate next group old new some appends found groups start kept =
     subst (λ (gs : List (List (List ℕ))). IsKeeping found (groups ++ gs) next start new) (sym (group_one group some))
     ((keeps_on.more found groups gate start old kept).done group next new
-    (appends (found ++ lines_in groups) kept.idle))
+    (appends (found ++ whole_lines groups) kept.idle))
 
 pub keeps_failed : (gate : ℕ) (gate' : Option ℕ) (group : List (List ℕ)) (old new : History)
     → ((lines : List (List ℕ)) → IsIdle lines gate old.file → Appends Unappended lines group old new)
     → Keeps Failed (Some gate) gate' group old new
 keeps_failed gate gate' group old new appends found groups start kept =
-    (keeps_on.more found groups gate start old kept).failed group new (appends (found ++ lines_in groups) kept.idle)
+    (keeps_on.more found groups gate start old kept).failed group new (appends (found ++ whole_lines groups) kept.idle)
 
 pub keeps_full : (gate : ℕ) (gate' : Option ℕ) (group : List (List ℕ)) (old new : History)
     → ((lines : List (List ℕ)) → IsIdle lines gate old.file → Appends Overflows lines group old new)
     → Keeps Full (Some gate) gate' group old new
 keeps_full gate gate' group old new appends found groups start kept =
-    (keeps_on.more found groups gate start old kept).full group new (appends (found ++ lines_in groups) kept.idle)
+    (keeps_on.more found groups gate start old kept).full group new (appends (found ++ whole_lines groups) kept.idle)
 
 -- when a journal has no room
 pub overfull_some : (gate : ℕ) (lines : List (List ℕ)) → 1 ≤ length lines → LAST_GATE < gate_after gate lines

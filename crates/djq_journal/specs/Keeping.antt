@@ -9,8 +9,8 @@ use Rattle.djq_journal.specs.Appending.{Appends}
 use Rattle.djq_journal.specs.declared.journal.Appended.TheVariants.{Done, Failed, Full}
 
 -- the lines of groups
-abbrev pub lines_in : List (List (List ℕ)) → List (List ℕ)
-lines_in groups = flat_map (λ group. group) groups
+abbrev pub whole_lines : List (List (List ℕ)) → List (List ℕ)
+whole_lines groups = flat_map (λ group. group) groups
 
 -- A file opens to the lines found at the start and those of whole groups, which are the first ones
 -- and at least so many.
@@ -20,13 +20,13 @@ pub record OpensWithin (found : List (List ℕ)) (groups : List (List (List ℕ)
     pub later : List (List (List ℕ))
     pub cut : groups ≡ whole ++ later
     pub acknowledged : least ≤ length whole
-    pub opens : OpensTo (found ++ lines_in whole) file
+    pub opens : OpensTo (found ++ whole_lines whole) file
 
 -- All these groups are kept: the journal is idle with them, and at each moment since a stop leaves
 -- whole groups, the first ones.
 pub record IsKeeping (found : List (List ℕ)) (groups : List (List (List ℕ))) (gate : ℕ) (old new : History) : Type 0
   where
-    pub idle : IsIdle (found ++ lines_in groups) gate new.file
+    pub idle : IsIdle (found ++ whole_lines groups) gate new.file
     pub leaves : LeavesSince (OpensWithin found groups 0) old new
 
 -- All these groups were kept, and then one more may be: so it is at each moment since, and in the
@@ -41,11 +41,11 @@ pub record AppendsKeep (found : List (List ℕ)) (groups : List (List (List ℕ)
   where
     pub now : LeavesOnly (OpensWithin found groups (length groups)) old.file
     pub done : (group : List (List ℕ)) (gate' : ℕ) (new : History)
-        → Appends (Done gate') (found ++ lines_in groups) group old new
+        → Appends (Done gate') (found ++ whole_lines groups) group old new
         → IsKeeping found (groups ++ group ∷ []) gate' start new
-    pub failed : (group : List (List ℕ)) (new : History) → Appends Failed (found ++ lines_in groups) group old new
+    pub failed : (group : List (List ℕ)) (new : History) → Appends Failed (found ++ whole_lines groups) group old new
         → WasKeeping found groups group start new
-    pub full : (group : List (List ℕ)) (new : History) → Appends Full (found ++ lines_in groups) group old new
+    pub full : (group : List (List ℕ)) (new : History) → Appends Full (found ++ whole_lines groups) group old new
         → IsKeeping found groups gate start new
 
 -- Groups are kept one after another: none at first, and each append goes on from those before it.

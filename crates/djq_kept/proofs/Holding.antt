@@ -13,8 +13,8 @@ use Rattle.djq_lines.specs.declared.answer.Refusal.TheVariants.{NoRelation, Arit
 use Rattle.djq_lines.specs.declared.command.Command.{Command}
 use Rattle.djq_lines.specs.declared.command.Command.TheVariants.{Add, Batch, Done, Abandon}
 use Rattle.djq_lines.specs.declared.held.HeldRow.{HeldRow}
-use Rattle.djq_lines.specs.Grammar.{says as says_command, reading_of}
-use Rattle.djq_machine.specs.Conditions.{first_of, OutOfMemoryWhere}
+use Rattle.djq_lines.specs.Grammar.{says_command, reading_of}
+use Rattle.djq_machine.specs.Conditions.{first_refusal, OutOfMemoryWhere}
 use Rattle.djq_machine.specs.State.{Store}
 use Rattle.djq_machine.specs.Batch.{suit_refusal, hold_refusal, SuitAll, with_all, count_came, store_behind, HavePlaces}
 use Rattle.djq_machine.specs.Run.{Group}
@@ -132,8 +132,8 @@ suits_free a held name row suits few =
     (not (fits (types_of (relation_of a.relations name)) row)) suits
   where
     by : (full : Bool) → full ≡ false → (x y z : Bool)
-        → first_of ((x, NoRelation) ∷ (y, Arity) ∷ (z, WrongType) ∷ []) ≡ None
-        → first_of ((x, NoRelation) ∷ (y, Arity) ∷ (z, WrongType) ∷ (full, Limit) ∷ []) ≡ None
+        → first_refusal ((x, NoRelation) ∷ (y, Arity) ∷ (z, WrongType) ∷ []) ≡ None
+        → first_refusal ((x, NoRelation) ∷ (y, Arity) ∷ (z, WrongType) ∷ (full, Limit) ∷ []) ≡ None
     by true e x y z h = absurd (cc (e))
     by false e true y z h = absurd (cc (h))
     by false e false true z h = absurd (cc (h))

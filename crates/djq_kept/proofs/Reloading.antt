@@ -32,7 +32,7 @@ use Rattle.djq_lines.specs.declared.command.Command.TheVariants.{
   Stop,
 }
 use Rattle.djq_lines.specs.declared.held.HeldRow.{HeldRow}
-use Rattle.djq_lines.specs.Grammar.{Reading, outside, past_limit, says as says_command, reading_of}
+use Rattle.djq_lines.specs.Grammar.{Reading, outside, past_limit, says_command, reading_of}
 use Rattle.djq_machine.specs.Conditions.{OutOfMemoryWhere}
 use Rattle.djq_machine.specs.State.{Store, State, opening}
 use Rattle.djq_machine.specs.Batch.{hold_refusal}

@@ -37,7 +37,7 @@ use Rattle.djq_lines.specs.declared.rest.QueryOutcome.TheVariants.{Registered, C
 use Rattle.djq_lines.specs.declared.command.Command.{Command}
 use Rattle.djq_lines.specs.declared.command.Command.TheVariants.{Rel, Query as Register, Union, Drop}
 use Rattle.djq_lines.specs.Variables.{constants_of}
-use Rattle.djq_machine.specs.Conditions.{first_of, Answers, OutOfMemoryWhere}
+use Rattle.djq_machine.specs.Conditions.{first_refusal, Answers, OutOfMemoryWhere}
 use Rattle.djq_machine.specs.State.{Store}
 use Rattle.djq_machine.specs.Store.{
   RefusedByTexts,
@@ -317,7 +317,7 @@ module _ (a b : Store) (f : Follows a b) where
 
     dropped_free : drop_refusal b false q ≡ None
     dropped_free =
-        ap (λ (qs : List Listed). first_of ((is_none (listed_of qs q), NoQuery) ∷ (is_member qs q, InUse) ∷ []))
+        ap (λ (qs : List Listed). first_refusal ((is_none (listed_of qs q), NoQuery) ∷ (is_member qs q, InUse) ∷ []))
         f.same.queries
         ∙ unused (is_none (listed_of a.queries q)) used (is_member a.queries q)
         (none_of (drop_refusal a used q) u (λ _. to ≡ dropped a) (OutOfMemoryWhere ⊥) m.answer)

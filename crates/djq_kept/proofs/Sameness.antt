@@ -57,7 +57,7 @@ use Rattle.djq_model.specs.Data.{
   bytes_eq,
   relation_of,
   tuples_in,
-  tuples_of,
+  plain_of,
   counted_in,
   counted_of,
   rows_of,
@@ -108,7 +108,7 @@ use Rattle.djq_lines.specs.QueryFault.{
   has_unbound_head,
   is_too_large,
 }
-use Rattle.djq_machine.specs.Conditions.{first_of}
+use Rattle.djq_machine.specs.Conditions.{first_refusal}
 use Rattle.djq_machine.specs.State.{Store}
 use Rattle.djq_machine.specs.Store.{
   with_rows,
@@ -217,7 +217,7 @@ once_moved (a ∷ us) [] h once = absurd h
 
 -- in the one of a name
 once_found : (us : List Relation) (n : Bytes) (o : Option Relation) → relation_of us n ≡ o → All HasRowsOnce us
-    → AreDifferent (tuples_of (counted_in o))
+    → AreDifferent (plain_of (counted_in o))
 once_found us n None e once = nothing_apart (λ (s t : Tuple). s ≡ t → ⊥)
 once_found us n (Some a) e once = all_found HasRowsOnce (λ (r : Relation). bytes_eq r.name n) us a once e
 
@@ -225,7 +225,7 @@ pub rows_once : (us : List Relation) (n : Bytes) → All HasRowsOnce us → AreD
 rows_once us n once = once_found us n (relation_of us n) refl once
 
 -- with other rows in one of them
-pub once_with : (us : List Relation) (n : Bytes) (rows : List CountedRow) → AreDifferent (tuples_of rows)
+pub once_with : (us : List Relation) (n : Bytes) (rows : List CountedRow) → AreDifferent (plain_of rows)
     → All HasRowsOnce us → All HasRowsOnce (with_rows us n rows)
 once_with us n rows differ once =
     all_changed HasRowsOnce (λ (r : Relation). bytes_eq r.name n) (λ (r : Relation). record r { rows = rows }) us once
@@ -251,7 +251,7 @@ same_with (a ∷ us) [] n xs ys p h = absurd h
 -- ---- conditions
 
 abbrev rel_by : Bool → ℕ → List ColumnType → Option Refusal
-rel_by taken long types = first_of
+rel_by taken long types = first_refusal
     ((taken, Taken) ∷ (nat_lt COLUMNS (length types), Limit) ∷ (nat_le RELATIONS long, Limit) ∷ [])
 
 pub rel_same : (a b : Store) (n : Bytes) (types : List ColumnType) → IsSameStore a b → rel_refusal b n types
@@ -286,7 +286,7 @@ followers_have_copies a b f n row = same_copies a b n row f
 
 -- why a row doesn't suit a relation, and what else refuses it
 abbrev row_by : Bool → List ColumnType → Tuple → List (Bool × Refusal) → Option Refusal
-row_by none types row more = first_of (
+row_by none types row more = first_refusal (
     (none, NoRelation)
     ∷ (not (length row == length types), Arity)
     ∷ (not (fits types row), WrongType)
@@ -333,8 +333,8 @@ module _ (a b : Store) (n : Bytes) (row : Tuple) (h : Follows a b) where
       ∙ ap (λ (x : List (Bool × Refusal)). row_by (is_none left) (types_of left) row x) more_same
 
   -- so of a row that a batch holds
-  pub place_same : first_of (more_in b) ≡ first_of (more_in a)
-  place_same = ap first_of more_same
+  pub place_same : first_refusal (more_in b) ≡ first_refusal (more_in a)
+  place_same = ap first_refusal more_same
 
   pub hold_same : (held : List HeldRow) → hold_refusal b held n row ≡ hold_refusal a held n row
   hold_same held = row_same a b n row ((nat_le HELD (length held), Limit) ∷ []) h
@@ -422,7 +422,7 @@ module _ (us bs : List Relation) (h : SameRelations us bs) where
   listed_types_same (Some (a_union name (q ∷ qs))) = answers_same q
 
 abbrev query_by : List Listed → Bool → Bool → Bool → Bool → Bool → Query → Option Refusal
-query_by queries unknown arity misfits clash miscompared q = first_of (
+query_by queries unknown arity misfits clash miscompared q = first_refusal (
     (is_some (listed_of queries q.name), Taken)
     ∷ (unknown, NoRelation)
     ∷ (arity, Arity)
@@ -468,7 +468,7 @@ differ_same a b h (n ∷ ns) =
     (λ m. ap₂ (λ (cs ds : List ColumnType). not (same_types cs ds)) (under_same a b h n) (under_same a b h m))
 
 abbrev union_by : List Listed → Bool → Bytes → List Bytes → Option Refusal
-union_by queries differ name members = first_of (
+union_by queries differ name members = first_refusal (
     (is_some (listed_of queries name), Taken)
     ∷ (list_any (λ n. is_none (listed_of queries n)) members, NoQuery)
     ∷ (stands_twice members || list_any (λ n. is_union (listed_of queries n)) members || differ, Member)

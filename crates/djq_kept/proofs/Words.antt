@@ -9,7 +9,7 @@ use Rattle.std.proofs.lemmas.Str.Ascii.{IsAscii-nil, IsAscii-cons}
 use Rattle.djq_value.specs.Token.{tokens}
 use Rattle.djq_model.specs.Data.{Bytes}
 use Rattle.djq_lines.specs.declared.command.Command.TheVariants.{Batch, Done, Abandon}
-use Rattle.djq_lines.specs.Grammar.{says as says_command, reading_of, reading_in, command_of, command_in}
+use Rattle.djq_lines.specs.Grammar.{says_command, reading_of, reading_in, command_of, command_in}
 
 ascii : (bs : Bytes) → list_all (λ b. leb b 127) bs ≡ true → IsAscii bs
 ascii [] h = IsAscii-nil

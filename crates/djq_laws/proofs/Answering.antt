@@ -27,7 +27,7 @@ use Rattle.djq_model.specs.declared.relation.ColumnType.{ColumnType}
 use Rattle.djq_model.specs.declared.relation.CountedRow.{CountedRow}
 use Rattle.djq_model.specs.declared.query.Query.{Query}
 use Rattle.djq_model.specs.Answer.{IsAnswer}
-use Rattle.djq_model.specs.Data.{Bytes, Tuple, bytes_eq, relation_of, tuples_of, counted_in, counted_of, rows_of}
+use Rattle.djq_model.specs.Data.{Bytes, Tuple, bytes_eq, relation_of, plain_of, counted_in, counted_of, rows_of}
 use Rattle.djq_model.specs.Listed.{Listed, a_query, a_union, AnswersOf}
 use Rattle.djq_model.specs.Equality.{bytes_eq-decides}
 use Rattle.djq_machine.specs.Store.{with_rows}
@@ -129,7 +129,7 @@ counted_of_new (r ∷ rs) name types n =
 
 pub rows_of_new : (rs : List Relation) (name : Bytes) (types : List ColumnType) (n : Bytes)
     → rows_of (rs ++ record { name = name; types = types; rows = [] } ∷ []) n ≡ rows_of rs n
-rows_of_new rs name types n = ap tuples_of (counted_of_new rs name types n)
+rows_of_new rs name types n = ap plain_of (counted_of_new rs name types n)
 
 -- Where each name has the rows that it had, answers are the same.
 pub rows_same : (rs rs' : List Relation) (q : Listed) → ((n : Bytes) → rows_of rs' n ≡ rows_of rs n)

@@ -42,7 +42,7 @@ use Rattle.djq_lines.specs.declared.limits.TheConstants.{TEXTS, ROWS, COPIES, LA
 use Rattle.djq_lines.specs.declared.answer.Refusal.{Refusal}
 use Rattle.djq_lines.specs.declared.answer.Refusal.TheVariants.{Limit, NoMemory}
 use Rattle.djq_lines.specs.declared.held.HeldRow.{HeldRow}
-use Rattle.djq_lines.specs.Conditions.{first_of}
+use Rattle.djq_lines.specs.Conditions.{first_refusal}
 use Rattle.djq_machine.specs.State.{Store}
 use Rattle.djq_machine.specs.Store.{with_rows, copies_of, with_copies_of}
 use Rattle.djq_machine.specs.Stale.{listed_reads}
@@ -90,7 +90,7 @@ module _ (st : Store) (h : HeldRow) (none : place_refusal st h ≡ None) where
   may : IsCopyCount (copies_of st h.relation h.row + 1)
   may = one_more (copies_of st h.relation h.row)
       (none_first (nat_le COPIES (copies_of st h.relation h.row)) Limit
-      (first_of ((not (is_there st h) && nat_le ROWS (length (rows_of st.relations h.relation)), Limit)
+      (first_refusal ((not (is_there st h) && nat_le ROWS (length (rows_of st.relations h.relation)), Limit)
       ∷ (not (is_there st h) && nat_le LAST_SEQ st.seq, Limit) ∷ [])) none)
 
   pub one_gains : Gains (suit_refusal st h.relation h.row ≡ None) st (with_held st h)

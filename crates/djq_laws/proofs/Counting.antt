@@ -29,7 +29,7 @@ use Rattle.djq_model.specs.Data.{
   bytes_eq,
   tuple_eq,
   relation_of,
-  tuples_of,
+  plain_of,
   counted_in,
   counted_of,
   rows_of,
@@ -90,7 +90,7 @@ module _ (st : Store) (sound : IsSoundStore st) (name : Bytes) (row : Tuple) whe
   differ : AreDifferent (rows_of st.relations name)
   differ = by (relation_of st.relations name) refl
     where
-      by : (o : Option Relation) → relation_of st.relations name ≡ o → AreDifferent (tuples_of (counted_in o))
+      by : (o : Option Relation) → relation_of st.relations name ≡ o → AreDifferent (plain_of (counted_in o))
       by None e = nothing_apart (λ (s t : Tuple). s ≡ t → ⊥)
       by (Some x) e =
           (all_found IsSoundRelation (λ (r : Relation). bytes_eq r.name name) st.relations x sound.rows e).once

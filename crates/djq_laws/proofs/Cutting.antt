@@ -15,7 +15,7 @@ use Rattle.djq_machine.specs.Step.{Event, opened, fed, stepped, took, ended, clo
 use Rattle.djq_machine.specs.Step.{TookStep, EndedStep, OpenedStep, Acts, Step}
 use Rattle.djq_machine.specs.Run.{Did, Run, all_fed, fed_by, lines_of, line_by, line_in, CutsInto}
 use Rattle.djq_machine.specs.Call.{cause_of, held_of, cause_in, held_in}
-use Rattle.djq_laws.specs.Moved.{Spares, LeavesHeld, CausedBy}
+use Rattle.djq_laws.specs.Moved.{SparesSession, LeavesHeld, CausedBy}
 use Rattle.djq_laws.specs.Lines.{TakesInOrder, LinesInOrder}
 use Rattle.djq_deltas.proofs.Cases.{some_there}
 use Rattle.djq_laws.proofs.Queueing.{stepped_cause, stepped_held}
@@ -230,7 +230,8 @@ none_came : {A : Type 0} (none : List A) (b : Bool) → cond b none none ≡ non
 none_came none true = refl
 none_came none false = refl
 
-acts_hold : (old : State) (event : Event) (e : Effect) (mid : State) → Acts old event e mid → (t : ℕ) → Spares event t
+acts_hold : (old : State) (event : Event) (e : Effect) (mid : State) → Acts old event e mid → (t : ℕ)
+    → SparesSession event t
     → HeldSteps old event mid t
 acts_hold old (opened s) e mid h t spared = opened_holds h
   where
@@ -284,7 +285,7 @@ acts_hold old (closed s bytes) e mid h t spared =
     same_holds old mid t (ap held_in found) (ap cause_in found)
 
 pub step_holds : (old : State) (event : Event) (e : Effect) (new : State) → Step old event e new → (t : ℕ)
-    → Spares event t → HeldSteps old event new t
+    → SparesSession event t → HeldSteps old event new t
 step_holds old event e new h t spared =
     subst (λ (held : Bytes). HeldStep (fed_by t event) (line_by t event) (held_of old t) held (cause_of old t)
     (cause_of new t)) (sym (stepped_held old event e new h t))
@@ -307,7 +308,7 @@ ended_step came lines held held' cause cause' (takes l is none front running) h 
 ended_step came lines held held' cause cause' (drops none is so) h = (none, is, so)
 
 stays_ended : (t : ℕ) (old : State) (done : List Did) (new : State) → Run old done new
-    → All (λ d. Spares d.event t) done → IsSome (cause_of old t) → StaysEnded t old done new
+    → All (λ d. SparesSession d.event t) done → IsSome (cause_of old t) → StaysEnded t old done new
 stays_ended t old [] new w spared c = let e : new
     ≡ old = w in record {
       lines = refl;
@@ -317,8 +318,8 @@ stays_ended t old [] new w spared c = let e : new
     }
 stays_ended t old (d ∷ done) new w spared c =
     let k = ended_step _ _ _ _ _ _
-    (step_holds old d.event d.effect w.0 w.1 t (All-head (λ (z : Did). Spares z.event t) d done spared)) c in
-    let r = stays_ended t w.0 done new w.2 (All-tail (λ (z : Did). Spares z.event t) d done spared) k.2 in
+    (step_holds old d.event d.effect w.0 w.1 t (All-head (λ (z : Did). SparesSession z.event t) d done spared)) c in
+    let r = stays_ended t w.0 done new w.2 (All-tail (λ (z : Did). SparesSession z.event t) d done spared) k.2 in
     record { lines = ap (λ ls. ls ++ lines_of t done) k.0 ∙ r.lines; held = r.held ∙ k.1; cause = r.cause }
 
 -- the first step, and the rest of the run
@@ -361,8 +362,8 @@ in_order t old [] new w spared = let e : new ≡ old = w in record {
   all_held = λ none. refl;
 }
 in_order t old (d ∷ done) new w spared =
-    let rest = All-tail (λ (z : Did). Spares z.event t) d done spared in
+    let rest = All-tail (λ (z : Did). SparesSession z.event t) d done spared in
     in_order_step t old w.0 d done new
-    (step_holds old d.event d.effect w.0 w.1 t (All-head (λ (z : Did). Spares z.event t) d done spared))
+    (step_holds old d.event d.effect w.0 w.1 t (All-head (λ (z : Did). SparesSession z.event t) d done spared))
     (in_order t w.0 done new w.2 rest)
     (λ c. stays_ended t w.0 done new w.2 rest c)

@@ -9,7 +9,7 @@ use Rattle.djq_machine.specs.State.{State, Session, session_of}
 use Rattle.djq_machine.specs.Effect.{Effect}
 use Rattle.djq_machine.specs.Step.{Event, opened, fed, stepped, took, ended, closed, TookStep, Step}
 use Rattle.djq_machine.specs.Run.{Did, Run, out, to_session, all_taken, taken_by, pending_of}
-use Rattle.djq_machine.specs.Call.{ids_of}
+use Rattle.djq_machine.specs.Call.{state_ids}
 use Rattle.djq_laws.specs.Sent.{dropped_by, all_dropped, opened_by, all_opened, SentInOrder}
 use Rattle.djq_deltas.proofs.Cases.{some_there, not_both}
 use Rattle.djq_laws.proofs.Rising.{IdsBehind, step_ids}
@@ -42,7 +42,7 @@ at_found P s (y ∷ xs) x e h =
     by_id false other found rest = rest found
 
 -- A session that isn't open has none of its bytes taken.
-not_there : (s t : ℕ) (old : State) (P : Session → Type 0) → (t == s) ≡ true → NotAmong s (ids_of old)
+not_there : (s t : ℕ) (old : State) (P : Session → Type 0) → (t == s) ≡ true → NotAmong s (state_ids old)
     → IsSomeAnd (session_of old t) P → ⊥
 not_there s t old P same out there =
     let f = some_there (session_of old t) P there in
@@ -50,7 +50,7 @@ not_there s t old P same out there =
     not_both (s == s) (eq-eqb s s refl) (at_found (λ i. (i == s) ≡ false) s old.sessions f.0 found out)
 
 none_by : (s : ℕ) (old : State) (event : Event) (e : Effect) (new : State) → Step old event e new
-    → NotAmong s (ids_of old) → taken_by s event ≡ []
+    → NotAmong s (state_ids old) → taken_by s event ≡ []
 none_by s old (opened t) e new h out = refl
 none_by s old (fed t bytes) e new h out = refl
 none_by s old (stepped t outcome) e new h out = refl
@@ -92,12 +92,13 @@ behind P (x ∷ xs) ys h = behind P xs ys (All-tail P x (xs ++ ys) h)
 -- So nothing more is taken of a session that was closed.
 none_taken : (s : ℕ) (old : State) (done : List Did) (new : State) → Run old done new
     → All (λ t. s < t) (all_opened done)
-    → NotAmong s (ids_of old) → all_taken s done ≡ []
+    → NotAmong s (state_ids old) → all_taken s done ≡ []
 none_taken s old [] new w above out = refl
 none_taken s old (d ∷ done) new w above out =
     let rest = all_opened done in
     let mid = w.0 in
-    let later = still_out s d.event (ids_of old) (ids_of mid) rest (step_ids old d.event d.effect mid w.1) above out in
+    let later = still_out s d.event (state_ids old) (state_ids mid) rest (step_ids old d.event d.effect mid w.1) above
+    out in
     ap (λ bytes. bytes ++ all_taken s done) (none_by s old d.event d.effect mid w.1 out)
     ∙ none_taken s mid done new w.2 (behind (λ t. s < t) (opened_by d.event) rest above) later
 
@@ -179,14 +180,14 @@ not_in_filter s (i ∷ ids) = by_id (i == s) refl (not_in_filter s ids)
 
 closing_order : (s t : ℕ) (bytes : Bytes) (old : State) (e : Effect) (mid : State) (done : List Did) (new : State)
     → Step old (closed t bytes) e mid
-    → Run mid done new → All (λ i. All (λ j. i < j) (all_opened done)) (ids_of old)
+    → Run mid done new → All (λ i. All (λ j. i < j) (all_opened done)) (state_ids old)
     → all_taken s done ++ (all_dropped s done ++ pending_of new s) ≡ pending_of mid s ++ out s done
     → all_taken s done ++ ((dropped_by s (closed t bytes) ++ all_dropped s done) ++ pending_of new s)
     ≡ pending_of old s ++ (to_session s e.queued ++ out s done)
 closing_order s t bytes old e mid done new h w above rest =
     by_id (t == s) refl (step_bytes old (closed t bytes) e mid h s)
   where
-    gone_ids : ids_of mid ≡ filter (λ i. not (i == t)) (ids_of old)
+    gone_ids : state_ids mid ≡ filter (λ i. not (i == t)) (state_ids old)
     gone_ids = step_ids old (closed t bytes) e mid h
 
     none : (t == s) ≡ true → all_taken s done ≡ []
@@ -197,7 +198,8 @@ closing_order s t bytes old e mid done new h w above rest =
         at_found (λ i. All (λ j. i < j) (all_opened done)) t old.sessions found.0 found.1 above in
         none_taken s mid done new w (subst (λ i. All (λ j. i < j) (all_opened done)) is later_ones)
         (subst (NotAmong s) (sym gone_ids)
-        (subst (λ i. NotAmong s (filter (λ j. not (j == i)) (ids_of old))) (sym is) (not_in_filter s (ids_of old))))
+        (subst (λ i. NotAmong s (filter (λ j. not (j == i)) (state_ids old))) (sym is)
+        (not_in_filter s (state_ids old))))
 
     by_id : (b : Bool) → (t == s) ≡ b → cond b bytes [] ++ pending_of mid s ≡ pending_of old s ++ to_session s e.queued
         → all_taken s done ++ ((cond b bytes [] ++ all_dropped s done) ++ pending_of new s)
@@ -212,7 +214,7 @@ closing_order s t bytes old e mid done new h w above rest =
 -- What was taken, dropped and is pending, one event earlier.
 step_order : (s : ℕ) (event : Event) (old : State) (e : Effect) (mid : State) (done : List Did) (new : State)
     → Step old event e mid
-    → Run mid done new → Later (ids_of old) (opened_by event ++ all_opened done)
+    → Run mid done new → Later (state_ids old) (opened_by event ++ all_opened done)
     → all_taken s done ++ (all_dropped s done ++ pending_of new s) ≡ pending_of mid s ++ out s done
     → (taken_by s event ++ all_taken s done) ++ ((dropped_by s event ++ all_dropped s done) ++ pending_of new s)
     ≡ pending_of old s ++ (to_session s e.queued ++ out s done)
@@ -235,13 +237,13 @@ step_order s (closed t bytes) old e mid done new h w l rest =
     closing_order s t bytes old e mid done new h w l.above rest
 
 run_order : (s : ℕ) (old : State) (done : List Did) (new : State) → Run old done new
-    → Later (ids_of old) (all_opened done)
+    → Later (state_ids old) (all_opened done)
     → all_taken s done ++ (all_dropped s done ++ pending_of new s) ≡ pending_of old s ++ out s done
 run_order s old [] new w l = ap (λ st. pending_of st s) w ∙ sym (append-nil (pending_of old s))
 run_order s old (d ∷ done) new w l =
     let ids = step_ids old d.event d.effect w.0 w.1 in
-    let next = later_still d.event (ids_of old) (ids_of w.0) (all_opened done) ids l in
+    let next = later_still d.event (state_ids old) (state_ids w.0) (all_opened done) ids l in
     step_order s d.event old d.effect w.0 done new w.1 w.2 l (run_order s w.0 done new w.2 next)
 
 pub sent_in_order : SentInOrder
-sent_in_order s old done new w once = run_order s old done new w (later (ids_of old) (all_opened done) once)
+sent_in_order s old done new w once = run_order s old done new w (later (state_ids old) (all_opened done) once)

@@ -38,7 +38,7 @@ use Rattle.djq_model.specs.declared.query.Query.{Query}
 use Rattle.djq_model.specs.Data.{Bytes, Tuple, bytes_eq, drop_first, relation_of}
 use Rattle.djq_model.specs.Listed.{Listed, a_query, a_union, listed_name, listed_of}
 use Rattle.djq_model.specs.Known.{texts_in}
-use Rattle.djq_lines.specs.Conditions.{first_of, Answers, OutOfMemoryWhere}
+use Rattle.djq_lines.specs.Conditions.{first_refusal, Answers, OutOfMemoryWhere}
 use Rattle.djq_lines.specs.QueryFault.{reads_unknown, query_faults}
 use Rattle.djq_lines.specs.Variables.{constants_of}
 use Rattle.djq_lines.specs.declared.limits.TheConstants.{COLUMNS, RELATIONS, QUERIES, CURSORS, TEXTS}
@@ -84,7 +84,7 @@ use Rattle.djq_lines.specs.Grammar.{
   Reading,
   outside,
   past_limit,
-  says as says_command,
+  says_command,
   reading_of,
   takes_memory_to_read,
 }
@@ -276,7 +276,8 @@ module _ (used : Bytes → Bool) (old new : Store) where
       makes_relation name types
       (nothing_of (relation_of old.relations name)
       (none_first (is_some (relation_of old.relations name)) Taken
-      (first_of ((nat_lt COLUMNS (length types), Limit) ∷ (nat_le RELATIONS (length old.relations), Limit) ∷ [])) none))
+      (first_refusal ((nat_lt COLUMNS (length types), Limit) ∷ (nat_le RELATIONS (length old.relations), Limit) ∷ []))
+      none))
       (done_of (rel_refusal old name types) u _ (OutOfMemoryWhere ⊤) h.answer)
 
   pub query_stored : (q : Query) (r : Result QueryOutcome Refusal) → RegistersQuery old q r new → Stored used old new
@@ -302,7 +303,7 @@ module _ (used : Bytes → Bool) (old new : Store) where
       registers (a_query q)
       (nothing_of (listed_of old.queries q.name)
       (none_first (is_some (listed_of old.queries q.name)) Taken
-      (first_of (query_faults old.relations q ++ (nat_le QUERIES (length old.queries), Limit) ∷ [])) none)) (
+      (first_refusal (query_faults old.relations q ++ (nat_le QUERIES (length old.queries), Limit) ∷ [])) none)) (
         d.0,
         none_second (is_some (listed_of old.queries q.name)) (reads_unknown old.relations q) Taken NoRelation _ none,
       )
@@ -386,7 +387,7 @@ open_does : (old : State) (s : ℕ) (x : Session) (c q : Bytes) (r : Result ⊤ 
 open_does old s x c q (Err r) new answer after = is_refused (is_whole after)
 open_does old s x c q (Ok u) new answer after =
     let none = none_holds (open_refusal old.store x.cursors c q) u (λ _. ⊤) (OutOfMemoryWhere ⊤) answer in
-    let rest = first_of ((nat_le CURSORS (length x.cursors), Limit) ∷ []) in
+    let rest = first_refusal ((nat_le CURSORS (length x.cursors), Limit) ∷ []) in
     is_turned (
       nothing_of (cursor_of x.cursors c)
           (none_first (is_some (cursor_of x.cursors c)) Taken

@@ -6,7 +6,7 @@ use Rattle.djq_machine.specs.State.{State, Session}
 use Rattle.djq_machine.specs.Step.{Event, opened, fed, stepped, took, ended, closed}
 use Rattle.djq_machine.specs.Run.{Did, Walk, out, pending_of}
 use Rattle.djq_machine.specs.Gives.{CursorsGive}
-use Rattle.djq_laws.specs.Moved.{Spares}
+use Rattle.djq_laws.specs.Moved.{SparesSession}
 use Rattle.djq_laws.specs.Course.{MayRun, RunNext}
 use Rattle.djq_laws.specs.Given.{CoursesGive}
 use Rattle.djq_laws.proofs.Sending.{run_bytes, gone_taken, next_runs}
@@ -15,7 +15,7 @@ use Rattle.djq_laws.proofs.Cutting.{in_order}
 use Rattle.djq_laws.proofs.Giving.{SessionGives, runs_give}
 
 -- under `run` no session is closed
-next_spares : (st : State) (event : Event) → MayRun st event → Spares event 1
+next_spares : (st : State) (event : Event) → MayRun st event → SparesSession event 1
 next_spares st (opened s) h = tt
 next_spares st (fed s bytes) h = tt
 next_spares st (stepped s outcome) h = tt
@@ -24,9 +24,10 @@ next_spares st (ended s) h = tt
 next_spares st (closed s bytes) h = absurd h
 
 pub walk_spares : (old : State) (done : List Did) (new : State) → Walk RunNext old done new
-    → All (λ d. Spares d.event 1) done
-walk_spares old [] new w = All-nil (λ (d : Did). Spares d.event 1)
-walk_spares old (d ∷ done) new w = All-cons (λ (e : Did). Spares e.event 1) d done (next_spares old d.event w.1.0)
+    → All (λ d. SparesSession d.event 1) done
+walk_spares old [] new w = All-nil (λ (d : Did). SparesSession d.event 1)
+walk_spares old (d ∷ done) new w = All-cons (λ (e : Did). SparesSession e.event 1) d done
+    (next_spares old d.event w.1.0)
     (walk_spares w.0 done new w.2)
 
 -- where no session is open, nothing is pending and no cursor is

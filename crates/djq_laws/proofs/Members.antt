@@ -89,7 +89,7 @@ use Rattle.djq_lines.specs.declared.command.Command.TheVariants.{
 use Rattle.djq_lines.specs.declared.answer.Refusal.{Refusal}
 use Rattle.djq_lines.specs.declared.answer.Refusal.TheVariants.{Taken, NoQuery, Member, Limit}
 use Rattle.djq_lines.specs.declared.limits.TheConstants.{MEMBERS, QUERIES}
-use Rattle.djq_lines.specs.Conditions.{first_of}
+use Rattle.djq_lines.specs.Conditions.{first_refusal}
 use Rattle.djq_lines.specs.Grammar.{
   name_of,
   type_of,
@@ -109,7 +109,7 @@ use Rattle.djq_lines.specs.Grammar.{
   command_of,
   is_in_range,
   past_limit,
-  says as says_command,
+  says_command,
   reading_in,
   reading_of,
 }
@@ -349,7 +349,7 @@ may_unite st name members qs two none under =
     (list_any (λ n. is_none (listed_of st.queries n)) members)
     (stands_twice members || list_any (λ n. is_union (listed_of st.queries n)) members || types_differ st members)
     (nat_lt MEMBERS (length members)) Taken NoQuery Member Limit
-    (first_of ((nat_le QUERIES (length st.queries), Limit) ∷ [])) none in
+    (first_refusal ((nat_le QUERIES (length st.queries), Limit) ∷ [])) none in
     let three = three_fail (stands_twice members) (list_any (λ n. is_union (listed_of st.queries n)) members)
     (types_differ st members) k.0 in
     let names = under_names st.queries members qs under in

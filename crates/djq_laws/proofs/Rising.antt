@@ -16,7 +16,7 @@ use Rattle.djq_machine.specs.LineStep.{LineOutcome, long, blank, slow, no_room, 
 use Rattle.djq_machine.specs.Step.{Event, opened, fed, stepped, took, ended, closed, FedStep}
 use Rattle.djq_machine.specs.Step.{TookStep, EndedStep, Acts, Step, with_relations}
 use Rattle.djq_machine.specs.Run.{Did}
-use Rattle.djq_machine.specs.Call.{ids_of}
+use Rattle.djq_machine.specs.Call.{state_ids}
 use Rattle.djq_machine.proofs.Walks.{walk_keeps}
 use Rattle.djq_laws.specs.Moved.{EndsByRun}
 use Rattle.djq_laws.specs.Rising.{AreRising, IdsRise}
@@ -36,11 +36,11 @@ changed_ids p f keeps [] = refl
 changed_ids p f keeps (x ∷ xs) = ids_step f x xs (change_first p f xs) (p x) (keeps x) (changed_ids p f keeps xs)
 
 with_ids : (old mid : State) (s : ℕ) (f : Session → Session) → ((x : Session) → (f x).id ≡ x.id) → mid
-    ≡ with_session old s f → ids_of mid ≡ ids_of old
-with_ids old mid s f keeps after = ap ids_of after ∙ changed_ids (λ (x : Session). x.id == s) f keeps old.sessions
+    ≡ with_session old s f → state_ids mid ≡ state_ids old
+with_ids old mid s f keeps after = ap state_ids after ∙ changed_ids (λ (x : Session). x.id == s) f keeps old.sessions
 
 ended_ids : (old mid : State) (s : ℕ) (text : Bytes) (cause : EndCause) (e : Effect) → EndsWith text cause old s e mid
-    → ids_of mid ≡ ids_of old
+    → state_ids mid ≡ state_ids old
 ended_ids old mid s text cause e h = with_ids old mid s (ended_by cause) (λ x. refl) h.1
 
 -- the ids behind each event that neither opens nor closes
@@ -49,26 +49,26 @@ fed_ids : (old : State) (s : ℕ) (bytes : Bytes) (e : Effect) (mid : State) (c 
     (((e ≡ nothing) × (mid ≡ with_session old s (λ y. record y { held = y.held ++ bytes }))) ⊎ EndsWith end_memory
     Memory old s e mid)
     (λ _. (e ≡ nothing) × (mid ≡ old))
-    → ids_of mid ≡ ids_of old
+    → state_ids mid ≡ state_ids old
 fed_ids old s bytes e mid None (inl h) = with_ids old mid s (λ y. record y { held = y.held ++ bytes }) (λ x. refl) h.1
 fed_ids old s bytes e mid None (inr h) = ended_ids old mid s end_memory Memory e h
-fed_ids old s bytes e mid (Some c) h = ap ids_of h.1
+fed_ids old s bytes e mid (Some c) h = ap state_ids h.1
 
 input_ids : (old mid : State) (s : ℕ) (cause : EndCause) (P Q R : Type 0) (c : Option EndCause)
-    → MatchOption c (P × Q × (mid ≡ with_session old s (ended_by cause))) (λ _. R × (mid ≡ old)) → ids_of mid
-    ≡ ids_of old
+    → MatchOption c (P × Q × (mid ≡ with_session old s (ended_by cause))) (λ _. R × (mid ≡ old)) → state_ids mid
+    ≡ state_ids old
 input_ids old mid s cause P Q R None h = with_ids old mid s (ended_by cause) (λ x. refl) h.2
-input_ids old mid s cause P Q R (Some c) h = ap ids_of h.1
+input_ids old mid s cause P Q R (Some c) h = ap state_ids h.1
 
-line_ids : (old : State) (s : ℕ) (rest : Bytes) (mid : State) → ids_of mid
-    ≡ ids_of (with_session old s (behind_line rest)) → ids_of mid ≡ ids_of old
+line_ids : (old : State) (s : ℕ) (rest : Bytes) (mid : State) → state_ids mid
+    ≡ state_ids (with_session old s (behind_line rest)) → state_ids mid ≡ state_ids old
 line_ids old s rest mid h = h
     ∙ with_ids old (with_session old s (behind_line rest)) s (behind_line rest) (λ x. refl) refl
 
 front_ids : (old : State) (s : ℕ) (x : Session) (outcome : LineOutcome) (e : Effect) (mid : State)
-    → FrontStep old s x outcome e mid → ids_of mid ≡ ids_of old
+    → FrontStep old s x outcome e mid → state_ids mid ≡ state_ids old
 front_ids old s x long e mid h = ended_ids old mid s _ _ e h.1
-front_ids old s x (blank l) e mid h = line_ids old s h.1.rest mid (ap ids_of h.1.then.1)
+front_ids old s x (blank l) e mid h = line_ids old s h.1.rest mid (ap state_ids h.1.then.1)
 front_ids old s x (slow l) e mid h = line_ids old s h.2.rest mid
     (ended_ids (with_session old s (behind_line h.2.rest)) mid s _ _ e h.2.then)
 front_ids old s x (no_room l) e mid h = line_ids old s h.2.rest mid
@@ -88,10 +88,10 @@ opened_rise : (old : State) (s : ℕ) (mid : State) → All (λ (x : Session). x
     → ((length old.sessions < SESSIONS) × (mid ≡ record old { sessions = old.sessions ++ fresh s ∷ [] })) ⊎ (mid ≡ old)
     → AreRising old → AreRising mid
 opened_rise old s mid above (inl h) r =
-    let below : All (λ i. i < s) (ids_of old) = All-map (λ i. i < s) (λ (x : Session). x.id) old.sessions above in
+    let below : All (λ i. i < s) (state_ids old) = All-map (λ i. i < s) (λ (x : Session). x.id) old.sessions above in
     subst AreRising (sym h.1)
     (subst (λ (is : List ℕ). AllPairs (λ i j. i < j) is) (sym (pushed_ids old.sessions (fresh s)))
-    (all_pairs_push (λ i j. i < j) (ids_of old) s r (λ k d lt. below k d lt)))
+    (all_pairs_push (λ i j. i < j) (state_ids old) s r (λ k d lt. below k d lt)))
 opened_rise old s mid above (inr h) r = subst AreRising (sym h) r
 
 -- the others stay as one closes
@@ -115,9 +115,9 @@ closed_rise : (old : State) (s : ℕ) (mid : State) → mid
 closed_rise old s mid after r =
     subst AreRising (sym after)
     (subst (λ (is : List ℕ). AllPairs (λ i j. i < j) is) (sym (kept_ids s old.sessions))
-    (AllPairs-filter (λ i j. i < j) (λ i. not (i == s)) (ids_of old) r))
+    (AllPairs-filter (λ i j. i < j) (λ i. not (i == s)) (state_ids old) r))
 
-same_rise : (old mid : State) → ids_of mid ≡ ids_of old → AreRising old → AreRising mid
+same_rise : (old mid : State) → state_ids mid ≡ state_ids old → AreRising old → AreRising mid
 same_rise old mid e r = subst (λ (is : List ℕ). AllPairs (λ i j. i < j) is) (sym e) r
 
 acts_rise : (old : State) (event : Event) (e : Effect) (mid : State) → Acts old event e mid → AreRising old
@@ -137,7 +137,7 @@ acts_rise old (ended s) e mid h r =
     same_rise old mid (input_ids old mid s _ _ _ _ (f.0).cause f.2) r
 acts_rise old (closed s bytes) e mid h r = closed_rise old s mid h.2 r
 
-pub queued_ids : (st : State) (qs : List (ℕ × Bytes)) → ids_of (queue_all st qs) ≡ ids_of st
+pub queued_ids : (st : State) (qs : List (ℕ × Bytes)) → state_ids (queue_all st qs) ≡ state_ids st
 queued_ids st [] = refl
 queued_ids st (q ∷ qs) = queued_ids (queue st q) qs
     ∙ with_ids st (queue st q) q.0 (λ x. record x { pending = x.pending ++ q.1 }) (λ x. refl) refl
@@ -145,7 +145,7 @@ queued_ids st (q ∷ qs) = queued_ids (queue st q) qs
 pub step_rises : (old : State) (event : Event) (e : Effect) (new : State) → Step old event e new → AreRising old
     → AreRising new
 step_rises old event e new h r =
-    same_rise h.mid new (ap ids_of h.queued ∙ queued_ids (with_relations h.mid h.relations) e.queued)
+    same_rise h.mid new (ap state_ids h.queued ∙ queued_ids (with_relations h.mid h.relations) e.queued)
     (acts_rise old event e h.mid h.acts r)
 
 pub ids_rise : IdsRise
@@ -163,12 +163,12 @@ IdsBehind (closed s bytes) old new = new ≡ filter (λ i. not (i == s)) old
 
 opened_ids : (old : State) (s : ℕ) (mid : State)
     → ((length old.sessions < SESSIONS) × (mid ≡ record old { sessions = old.sessions ++ fresh s ∷ [] })) ⊎ (mid ≡ old)
-    → (ids_of mid ≡ ids_of old ++ s ∷ []) ⊎ (ids_of mid ≡ ids_of old)
-opened_ids old s mid (inl h) = inl (ap ids_of h.1 ∙ pushed_ids old.sessions (fresh s))
-opened_ids old s mid (inr h) = inr (ap ids_of h)
+    → (state_ids mid ≡ state_ids old ++ s ∷ []) ⊎ (state_ids mid ≡ state_ids old)
+opened_ids old s mid (inl h) = inl (ap state_ids h.1 ∙ pushed_ids old.sessions (fresh s))
+opened_ids old s mid (inr h) = inr (ap state_ids h)
 
 pub acts_ids : (old : State) (event : Event) (e : Effect) (mid : State) → Acts old event e mid
-    → IdsBehind event (ids_of old) (ids_of mid)
+    → IdsBehind event (state_ids old) (state_ids mid)
 acts_ids old (opened s) e mid h = opened_ids old s mid h.2
 acts_ids old (fed s bytes) e mid h =
     let f = some_there (session_of old s) (λ x. FedStep old s bytes x e mid) h in
@@ -182,11 +182,11 @@ acts_ids old (took s bytes) e mid h =
 acts_ids old (ended s) e mid h =
     let f = some_there (session_of old s) (λ x. EndedStep old s x e mid) h in
     input_ids old mid s _ _ _ _ (f.0).cause f.2
-acts_ids old (closed s bytes) e mid h = ap ids_of h.2 ∙ kept_ids s old.sessions
+acts_ids old (closed s bytes) e mid h = ap state_ids h.2 ∙ kept_ids s old.sessions
 
 pub step_ids : (old : State) (event : Event) (e : Effect) (new : State) → Step old event e new
-    → IdsBehind event (ids_of old) (ids_of new)
+    → IdsBehind event (state_ids old) (state_ids new)
 step_ids old event e new h =
-    subst (λ (is : List ℕ). IdsBehind event (ids_of old) is)
-    (sym (ap ids_of h.queued ∙ queued_ids (with_relations h.mid h.relations) e.queued))
+    subst (λ (is : List ℕ). IdsBehind event (state_ids old) is)
+    (sym (ap state_ids h.queued ∙ queued_ids (with_relations h.mid h.relations) e.queued))
     (acts_ids old event e h.mid h.acts)

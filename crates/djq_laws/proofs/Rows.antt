@@ -14,7 +14,7 @@ use Rattle.djq_model.specs.Data.{
   tuple_eq,
   drop_first,
   relation_of,
-  tuples_of,
+  plain_of,
   counted_in,
   counted_of,
   rows_of,
@@ -28,7 +28,7 @@ use Rattle.djq_model.specs.Listed.{Listed}
 use Rattle.djq_model.specs.Known.{texts_in, all_learned}
 use Rattle.djq_model.specs.Typed.{fits}
 use Rattle.djq_lines.specs.Columns.{types_of}
-use Rattle.djq_lines.specs.Conditions.{first_of, OutOfMemoryWhere}
+use Rattle.djq_lines.specs.Conditions.{first_refusal, OutOfMemoryWhere}
 use Rattle.djq_lines.specs.declared.limits.TheConstants.{TEXTS, ROWS, COPIES, LAST_SEQ}
 use Rattle.djq_lines.specs.declared.answer.Refusal.{Refusal}
 use Rattle.djq_lines.specs.declared.answer.Refusal.TheVariants.{Limit, NoMemory, NoRelation, Arity, WrongType}
@@ -174,7 +174,7 @@ module _ (old : Store) (name : Bytes) (row : Tuple) (none : add_refusal old name
       (not (length row == length (types_of (relation_of old.relations name))))
       (fits (types_of (relation_of old.relations name)) row)
       (nat_le COPIES (copies_of old name row)) NoRelation Arity WrongType Limit
-      (first_of ((not (has_row rows row) && nat_le ROWS (length rows), Limit)
+      (first_refusal ((not (has_row rows row) && nat_le ROWS (length rows), Limit)
       ∷ (not (has_row rows row) && nat_le LAST_SEQ old.seq, Limit) ∷ [])) none
 
   row_fits : fits (types_of (relation_of old.relations name)) row ≡ true
@@ -194,7 +194,7 @@ not_added old name row r new h =
 -- other rows in one relation, where they suit it as those before did
 module _ (old : Store) (name : Bytes) (rows : List CountedRow) where
   abbrev pub Suits : Relation → List CountedRow → Type 0
-  Suits x rows = All (λ t. fits x.types t ≡ true) (tuples_of rows) × AreDifferent (tuples_of rows)
+  Suits x rows = All (λ t. fits x.types t ≡ true) (plain_of rows) × AreDifferent (plain_of rows)
       × All (λ (c : CountedRow). IsCopyCount c.copies) rows
 
   pub other_names : AreApart (map (λ (x : Relation). x.name) old.relations)
@@ -215,14 +215,14 @@ module _ (old : Store) (name : Bytes) (row : Tuple) where
   abbrev pub before : List CountedRow
   before = counted_of old.relations name
 
-  pub suits_more : fits (types_of (relation_of old.relations name)) row ≡ true → has_row (tuples_of before) row ≡ false
+  pub suits_more : fits (types_of (relation_of old.relations name)) row ≡ true → has_row (plain_of before) row ≡ false
       → (x : Relation) → relation_of old.relations name ≡ Some x → Suits old name before x before
       → Suits old name before x (with_row before row)
   suits_more fitting absent x found k = (
     subst (λ ts. All (λ t. fits x.types t ≡ true) ts) (sym (tuples_with_row before row))
-        (All-push (λ t. fits x.types t ≡ true) (tuples_of before) row k.0
+        (All-push (λ t. fits x.types t ≡ true) (plain_of before) row k.0
         (subst (λ (o : Option Relation). fits (types_of o) row ≡ true) found fitting)),
-    subst AreDifferent (sym (tuples_with_row before row)) (rows_more (tuples_of before) row k.1 absent),
+    subst AreDifferent (sym (tuples_with_row before row)) (rows_more (plain_of before) row k.1 absent),
     all_with_row (λ (c : CountedRow). IsCopyCount c.copies) before row k.2 (omega arith, omega arith),
   )
 
@@ -238,13 +238,13 @@ module _ (old : Store) (name : Bytes) (row : Tuple) where
       → Suits old name before x (without_copies before row)
   suits_less x found k = (
     subst (λ ts. All (λ t. fits x.types t ≡ true) ts) (sym (without_is))
-        (all_dropped (λ t. fits x.types t ≡ true) (λ t. tuple_eq t row) (tuples_of before) k.0),
-    subst AreDifferent (sym (tuples_without before row)) (rows_less (tuples_of before) row k.1),
+        (all_dropped (λ t. fits x.types t ≡ true) (λ t. tuple_eq t row) (plain_of before) k.0),
+    subst AreDifferent (sym (tuples_without before row)) (rows_less (plain_of before) row k.1),
     all_without (λ (c : CountedRow). IsCopyCount c.copies) before row k.2,
   )
     where
-      without_is : tuples_of (without_copies before row) ≡ drop_first (λ t. tuple_eq t row) (tuples_of before)
-      without_is = tuples_without before row ∙ without_dropped (tuples_of before) row
+      without_is : plain_of (without_copies before row) ≡ drop_first (λ t. tuple_eq t row) (plain_of before)
+      without_is = tuples_without before row ∙ without_dropped (plain_of before) row
 
   -- Of another number of copies each relation keeps its rows.
   recounted : (c : RowCommand) (n : ℕ) (new : Store) → (All IsSoundRelation old.relations → IsCopyCount n)

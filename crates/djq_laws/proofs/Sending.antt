@@ -15,7 +15,7 @@ use Rattle.djq_machine.specs.Call.{IsOpen}
 use Rattle.djq_machine.proofs.Walks.{walk_as}
 use Rattle.djq_laws.specs.Course.{RunNext, MayRun}
 use Rattle.djq_laws.specs.Sent.{gone_by, all_gone, SentBytes}
-pub use Rattle.djq_laws.specs.Moved.{Spares}
+pub use Rattle.djq_laws.specs.Moved.{SparesSession}
 use Rattle.djq_deltas.proofs.Cases.{some_there}
 use Rattle.djq_laws.proofs.Queueing.{gaining, stepped as stepped_session, stepped_open, stepped_pending}
 use Rattle.djq_laws.proofs.Alike.{alike_open, alike_pending}
@@ -27,7 +27,7 @@ use Rattle.djq_laws.proofs.Touching.{AnyCause, Touches, is_fed, is_ended, is_tak
 pub record Moves (old : State) (event : Event) (e : Effect) (mid : State) (t : ℕ) : Type 0 where
   pub pending : gone_by t event ++ pending_of mid t ≡ pending_of old t
   pub there : IsOpen mid t ⊎ (to_session t e.queued ≡ [])
-  pub stays : Spares event t → IsOpen old t → IsOpen mid t
+  pub stays : SparesSession event t → IsOpen old t → IsOpen mid t
 
 -- an event of a session that is there
 touch_pending : (old : State) (s : ℕ) (x : Session) (e : Effect) (mid : State) (y : Session) (gone : Bytes) (t : ℕ)
@@ -189,7 +189,7 @@ acts_moves old (closed s bytes) e mid h t =
 
 -- a session that is open stays so in any step that doesn't close it
 pub step_open : (old : State) (event : Event) (e : Effect) (new : State) → Step old event e new → (t : ℕ)
-    → Spares event t → IsOpen old t → IsOpen new t
+    → SparesSession event t → IsOpen old t → IsOpen new t
 step_open old event e new h t k o = stepped_open old event e new h t ((acts_moves old event e h.mid h.acts t).stays k o)
 
 -- what is gone of a session's bytes in a step and what is pending then is what was pending and what was queued

@@ -16,7 +16,7 @@ use Rattle.djq_lines.specs.Grammar.{reading_of}
 use Rattle.djq_lines.specs.Reply.{refusal_line, end_memory, input_cut}
 use Rattle.djq_machine.specs.State.{Store, State, Session, fresh, session_of, with_session, ended_by, ids_of}
 use Rattle.djq_machine.specs.Stale.{outdated_cursor}
-use Rattle.djq_machine.specs.Changes.{RowsChange, RowsOutcome, is_accepted, tried, changed}
+use Rattle.djq_machine.specs.Changes.{RowsChange, RowsOutcome, is_made, tried, changed}
 use Rattle.djq_machine.specs.Watch.{Delta, Telling, says_more, ends_more, watching, watcher_of}
 use Rattle.djq_machine.specs.Watch.{TellsWatcher, TellsSession, TellsDelta, ChangeStep}
 use Rattle.djq_machine.specs.Effect.{Effect, nothing, says, EndsWith}
@@ -194,7 +194,7 @@ module _ (s : ℕ) where
       let begins : IsQuiet first = record { none = refl; deaf = deaf_changed old (tried outcome) store deaf } in
       let told : IsQuiet h.told =
       walk_keeps (TellsDelta store.seq) IsQuiet (λ from d to one q. delta_quiet store.seq from d to one q) first
-      (cond (is_accepted outcome) h.deltas []) h.told h.tells begins in
+      (cond (is_made outcome) h.deltas []) h.told h.tells begins in
       let f = some_there (session_of h.told.state t) (λ x. MatchOption x.cause
       ((h.last ≡ says_more t reply h.told) ⊎
       ((list_any (λ part. part.0 == t) h.told.queued ≡ true) × (h.last ≡ ends_more t end_memory Memory h.told)))

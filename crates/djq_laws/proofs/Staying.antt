@@ -36,7 +36,7 @@ use Rattle.djq_lines.specs.declared.command.Command.{Command}
 use Rattle.djq_lines.specs.declared.command.Command.TheVariants.{Add, Done, Unwatch}
 use Rattle.djq_lines.specs.declared.held.HeldRow.{HeldRow}
 use Rattle.djq_lines.specs.declared.limits.TheConstants.{SESSIONS}
-use Rattle.djq_lines.specs.Grammar.{says as says_command, reading_of}
+use Rattle.djq_lines.specs.Grammar.{says_command, reading_of}
 use Rattle.djq_lines.specs.Reply.{end_memory}
 use Rattle.djq_machine.specs.State.{Store, State, Session, Cursor, fresh, session_of, with_session, ended_by}
 use Rattle.djq_machine.specs.Changes.{RowsChange, RowsOutcome, tried, changed}
@@ -63,7 +63,7 @@ use Rattle.djq_machine.specs.Run.{Did, Run, to_session}
 use Rattle.djq_machine.specs.Call.{IsOpen, cause_of, cause_in}
 use Rattle.djq_laws.specs.Moved.{
   EndsByRun,
-  Spares,
+  SparesSession,
   Comes,
   is_held,
   out_of_memory,
@@ -511,7 +511,8 @@ or_none old new s (inl h) none = h
 or_none old new s (inr (c, h)) none = absurd (cc (h, none))
 
 -- by an event of the session, or of another one
-step_none : (s : ℕ) (old : State) (event : Event) (e : Effect) (new : State) → Step old event e new → Spares event s
+step_none : (s : ℕ) (old : State) (event : Event) (e : Effect) (new : State) → Step old event e new
+    → SparesSession event s
     → IsOpen old s → cause_of new s ≡ None → cause_of old s ≡ None
 step_none s old (opened t) e new h k there none =
     let f = some_of (session_of old s) there in
@@ -570,7 +571,7 @@ step_none s old (closed t bytes) e new h k there none =
     sym (ap cause_in (others_stay t s old.sessions k)) ∙ sym (ap (λ st. cause_of st s) h.acts.2)
     ∙ sym (stepped_cause old (closed t bytes) e new h s) ∙ none
 
-spares : (q : Listed) (s : ℕ) (event : Event) → KeepsWatch q s event → Spares event s
+spares : (q : Listed) (s : ℕ) (event : Event) → KeepsWatch q s event → SparesSession event s
 spares q s (opened t) k = tt
 spares q s (fed t bytes) k = tt
 spares q s (stepped t outcome) k = tt

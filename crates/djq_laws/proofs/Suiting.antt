@@ -35,7 +35,7 @@ use Rattle.djq_lines.specs.declared.answer.Refusal.TheVariants.{NoRelation, Arit
 use Rattle.djq_lines.specs.declared.limits.TheConstants.{HELD}
 use Rattle.djq_lines.specs.declared.held.HeldRow.{HeldRow}
 use Rattle.djq_lines.specs.Columns.{types_of}
-use Rattle.djq_lines.specs.Conditions.{first_of}
+use Rattle.djq_lines.specs.Conditions.{first_refusal}
 use Rattle.djq_machine.specs.State.{Store}
 use Rattle.djq_machine.specs.Store.{with_rows, row_refusals}
 use Rattle.djq_machine.specs.Batch.{suit_refusal, hold_refusal, SuitAll}
@@ -122,7 +122,7 @@ types_moved (r ∷ rs) [] h n = absurd h
 
 -- why a row doesn't suit the relation that is found
 abbrev suit_in : Option Relation → Tuple → Option Refusal
-suit_in o row = first_of (
+suit_in o row = first_refusal (
     (is_none o, NoRelation)
     ∷ (not (length row == length (types_of o)), Arity)
     ∷ (not (fits (types_of o) row), WrongType)
@@ -134,7 +134,7 @@ suit_same None p row e h = absurd cc
 suit_same (Some r) None row e h = absurd cc
 suit_same (Some r) (Some s) row e h =
     let same : s.types ≡ r.types = cc in
-    subst (λ (ts : List ColumnType). first_of ((false, NoRelation) ∷ (not (length row == length ts), Arity)
+    subst (λ (ts : List ColumnType). first_refusal ((false, NoRelation) ∷ (not (length row == length ts), Arity)
     ∷ (not (fits ts row), WrongType) ∷ []) ≡ None) (sym same) h
 
 -- What suits one store suits another.
@@ -190,14 +190,14 @@ suit_fits st name row h =
     NoRelation Arity WrongType None h
 
 -- A row more that a batch may hold.
-none_both : (cs bs : List (Bool × Refusal)) → first_of (cs ++ bs) ≡ None
-    → (first_of cs ≡ None) × (first_of bs ≡ None)
+none_both : (cs bs : List (Bool × Refusal)) → first_refusal (cs ++ bs) ≡ None
+    → (first_refusal cs ≡ None) × (first_refusal bs ≡ None)
 none_both [] bs h = (refl, h)
 none_both (a ∷ cs) bs h = by a.0 h (λ k. none_both cs bs k)
   where
-    by : (b : Bool) → cond b (Some a.1) (first_of (cs ++ bs)) ≡ None
-        → (first_of (cs ++ bs) ≡ None → (first_of cs ≡ None) × (first_of bs ≡ None))
-        → (cond b (Some a.1) (first_of cs) ≡ None) × (first_of bs ≡ None)
+    by : (b : Bool) → cond b (Some a.1) (first_refusal (cs ++ bs)) ≡ None
+        → (first_refusal (cs ++ bs) ≡ None → (first_refusal cs ≡ None) × (first_refusal bs ≡ None))
+        → (cond b (Some a.1) (first_refusal cs) ≡ None) × (first_refusal bs ≡ None)
     by true k rest = absurd cc
     by false k rest = rest k
 

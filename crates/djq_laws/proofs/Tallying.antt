@@ -40,7 +40,7 @@ use Rattle.djq_model.specs.Equality.{bytes_eq-decides, tuple_eq-decides}
 use Rattle.djq_model.specs.Known.{texts_in, all_learned}
 use Rattle.djq_model.specs.Typed.{fits}
 use Rattle.djq_model.proofs.Counted.{no_copies, came_copies, others_with_row, changed_copies, others_with_copies}
-use Rattle.djq_lines.specs.Conditions.{first_of}
+use Rattle.djq_lines.specs.Conditions.{first_refusal}
 use Rattle.djq_lines.specs.Columns.{types_of}
 use Rattle.djq_lines.specs.declared.answer.Refusal.TheVariants.{NoRelation, Arity, WrongType}
 use Rattle.djq_lines.specs.declared.held.HeldRow.{HeldRow}
@@ -124,7 +124,7 @@ suit_found : (st : Store) (name : Bytes) (row : Tuple) → suit_refusal st name 
 suit_found st name row h =
     let types = types_of (relation_of st.relations name) in
     none_first (is_none (relation_of st.relations name)) NoRelation
-    (first_of ((not (length row == length types), Arity) ∷ (not (fits types row), WrongType) ∷ [])) h
+    (first_refusal ((not (length row == length types), Arity) ∷ (not (fits types row), WrongType) ∷ [])) h
 
 each_all : (st : Store) (held : List HeldRow) → SuitAll st held → HavePlaces st held → (n : Bytes) (t : Tuple)
     → copies_of (with_all st held) n t ≡ copies_of st n t + times_held held n t

@@ -35,7 +35,7 @@ use Rattle.djq_lines.specs.declared.command.Command.{Command}
 use Rattle.djq_lines.specs.declared.command.Command.TheVariants.{Add, Del, Done}
 use Rattle.djq_lines.specs.declared.held.HeldRow.{HeldRow}
 use Rattle.djq_lines.specs.declared.limits.TheConstants.{SESSIONS}
-use Rattle.djq_lines.specs.Grammar.{Reading, says as says_command, reading_of}
+use Rattle.djq_lines.specs.Grammar.{Reading, says_command, reading_of}
 use Rattle.djq_lines.specs.Reply.{end_memory}
 use Rattle.djq_machine.specs.State.{Store, State, Session, fresh, session_of, with_session, ended_by}
 use Rattle.djq_machine.specs.Delta.{Change, HasChanged}

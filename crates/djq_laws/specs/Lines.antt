@@ -4,7 +4,7 @@ use Rattle.djq_model.specs.Data.{Bytes}
 use Rattle.djq_machine.specs.State.{State}
 use Rattle.djq_machine.specs.Run.{Did, Run, all_fed, lines_of, CutsInto}
 use Rattle.djq_machine.specs.Call.{cause_of, held_of}
-use Rattle.djq_laws.specs.Moved.{Spares}
+use Rattle.djq_laws.specs.Moved.{SparesSession}
 
 -- All bytes of a session, those that it held and those that came, are cut into the lines that were
 -- taken of it, in order, and a rest: what it holds, and what was dropped. Nothing is dropped as
@@ -18,4 +18,4 @@ pub record TakesInOrder (s : ℕ) (old : State) (done : List Did) (new : State) 
 -- which it isn't closed.
 abbrev pub LinesInOrder : Type 0
 LinesInOrder = (s : ℕ) (old : State) (done : List Did) (new : State) → Run old done new
-    → All (λ d. Spares d.event s) done → TakesInOrder s old done new
+    → All (λ d. SparesSession d.event s) done → TakesInOrder s old done new

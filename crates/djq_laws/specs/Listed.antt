@@ -25,7 +25,7 @@ use Rattle.djq_model.specs.Data.{Bytes, Tuple, bytes_eq}
 use Rattle.djq_model.specs.Answer.{IsListing}
 use Rattle.djq_model.specs.Listed.{Listed, AnswersOf}
 use Rattle.djq_lines.specs.declared.command.Command.TheVariants.{Open, Next}
-use Rattle.djq_lines.specs.Grammar.{Reading, says as says_command, reading_of}
+use Rattle.djq_lines.specs.Grammar.{Reading, says_command, reading_of}
 use Rattle.djq_lines.specs.declared.answer.Refusal.TheVariants.{Misplaced}
 use Rattle.djq_lines.specs.Reply.{line, text_of, listing_lines, refusal_line}
 use Rattle.djq_machine.specs.State.{State, Session, Cursor, Position, open_at, session_of, cursor_of}

@@ -13,9 +13,9 @@ use Rattle.djq_machine.specs.Run.{pending_of}
 use Rattle.djq_machine.specs.Call.{IsOpen, cause_of, held_of}
 
 -- The event doesn't close the session.
-abbrev pub Spares : Event → ℕ → Type 0
-Spares (closed t bytes) s = (t == s) ≡ false
-Spares _ s = Unit {0}
+abbrev pub SparesSession : Event → ℕ → Type 0
+SparesSession (closed t bytes) s = (t == s) ≡ false
+SparesSession _ s = Unit {0}
 
 -- The bytes that are taken are the first that were pending; nothing else changes.
 pub record Takes (old new : State) (s : ℕ) (bytes : Bytes) : Type 0 where
@@ -83,7 +83,7 @@ pub record StepsLine (old new : State) (s : ℕ) (outcome : LineOutcome) : Type 
 -- A session that is open stays so in every step that doesn't close it.
 abbrev pub StaysOpen : Type 0
 StaysOpen = (old : State) (event : Event) (e : Effect) (new : State) → Step old event e new
-    → (s : ℕ) → Spares event s → IsOpen old s → IsOpen new s
+    → (s : ℕ) → SparesSession event s → IsOpen old s → IsOpen new s
 
 -- What a step does to a session whose bytes come.
 abbrev pub BytesCome : Type 0

@@ -5,7 +5,7 @@ use Rattle.djq_model.specs.Data.{Bytes}
 use Rattle.djq_machine.specs.State.{State}
 use Rattle.djq_machine.specs.Step.{Event, opened, took, closed}
 use Rattle.djq_machine.specs.Run.{Did, Run, out, all_taken, pending_of}
-use Rattle.djq_machine.specs.Call.{ids_of}
+use Rattle.djq_machine.specs.Call.{state_ids}
 
 -- the pending bytes of a session that an event takes, or drops as it closes
 abbrev pub gone_by : ℕ → Event → Bytes
@@ -43,7 +43,7 @@ all_opened done = flat_map (λ d. opened_by d.event) done
 
 -- The ids of the sessions that are open, and then of those that open, rise. So none opens twice.
 abbrev pub OpensOnce : State → List Did → Type 0
-OpensOnce old done = AllPairs (λ s t. s < t) (ids_of old ++ all_opened done)
+OpensOnce old done = AllPairs (λ s t. s < t) (state_ids old ++ all_opened done)
 
 -- Along every run in which no session opens twice, what was taken of a session's bytes, then what
 -- was dropped as it closed, and then what is pending, is what was pending and all that was queued

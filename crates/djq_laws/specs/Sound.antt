@@ -26,7 +26,7 @@ use Rattle.djq_model.specs.Typed.{fits}
 use Rattle.djq_lines.specs.declared.limits.TheConstants.{SESSIONS, TEXTS, COPIES, HELD, MEMBERS}
 use Rattle.djq_lines.specs.declared.held.HeldRow.{HeldRow}
 use Rattle.djq_lines.specs.declared.command.Command.TheVariants.{Add}
-use Rattle.djq_lines.specs.Grammar.{says as says_command, reading_of}
+use Rattle.djq_lines.specs.Grammar.{says_command, reading_of}
 use Rattle.djq_lines.specs.Hypergraph.{edges_of, head_of}
 use Rattle.djq_lines.specs.QueryFault.{reads_unknown}
 use Rattle.djq_machine.specs.Batch.{SuitAll}

@@ -2,7 +2,7 @@
 use Rattle.std.specs.Prelude.{ℕ, List, ◌==◌, ◌≡◌, true, false, None, IsSomeAnd, All}
 use Rattle.djq_model.specs.Listed.{Listed, listed_name}
 use Rattle.djq_lines.specs.declared.command.Command.TheVariants.{Unwatch}
-use Rattle.djq_lines.specs.Grammar.{says as says_command, reading_of}
+use Rattle.djq_lines.specs.Grammar.{says_command, reading_of}
 use Rattle.djq_machine.specs.State.{State, session_of}
 use Rattle.djq_machine.specs.LineStep.{run}
 use Rattle.djq_machine.specs.Step.{Event, stepped, closed}

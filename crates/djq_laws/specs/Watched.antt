@@ -8,7 +8,7 @@ use Rattle.djq_model.specs.Answer.{IsListing}
 use Rattle.djq_model.specs.Listed.{Listed, listed_name, AnswersOf, listed_of}
 use Rattle.djq_lines.specs.declared.held.HeldRow.{HeldRow}
 use Rattle.djq_lines.specs.declared.command.Command.TheVariants.{Add, Del, Done}
-use Rattle.djq_lines.specs.Grammar.{Reading, says as says_command, reading_of}
+use Rattle.djq_lines.specs.Grammar.{Reading, says_command, reading_of}
 use Rattle.djq_lines.specs.Reply.{text_of}
 use Rattle.djq_machine.specs.State.{Store, State, Session, session_of}
 use Rattle.djq_machine.specs.Stale.{by_relation}

@@ -17,9 +17,9 @@ use Rattle.djq_lines.specs.declared.answer.Refusal.{Refusal}
 use Rattle.djq_lines.specs.declared.answer.Refusal.TheVariants.{NoMemory}
 
 -- the refusal of the first condition that holds
-abbrev pub first_of : List (Bool × Refusal) → Option Refusal
-first_of [] = None
-first_of (c ∷ cs) = if c.0 then Some c.1 else first_of cs
+abbrev pub first_refusal : List (Bool × Refusal) → Option Refusal
+first_refusal [] = None
+first_refusal (c ∷ cs) = if c.0 then Some c.1 else first_refusal cs
 
 -- A command answers the refusal of a condition that holds. Where none does, it is done,
 -- or refused late: for what shows only while it is done.

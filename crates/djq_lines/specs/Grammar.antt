@@ -400,12 +400,12 @@ pub data Reading : Type 0 where
   -- a command of which a literal is past its limit
   past_limit : Command → Reading
   -- a command whose literals are within their limits
-  says : Command → Reading
+  says_command : Command → Reading
 
 -- what a line says, by the command that it says, if it says one
 abbrev pub reading_in : Option Command → Reading
 reading_in None = outside
-reading_in (Some c) = if is_in_range c then says c else past_limit c
+reading_in (Some c) = if is_in_range c then says_command c else past_limit c
 
 -- what a line says
 abbrev pub reading_of : Bytes → Reading

@@ -46,7 +46,7 @@ use Rattle.djq_lines.specs.declared.answer.Refusal.TheVariants.{
   Limit,
 }
 use Rattle.djq_lines.specs.Columns.{columns_of, is_of, same_type}
-use Rattle.djq_lines.specs.Conditions.{first_of}
+use Rattle.djq_lines.specs.Conditions.{first_refusal}
 use Rattle.djq_lines.specs.Variables.{stands_in, variables_of}
 
 -- whether a term and the type of its column pass a test somewhere among terms and columns
@@ -144,11 +144,11 @@ query_faults relations q =
 
 -- The first fault of a query; none where it can be asked over these relations.
 abbrev pub query_fault : List Relation → Query → Option Refusal
-query_fault relations q = first_of (query_faults relations q)
+query_fault relations q = first_refusal (query_faults relations q)
 
 -- Why a query isn't registered beside others: its name is taken, a fault, or the number of queries.
 abbrev pub whole_query_refusal : List Relation → List Listed → Query → Option Refusal
-whole_query_refusal relations queries q = first_of (
+whole_query_refusal relations queries q = first_refusal (
     (is_some (listed_of queries q.name), Taken)
     ∷ query_faults relations q
     ++ (nat_le QUERIES (length queries), Limit)

@@ -50,7 +50,7 @@ use Rattle.djq_machine.specs.Store.{IsLeft, AreAll}
 use Rattle.djq_reduct.specs.Reducts.{Reducts}
 use Rattle.djq_reduct.specs.Answers.{IsAnswerOf}
 use Rattle.djq_cursor.specs.declared.cursor.Cursor.{Cursor}
-use Rattle.djq_cursor.specs.Listing.{AreSome, IsLeft as IsTupleLeft, IsListing}
+use Rattle.djq_cursor.specs.Listing.{AreSome, IsTupleLeft, IsListing}
 use Rattle.djq_cursor.specs.Given.{given, Fits}
 use Rattle.djq_rows.specs.Catalog.{Catalog}
 use Rattle.djq_slots.specs.Slots.{EachIs}

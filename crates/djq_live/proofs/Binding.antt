@@ -41,7 +41,7 @@ use Rattle.djq_query.specs.Pattern.{
   test_of,
   tests_of,
 }
-use Rattle.djq_rows.specs.Cells.{cell_of as cell_for, cells_of}
+use Rattle.djq_rows.specs.Cells.{cell_for, cells_of}
 use Rattle.djq_rows.specs.Catalog.{Catalog}
 use Rattle.djq_live.specs.Asked.{constants_in}
 use Rattle.djq_live.specs.Cells.{AreRowOf, cell_under, IsPassed, IsSatisfied}

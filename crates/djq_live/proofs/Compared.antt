@@ -36,7 +36,7 @@ use Rattle.djq_query.specs.declared.numbered.NumberedAtom.{NumberedAtom}
 use Rattle.djq_query.specs.declared.numbered.NumberedComparison.{NumberedComparison}
 use Rattle.djq_query.specs.Numbered.{labels, is_number}
 use Rattle.djq_query.specs.Pattern.{passes}
-use Rattle.djq_rows.specs.Cells.{cell_of, HasCell, StandsFor}
+use Rattle.djq_rows.specs.Cells.{cell_for, HasCell, StandsFor}
 use Rattle.djq_rows.specs.Parts.{value_of}
 use Rattle.djq_rows.specs.Catalog.{Catalog, IsCatalog}
 use Rattle.djq_rows.proofs.Encoding.{value_back, stands_back}
@@ -65,19 +65,19 @@ same_test false true h k = absurd (false≢true (k refl))
 -- cells of values of one type are the same exactly where the values are
 cells_equal : (texts : List Bytes) (t : ColumnType) (v w : Value) → is_of t v ≡ true
     → is_of t w ≡ true → HasCell texts v → HasCell texts w
-    → (cell_of texts v == cell_of texts w) ≡ value_eq v w
+    → (cell_for texts v == cell_for texts w) ≡ value_eq v w
 cells_equal texts t v w of same has also =
-    same_test (cell_of texts v == cell_of texts w) (value_eq v w)
+    same_test (cell_for texts v == cell_for texts w) (value_eq v w)
     (λ e. (value_eq-decides v w).1
     (sym (value_back texts t v of has)
-    ∙ ap (value_of texts t) (eqb-true (cell_of texts v) (cell_of texts w) e)
+    ∙ ap (value_of texts t) (eqb-true (cell_for texts v) (cell_for texts w) e)
     ∙ value_back texts t w same also))
-    (λ e. eq-eqb (cell_of texts v) (cell_of texts w)
-    (ap (cell_of texts) ((value_eq-decides v w).0 e)))
+    (λ e. eq-eqb (cell_for texts v) (cell_for texts w)
+    (ap (cell_for texts) ((value_eq-decides v w).0 e)))
 
 passes_as : (texts : List Bytes) (o : Operator) (t : ColumnType) (v w : Value)
     → is_of t v ≡ true → is_of t w ≡ true → has_order o t ≡ true → HasCell texts v
-    → HasCell texts w → passes o (cell_of texts v) (cell_of texts w) ≡ compares o v w
+    → HasCell texts w → passes o (cell_for texts v) (cell_for texts w) ≡ compares o v w
 passes_as texts Equal t v w of same order has also = cells_equal texts t v w of same has also
 passes_as texts NotEqual t v w of same order has also =
     ap (λ (b : Bool). not b) (cells_equal texts t v w of same has also)
@@ -108,9 +108,9 @@ passes_as texts GreaterOrEqual TextColumn v w of same order has also = absurd (f
 -- a cell that stands for a value passes exactly where the value does
 passes_value : (texts : List Bytes) (o : Operator) (t : ColumnType) (cell : ℕ) (v w : Value)
     → StandsFor texts t cell v → is_of t w ≡ true → has_order o t ≡ true → HasCell texts w
-    → passes o cell (cell_of texts w) ≡ compares o v w
+    → passes o cell (cell_for texts w) ≡ compares o v w
 passes_value texts o t cell v w s same order also =
-    ap (λ (k : ℕ). passes o k (cell_of texts w)) s.is
+    ap (λ (k : ℕ). passes o k (cell_for texts w)) s.is
     ∙ passes_as texts o t v w s.of same order s.has also
 
 -- ---- the atom that has a comparison's variable
@@ -203,9 +203,9 @@ pass_one c vs values a atoms ms rows k n h are for names is holds =
     let at = in_one ms x is.stands in
     let s = value_in c vs values x k.variable atoms ms rows at.place at.atom h are for at.at at.has
     is.shown.variable in
-    ap (λ (cell : ℕ). passes n.operator cell (cell_of c.texts n.constant))
+    ap (λ (cell : ℕ). passes n.operator cell (cell_for c.texts n.constant))
     (names x k.variable is.shown.variable)
-    ∙ passes_value c.texts n.operator (column_of vs x) (cell_of c.texts (values k.variable))
+    ∙ passes_value c.texts n.operator (column_of vs x) (cell_for c.texts (values k.variable))
     (values k.variable) n.constant s is.of is.ordered is.has
     ∙ ap₂ (λ (o : Operator) (w : Value). compares o (values k.variable) w) is.shown.operator
     is.shown.constant

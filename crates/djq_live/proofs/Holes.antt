@@ -46,7 +46,7 @@ use Rattle.djq_query.specs.declared.numbered.NumberedTerm.TheVariants.{
   Constant as Fixed,
 }
 use Rattle.djq_query.specs.Meaning.{AreShown, Rise, hole_of, holes_among}
-use Rattle.djq_rows.specs.Cells.{cell_of, cells_of}
+use Rattle.djq_rows.specs.Cells.{cell_for, cells_of}
 use Rattle.djq_live.specs.Cells.{cell_under}
 
 -- ---- rising numbers
@@ -115,12 +115,12 @@ hole_cell texts [] ns row y = 0
 hole_cell texts (t ∷ ts) [] row y = 0
 hole_cell texts (t ∷ ts) (n ∷ ns) [] y = 0
 hole_cell texts (t ∷ ts) (n ∷ ns) (v ∷ row) y =
-    cond (member y (hole_of t n)) (cell_of texts v) (hole_cell texts ts ns row y)
+    cond (member y (hole_of t n)) (cell_for texts v) (hole_cell texts ts ns row y)
 
 -- the cells of named variables are those of their values
 abbrev pub HasNames : List Bytes → List Label → (Bytes → Value) → (ℕ → ℕ) → Type 0
 HasNames texts ls values a = (x : ℕ) (name : Bytes) → slice_get ls x ≡ Some (Some name)
-    → a x ≡ cell_of texts (values name)
+    → a x ≡ cell_for texts (values name)
 
 pub cells_terms : (texts : List Bytes) (ls : List Label) (values : Bytes → Value) (a : ℕ → ℕ)
     (from : ℕ) (ts : List Term) (ns : List NumberedTerm) (row : Tuple) → HasNames texts ls values a
@@ -135,21 +135,21 @@ cells_terms texts ls values a from (t ∷ ts) [] row names shown stand rise hole
 cells_terms texts ls values a from (t ∷ ts) (n ∷ ns) [] names shown stand rise holes = absurd stand
 cells_terms texts ls values a from (Named name ∷ ts) (Number x ∷ ns) (v ∷ row) names shown stand
     rise holes =
-    ap₂ (λ (c : ℕ) (cs : List ℕ). c ∷ cs) (names x name shown.0 ∙ ap (cell_of texts) stand.0)
+    ap₂ (λ (c : ℕ) (cs : List ℕ). c ∷ cs) (names x name shown.0 ∙ ap (cell_for texts) stand.0)
     (cells_terms texts ls values a from ts ns row names shown.1 stand.1 rise holes)
 cells_terms texts ls values a from (Hole ∷ ts) (Number x ∷ ns) (v ∷ row) names shown stand rise
     holes =
     ap₂ (λ (c : ℕ) (cs : List ℕ). c ∷ cs)
     (holes x (or_left (x == x) (member x (holes_among ts ns)) (eq-eqb x x refl))
-    ∙ ap (λ (b : Bool). cond b (cell_of texts v) (hole_cell texts ts ns row x))
+    ∙ ap (λ (b : Bool). cond b (cell_for texts v) (hole_cell texts ts ns row x))
     (or_left (x == x) false (eq-eqb x x refl)))
     (cells_terms texts ls values a (x + 1) ts ns row names shown.1 stand.1 rise.1
     (λ y m. holes y (or_right (y == x) (member y (holes_among ts ns)) m)
-    ∙ ap (λ (b : Bool). cond b (cell_of texts v) (hole_cell texts ts ns row y))
+    ∙ ap (λ (b : Bool). cond b (cell_for texts v) (hole_cell texts ts ns row y))
     (rise_apart from (x ∷ []) (holes_among ts ns) y rise m)))
 cells_terms texts ls values a from (Constant w ∷ ts) (Fixed u ∷ ns) (v ∷ row) names shown stand rise
     holes =
-    ap₂ (λ (c : ℕ) (cs : List ℕ). c ∷ cs) (ap (cell_of texts) (shown.0 ∙ stand.0))
+    ap₂ (λ (c : ℕ) (cs : List ℕ). c ∷ cs) (ap (cell_for texts) (shown.0 ∙ stand.0))
     (cells_terms texts ls values a from ts ns row names shown.1 stand.1 rise holes)
 cells_terms texts ls values a from (Named name ∷ ts) (Fixed u ∷ ns) (v ∷ row) names shown stand rise
     holes = absurd shown.0

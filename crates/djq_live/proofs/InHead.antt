@@ -48,9 +48,9 @@ use Rattle.djq_cursor.specs.Menus.{has}
 use Rattle.djq_cursor.specs.Given.{given, Fits}
 use Rattle.djq_cursor.proofs.Listed.{whole_answers, cursor_answers}
 use Rattle.djq_union.specs.Answers.{
-  AreSome as AreSomeOf,
-  AreAll as AreAllOf,
-  IsListing as IsListingOf,
+  AreSomeCells,
+  AreAllCells,
+  IsListingOfCells,
 }
 use Rattle.djq_live.specs.Live.{Live, IsKeptSomewhere}
 use Rattle.djq_live.specs.Member.{in_head, all_answers, has_cells, cells_given, FitsKept}
@@ -181,7 +181,7 @@ had_cells r head t h had =
 
 some_cells : (r : Reducts) (head : List ℕ) (us : List (List ℕ)) → IsHead r head
     → AreSome (IsAnswerOf r) us
-    → AreSomeOf (λ t. has (map (cells_in r head) (all_answers r)) t) (map (cells_in r head) us)
+    → AreSomeCells (λ t. has (map (cells_in r head) (all_answers r)) t) (map (cells_in r head) us)
 some_cells r head us h some =
     let f : List ℕ → List ℕ = cells_in r head in
     let long : length (map f us) ≡ length us = length-map us f in
@@ -199,7 +199,7 @@ some_cells r head us h some =
 
 all_cells : (r : Reducts) (head : List ℕ) (us : List (List ℕ)) → IsHead r head
     → ((u : List ℕ) → IsAnswerOf r u → Contains us u)
-    → AreAllOf (λ t. has (map (cells_in r head) (all_answers r)) t) (map (cells_in r head) us)
+    → AreAllCells (λ t. has (map (cells_in r head) (all_answers r)) t) (map (cells_in r head) us)
 all_cells r head us h complete t had =
     let f : List ℕ → List ℕ = cells_in r head in
     let long : length (map f us) ≡ length us = length-map us f in
@@ -210,7 +210,7 @@ all_cells r head us h complete t had =
 
 cells_all : (r : Reducts) (head : List ℕ) (us : List (List ℕ)) → IsHead r head
     → AreSome (IsAnswerOf r) us
-    → AreAllOf (λ t. has (map (cells_in r head) (all_answers r)) t) (map (cells_in r head) us)
+    → AreAllCells (λ t. has (map (cells_in r head) (all_answers r)) t) (map (cells_in r head) us)
     → (u : List ℕ) → IsAnswerOf r u → Contains us u
 cells_all r head us h some all u is =
     let f : List ℕ → List ℕ = cells_in r head in
@@ -253,14 +253,14 @@ cursor_some : (l : Live) (s : Cursor) → FitsKept l s
 cursor_some l s f = cursor_answers l.reducts s (kept_head l f.0).reducts f.1
 
 pub some_given : (l : Live) (s : Cursor) → FitsKept l s
-    → AreSomeOf (λ t. has_cells l t) (cells_given l s)
+    → AreSomeCells (λ t. has_cells l t) (cells_given l s)
 some_given l s f = some_cells l.reducts l.numbered.head (given l.reducts s) (kept_head l f.0)
     (cursor_some l s f)
 
 -- all were given as cells exactly where they were given as answers of the tree
 pub all_given_same : (l : Live) (s : Cursor) → FitsKept l s
     → IsListing (IsAnswerOf l.reducts) (given l.reducts s)
-    ↔ AreAllOf (λ t. has_cells l t) (cells_given l s)
+    ↔ AreAllCells (λ t. has_cells l t) (cells_given l s)
 all_given_same l s f =
     let h = kept_head l f.0 in
     let some = cursor_some l s f in
@@ -289,7 +289,7 @@ step_answer l old new one some =
 
 pub end_same : (l m : Live) (s : Cursor) (found told : Bool) → l ≡ m → FitsKept m s
     → told ≡ found → (found ≡ false) ↔ IsListing (IsAnswerOf l.reducts) (given l.reducts s)
-    → (told ≡ false) ↔ IsListingOf (λ t. has_cells m t) (cells_given m s)
+    → (told ≡ false) ↔ IsListingOfCells (λ t. has_cells m t) (cells_given m s)
 end_same l m s found told e f is h =
     let all = all_given_same m s f in (
       λ none. (
@@ -304,7 +304,7 @@ end_same l m s found told e f is h =
 
 pub left_same : (l m : Live) (s : Cursor) (left : Bool) → l ≡ m → FitsKept m s
     → (left ≡ false) ↔ IsListing (IsAnswerOf l.reducts) (given l.reducts s)
-    → (left ≡ false) ↔ AreAllOf (λ t. has_cells m t) (cells_given m s)
+    → (left ≡ false) ↔ AreAllCells (λ t. has_cells m t) (cells_given m s)
 left_same l m s left e f h =
     let all = all_given_same m s f in (
       λ none. all.0 (subst

@@ -42,7 +42,7 @@ use Rattle.djq_reduct.proofs.Readings.{IsSimple, cell_there, row_same, reading_r
 use Rattle.djq_query.specs.declared.numbered.Variable.{Variable}
 use Rattle.djq_query.specs.Numbered.{labels}
 use Rattle.djq_query.proofs.Numbers.{not_false}
-use Rattle.djq_rows.specs.Cells.{cell_of, cells_of, HaveCells}
+use Rattle.djq_rows.specs.Cells.{cell_for, cells_of, HaveCells}
 use Rattle.djq_rows.specs.Parts.{value_of}
 use Rattle.djq_rows.proofs.Encoding.{value_back}
 use Rattle.djq_live.specs.Asked.{column_of}
@@ -156,7 +156,7 @@ tree_stand c l kept t v s =
     let simple = simple_head (slice_get (labels n.variables)) n.head l.query.head asked.head
     (not_false (are_different l.query.head) asked.once) in
     let long : length t ≡ length n.head = ap (λ (cells : List ℕ). length cells) s.are
-    ∙ length-map v (cell_of c.texts) ∙ fits_long n.variables n.head v s.of in
+    ∙ length-map v (cell_for c.texts) ∙ fits_long n.variables n.head v s.of in
     let shows : AreShownAs c.texts n.variables F u n.head v =
     shown_as c.texts n.variables F u n.head v (head_read n.head F t simple long kept.over.head ∙ s.are)
     s.of s.have in

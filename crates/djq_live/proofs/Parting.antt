@@ -33,7 +33,7 @@ use Rattle.djq_reduct.specs.Answers.{IsAnswerOf}
 use Rattle.djq_query.specs.declared.numbered.NumberedAtom.{NumberedAtom}
 use Rattle.djq_query.specs.Numbered.{Numbered, labels}
 use Rattle.djq_query.specs.Pattern.{Shape}
-use Rattle.djq_rows.specs.Cells.{cell_of, StandsFor, IsCell}
+use Rattle.djq_rows.specs.Cells.{cell_for, StandsFor, IsCell}
 use Rattle.djq_rows.specs.Catalog.{Catalog, rows_at}
 use Rattle.djq_live.specs.Asked.{IsAsked, column_of}
 use Rattle.djq_live.specs.Cells.{AreRowOf, IsSatisfied}
@@ -226,7 +226,7 @@ part_differ c q n r u v h is other e =
     n.head x e low in
     sym (cell_there s.assignment F x m)
     ∙ ap (λ (w : List ℕ). slice_index w (column F x)) (sym s.is)
-    ∙ p.is ∙ ap (cell_of c.texts) values ∙ sym k.is
+    ∙ p.is ∙ ap (cell_for c.texts) values ∙ sym k.is
     ∙ ap (λ (w : List ℕ). slice_index w (column F x)) t.is
     ∙ cell_there t.assignment F x m)
     ∙ sym t.is

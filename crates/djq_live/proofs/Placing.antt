@@ -25,7 +25,7 @@ use Rattle.djq_model.specs.declared.relation.CountedRow.{CountedRow}
 use Rattle.djq_model.specs.Data.{
   Bytes,
   Tuple,
-  tuples_of,
+  plain_of,
   tuples_in,
   with_row,
   with_copies,
@@ -107,7 +107,7 @@ stands c d at cells row l low texts h =
     (sym texts) h)
 
 rows_here : (c d : Catalog) (at : ℕ) (rows : List CountedRow) → at < length c.relations
-    → d.relations ≡ with_rows_at c.relations at rows → rows_at d.relations at ≡ tuples_of rows
+    → d.relations ≡ with_rows_at c.relations at rows → rows_at d.relations at ≡ plain_of rows
 rows_here c d at rows low e =
     ap (λ (l : List Relation). rows_at l at) e
     ∙ ap tuples_in (here c.relations at rows low)
@@ -132,7 +132,7 @@ all_stand c d at (k ∷ cells) (row ∷ new) l low texts h =
 pub added_all : (c d : Catalog) (at : ℕ) (cells : List (List ℕ)) (new : List Tuple)
     (rows : List CountedRow) → IsCatalog d → at < length c.relations → StandForRows c at cells new
     → d.texts ≡ c.texts → d.relations ≡ with_rows_at c.relations at rows
-    → tuples_of rows ≡ rows_at c.relations at ++ new → CameAll c d at cells new
+    → plain_of rows ≡ rows_at c.relations at ++ new → CameAll c d at cells new
 added_all c d at cells new rows h low stand texts e came =
     let l = later c d at rows h low texts e in
     record {

@@ -26,7 +26,7 @@ use Rattle.djq_model.specs.Data.{
   Tuple,
   bytes_eq,
   relation_of,
-  tuples_of,
+  plain_of,
   counted_in,
   rows_of,
 }
@@ -56,7 +56,7 @@ found_at (r ∷ rs) name (suc at) d low e =
 pub rows_are : (c : Catalog) (vs : List Variable) (a : Atom) (m : NumberedAtom) → IsCatalog c
     → IsAtomOf c vs a m → rows_of c.relations a.relation ≡ rows_at c.relations m.relation
 rows_are c vs a m h is =
-    ap (λ (o : Option Relation). tuples_of (counted_in o))
+    ap (λ (o : Option Relation). plain_of (counted_in o))
     (found_at c.relations a.relation m.relation h.names is.below is.named)
 
 -- a row suits the relation's columns, and has cells

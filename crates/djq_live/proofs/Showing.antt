@@ -37,7 +37,7 @@ use Rattle.djq_reduct.specs.Answers.{IsAnswerOf}
 use Rattle.djq_query.specs.declared.numbered.Variable.{Variable}
 use Rattle.djq_query.specs.Numbered.{Numbered, labels}
 use Rattle.djq_query.specs.Pattern.{Shape}
-use Rattle.djq_rows.specs.Cells.{cell_of, StandsFor, IsCell}
+use Rattle.djq_rows.specs.Cells.{cell_for, StandsFor, IsCell}
 use Rattle.djq_rows.specs.Parts.{value_of}
 use Rattle.djq_rows.specs.Catalog.{Catalog}
 use Rattle.djq_rows.proofs.Encoding.{value_back}
@@ -168,10 +168,10 @@ query_answer c q n ps r u h is =
 -- ---- from an answer of the query to one of the tree
 
 -- the cell of a variable: that of its name's value, or, where it has none, that of its hole
-abbrev cell_for : List Bytes → (Bytes → Value) → Option Label → ℕ → ℕ
-cell_for texts values (Some (Some name)) cell = cell_of texts (values name)
-cell_for texts values (Some None) cell = cell
-cell_for texts values None cell = cell
+abbrev cell_of_label : List Bytes → (Bytes → Value) → Option Label → ℕ → ℕ
+cell_of_label texts values (Some (Some name)) cell = cell_for texts (values name)
+cell_of_label texts values (Some None) cell = cell
+cell_of_label texts values None cell = cell
 
 pub tree_answer : (c : Catalog) (q : Query) (n : Numbered) (ps : List Shape) (r : Reducts)
     (answer : Tuple) → IsOver c q n ps r → IsAnswer c.relations q answer
@@ -182,12 +182,12 @@ tree_answer c q n ps r answer h is =
     let found = rows_for c n.variables values q.atoms n.atoms h.asked.catalog h.asked.atoms
     is.satisfies in
     let holes : ℕ → ℕ = λ y. cell_in c.texts q.atoms n.atoms found.rows y in
-    let a : ℕ → ℕ = λ y. cell_for c.texts values (slice_get ls y) (holes y) in
+    let a : ℕ → ℕ = λ y. cell_of_label c.texts values (slice_get ls y) (holes y) in
     let names : HasNames c.texts ls values a =
-    λ x name e. ap (λ (o : Option Label). cell_for c.texts values o (holes x)) e in
+    λ x name e. ap (λ (o : Option Label). cell_of_label c.texts values o (holes x)) e in
     let sat = satisfied_all c n.variables values a 0 q.atoms n.atoms found.rows names h.asked.atoms
     found.are h.asked.fresh
-    (λ y m. ap (λ (o : Option Label). cell_for c.texts values o (holes y))
+    (λ y m. ap (λ (o : Option Label). cell_of_label c.texts values o (holes y))
     (in_unnamed c n.variables q.atoms n.atoms y h.asked.atoms m)) in
     let pass = pass_all c n.variables values a q.atoms n.atoms found.rows q.comparisons
     n.comparisons h.asked.catalog h.asked.atoms found.are names h.asked.comparisons
@@ -289,7 +289,7 @@ differ c q n ps r h u v is other e =
     n.head x e low in
     sym (cell_there s.assignment F x m)
     ∙ ap (λ (w : List ℕ). slice_index w (column F x)) (sym s.is)
-    ∙ p.is ∙ ap (cell_of c.texts) values ∙ sym k.is
+    ∙ p.is ∙ ap (cell_for c.texts) values ∙ sym k.is
     ∙ ap (λ (w : List ℕ). slice_index w (column F x)) t.is
     ∙ cell_there t.assignment F x m)
     ∙ sym t.is

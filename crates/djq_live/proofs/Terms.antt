@@ -18,7 +18,7 @@ use Rattle.djq_query.specs.declared.numbered.NumberedTerm.TheVariants.{
 }
 use Rattle.djq_query.specs.Numbered.{labels, number_of, is_number}
 use Rattle.djq_query.specs.Meaning.{IsShown, AreShown}
-use Rattle.djq_rows.specs.Cells.{cell_of, cells_of, HasCell, HaveCells, IsCell}
+use Rattle.djq_rows.specs.Cells.{cell_for, cells_of, HasCell, HaveCells, IsCell}
 use Rattle.djq_rows.specs.Parts.{value_of}
 use Rattle.djq_rows.proofs.Encoding.{value_back}
 use Rattle.djq_live.specs.Cells.{cell_under}
@@ -47,13 +47,13 @@ value_by_is texts vs a x name one e =
     ap (λ (y : ℕ). value_of texts (column_of vs y) (a y)) (one x name e)
 
 value_known : (texts : List Bytes) (c d : ColumnType) (cell : ℕ) (v : Value) → d ≡ c
-    → cell ≡ cell_of texts v → is_of c v ≡ true → HasCell texts v → value_of texts d cell ≡ v
+    → cell ≡ cell_for texts v → is_of c v ≡ true → HasCell texts v → value_of texts d cell ≡ v
 value_known texts c d cell v same e of has =
     ap₂ (λ (t : ColumnType) (n : ℕ). value_of texts t n) same e ∙ value_back texts c v of has
 
 stand_term : (texts : List Bytes) (vs : List Variable) (a : ℕ → ℕ) (t : Term) (n : NumberedTerm)
     (c : ColumnType) (v : Value) → HasOne vs → IsShown (labels vs) t n → Suits texts vs n c
-    → is_of c v ≡ true → HasCell texts v → cell_under texts a n ≡ cell_of texts v
+    → is_of c v ≡ true → HasCell texts v → cell_under texts a n ≡ cell_for texts v
     → StandsForValue (value_by texts vs a) t v
 stand_term texts vs a (Named name) (Number x) c v one shown suits of has e =
     value_by_is texts vs a x name one shown
@@ -61,7 +61,7 @@ stand_term texts vs a (Named name) (Number x) c v one shown suits of has e =
 stand_term texts vs a Hole (Number x) c v one shown suits of has e = tt
 stand_term texts vs a (Constant w) (Fixed u) c v one shown suits of has e =
     sym shown ∙ sym (value_back texts c u suits.0 suits.1)
-    ∙ value_known texts c c (cell_of texts u) v refl e of has
+    ∙ value_known texts c c (cell_for texts u) v refl e of has
 stand_term texts vs a (Named name) (Fixed u) c v one shown suits of has e = absurd shown
 stand_term texts vs a Hole (Fixed u) c v one shown suits of has e = absurd shown
 stand_term texts vs a (Constant w) (Number x) c v one shown suits of has e = absurd shown
@@ -82,17 +82,17 @@ stand_terms texts vs a (t ∷ ts) (n ∷ ns) (c ∷ cs) [] one shown suits f h e
 stand_terms texts vs a (t ∷ ts) (n ∷ ns) (c ∷ cs) (v ∷ row) one shown suits f h e =
     let p = and_parts (is_of c v) (fits cs row) f in (
       stand_term texts vs a t n c v one shown.0 suits.0 p.0 h.0
-          (heads (cell_under texts a n) (cell_of texts v) (map (cell_under texts a) ns)
+          (heads (cell_under texts a n) (cell_for texts v) (map (cell_under texts a) ns)
           (cells_of texts row) e),
       stand_terms texts vs a ts ns cs row one shown.1 suits.1 p.1 h.1
-          (tails (cell_under texts a n) (cell_of texts v) (map (cell_under texts a) ns)
+          (tails (cell_under texts a n) (cell_for texts v) (map (cell_under texts a) ns)
           (cells_of texts row) e),
     )
 
 -- the cell of a variable among them stands for a value of the variable's type
 cell_here : (texts : List Bytes) (vs : List Variable) (a : ℕ → ℕ) (x : ℕ) (n : NumberedTerm)
     (c : ColumnType) (v : Value) → Suits texts vs n c → is_of c v ≡ true → HasCell texts v
-    → cell_under texts a n ≡ cell_of texts v → is_number x n ≡ true
+    → cell_under texts a n ≡ cell_for texts v → is_number x n ≡ true
     → IsCell texts (column_of vs x) (a x)
 cell_here texts vs a x (Fixed u) c v suits of has e m = absurd (false≢true m)
 cell_here texts vs a x (Number y) c v suits of has e m =
@@ -117,9 +117,9 @@ cell_among texts vs a x (n ∷ ns) (c ∷ cs) (v ∷ row) suits f h e m =
     let p = and_parts (is_of c v) (fits cs row) f in
     elim (or_cases (is_number x n) (list_any (is_number x) ns) m) [
       | inl here ↦ cell_here texts vs a x n c v suits.0 p.0 h.0
-          (heads (cell_under texts a n) (cell_of texts v) (map (cell_under texts a) ns)
+          (heads (cell_under texts a n) (cell_for texts v) (map (cell_under texts a) ns)
           (cells_of texts row) e) here
       | inr there ↦ cell_among texts vs a x ns cs row suits.1 p.1 h.1
-          (tails (cell_under texts a n) (cell_of texts v) (map (cell_under texts a) ns)
+          (tails (cell_under texts a n) (cell_for texts v) (map (cell_under texts a) ns)
           (cells_of texts row) e) there
     ]

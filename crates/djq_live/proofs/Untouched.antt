@@ -22,7 +22,7 @@ use Rattle.djq_cursor.proofs.Listed.{cursor_answers}
 use Rattle.djq_query.specs.declared.numbered.Variable.{Variable}
 use Rattle.djq_query.specs.declared.numbered.NumberedAtom.{NumberedAtom}
 use Rattle.djq_query.specs.Pattern.{Shape}
-use Rattle.djq_rows.specs.Cells.{cell_of, StandsFor, HasCell}
+use Rattle.djq_rows.specs.Cells.{cell_for, StandsFor, HasCell}
 use Rattle.djq_rows.specs.Catalog.{Catalog, relation_at}
 use Rattle.djq_rows.proofs.Encoding.{stands_back}
 use Rattle.djq_rows.proofs.Lawful.{stay}
@@ -50,9 +50,9 @@ value_later c d vs F u x l s =
     let s' : StandsFor c.texts (column_of vs x) (slice_index u (column F x)) v = s in
     let kept = stay c.texts l.more (v ∷ []) (s'.has, tt) in
     let there : HasCell d.texts v = subst (λ (t : List Bytes). HasCell t v) (sym l.texts) kept.0.0 in
-    let same : cell_of d.texts v ≡ cell_of c.texts v =
-    ap (λ (t : List Bytes). cell_of t v) l.texts
-    ∙ heads (cell_of (c.texts ++ l.more) v) (cell_of c.texts v) [] [] kept.1 in
+    let same : cell_for d.texts v ≡ cell_for c.texts v =
+    ap (λ (t : List Bytes). cell_for t v) l.texts
+    ∙ heads (cell_for (c.texts ++ l.more) v) (cell_for c.texts v) [] [] kept.1 in
     stands_back d.texts (column_of vs x) (slice_index u (column F x)) v (record {
       of = s'.of;
       has = there;

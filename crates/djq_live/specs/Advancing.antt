@@ -14,7 +14,7 @@ use Rattle.std.specs.Prelude.{
 use Rattle.djq_reduct.specs.Reducts.{Reducts}
 use Rattle.djq_cursor.specs.declared.cursor.Cursor.{Cursor}
 use Rattle.djq_reduct.specs.Answers.{IsAnswerOf}
-use Rattle.djq_cursor.specs.Listing.{AreSome, IsLeft, IsListing}
+use Rattle.djq_cursor.specs.Listing.{AreSome, IsTupleLeft, IsListing}
 use Rattle.djq_cursor.specs.Given.{given, Fits}
 use Rattle.djq_live.specs.Cursors.{Progress}
 use Rattle.djq_slots.specs.declared.progress.Progress.TheVariants.{Open, Stale}
@@ -50,7 +50,7 @@ Reads r _ _ u _ = ⊥
 abbrev pub Looks : Reducts → Progress → Bool → Progress → Type 0
 Looks r (Open old ended) true new =
     (new ≡ Open old false) × AreSome (IsAnswerOf r) (given r old)
-    × ((u : List ℕ) × IsLeft (IsAnswerOf r) (given r old) u)
+    × ((u : List ℕ) × IsTupleLeft (IsAnswerOf r) (given r old) u)
 Looks r (Open old ended) false new =
     (new ≡ Open old true) × IsListing (IsAnswerOf r) (given r old)
 Looks r (Stale q m) left new = ⊥

@@ -9,7 +9,7 @@ use Rattle.djq_query.specs.declared.numbered.NumberedTerm.TheVariants.{
 use Rattle.djq_query.specs.declared.numbered.NumberedAtom.{NumberedAtom}
 use Rattle.djq_query.specs.declared.numbered.NumberedComparison.{NumberedComparison}
 use Rattle.djq_query.specs.Pattern.{passes}
-use Rattle.djq_rows.specs.Cells.{cell_of, cells_of}
+use Rattle.djq_rows.specs.Cells.{cell_for, cells_of}
 use Rattle.djq_rows.specs.Catalog.{Catalog, rows_at}
 
 -- An assignment of cells gives a cell to each variable, by its number.
@@ -25,7 +25,7 @@ pub record AreRowOf (c : Catalog) (at : ℕ) (cells : List ℕ) : Type 0 where
 -- the cell that a term stands for
 abbrev pub cell_under : List Bytes → Assignment → NumberedTerm → ℕ
 cell_under texts a (Number x) = a x
-cell_under texts a (Fixed v) = cell_of texts v
+cell_under texts a (Fixed v) = cell_for texts v
 
 -- An assignment satisfies an atom where the cells of its terms are those of a row of its relation.
 abbrev pub IsSatisfied : Catalog → Assignment → NumberedAtom → Type 0
@@ -34,4 +34,4 @@ IsSatisfied c a m = AreRowOf c m.relation (map (cell_under c.texts a) m.terms)
 -- An assignment passes a comparison where the cell of its variable stands to that of its constant
 -- as the operator says.
 abbrev pub IsPassed : List Bytes → Assignment → NumberedComparison → Type 0
-IsPassed texts a k = passes k.operator (a k.variable) (cell_of texts k.constant) ≡ true
+IsPassed texts a k = passes k.operator (a k.variable) (cell_for texts k.constant) ≡ true

@@ -17,7 +17,7 @@ use Rattle.djq_query.specs.declared.numbered.NumberedAtom.{NumberedAtom}
 use Rattle.djq_query.specs.declared.numbered.NumberedComparison.{NumberedComparison}
 use Rattle.djq_query.specs.Numbered.{Numbered, is_number}
 use Rattle.djq_query.specs.Pattern.{Shape, Gives, bound, tests_of}
-use Rattle.djq_rows.specs.Cells.{cell_of, cells_of}
+use Rattle.djq_rows.specs.Cells.{cell_for, cells_of}
 use Rattle.djq_rows.specs.Catalog.{Catalog}
 use Rattle.djq_live.specs.Cells.{AreRowOf}
 use Rattle.djq_live.specs.Asked.{IsAsked, constants_in}
@@ -25,7 +25,7 @@ use Rattle.djq_live.specs.Asked.{IsAsked, constants_in}
 -- There is a cell for each term, and where the term is a constant it is the constant's.
 abbrev pub IsCellOf : List Bytes → NumberedTerm → ℕ → Type 0
 IsCellOf texts (Number x) cell = ⊤
-IsCellOf texts (Fixed v) cell = cell ≡ cell_of texts v
+IsCellOf texts (Fixed v) cell = cell ≡ cell_for texts v
 
 -- Cells are so for terms, one by one.
 abbrev pub AreCellsOf : List Bytes → List NumberedTerm → List ℕ → Type 0

@@ -4,7 +4,7 @@ ghost use Rattle.std.specs.List.{list_any};
 ghost use Rattle.djq_hyper.specs.Hypergraph.{member};
 ghost use Rattle.djq_tree.specs.Labels.{label_at};
 ghost use Rattle.djq_query.specs.Numbered.{is_number};
-ghost use Rattle.djq_rows.specs.Cells.{cell_of, cells_of, HasCell, HaveCells};
+ghost use Rattle.djq_rows.specs.Cells.{cell_for, cells_of, HasCell, HaveCells};
 ghost use Rattle.djq_live.specs.Asked.{HasConstant, HaveConstants, constants_in};
 ghost use Rattle.djq_live.specs.Building.{ArePatternsOf, AreBindable};
 ghost use Rattle.djq_live.specs.Leaves.{AreCellsOf, IsCellOf, IsPatternOf};
@@ -20,7 +20,7 @@ use std::alloc::Global;
 /// The cell of a value that has one.
 fn value_cell(catalog: &Catalog, value: &Value) -> u64
     requires { HasCell catalog.now.texts value.now }
-    ensures { result ≡ cell_of catalog.now.texts value.now }
+    ensures { result ≡ cell_for catalog.now.texts value.now }
 {
     match catalog.cell(value) {
         Some(cell) => cell,

@@ -63,7 +63,7 @@ use Rattle.djq_lines.specs.declared.command.Command.TheVariants.{Open, Next}
 use Rattle.djq_lines.specs.Line.{Front, dry, too_long, a_line, front_of, is_blank}
 use Rattle.djq_lines.specs.Grammar.{
   Reading,
-  says as says_command,
+  says_command,
   reading_of,
   reading_in,
   command_of,

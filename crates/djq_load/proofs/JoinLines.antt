@@ -11,7 +11,7 @@ use Rattle.djq_value.specs.Token.{tokens}
 use Rattle.djq_lines.specs.Line.{before_lf, behind_lf, without_cr}
 use Rattle.djq_lines.specs.declared.command.Command.{Command}
 use Rattle.djq_lines.specs.declared.command.Command.TheVariants.{Rel, Add, Del, Query as Register, Open, Next, Close}
-use Rattle.djq_lines.specs.Grammar.{past_limit, says as says_command, reading_in, command_of}
+use Rattle.djq_lines.specs.Grammar.{past_limit, says_command, reading_in, command_of}
 use Rattle.djq_lines.specs.Grammar.{command_in, is_in_range, items_in}
 use Rattle.djq_machine.specs.State.{State}
 use Rattle.djq_machine.specs.LineStep.{LineOutcome, long, blank, slow, no_room, run}

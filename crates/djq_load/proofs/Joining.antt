@@ -92,8 +92,8 @@ use Rattle.djq_lines.specs.declared.command.Command.TheVariants.{
   Quit,
   Stop,
 }
-use Rattle.djq_lines.specs.Conditions.{first_of, OutOfMemoryWhere}
-use Rattle.djq_lines.specs.Grammar.{says as says_command, reading_of}
+use Rattle.djq_lines.specs.Conditions.{first_refusal, OutOfMemoryWhere}
+use Rattle.djq_lines.specs.Grammar.{says_command, reading_of}
 use Rattle.djq_lines.specs.Reply.{end_memory}
 use Rattle.djq_lines.specs.Variables.{constants_of}
 use Rattle.djq_model.specs.Known.{texts_in}
@@ -199,7 +199,8 @@ has_place old name row none absent =
     let fails : (not (has_row rows row) && nat_le ROWS (length rows)) ≡ false =
     fifth_fails (is_none (relation_of old.relations name)) (not (length row == length types)) (not (fits types row))
     (nat_le COPIES (copies_of old name row)) (not (has_row rows row) && nat_le ROWS (length rows))
-    NoRelation Arity WrongType Limit Limit (first_of ((not (has_row rows row) && nat_le LAST_SEQ old.seq, Limit) ∷ []))
+    NoRelation Arity WrongType Limit Limit (first_refusal ((not (has_row rows row) && nat_le LAST_SEQ old.seq, Limit)
+    ∷ []))
     none in
     let below : length rows < ROWS =
     leb-false ROWS (length rows) (ap (λ (b : Bool). not b && nat_le ROWS (length rows)) (sym absent) ∙ fails) in

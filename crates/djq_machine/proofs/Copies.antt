@@ -8,7 +8,7 @@ use Rattle.djq_model.specs.Data.{
   Tuple,
   bytes_eq,
   relation_of,
-  tuples_of,
+  plain_of,
   counted_in,
   counted_of,
   rows_of,
@@ -71,28 +71,28 @@ counted_apart rs name rows n h = ap counted_in (relation_apart rs name rows n h)
 
 pub rows_apart : (rs : List Relation) (name : Bytes) (rows : List CountedRow) (n : Bytes) → bytes_eq n name ≡ false
     → rows_of (with_rows rs name rows) n ≡ rows_of rs n
-rows_apart rs name rows n h = ap tuples_of (counted_apart rs name rows n h)
+rows_apart rs name rows n h = ap plain_of (counted_apart rs name rows n h)
 
 -- Where they are the rows that it had, with whatever copies, each relation has the rows that it had.
-pub rows_stay : (rs : List Relation) (name : Bytes) (rows : List CountedRow) → tuples_of rows ≡ rows_of rs name
+pub rows_stay : (rs : List Relation) (name : Bytes) (rows : List CountedRow) → plain_of rows ≡ rows_of rs name
     → (n : Bytes) → rows_of (with_rows rs name rows) n ≡ rows_of rs n
 rows_stay [] name rows h n = refl
 rows_stay (r ∷ rs) name rows h n = by (bytes_eq r.name name) h (λ k. rows_stay rs name rows k n)
   where
-    at : (b : Bool) → tuples_of rows ≡ tuples_of r.rows
-        → tuples_of (counted_in (cond b (Some (record r { rows = rows })) (relation_of rs n)))
-        ≡ tuples_of (counted_in (cond b (Some r) (relation_of rs n)))
+    at : (b : Bool) → plain_of rows ≡ plain_of r.rows
+        → plain_of (counted_in (cond b (Some (record r { rows = rows })) (relation_of rs n)))
+        ≡ plain_of (counted_in (cond b (Some r) (relation_of rs n)))
     at true k = k
     at false k = refl
 
     on : (b : Bool) → rows_of (with_rows rs name rows) n ≡ rows_of rs n
-        → tuples_of (counted_in (cond b (Some r) (relation_of (with_rows rs name rows) n)))
-        ≡ tuples_of (counted_in (cond b (Some r) (relation_of rs n)))
+        → plain_of (counted_in (cond b (Some r) (relation_of (with_rows rs name rows) n)))
+        ≡ plain_of (counted_in (cond b (Some r) (relation_of rs n)))
     on true k = refl
     on false k = k
 
-    by : (b : Bool) → tuples_of rows ≡ tuples_of (counted_in (cond b (Some r) (relation_of rs name)))
-        → (tuples_of rows ≡ rows_of rs name → rows_of (with_rows rs name rows) n ≡ rows_of rs n)
+    by : (b : Bool) → plain_of rows ≡ plain_of (counted_in (cond b (Some r) (relation_of rs name)))
+        → (plain_of rows ≡ rows_of rs name → rows_of (with_rows rs name rows) n ≡ rows_of rs n)
         → rows_of (cond b (record r { rows = rows } ∷ rs) (r ∷ with_rows rs name rows)) n ≡ rows_of (r ∷ rs) n
     by true k rest = at (bytes_eq r.name n) k
     by false k rest = on (bytes_eq r.name n) (rest k)

@@ -10,7 +10,7 @@ use Rattle.djq_lines.specs.declared.answer.Refusal.{Refusal}
 use Rattle.djq_lines.specs.declared.answer.Refusal.TheVariants.{Limit, NoMemory}
 use Rattle.djq_lines.specs.declared.held.HeldRow.{HeldRow}
 use Rattle.djq_machine.specs.State.{Store}
-use Rattle.djq_machine.specs.Conditions.{first_of, Answers, OutOfMemoryWhere}
+use Rattle.djq_machine.specs.Conditions.{first_refusal, Answers, OutOfMemoryWhere}
 use Rattle.djq_machine.specs.Store.{with_rows, row_refusals, copies_of, with_copies_of, LearnsFirst, FindsNoPlace}
 use Rattle.djq_machine.specs.Stale.{listed_reads}
 use Rattle.djq_machine.specs.Changes.{RowsChange, RowsOutcome, accepted, out_of_memory, unchanged}
@@ -19,12 +19,12 @@ use Rattle.djq_machine.specs.Changes.{RowsChange, RowsOutcome, accepted, out_of_
 
 -- why a row isn't held, however many are: it doesn't suit a relation
 abbrev pub suit_refusal : Store → Bytes → Tuple → Option Refusal
-suit_refusal st name row = first_of (row_refusals st name row)
+suit_refusal st name row = first_refusal (row_refusals st name row)
 
 -- why a row isn't held: it doesn't suit a relation, or the batch holds as many as it may
 abbrev pub hold_refusal : Store → List HeldRow → Bytes → Tuple → Option Refusal
 hold_refusal st held name row =
-    first_of (row_refusals st name row ++ (nat_le HELD (length held), Limit) ∷ [])
+    first_refusal (row_refusals st name row ++ (nat_le HELD (length held), Limit) ∷ [])
 
 -- Whether a row suits a relation is told. It takes no memory.
 abbrev pub TellsSuits : Store → Bytes → Tuple → Result ⊤ Refusal → Type 0
@@ -78,7 +78,7 @@ store_behind st held = behind (with_all st held) (count_came st held)
 
 -- why a held row has no place, over what those before it leave, its texts aside
 abbrev pub place_refusal : Store → HeldRow → Option Refusal
-place_refusal st h = first_of (
+place_refusal st h = first_refusal (
     (nat_le COPIES (copies_of st h.relation h.row), Limit)
     ∷ (not (is_there st h) && nat_le ROWS (length (rows_of st.relations h.relation)), Limit)
     ∷ (not (is_there st h) && nat_le LAST_SEQ st.seq, Limit)
@@ -123,8 +123,8 @@ first_read held test q = find (λ name. test name && listed_reads q name) (map (
 
 -- The change that a batch is: of each relation of which a row comes. It outdates a query by the first
 -- of them that the query reads.
-abbrev pub rows_in : Store → List HeldRow → RowsChange
-rows_in st held = record {
+abbrev pub rows_held : Store → List HeldRow → RowsChange
+rows_held st held = record {
   after = (with_all st held).relations;
   outdater = first_read held (has_come st held);
   touches = has_come st held;
@@ -133,11 +133,11 @@ rows_in st held = record {
 -- The change that a batch was to be, where memory was refused: it outdates a query by the first
 -- relation of the batch that the query reads, whether a row of it comes or not.
 abbrev pub rows_tried : Store → List HeldRow → RowsChange
-rows_tried st held = record (rows_in st held) { outdater = first_read held (λ name. true) }
+rows_tried st held = record (rows_held st held) { outdater = first_read held (λ name. true) }
 
 -- Rows that came are a change; a batch that brings further copies alone is none.
 abbrev pub batch_outcome : Store → List HeldRow → Result ℕ Refusal → RowsOutcome
 batch_outcome st held (Ok zero) = unchanged
-batch_outcome st held (Ok (suc n)) = accepted (rows_in st held)
+batch_outcome st held (Ok (suc n)) = accepted (rows_held st held)
 batch_outcome st held (Err NoMemory) = out_of_memory (rows_tried st held)
 batch_outcome st held (Err _) = unchanged

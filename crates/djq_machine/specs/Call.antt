@@ -48,7 +48,7 @@ is_due st s = nat_lt 0 (length (pending_of st s)) || is_some (cause_of st s)
 
 -- the first open session of at least this id to which something is due
 abbrev pub first_due : State → ℕ → Option ℕ
-first_due st from = find (λ s. nat_le from s && is_due st s) (ids_of st)
+first_due st from = find (λ s. nat_le from s && is_due st s) (state_ids st)
 
 -- what was counted: lookups and links of listings, of updates, and of rows
 pub record Counts : Type 0 where

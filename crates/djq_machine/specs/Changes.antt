@@ -68,10 +68,10 @@ delete_outcome change (Ok Absent) = unchanged
 delete_outcome change (Err _) = unchanged
 
 -- whether rows changed
-abbrev pub is_accepted : RowsOutcome → Bool
-is_accepted (accepted change) = true
-is_accepted (out_of_memory change) = false
-is_accepted unchanged = false
+abbrev pub is_made : RowsOutcome → Bool
+is_made (accepted change) = true
+is_made (out_of_memory change) = false
+is_made unchanged = false
 
 -- the change that was made or tried: it outdates cursors either way
 abbrev pub tried : RowsOutcome → Option RowsChange

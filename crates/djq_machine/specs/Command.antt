@@ -112,7 +112,7 @@ use Rattle.djq_machine.specs.State.{
   with_position,
   ended_by,
 }
-use Rattle.djq_machine.specs.Conditions.{first_of, Answers, OutOfMemoryWhere}
+use Rattle.djq_machine.specs.Conditions.{first_refusal, Answers, OutOfMemoryWhere}
 use Rattle.djq_machine.specs.Store.{
   MakesRelation,
   AddsRow,
@@ -216,7 +216,7 @@ pub record HasStep (old : State) (s : ℕ) (q : Bytes) (t : Tuple) (e : Effect)
 
 -- why a cursor isn't opened, but for memory
 abbrev pub open_refusal : Store → List Cursor → Bytes → Bytes → Option Refusal
-open_refusal st cursors c q = first_of (
+open_refusal st cursors c q = first_refusal (
     (is_some (cursor_of cursors c), Taken)
     ∷ (is_none (listed_of st.queries q), NoQuery)
     ∷ (nat_le CURSORS (length cursors), Limit)
@@ -296,7 +296,7 @@ CloseStep old s c e new = (e ≡ says s (line (codes "ok")))
 
 -- why a session neither begins nor ceases to watch a query: none of that name is registered
 abbrev pub watch_refusal : Store → Bytes → Option Refusal
-watch_refusal st q = first_of ((is_none (listed_of st.queries q), NoQuery) ∷ [])
+watch_refusal st q = first_refusal ((is_none (listed_of st.queries q), NoQuery) ∷ [])
 
 -- a session that watches a query, once
 abbrev pub with_watch : Bytes → Session → Session

@@ -6,7 +6,7 @@ use Rattle.djq_lines.specs.declared.answer.EndCause.TheVariants.{Long, Slow, Mem
 use Rattle.djq_lines.specs.declared.answer.Refusal.{Refusal}
 use Rattle.djq_lines.specs.declared.answer.Refusal.TheVariants.{Syntax, WrongType, NoMemory, Misplaced}
 use Rattle.djq_lines.specs.Line.{too_long, a_line, front_of, is_blank}
-use Rattle.djq_lines.specs.Grammar.{Reading, outside, past_limit, says as says_command, reading_of}
+use Rattle.djq_lines.specs.Grammar.{Reading, outside, past_limit, says_command, reading_of}
 use Rattle.djq_lines.specs.Grammar.{takes_memory_to_read}
 use Rattle.djq_lines.specs.Reply.{end_long, end_slow, end_memory}
 use Rattle.djq_machine.specs.State.{Session, State, with_session}

@@ -42,7 +42,7 @@ use Rattle.djq_lines.specs.Grammar.{
   Reading,
   outside,
   past_limit,
-  says as says_command,
+  says_command,
   reading_of,
   takes_memory_to_read,
 }

@@ -93,7 +93,7 @@ pub use Rattle.djq_hyper.specs.JoinTree.{IsFreeConnex}
 use Rattle.djq_hyper.specs.Refusing.{IsCyclic, IsNotConnex}
 use Rattle.djq_hyper.specs.Flat.{IsFlat}
 use Rattle.djq_machine.specs.State.{Store}
-use Rattle.djq_machine.specs.Conditions.{first_of, Answers, OutOfMemoryWhere}
+use Rattle.djq_machine.specs.Conditions.{first_refusal, Answers, OutOfMemoryWhere}
 
 -- the relations with other rows in one
 abbrev pub with_rows : List Relation → Bytes → List CountedRow → List Relation
@@ -137,7 +137,7 @@ RefusedByTexts old texts new _ = ⊥
 
 -- why a relation isn't made, but for memory
 abbrev pub rel_refusal : Store → Bytes → List ColumnType → Option Refusal
-rel_refusal st name types = first_of (
+rel_refusal st name types = first_refusal (
     (is_some (relation_of st.relations name), Taken)
     ∷ (nat_lt COLUMNS (length types), Limit)
     ∷ (nat_le RELATIONS (length st.relations), Limit)
@@ -173,7 +173,7 @@ with_copies_of relations name row n =
 
 -- why a row isn't added, but for its texts and for memory
 abbrev pub add_refusal : Store → Bytes → Tuple → Option Refusal
-add_refusal st name row = let rows = rows_of st.relations name in first_of (row_refusals st name row
+add_refusal st name row = let rows = rows_of st.relations name in first_refusal (row_refusals st name row
     ++ (nat_le COPIES (copies_of st name row), Limit)
     ∷ (not (has_row rows row) && nat_le ROWS (length rows), Limit)
     ∷ (not (has_row rows row) && nat_le LAST_SEQ st.seq, Limit)
@@ -205,7 +205,7 @@ pub record AddsRow (old : Store) (name : Bytes) (row : Tuple) (result : Result A
 
 -- why a row isn't deleted
 abbrev pub delete_refusal : Store → Bytes → Tuple → Option Refusal
-delete_refusal st name row = first_of (row_refusals st name row
+delete_refusal st name row = first_refusal (row_refusals st name row
     ++ ((copies_of st name row == 1) && nat_le LAST_SEQ st.seq, Limit)
     ∷ [])
 
@@ -299,7 +299,7 @@ is_member queries name = list_any (λ l. list_any (λ q. bytes_eq q.name name) (
 
 -- why what is registered under a name isn't dropped: nothing is, or it is used or a member of a union
 abbrev pub drop_refusal : Store → Bool → Bytes → Option Refusal
-drop_refusal st used name = first_of (
+drop_refusal st used name = first_refusal (
     (is_none (listed_of st.queries name), NoQuery)
     ∷ (used || is_member st.queries name, InUse)
     ∷ [])
@@ -344,7 +344,7 @@ listed_types relations (Some (a_union name (q ∷ qs))) = answer_types relations
 
 -- why a tuple doesn't suit columns of these types
 abbrev pub misfit : List ColumnType → Tuple → Option Refusal
-misfit types t = first_of (
+misfit types t = first_refusal (
     (not (length t == length types), Arity)
     ∷ (not (fits types t), WrongType)
     ∷ [])
@@ -352,7 +352,7 @@ misfit types t = first_of (
 -- why it isn't told whether a tuple is an answer
 abbrev pub has_refusal : Store → Bytes → Tuple → Option Refusal
 has_refusal st name t =
-    let types = listed_types st.relations (listed_of st.queries name) in first_of (
+    let types = listed_types st.relations (listed_of st.queries name) in first_refusal (
     (is_none (listed_of st.queries name), NoQuery)
     ∷ (not (length t == length types), Arity)
     ∷ (not (fits types t), WrongType)
@@ -389,7 +389,7 @@ IsShapeOf (a_union name qs) _ = ⊥
 
 -- The shape of what is registered is told. It takes no memory.
 pub record TellsShape (st : Store) (name : Bytes) (result : Result Shape Refusal) : Type 0 where
-  pub answer : Answers (first_of ((is_none (listed_of st.queries name), NoQuery) ∷ [])) result
+  pub answer : Answers (first_refusal ((is_none (listed_of st.queries name), NoQuery) ∷ [])) result
       (λ shape. IsSomeAnd (listed_of st.queries name) (λ q. IsShapeOf q shape))
       (OutOfMemoryWhere ⊥)
 

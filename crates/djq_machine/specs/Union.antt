@@ -34,7 +34,7 @@ use Rattle.djq_lines.specs.declared.limits.TheConstants.{MEMBERS, QUERIES}
 use Rattle.djq_lines.specs.declared.answer.Refusal.{Refusal}
 use Rattle.djq_lines.specs.declared.answer.Refusal.TheVariants.{Taken, NoQuery, Member, Limit}
 use Rattle.djq_machine.specs.State.{Store}
-use Rattle.djq_machine.specs.Conditions.{first_of, Answers, OutOfMemoryWhere}
+use Rattle.djq_machine.specs.Conditions.{first_refusal, Answers, OutOfMemoryWhere}
 use Rattle.djq_machine.specs.Store.{answer_steps, listed_types}
 
 -- whether a name stands among these twice
@@ -64,7 +64,7 @@ types_differ st (n ∷ ns) = list_any (λ m. not (same_types (types_under st n) 
 
 -- why a union isn't registered, but for memory
 abbrev pub union_refusal : Store → Bytes → List Bytes → Option Refusal
-union_refusal st name members = first_of (
+union_refusal st name members = first_refusal (
     (is_some (listed_of st.queries name), Taken)
     ∷ (list_any (λ n. is_none (listed_of st.queries n)) members, NoQuery)
     ∷ (

@@ -40,7 +40,7 @@ use Rattle.djq_lines.specs.Reply.{text_of, end_slow, end_memory}
 use Rattle.djq_machine.specs.State.{Store, Session, State, session_of, with_session, ended_by, ids_of}
 use Rattle.djq_machine.specs.Effect.{Effect, queue_all}
 use Rattle.djq_machine.specs.Store.{most_steps, atoms_of}
-use Rattle.djq_machine.specs.Changes.{RowsChange, RowsOutcome, is_accepted, tried, is_outdated, changed}
+use Rattle.djq_machine.specs.Changes.{RowsChange, RowsOutcome, is_made, tried, is_outdated, changed}
 use Rattle.djq_machine.specs.Delta.{Change, IsDelta, change_lines, delta_lines}
 use Rattle.djq_machine.specs.Walk.{Walk}
 
@@ -176,7 +176,7 @@ pub record ChangeStep (old : State) (s : ℕ) (outcome : RowsOutcome) (store : S
   pub told : Telling
   pub tells : Walk (TellsDelta store.seq)
       (record { state = changed old (tried outcome) store; queued = [] })
-      (if is_accepted outcome then deltas else []) told
+      (if is_made outcome then deltas else []) told
   pub last : Telling
   pub replies : RepliesLast s reply told last
   pub queued : e.queued ≡ last.queued

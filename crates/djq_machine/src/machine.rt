@@ -62,7 +62,7 @@ pub trait Machine {
     ghost use Rattle.djq_machine.specs.Step.{fed, took, ended, closed, is_dry};
     ghost use Rattle.djq_machine.specs.Run.{pending_of};
     ghost use Rattle.djq_machine.specs.Call.{IsOpen, Makes, OpenGives, FedGives, StepGives};
-    ghost use Rattle.djq_machine.specs.Call.{cause_of, held_of, ids_of, first_due, counts};
+    ghost use Rattle.djq_machine.specs.Call.{cause_of, held_of, state_ids, first_due, counts};
 
     // The state of the join machine that it keeps.
     ghost state: { Self → State };
@@ -122,7 +122,7 @@ pub trait Machine {
 
     /// The ids of the open sessions, rising.
     fn ids(&self) -> &[u64]
-        ensures { result.now ≡ ids_of (state self.now) };
+        ensures { result.now ≡ state_ids (state self.now) };
 
     /// The end cause that an open session keeps.
     fn cause(&self, id: u64) -> Option<EndCause>

@@ -64,8 +64,8 @@ use Rattle.djq_mirror.specs.Replies.{
   IsPrinted,
   IsReply,
   joined,
-  label_text,
-  node_text,
+  label_of,
+  node_of,
   reply_text,
 }
 use Rattle.djq_mirror.proofs.Parting.{spaced}
@@ -136,7 +136,7 @@ body (watched n) = codes "ok" ++ spaced 32 (codes "watch" ∷ decimal n ∷ [])
 body (changed s q t) = sign_text s ++ (q ++ cells_text t)
 body (counted q n) = codes "at" ++ spaced 32 (q ∷ decimal n ∷ [])
 body (explained j node label out) =
-    codes "n" ++ spaced 32 (decimal j ∷ node_words node (label_text label ∷ out_words out))
+    codes "n" ++ spaced 32 (decimal j ∷ node_words node (label_of label ∷ out_words out))
 body (refused r) = refused_words r
 body (ended e) = ended_words e
 body cut = codes "err 13 cut"
@@ -186,7 +186,7 @@ three_parts a c r n =
     ∙ ap (λ (x : Bytes). a ++ (c ++ 32 ∷ (r ++ 32 ∷ x))) (sym (append-nil n))
 
 -- what a node is, in front of others
-node_spaced : (node : Node) (ws : List Bytes) → spaced 32 (node_words node ws) ≡ 32 ∷ (node_text node ++ spaced 32 ws)
+node_spaced : (node : Node) (ws : List Bytes) → spaced 32 (node_words node ws) ≡ 32 ∷ (node_of node ++ spaced 32 ws)
 node_spaced (leaf r) ws = ap (λ (x : Bytes). 32 ∷ x) (sym (append_assoc (codes "leaf ") r (spaced 32 ws)))
 node_spaced (trim c) ws = ap (λ (x : Bytes). 32 ∷ x) (sym (append_assoc (codes "trim ") (decimal c) (spaced 32 ws)))
 node_spaced (meet g s) ws =
@@ -218,11 +218,11 @@ node_line j k l e ws vs h g =
 explained_text : (j : ℕ) (node : Node) (label : List Bytes) (out : Bool) → reply_text (explained j node label out)
     ≡ line (body (explained j node label out))
 explained_text j node label out =
-    let ws = label_text label ∷ out_words out in
-    node_parts (codes "n ") (decimal j) (node_text node) (label_text label) (end_text out)
-    ∙ sym (node_line (decimal j) (node_text node) (label_text label) (end_text out) (spaced 32 (node_words node ws))
+    let ws = label_of label ∷ out_words out in
+    node_parts (codes "n ") (decimal j) (node_of node) (label_of label) (end_text out)
+    ∙ sym (node_line (decimal j) (node_of node) (label_of label) (end_text out) (spaced 32 (node_words node ws))
     (spaced 32 ws)
-    (node_spaced node ws) (end_spaced (label_text label) out))
+    (node_spaced node ws) (end_spaced (label_of label) out))
 
 pub text_is : (r : Reply) → reply_text r ≡ line (body r)
 text_is done = refl

@@ -132,7 +132,7 @@ use Rattle.djq_mirror.specs.Replies.{
   is_label,
   is_rest,
   joined,
-  label_text,
+  label_of,
 }
 use Rattle.djq_mirror.proofs.Bodies.{body, edge_words, node_words, out_words, reply_from}
 use Rattle.djq_mirror.proofs.Celling.{cells_are}
@@ -381,7 +381,7 @@ record IsEnd (ws : List Bytes) : Type 0 where
   label : List Bytes
   out : Bool
   variables : is_label label ≡ true
-  are : ws ≡ label_text label ∷ out_words out
+  are : ws ≡ label_of label ∷ out_words out
 
 end_is : (ws : List Bytes) → is_label_end ws ≡ true → IsEnd ws
 end_is [] h = absurd (cc)
@@ -396,7 +396,7 @@ end_is (w ∷ o ∷ []) h =
       out = true;
       variables = found.variables;
       are = ap (λ x. x ∷ o ∷ []) found.is
-          ∙ ap (λ x. label_text found.label ∷ x ∷ []) (same_bytes o (codes "out") both.1);
+          ∙ ap (λ x. label_of found.label ∷ x ∷ []) (same_bytes o (codes "out") both.1);
     }
 end_is (w ∷ o ∷ v ∷ ws) h = absurd (cc)
 
@@ -406,7 +406,7 @@ record IsKind (ws : List Bytes) : Type 0 where
   label : List Bytes
   out : Bool
   variables : is_label label ≡ true
-  are : ws ≡ node_words node (label_text label ∷ out_words out)
+  are : ws ≡ node_words node (label_of label ∷ out_words out)
 
 leaf_is : (k : Bytes) (ws : List Bytes) → k ≡ codes "leaf" → is_leaf_told ws ≡ true → IsKind (k ∷ ws)
 leaf_is k [] e h = absurd (cc)

@@ -9,7 +9,7 @@ use Rattle.djq_model.specs.Data.{Bytes, bytes_eq}
 use Rattle.djq_value.specs.Literal.{is_digit, is_lower, is_name}
 use Rattle.djq_mirror.specs.Parts.{parts}
 use Rattle.djq_mirror.specs.Reading.{is_edge_word, is_label_word}
-use Rattle.djq_mirror.specs.Replies.{is_label, is_variable, joined, label_text}
+use Rattle.djq_mirror.specs.Replies.{is_label, is_variable, joined, label_of}
 use Rattle.djq_mirror.proofs.Numerals.{digits_written, same_bytes}
 use Rattle.djq_mirror.proofs.Parting.{glued, lacks, parts_back, parts_spaced, spaced}
 
@@ -118,11 +118,11 @@ word_joined w h = by (parts 44 w) (parts_back 44 w) h
             empty i = absurd (cc)
     by (p ∷ ps) e k = record { first = p; others = ps; variables = k; is = sym e }
 
-pub label_lack : (xs : List Bytes) → is_label xs ≡ true → lacks 32 (label_text xs) ≡ true
+pub label_lack : (xs : List Bytes) → is_label xs ≡ true → lacks 32 (label_of xs) ≡ true
 label_lack [] h = refl
 label_lack (x ∷ xs) h = joined_lacks x xs h
 
-pub label_word : (xs : List Bytes) → is_label xs ≡ true → is_label_word (label_text xs) ≡ true
+pub label_word : (xs : List Bytes) → is_label xs ≡ true → is_label_word (label_of xs) ≡ true
 label_word [] h = refl
 label_word (x ∷ xs) h = or_right (bytes_eq (joined (x ∷ xs)) (codes "-")) (is_edge_word (joined (x ∷ xs)))
     (joined_word x xs h)
@@ -130,7 +130,7 @@ label_word (x ∷ xs) h = or_right (bytes_eq (joined (x ∷ xs)) (codes "-")) (i
 pub record IsLabelled (w : Bytes) : Type 0 where
   pub label : List Bytes
   pub variables : is_label label ≡ true
-  pub is : w ≡ label_text label
+  pub is : w ≡ label_of label
 
 pub word_label : (w : Bytes) → is_label_word w ≡ true → IsLabelled w
 word_label w h = elim (or_cases (bytes_eq w (codes "-")) (is_edge_word w) h) [

@@ -120,7 +120,7 @@ use Rattle.djq_mirror.specs.Replies.{
   is_label,
   is_rest,
   joined,
-  label_text,
+  label_of,
 }
 use Rattle.djq_mirror.proofs.Bodies.{body, body_of, edge_words, ended_words, node_words, out_words, refused_words}
 use Rattle.djq_mirror.proofs.Celling.{cells_read}
@@ -198,13 +198,13 @@ rest_told w (e ∷ es) h l same =
 -- nodes
 
 out_lacks : (label : List Bytes) (out : Bool) → is_label label ≡ true
-    → list_all (lacks 32) (label_text label ∷ out_words out) ≡ true
-out_lacks label true h = two_lack (label_text label) (codes "out") (label_lack label h) refl
-out_lacks label false h = one_lacks (label_text label) (label_lack label h)
+    → list_all (lacks 32) (label_of label ∷ out_words out) ≡ true
+out_lacks label true h = two_lack (label_of label) (codes "out") (label_lack label h) refl
+out_lacks label false h = one_lacks (label_of label) (label_lack label h)
 
-label_end : (label : List Bytes) (out : Bool) → is_label label ≡ true → is_label_end (label_text label ∷ out_words out)
+label_end : (label : List Bytes) (out : Bool) → is_label label ≡ true → is_label_end (label_of label ∷ out_words out)
     ≡ true
-label_end label true h = and_from (is_label_word (label_text label)) true (label_word label h) refl
+label_end label true h = and_from (is_label_word (label_of label)) true (label_word label h) refl
 label_end label false h = label_word label h
 
 node_lacks : (node : Node) (ws : List Bytes) → IsNode node → list_all (lacks 32) ws ≡ true
@@ -224,16 +224,16 @@ node_kind (meet g s) ws h k =
     (and_from (is_number (decimal s)) (is_label_end ws) (number_printed s h.1) k)
 
 node_told : (j : ℕ) (node : Node) (label : List Bytes) (out : Bool) → j < 2 ^ 64 → IsNode node → is_label label ≡ true
-    → told_if (is_node_told (parts 32 (decimal j ++ spaced 32 (node_words node (label_text label ∷ out_words out)))))
+    → told_if (is_node_told (parts 32 (decimal j ++ spaced 32 (node_words node (label_of label ∷ out_words out)))))
     nothing ≡ Some nothing
 node_told j node label out h k l =
-    let ws = node_words node (label_text label ∷ out_words out) in
+    let ws = node_words node (label_of label ∷ out_words out) in
     ap (λ (vs : List Bytes). told_if (is_node_told vs) nothing)
     (behind_word (decimal j) ws (number_lacks j h)
-    (node_lacks node (label_text label ∷ out_words out) k (out_lacks label out l)))
+    (node_lacks node (label_of label ∷ out_words out) k (out_lacks label out l)))
     ∙ told_true (is_node_told (decimal j ∷ ws)) nothing
     (and_from (is_number (decimal j)) (is_node_kind ws) (number_printed j h)
-    (node_kind node (label_text label ∷ out_words out) k (label_end label out l)))
+    (node_kind node (label_of label ∷ out_words out) k (label_end label out l)))
 
 -- names and numbers
 

@@ -88,15 +88,15 @@ abbrev pub edges_line : Bytes → List (List Bytes) → Bytes
 edges_line words edges = line (words ++ flat_map (λ e. 32 ∷ joined e) edges)
 
 -- a label: a dash where it has no variable
-abbrev pub label_text : List Bytes → Bytes
-label_text [] = codes "-"
-label_text (x ∷ xs) = joined (x ∷ xs)
+abbrev pub label_of : List Bytes → Bytes
+label_of [] = codes "-"
+label_of (x ∷ xs) = joined (x ∷ xs)
 
 -- what an explained node is, as it is printed
-abbrev pub node_text : Node → Bytes
-node_text (leaf r) = codes "leaf " ++ r
-node_text (trim c) = codes "trim " ++ decimal c
-node_text (meet g s) = codes "meet " ++ decimal g ++ codes " " ++ decimal s
+abbrev pub node_of : Node → Bytes
+node_of (leaf r) = codes "leaf " ++ r
+node_of (trim c) = codes "trim " ++ decimal c
+node_of (meet g s) = codes "meet " ++ decimal g ++ codes " " ++ decimal s
 
 -- the bytes of a line, with its LF
 abbrev pub reply_text : Reply → Bytes
@@ -123,8 +123,8 @@ reply_text (watched n) = numbered (codes "ok watch ") n
 reply_text (changed s query t) = change_line s query t
 reply_text (counted query n) = at_line query n
 reply_text (explained j node label out) =
-    codes "n " ++ decimal j ++ codes " " ++ node_text node
-    ++ codes " " ++ label_text label ++ end_text out
+    codes "n " ++ decimal j ++ codes " " ++ node_of node
+    ++ codes " " ++ label_of label ++ end_text out
 reply_text (refused r) = refusal_line r
 reply_text (ended e) = end_line e
 reply_text cut = input_cut

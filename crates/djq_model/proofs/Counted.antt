@@ -47,7 +47,7 @@ use Rattle.djq_model.specs.Data.{
   tuple_eq,
   has_row,
   without_row,
-  tuples_of,
+  plain_of,
   copies_among,
   with_row,
   with_copies,
@@ -60,73 +60,73 @@ use Rattle.djq_model.proofs.Permuting.{front_exchanged, one_less}
 -- ---- the plain rows
 
 pub tuples_with_row : (rows : List CountedRow) (row : Tuple)
-    → tuples_of (with_row rows row) ≡ tuples_of rows ++ row ∷ []
+    → plain_of (with_row rows row) ≡ plain_of rows ++ row ∷ []
 tuples_with_row rows row = map-append (λ (c : CountedRow). c.row) rows (record { row = row; copies = 1 } ∷ [])
 
 -- Another number of copies leaves them as they are.
 pub tuples_with_copies : (rows : List CountedRow) (row : Tuple) (n : ℕ)
-    → tuples_of (with_copies rows row n) ≡ tuples_of rows
+    → plain_of (with_copies rows row n) ≡ plain_of rows
 tuples_with_copies [] row n = refl
 tuples_with_copies (c ∷ rows) row n = by (tuple_eq c.row row) (tuples_with_copies rows row n)
   where
-    by : (b : Bool) → tuples_of (with_copies rows row n) ≡ tuples_of rows
-        → tuples_of (cond b (record c { copies = n } ∷ rows) (c ∷ with_copies rows row n)) ≡ c.row ∷ tuples_of rows
+    by : (b : Bool) → plain_of (with_copies rows row n) ≡ plain_of rows
+        → plain_of (cond b (record c { copies = n } ∷ rows) (c ∷ with_copies rows row n)) ≡ c.row ∷ plain_of rows
     by true rest = refl
     by false rest = ap (λ (ts : List Tuple). c.row ∷ ts) rest
 
 pub tuples_without : (rows : List CountedRow) (row : Tuple)
-    → tuples_of (without_copies rows row) ≡ without_row (tuples_of rows) row
+    → plain_of (without_copies rows row) ≡ without_row (plain_of rows) row
 tuples_without [] row = refl
 tuples_without (c ∷ rows) row = by (tuple_eq c.row row) (tuples_without rows row)
   where
-    by : (b : Bool) → tuples_of (without_copies rows row) ≡ without_row (tuples_of rows) row
-        → tuples_of (cond b rows (c ∷ without_copies rows row))
-        ≡ cond b (tuples_of rows) (c.row ∷ without_row (tuples_of rows) row)
+    by : (b : Bool) → plain_of (without_copies rows row) ≡ without_row (plain_of rows) row
+        → plain_of (cond b rows (c ∷ without_copies rows row))
+        ≡ cond b (plain_of rows) (c.row ∷ without_row (plain_of rows) row)
     by true rest = refl
     by false rest = ap (λ (ts : List Tuple). c.row ∷ ts) rest
 
 pub tuples_moved : (rows moved : List CountedRow) → IsPermutation rows moved
-    → IsPermutation (tuples_of rows) (tuples_of moved)
+    → IsPermutation (plain_of rows) (plain_of moved)
 tuples_moved rows moved p = IsPermutation-map (λ (c : CountedRow). c.row) rows moved p
 
-pub tuples_length : (rows : List CountedRow) → length (tuples_of rows) ≡ length rows
+pub tuples_length : (rows : List CountedRow) → length (plain_of rows) ≡ length rows
 tuples_length rows = length-map rows (λ (c : CountedRow). c.row)
 
 -- ---- the copies of a row
 
 -- None of a row that isn't there,
-pub no_copies : (rows : List CountedRow) (row : Tuple) → has_row (tuples_of rows) row ≡ false
+pub no_copies : (rows : List CountedRow) (row : Tuple) → has_row (plain_of rows) row ≡ false
     → copies_among rows row ≡ 0
 no_copies [] row h = refl
 no_copies (c ∷ rows) row h = by (tuple_eq c.row row) h (λ k. no_copies rows row k)
   where
-    by : (b : Bool) → cond b true (has_row (tuples_of rows) row) ≡ false
-        → (has_row (tuples_of rows) row ≡ false → copies_among rows row ≡ 0)
+    by : (b : Bool) → cond b true (has_row (plain_of rows) row) ≡ false
+        → (has_row (plain_of rows) row ≡ false → copies_among rows row ≡ 0)
         → cond b c.copies (copies_among rows row) ≡ 0
     by true k rest = absurd (false≢true (sym k))
     by false k rest = rest k
 
 -- and of one that is there as of all.
 pub copies_hold : (P : ℕ → Type 0) (rows : List CountedRow) (row : Tuple) → All (λ (c : CountedRow). P c.copies) rows
-    → has_row (tuples_of rows) row ≡ true → P (copies_among rows row)
+    → has_row (plain_of rows) row ≡ true → P (copies_among rows row)
 copies_hold P [] row h k = absurd (false≢true k)
 copies_hold P (c ∷ rows) row h k =
     by (tuple_eq c.row row) k (λ e. copies_hold P rows row (All-tail (λ (c : CountedRow). P c.copies) c rows h) e)
   where
-    by : (b : Bool) → cond b true (has_row (tuples_of rows) row) ≡ true
-        → (has_row (tuples_of rows) row ≡ true → P (copies_among rows row))
+    by : (b : Bool) → cond b true (has_row (plain_of rows) row) ≡ true
+        → (has_row (plain_of rows) row ≡ true → P (copies_among rows row))
         → P (cond b c.copies (copies_among rows row))
     by true e rest = All-head (λ (c : CountedRow). P c.copies) c rows h
     by false e rest = rest e
 
 -- behind which a row has come
-pub came_copies : (rows : List CountedRow) (row : Tuple) → has_row (tuples_of rows) row ≡ false
+pub came_copies : (rows : List CountedRow) (row : Tuple) → has_row (plain_of rows) row ≡ false
     → copies_among (with_row rows row) row ≡ 1
 came_copies [] row h = ap (λ (b : Bool). cond b 1 0) ((tuple_eq-decides row row).1 refl)
 came_copies (c ∷ rows) row h = by (tuple_eq c.row row) h (λ k. came_copies rows row k)
   where
-    by : (b : Bool) → cond b true (has_row (tuples_of rows) row) ≡ false
-        → (has_row (tuples_of rows) row ≡ false → copies_among (with_row rows row) row ≡ 1)
+    by : (b : Bool) → cond b true (has_row (plain_of rows) row) ≡ false
+        → (has_row (plain_of rows) row ≡ false → copies_among (with_row rows row) row ≡ 1)
         → cond b c.copies (copies_among (with_row rows row) row) ≡ 1
     by true k rest = absurd (false≢true (sym k))
     by false k rest = rest k
@@ -138,13 +138,13 @@ others_with_row (c ∷ rows) row other h =
     ap (λ (n : ℕ). cond (tuple_eq c.row other) c.copies n) (others_with_row rows row other h)
 
 -- of which one has another number
-pub changed_copies : (rows : List CountedRow) (row : Tuple) (n : ℕ) → has_row (tuples_of rows) row ≡ true
+pub changed_copies : (rows : List CountedRow) (row : Tuple) (n : ℕ) → has_row (plain_of rows) row ≡ true
     → copies_among (with_copies rows row n) row ≡ n
 changed_copies [] row n h = absurd (false≢true h)
 changed_copies (c ∷ rows) row n h = by (tuple_eq c.row row) refl h (λ k. changed_copies rows row n k)
   where
-    by : (b : Bool) → tuple_eq c.row row ≡ b → cond b true (has_row (tuples_of rows) row) ≡ true
-        → (has_row (tuples_of rows) row ≡ true → copies_among (with_copies rows row n) row ≡ n)
+    by : (b : Bool) → tuple_eq c.row row ≡ b → cond b true (has_row (plain_of rows) row) ≡ true
+        → (has_row (plain_of rows) row ≡ true → copies_among (with_copies rows row n) row ≡ n)
         → copies_among (cond b (record c { copies = n } ∷ rows) (c ∷ with_copies rows row n)) row ≡ n
     by true e k rest = ap (λ (b : Bool). cond b n (copies_among rows row)) e
     by false e k rest = ap (λ (b : Bool). cond b c.copies (copies_among (with_copies rows row n) row)) e ∙ rest k
@@ -211,13 +211,13 @@ module _ (P : CountedRow → Type 0) where
 -- ---- in another order
 
 -- A row that is there can be taken to the front with its copies,
-pub copies_front : (rows : List CountedRow) (row : Tuple) → has_row (tuples_of rows) row ≡ true
+pub copies_front : (rows : List CountedRow) (row : Tuple) → has_row (plain_of rows) row ≡ true
     → IsPermutation rows (record { row = row; copies = copies_among rows row } ∷ without_copies rows row)
 copies_front [] row h = absurd (false≢true h)
 copies_front (c ∷ rows) row h = by (tuple_eq c.row row) refl h (λ k. copies_front rows row k)
   where
-    by : (b : Bool) → tuple_eq c.row row ≡ b → cond b true (has_row (tuples_of rows) row) ≡ true
-        → (has_row (tuples_of rows) row ≡ true
+    by : (b : Bool) → tuple_eq c.row row ≡ b → cond b true (has_row (plain_of rows) row) ≡ true
+        → (has_row (plain_of rows) row ≡ true
         → IsPermutation rows (record { row = row; copies = copies_among rows row } ∷ without_copies rows row))
         → IsPermutation (c ∷ rows)
         (record { row = row; copies = cond b c.copies (copies_among rows row) }
@@ -232,13 +232,13 @@ copies_front (c ∷ rows) row h = by (tuple_eq c.row row) refl h (λ k. copies_f
         (front_exchanged c it (without_copies rows row))
 
 -- and so can one that has another number of them.
-pub changed_front : (rows : List CountedRow) (row : Tuple) (n : ℕ) → has_row (tuples_of rows) row ≡ true
+pub changed_front : (rows : List CountedRow) (row : Tuple) (n : ℕ) → has_row (plain_of rows) row ≡ true
     → IsPermutation (with_copies rows row n) (record { row = row; copies = n } ∷ without_copies rows row)
 changed_front [] row n h = absurd (false≢true h)
 changed_front (c ∷ rows) row n h = by (tuple_eq c.row row) refl h (λ k. changed_front rows row n k)
   where
-    by : (b : Bool) → tuple_eq c.row row ≡ b → cond b true (has_row (tuples_of rows) row) ≡ true
-        → (has_row (tuples_of rows) row ≡ true
+    by : (b : Bool) → tuple_eq c.row row ≡ b → cond b true (has_row (plain_of rows) row) ≡ true
+        → (has_row (plain_of rows) row ≡ true
         → IsPermutation (with_copies rows row n) (record { row = row; copies = n } ∷ without_copies rows row))
         → IsPermutation (cond b (record c { copies = n } ∷ rows) (c ∷ with_copies rows row n))
         (record { row = row; copies = n } ∷ cond b rows (c ∷ without_copies rows row))
@@ -293,26 +293,26 @@ first_apart r rows h = λ k d lt. h 0 (suc k) d (omega arith) (omega (arith, lt)
 pub rest_differ : (r : Tuple) (rows : List Tuple) → AreDifferent (r ∷ rows) → AreDifferent rows
 rest_differ r rows h = λ i j d lt within. h (suc i) (suc j) d (omega (arith, lt)) (omega (arith, within))
 
-none_counts : (rows : List CountedRow) (row : Tuple) → All (λ (t : Tuple). row ≡ t → ⊥) (tuples_of rows)
+none_counts : (rows : List CountedRow) (row : Tuple) → All (λ (t : Tuple). row ≡ t → ⊥) (plain_of rows)
     → sum_by (counts row) rows ≡ 0
 none_counts [] row h = refl
 none_counts (c ∷ rows) row h =
     by (tuple_eq c.row row) refl
-    (none_counts rows row (All-tail (λ (t : Tuple). row ≡ t → ⊥) c.row (tuples_of rows) h))
+    (none_counts rows row (All-tail (λ (t : Tuple). row ≡ t → ⊥) c.row (plain_of rows) h))
   where
     by : (b : Bool) → tuple_eq c.row row ≡ b → sum_by (counts row) rows ≡ 0 → sum_by (counts row) (c ∷ rows) ≡ 0
     by true e rest =
-        absurd (All-head (λ (t : Tuple). row ≡ t → ⊥) c.row (tuples_of rows) h (sym ((tuple_eq-decides c.row row).0 e)))
+        absurd (All-head (λ (t : Tuple). row ≡ t → ⊥) c.row (plain_of rows) h (sym ((tuple_eq-decides c.row row).0 e)))
     by false e rest =
         let first : counts row c ≡ 0 = ap (λ (b : Bool). cond b c.copies 0) e in
         let more = sum_by-cons (counts row) c rows in
         omega (arith, first, more, rest)
 
-as_counts : (rows : List CountedRow) (row : Tuple) → AreDifferent (tuples_of rows)
+as_counts : (rows : List CountedRow) (row : Tuple) → AreDifferent (plain_of rows)
     → copies_among rows row ≡ sum_by (counts row) rows
 as_counts [] row h = refl
 as_counts (c ∷ rows) row h =
-    by (tuple_eq c.row row) refl (as_counts rows row (rest_differ c.row (tuples_of rows) h))
+    by (tuple_eq c.row row) refl (as_counts rows row (rest_differ c.row (plain_of rows) h))
   where
     by : (b : Bool) → tuple_eq c.row row ≡ b → copies_among rows row ≡ sum_by (counts row) rows
         → cond (tuple_eq c.row row) c.copies (copies_among rows row) ≡ sum_by (counts row) (c ∷ rows)
@@ -322,8 +322,8 @@ as_counts (c ∷ rows) row h =
         let first : counts row c ≡ c.copies = ap (λ (b : Bool). cond b c.copies 0) e in
         let more = sum_by-cons (counts row) c rows in
         let rest = none_counts rows row
-        (subst (λ (r : Tuple). All (λ (t : Tuple). r ≡ t → ⊥) (tuples_of rows)) ((tuple_eq-decides c.row row).0 e)
-        (first_apart c.row (tuples_of rows) h)) in
+        (subst (λ (r : Tuple). All (λ (t : Tuple). r ≡ t → ⊥) (plain_of rows)) ((tuple_eq-decides c.row row).0 e)
+        (first_apart c.row (plain_of rows) h)) in
         omega (arith, it, first, more, rest)
     by false e rest =
         let it : cond (tuple_eq c.row row) c.copies (copies_among rows row) ≡ copies_among rows row =
@@ -337,10 +337,10 @@ differ_moved rows moved p h =
     AllPairs-from_IsDistinct tuple_eq-decides moved
     (IsDistinct-IsPermutation tuple_eq tuple_eq_back rows moved p (IsDistinct-from_AllPairs tuple_eq-decides rows h))
 
-pub copies_moved : (rows moved : List CountedRow) (row : Tuple) → AreDifferent (tuples_of rows)
+pub copies_moved : (rows moved : List CountedRow) (row : Tuple) → AreDifferent (plain_of rows)
     → IsPermutation rows moved → copies_among moved row ≡ copies_among rows row
 copies_moved rows moved row h p =
-    as_counts moved row (differ_moved (tuples_of rows) (tuples_of moved) (tuples_moved rows moved p) h)
+    as_counts moved row (differ_moved (plain_of rows) (plain_of moved) (tuples_moved rows moved p) h)
     ∙ sum_by-IsPermutation (counts row) rows moved p
     ∙ sym (as_counts rows row h)
 
@@ -361,13 +361,13 @@ counted_eq-decides c d =
       λ e. both.1 (ap (λ (x : CountedRow). x.row) e, ap (λ (x : CountedRow). x.copies) e),
     )
 
-pub without_moved : (rows moved : List CountedRow) (row : Tuple) → AreDifferent (tuples_of rows)
-    → has_row (tuples_of rows) row ≡ true → IsPermutation rows moved
+pub without_moved : (rows moved : List CountedRow) (row : Tuple) → AreDifferent (plain_of rows)
+    → has_row (plain_of rows) row ≡ true → IsPermutation rows moved
     → IsPermutation (without_copies rows row) (without_copies moved row)
 without_moved rows moved row h there p =
     let it : CountedRow = record { row = row; copies = copies_among rows row } in
-    let has : has_row (tuples_of moved) row ≡ true =
-    has_moved (tuples_of rows) (tuples_of moved) row (tuples_moved rows moved p) ∙ there in
+    let has : has_row (plain_of moved) row ≡ true =
+    has_moved (plain_of rows) (plain_of moved) row (tuples_moved rows moved p) ∙ there in
     let front : IsPermutation moved (it ∷ without_copies moved row) =
     subst (λ (n : ℕ). IsPermutation moved (record { row = row; copies = n } ∷ without_copies moved row))
     (copies_moved rows moved row h p) (copies_front moved row has) in
@@ -376,13 +376,13 @@ without_moved rows moved row h there p =
     (IsPermutation-sym rows (it ∷ without_copies rows row) (copies_front rows row there))
     (IsPermutation-trans rows moved (it ∷ without_copies moved row) p front))
 
-pub with_copies_moved : (rows moved : List CountedRow) (row : Tuple) (n : ℕ) → AreDifferent (tuples_of rows)
-    → has_row (tuples_of rows) row ≡ true → IsPermutation rows moved
+pub with_copies_moved : (rows moved : List CountedRow) (row : Tuple) (n : ℕ) → AreDifferent (plain_of rows)
+    → has_row (plain_of rows) row ≡ true → IsPermutation rows moved
     → IsPermutation (with_copies rows row n) (with_copies moved row n)
 with_copies_moved rows moved row n h there p =
     let it : CountedRow = record { row = row; copies = n } in
-    let has : has_row (tuples_of moved) row ≡ true =
-    has_moved (tuples_of rows) (tuples_of moved) row (tuples_moved rows moved p) ∙ there in
+    let has : has_row (plain_of moved) row ≡ true =
+    has_moved (plain_of rows) (plain_of moved) row (tuples_moved rows moved p) ∙ there in
     IsPermutation-trans (with_copies rows row n) (it ∷ without_copies rows row) (with_copies moved row n)
     (changed_front rows row n there)
     (IsPermutation-trans (it ∷ without_copies rows row) (it ∷ without_copies moved row) (with_copies moved row n)
@@ -391,17 +391,17 @@ with_copies_moved rows moved row n h there p =
     (IsPermutation-sym (with_copies moved row n) (it ∷ without_copies moved row) (changed_front moved row n has)))
 
 -- where no row stands twice, one that has gone has no copies
-pub gone_copies : (rows : List CountedRow) (row : Tuple) → AreDifferent (tuples_of rows)
+pub gone_copies : (rows : List CountedRow) (row : Tuple) → AreDifferent (plain_of rows)
     → copies_among (without_copies rows row) row ≡ 0
 gone_copies [] row h = refl
 gone_copies (c ∷ rows) row h =
-    by (tuple_eq c.row row) refl (gone_copies rows row (rest_differ c.row (tuples_of rows) h))
+    by (tuple_eq c.row row) refl (gone_copies rows row (rest_differ c.row (plain_of rows) h))
   where
     by : (b : Bool) → tuple_eq c.row row ≡ b → copies_among (without_copies rows row) row ≡ 0
         → copies_among (cond b rows (c ∷ without_copies rows row)) row ≡ 0
     by true e rest =
-        as_counts rows row (rest_differ c.row (tuples_of rows) h)
+        as_counts rows row (rest_differ c.row (plain_of rows) h)
         ∙ none_counts rows row
-        (subst (λ (r : Tuple). All (λ (t : Tuple). r ≡ t → ⊥) (tuples_of rows)) ((tuple_eq-decides c.row row).0 e)
-        (first_apart c.row (tuples_of rows) h))
+        (subst (λ (r : Tuple). All (λ (t : Tuple). r ≡ t → ⊥) (plain_of rows)) ((tuple_eq-decides c.row row).0 e)
+        (first_apart c.row (plain_of rows) h))
     by false e rest = ap (λ (b : Bool). cond b c.copies (copies_among (without_copies rows row) row)) e ∙ rest

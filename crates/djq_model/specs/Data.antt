@@ -57,12 +57,12 @@ abbrev pub relation_of : List Relation → Bytes → Option Relation
 relation_of relations name = find (λ r. bytes_eq r.name name) relations
 
 -- rows, without their copies
-abbrev pub tuples_of : List CountedRow → List Tuple
-tuples_of rows = map (λ (c : CountedRow). c.row) rows
+abbrev pub plain_of : List CountedRow → List Tuple
+plain_of rows = map (λ (c : CountedRow). c.row) rows
 
 -- the relation's rows, each once
 abbrev pub tuples_in : Relation → List Tuple
-tuples_in r = tuples_of r.rows
+tuples_in r = plain_of r.rows
 
 -- the rows of the relation that was found, with their copies; none where none was
 abbrev pub counted_in : Option Relation → List CountedRow
@@ -75,7 +75,7 @@ counted_of relations name = counted_in (relation_of relations name)
 
 -- its rows, each once
 abbrev pub rows_of : List Relation → Bytes → List Tuple
-rows_of relations name = tuples_of (counted_of relations name)
+rows_of relations name = plain_of (counted_of relations name)
 
 -- how many copies of a row are among these; none where it isn't there
 abbrev pub copies_among : List CountedRow → Tuple → ℕ

@@ -9,12 +9,12 @@ use Rattle.std.proofs.lemmas.List.{get_or_past, length-append, length-map}
 use Rattle.djq_model.specs.declared.relation.Relation.{Relation}
 use Rattle.djq_model.specs.declared.relation.CountedRow.{CountedRow}
 use Rattle.djq_model.specs.declared.relation.ColumnType.{ColumnType}
-use Rattle.djq_model.specs.Data.{Bytes, Tuple, tuple_eq, tuples_of, tuples_in, without_row}
+use Rattle.djq_model.specs.Data.{Bytes, Tuple, tuple_eq, plain_of, tuples_in, without_row}
 use Rattle.djq_model.specs.Equality.{tuple_eq-decides}
 use Rattle.djq_model.specs.Answer.{AreDifferent}
 use Rattle.djq_model.specs.Typed.{fits}
 use Rattle.djq_rows.specs.Cells.{HaveCells, StandFor}
-use Rattle.djq_rows.specs.Catalog.{Catalog, IsCatalog, IsKept as IsKeptRelation, IsCounted}
+use Rattle.djq_rows.specs.Catalog.{Catalog, IsCatalog, IsKeptRelation, IsCounted}
 use Rattle.djq_rows.specs.Catalog.{StandForRow, no_relation, relation_at, counted_at, rows_at}
 use Rattle.djq_rows.specs.Catalog.{with_rows_at}
 use Rattle.djq_live.specs.Changes.{IsLater, CameAll, Went, StandForRows, HasSameRows}
@@ -57,21 +57,21 @@ unfolding rest_of
 rest_same x y xs ys e = ap rest_of e
 
 -- counted rows whose rows end so
-counted_ends : (ks : List CountedRow) (xs : List Tuple) (row : Tuple) → tuples_of ks ≡ xs ++ row ∷ []
-    → Ends (λ fs. tuples_of fs ≡ xs) (λ k. k.row ≡ row) ks
+counted_ends : (ks : List CountedRow) (xs : List Tuple) (row : Tuple) → plain_of ks ≡ xs ++ row ∷ []
+    → Ends (λ fs. plain_of fs ≡ xs) (λ k. k.row ≡ row) ks
 counted_ends [] [] row e = absurd cc
 counted_ends [] (x ∷ xs) row e = absurd cc
 counted_ends (k ∷ []) [] row e = record
     { front = []; last = k; is = refl; before = refl; there = first_same k.row row [] [] e }
 counted_ends (k ∷ j ∷ ks) [] row e = absurd cc
 counted_ends (k ∷ ks) (x ∷ xs) row e =
-    let more = counted_ends ks xs row (rest_same k.row x (tuples_of ks) (xs ++ row ∷ []) e) in
-    let first : k.row ≡ x = first_same k.row x (tuples_of ks) (xs ++ row ∷ []) e in
+    let more = counted_ends ks xs row (rest_same k.row x (plain_of ks) (xs ++ row ∷ []) e) in
+    let first : k.row ≡ x = first_same k.row x (plain_of ks) (xs ++ row ∷ []) e in
     record {
       front = k ∷ more.front;
       last = more.last;
       is = ap (λ (ys : List CountedRow). k ∷ ys) more.is;
-      before = ap (λ (y : Tuple). y ∷ tuples_of more.front) first ∙ ap (λ (ys : List Tuple). x ∷ ys) more.before;
+      before = ap (λ (y : Tuple). y ∷ plain_of more.front) first ∙ ap (λ (ys : List Tuple). x ∷ ys) more.before;
       there = more.there;
     }
 
@@ -177,10 +177,10 @@ module _ (d : Catalog) (at : ℕ) (fs : List CountedRow) (low : at < length d.re
     texts = h.texts;
   }
     where
-      whole : tuples_in (relation_at d.relations at) ≡ tuples_of fs ++ tuples_of ks
-      whole = ap tuples_of e ∙ both fs ks
+      whole : tuples_in (relation_at d.relations at) ≡ plain_of fs ++ plain_of ks
+      whole = ap plain_of e ∙ both fs ks
         where
-          both : (xs ys : List CountedRow) → tuples_of (xs ++ ys) ≡ tuples_of xs ++ tuples_of ys
+          both : (xs ys : List CountedRow) → plain_of (xs ++ ys) ≡ plain_of xs ++ plain_of ys
           both [] ys = refl
           both (x ∷ xs) ys = ap (λ (ts : List Tuple). x.row ∷ ts) (both xs ys)
 
@@ -191,14 +191,14 @@ module _ (d : Catalog) (at : ℕ) (fs : List CountedRow) (low : at < length d.re
       one_kept = record {
         some = old.some;
         narrow = old.narrow;
-        typed = all_front (λ row. fits (relation_at d.relations at).types row ≡ true) (tuples_of fs) (tuples_of ks)
+        typed = all_front (λ row. fits (relation_at d.relations at).types row ≡ true) (plain_of fs) (plain_of ks)
             (subst (λ (ts : List Tuple). All (λ row. fits (relation_at d.relations at).types row ≡ true) ts) whole
             old.typed);
-        differ = pairs_front (λ (s t : Tuple). s ≡ t → ⊥) (tuples_of fs) (tuples_of ks)
+        differ = pairs_front (λ (s t : Tuple). s ≡ t → ⊥) (plain_of fs) (plain_of ks)
             (subst (λ (ts : List Tuple). AreDifferent ts) whole old.differ);
-        cells = all_front (HaveCells d.texts) (tuples_of fs) (tuples_of ks)
+        cells = all_front (HaveCells d.texts) (plain_of fs) (plain_of ks)
             (subst (λ (ts : List Tuple). All (HaveCells d.texts) ts) whole old.cells);
-        few = let a = length-append (tuples_of fs) (tuples_of ks) in
+        few = let a = length-append (plain_of fs) (plain_of ks) in
             omega (arith, old.few, ap length whole, a);
         counted = all_front IsCounted fs ks (subst (λ (xs : List CountedRow). All IsCounted xs) e old.counted);
       }
@@ -236,7 +236,7 @@ module _ (d : Catalog) (at : ℕ) (fs : List CountedRow) (low : at < length d.re
         l.typed k within' ∙ sym (field (λ r. r.types) refl no_relation k within');
   }
 
-  pub rows_here : rows_at fewer.relations at ≡ tuples_of fs
+  pub rows_here : rows_at fewer.relations at ≡ plain_of fs
   rows_here = ap (λ (r : Relation). tuples_in r) (here no_relation)
 
   pub rows_elsewhere : (k : ℕ) → k ≢ at → rows_at fewer.relations k ≡ rows_at d.relations k
@@ -315,7 +315,7 @@ one_less c d at cells cell rows h = record {
     within : at < length d.relations
     within = within_rows d at (rows_at c.relations at ++ ends.front) ends.last shape
 
-    counted : Ends (λ fs. tuples_of fs ≡ rows_at c.relations at ++ ends.front) (λ k. k.row ≡ ends.last)
+    counted : Ends (λ fs. plain_of fs ≡ rows_at c.relations at ++ ends.front) (λ k. k.row ≡ ends.last)
         (counted_at d.relations at)
     counted = counted_ends (counted_at d.relations at) (rows_at c.relations at ++ ends.front) ends.last shape
 

@@ -9,7 +9,7 @@ use Rattle.std.proofs.lemmas.List.Elements.{All-nil, All-cons, Contains-append_l
 use Rattle.djq_model.specs.declared.relation.Relation.{Relation}
 use Rattle.djq_model.specs.declared.query.Query.{Query}
 use Rattle.djq_model.specs.declared.query.Atom.{Atom}
-use Rattle.djq_model.specs.Data.{Bytes, Tuple, bytes_eq, rows_of, relation_of, tuples_of, counted_in}
+use Rattle.djq_model.specs.Data.{Bytes, Tuple, bytes_eq, rows_of, relation_of, plain_of, counted_in}
 use Rattle.djq_model.specs.Equality.{bytes_eq-decides}
 use Rattle.djq_model.specs.Answer.{Assignment, Satisfies, IsAnswer}
 use Rattle.djq_machine.specs.Stale.{reads}
@@ -41,7 +41,7 @@ answers_stay rs ss q stay t h = record {
 rows_later : (c d : Catalog) (vs : List Variable) (a : Atom) (m : NumberedAtom) → IsLater c d → IsAtomOf c vs a m
     → rows_of d.relations a.relation ≡ rows_at d.relations m.relation
 rows_later c d vs a m later is =
-    ap (λ o. tuples_of (counted_in o))
+    ap (λ o. plain_of (counted_in o))
     (found_at d.relations a.relation m.relation later.catalog.names
     (let low = is.below in let long = later.long in omega (arith, low, long))
     (later.named m.relation is.below ∙ is.named))

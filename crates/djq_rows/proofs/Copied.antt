@@ -33,7 +33,7 @@ use Rattle.djq_model.specs.Data.{
   Bytes,
   Tuple,
   tuple_eq,
-  tuples_of as plain_of,
+  plain_of,
   copies_among,
   with_copies,
   without_copies,

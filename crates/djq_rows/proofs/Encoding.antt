@@ -44,7 +44,7 @@ use Rattle.djq_model.specs.Known.{knows_all, texts_in}
 use Rattle.djq_dict.specs.Known.{AllDifferent}
 use Rattle.djq_rows.specs.Cells.{
   place_of,
-  cell_of,
+  cell_for,
   cells_of,
   HasCell,
   HaveCells,
@@ -67,7 +67,7 @@ use Rattle.djq_rows.proofs.Learning.{
 -- one cell
 
 pub value_back : (texts : List Bytes) (t : ColumnType) (v : Value) → is_of t v ≡ true → HasCell
-    texts v → value_of texts t (cell_of texts v) ≡ v
+    texts v → value_of texts t (cell_for texts v) ≡ v
 value_back texts IntColumn (Int i) o h = ap (λ z. Int z) (to_z-of_z w64 i h)
 value_back texts TextColumn (Text s) o h = ap (λ (u : Bytes). Text u) (get_or_from_slice_get texts
     (place_of texts s) s [] (place_known texts s h))
@@ -75,7 +75,7 @@ value_back texts IntColumn (Text s) o h = absurd cc
 value_back texts TextColumn (Int i) o h = absurd cc
 
 pub value_within : (texts : List Bytes) (t : ColumnType) (v : Value) → is_of t v ≡ true → HasCell
-    texts v → IsWithin texts t (cell_of texts v)
+    texts v → IsWithin texts t (cell_for texts v)
 value_within texts IntColumn (Int i) o h = (Fits-of_z h).fits
 value_within texts TextColumn (Text s) o h = place_below texts s h
 value_within texts IntColumn (Text s) o h = absurd cc
@@ -113,8 +113,8 @@ pub has_more : (texts us : List Bytes) (v : Value) → HasCell texts v → HasCe
 has_more texts us (Int i) h = h
 has_more texts us (Text t) h = knows_more texts us t h
 
-pub cell_more : (texts us : List Bytes) (v : Value) → HasCell texts v → cell_of (texts ++ us) v ≡
-    cell_of texts v
+pub cell_more : (texts us : List Bytes) (v : Value) → HasCell texts v → cell_for (texts ++ us) v ≡
+    cell_for texts v
 cell_more texts us (Int i) h = refl
 cell_more texts us (Text t) h = place_more texts us t h
 
@@ -273,11 +273,11 @@ have_push texts [] v h k = (k, tt)
 have_push texts (w ∷ ws) v h k = (h.0, have_push texts ws v h.1 k)
 
 pub cells_push : (texts : List Bytes) (row : Tuple) (v : Value) → cells_of texts (row ++ v ∷ []) ≡
-    cells_of texts row ++ cell_of texts v ∷ []
-cells_push texts row v = map-append (cell_of texts) row (v ∷ [])
+    cells_of texts row ++ cell_for texts v ∷ []
+cells_push texts row v = map-append (cell_for texts) row (v ∷ [])
 
 pub cells_long : (texts : List Bytes) (row : Tuple) → length (cells_of texts row) ≡ length row
-cells_long texts row = length-map row (cell_of texts)
+cells_long texts row = length-map row (cell_for texts)
 
 -- a row with cells has no unknown text
 have_known : (texts : List Bytes) (row : Tuple) → HaveCells texts row → knows_all texts (texts_in

@@ -36,7 +36,7 @@ use Rattle.djq_dict.specs.declared.dict.TheConstants.{MOST_TEXTS}
 use Rattle.djq_dict.specs.declared.refusal.InternRefusal.{InternRefusal}
 use Rattle.djq_dict.specs.declared.refusal.InternRefusal.TheVariants.{Full, NoMem}
 use Rattle.djq_dict.specs.Known.{AllDifferent, IsUnknown, Learns}
-use Rattle.djq_rows.specs.Cells.{cell_of, cells_of, HasCell, HaveCells}
+use Rattle.djq_rows.specs.Cells.{cell_for, cells_of, HasCell, HaveCells}
 use Rattle.djq_rows.specs.Changes.{LearnsSome, FindsNoPlace, InternsValue, InternsRow}
 use Rattle.djq_rows.specs.Parts.{IsWithin, value_of}
 use Rattle.djq_rows.proofs.Learning.{
@@ -87,8 +87,8 @@ texts_cut row at v c =
 
 pub told_more : (texts : List Bytes) (row : Tuple) (at : ℕ) (v : Value) (cells : List ℕ) → Cut row
     at v → cells ≡ cells_of texts (take at row)
-    → cells ++ cell_of texts v ∷ [] ≡ cells_of texts (take (at + 1) row)
-told_more texts row at v cells c e = ap (λ (l : List ℕ). l ++ cell_of texts v ∷ []) e ∙ sym (ap
+    → cells ++ cell_for texts v ∷ [] ≡ cells_of texts (take (at + 1) row)
+told_more texts row at v cells c e = ap (λ (l : List ℕ). l ++ cell_for texts v ∷ []) e ∙ sym (ap
     (cells_of texts) c.upto ∙ cells_push texts (take at row) v)
 
 pub have_upto : (texts : List Bytes) (row : Tuple) (at : ℕ) (v : Value) → Cut row at v → HaveCells
@@ -124,7 +124,7 @@ now_grown old now new v is = grown_is now new (all_learned now (texts_of v)) is 
 
 pub cells_upto : (now new : List Bytes) (row : Tuple) (at : ℕ) (v : Value) (cells : List ℕ) (cell :
     ℕ) → Cut row at v → Grown now new → HaveCells now (take at row) → cells ≡ cells_of now (take at
-    row) → cell ≡ cell_of new v
+    row) → cell ≡ cell_for new v
     → cells ++ cell ∷ [] ≡ cells_of new (take (at + 1) row)
 cells_upto now new row at v cells cell c g h e k =
     ap (λ n. cells ++ n ∷ []) k ∙ told_more new row at v cells c (e ∙ sym (cells_grown now new (take
@@ -192,8 +192,8 @@ too_many old now row at v c was unknown many =
 -- one value
 
 pub told_text : (texts : List Bytes) (v : Value) (t : Bytes) (n : ℕ) → v ≡ Text t → AllDifferent
-    texts → slice_get texts n ≡ Some t → HasCell texts v × (n ≡ cell_of texts v)
-told_text texts v t n is d h = subst (λ (w : Value). HasCell texts w × (n ≡ cell_of texts w)) (sym
+    texts → slice_get texts n ≡ Some t → HasCell texts v × (n ≡ cell_for texts v)
+told_text texts v t n is d h = subst (λ (w : Value). HasCell texts w × (n ≡ cell_for texts w)) (sym
     is) (knows_at texts t n h, place_at texts t n d h)
 
 pub untold_text : (texts : List Bytes) (v : Value) (t : Bytes) → v ≡ Text t → IsUnknown texts t →

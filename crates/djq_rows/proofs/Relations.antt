@@ -76,7 +76,7 @@ use Rattle.djq_rows.specs.Catalog.{
   rows_at,
   with_rows_at,
   IsCounted,
-  IsKept,
+  IsKeptRelation,
 }
 use Rattle.djq_rows.specs.Changes.{HasNoPlace, AddsRow, DeletesRow}
 use Rattle.djq_rows.specs.Parts.{
@@ -547,7 +547,7 @@ rows_kept : (texts : List Bytes) (k : Kept) (P : List Tuple → Type 0) → P (r
     k.rows.entries) → P (tuples_in (relation_in texts k))
 rows_kept texts k P h = subst P (sym (in_rows texts k)) h
 
-pub sound_kept : (texts : List Bytes) (k : Kept) → AllDifferent texts → IsSound texts k → IsKept
+pub sound_kept : (texts : List Bytes) (k : Kept) → AllDifferent texts → IsSound texts k → IsKeptRelation
     texts (relation_in texts k)
 sound_kept texts k d s = record {
   some = subst (λ (l : List ColumnType). 0 < length l) (sym (in_types texts k)) s.some;

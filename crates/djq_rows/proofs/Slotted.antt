@@ -24,7 +24,7 @@ use Rattle.std.proofs.Common.{
 }
 use Rattle.std.specs.Prelude.{MatchOption}
 use Rattle.std.proofs.lemmas.List.{append-nil, length-map, map-append, length-set, get_or-set_same, get_or-set_other}
-use Rattle.djq_arena.specs.Rows.{Row, Rows as Slots, AreRows, IsAbsent, IsRow, IsHeld, slots}
+use Rattle.djq_arena.specs.Rows.{Row, SlotRows, AreRows, IsAbsent, IsRow, IsHeld, slots}
 use Rattle.djq_arena.specs.Chains.{first_of, AreDifferent, AreBelow, IsOut}
 use Rattle.djq_arena.proofs.Lists.{below_here, different_here, out_front, out_back}
 use Rattle.djq_index.specs.declared.place.Place.{Place}
@@ -204,7 +204,7 @@ next_place copies rows xs e ys slot next is at h =
     ∙ first_place copies c.back ∙ ap head_at (sym c.ys_is)
 
 -- a slot is one of the room, so it has copies
-pub live_below : (rows : Slots) (copies : List ℕ) (slot : ℕ) → AreKept rows copies
+pub live_below : (rows : SlotRows) (copies : List ℕ) (slot : ℕ) → AreKept rows copies
     → IsLive (entries_in copies rows.rows) (place slot) → slot < length copies
 live_below rows copies slot h l =
     let r = at_row copies rows.rows slot l.tuple l.is_at in
@@ -216,7 +216,7 @@ live_below rows copies slot h l =
           h.rows.below),
     )
 
-pub its_copies : (rows : Slots) (copies : List ℕ) (slot : ℕ) (u : List ℕ) → AreKept rows copies
+pub its_copies : (rows : SlotRows) (copies : List ℕ) (slot : ℕ) (u : List ℕ) → AreKept rows copies
     → IsAt (entries_in copies rows.rows) (place slot) u
     → copies_at copies slot ≡ supports_of (entries_in copies rows.rows) u
 its_copies rows copies slot u h a =
@@ -252,7 +252,7 @@ changed old new rs r ss d h =
 
 -- a row comes
 
-pub came : (old new : Slots) (copies more : List ℕ) (slot : ℕ) (u : List ℕ) → AreRows new
+pub came : (old new : SlotRows) (copies more : List ℕ) (slot : ℕ) (u : List ℕ) → AreRows new
     → new.rows ≡ old.rows ++ record { slot = slot; cells = u } ∷ []
     → copies_at more slot ≡ 1
     → ((k : ℕ) → (k ≡ slot → ⊥) → copies_at more k ≡ copies_at copies k)
@@ -277,7 +277,7 @@ came_apart old new u a h none =
     subst AreApart (sym a.is) (apart_in old a.entry [] (subst AreApart (sym all) h)
     (ap (λ (es : List Entry). count_of es a.entry.tuple) all ∙ ap (count_of old) a.tuple ∙ none))
 
-pub came_kept : (old new : Slots) (copies more : List ℕ) (u : List ℕ) → AreKept old copies
+pub came_kept : (old new : SlotRows) (copies more : List ℕ) (u : List ℕ) → AreKept old copies
     → AreRows new → Appended (entries_in copies old.rows) (entries_in more new.rows) u
     → new.room ≤ length more → count_of (entries_in copies old.rows) u ≡ 0 → AreKept new more
 came_kept old new copies more u h law a room none = record {
@@ -288,7 +288,7 @@ came_kept old new copies more u h law a room none = record {
 
 -- a row goes
 
-pub went : (old new : Slots) (copies : List ℕ) (slot : ℕ) (u : List ℕ)
+pub went : (old new : SlotRows) (copies : List ℕ) (slot : ℕ) (u : List ℕ)
     → IsAt (entries_in copies old.rows) (place slot) u
     → ((xs : List Row) (r : Row) (ys : List Row) → old.rows ≡ xs ++ r ∷ ys → r.slot ≡ slot
     → new.rows ≡ xs ++ ys)
@@ -321,7 +321,7 @@ set_else : (copies : List ℕ) (slot n k : ℕ) → (k ≡ slot → ⊥)
     → copies_at (slice_set copies slot n) k ≡ copies_at copies k
 set_else copies slot n k h = get_or-set_other copies slot k n 0 h
 
-pub recounted : (rows : Slots) (copies : List ℕ) (slot n : ℕ) (u : List ℕ) → AreKept rows copies
+pub recounted : (rows : SlotRows) (copies : List ℕ) (slot n : ℕ) (u : List ℕ) → AreKept rows copies
     → slot < length copies → IsAt (entries_in copies rows.rows) (place slot) u
     → Supported (entries_in copies rows.rows) (entries_in (slice_set copies slot n) rows.rows) u
     (supports_of (entries_in copies rows.rows) u) n
@@ -346,7 +346,7 @@ recounted rows copies slot n u h below at =
       has = entry_supports more r ∙ set_here copies slot n below;
     }
 
-pub recounted_kept : (rows : Slots) (copies : List ℕ) (slot n : ℕ) → AreKept rows copies
+pub recounted_kept : (rows : SlotRows) (copies : List ℕ) (slot n : ℕ) → AreKept rows copies
     → IsLive (entries_in copies rows.rows) (place slot) → AreKept rows (slice_set copies slot n)
 recounted_kept rows copies slot n h l = record {
   rows = h.rows;
@@ -363,7 +363,7 @@ pub no_apart : AreApart []
 unfolding AreApart
 no_apart = tt
 
-pub none_kept : (rows : Slots) (copies : List ℕ) → AreRows rows → rows.room ≡ 0 → rows.rows ≡ []
+pub none_kept : (rows : SlotRows) (copies : List ℕ) → AreRows rows → rows.room ≡ 0 → rows.rows ≡ []
     → AreKept rows copies
 none_kept rows copies law room none = record {
   rows = law;

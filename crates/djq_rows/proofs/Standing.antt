@@ -71,7 +71,7 @@ use Rattle.djq_rows.specs.Catalog.{
   counted_at,
   rows_at,
   AreCellsOf,
-  IsKept,
+  IsKeptRelation,
   IsCatalog,
 }
 use Rattle.djq_rows.specs.Changes.{FindsRelation, AddsRow, DeletesRow}
@@ -395,7 +395,7 @@ names_differ p h = λ i j d low high same.
     (get_or-map f rs i d d.name (omega arith) ∙ same ∙ sym (get_or-map f rs j d d.name high))
 
 all_kept : (texts : List Bytes) (ks : List Kept) → AllDifferent texts → AllByRecursion (IsSound
-    texts) ks → AllByRecursion (IsKept texts) (relations_of texts ks)
+    texts) ks → AllByRecursion (IsKeptRelation texts) (relations_of texts ks)
 all_kept texts [] d h = tt
 all_kept texts (k ∷ ks) d h = (sound_kept texts k d h.0, all_kept texts ks d h.1)
 
@@ -403,7 +403,7 @@ pub catalog_sound : (p : Parts) → IsParts p → length p.texts ≤ MOST_TEXTS 
 catalog_sound p h many = record {
   few = omega (arith, h.few, relations_long p.texts p.kept.items);
   names = names_differ p h;
-  kept = All-from_recursion (IsKept p.texts) (relations_of p.texts p.kept.items) (all_kept p.texts
+  kept = All-from_recursion (IsKeptRelation p.texts) (relations_of p.texts p.kept.items) (all_kept p.texts
       p.kept.items h.different h.sound);
   many = many;
   texts = h.different;
@@ -416,8 +416,8 @@ have_at : (texts : List Bytes) (ks : List Kept) (at : ℕ) → AllDifferent text
     (rows_at (relations_of texts ks) at)
 have_at texts ks at d s low =
     recursion_from_All (HaveCells texts) (rows_at (relations_of texts ks) at)
-    (All-get_or (IsKept texts) (relations_of texts ks) at no_relation low (All-from_recursion
-    (IsKept texts) (relations_of texts ks) (all_kept texts ks d s))).cells
+    (All-get_or (IsKeptRelation texts) (relations_of texts ks) at no_relation low (All-from_recursion
+    (IsKeptRelation texts) (relations_of texts ks) (all_kept texts ks d s))).cells
 
 pub nowhere : (p : Parts) (c : Catalog) (row : Tuple) → IsParts p → catalog_of p ≡ c → knows_all
     c.texts (texts_in row) ≡ false → (at : ℕ) → at < length c.relations → has_row (rows_at

@@ -65,7 +65,7 @@ IsCounted c = (1 ≤ c.copies) × (c.copies ≤ COPIES)
 
 -- A relation has a column at least. Its rows suit its columns, differ, have cells, and are within
 -- the limit, and so are the copies of each.
-pub record IsKept (texts : List Bytes) (r : Relation) : Type 0 where
+pub record IsKeptRelation (texts : List Bytes) (r : Relation) : Type 0 where
   pub some : 0 < length r.types
   pub narrow : length r.types ≤ COLUMNS
   pub typed : All (λ row. fits r.types row ≡ true) (tuples_in r)
@@ -78,6 +78,6 @@ pub record IsKept (texts : List Bytes) (r : Relation) : Type 0 where
 pub record IsCatalog (c : Catalog) : Type 0 where
   pub few : length c.relations ≤ RELATIONS
   pub names : AllPairs (λ r s. r.name ≢ s.name) c.relations
-  pub kept : All (IsKept c.texts) c.relations
+  pub kept : All (IsKeptRelation c.texts) c.relations
   pub many : length c.texts ≤ MOST_TEXTS
   pub texts : AllPairs (λ s t. s ≢ t) c.texts

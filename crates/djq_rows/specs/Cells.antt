@@ -28,13 +28,13 @@ place_of [] text = zero
 place_of (t ∷ ts) text = if bytes_eq t text then zero else suc (place_of ts text)
 
 -- the cell of a value
-abbrev pub cell_of : List Bytes → Value → ℕ
-cell_of texts (Int i) = cast_unsigned w64 i
-cell_of texts (Text t) = place_of texts t
+abbrev pub cell_for : List Bytes → Value → ℕ
+cell_for texts (Int i) = cast_unsigned w64 i
+cell_for texts (Text t) = place_of texts t
 
 -- the cells of a row
 abbrev pub cells_of : List Bytes → Tuple → List ℕ
-cells_of texts row = map (cell_of texts) row
+cells_of texts row = map (cell_for texts) row
 
 -- A value has a cell where it is an integer of 64 bits, or a known text.
 abbrev pub HasCell : List Bytes → Value → Type 0
@@ -51,7 +51,7 @@ pub record StandsFor (texts : List Bytes) (column : ColumnType) (cell : ℕ) (va
   where
     pub of : is_of column value ≡ true
     pub has : HasCell texts value
-    pub is : cell ≡ cell_of texts value
+    pub is : cell ≡ cell_for texts value
 
 -- in a column of this type, the cell stands for some value
 pub record IsCell (texts : List Bytes) (column : ColumnType) (cell : ℕ) : Type 0 where

@@ -50,7 +50,7 @@ use Rattle.djq_dict.specs.declared.refusal.InternRefusal.TheVariants.{
 use Rattle.djq_rows.specs.declared.refusal.RowsRefusal.{RowsRefusal}
 use Rattle.djq_rows.specs.declared.refusal.RowsRefusal.TheVariants.{NameTaken, Full, NoMem}
 use Rattle.djq_rows.specs.declared.relation_id.RelationId.{RelationId}
-use Rattle.djq_rows.specs.Cells.{HasCell, HaveCells, cell_of, cells_of}
+use Rattle.djq_rows.specs.Cells.{HasCell, HaveCells, cell_for, cells_of}
 use Rattle.djq_rows.specs.Catalog.{relation_at, counted_at, rows_at, with_rows_at}
 
 -- A relation without rows comes behind the others; or its name is taken, or, where it isn't, there
@@ -124,7 +124,7 @@ pub record FindsNoPlace (old : List Bytes) (texts : List Bytes) (new : List Byte
 -- memory, and nothing changes.
 abbrev pub InternsValue : List Bytes → Value → Result ℕ InternRefusal → List Bytes → Type 0
 InternsValue old value (Ok cell) new = (new ≡ all_learned old (texts_of value))
-    × HasCell new value × (cell ≡ cell_of new value)
+    × HasCell new value × (cell ≡ cell_for new value)
 InternsValue old value (Err TextsFull) new =
     (knows_all old (texts_of value) ≡ false) × (length old ≡ MOST_TEXTS) × (new ≡ old)
 InternsValue old value (Err NoMemForTexts) new = (knows_all old (texts_of value) ≡ false) × (new ≡
@@ -143,7 +143,7 @@ InternsRow old row (Err NoMemForTexts) new = LearnsSome old (texts_in row) new
 -- The cell of a value that isn't an unknown text is told, and none of one that is.
 abbrev pub TellsCell : List Bytes → Value → Option ℕ → Type 0
 TellsCell texts value None = knows_all texts (texts_of value) ≡ false
-TellsCell texts value (Some cell) = HasCell texts value × (cell ≡ cell_of texts value)
+TellsCell texts value (Some cell) = HasCell texts value × (cell ≡ cell_for texts value)
 
 -- The cells of a row whose texts are all known are told, and none where they aren't.
 abbrev pub TellsCells : List Bytes → Tuple → Option (List ℕ) → Type 0

@@ -1,7 +1,7 @@
 -- The rows of a relation, in cells, with their copies: the rows of an arena, and beside them an array of
 -- copies by slot.
 use Rattle.std.specs.Prelude.{ℕ, ◌≤◌, false, List, map, length, slice_index_or, Option, Some, None}
-use Rattle.djq_arena.specs.Rows.{Row, Rows as Slots, AreRows}
+use Rattle.djq_arena.specs.Rows.{Row, SlotRows, AreRows}
 use Rattle.djq_index.specs.declared.place.Place.{Place}
 use Rattle.djq_index.specs.Entries.{Entry}
 use Rattle.djq_index.specs.Table.{AreApart}
@@ -39,7 +39,7 @@ place_of None = None
 place_of (Some slot) = Some (place slot)
 
 -- each slot has copies, and no row stands twice
-pub record AreKept (slots : Slots) (copies : List ℕ) : Type 0 where
+pub record AreKept (slots : SlotRows) (copies : List ℕ) : Type 0 where
   pub rows : AreRows slots
   pub copied : slots.room ≤ length copies
   pub apart : AreApart (entries_in copies slots.rows)

@@ -30,9 +30,9 @@ use Rattle.djq_run.specs.declared.status.Status.TheVariants.{WriteFault as Statu
 use Rattle.djq_run.specs.declared.session.Served.{Served}
 use Rattle.djq_run.specs.declared.session.Served.TheVariants.{AwaitsInput as Waiting, Ended, WriteFault}
 use Rattle.djq_run.specs.Ends.{Awaits, IsAtEnd, IsWellEnded, EndedBy, IsCutOff, Stands, ReadsCount}
-use Rattle.djq_run.specs.Ends.{WritesCount, RunEnds}
+use Rattle.djq_run.specs.Ends.{StatusCount, RunEnds}
 use Rattle.djq_run.proofs.Going.{PieceFed, awaits, by_opening, goes_begun}
-use Rattle.djq_run.specs.Parts.{GoesTo, Serves, WritesCount as ServedCount, GoesOn, ReadEnds}
+use Rattle.djq_run.specs.Parts.{GoesTo, Serves, ServedCount, GoesOn, ReadEnds}
 use Rattle.djq_run.specs.Parts.{status_of, has_failed, failed_by}
 
 -- a session that awaits input is open, and has no end cause
@@ -192,7 +192,7 @@ run_ends status before mid_o now start mid state c well r reads writes =
           (course_then before mid_o now start mid state c well d).done) now.reading state
           (omega (arith, fed_more before mid_o now start mid state c well d)) g.0);
       read_faults = subst (λ n. ReadsCount status n now.read_faults) reads g.1;
-      write_faults = subst (λ n. WritesCount status n now.write_faults) writes g.2;
+      write_faults = subst (λ n. StatusCount status n now.write_faults) writes g.2;
     }
 
 -- The session as it opens, where no other is open.

@@ -75,9 +75,9 @@ ReadsCount ReadFault before now = Counted before now
 ReadsCount _ before now = now ≡ before
 
 -- So it is with the sink.
-abbrev pub WritesCount : Status → ℕ → ℕ → Type 0
-WritesCount WriteFault before now = Counted before now
-WritesCount _ before now = now ≡ before
+abbrev pub StatusCount : Status → ℕ → ℕ → Type 0
+StatusCount WriteFault before now = Counted before now
+StatusCount _ before now = now ≡ before
 
 -- whether a status says that a write failed
 abbrev pub is_write_fault : Status → Bool
@@ -98,4 +98,4 @@ pub record RunEnds (status : Status) (before now : Outside) (start state : State
   pub stands : Stands status (all_fed 1 course.done) now.reading state
       ⊎ NothingDone status before now start state
   pub read_faults : ReadsCount status before.read_faults now.read_faults
-  pub write_faults : WritesCount status before.write_faults now.write_faults
+  pub write_faults : StatusCount status before.write_faults now.write_faults

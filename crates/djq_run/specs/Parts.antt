@@ -13,7 +13,7 @@ use Rattle.djq_run.specs.declared.status.Status.TheVariants.{Done, NoMemory, Ses
 use Rattle.djq_run.specs.declared.status.Status.TheVariants.{WriteFault as StatusWriteFault}
 use Rattle.djq_run.specs.declared.session.Served.{Served}
 use Rattle.djq_run.specs.declared.session.Served.TheVariants.{AwaitsInput, Ended, WriteFault}
-use Rattle.djq_run.specs.Ends.{Awaits, Stands, ReadsCount, WritesCount as StatusCount, is_write_fault}
+use Rattle.djq_run.specs.Ends.{Awaits, Stands, ReadsCount, StatusCount, is_write_fault}
 
 -- the outside, with other writes, faults of the sink, and counts
 abbrev pub with_sink : Outside → Option (List Write) → ℕ → Counts → Outside
@@ -58,9 +58,9 @@ has_failed WriteFault = true
 has_failed _ = false
 
 -- The count of the sink's faults rises where a write failed alone.
-abbrev pub WritesCount : Served → ℕ → ℕ → Type 0
-WritesCount WriteFault before now = Counted before now
-WritesCount _ before now = now ≡ before
+abbrev pub ServedCount : Served → ℕ → ℕ → Type 0
+ServedCount WriteFault before now = Counted before now
+ServedCount _ before now = now ≡ before
 
 -- the status of a session that was served so, where the run ends by it
 abbrev pub status_of : Served → Option Status

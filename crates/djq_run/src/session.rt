@@ -3,7 +3,7 @@ ghost use Rattle.djq_machine.specs.Call.{IsOpen, counts};
 ghost use Rattle.djq_laws.specs.declared.limits.TheConstants.{READ_BYTES};
 ghost use Rattle.djq_laws.specs.Course.{Outside, outside};
 ghost use Rattle.djq_run.specs.Ends.{Awaits, RunEnds};
-ghost use Rattle.djq_run.specs.Parts.{Flushed, GoesTo, ReadEnds, Serves, WritesCount, has_failed, with_sink, status_of};
+ghost use Rattle.djq_run.specs.Parts.{Flushed, GoesTo, ReadEnds, Serves, ServedCount, has_failed, with_sink, status_of};
 
 use crate::status::Status;
 use djq_io::{Read, Sink, Source, Wrote};
@@ -124,7 +124,7 @@ fn serve_held<M: Machine, K: Sink, L: Ledgers>(
         (with_sink o (K.told sink.new) (K.faults sink.new)
         (counts steps.new.listing steps.new.update steps.new.rows)) (M.state machine.new) }
     ensures serves { Serves result (M.state machine.old) (M.state machine.new) }
-    ensures faults { WritesCount result (K.faults sink.old) (K.faults sink.new) }
+    ensures faults { ServedCount result (K.faults sink.old) (K.faults sink.new) }
 {
     'lines: while flush(machine, sink) {
         match machine.step(ID, steps) {

@@ -8,13 +8,13 @@ use Rattle.std.proofs.Common.{refl, sym, ap, ◌∙◌, subst, inl, inr, arith}
 use Rattle.std.proofs.lemmas.Bool.{and_parts, eqb-true, eq-eqb, leb-true}
 use Rattle.std.proofs.lemmas.List.Elements.{All-nil, All-cons, All-head, All-tail, All-filter}
 use Rattle.std.proofs.lemmas.List.Elements.{All-contains, All-contains_itself, Contains-push}
-use Rattle.djq_io.specs.Hub.{Ids, IsNew as IsNewId, IsRunning, with_opened, EndsInput, without}
+use Rattle.djq_io.specs.Hub.{Ids, IsNewId, IsRunning, with_opened, EndsInput, without}
 use Rattle.djq_io.proofs.Membership.{is_member}
 use Rattle.djq_machine.specs.State.{State, Session}
 use Rattle.djq_model.specs.Data.{Bytes}
 use Rattle.djq_machine.specs.Step.{opened}
 use Rattle.djq_machine.specs.Run.{pending_of}
-use Rattle.djq_machine.specs.Call.{IsOpen, Makes, cause_of, ids_of, is_due, first_due}
+use Rattle.djq_machine.specs.Call.{IsOpen, Makes, cause_of, state_ids, is_due, first_due}
 use Rattle.djq_laws.proofs.Changing.{all_found}
 use Rattle.djq_laws.proofs.Rising.{step_ids}
 use Rattle.djq_serve.specs.Server.{first_open}
@@ -36,21 +36,21 @@ open_any (x ∷ xs) s = at_first (x.id == s) (open_any xs s)
     at_first true h = refl
     at_first false h = h
 
-pub open_contains : (st : State) (s : ℕ) → IsOpen st s → Contains (ids_of st) s
-open_contains st s h = (is_member (ids_of st) s).0 (sym (open_any st.sessions s) ∙ h)
+pub open_contains : (st : State) (s : ℕ) → IsOpen st s → Contains (state_ids st) s
+open_contains st s h = (is_member (state_ids st) s).0 (sym (open_any st.sessions s) ∙ h)
 
-pub contains_open : (st : State) (s : ℕ) → Contains (ids_of st) s → IsOpen st s
-contains_open st s h = open_any st.sessions s ∙ (is_member (ids_of st) s).1 h
+pub contains_open : (st : State) (s : ℕ) → Contains (state_ids st) s → IsOpen st s
+contains_open st s h = open_any st.sessions s ∙ (is_member (state_ids st) s).1 h
 
 -- The session that a flush is at is open, of at least the id that the flush is from, and something is due to it.
 pub due_open : (st : State) (from s : ℕ) → first_due st from ≡ Some s → IsOpen st s
 due_open st from s h =
-    contains_open st s (all_found (Contains (ids_of st)) (λ i. nat_le from i && is_due st i) (ids_of st) s
-    (All-contains_itself (ids_of st)) h)
+    contains_open st s (all_found (Contains (state_ids st)) (λ i. nat_le from i && is_due st i) (state_ids st) s
+    (All-contains_itself (state_ids st)) h)
 
 due_parts : (st : State) (from s : ℕ) → first_due st from ≡ Some s → (nat_le from s ≡ true) × (is_due st s ≡ true)
 due_parts st from s h = and_parts (nat_le from s) (is_due st s)
-    (found_passes (λ i. nat_le from i && is_due st i) (ids_of st) s h)
+    (found_passes (λ i. nat_le from i && is_due st i) (state_ids st) s h)
 
 pub due_above : (st : State) (from s : ℕ) → first_due st from ≡ Some s → from ≤ s
 due_above st from s h = leb-true from s (due_parts st from s h).0
@@ -61,29 +61,30 @@ due_ended st from s h none =
     ap (λ (bytes : Bytes). nat_lt 0 (length bytes) || is_some (cause_of st s)) (sym none) ∙ (due_parts st from s h).1
 
 -- The hub has the machine's sessions, after a change that opens and closes none.
-pub agrees_same : (old new : State) (ids ids' : Ids) → ids_of new ≡ ids_of old → ids' ≡ ids → Agrees old ids
+pub agrees_same : (old new : State) (ids ids' : Ids) → state_ids new ≡ state_ids old → ids' ≡ ids → Agrees old ids
     → Agrees new ids'
 agrees_same old new ids ids' same hub a = record {
   same = ap (λ (i : Ids). i.open_ids) hub ∙ a.same ∙ sym same;
-  newest = subst (λ (i : Ids). All (λ s. IsSomeAnd i.newest (λ n. s ≤ n)) (ids_of new)) (sym hub)
+  newest = subst (λ (i : Ids). All (λ s. IsSomeAnd i.newest (λ n. s ≤ n)) (state_ids new)) (sym hub)
       (subst (λ (is : List ℕ). All (λ s. IsSomeAnd ids.newest (λ n. s ≤ n)) is) (sym same) a.newest);
 }
 
 -- a session was closed at both
-pub agrees_closed : (old new : State) (ids ids' : Ids) (s : ℕ) → ids_of new ≡ filter (λ i. not (i == s)) (ids_of old)
+pub agrees_closed : (old new : State) (ids ids' : Ids) (s : ℕ) → state_ids new ≡ filter (λ i. not (i == s))
+    (state_ids old)
     → ids' ≡ without ids s → Agrees old ids → Agrees new ids'
 agrees_closed old new ids ids' s gone hub a = record {
   same = ap (λ (i : Ids). i.open_ids) hub ∙ ap (λ (is : List ℕ). filter (λ i. not (i == s)) is) a.same ∙ sym gone;
-  newest = subst (λ (i : Ids). All (λ t. IsSomeAnd i.newest (λ n. t ≤ n)) (ids_of new)) (sym hub)
+  newest = subst (λ (i : Ids). All (λ t. IsSomeAnd i.newest (λ n. t ≤ n)) (state_ids new)) (sym hub)
       (subst (λ (is : List ℕ). All (λ t. IsSomeAnd ids.newest (λ n. t ≤ n)) is) (sym gone)
-      (All-filter (λ i. not (i == s)) (λ t. IsSomeAnd ids.newest (λ n. t ≤ n)) (ids_of old) a.newest));
+      (All-filter (λ i. not (i == s)) (λ t. IsSomeAnd ids.newest (λ n. t ≤ n)) (state_ids old) a.newest));
 }
 
 -- the input of a session ended at the hub
 pub agrees_ended : (st : State) (ids ids' : Ids) (s : ℕ) → EndsInput s ids ids' → Agrees st ids → Agrees st ids'
 agrees_ended st ids ids' s ends a = record {
   same = ends.1 ∙ a.same;
-  newest = subst (λ (o : Option ℕ). All (λ t. IsSomeAnd o (λ n. t ≤ n)) (ids_of st)) (sym ends.0) a.newest;
+  newest = subst (λ (o : Option ℕ). All (λ t. IsSomeAnd o (λ n. t ≤ n)) (state_ids st)) (sym ends.0) a.newest;
 }
 
 -- a session opened at the hub
@@ -101,7 +102,7 @@ is_new st ids ids' s new hub a = record {
   same = ap (λ (i : Ids). i.open_ids) hub ∙ ap (λ (is : List ℕ). is ++ s ∷ []) a.same;
   newest = ap (λ (i : Ids). i.newest) hub;
   above = all_as (λ t. IsSomeAnd ids.newest (λ n. t ≤ n)) (λ t. t < s)
-      (λ t known. above_newest ids.newest s t new known) (ids_of st) a.newest;
+      (λ t known. above_newest ids.newest s t new known) (state_ids st) a.newest;
 }
 
 -- that an id is above the open ones, as the machine asks for it
@@ -115,14 +116,15 @@ above_in (x ∷ xs) s h =
 pub is_above : (st : State) (ids : Ids) (s : ℕ) → IsNew st ids s → All (λ (x : Session). x.id < s) st.sessions
 is_above st ids s n = above_in st.sessions s n.above
 
-pub not_open : (st : State) (s : ℕ) → All (λ t. t < s) (ids_of st) → IsOpen st s → ⊥
+pub not_open : (st : State) (s : ℕ) → All (λ t. t < s) (state_ids st) → IsOpen st s → ⊥
 not_open st s above there =
-    let less : s < s = All-contains (λ t. t < s) (ids_of st) s above (open_contains st s there) in
+    let less : s < s = All-contains (λ t. t < s) (state_ids st) s above (open_contains st s there) in
     absurd (omega (arith, less))
 
 -- it was let in
-opened_ids : (old new : State) (s : ℕ) (above : All (λ t. t < s) (ids_of old)) → IsOpen new s
-    → (ids_of new ≡ ids_of old ++ s ∷ []) ⊎ (ids_of new ≡ ids_of old) → ids_of new ≡ ids_of old ++ s ∷ []
+opened_ids : (old new : State) (s : ℕ) (above : All (λ t. t < s) (state_ids old)) → IsOpen new s
+    → (state_ids new ≡ state_ids old ++ s ∷ []) ⊎ (state_ids new ≡ state_ids old) → state_ids new ≡ state_ids old ++ s
+    ∷ []
 opened_ids old new s above there (inl h) = h
 opened_ids old new s above there (inr h) =
     absurd (not_open new s (subst (λ (is : List ℕ). All (λ t. t < s) is) (sym h) above) there)
@@ -135,12 +137,12 @@ pub opens_in : (old new : State) (ids ids' : Ids) (s : ℕ) → IsNew old ids s 
     → ids' ≡ ids → Agrees new ids'
 opens_in old new ids ids' s n m there hub =
     let both = opened_ids old new s n.above there (step_ids old (opened s) m.effect new m.step) in
-    let all : All (λ t. t ≤ s) (ids_of old ++ s ∷ []) =
-    all_push (λ t. t ≤ s) (ids_of old) s
-    (all_as (λ t. t < s) (λ t. t ≤ s) (λ t less. omega (arith, less)) (ids_of old) n.above) (omega arith) in
+    let all : All (λ t. t ≤ s) (state_ids old ++ s ∷ []) =
+    all_push (λ t. t ≤ s) (state_ids old) s
+    (all_as (λ t. t < s) (λ t. t ≤ s) (λ t less. omega (arith, less)) (state_ids old) n.above) (omega arith) in
     record {
       same = ap (λ (i : Ids). i.open_ids) hub ∙ n.same ∙ sym both;
-      newest = subst (λ (o : Option ℕ). All (λ t. IsSomeAnd o (λ k. t ≤ k)) (ids_of new))
+      newest = subst (λ (o : Option ℕ). All (λ t. IsSomeAnd o (λ k. t ≤ k)) (state_ids new))
           (sym (ap (λ (i : Ids). i.newest) hub ∙ n.newest))
           (subst (λ (is : List ℕ). All (λ t. t ≤ s) is) (sym both) all);
     }
@@ -163,10 +165,10 @@ dropped_last (x ∷ xs) s h = at_first (x == s) refl (dropped_last xs s (All-tai
 pub refused_in : (st : State) (ids ids' : Ids) (s : ℕ) → IsNew st ids s → ids' ≡ without ids s → Agrees st ids'
 refused_in st ids ids' s n hub = record {
   same = ap (λ (i : Ids). i.open_ids) hub ∙ ap (λ (is : List ℕ). filter (λ i. not (i == s)) is) n.same
-      ∙ dropped_last (ids_of st) s n.above;
-  newest = subst (λ (o : Option ℕ). All (λ t. IsSomeAnd o (λ k. t ≤ k)) (ids_of st))
+      ∙ dropped_last (state_ids st) s n.above;
+  newest = subst (λ (o : Option ℕ). All (λ t. IsSomeAnd o (λ k. t ≤ k)) (state_ids st))
       (sym (ap (λ (i : Ids). i.newest) hub ∙ n.newest))
-      (all_as (λ t. t < s) (λ t. t ≤ s) (λ t less. omega (arith, less)) (ids_of st) n.above);
+      (all_as (λ t. t < s) (λ t. t ≤ s) (λ t less. omega (arith, less)) (state_ids st) n.above);
 }
 
 -- a session that runs at the hub is open in the machine
@@ -179,7 +181,7 @@ open_at_hub st ids s a there = subst (λ (is : List ℕ). Contains is s) (sym a.
 -- no session is open at either
 pub agrees_none : (st : State) (ids : Ids) → st.sessions ≡ [] → ids.open_ids ≡ [] → Agrees st ids
 agrees_none st ids none hub =
-    let no_ids : ids_of st ≡ [] = ap (λ (xs : List Session). map (λ (x : Session). x.id) xs) none in
+    let no_ids : state_ids st ≡ [] = ap (λ (xs : List Session). map (λ (x : Session). x.id) xs) none in
     record {
       same = hub ∙ sym no_ids;
       newest = subst (λ (is : List ℕ). All (λ s. IsSomeAnd ids.newest (λ n. s ≤ n)) is) (sym no_ids)
@@ -188,7 +190,7 @@ agrees_none st ids none hub =
 
 -- The first open session: it is open, and closed it is one fewer.
 pub first_is_open : (st : State) (s : ℕ) → first_open st ≡ Some s → IsOpen st s
-first_is_open st s h = contains_open st s (in_front (ids_of st) h)
+first_is_open st s h = contains_open st s (in_front (state_ids st) h)
   where
     in_front : (is : List ℕ) → slice_get is 0 ≡ Some s → Contains is s
     in_front [] e = absurd cc
@@ -204,8 +206,8 @@ filter_fewer s (x ∷ xs) = at_first (x == s) (filter_fewer s xs)
     at_first false h = omega (arith, h)
 
 pub first_fewer : (st : State) (s : ℕ) → first_open st ≡ Some s
-    → length (filter (λ i. not (i == s)) (ids_of st)) < length (ids_of st)
-first_fewer st s h = without_first (ids_of st) h
+    → length (filter (λ i. not (i == s)) (state_ids st)) < length (state_ids st)
+first_fewer st s h = without_first (state_ids st) h
   where
     without_first : (is : List ℕ) → slice_get is 0 ≡ Some s → length (filter (λ i. not (i == s)) is) < length is
     without_first [] e = absurd cc
@@ -218,21 +220,21 @@ first_fewer st s h = without_first (ids_of st) h
         at_first false same = absurd cc
 
 -- none is open where none is the first
-pub none_first : (st : State) → first_open st ≡ None → ids_of st ≡ []
-none_first st none = no_ids (ids_of st) none
+pub none_first : (st : State) → first_open st ≡ None → state_ids st ≡ []
+none_first st none = no_ids (state_ids st) none
   where
     no_ids : (is : List ℕ) → slice_get is 0 ≡ None → is ≡ []
     no_ids [] e = refl
     no_ids (i ∷ is) e = absurd cc
 
 -- whether an id is among the ids, as the code asks
-pub served_by : (st : State) (s : ℕ) (b : Bool) → b ≡ list_any (λ i. nat_eq i s) (ids_of st) → st.stopped ≡ false
+pub served_by : (st : State) (s : ℕ) (b : Bool) → b ≡ list_any (λ i. nat_eq i s) (state_ids st) → st.stopped ≡ false
     → MatchBool b (IsServed st s) (NotServed st s)
 served_by st s true e going = record { is_open = open_any st.sessions s ∙ sym e; going = going }
 served_by st s false e going = inr (λ there. absurd (no_one (sym e ∙ refl) (sym (open_any st.sessions s) ∙ there)))
   where
-    no_one : list_any (λ i. nat_eq i s) (ids_of st) ≡ false → list_any (λ i. nat_eq i s) (ids_of st) ≡ true → ⊥
+    no_one : list_any (λ i. nat_eq i s) (state_ids st) ≡ false → list_any (λ i. nat_eq i s) (state_ids st) ≡ true → ⊥
     no_one f t = cc
 
 pub new_at_hub : (st : State) (ids : Ids) (s : ℕ) → IsNew st ids s → Contains ids.open_ids s
-new_at_hub st ids s n = subst (λ (is : List ℕ). Contains is s) (sym n.same) (Contains-push (ids_of st) s)
+new_at_hub st ids s n = subst (λ (is : List ℕ). Contains is s) (sym n.same) (Contains-push (state_ids st) s)

@@ -5,7 +5,7 @@ use Rattle.djq_io.specs.declared.hub.Told.{Told}
 use Rattle.djq_disk.specs.History.{History}
 use Rattle.djq_machine.specs.State.{State, Session}
 use Rattle.djq_machine.specs.Run.{Did, Run, Group}
-use Rattle.djq_machine.specs.Call.{Counts, ids_of}
+use Rattle.djq_machine.specs.Call.{Counts, state_ids}
 use Rattle.djq_laws.specs.Sent.{all_opened, OpensOnce}
 use Rattle.djq_laws.proofs.Dropping.{sent_in_order}
 use Rattle.djq_laws.proofs.Cutting.{in_order}
@@ -30,14 +30,14 @@ rising_from : (old : State) (told : List Told) (done : List Did) (x z : Shown) �
 rising_from old told done x z alone same tells =
     let rising : AllPairs (λ s t. s < t) (all_opened done) =
     subst (λ (is : List ℕ). AllPairs (λ s t. s < t) is) (sym same) (open_rising told x.ids z.ids tells.ids) in
-    let none : ids_of old ≡ [] = ap (λ (xs : List Session). map (λ (x : Session). x.id) xs) alone in
+    let none : state_ids old ≡ [] = ap (λ (xs : List Session). map (λ (x : Session). x.id) xs) alone in
     (subst (λ (is : List ℕ). AllPairs (λ s t. s < t) (is ++ all_opened done)) (sym none) rising, rising)
 
 pub serve_logs : (answer : Served) (turns : ℕ) (x y z : Shown) (before now : Counts) (old mid new : State)
     (g g' : Option ℕ) (d d' : Option History)
     → old.stopped ≡ false
     → old.sessions ≡ [] → Took answer turns x before old y now mid g g' d d'
-    → ((k : Served) → GoesQuietly y (server mid (closing k)) z (server new (closing k))) → ids_of new ≡ []
+    → ((k : Served) → GoesQuietly y (server mid (closing k)) z (server new (closing k))) → state_ids new ≡ []
     → Agrees new z.ids
     → ServeLogs answer turns x before old z now new g g' d d'
 serve_logs answer turns x y z before now old mid new g g' d d' going alone took closes none agrees =

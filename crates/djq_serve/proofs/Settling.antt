@@ -11,8 +11,8 @@ use Rattle.djq_machine.specs.Effect.{Effect}
 use Rattle.djq_machine.specs.LineStep.{LineOutcome}
 use Rattle.djq_machine.specs.Step.{Event, opened, fed, stepped, took, ended, closed, Step, is_dry}
 use Rattle.djq_machine.specs.Run.{fed_by, line_by}
-use Rattle.djq_machine.specs.Call.{IsOpen, Makes, cause_of, held_of, held_in, ids_of}
-use Rattle.djq_laws.specs.Moved.{Spares as SparesSession}
+use Rattle.djq_machine.specs.Call.{IsOpen, Makes, cause_of, held_of, held_in, state_ids}
+use Rattle.djq_laws.specs.Moved.{SparesSession}
 use Rattle.djq_laws.proofs.Cutting.{HeldStep, holds, takes, drops, step_holds}
 use Rattle.djq_laws.proofs.Rising.{step_ids}
 use Rattle.djq_laws.proofs.Stopping.{step_stopped}
@@ -64,13 +64,13 @@ without_it s xs h =
     let same : (s == s) ≡ true = eq-eqb s s refl in
     absurd cc
 
-pub closed_ids : (old : State) (s : ℕ) (bytes : Bytes) (new : State) → Makes old (closed s bytes) new → ids_of new
-    ≡ filter (λ i. not (i == s)) (ids_of old)
+pub closed_ids : (old : State) (s : ℕ) (bytes : Bytes) (new : State) → Makes old (closed s bytes) new → state_ids new
+    ≡ filter (λ i. not (i == s)) (state_ids old)
 closed_ids old s bytes new m = step_ids old (closed s bytes) m.effect new m.step
 
 pub is_closed : (old : State) (s : ℕ) (bytes : Bytes) (new : State) → Makes old (closed s bytes) new → IsOpen new s → ⊥
 is_closed old s bytes new m there =
-    without_it s (ids_of old)
+    without_it s (state_ids old)
     (subst (λ (is : List ℕ). Contains is s) (closed_ids old s bytes new m) (open_contains new s there))
 
 -- no further bytes are held, where they are the same

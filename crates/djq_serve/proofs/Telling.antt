@@ -14,10 +14,10 @@ use Rattle.djq_machine.specs.Run.{Walk}
 use Rattle.djq_laws.specs.declared.limits.TheConstants.{READ_BYTES}
 use Rattle.djq_laws.proofs.Courses.{walk_then}
 use Rattle.djq_serve.specs.Server.{offering}
-use Rattle.djq_serve.specs.Told.{Shown, shown, place, Answers, Shows, Tells}
+use Rattle.djq_serve.specs.Told.{Shown, shown, place, IsAnswered, Shows, Tells}
 
 played_none : (script : Option Script) (ids : Ids)
-    → WhereTold script script (λ a b. Walk Answers (place a ids) [] (place b ids))
+    → WhereTold script script (λ a b. Walk IsAnswered (place a ids) [] (place b ids))
 played_none None ids = tt
 played_none (Some s) ids = refl
 
@@ -26,14 +26,14 @@ pub tells_none : (hub : Shown) → Tells hub hub []
 tells_none hub = record { past = gains_none hub.past; ids = refl; played = played_none hub.script hub.ids }
 
 played_more : (a b c : Option Script) (i j k : Ids) (told more : List Told)
-    → WhereTold a b (λ x y. Walk Answers (place x i) told (place y j))
-    → WhereTold b c (λ x y. Walk Answers (place x j) more (place y k))
-    → WhereTold a c (λ x y. Walk Answers (place x i) (told ++ more) (place y k))
+    → WhereTold a b (λ x y. Walk IsAnswered (place x i) told (place y j))
+    → WhereTold b c (λ x y. Walk IsAnswered (place x j) more (place y k))
+    → WhereTold a c (λ x y. Walk IsAnswered (place x i) (told ++ more) (place y k))
 played_more a b None i j k told more h l = tt
 played_more a None (Some z) i j k told more h l = absurd l
 played_more None (Some y) (Some z) i j k told more h l = absurd h
 played_more (Some x) (Some y) (Some z) i j k told more h l =
-    walk_then Answers (place x i) told (place y j) more (place z k) h l
+    walk_then IsAnswered (place x i) told (place y j) more (place z k) h l
 
 -- some calls, and then others
 pub tells_more : (a b c : Shown) (told more : List Told) → Tells a b told → Tells b c more → Tells a c (told ++ more)
@@ -59,7 +59,7 @@ tells_turn past past' script script' ids ids' turn buf room gains follows turns 
   past = gains;
   ids = (ids', subst (λ (n : ℕ). Turns turn n ids ids') room turns, refl);
   played = where_as script script' (λ x y. Follows ids turn buf x y)
-      (λ x y. Walk Answers (place x ids) (Turning turn (brought turn buf) ∷ []) (place y ids'))
+      (λ x y. Walk IsAnswered (place x ids) (Turning turn (brought turn buf) ∷ []) (place y ids'))
       (λ x y f. (place y ids', (buf, room, refl, f, subst (λ (n : ℕ). Turns turn n ids ids') room turns), refl))
       follows;
 }
@@ -73,7 +73,7 @@ tells_send past past' script script' ids ids' s sent text gains sends same = rec
   past = gains;
   ids = (ids', same, refl);
   played = where_as script script' (λ x y. Sends s (length text) sent x y)
-      (λ x y. Walk Answers (place x ids) (offering s text sent ∷ []) (place y ids'))
+      (λ x y. Walk IsAnswered (place x ids) (offering s text sent ∷ []) (place y ids'))
       (λ x y f. (place y ids', (f, same), refl)) sends;
 }
 
@@ -84,6 +84,6 @@ pub tells_close : (past past' : Option (List Told)) (script script' : Option Scr
 tells_close past past' script script' ids ids' s gains same without_it = record {
   past = gains;
   ids = (ids', without_it, refl);
-  played = where_as script script' (λ x y. y ≡ x) (λ x y. Walk Answers (place x ids) (Closing s ∷ []) (place y ids'))
+  played = where_as script script' (λ x y. y ≡ x) (λ x y. Walk IsAnswered (place x ids) (Closing s ∷ []) (place y ids'))
       (λ x y f. (place y ids', (f, without_it), refl)) same;
 }

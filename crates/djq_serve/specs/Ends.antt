@@ -6,9 +6,9 @@ use Rattle.djq_io.specs.declared.hub.Told.{Told}
 use Rattle.djq_io.specs.declared.hub.Told.TheVariants.{Turning, Sending}
 use Rattle.djq_machine.specs.State.{State}
 use Rattle.djq_machine.specs.Run.{Did, Run, Group, out, all_taken, pending_of}
-use Rattle.djq_machine.specs.Call.{Counts, ids_of}
+use Rattle.djq_machine.specs.Call.{Counts, state_ids}
 use Rattle.djq_machine.specs.Gives.{CursorsGive}
-use Rattle.djq_laws.specs.Moved.{Spares}
+use Rattle.djq_laws.specs.Moved.{SparesSession}
 use Rattle.djq_laws.specs.Lines.{TakesInOrder}
 use Rattle.djq_laws.specs.Sent.{all_dropped, all_opened}
 use Rattle.djq_serve.specs.declared.served.Served.{Served}
@@ -76,7 +76,7 @@ RunsThrough start done earlier mid later state = (done ≡ earlier ++ later) × 
 pub record Moments (start : State) (done : List Did) (state : State) : Type 0 where
   pub lines : (earlier : List Did) (mid : State) (later : List Did)
       → RunsThrough start done earlier mid later state
-      → (s : ℕ) → All (λ d. Spares d.event s) earlier → TakesInOrder s start earlier mid
+      → (s : ℕ) → All (λ d. SparesSession d.event s) earlier → TakesInOrder s start earlier mid
   pub cursors : (earlier : List Did) (mid : State) (later : List Did)
       → RunsThrough start done earlier mid later state
       → CursorsGive start → CursorsGive mid
@@ -97,6 +97,6 @@ pub record ServeEnds (answer : Served) (turns : ℕ) (hub : Shown) (counted : Co
   pub moments : Moments old (all_done goes.moves) new
   pub sent : (s : ℕ) → IsSent old goes.moves new s
   pub caused : IsCaused answer (all_told goes.moves) new
-  pub none_open : ids_of new ≡ []
+  pub none_open : state_ids new ≡ []
   pub none_at_hub : hub'.ids.open_ids ≡ []
   pub has_taken : HasTaken answer turns taken

@@ -4,18 +4,18 @@ use Rattle.std.specs.Prelude.{Some, IsSome, IsSomeAnd, length, sum_by, All}
 use Rattle.djq_io.specs.Hub.{Ids}
 use Rattle.djq_machine.specs.State.{State, Session}
 use Rattle.djq_machine.specs.Step.{is_dry}
-use Rattle.djq_machine.specs.Call.{cause_of, held_of, ids_of}
+use Rattle.djq_machine.specs.Call.{cause_of, held_of, state_ids}
 
 -- The machine has the sessions that are open at the hub, and none has an id above the newest.
 pub record Agrees (st : State) (ids : Ids) : Type 0 where
-  pub same : ids.open_ids ≡ ids_of st
-  pub newest : All (λ s. IsSomeAnd ids.newest (λ n. s ≤ n)) (ids_of st)
+  pub same : ids.open_ids ≡ state_ids st
+  pub newest : All (λ s. IsSomeAnd ids.newest (λ n. s ≤ n)) (state_ids st)
 
 -- The hub has opened one session more than the machine, with an id above all before.
 pub record IsNew (st : State) (ids : Ids) (s : ℕ) : Type 0 where
-  pub same : ids.open_ids ≡ ids_of st ++ s ∷ []
+  pub same : ids.open_ids ≡ state_ids st ++ s ∷ []
   pub newest : ids.newest ≡ Some s
-  pub above : All (λ t. t < s) (ids_of st)
+  pub above : All (λ t. t < s) (state_ids st)
 
 -- A session holds no line that could be run, or it has ended.
 abbrev pub IsSettled : State → ℕ → Type 0

@@ -20,7 +20,7 @@ use Rattle.djq_machine.specs.Effect.{Effect}
 use Rattle.djq_machine.specs.LineStep.{LineOutcome, long, blank, slow, no_room, run}
 use Rattle.djq_machine.specs.Step.{Event, opened, fed, stepped, took, ended, closed, Step, is_dry}
 use Rattle.djq_machine.specs.Run.{Did, Group, group_of, pending_of}
-use Rattle.djq_machine.specs.Call.{IsOpen, cause_of, held_of, ids_of, first_due}
+use Rattle.djq_machine.specs.Call.{IsOpen, cause_of, held_of, state_ids, first_due}
 use Rattle.djq_laws.specs.declared.limits.TheConstants.{READ_BYTES}
 use Rattle.djq_serve.specs.declared.served.Served.{Served}
 use Rattle.djq_serve.specs.declared.served.Served.TheVariants.{Stopped, Over, TurnsUsed, HubFault, DiskFault, LogFull}
@@ -172,7 +172,7 @@ after st no_turn = closing Over
 
 -- the first open session
 abbrev pub first_open : State → Option ℕ
-first_open st = slice_get (ids_of st) 0
+first_open st = slice_get (state_ids st) 0
 
 -- no call of the hub and no step: the server stands elsewhere
 abbrev pub Passes : State → Phase → Move → Server → Type 0

@@ -33,14 +33,14 @@ place script ids = record { script = script; ids = ids }
 
 -- One call is answered as the script says, with a buffer of as many bytes as are read at a time.
 -- Nobody asks the hub to listen.
-abbrev pub Answers : Place → Told → Place → Type 0
-Answers old (Turning turn piece) new = (buf : Bytes) × (length buf ≡ READ_BYTES)
+abbrev pub IsAnswered : Place → Told → Place → Type 0
+IsAnswered old (Turning turn piece) new = (buf : Bytes) × (length buf ≡ READ_BYTES)
     × (piece ≡ brought turn buf) × Follows old.ids turn buf old.script new.script
     × Turns turn READ_BYTES old.ids new.ids
-Answers old (Sending s offered sent taken) new = Sends s offered sent old.script new.script
+IsAnswered old (Sending s offered sent taken) new = Sends s offered sent old.script new.script
     × (new.ids ≡ old.ids)
-Answers old (Closing s) new = (new.script ≡ old.script) × (new.ids ≡ without old.ids s)
-Answers old (Listening addr answer) new = ⊥
+IsAnswered old (Closing s) new = (new.script ≡ old.script) × (new.ids ≡ without old.ids s)
+IsAnswered old (Listening addr answer) new = ⊥
 
 -- What a call does to the ids, which every hub shows: a turn opens a session with an id above that
 -- of every one before, and brings bytes or the end of input of one that runs; a close takes one out.
@@ -57,7 +57,7 @@ pub record Tells (old new : Shown) (told : List Told) : Type 0 where
   pub past : Gains old.past new.past told
   pub ids : Walk Shows old.ids told new.ids
   pub played : WhereTold old.script new.script
-      (λ a b. Walk Answers (place a old.ids) told (place b new.ids))
+      (λ a b. Walk IsAnswered (place a old.ids) told (place b new.ids))
 
 -- the bytes that a call sends to a session: those that the hub took
 abbrev pub sent_by : ℕ → Told → Bytes

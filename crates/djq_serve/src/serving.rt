@@ -1,6 +1,6 @@
 ghost use Rattle.std.specs.Prelude.{◌≡◌, [], None, Some, false, length};
 ghost use Rattle.djq_io.specs.Faults.{Counted};
-ghost use Rattle.djq_machine.specs.Call.{counts, ids_of};
+ghost use Rattle.djq_machine.specs.Call.{counts, state_ids};
 ghost use Rattle.djq_laws.specs.declared.limits.TheConstants.{READ_BYTES};
 ghost use Rattle.djq_laws.specs.Holding.{HoldLines};
 ghost use Rattle.djq_serve.specs.Told.{shown};
@@ -124,7 +124,7 @@ fn close_all<M: Machine, H: Hub>(machine: &mut M, hub: &mut H)
         (shown (H.past hub.new) (H.script hub.new) (H.ids hub.new))
         (server (M.state machine.new) (closing answer)) }
     ensures agrees { Agrees (M.state machine.new) (H.ids hub.new) }
-    ensures none { ids_of (M.state machine.new) ≡ [] }
+    ensures none { state_ids (M.state machine.new) ≡ [] }
     ensures faults { H.faults hub.new ≡ H.faults hub.old }
 {
     'closes: while let Some(id) = machine.ids().first().copied() {

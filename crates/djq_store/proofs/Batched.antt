@@ -16,7 +16,7 @@ use Rattle.djq_model.specs.Listed.{Listed, a_query}
 use Rattle.djq_lines.specs.declared.held.HeldRow.{HeldRow}
 use Rattle.djq_lines.specs.declared.answer.Refusal.{Refusal}
 use Rattle.djq_lines.specs.Columns.{types_of}
-use Rattle.djq_lines.specs.Conditions.{first_of}
+use Rattle.djq_lines.specs.Conditions.{first_refusal}
 use Rattle.djq_model.specs.Typed.{fits}
 use Rattle.djq_lines.specs.declared.answer.Refusal.TheVariants.{Limit, NoMemory, NoRelation, Arity, WrongType}
 use Rattle.djq_machine.specs.Store.{with_rows, copies_of, with_copies_of}
@@ -25,7 +25,7 @@ use Rattle.djq_machine.specs.Stale.{reads, listed_reads}
 use Rattle.djq_machine.specs.Changes.{RowsChange, is_outdated}
 use Rattle.djq_machine.specs.Batch.{suit_refusal, SuitAll, is_there, with_held, with_all}
 use Rattle.djq_machine.specs.Batch.{count_came, has_come, store_behind, StopsAt, RefusesBatch}
-use Rattle.djq_machine.specs.Batch.{AddsBatch, rows_in, rows_tried, batch_outcome}
+use Rattle.djq_machine.specs.Batch.{AddsBatch, rows_held, rows_tried, batch_outcome}
 use Rattle.djq_machine.specs.Watch.{is_touched}
 use Rattle.djq_machine.proofs.Reading.{reads_atom}
 use Rattle.djq_rows.specs.Laws.{TextsStay}
@@ -109,7 +109,7 @@ suits_there st held suit =
     by : (h : HeldRow) (o : Option Relation) → relation_of st.relations h.relation ≡ o
         → suit_refusal st h.relation h.row ≡ None → is_some (relation_of st.relations h.relation) ≡ true
     by h None f e = absurd
-        (some_none (sym (ap (λ (b : Bool). cond b (Some NoRelation) (first_of (tail_of h))) (ap is_none f)) ∙ e))
+        (some_none (sym (ap (λ (b : Bool). cond b (Some NoRelation) (first_refusal (tail_of h))) (ap is_none f)) ∙ e))
     by h (Some r) f e = ap is_some f
 
 names_come : (st : Store) (held : List HeldRow) (after : List Relation) → SuitAll st held
@@ -147,7 +147,7 @@ batch_known e e' held (Ok (suc n)) names suit h is =
           ∙ find_kept (has_come st held) (listed_reads q) (names_of held));
       spares = batch_spares st held;
       out = λ q hit. found_any (λ n. has_come st held n && reads q n) (names_of held) ∙ touched_reads st held q hit;
-      hits = λ q. same_tests (is_touched (rows_in st held) q) (list_any (reads q) names)
+      hits = λ q. same_tests (is_touched (rows_held st held) q) (list_any (reads q) names)
           (λ hit.
           let one = passing (λ n. has_come st held n && reads q n) (names_of held) (touched_reads st held q hit) in
           let both = and_parts (has_come st held one.one) (reads q one.one) one.passes in

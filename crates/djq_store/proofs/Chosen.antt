@@ -13,7 +13,7 @@ use Rattle.djq_model.specs.Equality.{bytes_eq-decides}
 use Rattle.djq_model.specs.Listed.{Listed, a_query, listed_name, listed_of}
 use Rattle.djq_lines.specs.declared.answer.Refusal.TheVariants.{Taken, NoQuery, Member, Limit}
 use Rattle.djq_lines.specs.declared.limits.TheConstants.{MEMBERS, QUERIES}
-use Rattle.djq_machine.specs.Conditions.{first_of}
+use Rattle.djq_machine.specs.Conditions.{first_refusal}
 use Rattle.djq_machine.specs.State.{Store}
 use Rattle.djq_machine.specs.Union.{AreUnder, is_union, same_types, stands_twice}
 use Rattle.djq_machine.specs.Union.{types_differ, types_under, union_refusal}
@@ -38,7 +38,7 @@ known_of : {A : Type 0} (o : Option A) → is_none o ≡ false → is_some o ≡
 known_of None h = absurd cc
 known_of (Some x) h = refl
 
-none_holds : (a c d f g : Bool) → first_of ((a, Taken) ∷ (c, NoQuery) ∷ (d, Member) ∷ (f, Limit) ∷ (g, Limit) ∷ [])
+none_holds : (a c d f g : Bool) → first_refusal ((a, Taken) ∷ (c, NoQuery) ∷ (d, Member) ∷ (f, Limit) ∷ (g, Limit) ∷ [])
     ≡ None
     → (a ≡ false) × (c ≡ false) × (d ≡ false) × (f ≡ false) × (g ≡ false)
 none_holds false false false false false h = (refl, refl, refl, refl, refl)

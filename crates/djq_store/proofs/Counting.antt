@@ -12,7 +12,7 @@ use Rattle.djq_model.specs.Listed.{Listed, a_query}
 use Rattle.djq_lines.specs.declared.limits.TheConstants.{QUERIES}
 use Rattle.djq_lines.specs.declared.held.HeldRow.{HeldRow}
 use Rattle.djq_machine.specs.Changes.{RowsChange, is_outdated}
-use Rattle.djq_machine.specs.Batch.{rows_in}
+use Rattle.djq_machine.specs.Batch.{rows_held}
 use Rattle.djq_live.specs.Live.{Live}
 use Rattle.djq_live.specs.Member.{query_at}
 use Rattle.djq_reach.specs.Places.{is_reader}
@@ -190,11 +190,11 @@ module _ (e : Kept) (b : IsEngine e) (us : List (Option Joined)) (order : List �
   }
 
   pub counts_batch_seen : (times : ℕ) (held : List HeldRow) (seen : Kept) (before now : ℕ) → seen.registered ≡ all
-      → (seen.store).relations ≡ (e.store).relations → rows_in seen.store held ≡ rows_in e.store held
+      → (seen.store).relations ≡ (e.store).relations → rows_held seen.store held ≡ rows_held e.store held
       → CountsBatch times e held before now → CountsBatch times seen held before now
   counts_batch_seen times held seen before now is relations same h = record {
     counted = λ n bounded.
-        let change = rows_in e.store held in
+        let change = rows_held e.store held in
         let bound = subst (λ (c : RowsChange). AreBounded seen c n (λ q. false)) same bounded in
         let low = h.counted n (bounded_seen change seen is relations n (λ q. false) bound) in
         let more = readers_count change (λ q. times * update_steps change (n + length held) q) in

@@ -10,7 +10,7 @@ use Rattle.djq_machine.specs.State.{Position}
 use Rattle.djq_machine.specs.Stale.{outdated, outdater_of}
 use Rattle.djq_machine.specs.Changes.{RowsChange}
 use Rattle.djq_engine.specs.declared.cursor.CursorId.{CursorId}
-use Rattle.djq_engine.specs.Kept.{Kept, Held, Registered, same_id, held_at, registered_at}
+use Rattle.djq_engine.specs.Kept.{Kept, HeldCursor, Registered, same_id, held_at, registered_at}
 use Rattle.djq_engine.specs.Kept.{outdated_held, cursors_behind, Outdates}
 use Rattle.djq_engine.specs.Places.{id_at}
 use Rattle.djq_slots.specs.declared.progress.Progress.TheVariants.{Open, Stale}
@@ -30,7 +30,7 @@ use Rattle.djq_store.proofs.Seats.{Slot, cases_place}
 use Rattle.djq_store.proofs.Settled.{Turned, turned, vacant_turned}
 
 -- a cursor behind a change that was made or tried, where there was one
-abbrev pub aged : List Listed → Option RowsChange → ℕ → Held → Held
+abbrev pub aged : List Listed → Option RowsChange → ℕ → HeldCursor → HeldCursor
 aged qs None n x = x
 aged qs (Some change) n x = outdated_held qs change.outdater n x
 
@@ -38,19 +38,19 @@ behind_is : (k : Kept) (o : Option RowsChange) (n : ℕ) (id : CursorId)
     → held_at (cursors_behind k o n) id ≡ option_map (aged (k.store).queries o n) (held_at k.cursors id)
 behind_is k None n id = by (held_at k.cursors id)
   where
-    by : (x : Option Held) → x ≡ option_map (λ (y : Held). y) x
+    by : (x : Option HeldCursor) → x ≡ option_map (λ (y : HeldCursor). y) x
     by None = refl
     by (Some y) = refl
 behind_is k (Some change) n id =
-    find_mapped (λ (x : Held). same_id x.id id) (outdated_held (k.store).queries change.outdater n) k.cursors
+    find_mapped (λ (x : HeldCursor). same_id x.id id) (outdated_held (k.store).queries change.outdater n) k.cursors
 
 -- by what is registered under its query's name
-aged_by : (qs qs' : List Listed) (o : Option RowsChange) (n : ℕ) (x : Held) → listed_of qs x.query
+aged_by : (qs qs' : List Listed) (o : Option RowsChange) (n : ℕ) (x : HeldCursor) → listed_of qs x.query
     ≡ listed_of qs' x.query
     → aged qs o n x ≡ aged qs' o n x
 aged_by qs qs' None n x e = refl
 aged_by qs qs' (Some change) n x e =
-    ap (λ (l : Option Listed). (let y : Held = record x { position = outdated (by l) n x.position } in y)) e
+    ap (λ (l : Option Listed). (let y : HeldCursor = record x { position = outdated (by l) n x.position } in y)) e
   where
     by : Option Listed → Option Bytes
     by None = None
@@ -82,7 +82,7 @@ module _ (o : Option RowsChange) (relations : List Bytes) (turn : Turn) (e e' : 
       some_there None P k = absurd k
       some_there (Some y) P k = (y, refl, k)
 
-      by : (x : Option Held) → held_at e.cursors id ≡ x
+      by : (x : Option HeldCursor) → held_at e.cursors id ≡ x
           → option_map (aged (e.store).queries o n) x ≡ option_map (aged qs o n) x
       by None f = refl
       by (Some x) f =
@@ -92,7 +92,7 @@ module _ (o : Option RowsChange) (relations : List Bytes) (turn : Turn) (e e' : 
           let mine : s.registered ≡ r.0 = only (sym s.found ∙ r.1) in
           let named : s.query.query.name ≡ x.query =
           sym (ap listed_name s.is) ∙ ap (λ (y : Registered). listed_name y.query) mine ∙ sym r.2 in
-          ap (λ (y : Held). Some y) (aged_by (e.store).queries qs o n x
+          ap (λ (y : HeldCursor). Some y) (aged_by (e.store).queries qs o n x
           (subst (λ (name : Bytes). listed_of (e.store).queries name ≡ listed_of qs name) named
           (sym (engine_listed e b.did.before us order w s.query.query.name
           (seat_no_union e b.did.before us order w id.query.at s)))))
@@ -120,12 +120,12 @@ module _ (o : Option RowsChange) (relations : List Bytes) (turn : Turn) (e e' : 
           → aged qs x n (record { id = id; query = j.union.name; position = p })
           ≡ record { id = id; query = j.union.name; position = outdated r n p }
       by None f = ap (λ (s : Option Bytes).
-          (let y : Held = record { id = id; query = j.union.name; position = outdated s n p } in y)) f
+          (let y : HeldCursor = record { id = id; query = j.union.name; position = outdated s n p } in y)) f
       by (Some change) f =
           ap (λ (l : Option Listed).
-          (let y : Held = record { id = id; query = j.union.name; position = outdated (from l) n p } in y)) listed
+          (let y : HeldCursor = record { id = id; query = j.union.name; position = outdated (from l) n p } in y)) listed
           ∙ ap (λ (s : Option Bytes).
-          (let y : Held = record { id = id; query = j.union.name; position = outdated s n p } in y)) f
+          (let y : HeldCursor = record { id = id; query = j.union.name; position = outdated s n p } in y)) f
         where
           from : Option Listed → Option Bytes
           from None = None
@@ -149,7 +149,7 @@ module _ (o : Option RowsChange) (relations : List Bytes) (turn : Turn) (e e' : 
           ∙ (b.laws.unions b.did.before.over.catalog b.did.after.over.catalog e.places e'.places j.union
           (untouched o relations turn e e' us us' b j.union united out) united).1 id.cursor p f
           ∙ ap (λ (ts : List Bytes). position_of ts (members_in e.places j.union) p) b.did.before.over.texts)
-          ∙ ap (λ (x : Held). Some x) (sym (aged_union j None (union_listed k j there) out id
+          ∙ ap (λ (x : HeldCursor). Some x) (sym (aged_union j None (union_listed k j there) out id
           (position_of (e.store).texts (members_in e.places j.union) p)))
   slot_cursor k j j' there united (Some r) out same id =
       ap (λ (u : United). option_map (held_as (e'.store).texts e'.places u id) (slot_at u.cursors id.cursor)) same
@@ -169,7 +169,7 @@ module _ (o : Option RowsChange) (relations : List Bytes) (turn : Turn) (e e' : 
       by None = refl
       by (Some p) =
           ap (λ (pos : Position). Some (record { id = id; query = j.union.name; position = pos })) (stands p)
-          ∙ ap (λ (x : Held). Some x) (sym (aged_union j (Some r) (union_listed k j there) out id
+          ∙ ap (λ (x : HeldCursor). Some x) (sym (aged_union j (Some r) (union_listed k j there) out id
           (position_of (e.store).texts (members_in e.places j.union) p)))
 
   -- of all

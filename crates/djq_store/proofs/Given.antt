@@ -7,7 +7,7 @@ use Rattle.djq_model.specs.Listed.{Listed, a_query, listed_name, listed_of}
 use Rattle.djq_lines.specs.declared.answer.Refusal.{Refusal}
 use Rattle.djq_lines.specs.declared.answer.Refusal.TheVariants.{NoQuery}
 use Rattle.djq_lines.specs.declared.limits.TheConstants.{QUERIES}
-use Rattle.djq_machine.specs.Conditions.{first_of, OutOfMemoryWhere}
+use Rattle.djq_machine.specs.Conditions.{first_refusal, OutOfMemoryWhere}
 use Rattle.djq_machine.specs.State.{Store, Position, open_at, stale}
 use Rattle.djq_machine.specs.Store.{answer_steps}
 use Rattle.djq_reduct.specs.Answers.{IsAnswerOf}
@@ -18,7 +18,7 @@ use Rattle.djq_live.specs.Member.{query_at}
 use Rattle.djq_engine.specs.declared.cursor.CursorId.{CursorId}
 use Rattle.djq_engine.specs.declared.cursor.QueryId.{QueryId}
 use Rattle.djq_engine.specs.Kept as kept
-use Rattle.djq_engine.specs.Kept.{Kept, Held, Registered, registered_at, held_at, KeepsTables}
+use Rattle.djq_engine.specs.Kept.{Kept, HeldCursor, Registered, registered_at, held_at, KeepsTables}
 use Rattle.djq_engine.specs.Kept.{MovesCursor, IsHeld, IsFresh, IsShown, AnswerIs, read_steps}
 use Rattle.djq_engine.proofs.Conditions.{answers_as, done_of}
 use Rattle.djq_united.specs.Staying.{MembersStay, UnionsStay}
@@ -44,7 +44,7 @@ some_is None P h = absurd h
 some_is (Some x) P h = refl
 
 -- a cursor of the engine is over a query that is registered there
-pub held_seat : (e : Kept) → IsEngine e → (id : CursorId) (h : Held) → held_at e.cursors id ≡ Some h
+pub held_seat : (e : Kept) → IsEngine e → (id : CursorId) (h : HeldCursor) → held_at e.cursors id ≡ Some h
     → Seat e id.query.at
 held_seat e b id h there = seat e b id.query.at
     (some_is (registered_at e.registered id.query) (λ r. h.query ≡ listed_name r.query) (b.held id h there).1)
@@ -74,17 +74,17 @@ module _ (e e' : Kept) (r : Rests e e') (us : List (Option Joined)) (order sessi
   pub open_over : (name : Bytes) (result : Result CursorId Refusal) → NoUnion us name → kept.OpenGives e name result e'
       → kept.OpenGives old name result new
   open_over name result none o = record {
-    answer = answers_as (first_of ((is_none (listed_of (e.store).queries name), NoQuery) ∷ []))
-        (first_of ((is_none (listed_of old.store.queries name), NoQuery) ∷ [])) result
+    answer = answers_as (first_refusal ((is_none (listed_of (e.store).queries name), NoQuery) ∷ []))
+        (first_refusal ((is_none (listed_of old.store.queries name), NoQuery) ∷ [])) result
         (λ id. kept.OpensCursor e name id e') (λ id. kept.OpensCursor old name id new) ⊤ ⊤
-        (ap (λ o. first_of ((is_none o, NoQuery) ∷ [])) (engine_listed e r.before us order w name none))
+        (ap (λ o. first_refusal ((is_none o, NoQuery) ∷ [])) (engine_listed e r.before us order w name none))
         (opens name) (λ h. h) o.answer;
     stays = λ x f. ap (λ (x : Kept). seen x us order sessions affected) (o.stays x f);
   }
 
   -- ---- a cursor of a query is read
 
-  moves : (h : Held) (position : Position) → h.id.query.at < QUERIES → MovesCursor e h position e'
+  moves : (h : HeldCursor) (position : Position) → h.id.query.at < QUERIES → MovesCursor e h position e'
       → MovesCursor old h position new
   moves h position low m = record {
     there = held_low e' us h.id low ∙ m.there;
@@ -108,7 +108,8 @@ module _ (e e' : Kept) (r : Rests e e') (us : List (Option Joined)) (order sessi
       (subst (λ (texts : List Bytes). IsShowable texts t.0 answer) r.after.over.texts
       (r.laws.answers r.after.over.catalog t.0 (r.after.over.live id.query.at t.0 t.1).kept answer t.2)))
 
-  gives_at : (h : Held) (q : Listed) (position : Position) (result : Next) (answer : List ℕ) → h.id.query.at < QUERIES
+  gives_at : (h : HeldCursor) (q : Listed) (position : Position) (result : Next) (answer : List ℕ)
+      → h.id.query.at < QUERIES
       → kept.NextGivesAt e h q position result answer e' → store.NextGivesAt old h q position result answer new
   gives_at h q (open_at given ended) Given answer low g = (
     g.0,
@@ -124,7 +125,7 @@ module _ (e e' : Kept) (r : Rests e e') (us : List (Option Joined)) (order sessi
   gives_at h q (stale s m) Given answer low g = g
   gives_at h q (stale s m) End answer low g = g
 
-  more_at : (h : Held) (q : Listed) (position : Position) (result : Bool) → h.id.query.at < QUERIES
+  more_at : (h : HeldCursor) (q : Listed) (position : Position) (result : Bool) → h.id.query.at < QUERIES
       → kept.MoreGivesAt e h q position result e' → kept.MoreGivesAt old h q position result new
   more_at h q (open_at given ended) true low g = (g.0, moves h (open_at given false) low g.1)
   more_at h q (open_at given ended) false low g = (g.0, moves h (open_at given true) low g.1)
@@ -132,11 +133,12 @@ module _ (e e' : Kept) (r : Rests e e') (us : List (Option Joined)) (order sessi
 
   module _ (id : CursorId) (low : id.query.at < QUERIES) where
     -- the cursor and its query are those of the engine
-    pub record SameCursor (h : Held) (q : Listed) : Type 0 where
+    pub record SameCursor (h : HeldCursor) (q : Listed) : Type 0 where
       pub id_is : h.id ≡ id
       pub same : listed_of old.store.queries h.query ≡ Some q
 
-    pub same_cursor : (h : Held) (q : Listed) → held_at e.cursors id ≡ Some h → listed_of (e.store).queries h.query
+    pub same_cursor : (h : HeldCursor) (q : Listed) → held_at e.cursors id ≡ Some h
+        → listed_of (e.store).queries h.query
         ≡ Some q → SameCursor h q
     same_cursor h q there found =
         let s = held_seat e r.before id h there in
@@ -151,7 +153,7 @@ module _ (e e' : Kept) (r : Rests e e') (us : List (Option Joined)) (order sessi
               (seat_no_union e r.before us order w id.query.at s)) ∙ found;
         }
       where
-        over_name : (o : Option Registered) (h : Held) (x : Registered) → o ≡ Some x
+        over_name : (o : Option Registered) (h : HeldCursor) (x : Registered) → o ≡ Some x
             → IsSomeAnd o (λ r. h.query ≡ listed_name r.query) → h.query ≡ listed_name x.query
         over_name o h x e g = subst (λ (o : Option Registered). IsSomeAnd o (λ r. h.query ≡ listed_name r.query)) e g
 
@@ -221,7 +223,7 @@ module _ (e e' : Kept) (b : IsEngine e) (b' : IsEngine e') (laws : StayingLaws) 
   opened_same : (name : Bytes) (result : Result CursorId Refusal) → kept.OpenGives e name result e'
       → (e'.store ≡ e.store) × (e'.registered ≡ e.registered)
   opened_same name (Ok id) o = let d =
-      (done_of (first_of ((is_none (listed_of (e.store).queries name), NoQuery) ∷ [])) id
+      (done_of (first_refusal ((is_none (listed_of (e.store).queries name), NoQuery) ∷ [])) id
       (λ id. kept.OpensCursor e name id e') (OutOfMemoryWhere ⊤) o.answer).1 in (d.store, d.registered)
   opened_same name (Err x) o =
       (ap (λ (k : Kept). k.store) (o.stays x refl), ap (λ (k : Kept). k.registered) (o.stays x refl))
@@ -242,14 +244,14 @@ module _ (e e' : Kept) (id : CursorId) where
   pub closed_same : kept.ClosesCursor e id e' → (e'.store ≡ e.store) × (e'.registered ≡ e.registered)
   closed_same c = (c.store, c.registered)
 
-  moved_same : (h : Held) (position : Position) → MovesCursor e h position e' → (e'.store ≡ e.store)
+  moved_same : (h : HeldCursor) (position : Position) → MovesCursor e h position e' → (e'.store ≡ e.store)
       × (e'.registered ≡ e.registered)
   moved_same h position m = (m.store, m.registered)
 
   itself : e' ≡ e → (e'.store ≡ e.store) × (e'.registered ≡ e.registered)
   itself same = (ap (λ (k : Kept). k.store) same, ap (λ (k : Kept). k.registered) same)
 
-  next_at_same : (h : Held) (q : Listed) (position : Position) (result : Next) (answer : List ℕ)
+  next_at_same : (h : HeldCursor) (q : Listed) (position : Position) (result : Next) (answer : List ℕ)
       → kept.NextGivesAt e h q position result answer e' → (e'.store ≡ e.store) × (e'.registered ≡ e.registered)
   next_at_same h q (open_at given ended) Given answer g = moved_same h (open_at (given ++ g.0 ∷ []) false) g.4
   next_at_same h q (open_at given ended) End answer g = moved_same h (open_at given true) g.1
@@ -258,7 +260,7 @@ module _ (e e' : Kept) (id : CursorId) where
   next_at_same h q (stale s m) Given answer g = absurd g
   next_at_same h q (stale s m) End answer g = absurd g
 
-  more_at_same : (h : Held) (q : Listed) (position : Position) (result : Bool)
+  more_at_same : (h : HeldCursor) (q : Listed) (position : Position) (result : Bool)
       → kept.MoreGivesAt e h q position result e' → (e'.store ≡ e.store) × (e'.registered ≡ e.registered)
   more_at_same h q (open_at given ended) true g = moved_same h (open_at given false) g.1
   more_at_same h q (open_at given ended) false g = moved_same h (open_at given true) g.1

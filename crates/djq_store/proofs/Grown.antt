@@ -12,7 +12,7 @@ use Rattle.djq_model.specs.declared.relation.Relation.{Relation}
 use Rattle.djq_model.specs.declared.relation.CountedRow.{CountedRow}
 use Rattle.djq_model.specs.declared.query.Query.{Query}
 use Rattle.djq_model.specs.declared.query.Atom.{Atom}
-use Rattle.djq_model.specs.Data.{Bytes, Tuple, bytes_eq, relation_of, tuples_of, counted_in}
+use Rattle.djq_model.specs.Data.{Bytes, Tuple, bytes_eq, relation_of, plain_of, counted_in}
 use Rattle.djq_model.specs.Data.{counted_of, rows_of, with_row, with_copies}
 use Rattle.djq_model.specs.Equality.{bytes_eq-decides}
 use Rattle.djq_model.specs.Known.{texts_in, all_learned}
@@ -26,7 +26,7 @@ use Rattle.djq_machine.specs.Store.{with_rows, copies_of, with_copies_of}
 use Rattle.djq_machine.specs.Stale.{reads, listed_reads}
 use Rattle.djq_machine.specs.Changes.{RowsChange, is_outdated}
 use Rattle.djq_machine.specs.Batch.{suit_refusal, SuitAll, is_there, with_held, with_all, has_come}
-use Rattle.djq_machine.specs.Batch.{rows_in, rows_tried, first_read}
+use Rattle.djq_machine.specs.Batch.{rows_held, rows_tried, first_read}
 use Rattle.djq_machine.specs.Watch.{is_touched}
 use Rattle.djq_machine.proofs.Copies.{relation_here, relation_apart, rows_apart, copies_rows}
 use Rattle.djq_deltas.proofs.Lists.{nothing_there, first_or_later, first_there, later_there, mapped_there}
@@ -137,7 +137,7 @@ one_grows st h n there = by (is_there st h) refl (bytes_eq n h.relation) refl
         subst (λ (m : Bytes). length
         (rows_of (with_rows st.relations h.relation (with_row (counted_of st.relations h.relation) h.row)) m)
         ≡ length (rows_of st.relations m) + cond (bytes_eq h.relation m && true) 1 0) (sym same)
-        (ap (λ (cs : List CountedRow). length (tuples_of cs))
+        (ap (λ (cs : List CountedRow). length (plain_of cs))
         (ap counted_in (relation_here st.relations h.relation (with_row (counted_of st.relations h.relation) h.row))
         ∙ found (relation_of st.relations h.relation) there (with_row (counted_of st.relations h.relation) h.row))
         ∙ ap (λ (ts : List Tuple). length ts) (tuples_with_row (counted_of st.relations h.relation) h.row)

@@ -13,7 +13,7 @@ use Rattle.djq_model.specs.Equality.{bytes_eq-decides}
 use Rattle.djq_model.specs.Listed.{Listed, a_query, a_union, AnswersOf, listed_name, listed_of}
 use Rattle.djq_lines.specs.declared.answer.Refusal.{Refusal}
 use Rattle.djq_lines.specs.declared.answer.Refusal.TheVariants.{NoQuery, Arity, WrongType}
-use Rattle.djq_machine.specs.Conditions.{first_of, Answers, OutOfMemoryWhere}
+use Rattle.djq_machine.specs.Conditions.{first_refusal, Answers, OutOfMemoryWhere}
 use Rattle.djq_machine.specs.Store.{Tells, TellsWhether, answer_types, atoms_of, has_steps, fits, listed_types, misfit}
 use Rattle.djq_live.specs.Live.{Live}
 use Rattle.djq_live.specs.Member.{HaveQueries, HeadTypesAre, head_types, query_at, queries_at}
@@ -41,7 +41,7 @@ same_some e = cc
 
 -- what is told of a tuple, by what stands under a name
 abbrev Told : List Relation → Tuple → Result Bool Refusal → Option Listed → Type 0
-Told relations t result o = Answers (first_of ((is_none o, NoQuery)
+Told relations t result o = Answers (first_refusal ((is_none o, NoQuery)
     ∷ (not (length t == length (listed_types relations o)), Arity) ∷
     (not (fits (listed_types relations o) t), WrongType) ∷ [])) result
     (λ yes. IsSomeAnd o (λ q. Tells (AnswersOf relations q t) yes)) (OutOfMemoryWhere ⊥)

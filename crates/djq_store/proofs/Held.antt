@@ -11,7 +11,7 @@ use Rattle.djq_lines.specs.declared.limits.TheConstants.{QUERIES}
 use Rattle.djq_live.specs.Live.{Live}
 use Rattle.djq_reach.proofs.Among.{apart}
 use Rattle.djq_engine.specs.declared.cursor.CursorId.{CursorId}
-use Rattle.djq_engine.specs.Kept.{Kept, Held, Registered, registered_at, same_id, held_at}
+use Rattle.djq_engine.specs.Kept.{Kept, HeldCursor, Registered, registered_at, same_id, held_at}
 use Rattle.djq_engine.specs.Places.{id_at}
 use Rattle.djq_united.specs.Slots.{Progress, slot_at}
 use Rattle.djq_united.specs.United.{United}
@@ -112,7 +112,7 @@ module _ (e : Kept) (us : List (Option Joined)) (id : CursorId) where
       registered P None h = absurd h
       registered P (Some r) h = refl
 
-      none : (o : Option Held) → held_at e.cursors id ≡ o → held_at e.cursors id ≡ None
+      none : (o : Option HeldCursor) → held_at e.cursors id ≡ o → held_at e.cursors id ≡ None
       none None f = f
       none (Some h) f =
           let low = (seat e b id.query.at

@@ -16,7 +16,7 @@ use Rattle.djq_live.specs.Member.{query_at}
 use Rattle.djq_reach.specs.Places.{is_reader, AreOnce}
 use Rattle.djq_engine.specs.declared.cursor.QueryId.{QueryId}
 use Rattle.djq_machine.specs.Delta.{Change}
-use Rattle.djq_engine.specs.Kept.{Kept, Held, Registered, registered_at, with_watchers}
+use Rattle.djq_engine.specs.Kept.{Kept, HeldCursor, Registered, registered_at, with_watchers}
 use Rattle.djq_engine.specs.Places.{id_at, query_in}
 use Rattle.djq_engine.proofs.Listing.{here, behind, map_members}
 use Rattle.djq_united.specs.United.{IsUnited}
@@ -362,7 +362,8 @@ module _ (e : Kept) (us : List (Option Joined)) (order sessions affected : List 
       ≡ record (seen e us order sessions affected)
       { registered = with_watchers (id_at (QUERIES + k)) f (seen e us order sessions affected).registered }
   seen_heard rs f is among =
-      ap₂ (λ (qs : List Listed) (hs : List Held). made qs hs (map (registered_as e.places heard_in sessions) order)
+      ap₂ (λ (qs : List Listed) (hs : List HeldCursor). made qs hs (map (registered_as e.places heard_in sessions)
+      order)
       (in_places e.told (map (told_in (e.store).texts e.places) heard_in))
       (in_places e.places (map (lender_in e.places) heard_in)))
       (queries_same order) (ap (λ hs. e.cursors ++ hs) (held_same QUERIES us k there))
@@ -373,7 +374,7 @@ module _ (e : Kept) (us : List (Option Joined)) (order sessions affected : List 
       (with_watchers (id_at (QUERIES + k)) f (map (registered_as e.places us sessions) order))
       (in_places e.told (map (told_in (e.store).texts e.places) us)) ps) (ap (in_places e.places) lenders_same)
     where
-      made : List Listed → List Held → List Registered → List (Option (List Change)) → List (Option Live) → Kept
+      made : List Listed → List HeldCursor → List Registered → List (Option (List Change)) → List (Option Live) → Kept
       made qs hs rs told ps = record {
         store = record e.store { queries = qs };
         cursors = hs;

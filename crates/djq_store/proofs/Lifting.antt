@@ -23,7 +23,7 @@ use Rattle.djq_machine.specs.Store.{DeletesAs, DeletesRow, delete_refusal}
 use Rattle.djq_machine.specs.Changes.{RowsChange, RowsOutcome, accepted, out_of_memory}
 use Rattle.djq_machine.specs.Batch.{SuitAll, is_there, with_held, with_all, count_came, has_come}
 use Rattle.djq_machine.specs.Batch.{store_behind, place_refusal, HavePlaces, StopsAt, RefusesBatch}
-use Rattle.djq_machine.specs.Batch.{AddsBatch, first_read, rows_in, rows_tried, batch_outcome}
+use Rattle.djq_machine.specs.Batch.{AddsBatch, first_read, rows_held, rows_tried, batch_outcome}
 
 -- a store with other queries registered
 abbrev pub with_queries : List Listed → Store → Store
@@ -188,7 +188,7 @@ module _ (qs : List Listed) where
   come_same : (st : Store) (held : List HeldRow) → has_come (with_queries qs st) held ≡ has_come st held
   come_same st held = λ i name. come_lifted st held name i
 
-  pub rows_lifted : (st : Store) (held : List HeldRow) → rows_in (with_queries qs st) held ≡ rows_in st held
+  pub rows_lifted : (st : Store) (held : List HeldRow) → rows_held (with_queries qs st) held ≡ rows_held st held
   rows_lifted st held =
       ap₂ (λ (m : Store) (come : Bytes → Bool). record {
         after = m.relations;

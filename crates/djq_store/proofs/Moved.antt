@@ -11,7 +11,7 @@ use Rattle.djq_model.specs.Listed.{Listed, AnswersOf, listed_name, listed_of}
 use Rattle.djq_lines.specs.declared.answer.Refusal.{Refusal}
 use Rattle.djq_lines.specs.declared.answer.Refusal.TheVariants.{NoQuery, NoMemory}
 use Rattle.djq_lines.specs.declared.limits.TheConstants.{QUERIES}
-use Rattle.djq_machine.specs.Conditions.{first_of as first_refusal, Answers, OutOfMemoryWhere}
+use Rattle.djq_machine.specs.Conditions.{first_refusal, Answers, OutOfMemoryWhere}
 use Rattle.djq_machine.specs.State.{Store, Position, open_at, stale}
 use Rattle.djq_machine.specs.Store.{answer_steps}
 use Rattle.djq_live.specs.declared.listing.Next.{Next}
@@ -20,7 +20,7 @@ use Rattle.djq_live.specs.Live.{Live, IsShowable, values_of}
 use Rattle.djq_live.specs.Member.{query_at, queries_at}
 use Rattle.djq_engine.specs.declared.cursor.CursorId.{CursorId}
 use Rattle.djq_engine.specs.declared.cursor.QueryId.{QueryId}
-use Rattle.djq_engine.specs.Kept.{Kept, Held, OpensCursor, OpenGives, ClosesCursor, MovesCursor}
+use Rattle.djq_engine.specs.Kept.{Kept, HeldCursor, OpensCursor, OpenGives, ClosesCursor, MovesCursor}
 use Rattle.djq_engine.specs.Kept.{MoreGives, MoreGivesAt, IsShown, AnswerIs, AtQuery, SameTellings}
 use Rattle.djq_engine.specs.Kept.{held_at, same_id, read_steps}
 use Rattle.djq_engine.specs.Places.{id_at}

@@ -15,7 +15,7 @@ use Rattle.djq_lines.specs.declared.answer.Refusal.{Refusal}
 use Rattle.djq_lines.specs.declared.answer.Refusal.TheVariants.{Taken, Limit, NoMemory}
 use Rattle.djq_lines.specs.declared.limits.TheConstants.{QUERIES}
 use Rattle.djq_lines.specs.QueryFault.{query_faults}
-use Rattle.djq_machine.specs.Conditions.{first_of, Answers}
+use Rattle.djq_machine.specs.Conditions.{first_refusal, Answers}
 use Rattle.djq_machine.specs.State.{Store}
 use Rattle.djq_machine.specs.Store.{RegistersQuery, RegistersAs, RefusedLate, RefusedByTexts, query_refusal}
 use Rattle.djq_rows.proofs.Learning.{Grown, all_grown, grown_is}
@@ -87,7 +87,8 @@ query_rests e e' b b' laws k q result g =
 
 -- why, by what has the name and whether there are as many as may be
 abbrev refusal_as : Kept → Query → Option Listed → Bool → Option Refusal
-refusal_as e q named full = first_of ((is_some named, Taken) ∷ query_faults (e.store).relations q ++ (full, Limit) ∷ [])
+refusal_as e q named full = first_refusal ((is_some named, Taken) ∷ query_faults (e.store).relations q
+    ++ (full, Limit) ∷ [])
 
 -- the conditions in front of that
 abbrev front_of : Kept → Query → List (Bool × Refusal)
@@ -125,9 +126,9 @@ module _ (e : Kept) (b : IsEngine e) (us : List (Option Joined)) (order sessions
   full_refusal none full o is x h =
       ap₂ (refusal_as e q) (engine_listed e b us order w q.name none)
       (le-leb QUERIES (length old.store.queries) (let s = stored in omega (arith, s, full)))
-      ∙ by_front (first_of (front_of e q)) refl
+      ∙ by_front (first_refusal (front_of e q)) refl
     where
-      by_front : (p : Option Refusal) → first_of (front_of e q) ≡ p
+      by_front : (p : Option Refusal) → first_refusal (front_of e q) ≡ p
           → refusal_as e q (listed_of (e.store).queries q.name) true ≡ Some x
       by_front (Some y) f = front_refuses (front_of e q) ((true, Limit) ∷ []) y f ∙ by_case h
         where
@@ -161,7 +162,7 @@ module _ (e : Kept) (b : IsEngine e) (us : List (Option Joined)) (order sessions
   -- a union has the name
   pub taken_refusal : (k : ℕ) → Called us q.name k → query_refusal old.store q ≡ Some Taken
   taken_refusal k f =
-      ap (λ (o : Option Listed). first_of
+      ap (λ (o : Option Listed). first_refusal
       ((is_some o, Taken) ∷ query_faults (e.store).relations q ++ (nat_le QUERIES (length old.store.queries), Limit)
       ∷ []))
       (sym (ap (listed_of old.store.queries) f.called)

@@ -7,7 +7,7 @@ use Rattle.djq_lines.specs.declared.limits.TheConstants.{QUERIES}
 use Rattle.djq_cursor.specs.declared.cursor.Cursor.{Cursor}
 use Rattle.djq_live.specs.Live.{Live}
 use Rattle.djq_engine.specs.declared.cursor.CursorId.{CursorId}
-use Rattle.djq_engine.specs.Kept.{Kept, Held, IsHeld, IsFresh, IsOpenAt, held_at}
+use Rattle.djq_engine.specs.Kept.{Kept, HeldCursor, IsHeld, IsFresh, IsOpenAt, held_at}
 use Rattle.djq_engine.specs.Places.{id_at}
 use Rattle.djq_slots.specs.declared.progress.Progress.TheVariants.{Open, Stale}
 use Rattle.djq_united.specs.Slots.{Progress, slot_at}
@@ -29,10 +29,11 @@ module _ (e : Kept) (b : IsEngine e) (us : List (Option Joined)) (order sessions
     (w : IsListed e us order) (id : CursorId) where
   -- of a query it is the engine's
   pub held_in_engine : id.query.at < QUERIES → IsHeld (seen e us order sessions affected) id → IsHeld e id
-  held_in_engine low h = subst (λ (o : Option Held). IsSome o) (held_low e us id low) h
+  held_in_engine low h = subst (λ (o : Option HeldCursor). IsSome o) (held_low e us id low) h
 
   pub fresh_in_engine : id.query.at < QUERIES → IsFresh (seen e us order sessions affected) id → IsFresh e id
-  fresh_in_engine low h = subst (λ (o : Option Held). IsSomeAnd o (λ x. IsOpenAt x.position)) (held_low e us id low) h
+  fresh_in_engine low h = subst (λ (o : Option HeldCursor). IsSomeAnd o (λ x. IsOpenAt x.position))
+      (held_low e us id low) h
 
   module _ (high : QUERIES ≤ id.query.at) where
     stands : held_at (cursors_in e us) id ≡ held_of (e.store).texts e.places id (joined_at us (id.query.at - QUERIES))
@@ -40,7 +41,8 @@ module _ (e : Kept) (b : IsEngine e) (us : List (Option Joined)) (order sessions
 
     pub readable : IsHeld (seen e us order sessions affected) id
         → IsSomeAnd (joined_at us (id.query.at - QUERIES)) (IsReadable e.places id.cursor)
-    readable h = by_slot (joined_at us (id.query.at - QUERIES)) refl (subst (λ (o : Option Held). IsSome o) stands h)
+    readable h = by_slot (joined_at us (id.query.at - QUERIES)) refl (subst (λ (o : Option HeldCursor). IsSome o)
+        stands h)
       where
         there : (j : Joined) (o : Option Progress) → IsSome (option_map (held_as (e.store).texts e.places j.union id) o)
             → IsSome o
@@ -65,7 +67,7 @@ module _ (e : Kept) (b : IsEngine e) (us : List (Option Joined)) (order sessions
     pub freshly : IsFresh (seen e us order sessions affected) id
         → IsSomeAnd (joined_at us (id.query.at - QUERIES)) (IsFreshly e.places id.cursor)
     freshly h = by_slot (joined_at us (id.query.at - QUERIES)) refl
-        (subst (λ (o : Option Held). IsSomeAnd o (λ x. IsOpenAt x.position)) stands h)
+        (subst (λ (o : Option HeldCursor). IsSomeAnd o (λ x. IsOpenAt x.position)) stands h)
       where
         there : (j : Joined) (o : Option Progress)
             → IsSomeAnd (option_map (held_as (e.store).texts e.places j.union id) o) (λ x. IsOpenAt x.position)

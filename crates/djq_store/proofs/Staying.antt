@@ -11,7 +11,7 @@ use Rattle.djq_live.specs.Live.{Live, ShowableStays}
 use Rattle.djq_live.specs.Member.{query_at}
 use Rattle.djq_reach.specs.Places.{is_reader}
 use Rattle.djq_engine.specs.declared.cursor.CursorId.{CursorId}
-use Rattle.djq_engine.specs.Kept.{Kept, Held, Registered, SameCursors, SameTellings, SameShape}
+use Rattle.djq_engine.specs.Kept.{Kept, HeldCursor, Registered, SameCursors, SameTellings, SameShape}
 use Rattle.djq_engine.specs.Kept.{KeepsTables, MovesCursor, IsOver, held_at, same_id}
 use Rattle.djq_engine.specs.Places.{id_at, query_in}
 use Rattle.djq_engine.proofs.Listing.{map_members}

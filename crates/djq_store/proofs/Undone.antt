@@ -12,13 +12,13 @@ use Rattle.djq_model.specs.Equality.{bytes_eq-decides}
 use Rattle.djq_model.specs.Listed.{Listed, listed_name, listed_of}
 use Rattle.djq_lines.specs.declared.answer.Refusal.TheVariants.{NoQuery, InUse}
 use Rattle.djq_lines.specs.declared.limits.TheConstants.{QUERIES, SESSIONS}
-use Rattle.djq_machine.specs.Conditions.{first_of as first_refusal, OutOfMemoryWhere}
+use Rattle.djq_machine.specs.Conditions.{first_refusal, OutOfMemoryWhere}
 use Rattle.djq_machine.specs.State.{Store}
 use Rattle.djq_machine.specs.Store.{drop_refusal}
 use Rattle.djq_reach.specs.Places.{is_reader}
 use Rattle.djq_engine.specs.declared.cursor.CursorId.{CursorId}
 use Rattle.djq_engine.specs.declared.cursor.QueryId.{QueryId}
-use Rattle.djq_engine.specs.Kept.{Kept, Held, Registered, SameCursors, Uses, DropGives, TellsOf}
+use Rattle.djq_engine.specs.Kept.{Kept, HeldCursor, Registered, SameCursors, Uses, DropGives, TellsOf}
 use Rattle.djq_engine.specs.Kept.{same_query, held_at, registered_at, registered_of, is_watched}
 use Rattle.djq_engine.specs.Places.{id_at, left}
 use Rattle.djq_engine.proofs.Conditions.{answers_refused, answers_done}
@@ -257,12 +257,12 @@ module _ (e : Kept) (b : IsEngine e) (us : List (Option Joined)) (order sessions
           (ap (λ n. nat_lt 0 n) (watched_by ∙ unwatched)),
     )
       where
-        of_union : (id : CursorId) (h : Held) (i : ℕ) (o : Option Joined) → joined_at us i ≡ o
+        of_union : (id : CursorId) (h : HeldCursor) (i : ℕ) (o : Option Joined) → joined_at us i ≡ o
             → held_of (e.store).texts e.places id o ≡ Some h → h.query ≡ name → ⊥
         of_union id h i None f g called = absurd cc
         of_union id h i (Some y) f g called = by_slot (slot_at y.union.cursors id.cursor) refl g
           where
-            same : {x y : Held} → Some x ≡ Some y → x ≡ y
+            same : {x y : HeldCursor} → Some x ≡ Some y → x ≡ y
             same h = cc
 
             same_joined : {x y : Joined} → Some x ≡ Some y → x ≡ y
@@ -275,14 +275,14 @@ module _ (e : Kept) (b : IsEngine e) (us : List (Option Joined)) (order sessions
                 let is : held_as (e.store).texts e.places y.union id p ≡ h = same g in
                 let z : Joint us i = record { union = y; there = f } in
                 let places : QUERIES + i ≡ at = w.named (QUERIES + i) at (joint_order e b us order w i z) in_order
-                (ap listed_name (listed_joint e.places us i z) ∙ ap (λ (x : Held). x.query) is ∙ called
+                (ap listed_name (listed_joint e.places us i z) ∙ ap (λ (x : HeldCursor). x.query) is ∙ called
                 ∙ sym (ap listed_name (listed_joint e.places us k x))) in
                 let slot : i ≡ k = omega (arith, places) in
                 let y_is : y ≡ j = same_joined (sym f ∙ ap (joined_at us) slot ∙ there) in
                 vacant_slot j.union.cursors none_held id.cursor p
                 (ap (λ (u : Joined). slot_at u.union.cursors id.cursor) (sym y_is) ∙ s)
 
-        no_cursor : (id : CursorId) (h : Held) → held_at old.cursors id ≡ Some h → h.query ≡ name → ⊥
+        no_cursor : (id : CursorId) (h : HeldCursor) → held_at old.cursors id ≡ Some h → h.query ≡ name → ⊥
         no_cursor id h f called = by_case (cases_place id.query.at)
           where
             by_case : (id.query.at < QUERIES) ⊎ Slot id.query.at → ⊥
@@ -294,7 +294,7 @@ module _ (e : Kept) (b : IsEngine e) (us : List (Option Joined)) (order sessions
                 false≢true (sym (seat_no_union e b us order w id.query.at s k j there)
                 ∙ (bytes_eq-decides name s.query.query.name).1 (sym called ∙ over))
               where
-                over_seat : (o : Option Registered) (h : Held) (r : Registered) → o ≡ Some r
+                over_seat : (o : Option Registered) (h : HeldCursor) (r : Registered) → o ≡ Some r
                     → IsSomeAnd o (λ r. h.query ≡ listed_name r.query) → h.query ≡ listed_name r.query
                 over_seat o h r f g = subst
                     (λ (o : Option Registered). IsSomeAnd o (λ r. h.query ≡ listed_name r.query)) f g

@@ -10,7 +10,7 @@ use Rattle.djq_model.specs.Listed.{Listed, AnswersOf, listed_of}
 use Rattle.djq_lines.specs.declared.answer.Refusal.{Refusal}
 use Rattle.djq_lines.specs.declared.answer.Refusal.TheVariants.{NoQuery, NoMemory}
 use Rattle.djq_lines.specs.declared.limits.TheConstants.{QUERIES}
-use Rattle.djq_machine.specs.Conditions.{first_of as first_refusal, OutOfMemoryWhere}
+use Rattle.djq_machine.specs.Conditions.{first_refusal, OutOfMemoryWhere}
 use Rattle.djq_machine.specs.State.{Position, open_at, stale}
 use Rattle.djq_machine.specs.Store.{answer_steps, IsLeft, AreAll}
 use Rattle.djq_model.specs.declared.relation.Relation.{Relation}
@@ -20,7 +20,7 @@ use Rattle.djq_rows.specs.Catalog.{Catalog}
 use Rattle.djq_live.specs.Live.{Live, IsShowable, values_of}
 use Rattle.djq_live.specs.Member.{queries_at}
 use Rattle.djq_engine.specs.declared.cursor.CursorId.{CursorId}
-use Rattle.djq_engine.specs.Kept.{Kept, Held, OpensCursor, OpenGives, ClosesCursor, MovesCursor}
+use Rattle.djq_engine.specs.Kept.{Kept, HeldCursor, OpensCursor, OpenGives, ClosesCursor, MovesCursor}
 use Rattle.djq_engine.specs.Kept.{MoreGives, MoreGivesAt, IsShown, AnswerIs, AtQuery, held_at, same_id, read_steps}
 use Rattle.djq_engine.specs.Places.{id_at}
 use Rattle.djq_engine.proofs.Conditions.{answers_done, answers_lacking}
@@ -189,7 +189,7 @@ module _ (e : Kept) (b : IsEngine e) (us : List (Option Joined)) (order sessions
 
   module _ (u : United) (o : Joined) (there : joined_at us k ≡ Some o) (cursor : ℕ) (p : Progress)
       (slot : slot_at o.union.cursors cursor ≡ Some p) where
-    abbrev held : Held
+    abbrev held : HeldCursor
     held = held_as (e.store).texts e.places o.union (cursor_of k cursor) p
 
     pub held_there : held_at old.cursors (cursor_of k cursor) ≡ Some held

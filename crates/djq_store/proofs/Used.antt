@@ -11,14 +11,14 @@ use Rattle.djq_model.specs.Listed.{Listed, listed_name, listed_of, members_of}
 use Rattle.djq_lines.specs.declared.answer.Refusal.{Refusal}
 use Rattle.djq_lines.specs.declared.answer.Refusal.TheVariants.{NoQuery, InUse}
 use Rattle.djq_lines.specs.declared.limits.TheConstants.{QUERIES}
-use Rattle.djq_machine.specs.Conditions.{first_of as first_refusal, OutOfMemoryWhere}
+use Rattle.djq_machine.specs.Conditions.{first_refusal, OutOfMemoryWhere}
 use Rattle.djq_machine.specs.State.{Store}
 use Rattle.djq_machine.specs.Store.{drop_refusal, is_member}
 use Rattle.djq_live.specs.Live.{Live}
 use Rattle.djq_reach.specs.Places.{is_reader}
 use Rattle.djq_engine.specs.declared.cursor.CursorId.{CursorId}
 use Rattle.djq_engine.specs.declared.cursor.QueryId.{QueryId}
-use Rattle.djq_engine.specs.Kept.{Kept, Held, Registered, KeepsQuery, KeepsTables, Uses, DropGives}
+use Rattle.djq_engine.specs.Kept.{Kept, HeldCursor, Registered, KeepsQuery, KeepsTables, Uses, DropGives}
 use Rattle.djq_engine.specs.Kept.{DropsPlace, TellsOf, same_query, held_at, registered_at}
 use Rattle.djq_engine.specs.Kept.{registered_of, is_watched, same_id}
 use Rattle.djq_engine.specs.Places.{id_at, left}
@@ -45,7 +45,7 @@ use Rattle.djq_store.proofs.Vacated.{Vacates, vacated_store, vacated_registered,
 -- ---- it is decided whether a name is in use
 
 -- whether a cursor that is found is over what has the name
-abbrev over_name : Bytes → Option Held → Bool
+abbrev over_name : Bytes → Option HeldCursor → Bool
 over_name name None = false
 over_name name (Some h) = bytes_eq h.query name
 
@@ -79,10 +79,11 @@ pub record Decided (k : Kept) (name : Bytes) : Type 0 where
 pub decided : (k : Kept) (name : Bytes) → Decided k name
 decided k name = by_cursor (list_any over k.cursors) refl
   where
-    over : Held → Bool
+    over : HeldCursor → Bool
     over h = over_name name (held_at k.cursors h.id)
 
-    found : (h : Held) → (o : Option Held) → held_at k.cursors h.id ≡ o → over_name name o ≡ true → Uses k name true
+    found : (h : HeldCursor) → (o : Option HeldCursor) → held_at k.cursors h.id ≡ o → over_name name o ≡ true
+        → Uses k name true
     found h None f e = absurd cc
     found h (Some x) f e = inl (h.id, x, f, (bytes_eq-decides x.query name).0 e)
 
@@ -92,17 +93,18 @@ decided k name = by_cursor (list_any over k.cursors) refl
         ap₂ (λ (n : ℕ) (c : ℕ). (let i : CursorId = record { query = id_at n; cursor = c } in i))
         (eqb-true a.query.at b.query.at t.0) (eqb-true a.cursor b.cursor t.1)
 
-    no_cursor : list_any (λ (h : Held). over_name name (held_at k.cursors h.id)) k.cursors ≡ false
-        → (id : CursorId) (h : Held) → held_at k.cursors id ≡ Some h → h.query ≡ name → ⊥
+    no_cursor : list_any (λ (h : HeldCursor). over_name name (held_at k.cursors h.id)) k.cursors ≡ false
+        → (id : CursorId) (h : HeldCursor) → held_at k.cursors id ≡ Some h → h.query ≡ name → ⊥
     no_cursor none id h f called =
-        let no = any_none (λ (h : Held). over_name name (held_at k.cursors h.id)) (λ (h : Held). same_id h.id id)
+        let no = any_none (λ (h : HeldCursor). over_name name (held_at k.cursors h.id))
+        (λ (h : HeldCursor). same_id h.id id)
         k.cursors h none f in
         let is : held_at k.cursors h.id
         ≡ Some h = ap (held_at k.cursors)
-        (same_ids h.id id (found_passes (λ (h : Held). same_id h.id id) k.cursors h f)) ∙ f in
+        (same_ids h.id id (found_passes (λ (h : HeldCursor). same_id h.id id) k.cursors h f)) ∙ f in
         false≢true (sym no ∙ ap (over_name name) is ∙ (bytes_eq-decides h.query name).1 called)
 
-    watched : list_any (λ (h : Held). over_name name (held_at k.cursors h.id)) k.cursors ≡ false
+    watched : list_any (λ (h : HeldCursor). over_name name (held_at k.cursors h.id)) k.cursors ≡ false
         → (o : Option Registered) → registered_of k.registered name ≡ o → Decided k name
     watched none None f = record {
       used = false;
@@ -123,9 +125,10 @@ decided k name = by_cursor (list_any over k.cursors) refl
               (no_cursor none, subst (λ (o : Option Registered). IfSome o (λ r. is_watched r ≡ false)) (sym f) g);
         }
 
-    by_cursor : (c : Bool) → list_any (λ (h : Held). over_name name (held_at k.cursors h.id)) k.cursors ≡ c
+    by_cursor : (c : Bool) → list_any (λ (h : HeldCursor). over_name name (held_at k.cursors h.id)) k.cursors ≡ c
         → Decided k name
-    by_cursor true f = let x = any_one (λ (h : Held). over_name name (held_at k.cursors h.id)) k.cursors f in record
+    by_cursor true f = let x = any_one (λ (h : HeldCursor). over_name name (held_at k.cursors h.id)) k.cursors f in
+        record
         { used = true; uses = found x.0 (held_at k.cursors x.0.id) refl x.1 }
     by_cursor false f = watched f (registered_of k.registered name) refl
 
@@ -297,7 +300,7 @@ module _ (e : Kept) (b : IsEngine e) (us : List (Option Joined)) (order sessions
             (watched_as ∙ subst (λ (o : Option Registered). IfSome o (λ r. is_watched r ≡ false)) in_engine u.1),
       )
         where
-          of_union : (id : CursorId) (h : Held) (k : ℕ) (o : Option Joined) → joined_at us k ≡ o
+          of_union : (id : CursorId) (h : HeldCursor) (k : ℕ) (o : Option Joined) → joined_at us k ≡ o
               → held_of (e.store).texts e.places id o ≡ Some h → h.query ≡ name → ⊥
           of_union id h k None f g called = absurd cc
           of_union id h k (Some j) f g called = by_slot (slot_at j.union.cursors id.cursor) g
@@ -307,12 +310,12 @@ module _ (e : Kept) (b : IsEngine e) (us : List (Option Joined)) (order sessions
               by_slot (Some p) g =
                   let is : held_as (e.store).texts e.places j.union id p ≡ h = same g in
                   false≢true (sym (none k j f)
-                  ∙ (bytes_eq-decides j.union.name name).1 (ap (λ (x : Held). x.query) is ∙ called))
+                  ∙ (bytes_eq-decides j.union.name name).1 (ap (λ (x : HeldCursor). x.query) is ∙ called))
                 where
-                  same : {x y : Held} → Some x ≡ Some y → x ≡ y
+                  same : {x y : HeldCursor} → Some x ≡ Some y → x ≡ y
                   same h = cc
 
-          no_cursor : (id : CursorId) (h : Held) → held_at old.cursors id ≡ Some h → h.query ≡ name → ⊥
+          no_cursor : (id : CursorId) (h : HeldCursor) → held_at old.cursors id ≡ Some h → h.query ≡ name → ⊥
           no_cursor id h f called = by_case (cases_place id.query.at)
             where
               by_case : (id.query.at < QUERIES) ⊎ Slot id.query.at → ⊥

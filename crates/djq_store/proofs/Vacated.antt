@@ -16,7 +16,7 @@ use Rattle.djq_live.specs.Member.{query_at, queries_at, AreAlike}
 use Rattle.djq_reach.specs.Places.{is_reader}
 use Rattle.djq_reach.proofs.Reaching.{place_below, reader_there}
 use Rattle.djq_engine.specs.declared.cursor.QueryId.{QueryId}
-use Rattle.djq_engine.specs.Kept.{Kept, Held, Registered, SameCursors, TellsOf, DropsTelling}
+use Rattle.djq_engine.specs.Kept.{Kept, HeldCursor, Registered, SameCursors, TellsOf, DropsTelling}
 use Rattle.djq_engine.specs.Kept.{held_at, registered_at, registered_of, same_query, told_at}
 use Rattle.djq_engine.specs.Places.{id_at, query_in, told_of, left}
 use Rattle.djq_engine.proofs.Listing.{map_members, drop_listed, reader_filter, filter_twice, once_filter}
@@ -305,7 +305,7 @@ module _ (e e' : Kept) (us : List (Option Joined)) (order sessions affected : Li
       by_slot k None f = refl
       by_slot k (Some j) f =
           ap₂ (λ (ts : List Bytes) (ls : List Live). option_map
-          (λ p. (let h : Held = record { id = id; query = j.union.name; position = position_of ts ls p } in h))
+          (λ p. (let h : HeldCursor = record { id = id; query = j.union.name; position = position_of ts ls p } in h))
           (slot_at j.union.cursors id.cursor)) texts (members_same k j f)
 
       by_case : (id.query.at < QUERIES) ⊎ Slot id.query.at → held_at new.cursors id ≡ held_at old.cursors id

@@ -4,7 +4,7 @@ use Rattle.djq_model.specs.Data.{Bytes}
 use Rattle.djq_model.specs.Listed.{Listed, a_query, a_union, listed_of, members_of}
 use Rattle.djq_lines.specs.declared.answer.Refusal.{Refusal}
 use Rattle.djq_lines.specs.declared.answer.Refusal.TheVariants.{NoQuery}
-use Rattle.djq_machine.specs.Conditions.{first_of, Answers, OutOfMemoryWhere}
+use Rattle.djq_machine.specs.Conditions.{first_refusal, Answers, OutOfMemoryWhere}
 use Rattle.djq_machine.specs.State.{Store}
 use Rattle.djq_engine.specs.Kept.{ExplainsTree, HasTree}
 use Rattle.djq_store.specs.declared.explained.Explained.{Explained}
@@ -24,7 +24,7 @@ TakesMemory (a_union name qs) = ⊥
 
 -- What `explain` answers.
 pub record ExplainGives (st : Store) (name : Bytes) (result : Result Explained Refusal) : Type 0 where
-  pub answer : Answers (first_of ((is_none (listed_of st.queries name), NoQuery) ∷ []))
+  pub answer : Answers (first_refusal ((is_none (listed_of st.queries name), NoQuery) ∷ []))
       result (λ explained. IsSomeAnd (listed_of st.queries name) (λ q. Explains q explained))
       (OutOfMemoryWhere (IsSomeAnd (listed_of st.queries name) TakesMemory))
 

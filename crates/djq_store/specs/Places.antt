@@ -8,7 +8,7 @@ use Rattle.djq_machine.specs.Delta.{Change}
 use Rattle.djq_live.specs.Live.{Live}
 use Rattle.djq_live.specs.Member.{query_at}
 use Rattle.djq_engine.specs.declared.cursor.CursorId.{CursorId}
-use Rattle.djq_engine.specs.Kept.{Held, Registered, Kept}
+use Rattle.djq_engine.specs.Kept.{HeldCursor, Registered, Kept}
 use Rattle.djq_engine.specs.Places.{no_query, query_in, id_at, told_of}
 use Rattle.djq_united.specs.Slots.{Progress, slot_at}
 use Rattle.djq_united.specs.United.{United, members_in, first_of, union_of, position_of}
@@ -64,12 +64,12 @@ registered_as gs us sessions at = record {
 }
 
 -- a cursor of a union, as contracts see it
-abbrev pub held_as : List Bytes → List (Option Live) → United → CursorId → Progress → Held
+abbrev pub held_as : List Bytes → List (Option Live) → United → CursorId → Progress → HeldCursor
 held_as texts gs u id p =
     record { id = id; query = u.name; position = position_of texts (members_in gs u) p }
 
 -- the cursors in slots from this one on, of the union in a place
-abbrev pub held_in : List Bytes → List (Option Live) → United → ℕ → ℕ → List (Option Progress) → List Held
+abbrev pub held_in : List Bytes → List (Option Live) → United → ℕ → ℕ → List (Option Progress) → List HeldCursor
 held_in texts gs u at k [] = []
 held_in texts gs u at k (None ∷ slots) = held_in texts gs u at (suc k) slots
 held_in texts gs u at k (Some p ∷ slots) =
@@ -77,14 +77,14 @@ held_in texts gs u at k (Some p ∷ slots) =
     ∷ held_in texts gs u at (suc k) slots
 
 -- the cursors of all unions from this place on
-abbrev pub held_from : List Bytes → List (Option Live) → ℕ → List (Option Joined) → List Held
+abbrev pub held_from : List Bytes → List (Option Live) → ℕ → List (Option Joined) → List HeldCursor
 held_from texts gs at [] = []
 held_from texts gs at (None ∷ us) = held_from texts gs (suc at) us
 held_from texts gs at (Some j ∷ us) =
     held_in texts gs j.union at zero j.union.cursors ++ held_from texts gs (suc at) us
 
 -- the cursor of an id over the union in its slot
-abbrev pub held_of : List Bytes → List (Option Live) → CursorId → Option Joined → Option Held
+abbrev pub held_of : List Bytes → List (Option Live) → CursorId → Option Joined → Option HeldCursor
 held_of texts gs id None = None
 held_of texts gs id (Some j) =
     option_map (held_as texts gs j.union id) (slot_at j.union.cursors id.cursor)
@@ -100,7 +100,7 @@ lender_in gs None = None
 lender_in gs (Some j) = first_member gs j.union
 
 -- the cursors of queries and of unions
-abbrev pub cursors_in : Kept → List (Option Joined) → List Held
+abbrev pub cursors_in : Kept → List (Option Joined) → List HeldCursor
 cursors_in e us = e.cursors ++ held_from (e.store).texts e.places QUERIES us
 
 -- what contracts see, of an engine, unions in slots, the order, the sessions that watch each query, and the affected

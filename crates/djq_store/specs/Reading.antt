@@ -7,11 +7,11 @@ use Rattle.djq_machine.specs.Store.{IsLeft, AreAll}
 use Rattle.djq_live.specs.declared.listing.Next.{Next}
 use Rattle.djq_live.specs.declared.listing.Next.TheVariants.{Given, End, Stale}
 use Rattle.djq_engine.specs.declared.cursor.CursorId.{CursorId}
-use Rattle.djq_engine.specs.Kept.{Kept, Held, AnswerIs, IsShown, MovesCursor, held_at, read_steps}
+use Rattle.djq_engine.specs.Kept.{Kept, HeldCursor, AnswerIs, IsShown, MovesCursor, held_at, read_steps}
 
 -- What a read of a cursor gives: one answer that is left; the end exactly where none is; or what made
 -- it stale. The answer can be shown by the query, of a union by its first member.
-abbrev pub NextGivesAt : Kept → Held → Listed → Position → Next → List ℕ → Kept → Type 0
+abbrev pub NextGivesAt : Kept → HeldCursor → Listed → Position → Next → List ℕ → Kept → Type 0
 NextGivesAt old h q (open_at given ended) Given answer new =
     (t : Tuple) × IsLeft (AnswersOf (old.store).relations q) given t
     × IsShown new h.id answer × AnswerIs new h.id answer t

@@ -17,7 +17,7 @@ use Rattle.djq_machine.specs.State.{Store, State, Session, session_of, with_sess
 use Rattle.djq_machine.specs.Effect.{Effect, queue_all}
 use Rattle.djq_machine.specs.Delta.{Change, change_lines, delta_lines}
 use Rattle.djq_machine.specs.Stale.{outdated_cursor}
-use Rattle.djq_machine.specs.Changes.{RowsChange, RowsOutcome, is_accepted, tried, changed}
+use Rattle.djq_machine.specs.Changes.{RowsChange, RowsOutcome, is_made, tried, changed}
 use Rattle.djq_machine.specs.Run.{Walk, to_session}
 use Rattle.djq_machine.specs.Call.{IsOpen, cause_of, cause_in}
 use Rattle.djq_machine.specs.Watch.{Delta, Telling, says_more, ends_more, watching, watcher_of}
@@ -371,12 +371,12 @@ module _ (s : ℕ) (x : Session) (old : State) (is : session_of old s ≡ Some x
       → AllPairs (λ i j. i < j) (ids_of old) → reply ≡ reply_text r
       → (h : ChangeStep old t outcome store reply e new) → cause_of new s ≡ None
       → to_session s e.queued
-      ≡ replies_text (all_heard x.watches store.seq (cond (is_accepted outcome) h.deltas []) ++ own_replies s x.watches
+      ≡ replies_text (all_heard x.watches store.seq (cond (is_made outcome) h.deltas []) ++ own_replies s x.watches
       (t == s) r)
   change_heard t outcome store reply r e new rising text h running = by last
     where
       ds : List Delta
-      ds = cond (is_accepted outcome) h.deltas []
+      ds = cond (is_made outcome) h.deltas []
 
       start : Telling
       start = beginning old outcome store

@@ -9,7 +9,7 @@ use Rattle.djq_lines.specs.declared.answer.EndCause.TheVariants.{Slow, Memory}
 use Rattle.djq_lines.specs.Reply.{end_slow, end_memory}
 use Rattle.djq_machine.specs.State.{Store, State, Session, session_of, ids_of}
 use Rattle.djq_machine.specs.Effect.{Effect}
-use Rattle.djq_machine.specs.Changes.{RowsOutcome, is_accepted, tried, changed}
+use Rattle.djq_machine.specs.Changes.{RowsOutcome, is_made, tried, changed}
 use Rattle.djq_machine.specs.Call.{IsOpen}
 use Rattle.djq_machine.specs.Watch.{Delta, Telling, says_more, ends_more, watcher_of}
 use Rattle.djq_machine.specs.Watch.{TellsWatcher, TellsSession, TellsDelta, ChangeStep}
@@ -69,4 +69,4 @@ module _ (P : Telling → Type 0)
   change_keeps old s outcome store reply e new h p =
       last_keeps old s outcome store reply e new h
       (walk_keeps (TellsDelta store.seq) P (λ from d to k q. delta_keeps store.seq from d to k q)
-      (beginning old outcome store) (cond (is_accepted outcome) h.deltas []) h.told h.tells p)
+      (beginning old outcome store) (cond (is_made outcome) h.deltas []) h.told h.tells p)

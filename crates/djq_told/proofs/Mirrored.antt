@@ -10,7 +10,7 @@ use Rattle.djq_model.specs.Data.{Bytes, Tuple, bytes_eq}
 use Rattle.djq_model.specs.Equality.{bytes_eq-decides}
 use Rattle.djq_model.specs.Answer.{AreDifferent}
 use Rattle.djq_model.specs.Listed.{Listed, listed_name, AnswersOf, listed_of}
-use Rattle.djq_lines.specs.Conditions.{first_of, Answers, OutOfMemoryWhere}
+use Rattle.djq_lines.specs.Conditions.{first_refusal, Answers, OutOfMemoryWhere}
 use Rattle.djq_lines.specs.declared.limits.TheConstants.{CURSORS}
 use Rattle.djq_lines.specs.declared.answer.EndCause.TheVariants.{Memory}
 use Rattle.djq_lines.specs.declared.answer.Refusal.{Refusal}
@@ -18,7 +18,7 @@ use Rattle.djq_lines.specs.declared.answer.Refusal.TheVariants.{Taken, NoQuery, 
 use Rattle.djq_lines.specs.declared.held.HeldRow.{HeldRow}
 use Rattle.djq_lines.specs.declared.command.Command.{Command}
 use Rattle.djq_lines.specs.declared.command.Command.TheVariants.{Open, Next, Explain}
-use Rattle.djq_lines.specs.Grammar.{Reading, outside, past_limit, says as says_command, reading_of}
+use Rattle.djq_lines.specs.Grammar.{Reading, outside, past_limit, says_command, reading_of}
 use Rattle.djq_lines.specs.Reply.{ok_reply, refusal_line, text_of, listing_lines}
 use Rattle.djq_mirror.specs.declared.mode.Mode.TheVariants.{Idle, Listing, Live}
 use Rattle.djq_mirror.specs.Replies.{Reply, opened as cursor_opened, answer, more as more_line}
@@ -256,7 +256,7 @@ module _ (q : Listed) (s : ℕ) (old : State) (event : Event) (e : Effect) (new 
           let answered = subst (λ (z : Result ⊤ Refusal). Answers (open_refusal taken.store x.cursors c p) z (λ _. ⊤)
           (OutOfMemoryWhere ⊤)) k h.answer in
           let none = none_holds (open_refusal taken.store x.cursors c p) u (λ _. ⊤) (OutOfMemoryWhere ⊤) answered in
-          let last = first_of ((nat_le CURSORS (length x.cursors), Limit) ∷ []) in
+          let last = first_refusal ((nat_le CURSORS (length x.cursors), Limit) ∷ []) in
           let absent = nothing_of (cursor_of x.cursors c)
           (none_first (is_some (cursor_of x.cursors c)) Taken
           (cond (is_none (listed_of taken.store.queries p)) (Some NoQuery) last) none) in

@@ -11,7 +11,7 @@ use Rattle.djq_machine.specs.Effect.{Effect}
 use Rattle.djq_machine.specs.Step.{Event, opened, fed, stepped, took, ended, closed, Step}
 use Rattle.djq_machine.specs.Run.{Did, Run, to_session, out}
 use Rattle.djq_machine.specs.Call.{IsOpen}
-use Rattle.djq_laws.specs.Moved.{Spares}
+use Rattle.djq_laws.specs.Moved.{SparesSession}
 use Rattle.djq_laws.specs.Sent.{opened_by, all_opened}
 use Rattle.djq_laws.specs.Sound.{IsStart}
 use Rattle.djq_laws.specs.Silent.{IsOver, OpensNone}
@@ -65,24 +65,26 @@ opens_quiet old s t event e new is h =
 
 -- ---- a session that isn't closed
 
-run_open : (s : ℕ) (old : State) (done : List Did) (new : State) → Run old done new → All (λ d. Spares d.event s) done
+run_open : (s : ℕ) (old : State) (done : List Did) (new : State) → Run old done new
+    → All (λ d. SparesSession d.event s) done
     → IsOpen old s → IsOpen new s
 run_open s old [] new w spares there = subst (λ (st : State). IsOpen st s) (sym w) there
 run_open s old (d ∷ done) new w spares there =
-    run_open s w.0 done new w.2 (All-tail (λ (c : Did). Spares c.event s) d done spares)
-    (step_open old d.event d.effect w.0 w.1 s (All-head (λ (c : Did). Spares c.event s) d done spares) there)
+    run_open s w.0 done new w.2 (All-tail (λ (c : Did). SparesSession c.event s) d done spares)
+    (step_open old d.event d.effect w.0 w.1 s (All-head (λ (c : Did). SparesSession c.event s) d done spares) there)
 
 -- nothing is queued to one that doesn't open
-never_open : (s : ℕ) (old : State) (done : List Did) (new : State) → Run old done new → All (λ d. Spares d.event s) done
+never_open : (s : ℕ) (old : State) (done : List Did) (new : State) → Run old done new
+    → All (λ d. SparesSession d.event s) done
     → (IsOpen new s → ⊥) → out s done ≡ []
 never_open s old [] new w spares none = refl
 never_open s old (d ∷ done) new w spares none =
-    let rest = All-tail (λ (c : Did). Spares c.event s) d done spares in
+    let rest = All-tail (λ (c : Did). SparesSession c.event s) d done spares in
     ap₂ (λ (a b : Bytes). a ++ b)
     (by rest ((acts_moves old d.event d.effect (w.1).mid (w.1).acts s).there))
     (never_open s w.0 done new w.2 rest none)
   where
-    by : All (λ (c : Did). Spares c.event s) done → IsOpen (w.1).mid s ⊎ (to_session s d.effect.queued ≡ [])
+    by : All (λ (c : Did). SparesSession c.event s) done → IsOpen (w.1).mid s ⊎ (to_session s d.effect.queued ≡ [])
         → to_session s d.effect.queued ≡ []
     by rest (inl there) =
         absurd (none (run_open s w.0 done new w.2 rest (stepped_open old d.event d.effect w.0 w.1 s there)))
@@ -103,13 +105,14 @@ opens_other s old (took t bytes) e new h there = tt
 opens_other s old (ended t) e new h there = tt
 opens_other s old (closed t bytes) e new h there = tt
 
-opens_none : (s : ℕ) (old : State) (done : List Did) (new : State) → Run old done new → All (λ d. Spares d.event s) done
+opens_none : (s : ℕ) (old : State) (done : List Did) (new : State) → Run old done new
+    → All (λ d. SparesSession d.event s) done
     → IsOpen old s → All (λ d. OpensNone s d.event) done
 opens_none s old [] new w spares there = All-nil (λ (d : Did). OpensNone s d.event)
 opens_none s old (d ∷ done) new w spares there =
     All-cons (λ (c : Did). OpensNone s c.event) d done (opens_other s old d.event d.effect w.0 w.1 there)
-    (opens_none s w.0 done new w.2 (All-tail (λ (c : Did). Spares c.event s) d done spares)
-    (step_open old d.event d.effect w.0 w.1 s (All-head (λ (c : Did). Spares c.event s) d done spares) there))
+    (opens_none s w.0 done new w.2 (All-tail (λ (c : Did). SparesSession c.event s) d done spares)
+    (step_open old d.event d.effect w.0 w.1 s (All-head (λ (c : Did). SparesSession c.event s) d done spares) there))
 
 -- it is open as it ends
 ends_open : (s : ℕ) (old : State) (event : Event) (e : Effect) (new : State) → Step old event e new → EndsNow s event
@@ -166,20 +169,21 @@ once_rising start h s earlier mid comes opening is rest rising = record {
 
 once_spared : (s : ℕ) (start : State) (earlier : List Did) (mid : State) → Run start earlier mid → (opening : Did)
     → opening.event ≡ opened s → (first : State) → Step mid opening.event opening.effect first → (rest : List Did)
-    → All (λ d. Spares d.event s) (earlier ++ (opening ∷ rest)) → IsAlone s earlier rest
+    → All (λ d. SparesSession d.event s) (earlier ++ (opening ∷ rest)) → IsAlone s earlier rest
 once_spared s start earlier mid comes opening is first opens rest spares = record {
   before =
-      never_open s start earlier mid comes (front (λ (d : Did). Spares d.event s) earlier (opening ∷ rest) spares)
+      never_open s start earlier mid comes (front (λ (d : Did). SparesSession d.event s) earlier (opening ∷ rest)
+      spares)
       (not_below mid s (opens_below mid s opening.event opening.effect first is opens));
   none = λ done later same at d new more is_later now step ends w.
-      let kept : All (λ (c : Did). Spares c.event s) (d ∷ more) =
-      behind (λ (c : Did). Spares c.event s) done (d ∷ more)
-      (subst (λ (ds : List Did). All (λ (c : Did). Spares c.event s) ds)
+      let kept : All (λ (c : Did). SparesSession c.event s) (d ∷ more) =
+      behind (λ (c : Did). SparesSession c.event s) done (d ∷ more)
+      (subst (λ (ds : List Did). All (λ (c : Did). SparesSession c.event s) ds)
       (same ∙ ap (λ (ds : List Did). done ++ ds) is_later)
-      (All-tail (λ (c : Did). Spares c.event s) opening rest
-      (behind (λ (c : Did). Spares c.event s) earlier (opening ∷ rest) spares))) in
-      opens_none s now more new w (All-tail (λ (c : Did). Spares c.event s) d more kept)
-      (step_open at d.event d.effect now step s (All-head (λ (c : Did). Spares c.event s) d more kept)
+      (All-tail (λ (c : Did). SparesSession c.event s) opening rest
+      (behind (λ (c : Did). SparesSession c.event s) earlier (opening ∷ rest) spares))) in
+      opens_none s now more new w (All-tail (λ (c : Did). SparesSession c.event s) d more kept)
+      (step_open at d.event d.effect now step s (All-head (λ (c : Did). SparesSession c.event s) d more kept)
       (ends_open s at d.event d.effect now step ends));
 }
 
@@ -191,7 +195,7 @@ is_alone start h q s whole at new (inl rising) r =
     (subst (λ (ds : List Did). AllPairs (λ i j. i < j) (all_opened ds)) r.is rising)
 is_alone start h q s whole at new (inr spares) r =
     once_spared s start r.earlier r.mid r.comes r.opening r.is_opened r.first r.opens ((r.fore ++ r.done) ++ r.later)
-    (subst (λ (ds : List Did). All (λ (d : Did). Spares d.event s) ds) r.is spares)
+    (subst (λ (ds : List Did). All (λ (d : Did). SparesSession d.event s) ds) r.is spares)
 
 pub opened_are_read_back : OpenedAreReadBack
 opened_are_read_back start h said q s whole at new once r =

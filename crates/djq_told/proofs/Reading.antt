@@ -66,7 +66,7 @@ use Rattle.djq_lines.specs.Grammar.{
   is_in_range,
   command_of,
   past_limit,
-  says as says_command,
+  says_command,
   reading_in,
   reading_of,
 }

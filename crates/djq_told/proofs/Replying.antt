@@ -80,7 +80,7 @@ use Rattle.djq_lines.specs.declared.command.Command.TheVariants.{
   Stop,
 }
 use Rattle.djq_lines.specs.declared.held.HeldRow.{HeldRow}
-use Rattle.djq_lines.specs.Grammar.{Reading, says as says_command}
+use Rattle.djq_lines.specs.Grammar.{Reading, says_command}
 use Rattle.djq_lines.specs.declared.limits.TheConstants.{LINE_BYTES, HELD}
 use Rattle.djq_lines.specs.Conditions.{Answers, OutOfMemoryWhere}
 use Rattle.djq_lines.specs.Hypergraph.{edges_of, head_of, variable_names}
@@ -142,8 +142,8 @@ use Rattle.djq_mirror.specs.Replies.{
   edges_line,
   reply_text,
   IsNumber,
-  label_text as label_of,
-  node_text as node_of,
+  label_of,
+  node_of,
 }
 use Rattle.djq_machine.specs.State.{Store, State, Session, Cursor, Position, open_at, stale, cursor_of}
 use Rattle.djq_machine.specs.Effect.{Effect, RefusedStep}

@@ -78,7 +78,7 @@ use Rattle.djq_lines.specs.declared.command.Command.TheVariants.{
   Stop,
 }
 use Rattle.djq_lines.specs.declared.held.HeldRow.{HeldRow}
-use Rattle.djq_lines.specs.Grammar.{says as says_command, reading_of}
+use Rattle.djq_lines.specs.Grammar.{says_command, reading_of}
 use Rattle.djq_lines.specs.Reply.{end_memory}
 use Rattle.djq_machine.specs.State.{
   Store,

@@ -62,7 +62,7 @@ use Rattle.djq_model.specs.Data.{
   drop_first,
   relation_of,
   tuples_in,
-  tuples_of,
+  plain_of,
   counted_in,
   counted_of,
   rows_of,
@@ -76,7 +76,7 @@ use Rattle.djq_model.specs.Answer.{Assignment, StandsFor, StandForAll, Satisfies
 use Rattle.djq_model.specs.Listed.{Listed, a_query, a_union, listed_name, AnswersOf, listed_of}
 use Rattle.djq_model.specs.Known.{texts_in, all_learned}
 use Rattle.djq_model.proofs.Counted.{tuples_with_row, tuples_with_copies, tuples_without, tuples_moved}
-use Rattle.djq_lines.specs.Conditions.{first_of, OutOfMemoryWhere}
+use Rattle.djq_lines.specs.Conditions.{first_refusal, OutOfMemoryWhere}
 use Rattle.djq_lines.specs.QueryFault.{is_too_large, query_faults}
 use Rattle.djq_lines.specs.Variables.{constants_of, is_variable, stands_in, variables_of}
 use Rattle.djq_lines.specs.declared.limits.TheConstants.{
@@ -158,11 +158,11 @@ abbrev pub AllFail : List (Bool × Refusal) → Type 0
 AllFail [] = Unit {0}
 AllFail (c ∷ cs) = (c.0 ≡ false) × AllFail cs
 
-pub all_fail : (cs : List (Bool × Refusal)) → first_of cs ≡ None → AllFail cs
+pub all_fail : (cs : List (Bool × Refusal)) → first_refusal cs ≡ None → AllFail cs
 all_fail [] e = tt
 all_fail (c ∷ cs) e = by c.0 refl e (λ f. all_fail cs f)
   where
-    by : (b : Bool) → c.0 ≡ b → cond b (Some c.1) (first_of cs) ≡ None → (first_of cs ≡ None → AllFail cs)
+    by : (b : Bool) → c.0 ≡ b → cond b (Some c.1) (first_refusal cs) ≡ None → (first_refusal cs ≡ None → AllFail cs)
         → AllFail (c ∷ cs)
     by true k f more = absurd cc
     by false k f more = (k, more f)
@@ -187,7 +187,7 @@ cell_there P b (t ∷ ts) (v ∷ vs) x h k all =
 pub rows_sayable : (rs : List Relation) (name : Bytes) → All IsSayableRelation rs → All IsSayableRow (rows_of rs name)
 rows_sayable rs name h = by (relation_of rs name) refl
   where
-    by : (o : Option Relation) → relation_of rs name ≡ o → All IsSayableRow (tuples_of (counted_in o))
+    by : (o : Option Relation) → relation_of rs name ≡ o → All IsSayableRow (plain_of (counted_in o))
     by None e = All-nil IsSayableRow
     by (Some x) e = (all_found IsSayableRelation (λ (r : Relation). bytes_eq r.name name) rs x h e).rows
 
@@ -233,7 +233,7 @@ rel_sayable old name types (Ok u) new h named s =
 
 -- other rows in one relation
 other_rows : (rs : List Relation) (name : Bytes) (rows : List CountedRow) → All IsSayableRelation rs
-    → All IsSayableRow (tuples_of rows) → All IsSayableRelation (with_rows rs name rows)
+    → All IsSayableRow (plain_of rows) → All IsSayableRelation (with_rows rs name rows)
 other_rows rs name rows h all =
     all_changed IsSayableRelation (λ (x : Relation). bytes_eq x.name name)
     (λ (x : Relation). record x { rows = rows }) rs h (λ x found k. record { name = k.name; rows = all })
@@ -278,7 +278,7 @@ add_sayable old name row (Ok First) new h said s =
     subst IsSayableStore (sym d.2) (record {
       relations = other_rows old.relations name (with_row before row) s.relations
           (subst (λ (ts : List Tuple). All IsSayableRow ts) (sym (tuples_with_row before row))
-          (All-push IsSayableRow (tuples_of before) row (rows_sayable old.relations name s.relations) said));
+          (All-push IsSayableRow (plain_of before) row (rows_sayable old.relations name s.relations) said));
       queries = s.queries;
       seq = omega (arith, below);
     })
@@ -306,12 +306,12 @@ del_sayable old name row (Ok Last) new h s =
     (second_fails (copies_of old name row == 1) (nat_le LAST_SEQ old.seq) (eq-eqb (copies_of old name row) 1 d.1)
     fails.1.1.1.0) in
     let before = counted_of old.relations name in
-    let is : tuples_of (without_copies before row) ≡ drop_first (λ t. tuple_eq t row) (tuples_of before) =
-    tuples_without before row ∙ without_dropped (tuples_of before) row in
+    let is : plain_of (without_copies before row) ≡ drop_first (λ t. tuple_eq t row) (plain_of before) =
+    tuples_without before row ∙ without_dropped (plain_of before) row in
     subst IsSayableStore (sym d.2) (record {
       relations = other_rows old.relations name (without_copies before row) s.relations
           (subst (λ (ts : List Tuple). All IsSayableRow ts) (sym is)
-          (all_dropped IsSayableRow (λ t. tuple_eq t row) (tuples_of before)
+          (all_dropped IsSayableRow (λ t. tuple_eq t row) (plain_of before)
           (rows_sayable old.relations name s.relations)));
       queries = s.queries;
       seq = omega (arith, below);
@@ -350,7 +350,7 @@ held_sayable st h said all = by (is_there st h)
         let before = counted_of st.relations h.relation in
         other_rows st.relations h.relation (with_row before h.row) all
         (subst (λ (ts : List Tuple). All IsSayableRow ts) (sym (tuples_with_row before h.row))
-        (All-push IsSayableRow (tuples_of before) h.row (rows_sayable st.relations h.relation all) said.row))
+        (All-push IsSayableRow (plain_of before) h.row (rows_sayable st.relations h.relation all) said.row))
 
 all_held_sayable : (st : Store) (held : List HeldRow) → All IsSayableHeld held → All IsSayableRelation st.relations
     → All IsSayableRelation (with_all st held).relations

@@ -52,14 +52,14 @@ use Rattle.djq_lines.specs.declared.answer.EndLine.TheVariants.{Memory as memory
 use Rattle.djq_lines.specs.declared.held.HeldRow.{HeldRow}
 use Rattle.djq_lines.specs.declared.command.Command.{Command}
 use Rattle.djq_lines.specs.declared.command.Command.TheVariants.{Add, Del, Done}
-use Rattle.djq_lines.specs.Grammar.{Reading, outside, past_limit, says as says_command, reading_of}
+use Rattle.djq_lines.specs.Grammar.{Reading, outside, past_limit, says_command, reading_of}
 use Rattle.djq_lines.specs.Reply.{add_reply, delete_reply, done_reply, end_long, end_slow, end_memory, input_cut}
 use Rattle.djq_mirror.specs.Replies.{Reply, changed as changes_answer, counted, ended as is_ended, cut, IsNumber}
 use Rattle.djq_machine.specs.State.{Store, State, Session, session_of, with_session, ended_by}
 use Rattle.djq_machine.specs.Store.{AddsRow, DeletesRow}
 use Rattle.djq_machine.specs.Effect.{Effect, nothing, says, EndsWith}
 use Rattle.djq_machine.specs.Delta.{Change, HasChanged, IsDelta}
-use Rattle.djq_machine.specs.Changes.{RowsOutcome, accepted, out_of_memory, unchanged, is_accepted}
+use Rattle.djq_machine.specs.Changes.{RowsOutcome, accepted, out_of_memory, unchanged, is_made}
 use Rattle.djq_machine.specs.Changes.{is_outdated, row_in, row_out, add_outcome, delete_outcome}
 use Rattle.djq_machine.specs.Batch.{AddsBatch, batch_outcome}
 use Rattle.djq_machine.specs.Command.{without_batch, AddStep, HoldStep, DoneStep, CommandStep}
@@ -301,7 +301,7 @@ all_heard_fine : (old : State) (t : ℕ) (outcome : RowsOutcome) (store : Store)
     → (c : RowCommand) → RowsMade c old.store outcome store
     → (h : ChangeStep old t outcome store reply e mid) → IsSayableStore old.store → IsSayableStore store
     → (ws : List Bytes)
-    → All IsFine (all_heard ws store.seq (cond (is_accepted outcome) h.deltas []))
+    → All IsFine (all_heard ws store.seq (cond (is_made outcome) h.deltas []))
 all_heard_fine old t unchanged store reply e mid c made h before behind ws = All-nil IsFine
 all_heard_fine old t (out_of_memory change) store reply e mid c made h before behind ws = All-nil IsFine
 all_heard_fine old t (accepted change) store reply e mid c made h before behind ws =
@@ -349,27 +349,27 @@ module _ (q : Listed) (s : ℕ) (old : State) (x : Session) (is : session_of old
       (Fits s t old.store y r e mid.store)
   change_says t y r outcome store reply e mid f left new c made same seq h running tells talk =
       record {
-        replies = all_heard x.watches store.seq (cond (is_accepted outcome) h.deltas []) ++ own_replies s x.watches
+        replies = all_heard x.watches store.seq (cond (is_made outcome) h.deltas []) ++ own_replies s x.watches
             (t == s) f.reply;
         text = change_heard s x old is t outcome store reply f.reply e mid rising f.is h running;
-        harmless = λ k. All-append IsHarmless (all_heard x.watches store.seq (cond (is_accepted outcome) h.deltas []))
+        harmless = λ k. All-append IsHarmless (all_heard x.watches store.seq (cond (is_made outcome) h.deltas []))
             (own_replies s x.watches (t == s) f.reply)
-            (heard_harmless x.watches store.seq (cond (is_accepted outcome) h.deltas []))
+            (heard_harmless x.watches store.seq (cond (is_made outcome) h.deltas []))
             (own_harmless (t == s) f.reply (f.harmless refl));
-        fine = λ u. All-append IsFine (all_heard x.watches store.seq (cond (is_accepted outcome) h.deltas []))
+        fine = λ u. All-append IsFine (all_heard x.watches store.seq (cond (is_made outcome) h.deltas []))
             (own_replies s x.watches (t == s) f.reply)
             (all_heard_fine old t outcome store reply e mid c made h u.before (subst IsSayableStore left u.behind)
             x.watches)
             (own_fine (t == s) f.reply (f.fine u));
         told = subst (λ (rs : List Reply). StepTold q old.store new (is_some (outdater_by old.store c q)) rs)
             (sym (filter-append (is_told_of (listed_name q))
-            (all_heard x.watches store.seq (cond (is_accepted outcome) h.deltas []))
+            (all_heard x.watches store.seq (cond (is_made outcome) h.deltas []))
             (own_replies s x.watches (t == s) f.reply)
             ∙ ap (λ rs. filter (is_told_of (listed_name q))
-            (all_heard x.watches store.seq (cond (is_accepted outcome) h.deltas [])) ++ rs)
+            (all_heard x.watches store.seq (cond (is_made outcome) h.deltas [])) ++ rs)
             (own_none (t == s) f.reply f.plain)
             ∙ append-nil (filter (is_told_of (listed_name q))
-            (all_heard x.watches store.seq (cond (is_accepted outcome) h.deltas [])))))
+            (all_heard x.watches store.seq (cond (is_made outcome) h.deltas [])))))
             (by outcome h made tells);
       }
     where
@@ -382,7 +382,7 @@ module _ (q : Listed) (s : ℕ) (old : State) (x : Session) (is : session_of old
       by : (o : RowsOutcome) (k : ChangeStep old t o store reply e mid) → RowsMade c old.store o store
           → StepTells q s old.store new e.queued (is_some (outdater_by old.store c q))
           → StepTold q old.store new (is_some (outdater_by old.store c q))
-          (filter (is_told_of (listed_name q)) (all_heard x.watches store.seq (cond (is_accepted o) k.deltas [])))
+          (filter (is_told_of (listed_name q)) (all_heard x.watches store.seq (cond (is_made o) k.deltas [])))
       by unchanged k m tells = stays (seq ∙ ap (λ (st : Store). st.seq) m.store) tells
       by (out_of_memory change) k m tells = stays (seq ∙ ap (λ (st : Store). st.seq) m.store) tells
       by (accepted change) k m tells =

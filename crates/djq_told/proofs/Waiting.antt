@@ -28,13 +28,13 @@ use Rattle.djq_lines.specs.declared.answer.EndLine.TheVariants.{Memory as memory
 use Rattle.djq_lines.specs.declared.command.Command.{Command}
 use Rattle.djq_lines.specs.declared.held.HeldRow.{HeldRow}
 use Rattle.djq_lines.specs.declared.command.Command.TheVariants.{Add, Del, Done, Open, Next, Explain}
-use Rattle.djq_lines.specs.Grammar.{Reading, outside, past_limit, says as says_command, reading_of}
+use Rattle.djq_lines.specs.Grammar.{Reading, outside, past_limit, says_command, reading_of}
 use Rattle.djq_lines.specs.Reply.{end_long, end_slow, end_memory}
 use Rattle.djq_mirror.specs.Replies.{Reply, ended as is_ended}
 use Rattle.djq_mirror.specs.Mirror.{Held, at_first}
 use Rattle.djq_machine.specs.State.{Store, State, Session, session_of, with_session}
 use Rattle.djq_machine.specs.Effect.{Effect}
-use Rattle.djq_machine.specs.Changes.{RowsOutcome, is_accepted, row_in, row_out, add_outcome, delete_outcome}
+use Rattle.djq_machine.specs.Changes.{RowsOutcome, is_made, row_in, row_out, add_outcome, delete_outcome}
 use Rattle.djq_machine.specs.Watch.{Delta, ChangeStep}
 use Rattle.djq_machine.specs.LineStep.{LineOutcome, long, blank, slow, no_room, run, ReadStep, FrontStep, behind_line}
 use Rattle.djq_machine.specs.Batch.{batch_outcome}
@@ -118,7 +118,7 @@ module _ (s : ℕ) (old : State) (x : Session) (is : session_of old s ≡ Some x
     replies = own_replies s x.watches (t == s) f.reply;
     text = change_heard s x old is t outcome store reply f.reply e mid rising f.is h running
         ∙ ap (λ rs. replies_text (rs ++ own_replies s x.watches (t == s) f.reply))
-        (nothing_heard x.watches none store.seq (cond (is_accepted outcome) h.deltas []));
+        (nothing_heard x.watches none store.seq (cond (is_made outcome) h.deltas []));
     plain = plain_own (t == s);
     harmless = λ k. harmless_own (t == s);
     fine = λ u. own_fine (t == s) f.reply (f.fine u);

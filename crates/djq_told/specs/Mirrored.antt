@@ -18,7 +18,7 @@ use Rattle.djq_lines.specs.declared.command.Command.TheVariants.{
   Done,
   Abandon,
 }
-use Rattle.djq_lines.specs.Grammar.{Reading, says as says_command, reading_of}
+use Rattle.djq_lines.specs.Grammar.{Reading, says_command, reading_of}
 use Rattle.djq_mirror.specs.declared.mode.Mode.TheVariants.{Live}
 use Rattle.djq_mirror.specs.Inputs.{IsHeld}
 use Rattle.djq_mirror.specs.Replies.{Reply, IsPrinted}

@@ -8,7 +8,7 @@ use Rattle.djq_mirror.specs.Inputs.{IsHeld, IsRefused}
 use Rattle.djq_machine.specs.State.{State}
 use Rattle.djq_machine.specs.Step.{opened, Step}
 use Rattle.djq_machine.specs.Run.{Did, Run, out}
-use Rattle.djq_laws.specs.Moved.{Spares}
+use Rattle.djq_laws.specs.Moved.{SparesSession}
 use Rattle.djq_laws.specs.Sent.{all_opened}
 use Rattle.djq_laws.specs.Sound.{IsStart}
 use Rattle.djq_laws.specs.Silent.{OpensNone}
@@ -73,7 +73,7 @@ pub record ReadsSinceOpened (q : Listed) (s : ℕ) (start : State) (whole : List
 
 -- No session opens twice, or this one isn't closed.
 abbrev pub OpensOnceOnly : ℕ → List Did → Type 0
-OpensOnceOnly s whole = AllPairs (λ i j. i < j) (all_opened whole) ⊎ All (λ d. Spares d.event s) whole
+OpensOnceOnly s whole = AllPairs (λ i j. i < j) (all_opened whole) ⊎ All (λ d. SparesSession d.event s) whole
 
 -- So the whole of what is queued to such a session is read back too.
 abbrev pub OpenedAreReadBack : Type 0

@@ -26,7 +26,7 @@ use Rattle.std.specs.Bool.{OnTrue, OnFalse}
 use Rattle.std.proofs.lemmas.Bool.{false≢true, OnTrue_at, OnFalse_at, cases_Bool, or_left, or_right}
 use Rattle.std.proofs.lemmas.List.{length_push}
 use Rattle.std.proofs.lemmas.List.Elements.{All-nil, All-contains, Contains-push}
-use Rattle.djq_union.specs.Answers.{AreSome, AreAll, IsListing}
+use Rattle.djq_union.specs.Answers.{AreSomeCells, AreAllCells, IsListingOfCells}
 use Rattle.djq_union.specs.Order.{merged}
 use Rattle.djq_union.specs.Union.{some_has, given_at, union_given, FitsFirst, UnionFits}
 use Rattle.djq_union.specs.Going.{GoesOn, MemberGoesOn, UnionGoesOn}
@@ -49,25 +49,25 @@ or_own false b e f = absurd (both b e f)
 module _ {A : Type 0} where
   -- ---- different answers
 
-  pub none_given : (has : A → Bool) → AreSome has []
+  pub none_given : (has : A → Bool) → AreSomeCells has []
   none_given has =
       record { different = different_of [] tt; answers = All-nil (λ (t : A). has t ≡ true) }
 
   some_by : (has : A → Bool) (ts : List A) → AreOnce ts
-      → ((t : A) → Contains ts t → has t ≡ true) → AreSome has ts
+      → ((t : A) → Contains ts t → has t ≡ true) → AreSomeCells has ts
   some_by has ts once only =
       record { different = different_of ts once; answers = all_of (λ (t : A). has t ≡ true) ts only }
 
-  only_has : (has : A → Bool) (ts : List A) → AreSome has ts → (t : A) → Contains ts t
+  only_has : (has : A → Bool) (ts : List A) → AreSomeCells has ts → (t : A) → Contains ts t
       → has t ≡ true
   only_has has ts some t there = All-contains (λ (t : A). has t ≡ true) ts t some.answers there
 
-  once_has : (has : A → Bool) (ts : List A) → AreSome has ts → AreOnce ts
+  once_has : (has : A → Bool) (ts : List A) → AreSomeCells has ts → AreOnce ts
   once_has has ts some = once_of ts some.different
 
   -- where one more was given some was left
-  pub one_left : (has : A → Bool) (old new : List A) (a : A) → AreSome has new
-      → new ≡ old ++ a ∷ [] → AreAll has old → ⊥
+  pub one_left : (has : A → Bool) (old new : List A) (a : A) → AreSomeCells has new
+      → new ≡ old ++ a ∷ [] → AreAllCells has old → ⊥
   one_left has old new a some one all =
       once_left old a (subst (λ (l : List A). AreOnce l) one (once_has has new some))
       (all a (only_has has new some a
@@ -76,12 +76,12 @@ module _ {A : Type 0} where
   -- ---- one call
 
   pub all_at_end : (has : A → Bool) (given : List A) (more : Bool)
-      → (more ≡ false) ↔ IsListing has given → OnFalse more (AreAll has given)
+      → (more ≡ false) ↔ IsListingOfCells has given → OnFalse more (AreAllCells has given)
   all_at_end has given true h = tt
   all_at_end has given false h = (h.0 refl).all
 
-  pub end_of : (has : A → Bool) (old new : List A) (more : Bool) (out : A) → AreSome has old
-      → GoesOn has old new more out → (more ≡ false) ↔ IsListing has old
+  pub end_of : (has : A → Bool) (old new : List A) (more : Bool) (out : A) → AreSomeCells has old
+      → GoesOn has old new more out → (more ≡ false) ↔ IsListingOfCells has old
   end_of has old new true out some g = (
     λ e. absurd (false≢true (sym e)),
     λ listing. absurd (one_left has old new out g.some g.one listing.all),
@@ -100,8 +100,8 @@ module _ {M S A : Type 0} (has : M → A → Bool) (given : M → S → List A) 
 
   pub member_starts : (m : M) (old : Option S) (s t : S) (more : Bool) (out : A) → old ≡ None
       → given m s ≡ [] → fits m t → OnTrue more (given m t ≡ given m s ++ out ∷ [])
-      → OnFalse more (given m t ≡ given m s) → AreSome (has m) (given m t)
-      → (more ≡ false) ↔ IsListing (has m) (given m s)
+      → OnFalse more (given m t ≡ given m s) → AreSomeCells (has m) (given m t)
+      → (more ≡ false) ↔ IsListingOfCells (has m) (given m s)
       → MemberGoesOn has given fits m old (Some t) more out
   member_starts m old s t more out isnt none fit one same some end =
       subst (λ (o : Option S). MemberGoesOn has given fits m o (Some t) more out) (sym isnt)
@@ -153,9 +153,9 @@ module _ {M S A : Type 0} (has : M → A → Bool) (given : M → S → List A) 
 
   -- ---- what members give is what their union gives
 
-  merged_some : (m : M) (ms : List M) (xs ds : List A) → AreSome (has m) xs
-      → AreSome (some_has has ms) ds
-      → AreSome (some_has has (m ∷ ms)) (merged (some_has has ms) xs ds)
+  merged_some : (m : M) (ms : List M) (xs ds : List A) → AreSomeCells (has m) xs
+      → AreSomeCells (some_has has ms) ds
+      → AreSomeCells (some_has has (m ∷ ms)) (merged (some_has has ms) xs ds)
   merged_some m ms xs ds first rest =
       some_by (some_has has (m ∷ ms)) (merged (some_has has ms) xs ds)
       (merged_once (some_has has ms) xs ds (once_has (has m) xs first)
@@ -166,9 +166,9 @@ module _ {M S A : Type 0} (has : M → A → Bool) (given : M → S → List A) 
             (only_has (some_has has ms) ds rest t told)
       ])
 
-  merged_all : (m : M) (ms : List M) (xs ds : List A) → AreAll (has m) xs
-      → AreAll (some_has has ms) ds
-      → AreAll (some_has has (m ∷ ms)) (merged (some_has has ms) xs ds)
+  merged_all : (m : M) (ms : List M) (xs ds : List A) → AreAllCells (has m) xs
+      → AreAllCells (some_has has ms) ds
+      → AreAllCells (some_has has (m ∷ ms)) (merged (some_has has ms) xs ds)
   merged_all m ms xs ds first rest t is = elim (cases_Bool (some_has has ms t)) [
     | inl later ↦ has_later (some_has has ms) xs ds t (rest t later)
     | inr own ↦ has_own (some_has has ms) xs ds t own
@@ -176,7 +176,7 @@ module _ {M S A : Type 0} (has : M → A → Bool) (given : M → S → List A) 
   ]
 
   pub union_some : (ms : List M) (ss : List (Option S)) → UnionFits has given fits ms ss
-      → AreSome (some_has has ms) (union_given has given ms ss)
+      → AreSomeCells (some_has has ms) (union_given has given ms ss)
   union_some [] ss h = none_given (some_has has [])
   union_some (m ∷ ms) [] h = absurd h
   union_some (m ∷ ms) (s ∷ ss) h = merged_some m ms (given_at given m s)
@@ -300,7 +300,7 @@ module _ {M S A : Type 0} (has : M → A → Bool) (given : M → S → List A) 
       let rest = union_given has given ms ss in
       let told = union_given has given ms rests in
       let same : new ≡ old = OnFalse_at isnt g.goes.same in
-      let all : AreAll (has m) old = OnFalse_at isnt g.goes.all in
+      let all : AreAllCells (has m) old = OnFalse_at isnt g.goes.all in
       let ahead = h.0.step.never_behind in
       let count : length (filter later new) ≡ length (filter later old) =
       ap (λ (l : List A). length (filter later l)) same in
@@ -314,7 +314,7 @@ module _ {M S A : Type 0} (has : M → A → Bool) (given : M → S → List A) 
             step = record {
               never_behind = omega (arith, ahead, count, gained);
               even = λ left. absurd
-                  (left (subst (λ (l : List A). AreAll (has m) l) (sym same) all));
+                  (left (subst (λ (l : List A). AreAllCells (has m) l) (sym same) all));
             };
           },
           r.fit,
@@ -335,7 +335,7 @@ module _ {M S A : Type 0} (has : M → A → Bool) (given : M → S → List A) 
       let rest = union_given has given ms ss in
       let told = union_given has given ms rests in
       let same : new ≡ old = OnFalse_at isnt g.goes.same in
-      let all : AreAll (has m) old = OnFalse_at isnt g.goes.all in
+      let all : AreAllCells (has m) old = OnFalse_at isnt g.goes.all in
       let ahead = h.0.step.never_behind in
       let count : length (filter later new) ≡ length (filter later old) =
       ap (λ (l : List A). length (filter later l)) same in
@@ -348,7 +348,7 @@ module _ {M S A : Type 0} (has : M → A → Bool) (given : M → S → List A) 
             step = record {
               never_behind = omega (arith, ahead, count, stays);
               even = λ left. absurd
-                  (left (subst (λ (l : List A). AreAll (has m) l) (sym same) all));
+                  (left (subst (λ (l : List A). AreAllCells (has m) l) (sym same) all));
             };
           },
           r.fit,
@@ -366,8 +366,8 @@ module _ {M S A : Type 0} (has : M → A → Bool) (given : M → S → List A) 
 
   pub all_apart : (m : M) (ms : List M) (s : Option S) (ss : List (Option S))
       → UnionFits has given fits (m ∷ ms) (s ∷ ss)
-      → AreAll (some_has has (m ∷ ms)) (union_given has given (m ∷ ms) (s ∷ ss))
-      → AreAll (some_has has ms) (union_given has given ms ss)
+      → AreAllCells (some_has has (m ∷ ms)) (union_given has given (m ∷ ms) (s ∷ ss))
+      → AreAllCells (some_has has ms) (union_given has given ms ss)
   all_apart m ms s ss h all t is =
       elim (own_or_later (some_has has ms) (given_at given m s) (union_given has given ms ss) t
       (all t (or_right (has m t) (some_has has ms t) is))) [
@@ -376,9 +376,9 @@ module _ {M S A : Type 0} (has : M → A → Bool) (given : M → S → List A) 
       ]
 
   left_first : (m : M) (ms : List M) (s : Option S) (ss : List (Option S))
-      → UnionFits has given fits (m ∷ ms) (s ∷ ss) → (AreAll (has m) (given_at given m s) → ⊥)
-      → AreAll (some_has has (m ∷ ms)) (union_given has given (m ∷ ms) (s ∷ ss))
-      → AreAll (has m) (given_at given m s)
+      → UnionFits has given fits (m ∷ ms) (s ∷ ss) → (AreAllCells (has m) (given_at given m s) → ⊥)
+      → AreAllCells (some_has has (m ∷ ms)) (union_given has given (m ∷ ms) (s ∷ ss))
+      → AreAllCells (has m) (given_at given m s)
   left_first m ms s ss h left all t is =
       let later = some_has has ms in
       let old = given_at given m s in
@@ -402,26 +402,26 @@ module _ {M S A : Type 0} (has : M → A → Bool) (given : M → S → List A) 
 
   pub left_here : (m : M) (ms : List M) (s : Option S) (ss : List (Option S)) (b : Bool)
       → UnionFits has given fits (m ∷ ms) (s ∷ ss) → b ≡ true
-      → (b ≡ false) ↔ AreAll (has m) (given_at given m s)
-      → (true ≡ false) ↔ AreAll (some_has has (m ∷ ms)) (union_given has given (m ∷ ms) (s ∷ ss))
+      → (b ≡ false) ↔ AreAllCells (has m) (given_at given m s)
+      → (true ≡ false) ↔ AreAllCells (some_has has (m ∷ ms)) (union_given has given (m ∷ ms) (s ∷ ss))
   left_here m ms s ss b h is one =
-      let left : AreAll (has m) (given_at given m s) → ⊥ = λ all. both b is (one.1 all) in (
+      let left : AreAllCells (has m) (given_at given m s) → ⊥ = λ all. both b is (one.1 all) in (
         λ e. absurd (false≢true (sym e)),
         λ all. absurd (left (left_first m ms s ss h left all)),
       )
 
   pub left_later : (m : M) (ms : List M) (s : Option S) (ss : List (Option S)) (b r : Bool)
       → UnionFits has given fits (m ∷ ms) (s ∷ ss) → b ≡ false
-      → (b ≡ false) ↔ AreAll (has m) (given_at given m s)
-      → (r ≡ false) ↔ AreAll (some_has has ms) (union_given has given ms ss)
-      → (r ≡ false) ↔ AreAll (some_has has (m ∷ ms)) (union_given has given (m ∷ ms) (s ∷ ss))
+      → (b ≡ false) ↔ AreAllCells (has m) (given_at given m s)
+      → (r ≡ false) ↔ AreAllCells (some_has has ms) (union_given has given ms ss)
+      → (r ≡ false) ↔ AreAllCells (some_has has (m ∷ ms)) (union_given has given (m ∷ ms) (s ∷ ss))
   left_later m ms s ss b r h isnt one rest = (
     λ e. merged_all m ms (given_at given m s) (union_given has given ms ss) (one.0 isnt) (rest.0 e),
     λ all. rest.1 (all_apart m ms s ss h all),
   )
 
   pub left_none : (ss : List (Option S))
-      → (false ≡ false) ↔ AreAll (some_has has []) (union_given has given [] ss)
+      → (false ≡ false) ↔ AreAllCells (some_has has []) (union_given has given [] ss)
   left_none ss = (λ e t is. absurd (false≢true is), λ all. refl)
 
   -- ---- what it contains

@@ -30,7 +30,7 @@ use Rattle.std.specs.List.{slice_get}
 use Rattle.std.proofs.Math.Seq.{drop-cons}
 use Rattle.std.proofs.lemmas.Option.{slice_get_within, get_or_from_slice_get}
 use Rattle.std.proofs.lemmas.List.{drop-set, drop_all}
-use Rattle.djq_union.specs.Answers.{AreAll}
+use Rattle.djq_union.specs.Answers.{AreAllCells}
 use Rattle.djq_union.specs.Union.{some_has, given_at, union_given, UnionFits}
 use Rattle.djq_union.specs.Going.{MovesAt, UnionGoesOn}
 use Rattle.djq_union.proofs.Fitting.{
@@ -261,34 +261,34 @@ module _ {M S A : Type 0} (has : M → A → Bool) (given : M → S → List A) 
 
   left_placed : (ms : List M) (os : List (Option S)) (i : ℕ) (m : M) (r : Bool)
       → IsPlace ms os i m
-      → (r ≡ false) ↔ AreAll (some_has has (m ∷ drop (i + 1) ms))
+      → (r ≡ false) ↔ AreAllCells (some_has has (m ∷ drop (i + 1) ms))
       (union_given has given (m ∷ drop (i + 1) ms) (get_or os i None ∷ drop (i + 1) os))
-      → (r ≡ false) ↔ AreAll (some_has has (drop i ms))
+      → (r ≡ false) ↔ AreAllCells (some_has has (drop i ms))
       (union_given has given (drop i ms) (drop i os))
   left_placed ms os i m r p h =
-      subst (λ (l : List M). (r ≡ false) ↔ AreAll (some_has has l)
+      subst (λ (l : List M). (r ≡ false) ↔ AreAllCells (some_has has l)
       (union_given has given l (drop i os))) (sym p.members)
-      (subst (λ (l : List (Option S)). (r ≡ false) ↔ AreAll (some_has has (m ∷ drop (i + 1) ms))
+      (subst (λ (l : List (Option S)). (r ≡ false) ↔ AreAllCells (some_has has (m ∷ drop (i + 1) ms))
       (union_given has given (m ∷ drop (i + 1) ms) l)) (sym p.states) h)
 
   one_along : (m : M) (o p : Option S) (b : Bool) → o ≡ p
-      → (b ≡ false) ↔ AreAll (has m) (given_at given m o)
-      → (b ≡ false) ↔ AreAll (has m) (given_at given m p)
+      → (b ≡ false) ↔ AreAllCells (has m) (given_at given m o)
+      → (b ≡ false) ↔ AreAllCells (has m) (given_at given m p)
   one_along m o p b same one =
-      subst (λ (q : Option S). (b ≡ false) ↔ AreAll (has m) (given_at given m q)) same one
+      subst (λ (q : Option S). (b ≡ false) ↔ AreAllCells (has m) (given_at given m q)) same one
 
   pub left_past : (ms : List M) (os : List (Option S)) (i : ℕ) → length ms ≤ i
-      → (false ≡ false) ↔ AreAll (some_has has (drop i ms))
+      → (false ≡ false) ↔ AreAllCells (some_has has (drop i ms))
       (union_given has given (drop i ms) (drop i os))
   left_past ms os i past =
-      subst (λ (l : List M). (false ≡ false) ↔ AreAll (some_has has l)
+      subst (λ (l : List M). (false ≡ false) ↔ AreAllCells (some_has has l)
       (union_given has given l (drop i os))) (sym (drop_all i ms past))
       (left_none has given fits (drop i os))
 
   pub left_here_at : (ms : List M) (os : List (Option S)) (i : ℕ) (m : M) (o : Option S) (b : Bool)
       → slice_get ms i ≡ Some m → UnionFits has given fits (drop i ms) (drop i os)
-      → o ≡ get_or os i None → b ≡ true → (b ≡ false) ↔ AreAll (has m) (given_at given m o)
-      → (true ≡ false) ↔ AreAll (some_has has (drop i ms))
+      → o ≡ get_or os i None → b ≡ true → (b ≡ false) ↔ AreAllCells (has m) (given_at given m o)
+      → (true ≡ false) ↔ AreAllCells (some_has has (drop i ms))
       (union_given has given (drop i ms) (drop i os))
   left_here_at ms os i m o b e h same is one =
       let p = place_of ms os i m e h in
@@ -298,10 +298,10 @@ module _ {M S A : Type 0} (has : M → A → Bool) (given : M → S → List A) 
 
   pub left_later_at : (ms : List M) (os : List (Option S)) (i : ℕ) (m : M) (o : Option S)
       (b r : Bool) → slice_get ms i ≡ Some m → UnionFits has given fits (drop i ms) (drop i os)
-      → o ≡ get_or os i None → b ≡ false → (b ≡ false) ↔ AreAll (has m) (given_at given m o)
-      → (r ≡ false) ↔ AreAll (some_has has (drop (i + 1) ms))
+      → o ≡ get_or os i None → b ≡ false → (b ≡ false) ↔ AreAllCells (has m) (given_at given m o)
+      → (r ≡ false) ↔ AreAllCells (some_has has (drop (i + 1) ms))
       (union_given has given (drop (i + 1) ms) (drop (i + 1) os))
-      → (r ≡ false) ↔ AreAll (some_has has (drop i ms))
+      → (r ≡ false) ↔ AreAllCells (some_has has (drop i ms))
       (union_given has given (drop i ms) (drop i os))
   left_later_at ms os i m o b r e h same isnt one rest =
       let p = place_of ms os i m e h in

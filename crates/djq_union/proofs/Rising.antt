@@ -29,7 +29,7 @@ use Rattle.std.proofs.lemmas.Bool.{false≢true, eqb-true, eq-eqb, le-ltb, ltb-f
 use Rattle.std.proofs.lemmas.List.{take-append-drop, take_all, take_more}
 use Rattle.std.proofs.lemmas.List.Elements.{Contains-append_left}
 use Rattle.std.proofs.lemmas.List.Folds.{Any-from_list_any, list_any-from_Any}
-use Rattle.djq_union.specs.Answers.{AreSome, AreAll, IsListing}
+use Rattle.djq_union.specs.Answers.{AreSomeCells, AreAllCells, IsListingOfCells}
 use Rattle.djq_union.proofs.Lists.{all_of, AreOnce, once_of, different_of}
 use Rattle.std.proofs.lemmas.Bool.{cases_Bool}
 use Rattle.djq_union.proofs.Fitting.{one_left}
@@ -55,7 +55,7 @@ module _ (xs : List ℕ) where
       (λ there. h.0 (Contains-append_left fs bs f there), once_front fs bs h.1)
 
   module _ (rising : AllPairs (λ x y. x < y) xs) where
-    pub some_taken : (s : ℕ) → AreSome (λ t. list_any (λ n. n == t) xs) (take s xs)
+    pub some_taken : (s : ℕ) → AreSomeCells (λ t. list_any (λ n. n == t) xs) (take s xs)
     some_taken s = record {
       different = different_of (take s xs)
           (once_front (take s xs) (drop s xs)
@@ -67,26 +67,26 @@ module _ (xs : List ℕ) where
           (Contains-append_left (take s xs) (drop s xs) t there)));
     }
 
-    all_taken : (s : ℕ) → length xs ≤ s → AreAll (λ t. list_any (λ n. n == t) xs) (take s xs)
+    all_taken : (s : ℕ) → length xs ≤ s → AreAllCells (λ t. list_any (λ n. n == t) xs) (take s xs)
     all_taken s past t is =
         subst (λ (l : List ℕ). Contains l t) (sym (take_all s xs past)) (contains_it t is)
 
-    not_all_taken : (s : ℕ) → s < length xs → AreAll (λ t. list_any (λ n. n == t) xs) (take s xs)
+    not_all_taken : (s : ℕ) → s < length xs → AreAllCells (λ t. list_any (λ n. n == t) xs) (take s xs)
         → ⊥
     not_all_taken s low all = one_left (λ t. list_any (λ n. n == t) xs) (take s xs)
         (take (s + 1) xs) (get_or xs s 0) (some_taken (s + 1)) (take_more xs s 0 low) all
 
     pub at_end : (s : ℕ) → length xs ≤ s
-        → (false ≡ false) ↔ IsListing (λ t. list_any (λ n. n == t) xs) (take s xs)
+        → (false ≡ false) ↔ IsListingOfCells (λ t. list_any (λ n. n == t) xs) (take s xs)
     at_end s past = (λ e. record { some = some_taken s; all = all_taken s past }, λ l. refl)
 
     pub before_end : (s : ℕ) → s < length xs
-        → (true ≡ false) ↔ IsListing (λ t. list_any (λ n. n == t) xs) (take s xs)
+        → (true ≡ false) ↔ IsListingOfCells (λ t. list_any (λ n. n == t) xs) (take s xs)
     before_end s low =
         (λ e. absurd (false≢true (sym e)), λ l. absurd (not_all_taken s low l.all))
 
     pub left_taken : (s n : ℕ) → n ≡ length xs
-        → (nat_lt s n ≡ false) ↔ AreAll (λ t. list_any (λ n. n == t) xs) (take s xs)
+        → (nat_lt s n ≡ false) ↔ AreAllCells (λ t. list_any (λ n. n == t) xs) (take s xs)
     left_taken s n e = (
       λ no. all_taken s (let past = ltb-false s n no in omega (arith, past, e)),
       λ all. le-ltb s n (elim (nat_le_or_lt n s) [

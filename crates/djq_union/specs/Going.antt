@@ -14,7 +14,7 @@ use Rattle.std.specs.Prelude.{
   slice_set,
 }
 use Rattle.std.specs.Bool.{OnTrue, OnFalse}
-use Rattle.djq_union.specs.Answers.{AreSome, AreAll}
+use Rattle.djq_union.specs.Answers.{AreSomeCells, AreAllCells}
 use Rattle.djq_union.specs.Union.{some_has, given_at, union_given, UnionFits}
 
 -- one answer more was given, and was none of those before; or all had been
@@ -22,8 +22,8 @@ pub record GoesOn {A : Type 0} (has : A → Bool) (old new : List A) (more : Boo
     : Type 0 where
   pub one : OnTrue more (new ≡ old ++ out ∷ [])
   pub same : OnFalse more (new ≡ old)
-  pub some : AreSome has new
-  pub all : OnFalse more (AreAll has old)
+  pub some : AreSomeCells has new
+  pub all : OnFalse more (AreAllCells has old)
 
 -- a member's listing, which may not have begun, goes on
 pub record MemberGoesOn {M S A : Type 0} (has : M → A → Bool) (given : M → S → List A)

@@ -16,7 +16,7 @@ use Rattle.std.specs.Prelude.{
   IfSome,
 }
 use Rattle.std.specs.List.{list_any}
-use Rattle.djq_union.specs.Answers.{AreSome, AreAll}
+use Rattle.djq_union.specs.Answers.{AreSomeCells, AreAllCells}
 use Rattle.djq_union.specs.Order.{merged}
 
 -- a union has the answers that some member has
@@ -41,14 +41,14 @@ union_given has given (m ∷ ms) (s ∷ ss) =
 -- only once the member has given all
 pub record AreInStep {A : Type 0} (has later : A → Bool) (given rest : List A) : Type 0 where
   pub never_behind : length (filter later given) ≤ length rest
-  pub even : (AreAll has given → ⊥) → length rest ≡ length (filter later given)
+  pub even : (AreAllCells has given → ⊥) → length rest ≡ length (filter later given)
 
 -- the state of the first member's listing fits, beside later members
 pub record FitsFirst {M S A : Type 0} (has : M → A → Bool) (given : M → S → List A)
     (fits : M → S → Type 0) (m : M) (s : Option S) (later : A → Bool) (rest : List A)
     : Type 0 where
   pub fit : IfSome s (λ begun. fits m begun)
-  pub some : AreSome (has m) (given_at given m s)
+  pub some : AreSomeCells (has m) (given_at given m s)
   pub step : AreInStep (has m) later (given_at given m s) rest
 
 -- states fit the members of a union: each fits its member, and the later ones are in step with it

@@ -22,7 +22,7 @@ ghost use Rattle.std.specs.Prelude.{
 };
 ghost use Rattle.std.specs.Bool.{OnTrue, OnFalse};
 ghost use Rattle.std.specs.List.{slice_get, sum_by};
-ghost use Rattle.djq_union.specs.Answers.{AreSome, AreAll, IsListing};
+ghost use Rattle.djq_union.specs.Answers.{AreSomeCells, AreAllCells, IsListingOfCells};
 ghost use Rattle.djq_union.specs.Union.{some_has, given_at, union_given, UnionFits};
 ghost use Rattle.djq_union.specs.Going.{MemberGoesOn, MovesAt, UnionGoesOn};
 ghost use Rattle.djq_union.specs.Steps.{union_steps, union_most};
@@ -93,10 +93,10 @@ impl<M: Listing> UnionCursor<M> {
         ensures same { OnFalse result
             (union_given M.has M.given (G.members members.now) self.new
             ≡ union_given M.has M.given (G.members members.now) self.old) }
-        ensures answers { AreSome (some_has M.has (G.members members.now))
+        ensures answers { AreSomeCells (some_has M.has (G.members members.now))
             (union_given M.has M.given (G.members members.now) self.new) }
         ensures end { result ≡ false
-            ↔ IsListing (some_has M.has (G.members members.now))
+            ↔ IsListingOfCells (some_has M.has (G.members members.now))
             (union_given M.has M.given (G.members members.now) self.old) }
         ensures counted { (c : ℕ) → All (λ m. M.most m ≤ c) (G.members members.now)
             → listing.new ≤ listing.old + union_most M.asks (G.members members.now) c }
@@ -114,7 +114,7 @@ impl<M: Listing> UnionCursor<M> {
         requires ready { All (λ m. M.ready m) (G.members members.now) }
         requires fits { UnionFits M.has M.given M.fits (G.members members.now) self.now }
         ensures left { result ≡ false
-            ↔ AreAll (some_has M.has (G.members members.now))
+            ↔ AreAllCells (some_has M.has (G.members members.now))
             (union_given M.has M.given (G.members members.now) self.now) }
         ensures counted { (c : ℕ) → All (λ m. M.most m ≤ c) (G.members members.now)
             → listing.new ≤ listing.old + length (G.members members.now) * c }
@@ -166,7 +166,7 @@ impl<M: Listing> UnionCursor<M> {
         requires fits { UnionFits M.has M.given M.fits (drop i (G.members members.now))
             (drop i self.now) }
         ensures left { result ≡ false
-            ↔ AreAll (some_has M.has (drop i (G.members members.now)))
+            ↔ AreAllCells (some_has M.has (drop i (G.members members.now)))
             (union_given M.has M.given (drop i (G.members members.now)) (drop i self.now)) }
         ensures counted { listing.new ≤ listing.old + sum_by M.most (drop i (G.members members.now)) }
     {
@@ -255,7 +255,7 @@ fn has_one_left<M: Listing, L: Ledger>(
     requires ready { M.ready member.now }
     requires fits { IfSome state.now (λ begun. M.fits member.now begun) }
     ensures left { result ≡ false
-        ↔ AreAll (M.has member.now) (given_at M.given member.now state.now) }
+        ↔ AreAllCells (M.has member.now) (given_at M.given member.now state.now) }
     ensures counted { listing.new ≤ listing.old + M.most member.now }
 {
     match state {

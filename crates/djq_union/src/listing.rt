@@ -17,7 +17,7 @@ pub trait Listing {
       ◌++◌,
     };
     ghost use Rattle.std.specs.Bool.{OnTrue, OnFalse};
-    ghost use Rattle.djq_union.specs.Answers.{AreSome, AreAll, IsListing};
+    ghost use Rattle.djq_union.specs.Answers.{AreSomeCells, AreAllCells, IsListingOfCells};
 
     /// How far a listing has come.
     type State: Drop;
@@ -61,14 +61,14 @@ pub trait Listing {
         ensures one { OnTrue result
             (given self.now state.new ≡ given self.now state.old ++ out.new ∷ []) }
         ensures same { OnFalse result (given self.now state.new ≡ given self.now state.old) }
-        ensures answers { AreSome (has self.now) (given self.now state.new) }
-        ensures end { result ≡ false ↔ IsListing (has self.now) (given self.now state.old) }
+        ensures answers { AreSomeCells (has self.now) (given self.now state.new) }
+        ensures end { result ≡ false ↔ IsListingOfCells (has self.now) (given self.now state.old) }
         ensures counted { listing.new ≤ listing.old + most self.now };
 
     /// Whether an answer is left.
     fn is_left<L: Ledger>(&self, state: &Self::State, listing: &mut Tally<L>) -> bool
         requires { fits self.now state.now }
-        ensures left { result ≡ false ↔ AreAll (has self.now) (given self.now state.now) }
+        ensures left { result ≡ false ↔ AreAllCells (has self.now) (given self.now state.now) }
         ensures counted { listing.new ≤ listing.old + most self.now };
 
     /// Whether this is one of the answers.

@@ -46,7 +46,7 @@ use Rattle.djq_model.specs.declared.memory.NoMem.{NoMem}
 use Rattle.djq_model.specs.Data.{Bytes}
 use Rattle.djq_machine.specs.State.{Position, open_at}
 use Rattle.djq_cursor.specs.declared.cursor.Cursor.{Cursor}
-use Rattle.djq_union.specs.Answers.{AreSome, AreAll as AreAllCells}
+use Rattle.djq_union.specs.Answers.{AreSomeCells, AreAllCells}
 use Rattle.djq_union.specs.Union.{some_has}
 use Rattle.djq_union.proofs.Lists.{once_of, once_left}
 use Rattle.djq_union.proofs.Fitting.{union_some}
@@ -103,10 +103,10 @@ use Rattle.djq_united.proofs.Values.{
 
 -- what a cursor that fits has given are different cells of answers
 pub given_some : (ls : List Live) (cursor : List (Option Cursor)) → FitsMembers ls cursor
-    → AreSome (some_has has_cells ls) (union_cells ls cursor)
+    → AreSomeCells (some_has has_cells ls) (union_cells ls cursor)
 given_some ls cursor fit = union_some has_cells cells_given FitsKept ls cursor fit
 
-pub given_had : (ls : List Live) (ts : List (List ℕ)) → AreSome (some_has has_cells ls) ts
+pub given_had : (ls : List Live) (ts : List (List ℕ)) → AreSomeCells (some_has has_cells ls) ts
     → (t : List ℕ) → Contains ts t → IsHad ls t
 given_had ls ts some t there =
     All-contains (λ (u : List ℕ). some_has has_cells ls u ≡ true) ts t some.answers there
@@ -118,7 +118,7 @@ record ComesBehind (ls : List Live) (ts : List (List ℕ)) (t : List ℕ) : Type
   pub fresh : Contains ts t → ⊥
 
 behind : (ls : List Live) (ts : List (List ℕ)) (t : List ℕ)
-    → AreSome (some_has has_cells ls) (ts ++ t ∷ []) → ComesBehind ls ts t
+    → AreSomeCells (some_has has_cells ls) (ts ++ t ∷ []) → ComesBehind ls ts t
 behind ls ts t some = record {
   each = λ u there. given_had ls (ts ++ t ∷ []) some u (Contains-append_left ts (t ∷ []) u there);
   had = given_had ls (ts ++ t ∷ []) some t (Contains-push ts t);
@@ -206,7 +206,7 @@ gives_at c qs u k (Open old ended) (Open new e) Given answer kept united there h
     let ls = members_in qs u in
     let over = over_members c qs u kept united in
     let t = h.0.cells in
-    let some = subst (AreSome (some_has has_cells ls)) h.0.gives h.0.some in
+    let some = subst (AreSomeCells (some_has has_cells ls)) h.0.gives h.0.some in
     let b = behind ls (union_cells ls old) t some in (
       shown_cells c.texts ls t,
       left_shown c ls (union_cells ls old) t over b.each b.had b.fresh,
@@ -313,7 +313,7 @@ came_one ls old new t false e one = absurd cc
 
 pub came_had : (ls : List Live) (old new : List (Option Cursor)) (t : List ℕ) (more : Bool)
     → not more ≡ false → OnTrue more (union_cells ls new ≡ union_cells ls old ++ t ∷ [])
-    → AreSome (some_has has_cells ls) (union_cells ls new) → IsHad ls t
+    → AreSomeCells (some_has has_cells ls) (union_cells ls new) → IsHad ls t
 came_had ls old new t more e one some =
     given_had ls (union_cells ls new) some t
     (subst (λ (ts : List (List ℕ)). Contains ts t) (sym (came_one ls old new t more e one))
@@ -323,7 +323,7 @@ pub reads_given : (ls : List Live) (l : Live) (p : Progress) (old new : List (Op
     (ended more : Bool) (t answer : List ℕ) → p ≡ Open old ended → slice_get ls 0 ≡ Some l
     → not more ≡ false → FitsMembers ls new
     → OnTrue more (union_cells ls new ≡ union_cells ls old ++ t ∷ [])
-    → AreSome (some_has has_cells ls) (union_cells ls new) → answer ≡ in_tree l t
+    → AreSomeCells (some_has has_cells ls) (union_cells ls new) → answer ≡ in_tree l t
     → Reads ls p Given answer (Open new (not more))
 reads_given ls l p old new ended more t answer is first e fit one some turned =
     subst (λ (q : Progress). Reads ls q Given answer (Open new (not more))) (sym is) (

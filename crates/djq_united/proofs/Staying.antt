@@ -28,7 +28,7 @@ use Rattle.djq_query.specs.Numbered.{Numbered}
 use Rattle.djq_reduct.specs.Reducts.{Reducts}
 use Rattle.djq_cursor.specs.declared.cursor.Cursor.{Cursor}
 use Rattle.djq_cursor.specs.Given.{Fits}
-use Rattle.djq_union.specs.Answers.{AreSome}
+use Rattle.djq_union.specs.Answers.{AreSomeCells}
 use Rattle.djq_union.specs.Order.{merged}
 use Rattle.djq_union.specs.Union.{some_has, given_at, AreInStep}
 use Rattle.djq_union.proofs.Lists.{none_contained, at_head, in_tail, head_or_tail}
@@ -199,10 +199,10 @@ step_later has now later then given gave rest others h k g r step =
     (subst (λ (ts : List (List ℕ)). AreInStep has later given ts) (sym r) step)))
 
 some_later : (has now : List ℕ → Bool) (given gave : List (List ℕ))
-    → ◌≡◌ {A = List ℕ → Bool} now has → gave ≡ given → AreSome has given → AreSome now gave
+    → ◌≡◌ {A = List ℕ → Bool} now has → gave ≡ given → AreSomeCells has given → AreSomeCells now gave
 some_later has now given gave h g some =
-    subst (λ (f : List ℕ → Bool). AreSome f gave) (sym h)
-    (subst (λ (ts : List (List ℕ)). AreSome has ts) (sym g) some)
+    subst (λ (f : List ℕ → Bool). AreSomeCells f gave) (sym h)
+    (subst (λ (ts : List (List ℕ)). AreSomeCells has ts) (sym g) some)
 
 union_fits : (ls ms : List Live) (ss : List (Option Cursor)) → AllZip HasSameTables ls ms
     → ((m : Live) → Contains ms m → IsKeptSomewhere m) → FitsMembers ls ss → FitsMembers ms ss

@@ -15,7 +15,7 @@ use Rattle.std.specs.Prelude.{
 use Rattle.djq_model.specs.Listed.{a_union}
 use Rattle.djq_machine.specs.Store.{answer_steps}
 use Rattle.djq_cursor.specs.declared.cursor.Cursor.{Cursor}
-use Rattle.djq_union.specs.Answers.{AreSome, AreAll, IsListing}
+use Rattle.djq_union.specs.Answers.{AreSomeCells, AreAllCells, IsListingOfCells}
 use Rattle.djq_union.specs.Union.{some_has, union_given}
 use Rattle.djq_live.specs.declared.listing.Next.{Next}
 use Rattle.djq_live.specs.declared.listing.Next.TheVariants.{Given, End, Stale as IsStale}
@@ -36,14 +36,14 @@ pub record Advances (ls : List Live) (old : List (Option Cursor)) (answer : List
   pub fits : FitsMembers ls new
   pub cells : List ℕ
   pub gives : union_cells ls new ≡ union_cells ls old ++ cells ∷ []
-  pub some : AreSome (some_has has_cells ls) (union_cells ls new)
+  pub some : AreSomeCells (some_has has_cells ls) (union_cells ls new)
   pub turned : AtFirst ls (λ l. answer ≡ in_tree l cells)
 
 -- A cursor has given each answer, and stays there.
 pub record Ends (ls : List Live) (old new : List (Option Cursor)) : Type 0 where
   pub fits : FitsMembers ls new
   pub gives : union_cells ls new ≡ union_cells ls old
-  pub all : IsListing (some_has has_cells ls) (union_cells ls old)
+  pub all : IsListingOfCells (some_has has_cells ls) (union_cells ls old)
 
 -- What a read gives: one answer that is left, the end exactly where none is, or what made the
 -- cursor stale.
@@ -57,9 +57,9 @@ Reads ls _ _ answer _ = ⊥
 -- A look at whether an answer is left: the cursor has given what it had given before.
 abbrev pub Looks : List Live → Progress → Bool → Progress → Type 0
 Looks ls (Open old ended) true new =
-    (new ≡ Open old false) × (AreAll (some_has has_cells ls) (union_cells ls old) → ⊥)
+    (new ≡ Open old false) × (AreAllCells (some_has has_cells ls) (union_cells ls old) → ⊥)
 Looks ls (Open old ended) false new =
-    (new ≡ Open old true) × AreAll (some_has has_cells ls) (union_cells ls old)
+    (new ≡ Open old true) × AreAllCells (some_has has_cells ls) (union_cells ls old)
 Looks ls (Stale q m) left new = ⊥
 
 -- what an answer of the union of these counts at most, and the end too

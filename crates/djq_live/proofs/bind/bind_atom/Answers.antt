@@ -4,7 +4,7 @@ use Rattle.std.proofs.lemmas.List.{length-map}
 use Rattle.djq_query.specs.declared.numbered.NumberedTerm.{NumberedTerm}
 use Rattle.djq_query.specs.declared.numbered.NumberedComparison.{NumberedComparison}
 use Rattle.djq_query.specs.Pattern.{tests_of}
-use Rattle.djq_rows.specs.Cells.{cell_of}
+use Rattle.djq_rows.specs.Cells.{cell_for}
 use Rattle.djq_live.specs.Asked.{constants_in}
 use Rattle.djq_live.proofs.Patterns.{cells_long}
 use Rattle.djq_live.proofs.bind.bind_atom.Goals as goal
@@ -19,5 +19,5 @@ bind-requires-clause-cells c =
 pub bind-requires-clause-constants : goal.bind-requires-clause-constants
 bind-requires-clause-constants c =
     ap (λ (cs : List ℕ). length cs) c.requires.compared
-    ∙ length-map (constants_in c.args.comparisons.now) (cell_of c.args.catalog.now.texts)
+    ∙ length-map (constants_in c.args.comparisons.now) (cell_for c.args.catalog.now.texts)
     ∙ length-map c.args.comparisons.now (λ (k : NumberedComparison). k.constant)

@@ -1,5 +1,5 @@
 use Rattle.std.proofs.Common.{◌≡◌, length}
-use Rattle.djq_machine.specs.Call.{ids_of}
+use Rattle.djq_machine.specs.Call.{state_ids}
 use Rattle.djq_serve.specs.declared.served.Served.{Served}
 use Rattle.djq_serve.specs.Told.{shown}
 use Rattle.djq_serve.specs.Server.{closing, server}
@@ -23,4 +23,4 @@ invariant-closes g l =
     }
 
 abbrev pub decreases-closes : goal.decreases-closes
-decreases-closes g l = length (ids_of (g.M.Machine.state l.machine))
+decreases-closes g l = length (state_ids (g.M.Machine.state l.machine))

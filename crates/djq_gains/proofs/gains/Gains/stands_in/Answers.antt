@@ -2,12 +2,12 @@
 use Rattle.std.proofs.Common.{◌≡◌, ◌<◌, ℕ, Bool, false, List, [], slice_index_or, ap, sym, subst, ◌∙◌, arith}
 use Rattle.std.proofs.lemmas.List.{get_or_read}
 use Rattle.djq_arena.specs.Chains.{AreBelow}
-use Rattle.djq_arena.specs.Rows.{Rows, slots}
+use Rattle.djq_arena.specs.Rows.{SlotRows, slots}
 use Rattle.djq_gains.specs.Gathered.{Gain, Gathered, IsIn, marks_at, gains_in}
 use Rattle.djq_gains.proofs.Noting.{cut_rows, held_by, row_below}
 use Rattle.djq_gains.proofs.gains.Gains.stands_in.Goals as goal
 
-below : (marks : List (List Bool)) (a : Rows) (slot : ℕ) → AreBelow a.room (slots a.rows)
+below : (marks : List (List Bool)) (a : SlotRows) (slot : ℕ) → AreBelow a.room (slots a.rows)
     → IsIn (gains_in marks a.rows) slot → slot < a.room
 below marks a slot are lies =
     let h = held_by marks a.rows slot lies in

@@ -1,6 +1,6 @@
 -- Without rows there are no entries, so none stands twice, and no slot has to have copies.
 use Rattle.std.proofs.Common.{◌≡◌, ◌∙◌, ℕ, List, [], ap, ap₂}
-use Rattle.djq_arena.specs.Rows.{Rows as Slots}
+use Rattle.djq_arena.specs.Rows.{SlotRows}
 use Rattle.djq_index.specs.Entries.{Entry}
 use Rattle.djq_rows.specs.Rows.{Rows, entries_in}
 use Rattle.djq_rows.proofs.Slotted.{entries_nil, none_kept}
@@ -8,14 +8,14 @@ use Rattle.djq_rows.proofs.rows.Rows.new.Goals as goal
 
 pub invariant_of-result : goal.invariant_of-result
 invariant_of-result c = none_kept c.in_ok-arena.arena c.new-2.result.items c.laws.ensures
-    (ap (λ (s : Slots). s.room) c.in_ok-arena.ensures)
-    (ap (λ (s : Slots). s.rows) c.in_ok-arena.ensures)
+    (ap (λ (s : SlotRows). s.room) c.in_ok-arena.ensures)
+    (ap (λ (s : SlotRows). s.rows) c.in_ok-arena.ensures)
 
 pub returns : goal.returns
 returns c =
     let none : entries_in c.new-2.result.items c.in_ok-arena.arena.rows ≡ [] =
-    ap (λ (s : Slots). entries_in c.new-2.result.items s.rows) c.in_ok-arena.ensures
+    ap (λ (s : SlotRows). entries_in c.new-2.result.items s.rows) c.in_ok-arena.ensures
     ∙ entries_nil c.new-2.result.items in
     let made : Rows → Rows = λ r. r in
     ap₂ (λ (n : ℕ) (es : List Entry). made (record { width = n; entries = es }))
-    (ap (λ (s : Slots). s.width) c.in_ok-arena.ensures) none
+    (ap (λ (s : SlotRows). s.width) c.in_ok-arena.ensures) none
