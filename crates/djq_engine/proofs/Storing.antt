@@ -17,6 +17,8 @@ use Rattle.djq_lines.specs.declared.answer.DeleteOutcome.{DeleteOutcome}
 use Rattle.djq_lines.specs.declared.answer.DeleteOutcome.TheVariants.{Last, Left, Absent}
 use Rattle.djq_dict.specs.declared.refusal.InternRefusal.{InternRefusal}
 use Rattle.djq_dict.specs.declared.refusal.InternRefusal.TheVariants.{Full as TextsFull, NoMem as NoMemForTexts}
+use Rattle.djq_engine.specs.declared.change.AddRefusal.{AddRefusal}
+use Rattle.djq_engine.specs.declared.change.AddRefusal.TheVariants.{Full as RowFull, NoMem as NoMemForRow}
 use Rattle.djq_rows.specs.Cells.{StandFor, HaveCells, cells_of}
 use Rattle.djq_model.specs.Typed.{fits}
 use Rattle.djq_rows.specs.Catalog.{Catalog, IsCatalog, StandForRow, no_relation, relation_at}
@@ -33,7 +35,7 @@ use Rattle.djq_engine.specs.Sound.{IsSound}
 use Rattle.djq_reach.specs.Reaching.{Reach, AllAt, CanCome, CanGo, TakesIn, LetsOut, GivesBack, Carries}
 use Rattle.djq_engine.specs.Changing.{IsNew, IsOld, LacksMemory, Puts, Waits, PutsRow, NoPlace}
 use Rattle.djq_engine.specs.Changing.{for_copies, for_texts, HasCopies, HasMore, AddsCells, AddsTo}
-use Rattle.djq_engine.specs.Changing.{IfCame, IfLacking, IfStill}
+use Rattle.djq_engine.specs.Changing.{IfCame, IfLacking, IfStill, for_text}
 use Rattle.djq_lines.specs.declared.limits.TheConstants.{TEXTS, ROWS, COPIES}
 use Rattle.djq_engine.proofs.Carrying.{without_last, last_there, rows_with}
 use Rattle.djq_deltas.proofs.Lists.{row_there}
@@ -84,7 +86,7 @@ pub lacks_of : (at : ℕ) (row : Tuple) (old new : Parts) (r : InternRefusal)
     → new.queries.items ≡ old.queries.items
     → new.logs.items ≡ old.logs.items → length (new.catalog).texts ≤ TEXTS
     → ((i : ℕ) (l : Live) → place_at old.queries.items i ≡ Some l → StaysOver old.catalog new.catalog l)
-    → has_row (rows_at (old.catalog).relations at) row ≡ false → AddsTo at row old (Err r) new
+    → has_row (rows_at (old.catalog).relations at) row ≡ false → AddsTo at row old (Err (for_text r)) new
 lacks_of at row old new TextsFull h e q logs many stay absent = record {
   why = for_texts absent (record {
     first = h.1.first;
@@ -348,12 +350,12 @@ module _ (old new : Parts) (c1 : Catalog) (at : ℕ) (row : Tuple) (ic : IsCatal
           (h.rows (has_is ∙ e)) in
           let few = room e in omega (arith, many_rows, few))
 
-  pub adds_to : (r : Result AddOutcome InternRefusal) → AddsCells at row (record old { catalog = c1 }) r new
+  pub adds_to : (r : Result AddOutcome AddRefusal) → AddsCells at row (record old { catalog = c1 }) r new
       → AddsTo at row old r new
   adds_to (Ok First) h = (sym has_is ∙ h.0, puts_row at row old new c1 rel learn many stay h.1)
   adds_to (Ok (More n)) h = subst (λ (x : Catalog). HasMore at row n (record old { catalog = x }) new)
       (same_catalog (sym has_is ∙ h.there)) h
-  adds_to (Err TextsFull) h = record {
+  adds_to (Err RowFull) h = record {
     why = no_place h.0 h.1;
     rests = record {
       queries = h.2;
@@ -362,25 +364,25 @@ module _ (old new : Parts) (c1 : Catalog) (at : ℕ) (row : Tuple) (ic : IsCatal
     };
     logs = h.3;
   }
-  adds_to (Err NoMemForTexts) h = (sym has_is ∙ h.0, waits_row at row old new c1 rel learn many stay h.1)
+  adds_to (Err NoMemForRow) h = (sym has_is ∙ h.0, waits_row at row old new c1 rel learn many stay h.1)
 
 -- ---- what holds of each outcome
 
-pub if_came : {P Q : Type 0} (r : Result AddOutcome InternRefusal) → (P → Q) → IfCame r P → IfCame r Q
+pub if_came : {P Q : Type 0} (r : Result AddOutcome AddRefusal) → (P → Q) → IfCame r P → IfCame r Q
 if_came (Ok First) f h = f h
 if_came (Ok (More n)) f h = tt
 if_came (Err x) f h = tt
 
-pub if_lacking : {P Q : Type 0} (r : Result AddOutcome InternRefusal) → (P → Q) → IfLacking r P → IfLacking r Q
+pub if_lacking : {P Q : Type 0} (r : Result AddOutcome AddRefusal) → (P → Q) → IfLacking r P → IfLacking r Q
 if_lacking (Ok o) f h = tt
-if_lacking (Err TextsFull) f h = tt
-if_lacking (Err NoMemForTexts) f h = f h
+if_lacking (Err RowFull) f h = tt
+if_lacking (Err NoMemForRow) f h = f h
 
 -- a row that is refused before it is looked up lists and updates nothing
-pub idle_lacking : {P : Type 0} (r : InternRefusal) → P → IfLacking (Err r) P
-idle_lacking TextsFull h = tt
-idle_lacking NoMemForTexts h = h
+pub idle_lacking : {P : Type 0} (r : AddRefusal) → P → IfLacking (Err r) P
+idle_lacking RowFull h = tt
+idle_lacking NoMemForRow h = h
 
-pub idle_still : {P : Type 0} (r : InternRefusal) → P → IfStill (Err r) P
-idle_still TextsFull h = h
-idle_still NoMemForTexts h = tt
+pub idle_still : {P : Type 0} (r : AddRefusal) → P → IfStill (Err r) P
+idle_still RowFull h = h
+idle_still NoMemForRow h = tt

@@ -13,7 +13,9 @@ use Rattle.djq_lines.specs.declared.answer.DeleteOutcome.TheVariants.{Last, Left
 use Rattle.djq_lines.specs.declared.limits.TheConstants.{ROWS, COPIES, TEXTS}
 use Rattle.djq_machine.specs.Store.{LearnsAll, LearnsFirst, FindsNoPlace}
 use Rattle.djq_dict.specs.declared.refusal.InternRefusal.{InternRefusal}
-use Rattle.djq_dict.specs.declared.refusal.InternRefusal.TheVariants.{Full, NoMem}
+use Rattle.djq_dict.specs.declared.refusal.InternRefusal.TheVariants.{Full as TextsFull, NoMem as NoMemForText}
+use Rattle.djq_engine.specs.declared.change.AddRefusal.{AddRefusal}
+use Rattle.djq_engine.specs.declared.change.AddRefusal.TheVariants.{Full, NoMem}
 use Rattle.djq_rows.specs.Catalog.{Catalog, StandForRow, counted_at, rows_at, with_rows_at}
 use Rattle.djq_rows.specs.Changes.{HasNoPlace}
 use Rattle.djq_machine.specs.Delta.{Change, IsDelta}
@@ -126,8 +128,13 @@ pub record HasMore (at : ℕ) (row : Tuple) (n : ℕ) (old new : Parts) : Type 0
   pub few : n ≤ COPIES
   pub has : HasCopies at row n old new
 
+-- Why a row isn't added of which a text isn't made known.
+abbrev pub for_text : InternRefusal → AddRefusal
+for_text TextsFull = Full
+for_text NoMemForText = NoMem
+
 -- What became of a row that was to be added by its cells, all of whose texts were known.
-abbrev pub AddsCells : ℕ → Tuple → Parts → Result AddOutcome InternRefusal → Parts → Type 0
+abbrev pub AddsCells : ℕ → Tuple → Parts → Result AddOutcome AddRefusal → Parts → Type 0
 AddsCells at row old (Ok First) new =
     (has_row (rows_at (old.catalog).relations at) row ≡ false) × Puts at row old new
 AddsCells at row old (Ok (More n)) new = HasMore at row n old new
@@ -138,7 +145,7 @@ AddsCells at row old (Err NoMem) new =
     (has_row (rows_at (old.catalog).relations at) row ≡ false) × Waits at old new
 
 -- What became of a row that was to be added.
-abbrev pub AddsTo : ℕ → Tuple → Parts → Result AddOutcome InternRefusal → Parts → Type 0
+abbrev pub AddsTo : ℕ → Tuple → Parts → Result AddOutcome AddRefusal → Parts → Type 0
 AddsTo at row old (Ok First) new =
     (has_row (rows_at (old.catalog).relations at) row ≡ false) × PutsRow at row old new
 AddsTo at row old (Ok (More n)) new = HasMore at row n old new
@@ -161,19 +168,19 @@ DeletesFrom at row old Absent new =
     × (new.logs.items ≡ old.logs.items)
 
 -- What holds where a row came.
-abbrev pub IfCame : Result AddOutcome InternRefusal → Type 0 → Type 0
+abbrev pub IfCame : Result AddOutcome AddRefusal → Type 0 → Type 0
 IfCame (Ok First) Holds = Holds
 IfCame (Ok (More n)) Holds = ⊤
 IfCame (Err refusal) Holds = ⊤
 
 -- What holds where memory was refused for a row.
-abbrev pub IfLacking : Result AddOutcome InternRefusal → Type 0 → Type 0
+abbrev pub IfLacking : Result AddOutcome AddRefusal → Type 0 → Type 0
 IfLacking (Ok outcome) Holds = ⊤
 IfLacking (Err Full) Holds = ⊤
 IfLacking (Err NoMem) Holds = Holds
 
 -- where neither was
-abbrev pub IfStill : Result AddOutcome InternRefusal → Type 0 → Type 0
+abbrev pub IfStill : Result AddOutcome AddRefusal → Type 0 → Type 0
 IfStill (Ok First) Holds = ⊤
 IfStill (Ok (More n)) Holds = Holds
 IfStill (Err Full) Holds = Holds

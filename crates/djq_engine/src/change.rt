@@ -5,6 +5,7 @@ ghost use Rattle.djq_model.specs.Typed.{fits};
 ghost use Rattle.djq_lines.specs.declared.limits.TheConstants.{ROWS};
 ghost use Rattle.djq_rows.specs.Catalog.{StandForRow, relation_at, counted_at, rows_at};
 ghost use Rattle.djq_engine.specs.Changing.{HasRow, AddsCells, AddsTo, DeletesFrom, KeepsRest};
+ghost use Rattle.djq_engine.specs.Changing.{for_text};
 ghost use Rattle.djq_engine.specs.Changing.{IfCame, IfLacking, IfStill, IfWent, IfNoneWent};
 ghost use Rattle.djq_engine.specs.Changing.{TellsRows, CountsRows};
 ghost use Rattle.djq_engine.specs.Changing.{KeepsLogs, WorksRows, reads_at, tells_at};
@@ -25,6 +26,25 @@ use djq_reach::{delete_from_readers, insert_into_readers};
 use djq_rows::{RelationId, RowsRefusal, texts_stay};
 use djq_steps::{Ledgers, Steps};
 
+/// Why a row that suits its relation isn't added.
+#[derive(Clone, Copy, Debug, PartialEq, Eq)]
+pub enum AddRefusal {
+    /// There are as many copies of the row, or as many texts, as there may be.
+    Full,
+    /// Out of memory.
+    NoMem,
+}
+
+/// Why a row isn't added of which a text isn't made known.
+fn for_text(refusal: InternRefusal) -> AddRefusal
+    ensures { result ≡ for_text refusal }
+{
+    match refusal {
+        InternRefusal::Full => AddRefusal::Full,
+        InternRefusal::NoMem => AddRefusal::NoMem,
+    }
+}
+
 /// Adds a row by its cells, or a copy of it where it is there. The queries that read the relation take
 /// in a row that came.
 ///
@@ -36,7 +56,7 @@ fn put_cells<L: Ledgers>(
     id: RelationId,
     cells: &[u64],
     steps: &mut Steps<L>,
-) -> Result<AddOutcome, InternRefusal>
+) -> Result<AddOutcome, AddRefusal>
     requires whole { IsWhole parts.old }
     requires tended { IsTended parts.old }
     requires there { id.at < length parts.old.catalog.relations }
@@ -80,8 +100,8 @@ fn put_cells<L: Ledgers>(
             return Ok(AddOutcome::More(copies));
         }
         Err(RowsRefusal::NameTaken) => unreachable!(),
-        Err(RowsRefusal::Full) => return Err(InternRefusal::Full),
-        Err(RowsRefusal::NoMem) => return Err(InternRefusal::NoMem),
+        Err(RowsRefusal::Full) => return Err(AddRefusal::Full),
+        Err(RowsRefusal::NoMem) => return Err(AddRefusal::NoMem),
     }
     parts.catalog.laws();
     let places = parts.readers[id.at].as_slice();
@@ -98,7 +118,7 @@ fn put_cells<L: Ledgers>(
         Ok(()) => Ok(AddOutcome::First),
         Err(_error) => {
             let _ = parts.catalog.delete_row(id, cells, &mut steps.rows);
-            Err(InternRefusal::NoMem)
+            Err(AddRefusal::NoMem)
         }
     }
 }
@@ -115,7 +135,7 @@ pub fn put_row<L: Ledgers>(
     id: RelationId,
     row: &[Value],
     steps: &mut Steps<L>,
-) -> Result<AddOutcome, InternRefusal>
+) -> Result<AddOutcome, AddRefusal>
     requires whole { IsWhole parts.old }
     requires tended { IsTended parts.old }
     requires there { id.at < length parts.old.catalog.relations }
@@ -153,7 +173,7 @@ pub fn put_row<L: Ledgers>(
         Ok(()) => {}
         Err(refusal) => {
             parts.catalog.laws();
-            return Err(refusal);
+            return Err(for_text(refusal));
         }
     }
     parts.catalog.laws();

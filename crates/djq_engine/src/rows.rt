@@ -10,12 +10,11 @@ ghost use Rattle.djq_engine.specs.Changing.{AgesReaders};
 ghost use Rattle.djq_engine.specs.Cursors.{has_cursor};
 ghost use Rattle.djq_engine.specs.Watching.{TellsChange, CountsUpdates, add_times, delete_times};
 
-use crate::change::{drop_cells, put_row};
+use crate::change::{AddRefusal, drop_cells, put_row};
 use crate::engine::Engine;
 use crate::judge::{check_add, check_delete};
 use crate::parts::Parts;
 use djq_deltas::deltas_exist;
-use djq_dict::InternRefusal;
 use djq_index::Cells;
 use djq_lines::limits::{COLUMNS, RELATIONS};
 use djq_lines::{AddOutcome, DeleteOutcome, Refusal};
@@ -175,8 +174,8 @@ impl Engine {
         match put_row(&mut self.parts, id, row, steps) {
             Ok(AddOutcome::First) => {}
             Ok(AddOutcome::More(copies)) => return Ok(AddOutcome::More(copies)),
-            Err(InternRefusal::Full) => return Err(Refusal::Limit),
-            Err(InternRefusal::NoMem) => {
+            Err(AddRefusal::Full) => return Err(Refusal::Limit),
+            Err(AddRefusal::NoMem) => {
                 empty_logs(&mut self.parts.logs, self.parts.readers[id.at].as_slice());
                 outdate_readers(&mut self.parts, id, name);
                 return Err(Refusal::NoMemory);

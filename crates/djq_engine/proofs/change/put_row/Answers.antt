@@ -36,7 +36,8 @@ intern_cells-requires g c = omega (
 pub returns-in-Err-clause-adds : goal.returns-in-Err-clause-adds
 returns-in-Err-clause-adds g c =
     let old = c.args.parts.now in
-    lacks_of c.args.id.at c.args.row.now old _ c.in-Err.refusal
+    rw c.for_text.ensures
+    (lacks_of c.args.id.at c.args.row.now old _ c.in-Err.refusal
     c.in-Err.ensures.interns c.intern_cells.ensures.relations refl refl c.laws-in-Err.ensures.many
     (all_stay c.live_stays.ensures old.catalog c.intern_cells.new.self old.queries.items old.order old.readers.items
     c.requires.whole
@@ -46,7 +47,7 @@ returns-in-Err-clause-adds g c =
     c.laws-in-Err.ensures c.intern_cells.ensures.relations
     (interned old.catalog.texts c.args.row.now (given c.intern_cells.result c.intern_cells.new.cells)
     c.intern_cells.new.self.texts c.intern_cells.ensures.interns).1))
-    (c.in-Err.ensures.absent c.args.id.at c.requires.there)
+    (c.in-Err.ensures.absent c.args.id.at c.requires.there))
 
 pub returns-in-Err-clause-shown : goal.returns-in-Err-clause-shown
 returns-in-Err-clause-shown g c =
@@ -63,19 +64,19 @@ returns-in-Err-clause-shown g c =
     c.requires.tended.shown)
 
 pub returns-in-Err-clause-apart : goal.returns-in-Err-clause-apart
-returns-in-Err-clause-apart g c = idle_lacking c.in-Err.refusal (λ i l there e. refl)
+returns-in-Err-clause-apart g c = idle_lacking c.for_text.result (λ i l there e. refl)
 
 pub returns-in-Err-clause-listed : goal.returns-in-Err-clause-listed
-returns-in-Err-clause-listed g c = idle_lacking c.in-Err.refusal (λ f deltas. omega arith)
+returns-in-Err-clause-listed g c = idle_lacking c.for_text.result (λ f deltas. omega arith)
 
 pub returns-in-Err-clause-idle : goal.returns-in-Err-clause-idle
-returns-in-Err-clause-idle g c = idle_still c.in-Err.refusal (omega arith)
+returns-in-Err-clause-idle g c = idle_still c.for_text.result (omega arith)
 
 pub returns-in-Err-clause-refusal : goal.returns-in-Err-clause-refusal
-returns-in-Err-clause-refusal g c = idle_lacking c.in-Err.refusal (λ n flat few. omega arith)
+returns-in-Err-clause-refusal g c = idle_lacking c.for_text.result (λ n flat few. omega arith)
 
 pub returns-in-Err-clause-unmoved : goal.returns-in-Err-clause-unmoved
-returns-in-Err-clause-unmoved g c = idle_still c.in-Err.refusal (omega arith)
+returns-in-Err-clause-unmoved g c = idle_still c.for_text.result (omega arith)
 
 pub put_cells-requires-clause-whole : goal.put_cells-requires-clause-whole
 put_cells-requires-clause-whole g c =

@@ -5,7 +5,7 @@ use Rattle.djq_model.specs.Data.{with_row}
 use Rattle.djq_lines.specs.declared.answer.Refusal.{Refusal}
 use Rattle.djq_lines.specs.declared.answer.AddOutcome.{AddOutcome}
 use Rattle.djq_machine.specs.Store.{add_refusal}
-use Rattle.djq_dict.specs.declared.refusal.InternRefusal.{InternRefusal}
+use Rattle.djq_engine.specs.declared.change.AddRefusal.{AddRefusal}
 use Rattle.djq_rows.specs.Catalog.{counted_at}
 use Rattle.djq_machine.specs.Changes.{row_in}
 use Rattle.djq_engine.specs.Judging.{bare}
@@ -71,10 +71,10 @@ use Rattle.djq_engine.proofs.engine.Engine.add.Goals as goal
 pub invariant_of-self-in-Err-Full : goal.invariant_of-self-in-Err-Full
 invariant_of-self-in-Err-Full g c = (
   rested_whole c.self.inside.parts c.put_row.new.parts c.self.invariant.0
-      (subst (λ (r : InternRefusal). AddsTo c.in_ok-id.id.at c.args.row.now c.self.inside.parts (Err r)
+      (subst (λ (r : AddRefusal). AddsTo c.in_ok-id.id.at c.args.row.now c.self.inside.parts (Err r)
       c.put_row.new.parts) c.in-Err-Full.field-0-is c.in-Err-Full.ensures.adds).rests c.put_row.ensures.rest,
   tended_still c.self.inside.parts c.put_row.new.parts c.self.invariant.1 c.put_row.ensures.rest
-      (subst (λ (r : InternRefusal). AddsTo c.in_ok-id.id.at c.args.row.now c.self.inside.parts (Err r)
+      (subst (λ (r : AddRefusal). AddsTo c.in_ok-id.id.at c.args.row.now c.self.inside.parts (Err r)
       c.put_row.new.parts) c.in-Err-Full.field-0-is c.in-Err-Full.ensures.adds).rests.queries
       c.put_row.ensures.shown,
 )
@@ -82,7 +82,7 @@ invariant_of-self-in-Err-Full g c = (
 pub returns-in-Err-Full-clause-outdates : goal.returns-in-Err-Full-clause-outdates
 returns-in-Err-Full-clause-outdates g c =
     rw (← c.self.view_is) (rested_cursors c.self.inside.parts c.put_row.new.parts
-    (subst (λ (r : InternRefusal). AddsTo c.in_ok-id.id.at c.args.row.now c.self.inside.parts (Err r)
+    (subst (λ (r : AddRefusal). AddsTo c.in_ok-id.id.at c.args.row.now c.self.inside.parts (Err r)
     c.put_row.new.parts)
     c.in-Err-Full.field-0-is c.in-Err-Full.ensures.adds).rests)
 
@@ -91,12 +91,12 @@ returns-in-Err-Full-clause-adds g c =
     rw (← c.self.view_is)
     (add_limited c.self.inside.parts c.args.name.now c.args.row.now c.in_ok-id.id.at c.in_ok-id.ensures.ok
     c.put_row.new.parts (subst
-    (λ (r : InternRefusal). AddsTo c.in_ok-id.id.at c.args.row.now c.self.inside.parts (Err r) c.put_row.new.parts)
+    (λ (r : AddRefusal). AddsTo c.in_ok-id.id.at c.args.row.now c.self.inside.parts (Err r) c.put_row.new.parts)
     c.in-Err-Full.field-0-is c.in-Err-Full.ensures.adds) c.put_row.ensures.rest.order c.put_row.ensures.rest.seq)
 
 pub outdate_readers-requires-clause-once : goal.outdate_readers-requires-clause-once
 outdate_readers-requires-clause-once g c =
-    let lacks = subst (λ (r : InternRefusal). AddsTo c.in_ok-id.id.at c.args.row.now c.self.inside.parts (Err r)
+    let lacks = subst (λ (r : AddRefusal). AddsTo c.in_ok-id.id.at c.args.row.now c.self.inside.parts (Err r)
     c.put_row.new.parts) c.in-Err-NoMem.field-0-is c.in-Err-NoMem.ensures.adds in
     mid_once c.self.inside.parts (record c.put_row.new.parts { logs = c.empty_logs.new.logs }) c.self.invariant.0
     c.in_ok-id.id.at c.in_ok-id.ensures.ok.relation.below
@@ -105,7 +105,7 @@ outdate_readers-requires-clause-once g c =
 
 pub outdate_readers-requires-clause-there : goal.outdate_readers-requires-clause-there
 outdate_readers-requires-clause-there g c =
-    let lacks = subst (λ (r : InternRefusal). AddsTo c.in_ok-id.id.at c.args.row.now c.self.inside.parts (Err r)
+    let lacks = subst (λ (r : AddRefusal). AddsTo c.in_ok-id.id.at c.args.row.now c.self.inside.parts (Err r)
     c.put_row.new.parts) c.in-Err-NoMem.field-0-is c.in-Err-NoMem.ensures.adds in
     mid_there c.self.inside.parts (record c.put_row.new.parts { logs = c.empty_logs.new.logs }) c.self.invariant.0
     c.in_ok-id.id.at c.in_ok-id.ensures.ok.relation.below
@@ -114,7 +114,7 @@ outdate_readers-requires-clause-there g c =
 
 pub invariant_of-self-in-Err-NoMem : goal.invariant_of-self-in-Err-NoMem
 invariant_of-self-in-Err-NoMem g c =
-    let lacks = subst (λ (r : InternRefusal). AddsTo c.in_ok-id.id.at c.args.row.now c.self.inside.parts (Err r)
+    let lacks = subst (λ (r : AddRefusal). AddsTo c.in_ok-id.id.at c.args.row.now c.self.inside.parts (Err r)
     c.put_row.new.parts) c.in-Err-NoMem.field-0-is c.in-Err-NoMem.ensures.adds in (
       (aged c.self.inside.parts (record c.put_row.new.parts { logs = c.empty_logs.new.logs }) c.self.invariant.0
           c.in_ok-id.id.at c.in_ok-id.ensures.ok.relation.below
@@ -125,7 +125,7 @@ invariant_of-self-in-Err-NoMem g c =
       tended_now c.self.inside.parts (record c.put_row.new.parts { logs = c.empty_logs.new.logs })
           c.outdate_readers.new.parts
           c.in_ok-id.id.at c.args.name.now
-          (subst (λ (r : InternRefusal). AddsTo c.in_ok-id.id.at c.args.row.now c.self.inside.parts (Err r)
+          (subst (λ (r : AddRefusal). AddsTo c.in_ok-id.id.at c.args.row.now c.self.inside.parts (Err r)
           c.put_row.new.parts) c.in-Err-NoMem.field-0-is c.in-Err-NoMem.ensures.adds).1.carries
           c.put_row.ensures.rest.watchers c.put_row.ensures.rest.order (c.empty_logs.ensures.long
           ∙ c.put_row.ensures.rest.long) c.outdate_readers.ensures c.self.invariant.1
@@ -136,7 +136,7 @@ invariant_of-self-in-Err-NoMem g c =
 
 pub returns-in-Err-NoMem-clause-outdates : goal.returns-in-Err-NoMem-clause-outdates
 returns-in-Err-NoMem-clause-outdates g c =
-    let lacks = subst (λ (r : InternRefusal). AddsTo c.in_ok-id.id.at c.args.row.now c.self.inside.parts (Err r)
+    let lacks = subst (λ (r : AddRefusal). AddsTo c.in_ok-id.id.at c.args.row.now c.self.inside.parts (Err r)
     c.put_row.new.parts) c.in-Err-NoMem.field-0-is c.in-Err-NoMem.ensures.adds in
     rw (← c.self.view_is)
     ((aged c.self.inside.parts (record c.put_row.new.parts { logs = c.empty_logs.new.logs }) c.self.invariant.0
@@ -232,7 +232,7 @@ returns-clause-adds g c =
 
 pub returns-in-Err-NoMem-clause-adds : goal.returns-in-Err-NoMem-clause-adds
 returns-in-Err-NoMem-clause-adds g c =
-    let lacks = subst (λ (r : InternRefusal). AddsTo c.in_ok-id.id.at c.args.row.now c.self.inside.parts (Err r)
+    let lacks = subst (λ (r : AddRefusal). AddsTo c.in_ok-id.id.at c.args.row.now c.self.inside.parts (Err r)
     c.put_row.new.parts) c.in-Err-NoMem.field-0-is c.in-Err-NoMem.ensures.adds in
     rw (← c.self.view_is)
     (add_lacking c.self.inside.parts c.args.name.now c.args.row.now c.in_ok-id.id.at c.in_ok-id.ensures.ok
@@ -258,7 +258,7 @@ returns-in_err-id-clause-tells g c =
 pub returns-in-Err-Full-clause-watches : goal.returns-in-Err-Full-clause-watches
 returns-in-Err-Full-clause-watches g c =
     rw (← c.self.view_is) (registered_still c.self.inside.parts c.put_row.new.parts c.put_row.ensures.rest
-    (subst (λ (r : InternRefusal). AddsTo c.in_ok-id.id.at c.args.row.now c.self.inside.parts (Err r)
+    (subst (λ (r : AddRefusal). AddsTo c.in_ok-id.id.at c.args.row.now c.self.inside.parts (Err r)
     c.put_row.new.parts) c.in-Err-Full.field-0-is c.in-Err-Full.ensures.adds).rests.queries)
 
 pub returns-in-Err-Full-clause-tells : goal.returns-in-Err-Full-clause-tells
@@ -266,12 +266,12 @@ returns-in-Err-Full-clause-tells g c =
     let old = c.self.inside.parts in
     rw (← c.self.view_is)
     (tells_nothing (kept_in old) (kept_in c.put_row.new.parts) c.args.steps.now.listing c.put_row.new.steps.listing
-    (subst (λ (r : InternRefusal). IfStill (Err r) (c.put_row.new.steps.listing ≤ c.args.steps.now.listing))
+    (subst (λ (r : AddRefusal). IfStill (Err r) (c.put_row.new.steps.listing ≤ c.args.steps.now.listing))
     c.in-Err-Full.field-0-is c.in-Err-Full.ensures.idle)
     (affected_same old c.put_row.new.parts c.put_row.ensures.rest.affected)
     (λ id h. told_full c.showable_stays.ensures c.texts_stay.ensures old c.put_row.new.parts c.in_ok-id.id.at
     c.args.row.now
-    (subst (λ (r : InternRefusal). AddsTo c.in_ok-id.id.at c.args.row.now c.self.inside.parts (Err r)
+    (subst (λ (r : AddRefusal). AddsTo c.in_ok-id.id.at c.args.row.now c.self.inside.parts (Err r)
     c.put_row.new.parts)
     c.in-Err-Full.field-0-is c.in-Err-Full.ensures.adds) c.self.invariant.1 id.at))
 
@@ -280,7 +280,7 @@ returns-in-Err-NoMem-clause-watches g c =
     rw (← c.self.view_is)
     (registered_now c.self.inside.parts (record c.put_row.new.parts { logs = c.empty_logs.new.logs })
     c.outdate_readers.new.parts c.in_ok-id.id.at c.args.name.now
-    (subst (λ (r : InternRefusal). AddsTo c.in_ok-id.id.at c.args.row.now c.self.inside.parts (Err r)
+    (subst (λ (r : AddRefusal). AddsTo c.in_ok-id.id.at c.args.row.now c.self.inside.parts (Err r)
     c.put_row.new.parts)
     c.in-Err-NoMem.field-0-is c.in-Err-NoMem.ensures.adds).1.carries
     c.put_row.ensures.rest.watchers c.put_row.ensures.rest.order (c.empty_logs.ensures.long
@@ -291,7 +291,7 @@ returns-in-Err-NoMem-clause-tells g c =
     let old = c.self.inside.parts in
     let mid = c.put_row.new.parts in
     let new = c.outdate_readers.new.parts in
-    let lacks = (subst (λ (r : InternRefusal). AddsTo c.in_ok-id.id.at c.args.row.now c.self.inside.parts (Err r)
+    let lacks = (subst (λ (r : AddRefusal). AddsTo c.in_ok-id.id.at c.args.row.now c.self.inside.parts (Err r)
     c.put_row.new.parts) c.in-Err-NoMem.field-0-is c.in-Err-NoMem.ensures.adds).1 in
     let m = c.in_ok-id.ensures.ok in
     let alike = alike_now old (record mid { logs = c.empty_logs.new.logs }) new c.in_ok-id.id.at c.args.name.now
@@ -308,14 +308,14 @@ returns-in-Err-NoMem-clause-tells g c =
     c.deltas_exist.ensures
     c.heads_are_bound.ensures c.rows_by_name_or_place.ensures c.laws.ensures.names
     c.args.steps.now.listing c.put_row.new.steps.listing
-    (subst (λ (r : InternRefusal). IfLacking (Err r)
+    (subst (λ (r : AddRefusal). IfLacking (Err r)
     (CountsRows c.in_ok-id.id.at
     (with_row (counted_at c.self.inside.parts.catalog.relations c.in_ok-id.id.at) c.args.row.now) c.self.inside.parts
     c.args.steps.now.listing c.put_row.new.steps.listing)) c.in-Err-NoMem.field-0-is c.in-Err-NoMem.ensures.listed)
     new
     (affected_same old new (c.outdate_readers.ensures.rest.affected ∙ c.put_row.ensures.rest.affected))
     (discards_by old mid new c.self.invariant.0 c.in_ok-id.id.at m.relation.below c.put_row.ensures.rest.readers
-    (subst (λ (r : InternRefusal). IfLacking (Err r)
+    (subst (λ (r : AddRefusal). IfLacking (Err r)
     (KeepsLogs (reads_at c.self.inside.parts c.in_ok-id.id.at) c.self.inside.parts c.put_row.new.parts))
     c.in-Err-NoMem.field-0-is c.in-Err-NoMem.ensures.apart)
     (subst (λ (ls : List Log). Empties (readers_at mid.readers.items c.in_ok-id.id.at) mid.logs.items ls)
@@ -403,7 +403,7 @@ returns-in_err-id-clause-updates g c =
 
 pub returns-in-Err-Full-clause-updates : goal.returns-in-Err-Full-clause-updates
 returns-in-Err-Full-clause-updates g c =
-    let still = subst (λ (r : InternRefusal). IfStill (Err r) (c.put_row.new.steps.update ≤ c.args.steps.now.update))
+    let still = subst (λ (r : AddRefusal). IfStill (Err r) (c.put_row.new.steps.update ≤ c.args.steps.now.update))
     c.in-Err-Full.field-0-is c.in-Err-Full.ensures.unmoved in
     rw (← c.self.view_is) (record { counted = λ n flat few. omega (arith, still) })
 
@@ -415,7 +415,7 @@ returns-in-Err-NoMem-clause-updates g c =
     m.relation.named
     _ c.leaves_are_small.ensures
     3 c.args.steps.now.update c.put_row.new.steps.update
-    (subst (λ (r : InternRefusal). IfLacking (Err r)
+    (subst (λ (r : AddRefusal). IfLacking (Err r)
     (WorksRows c.in_ok-id.id.at 3 c.self.inside.parts c.args.steps.now.update c.put_row.new.steps.update))
     c.in-Err-NoMem.field-0-is c.in-Err-NoMem.ensures.refusal))
 
@@ -531,7 +531,7 @@ returns-in_err-id-clause-places g c =
 pub returns-in-Err-Full-clause-places : goal.returns-in-Err-Full-clause-places
 returns-in-Err-Full-clause-places g c =
     rw (← c.self.view_is) (keeps_equal _ c.self.inside.parts.queries.items c.put_row.new.parts.queries.items
-    (subst (λ (r : InternRefusal). AddsTo c.in_ok-id.id.at c.args.row.now c.self.inside.parts (Err r)
+    (subst (λ (r : AddRefusal). AddsTo c.in_ok-id.id.at c.args.row.now c.self.inside.parts (Err r)
     c.put_row.new.parts)
     c.in-Err-Full.field-0-is c.in-Err-Full.ensures.adds).rests.queries)
 
@@ -543,7 +543,7 @@ returns-in-Err-NoMem-clause-places g c =
     c.self.invariant.0
     c.in_ok-id.id.at c.args.name.now (row_in c.self.inside.parts.catalog.relations c.args.name.now c.args.row.now).after
     c.in_ok-id.ensures.ok.relation.below c.in_ok-id.ensures.ok.relation.named
-    (subst (λ (r : InternRefusal). AddsTo c.in_ok-id.id.at c.args.row.now c.self.inside.parts (Err r)
+    (subst (λ (r : AddRefusal). AddsTo c.in_ok-id.id.at c.args.row.now c.self.inside.parts (Err r)
     c.put_row.new.parts)
     c.in-Err-NoMem.field-0-is c.in-Err-NoMem.ensures.adds).1.carries
     c.put_row.ensures.rest.readers c.outdate_readers.ensures)
