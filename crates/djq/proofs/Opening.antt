@@ -56,40 +56,6 @@ asked path answer old mid new opens sizes = told_both old mid new (OpensPath pat
     same (Len k) m n s = s.1
     same DiskLen.Failed m n s = s
 
-pub asked_empty : (path : Bytes) (old mid new : Option History) → WhereTold old mid (OpensPath path)
-    → WhereTold mid new (Sizes (Len 0))
-    → WhereTold old new (λ o n. (n ≡ asked_for path o) × (o.file.bytes ≡ []))
-asked_empty path old mid new opens sizes = told_both old mid new (OpensPath path) (Sizes (Len 0))
-    (λ o n. (n ≡ asked_for path o) × (o.file.bytes ≡ []))
-    (λ o m n p q. (q.1 ∙ p, sym (ap (λ (h : History). h.file.bytes) p) ∙ none m.file.bytes q.0)) opens sizes
-  where
-    none : (bytes : List ℕ) → 0 ≡ length bytes → bytes ≡ []
-    none [] e = refl
-    none (b ∷ bytes) e = absurd (omega (arith, e))
-
-pub has_older : (path : Bytes) (old new : Option History) → WhereTold old new (λ o n. n ≡ asked_for path o)
-    → WhereTold old new (HasFile path)
-has_older path old new told = told_so old new (λ o n. n ≡ asked_for path o) (HasFile path) (λ o n is. inl is) told
-
-pub has_made : (path : Bytes) (old mid new : Option History)
-    → WhereTold old mid (λ o n. (n ≡ asked_for path o) × (o.file.bytes ≡ []))
-    → WhereTold mid new (Makes Made) → WhereTold old new (HasFile path)
-has_made path old mid new is makes = told_both old mid new (λ o n. (n ≡ asked_for path o) × (o.file.bytes ≡ []))
-    (Makes Made) (HasFile path)
-    (λ o m n p q. inr (record { empty = p.1; none = refl; paths = q.0 ∙ ap (λ (h : History). h.paths) p.0 }, q.1)) is
-    makes
-
-pub lacks_asked : (path : Bytes) (old new : Option History) → WhereTold old new (λ o n. n ≡ asked_for path o)
-    → WhereTold old new (LacksFile path)
-lacks_asked path old new told = told_so old new (λ o n. n ≡ asked_for path o) (LacksFile path) (λ o n is. inl is) told
-
-pub lacks_made : (path : Bytes) (old mid new : Option History)
-    → WhereTold old mid (λ o n. (n ≡ asked_for path o) × (o.file.bytes ≡ []))
-    → WhereTold mid new (Makes Unmade) → WhereTold old new (LacksFile path)
-lacks_made path old mid new is makes = told_both old mid new (λ o n. (n ≡ asked_for path o) × (o.file.bytes ≡ []))
-    (Makes Unmade) (LacksFile path)
-    (λ o m n p q. inr (record { empty = p.1; paths = q ∙ ap (λ (h : History). h.paths) p.0 })) is makes
-
 -- A journal that was made stays idle behind a sync.
 idle_none : (gate : ℕ) (h : History) → IsIdle [] gate h.file → IsKeeping [] [] gate h h
 idle_none gate h idle = (keeps_on.none) [] gate h idle
@@ -109,16 +75,6 @@ made_finds : (path : Bytes) (old since new : History) → IsMade path [] old sin
     → Finds path [] [] 8 old new
 made_finds path old since new made keeping = record { since = since; begins = inl made; holds = keeping }
 
--- what is left where a journal wasn't opened
-pub lacks_leaves : (path : Bytes) (old new : Option History) → WhereTold old new (LacksFile path)
-    → WhereTold old new (LeavesUnloaded path)
-lacks_leaves path old new told = told_so old new (LacksFile path) (LeavesUnloaded path) (λ o n lacks. left o n lacks)
-    told
-  where
-    left : (o n : History) → LacksFile path o n → LeavesUnloaded path o n
-    left o n (inl is) = inl (inr (inl is))
-    left o n (inr unmade) = inr (inl unmade)
-
 -- behind the sync of an opening
 opened_synced : (path : Bytes) (o m n : History) → HasFile path o m → n ≡ after_sync m → IsOpened path o n
 opened_synced path o m n (inl is) same = inl (same ∙ ap after_sync is)
@@ -129,10 +85,6 @@ leaves_opened : (path : Bytes) (o n : History) → IsOpened path o n → LeavesU
 leaves_opened path o n (inl is) = inl (inr (inr is))
 leaves_opened path o n (inr finds) = inr (inr (inl ([], 8, finds)))
 
-leaves_unsynced : (path : Bytes) (o m : History) → HasFile path o m → LeavesUnloaded path o m
-leaves_unsynced path o m (inl is) = inl (inr (inl is))
-leaves_unsynced path o m (inr (made, idle)) = inr (inr (inl ([], 8, made_finds path o m m made (idle_none 8 m idle))))
-
 pub ready_opened : (path : Bytes) (gate : ℕ) (old mid new : Option History) → WhereTold old mid (HasFile path)
     → WhereTold mid new (Opens (Ready gate))
     → WhereTold old new (IsOpened path)
@@ -142,27 +94,6 @@ ready_opened path gate old mid new has opens = told_both old mid new (HasFile pa
 pub ready_first : (gate : ℕ) (mid new : Option History) → WhereTold mid new (Opens (Ready gate))
     → IfSome new (λ h. IsAt [] gate h.file)
 ready_first gate mid new opens = told_end mid new (Opens (Ready gate)) (λ h. IsAt [] gate h.file) (λ m n p. p.1) opens
-
-pub bad_leaves : (path : Bytes) (at : ℕ) (old mid new : Option History) → WhereTold old mid (HasFile path)
-    → WhereTold mid new (Opens (NoLog at))
-    → WhereTold old new (LeavesUnloaded path)
-bad_leaves path at old mid new has opens = told_both old mid new (HasFile path) (Opens (NoLog at)) (LeavesUnloaded path)
-    (λ o m n p q. leaves_opened path o n (opened_synced path o m n p q.0)) has opens
-
-pub bad_header : (at : ℕ) (mid new : Option History) → WhereTold mid new (Opens (NoLog at))
-    → IfSome new (HasNoHeader at)
-bad_header at mid new opens = told_end mid new (Opens (NoLog at)) (HasNoHeader at)
-    (λ m n p. (p.1, λ rest is. p.2 rest (sym (ap (λ (h : History). h.file.bytes) p.0) ∙ is))) opens
-
-pub unopened_leaves : (path : Bytes) (old mid new : Option History) → WhereTold old mid (HasFile path)
-    → WhereTold mid new (Opens Unopened)
-    → WhereTold old new (LeavesUnloaded path)
-unopened_leaves path old mid new has opens = told_both old mid new (HasFile path) (Opens Unopened) (LeavesUnloaded path)
-    (λ o m n p q. left o m n p q) has opens
-  where
-    left : (o m n : History) → HasFile path o m → (n ≡ m) ⊎ (n ≡ after_sync m) → LeavesUnloaded path o n
-    left o m n p (inl same) = subst (λ (h : History). LeavesUnloaded path o h) (sym same) (leaves_unsynced path o m p)
-    left o m n p (inr synced) = leaves_opened path o n (opened_synced path o m n p synced)
 
 -- What was opened is left where its lines weren't loaded: nothing was written.
 pub opened_leaves : (path : Bytes) (old mid new : Option History) → WhereTold old mid (IsOpened path)

@@ -46,11 +46,6 @@ abbrev pub PutsSoFar : Option Listed → ℕ → Bytes → Bytes → Type 0
 PutsSoFar o nth old now = IsSomeAnd o
     (λ q. now ≡ old ++ text_of (map member_line (take nth (map (λ m. m.name) (members_of q)))))
 
-pub puts_start : (o : Option Listed) (count : ℕ) (old : Bytes) → IsSomeAnd o (λ q. count ≡ length (members_of q))
-    → PutsSoFar o 0 old old
-puts_start None count old h = absurd h
-puts_start (Some q) count old h = sym (append-nil old)
-
 pub puts_more : (o : Option Listed) (nth : ℕ) (name old now new : Bytes) → PutsSoFar o nth old now
     → IsSomeAnd o (λ q. slice_get (map (λ m. m.name) (members_of q)) nth ≡ Some name) → new ≡ now ++ member_line name
     → PutsSoFar o (nth + 1) old new
@@ -81,35 +76,6 @@ member_there None count nth h l = absurd h
 member_there (Some q) count nth h l = omega (arith, h, l)
 
 -- ---- what is queued
-
-pub queues_tree : (o : Option Listed) (lines : Bytes) (before after : Talk) (r : Result ⊤ NoMem)
-    → IsSomeAnd o (λ q. Explains q (Tree lines)) → MayQueue before after (lines ++ codes "end\n") r
-    → QueuesExplained o before after r
-queues_tree None lines before after r h q = absurd h
-queues_tree (Some (a_query k)) lines before after (Ok done) h q = (lines, h, q)
-queues_tree (Some (a_query k)) lines before after (Err e) h q = ((h.tree, h.named), q.same)
-queues_tree (Some (a_union name qs)) lines before after r h q = absurd h
-
-pub counts_members : (o : Option Listed) (count : ℕ) → IsSomeAnd o (λ q. Explains q (Members count))
-    → IsSomeAnd o (λ q. count ≡ length (members_of q))
-counts_members None count h = h
-counts_members (Some (a_query k)) count h = absurd h
-counts_members (Some (a_union name qs)) count h = h
-
-pub queues_members : (o : Option Listed) (count : ℕ) (text : Bytes) (before after : Talk) (r : Result ⊤ NoMem)
-    → IsSomeAnd o (λ q. Explains q (Members count))
-    → IsSomeAnd o (λ q. text ≡ [] ++ text_of (member_lines q)) → MayQueue before after (text ++ codes "end\n") r
-    → QueuesExplained o before after r
-queues_members None count text before after r h t q = absurd h
-queues_members (Some (a_query k)) count text before after r h t q = absurd h
-queues_members (Some (a_union name qs)) count text before after (Ok done) h t q = (text, t, q)
-queues_members (Some (a_union name qs)) count text before after (Err e) h t q = (tt, q.same)
-
-pub queues_nothing : (o : Option Listed) (count : ℕ) (k : Talk) (e : NoMem)
-    → IsSomeAnd o (λ q. Explains q (Members count)) → QueuesExplained o k k (Err e)
-queues_nothing None count k e h = absurd h
-queues_nothing (Some (a_query q)) count k e h = absurd h
-queues_nothing (Some (a_union name qs)) count k e h = (tt, refl)
 
 -- `explain`, where the query is there
 explain_at : (o : Option Listed) (k : Listed) (st st' : State) (s : ℕ) (e : Effect) → o ≡ Some k

@@ -107,20 +107,6 @@ giving_goes_on old before k d e k' id g p o =
     step c true e a = ap (held_at k'.cursors) (sym (same_id_same id c e)) ∙ o.gone
     step c false e a = o.others c (same_id_flip id c e) ∙ g.lost c a
 
-pub given_up : (old : Kept) (before : Talk) (k : Kept) (d e : Talk) → Giving old before k d → PopsCursor d e None
-    → GivesUpCursors old before k e
-given_up old before k d e g p = record {
-  store = g.store;
-  gone = λ c a. g.lost c
-      (subst (λ (ns : List (NamedCursor CursorId)). is_among c (ids_of_cursors ns) ≡ true)
-      (g.gone.1 ∙ ap (λ (ns : List (NamedCursor CursorId)). ns ++ g.gone.0) p.0) a);
-  others = g.others;
-  session = p.1 ∙ g.session ∙ ap (λ (ns : List (NamedCursor CursorId)). record before { cursors = ns }) p.0;
-  registered = g.registered;
-  affected = g.affected;
-  told = g.told;
-}
-
 -- The watches are given up behind them.
 pub both_given_up : (old mid new : Kept) (before between after : Talk) → GivesUpCursors old before mid between
     → GivesUpWatches mid between new after → GivesUp old before new after

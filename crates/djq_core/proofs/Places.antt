@@ -663,9 +663,3 @@ dry_here k st stopped xs at s e h v running (inl c) =
 dry_here k st stopped xs at s e h v running (inr d) =
     subst (λ (bs : Bytes). is_dry bs ≡ true)
     (ap (λ (x : State). held_of x s) (sym v) ∙ held_at_state k stopped xs at s e h) d
-
-pub or_turned : (a b : Bool) → (a || b) ≡ (b || a)
-or_turned true true = refl
-or_turned true false = refl
-or_turned false true = refl
-or_turned false false = refl

@@ -141,13 +141,6 @@ all_levels r menu cs f e =
     (λ (ks : List ℕ). length ks) e in
     omega arith
 
--- where no choice is left, all was given
-pub given_none : (r : Reducts) (menu : Menu) (cs : List Choice) (all : List (List ℕ)) → cs ≡ []
-    → given_to r menu (length r.tree.nodes) (blank r.tree) cs ≡ all
-    → leaves r.tree menu (levels r.tree) (blank r.tree) ≡ all
-given_none r menu cs all e given = sym
-    (ap (λ (ds : List Choice). given_to r menu (length r.tree.nodes) (blank r.tree) ds) e) ∙ given
-
 pub few_choices : (r : Reducts) (menu : Menu) (cs : List Choice) → IsReducts r → IsSmall r.tree
     → Follows r menu (length r.tree.nodes) (blank r.tree) cs → length cs ≤ 16
 few_choices r menu cs h small f =

@@ -246,11 +246,6 @@ pub by_fits : (r : Reducts) (c : Cursor)
 unfolding Fits
 by_fits r c f = f
 
-pub given_is : (r : Reducts) (c : Cursor)
-    → given r c ≡ given_by r (group_at r) (has_root r) c.state c.places
-unfolding given
-given_is r c = refl
-
 pub cursor_answers : (r : Reducts) (c : Cursor) → IsReducts r → Fits r c
     → AreSome (IsAnswerOf r) (given r c)
 unfolding given Fits

@@ -196,10 +196,6 @@ pub trim_level : (t : Tree) (k c : ℕ) → node_at t.nodes k ≡ Trim c → t.s
     → k < length t.nodes → IsLevel t k
 trim_level t k c e late within = record { late = late; within = within; trim = ap is_trim e }
 
-pub source_is : (t : Tree) (k c : ℕ) → node_at t.nodes k ≡ Trim c → source t k ≡ c
-unfolding source
-source_is t k c e = ap child_of e
-
 pub source_within : (t : Tree) (k : ℕ) → IsTree t → IsLevel t k → source t k < length t.nodes
 source_within t k s l = let low = (s.trim k (source t k) (level_trim t k l)).lower in let w =
     l.within in omega arith

@@ -124,10 +124,6 @@ or_marked : (ms g : List Entry) → 0 < length ms → marked_or ms g ≡ ms
 or_marked [] g h = absurd (omega arith)
 or_marked (m ∷ ms) g h = refl
 
-or_all : (ms g : List Entry) → length ms ≡ 0 → marked_or ms g ≡ g
-or_all [] g h = refl
-or_all (m ∷ ms) g h = absurd (omega arith)
-
 -- it has no tuple that the group lacks, nor one twice
 pub part_few : (g : List Entry) (u : List ℕ) → count_of (part g) u ≤ count_of g u
 part_few g u =

@@ -34,17 +34,6 @@ put_one (c ∷ []) (u ∷ []) s one long = refl
 put_one (c ∷ []) (u ∷ v ∷ us) s one long = absurd cc
 put_one (c ∷ d ∷ cs) us s one long = absurd cc
 
-pub put_two : (cs us s : List ℕ) → length cs ≡ 2 → length us ≡ length cs
-    → slice_set (slice_set s (slice_index_or cs 0 0) (slice_index_or us 0 0)) (slice_index_or cs 1 0)
-    (slice_index_or us 1 0) ≡ put cs us s
-put_two [] us s two long = absurd cc
-put_two (c ∷ []) us s two long = absurd cc
-put_two (c ∷ d ∷ []) [] s two long = absurd cc
-put_two (c ∷ d ∷ []) (u ∷ []) s two long = absurd cc
-put_two (c ∷ d ∷ []) (u ∷ v ∷ []) s two long = refl
-put_two (c ∷ d ∷ []) (u ∷ v ∷ w ∷ us) s two long = absurd cc
-put_two (c ∷ d ∷ e ∷ cs) us s two long = absurd cc
-
 -- so is a tuple over a label
 pub written_put : (F l us s : List ℕ) → written F l us s ≡ put (columns F l) us s
 unfolding columns

@@ -70,8 +70,3 @@ searched-next texts hashes text hash m k (Some n) h own s other last same =
       λ j d from low equal. between texts hashes text hash m (n + 1) h own s other none j d
           (omega arith) low equal,
     )
-
--- and there are fewer behind it
-pub ahead-next : (hashes : List ℕ) (hash m : ℕ) (r : Option ℕ) → IsLastWith hashes hash m r → ahead r < m + 1
-ahead-next hashes hash m None last = omega arith
-ahead-next hashes hash m (Some k) last = omega (arith, last.0)

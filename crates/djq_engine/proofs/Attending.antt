@@ -24,11 +24,6 @@ there_not_none gs i t o is none =
     let e : place_at gs i ≡ None = sym (get_or_default gs i o None (place_below gs i t.query t.is)) ∙ sym is ∙ none in
     let f = t.is in absurd cc
 
--- the query in a place, as the code reads it
-pub there_read : (gs : List (Option Live)) (i : ℕ) → There gs i → (o : Option Live) (l : Live) → o ≡ get_or gs i o → o
-    ≡ Some l → There gs i
-there_read gs i t o l is some = record { query = l; is = place_read gs i o l (place_below gs i t.query t.is) is some }
-
 got : (xs : List Line) (k : ℕ) (x : Line) → slice_get xs k ≡ Some x → (k < length xs) × (get_or xs k x ≡ x)
 got [] k x e = absurd cc
 got (y ∷ xs) zero x e = (omega arith, same_line y x e)

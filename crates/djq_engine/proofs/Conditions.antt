@@ -39,10 +39,6 @@ pub done_of : {A : Type 0} (o : Option Refusal) (a : A) (D : A → Type 0) (L : 
 done_of None a D L h = (refl, h)
 done_of (Some r) a D L h = absurd h
 
-pub err_as : {A : Type 0} (result : Result A Refusal) (P Q : Type 0) → (P → Q) → OnErr result P → OnErr result Q
-err_as (Ok a) P Q f h = tt
-err_as (Err r) P Q f h = f h
-
 -- conditions in front of others
 
 pub front_refuses : (xs ys : List (Bool × Refusal)) (x : Refusal) → first_refusal xs ≡ Some x

@@ -42,25 +42,6 @@ pub read_all : (gs : List (Option Live)) (i : ℕ) (p : Option Live) (l : Live) 
 read_all gs i p l P h is some = subst (λ (o : Option Live). IsSomeAnd o P)
     (place_read gs i p l (below_some gs i P h) is some) h
 
-pub moves_read : (Does : Live → Live → Type 0) (gs : List (Option Live)) (i : ℕ) (p : Option Live) (l m : Live)
-    (P : Live → Type 0) → IsSomeAnd (place_at gs i) P
-    → p ≡ get_or gs i p → p ≡ Some l → Does l m → Moves Does i gs (set gs i (Some m))
-moves_read Does gs i p l m P h is some does = record {
-  old = l;
-  new = m;
-  there = place_read gs i p l (below_some gs i P h) is some;
-  done = does;
-  is = refl;
-}
-
-pub opens_read : {E : Type 0} (gs : List (Option Live)) (i : ℕ) (p : Option Live) (l m : Live) (result : Result ℕ E)
-    → IsSomeAnd (place_at gs i) (λ l. ⊤)
-    → p ≡ get_or gs i p → p ≡ Some l → IfOk result (λ k. live.OpensIn l k m) → ((c : Catalog) → IsLive c l → IsLive c m)
-    → IfOk result (λ k. Moves (OpensAt k) i gs (set gs i (Some m)))
-opens_read gs i p l m (Ok k) h is some o lives = moves_read (OpensAt k) gs i p l m (λ l. ⊤) h is some
-    (record { opens = o; live = lives })
-opens_read gs i p l m (Err r) h is some o lives = tt
-
 -- a cursor that is held stands in a slot
 
 pub record HasCursor (gs : List (Option Live)) (id : CursorId) : Type 0 where

@@ -38,44 +38,11 @@ first_behind p x xs i h = record {
   before = λ k d l. h.before (suc k) d (omega arith);
 }
 
-pub first_found : {A : Type 0} (p : A → Bool) (xs : List A) (i : ℕ) (d : A) → IsFirst p xs i → find p xs
-    ≡ Some (get_or xs i d)
-first_found p [] i d h = absurd (omega (arith, h.below))
-first_found p (x ∷ xs) zero d h = let e : p x ≡ true = h.passes d in rw e refl
-first_found p (x ∷ xs) (suc i) d h = let e : p x
-    ≡ false = h.before zero d (omega arith) in rw e (first_found p xs i d (first_behind p x xs i h))
-
-pub first_changed : {A : Type 0} (p : A → Bool) (f : A → A) (xs : List A) (i : ℕ) (d : A) → IsFirst p xs i
-    → change_first p f xs ≡ set xs i (f (get_or xs i d))
-first_changed p f [] i d h = absurd (omega (arith, h.below))
-first_changed p f (x ∷ xs) zero d h = let e : p x ≡ true = h.passes d in rw e refl
-first_changed p f (x ∷ xs) (suc i) d h = let e : p x ≡ false = h.before zero d (omega arith) in
-    rw e (ap (λ r. x ∷ r) (first_changed p f xs i d (first_behind p x xs i h)))
-
 not_both : {A : Type 0} (b : Bool) → b ≡ true → b ≡ false → A
 not_both true e f = absurd cc
 not_both false e f = absurd cc
 
--- two first ones are one
-pub firsts_same : {A : Type 0} (p : A → Bool) (xs : List A) (i j : ℕ) (d : A) → IsFirst p xs i → IsFirst p xs j → i ≡ j
-firsts_same p xs i j d f g = by_order (cases_order i j)
-  where
-    by_order : (i ≡ j) ⊎ ((i < j) ⊎ (j < i)) → i ≡ j
-    by_order (inl e) = e
-    by_order (inr (inl l)) = not_both (p (get_or xs i d)) (f.passes d) (g.before i d l)
-    by_order (inr (inr l)) = not_both (p (get_or xs j d)) (g.passes d) (f.before j d l)
-
 -- the same test, on images and on longer lists
-
-pub first_mapped : {A B : Type 0} (p : B → Bool) (f : A → B) (xs : List A) (i : ℕ) (b : B) → IsFirst (λ x. p (f x)) xs i
-    → IsFirst p (map f xs) i
-first_mapped p f [] i b h = absurd (omega (arith, h.below))
-first_mapped p f (x ∷ xs) i b h =
-    let size = length-map (x ∷ xs) f in record {
-      below = omega (arith, h.below, size);
-      passes = λ d. ap p (get_or-map f (x ∷ xs) i x d h.below) ∙ h.passes x;
-      before = λ k d l. ap p (get_or-map f (x ∷ xs) k x d (omega (arith, h.below))) ∙ h.before k x l;
-    }
 
 pub find_mapped : {A B : Type 0} (p : B → Bool) (f : A → B) (xs : List A) → find p (map f xs)
     ≡ option_map f (find (λ x. p (f x)) xs)
@@ -92,14 +59,4 @@ first_more p xs ys i h = record {
   below = omega (arith, h.below, length-append xs ys);
   passes = λ d. ap p (get_or_append_left xs ys d i h.below) ∙ h.passes d;
   before = λ k d l. ap p (get_or_append_left xs ys d k (omega (arith, h.below))) ∙ h.before k d l;
-}
-
--- the same list but for what the test doesn't see
-pub first_as : {A : Type 0} (p : A → Bool) (xs ys : List A) (i : ℕ) (e : A) → length ys ≡ length xs
-    → ((k : ℕ) (d : A) → k < length xs → p (get_or ys k d) ≡ p (get_or xs k d))
-    → IsFirst p xs i → IsFirst p ys i
-first_as p xs ys i e size same h = record {
-  below = omega (arith, h.below, size);
-  passes = λ d. same i d h.below ∙ h.passes d;
-  before = λ k d l. same k d (omega (arith, h.below)) ∙ h.before k d l;
 }

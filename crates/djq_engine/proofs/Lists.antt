@@ -21,14 +21,6 @@ pub list_read : (now old : List (List ℕ)) (k : ℕ) (p : List ℕ) → k < len
     ≡ readers_at old k → p ≡ readers_at old k
 list_read now old k p low is same = is ∙ get_or_default now k p [] low ∙ same
 
--- a list with an entry is there
-pub list_there : (xs : List (List ℕ)) (k n : ℕ) → n < length (readers_at xs k) → k < length xs
-list_there xs k n low = by_order (cases_lt k (length xs))
-  where
-    by_order : (k < length xs) ⊎ (length xs ≤ k) → k < length xs
-    by_order (inl l) = l
-    by_order (inr l) = absurd (omega (arith, low, ap length (get_or_past xs k [] l)))
-
 -- One list more was changed.
 pub record Front (f : ℕ → List ℕ → List ℕ) (old new : List (List ℕ)) (k : ℕ) : Type 0 where
   pub long : length new ≡ length old
@@ -136,9 +128,3 @@ logs_cleared gs old now at x none same i l there =
   where
     not_both : (l : Live) (o : Option Live) → o ≡ None → o ≡ Some l → ⊥
     not_both l o e f = cc
-
--- a log more, in a place of no query
-pub logs_longer : (gs : List (Option Live)) (old : List Log) (x : Log) → length old ≡ length gs
-    → SameLogs gs old (old ++ x ∷ [])
-logs_longer gs old x long i l there = get_or_append_left old (x ∷ []) no_log i
-    (omega (arith, place_below gs i l there, long))

@@ -119,19 +119,6 @@ outdates_next held k d test n gs hs ks low counts a b =
     ∙ ap (λ (t : Bool). or_first (first_read (take k held) test q)
     (cond (t && listed_reads q (get_or held k d).relation) (Some (get_or held k d).relation) None)) counts) a b
 
--- one row more, whose relation doesn't count
-pub outdates_still : (held : List HeldRow) (k : ℕ) (d : HeldRow) (test : Bytes → Bool) (n : ℕ)
-    (gs hs : List (Option Live)) → k < length held
-    → test (get_or held k d).relation ≡ false → AgesAll (first_read (take k held) test) n gs hs
-    → AgesAll (first_read (take (k + 1) held) test) n gs hs
-outdates_still held k d test n gs hs low counts a =
-    ages_both (first_read (take k held) test) (λ q. None) (first_read (take (k + 1) held) test) n gs hs hs
-    (λ q. ap (λ (xs : List HeldRow). first_read xs test q) (take_more held k d low)
-    ∙ first_more (take k held) (get_or held k d) test q
-    ∙ ap (λ (t : Bool). or_first (first_read (take k held) test q)
-    (cond (t && listed_reads q (get_or held k d).relation) (Some (get_or held k d).relation) None)) counts) a
-    (ages_none (λ q. None) n hs (λ q. refl))
-
 ages_as : (f g : Listed → Option Bytes) (n : ℕ) (gs hs : List (Option Live)) → ((q : Listed) → g q ≡ f q)
     → AgesAll f n gs hs → AgesAll g n gs hs
 ages_as f g n gs hs same a = record { long = a.long; each = λ i. by_place (place_at gs i) (place_at hs i) (a.each i) }
@@ -267,20 +254,6 @@ clears_next held k d gs a b c low x y =
     (λ i. reads_held (take (k + 1) held) (place_at gs i)) a b c
     (λ i. ap (λ (xs : List HeldRow). reads_held xs (place_at gs i)) (take_more held k d low)
     ∙ any_more (take k held) (get_or held k d) (place_at gs i)) x y
-
--- those in these places were emptied, which are the readers of a relation
-pub clears_readers : (relations : List Relation) (readers : List (List ℕ)) (at : ℕ) (name : Bytes)
-    (gs : List (Option Live)) (a b : List Log) → AreReaders relations readers gs → at < length relations
-    → (relation_at relations at).name ≡ name → Empties (readers_at readers at) a b
-    → ClearsLogs (λ i. reads_place name (place_at gs i)) a b
-clears_readers relations readers at name gs a b r low named e = record {
-  long = e.long;
-  emptied = λ i h. e.emptied i (is i ∙ h);
-  others = λ i h. e.others i (is i ∙ h);
-}
-  where
-    is : (i : ℕ) → is_reader (readers_at readers at) i ≡ reads_place name (place_at gs i)
-    is i = r.reading at i low ∙ ap (λ (x : Bytes). reads_place x (place_at gs i)) named
 
 -- a query reads the relation of a held row where one of them outdates it
 pub reads_first : (held : List HeldRow) (l : Live) → reads_held held (Some l)

@@ -49,10 +49,6 @@ no_vertex E i e own shared is alone both none x lies once =
 
 -- ---- the whole search
 
-pub irreducible_of : (E : List (List ℕ)) → HasNoOwn E → ((i j : ℕ) → IsStep E (Edge i j) → ⊥) → IsIrreducible E
-irreducible_of E own inner (Vertex i x) h = own i x h.0 h.1 h.2
-irreducible_of E own inner (Edge i j) h = inner i j h
-
 pub variable_of : (E : List (List ℕ)) (i x : ℕ) (e : List ℕ) → i < length E → e ≡ edge_at E i → Some x ≡ slice_get e 0
     → 0 < degree x E
 variable_of E i x e within is first =

@@ -115,13 +115,6 @@ compares_without H i e all x shared near far wide low is lacks c joined =
 
 -- ---- before the first edge, and after the last
 
-pub compares_none : (H : List (List ℕ)) (all : List ℕ) (x : ℕ) → Compares (take 0 H) all x all [] []
-compares_none H all x = record { shared = λ y. sym (and_true (member y all)); near = λ y. refl; far = λ y. refl }
-  where
-    and_true : (b : Bool) → (b && true) ≡ b
-    and_true true = refl
-    and_true false = refl
-
 pub compares_all : (H : List (List ℕ)) (i : ℕ) (all : List ℕ) (x : ℕ) (shared near far : List ℕ) → length H ≤ i
     → Compares (take i H) all x shared near far → Compares H all x shared near far
 compares_all H i all x shared near far past c = subst (λ (L : List (List ℕ)). Compares L all x shared near far)

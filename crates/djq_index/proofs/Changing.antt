@@ -52,24 +52,6 @@ inserted_length {m} key old new u i = rw (i.was, i.is) (length_middle i.front i.
 pub inserted_plain : (key : List ℕ) (old new : List Entry) (u : List ℕ) → Inserted key old new u → plain new ≡ plain old
 inserted_plain key old new u i = rw (i.was, i.is) (plain_middle i.front i.entry i.back i.marked)
 
-pub inserted_marks : (key : List ℕ) (old new : List Entry) (u : List ℕ) → Inserted key old new u → (v : List ℕ)
-    → count_of (marks new) v ≡ count_of (marks old) v + one (same u v)
-inserted_marks key old new u i v = omega (
-  arith,
-  inserted_cnt key old new u i v,
-  cnt_split new v,
-  cnt_split old v,
-  ap (λ es. count_of es v)
-      (inserted_plain key old new u i),
-)
-
-pub inserted_apart : {m : Bool} (key : List ℕ) (old new : List Entry) (u : List ℕ) → InsertedAs m key old new u
-    → AreApart old → count_of old u ≡ 0 → AreApart new
-inserted_apart {m} key old new u i h none =
-    subst AreApart (sym i.is)
-    (apart_in i.front i.entry i.back (subst AreApart i.was h)
-    (subst (λ v. count_of (i.front ++ i.back) v ≡ 0) (sym i.tuple) (subst (λ es. count_of es u ≡ 0) i.was none)))
-
 pub inserted_supported : {m : Bool} (key : List ℕ) (old new : List Entry) (u : List ℕ) → InsertedAs m key old new u
     → AreSupported old → AreSupported new
 inserted_supported {m} key old new u i h =
@@ -90,9 +72,6 @@ removed_many old new u r columns w = rw (r.was, r.is)
 
 pub removed_length : (old new : List Entry) (u : List ℕ) → Removed old new u → length old ≡ length new + 1
 removed_length old new u r = rw (r.was, r.is) (length_middle r.front r.entry r.back)
-
-pub removed_apart : (old new : List Entry) (u : List ℕ) → Removed old new u → AreApart old → AreApart new
-removed_apart old new u r h = subst AreApart (sym r.is) (apart_out r.front r.entry r.back (subst AreApart r.was h))
 
 pub removed_supported : (old new : List Entry) (u : List ℕ) → Removed old new u → AreSupported old → AreSupported new
 removed_supported old new u r h = subst AreSupported (sym r.is)
@@ -117,18 +96,6 @@ supported_cnt old new u from to s v =
       cnt_middle s.front s.after s.back v,
       one_of s.before u v s.tuple,
       one_of s.after u v s.same_tuple,
-    ))
-
-pub supported_many : (old new : List Entry) (u : List ℕ) (from to : ℕ) → Supported old new u from to
-    → (columns w : List ℕ) → group_size columns new w ≡ group_size columns old w
-supported_many old new u from to s columns w =
-    rw (s.was, s.is) (omega (
-      arith,
-      many_middle columns s.front s.before s.back w,
-      many_middle columns s.front s.after s.back w,
-      one_key
-          columns s.before u w s.tuple,
-      one_key columns s.after u w s.same_tuple,
     ))
 
 pub supported_length : (old new : List Entry) (u : List ℕ) (from to : ℕ) → Supported old new u from to → length new
@@ -162,34 +129,6 @@ pub supported_apart : (old new : List Entry) (u : List ℕ) (from to : ℕ) → 
 supported_apart old new u from to s h =
     subst AreApart (sym s.is)
     (apart_same s.front s.before s.after s.back (s.same_tuple ∙ sym s.tuple) (subst AreApart s.was h))
-
--- a touch
-pub touched_cnt : (key : List ℕ) (old new : List Entry) (u : List ℕ) → Touched key old new u → (v : List ℕ)
-    → count_of new v
-    ≡ count_of old v
-touched_cnt key old new u t v =
-    rw (t.was, t.is) (omega (
-      arith,
-      cnt_middle t.front t.before t.back v,
-      cnt_middle t.fore t.after t.rest v,
-      ap (λ es. count_of es v) t.between,
-      one_of t.before u v t.tuple,
-      one_of t.after u v t.same_tuple,
-    ))
-
-pub touched_many : (key : List ℕ) (old new : List Entry) (u : List ℕ) → Touched key old new u → (columns w : List ℕ)
-    → group_size columns new w ≡ group_size columns old w
-touched_many key old new u t columns w =
-    rw (t.was, t.is) (omega (
-      arith,
-      many_middle columns t.front t.before t.back w,
-      many_middle columns t.fore t.after t.rest w,
-      ap
-          (λ es. group_size columns es w) t.between,
-      one_key columns t.before u w t.tuple,
-      one_key columns t.after u w
-          t.same_tuple,
-    ))
 
 pub touched_supp : (key : List ℕ) (old new : List Entry) (u : List ℕ) → Touched key old new u → (v : List ℕ)
     → supports_of new v ≡ supports_of old v
@@ -233,37 +172,3 @@ touched_marks key old new u t v =
       one_of t.after u v
           t.same_tuple,
     ))
-
-pub touched_apart : (key : List ℕ) (old new : List Entry) (u : List ℕ) → Touched key old new u → AreApart old
-    → AreApart new
-touched_apart key old new u t h =
-    let was : AreApart (t.front ++ t.before ∷ t.back) = subst AreApart t.was h in
-    let none : count_of (t.front ++ t.back) t.after.tuple
-    ≡ 0 = subst (λ v. count_of (t.front ++ t.back) v ≡ 0) (t.tuple ∙ sym t.same_tuple)
-    (apart_here t.front t.before t.back was) in
-    subst AreApart (sym t.is)
-    (apart_in t.fore t.after t.rest (subst AreApart t.between (apart_out t.front t.before t.back was))
-    (subst (λ es. count_of es t.after.tuple ≡ 0) t.between none))
-
--- places stay valid
-pub inserted_at : {m : Bool} (key : List ℕ) (old new : List Entry) (u : List ℕ) → InsertedAs m key old new u
-    → (p : Place) (v : List ℕ) → IsAt old p v → IsAt new p v
-inserted_at {m} key old new u i p v a = subst (λ es. IsAt es p v) (sym i.is)
-    (at_in i.front i.entry i.back p v (subst (λ es. IsAt es p v) i.was a))
-
-pub removed_at : (old new : List Entry) (u : List ℕ) → Removed old new u → ArePlaced old → (p : Place) (v : List ℕ)
-    → (v ≡ u → ⊥) → IsAt old p v → IsAt new p v
-removed_at old new u r h p v other a =
-    let was : IsAt (r.front ++ r.entry ∷ r.back) p v = subst (λ es. IsAt es p v) r.was a in
-    let apart : r.entry.at ≡ p
-    → ⊥ = (λ k. other (sym
-    (at_here r.front r.entry r.back v (subst ArePlaced r.was h)
-    (subst (λ q. IsAt (r.front ++ r.entry ∷ r.back) q v) (sym k) was)) ∙ r.tuple)) in
-    subst (λ es. IsAt es p v) (sym r.is) (at_out r.front r.entry r.back p v apart was)
-
-pub supported_at : (old new : List Entry) (u : List ℕ) (from to : ℕ) → Supported old new u from to
-    → (p : Place) (v : List ℕ) → IsAt old p v → IsAt new p v
-supported_at old new u from to s p v a =
-    subst (λ es. IsAt es p v) (sym s.is)
-    (at_same s.front s.before s.after s.back p v (s.same_tuple ∙ sym s.tuple) s.same_place
-    (subst (λ es. IsAt es p v) s.was a))

@@ -65,12 +65,6 @@ unfolding count_of plain marks
 cnt_split [] u = omega arith
 cnt_split (e ∷ es) u = by_mark e.marked (λ xs. count_of xs u) e es (one (same e.tuple u)) (λ xs. refl) (cnt_split es u)
 
-pub supp_split : (es : List Entry) (u : List ℕ) → supports_of es u ≡ supports_of (plain es) u + supports_of (marks es) u
-unfolding supports_of plain marks
-supp_split [] u = omega arith
-supp_split (e ∷ es) u = by_mark e.marked (λ xs. supports_of xs u) e es (cond (same e.tuple u) e.supports 0) (λ xs. refl)
-    (supp_split es u)
-
 pub many_split : (key : List ℕ) (es : List Entry) (w : List ℕ) → group_size key es w
     ≡ group_size key (plain es) w + group_size key (marks es) w
 unfolding group_size plain marks

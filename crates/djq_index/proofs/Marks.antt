@@ -54,31 +54,6 @@ pub plain_middle : (xs : List Entry) (e : Entry) (ys : List Entry) → e.marked 
     ≡ plain (xs ++ ys)
 plain_middle xs e ys h = rw (plain-append, plain-append, plain_yes e ys h) refl
 
-many_plain : (key : List ℕ) (xs : List Entry) (e : Entry) (ys : List Entry) (w : List ℕ)
-    → group_size key (plain (xs ++ ys)) w ≤ group_size key (plain (xs ++ e ∷ ys)) w
-many_plain key xs e ys w = elim (cases_Bool e.marked) [
-  | inl marked ↦ rw (plain_middle xs e ys marked) (omega arith)
-  | inr other ↦ rw (plain-append, plain-append, plain_no e ys other)
-      (omega (
-        arith,
-        group_size-append key (plain xs) (e ∷ plain ys) w,
-        group_size-append key (plain xs) (plain ys) w,
-        many_cons key
-            e (plain ys) w,
-      ))
-]
-
--- taking an entry out keeps the marked ones last
-pub last_out : (key : List ℕ) (xs : List Entry) (e : Entry) (ys : List Entry) → AreLast key (xs ++ e ∷ ys)
-    → AreLast key (xs ++ ys)
-unfolding AreLast
-last_out key [] e ys h = h.1
-last_out key (x ∷ xs) e ys h = (
-  (λ m. let none = h.0 m in omega (arith, none, many_plain key xs e ys (pick key x.tuple))),
-  last_out key xs e ys
-      h.1,
-)
-
 -- a marked entry may come anywhere behind its group
 pub last_in : (key : List ℕ) (xs : List Entry) (e : Entry) (ys : List Entry) → e.marked ≡ true
     → group_size key ys (pick key e.tuple) ≡ 0 → AreLast key (xs ++ ys) → AreLast key (xs ++ e ∷ ys)
@@ -93,26 +68,6 @@ plain_alike false false d e es h k same_mark key w p = rw (plain_no d es h, plai
     refl
 plain_alike true false d e es h k same_mark key w p = absurd (false≢true (sym same_mark))
 plain_alike false true d e es h k same_mark key w p = absurd (false≢true same_mark)
-
-plain_swap : (key : List ℕ) (xs : List Entry) (d e : Entry) (ys : List Entry) (w : List ℕ) → d.marked ≡ e.marked
-    → d.tuple ≡ e.tuple → group_size key (plain (xs ++ d ∷ ys)) w ≡ group_size key (plain (xs ++ e ∷ ys)) w
-plain_swap key xs d e ys w m t =
-    rw (plain-append, plain-append)
-    (omega (
-      arith,
-      group_size-append key (plain xs) (plain (d ∷ ys)) w,
-      group_size-append key (plain xs) (plain (e ∷ ys)) w,
-      plain_alike d.marked e.marked d e ys refl refl m key w (ap (pick key) t),
-    ))
-
--- only tuples and marks matter
-pub last_same : (key : List ℕ) (xs : List Entry) (d e : Entry) (ys : List Entry) → e.marked ≡ d.marked → e.tuple
-    ≡ d.tuple → AreLast key (xs ++ d ∷ ys) → AreLast key (xs ++ e ∷ ys)
-unfolding AreLast
-last_same key [] d e ys m t h =
-    ((λ k. subst (λ u. group_size key (plain ys) (pick key u) ≡ 0) (sym t) (h.0 (sym m ∙ k))), h.1)
-last_same key (x ∷ xs) d e ys m t h =
-    ((λ k. sym (plain_swap key xs d e ys (pick key x.tuple) (sym m) (sym t)) ∙ h.0 k), last_same key xs d e ys m t h.1)
 
 -- a group whose first entry is marked is marked whole
 pub last_rest : (key : List ℕ) (e : Entry) (es : List Entry) → AreLast key (e ∷ es) → AreLast key es
@@ -232,55 +187,15 @@ pub unmarked_cons : (e : Entry) (es : List Entry) → unmarked (e ∷ es) ≡ ba
 unfolding unmarked
 unmarked_cons e es = refl
 
-pub unmarked_cnt : (es : List Entry) (u : List ℕ) → count_of (unmarked es) u ≡ count_of es u
-unfolding unmarked count_of bare
-unmarked_cnt [] u = refl
-unmarked_cnt (e ∷ es) u = ap (λ n. one (same e.tuple u) + n) (unmarked_cnt es u)
-
 pub unmarked_supp : (es : List Entry) (u : List ℕ) → supports_of (unmarked es) u ≡ supports_of es u
 unfolding unmarked supports_of bare
 unmarked_supp [] u = refl
 unmarked_supp (e ∷ es) u = ap (λ n. cond (same e.tuple u) e.supports 0 + n) (unmarked_supp es u)
 
-pub unmarked_many : (key : List ℕ) (es : List Entry) (w : List ℕ) → group_size key (unmarked es) w ≡ group_size key es w
-unfolding unmarked group_size bare
-unmarked_many key [] w = refl
-unmarked_many key (e ∷ es) w = ap (λ n. one (same (pick key e.tuple) w) + n) (unmarked_many key es w)
-
 pub unmarked_marks : (es : List Entry) → marks (unmarked es) ≡ []
 unfolding unmarked marks bare
 unmarked_marks [] = refl
 unmarked_marks (e ∷ es) = unmarked_marks es
-
-pub unmarked_plain : (es : List Entry) → plain (unmarked es) ≡ unmarked es
-unfolding unmarked plain bare
-unmarked_plain [] = refl
-unmarked_plain (e ∷ es) = ap (λ (xs : List Entry). record e { marked = false } ∷ xs) (unmarked_plain es)
-
-pub unmarked_apart : (es : List Entry) → AreApart es → AreApart (unmarked es)
-unfolding unmarked AreApart bare
-unmarked_apart [] h = h
-unmarked_apart (e ∷ es) h = (unmarked_cnt es e.tuple ∙ h.0, unmarked_apart es h.1)
-
-unmarked_elsewhere : (p : Place) (es : List Entry) → IsElsewhere p es → IsElsewhere p (unmarked es)
-unfolding unmarked IsElsewhere bare
-unmarked_elsewhere p [] h = h
-unmarked_elsewhere p (e ∷ es) h = (h.0, unmarked_elsewhere p es h.1)
-
-pub unmarked_placed : (es : List Entry) → ArePlaced es → ArePlaced (unmarked es)
-unfolding unmarked ArePlaced bare
-unmarked_placed [] h = h
-unmarked_placed (e ∷ es) h = (unmarked_elsewhere e.at es h.0, unmarked_placed es h.1)
-
-pub last_unmarked : (key : List ℕ) (es : List Entry) → AreLast key (unmarked es)
-unfolding unmarked AreLast bare
-last_unmarked key [] = tt
-last_unmarked key (e ∷ es) = ((λ k. absurd (false≢true k)), last_unmarked key es)
-
-pub unmarked_wide : (width : ℕ) (es : List Entry) → AreWide width es → AreWide width (unmarked es)
-unfolding unmarked AreWide bare
-unmarked_wide width [] h = h
-unmarked_wide width (e ∷ es) h = (h.0, unmarked_wide width es h.1)
 
 pub length_unmarked : (es : List Entry) → length (unmarked es) ≡ length es
 unfolding unmarked

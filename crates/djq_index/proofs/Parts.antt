@@ -229,10 +229,6 @@ pub row_at_nil : (i : ℕ) → row_at [] i ≡ None
 unfolding row_at
 row_at_nil i = refl
 
-out_head : (i x : ℕ) (xs : List ℕ) → IsOut i (x ∷ xs) → (x ≡ i → ⊥) × IsOut i xs
-unfolding IsOut
-out_head i x xs h = h
-
 different_head : (x : ℕ) (xs : List ℕ) → AreDifferent (x ∷ xs) → IsOut x xs × AreDifferent xs
 unfolding AreDifferent
 different_head x xs h = h

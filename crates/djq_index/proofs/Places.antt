@@ -38,22 +38,11 @@ one_tuple es p u v h a b =
     (b.at ∙ sym a.at) in
     sym a.tuple ∙ ap (λ (e : Entry). e.tuple) (sym s.entry) ∙ b.tuple
 
-pub elsewhere_out : (p : Place) (xs : List Entry) (e : Entry) (ys : List Entry) → IsElsewhere p (xs ++ e ∷ ys)
-    → IsElsewhere p (xs ++ ys)
-unfolding IsElsewhere
-elsewhere_out p [] e ys h = h.1
-elsewhere_out p (x ∷ xs) e ys h = (h.0, elsewhere_out p xs e ys h.1)
-
 pub elsewhere_in : (p : Place) (xs : List Entry) (e : Entry) (ys : List Entry) → (e.at ≡ p → ⊥)
     → IsElsewhere p (xs ++ ys) → IsElsewhere p (xs ++ e ∷ ys)
 unfolding IsElsewhere
 elsewhere_in p [] e ys k h = (k, h)
 elsewhere_in p (x ∷ xs) e ys k h = (h.0, elsewhere_in p xs e ys k h.1)
-
-pub placed_out : (xs : List Entry) (e : Entry) (ys : List Entry) → ArePlaced (xs ++ e ∷ ys) → ArePlaced (xs ++ ys)
-unfolding ArePlaced
-placed_out [] e ys h = h.1
-placed_out (x ∷ xs) e ys h = (elsewhere_out x.at xs e ys h.0, placed_out xs e ys h.1)
 
 elsewhere_first : (x : Entry) (p : Place) (xs : List Entry) → IsElsewhere p (x ∷ xs) → x.at ≡ p → ⊥
 unfolding IsElsewhere
@@ -72,18 +61,6 @@ placed_in (x ∷ xs) e ys h k = (
   placed_in xs e ys h.1
       (elsewhere_rest x e.at (xs ++ ys) k),
 )
-
-pub elsewhere_here : (xs : List Entry) (e : Entry) (ys : List Entry) → ArePlaced (xs ++ e ∷ ys)
-    → IsElsewhere e.at (xs ++ ys)
-unfolding ArePlaced IsElsewhere
-elsewhere_here [] e ys h = h.0
-elsewhere_here (x ∷ xs) e ys h = ((λ same. elsewhere_middle x.at xs e ys h.0 (sym same)), elsewhere_here xs e ys h.1)
-
--- only the places matter
-pub placed_same : (xs : List Entry) (d e : Entry) (ys : List Entry) → e.at ≡ d.at → ArePlaced (xs ++ d ∷ ys)
-    → ArePlaced (xs ++ e ∷ ys)
-placed_same xs d e ys at h = placed_in xs e ys (placed_out xs d ys h)
-    (subst (λ p. IsElsewhere p (xs ++ ys)) (sym at) (elsewhere_here xs d ys h))
 
 pub live : (es : List Entry) (p : Place) (u : List ℕ) → IsAt es p u → IsLive es p
 live es p u a = record { tuple = u; is_at = a }

@@ -124,9 +124,6 @@ pub record Backing (g : List Entry) (next : Option Place) : Type 0 where
   pub is : g ≡ front ++ back
   pub last : next ≡ last_at front
 
-pub backing : (g : List Entry) (next : Option Place) → next ≡ last_at g → Backing g next
-backing g next h = record { front = g; back = []; is = sym (append-nil g); last = h }
-
 pub backing_cut : (g : List Entry) (p : Place) → Backing g (Some p) → (xs : List Entry) × (e : Entry)
     × (ys : List Entry) × (g ≡ xs ++ e ∷ ys) × (e.at ≡ p)
 backing_cut g p b =

@@ -11,11 +11,6 @@ use Rattle.djq_journal.specs.declared.limits.TheConstants.{LAST_GATE}
 use Rattle.djq_journal.specs.declared.log.Kept.TheVariants.{All, Failed, Full}
 use Rattle.djq_journal.proofs.Going.{keeps_on}
 
--- a group without a first line has none, and one with it has some
-pub without_lines : (lines : List (List ℕ)) → None ≡ slice_get lines 0 → lines ≡ []
-without_lines [] is = refl
-without_lines (line ∷ lines) is = cc
-
 pub with_lines : (lines : List (List ℕ)) (line : List ℕ) → Some line ≡ slice_get lines 0 → 1 ≤ length lines
 with_lines [] line is = cc
 with_lines (l ∷ ls) line is = omega arith
@@ -31,16 +26,6 @@ pub told_all : {X : Type 0} (x : X) (old new : Option History) (P : X → Histor
 told_all x old None P each = tt
 told_all x None (Some n) P each = absurd (each x)
 told_all x (Some o) (Some n) P each = each
-
--- no lines are kept without the disk
-pub keeps_none : (gate : Option ℕ) (lines : List (List ℕ)) (h : History) → lines ≡ [] → Keeps All gate gate lines h h
-keeps_none gate lines h none found groups start kept =
-    subst (λ (ls : List (List ℕ)). HasKept gate found (groups ++ grouped ls) start h) (sym none)
-    (subst (λ (gs : List (List (List ℕ))). HasKept gate found gs start h) (sym (append-nil groups)) kept)
-
--- and without a journal
-pub keeps_nowhere : (lines : List (List ℕ)) (h : History) → Keeps All None None lines h h
-keeps_nowhere lines h found groups start kept = kept
 
 -- what an append to an idle journal does is done to whatever was kept before
 pub keeps_all : (gate next : ℕ) (group : List (List ℕ)) (old new : History) → 1 ≤ length group
@@ -62,18 +47,3 @@ pub keeps_full : (gate : ℕ) (gate' : Option ℕ) (group : List (List ℕ)) (ol
     → Keeps Full (Some gate) gate' group old new
 keeps_full gate gate' group old new appends found groups start kept =
     (keeps_on.more found groups gate start old kept).full group new (appends (found ++ whole_lines groups) kept.idle)
-
--- when a journal has no room
-pub overfull_some : (gate : ℕ) (lines : List (List ℕ)) → 1 ≤ length lines → LAST_GATE < gate_after gate lines
-    → Overfull (Some gate) lines
-overfull_some gate [] some past = let wrong : ⊥ = omega arith in absurd wrong
-overfull_some gate (line ∷ lines) some past = past
-
-pub overfull_past : (gate : ℕ) (lines : List (List ℕ)) → Overfull (Some gate) lines → LAST_GATE < gate_after gate lines
-overfull_past gate [] over = absurd over
-overfull_past gate (line ∷ lines) over = over
-
-pub never_overfull : (gate : Option ℕ) (lines : List (List ℕ)) → lines ≡ [] → Overfull gate lines → ⊥
-never_overfull None lines none over = over
-never_overfull (Some gate) [] none over = over
-never_overfull (Some gate) (line ∷ lines) none over = cc

@@ -87,14 +87,6 @@ use Rattle.djq_live.proofs.Asking.{head_narrow}
 
 -- ---- the head
 
-in_member : (l : List ℕ) (x : ℕ) → member x l ≡ true → Contains l x
-in_member [] x m = absurd (false≢true m)
-in_member (y ∷ l) x m =
-    elim (or_cases (x == y) (member x l) m) [
-      | inl here ↦ (0, omega arith, sym (eqb-true x y here))
-      | inr there ↦ in_rest y x l (in_member l x there)
-    ]
-
 member_in : (l : List ℕ) (x : ℕ) → Contains l x → member x l ≡ true
 member_in [] x c = absurd (none_contained x c)
 member_in (y ∷ l) x c =

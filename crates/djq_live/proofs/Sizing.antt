@@ -139,20 +139,6 @@ addition_counts j u old new x z came counted flat = λ n b room bounds.
       | inr even ↦ (let a = flat even.0 in let d = even.1 in omega arith)
     ]
 
-sum_dropped : (p n b x z : ℕ) → 16 * (p * (n + 1)) ≤ b → z ≤ x + 5 * (p * n) → z ≤ x + 1 * b
-sum_dropped p n b x z bounds counted =
-    let a : p * (n + 1) ≡ p * n + p = omega arith in
-    omega arith
-
-pub dropping_counts : (old : Reducts) (x z : ℕ)
-    → ((n : ℕ) → HasAtMost old n → z ≤ x + 5 * (paths old.tree * n))
-    → (HasEqualMeets old.tree → z ≤ x + 5 * (paths old.tree * 1)) → CountsLeaves old 1 x z
-dropping_counts old x z counted flat = λ n b few bounds.
-    elim bounds [
-      | inl linear ↦ sum_dropped (paths old.tree) n b x z linear (counted n few)
-      | inr even ↦ (let a = flat even.0 in let d = even.1 in omega arith)
-    ]
-
 some_path : (r : Reducts) → IsReducts r → 0 < paths r.tree
 some_path r h = let some = h.family.is_tree.some in omega arith
 

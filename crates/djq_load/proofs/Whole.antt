@@ -66,20 +66,6 @@ read_on old before mid now new r after text reads idle runs is_text is_after tak
           ∙ ap reads_for (sym (length-append h.given t.told));
     }
 
--- nothing was read yet
-pub read_none : (st : State) (r : Reading) → r ≡ so_far [] false → Stands st [] false → IsRead st r 0
-read_none st r e stands = record {
-  given = [];
-  stands = subst (λ (b : Bool). Stands st [] b) (sym (ap (λ (x : Reading). x.ended) e)) stands;
-  is = e ∙ ap (λ (b : Bool). so_far [] b) (sym (ap (λ (x : Reading). x.ended) e));
-  full = λ k. refl;
-  left = λ k some. absurd (omega (arith, some));
-  last = λ k. absurd (not_ended (sym k ∙ ap (λ (x : Reading). x.ended) e));
-}
-  where
-    not_ended : true ≡ false → ⊥
-    not_ended k = cc
-
 -- it was read to its end
 pub read_all : (st : State) (r : Reading) (reads : ℕ) → GivesFew st → IsRead st r reads → r.ended ≡ true
     → IsTold st (record { answers = r.answers; sum = r.sum }) reads
@@ -89,22 +75,6 @@ read_all st r reads few h ended = record {
   reads_are = h.last ended;
   answers = answers_are st r reads few h;
   sum = ap (λ (x : Reading). x.sum) h.is;
-}
-
--- it was read so many times, and memory is wanting at the next
-pub read_breaks : (r : Reading) (reads : ℕ) (old : State) (before : Counts) (mid : State) (between : Counts)
-    (new : State) (now : Counts)
-    → Loads (replicate reads next_line) old before mid between → IsRead mid r reads → r.ended ≡ false
-    → Feeds (next_line ∷ []) mid between new now → BreaksReading [] old before new now
-read_breaks r reads old before mid between new now loads h going feeds = record {
-  nexts = reads;
-  mid = mid;
-  between = between;
-  loads = loads;
-  given = h.given;
-  stands = subst (λ (b : Bool). Stands mid h.given b) going h.stands;
-  many = h.full going;
-  feeds = feeds;
 }
 
 totals_are : (st : State) (totals : Totals) (reads : ℕ) → GivesFew st → (h : IsTold st totals reads)

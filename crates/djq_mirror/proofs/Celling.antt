@@ -199,10 +199,3 @@ value_behind bytes v n test e small printed =
     small
     ∙ ap (λ t. cond (is_text v && t) (Some (drop n bytes)) None) (piece_is bytes (value_text v) n)
     ∙ ap (λ t. cond t (Some (drop n bytes)) None) (sym printed)
-
-pub value_past : (bytes : Bytes) (v : Value) (rest : Bytes) → literal_at bytes ≡ Some (v, rest) → is_small_value v
-    ≡ false
-    → behind_value bytes (literal_at bytes) ≡ None
-value_past bytes v rest e wide =
-    ap (behind_value bytes) e
-    ∙ ap (λ t. cond ((t && is_text v) && bytes_eq (value_text v ++ rest) bytes) (Some rest) None) wide

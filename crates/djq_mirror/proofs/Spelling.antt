@@ -94,10 +94,6 @@ joined_parts x xs h =
 pub joined_word : (x : Bytes) (xs : List Bytes) → is_label (x ∷ xs) ≡ true → is_edge_word (joined (x ∷ xs)) ≡ true
 joined_word x xs h = ap (λ (ps : List Bytes). list_all is_variable ps) (joined_parts x xs h) ∙ h
 
-joined_glued : (xs : List Bytes) → joined xs ≡ glued 44 xs
-joined_glued [] = refl
-joined_glued (x ∷ xs) = refl
-
 pub record IsJoined (w : Bytes) : Type 0 where
   pub first : Bytes
   pub others : List Bytes

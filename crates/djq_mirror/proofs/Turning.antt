@@ -108,9 +108,6 @@ no_news o w e f = absurd (cc)
 pub outside_none : (name : Bytes) (old : Held) (l : Bytes) → told_in l ≡ None → IsOutside name old l
 outside_none name old l e = λ r h. no_news (told_in l) (news_of r) e (reply_told l r h.reply)
 
-pub outside_long : (name : Bytes) (old : Held) (l : Bytes) → REPLY_LINE_BYTES < length l → IsOutside name old l
-outside_long name old l long = λ r h. absurd (omega (arith, long, h.short))
-
 -- what a turn says of the line
 pub line_ends : {A : Type 0} (old new : Seen) (l : Bytes) (w : News) (r : Result A MirrorRefusal) → told_in l ≡ Some w
     → length l ≤ REPLY_LINE_BYTES → Turns old (turn_by old.name old.held.mode w) r new → LineEnds old l r new

@@ -20,9 +20,6 @@ pub record IsBegun {A : Type 0} (old now : Bytes) (all rest : List (Vec ℕ A)) 
   pub items : now ≡ old ++ before
   pub split : answers_text all ≡ before ++ answers_text rest
 
-pub begun_none : {A : Type 0} (old : Bytes) (all : List (Vec ℕ A)) → IsBegun old old all all
-begun_none old all = record { before = []; items = sym (append-nil old); split = refl }
-
 pub begun_more : {A : Type 0} (old now new : Bytes) (all rest : List (Vec ℕ A)) (k : Vec ℕ A)
     → IsBegun old now all (k ∷ rest)
     → new ≡ now ++ line (61 ∷ k.items) → IsBegun old new all rest

@@ -89,9 +89,6 @@ pub tuples_moved : (rows moved : List CountedRow) → IsPermutation rows moved
     → IsPermutation (plain_of rows) (plain_of moved)
 tuples_moved rows moved p = IsPermutation-map (λ (c : CountedRow). c.row) rows moved p
 
-pub tuples_length : (rows : List CountedRow) → length (plain_of rows) ≡ length rows
-tuples_length rows = length-map rows (λ (c : CountedRow). c.row)
-
 -- ---- the copies of a row
 
 -- None of a row that isn't there,

@@ -113,20 +113,6 @@ ran_more over keep s t u r off h = record {
   ];
 }
 
-pub ran_end : (over : List (List ℕ) → Bool) (keep : List ℕ) (s t : Growth) → Ran over keep s t → over t.current ≡ true
-    → IsStage over keep s t
-ran_end over keep s t r on = record { steps = r.steps; leads = r.leads; ends = on; goes = r.goes }
-
-pub ran_stuck : (over : List (List ℕ) → Bool) (keep : List ℕ) (s t u : Growth) → Ran over keep s t → over t.current
-    ≡ false → Steps keep t u false → IsStuckAt over keep s u
-ran_stuck over keep s t u r off h = record {
-  steps = r.steps;
-  leads = h.0 ∙ r.leads;
-  goes = r.goes;
-  goes_on = ap (λ (w : Growth). over w.current) h.0 ∙ off;
-  stuck = ap (λ (w : Growth). choose keep w.current) h.0 ∙ h.1;
-}
-
 -- ---- numbers
 
 pub length_below : (m : ℕ) → length (numbers_below m) ≡ m

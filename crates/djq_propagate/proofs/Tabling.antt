@@ -172,15 +172,6 @@ unfolding AreSupported unmarked bare
 unmarked_supported [] h = h
 unmarked_supported (e ∷ es) h = (h.0, unmarked_supported es h.1)
 
--- nothing changes
-pub changed_none : (ts us : List Table) (k : ℕ) → us ≡ ts → Changed ts us k
-changed_none ts us k e = record {
-  others = λ i apart. ap (λ (xs : List Table). entries_at xs i) e;
-  family = λ r f. subst (λ (xs : List Table). IsFamily r xs) (sym e) f;
-  size = ap (λ (xs : List Table). size xs + length (entries_at ts k)) e
-      ∙ ap (λ (xs : List Table). size ts + length (entries_at xs k)) (sym e);
-}
-
 -- the width of a tuple that lies somewhere
 wide_middle : (width : ℕ) (xs : List Entry) (e : Entry) (ys : List Entry) → AreWide width (xs ++ e ∷ ys)
     → length e.tuple ≡ width

@@ -25,10 +25,6 @@ abbrev pub prepend : {A : Type 0} → List A → Option (List A × List Token) �
 prepend read None = None
 prepend read (Some r) = Some (read ++ r.0, r.1)
 
-pub prepend-nothing : {A : Type 0} (o : Option (List A × List Token)) → o ≡ prepend [] o
-prepend-nothing None = refl
-prepend-nothing (Some r) = refl
-
 pub prepend-more : {A : Type 0} (read : List A) (x : A) (o : Option (List A × List Token))
     → prepend read (put_first (Some x) o) ≡ prepend (read ++ x ∷ []) o
 prepend-more read x None = refl

@@ -46,19 +46,6 @@ union_refused (Some p) Syntax h = absurd h
 union_refused (Some p) Range h = absurd (true≢false (sym (all_true p.1) ∙ h))
 union_refused (Some p) NoMem h = (refl, refl)
 
--- names, two at least, behind a name: where there are three tokens
-pub none_of_few : (ts : List Token) → has_three ts ≡ false → name_and_members ts ≡ None
-none_of_few [] h = refl
-none_of_few (a ∷ []) h = refl
-none_of_few (a ∷ b ∷ []) h = refl
-none_of_few (a ∷ b ∷ c ∷ ts) h = absurd (cc)
-
-pub some_of_three : (ts : List Token) → has_three ts ≡ true → name_and_members ts ≡ named_some name_of ts
-some_of_three [] h = absurd (cc)
-some_of_three (a ∷ []) h = absurd (cc)
-some_of_three (a ∷ b ∷ []) h = absurd (cc)
-some_of_three (a ∷ b ∷ c ∷ ts) h = refl
-
 -- a query that is refused
 pub query_refused : (o : Option Query) (e : LineRefusal) → ReadsAs is_small_query o (Err e)
     → Gives (option_map (λ q. Register q) o) (Err e)

@@ -23,31 +23,6 @@ pub from_place : {A : Type 0} (xs : List A) (i : ℕ) (x : A) → i < length xs 
 from_place xs i x below is =
     rw add-one (drop-cons xs i x below ∙ ap (λ y. y ∷ drop (suc i) xs) (sym is))
 
--- from one place on
-any_rest : (p : Term → ColumnType → Bool) (ts : List Term) (cs : List ColumnType) (i : ℕ) (t : Term) (c : ColumnType)
-    → i < length ts → i < length cs → t ≡ get_or ts i t → c ≡ get_or cs i c
-    → any_column p (drop i ts) (drop i cs) ≡ (p t c || any_column p (drop (i + 1) ts) (drop (i + 1) cs))
-any_rest p ts cs i t c below under e f = ap₂ (any_column p) (from_place ts i t below e) (from_place cs i c under f)
-
--- a place passes
-pub any_here : (p : Term → ColumnType → Bool) (ts : List Term) (cs : List ColumnType) (i : ℕ) (t : Term)
-    (c : ColumnType) (b : Bool)
-    → i < min (length ts) (length cs) → t ≡ get_or ts i t → c ≡ get_or cs i c → b ≡ p t c → b ≡ true
-    → any_column p ts cs ≡ any_column p (drop i ts) (drop i cs) → any_column p ts cs ≡ true
-any_here p ts cs i t c b below e f tested passes rest =
-    rest ∙ any_rest p ts cs i t c (omega arith) (omega arith) e f
-    ∙ ap (λ v. v || any_column p (drop (i + 1) ts) (drop (i + 1) cs)) (sym tested ∙ passes)
-
--- it doesn't, and the places behind it decide
-pub any_on : (p : Term → ColumnType → Bool) (ts : List Term) (cs : List ColumnType) (i : ℕ) (t : Term) (c : ColumnType)
-    (b : Bool)
-    → i < min (length ts) (length cs) → t ≡ get_or ts i t → c ≡ get_or cs i c → b ≡ p t c → b ≡ false
-    → any_column p ts cs ≡ any_column p (drop i ts) (drop i cs) → any_column p ts cs
-    ≡ any_column p (drop (i + 1) ts) (drop (i + 1) cs)
-any_on p ts cs i t c b below e f tested fails rest =
-    rest ∙ any_rest p ts cs i t c (omega arith) (omega arith) e f
-    ∙ ap (λ v. v || any_column p (drop (i + 1) ts) (drop (i + 1) cs)) (sym tested ∙ fails)
-
 any_none : (p : Term → ColumnType → Bool) (ts : List Term) → any_column p ts [] ≡ false
 any_none p [] = refl
 any_none p (t ∷ ts) = refl

@@ -11,10 +11,6 @@ pub different_rest : (names : List Bytes) (i : ℕ) (name : Bytes) → i < lengt
     → are_different (drop i names) ≡ (not (has_name (drop (i + 1) names) name) && are_different (drop (i + 1) names))
 different_rest names i name below is = ap are_different (from_place names i name below is)
 
-pub different_over : (names : List Bytes) (i : ℕ) → length names ≤ i → are_different names
-    ≡ are_different (drop i names) → are_different names ≡ true
-different_over names i past e = e ∙ ap are_different (drop_all i names past)
-
 -- what is behind a place, to the end
 pub rest_whole : (names : List Bytes) (i : ℕ) → take (length names - i) (drop i names) ≡ drop i names
 rest_whole names i = take_all (length names - i) (drop i names) (omega (arith, length-drop i names))

@@ -175,20 +175,3 @@ plain_all w slots i long past before = record {
   same = λ u wide.
       ap (filled u) (sym (take_all i slots past)) ∙ before u wide ∙ take_all i u (omega (arith, wide, long, past));
 }
-
--- a row is the only tuple that gives it, where it passes the tests
-pub plain_gives : (p : Shape) (row : List ℕ) → IsPlain p.width p.slots → length row ≡ length p.slots
-    → All (Passes row) p.tests → (u : List ℕ) → (row ≡ u) ↔ Gives p u row
-plain_gives p row plain long passed u = (
-  λ e. subst (λ (t : List ℕ). Gives p t row) e (record {
-    wide = long ∙ plain.long;
-    fills = plain.same row (long ∙ plain.long);
-    passes = passed;
-  }),
-  λ gives. sym gives.fills ∙ plain.same u gives.wide,
-)
-
-pub plain_fails : (p : Shape) (row : List ℕ) → IsPlain p.width p.slots → (All (Passes row) p.tests → ⊥) → (u : List ℕ)
-    → Gives p u row → ⊥
-plain_fails p row plain fails u gives =
-    fails (subst (λ (t : List ℕ). All (Passes t) p.tests) (sym (plain.same u gives.wide) ∙ gives.fills) gives.passes)

@@ -226,10 +226,6 @@ pub columns_on : (rs : List Relation) (known : List Variable) (atoms : List Atom
     ≡ fold (with_columns rs) known (drop i atoms)
 columns_on rs known atoms i a below is = ap (fold (with_columns rs) known) (sym (from_place atoms i a below is))
 
-pub columns_over : (rs : List Relation) (known : List Variable) (atoms : List Atom) (i : ℕ) → length atoms ≤ i
-    → fold (with_columns rs) known (drop i atoms) ≡ known
-columns_over rs known atoms i past = ap (fold (with_columns rs) known) (drop_all i atoms past)
-
 -- the variables with their types are those without them
 pub labels_columns : (rs : List Relation) (known : List Variable) (atoms : List Atom)
     → list_any (λ (a : Atom). not (length a.terms == length (columns_of rs a.relation))) atoms ≡ false

@@ -191,6 +191,3 @@ watched_both false b w = refl
 
 pub empties_clears : (places : List ℕ) (old new : List Log) → Empties places old new → Clears (is_reader places) old new
 empties_clears places old new h = record { long = h.long; emptied = h.emptied; others = h.others }
-
-pub clears_empties : (places : List ℕ) (old new : List Log) → Clears (is_reader places) old new → Empties places old new
-clears_empties places old new h = record { long = h.long; emptied = h.emptied; others = h.others }

@@ -202,10 +202,6 @@ CostsSo readers groups gs ws k before now = (c d : Catalog) (f : ℕ → List Ch
     → now ≤ before + sum_by (batch_cost_at ws gs (relations_of (take k groups)) f)
     (filter (is_reader (reached readers groups)) order)
 
-pub costs_start : (readers : List (List ℕ)) (groups : List Group) (gs : List (Option Live)) (ws : List ℕ) (x : ℕ)
-    → CostsSo readers groups gs ws 0 x x
-costs_start readers groups gs ws x c d f order leads kept deltas among = omega arith
-
 of_live : (l : Live) (o : Option Live) (c : Catalog) → o ≡ Some l → IsSomeAnd o (λ x. IsKept c x) → IsKept c l
 of_live l o c e h = subst (λ (p : Option Live). IsSomeAnd p (λ x. IsKept c x)) e h
 

@@ -188,22 +188,3 @@ module _ (readers : List (List ℕ)) (groups : List Group) (gs : List (Option Li
             subst (λ (z : Log). Tells (λ c d (w : ⊤). Leads readers (take (k + 1) groups) gs c d) l z) (sym y)
             (tells_past i l (log_at old i) ep f x)
         by i true e false f (Some l) ep (Some m) false t x y = y ∙ x
-
-pub tends_start : (readers : List (List ℕ)) (groups : List Group) (gs : List (Option Live)) (ws : List ℕ)
-    (old new : List Log)
-    → Clears (λ i. is_reader (reached readers groups) i && watched_at ws i) old new
-    → Tends (reached readers groups) (TellsAt ws (λ c d (w : ⊤). Leads readers (take 0 groups) gs c d)) gs old new
-tends_start readers groups gs ws old new h = record {
-  long = h.long;
-  each = λ i. by i (is_reader (reached readers groups) i) refl (watched_at ws i) refl (place_at gs i);
-}
-  where
-    by : (i : ℕ) (f : Bool) → is_reader (reached readers groups) i ≡ f → (w : Bool) → watched_at ws i ≡ w
-        → (p : Option Live)
-        → TendedAt (TellsWhere w (λ c d (w : ⊤). Leads readers (take 0 groups) gs c d)) f p (log_at old i)
-        (log_at new i)
-    by i false e w f p = h.others i (ap (λ b. b && watched_at ws i) e)
-    by i true e w f None = tt
-    by i true e true f (Some l) = tells_none readers groups gs l (log_at new i)
-        (h.emptied i (ap₂ (λ b c. b && c) e f)).lines
-    by i true e false f (Some l) = h.others i (ap₂ (λ b c. b && c) e f)

@@ -52,10 +52,6 @@ pub shows_either : {A E : Type 0} (Changed : Catalog → Catalog → Tuple → T
 shows_either Changed b i l old new (Ok a) h e = shows_where Changed b i l old new h
 shows_either Changed b i l old new (Err x) h e = shows_none Changed i l old new e
 
--- whether a query is watched, as the code reads it
-pub watched_read : (ws : List ℕ) (i w : ℕ) → i < length ws → w ≡ get_or ws i w → nat_lt 0 w ≡ watched_at ws i
-watched_read ws i w low is = ap (nat_lt 0) (is ∙ get_or_default ws i w 0 low)
-
 pub log_read : (logs : List Log) (i : ℕ) (log : Log) → i < length logs → log ≡ get_or logs i log → log ≡ log_at logs i
 log_read logs i log low is = is ∙ get_or_default logs i log no_log low
 
@@ -213,9 +209,6 @@ tends_apart Does ps gs old new t i e = subst (λ (b : Bool). TendedAt (Does i) b
     (log_at new i)) e (t.each i)
 
 -- ---- logs that are emptied
-
-pub empties_none : (logs : List Log) → Empties [] logs logs
-empties_none logs = record { long = refl; emptied = λ i e. absurd (false≢true e); others = λ i e. refl }
 
 pub empties_next : (places : List ℕ) (k d i : ℕ) (old mid : List Log) (m : Log) → k < length places
     → i ≡ get_or places k d → i < length mid

@@ -20,11 +20,6 @@ on_trim k (Leaf a) ks h = absurd (false≢true h)
 on_trim k (Trim c) ks h = refl
 on_trim k (Meet g s) ks h = absurd (false≢true h)
 
-on_other : (k : ℕ) (n : Node) (ks : List ℕ) → is_trim n ≡ false → level_on k n ks ≡ ks
-on_other k (Leaf a) ks h = refl
-on_other k (Trim c) ks h = absurd (false≢true (sym h))
-on_other k (Meet g s) ks h = refl
-
 just_below : (t : Tree) (n k : ℕ) (m : Node) → t.second_stage < n → k ≡ n - 1
     → m ≡ node_at t.nodes k → levels_below t n ≡ level_on k m (levels_below t k)
 just_below t zero k m low e is = absurd (omega arith)
@@ -41,14 +36,6 @@ level_found t xs all n k m had low e is yes_trim =
     append_assoc xs (k ∷ []) (levels_below t k)
     ∙ ap (λ (ks : List ℕ). xs ++ ks)
     (sym (just_below t n k m low e is ∙ on_trim k m (levels_below t k) yes_trim)) ∙ had
-
--- another node is passed over
-pub level_not : (t : Tree) (xs all : List ℕ) (n k : ℕ) (m : Node) → xs ++ levels_below t n ≡ all
-    → t.second_stage < n → k ≡ n - 1 → m ≡ node_at t.nodes k → is_trim m ≡ false
-    → xs ++ levels_below t k ≡ all
-level_not t xs all n k m had low e is no_trim =
-    ap (λ (ks : List ℕ). xs ++ ks)
-    (sym (just_below t n k m low e is ∙ on_other k m (levels_below t k) no_trim)) ∙ had
 
 -- below the second stage there is none
 pub all_found : (t : Tree) (xs all : List ℕ) (n : ℕ) → xs ++ levels_below t n ≡ all

@@ -33,11 +33,3 @@ listed_more names variables rest more x old now new h e p = record {
   split = split_more names variables rest more x h.done h.split e;
   put = put_behind old now new h.done (comma_name names x) h.put p;
 }
-
--- the variable at which they were cut
-pub listed_cut : (names : List Bytes) (variables rest more : List ℕ) (x : ℕ) (old now new : Filled)
-    → ListedSoFar names variables rest old now → rest ≡ x ∷ more
-    → Cut now new (comma_name names x) → Cut old new (listed names variables)
-listed_cut names variables rest more x old now new h e c =
-    subst (λ t. Cut old new t) (sym (split_more names variables rest more x h.done h.split e))
-    (cut_behind old now new h.done (comma_name names x) (listed names more) h.put c)

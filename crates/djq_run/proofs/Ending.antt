@@ -43,13 +43,6 @@ none_kept (Some x) h = h.running
 pub awaits_running : (st : State) → Awaits st → cause_of st 1 ≡ None
 awaits_running st h = none_kept (session_of st 1) h
 
-open_kept : (o : Option Session) → IsSomeAnd o AwaitsInput → is_some o ≡ true
-open_kept None h = absurd h
-open_kept (Some x) h = refl
-
-pub awaits_open : (st : State) → Awaits st → IsOpen st 1
-awaits_open st h = open_kept (session_of st 1) h
-
 none_input : (c d : Option EndCause) → c ≡ None → d ≡ Some Input → (d ≡ Some Input → c ≡ Some Input) → ⊥
 none_input c d none is back = let e = back is in cc
 

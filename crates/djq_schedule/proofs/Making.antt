@@ -95,20 +95,6 @@ made_outside bytes hub st number b rest l m is_line none =
     (first_line b rest ∙ ap (λ (xs : Bytes). xs ∷ ls) (sym is_line))
     ∙ ap (λ (r : Result (List Coming) ℕ). behind_turns hub.script.turns r) (turns_outside st (number + 1) l ls none)
 
--- no line is left
-pub made_all : (bytes : Bytes) (hub : Recorded) (st : Stage) (number : ℕ) (rest : Bytes)
-    → Making bytes hub st number rest → rest ≡ [] → IsMade bytes hub
-made_all bytes hub st number rest m none = record {
-  turns = m.turns ∙ ap (λ (xs : Bytes). behind_turns hub.script.turns (turns_from st (number + 1) (lines_of xs))) none
-      ∙ ap (λ (ts : List Coming). Ok ts) (append-nil hub.script.turns);
-  blocked = m.fresh.blocked;
-  past = m.fresh.past;
-  ids = m.fresh.ids;
-  listens = m.fresh.listens;
-  fails = m.fresh.fails;
-  sends = m.fresh.sends;
-}
-
 -- the same of bytes that aren't empty, as the code has them
 
 behind_fewer : (sign : ℕ) (xs : Bytes) → length (rest_of (behind sign xs)) ≤ length xs

@@ -154,11 +154,6 @@ pub turn_fails : (hub hub' : Shown) (counted : Counts) (f : Far) (st : State) �
 turn_fails hub hub' counted f st told = turn_goes hub hub' counted f st st Failed [] [] [] (closing HubFault)
     ((refl, refl), refl, refl) refl refl told
 
--- what the end of a turn answers, where the hub met no fault in it
-pub quiet_answers : (r : Option Served) (before now : ℕ) → MayAnswer r → now ≡ before → TurnAnswers r before now
-quiet_answers None before now may same = same
-quiet_answers (Some answer) before now may same = subst (λ (a : Served). TurnAnswers (Some a) before now) (sym may) same
-
 -- the buffer keeps its length
 pub at_room : (old new : Bytes) → length new ≡ length old → length old ≡ READ_BYTES → length new ≡ READ_BYTES
 at_room old new same room = same ∙ room

@@ -49,17 +49,6 @@ same_of f g none some None (Some j) s = absurd s
 same_of f g none some (Some j) None s = absurd s
 same_of f g none some (Some j) (Some j') s = some j j' s
 
--- the union that stood in a slot
-pub same_before : (us us' : List (Option Joined)) → SameUnions us us' → (i : ℕ) (j' : Joined) → joined_at us' i
-    ≡ Some j' → (j : Joined) × (joined_at us i ≡ Some j) × SameUnion j j'
-same_before us us' s i j' there = by_slot (joined_at us i) refl
-    (subst (λ (o : Option Joined). SameIn (joined_at us i) o) there (s.each i))
-  where
-    by_slot : (o : Option Joined) → joined_at us i ≡ o → SameIn o (Some j') → (j : Joined) × (joined_at us i ≡ Some j)
-        × SameUnion j j'
-    by_slot None e h = absurd h
-    by_slot (Some j) e h = (j, e, h)
-
 module _ (us us' : List (Option Joined)) (s : SameUnions us us') where
   pub listed_alike : (gs : List (Option Live)) (at : ℕ) → listed_at gs us' at ≡ listed_at gs us at
   listed_alike gs at = ap (λ q. cond (nat_lt at QUERIES) (query_in (query_at gs at)) q)

@@ -283,19 +283,3 @@ module _ (o : Option RowsChange) (relations : List Bytes) (turn : Turn) (e e' : 
     pub all_counted : (sessions : List ℕ) → IsCounted e us sessions → IsCounted e' us' sessions
     all_counted sessions c =
         counted_kept us us' same e' sessions (counts_stay e e' us sessions b.did.registered c)
-
--- the parts of a store stay whole
-pub whole_behind : (o : Option RowsChange) (relations : List Bytes) (turn : Turn) (p p' : Parts)
-    → Behind o relations turn p.engine p'.engine p.unions.items p'.unions.items → IsWhole p
-    → p'.order ≡ p.order → p'.sessions ≡ p.sessions → vec_capacity p.affected ≤ vec_capacity p'.affected → IsWhole p'
-whole_behind o relations turn p p' b w order sessions room = record {
-  listed = subst (λ xs. IsListed p'.engine p'.unions.items xs) (sym (ap (λ v. v.items) order))
-      (all_listed o relations turn p.engine p'.engine p.unions.items p'.unions.items b p.order.items w.listed);
-  counted = subst (λ xs. IsCounted p'.engine p'.unions.items xs) (sym (ap (λ v. v.items) sessions))
-      (all_counted o relations turn p.engine p'.engine p.unions.items p'.unions.items b p.order.items w.listed
-      p.sessions.items w.counted);
-  roomy = record {
-    order = subst (λ v. QUERIES ≤ vec_capacity v) (sym order) w.roomy.order;
-    affected = let a = w.roomy.affected in omega (arith, a, room);
-  };
-}

@@ -108,10 +108,6 @@ abbrev pub the_query : Option Live → Query
 the_query None = record { name = []; head = []; atoms = []; comparisons = [] }
 the_query (Some l) = l.query
 
-pub in_place : (o : Option Live) → query_in o ≡ a_query (the_query o)
-in_place None = refl
-in_place (Some l) = refl
-
 pub reads_there : (name : Bytes) (o : Option Live) → reads_place name o ≡ reads (the_query o) name
 reads_there name None = refl
 reads_there name (Some l) = refl

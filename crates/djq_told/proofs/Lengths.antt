@@ -123,16 +123,6 @@ query_less q ts l (us, (heads, body, name, head, (items, said, atoms, comparison
 
 -- ---- lines
 
-long_byte : (a b c : Bool) → (a || (b && not c)) ≡ false → b ≡ true → c ≡ true
-long_byte true b c e f = absurd cc
-long_byte false true true e f = refl
-long_byte false true false e f = absurd cc
-long_byte false false c e f = absurd cc
-
-not_long : (a b : Bool) → (a || b) ≡ false → a ≡ false
-not_long true b f = absurd cc
-not_long false b f = refl
-
 front_less : (held l rest : Bytes) (long : Bool) (o : Option Bytes) → is_long (before_lf held) ≡ long
     → cond long too_long (line_or_dry (without_cr (before_lf held)) o) ≡ a_line l rest → length l ≤ LINE_BYTES
 front_less held l rest true o e is = absurd cc

@@ -185,14 +185,6 @@ idle_turn : (name : Bytes) (held : Held) (r : Reply) → turn_of name held.mode 
 idle_turn name held r e =
     (idle_with held, ap (may_turn held.texts) e, subst (λ o. Turned held o (idle_with held)) (sym e) (refl, refl), refl)
 
-not_live : (held : Held) → (held.mode ≡ Live → ⊥) → (held.mode ≡ Idle) ⊎ (held.mode ≡ Listing)
-not_live held idle = by held.mode refl
-  where
-    by : (m : Mode) → held.mode ≡ m → (held.mode ≡ Idle) ⊎ (held.mode ≡ Listing)
-    by Idle e = inl e
-    by Listing e = inr e
-    by Live e = absurd (idle e)
-
 pub delta_idles : (name : Bytes) (held : Held) (changes : List Change) (n : ℕ)
     → (held.mode ≡ Idle) ⊎ (held.mode ≡ Listing)
     → Passes name held (delta_replies name (record { number = n; changes = changes })) (idle_with held)

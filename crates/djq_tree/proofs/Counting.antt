@@ -18,13 +18,6 @@ use Rattle.djq_tree.proofs.Climbing.{rising_of, parent_above}
 
 -- ---- counting numbers
 
-pub how_many_same : (p q : ℕ → Bool) (n : ℕ) → ((j : ℕ) → j < n → p j ≡ q j) → how_many p n ≡ how_many q n
-how_many_same p q zero h = refl
-how_many_same p q (suc n) h =
-    let r = how_many_same p q n (λ j low. h j (omega arith)) in
-    let e : one (p n) ≡ one (q n) = ap one (h n (omega arith)) in
-    omega arith
-
 pub how_many_le : (p q : ℕ → Bool) (n : ℕ) → ((j : ℕ) → j < n → one (p j) ≤ one (q j)) → how_many p n ≤ how_many q n
 how_many_le p q zero h = omega arith
 how_many_le p q (suc n) h = let r = how_many_le p q n (λ j low. h j (omega arith)) in let e = h n (omega arith) in omega

@@ -52,15 +52,6 @@ key_of_trim t k c s e = key_child t k c (Trim c) s e (trim_child t.nodes k c e)
 pub key_of_guard : (t : Tree) (k g d : ℕ) → IsTree t → node_at t.nodes k ≡ Meet g d → key_of t g ≡ label_at t.labels d
 key_of_guard t k g d s e = key_child t k g (Meet g d) s e (guard_child t.nodes k g d e) ∙ rw (eq-eqb g g refl) refl
 
--- a side is keyed by its own label
-pub key_of_side : (t : Tree) (k g d : ℕ) → IsTree t → node_at t.nodes k ≡ Meet g d → key_of t d ≡ label_at t.labels d
-key_of_side t k g d s e = key_child t k d (Meet g d) s e (side_child t.nodes k g d e)
-    ∙ rw (ne_eqb g d (s.meet k g d e).apart) refl
-
--- the root is keyed by its own label, which is empty
-pub key_of_root : (t : Tree) → IsTree t → key_of t (length t.nodes - 1) ≡ label_at t.labels (length t.nodes - 1)
-key_of_root t s = rw (no_parent t.nodes (length t.nodes - 1) (rising_of t s) (omega arith)) refl
-
 subset_same : (l : List ℕ) → subset l l ≡ true
 subset_same l = subset_from l l (λ x. omega arith)
 

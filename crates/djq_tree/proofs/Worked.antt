@@ -17,13 +17,6 @@ covered : text (codes "r" ∷ codes "s" ∷ codes "t" ∷ codes "u" ∷ []) (cod
 unfolding grow digits
 covered = refl
 
--- an atom within another
-contained : text (codes "r" ∷ codes "s" ∷ []) (codes "x" ∷ codes "y" ∷ []) ((0 ∷ 1 ∷ []) ∷ (1 ∷ []) ∷ []) (0 ∷ 1 ∷ []) 0
-    3
-    ≡ codes "n 0 leaf r x,y out\nn 1 leaf s y out\nn 2 trim 0 y out\nn 3 meet 1 2 y out\nn 4 trim 3 - out\n"
-unfolding grow digits
-contained = refl
-
 -- two atoms with no common variable
 apart : text (codes "r" ∷ codes "s" ∷ []) (codes "x" ∷ codes "y" ∷ []) ((0 ∷ []) ∷ (1 ∷ []) ∷ []) (0 ∷ 1 ∷ []) 0 3
     ≡ codes "n 0 leaf r x out\nn 1 leaf s y out\nn 2 trim 0 - out\nn 3 trim 1 - out\nn 4 meet 2 3 - out\n"

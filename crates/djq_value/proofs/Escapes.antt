@@ -57,16 +57,6 @@ plain_text (b ∷ bs) z =
     (flat_map escaped bs) bs
     (sum_by-cons (λ x. cond (is_escaped x) 1 0) b bs) z (plain_byte b) (plain_text bs)
 
--- one more byte that needs no escape
-pub plain_longer : (t : List ℕ) (k b : ℕ) → k < length t → get_or t k 0 ≡ b → flat_map escaped (take k t) ≡ take k t
-    → is_escaped b ≡ false
-    → flat_map escaped (take (k + 1) t) ≡ take (k + 1) t
-plain_longer t k b h e so z =
-    texts_more escaped t k 0 h
-    ∙ ap (λ xs. xs ++ escaped (get_or t k 0)) so
-    ∙ ap (λ xs. take k t ++ xs) (ap escaped e ∙ plain_byte b z ∙ ap (λ x. x ∷ []) (sym e))
-    ∙ sym (take_more t k 0 h)
-
 -- no byte above the backslash needs an escape
 pub plain_above : (b : ℕ) → 92 < b → is_escaped b ≡ false
 plain_above b h = rw (

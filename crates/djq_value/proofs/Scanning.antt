@@ -22,10 +22,6 @@ pub record HasRead (bytes : Bytes) (count : ℕ) (escape : Bool) (rest : Bytes) 
   pub split : text_in false bytes ≡ put_front read (text_in escape rest)
   pub counted : length read ≡ count
 
-pub put_front-nothing : (o : Option (Bytes × Bytes)) → o ≡ put_front [] o
-put_front-nothing None = refl
-put_front-nothing (Some r) = refl
-
 -- one more byte
 put_front-more : (read : Bytes) (b : ℕ) (o : Option (Bytes × Bytes)) → put_front read (in_text (Some b) o)
     ≡ put_front (read ++ b ∷ []) o
@@ -38,9 +34,6 @@ pub put_front-byte : (whole : Option (Bytes × Bytes)) (read rest behind : Bytes
     → whole ≡ put_front (read ++ c ∷ []) (text_in false behind)
 put_front-byte whole read rest behind escape b c e r s = e ∙ ap (λ xs. put_front read (text_in escape xs)) r
     ∙ ap (put_front read) s ∙ put_front-more read c (text_in false behind)
-
-pub has_read-none : (bytes : Bytes) → HasRead bytes 0 false bytes
-has_read-none bytes = record { read = []; split = put_front-nothing (text_in false bytes); counted = refl }
 
 pub has_read-byte : (bytes rest behind : Bytes) (count : ℕ) (escape : Bool) (b c : ℕ) → HasRead bytes count escape rest
     → rest ≡ b ∷ behind
@@ -67,11 +60,6 @@ has_read_as bytes rest count n escape e same was h = record {
   split = h.split ∙ ap (λ x. put_front h.read (text_in x rest)) (sym was);
   counted = h.counted ∙ sym same;
 }
-
--- where so many bytes stand for themselves
-pub has_read-front : (bytes : Bytes) (n : ℕ) → n ≤ length bytes → text_in false bytes
-    ≡ put_front (take n bytes) (text_in false (drop n bytes)) → HasRead bytes n false (drop n bytes)
-has_read-front bytes n h e = record { read = take n bytes; split = e; counted = omega (arith, length-take n bytes, h) }
 
 -- a byte that stands for itself
 pub plain_step : (b : ℕ) (rest : Bytes) → is_escaped b ≡ false → text_in false (b ∷ rest)

@@ -147,15 +147,6 @@ letter_first (b ∷ bs) n some letter h = (
   ap (λ m. may_end (drop m (b ∷ bs))) (add-one n) ∙ h.2,
 )
 
--- the bytes of a name behind its first, up to a space
-pub tail_ends : (bs : Bytes) (n : ℕ) → n < length bs → n ≤ 31 → list_all may_follow_of (take n bs) ≡ true
-    → get_or bs n 0 ≡ 32 → IsTailAt bs (Some n)
-tail_ends bs n within few follow blank = (
-  omega (arith, within),
-  and_from _ _ follow (le-leb (length (take n bs)) 31 (omega (arith, length-take n bs, few, within))),
-  ap may_end (drop-cons bs n 0 within) ∙ ap ends_word blank,
-)
-
 -- A word is in front where it may end in front of what is behind it.
 pub word_before : (w behind : Bytes) → IsToken (word w) → may_end behind ≡ true
     → tokens (w ++ behind) ≡ word w ∷ tokens behind

@@ -58,12 +58,6 @@ serve_not_replay e = let n = ap length e in absurd (omega (arith, n))
 serve_not_gen : codes "serve" ≡ codes "gen" → ⊥
 serve_not_gen e = let n = ap length e in absurd (omega (arith, n))
 
-gen_not_run : codes "gen" ≡ codes "run" → ⊥
-gen_not_run e = let n = ap (λ (bs : Text). slice_index bs 0) e in absurd (omega (arith, n))
-
-gen_not_replay : codes "gen" ≡ codes "replay" → ⊥
-gen_not_replay e = let n = ap length e in absurd (omega (arith, n))
-
 mirror_not_run : codes "mirror" ≡ codes "run" → ⊥
 mirror_not_run e = let n = ap length e in absurd (omega (arith, n))
 
@@ -99,15 +93,6 @@ pub turns_unspelled : (rows : List Row) (text : Text) → first_of (codes "turns
     → ServeAsked rows None
 turns_unspelled rows text given h = none_asked rows (λ addr n is turns. h n
     (subst (λ (k : Option Text). TurnsAre k n) given turns))
-
--- what `gen` was given asks for nothing
-pub gen_asks_none : (rows : List Row) → ((n seed : ℕ) → IsGiven (first_of (codes "N") rows) n
-    → IsGiven (first_of (codes "SEED") rows) seed → ⊥) → GenAsked rows None
-gen_asks_none rows h Run asks = gen_not_run asks
-gen_asks_none rows h (Serve addr n log) asks = serve_not_gen (sym asks.0)
-gen_asks_none rows h (Replay log) asks = gen_not_replay asks.0
-gen_asks_none rows h (Gen n seed) asks = h n seed asks.1 asks.2
-gen_asks_none rows h (Mirror query) asks = mirror_not_gen (sym asks.0)
 
 -- what `mirror` was given asks for nothing, where it is no name
 pub mirror_asks_none : (rows : List Row) → ((query : Text) → first_of (codes "Q") rows ≡ Some query
