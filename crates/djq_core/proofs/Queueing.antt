@@ -9,7 +9,7 @@ use Rattle.djq_model.specs.Listed.{listed_name}
 use Rattle.djq_lines.specs.declared.answer.EndCause.{EndCause}
 use Rattle.djq_lines.specs.declared.answer.EndCause.TheVariants.{Slow, Memory}
 use Rattle.djq_lines.specs.Reply.{text_of, end_slow, end_memory}
-use Rattle.djq_machine.specs.State.{Session, State, ids_of, session_of, with_session, ended_by}
+use Rattle.djq_machine.specs.State.{Session, State, state_ids, session_of, with_session, ended_by}
 use Rattle.djq_machine.specs.Effect.{Effect, queue, queue_all}
 use Rattle.djq_machine.specs.Delta.{delta_lines}
 use Rattle.djq_machine.specs.Watch.{Delta, Telling, is_watching, says_more, ends_more, watching}
@@ -97,7 +97,7 @@ ids_changed (x ∷ xs) s f h = step (eqb x.id s) (ids_changed xs s f h)
     step true r = ap (λ (n : ℕ). n ∷ map (λ (y : Session). y.id) xs) (h x)
     step false r = ap (λ (ns : List ℕ). x.id ∷ ns) r
 
-pub ids_queued : (st : State) (ps : List (ℕ × Bytes)) → ids_of (queue_all st ps) ≡ ids_of st
+pub ids_queued : (st : State) (ps : List (ℕ × Bytes)) → state_ids (queue_all st ps) ≡ state_ids st
 ids_queued st [] = refl
 ids_queued st (p ∷ ps) = ids_queued (queue st p) ps ∙ ids_changed st.sessions p.0 (pushed p.1) (λ x. refl)
 

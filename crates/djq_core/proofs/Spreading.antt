@@ -8,7 +8,7 @@ use Rattle.std.proofs.lemmas.List.{drop_all, length-map}
 use Rattle.djq_model.specs.Data.{Bytes}
 use Rattle.djq_model.specs.Listed.{listed_name}
 use Rattle.djq_lines.specs.Reply.{text_of}
-use Rattle.djq_machine.specs.State.{Session, State, ids_of, session_of}
+use Rattle.djq_machine.specs.State.{Session, State, state_ids, session_of}
 use Rattle.djq_machine.specs.Walk.{Walk}
 use Rattle.djq_machine.specs.Delta.{delta_lines}
 use Rattle.djq_machine.specs.Watch.{Delta, Telling, is_watching, watching, watcher_of, TellsWatcher}
@@ -276,7 +276,7 @@ told_all q whole text old xs at k ys so l d n same fits stopped start m told =
     ≡ [] = drop_all at ns (omega (arith, l, length-map ys (λ (x : OpenSession). x.id), ap length so.goes_on.ids)) in
     let walked : Walk (TellsSession d n) m ns r.0 = r.1 r.0
     (subst (λ (is : List ℕ). Walk (TellsSession d n) r.0 is r.0) (sym none) refl) in
-    let same_ids : ns ≡ ids_of m.state = sym (ids_seen old stopped xs) ∙ ap ids_of (sym told.seen)
+    let same_ids : ns ≡ state_ids m.state = sym (ids_seen old stopped xs) ∙ ap state_ids (sym told.seen)
     ∙ ids_queued m.state m.queued in
     (r.0, subst (λ (is : List ℕ). Walk (TellsSession d n) m is r.0) same_ids walked, r.2)
 
@@ -303,7 +303,7 @@ pub nobody_reaches : (k : Kept) (xs : List OpenSession) (d : Delta) (n : ℕ) �
     → Reaches (λ m m'. TellsDelta n m d m') k xs k xs
 nobody_reaches k xs d n h stopped start m so = (
   m,
-  walks_still (TellsSession d n) m (ids_of m.state)
+  walks_still (TellsSession d n) m (state_ids m.state)
       (λ s. subst (λ (o : Option Session). MatchOption o (m ≡ m) (λ y. TellsWatcher d n s y.pending m m))
       (sym (ap (λ (y : State). watching (listed_name d.query) (session_of y s)) so.seen
       ∙ nobody k xs (listed_name d.query) s h)) refl),

@@ -41,7 +41,7 @@ use Rattle.djq_lines.specs.declared.held.HeldRow.{HeldRow}
 use Rattle.djq_machine.specs.declared.machine.Stepped.{Stepped}
 use Rattle.djq_machine.specs.declared.machine.Stepped.TheVariants.{Ran, Dry, Ended}
 use Rattle.djq_machine.specs.State.{Store, Position, open_at, stale, Cursor, Session, State}
-use Rattle.djq_machine.specs.State.{session_of, with_session, cursor_of, ended_by, ids_of}
+use Rattle.djq_machine.specs.State.{session_of, with_session, cursor_of, ended_by, state_ids}
 use Rattle.djq_machine.specs.Stale.{outdated_sessions}
 use Rattle.djq_machine.specs.Changes.{RowsChange, RowsOutcome, tried, changed}
 use Rattle.djq_machine.specs.Effect.{Effect, queue, queue_all, RefusedStep}
@@ -436,7 +436,7 @@ told_all d n (s ∷ ids) m new w = goes_then m.state (w.0).state new.state (told
 
 told_deltas : (n : ℕ) (ds : List Delta) (m new : Telling) → Walk (TellsDelta n) m ds new → GoesOn m.state new.state
 told_deltas n [] m new w = goes_same m.state new.state (ap (λ (t : Telling). t.state) w)
-told_deltas n (d ∷ ds) m new w = goes_then m.state (w.0).state new.state (told_all d n (ids_of m.state) m w.0 w.1)
+told_deltas n (d ∷ ds) m new w = goes_then m.state (w.0).state new.state (told_all d n (state_ids m.state) m w.0 w.1)
     (told_deltas n ds w.0 new w.2)
 
 replied_last : (s : ℕ) (reply : Bytes) (m new : Telling) → RepliesLast s reply m new → GoesOn m.state new.state

@@ -25,7 +25,7 @@
 mod appending;
 mod cells;
 mod heads;
-mod inserting;
+mod insertion;
 mod kind;
 mod marking;
 mod place;

@@ -5,7 +5,7 @@ ghost use Rattle.djq_index.specs.Entries.{unmarked, head_at, last_at};
 ghost use Rattle.djq_index.specs.Table.{IsTable, IsAt, IsLive, IsUnmarked, IsRaisable, IsLowerable, AreColumns};
 ghost use Rattle.djq_index.specs.Changes.{Inserted, InsertedAs, Removed, Touched, Supported};
 
-use crate::inserting::{insert_bare, insert_keyed};
+use crate::insertion::{insert_bare, insert_keyed};
 use crate::kind::{Kind, kind_of};
 use crate::marking::{touch_bare, touch_keyed, unmark_all};
 use crate::place::Place;

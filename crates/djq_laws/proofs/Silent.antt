@@ -14,7 +14,7 @@ use Rattle.djq_lines.specs.declared.answer.EndCause.TheVariants.{Input, Memory}
 use Rattle.djq_lines.specs.declared.limits.TheConstants.{SESSIONS}
 use Rattle.djq_lines.specs.Grammar.{reading_of}
 use Rattle.djq_lines.specs.Reply.{refusal_line, end_memory, input_cut}
-use Rattle.djq_machine.specs.State.{Store, State, Session, fresh, session_of, with_session, ended_by, ids_of}
+use Rattle.djq_machine.specs.State.{Store, State, Session, fresh, session_of, with_session, ended_by, state_ids}
 use Rattle.djq_machine.specs.Stale.{outdated_cursor}
 use Rattle.djq_machine.specs.Changes.{RowsChange, RowsOutcome, is_made, tried, changed}
 use Rattle.djq_machine.specs.Watch.{Delta, Telling, says_more, ends_more, watching, watcher_of}
@@ -159,7 +159,7 @@ module _ (s : ℕ) where
 
   delta_quiet : (n : ℕ) (m : Telling) (d : Delta) (new : Telling) → TellsDelta n m d new → IsQuiet m → IsQuiet new
   delta_quiet n m d new h k =
-      walk_keeps (TellsSession d n) IsQuiet (λ from t to one q. session_quiet d n from t to one q) m (ids_of m.state)
+      walk_keeps (TellsSession d n) IsQuiet (λ from t to one q. session_quiet d n from t to one q) m (state_ids m.state)
       new h k
 
   reply_quiet : (t : ℕ) (reply : Bytes) (m new : Telling) (c : Option EndCause) → (t == s) ≡ false
@@ -493,6 +493,6 @@ over_once s old sound there done mid w over more new v once =
     let f = some_of (session_of old s) there in
     let above : All (λ t. s < t) (all_opened (done ++ more)) =
     at_found (λ i. All (λ j. i < j) (all_opened (done ++ more))) s old.sessions f.0 f.1
-    (later (ids_of old) (all_opened (done ++ more)) once).above in
+    (later (state_ids old) (all_opened (done ++ more)) once).above in
     over_is_silent s mid (runs_keep_sound old done mid w sound) over more new v
     (behind (λ (d : Did). OpensNone s d.event) done more (all_above s (done ++ more) above))

@@ -11,7 +11,7 @@ use Rattle.djq_model.specs.Listed.{Listed, listed_name, AnswersOf, listed_of}
 use Rattle.djq_lines.specs.declared.answer.EndCause.{EndCause}
 use Rattle.djq_lines.specs.declared.answer.EndCause.TheVariants.{Slow, Memory}
 use Rattle.djq_lines.specs.Reply.{text_of}
-use Rattle.djq_machine.specs.State.{Store, State, Session, session_of, with_session, ended_by, ids_of}
+use Rattle.djq_machine.specs.State.{Store, State, Session, session_of, with_session, ended_by, state_ids}
 use Rattle.djq_machine.specs.Effect.{Effect}
 use Rattle.djq_machine.specs.Delta.{Change, IsDelta, delta_lines}
 use Rattle.djq_machine.specs.Stale.{outdated_cursor}
@@ -177,12 +177,12 @@ module _ (q : Listed) (s : ℕ) (part : Bytes) where
       watcher_has d n now.pending m new is (rw f.1 refl)
       (subst (λ (o : Option Session). MatchOption o (new ≡ m) (λ x. TellsWatcher d n s x.pending m new)) watcher h)
 
-  watcher_listed : (m : Telling) → Watches (listed_name q) (session_of m.state s) → Contains (ids_of m.state) s
+  watcher_listed : (m : Telling) → Watches (listed_name q) (session_of m.state s) → Contains (state_ids m.state) s
   watcher_listed m w =
       let f = some_there (session_of m.state s) (λ x. is_watching (listed_name q) x ≡ true) w in
       let is : (f.0).id ≡ s = eqb-true (f.0).id s (found_passes (λ (x : Session). x.id == s) m.state.sessions f.0 f.1)
       in
-      subst (λ (i : ℕ). Contains (ids_of m.state) i) is
+      subst (λ (i : ℕ). Contains (state_ids m.state) i) is
       (mapped_there (λ (x : Session). x.id) m.state.sessions f.0
       (found_there (λ (x : Session). x.id == s) m.state.sessions f.0 f.1))
 
@@ -195,7 +195,7 @@ module _ (q : Listed) (s : ℕ) (part : Bytes) where
       (watcher_of from (listed_name d.query) t) refl k p)
       (λ from t to k p. session_keeps Has has_says has_ends d n from t to (watcher_of from (listed_name d.query) t) refl
       k p)
-      (λ from to k p. session_has d n same is from to k p) m (ids_of m.state) new h (watcher_listed m w) (inl w)
+      (λ from to k p. session_has d n same is from to k p) m (state_ids m.state) new h (watcher_listed m w) (inl w)
 
   change_has : (old : State) (t : ℕ) (change : RowsChange) (store : Store) (reply : Bytes) (e : Effect) (new : State)
       (h : ChangeStep old t (accepted change) store reply e new) (d : Delta) → Contains h.deltas d → d.query ≡ q

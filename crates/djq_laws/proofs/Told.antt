@@ -7,7 +7,7 @@ use Rattle.djq_model.specs.Listed.{listed_name}
 use Rattle.djq_lines.specs.declared.answer.EndCause.{EndCause}
 use Rattle.djq_lines.specs.declared.answer.EndCause.TheVariants.{Slow, Memory}
 use Rattle.djq_lines.specs.Reply.{end_slow, end_memory}
-use Rattle.djq_machine.specs.State.{Store, State, Session, session_of, ids_of}
+use Rattle.djq_machine.specs.State.{Store, State, Session, session_of, state_ids}
 use Rattle.djq_machine.specs.Effect.{Effect, queue_all}
 use Rattle.djq_machine.specs.Changes.{RowsOutcome, is_made, tried, changed}
 use Rattle.djq_machine.specs.Run.{to_session}
@@ -59,7 +59,7 @@ module _ (P : Telling → Type 0)
   delta_keeps n m d new h p =
       walk_keeps (TellsSession d n) P
       (λ from s to k q. session_keeps d n from s to (watcher_of from (listed_name d.query) s) refl k q) m
-      (ids_of m.state) new h p
+      (state_ids m.state) new h p
 
   reply_keeps : (s : ℕ) (reply : Bytes) (m new : Telling) (c : Option EndCause) → IsOpen m.state s
       → MatchOption c ((new ≡ says_more s reply m) ⊎

@@ -14,7 +14,7 @@ use Rattle.djq_machine.specs.declared.machine.Fed.TheVariants.{Held, Ended as Ha
 use Rattle.djq_machine.specs.declared.machine.OpenRefusal.{OpenRefusal}
 use Rattle.djq_machine.specs.declared.machine.OpenRefusal.TheVariants.{Full, NoMem}
 use Rattle.djq_machine.specs.State.{State, Session, session_of}
-pub use Rattle.djq_machine.specs.State.{ids_of}
+pub use Rattle.djq_machine.specs.State.{state_ids}
 use Rattle.djq_machine.specs.Effect.{Effect}
 use Rattle.djq_machine.specs.LineStep.{long, blank, slow, no_room, run}
 use Rattle.djq_machine.specs.Step.{Event, opened, stepped, Step, is_dry}

@@ -65,8 +65,8 @@ abbrev pub fresh : ℕ → Session
 fresh s = record { id = s; held = []; pending = []; cause = None; cursors = []; watches = []; batch = None }
 
 -- the ids of the open sessions
-abbrev pub ids_of : State → List ℕ
-ids_of st = map (λ (x : Session). x.id) st.sessions
+abbrev pub state_ids : State → List ℕ
+state_ids st = map (λ (x : Session). x.id) st.sessions
 
 -- the open session of an id
 abbrev pub session_of : State → ℕ → Option Session

@@ -37,7 +37,7 @@ use Rattle.djq_lines.specs.declared.limits.TheConstants.{PENDING_BYTES}
 use Rattle.djq_lines.specs.declared.answer.EndCause.{EndCause}
 use Rattle.djq_lines.specs.declared.answer.EndCause.TheVariants.{Slow, Memory}
 use Rattle.djq_lines.specs.Reply.{text_of, end_slow, end_memory}
-use Rattle.djq_machine.specs.State.{Store, Session, State, session_of, with_session, ended_by, ids_of}
+use Rattle.djq_machine.specs.State.{Store, Session, State, session_of, with_session, ended_by, state_ids}
 use Rattle.djq_machine.specs.Effect.{Effect, queue_all}
 use Rattle.djq_machine.specs.Store.{most_steps, atoms_of}
 use Rattle.djq_machine.specs.Changes.{RowsChange, RowsOutcome, is_made, tried, is_outdated, changed}
@@ -156,7 +156,7 @@ TellsSession d n m s new =
 
 -- The sessions are told a delta, in rising id.
 abbrev pub TellsDelta : ℕ → Telling → Delta → Telling → Type 0
-TellsDelta n m d new = Walk (TellsSession d n) m (ids_of m.state) new
+TellsDelta n m d new = Walk (TellsSession d n) m (state_ids m.state) new
 
 -- A command's reply comes last, where its session goes on. Behind lines of a delta to that session
 -- it may find no memory, and the session ends.

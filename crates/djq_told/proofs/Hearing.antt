@@ -13,7 +13,7 @@ use Rattle.djq_lines.specs.declared.answer.EndCause.{EndCause}
 use Rattle.djq_lines.specs.declared.answer.EndCause.TheVariants.{Slow, Memory}
 use Rattle.djq_lines.specs.Reply.{text_of, end_slow, end_memory}
 use Rattle.djq_mirror.specs.Replies.{Reply, changed as changes_answer, reply_text}
-use Rattle.djq_machine.specs.State.{Store, State, Session, session_of, with_session, ended_by, ids_of}
+use Rattle.djq_machine.specs.State.{Store, State, Session, session_of, with_session, ended_by, state_ids}
 use Rattle.djq_machine.specs.Effect.{Effect, queue_all}
 use Rattle.djq_machine.specs.Delta.{Change, change_lines, delta_lines}
 use Rattle.djq_machine.specs.Stale.{outdated_cursor}
@@ -237,39 +237,39 @@ module _ (s : ℕ) (ws : List Bytes) where
           (other_told d n m t w.0 rs (watcher_of m (listed_name d.query) t) (ne_eqb t s (λ e. omega (arith, e, lt))) w.1
           h)
 
-  ids_say : (ids : List ℕ) (m : Telling) (t : ℕ) (text : Bytes) → IsOpen m.state t → ids_of m.state ≡ ids
-      → ids_of (says_more t text m).state ≡ ids
+  ids_say : (ids : List ℕ) (m : Telling) (t : ℕ) (text : Bytes) → IsOpen m.state t → state_ids m.state ≡ ids
+      → state_ids (says_more t text m).state ≡ ids
   ids_say ids m t text there e = e
 
   ids_end : (ids : List ℕ) (m : Telling) (t : ℕ) (text : Bytes) (cause : EndCause) → EndsByRun cause → IsOpen m.state t
-      → ids_of m.state ≡ ids → ids_of (ends_more t text cause m).state ≡ ids
+      → state_ids m.state ≡ ids → state_ids (ends_more t text cause m).state ≡ ids
   ids_end ids m t text cause may there e =
       changed_ids (λ (x : Session). x.id == t) (ended_by cause) (λ x. refl) m.state.sessions ∙ e
 
-  listed_there : (m : Telling) (x : Session) → session_of m.state s ≡ Some x → Contains (ids_of m.state) s
+  listed_there : (m : Telling) (x : Session) → session_of m.state s ≡ Some x → Contains (state_ids m.state) s
   listed_there m x is =
       let same : x.id ≡ s = eqb-true x.id s (found_passes (λ (y : Session). y.id == s) m.state.sessions x is) in
-      subst (λ (i : ℕ). Contains (ids_of m.state) i) same
+      subst (λ (i : ℕ). Contains (state_ids m.state) i) same
       (mapped_there (λ (y : Session). y.id) m.state.sessions x
       (found_there (λ (y : Session). y.id == s) m.state.sessions x is))
 
   delta_told : (n : ℕ) (m : Telling) (d : Delta) (new : Telling) (rs : List Reply)
-      → AllPairs (λ i j. i < j) (ids_of m.state)
+      → AllPairs (λ i j. i < j) (state_ids m.state)
       → TellsDelta n m d new → Heard m rs → Heard new (rs ++ heard ws n d)
   delta_told n m d new rs rising h (inl over) =
       inl (delta_keeps (λ (l : Telling). IsOver l.state s) over_says over_ends n m d new h over)
   delta_told n m d new rs rising h (inr k) =
-      each_told d n m (ids_of m.state) new rs rising (listed_there m k.session k.is) h (inr k)
+      each_told d n m (state_ids m.state) new rs rising (listed_there m k.session k.is) h (inr k)
 
   deltas_told : (n : ℕ) (m : Telling) (ds : List Delta) (new : Telling) (rs : List Reply)
-      → AllPairs (λ i j. i < j) (ids_of m.state) → Walk (TellsDelta n) m ds new → Heard m rs
+      → AllPairs (λ i j. i < j) (state_ids m.state) → Walk (TellsDelta n) m ds new → Heard m rs
       → Heard new (rs ++ all_heard ws n ds)
   deltas_told n m [] new rs rising w h =
       subst (λ (ts : List Reply). Heard new ts) (sym (append-nil rs)) (subst (λ (l : Telling). Heard l rs) (sym w) h)
   deltas_told n m (d ∷ ds) new rs rising w h =
-      let ids : ids_of (w.0).state ≡ ids_of m.state =
-      delta_keeps (λ (l : Telling). ids_of l.state ≡ ids_of m.state) (ids_say (ids_of m.state))
-      (ids_end (ids_of m.state))
+      let ids : state_ids (w.0).state ≡ state_ids m.state =
+      delta_keeps (λ (l : Telling). state_ids l.state ≡ state_ids m.state) (ids_say (state_ids m.state))
+      (ids_end (state_ids m.state))
       n m d w.0 w.1 refl in
       subst (λ (ts : List Reply). Heard new ts) (append_assoc rs (heard ws n d) (all_heard ws n ds))
       (deltas_told n w.0 ds new (rs ++ heard ws n d)
@@ -358,7 +358,7 @@ module _ (s : ℕ) (x : Session) (old : State) (is : session_of old s ≡ Some x
             told = refl;
           }
 
-  begun_ids : (o : Option RowsChange) (store : Store) → ids_of (changed old o store) ≡ ids_of old
+  begun_ids : (o : Option RowsChange) (store : Store) → state_ids (changed old o store) ≡ state_ids old
   begun_ids None store = refl
   begun_ids (Some change) store =
       mapped_ids (λ (y : Session). record y
@@ -368,7 +368,7 @@ module _ (s : ℕ) (x : Session) (old : State) (is : session_of old s ≡ Some x
   -- What the change tells the session, where it goes on behind it.
   pub change_heard : (t : ℕ) (outcome : RowsOutcome) (store : Store) (reply : Bytes) (r : Reply) (e : Effect)
       (new : State)
-      → AllPairs (λ i j. i < j) (ids_of old) → reply ≡ reply_text r
+      → AllPairs (λ i j. i < j) (state_ids old) → reply ≡ reply_text r
       → (h : ChangeStep old t outcome store reply e new) → cause_of new s ≡ None
       → to_session s e.queued
       ≡ replies_text (all_heard x.watches store.seq (cond (is_made outcome) h.deltas []) ++ own_replies s x.watches
@@ -381,7 +381,7 @@ module _ (s : ℕ) (x : Session) (old : State) (is : session_of old s ≡ Some x
       start : Telling
       start = beginning old outcome store
 
-      risen : AllPairs (λ i j. i < j) (ids_of start.state)
+      risen : AllPairs (λ i j. i < j) (state_ids start.state)
       risen = subst (λ (js : List ℕ). AllPairs (λ i j. i < j) js) (sym (begun_ids (tried outcome) store)) rising
 
       told : Heard s x.watches h.told (all_heard x.watches store.seq ds)

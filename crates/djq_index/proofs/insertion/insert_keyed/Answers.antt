@@ -12,7 +12,7 @@ use Rattle.djq_index.proofs.Inserting.{refused_bare, refused_heads, refused_entr
 use Rattle.djq_arena.proofs.Filling.{on_err}
 use Rattle.djq_index.proofs.Bounding.{entries_length}
 use Rattle.djq_index.proofs.Heading.{few_heads}
-use Rattle.djq_index.proofs.inserting.insert_keyed.Goals as goal
+use Rattle.djq_index.proofs.insertion.insert_keyed.Goals as goal
 
 pub append_linked_row-requires-clause-ready : goal.append_linked_row-requires-clause-ready
 append_linked_row-requires-clause-ready c = record {

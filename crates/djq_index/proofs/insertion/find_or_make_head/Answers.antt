@@ -3,7 +3,7 @@ use Rattle.std.proofs.Common.{[], ◌∷◌, sym, ◌∙◌, ap, subst, length, 
 use Rattle.std.specs.Result.{IfOk}
 use Rattle.djq_index.specs.Raw.{IsSeat}
 use Rattle.djq_index.proofs.Columns.{column_below, pick_one}
-use Rattle.djq_index.proofs.inserting.find_or_make_head.Goals as goal
+use Rattle.djq_index.proofs.insertion.find_or_make_head.Goals as goal
 
 pub cell_at-requires : goal.cell_at-requires
 cell_at-requires c = column_below (length c.args.tuple.now) c.args.key.now 0 c.requires.columns

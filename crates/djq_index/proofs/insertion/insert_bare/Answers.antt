@@ -8,7 +8,7 @@ use Rattle.djq_index.proofs.Inserting.{slot_notes, came_bare, came_inserted, cam
 use Rattle.djq_index.proofs.Inserting.{refused_entries}
 use Rattle.djq_arena.proofs.Filling.{on_err}
 use Rattle.djq_index.proofs.Bounding.{entries_length}
-use Rattle.djq_index.proofs.inserting.insert_bare.Goals as goal
+use Rattle.djq_index.proofs.insertion.insert_bare.Goals as goal
 
 pub append_row-requires : goal.append_row-requires
 append_row-requires c = record {
