@@ -181,7 +181,7 @@ IsThere k id answer = AtQuery k id (λ l. IsAnswerOf l.reducts answer)
 abbrev pub IsShown : Kept → CursorId → List ℕ → Type 0
 IsShown k id answer = AtQuery k id (λ l. IsShowable k.store.texts l answer)
 
--- it stands for this tuple
+-- the answer of the query over which this cursor is stands for this tuple
 abbrev pub AnswerIs : Kept → CursorId → List ℕ → Tuple → Type 0
 AnswerIs k id answer t = AtQuery k id (λ l. t ≡ values_of k.store.texts l answer)
 

@@ -164,7 +164,7 @@ pub record IsUnlaid (old rows : SlotRows) (before notes : List Note) : Type 0 wh
   pub same_notes : (k : ℕ) → note_at notes k ≡ note_at before k
   pub full : IsFull old
 
--- and has a head
+-- the tuple u is laid into the slot i, beside room for its neighbours, and h is the head of its group
 pub record IsReady (a : Raw) (rows : SlotRows) (notes : List Note) (links : List Pair) (keys : SlotRows)
     (ends : List Ends)
     (i h : ℕ) (u : List ℕ) : Type 0 where
@@ -185,7 +185,7 @@ pub record IsNoted (mark : Bool) (a b : Raw) (rows : SlotRows) (notes : List Not
   pub notes_are : b.notes.items ≡ slice_set notes i (record { supports = 1; head = h; marked = mark })
   pub marked : b.marked ≡ cond mark (beside a.marked (Some i) a.marked) a.marked
 
--- and joins the group of head h
+-- the tuple in slot i is there, as the last of the group of head h
 pub record IsSettled (mark : Bool) (a b : Raw) (rows : SlotRows) (notes : List Note) (links : List Pair)
     (keys : SlotRows)
     (ends : List Ends) (i h : ℕ) : Type 0 where

@@ -84,7 +84,7 @@ pub record CanWalk (t : Tree) (ts : List Table) (a : ℕ) (removal : Bool) : Typ
 pub record HaveFew (ts : List Table) : Type 0 where
   pub each : (i : ℕ) → length (marks (entries_at ts i)) ≤ 1
 
--- the marks were made, at the nodes with numbers below k
+-- those tuples of the nodes with numbers below k are marked that are to be, and no others
 pub record IsWalked (t : Tree) (old new : List Table) (a : ℕ) (removal : Bool) (k : ℕ) : Type 0 where
   pub later : (i : ℕ) → k ≤ i → entries_at new i ≡ entries_at old i
   pub keeps : (i : ℕ) (v : List ℕ) → count_of (marks (entries_at old i)) v ≤ count_of (marks (entries_at new i)) v

@@ -53,12 +53,13 @@ pub record Refused (t : Tree) (old new : List Table) (j : ℕ) : Type 0 where
   pub supports : (i : ℕ) (v : List ℕ) → supports_of (entries_at new i) v ≡ supports_of (entries_at old i) v
   pub below : (i : ℕ) → IsBelow t j i → entries_at new i ≡ entries_at old i
 
--- the table of the node j has changed, and those above it were right before
+-- the table of the node j has changed since each table above it was its node's reduct, and no other one has
 pub record ChangedOnlyAt (t : Tree) (was now : List Table) (j : ℕ) : Type 0 where
   pub ready : Ready t was j
   pub changed : Changed was now j
 
 -- the table of the node j has gained the tuple u, and those above it were right before
+-- the node j has just gained the tuple u, and those above it have nothing of what it brings
 pub record Gaining (t : Tree) (now : List Table) (j : ℕ) (u : List ℕ) : Type 0 where
   pub was : List Table
   pub began : ChangedOnlyAt t was now j
@@ -66,19 +67,20 @@ pub record Gaining (t : Tree) (now : List Table) (j : ℕ) (u : List ℕ) : Type
   pub gains : InsertedAs mark (key_at was j) (entries_at was j) (entries_at now j) u
 
 -- the table of the node j has lost the tuple u, and those above it were right before
+-- the node j has just lost the tuple u, and those above it still have what it takes away
 pub record Losing (t : Tree) (now : List Table) (j : ℕ) (u : List ℕ) : Type 0 where
   pub was : List Table
   pub began : ChangedOnlyAt t was now j
   pub loses : Removed (entries_at was j) (entries_at now j) u
 
--- the tables above the node j are right again
+-- the tables above the node j are their nodes' reducts again, and the others are as they were
 pub record ReducedAbove (t : Tree) (old new : List Table) (j : ℕ) : Type 0 where
   pub family : IsFamily t new
   pub at : entries_at new j ≡ entries_at old j
   pub below : (i : ℕ) → IsBelow t j i → entries_at new i ≡ entries_at old i
   pub reduced : AreReduced t new (j + 1)
 
--- or all is as it was, but for the order in groups above the node j
+-- all is as it was, but for the order in groups above the node j
 pub record UnchangedAbove (t : Tree) (old new : List Table) (j : ℕ) : Type 0 where
   pub family : IsFamily t new
   pub at : entries_at new j ≡ entries_at old j
