@@ -60,7 +60,7 @@ pub record Counts : Type 0 where
 abbrev pub counts : ℕ → ℕ → ℕ → Counts
 counts listing update rows = record { listing = listing; update = update; rows = rows }
 
--- One step of this event, which costs nothing.
+-- One step of this event, by a call that is handed no counts.
 pub record Makes (old : State) (event : Event) (new : State) : Type 0 where
   pub effect : Effect
   pub step : Step old event effect new
