@@ -228,10 +228,10 @@ owned_without old new xs ys zs gone others h c i = step (apart_or c ys)
     behind a (inr e) = among_back c xs zs (not_mine a (among_either c ys zs e))
 
     step : (IsApart c ys) ⊎ (is_among c ys ≡ true) → is_among c (xs ++ zs) ≡ true
-    step (inr e) = let none : IsSome {T = HeldCursor} None = subst (λ (o : Option HeldCursor). IsSome o) (gone c e) i
-    in absurd (cc)
+    step (inr e) =
+        let none : IsSome {T = HeldCursor} None = subst (λ (o : Option HeldCursor). IsSome o) (gone c e) i in absurd (cc)
     step (inl a) = behind a (among_either c xs (ys ++ zs) (h c (subst (λ (o : Option HeldCursor). IsSome o)
-    (others c a) i)))
+        (others c a) i)))
 
 -- A change of rows.
 
