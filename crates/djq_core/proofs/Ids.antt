@@ -229,7 +229,8 @@ owned_without old new xs ys zs gone others h c i = step (apart_or c ys)
 
     step : (IsApart c ys) ⊎ (is_among c ys ≡ true) → is_among c (xs ++ zs) ≡ true
     step (inr e) =
-        let none : IsSome {T = HeldCursor} None = subst (λ (o : Option HeldCursor). IsSome o) (gone c e) i in absurd (cc)
+        let none : IsSome {T = HeldCursor} None = subst (λ (o : Option HeldCursor). IsSome o) (gone c e) i in
+        absurd (cc)
     step (inl a) = behind a (among_either c xs (ys ++ zs) (h c (subst (λ (o : Option HeldCursor). IsSome o)
         (others c a) i)))
 
