@@ -1,13 +1,29 @@
 //! A join query server, as a program: `djq run` serves one session from standard input to standard
 //! output, `djq serve ADDR` the sessions that come over TCP, `djq replay` those of a schedule, and
 //! `djq gen N SEED` that of a generated load, and `djq mirror Q` tells the answers that a session was
-//! told. With `--log PATH` the second and the third begin with
-//! what the lines of that file give, and keep in it what changes that.
+//! told. With `--log PATH` the second and the third begin with what the lines of that file give, and
+//! keep in it what changes that.
 //!
 //! [`run_program`] is the program over any source, sink, hub and disk. Its contract says what was
 //! written: the replies of a run of the join machine, so it is the theorem of the whole product. And
 //! it says what a stop at any moment leaves of the log.
 //! `main` makes the real ones, which tell no bytes, and calls it.
+//!
+//! It isn't a library: what others may call stands in the crates below, and a server of another kind
+//! is another [`run_program`] over them.
+//!
+//! What surprises: help and version words are no command, and are answered by the usage line. What the
+//! theorem says of bytes it says where the source, sink or hub tells them; of the real ones it says
+//! which calls were made and what their answers did.
+//!
+//! ```text
+//! djq run < stdin > stdout          one session, status 0 at its end, at `quit` and at `stop`
+//! djq serve 127.0.0.1:7007          up to 64 sessions
+//! djq replay < schedule             what each of several sessions is sent, line by line
+//! ```
+//!
+//! Inside, `program` has an arm for each command, `replay` and `load` what two of them do, `log` opens
+//! and loads the file, and `laws` says of whole runs what the definitions of the machine come to.
 #![tactic(auto)]
 
 #[cfg(test)]

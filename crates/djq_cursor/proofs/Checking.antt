@@ -109,7 +109,7 @@ one_more t j b low e =
     ap (λ (n : ℕ). how_many (is_start t) n) next
     ∙ ap (λ (c : Bool). how_many (is_start t) j + one c) (start_is t j b low e)
 
--- ---- a look-up
+-- ---- a lookup
 
 pub looked_up : (r : Reducts) (j : ℕ) (es : List Entry) (u a : List ℕ) (o : Option Place)
     → es ≡ entries_at r.tables j → u ≡ on_node r.tree j a

@@ -21,13 +21,13 @@ pub trait Choices {
     /// Whether there is anything to list.
     ghost entered: { Self → Reducts → Bool };
 
-    /// Whether there is anything to list. It counts one look-up.
+    /// Whether there is anything to list. It counts one lookup.
     fn enter<L: Ledger>(&self, reducts: &Reducts, listing: &mut Tally<L>) -> bool
         ensures entered { result ≡ entered self.now reducts.now }
         ensures counted { listing.new ≡ listing.old + 1 };
 
     /// The first tuple to choose at a level; none exactly where there is none. It counts one
-    /// look-up.
+    /// lookup.
     fn first<L: Ledger>(
         &self,
         reducts: &Reducts,

@@ -50,7 +50,7 @@ impl Cursor {
     }
 
     /// Goes on to one answer that is left, which the cursor holds then, and says so; false exactly
-    /// where none is. Each call counts at most two look-ups and links for each variable of the head,
+    /// where none is. Each call counts at most two lookups and links for each variable of the head,
     /// and one.
     pub fn step<L: Ledger>(&mut self, reducts: &Reducts, listing: &mut Tally<L>) -> bool
         requires { Fits reducts.now self.old }
@@ -93,7 +93,7 @@ impl Cursor {
     }
 
     /// Whether an answer is left. The cursor doesn't move. Where it has given nothing a call counts
-    /// one look-up, and later at most one link for each variable of the head.
+    /// one lookup, and later at most one link for each variable of the head.
     pub fn is_left<L: Ledger>(&self, reducts: &Reducts, listing: &mut Tally<L>) -> bool
         requires { Fits reducts.now self.now }
         ensures answers { AreSome (IsAnswerOf reducts.now) (given reducts.now self.now) }

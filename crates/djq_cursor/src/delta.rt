@@ -42,7 +42,7 @@ impl DeltaCursor {
     }
 
     /// Goes on to one changed answer that is left, which the cursor holds then, and says so; false
-    /// exactly where none is. Each call counts at most two look-ups and links for each variable of
+    /// exactly where none is. Each call counts at most two lookups and links for each variable of
     /// the head, and one.
     pub fn step<L: Ledger>(&mut self, reducts: &Reducts, listing: &mut Tally<L>) -> bool
         requires leaf { self.old.leaf < reducts.now.tree.leaves }

@@ -57,7 +57,7 @@ fn has_next<C: Choices, L: Ledger>(
     false
 }
 
-/// Whether an answer is left of a listing. It counts one look-up at the start, and later at most one
+/// Whether an answer is left of a listing. It counts one lookup at the start, and later at most one
 /// link for each variable of the head.
 pub fn is_left_by<C: Choices, L: Ledger>(
     choices: &C,

@@ -2,9 +2,9 @@
 //! Ugarte and Vansummeren 2017).
 //!
 //! A [`Cursor`] gives one answer a call. Each call, the first and the last too, counts at most two
-//! look-ups and links for each variable of the head, and one, however many answers there are and
+//! lookups and links for each variable of the head, and one, however many answers there are and
 //! however many tuples lead nowhere: in reducts none does. [`has`] tells whether a tuple is an
-//! answer, by one look-up an atom at most, and [`Cursor::is_left`] whether a cursor has an answer left,
+//! answer, by one lookup an atom at most, and [`Cursor::is_left`] whether a cursor has an answer left,
 //! without moving it. None takes memory.
 //!
 //! It is no snapshot: a cursor fits reducts only until they change, and doesn't notice a change. It

@@ -11,7 +11,7 @@ use djq_steps::Tally;
 use std::sync::ledger::Ledger;
 
 /// Whether a node isn't in `out`, or its table has the projection of the answer. It counts a
-/// look-up only where the node is in `out`.
+/// lookup only where the node is in `out`.
 fn allows<L: Ledger>(
     reducts: &Reducts,
     node: usize,
@@ -36,7 +36,7 @@ fn allows<L: Ledger>(
         .is_some()
 }
 
-/// Whether a tuple over the head is an answer of the reducts. It counts at most one look-up for
+/// Whether a tuple over the head is an answer of the reducts. It counts at most one lookup for
 /// each atom.
 ///
 /// It looks up the projections on the nodes of `out` that the first stage made. The others follow,

@@ -216,7 +216,7 @@ fn begin<C: Choices, L: Ledger>(
 }
 
 /// Makes one answer more of a listing: true with one that is left, which the cursor holds then, false
-/// exactly where none is. It counts at most two look-ups and links for each variable of the head, and
+/// exactly where none is. It counts at most two lookups and links for each variable of the head, and
 /// one.
 pub fn advance_by<C: Choices, L: Ledger>(
     choices: &C,

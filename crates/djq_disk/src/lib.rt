@@ -18,6 +18,11 @@
 //! told to. Where a growth is refused, it still answers, and tells nothing from then on. [`NoDisk`] keeps
 //! nothing, for a program without a file.
 //!
+//! ```text
+//! synced  a b c d          write e f at 1       what a stop leaves: a ? ? d, of any length from 4 on
+//!                          sync                 what a stop leaves: a e f d
+//! ```
+//!
 //! Two calls serve every disk: [`fill`] reads a whole buffer over short reads, and [`write_down`] writes
 //! a piece and syncs it, after which a stop at any moment has kept everything outside the piece's part.
 //!

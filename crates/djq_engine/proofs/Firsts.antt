@@ -1,4 +1,4 @@
--- What the place of the first that passes tells of look-ups and changes.
+-- What the place of the first that passes tells of lookups and changes.
 use Rattle.std.proofs.Common.{ℕ, zero, suc, List, [], ◌∷◌, ◌++◌, ◌≡◌, ◌<◌, ◌⊎◌, inl, inr, Bool}
 use Rattle.std.proofs.Common.{true, false, refl, ap, ◌∙◌, length, get_or, set, arith, length-append}
 use Rattle.std.specs.Prelude.{None, Some, find, position, cond, map, option_map, nat_lt}
@@ -28,7 +28,7 @@ none_of_position p xs e =
     (ltb-false (position_or_len p xs) (length xs)
     (number_none (nat_lt (position_or_len p xs) (length xs)) (position_or_len p xs) e))
 
--- a first one, and look-ups
+-- a first one, and lookups
 
 pub first_behind : {A : Type 0} (p : A → Bool) (x : A) (xs : List A) (i : ℕ) → IsFirst p (x ∷ xs) (suc i)
     → IsFirst p xs i

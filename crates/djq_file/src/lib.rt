@@ -10,6 +10,13 @@
 //!
 //! What surprises: where a sync failed, what a read gives needn't be on the disk. A caller that goes on
 //! has to open the file anew.
+//!
+//! ```text
+//! open "djq.log"    made where it is absent, locked, its folder synced
+//! open "djq.log"    by a second server: fails, and the count of faults is one more
+//! ```
+//!
+//! How it works inside: each call is one of `std::fs` behind one helper, which counts what failed.
 #![tactic(auto)]
 
 mod file_disk;

@@ -7,8 +7,19 @@
 //!
 //! This crate has the definitions (`specs/`), also of what refuses a query that isn't free-connex,
 //! the types, and [`check_join_tree`], which tells exactly whether a proposed tree is a join tree.
-//! It makes no tree: `djq_gyo` decides whether there is one. The first link's parent is never read,
-//! and a list of no edges has the tree of no links.
+//! It makes no tree: `djq_gyo` decides whether there is one. It isn't for atoms, relations or values
+//! either: a query is nothing but its sets of variables here.
+//!
+//! What surprises: a join tree is a list of links, in which the first link's parent is never read,
+//! and a list of no edges has the tree of no links. That exactly one edge is topmost is asked only of
+//! variables that lie in an edge.
+//!
+//! ```text
+//! 0  x y          a join tree: 0, then 1 below 0, then 2 below 1
+//! 1  y z          y is in 0 and 1, z in 1 and 2: the edges with either hang together
+//! 2  z w
+//! x y, y z, z x   has none: below whichever edge the third one hangs, one variable is cut
+//! ```
 //!
 //! Inside, a set of variables is one word of 128 bits, and contracts see it as the list of its
 //! variables in rising order. Only `var_set` and the lemmas about its words know of bits.

@@ -14,6 +14,12 @@
 //!
 //! A tuple that has to be held is copied into [`Cells`], which stand inline.
 //!
+//! ```text
+//! width 2, key: column 1     groups            insert 4,7: behind 2,7, marked
+//! 1,5   2,7   3,5            5: 1,5  3,5       touch 1,5:  group 5 is 3,5  1,5, the last one marked
+//!                            7: 2,7            clear_marks: the same lists, no marks
+//! ```
+//!
 //! Inside, the tuples are the rows of a `djq_arena`, in the order in which they came or were touched. A
 //! note beside each row has its supports, its mark and the head of its group. The rows of a group are
 //! chained, and a second arena holds the cells of each group's key, beside which the ends of the chain are

@@ -115,7 +115,7 @@ impl Table {
         self.raw.key.as_slice()
     }
 
-    /// Where this tuple lies; none exactly where it is absent. It counts one look-up.
+    /// Where this tuple lies; none exactly where it is absent. It counts one lookup.
     pub fn find<L: Ledger>(&self, tuple: &[u64], tally: &mut Tally<L>) -> Option<Place>
         ensures found { MatchOption result (count_of self.now.entries tuple.now ≡ 0)
             (λ p. IsAt self.now.entries p tuple.now) }
@@ -129,7 +129,7 @@ impl Table {
     }
 
     /// The first of the group with these cells; none exactly where there is no such group. It counts
-    /// one look-up, as `last` does.
+    /// one lookup, as `last` does.
     pub fn first<L: Ledger>(&self, cells: &[u64], tally: &mut Tally<L>) -> Option<Place>
         ensures found { result ≡ head_at (group_of self.now.key self.now.entries cells.now) }
         ensures counted { tally.new ≡ tally.old + 1 }

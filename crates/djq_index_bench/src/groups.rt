@@ -21,7 +21,7 @@ fn first<L: Ledgers>(rt: &HostRuntime, load: &Load, rows: &mut Rows<L>) -> Resul
     Ok(())
 }
 
-/// How long the look-up of one group takes, with two readings of the clock: the shortest of three
+/// How long the lookup of one group takes, with two readings of the clock: the shortest of three
 /// times.
 fn quickest<L: Ledgers>(rt: &HostRuntime, rows: &mut Rows<L>, key: &[u64]) -> Result<Duration> {
     let mut least = Duration::MAX;
@@ -36,7 +36,7 @@ fn quickest<L: Ledgers>(rt: &HostRuntime, rows: &mut Rows<L>, key: &[u64]) -> Re
     Ok(least)
 }
 
-/// The slowest look-up of a group.
+/// The slowest lookup of a group.
 fn slowest<L: Ledgers>(rt: &HostRuntime, load: &Load, rows: &mut Rows<L>) -> Result<()> {
     let mut key = load.key_buffer(rt.alloc())?;
     let mut most = Duration::ZERO;

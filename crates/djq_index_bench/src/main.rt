@@ -15,7 +15,7 @@
 //! What it isn't: nothing is proved of what it prints, and it measures no memory. The bytes are to
 //! be read from outside, as the peak of a run.
 //!
-//! What surprises: look-ups go through the tuples once as they came and once in another order, and
+//! What surprises: lookups go through the tuples once as they came and once in another order, and
 //! the tuples of a group came one by one between those of others, so that neither cells nor links
 //! are met in the order of memory. `fill`, `touch` and `remove` find the tuple first, as every
 //! caller does; a map's calls do so by themselves.

@@ -19,7 +19,7 @@
 //!
 //! Inside, `load` says which tuples there are, `phases` fills and changes, `listing` lists, and
 //! `updates` has the tree and one update from its first call to its last. Its tests compare
-//! listings, deltas and look-ups over random updates with brute force.
+//! listings, deltas and lookups over random updates with brute force.
 #![tactic(auto)]
 
 mod listing;

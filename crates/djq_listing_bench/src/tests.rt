@@ -1,4 +1,4 @@
-//! Listings, deltas and look-ups over random updates, beside brute force.
+//! Listings, deltas and lookups over random updates, beside brute force.
 mod example;
 mod naive;
 mod updates;

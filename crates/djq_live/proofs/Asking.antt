@@ -473,7 +473,7 @@ tells_answer c l m t xs cells false e live suits have are head exact = λ is.
     (sym (head ∙ ap (λ (o : Live). o.numbered.head) e))
     (subst (AreCellsOfAnswer m.reducts m.numbered.head) (sym are) there))))
 
--- a look-up for each leaf is one for each atom
+-- a lookup for each leaf is one for each atom
 pub has_counted : (c : Catalog) (l m : Live) → l ≡ m → IsLive c m
     → l.reducts.tree.leaves ≡ length m.query.atoms
 has_counted c l m e live =

@@ -91,7 +91,7 @@ impl LiveQuery {
     }
 
     /// Reads the cursor in a slot: gives a further answer, or says that none is left, or what made
-    /// it stale. It takes no memory, and counts at most two look-ups and links for each variable of
+    /// it stale. It takes no memory, and counts at most two lookups and links for each variable of
     /// the head, and one.
     pub fn next<L: Ledgers>(
         &mut self,
@@ -150,7 +150,7 @@ impl LiveQuery {
     }
 
     /// Whether a tuple that suits the query's answers is one. It takes no memory, and counts at
-    /// most one look-up for each atom.
+    /// most one lookup for each atom.
     pub fn has<L: Ledgers>(
         &self,
         catalog: &Catalog,

@@ -15,7 +15,7 @@
 //!
 //! What surprises: `Step` is a relation and no function, so it leaves open what the product leaves
 //! open: the order of a query's answers and of a relation's rows, and when memory runs out. Each
-//! step may leave rows in another order. What a step may cost in look-ups and links stands beside
+//! step may leave rows in another order. What a step may cost in lookups and links stands beside
 //! what it queues, and bounds what code counts.
 //!
 //! To read first: `specs/Step.antt`, from `Step` at its end backwards. From there `LineStep.antt`

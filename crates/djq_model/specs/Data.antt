@@ -1,4 +1,4 @@
--- Tests of equality on values, tuples and names, and look-ups by name.
+-- Tests of equality on values, tuples and names, and lookups by name.
 use Rattle.std.specs.Prelude.{ℕ, List, [], ◌∷◌, ◌++◌, Bool, true, false, Option, None, Some}
 use Rattle.std.specs.Prelude.{if◌then◌else◌, find, map, nat_eq, pos}
 use Rattle.std.specs.List.{slice_index_or}

@@ -186,7 +186,7 @@ impl Catalog {
     }
 
     /// A walk over its rows, in the order in which they came. It takes no memory, and counts one
-    /// look-up.
+    /// lookup.
     pub fn rows<L: Ledger>(&self, id: RelationId, tally: &mut Tally<L>) -> Walk<'_>
         requires { id.at < length self.now.relations }
         ensures rest { result ≡ map (cells_of self.now.texts) (rows_at self.now.relations id.at) }
@@ -311,7 +311,7 @@ impl Catalog {
         Ok(())
     }
 
-    /// Whether the row that cells stand for is there. It counts one look-up.
+    /// Whether the row that cells stand for is there. It counts one lookup.
     pub fn has_row<L: Ledger>(&self, id: RelationId, cells: &[u64], tally: &mut Tally<L>) -> bool
         requires { id.at < length self.now.relations }
         ensures has { (row : Tuple) → StandForRow self.now id.at cells.now row
@@ -322,7 +322,7 @@ impl Catalog {
     }
 
     /// How many copies of the row that cells stand for are there; 0 exactly where the row isn't. It
-    /// takes no memory, and counts one look-up.
+    /// takes no memory, and counts one lookup.
     pub fn copies<L: Ledger>(&self, id: RelationId, cells: &[u64], tally: &mut Tally<L>) -> u32
         requires { id.at < length self.now.relations }
         ensures copies { (row : Tuple) → StandForRow self.now id.at cells.now row

@@ -81,7 +81,7 @@ impl Rows {
         self.arena.len()
     }
 
-    /// The slot of a row; none exactly where it is absent. It counts one look-up.
+    /// The slot of a row; none exactly where it is absent. It counts one lookup.
     pub fn find<L: Ledger>(&self, cells: &[u64], tally: &mut Tally<L>) -> Option<u32>
         ensures found { MatchOption result (count_of self.now.entries cells.now ≡ 0)
             (λ slot. IsAt self.now.entries (place slot) cells.now) }
@@ -107,7 +107,7 @@ impl Rows {
         self.arena.find_hashed(cells, code)
     }
 
-    /// The slot of the oldest row. It counts one look-up.
+    /// The slot of the oldest row. It counts one lookup.
     pub fn first<L: Ledger>(&self, tally: &mut Tally<L>) -> Option<u32>
         ensures first { place_of result ≡ head_at self.now.entries }
         ensures counted { tally.new ≡ tally.old + 1 }

@@ -28,7 +28,7 @@ impl<'a> Model for Walk<'a> {
 }
 
 impl<'a> Walk<'a> {
-    /// A walk over all of these rows. It counts one look-up.
+    /// A walk over all of these rows. It counts one lookup.
     pub(crate) fn new<L: Ledger>(rows: &'a Rows, tally: &mut Tally<L>) -> Walk<'a>
         ensures rest { result ≡ tuples_of rows.now.entries }
         ensures counted { tally.new ≡ tally.old + 1 }

@@ -3,7 +3,7 @@ ghost use Rattle.std.specs.Prelude.{◌≡◌, ◌+◌, ◌<◌};
 use std::marker::Model;
 use std::sync::ledger::{Blank, Book, Ledger, Share};
 
-/// What a look-up by key counts.
+/// What a lookup by key counts.
 const LOOKUP: u64 = 1;
 
 /// What a link that is followed counts.
@@ -41,7 +41,7 @@ impl<L: Ledger> Tally<L> {
         Tally { book, share }
     }
 
-    /// Counts a look-up by key.
+    /// Counts a lookup by key.
     #[inline]
     pub fn lookup(&mut self)
         ensures { self.new ≡ self.old + 1 }

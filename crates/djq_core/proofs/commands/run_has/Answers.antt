@@ -1,4 +1,4 @@
--- A reply changes the session's bytes alone, and the look-up costs no more than the machine allows.
+-- A reply changes the session's bytes alone, and the lookup costs no more than the machine allows.
 use Rattle.djq_core.proofs.Replying.{does_has}
 use Rattle.djq_core.proofs.commands.run_has.Goals as goal
 

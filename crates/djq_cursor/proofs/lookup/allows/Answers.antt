@@ -1,4 +1,4 @@
--- The table has the projection exactly where the look-up finds a place, and here the node is in `out`.
+-- The table has the projection exactly where the lookup finds a place, and here the node is in `out`.
 use Rattle.std.proofs.Common.{◌≡◌, ◌∙◌, true, sym, rules}
 use Rattle.std.proofs.lemmas.Bool.{true_from_ne_false}
 use Rattle.djq_tree.specs.Tree.{is_out}
