@@ -27,6 +27,7 @@ pub fn pair_of(links: &Vec<Pair>, slot: u32) -> Pair
     links[slot as usize]
 }
 
+/// Points the way on from a slot, if there is one.
 fn point_on(links: &mut Vec<Pair>, at: Link, to: Link)
     requires { IsWithin (length links.old.items) at }
     ensures { links.new.items ≡ set_next at to links.old.items }

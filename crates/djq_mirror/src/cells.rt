@@ -75,6 +75,7 @@ fn is_printed(alloc: Global, value: &Value, piece: &[u8]) -> Result<bool, NoMem>
     }
 }
 
+/// Whether a piece of a line is this integer as it is printed.
 fn is_integer(number: i64, piece: &[u8]) -> bool
     ensures { result ≡ bytes_eq (signed_decimal number) piece.now }
 {
@@ -82,6 +83,7 @@ fn is_integer(number: i64, piece: &[u8]) -> bool
     buffer.format(number).as_bytes() == piece
 }
 
+/// Whether a piece of a line is this text as it is printed.
 fn is_quoted(alloc: Global, text: &[u8], piece: &[u8]) -> Result<bool, NoMem>
     ensures { IfOk result (λ yes. yes ≡ (is_utf8_of text.now && bytes_eq (quoted text.now) piece.now)) }
 {

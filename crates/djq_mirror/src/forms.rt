@@ -161,6 +161,7 @@ fn is_kind(words: &mut Parts<'_>) -> bool
     }
 }
 
+/// Whether words tell the rest of a leaf: a relation, and its label.
 fn is_leaf(words: &mut Parts<'_>) -> bool
     ensures { result ≡ is_leaf_told words.old }
 {
@@ -170,6 +171,7 @@ fn is_leaf(words: &mut Parts<'_>) -> bool
     }
 }
 
+/// Whether words tell the rest of a trim: its child, and its label.
 fn is_trim(words: &mut Parts<'_>) -> bool
     ensures { result ≡ is_trim_told words.old }
 {
@@ -179,6 +181,7 @@ fn is_trim(words: &mut Parts<'_>) -> bool
     }
 }
 
+/// Whether words tell the rest of a meet: its guard, its side, and its label.
 fn is_meet(words: &mut Parts<'_>) -> bool
     ensures { result ≡ is_meet_told words.old }
 {

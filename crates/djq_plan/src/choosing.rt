@@ -25,6 +25,7 @@ pub(crate) fn choose_step(labels: &[VarSet], keep: VarSet) -> Choice
     choose_twins(labels)
 }
 
+/// The lowest two nodes with equal labels meet; else one that lies within another.
 fn choose_twins(labels: &[VarSet]) -> Choice
     ensures { result ≡ choose_equal labels.now (lowest (λ a. is_some (twin labels.now a)) labels.now) }
 {
@@ -36,6 +37,7 @@ fn choose_twins(labels: &[VarSet]) -> Choice
     choose_covered(labels)
 }
 
+/// The lowest node whose label lies properly within another one meets the lowest such node; else no step applies.
 fn choose_covered(labels: &[VarSet]) -> Choice
     ensures { result ≡ choose_inside labels.now (lowest (λ s. is_some (cover labels.now s)) labels.now) }
 {
@@ -73,12 +75,14 @@ fn find_cover(labels: &[VarSet], place: usize) -> Option<usize>
     None
 }
 
+/// Whether two labels have the same variables.
 fn are_equal(a: VarSet, b: VarSet) -> bool
     ensures { result ≡ (subset a b && subset b a) }
 {
     a.is_subset(b) && b.is_subset(a)
 }
 
+/// Whether a label lies properly within another one.
 fn is_inside(inner: VarSet, outer: VarSet) -> bool
     ensures { result ≡ (subset inner outer && not (subset outer inner)) }
 {

@@ -45,6 +45,7 @@ pub(crate) fn refuse(alloc: Global, edges: &Edges, head: VarSet) -> PlanRefusal
     }
 }
 
+/// The rest of the edges where they have one, else that of the head followed by them.
 fn find_rest(alloc: Global, edges: &Edges, head: VarSet) -> Result<PlanRefusal, AllocError>
     requires { IsFreeConnex edges.now head → ⊥ }
     ensures { IfOk result (λ e. IsRefusal edges.now head e) }

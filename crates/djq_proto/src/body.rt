@@ -78,6 +78,7 @@ fn whole(parts: Parts) -> Result<Body, LineRefusal>
     }
 }
 
+/// Whether a token is a comma.
 fn is_comma(token: &Token<'_>) -> bool
     ensures { result ≡ is_comma_of (lexeme_of token.now) }
 {
@@ -129,6 +130,7 @@ fn with_atom(parts: Parts, relation: Name, terms: Result<Terms, LineRefusal>) ->
     })
 }
 
+/// What was read, and an atom more, unless one of both was refused.
 fn add_atom(
     read: Result<Body, LineRefusal>,
     relation: Name,
@@ -165,6 +167,7 @@ fn with_comparison(
     })
 }
 
+/// What was read, and a comparison more behind the atoms so far, unless one of both was refused.
 fn add_comparison(
     read: Result<Body, LineRefusal>,
     variable: Name,

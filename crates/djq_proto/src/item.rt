@@ -17,6 +17,7 @@ pub(crate) trait Item: Drop {
 
     ghost in_range: { Self → Bool };
 
+    /// The item that a token is.
     fn read(alloc: Global, token: &Token<'_>) -> Result<Self, LineRefusal>
         ensures { ReadsAs in_range (of (lexeme_of token.now)) result };
 }

@@ -39,6 +39,7 @@ fn is_miscompared(comparison: &Comparison, term: &Term, column: ColumnType) -> b
     }
 }
 
+/// Whether a comparison doesn't suit the type of some column of these, where its variable stands.
 fn any_miscompared(comparison: &Comparison, terms: &[Term], columns: &[ColumnType]) -> bool
     ensures { result ≡ any_column (is_miscompared comparison.now) terms.now columns.now }
 {

@@ -32,6 +32,7 @@ fn is_clash(name: &Name, of: ColumnType, term: &Term, column: ColumnType) -> boo
     }
 }
 
+/// Whether a constant is of another type than its column.
 fn any_misfit(terms: &[Term], columns: &[ColumnType]) -> bool
     ensures { result ≡ any_column is_misfit terms.now columns.now }
 {
@@ -43,6 +44,7 @@ fn any_misfit(terms: &[Term], columns: &[ColumnType]) -> bool
     false
 }
 
+/// Whether a variable stands at a column of another type.
 fn any_clash(name: &Name, of: ColumnType, terms: &[Term], columns: &[ColumnType]) -> bool
     ensures { result ≡ any_column (clashes_with name.now of) terms.now columns.now }
 {
@@ -82,6 +84,7 @@ fn is_mixed<R: Relations>(relations: &R, atoms: &[Atom], term: &Term, column: Co
     }
 }
 
+/// Whether a variable among these terms stands at a column of another type too.
 fn any_mixed<R: Relations>(
     relations: &R,
     atoms: &[Atom],

@@ -5,6 +5,7 @@ ghost use Rattle.djq_tree.specs.Levels.{levels};
 use djq_tree::{Node, Tree};
 use std::alloc::{AllocError, Global};
 
+/// Whether a node is a trim.
 fn is_trim(node: Node) -> bool
     ensures { result ≡ is_trim node }
 {

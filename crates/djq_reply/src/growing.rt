@@ -67,6 +67,7 @@ fn put_answer_by_pieces<A: Answered>(answer: &A, out: &mut BytesMut) -> Result<(
     outcome
 }
 
+/// An answer's line value by value, each asking for its own room.
 fn add_answer<A: Answered>(answer: &A, out: &mut BytesMut) -> Result<(), NoMem>
     ensures { Adds out.old out.new (answer_line (A.values answer.now)) result }
 {
@@ -140,6 +141,7 @@ fn put_change_by_pieces<A: Answered>(
     outcome
 }
 
+/// A change's line value by value, each asking for its own room.
 fn add_change<A: Answered>(
     sign: Sign,
     query: &Name,
@@ -163,6 +165,7 @@ fn add_front(sign: Sign, query: &[u8], out: &mut BytesMut) -> Result<(), NoMem>
     Ok(())
 }
 
+/// The sign in front of an answer that came or went, with its space.
 fn sign_text(sign: Sign) -> &'static [u8]
     ensures { result.now ≡ sign_text_of sign }
 {

@@ -54,6 +54,7 @@ fn put_rest(words: &[u8], rest: &NamedRest, out: &mut BytesMut) -> Result<(), No
     outcome
 }
 
+/// A rest behind these words, edge by edge.
 fn add_rest(words: &[u8], rest: &NamedRest, out: &mut BytesMut) -> Result<(), NoMem>
     ensures { Adds out.old out.new (rest_line words.now rest.now) result }
 {

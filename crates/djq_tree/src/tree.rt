@@ -276,6 +276,7 @@ impl Tree {
         Ok(lines)
     }
 
+    /// The line of a node, behind the others.
     fn push_line(
         &self,
         lines: &mut Lines,

@@ -84,6 +84,7 @@ pub(crate) fn read_integer(word: &[u8]) -> Number
     }
 }
 
+/// The integer of this size, where it is within 64 bits.
 fn positive(size: u64) -> Number
     ensures { result ≡ number_of (Some (pos size)) }
 {
@@ -93,6 +94,7 @@ fn positive(size: u64) -> Number
     }
 }
 
+/// The integer below zero of this size, where it is within 64 bits.
 fn negative(size: u64) -> Number
     ensures { result ≡ number_of (Some (minus size)) }
 {
@@ -162,6 +164,7 @@ fn small_at(bytes: &[u8]) -> Option<(i64, usize)>
     }
 }
 
+/// The integer below zero of a size within 64 bits.
 #[inline]
 fn negated(size: u64) -> i64
     requires { size ≤ 9223372036854775807 }

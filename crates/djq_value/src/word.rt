@@ -31,6 +31,7 @@ pub fn read_name(word: &[u8]) -> Option<Name>
     }
 }
 
+/// Whether a word is a name.
 pub fn is_name(word: &[u8]) -> bool
     ensures { result ≡ is_name_of word.now }
 {
@@ -48,12 +49,14 @@ fn is_tail(bytes: &[u8]) -> bool
     all_follow(bytes) && bytes.len() <= MORE_BYTES
 }
 
+/// Whether each of these bytes may stand in a name behind its first.
 fn all_follow(bytes: &[u8]) -> bool
     ensures { result ≡ list_all may_follow_of bytes.now }
 {
     bytes.iter().all(|b| may_follow(*b))
 }
 
+/// Whether a byte is a small letter, as a name begins with.
 fn is_letter(byte: u8) -> bool
     ensures { result ≡ is_lower byte }
 {
