@@ -24,7 +24,8 @@ use Rattle.djq_laws.proofs.Dropping.{later as rises}
 use Rattle.djq_laws.proofs.Heading.{headline, walk_spares, none_pending}
 use Rattle.djq_laws.proofs.Sending.{gone_taken, next_runs, run_bytes}
 use Rattle.djq_serve.specs.declared.served.Served.{Served}
-use Rattle.djq_serve.specs.Told.{Shown, sent_to}
+use Rattle.djq_io.specs.Calls.{sent_to}
+use Rattle.djq_serve.specs.Told.{Shown}
 use Rattle.djq_serve.specs.Server.{all_told, all_done}
 use Rattle.djq_serve.specs.Ends.{RunsThrough, ServeEnds}
 use Rattle.djq_follow.specs.declared.command.Mirrored.{Mirrored}

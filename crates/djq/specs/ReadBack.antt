@@ -9,7 +9,7 @@ use Rattle.djq_machine.specs.Call.{Counts}
 use Rattle.djq_laws.specs.Course.{Outside}
 use Rattle.djq_laws.specs.Given.{PassedThrough}
 use Rattle.djq_run.specs.declared.status.Status.{Status}
-use Rattle.djq_serve.specs.Told.{sent_to}
+use Rattle.djq_io.specs.Calls.{sent_to}
 use Rattle.djq_serve.specs.Server.{all_told, all_done}
 use Rattle.djq_serve.specs.Ends.{RunsThrough}
 use Rattle.djq_told.specs.Whole.{ReadsSinceOpened}

@@ -2,18 +2,13 @@
 use Rattle.std.specs.Prelude.{List, All, Contains}
 use Rattle.djq_model.specs.declared.relation.Relation.{Relation}
 use Rattle.djq_model.specs.declared.query.Query.{Query}
-use Rattle.djq_model.specs.declared.query.Atom.{Atom}
-use Rattle.djq_model.specs.declared.query.Term.TheVariants.{Variable}
 use Rattle.djq_model.specs.Data.{Bytes, Tuple}
 use Rattle.djq_model.specs.Answer.{IsListing}
 use Rattle.djq_model.specs.Listed.{Listed, a_query, a_union, AnswersOf}
+use Rattle.djq_lines.specs.Variables.{IsInBody}
 use Rattle.djq_machine.specs.Delta.{Change, IsDelta}
 
--- A variable stands in an atom of a query.
-abbrev pub IsInBody : Bytes → Query → Type 0
-IsInBody x q = (a : Atom) × Contains q.atoms a × Contains a.terms (Variable x)
-
--- Each variable of the head does.
+-- Each variable of the head stands in an atom.
 abbrev pub IsBound : Query → Type 0
 IsBound q = (x : Bytes) → Contains q.head x → IsInBody x q
 

@@ -5,6 +5,7 @@ pub mod Source
 pub mod Sink
 pub mod Written
 pub mod Hub
+pub mod Calls
 pub mod Script
 pub mod Sessions
 pub mod SessionsInside

@@ -1,5 +1,6 @@
 -- The variables of a query's body.
 use Rattle.std.specs.Prelude.{ℕ, suc, List, [], ◌∷◌, ◌++◌, ◌==◌, Bool, false, nat_le, Option, None, Some, if◌then◌else◌}
+use Rattle.std.specs.Prelude.{Contains}
 use Rattle.std.specs.List.{list_any, fold, flat_map}
 use Rattle.djq_model.specs.declared.query.Query.{Query}
 use Rattle.djq_model.specs.declared.query.Atom.{Atom}
@@ -17,6 +18,10 @@ is_variable x (Constant v) = false
 -- whether this variable stands in an atom
 abbrev pub stands_in : List Atom → Bytes → Bool
 stands_in atoms x = list_any (λ a. list_any (is_variable x) a.terms) atoms
+
+-- A variable stands in an atom of a query.
+abbrev pub IsInBody : Bytes → Query → Type 0
+IsInBody x q = (a : Atom) × Contains q.atoms a × Contains a.terms (Variable x)
 
 -- A variable by its name; a hole is a variable without one.
 abbrev pub Label : Type 0

@@ -1,15 +1,9 @@
 -- The variables of a query's body.
 use Rattle.std.specs.Prelude.{Contains}
-use Rattle.djq_model.specs.declared.query.Query.{Query}
-use Rattle.djq_model.specs.declared.query.Atom.{Atom}
-use Rattle.djq_model.specs.declared.query.Term.TheVariants.{Variable}
 use Rattle.djq_model.specs.Data.{Bytes}
+use Rattle.djq_lines.specs.Variables.{IsInBody}
 use Rattle.djq_rows.specs.Catalog.{Catalog}
 use Rattle.djq_live.specs.Live.{Live, IsKept}
-
--- an atom has the variable
-abbrev pub IsInBody : Bytes → Query → Type 0
-IsInBody x q = (a : Atom) × Contains q.atoms a × Contains a.terms (Variable x)
 
 -- A query that is kept has each variable of its head in an atom.
 abbrev pub HeadsAreBound : Type 0

@@ -15,7 +15,8 @@ use Rattle.djq_lines.specs.declared.limits.TheConstants.{ROWS}
 use Rattle.djq_machine.specs.State.{State, Session, Cursor, open_at, session_of, cursor_of, opening}
 use Rattle.djq_machine.specs.Call.{Counts, held_of}
 use Rattle.djq_machine.specs.Gives.{Gives, PositionGives, CursorsGive}
-use Rattle.djq_deltas.specs.Finite.{IsBound, IsInBody}
+use Rattle.djq_lines.specs.Variables.{IsInBody}
+use Rattle.djq_deltas.specs.Finite.{IsBound}
 use Rattle.djq_deltas.proofs.Lists.{nothing_there, first_or_later, first_there, later_there}
 use Rattle.djq_deltas.proofs.Choosing.{answers_are_bounded}
 use Rattle.djq_laws.proofs.Changing.{all_found}

@@ -12,9 +12,9 @@ use Rattle.djq_model.specs.declared.relation.ColumnType.TheVariants.{Int as IntC
 use Rattle.djq_model.specs.declared.query.Term.{Term}
 use Rattle.djq_model.specs.declared.query.Term.TheVariants.{Variable, Hole, Constant}
 use Rattle.djq_value.specs.Token.{Token, word, text, open_paren, close_paren, comma, arrow, operator, stray}
-use Rattle.djq_value.specs.Literal.{integer_of, is_name, literal_of}
+use Rattle.djq_value.specs.Literal.{integer_of, is_name, literal_of, IsName}
 use Rattle.djq_lines.specs.Grammar.{all_of, in_front, list_in, more_in, name_of, put_first, term_of, type_of}
-use Rattle.djq_proto.specs.Saying.{IsName, SaysName, SaysTerm, SaysType, SaysValue, list_tokens, more_tokens}
+use Rattle.djq_proto.specs.Saying.{SaysName, SaysTerm, SaysType, SaysValue, list_tokens, more_tokens}
 use Rattle.djq_proto.proofs.Numerals.{integer_from, integer_no_name, integer_said}
 use Rattle.djq_value.proofs.Literals.{map_some}
 

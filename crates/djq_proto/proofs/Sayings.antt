@@ -84,7 +84,7 @@ use Rattle.djq_lines.specs.declared.keyword.Keyword.TheVariants.{
   Stop as StopWord,
 }
 use Rattle.djq_value.specs.Token.{Token, word, text, open_paren, close_paren, comma, arrow, operator, stray}
-use Rattle.djq_value.specs.Literal.{is_name, literal_of, natural_of}
+use Rattle.djq_value.specs.Literal.{is_name, literal_of, natural_of, IsName}
 use Rattle.djq_lines.specs.Grammar.{
   all_of,
   Body,
@@ -123,24 +123,7 @@ use Rattle.djq_lines.specs.Grammar.{
   two_names,
   type_of,
 }
-use Rattle.djq_proto.specs.Saying.{
-  IsName,
-  Says,
-  SaysAtom,
-  SaysBody,
-  SaysItem,
-  SaysItems,
-  SaysName,
-  SaysOne,
-  SaysQuery,
-  SaysRow,
-  SaysTerm,
-  SaysType,
-  SaysValue,
-  atoms_among,
-  comparisons_among,
-  list_tokens,
-}
+use Rattle.djq_proto.specs.Saying.{Says, SaysAtom, SaysBody, SaysItem, SaysItems, SaysName, SaysOne, SaysQuery, SaysRow, SaysTerm, SaysType, SaysValue, atoms_among, comparisons_among, list_tokens}
 use Rattle.djq_proto.proofs.Bodies.{items_in-step}
 use Rattle.djq_proto.proofs.Numerals.{guard_some, numeral_from, numeral_said}
 use Rattle.djq_value.proofs.Literals.{map_some}

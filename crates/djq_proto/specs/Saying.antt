@@ -55,12 +55,8 @@ use Rattle.djq_lines.specs.declared.command.Command.TheVariants.{
   Stop,
 }
 use Rattle.djq_value.specs.Token.{Token, word, text, open_paren, close_paren, comma, arrow, operator}
-use Rattle.djq_value.specs.Literal.{is_digit, is_name}
+use Rattle.djq_value.specs.Literal.{is_digit, IsName}
 use Rattle.djq_lines.specs.Grammar.{Item, atom, comparison, past_item}
-
--- a letter, then letters, digits and `_`, 32 bytes at most
-abbrev pub IsName : Bytes → Type 0
-IsName w = is_name w ≡ true
 
 -- what digits denote in base ten
 abbrev pub decimal : Bytes → ℕ

@@ -9,7 +9,8 @@ use Rattle.djq_io.specs.declared.hub.Sent.{Sent}
 use Rattle.djq_io.specs.declared.hub.Told.{Told}
 use Rattle.djq_io.specs.declared.hub.Told.TheVariants.{Listening, Turning, Sending, Closing}
 use Rattle.djq_model.specs.Data.{Bytes}
-use Rattle.djq_schedule.specs.Sent.{ended_lines, begun_line, sent_by, sent_to, ended_by, text_behind, sent_text}
+use Rattle.djq_io.specs.Calls.{sent_by, sent_to}
+use Rattle.djq_schedule.specs.Sent.{ended_lines, begun_line, ended_by, text_behind, sent_text}
 
 -- the text of one call more
 text_more : (earlier told : List Told) (t : Told) → text_behind earlier (told ++ t ∷ [])

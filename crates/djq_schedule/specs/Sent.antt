@@ -2,7 +2,7 @@
 -- first that is outside the grammar.
 use Rattle.std.specs.Prelude.{ℕ, List, [], ◌∷◌, ◌++◌, ◌==◌, if◌then◌else◌, codes}
 use Rattle.std.specs.Fmt.{decimal}
-use Rattle.std.specs.List.{flat_map}
+use Rattle.djq_io.specs.Calls.{sent_to}
 use Rattle.djq_io.specs.declared.hub.Told.{Told}
 use Rattle.djq_io.specs.declared.hub.Told.TheVariants.{Sending}
 use Rattle.djq_model.specs.Data.{Bytes}
@@ -22,15 +22,6 @@ abbrev pub begun_line : Bytes → Bytes → Bytes
 begun_line begun [] = begun
 begun_line begun (b ∷ bytes) = if b == 10 then begun_line [] bytes
     else begun_line (begun ++ b ∷ []) bytes
-
--- the bytes that a call sends to a session: those that the hub took
-abbrev pub sent_by : ℕ → Told → Bytes
-sent_by s (Sending t offered sent taken) = if t == s then taken else []
-sent_by s _ = []
-
--- all bytes that are sent to a session
-abbrev pub sent_to : ℕ → List Told → Bytes
-sent_to s told = flat_map (λ t. sent_by s t) told
 
 -- the lines that end in what a call sends, behind these calls
 abbrev pub ended_by : List Told → Told → Bytes

@@ -22,7 +22,7 @@ use Rattle.djq_laws.specs.Sent.{opened_by, all_opened}
 use Rattle.djq_laws.proofs.Courses.{walk_then}
 use Rattle.djq_laws.proofs.Finding.{some_there}
 use Rattle.djq_serve.specs.declared.served.Served.TheVariants.{TurnsUsed, DiskFault, LogFull}
-use Rattle.djq_serve.specs.Told.{sent_by, sent_to}
+use Rattle.djq_io.specs.Calls.{sent_by, sent_to}
 use Rattle.djq_serve.specs.Server.{Next, more_lines, next_turn, Phase, waiting, lines, keeping}
 use Rattle.djq_serve.specs.Server.{flushing, closing, Server, Move, all_told, all_done, Happens}
 use Rattle.djq_serve.specs.Server.{Stays, LetsIn, Brings, may_run, SendsSome, Visits, after}

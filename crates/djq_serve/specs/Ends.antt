@@ -13,7 +13,8 @@ use Rattle.djq_laws.specs.Lines.{TakesInOrder}
 use Rattle.djq_laws.specs.Sent.{all_dropped, all_opened}
 use Rattle.djq_serve.specs.declared.served.Served.{Served}
 use Rattle.djq_serve.specs.declared.served.Served.TheVariants.{Stopped, Over, TurnsUsed, HubFault}
-use Rattle.djq_serve.specs.Told.{Shown, sent_to, has_over, has_failed}
+use Rattle.djq_io.specs.Calls.{sent_to}
+use Rattle.djq_serve.specs.Told.{Shown, has_over, has_failed}
 use Rattle.djq_serve.specs.Server.{Move, waiting, closing, server, all_told, all_done}
 use Rattle.djq_serve.specs.Goes.{far, seen, Goes}
 

@@ -1,6 +1,6 @@
 -- What a hub tells of its calls, and what is sent, turned and failed among them.
-use Rattle.std.specs.Prelude.{ℕ, List, [], ◌==◌, ◌≡◌, Bool, true, false, Option, sum_by, length, if◌then◌else◌}
-use Rattle.std.specs.List.{flat_map, list_any}
+use Rattle.std.specs.Prelude.{ℕ, List, ◌≡◌, Bool, true, false, Option, sum_by, length}
+use Rattle.std.specs.List.{list_any}
 use Rattle.djq_io.specs.Sink.{Gains}
 use Rattle.djq_io.specs.Hub.{Ids, Turns, brought, without}
 use Rattle.djq_io.specs.Script.{Script, WhereTold, Follows, Sends}
@@ -58,15 +58,6 @@ pub record Tells (old new : Shown) (told : List Told) : Type 0 where
   pub ids : Walk Shows old.ids told new.ids
   pub played : WhereTold old.script new.script
       (λ a b. Walk IsAnswered (place a old.ids) told (place b new.ids))
-
--- the bytes that a call sends to a session: those that the hub took
-abbrev pub sent_by : ℕ → Told → Bytes
-sent_by s (Sending t offered sent taken) = if t == s then taken else []
-sent_by s _ = []
-
--- all bytes that are sent to a session
-abbrev pub sent_to : ℕ → List Told → Bytes
-sent_to s told = flat_map (λ t. sent_by s t) told
 
 -- a test of the turns among calls
 abbrev pub by_turn : (Turn → Bool) → Told → Bool

@@ -24,7 +24,8 @@ use Rattle.djq_machine.specs.declared.machine.Loaded.TheVariants.{Ran as ran}
 use Rattle.djq_machine.specs.Loading.{Loading, loading, StoreLoads, CommandLoads, HoldsLoaded, ReadingLoads, LoadStep}
 use Rattle.djq_machine.proofs.Walks.{walk_keeps}
 use Rattle.djq_told.specs.Loaded.{LoadedAreSayable}
-use Rattle.djq_told.specs.Sayable.{IsName, IsSayableRow, IsSayableStore, IsSayableHeld}
+use Rattle.djq_value.specs.Literal.{IsName}
+use Rattle.djq_told.specs.Sayable.{IsSayableRow, IsSayableStore, IsSayableHeld}
 use Rattle.djq_told.proofs.Reading.{IsSayableCommand, read_sayable}
 use Rattle.djq_told.proofs.Sayable.{opening_is_sayable}
 use Rattle.djq_told.proofs.Storing.{

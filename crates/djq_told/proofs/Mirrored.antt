@@ -46,7 +46,8 @@ use Rattle.djq_laws.proofs.Giving.{step_gives}
 use Rattle.djq_laws.proofs.Queueing.{gaining, session_changed, stepped_cause, stepped as stepped_session}
 use Rattle.djq_laws.proofs.Sounding.{step_sound}
 use Rattle.djq_laws.proofs.Touching.{said}
-use Rattle.djq_told.specs.Sayable.{IsName, IsSayableRow, IsSayableListed, IsSayablePosition}
+use Rattle.djq_value.specs.Literal.{IsName}
+use Rattle.djq_told.specs.Sayable.{IsSayableRow, IsSayableListed, IsSayablePosition}
 use Rattle.djq_told.specs.Sayable.{IsSayableCursor, IsSayableSession, IsSayableState}
 use Rattle.djq_told.specs.Told.{replies_text, is_told_of}
 use Rattle.djq_told.specs.Mirrored.{Passes, Shows, MayBeSaid, MayBeRead, ReadsOnly, ReadsAlong}

@@ -30,7 +30,7 @@ use Rattle.djq_model.specs.declared.query.Term.TheVariants.{Variable, Hole, Cons
 use Rattle.djq_model.specs.declared.query.Atom.{Atom}
 use Rattle.djq_model.specs.declared.query.Comparison.{Comparison}
 use Rattle.djq_model.specs.declared.query.Query.{Query}
-use Rattle.djq_value.specs.Literal.{is_small_value}
+use Rattle.djq_value.specs.Literal.{is_small_value, IsName}
 use Rattle.djq_value.specs.Token.{Token, comma, arrow}
 use Rattle.djq_value.specs.Spelling.{IsSpelling}
 use Rattle.djq_lines.specs.declared.limits.TheConstants.{LINE_BYTES}
@@ -85,15 +85,7 @@ use Rattle.djq_proto.specs.Saying.{
   comparisons_among,
 }
 use Rattle.djq_proto.proofs.Spelled.{commands_are_spelled}
-use Rattle.djq_told.specs.Sayable.{
-  IsName,
-  IsSayableValue,
-  IsSayableRow,
-  IsSayableTerm,
-  IsSayableAtom,
-  IsSayableComparison,
-  IsSayableQuery,
-}
+use Rattle.djq_told.specs.Sayable.{IsSayableValue, IsSayableRow, IsSayableTerm, IsSayableAtom, IsSayableComparison, IsSayableQuery}
 use Rattle.djq_told.proofs.Lengths.{query_weight, query_less}
 use Rattle.djq_told.proofs.Utf8.{HaveUtf8, texts_have_utf8}
 

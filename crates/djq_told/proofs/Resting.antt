@@ -25,7 +25,8 @@ use Rattle.djq_lines.specs.Rest.{is_before, IsNamedRest}
 use Rattle.djq_lines.specs.Variables.{Label, is_named, is_known, with_term, with_terms, with_atom, variables_of}
 use Rattle.djq_mirror.specs.Replies.{joined, is_variable, is_label, is_edge, is_rest}
 use Rattle.djq_deltas.proofs.Lists.{nothing_there, first_or_later, first_there, hold_each}
-use Rattle.djq_told.specs.Sayable.{IsName, IsSayableTerm, IsSayableAtom, IsSayableQuery}
+use Rattle.djq_value.specs.Literal.{IsName}
+use Rattle.djq_told.specs.Sayable.{IsSayableTerm, IsSayableAtom, IsSayableQuery}
 use Rattle.djq_told.proofs.Lengths.{name_weight, term_weight, atom_weight, query_weight}
 use Rattle.djq_told.proofs.Weighing.{total, weighs_less, leads_less, leads_hold, set_weight, set_less_than}
 

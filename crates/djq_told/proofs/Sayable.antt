@@ -162,21 +162,8 @@ use Rattle.djq_deltas.proofs.Cases.{some_there}
 use Rattle.djq_laws.proofs.Forms.{add_does, command_does, Reads, turned_down, carried_out, line_reads}
 use Rattle.djq_laws.proofs.Queueing.{session_changed}
 use Rattle.djq_laws.proofs.Changing.{all_changed, all_found, all_dropped, all_mapped}
-use Rattle.djq_told.specs.Sayable.{
-  IsName,
-  IsSayableRow,
-  IsSayableRelation,
-  IsSayableListed,
-  IsSayableStore,
-  IsSayablePosition,
-  IsSayableCursor,
-  IsSayableHeld,
-  IsSayableSession,
-  IsSayableState,
-  RunsKeepSayable,
-  OpeningIsSayable,
-  StatesAreSayable,
-}
+use Rattle.djq_value.specs.Literal.{IsName}
+use Rattle.djq_told.specs.Sayable.{IsSayableRow, IsSayableRelation, IsSayableListed, IsSayableStore, IsSayablePosition, IsSayableCursor, IsSayableHeld, IsSayableSession, IsSayableState, RunsKeepSayable, OpeningIsSayable, StatesAreSayable}
 use Rattle.djq_told.proofs.Reading.{IsSayableCommand, read_sayable}
 use Rattle.djq_told.proofs.Keeping.{change_keeps}
 use Rattle.djq_told.proofs.Storing.{

@@ -138,17 +138,8 @@ use Rattle.djq_deltas.proofs.Growing.{none_any}
 use Rattle.djq_laws.proofs.Members.{under_names, under_registered}
 use Rattle.djq_laws.proofs.Apart.{without_dropped}
 use Rattle.djq_laws.proofs.Containing.{mapped_from}
-use Rattle.djq_told.specs.Sayable.{
-  IsName,
-  IsSayableValue,
-  IsSayableRow,
-  IsSayableRelation,
-  IsSayableQuery,
-  IsAskable,
-  IsSayableListed,
-  IsSayableHeld,
-  IsSayableStore,
-}
+use Rattle.djq_value.specs.Literal.{IsName}
+use Rattle.djq_told.specs.Sayable.{IsSayableValue, IsSayableRow, IsSayableRelation, IsSayableQuery, IsAskable, IsSayableListed, IsSayableHeld, IsSayableStore}
 use Rattle.djq_deltas.proofs.Cases.{not_false}
 use Rattle.std.proofs.lemmas.Nat.{mul-le}
 

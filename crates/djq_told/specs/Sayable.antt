@@ -9,19 +9,15 @@ use Rattle.djq_model.specs.declared.query.Term.TheVariants.{Variable, Hole, Cons
 use Rattle.djq_model.specs.declared.query.Atom.{Atom}
 use Rattle.djq_model.specs.declared.query.Comparison.{Comparison}
 use Rattle.djq_model.specs.declared.query.Query.{Query}
-use Rattle.djq_model.specs.Data.{Bytes, Tuple, tuples_in}
+use Rattle.djq_model.specs.Data.{Tuple, tuples_in}
 use Rattle.djq_model.specs.Listed.{Listed, a_query, a_union}
-use Rattle.djq_value.specs.Literal.{is_name, is_small_value}
+use Rattle.djq_value.specs.Literal.{IsName, is_small_value}
 use Rattle.djq_lines.specs.declared.limits.TheConstants.{LAST_SEQ, ATOMS, HEAD_VARIABLES}
 use Rattle.djq_lines.specs.declared.held.HeldRow.{HeldRow}
 use Rattle.djq_deltas.specs.Finite.{IsBound}
 use Rattle.djq_machine.specs.State.{Store, State, Session, Cursor, Position, open_at, stale, opening}
 use Rattle.djq_machine.specs.Run.{Did, Run}
 use Rattle.djq_laws.specs.Sound.{IsStart}
-
--- a name
-abbrev pub IsName : Bytes → Type 0
-IsName n = is_name n ≡ true
 
 -- A text is of UTF-8; nothing is said of an integer.
 abbrev pub HasUtf8 : Value → Type 0

@@ -1,6 +1,6 @@
 -- What a word may be: a name, an integer; and which literals are within their limit.
 use Rattle.std.specs.Prelude.{ℕ, ℤ, pos, negsuc, List, [], ◌∷◌, ◌==◌, ◌+◌, ◌-◌, ◌*◌, ◌&&◌, ◌||◌}
-use Rattle.std.specs.Prelude.{Bool, true, false, not, nat_le, Option, None, Some, if◌then◌else◌}
+use Rattle.std.specs.Prelude.{◌≡◌, Bool, true, false, not, nat_le, Option, None, Some, if◌then◌else◌}
 use Rattle.std.specs.Prelude.{option_map, length}
 use Rattle.std.specs.List.{list_all, list_any}
 use Rattle.djq_model.specs.declared.value.Value.{Value}
@@ -21,6 +21,10 @@ is_digit b = nat_le 48 b && nat_le b 57
 abbrev pub is_name : Bytes → Bool
 is_name [] = false
 is_name (b ∷ bs) = is_lower b && (list_all (λ c. is_lower c || is_digit c || c == 95) bs && nat_le (length bs) 31)
+
+-- a name
+abbrev pub IsName : Bytes → Type 0
+IsName n = is_name n ≡ true
 
 -- the number that digits denote, behind others that denote n
 abbrev pub digits_value : ℕ → Bytes → ℕ
