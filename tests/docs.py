@@ -1,5 +1,6 @@
 #!/usr/bin/env python3
-"""Holds the pages against what they speak of: paths, names, sessions, the table of crates, the kit's line.
+"""Holds the pages against what they speak of: paths, names, sessions, the table of crates, the kit's line; and that no two
+definitions have one name.
 
     tests/docs.py PATH_TO_DJQ
 
@@ -189,6 +190,23 @@ def shown_sessions(program):
                   + "\n  ".join(f"{a!r} is shown, {b!r} came" for a, b in zip(in_any_order(answered), in_any_order(got)) if a != b))
 
 
+# Definitions
+
+
+DEFINITION = re.compile(r"^(?!pub use)(?:(?:abbrev|unfoldable|record|data|pub) )+([^\s:(){}]+)", re.MULTILINE)
+
+
+def definitions():
+    """Each name is that of one definition, in whatever crate."""
+    homes = {}
+    for path in sorted(glob.glob(os.path.join(ROOT, "crates", "*", "specs", "*.antt"))):
+        if os.path.basename(path) != "Lib.antt":
+            for name in DEFINITION.findall(read(path)):
+                homes.setdefault(name, []).append(os.path.relpath(path, os.path.join(ROOT, "crates")))
+    for name, files in homes.items():
+        check(len(files) == 1, f"{name} is defined {len(files)} times: {', '.join(files)}")
+
+
 # The crates, the kit, the size of the front page
 
 
@@ -233,6 +251,7 @@ def main():
         raise SystemExit(__doc__)
     paths()
     names()
+    definitions()
     shown_sessions(os.path.abspath(sys.argv[1]))
     crates()
     kit()
