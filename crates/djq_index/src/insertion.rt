@@ -16,7 +16,6 @@ use crate::heads::{cell_at, join, new_head, project};
 use crate::marking::with_slot;
 use crate::place::Place;
 use crate::raw::{Note, Raw, set_note};
-use crate::removing::withdraw;
 use djq_arena::{Arena, Ends, hash_of};
 use std::alloc::AllocError;
 
@@ -156,7 +155,8 @@ pub fn insert_keyed(raw: &mut Raw, tuple: &[u64], marked: bool) -> Result<Place,
         tuple,
     ) {
         Err(e) => {
-            withdraw(&mut raw.rows, slot);
+            raw.rows.remove(slot);
+            raw.rows.laws();
             Err(e)
         }
         Ok(head) => {

@@ -68,7 +68,7 @@ returns-in_err-slot-clause-refused c =
 pub returns-in-Err-clause-raw : goal.returns-in-Err-clause-raw
 returns-in-Err-clause-raw c =
     let b : Raw = record c.args.raw.now {
-      rows = c.withdraw.new.rows;
+      rows = c.remove.new.self;
       notes = c.append_linked_row.new.notes;
       links = c.append_linked_row.new.links;
       keys = c.find_or_make_head.new.keys;
@@ -78,16 +78,16 @@ returns-in-Err-clause-raw c =
     let r : Refuses c.args.raw.now b = record {
       kind = refl;
       key = refl;
-      rows_law = c.withdraw.ensures.rows;
-      width = c.withdraw.ensures.width
+      rows_law = c.laws.ensures;
+      width = c.remove.ensures.width
           ∙ c.in_ok-slot.ensures.laid.width;
-      rows = c.withdraw.ensures.removed c.args.raw.now.rows.rows
+      rows = c.remove.ensures.removed c.args.raw.now.rows.rows
           (record {
             slot = c.in_ok-slot.slot;
             cells = c.args.tuple.now;
           }) [] c.in_ok-slot.ensures.laid.laid refl
           ∙ append-nil c.args.raw.now.rows.rows;
-      room_notes = rw c.withdraw.ensures.room c.in_ok-slot.ensures.laid.room_notes;
+      room_notes = rw c.remove.ensures.room c.in_ok-slot.ensures.laid.room_notes;
       same_notes = c.in_ok-slot.ensures.laid.same_notes;
       marked = refl;
     } in
@@ -96,7 +96,7 @@ returns-in-Err-clause-raw c =
 pub returns-in-Err-clause-heads : goal.returns-in-Err-clause-heads
 returns-in-Err-clause-heads c =
     let b : Raw = record c.args.raw.now {
-      rows = c.withdraw.new.rows;
+      rows = c.remove.new.self;
       notes = c.append_linked_row.new.notes;
       links = c.append_linked_row.new.links;
       keys = c.find_or_make_head.new.keys;
@@ -106,21 +106,21 @@ returns-in-Err-clause-heads c =
     let r : Refuses c.args.raw.now b = record {
       kind = refl;
       key = refl;
-      rows_law = c.withdraw.ensures.rows;
-      width = c.withdraw.ensures.width
+      rows_law = c.laws.ensures;
+      width = c.remove.ensures.width
           ∙ c.in_ok-slot.ensures.laid.width;
-      rows = c.withdraw.ensures.removed c.args.raw.now.rows.rows
+      rows = c.remove.ensures.removed c.args.raw.now.rows.rows
           (record {
             slot = c.in_ok-slot.slot;
             cells = c.args.tuple.now;
           }) [] c.in_ok-slot.ensures.laid.laid refl
           ∙ append-nil c.args.raw.now.rows.rows;
-      room_notes = rw c.withdraw.ensures.room c.in_ok-slot.ensures.laid.room_notes;
+      room_notes = rw c.remove.ensures.room c.in_ok-slot.ensures.laid.room_notes;
       same_notes = c.in_ok-slot.ensures.laid.same_notes;
       marked = refl;
     } in
     let h : RefusesHead c.args.raw.now b = record {
-      room_links = rw c.withdraw.ensures.room
+      room_links = rw c.remove.ensures.room
           c.in_ok-slot.ensures.links;
       same_links = c.in_ok-slot.ensures.same_links;
       keys_law = c.in-Err.ensures.rows;
@@ -134,7 +134,7 @@ returns-in-Err-clause-heads c =
 pub returns-in-Err-clause-refused : goal.returns-in-Err-clause-refused
 returns-in-Err-clause-refused c =
     let b : Raw = record c.args.raw.now {
-      rows = c.withdraw.new.rows;
+      rows = c.remove.new.self;
       notes = c.append_linked_row.new.notes;
       links = c.append_linked_row.new.links;
       keys = c.find_or_make_head.new.keys;
@@ -144,16 +144,16 @@ returns-in-Err-clause-refused c =
     let r : Refuses c.args.raw.now b = record {
       kind = refl;
       key = refl;
-      rows_law = c.withdraw.ensures.rows;
-      width = c.withdraw.ensures.width
+      rows_law = c.laws.ensures;
+      width = c.remove.ensures.width
           ∙ c.in_ok-slot.ensures.laid.width;
-      rows = c.withdraw.ensures.removed c.args.raw.now.rows.rows
+      rows = c.remove.ensures.removed c.args.raw.now.rows.rows
           (record {
             slot = c.in_ok-slot.slot;
             cells = c.args.tuple.now;
           }) [] c.in_ok-slot.ensures.laid.laid refl
           ∙ append-nil c.args.raw.now.rows.rows;
-      room_notes = rw c.withdraw.ensures.room c.in_ok-slot.ensures.laid.room_notes;
+      room_notes = rw c.remove.ensures.room c.in_ok-slot.ensures.laid.room_notes;
       same_notes = c.in_ok-slot.ensures.laid.same_notes;
       marked = refl;
     } in
