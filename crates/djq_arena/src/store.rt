@@ -1,11 +1,10 @@
-ghost use Rattle.std.specs.Prelude.{◌≡◌, ◌≢◌, ◌+◌, ◌*◌, ◌<◌, ◌≤◌, ◌++◌, [], length, take, drop};
+ghost use Rattle.std.specs.Prelude.{◌≡◌, ◌+◌, ◌*◌, ◌<◌, ◌≤◌, ◌++◌, length, take, drop};
 ghost use Rattle.std.specs.Prelude.{Some, None, ℕ, IfOk, OnErr, slice_set, replicate, IsTrue, ◌↔◌};
 ghost use Rattle.std.specs.Prelude.{MatchOption, List, vec_len, vec_capacity};
 ghost use Rattle.djq_arena.specs.Rows.{slots, IsAbsent, IsRow};
 ghost use Rattle.djq_arena.specs.Store.{mixed, hash, class, cells_at, AreListed, IsPrepared, IsPut};
 ghost use Rattle.djq_arena.specs.Store.{IsRenewed, IsSound, IsLoose, IsLinked, IsUnlinked};
-ghost use Rattle.djq_arena.specs.Store.{IsSame, IsReleased, IsTidy, HasRoom, Holds, live_of};
-ghost use Rattle.djq_arena.specs.Store.{rows_of};
+ghost use Rattle.djq_arena.specs.Store.{IsSame, IsReleased, HasRoom, Holds, live_of, rows_of};
 ghost use Rattle.djq_arena.specs.Buckets.{link_at, Stands, IsBehind, IsUnlisted};
 ghost use Rattle.djq_arena.specs.declared.link.TheConstants.{SLOTS};
 

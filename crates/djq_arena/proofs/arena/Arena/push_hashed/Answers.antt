@@ -13,14 +13,14 @@ put_fresh-requires-clause-few c =
 
 pub invariant_of-self : goal.invariant_of-self
 invariant_of-self c =
-    let put = puts c.self.inside.store c.reuse.new.store c.link.new.store c.in-Some.slot c.args.cells.now c.reuse.ensures.prepared
-    c.link.ensures.linked in
+    let put = puts c.self.inside.store c.reuse.new.store c.link.new.store c.in-Some.slot c.args.cells.now
+    c.reuse.ensures.prepared c.link.ensures.linked in
     (put.sound, put.tidy c.self.invariant.1)
 
 pub returns-in-Some-clause-pushed : goal.returns-in-Some-clause-pushed
 returns-in-Some-clause-pushed c = rw (← c.self.view_is)
-    (puts c.self.inside.store c.reuse.new.store c.link.new.store c.in-Some.slot c.args.cells.now c.reuse.ensures.prepared
-    c.link.ensures.linked).rows
+    (puts c.self.inside.store c.reuse.new.store c.link.new.store c.in-Some.slot c.args.cells.now
+    c.reuse.ensures.prepared c.link.ensures.linked).rows
 
 pub returns-in-Some-clause-reused : goal.returns-in-Some-clause-reused
 returns-in-Some-clause-reused c = rw (← c.self.view_is)
