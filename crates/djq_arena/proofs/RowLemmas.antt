@@ -3,7 +3,7 @@ use Rattle.std.proofs.Common.{◌≡◌, ℕ, ◌+◌, List, [], ◌∷◌, ◌+
 use Rattle.std.proofs.lemmas.List.{map-append}
 use Rattle.djq_arena.specs.declared.store.Store.{Store}
 use Rattle.djq_arena.specs.Store.{cells_at, live_of, rows_in, rows_of, IsAlike, IsLinked, IsSame}
-use Rattle.djq_arena.specs.Store.{Holds, IsPrepared, IsPut, IsTaken, IsRenewed}
+use Rattle.djq_arena.specs.Store.{Holds, IsPrepared, IsPut, IsUnlinked, IsReleased, IsRenewed}
 use Rattle.djq_arena.specs.Rows.{Row, slots, IsRow, IsHeld}
 
 pub rows_in-append : (w : ℕ) (cells : List ℕ) (xs ys : List ℕ) → rows_in w cells (xs ++ ys)
@@ -38,22 +38,14 @@ linked_rows d e i u h here =
     ∙ ap (λ (rs : List Row). rows_in d.width d.cells.items (live_of d) ++ rs)
     (rows_in_one d.width d.cells.items i u here)
 
-pub puts : (a m d e : Store) (i : ℕ) (u : List ℕ) → IsSame a m → IsPrepared m d i u → IsLinked d e i → IsPut a e i u
-puts a m d e i u same p l = record {
+pub puts : (a d e : Store) (i : ℕ) (u : List ℕ) → IsPrepared a d i u → IsLinked d e i → IsPut a e i u
+puts a d e i u p l = record {
   sound = l.alike.sound;
-  width = l.alike.width ∙ p.width ∙ same.alike.width;
-  rows = linked_rows d e i u l p.here
-      ∙ ap (λ (rs : List Row). rs ++ record { slot = i; cells = u } ∷ []) (p.rows ∙ same_rows a m same);
-  slots = l.alike.slots ∙ p.slots ∙ ap (λ (n : ℕ). max n (i + 1)) same.alike.slots;
-  fits = omega (arith, p.fits, same.alike.slots);
-  tidy = λ tidy. omega (
-    arith,
-    l.alike.slots,
-    l.len,
-    l.spare,
-    p.alone
-        (omega (arith, tidy, same.alike.slots, same.len, same.spare)),
-  );
+  width = l.alike.width ∙ p.width;
+  rows = linked_rows d e i u l p.here ∙ ap (λ (rs : List Row). rs ++ record { slot = i; cells = u } ∷ []) p.rows;
+  slots = l.alike.slots ∙ p.slots;
+  fits = p.fits;
+  tidy = λ tidy. omega (arith, l.alike.slots, l.len, l.spare, p.alone tidy);
 }
 
 pub puts_after : (a m e : Store) (i : ℕ) (u : List ℕ) → IsSame a m → IsPut m e i u → IsPut a e i u
@@ -144,15 +136,15 @@ held_slot a i h =
     let s = split_at a h.row.front (record { slot = i; cells = h.cells }) h.row.back h.row.is in
     record { front = slots h.row.front; back = slots h.row.back; is = s.live }
 
-pub taken_rows : (a b : Store) (i : ℕ) → IsTaken a b i → (xs : List Row) (r : Row) (ys : List Row) → rows_of a
-    ≡ xs ++ r ∷ ys → r.slot ≡ i → rows_of b ≡ xs ++ ys
+pub taken_rows : (a m b : Store) (i : ℕ) → IsUnlinked a m i → IsReleased m b → (xs : List Row) (r : Row) (ys : List Row)
+    → rows_of a ≡ xs ++ r ∷ ys → r.slot ≡ i → rows_of b ≡ xs ++ ys
 unfolding rows_of
-taken_rows a b i h xs r ys is at =
+taken_rows a m b i h k xs r ys is at =
     let s = split_at a xs r ys is in
     ap (λ (zs : List ℕ). rows_in b.width b.cells.items zs)
-    (h.live (slots xs) (slots ys) (s.live ∙ ap (λ (n : ℕ). slots xs ++ n ∷ slots ys) at))
-    ∙ alike_rows a b h.alike (slots xs ++ slots ys) ∙ rows_in-append a.width a.cells.items (slots xs) (slots ys)
-    ∙ ap₂ (λ (f g : List Row). f ++ g) s.front s.back
+    (k.live ∙ h.live (slots xs) (slots ys) (s.live ∙ ap (λ (n : ℕ). slots xs ++ n ∷ slots ys) at))
+    ∙ alike_rows m b k.alike (slots xs ++ slots ys) ∙ alike_rows a m h.alike (slots xs ++ slots ys)
+    ∙ rows_in-append a.width a.cells.items (slots xs) (slots ys) ∙ ap₂ (λ (f g : List Row). f ++ g) s.front s.back
 
 pub renewed_rows : (a b : Store) (i : ℕ) → IsRenewed a b i → (xs : List Row) (r : Row) (ys : List Row) → rows_of a
     ≡ xs ++ r ∷ ys → r.slot ≡ i → rows_of b ≡ (xs ++ ys) ++ r ∷ []

@@ -174,12 +174,6 @@ pub record IsPut (old new : Store) (i : ℕ) (u : List ℕ) : Type 0 where
   pub fits : i ≤ length old.order.items
   pub tidy : IsTidy old → IsTidy new
 
--- the row in slot i went
-pub record IsTaken (old new : Store) (i : ℕ) : Type 0 where
-  pub alike : IsAlike old new
-  pub live : (xs ys : List ℕ) → live_of old ≡ xs ++ i ∷ ys → live_of new ≡ xs ++ ys
-  pub tidy : IsTidy old → IsTidy new
-
 -- the row in slot i is behind all others now
 pub record IsRenewed (old new : Store) (i : ℕ) : Type 0 where
   pub alike : IsAlike old new

@@ -5,8 +5,12 @@ ghost use Rattle.djq_arena.specs.Rows.{Row, slots, IsAbsent, IsRow, IsHeld, IsFu
 ghost use Rattle.djq_arena.specs.Store.{hash};
 ghost use Rattle.djq_arena.specs.declared.link.TheConstants.{SLOTS};
 
-use crate::chain::pair_of;
-use crate::store::{Store, cells_of, empty, find, hash_of, put, renew, take};
+use crate::chain::{Ends, pair_of};
+use crate::link::Link;
+use crate::store::{
+    Store, bucket_in, buckets, cells_of, find_any, find_from, hash_of, link, put_fresh, release,
+    renew, reuse, unlink,
+};
 use std::alloc::{AllocError, Global};
 use std::marker::Model;
 
@@ -36,7 +40,21 @@ impl Arena {
     pub fn new(alloc: Global, width: usize) -> Result<Arena, AllocError>
         ensures { IfOk result (λ a. a ≡ record { width = width; room = 0; rows = [] }) }
     {
-        let store = empty(alloc, width)?;
+        let heads = buckets(alloc, 16)?;
+        let store = Store {
+            width,
+            order: Vec::new(alloc),
+            bucket: Vec::new(alloc),
+            cells: Vec::new(alloc),
+            heads,
+            live: Ends {
+                first: Link::none(),
+                last: Link::none(),
+            },
+            free: Link::none(),
+            len: 0,
+            spare: 0,
+        };
         Ok(Arena { store, alloc })
     }
 
@@ -86,7 +104,7 @@ impl Arena {
     pub fn find(&self, cells: &[u64]) -> Option<u32>
         ensures { MatchOption result (IsAbsent self.now.rows cells.now) (λ slot. IsRow self.now.rows slot cells.now) }
     {
-        find(&self.store, cells, hash_of(cells))
+        self.find_hashed(cells, hash_of(cells))
     }
 
     /// The same as `find`, for cells whose hash is known.
@@ -94,7 +112,16 @@ impl Arena {
         requires { code ≡ hash cells.now }
         ensures { MatchOption result (IsAbsent self.now.rows cells.now) (λ slot. IsRow self.now.rows slot cells.now) }
     {
-        find(&self.store, cells, code)
+        let head = self.store.heads[bucket_in(&self.store, code)];
+        match cells {
+            [only] if self.store.width == 1 => find_from(&self.store, head, &[*only]),
+            [first, second] if self.store.width == 2 => find_from(
+                &self.store,
+                head,
+                &[*first, *second],
+            ),
+            _ => find_any(&self.store, head, cells),
+        }
     }
 
     /// Puts in a row behind all others, into a free slot if there is one. It fails only out of memory and
@@ -128,7 +155,14 @@ impl Arena {
         ensures full { OnErr result (IsFull self.old) }
         ensures width { self.new.width ≡ self.old.width }
     {
-        put(&mut self.store, self.alloc, cells, code)
+        match self.store.free.get() {
+            Some(slot) => {
+                reuse(&mut self.store, slot, cells);
+                link(&mut self.store, slot, code);
+                Ok(slot)
+            }
+            None => put_fresh(&mut self.store, self.alloc, cells, code),
+        }
     }
 
     /// Takes the row in a slot out.
@@ -139,7 +173,8 @@ impl Arena {
         ensures room { self.new.room ≡ self.old.room }
         ensures width { self.new.width ≡ self.old.width }
     {
-        take(&mut self.store, slot);
+        unlink(&mut self.store, slot);
+        release(&mut self.store, slot);
     }
 
     /// Puts the row in a slot behind all others. It keeps its slot.

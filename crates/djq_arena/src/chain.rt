@@ -27,16 +27,6 @@ pub fn pair_of(links: &Vec<Pair>, slot: u32) -> Pair
     links[slot as usize]
 }
 
-/// Points the way on from a slot, if there is one.
-fn point_on(links: &mut Vec<Pair>, at: Link, to: Link)
-    requires { IsWithin (length links.old.items) at }
-    ensures { links.new.items ≡ set_next at to links.old.items }
-{
-    if let Some(slot) = at.get() {
-        links[slot as usize].next = to;
-    }
-}
-
 /// Points the way on from a slot to another one, or to none.
 pub fn follow(links: &mut Vec<Pair>, slot: u32, next: Link)
     requires { slot < length links.old.items }
@@ -53,7 +43,9 @@ pub fn enter(links: &mut Vec<Pair>, last: Link, slot: u32)
     requires number { slot < SLOTS }
     ensures { links.new.items ≡ entered last slot links.old.items }
 {
-    point_on(links, last, Link::to(slot));
+    if let Some(before) = last.get() {
+        links[before as usize].next = Link::to(slot);
+    }
     links[slot as usize] = Pair {
         prev: last,
         next: Link::none(),

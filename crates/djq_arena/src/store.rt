@@ -1,11 +1,10 @@
-ghost use Rattle.std.specs.Prelude.{◌≡◌, ◌≢◌, ◌+◌, ◌*◌, ◌<◌, ◌≤◌, ◌++◌, [], length, take, drop};
+ghost use Rattle.std.specs.Prelude.{◌≡◌, ◌+◌, ◌*◌, ◌<◌, ◌≤◌, ◌++◌, length, take, drop};
 ghost use Rattle.std.specs.Prelude.{Some, None, ℕ, IfOk, OnErr, slice_set, replicate, IsTrue, ◌↔◌};
 ghost use Rattle.std.specs.Prelude.{MatchOption, List, vec_len, vec_capacity};
 ghost use Rattle.djq_arena.specs.Rows.{slots, IsAbsent, IsRow};
 ghost use Rattle.djq_arena.specs.Store.{mixed, hash, class, cells_at, AreListed, IsPrepared, IsPut};
-ghost use Rattle.djq_arena.specs.Store.{IsTaken, IsRenewed, IsSound, IsLoose, IsLinked, IsUnlinked};
-ghost use Rattle.djq_arena.specs.Store.{IsSame, IsReleased, IsTidy, HasRoom, Holds, live_of};
-ghost use Rattle.djq_arena.specs.Store.{rows_of};
+ghost use Rattle.djq_arena.specs.Store.{IsRenewed, IsSound, IsLoose, IsLinked, IsUnlinked};
+ghost use Rattle.djq_arena.specs.Store.{IsSame, IsReleased, HasRoom, Holds, live_of, rows_of};
 ghost use Rattle.djq_arena.specs.Buckets.{link_at, Stands, IsBehind, IsUnlisted};
 ghost use Rattle.djq_arena.specs.declared.link.TheConstants.{SLOTS};
 
@@ -69,15 +68,6 @@ fn bucket_by(buckets: usize, code: u64) -> usize
     code as usize & (buckets - 1)
 }
 
-/// The bucket of a row, of so many.
-fn bucket_of_row(buckets: usize, cells: &[u64]) -> usize
-    requires { 0 < buckets }
-    ensures class { result ≡ class buckets cells.now }
-    ensures within { result < buckets }
-{
-    bucket_by(buckets, hash_of(cells))
-}
-
 /// The cells in a slot.
 #[tactic(auto, unfolding(crate::specs::Store::cells_at))]
 pub fn cells_of(store: &Store, slot: u32) -> &[u64]
@@ -90,24 +80,12 @@ pub fn cells_of(store: &Store, slot: u32) -> &[u64]
 }
 
 /// The bucket of a row with this hash.
-fn bucket_in(store: &Store, code: u64) -> usize
+pub fn bucket_in(store: &Store, code: u64) -> usize
     requires { 0 < length store.now.heads.items }
     ensures class { (u : List ℕ) → code ≡ hash u → result ≡ class (length store.now.heads.items) u }
     ensures within { result < length store.now.heads.items }
 {
     bucket_by(store.heads.len(), code)
-}
-
-/// The bucket of the row in a slot.
-fn bucket_at(store: &Store, slot: u32) -> usize
-    requires cells { length store.now.cells.items ≡ length store.now.order.items * store.now.width }
-    requires slot { slot < length store.now.order.items }
-    requires some { 0 < length store.now.heads.items }
-    ensures class { result ≡ class (length store.now.heads.items)
-        (cells_at store.now.width store.now.cells.items slot) }
-    ensures within { result < length store.now.heads.items }
-{
-    bucket_in(store, hash_of(cells_of(store, slot)))
 }
 
 /// Whether these cells are the same. Rows are short, so that a loop costs less than a call.
@@ -136,15 +114,6 @@ fn are_same(cells: &[u64], others: &[u64]) -> bool
     }
 }
 
-/// Whether the row in a slot has these cells.
-fn reads(store: &Store, slot: u32, cells: &[u64]) -> bool
-    requires cells { length store.now.cells.items ≡ length store.now.order.items * store.now.width }
-    requires slot { slot < length store.now.order.items }
-    ensures { IsTrue result ↔ (cells_at store.now.width store.now.cells.items slot ≡ cells.now) }
-{
-    are_same(cells_of(store, slot), cells)
-}
-
 /// Where the link of a slot, or the head of a bucket, points to.
 fn link_of(links: &Vec<Link>, at: usize) -> Link
     requires { at < length links.now.items }
@@ -153,19 +122,10 @@ fn link_of(links: &Vec<Link>, at: usize) -> Link
     links[at]
 }
 
-/// The head of the bucket that a row with this hash is in.
-fn head_of(store: &Store, code: u64) -> Link
-    requires { 0 < length store.now.heads.items }
-    ensures { (u : List ℕ) → code ≡ hash u → result ≡ link_at store.now.heads.items
-        (class (length store.now.heads.items) u) }
-{
-    link_of(&store.heads, bucket_in(store, code))
-}
-
 /// The slot of a row with these cells: a walk through its bucket, from the head on. It is laid out wherever it is
 /// called, so that what is known there of the cells isn't asked again at each step.
 #[inline(always)]
-fn find_from(store: &Store, head: Link, cells: &[u64]) -> Option<u32>
+pub fn find_from(store: &Store, head: Link, cells: &[u64]) -> Option<u32>
     requires sound { IsSound store.now }
     requires head { head ≡ link_at store.now.heads.items (class (length store.now.heads.items) cells.now) }
     ensures { MatchOption result (IsAbsent (rows_of store.now) cells.now)
@@ -173,7 +133,7 @@ fn find_from(store: &Store, head: Link, cells: &[u64]) -> Option<u32>
 {
     let mut at = head;
     while let Some(slot) = at.get() {
-        if reads(store, slot, cells) {
+        if are_same(cells_of(store, slot), cells) {
             return Some(slot);
         }
         at = link_of(&store.bucket, slot as usize);
@@ -183,28 +143,13 @@ fn find_from(store: &Store, head: Link, cells: &[u64]) -> Option<u32>
 
 /// The same for cells of any number. It stands apart, so that a search for one or two cells saves no registers.
 #[inline(never)]
-fn find_any(store: &Store, head: Link, cells: &[u64]) -> Option<u32>
+pub fn find_any(store: &Store, head: Link, cells: &[u64]) -> Option<u32>
     requires sound { IsSound store.now }
     requires head { head ≡ link_at store.now.heads.items (class (length store.now.heads.items) cells.now) }
     ensures { MatchOption result (IsAbsent (rows_of store.now) cells.now)
         (λ slot. IsRow (rows_of store.now) slot cells.now) }
 {
     find_from(store, head, cells)
-}
-
-/// The slot of a row with these cells, whose hash is known. Most rows that are looked for have one cell or two.
-pub fn find(store: &Store, cells: &[u64], code: u64) -> Option<u32>
-    requires sound { IsSound store.now }
-    requires coded { code ≡ hash cells.now }
-    ensures { MatchOption result (IsAbsent (rows_of store.now) cells.now)
-        (λ slot. IsRow (rows_of store.now) slot cells.now) }
-{
-    let head = head_of(store, code);
-    match cells {
-        [only] if store.width == 1 => find_from(store, head, &[*only]),
-        [first, second] if store.width == 2 => find_from(store, head, &[*first, *second]),
-        _ => find_any(store, head, cells),
-    }
 }
 
 /// Puts a slot at the head of its bucket.
@@ -275,7 +220,7 @@ pub fn unlink(store: &mut Store, slot: u32)
     requires held { Holds (live_of store.old) slot }
     ensures unlinked { IsUnlinked store.old store.new slot }
 {
-    let class = bucket_at(store, slot);
+    let class = bucket_in(store, hash_of(cells_of(store, slot)));
     unlist(&mut store.bucket, &mut store.heads, class, slot);
     let neighbours = pair_of(&store.order, slot);
     leave(&mut store.order, &mut store.live, &neighbours);
@@ -294,7 +239,7 @@ pub fn release(store: &mut Store, slot: u32)
 }
 
 /// Writes a row into the newest of the free slots, which is loose then.
-fn reuse(store: &mut Store, slot: u32, cells: &[u64])
+pub fn reuse(store: &mut Store, slot: u32, cells: &[u64])
     requires sound { IsSound store.old }
     requires wide { length cells.now ≡ store.old.width }
     requires newest { store.old.free ≡ Some slot }
@@ -403,7 +348,7 @@ fn list_all(bucket: &mut [Link], heads: &mut [Link], cells: &[u64], width: usize
     ensures buckets { length heads.new ≡ length heads.old }
 {
     for slot in 0..bucket.len() {
-        let class = bucket_of_row(heads.len(), cells_among(cells, width, slot));
+        let class = bucket_by(heads.len(), hash_of(cells_among(cells, width, slot)));
         bucket[slot] = link_among(heads, class);
         heads[class] = Link::to(slot as u32);
     }
@@ -427,7 +372,7 @@ fn rebuild(store: &mut Store, heads: Vec<Link>)
 }
 
 /// So many empty buckets.
-fn buckets(alloc: Global, count: usize) -> Result<Vec<Link>, AllocError>
+pub fn buckets(alloc: Global, count: usize) -> Result<Vec<Link>, AllocError>
     ensures { IfOk result (λ heads. heads.items ≡ replicate count None) }
 {
     let mut heads = Vec::new(alloc);
@@ -435,30 +380,17 @@ fn buckets(alloc: Global, count: usize) -> Result<Vec<Link>, AllocError>
     Ok(heads)
 }
 
-/// Twice as many buckets. Where there is no memory, all stays as it was.
-fn grow(store: &mut Store, alloc: Global) -> Result<(), AllocError>
-    requires sound { IsSound store.old }
-    requires full { length store.old.order.items ≡ store.old.len }
-    requires few { length store.old.heads.items ≤ SLOTS }
-    ensures { IsSame store.old store.new }
-{
-    let count = store.heads.len();
-    let heads = buckets(alloc, 2 * count)?;
-    rebuild(store, heads);
-    Ok(())
-}
-
-/// Twice as many buckets, where there are no more of them than rows.
+/// Twice as many buckets, where there are no more of them than rows. Where there is no memory, all stays as it was.
 fn grow_full(store: &mut Store, alloc: Global) -> Result<(), AllocError>
     requires sound { IsSound store.old }
     requires full { length store.old.order.items ≡ store.old.len }
     ensures same { IsSame store.old store.new }
 {
     if store.heads.len() <= store.len as usize {
-        grow(store, alloc)
-    } else {
-        Ok(())
+        let heads = buckets(alloc, 2 * store.heads.len())?;
+        rebuild(store, heads);
     }
+    Ok(())
 }
 
 /// Room for one more slot with so many cells. Where there is no memory, all stays as it was.
@@ -522,7 +454,12 @@ fn put_growing(
 /// Puts in a row behind all others, into a new slot, where no slot is free. Where there is no memory, all stays as it
 /// was. It stands apart, so that a row which comes into a free slot saves no registers.
 #[inline(never)]
-fn put_fresh(store: &mut Store, alloc: Global, cells: &[u64], code: u64) -> Result<u32, AllocError>
+pub fn put_fresh(
+    store: &mut Store,
+    alloc: Global,
+    cells: &[u64],
+    code: u64,
+) -> Result<u32, AllocError>
     requires sound { IsSound store.old }
     requires full { length store.old.order.items ≡ store.old.len }
     requires wide { length cells.now ≡ store.old.width }
@@ -538,38 +475,6 @@ fn put_fresh(store: &mut Store, alloc: Global, cells: &[u64], code: u64) -> Resu
     }
 }
 
-/// Puts in a row behind all others: into a free slot, if there is one. Where there is no memory, all stays as it was.
-pub fn put(store: &mut Store, alloc: Global, cells: &[u64], code: u64) -> Result<u32, AllocError>
-    requires sound { IsSound store.old }
-    requires tidy { IsTidy store.old }
-    requires wide { length cells.now ≡ store.old.width }
-    requires coded { code ≡ hash cells.now }
-    requires few { store.old.len < SLOTS }
-    ensures put { IfOk result (λ slot. IsPut store.old store.new slot cells.now) }
-    ensures reused { IfOk result (λ slot. store.old.spare ≢ 0 → slot < length store.old.order.items) }
-    ensures refused { OnErr result (IsSame store.old store.new) }
-    ensures full { OnErr result (store.old.spare ≡ 0) }
-{
-    match store.free.get() {
-        Some(slot) => {
-            reuse(store, slot, cells);
-            link(store, slot, code);
-            Ok(slot)
-        }
-        None => put_fresh(store, alloc, cells, code),
-    }
-}
-
-/// Takes a row out.
-pub fn take(store: &mut Store, slot: u32)
-    requires sound { IsSound store.old }
-    requires held { Holds (live_of store.old) slot }
-    ensures taken { IsTaken store.old store.new slot }
-{
-    unlink(store, slot);
-    release(store, slot);
-}
-
 /// Puts a row behind all others; its slot stays, and so does its bucket, whose order is any.
 pub fn renew(store: &mut Store, slot: u32)
     requires sound { IsSound store.old }
@@ -580,25 +485,4 @@ pub fn renew(store: &mut Store, slot: u32)
     leave(&mut store.order, &mut store.live, &neighbours);
     enter(&mut store.order, store.live.last, slot);
     store.live = ends_after_push(&store.live, slot);
-}
-
-/// A store without rows. It fails only out of memory.
-pub fn empty(alloc: Global, width: usize) -> Result<Store, AllocError>
-    ensures { IfOk result (λ s. IsSound s × IsTidy s × (s.width ≡ width) × (s.order.items ≡ []) × (rows_of s ≡ [])) }
-{
-    let heads = buckets(alloc, 16)?;
-    Ok(Store {
-        width,
-        order: Vec::new(alloc),
-        bucket: Vec::new(alloc),
-        cells: Vec::new(alloc),
-        heads,
-        live: Ends {
-            first: Link::none(),
-            last: Link::none(),
-        },
-        free: Link::none(),
-        len: 0,
-        spare: 0,
-    })
 }

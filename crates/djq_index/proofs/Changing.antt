@@ -1,14 +1,12 @@
 -- What a change of a table does to its numbers.
 use Rattle.std.proofs.Common.{◌≡◌, ℕ, ◌+◌, Bool, true, false, cond, List, ◌∷◌, ◌++◌, length, refl}
 use Rattle.std.proofs.Common.{ap, subst, sym, ◌∙◌, arith, length-append}
-use Rattle.djq_index.specs.declared.place.Place.{Place}
 use Rattle.djq_index.specs.Tuple.{same, pick, one}
 use Rattle.djq_index.specs.Entries.{Entry, supports_of, count_of, group_size, marks, plain}
-use Rattle.djq_index.specs.Table.{AreApart, ArePlaced, AreSupported, IsAt}
+use Rattle.djq_index.specs.Table.{AreApart, AreSupported}
 use Rattle.djq_index.specs.Changes.{Inserted, InsertedAs, Removed, Touched, Supported}
 use Rattle.djq_index.proofs.Counts.{cnt_middle, many_middle, supp_middle, cnt_split}
-use Rattle.djq_index.proofs.Apart.{apart_in, apart_out, apart_here, apart_same, supp_at, supported_in, supported_out}
-use Rattle.djq_index.proofs.Places.{at_in, at_out, at_same, at_here}
+use Rattle.djq_index.proofs.Apart.{apart_same, supp_at, supported_in, supported_out}
 use Rattle.djq_index.proofs.Marks.{marks_middle, plain_middle}
 
 pub length_middle : (xs : List Entry) (e : Entry) (ys : List Entry) → length (xs ++ e ∷ ys) ≡ length (xs ++ ys) + 1

@@ -1,14 +1,13 @@
 -- Marked entries, which are the last of their groups.
-use Rattle.std.proofs.Common.{◌≡◌, ℕ, suc, ◌+◌, ◌≤◌, ◌<◌, Bool, true, false, cond, List, [], ◌∷◌}
+use Rattle.std.proofs.Common.{◌≡◌, ℕ, suc, ◌+◌, ◌<◌, Bool, true, false, cond, List, [], ◌∷◌}
 use Rattle.std.proofs.Common.{◌++◌, length, refl, ap, subst, sym, ◌∙◌, arith, inl, inr}
 use Rattle.std.proofs.lemmas.Bool.{cases_Bool, false≢true}
-use Rattle.djq_index.specs.declared.place.Place.{Place}
 use Rattle.djq_index.specs.Tuple.{same, pick, one}
 use Rattle.djq_index.specs.Entries.{Entry, supports_of, count_of, group_size, group_of, marks, plain, is_marked, bare}
 use Rattle.djq_index.specs.Entries.{unmarked}
-use Rattle.djq_index.specs.Table.{AreApart, ArePlaced, AreLast, AreWide, IsElsewhere}
+use Rattle.djq_index.specs.Table.{AreApart, AreLast}
 use Rattle.djq_index.proofs.Tuples.{same_is, is_same, same_cases, one_other, one_true, one_false}
-use Rattle.djq_index.proofs.Counts.{cnt_cons, many_cons, group_size-append, cnt_split, many_split}
+use Rattle.djq_index.proofs.Counts.{cnt_cons, many_cons, cnt_split, many_split}
 use Rattle.djq_index.proofs.Groups.{grp_yes, grp_no}
 
 pub marks_yes : (e : Entry) (es : List Entry) → e.marked ≡ true → marks (e ∷ es) ≡ e ∷ marks es

@@ -1,46 +1,13 @@
 //! A tuple is laid into a slot, behind all others.
-ghost use Rattle.std.specs.Prelude.{◌≡◌, ℕ, ◌-◌, ◌<◌, ◌≤◌, ◌⊎◌, false, length, vec_len};
+ghost use Rattle.std.specs.Prelude.{◌≡◌, ℕ, ◌-◌, ◌<◌, ◌≤◌, false, length, vec_len};
 ghost use Rattle.std.specs.Prelude.{vec_capacity, IfOk, OnErr};
 ghost use Rattle.djq_arena.specs.Chains.{pair_at};
 ghost use Rattle.djq_arena.specs.Rows.{IsFull};
-ghost use Rattle.djq_index.specs.Raw.{CanTake, IsLaid, IsSlotFor, IsUnlaid, note_at};
+ghost use Rattle.djq_index.specs.Raw.{CanTake, IsLaid, IsSlotFor, IsUnlaid};
 
 use crate::raw::Note;
 use djq_arena::{Arena, Link, Pair};
 use std::alloc::AllocError;
-
-/// Makes sure that a slot has a note. There is room for one more where it has none.
-fn cover_notes(notes: &mut Vec<Note>, slot: u32)
-    requires slot { slot ≤ length notes.old.items }
-    requires room { slot < length notes.old.items ⊎ vec_len notes.old < vec_capacity notes.old }
-    ensures covered { slot < length notes.new.items }
-    ensures longer { length notes.old.items ≤ length notes.new.items }
-    ensures same { (k : ℕ) → note_at notes.new.items k ≡ note_at notes.old.items k }
-{
-    if slot as usize == notes.len() {
-        notes.push_reserved(Note {
-            supports: 0,
-            head: 0,
-            marked: false,
-        });
-    }
-}
-
-/// Makes sure that a slot has neighbours. There is room for one more where it has none.
-fn cover_links(links: &mut Vec<Pair>, slot: u32)
-    requires slot { slot ≤ length links.old.items }
-    requires room { slot < length links.old.items ⊎ vec_len links.old < vec_capacity links.old }
-    ensures covered { slot < length links.new.items }
-    ensures longer { length links.old.items ≤ length links.new.items }
-    ensures same { (k : ℕ) → pair_at links.new.items k ≡ pair_at links.old.items k }
-{
-    if slot as usize == links.len() {
-        links.push_reserved(Pair {
-            prev: Link::none(),
-            next: Link::none(),
-        });
-    }
-}
 
 /// Room for the neighbours of one more slot. It stands apart, so that a tuple for which there is room saves fewer
 /// registers.
@@ -68,7 +35,13 @@ fn append_row_ready(
 {
     let slot = rows.push(tuple)?;
     rows.laws();
-    cover_notes(notes, slot);
+    if slot as usize == notes.len() {
+        notes.push_reserved(Note {
+            supports: 0,
+            head: 0,
+            marked: false,
+        });
+    }
     Ok(slot)
 }
 
@@ -123,6 +96,11 @@ pub fn append_linked_row(
         grow_links(links)?;
     }
     let slot = append_row(rows, notes, tuple)?;
-    cover_links(links, slot);
+    if slot as usize == links.len() {
+        links.push_reserved(Pair {
+            prev: Link::none(),
+            next: Link::none(),
+        });
+    }
     Ok(slot)
 }

@@ -1,14 +1,12 @@
 //! A tuple that isn't there is put behind its group, whose head is made where it has none.
 ghost use Rattle.std.specs.Prelude.{◌≡◌, ℕ, ◌-◌, ◌<◌, ◌≤◌, ◌⊎◌, false, [], length, vec_capacity};
 ghost use Rattle.std.specs.Prelude.{IfOk, OnErr, Some, None};
-ghost use Rattle.djq_arena.specs.Chains.{IsWithin};
 ghost use Rattle.djq_arena.specs.Rows.{AreRows, IsFull};
 ghost use Rattle.djq_index.specs.Tuple.{pick};
 ghost use Rattle.djq_index.specs.Entries.{count_of, marks};
 ghost use Rattle.djq_index.specs.Table.{IsAt, AreColumns};
 ghost use Rattle.djq_index.specs.Changes.{InsertedAs};
-ghost use Rattle.djq_index.specs.Raw.{IsBare, AreHeads, IsNoted, entries_of, ends_at, IsSeat};
-ghost use Rattle.djq_index.specs.Raw.{IsSettled, HasNoRoomForHead};
+ghost use Rattle.djq_index.specs.Raw.{IsBare, AreHeads, IsNoted, entries_of, ends_at, IsSeat, HasNoRoomForHead};
 ghost use Rattle.djq_arena.specs.declared.link.TheConstants.{SLOTS};
 
 use crate::appending::{append_linked_row, append_row};
@@ -16,7 +14,6 @@ use crate::heads::{cell_at, join, new_head, project};
 use crate::marking::with_slot;
 use crate::place::Place;
 use crate::raw::{Note, Raw, set_note};
-use crate::removing::withdraw;
 use djq_arena::{Arena, Ends, hash_of};
 use std::alloc::AllocError;
 
@@ -114,20 +111,6 @@ fn init_note(raw: &mut Raw, slot: u32, head: u32, marked: bool)
     raw.marked = with_slot(raw.marked, slot, marked);
 }
 
-/// Puts a laid tuple behind its group, marked or not and with one support.
-fn append_to_group(raw: &mut Raw, slot: u32, head: u32, marked: bool)
-    requires notes { slot < length raw.old.notes.items }
-    requires links { slot < length raw.old.links.items }
-    requires number { slot < SLOTS }
-    requires head { head < length raw.old.ends.items }
-    requires last { IsWithin (length raw.old.links.items) (ends_at raw.old.ends.items head).last }
-    ensures settled { IsSettled marked raw.old raw.new raw.old.rows raw.old.notes.items
-        raw.old.links.items raw.old.keys raw.old.ends.items slot head }
-{
-    join(&mut raw.links, &mut raw.ends, slot, head);
-    init_note(raw, slot, head, marked);
-}
-
 /// Puts a tuple that isn't there behind the group of its head.
 pub fn insert_keyed(raw: &mut Raw, tuple: &[u64], marked: bool) -> Result<Place, AllocError>
     requires raw { IsBare raw.old }
@@ -156,11 +139,13 @@ pub fn insert_keyed(raw: &mut Raw, tuple: &[u64], marked: bool) -> Result<Place,
         tuple,
     ) {
         Err(e) => {
-            withdraw(&mut raw.rows, slot);
+            raw.rows.remove(slot);
+            raw.rows.laws();
             Err(e)
         }
         Ok(head) => {
-            append_to_group(raw, slot, head, marked);
+            join(&mut raw.links, &mut raw.ends, slot, head);
+            init_note(raw, slot, head, marked);
             Ok(Place::new(slot))
         }
     }

@@ -1,8 +1,8 @@
 //! Tuples are marked, as the last of all, and all marks are taken away.
-ghost use Rattle.std.specs.Prelude.{◌≡◌, ℕ, ◌+◌, ◌-◌, ◌<◌, ◌≤◌, false, cond, List, [], ◌∷◌, ◌++◌};
+ghost use Rattle.std.specs.Prelude.{◌≡◌, ℕ, ◌+◌, ◌-◌, ◌<◌, ◌≤◌, false, cond, List};
 ghost use Rattle.std.specs.Prelude.{length, slice_set, Some, None};
 ghost use Rattle.djq_arena.specs.Chains.{first_of};
-ghost use Rattle.djq_arena.specs.Rows.{Row, AreRows, IsHeld};
+ghost use Rattle.djq_arena.specs.Rows.{AreRows};
 ghost use Rattle.djq_index.specs.Entries.{marks, unmarked};
 ghost use Rattle.djq_index.specs.Table.{IsAt, IsUnmarked};
 ghost use Rattle.djq_index.specs.Changes.{Touched};
@@ -17,34 +17,14 @@ use djq_arena::Arena;
 use djq_steps::Tally;
 use std::sync::ledger::Ledger;
 
-/// The first marked slot, where this one is marked as the last of all.
-fn or_slot(marked: Option<u32>, slot: u32) -> Option<u32>
-    ensures { result ≡ beside marked (Some slot) marked }
-{
-    match marked {
-        None => Some(slot),
-        Some(_first) => marked,
-    }
-}
-
 /// The first marked slot, where this one may be marked as the last of all.
 pub fn with_slot(first: Option<u32>, slot: u32, marked: bool) -> Option<u32>
     ensures { result ≡ cond marked (beside first (Some slot) first) first }
 {
-    if marked { or_slot(first, slot) } else { first }
-}
-
-/// Puts a row behind all others.
-fn renew(rows: &mut Arena, slot: u32)
-    requires { IsHeld rows.old.rows slot }
-    ensures rows { AreRows rows.new }
-    ensures width { rows.new.width ≡ rows.old.width }
-    ensures room { rows.new.room ≡ rows.old.room }
-    ensures renewed { (xs : List Row) (r : Row) (ys : List Row) → rows.old.rows ≡ xs ++ r ∷ ys
-        → r.slot ≡ slot → rows.new.rows ≡ (xs ++ ys) ++ r ∷ [] }
-{
-    rows.renew(slot);
-    rows.laws();
+    match first {
+        None if marked => Some(slot),
+        _ => first,
+    }
 }
 
 /// Marks the tuple in a slot, which is the last of all.
@@ -59,7 +39,7 @@ fn mark(raw: &mut Raw, slot: u32)
         marked: true,
     };
     set_note(&mut raw.notes, slot, marked);
-    raw.marked = or_slot(raw.marked, slot);
+    raw.marked = with_slot(raw.marked, slot, true);
 }
 
 /// Marks the tuple at a place, and puts it behind the group of its head.
@@ -79,7 +59,8 @@ pub fn touch_keyed(raw: &mut Raw, place: Place)
     let note = note_of(&raw.notes, slot);
     unlink(&mut raw.links, &mut raw.ends, slot, note.head);
     join(&mut raw.links, &mut raw.ends, slot, note.head);
-    renew(&mut raw.rows, slot);
+    raw.rows.renew(slot);
+    raw.rows.laws();
     mark(raw, slot);
 }
 
@@ -95,7 +76,8 @@ pub fn touch_bare(raw: &mut Raw, place: Place)
     ensures width { raw.new.rows.width ≡ raw.old.rows.width }
 {
     let slot = place.slot();
-    renew(&mut raw.rows, slot);
+    raw.rows.renew(slot);
+    raw.rows.laws();
     mark(raw, slot);
 }
 

@@ -1,6 +1,5 @@
 //! A tuple is taken out, and its group's head with the last of the group.
-ghost use Rattle.std.specs.Prelude.{◌≡◌, ℕ, ◌+◌, ◌-◌, ◌<◌, List, ◌∷◌, ◌++◌, Some, None};
-ghost use Rattle.djq_arena.specs.Rows.{Row, AreRows, IsHeld};
+ghost use Rattle.std.specs.Prelude.{◌≡◌, ℕ, ◌+◌, ◌-◌, ◌<◌, List, Some, None};
 ghost use Rattle.djq_index.specs.Table.{IsAt, IsLive};
 ghost use Rattle.djq_index.specs.Changes.{Removed};
 ghost use Rattle.djq_index.specs.Raw.{IsBare, AreHeads, entries_of, passed};
@@ -8,7 +7,6 @@ ghost use Rattle.djq_index.specs.Raw.{IsBare, AreHeads, entries_of, passed};
 use crate::heads::{prune, unlink};
 use crate::place::Place;
 use crate::raw::{Raw, note_of};
-use djq_arena::Arena;
 
 /// The first marked slot, once this one, which is followed by `next`, is gone.
 fn first_mark_without(marked: Option<u32>, slot: u32, next: Option<u32>) -> Option<u32>
@@ -18,19 +16,6 @@ fn first_mark_without(marked: Option<u32>, slot: u32, next: Option<u32>) -> Opti
         None => None,
         Some(first) => { if first == slot { next } else { Some(first) } }
     }
-}
-
-/// Takes a row out.
-pub fn withdraw(rows: &mut Arena, slot: u32)
-    requires { IsHeld rows.old.rows slot }
-    ensures rows { AreRows rows.new }
-    ensures width { rows.new.width ≡ rows.old.width }
-    ensures room { rows.new.room ≡ rows.old.room }
-    ensures removed { (xs : List Row) (r : Row) (ys : List Row) → rows.old.rows ≡ xs ++ r ∷ ys
-        → r.slot ≡ slot → rows.new.rows ≡ xs ++ ys }
-{
-    rows.remove(slot);
-    rows.laws();
 }
 
 /// Takes the tuple at a place out, and its group's head with the last of the group.
@@ -51,7 +36,8 @@ pub fn remove_keyed(raw: &mut Raw, place: Place)
     raw.marked = first_mark_without(raw.marked, slot, raw.rows.next(slot));
     unlink(&mut raw.links, &mut raw.ends, slot, head);
     prune(&mut raw.keys, &raw.ends, head);
-    withdraw(&mut raw.rows, slot);
+    raw.rows.remove(slot);
+    raw.rows.laws();
 }
 
 /// Takes the tuple at a place out, whose group needs nothing.
@@ -67,5 +53,6 @@ pub fn remove_bare(raw: &mut Raw, place: Place)
 {
     let slot = place.slot();
     raw.marked = first_mark_without(raw.marked, slot, raw.rows.next(slot));
-    withdraw(&mut raw.rows, slot);
+    raw.rows.remove(slot);
+    raw.rows.laws();
 }

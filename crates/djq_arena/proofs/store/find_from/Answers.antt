@@ -8,15 +8,15 @@ pub loop-slot-init : goal.loop-slot-init
 loop-slot-init c = seeking c.args.store.now c.args.cells.now c.args.head c.requires.sound
     (class_inside (length c.args.store.now.heads.items) c.args.cells.now c.requires.sound.store.some) c.requires.head
 
-pub reads-requires-clause-slot : goal.reads-requires-clause-slot
-reads-requires-clause-slot c =
+pub cells_of-requires-clause-slot : goal.cells_of-requires-clause-slot
+cells_of-requires-clause-slot c =
     stop_within c.args.store.now c.args.cells.now c.in-Some.slot 0 c.requires.sound
     (stop c.args.store.now c.args.cells.now c.in-Some.slot 0
     (subst (λ (o : Option ℕ). Seeking c.args.store.now c.args.cells.now o 0) (sym c.in-Some.ensures)
     c.loop-slot.invariant))
 
-pub returns-then-reads : goal.returns-then-reads
-returns-then-reads c =
+pub returns-then-are_same : goal.returns-then-are_same
+returns-then-are_same c =
     found c.args.store.now c.args.cells.now c.in-Some.slot 0
     (stop c.args.store.now c.args.cells.now c.in-Some.slot 0
     (subst (λ (o : Option ℕ). Seeking c.args.store.now c.args.cells.now o 0) (sym c.in-Some.ensures)

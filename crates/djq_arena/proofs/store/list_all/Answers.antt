@@ -1,6 +1,6 @@
 -- By the loop, the slots below the index are in their buckets; each slot's cells end within the array.
-use Rattle.std.proofs.Common.{refl, arith, ◌∙◌, ap, List, ℕ, length, length-set}
-use Rattle.djq_arena.specs.Store.{class}
+use Rattle.std.proofs.Common.{refl, arith, ◌∙◌, length, length-set}
+use Rattle.djq_arena.specs.Store.{cells_at}
 use Rattle.djq_arena.proofs.Filling.{row_fits}
 use Rattle.djq_arena.proofs.Growing.{none_listed, listed_more}
 use Rattle.djq_arena.proofs.store.list_all.Goals as goal
@@ -21,10 +21,10 @@ pub loop-slot-preserved : goal.loop-slot-preserved
 loop-slot-preserved c = record {
   listed = rw (c.link_among.ensures, c.to.ensures)
       (listed_more c.args.width c.args.cells.now c.loop-slot.bucket c.loop-slot.heads c.loop-slot.slot
-      c.bucket_of_row-class.result c.loop-slot.invariant.listed
-      (omega (arith, c.loop-slot-test.true, c.loop-slot.invariant.slots)) c.bucket_of_row-class.ensures.within
-      (c.bucket_of_row-class.ensures.class ∙ ap (λ (u : List ℕ). class (length c.loop-slot.heads) u)
-      c.cells_among.ensures));
+      c.bucket_by-class.result c.loop-slot.invariant.listed
+      (omega (arith, c.loop-slot-test.true, c.loop-slot.invariant.slots)) c.bucket_by-class.ensures.within
+      (c.bucket_by-class.ensures.class (cells_at c.args.width c.args.cells.now c.loop-slot.slot)
+      (rw (← c.cells_among.ensures) c.hash_of.ensures)));
   slots = length-set c.loop-slot.bucket c.loop-slot.slot c.link_among.result ∙ c.loop-slot.invariant.slots;
-  buckets = length-set c.loop-slot.heads c.bucket_of_row-class.result c.to.result ∙ c.loop-slot.invariant.buckets;
+  buckets = length-set c.loop-slot.heads c.bucket_by-class.result c.to.result ∙ c.loop-slot.invariant.buckets;
 }

@@ -6,12 +6,13 @@ use Rattle.djq_arena.specs.Store.{shrunk}
 use Rattle.djq_arena.proofs.Storing.{held_within, held_prev, held_next, held_in_bucket, unlinks}
 use Rattle.djq_arena.proofs.store.unlink.Goals as goal
 
-pub bucket_at-class-requires-clause-slot : goal.bucket_at-class-requires-clause-slot
-bucket_at-class-requires-clause-slot c = held_within c.args.store.now c.args.slot c.requires.sound c.requires.held
+pub cells_of-requires-clause-slot : goal.cells_of-requires-clause-slot
+cells_of-requires-clause-slot c = held_within c.args.store.now c.args.slot c.requires.sound c.requires.held
 
 pub unlist-requires-clause-stands : goal.unlist-requires-clause-stands
-unlist-requires-clause-stands c = held_in_bucket c.args.store.now c.args.slot c.bucket_at-class.result c.requires.sound
-    c.requires.held c.bucket_at-class.ensures.within c.bucket_at-class.ensures.class
+unlist-requires-clause-stands c = held_in_bucket c.args.store.now c.args.slot c.bucket_in-class.result c.requires.sound
+    c.requires.held c.bucket_in-class.ensures.within
+    (c.bucket_in-class.ensures.class _ (rw (← c.cells_of.ensures) c.hash_of.ensures))
 
 pub pair_of-neighbours-requires : goal.pair_of-neighbours-requires
 pair_of-neighbours-requires c = held_within c.args.store.now c.args.slot c.requires.sound c.requires.held
@@ -26,7 +27,7 @@ leave-requires-clause-next c = subst (λ (p : Pair). IsWithin (length c.args.sto
 
 pub returns : goal.returns
 returns c = record {
-  unlinked = unlinks c.args.store.now _ c.args.slot c.bucket_at-class.result c.requires.sound c.requires.held
+  unlinked = unlinks c.args.store.now _ c.args.slot c.bucket_in-class.result c.requires.sound c.requires.held
       (record {
         width = refl;
         cells = refl;
@@ -38,5 +39,6 @@ returns c = record {
         len = refl;
         spare = refl;
       })
-      c.bucket_at-class.ensures.within c.bucket_at-class.ensures.class;
+      c.bucket_in-class.ensures.within
+      (c.bucket_in-class.ensures.class _ (rw (← c.cells_of.ensures) c.hash_of.ensures));
 }

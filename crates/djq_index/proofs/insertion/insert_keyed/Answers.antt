@@ -68,7 +68,7 @@ returns-in_err-slot-clause-refused c =
 pub returns-in-Err-clause-raw : goal.returns-in-Err-clause-raw
 returns-in-Err-clause-raw c =
     let b : Raw = record c.args.raw.now {
-      rows = c.withdraw.new.rows;
+      rows = c.remove.new.self;
       notes = c.append_linked_row.new.notes;
       links = c.append_linked_row.new.links;
       keys = c.find_or_make_head.new.keys;
@@ -78,16 +78,16 @@ returns-in-Err-clause-raw c =
     let r : Refuses c.args.raw.now b = record {
       kind = refl;
       key = refl;
-      rows_law = c.withdraw.ensures.rows;
-      width = c.withdraw.ensures.width
+      rows_law = c.laws.ensures;
+      width = c.remove.ensures.width
           ∙ c.in_ok-slot.ensures.laid.width;
-      rows = c.withdraw.ensures.removed c.args.raw.now.rows.rows
+      rows = c.remove.ensures.removed c.args.raw.now.rows.rows
           (record {
             slot = c.in_ok-slot.slot;
             cells = c.args.tuple.now;
           }) [] c.in_ok-slot.ensures.laid.laid refl
           ∙ append-nil c.args.raw.now.rows.rows;
-      room_notes = rw c.withdraw.ensures.room c.in_ok-slot.ensures.laid.room_notes;
+      room_notes = rw c.remove.ensures.room c.in_ok-slot.ensures.laid.room_notes;
       same_notes = c.in_ok-slot.ensures.laid.same_notes;
       marked = refl;
     } in
@@ -96,7 +96,7 @@ returns-in-Err-clause-raw c =
 pub returns-in-Err-clause-heads : goal.returns-in-Err-clause-heads
 returns-in-Err-clause-heads c =
     let b : Raw = record c.args.raw.now {
-      rows = c.withdraw.new.rows;
+      rows = c.remove.new.self;
       notes = c.append_linked_row.new.notes;
       links = c.append_linked_row.new.links;
       keys = c.find_or_make_head.new.keys;
@@ -106,21 +106,21 @@ returns-in-Err-clause-heads c =
     let r : Refuses c.args.raw.now b = record {
       kind = refl;
       key = refl;
-      rows_law = c.withdraw.ensures.rows;
-      width = c.withdraw.ensures.width
+      rows_law = c.laws.ensures;
+      width = c.remove.ensures.width
           ∙ c.in_ok-slot.ensures.laid.width;
-      rows = c.withdraw.ensures.removed c.args.raw.now.rows.rows
+      rows = c.remove.ensures.removed c.args.raw.now.rows.rows
           (record {
             slot = c.in_ok-slot.slot;
             cells = c.args.tuple.now;
           }) [] c.in_ok-slot.ensures.laid.laid refl
           ∙ append-nil c.args.raw.now.rows.rows;
-      room_notes = rw c.withdraw.ensures.room c.in_ok-slot.ensures.laid.room_notes;
+      room_notes = rw c.remove.ensures.room c.in_ok-slot.ensures.laid.room_notes;
       same_notes = c.in_ok-slot.ensures.laid.same_notes;
       marked = refl;
     } in
     let h : RefusesHead c.args.raw.now b = record {
-      room_links = rw c.withdraw.ensures.room
+      room_links = rw c.remove.ensures.room
           c.in_ok-slot.ensures.links;
       same_links = c.in_ok-slot.ensures.same_links;
       keys_law = c.in-Err.ensures.rows;
@@ -134,7 +134,7 @@ returns-in-Err-clause-heads c =
 pub returns-in-Err-clause-refused : goal.returns-in-Err-clause-refused
 returns-in-Err-clause-refused c =
     let b : Raw = record c.args.raw.now {
-      rows = c.withdraw.new.rows;
+      rows = c.remove.new.self;
       notes = c.append_linked_row.new.notes;
       links = c.append_linked_row.new.links;
       keys = c.find_or_make_head.new.keys;
@@ -144,28 +144,28 @@ returns-in-Err-clause-refused c =
     let r : Refuses c.args.raw.now b = record {
       kind = refl;
       key = refl;
-      rows_law = c.withdraw.ensures.rows;
-      width = c.withdraw.ensures.width
+      rows_law = c.laws.ensures;
+      width = c.remove.ensures.width
           ∙ c.in_ok-slot.ensures.laid.width;
-      rows = c.withdraw.ensures.removed c.args.raw.now.rows.rows
+      rows = c.remove.ensures.removed c.args.raw.now.rows.rows
           (record {
             slot = c.in_ok-slot.slot;
             cells = c.args.tuple.now;
           }) [] c.in_ok-slot.ensures.laid.laid refl
           ∙ append-nil c.args.raw.now.rows.rows;
-      room_notes = rw c.withdraw.ensures.room c.in_ok-slot.ensures.laid.room_notes;
+      room_notes = rw c.remove.ensures.room c.in_ok-slot.ensures.laid.room_notes;
       same_notes = c.in_ok-slot.ensures.laid.same_notes;
       marked = refl;
     } in
     refused_entries c.args.raw.now b r
 
-pub append_to_group-requires-clause-notes : goal.append_to_group-requires-clause-notes
-append_to_group-requires-clause-notes c =
+pub init_note-requires : goal.init_note-requires
+init_note-requires c =
     slot_notes c.args.raw.now c.append_linked_row.new.rows c.append_linked_row.new.notes.items c.in_ok-slot.slot
     c.args.tuple.now c.in_ok-slot.ensures.laid
 
-pub append_to_group-requires-clause-links : goal.append_to_group-requires-clause-links
-append_to_group-requires-clause-links c =
+pub join-requires-clause-slot : goal.join-requires-clause-slot
+join-requires-clause-slot c =
     let r : IsReady c.args.raw.now c.append_linked_row.new.rows c.append_linked_row.new.notes.items
     c.append_linked_row.new.links.items c.find_or_make_head.new.keys c.find_or_make_head.new.ends.items
     c.in_ok-slot.slot
@@ -186,13 +186,13 @@ append_to_group-requires-clause-links c =
     c.in_ok-slot.slot
     c.in-Ok.head c.args.tuple.now c.requires.heads r
 
-pub append_to_group-requires-clause-number : goal.append_to_group-requires-clause-number
-append_to_group-requires-clause-number c =
+pub join-requires-clause-number : goal.join-requires-clause-number
+join-requires-clause-number c =
     slot_number c.args.raw.now c.append_linked_row.new.rows c.append_linked_row.new.notes.items
     c.in_ok-slot.slot c.args.tuple.now c.in_ok-slot.ensures.laid
 
-pub append_to_group-requires-clause-head : goal.append_to_group-requires-clause-head
-append_to_group-requires-clause-head c =
+pub join-requires-clause-head : goal.join-requires-clause-head
+join-requires-clause-head c =
     let r : IsReady c.args.raw.now c.append_linked_row.new.rows c.append_linked_row.new.notes.items
     c.append_linked_row.new.links.items c.find_or_make_head.new.keys c.find_or_make_head.new.ends.items
     c.in_ok-slot.slot
@@ -213,8 +213,8 @@ append_to_group-requires-clause-head c =
     c.in_ok-slot.slot
     c.in-Ok.head c.args.tuple.now c.requires.heads r
 
-pub append_to_group-requires-clause-last : goal.append_to_group-requires-clause-last
-append_to_group-requires-clause-last c =
+pub join-requires-clause-last : goal.join-requires-clause-last
+join-requires-clause-last c =
     let r : IsReady c.args.raw.now c.append_linked_row.new.rows c.append_linked_row.new.notes.items
     c.append_linked_row.new.links.items c.find_or_make_head.new.keys c.find_or_make_head.new.ends.items
     c.in_ok-slot.slot
@@ -237,8 +237,8 @@ append_to_group-requires-clause-last c =
 
 pub returns-in-Ok-clause-raw : goal.returns-in-Ok-clause-raw
 returns-in-Ok-clause-raw c =
-    let s = c.append_to_group.ensures.settled in
-    let n : IsNoted c.args.marked c.args.raw.now c.append_to_group.new.raw c.append_linked_row.new.rows
+    let s = c.init_note.ensures in
+    let n : IsNoted c.args.marked c.args.raw.now c.init_note.new.raw c.append_linked_row.new.rows
     c.append_linked_row.new.notes.items c.in_ok-slot.slot c.in-Ok.head =
     record {
       kind = s.noted.kind;
@@ -247,7 +247,7 @@ returns-in-Ok-clause-raw c =
       notes_are = s.noted.notes_are;
       marked = s.noted.marked;
     } in
-    came_bare c.args.marked c.args.raw.now c.append_to_group.new.raw c.append_linked_row.new.rows
+    came_bare c.args.marked c.args.raw.now c.init_note.new.raw c.append_linked_row.new.rows
     c.append_linked_row.new.notes.items
     c.in_ok-slot.slot c.in-Ok.head c.args.tuple.now c.requires.raw c.requires.plain c.requires.absent
     c.in_ok-slot.ensures.laid n
@@ -269,8 +269,8 @@ returns-in-Ok-clause-heads c =
           c.args.raw.now.ends.items c.find_or_make_head.new.ends.items c.in-Ok.head
           (pick key c.args.tuple.now)) c.as_slice.ensures.value c.in-Ok.ensures.seated;
     } in
-    let s = c.append_to_group.ensures.settled in
-    let n : IsNoted c.args.marked c.args.raw.now c.append_to_group.new.raw c.append_linked_row.new.rows
+    let s = c.init_note.ensures in
+    let n : IsNoted c.args.marked c.args.raw.now c.init_note.new.raw c.append_linked_row.new.rows
     c.append_linked_row.new.notes.items c.in_ok-slot.slot c.in-Ok.head =
     record {
       kind = s.noted.kind;
@@ -279,22 +279,22 @@ returns-in-Ok-clause-heads c =
       notes_are = s.noted.notes_are;
       marked = s.noted.marked;
     } in
-    came_heads c.args.marked c.args.raw.now c.append_to_group.new.raw c.append_linked_row.new.rows
+    came_heads c.args.marked c.args.raw.now c.init_note.new.raw c.append_linked_row.new.rows
     c.append_linked_row.new.notes.items
     c.append_linked_row.new.links.items c.find_or_make_head.new.keys c.find_or_make_head.new.ends.items
     c.in_ok-slot.slot
     c.in-Ok.head c.args.tuple.now c.requires.raw c.requires.plain c.requires.heads c.requires.absent r
     (record {
       noted = n;
-      links_are = s.links_are;
-      keys_are = s.keys_are;
-      ends_are = s.ends_are;
+      links_are = s.links ∙ c.join.ensures.links;
+      keys_are = s.keys;
+      ends_are = s.ends ∙ c.join.ensures.ends;
     })
 
 pub returns-in-Ok-clause-inserted : goal.returns-in-Ok-clause-inserted
 returns-in-Ok-clause-inserted c =
-    let s = c.append_to_group.ensures.settled in
-    let n : IsNoted c.args.marked c.args.raw.now c.append_to_group.new.raw c.append_linked_row.new.rows
+    let s = c.init_note.ensures in
+    let n : IsNoted c.args.marked c.args.raw.now c.init_note.new.raw c.append_linked_row.new.rows
     c.append_linked_row.new.notes.items c.in_ok-slot.slot c.in-Ok.head =
     record {
       kind = s.noted.kind;
@@ -303,14 +303,14 @@ returns-in-Ok-clause-inserted c =
       notes_are = s.noted.notes_are;
       marked = s.noted.marked;
     } in
-    came_inserted c.args.marked c.args.raw.now c.append_to_group.new.raw c.append_linked_row.new.rows
+    came_inserted c.args.marked c.args.raw.now c.init_note.new.raw c.append_linked_row.new.rows
     c.append_linked_row.new.notes.items c.in_ok-slot.slot c.in-Ok.head c.args.tuple.now
     c.requires.raw c.requires.plain c.requires.absent c.in_ok-slot.ensures.laid n
 
 pub returns-in-Ok-clause-at : goal.returns-in-Ok-clause-at
 returns-in-Ok-clause-at c =
-    let s = c.append_to_group.ensures.settled in
-    let n : IsNoted c.args.marked c.args.raw.now c.append_to_group.new.raw c.append_linked_row.new.rows
+    let s = c.init_note.ensures in
+    let n : IsNoted c.args.marked c.args.raw.now c.init_note.new.raw c.append_linked_row.new.rows
     c.append_linked_row.new.notes.items c.in_ok-slot.slot c.in-Ok.head =
     record {
       kind = s.noted.kind;
@@ -319,8 +319,8 @@ returns-in-Ok-clause-at c =
       notes_are = s.noted.notes_are;
       marked = s.noted.marked;
     } in
-    subst (λ (p : Place). IsAt (entries_of c.append_to_group.new.raw) p c.args.tuple.now)
+    subst (λ (p : Place). IsAt (entries_of c.init_note.new.raw) p c.args.tuple.now)
     (sym c.new.ensures)
-    (came_at c.args.marked c.args.raw.now c.append_to_group.new.raw c.append_linked_row.new.rows
+    (came_at c.args.marked c.args.raw.now c.init_note.new.raw c.append_linked_row.new.rows
     c.append_linked_row.new.notes.items c.in_ok-slot.slot c.in-Ok.head c.args.tuple.now
     c.requires.raw c.requires.plain c.requires.absent c.in_ok-slot.ensures.laid n)

@@ -37,7 +37,7 @@ returns-clause-raw c =
     let m : Raw = record {
       kind = c.args.raw.now.kind;
       key = c.args.raw.now.key;
-      rows = c.renew.new.rows;
+      rows = c.renew.new.self;
       notes = c.args.raw.now.notes;
       links = c.args.raw.now.links;
       keys = c.args.raw.now.keys;
@@ -47,7 +47,7 @@ returns-clause-raw c =
     } in
     let k : Renews c.args.raw.now c.mark.new.raw c.args.place.slot = renews_from c.args.raw.now m
     c.mark.new.raw c.args.place.slot c.slot-slot.result c.slot-slot.ensures
-    c.mark.ensures refl refl refl refl c.renew.ensures.rows c.renew.ensures.width
+    c.mark.ensures refl refl refl refl c.laws.ensures c.renew.ensures.width
     c.renew.ensures.room c.renew.ensures.renewed in
     touched_bare c.args.raw.now c.mark.new.raw c.args.place c.requires.unmarked.tuple
     c.requires.raw f c.requires.unmarked.plain c.requires.unmarked.is_at k
@@ -58,7 +58,7 @@ returns-clause-touched c = λ u at.
     let m : Raw = record {
       kind = c.args.raw.now.kind;
       key = c.args.raw.now.key;
-      rows = c.renew.new.rows;
+      rows = c.renew.new.self;
       notes = c.args.raw.now.notes;
       links = c.args.raw.now.links;
       keys = c.args.raw.now.keys;
@@ -68,7 +68,7 @@ returns-clause-touched c = λ u at.
     } in
     let k : Renews c.args.raw.now c.mark.new.raw c.args.place.slot = renews_from c.args.raw.now m
     c.mark.new.raw c.args.place.slot c.slot-slot.result c.slot-slot.ensures
-    c.mark.ensures refl refl refl refl c.renew.ensures.rows c.renew.ensures.width
+    c.mark.ensures refl refl refl refl c.laws.ensures c.renew.ensures.width
     c.renew.ensures.room c.renew.ensures.renewed in
     touched_one c.args.raw.now c.mark.new.raw c.args.place u c.requires.raw f
     (same_tuple_at c.args.raw.now c.args.place u c.requires.unmarked.tuple c.requires.raw at

@@ -17,8 +17,8 @@ next-requires c =
     rw c.slot-slot.ensures
     (its_held c.args.raw.now c.args.place c.requires.live.tuple c.requires.raw f)
 
-pub withdraw-requires : goal.withdraw-requires
-withdraw-requires c =
+pub remove-requires : goal.remove-requires
+remove-requires c =
     let f = find_row c.args.raw.now c.args.place c.requires.live.tuple c.requires.live.is_at in
     rw c.slot-slot.ensures
     (its_held c.args.raw.now c.args.place c.requires.live.tuple c.requires.raw f)
@@ -26,19 +26,19 @@ withdraw-requires c =
 pub returns-clause-raw : goal.returns-clause-raw
 returns-clause-raw c =
     let f = find_row c.args.raw.now c.args.place c.requires.live.tuple c.requires.live.is_at in
-    let b : Raw = record c.args.raw.now { rows = c.withdraw.new.rows; marked = c.first_mark_without-raw.result } in
+    let b : Raw = record c.args.raw.now { rows = c.remove.new.self; marked = c.first_mark_without-raw.result } in
     let l : Leaves c.args.raw.now b c.args.place.slot c.next.result = leaves_from c.args.raw.now b
     c.args.place.slot c.slot-slot.result c.next.result c.slot-slot.ensures refl refl
-    c.withdraw.ensures.rows c.withdraw.ensures.width c.withdraw.ensures.room
-    c.withdraw.ensures.removed refl c.first_mark_without-raw.ensures c.next.ensures in
+    c.laws.ensures c.remove.ensures.width c.remove.ensures.room
+    c.remove.ensures.removed refl c.first_mark_without-raw.ensures c.next.ensures in
     gone_bare c.args.raw.now b c.args.place c.requires.live.tuple c.next.result c.requires.raw f l
 
 pub returns-clause-removed : goal.returns-clause-removed
 returns-clause-removed c = λ u at.
     let f = find_row c.args.raw.now c.args.place u at in
-    let b : Raw = record c.args.raw.now { rows = c.withdraw.new.rows; marked = c.first_mark_without-raw.result } in
+    let b : Raw = record c.args.raw.now { rows = c.remove.new.self; marked = c.first_mark_without-raw.result } in
     let l : Leaves c.args.raw.now b c.args.place.slot c.next.result = leaves_from c.args.raw.now b
     c.args.place.slot c.slot-slot.result c.next.result c.slot-slot.ensures refl refl
-    c.withdraw.ensures.rows c.withdraw.ensures.width c.withdraw.ensures.room
-    c.withdraw.ensures.removed refl c.first_mark_without-raw.ensures c.next.ensures in
+    c.laws.ensures c.remove.ensures.width c.remove.ensures.room
+    c.remove.ensures.removed refl c.first_mark_without-raw.ensures c.next.ensures in
     gone_removed c.args.raw.now b c.args.place u c.next.result c.requires.raw f l

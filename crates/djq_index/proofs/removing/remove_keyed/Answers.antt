@@ -86,8 +86,8 @@ prune-requires-clause-head c =
     (its_head_room c.args.raw.now c.args.place c.requires.live.tuple c.requires.raw
     c.requires.heads f)
 
-pub withdraw-requires : goal.withdraw-requires
-withdraw-requires c =
+pub remove-requires : goal.remove-requires
+remove-requires c =
     let f = find_row c.args.raw.now c.args.place c.requires.live.tuple c.requires.live.is_at in
     rw c.slot-slot.ensures
     (its_held c.args.raw.now c.args.place c.requires.live.tuple c.requires.raw f)
@@ -99,7 +99,7 @@ returns-clause-raw c =
     (note_at c.args.raw.now.notes.items c.args.place.slot).head = ap (λ (n : Note). n.head)
     (c.note_of-head.ensures ∙ ap (note_at c.args.raw.now.notes.items) c.slot-slot.ensures) in
     let b : Raw = record c.args.raw.now {
-      rows = c.withdraw.new.rows;
+      rows = c.remove.new.self;
       links = c.unlink.new.links;
       keys = c.prune.new.keys;
       ends = c.unlink.new.ends;
@@ -107,8 +107,8 @@ returns-clause-raw c =
     } in
     let l : Leaves c.args.raw.now b c.args.place.slot c.next.result = leaves_from c.args.raw.now b
     c.args.place.slot c.slot-slot.result c.next.result c.slot-slot.ensures refl refl
-    c.withdraw.ensures.rows c.withdraw.ensures.width c.withdraw.ensures.room
-    c.withdraw.ensures.removed refl c.first_mark_without-raw.ensures c.next.ensures in
+    c.laws.ensures c.remove.ensures.width c.remove.ensures.room
+    c.remove.ensures.removed refl c.first_mark_without-raw.ensures c.next.ensures in
     gone_bare c.args.raw.now b c.args.place c.requires.live.tuple c.next.result c.requires.raw f l
 
 pub returns-clause-heads : goal.returns-clause-heads
@@ -118,7 +118,7 @@ returns-clause-heads c =
     (note_at c.args.raw.now.notes.items c.args.place.slot).head = ap (λ (n : Note). n.head)
     (c.note_of-head.ensures ∙ ap (note_at c.args.raw.now.notes.items) c.slot-slot.ensures) in
     let b : Raw = record c.args.raw.now {
-      rows = c.withdraw.new.rows;
+      rows = c.remove.new.self;
       links = c.unlink.new.links;
       keys = c.prune.new.keys;
       ends = c.unlink.new.ends;
@@ -126,8 +126,8 @@ returns-clause-heads c =
     } in
     let l : Leaves c.args.raw.now b c.args.place.slot c.next.result = leaves_from c.args.raw.now b
     c.args.place.slot c.slot-slot.result c.next.result c.slot-slot.ensures refl refl
-    c.withdraw.ensures.rows c.withdraw.ensures.width c.withdraw.ensures.room
-    c.withdraw.ensures.removed refl c.first_mark_without-raw.ensures c.next.ensures in
+    c.laws.ensures c.remove.ensures.width c.remove.ensures.room
+    c.remove.ensures.removed refl c.first_mark_without-raw.ensures c.next.ensures in
     gone_heads c.args.raw.now b c.args.place c.requires.live.tuple c.next.result c.requires.raw
     c.requires.heads f
     (goes_from c.args.raw.now b c.args.place.slot c.slot-slot.result
@@ -139,7 +139,7 @@ pub returns-clause-removed : goal.returns-clause-removed
 returns-clause-removed c = λ u at.
     let f = find_row c.args.raw.now c.args.place u at in
     let b : Raw = record c.args.raw.now {
-      rows = c.withdraw.new.rows;
+      rows = c.remove.new.self;
       links = c.unlink.new.links;
       keys = c.prune.new.keys;
       ends = c.unlink.new.ends;
@@ -147,6 +147,6 @@ returns-clause-removed c = λ u at.
     } in
     let l : Leaves c.args.raw.now b c.args.place.slot c.next.result = leaves_from c.args.raw.now b
     c.args.place.slot c.slot-slot.result c.next.result c.slot-slot.ensures refl refl
-    c.withdraw.ensures.rows c.withdraw.ensures.width c.withdraw.ensures.room
-    c.withdraw.ensures.removed refl c.first_mark_without-raw.ensures c.next.ensures in
+    c.laws.ensures c.remove.ensures.width c.remove.ensures.room
+    c.remove.ensures.removed refl c.first_mark_without-raw.ensures c.next.ensures in
     gone_removed c.args.raw.now b c.args.place u c.next.result c.requires.raw f l
