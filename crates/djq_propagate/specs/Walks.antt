@@ -2,8 +2,7 @@
 use Rattle.std.specs.Prelude.{◌≡◌, ◌≢◌, ℕ, ◌+◌, ◌<◌, ◌≤◌, Bool, true, false, List, length}
 use Rattle.djq_index.specs.Entries.{Entry, supports_of, count_of, marks, plain}
 use Rattle.djq_index.specs.Changes.{InsertedAs, Removed}
-use Rattle.djq_index.specs.declared.place.Place.{Place}
-use Rattle.djq_index.specs.Table.{Table, IsAt}
+use Rattle.djq_index.specs.Table.{Table}
 use Rattle.djq_tree.specs.declared.node.Node.{Node}
 use Rattle.djq_tree.specs.Tree.{Tree, node_at, has_child}
 use Rattle.djq_reduct.specs.Tables.{entries_at, key_at}
@@ -15,12 +14,6 @@ pub record Changed (old new : List Table) (k : ℕ) : Type 0 where
   pub others : (i : ℕ) → i ≢ k → entries_at new i ≡ entries_at old i
   pub family : (t : Tree) → IsFamily t old → IsFamily t new
   pub size : size new + length (entries_at old k) ≡ size old + length (entries_at new k)
-
--- a tuple with more than one support lies at p
-pub record IsShared (es : List Entry) (p : Place) : Type 0 where
-  pub tuple : List ℕ
-  pub is_at : IsAt es p tuple
-  pub more : 1 < supports_of es tuple
 
 -- above the node j each table is its node's reduct
 pub record Ready (t : Tree) (ts : List Table) (j : ℕ) : Type 0 where

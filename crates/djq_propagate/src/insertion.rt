@@ -13,10 +13,7 @@ ghost use Rattle.djq_propagate.specs.Walks.{UnchangedAbove, CameAs, IsUnder};
 ghost use Rattle.djq_index.specs.declared.table.TheConstants.{TUPLES};
 
 use crate::removal::remove_group_from_meet;
-use crate::tables::{
-    column_of, find_at, find_part, first_at, has_no_column, insert_at, is_small_at, len_at,
-    next_at, part_of, raise_at, read_at, remove_at,
-};
+use crate::tables::{column_of, find_at, find_part, insert_at, part_of, read_at, remove_at};
 use djq_index::Table;
 use djq_reduct::Cells;
 use djq_steps::Tally;
@@ -130,7 +127,7 @@ fn insert_above_trim<L: Ledger>(
             insert_above_part(tree, tables, at, up, tuple, &[tuple[column]], marked, tally)
         }
         None => {
-            if has_no_column(tables, at) {
+            if tables[at].key().is_empty() {
                 insert_above_part(tree, tables, at, up, tuple, &[], marked, tally)
             } else {
                 insert_above_wide(tree, tables, at, up, tuple, marked, tally)
@@ -198,10 +195,10 @@ fn insert_above_part<L: Ledger>(
     ensures flat { OnErr result (HasEqualMeets tree.now → tally.new + 2 ≤ tally.old + 5
         * (length tree.now.nodes - at)) }
 {
-    is_small_at(tables, at);
+    tables[at].is_small();
     match find_at(tables, up, cells, tally) {
         Some(place) => {
-            raise_at(tables, up, place, tally);
+            tables[up].raise(place, tally);
             Ok(())
         }
         None => insert_tuple(tree, tables, up, cells, marked, tally),
@@ -234,7 +231,7 @@ fn insert_above_guard<L: Ledger>(
     ensures flat { OnErr result (HasEqualMeets tree.now → tally.new + 2 ≤ tally.old + 5
         * (length tree.now.nodes - at)) }
 {
-    is_small_at(tables, at);
+    tables[at].is_small();
     match find_part(tables, at, side, tuple, tally) {
         Some(_place) => insert_tuple(tree, tables, up, tuple, marked, tally),
         None => Ok(()),
@@ -266,10 +263,11 @@ fn insert_above_side<L: Ledger>(
     ensures flat { OnErr result (HasEqualMeets tree.now → tally.new + 2 ≤ tally.old + 5
         * (length tree.now.nodes - at)) }
 {
-    is_small_at(tables, guard);
-    let count = len_at(tables, guard);
+    let table = &tables[guard];
+    table.is_small();
+    let count = table.len();
+    let mut next = table.first(tuple, tally);
     let mut part = Cells::new(0);
-    let mut next = first_at(tables, guard, tuple, tally);
     for done in 0..count {
         match next {
             Some(place) => {
@@ -281,7 +279,7 @@ fn insert_above_side<L: Ledger>(
                         return Err(error);
                     }
                 }
-                next = next_at(tables, guard, place, tally);
+                next = tables[guard].next(place, tally);
             }
             None => {
                 return Ok(());

@@ -1,6 +1,8 @@
 -- A node's gain is its parent's, by the parent's equation; where one is refused, all supports are as before.
 use Rattle.std.proofs.Common.{◌≡◌, ℕ, ◌+◌, ◌-◌, ◌*◌, ◌<◌, ◌≤◌, List, length, take, drop, ap, subst, sym, ◌∙◌, arith}
-use Rattle.djq_index.specs.Entries.{Entry, supports_of, count_of, group_of}
+use Rattle.djq_index.specs.Entries.{Entry, supports_of, count_of, group_of, head_at}
+use Rattle.std.specs.Prelude.{slice_set}
+use Rattle.djq_index.specs.Table.{IsRaisable}
 use Rattle.djq_index.proofs.Changing.{inserted_length, supported_length}
 use Rattle.djq_tree.specs.declared.node.Node.TheVariants.{Trim, Meet}
 use Rattle.djq_tree.specs.Flat.{HasEqualMeets}
@@ -19,9 +21,10 @@ use Rattle.djq_propagate.proofs.Gains.{refused_ready, same_group, side_stayed, r
 use Rattle.djq_propagate.proofs.Gains.{lived_here}
 use Rattle.djq_propagate.proofs.Going.{has_table, wide_now, under_leaf, under_trim, under_guard}
 use Rattle.djq_propagate.proofs.Going.{under_side, guard_under, cut_of, cut_at, as_live, moved_at}
-use Rattle.djq_propagate.proofs.Going.{group_still, on_err, ok_map, err_map, refused_none}
+use Rattle.djq_propagate.proofs.Going.{guard_read, group_still, on_err, ok_map, err_map, refused_none}
 use Rattle.djq_propagate.proofs.Going.{plain_none}
-use Rattle.djq_propagate.proofs.Tabling.{part_none, part_one}
+use Rattle.djq_propagate.proofs.Tabling.{is_none, to_read, at_read, supported_into}
+use Rattle.djq_propagate.proofs.Tabling.{part_none, part_one, family_read, of_read, length_read, group_read, live_read}
 use Rattle.djq_propagate.proofs.Rooms.{room_size, most_more, trim_fits, guard_fits, next_fits, side_fits, side_bounded}
 use Rattle.djq_propagate.proofs.Refusing.{side_flat}
 use Rattle.djq_propagate.proofs.insertion.+insert_tuple.Goals as goal
@@ -342,11 +345,15 @@ pub insert_above-returns-else-guard-at-clause-bounded : goal.insert_above-return
 insert_above-returns-else-guard-at-clause-bounded g t c =
     c.insert_above_side.ensures.bounded
 
-pub insert_above_guard-is_small_at-requires : goal.insert_above_guard-is_small_at-requires
-insert_above_guard-is_small_at-requires g t c =
-    has_table c.args.tree.now c.args.tables.now.items c.args.at
-    (now_family c.args.tree.now c.requires.gaining.was c.args.tables.now.items c.args.at c.requires.gaining.began)
-    c.requires.gaining.began.ready.within
+pub insert_above_guard-index-requires : goal.insert_above_guard-index-requires
+insert_above_guard-index-requires g t c =
+    omega (
+      arith,
+      has_table c.args.tree.now c.args.tables.now.items c.args.at
+          (now_family c.args.tree.now c.requires.gaining.was c.args.tables.now.items c.args.at c.requires.gaining.began)
+          c.requires.gaining.began.ready.within,
+      c.args.tables.now.ok.0,
+    )
 
 pub insert_above_guard-find_part-requires-clause-within : goal.insert_above_guard-find_part-requires-clause-within
 insert_above_guard-find_part-requires-clause-within g t c =
@@ -404,7 +411,9 @@ insert_above_guard-insert_tuple-requires g t c κs hκ =
                 guard_fits c.args.tree.now c.requires.gaining.was c.args.tables.now.items c.args.at
                     c.args.side c.args.up
                     4294967295 c.args.tuple.now c.requires.gaining.began c.requires.gaining.gains c.requires.under
-                    c.is_small_at.ensures,
+                    (of_read (λ es. length es ≤ 4294967295) (family_read c.args.tree.now c.args.tables.now.items c.args.at
+                    c.index.result.now (now_family c.args.tree.now c.requires.gaining.was c.args.tables.now.items c.args.at
+                    c.requires.gaining.began) c.requires.gaining.began.ready.within c.index.ensures) c.is_small.ensures),
                 c.requires.bare,
               ),
             ),
@@ -506,15 +515,22 @@ insert_above_trim-insert_above_part-requires g t c κs hκ =
       ),
     )
 
-pub insert_above_trim-has_no_column-requires : goal.insert_above_trim-has_no_column-requires
-insert_above_trim-has_no_column-requires g t c =
-    has_table c.args.tree.now c.args.tables.now.items c.args.at
-    (now_family c.args.tree.now c.requires.gaining.was c.args.tables.now.items c.args.at c.requires.gaining.began)
-    c.requires.gaining.began.ready.within
+pub insert_above_trim-index-requires : goal.insert_above_trim-index-requires
+insert_above_trim-index-requires g t c =
+    omega (
+      arith,
+      has_table c.args.tree.now c.args.tables.now.items c.args.at
+          (now_family c.args.tree.now c.requires.gaining.was c.args.tables.now.items c.args.at c.requires.gaining.began)
+          c.requires.gaining.began.ready.within,
+      c.args.tables.now.ok.0,
+    )
 
-pub insert_above_trim-insert_above_part-requires-then-has_no_column :
-    goal.insert_above_trim-insert_above_part-requires-then-has_no_column
-insert_above_trim-insert_above_part-requires-then-has_no_column g t c κs hκ =
+pub insert_above_trim-insert_above_part-requires-then-is_empty :
+    goal.insert_above_trim-insert_above_part-requires-then-is_empty
+insert_above_trim-insert_above_part-requires-then-is_empty g t c κs hκ =
+    let r = family_read c.args.tree.now c.args.tables.now.items c.args.at c.index.result.now
+    (now_family c.args.tree.now c.requires.gaining.was c.args.tables.now.items c.args.at c.requires.gaining.began)
+    c.requires.gaining.began.ready.within c.index.ensures in
     let d = c.decreases in (
       omega arith,
       (
@@ -526,7 +542,8 @@ insert_above_trim-insert_above_part-requires-then-has_no_column g t c κs hκ =
             (
               c.requires.under,
               (
-                part_none (key_at c.args.tables.now.items c.args.at) c.args.tuple.now (search rules),
+                part_none (key_at c.args.tables.now.items c.args.at) c.args.tuple.now
+                    (sym (c.key.ensures ∙ r.key) ∙ is_none c.key.result.now (search rules)),
                 c.requires.bare,
               ),
             ),
@@ -586,28 +603,42 @@ insert_above_part-find_at-requires g t c =
     (now_family c.args.tree.now c.requires.gaining.was c.args.tables.now.items c.args.at c.requires.gaining.began)
     c.requires.under.within
 
-pub insert_above_part-is_small_at-requires : goal.insert_above_part-is_small_at-requires
-insert_above_part-is_small_at-requires g t c =
-    has_table c.args.tree.now c.args.tables.now.items c.args.at
-    (now_family c.args.tree.now c.requires.gaining.was c.args.tables.now.items c.args.at c.requires.gaining.began)
-    c.requires.gaining.began.ready.within
+pub insert_above_part-index-requires : goal.insert_above_part-index-requires
+insert_above_part-index-requires g t c =
+    omega (
+      arith,
+      has_table c.args.tree.now c.args.tables.now.items c.args.at
+          (now_family c.args.tree.now c.requires.gaining.was c.args.tables.now.items c.args.at c.requires.gaining.began)
+          c.requires.gaining.began.ready.within,
+      c.args.tables.now.ok.0,
+    )
 
-pub insert_above_part-raise_at-requires-clause-within : goal.insert_above_part-raise_at-requires-clause-within
-insert_above_part-raise_at-requires-clause-within g t c =
-    has_table c.args.tree.now c.args.tables.now.items c.args.up
-    (now_family c.args.tree.now c.requires.gaining.was c.args.tables.now.items c.args.at c.requires.gaining.began)
-    c.requires.under.within
+pub insert_above_part-index_mut-requires : goal.insert_above_part-index_mut-requires
+insert_above_part-index_mut-requires g t c =
+    omega (
+      arith,
+      has_table c.args.tree.now c.args.tables.now.items c.args.up
+          (now_family c.args.tree.now c.requires.gaining.was c.args.tables.now.items c.args.at c.requires.gaining.began)
+          c.requires.under.within,
+      c.args.tables.now.ok.0,
+    )
 
-pub insert_above_part-raise_at-requires-clause-room : goal.insert_above_part-raise_at-requires-clause-room
-insert_above_part-raise_at-requires-clause-room g t c =
-    record {
+pub insert_above_part-raise-requires : goal.insert_above_part-raise-requires
+insert_above_part-raise-requires g t c =
+    to_read (λ es. IsRaisable es c.in-Some.place) (family_read c.args.tree.now c.args.tables.now.items c.args.up c.index_mut.result.now
+    (now_family c.args.tree.now c.requires.gaining.was c.args.tables.now.items c.args.at c.requires.gaining.began)
+    c.requires.under.within c.index_mut.ensures.value)
+    (record {
       tuple = c.args.cells.now;
       is_at = c.in-Some.ensures.found;
       room = trim_room c.args.tree.now
           c.requires.gaining.was c.args.tables.now.items c.args.at c.args.up c.args.tuple.now
           c.args.cells.now
-          c.requires.gaining.began c.requires.gaining.gains c.requires.under c.is_small_at.ensures;
-    }
+          c.requires.gaining.began c.requires.gaining.gains c.requires.under
+          (of_read (λ es. length es ≤ 4294967295) (family_read c.args.tree.now c.args.tables.now.items c.args.at
+          c.index.result.now (now_family c.args.tree.now c.requires.gaining.was c.args.tables.now.items c.args.at c.requires.gaining.began)
+          c.requires.gaining.began.ready.within c.index.ensures) c.is_small.ensures);
+    })
 
 pub insert_above_part-insert_tuple-requires : goal.insert_above_part-insert_tuple-requires
 insert_above_part-insert_tuple-requires g t c κs hκ =
@@ -632,7 +663,9 @@ insert_above_part-insert_tuple-requires g t c κs hκ =
               (
                 trim_fits c.args.tree.now c.requires.gaining.was c.args.tables.now.items c.args.at c.args.up 4294967295
                     c.args.tuple.now c.requires.gaining.began c.requires.gaining.gains c.requires.under
-                    c.is_small_at.ensures,
+                    (of_read (λ es. length es ≤ 4294967295) (family_read c.args.tree.now c.args.tables.now.items c.args.at
+                    c.index.result.now (now_family c.args.tree.now c.requires.gaining.was c.args.tables.now.items c.args.at
+                    c.requires.gaining.began) c.requires.gaining.began.ready.within c.index.ensures) c.is_small.ensures),
                 c.requires.bare,
               ),
             ),
@@ -643,31 +676,43 @@ insert_above_part-insert_tuple-requires g t c κs hκ =
 
 pub insert_above_part-returns-in-Some-clause-ok : goal.insert_above_part-returns-in-Some-clause-ok
 insert_above_part-returns-in-Some-clause-ok g t c =
-    trim_raised c.args.tree.now c.requires.gaining.was c.args.tables.now.items c.raise_at.new.tables.items c.args.at
-    c.args.up c.args.tuple.now c.args.cells.now c.requires.gaining.began c.requires.gaining.gains
-    c.requires.under c.raise_at.ensures.changed
-    (c.raise_at.ensures.raised c.args.cells.now c.in-Some.ensures.found)
+    let r = family_read c.args.tree.now c.args.tables.now.items c.args.up c.index_mut.result.now
+    (now_family c.args.tree.now c.requires.gaining.was c.args.tables.now.items c.args.at c.requires.gaining.began)
+    c.requires.under.within c.index_mut.ensures.value in
+    let n = supported_into (λ (x : ℕ). x + 1) c.args.cells.now r c.raise.ensures.table c.raise.ensures.key
+    c.raise.ensures.width (c.raise.ensures.raised c.args.cells.now (at_read r c.in-Some.ensures.found)) (omega arith) in
+    trim_raised c.args.tree.now c.requires.gaining.was c.args.tables.now.items
+    (slice_set c.args.tables.now.items c.args.up c.raise.new.self) c.args.at c.args.up c.args.tuple.now
+    c.args.cells.now c.requires.gaining.began c.requires.gaining.gains c.requires.under n.changed n.supported
     c.requires.part
 
 pub insert_above_part-returns-in-Some-clause-plain : goal.insert_above_part-returns-in-Some-clause-plain
 insert_above_part-returns-in-Some-clause-plain g t c =
-    raised_same c.args.tables.now.items c.raise_at.new.tables.items c.args.up c.args.cells.now
-    (supports_of (entries_at c.args.tables.now.items c.args.up) c.args.cells.now)
-    ((supports_of (entries_at c.args.tables.now.items c.args.up) c.args.cells.now) + 1)
-    c.raise_at.ensures.changed (c.raise_at.ensures.raised c.args.cells.now c.in-Some.ensures.found)
+    let r = family_read c.args.tree.now c.args.tables.now.items c.args.up c.index_mut.result.now
+    (now_family c.args.tree.now c.requires.gaining.was c.args.tables.now.items c.args.at c.requires.gaining.began)
+    c.requires.under.within c.index_mut.ensures.value in
+    let n = supported_into (λ (x : ℕ). x + 1) c.args.cells.now r c.raise.ensures.table c.raise.ensures.key
+    c.raise.ensures.width (c.raise.ensures.raised c.args.cells.now (at_read r c.in-Some.ensures.found)) (omega arith) in
+    raised_same c.args.tables.now.items (slice_set c.args.tables.now.items c.args.up c.raise.new.self) c.args.up
+    c.args.cells.now (supports_of (entries_at c.args.tables.now.items c.args.up) c.args.cells.now)
+    ((supports_of (entries_at c.args.tables.now.items c.args.up) c.args.cells.now) + 1) n.changed n.supported
 
 pub insert_above_part-returns-in-Some-clause-counted : goal.insert_above_part-returns-in-Some-clause-counted
 insert_above_part-returns-in-Some-clause-counted g t c =
+    let r = family_read c.args.tree.now c.args.tables.now.items c.args.up c.index_mut.result.now
+    (now_family c.args.tree.now c.requires.gaining.was c.args.tables.now.items c.args.at c.requires.gaining.began)
+    c.requires.under.within c.index_mut.ensures.value in
+    let n = supported_into (λ (x : ℕ). x + 1) c.args.cells.now r c.raise.ensures.table c.raise.ensures.key
+    c.raise.ensures.width (c.raise.ensures.raised c.args.cells.now (at_read r c.in-Some.ensures.found)) (omega arith) in
     omega (
       arith,
       c.find_at.ensures.counted,
-      c.raise_at.ensures.counted,
-      c.raise_at.ensures.changed.size,
+      c.raise.ensures.counted,
+      n.changed.size,
       supported_length (entries_at c.args.tables.now.items c.args.up)
-          (entries_at c.raise_at.new.tables.items c.args.up) c.args.cells.now
+          (entries_at (slice_set c.args.tables.now.items c.args.up c.raise.new.self) c.args.up) c.args.cells.now
           (supports_of (entries_at c.args.tables.now.items c.args.up) c.args.cells.now)
-          ((supports_of (entries_at c.args.tables.now.items c.args.up) c.args.cells.now) + 1)
-          (c.raise_at.ensures.raised c.args.cells.now c.in-Some.ensures.found),
+          ((supports_of (entries_at c.args.tables.now.items c.args.up) c.args.cells.now) + 1) n.supported,
     )
 
 pub insert_above_part-returns-in-None-clause-ok : goal.insert_above_part-returns-in-None-clause-ok
@@ -719,44 +764,33 @@ insert_above_part-returns-in-None-clause-bounded g t c =
     ))
     c.insert_tuple.ensures.bounded
 
-pub insert_above_side-is_small_at-requires : goal.insert_above_side-is_small_at-requires
-insert_above_side-is_small_at-requires g t c =
+pub insert_above_side-index-table-requires : goal.insert_above_side-index-table-requires
+insert_above_side-index-table-requires g t c =
     let m = c.requires.gaining.began.ready.family.is_tree.meet c.args.up c.args.guard c.args.at c.requires.under.node in
     let mg = m.guard_lower in
     let within = c.requires.under.within in
-    has_table c.args.tree.now c.args.tables.now.items c.args.guard
-    (now_family c.args.tree.now c.requires.gaining.was c.args.tables.now.items c.args.at c.requires.gaining.began)
-    (omega arith)
-
-pub insert_above_side-len_at-count-requires : goal.insert_above_side-len_at-count-requires
-insert_above_side-len_at-count-requires g t c =
-    let m = c.requires.gaining.began.ready.family.is_tree.meet c.args.up c.args.guard c.args.at c.requires.under.node in
-    let mg = m.guard_lower in
-    let within = c.requires.under.within in
-    has_table c.args.tree.now c.args.tables.now.items c.args.guard
-    (now_family c.args.tree.now c.requires.gaining.was c.args.tables.now.items c.args.at c.requires.gaining.began)
-    (omega arith)
-
-pub insert_above_side-first_at-next-requires : goal.insert_above_side-first_at-next-requires
-insert_above_side-first_at-next-requires g t c =
-    let m = c.requires.gaining.began.ready.family.is_tree.meet c.args.up c.args.guard c.args.at c.requires.under.node in
-    let mg = m.guard_lower in
-    let within = c.requires.under.within in
-    has_table c.args.tree.now c.args.tables.now.items c.args.guard
-    (now_family c.args.tree.now c.requires.gaining.was c.args.tables.now.items c.args.at c.requires.gaining.began)
-    (omega arith)
+    omega (
+      arith,
+      has_table c.args.tree.now c.args.tables.now.items c.args.guard
+          (now_family c.args.tree.now c.requires.gaining.was c.args.tables.now.items c.args.at c.requires.gaining.began)
+          (omega arith),
+      c.args.tables.now.ok.0,
+    )
 
 pub insert_above_side-loop-done-init : goal.insert_above_side-loop-done-init
 insert_above_side-loop-done-init g t c =
+    let r = guard_read c.args.tree.now c.args.tables.now.items c.args.at c.args.up c.args.guard c.index-table.result.now
+    (now_family c.args.tree.now c.requires.gaining.was c.args.tables.now.items c.args.at c.requires.gaining.began)
+    c.requires.under c.index-table.ensures in
     record {
-      next = c.first_at-next.ensures.found;
+      next = c.first-next.ensures.found ∙ ap (λ (es : List Entry). head_at es) (group_read c.args.tuple.now r);
       grown = grown_none c.args.tree.now c.args.tables.now.items c.args.up
           (group_of (key_at c.args.tables.now.items c.args.guard) (entries_at c.args.tables.now.items c.args.guard)
           c.args.tuple.now) (ready_up c.args.tree.now c.requires.gaining.was c.args.tables.now.items c.args.at c.args.up
           (Meet c.args.guard c.args.at) c.requires.gaining.began c.requires.under);
       unchanged = plain_refl
           c.args.tables.now.items;
-      counted = omega (arith, c.first_at-next.ensures.counted);
+      counted = omega (arith, c.first-next.ensures.counted);
     }
 
 pub insert_above_side-read_at-requires-clause-within : goal.insert_above_side-read_at-requires-clause-within
@@ -834,7 +868,10 @@ insert_above_side-insert_tuple-requires g t c κs hκ =
                       c.args.tuple.now k.entry
                       c.requires.gaining.began c.requires.gaining.gains c.requires.under
                       c.loop-done.invariant.grown k.is,
-                  c.is_small_at.ensures,
+                  c.is_small.ensures,
+                  length_read (guard_read c.args.tree.now c.args.tables.now.items c.args.at c.args.up c.args.guard c.index-table.result.now
+                      (now_family c.args.tree.now c.requires.gaining.was c.args.tables.now.items c.args.at c.requires.gaining.began)
+                      c.requires.under c.index-table.ensures),
                 ),
                 still_bare c.args.marked c.args.tables.now.items c.loop-done.tables.items
                     c.loop-done.invariant.unchanged c.requires.bare,
@@ -921,15 +958,15 @@ insert_above_side-returns-in-Err-clause-bounded g t c =
     c.in-Err.ensures.refused.supports back.supports c.loop-done.invariant.counted
     (c.in-Err.ensures.bounded n fits.1 fits.0) c.remove_group_from_meet.ensures.counted
 
-pub insert_above_side-next_at-next-requires-clause-within : goal.insert_above_side-next_at-next-requires-clause-within
-insert_above_side-next_at-next-requires-clause-within g t c =
+pub insert_above_side-index-requires : goal.insert_above_side-index-requires
+insert_above_side-index-requires g t c =
     let m = c.requires.gaining.began.ready.family.is_tree.meet c.args.up c.args.guard c.args.at c.requires.under.node in
     let mg = m.guard_lower in
     let within = c.requires.under.within in
-    has_table c.args.tree.now c.insert_tuple.new.tables.items c.args.guard c.in-Ok.ensures.ok.family (omega arith)
+    omega (arith, has_table c.args.tree.now c.insert_tuple.new.tables.items c.args.guard c.in-Ok.ensures.ok.family (omega arith), c.insert_tuple.new.tables.ok.0)
 
-pub insert_above_side-next_at-next-requires-clause-live : goal.insert_above_side-next_at-next-requires-clause-live
-insert_above_side-next_at-next-requires-clause-live g t c =
+pub insert_above_side-next-next-requires : goal.insert_above_side-next-next-requires
+insert_above_side-next-next-requires g t c =
     let k = cut_of (group_of (key_at c.args.tables.now.items c.args.guard) (entries_at c.args.tables.now.items
     c.args.guard)
     c.args.tuple.now) c.loop-done.done c.loop-done.next c.in-Some.place c.loop-done.invariant.next c.in-Some.is in
@@ -946,7 +983,8 @@ insert_above_side-next_at-next-requires-clause-live g t c =
     c.requires.under.node).guard_lower)
     (cut_at (key_at c.args.tables.now.items c.args.guard) (entries_at c.args.tables.now.items c.args.guard)
     c.args.tuple.now c.loop-done.done c.in-Some.place k))) c.in-Ok.ensures.ok) k.is) in
-    as_live (entries_at c.insert_tuple.new.tables.items c.args.guard) c.in-Some.place k.entry.tuple
+    live_read (guard_read c.args.tree.now c.insert_tuple.new.tables.items c.args.at c.args.up c.args.guard c.index.result.now
+    c.in-Ok.ensures.ok.family c.requires.under c.index.ensures)
     (moved_at (entries_at c.args.tables.now.items c.args.guard) (entries_at c.insert_tuple.new.tables.items
     c.args.guard)
     c.in-Some.place k.entry.tuple
@@ -978,14 +1016,17 @@ insert_above_side-loop-done-preserved g t c =
     c.requires.under.node).guard_lower)
     (cut_at (key_at c.args.tables.now.items c.args.guard) (entries_at c.args.tables.now.items c.args.guard)
     c.args.tuple.now c.loop-done.done c.in-Some.place k))) c.in-Ok.ensures.ok) k.is) in
+    let r = guard_read c.args.tree.now c.insert_tuple.new.tables.items c.args.at c.args.up c.args.guard c.index.result.now
+    c.in-Ok.ensures.ok.family c.requires.under c.index.ensures in
     record {
-      next = c.next_at-next.ensures.found c.args.tuple.now
+      next = c.next-next.ensures.found c.args.tuple.now
           (take c.loop-done.done
           (group_of (key_at c.args.tables.now.items c.args.guard) (entries_at c.args.tables.now.items c.args.guard)
           c.args.tuple.now)) k.entry
           (drop (c.loop-done.done + 1)
           (group_of (key_at c.args.tables.now.items c.args.guard) (entries_at c.args.tables.now.items c.args.guard)
-          c.args.tuple.now)) (group_still c.args.tree.now c.args.tables.now.items c.insert_tuple.new.tables.items
+          c.args.tuple.now)) (group_read c.args.tuple.now r
+          ∙ group_still c.args.tree.now c.args.tables.now.items c.insert_tuple.new.tables.items
           c.args.guard
           c.args.tuple.now (now_family c.args.tree.now c.requires.gaining.was c.args.tables.now.items c.args.at
           c.requires.gaining.began) n.family
@@ -994,7 +1035,7 @@ insert_above_side-loop-done-preserved g t c =
       grown = n;
       unchanged = plain_trans c.args.tables.now.items c.loop-done.tables.items c.insert_tuple.new.tables.items
           c.loop-done.invariant.unchanged c.insert_tuple.ensures.plain;
-      counted = omega (arith, c.loop-done.invariant.counted, c.in-Ok.ensures.counted, c.next_at-next.ensures.counted);
+      counted = omega (arith, c.loop-done.invariant.counted, c.in-Ok.ensures.counted, c.next-next.ensures.counted);
     }
 
 pub insert_above_side-returns-in-None-clause-ok : goal.insert_above_side-returns-in-None-clause-ok
@@ -1022,7 +1063,13 @@ insert_above_side-returns-clause-ok g t c =
     c.args.at c.args.up c.loop-done.done c.args.tuple.now c.requires.gaining.began c.requires.gaining.gains
     c.requires.under c.loop-done.invariant.grown
     (drop_group (key_at c.args.tables.now.items c.args.guard) (entries_at c.args.tables.now.items c.args.guard)
-    c.args.tuple.now c.loop-done.done (omega (arith, c.len_at-count.ensures)))
+    c.args.tuple.now c.loop-done.done (omega (
+      arith,
+      c.len-count.ensures,
+      length_read (guard_read c.args.tree.now c.args.tables.now.items c.args.at c.args.up c.args.guard c.index-table.result.now
+          (now_family c.args.tree.now c.requires.gaining.was c.args.tables.now.items c.args.at c.requires.gaining.began)
+          c.requires.under c.index-table.ensures),
+    )))
 
 pub insert_above_side-returns-clause-plain : goal.insert_above_side-returns-clause-plain
 insert_above_side-returns-clause-plain g t c =
