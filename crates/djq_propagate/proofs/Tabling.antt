@@ -20,23 +20,6 @@ use Rattle.djq_reduct.specs.Reducts.{IsFamily}
 use Rattle.djq_propagate.specs.Sizes.{size}
 use Rattle.djq_propagate.specs.Walks.{Changed}
 
--- what an index reads
-pub read_table : (ts : List Table) (k : ℕ) (t : Table) → k < length ts → t ≡ slice_index_or ts k t → t ≡ table_at ts k
-unfolding table_at
-read_table ts k t h e = get_or_read ts k t h e no_table
-
-pub entries_of : (ts : List Table) (k : ℕ) (t : Table) → t ≡ table_at ts k → t.entries ≡ entries_at ts k
-unfolding entries_at
-entries_of ts k t e = ap (λ (u : Table). u.entries) e
-
-pub key_of : (ts : List Table) (k : ℕ) (t : Table) → t ≡ table_at ts k → t.key ≡ key_at ts k
-unfolding key_at
-key_of ts k t e = ap (λ (u : Table). u.key) e
-
-pub width_of : (ts : List Table) (k : ℕ) (t : Table) → t ≡ table_at ts k → t.width ≡ width_at ts k
-unfolding width_at
-width_of ts k t e = ap (λ (u : Table). u.width) e
-
 -- the table that an index reads is the node's
 pub record IsRead (ts : List Table) (k : ℕ) (t : Table) : Type 0 where
   pub within : k < length ts
@@ -46,9 +29,16 @@ pub record IsRead (ts : List Table) (k : ℕ) (t : Table) : Type 0 where
   pub width : t.width ≡ width_at ts k
 
 pub is_read : (ts : List Table) (k : ℕ) (t : Table) → k < length ts → t ≡ slice_index_or ts k t → IsRead ts k t
+unfolding table_at entries_at key_at width_at
 is_read ts k t h e =
-    let r = read_table ts k t h e in
-    record { within = h; is = e; entries = entries_of ts k t r; key = key_of ts k t r; width = width_of ts k t r }
+    let r : t ≡ slice_index_or ts k no_table = get_or_read ts k t h e no_table in
+    record {
+      within = h;
+      is = e;
+      entries = ap (λ (u : Table). u.entries) r;
+      key = ap (λ (u : Table). u.key) r;
+      width = ap (λ (u : Table). u.width) r;
+    }
 
 pub family_read : (r : Tree) (ts : List Table) (k : ℕ) (t : Table) → IsFamily r ts → k < length r.nodes
     → t ≡ slice_index_or ts k t → IsRead ts k t
@@ -74,8 +64,8 @@ pub to_read : {ts : List Table} {k : ℕ} {t : Table} (P : List Entry → Type 0
     → P t.entries
 to_read P r p = subst P (sym r.entries) p
 
-pub at_read : {ts : List Table} {k : ℕ} {t : Table} {p : Place} {u : List ℕ} → IsRead ts k t → IsAt (entries_at ts k) p u
-    → IsAt t.entries p u
+pub at_read : {ts : List Table} {k : ℕ} {t : Table} {p : Place} {u : List ℕ} → IsRead ts k t
+    → IsAt (entries_at ts k) p u → IsAt t.entries p u
 at_read {ts} {k} {t} {p} {u} r a = subst (λ (es : List Entry). IsAt es p u) (sym r.entries) a
 
 pub live_read : {ts : List Table} {k : ℕ} {t : Table} {p : Place} {u : List ℕ} → IsRead ts k t
@@ -94,11 +84,11 @@ other_table : (ts : List Table) (k i : ℕ) (t : Table) → i ≢ k → table_at
 unfolding table_at
 other_table ts k i t h = get_or-set_other ts k i t no_table h
 
-pub set_entries : (ts : List Table) (k : ℕ) (t : Table) → k < length ts → entries_at (slice_set ts k t) k ≡ t.entries
+set_entries : (ts : List Table) (k : ℕ) (t : Table) → k < length ts → entries_at (slice_set ts k t) k ≡ t.entries
 unfolding entries_at
 set_entries ts k t h = ap (λ (u : Table). u.entries) (set_table ts k t h)
 
-pub other_entries : (ts : List Table) (k i : ℕ) (t : Table) → i ≢ k → entries_at (slice_set ts k t) i ≡ entries_at ts i
+other_entries : (ts : List Table) (k i : ℕ) (t : Table) → i ≢ k → entries_at (slice_set ts k t) i ≡ entries_at ts i
 unfolding entries_at
 other_entries ts k i t h = ap (λ (u : Table). u.entries) (other_table ts k i t h)
 
@@ -141,7 +131,7 @@ supported_set : (ts : List Table) (k : ℕ) (t : Table) → k < length ts
 unfolding entries_at
 supported_set ts k t h up all i = at_each (λ (u : Table). AreSupported u.entries) ts k t h (up (all k)) i (all i)
 
-pub changed_set : (ts : List Table) (k : ℕ) (t : Table) → k < length ts → IsTable t → t.key ≡ key_at ts k → t.width
+changed_set : (ts : List Table) (k : ℕ) (t : Table) → k < length ts → IsTable t → t.key ≡ key_at ts k → t.width
     ≡ width_at ts k → (AreSupported (entries_at ts k) → AreSupported t.entries) → Changed ts (slice_set ts k t) k
 changed_set ts k t h sound key width supported = record {
   others = λ i apart. other_entries ts k i t apart;
@@ -188,7 +178,7 @@ pub insert_supported : {A E : Type 0} (m : Bool) (r : Result A E) (key : List �
 insert_supported m (Ok p) key old new u i e h = inserted_supported key old new u i h
 insert_supported m (Err x) key old new u i e h = subst AreSupported (sym e) h
 
-pub supports_supported : (old new : List Entry) (u : List ℕ) (from to : ℕ) → Supported old new u from to → 0 < to
+supports_supported : (old new : List Entry) (u : List ℕ) (from to : ℕ) → Supported old new u from to → 0 < to
     → AreSupported old → AreSupported new
 supports_supported old new u from to s pos h =
     let has = s.has in
@@ -206,7 +196,7 @@ touched_supported key old new u t h =
     (supported_in t.fore t.after t.rest (omega arith)
     (subst AreSupported t.between (supported_out t.front t.before t.back was)))
 
-pub unmarked_supported : (es : List Entry) → AreSupported es → AreSupported (unmarked es)
+unmarked_supported : (es : List Entry) → AreSupported es → AreSupported (unmarked es)
 unfolding AreSupported unmarked bare
 unmarked_supported [] h = h
 unmarked_supported (e ∷ es) h = (h.0, unmarked_supported es h.1)

@@ -8,8 +8,8 @@ ghost use Rattle.djq_tree.specs.Flat.{HasEqualMeets};
 ghost use Rattle.djq_reduct.specs.Tables.{entries_at, key_at, width_at};
 ghost use Rattle.djq_reduct.specs.Marks.{IsBare};
 ghost use Rattle.djq_propagate.specs.Sizes.{size, AreAtMost};
-ghost use Rattle.djq_propagate.specs.Walks.{Ready, InsertedUpwards, Refused, Gaining, ReducedAbove};
-ghost use Rattle.djq_propagate.specs.Walks.{UnchangedAbove, CameAs, IsUnder};
+ghost use Rattle.djq_propagate.specs.Walks.{Ready, InsertedUpwards, Refused, Gaining, InsertedAbove};
+ghost use Rattle.djq_propagate.specs.Walks.{CameAs, IsUnder};
 ghost use Rattle.djq_index.specs.declared.table.TheConstants.{TUPLES};
 
 use crate::removal::remove_group_from_meet;
@@ -70,15 +70,7 @@ fn insert_above<L: Ledger>(
     requires gaining { Gaining tree.now tables.old.items at tuple.now }
     requires wide { length tuple.now ≡ width_at tables.old.items at }
     requires bare { marked ≡ false → IsBare tables.old.items }
-    ensures ok { IfOk result (λ _. ReducedAbove tree.now tables.old.items tables.new.items at) }
-    ensures refused { OnErr result (UnchangedAbove tree.now tables.old.items tables.new.items at) }
-    ensures plain { CameAs marked tables.old.items tables.new.items }
-    ensures counted { IfOk result (λ _. tally.new + 4 * size tables.old.items ≤ tally.old + 2 + 4
-        * size tables.new.items) }
-    ensures bounded { OnErr result ((n : ℕ) → AreAtMost tables.old.items n
-        → tally.new + 9 * size tables.old.items ≤ tally.old + 7 + 9 * (n * length tree.now.nodes)) }
-    ensures flat { OnErr result (HasEqualMeets tree.now → tally.new + 2 ≤ tally.old + 5
-        * (length tree.now.nodes - at)) }
+    ensures { InsertedAbove tree.now tables.old.items tables.new.items at marked result tally.old tally.new }
 {
     match tree.parent(at) {
         None => Ok(()),
@@ -112,15 +104,7 @@ fn insert_above_trim<L: Ledger>(
     requires wide { length tuple.now ≡ width_at tables.old.items at }
     requires under { IsUnder tree.now up (Trim at) at }
     requires bare { marked ≡ false → IsBare tables.old.items }
-    ensures ok { IfOk result (λ _. ReducedAbove tree.now tables.old.items tables.new.items at) }
-    ensures refused { OnErr result (UnchangedAbove tree.now tables.old.items tables.new.items at) }
-    ensures plain { CameAs marked tables.old.items tables.new.items }
-    ensures counted { IfOk result (λ _. tally.new + 4 * size tables.old.items ≤ tally.old + 2 + 4
-        * size tables.new.items) }
-    ensures bounded { OnErr result ((n : ℕ) → AreAtMost tables.old.items n
-        → tally.new + 9 * size tables.old.items ≤ tally.old + 7 + 9 * (n * length tree.now.nodes)) }
-    ensures flat { OnErr result (HasEqualMeets tree.now → tally.new + 2 ≤ tally.old + 5
-        * (length tree.now.nodes - at)) }
+    ensures { InsertedAbove tree.now tables.old.items tables.new.items at marked result tally.old tally.new }
 {
     match column_of(tables, at) {
         Some(column) => {
@@ -152,15 +136,7 @@ fn insert_above_wide<L: Ledger>(
     requires wide { length tuple.now ≡ width_at tables.old.items at }
     requires under { IsUnder tree.now up (Trim at) at }
     requires bare { marked ≡ false → IsBare tables.old.items }
-    ensures ok { IfOk result (λ _. ReducedAbove tree.now tables.old.items tables.new.items at) }
-    ensures refused { OnErr result (UnchangedAbove tree.now tables.old.items tables.new.items at) }
-    ensures plain { CameAs marked tables.old.items tables.new.items }
-    ensures counted { IfOk result (λ _. tally.new + 4 * size tables.old.items ≤ tally.old + 2 + 4
-        * size tables.new.items) }
-    ensures bounded { OnErr result ((n : ℕ) → AreAtMost tables.old.items n
-        → tally.new + 9 * size tables.old.items ≤ tally.old + 7 + 9 * (n * length tree.now.nodes)) }
-    ensures flat { OnErr result (HasEqualMeets tree.now → tally.new + 2 ≤ tally.old + 5
-        * (length tree.now.nodes - at)) }
+    ensures { InsertedAbove tree.now tables.old.items tables.new.items at marked result tally.old tally.new }
 {
     let mut part = Cells::new(0);
     part_of(tables, at, tuple, &mut part);
@@ -185,15 +161,7 @@ fn insert_above_part<L: Ledger>(
     requires under { IsUnder tree.now up (Trim at) at }
     requires part { cells.now ≡ pick (key_at tables.old.items at) tuple.now }
     requires bare { marked ≡ false → IsBare tables.old.items }
-    ensures ok { IfOk result (λ _. ReducedAbove tree.now tables.old.items tables.new.items at) }
-    ensures refused { OnErr result (UnchangedAbove tree.now tables.old.items tables.new.items at) }
-    ensures plain { CameAs marked tables.old.items tables.new.items }
-    ensures counted { IfOk result (λ _. tally.new + 4 * size tables.old.items ≤ tally.old + 2 + 4
-        * size tables.new.items) }
-    ensures bounded { OnErr result ((n : ℕ) → AreAtMost tables.old.items n
-        → tally.new + 9 * size tables.old.items ≤ tally.old + 7 + 9 * (n * length tree.now.nodes)) }
-    ensures flat { OnErr result (HasEqualMeets tree.now → tally.new + 2 ≤ tally.old + 5
-        * (length tree.now.nodes - at)) }
+    ensures { InsertedAbove tree.now tables.old.items tables.new.items at marked result tally.old tally.new }
 {
     tables[at].is_small();
     match find_at(tables, up, cells, tally) {
@@ -221,15 +189,7 @@ fn insert_above_guard<L: Ledger>(
     requires wide { length tuple.now ≡ width_at tables.old.items at }
     requires under { IsUnder tree.now up (Meet at side) at }
     requires bare { marked ≡ false → IsBare tables.old.items }
-    ensures ok { IfOk result (λ _. ReducedAbove tree.now tables.old.items tables.new.items at) }
-    ensures refused { OnErr result (UnchangedAbove tree.now tables.old.items tables.new.items at) }
-    ensures plain { CameAs marked tables.old.items tables.new.items }
-    ensures counted { IfOk result (λ _. tally.new + 4 * size tables.old.items ≤ tally.old + 2 + 4
-        * size tables.new.items) }
-    ensures bounded { OnErr result ((n : ℕ) → AreAtMost tables.old.items n
-        → tally.new + 9 * size tables.old.items ≤ tally.old + 7 + 9 * (n * length tree.now.nodes)) }
-    ensures flat { OnErr result (HasEqualMeets tree.now → tally.new + 2 ≤ tally.old + 5
-        * (length tree.now.nodes - at)) }
+    ensures { InsertedAbove tree.now tables.old.items tables.new.items at marked result tally.old tally.new }
 {
     tables[at].is_small();
     match find_part(tables, at, side, tuple, tally) {
@@ -253,15 +213,7 @@ fn insert_above_side<L: Ledger>(
     requires gaining { Gaining tree.now tables.old.items at tuple.now }
     requires under { IsUnder tree.now up (Meet guard at) at }
     requires bare { marked ≡ false → IsBare tables.old.items }
-    ensures ok { IfOk result (λ _. ReducedAbove tree.now tables.old.items tables.new.items at) }
-    ensures refused { OnErr result (UnchangedAbove tree.now tables.old.items tables.new.items at) }
-    ensures plain { CameAs marked tables.old.items tables.new.items }
-    ensures counted { IfOk result (λ _. tally.new + 4 * size tables.old.items ≤ tally.old + 2 + 4
-        * size tables.new.items) }
-    ensures bounded { OnErr result ((n : ℕ) → AreAtMost tables.old.items n
-        → tally.new + 9 * size tables.old.items ≤ tally.old + 7 + 9 * (n * length tree.now.nodes)) }
-    ensures flat { OnErr result (HasEqualMeets tree.now → tally.new + 2 ≤ tally.old + 5
-        * (length tree.now.nodes - at)) }
+    ensures { InsertedAbove tree.now tables.old.items tables.new.items at marked result tally.old tally.new }
 {
     let table = &tables[guard];
     table.is_small();

@@ -7,7 +7,7 @@ ghost use Rattle.djq_index.specs.Table.{IsAt};
 ghost use Rattle.djq_tree.specs.declared.node.Node.TheVariants.{Trim, Meet};
 ghost use Rattle.djq_reduct.specs.Tables.{entries_at, key_at, width_at};
 ghost use Rattle.djq_propagate.specs.Sizes.{size};
-ghost use Rattle.djq_propagate.specs.Walks.{Ready, RemovedUpwards, Losing, ReducedAbove, Fewer};
+ghost use Rattle.djq_propagate.specs.Walks.{Ready, RemovedUpwards, Losing, RemovedAbove, Fewer};
 ghost use Rattle.djq_propagate.specs.Walks.{IsUnder, IsEmptied, IsFull};
 
 use crate::tables::{column_of, find_at, part_of, read_at, remove_at};
@@ -49,9 +49,7 @@ fn remove_above<L: Ledger>(
 )
     requires losing { Losing tree.now tables.old.items at tuple.now }
     requires wide { length tuple.now ≡ width_at tables.old.items at }
-    ensures righted { ReducedAbove tree.now tables.old.items tables.new.items at }
-    ensures fewer { Fewer tables.old.items tables.new.items }
-    ensures counted { tally.new + 5 * size tables.new.items ≤ tally.old + 2 + 5 * size tables.old.items }
+    ensures { RemovedAbove tree.now tables.old.items tables.new.items at tally.old tally.new }
 {
     match tree.parent(at) {
         None => {}
@@ -83,9 +81,7 @@ fn remove_above_trim<L: Ledger>(
     requires losing { Losing tree.now tables.old.items at tuple.now }
     requires wide { length tuple.now ≡ width_at tables.old.items at }
     requires under { IsUnder tree.now up (Trim at) at }
-    ensures righted { ReducedAbove tree.now tables.old.items tables.new.items at }
-    ensures fewer { Fewer tables.old.items tables.new.items }
-    ensures counted { tally.new + 5 * size tables.new.items ≤ tally.old + 2 + 5 * size tables.old.items }
+    ensures { RemovedAbove tree.now tables.old.items tables.new.items at tally.old tally.new }
 {
     match column_of(tables, at) {
         Some(column) => remove_above_part(tree, tables, at, up, tuple, &[tuple[column]], tally),
@@ -113,9 +109,7 @@ fn remove_above_wide<L: Ledger>(
     requires losing { Losing tree.now tables.old.items at tuple.now }
     requires wide { length tuple.now ≡ width_at tables.old.items at }
     requires under { IsUnder tree.now up (Trim at) at }
-    ensures righted { ReducedAbove tree.now tables.old.items tables.new.items at }
-    ensures fewer { Fewer tables.old.items tables.new.items }
-    ensures counted { tally.new + 5 * size tables.new.items ≤ tally.old + 2 + 5 * size tables.old.items }
+    ensures { RemovedAbove tree.now tables.old.items tables.new.items at tally.old tally.new }
 {
     let mut part = Cells::new(0);
     part_of(tables, at, tuple, &mut part);
@@ -138,9 +132,7 @@ fn remove_above_part<L: Ledger>(
     requires wide { length tuple.now ≡ width_at tables.old.items at }
     requires under { IsUnder tree.now up (Trim at) at }
     requires part { cells.now ≡ pick (key_at tables.old.items at) tuple.now }
-    ensures righted { ReducedAbove tree.now tables.old.items tables.new.items at }
-    ensures fewer { Fewer tables.old.items tables.new.items }
-    ensures counted { tally.new + 5 * size tables.new.items ≤ tally.old + 2 + 5 * size tables.old.items }
+    ensures { RemovedAbove tree.now tables.old.items tables.new.items at tally.old tally.new }
 {
     match find_at(tables, up, cells, tally) {
         Some(place) => {
@@ -167,9 +159,7 @@ fn remove_above_guard<L: Ledger>(
 )
     requires losing { Losing tree.now tables.old.items at tuple.now }
     requires under { IsUnder tree.now up (Meet at side) at }
-    ensures righted { ReducedAbove tree.now tables.old.items tables.new.items at }
-    ensures fewer { Fewer tables.old.items tables.new.items }
-    ensures counted { tally.new + 5 * size tables.new.items ≤ tally.old + 2 + 5 * size tables.old.items }
+    ensures { RemovedAbove tree.now tables.old.items tables.new.items at tally.old tally.new }
 {
     match find_at(tables, up, tuple, tally) {
         Some(place) => remove_tuple(tree, tables, up, place, tuple, tally),
@@ -190,9 +180,7 @@ fn remove_above_side<L: Ledger>(
 )
     requires losing { Losing tree.now tables.old.items at tuple.now }
     requires under { IsUnder tree.now up (Meet guard at) at }
-    ensures righted { ReducedAbove tree.now tables.old.items tables.new.items at }
-    ensures fewer { Fewer tables.old.items tables.new.items }
-    ensures counted { tally.new + 5 * size tables.new.items ≤ tally.old + 2 + 5 * size tables.old.items }
+    ensures { RemovedAbove tree.now tables.old.items tables.new.items at tally.old tally.new }
 {
     let count = tables[guard].len();
     remove_group_from_meet(tree, tables, guard, up, tuple, count, tally);

@@ -16,7 +16,11 @@ node-requires g c =
 
 pub index_mut-requires : goal.index_mut-requires
 index_mut-requires g c =
-    omega (arith, has_table c.args.tree.now c.args.tables.now.items c.args.up c.requires.family c.requires.within, c.args.tables.now.ok.0)
+    omega (
+      arith,
+      has_table c.args.tree.now c.args.tables.now.items c.args.up c.requires.family c.requires.within,
+      c.args.tables.now.ok.0,
+    )
 
 pub returns-then-has_child-clause-next : goal.returns-then-has_child-clause-next
 returns-then-has_child-clause-next g c =
@@ -25,14 +29,16 @@ returns-then-has_child-clause-next g c =
 
 pub returns-then-has_child-clause-cleared : goal.returns-then-has_child-clause-cleared
 returns-then-has_child-clause-cleared g c =
-    λ child. (cleared_into (family_read c.args.tree.now c.args.tables.now.items c.args.up c.index_mut.result.now c.requires.family
+    λ child. (cleared_into (family_read c.args.tree.now c.args.tables.now.items c.args.up c.index_mut.result.now
+    c.requires.family
     c.requires.within c.index_mut.ensures.value)
     c.clear_marks.ensures.table c.clear_marks.ensures.key c.clear_marks.ensures.width
     c.clear_marks.ensures.cleared).cleared
 
 pub returns-then-has_child-clause-changed : goal.returns-then-has_child-clause-changed
 returns-then-has_child-clause-changed g c =
-    λ child. (cleared_into (family_read c.args.tree.now c.args.tables.now.items c.args.up c.index_mut.result.now c.requires.family
+    λ child. (cleared_into (family_read c.args.tree.now c.args.tables.now.items c.args.up c.index_mut.result.now
+    c.requires.family
     c.requires.within c.index_mut.ensures.value)
     c.clear_marks.ensures.table c.clear_marks.ensures.key c.clear_marks.ensures.width
     c.clear_marks.ensures.cleared).changed
@@ -52,7 +58,8 @@ returns-then-has_child-clause-counted g c =
       arith,
       c.clear_marks.ensures.counted,
       length_marks c.index_mut.result.now.entries,
-      length_read (family_read c.args.tree.now c.args.tables.now.items c.args.up c.index_mut.result.now c.requires.family
+      length_read (family_read c.args.tree.now c.args.tables.now.items c.args.up c.index_mut.result.now
+          c.requires.family
           c.requires.within c.index_mut.ensures.value),
       h c.args.up,
     )

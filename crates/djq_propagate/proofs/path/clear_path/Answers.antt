@@ -17,7 +17,11 @@ use Rattle.djq_propagate.proofs.path.clear_path.Goals as goal
 pub index_mut-requires : goal.index_mut-requires
 index_mut-requires g c =
     let within = leaf_within c.args.tree.now c.args.leaf c.requires.family.is_tree c.requires.leaf in
-    omega (arith, has_table c.args.tree.now c.args.tables.now.items c.args.leaf c.requires.family within, c.args.tables.now.ok.0)
+    omega (
+      arith,
+      has_table c.args.tree.now c.args.tables.now.items c.args.leaf c.requires.family within,
+      c.args.tables.now.ok.0,
+    )
 
 pub loop-up-init : goal.loop-up-init
 loop-up-init g c =
@@ -27,7 +31,8 @@ loop-up-init g c =
     c.clear_marks.ensures.cleared in
     record {
       at = sym (path_zero c.args.tree.now.nodes c.args.leaf);
-      cleared = cleared_leaf c.args.tree.now c.args.tables.now.items (slice_set c.args.tables.now.items c.args.leaf c.clear_marks.new.self) c.args.leaf
+      cleared = cleared_leaf c.args.tree.now c.args.tables.now.items
+          (slice_set c.args.tables.now.items c.args.leaf c.clear_marks.new.self) c.args.leaf
           c.requires.family n.changed n.cleared;
       counted = λ n h. let s : (1 + steps c.args.tree.now.nodes c.args.leaf 0) * (1 + n)
           ≡ 1 * (1 + n) = ap (λ (x : ℕ). (1 + x) * (1 + n)) (steps_none c.args.tree.now.nodes c.args.leaf) in omega (
@@ -38,11 +43,17 @@ loop-up-init g c =
             h
                 c.args.leaf,
           );
-      few = few_cleared c.args.tables.now.items (slice_set c.args.tables.now.items c.args.leaf c.clear_marks.new.self) c.args.leaf n.changed
+      few = few_cleared c.args.tables.now.items (slice_set c.args.tables.now.items c.args.leaf c.clear_marks.new.self)
+          c.args.leaf n.changed
           n.cleared;
       flat = λ few. let s : (1 + steps c.args.tree.now.nodes c.args.leaf 0) * 2
-          ≡ 1 * 2 = ap (λ (x : ℕ). (1 + x) * 2) (steps_none c.args.tree.now.nodes c.args.leaf) in omega
-          (arith, c.clear_marks.ensures.counted, ap (λ (es : List Entry). length es) (marks_read r), few.each c.args.leaf);
+          ≡ 1 * 2 = ap (λ (x : ℕ). (1 + x) * 2) (steps_none c.args.tree.now.nodes c.args.leaf) in omega (
+            arith,
+            c.clear_marks.ensures.counted,
+            ap (λ (es : List Entry). length es) (marks_read r),
+            few.each
+                c.args.leaf,
+          );
     }
 
 pub clear_above-at-requires-clause-family : goal.clear_above-at-requires-clause-family

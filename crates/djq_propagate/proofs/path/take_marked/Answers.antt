@@ -57,7 +57,8 @@ read_at-requires-clause-narrow g c =
 pub read_at-requires-clause-live : goal.read_at-requires-clause-live
 read_at-requires-clause-live g c =
     let m = first_mark (entries_at c.loop-done.tables.items c.args.leaf) c.in-Some.place
-    (sym (c.first_marked.ensures.found ∙ ap (λ (es : List Entry). head_at es) (marks_read (family_read c.args.tree.now c.loop-done.tables.items c.args.leaf c.index-in-loop-done.result.now
+    (sym (c.first_marked.ensures.found ∙ ap (λ (es : List Entry). head_at es)
+    (marks_read (family_read c.args.tree.now c.loop-done.tables.items c.args.leaf c.index-in-loop-done.result.now
     c.loop-done.invariant.taking.sound.family
     (leaf_within c.args.tree.now c.args.leaf c.requires.reducts.family.is_tree c.requires.leaf)
     c.index-in-loop-done.ensures))) ∙ c.in-Some.is) in
@@ -66,7 +67,8 @@ read_at-requires-clause-live g c =
 pub remove_tuple-requires-clause-lies : goal.remove_tuple-requires-clause-lies
 remove_tuple-requires-clause-lies g c =
     let m = first_mark (entries_at c.loop-done.tables.items c.args.leaf) c.in-Some.place
-    (sym (c.first_marked.ensures.found ∙ ap (λ (es : List Entry). head_at es) (marks_read (family_read c.args.tree.now c.loop-done.tables.items c.args.leaf c.index-in-loop-done.result.now
+    (sym (c.first_marked.ensures.found ∙ ap (λ (es : List Entry). head_at es)
+    (marks_read (family_read c.args.tree.now c.loop-done.tables.items c.args.leaf c.index-in-loop-done.result.now
     c.loop-done.invariant.taking.sound.family
     (leaf_within c.args.tree.now c.args.leaf c.requires.reducts.family.is_tree c.requires.leaf)
     c.index-in-loop-done.ensures))) ∙ c.in-Some.is) in
@@ -81,7 +83,8 @@ loop-done-smaller g c =
 pub loop-done-preserved : goal.loop-done-preserved
 loop-done-preserved g c =
     let m = first_mark (entries_at c.loop-done.tables.items c.args.leaf) c.in-Some.place
-    (sym (c.first_marked.ensures.found ∙ ap (λ (es : List Entry). head_at es) (marks_read (family_read c.args.tree.now c.loop-done.tables.items c.args.leaf c.index-in-loop-done.result.now
+    (sym (c.first_marked.ensures.found ∙ ap (λ (es : List Entry). head_at es)
+    (marks_read (family_read c.args.tree.now c.loop-done.tables.items c.args.leaf c.index-in-loop-done.result.now
     c.loop-done.invariant.taking.sound.family
     (leaf_within c.args.tree.now c.args.leaf c.requires.reducts.family.is_tree c.requires.leaf)
     c.index-in-loop-done.ensures))) ∙ c.in-Some.is) in
@@ -112,7 +115,8 @@ returns-in-None-clause-taken g c =
     c.loop-done.invariant.taking
     (λ v. no_mark (entries_at c.loop-done.tables.items c.args.leaf) v
     (head_none (marks (entries_at c.loop-done.tables.items c.args.leaf))
-    (sym (c.first_marked.ensures.found ∙ ap (λ (es : List Entry). head_at es) (marks_read (family_read c.args.tree.now c.loop-done.tables.items c.args.leaf c.index-in-loop-done.result.now
+    (sym (c.first_marked.ensures.found ∙ ap (λ (es : List Entry). head_at es)
+    (marks_read (family_read c.args.tree.now c.loop-done.tables.items c.args.leaf c.index-in-loop-done.result.now
     c.loop-done.invariant.taking.sound.family
     (leaf_within c.args.tree.now c.args.leaf c.requires.reducts.family.is_tree c.requires.leaf)
     c.index-in-loop-done.ensures))) ∙ c.in-None.is)))
@@ -126,7 +130,8 @@ returns-clause-taken g c =
     let h = c.loop-done-test.false in
     let x = c.loop-done.auto._done-end in
     let r = family_read c.args.tree.now c.args.tables.now.items c.args.leaf c.index.result.now
-    c.requires.reducts.family (leaf_within c.args.tree.now c.args.leaf c.requires.reducts.family.is_tree c.requires.leaf)
+    c.requires.reducts.family (leaf_within c.args.tree.now c.args.leaf c.requires.reducts.family.is_tree
+    c.requires.leaf)
     c.index.ensures in
     taking_done c.args.tree.now c.args.tables.now.items c.loop-done.tables.items c.args.leaf
     c.loop-done.invariant.taking

@@ -139,67 +139,36 @@ remove_above-remove_above_side-requires g t c κs hκ =
       ),
     )
 
-pub remove_above-returns-in-None-clause-righted : goal.remove_above-returns-in-None-clause-righted
-remove_above-returns-in-None-clause-righted g t c =
-    topmost c.args.tree.now c.requires.losing.was c.args.tables.now.items c.args.at c.requires.losing.began
-    c.in-None.ensures.root
+pub remove_above-returns-in-None : goal.remove_above-returns-in-None
+remove_above-returns-in-None g t c =
+    record {
+      righted = topmost c.args.tree.now c.requires.losing.was c.args.tables.now.items c.args.at c.requires.losing.began
+          c.in-None.ensures.root;
+      fewer = fewer_refl c.args.tables.now.items;
+      counted = omega arith;
+    }
 
-pub remove_above-returns-in-None-clause-fewer : goal.remove_above-returns-in-None-clause-fewer
-remove_above-returns-in-None-clause-fewer g t c =
-    fewer_refl c.args.tables.now.items
+pub remove_above-returns-in-Leaf : goal.remove_above-returns-in-Leaf
+remove_above-returns-in-Leaf g t c =
+    record {
+      righted = absurd (under_leaf c.args.tree.now c.args.at c.in-Some.up _ c.parent.result c.node.result
+          c.requires.losing.began.ready.family.is_tree c.parent.ensures.parent c.in-Some.is c.node.ensures
+          c.in-Leaf.is);
+      fewer = fewer_refl c.args.tables.now.items;
+      counted = omega arith;
+    }
 
-pub remove_above-returns-in-None-clause-counted : goal.remove_above-returns-in-None-clause-counted
-remove_above-returns-in-None-clause-counted g t c =
-    omega arith
+pub remove_above-returns-in-Trim : goal.remove_above-returns-in-Trim
+remove_above-returns-in-Trim g t c =
+    c.remove_above_trim.ensures
 
-pub remove_above-returns-in-Leaf-clause-righted : goal.remove_above-returns-in-Leaf-clause-righted
-remove_above-returns-in-Leaf-clause-righted g t c =
-    absurd (under_leaf c.args.tree.now c.args.at c.in-Some.up _ c.parent.result c.node.result
-    c.requires.losing.began.ready.family.is_tree c.parent.ensures.parent c.in-Some.is c.node.ensures c.in-Leaf.is)
+pub remove_above-returns-then-guard-at : goal.remove_above-returns-then-guard-at
+remove_above-returns-then-guard-at g t c =
+    c.remove_above_guard.ensures
 
-pub remove_above-returns-in-Leaf-clause-fewer : goal.remove_above-returns-in-Leaf-clause-fewer
-remove_above-returns-in-Leaf-clause-fewer g t c =
-    fewer_refl c.args.tables.now.items
-
-pub remove_above-returns-in-Leaf-clause-counted : goal.remove_above-returns-in-Leaf-clause-counted
-remove_above-returns-in-Leaf-clause-counted g t c =
-    omega arith
-
-pub remove_above-returns-in-Trim-clause-righted : goal.remove_above-returns-in-Trim-clause-righted
-remove_above-returns-in-Trim-clause-righted g t c =
-    c.remove_above_trim.ensures.righted
-
-pub remove_above-returns-in-Trim-clause-fewer : goal.remove_above-returns-in-Trim-clause-fewer
-remove_above-returns-in-Trim-clause-fewer g t c =
-    c.remove_above_trim.ensures.fewer
-
-pub remove_above-returns-in-Trim-clause-counted : goal.remove_above-returns-in-Trim-clause-counted
-remove_above-returns-in-Trim-clause-counted g t c =
-    c.remove_above_trim.ensures.counted
-
-pub remove_above-returns-then-guard-at-clause-righted : goal.remove_above-returns-then-guard-at-clause-righted
-remove_above-returns-then-guard-at-clause-righted g t c =
-    c.remove_above_guard.ensures.righted
-
-pub remove_above-returns-then-guard-at-clause-fewer : goal.remove_above-returns-then-guard-at-clause-fewer
-remove_above-returns-then-guard-at-clause-fewer g t c =
-    c.remove_above_guard.ensures.fewer
-
-pub remove_above-returns-then-guard-at-clause-counted : goal.remove_above-returns-then-guard-at-clause-counted
-remove_above-returns-then-guard-at-clause-counted g t c =
-    c.remove_above_guard.ensures.counted
-
-pub remove_above-returns-else-guard-at-clause-righted : goal.remove_above-returns-else-guard-at-clause-righted
-remove_above-returns-else-guard-at-clause-righted g t c =
-    c.remove_above_side.ensures.righted
-
-pub remove_above-returns-else-guard-at-clause-fewer : goal.remove_above-returns-else-guard-at-clause-fewer
-remove_above-returns-else-guard-at-clause-fewer g t c =
-    c.remove_above_side.ensures.fewer
-
-pub remove_above-returns-else-guard-at-clause-counted : goal.remove_above-returns-else-guard-at-clause-counted
-remove_above-returns-else-guard-at-clause-counted g t c =
-    c.remove_above_side.ensures.counted
+pub remove_above-returns-else-guard-at : goal.remove_above-returns-else-guard-at
+remove_above-returns-else-guard-at g t c =
+    c.remove_above_side.ensures
 
 pub remove_above_guard-find_at-requires : goal.remove_above_guard-find_at-requires
 remove_above_guard-find_at-requires g t c =
@@ -224,32 +193,25 @@ remove_above_guard-remove_tuple-requires g t c κs hκ =
       ),
     )
 
-pub remove_above_guard-returns-in-Some-clause-righted : goal.remove_above_guard-returns-in-Some-clause-righted
-remove_above_guard-returns-in-Some-clause-righted g t c =
-    guard_died c.args.tree.now c.requires.losing.was c.args.tables.now.items c.remove_tuple.new.tables.items c.args.at
-    c.args.side c.args.up c.args.tuple.now c.requires.losing.began c.requires.losing.loses c.requires.under
-    c.remove_tuple.ensures.died
+pub remove_above_guard-returns-in-Some : goal.remove_above_guard-returns-in-Some
+remove_above_guard-returns-in-Some g t c =
+    record {
+      righted = guard_died c.args.tree.now c.requires.losing.was c.args.tables.now.items
+          c.remove_tuple.new.tables.items c.args.at
+          c.args.side c.args.up c.args.tuple.now c.requires.losing.began c.requires.losing.loses c.requires.under
+          c.remove_tuple.ensures.died;
+      fewer = c.remove_tuple.ensures.fewer;
+      counted = omega (arith, c.find_at.ensures.counted, c.remove_tuple.ensures.counted);
+    }
 
-pub remove_above_guard-returns-in-Some-clause-fewer : goal.remove_above_guard-returns-in-Some-clause-fewer
-remove_above_guard-returns-in-Some-clause-fewer g t c =
-    c.remove_tuple.ensures.fewer
-
-pub remove_above_guard-returns-in-Some-clause-counted : goal.remove_above_guard-returns-in-Some-clause-counted
-remove_above_guard-returns-in-Some-clause-counted g t c =
-    omega (arith, c.find_at.ensures.counted, c.remove_tuple.ensures.counted)
-
-pub remove_above_guard-returns-in-None-clause-righted : goal.remove_above_guard-returns-in-None-clause-righted
-remove_above_guard-returns-in-None-clause-righted g t c =
-    guard_idle c.args.tree.now c.requires.losing.was c.args.tables.now.items c.args.at c.args.side c.args.up
-    c.args.tuple.now c.requires.losing.began c.requires.losing.loses c.requires.under c.in-None.ensures.found
-
-pub remove_above_guard-returns-in-None-clause-fewer : goal.remove_above_guard-returns-in-None-clause-fewer
-remove_above_guard-returns-in-None-clause-fewer g t c =
-    fewer_refl c.args.tables.now.items
-
-pub remove_above_guard-returns-in-None-clause-counted : goal.remove_above_guard-returns-in-None-clause-counted
-remove_above_guard-returns-in-None-clause-counted g t c =
-    omega (arith, c.find_at.ensures.counted)
+pub remove_above_guard-returns-in-None : goal.remove_above_guard-returns-in-None
+remove_above_guard-returns-in-None g t c =
+    record {
+      righted = guard_idle c.args.tree.now c.requires.losing.was c.args.tables.now.items c.args.at c.args.side c.args.up
+          c.args.tuple.now c.requires.losing.began c.requires.losing.loses c.requires.under c.in-None.ensures.found;
+      fewer = fewer_refl c.args.tables.now.items;
+      counted = omega (arith, c.find_at.ensures.counted);
+    }
 
 pub remove_above_side-index-requires : goal.remove_above_side-index-requires
 remove_above_side-index-requires g t c =
@@ -290,24 +252,22 @@ remove_above_side-remove_group_from_meet-requires g t c κs hκ =
       ),
     )
 
-pub remove_above_side-returns-clause-righted : goal.remove_above_side-returns-clause-righted
-remove_above_side-returns-clause-righted g t c =
-    side_righted c.args.tree.now c.requires.losing.was c.args.tables.now.items c.remove_group_from_meet.new.tables.items
-    c.args.guard c.args.at c.args.up c.len-count.result c.args.tuple.now c.requires.losing.began
-    c.requires.losing.loses c.requires.under c.remove_group_from_meet.ensures.emptied
-    (drop_group (key_at c.args.tables.now.items c.args.guard) (entries_at c.args.tables.now.items c.args.guard)
-    c.args.tuple.now c.len-count.result
-    (c.len-count.ensures ∙ length_read (guard_read c.args.tree.now c.args.tables.now.items c.args.at c.args.up c.args.guard c.index.result.now
-    (now_family c.args.tree.now c.requires.losing.was c.args.tables.now.items c.args.at c.requires.losing.began)
-    c.requires.under c.index.ensures)))
-
-pub remove_above_side-returns-clause-fewer : goal.remove_above_side-returns-clause-fewer
-remove_above_side-returns-clause-fewer g t c =
-    c.remove_group_from_meet.ensures.fewer
-
-pub remove_above_side-returns-clause-counted : goal.remove_above_side-returns-clause-counted
-remove_above_side-returns-clause-counted g t c =
-    omega (arith, c.remove_group_from_meet.ensures.counted)
+pub remove_above_side-returns : goal.remove_above_side-returns
+remove_above_side-returns g t c =
+    record {
+      righted = side_righted c.args.tree.now c.requires.losing.was c.args.tables.now.items
+          c.remove_group_from_meet.new.tables.items
+          c.args.guard c.args.at c.args.up c.len-count.result c.args.tuple.now c.requires.losing.began
+          c.requires.losing.loses c.requires.under c.remove_group_from_meet.ensures.emptied
+          (drop_group (key_at c.args.tables.now.items c.args.guard) (entries_at c.args.tables.now.items c.args.guard)
+          c.args.tuple.now c.len-count.result
+          (c.len-count.ensures ∙ length_read (guard_read c.args.tree.now c.args.tables.now.items c.args.at c.args.up
+          c.args.guard c.index.result.now
+          (now_family c.args.tree.now c.requires.losing.was c.args.tables.now.items c.args.at c.requires.losing.began)
+          c.requires.under c.index.ensures)));
+      fewer = c.remove_group_from_meet.ensures.fewer;
+      counted = omega (arith, c.remove_group_from_meet.ensures.counted);
+    }
 
 pub remove_above_trim-column_of-requires : goal.remove_above_trim-column_of-requires
 remove_above_trim-column_of-requires g t c =
@@ -450,7 +410,8 @@ remove_above_part-lower-requires g t c =
     c.requires.under.within c.index.ensures in
     let e = c.supports.ensures c.args.cells.now (at_read r c.in-Some.ensures.found)
     ∙ ap (λ (es : List Entry). supports_of es c.args.cells.now) r.entries in
-    to_read (λ es. IsLowerable es c.in-Some.place) (family_read c.args.tree.now c.args.tables.now.items c.args.up c.index_mut.result.now
+    to_read (λ es. IsLowerable es c.in-Some.place) (family_read c.args.tree.now c.args.tables.now.items c.args.up
+    c.index_mut.result.now
     (now_family c.args.tree.now c.requires.losing.was c.args.tables.now.items c.args.at c.requires.losing.began)
     c.requires.under.within c.index_mut.ensures.value)
     (record {
@@ -476,9 +437,8 @@ remove_above_part-remove_tuple-requires g t c κs hκ =
       ),
     )
 
-pub remove_above_part-returns-then-supports-gt1-clause-righted :
-    goal.remove_above_part-returns-then-supports-gt1-clause-righted
-remove_above_part-returns-then-supports-gt1-clause-righted g t c =
+pub remove_above_part-returns-then-supports-gt1 : goal.remove_above_part-returns-then-supports-gt1
+remove_above_part-returns-then-supports-gt1 g t c =
     let r = family_read c.args.tree.now c.args.tables.now.items c.args.up c.index_mut.result.now
     (now_family c.args.tree.now c.requires.losing.was c.args.tables.now.items c.args.at c.requires.losing.began)
     c.requires.under.within c.index_mut.ensures.value in
@@ -490,91 +450,54 @@ remove_above_part-returns-then-supports-gt1-clause-righted g t c =
     let n = supported_into (λ (x : ℕ). x - 1) c.args.cells.now r c.lower.ensures.table c.lower.ensures.key
     c.lower.ensures.width (c.lower.ensures.lowered c.args.cells.now (at_read r c.in-Some.ensures.found))
     (omega (arith, e, c.if-supports-gt1.true)) in
-    trim_lowered c.args.tree.now c.requires.losing.was c.args.tables.now.items
-    (slice_set c.args.tables.now.items c.args.up c.lower.new.self) c.args.at c.args.up c.args.tuple.now
-    c.args.cells.now c.requires.losing.began c.requires.losing.loses c.requires.under n.changed n.supported
-    c.requires.part
+    record {
+      righted = trim_lowered c.args.tree.now c.requires.losing.was c.args.tables.now.items
+          (slice_set c.args.tables.now.items c.args.up c.lower.new.self) c.args.at c.args.up c.args.tuple.now
+          c.args.cells.now c.requires.losing.began c.requires.losing.loses c.requires.under n.changed n.supported
+          c.requires.part;
+      fewer = lowered_fewer c.args.tables.now.items (slice_set c.args.tables.now.items c.args.up c.lower.new.self)
+          c.args.up
+          c.args.cells.now (supports_of (entries_at c.args.tables.now.items c.args.up) c.args.cells.now)
+          ((supports_of (entries_at c.args.tables.now.items c.args.up) c.args.cells.now) - 1) n.changed n.supported;
+      counted = omega (
+        arith,
+        c.find_at.ensures.counted,
+        c.lower.ensures.counted,
+        n.changed.size,
+        supported_length (entries_at c.args.tables.now.items c.args.up)
+            (entries_at (slice_set c.args.tables.now.items c.args.up c.lower.new.self) c.args.up) c.args.cells.now
+            (supports_of (entries_at c.args.tables.now.items c.args.up) c.args.cells.now)
+            ((supports_of (entries_at c.args.tables.now.items c.args.up) c.args.cells.now) - 1) n.supported,
+      );
+    }
 
-pub remove_above_part-returns-then-supports-gt1-clause-fewer :
-    goal.remove_above_part-returns-then-supports-gt1-clause-fewer
-remove_above_part-returns-then-supports-gt1-clause-fewer g t c =
-    let r = family_read c.args.tree.now c.args.tables.now.items c.args.up c.index_mut.result.now
-    (now_family c.args.tree.now c.requires.losing.was c.args.tables.now.items c.args.at c.requires.losing.began)
-    c.requires.under.within c.index_mut.ensures.value in
-    let q = family_read c.args.tree.now c.args.tables.now.items c.args.up c.index.result.now
-    (now_family c.args.tree.now c.requires.losing.was c.args.tables.now.items c.args.at c.requires.losing.began)
-    c.requires.under.within c.index.ensures in
-    let e = c.supports.ensures c.args.cells.now (at_read q c.in-Some.ensures.found)
-    ∙ ap (λ (es : List Entry). supports_of es c.args.cells.now) (q.entries ∙ sym r.entries) in
-    let n = supported_into (λ (x : ℕ). x - 1) c.args.cells.now r c.lower.ensures.table c.lower.ensures.key
-    c.lower.ensures.width (c.lower.ensures.lowered c.args.cells.now (at_read r c.in-Some.ensures.found))
-    (omega (arith, e, c.if-supports-gt1.true)) in
-    lowered_fewer c.args.tables.now.items (slice_set c.args.tables.now.items c.args.up c.lower.new.self) c.args.up
-    c.args.cells.now (supports_of (entries_at c.args.tables.now.items c.args.up) c.args.cells.now)
-    ((supports_of (entries_at c.args.tables.now.items c.args.up) c.args.cells.now) - 1) n.changed n.supported
+pub remove_above_part-returns-else-supports-gt1 : goal.remove_above_part-returns-else-supports-gt1
+remove_above_part-returns-else-supports-gt1 g t c =
+    record {
+      righted = (let r = family_read c.args.tree.now c.args.tables.now.items c.args.up c.index.result.now
+          (now_family c.args.tree.now c.requires.losing.was c.args.tables.now.items c.args.at c.requires.losing.began)
+          c.requires.under.within c.index.ensures in
+          let e = c.supports.ensures c.args.cells.now (at_read r c.in-Some.ensures.found)
+          ∙ ap (λ (es : List Entry). supports_of es c.args.cells.now) r.entries in
+          trim_died c.args.tree.now c.requires.losing.was c.args.tables.now.items c.remove_tuple.new.tables.items
+          c.args.at
+          c.args.up
+          c.args.tuple.now c.args.cells.now c.requires.losing.began c.requires.losing.loses c.requires.under
+          c.remove_tuple.ensures.died c.requires.part
+          (omega (arith, e, c.if-supports-gt1.false)));
+      fewer = c.remove_tuple.ensures.fewer;
+      counted = omega (arith, c.find_at.ensures.counted, c.remove_tuple.ensures.counted);
+    }
 
-pub remove_above_part-returns-then-supports-gt1-clause-counted :
-    goal.remove_above_part-returns-then-supports-gt1-clause-counted
-remove_above_part-returns-then-supports-gt1-clause-counted g t c =
-    let r = family_read c.args.tree.now c.args.tables.now.items c.args.up c.index_mut.result.now
-    (now_family c.args.tree.now c.requires.losing.was c.args.tables.now.items c.args.at c.requires.losing.began)
-    c.requires.under.within c.index_mut.ensures.value in
-    let q = family_read c.args.tree.now c.args.tables.now.items c.args.up c.index.result.now
-    (now_family c.args.tree.now c.requires.losing.was c.args.tables.now.items c.args.at c.requires.losing.began)
-    c.requires.under.within c.index.ensures in
-    let e = c.supports.ensures c.args.cells.now (at_read q c.in-Some.ensures.found)
-    ∙ ap (λ (es : List Entry). supports_of es c.args.cells.now) (q.entries ∙ sym r.entries) in
-    let n = supported_into (λ (x : ℕ). x - 1) c.args.cells.now r c.lower.ensures.table c.lower.ensures.key
-    c.lower.ensures.width (c.lower.ensures.lowered c.args.cells.now (at_read r c.in-Some.ensures.found))
-    (omega (arith, e, c.if-supports-gt1.true)) in
-    omega (
-      arith,
-      c.find_at.ensures.counted,
-      c.lower.ensures.counted,
-      n.changed.size,
-      supported_length (entries_at c.args.tables.now.items c.args.up)
-          (entries_at (slice_set c.args.tables.now.items c.args.up c.lower.new.self) c.args.up) c.args.cells.now
-          (supports_of (entries_at c.args.tables.now.items c.args.up) c.args.cells.now)
-          ((supports_of (entries_at c.args.tables.now.items c.args.up) c.args.cells.now) - 1) n.supported,
-    )
-
-pub remove_above_part-returns-else-supports-gt1-clause-righted :
-    goal.remove_above_part-returns-else-supports-gt1-clause-righted
-remove_above_part-returns-else-supports-gt1-clause-righted g t c =
-    let r = family_read c.args.tree.now c.args.tables.now.items c.args.up c.index.result.now
-    (now_family c.args.tree.now c.requires.losing.was c.args.tables.now.items c.args.at c.requires.losing.began)
-    c.requires.under.within c.index.ensures in
-    let e = c.supports.ensures c.args.cells.now (at_read r c.in-Some.ensures.found)
-    ∙ ap (λ (es : List Entry). supports_of es c.args.cells.now) r.entries in
-    trim_died c.args.tree.now c.requires.losing.was c.args.tables.now.items c.remove_tuple.new.tables.items c.args.at
-    c.args.up
-    c.args.tuple.now c.args.cells.now c.requires.losing.began c.requires.losing.loses c.requires.under
-    c.remove_tuple.ensures.died c.requires.part
-    (omega (arith, e, c.if-supports-gt1.false))
-
-pub remove_above_part-returns-else-supports-gt1-clause-fewer :
-    goal.remove_above_part-returns-else-supports-gt1-clause-fewer
-remove_above_part-returns-else-supports-gt1-clause-fewer g t c =
-    c.remove_tuple.ensures.fewer
-
-pub remove_above_part-returns-else-supports-gt1-clause-counted :
-    goal.remove_above_part-returns-else-supports-gt1-clause-counted
-remove_above_part-returns-else-supports-gt1-clause-counted g t c =
-    omega (arith, c.find_at.ensures.counted, c.remove_tuple.ensures.counted)
-
-pub remove_above_part-returns-in-None-clause-righted : goal.remove_above_part-returns-in-None-clause-righted
-remove_above_part-returns-in-None-clause-righted g t c =
-    absurd (trim_missing c.args.tree.now c.requires.losing.was c.args.tables.now.items c.args.at c.args.up
-    c.args.tuple.now c.args.cells.now c.requires.losing.began c.requires.losing.loses c.requires.under
-    c.requires.part c.in-None.ensures.found)
-
-pub remove_above_part-returns-in-None-clause-fewer : goal.remove_above_part-returns-in-None-clause-fewer
-remove_above_part-returns-in-None-clause-fewer g t c =
-    fewer_refl c.args.tables.now.items
-
-pub remove_above_part-returns-in-None-clause-counted : goal.remove_above_part-returns-in-None-clause-counted
-remove_above_part-returns-in-None-clause-counted g t c =
-    omega (arith, c.find_at.ensures.counted)
+pub remove_above_part-returns-in-None : goal.remove_above_part-returns-in-None
+remove_above_part-returns-in-None g t c =
+    record {
+      righted = absurd (trim_missing c.args.tree.now c.requires.losing.was c.args.tables.now.items c.args.at c.args.up
+          c.args.tuple.now c.args.cells.now c.requires.losing.began c.requires.losing.loses c.requires.under
+          c.requires.part c.in-None.ensures.found);
+      fewer = fewer_refl c.args.tables.now.items;
+      counted = omega (arith, c.find_at.ensures.counted);
+    }
 
 pub find_and_remove-find_at-requires : goal.find_and_remove-find_at-requires
 find_and_remove-find_at-requires g t c =
@@ -613,7 +536,11 @@ pub remove_group_from_meet-index-requires : goal.remove_group_from_meet-index-re
 remove_group_from_meet-index-requires g t c =
     let glow = c.requires.lower in
     let within = c.requires.ready.within in
-    omega (arith, has_table c.args.tree.now c.args.tables.now.items c.args.guard c.requires.ready.family (omega arith), c.args.tables.now.ok.0)
+    omega (
+      arith,
+      has_table c.args.tree.now c.args.tables.now.items c.args.guard c.requires.ready.family (omega arith),
+      c.args.tables.now.ok.0,
+    )
 
 pub remove_group_from_meet-loop-done-init : goal.remove_group_from_meet-loop-done-init
 remove_group_from_meet-loop-done-init g t c =

@@ -7,8 +7,9 @@ use Rattle.djq_propagate.proofs.Tabling.{is_read, to_read, onto, changed_into}
 use Rattle.djq_propagate.proofs.tables.remove_at.Goals as goal
 
 pub remove-requires : goal.remove-requires
-remove-requires g c = to_read (λ es. IsLive es c.args.place) (is_read c.args.tables.now.items c.args.at c.index_mut-table.result.now c.requires.within
-    c.index_mut-table.ensures.value) c.requires.live
+remove-requires g c =
+    to_read (λ es. IsLive es c.args.place) (is_read c.args.tables.now.items c.args.at c.index_mut-table.result.now
+    c.requires.within c.index_mut-table.ensures.value) c.requires.live
 
 pub returns-clause-removed : goal.returns-clause-removed
 returns-clause-removed g c = onto (λ es fs. (u : List ℕ) → IsAt es c.args.place u → Removed es fs u) c.remove.new.self

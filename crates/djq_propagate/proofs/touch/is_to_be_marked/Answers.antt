@@ -10,7 +10,11 @@ use Rattle.djq_propagate.proofs.touch.is_to_be_marked.Goals as goal
 
 pub index-table-requires : goal.index-table-requires
 index-table-requires g c =
-    omega (arith, has_table c.args.tree.now c.args.tables.now.items c.args.at c.requires.family c.requires.within, c.args.tables.now.ok.0)
+    omega (
+      arith,
+      has_table c.args.tree.now c.args.tables.now.items c.args.at c.requires.family c.requires.within,
+      c.args.tables.now.ok.0,
+    )
 
 pub marked-requires : goal.marked-requires
 marked-requires g c =

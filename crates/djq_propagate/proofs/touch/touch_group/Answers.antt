@@ -15,7 +15,11 @@ pub index-table-requires : goal.index-table-requires
 index-table-requires g c =
     let glow = c.requires.lower in
     let within = c.requires.within in
-    omega (arith, has_table c.args.tree.now c.args.tables.now.items c.args.guard c.requires.family (omega arith), c.args.tables.now.ok.0)
+    omega (
+      arith,
+      has_table c.args.tree.now c.args.tables.now.items c.args.guard c.requires.family (omega arith),
+      c.args.tables.now.ok.0,
+    )
 
 pub loop-done-init : goal.loop-done-init
 loop-done-init g c =

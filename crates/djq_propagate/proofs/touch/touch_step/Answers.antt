@@ -20,11 +20,16 @@ pub index-table-requires : goal.index-table-requires
 index-table-requires g c =
     let low = step_lower c.args.tree.now c.args.tables.now.items c.args.at c.args.up c.requires.step in
     let within = c.requires.step.within in
-    omega (arith, has_table c.args.tree.now c.args.tables.now.items c.args.at c.requires.step.family (omega arith), c.args.tables.now.ok.0)
+    omega (
+      arith,
+      has_table c.args.tree.now c.args.tables.now.items c.args.at c.requires.step.family (omega arith),
+      c.args.tables.now.ok.0,
+    )
 
 pub loop-done-init : goal.loop-done-init
 loop-done-init g c =
-    let r = family_read c.args.tree.now c.args.tables.now.items c.args.at c.index-table.result.now c.requires.step.family
+    let r = family_read c.args.tree.now c.args.tables.now.items c.args.at c.index-table.result.now
+    c.requires.step.family
     (omega (
       arith,
       c.requires.step.within,
@@ -90,7 +95,12 @@ pub index-requires : goal.index-requires
 index-requires g c =
     let low = step_lower c.args.tree.now c.args.tables.now.items c.args.at c.args.up c.requires.step in
     let within = c.requires.step.within in
-    omega (arith, has_table c.args.tree.now c.touch_from.new.tables.items c.args.at c.touch_from.ensures.touched.family (omega arith), c.touch_from.new.tables.ok.0)
+    omega (
+      arith,
+      has_table c.args.tree.now c.touch_from.new.tables.items c.args.at c.touch_from.ensures.touched.family
+          (omega arith),
+      c.touch_from.new.tables.ok.0,
+    )
 
 pub next_marked-next-requires : goal.next_marked-next-requires
 next_marked-next-requires g c =
@@ -229,7 +239,8 @@ pub returns-clause-touched : goal.returns-clause-touched
 returns-clause-touched g c =
     let h = c.loop-done-test.false in
     let x = c.loop-done.auto.done-end in
-    let r = family_read c.args.tree.now c.args.tables.now.items c.args.at c.index-table.result.now c.requires.step.family
+    let r = family_read c.args.tree.now c.args.tables.now.items c.args.at c.index-table.result.now
+    c.requires.step.family
     (omega (
       arith,
       c.requires.step.within,

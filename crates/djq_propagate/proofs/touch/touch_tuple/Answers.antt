@@ -13,7 +13,11 @@ use Rattle.djq_propagate.proofs.touch.touch_tuple.Goals as goal
 
 pub index_mut-table-requires : goal.index_mut-table-requires
 index_mut-table-requires g c =
-    omega (arith, has_table c.args.tree.now c.args.tables.now.items c.args.at c.requires.family c.requires.within, c.args.tables.now.ok.0)
+    omega (
+      arith,
+      has_table c.args.tree.now c.args.tables.now.items c.args.at c.requires.family c.requires.within,
+      c.args.tables.now.ok.0,
+    )
 
 pub marked-requires : goal.marked-requires
 marked-requires g c =
