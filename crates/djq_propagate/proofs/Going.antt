@@ -1,9 +1,9 @@
 -- What a walk meets on its way.
-use Rattle.std.proofs.Common.{◌≡◌, ℕ, ◌+◌, ◌<◌, ◌≤◌, Bool, true, false, List, [], ◌∷◌, ◌++◌, length}
+use Rattle.std.proofs.Common.{◌≡◌, ℕ, ◌+◌, ◌<◌, Bool, true, false, List, [], ◌∷◌, ◌++◌, length}
 use Rattle.std.proofs.Common.{take, drop, Option, Some, refl, ap, ap₂, subst, sym, ◌∙◌, arith, inl}
 use Rattle.std.proofs.Common.{inr}
-use Rattle.std.specs.Prelude.{nat_lt, ◌||◌, ◌==◌, Result, Ok, Err, OnErr, IfOk}
-use Rattle.std.proofs.lemmas.Bool.{cases_eq, cases_Bool, ltb-true, ltb-false, eqb-true, eq-eqb, ne_eqb, false≢true}
+use Rattle.std.specs.Prelude.{slice_index_or, ◌||◌, ◌==◌, Result, Ok, Err, OnErr, IfOk}
+use Rattle.std.proofs.lemmas.Bool.{cases_eq, cases_Bool, eqb-true, eq-eqb, ne_eqb, false≢true}
 use Rattle.djq_index.specs.declared.place.Place.{Place}
 use Rattle.djq_index.specs.Tuple.{same, pick}
 use Rattle.djq_index.specs.Entries.{Entry, supports_of, count_of, group_of, marks, head_at}
@@ -19,6 +19,7 @@ use Rattle.djq_reduct.specs.Tables.{entries_at, key_at, width_at}
 use Rattle.djq_reduct.specs.Reducts.{IsFamily}
 use Rattle.djq_propagate.specs.Walks.{Changed, IsUnder, Refused, CameAs, unlike}
 use Rattle.djq_propagate.proofs.Families.{same_keys}
+use Rattle.djq_propagate.proofs.Tabling.{IsRead, family_read}
 
 pub has_table : (t : Tree) (ts : List Table) (k : ℕ) → IsFamily t ts → k < length t.nodes → k < length ts
 has_table t ts k f h = let l = f.long in omega arith
@@ -91,13 +92,6 @@ guard_under t k g d j u = record { within = u.within; node = u.node; child = gua
     guard_has : (x y : ℕ) → has_child (Meet x y) x ≡ true
     guard_has x y = rw (eq-eqb x x refl) refl
 
--- tests of supports
-pub shared_more : (b : Bool) (n : ℕ) → b ≡ nat_lt 1 n → b ≡ true → 1 < n
-shared_more b n is h = ltb-true 1 n (sym is ∙ h)
-
-pub shared_less : (b : Bool) (n : ℕ) → b ≡ nat_lt 1 n → b ≡ false → n ≤ 1
-shared_less b n is h = ltb-false 1 n (sym is ∙ h)
-
 -- each entry of a group, and each marked one, lies at its place
 further : (x : Entry) (es : List Entry) (p : Place) (u : List ℕ) → IsAt es p u → IsAt (x ∷ es) p u
 further x es p u a = record {
@@ -154,6 +148,15 @@ mark_at (x ∷ es) xs e ys h =
       | inl here ↦ first_at x es (marks es) xs e ys (λ fs k. mark_at es fs e ys k) (sym (marks_yes x es here) ∙ h)
       | inr other ↦ further x es e.at e.tuple (mark_at es xs e ys (sym (marks_no x es other) ∙ h))
     ]
+
+-- what an index reads at a meet's guard
+pub guard_read : (t : Tree) (ts : List Table) (j k g : ℕ) (x : Table) → IsFamily t ts → IsUnder t k (Meet g j) j
+    → x ≡ slice_index_or ts g x → IsRead ts g x
+guard_read t ts j k g x f u e =
+    let m = f.is_tree.meet k g j u.node in
+    let low = m.guard_lower in
+    let within = u.within in
+    family_read t ts g x f (omega arith) e
 
 -- where a walk along a group stands
 pub cut_of : (g : List Entry) (i : ℕ) (o : Option Place) (p : Place) → o ≡ head_at (drop i g) → o ≡ Some p

@@ -5,39 +5,77 @@ use Rattle.djq_index.specs.Tuple.{pick}
 use Rattle.std.specs.Prelude.{slice_index_or, slice_set}
 use Rattle.std.proofs.lemmas.Bool.{cases_eq}
 use Rattle.std.specs.Prelude.{◌++◌}
-use Rattle.std.proofs.lemmas.List.{get_or_read, get_or-set_same, get_or-set_other, length-set}
+use Rattle.std.proofs.lemmas.List.{get_or_read, get_or-set_same, get_or-set_other, length-set, set-get_or}
 use Rattle.std.proofs.lemmas.List.Sums.{sum_by-set}
 use Rattle.djq_index.specs.declared.place.Place.{Place}
 use Rattle.std.specs.Prelude.{Result, Ok, Err, IfOk, OnErr}
-use Rattle.djq_index.specs.Entries.{Entry, bare, unmarked}
+use Rattle.djq_index.specs.Entries.{Entry, bare, unmarked, marks, group_of, supports_of}
 use Rattle.djq_index.specs.Changes.{InsertedAs, Touched, Supported}
 use Rattle.djq_index.proofs.Apart.{supported_in, supported_out}
 use Rattle.djq_index.proofs.Changing.{inserted_supported}
-use Rattle.djq_index.specs.Table.{Table, IsTable, AreSupported, AreWide, IsAt}
+use Rattle.djq_index.specs.Table.{Table, IsTable, AreSupported, AreWide, IsAt, IsLive}
 use Rattle.djq_tree.specs.Tree.{Tree}
 use Rattle.djq_reduct.specs.Tables.{no_table, table_at, entries_at, key_at, width_at}
 use Rattle.djq_reduct.specs.Reducts.{IsFamily}
 use Rattle.djq_propagate.specs.Sizes.{size}
 use Rattle.djq_propagate.specs.Walks.{Changed}
 
--- what an index reads
-pub read_table : (ts : List Table) (k : ℕ) (t : Table) → k < length ts → t ≡ slice_index_or ts k t → t ≡ table_at ts k
-unfolding table_at
-read_table ts k t h e = get_or_read ts k t h e no_table
+-- the table that an index reads is the node's
+pub record IsRead (ts : List Table) (k : ℕ) (t : Table) : Type 0 where
+  pub within : k < length ts
+  pub is : t ≡ slice_index_or ts k t
+  pub entries : t.entries ≡ entries_at ts k
+  pub key : t.key ≡ key_at ts k
+  pub width : t.width ≡ width_at ts k
 
-pub entries_of : (ts : List Table) (k : ℕ) (t : Table) → t ≡ table_at ts k → t.entries ≡ entries_at ts k
-unfolding entries_at
-entries_of ts k t e = ap (λ (u : Table). u.entries) e
+pub is_read : (ts : List Table) (k : ℕ) (t : Table) → k < length ts → t ≡ slice_index_or ts k t → IsRead ts k t
+unfolding table_at entries_at key_at width_at
+is_read ts k t h e =
+    let r : t ≡ slice_index_or ts k no_table = get_or_read ts k t h e no_table in
+    record {
+      within = h;
+      is = e;
+      entries = ap (λ (u : Table). u.entries) r;
+      key = ap (λ (u : Table). u.key) r;
+      width = ap (λ (u : Table). u.width) r;
+    }
 
-pub key_of : (ts : List Table) (k : ℕ) (t : Table) → t ≡ table_at ts k → t.key ≡ key_at ts k
-unfolding key_at
-key_of ts k t e = ap (λ (u : Table). u.key) e
+pub family_read : (r : Tree) (ts : List Table) (k : ℕ) (t : Table) → IsFamily r ts → k < length r.nodes
+    → t ≡ slice_index_or ts k t → IsRead ts k t
+family_read r ts k t f h e = is_read ts k t (let l = f.long in omega arith) e
 
-pub width_of : (ts : List Table) (k : ℕ) (t : Table) → t ≡ table_at ts k → t.width ≡ width_at ts k
-unfolding width_at
-width_of ts k t e = ap (λ (u : Table). u.width) e
+pub length_read : {ts : List Table} {k : ℕ} {t : Table} → IsRead ts k t → length t.entries ≡ length (entries_at ts k)
+length_read r = ap (λ (es : List Entry). length es) r.entries
+
+pub marks_read : {ts : List Table} {k : ℕ} {t : Table} → IsRead ts k t → marks t.entries ≡ marks (entries_at ts k)
+marks_read r = ap (λ (es : List Entry). marks es) r.entries
+
+pub group_read : {ts : List Table} {k : ℕ} {t : Table} (w : List ℕ) → IsRead ts k t
+    → group_of t.key t.entries w ≡ group_of (key_at ts k) (entries_at ts k) w
+group_read {ts} {k} {t} w r = ap (λ (es : List Entry). group_of t.key es w) r.entries
+    ∙ ap (λ (ks : List ℕ). group_of ks (entries_at ts k) w) r.key
+
+-- what holds of the table that is read holds of the node's, and the other way round
+pub of_read : {ts : List Table} {k : ℕ} {t : Table} (P : List Entry → Type 0) → IsRead ts k t → P t.entries
+    → P (entries_at ts k)
+of_read P r p = subst P r.entries p
+
+pub to_read : {ts : List Table} {k : ℕ} {t : Table} (P : List Entry → Type 0) → IsRead ts k t → P (entries_at ts k)
+    → P t.entries
+to_read P r p = subst P (sym r.entries) p
+
+pub at_read : {ts : List Table} {k : ℕ} {t : Table} {p : Place} {u : List ℕ} → IsRead ts k t
+    → IsAt (entries_at ts k) p u → IsAt t.entries p u
+at_read {ts} {k} {t} {p} {u} r a = subst (λ (es : List Entry). IsAt es p u) (sym r.entries) a
+
+pub live_read : {ts : List Table} {k : ℕ} {t : Table} {p : Place} {u : List ℕ} → IsRead ts k t
+    → IsAt (entries_at ts k) p u → IsLive t.entries p
+live_read {ts} {k} {t} {p} {u} r a = record { tuple = u; is_at = at_read r a }
 
 -- what a write leaves
+pub same_set : {ts : List Table} {k : ℕ} {t : Table} → IsRead ts k t → slice_set ts k t ≡ ts
+same_set {ts} {k} {t} r = ap (λ (u : Table). slice_set ts k u) r.is ∙ set-get_or ts k t
+
 set_table : (ts : List Table) (k : ℕ) (t : Table) → k < length ts → table_at (slice_set ts k t) k ≡ t
 unfolding table_at
 set_table ts k t h = get_or-set_same ts k t no_table h
@@ -46,11 +84,11 @@ other_table : (ts : List Table) (k i : ℕ) (t : Table) → i ≢ k → table_at
 unfolding table_at
 other_table ts k i t h = get_or-set_other ts k i t no_table h
 
-pub set_entries : (ts : List Table) (k : ℕ) (t : Table) → k < length ts → entries_at (slice_set ts k t) k ≡ t.entries
+set_entries : (ts : List Table) (k : ℕ) (t : Table) → k < length ts → entries_at (slice_set ts k t) k ≡ t.entries
 unfolding entries_at
 set_entries ts k t h = ap (λ (u : Table). u.entries) (set_table ts k t h)
 
-pub other_entries : (ts : List Table) (k i : ℕ) (t : Table) → i ≢ k → entries_at (slice_set ts k t) i ≡ entries_at ts i
+other_entries : (ts : List Table) (k i : ℕ) (t : Table) → i ≢ k → entries_at (slice_set ts k t) i ≡ entries_at ts i
 unfolding entries_at
 other_entries ts k i t h = ap (λ (u : Table). u.entries) (other_table ts k i t h)
 
@@ -93,7 +131,7 @@ supported_set : (ts : List Table) (k : ℕ) (t : Table) → k < length ts
 unfolding entries_at
 supported_set ts k t h up all i = at_each (λ (u : Table). AreSupported u.entries) ts k t h (up (all k)) i (all i)
 
-pub changed_set : (ts : List Table) (k : ℕ) (t : Table) → k < length ts → IsTable t → t.key ≡ key_at ts k → t.width
+changed_set : (ts : List Table) (k : ℕ) (t : Table) → k < length ts → IsTable t → t.key ≡ key_at ts k → t.width
     ≡ width_at ts k → (AreSupported (entries_at ts k) → AreSupported t.entries) → Changed ts (slice_set ts k t) k
 changed_set ts k t h sound key width supported = record {
   others = λ i apart. other_entries ts k i t apart;
@@ -112,31 +150,22 @@ changed_set ts k t h sound key width supported = record {
     sized : size (slice_set ts k t) + length (entries_at ts k) ≡ size ts + length (entries_at (slice_set ts k t) k)
     sized = set_size ts k t h ∙ ap (λ (es : List Entry). size ts + length es) (sym (set_entries ts k t h))
 
--- what holds of the old and the new table of a node
-pub back : (P : List Entry → Type 0) (ts : List Table) (k : ℕ) (t : Table) → k < length ts → t ≡ slice_index_or ts k t
-    → P (entries_at ts k) → P t.entries
-back P ts k t h e p = subst P (sym (entries_of ts k t (read_table ts k t h e))) p
+-- what holds of the table that was read and of the one written back
+pub onto : {ts : List Table} {k : ℕ} {t : Table} (P : List Entry → List Entry → Type 0) (s : Table) → IsRead ts k t
+    → P t.entries s.entries → P (entries_at ts k) (entries_at (slice_set ts k s) k)
+onto {ts} {k} {t} P s r p =
+    subst (λ (fs : List Entry). P (entries_at ts k) fs) (sym (set_entries ts k s r.within))
+    (subst (λ (es : List Entry). P es s.entries) r.entries p)
 
-pub onto : (P : List Entry → List Entry → Type 0) (ts : List Table) (k : ℕ) (t s : Table) → k < length ts → t
-    ≡ slice_index_or ts k t → P t.entries s.entries → P (entries_at ts k) (entries_at (slice_set ts k s) k)
-onto P ts k t s h e p =
-    subst (λ (fs : List Entry). P (entries_at ts k) fs) (sym (set_entries ts k s h))
-    (subst (λ (es : List Entry). P es s.entries) (entries_of ts k t (read_table ts k t h e)) p)
+pub onto_key : {ts : List Table} {k : ℕ} {t : Table} (P : List ℕ → List Entry → List Entry → Type 0) (s : Table)
+    → IsRead ts k t → P t.key t.entries s.entries → P (key_at ts k) (entries_at ts k) (entries_at (slice_set ts k s) k)
+onto_key {ts} {k} {t} P s r p =
+    onto (P (key_at ts k)) s r (subst (λ (ks : List ℕ). P ks t.entries s.entries) r.key p)
 
-pub onto_key : (P : List ℕ → List Entry → List Entry → Type 0) (ts : List Table) (k : ℕ) (t s : Table) → k < length ts
-    → t ≡ slice_index_or ts k t → P t.key t.entries s.entries
-    → P (key_at ts k) (entries_at ts k) (entries_at (slice_set ts k s) k)
-onto_key P ts k t s h e p =
-    onto (P (key_at ts k)) ts k t s h e
-    (subst (λ (ks : List ℕ). P ks t.entries s.entries) (key_of ts k t (read_table ts k t h e)) p)
-
-pub changed_into : (ts : List Table) (k : ℕ) (t s : Table) → k < length ts → t ≡ slice_index_or ts k t → IsTable s
-    → s.key ≡ t.key → s.width ≡ t.width → (AreSupported t.entries → AreSupported s.entries)
-    → Changed ts (slice_set ts k s) k
-changed_into ts k t s h e sound key width up =
-    let r = read_table ts k t h e in
-    changed_set ts k s h sound (key ∙ key_of ts k t r) (width ∙ width_of ts k t r)
-    (λ a. up (back AreSupported ts k t h e a))
+pub changed_into : {ts : List Table} {k : ℕ} {t s : Table} → IsRead ts k t → IsTable s → s.key ≡ t.key
+    → s.width ≡ t.width → (AreSupported t.entries → AreSupported s.entries) → Changed ts (slice_set ts k s) k
+changed_into {ts} {k} {t} {s} r sound key width up =
+    changed_set ts k s r.within sound (key ∙ r.key) (width ∙ r.width) (λ a. up (to_read AreSupported r a))
 
 -- each change of a table keeps tuples supported
 pub supported_middle : (xs : List Entry) (e : Entry) (ys : List Entry) → AreSupported (xs ++ e ∷ ys) → 0 < e.supports
@@ -149,7 +178,7 @@ pub insert_supported : {A E : Type 0} (m : Bool) (r : Result A E) (key : List �
 insert_supported m (Ok p) key old new u i e h = inserted_supported key old new u i h
 insert_supported m (Err x) key old new u i e h = subst AreSupported (sym e) h
 
-pub supports_supported : (old new : List Entry) (u : List ℕ) (from to : ℕ) → Supported old new u from to → 0 < to
+supports_supported : (old new : List Entry) (u : List ℕ) (from to : ℕ) → Supported old new u from to → 0 < to
     → AreSupported old → AreSupported new
 supports_supported old new u from to s pos h =
     let has = s.has in
@@ -167,10 +196,38 @@ touched_supported key old new u t h =
     (supported_in t.fore t.after t.rest (omega arith)
     (subst AreSupported t.between (supported_out t.front t.before t.back was)))
 
-pub unmarked_supported : (es : List Entry) → AreSupported es → AreSupported (unmarked es)
+unmarked_supported : (es : List Entry) → AreSupported es → AreSupported (unmarked es)
 unfolding AreSupported unmarked bare
 unmarked_supported [] h = h
 unmarked_supported (e ∷ es) h = (h.0, unmarked_supported es h.1)
+
+-- the marks of a table went, and no other table changed
+pub record IsCleared (old new : List Table) (k : ℕ) : Type 0 where
+  pub changed : Changed old new k
+  pub cleared : entries_at new k ≡ unmarked (entries_at old k)
+
+pub cleared_into : {ts : List Table} {k : ℕ} {t s : Table} → IsRead ts k t → IsTable s → s.key ≡ t.key
+    → s.width ≡ t.width → s.entries ≡ unmarked t.entries → IsCleared ts (slice_set ts k s) k
+cleared_into {ts} {k} {t} {s} r sound key width is = record {
+  changed = changed_into r sound key width (λ h. subst AreSupported (sym is) (unmarked_supported t.entries h));
+  cleared = onto (λ es fs. fs ≡ unmarked es) s r is;
+}
+
+-- the supports of a tuple of a table changed by f, and no other table did
+pub record IsResupported (old new : List Table) (k : ℕ) (u : List ℕ) (f : ℕ → ℕ) : Type 0 where
+  pub changed : Changed old new k
+  pub supported : Supported (entries_at old k) (entries_at new k) u (supports_of (entries_at old k) u)
+      (f (supports_of (entries_at old k) u))
+
+pub supported_into : {ts : List Table} {k : ℕ} {t s : Table} (f : ℕ → ℕ) (u : List ℕ) → IsRead ts k t → IsTable s
+    → s.key ≡ t.key → s.width ≡ t.width
+    → Supported t.entries s.entries u (supports_of t.entries u) (f (supports_of t.entries u))
+    → 0 < f (supports_of t.entries u) → IsResupported ts (slice_set ts k s) k u f
+supported_into {ts} {k} {t} {s} f u r sound key width is some = record {
+  changed = changed_into r sound key width
+      (λ h. supports_supported t.entries s.entries u (supports_of t.entries u) (f (supports_of t.entries u)) is some h);
+  supported = onto (λ es fs. Supported es fs u (supports_of es u) (f (supports_of es u))) s r is;
+}
 
 -- the width of a tuple that lies somewhere
 wide_middle : (width : ℕ) (xs : List Entry) (e : Entry) (ys : List Entry) → AreWide width (xs ++ e ∷ ys)

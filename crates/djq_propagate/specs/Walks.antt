@@ -1,26 +1,21 @@
 -- What a walk up a path of the tree does to the tables of its nodes.
-use Rattle.std.specs.Prelude.{◌≡◌, ◌≢◌, ℕ, ◌+◌, ◌<◌, ◌≤◌, Bool, true, false, List, length}
+use Rattle.std.specs.Prelude.{◌≡◌, ◌≢◌, ℕ, ◌+◌, ◌-◌, ◌*◌, ◌<◌, ◌≤◌, Bool, true, false, List, length}
+use Rattle.std.specs.Prelude.{Result, IfOk, OnErr}
 use Rattle.djq_index.specs.Entries.{Entry, supports_of, count_of, marks, plain}
 use Rattle.djq_index.specs.Changes.{InsertedAs, Removed}
-use Rattle.djq_index.specs.declared.place.Place.{Place}
-use Rattle.djq_index.specs.Table.{Table, IsAt}
+use Rattle.djq_index.specs.Table.{Table}
 use Rattle.djq_tree.specs.declared.node.Node.{Node}
+use Rattle.djq_tree.specs.Flat.{HasEqualMeets}
 use Rattle.djq_tree.specs.Tree.{Tree, node_at, has_child}
 use Rattle.djq_reduct.specs.Tables.{entries_at, key_at}
 use Rattle.djq_reduct.specs.Reducts.{IsFamily, AreReduced}
-use Rattle.djq_propagate.specs.Sizes.{size}
+use Rattle.djq_propagate.specs.Sizes.{size, AreAtMost}
 
 -- the table k changed, and no other
 pub record Changed (old new : List Table) (k : ℕ) : Type 0 where
   pub others : (i : ℕ) → i ≢ k → entries_at new i ≡ entries_at old i
   pub family : (t : Tree) → IsFamily t old → IsFamily t new
   pub size : size new + length (entries_at old k) ≡ size old + length (entries_at new k)
-
--- a tuple with more than one support lies at p
-pub record IsShared (es : List Entry) (p : Place) : Type 0 where
-  pub tuple : List ℕ
-  pub is_at : IsAt es p tuple
-  pub more : 1 < supports_of es tuple
 
 -- above the node j each table is its node's reduct
 pub record Ready (t : Tree) (ts : List Table) (j : ℕ) : Type 0 where
@@ -125,3 +120,20 @@ pub record CameAs (mark : Bool) (old new : List Table) : Type 0 where
 pub record Fewer (old new : List Table) : Type 0 where
   pub unmarked : (i : ℕ) (v : List ℕ) → count_of (plain (entries_at new i)) v ≤ count_of (plain (entries_at old i)) v
   pub marked : (i : ℕ) (v : List ℕ) → count_of (marks (entries_at new i)) v ≤ count_of (marks (entries_at old i)) v
+
+-- what stood by a tuple that the node j lost went from the tables above, at a count that went from before to after
+pub record RemovedAbove (t : Tree) (old new : List Table) (j before after : ℕ) : Type 0 where
+  pub righted : ReducedAbove t old new j
+  pub fewer : Fewer old new
+  pub counted : after + 5 * size new ≤ before + 2 + 5 * size old
+
+-- what a tuple that the node j gained brings came to the tables above with this mark, or was refused and taken back,
+-- at a count that went from before to after
+pub record InsertedAbove {A E : Type 0} (t : Tree) (old new : List Table) (j : ℕ) (mark : Bool) (r : Result A E)
+    (before after : ℕ) : Type 0 where
+  pub ok : IfOk r (λ _. ReducedAbove t old new j)
+  pub refused : OnErr r (UnchangedAbove t old new j)
+  pub plain : CameAs mark old new
+  pub counted : IfOk r (λ _. after + 4 * size old ≤ before + 2 + 4 * size new)
+  pub bounded : OnErr r ((n : ℕ) → AreAtMost old n → after + 9 * size old ≤ before + 7 + 9 * (n * length t.nodes))
+  pub flat : OnErr r (HasEqualMeets t → after + 2 ≤ before + 5 * (length t.nodes - j))

@@ -8,15 +8,12 @@ ghost use Rattle.djq_tree.specs.Flat.{HasEqualMeets};
 ghost use Rattle.djq_reduct.specs.Tables.{entries_at, key_at, width_at};
 ghost use Rattle.djq_reduct.specs.Marks.{IsBare};
 ghost use Rattle.djq_propagate.specs.Sizes.{size, AreAtMost};
-ghost use Rattle.djq_propagate.specs.Walks.{Ready, InsertedUpwards, Refused, Gaining, ReducedAbove};
-ghost use Rattle.djq_propagate.specs.Walks.{UnchangedAbove, CameAs, IsUnder};
+ghost use Rattle.djq_propagate.specs.Walks.{Ready, InsertedUpwards, Refused, Gaining, InsertedAbove};
+ghost use Rattle.djq_propagate.specs.Walks.{CameAs, IsUnder};
 ghost use Rattle.djq_index.specs.declared.table.TheConstants.{TUPLES};
 
 use crate::removal::remove_group_from_meet;
-use crate::tables::{
-    column_of, find_at, find_part, first_at, has_no_column, insert_at, is_small_at, len_at,
-    next_at, part_of, raise_at, read_at, remove_at,
-};
+use crate::tables::{column_of, find_at, find_part, insert_at, part_of, read_at, remove_at};
 use djq_index::Table;
 use djq_reduct::Cells;
 use djq_steps::Tally;
@@ -73,15 +70,7 @@ fn insert_above<L: Ledger>(
     requires gaining { Gaining tree.now tables.old.items at tuple.now }
     requires wide { length tuple.now ≡ width_at tables.old.items at }
     requires bare { marked ≡ false → IsBare tables.old.items }
-    ensures ok { IfOk result (λ _. ReducedAbove tree.now tables.old.items tables.new.items at) }
-    ensures refused { OnErr result (UnchangedAbove tree.now tables.old.items tables.new.items at) }
-    ensures plain { CameAs marked tables.old.items tables.new.items }
-    ensures counted { IfOk result (λ _. tally.new + 4 * size tables.old.items ≤ tally.old + 2 + 4
-        * size tables.new.items) }
-    ensures bounded { OnErr result ((n : ℕ) → AreAtMost tables.old.items n
-        → tally.new + 9 * size tables.old.items ≤ tally.old + 7 + 9 * (n * length tree.now.nodes)) }
-    ensures flat { OnErr result (HasEqualMeets tree.now → tally.new + 2 ≤ tally.old + 5
-        * (length tree.now.nodes - at)) }
+    ensures { InsertedAbove tree.now tables.old.items tables.new.items at marked result tally.old tally.new }
 {
     match tree.parent(at) {
         None => Ok(()),
@@ -115,22 +104,14 @@ fn insert_above_trim<L: Ledger>(
     requires wide { length tuple.now ≡ width_at tables.old.items at }
     requires under { IsUnder tree.now up (Trim at) at }
     requires bare { marked ≡ false → IsBare tables.old.items }
-    ensures ok { IfOk result (λ _. ReducedAbove tree.now tables.old.items tables.new.items at) }
-    ensures refused { OnErr result (UnchangedAbove tree.now tables.old.items tables.new.items at) }
-    ensures plain { CameAs marked tables.old.items tables.new.items }
-    ensures counted { IfOk result (λ _. tally.new + 4 * size tables.old.items ≤ tally.old + 2 + 4
-        * size tables.new.items) }
-    ensures bounded { OnErr result ((n : ℕ) → AreAtMost tables.old.items n
-        → tally.new + 9 * size tables.old.items ≤ tally.old + 7 + 9 * (n * length tree.now.nodes)) }
-    ensures flat { OnErr result (HasEqualMeets tree.now → tally.new + 2 ≤ tally.old + 5
-        * (length tree.now.nodes - at)) }
+    ensures { InsertedAbove tree.now tables.old.items tables.new.items at marked result tally.old tally.new }
 {
     match column_of(tables, at) {
         Some(column) => {
             insert_above_part(tree, tables, at, up, tuple, &[tuple[column]], marked, tally)
         }
         None => {
-            if has_no_column(tables, at) {
+            if tables[at].key().is_empty() {
                 insert_above_part(tree, tables, at, up, tuple, &[], marked, tally)
             } else {
                 insert_above_wide(tree, tables, at, up, tuple, marked, tally)
@@ -155,15 +136,7 @@ fn insert_above_wide<L: Ledger>(
     requires wide { length tuple.now ≡ width_at tables.old.items at }
     requires under { IsUnder tree.now up (Trim at) at }
     requires bare { marked ≡ false → IsBare tables.old.items }
-    ensures ok { IfOk result (λ _. ReducedAbove tree.now tables.old.items tables.new.items at) }
-    ensures refused { OnErr result (UnchangedAbove tree.now tables.old.items tables.new.items at) }
-    ensures plain { CameAs marked tables.old.items tables.new.items }
-    ensures counted { IfOk result (λ _. tally.new + 4 * size tables.old.items ≤ tally.old + 2 + 4
-        * size tables.new.items) }
-    ensures bounded { OnErr result ((n : ℕ) → AreAtMost tables.old.items n
-        → tally.new + 9 * size tables.old.items ≤ tally.old + 7 + 9 * (n * length tree.now.nodes)) }
-    ensures flat { OnErr result (HasEqualMeets tree.now → tally.new + 2 ≤ tally.old + 5
-        * (length tree.now.nodes - at)) }
+    ensures { InsertedAbove tree.now tables.old.items tables.new.items at marked result tally.old tally.new }
 {
     let mut part = Cells::new(0);
     part_of(tables, at, tuple, &mut part);
@@ -188,20 +161,12 @@ fn insert_above_part<L: Ledger>(
     requires under { IsUnder tree.now up (Trim at) at }
     requires part { cells.now ≡ pick (key_at tables.old.items at) tuple.now }
     requires bare { marked ≡ false → IsBare tables.old.items }
-    ensures ok { IfOk result (λ _. ReducedAbove tree.now tables.old.items tables.new.items at) }
-    ensures refused { OnErr result (UnchangedAbove tree.now tables.old.items tables.new.items at) }
-    ensures plain { CameAs marked tables.old.items tables.new.items }
-    ensures counted { IfOk result (λ _. tally.new + 4 * size tables.old.items ≤ tally.old + 2 + 4
-        * size tables.new.items) }
-    ensures bounded { OnErr result ((n : ℕ) → AreAtMost tables.old.items n
-        → tally.new + 9 * size tables.old.items ≤ tally.old + 7 + 9 * (n * length tree.now.nodes)) }
-    ensures flat { OnErr result (HasEqualMeets tree.now → tally.new + 2 ≤ tally.old + 5
-        * (length tree.now.nodes - at)) }
+    ensures { InsertedAbove tree.now tables.old.items tables.new.items at marked result tally.old tally.new }
 {
-    is_small_at(tables, at);
+    tables[at].is_small();
     match find_at(tables, up, cells, tally) {
         Some(place) => {
-            raise_at(tables, up, place, tally);
+            tables[up].raise(place, tally);
             Ok(())
         }
         None => insert_tuple(tree, tables, up, cells, marked, tally),
@@ -224,17 +189,9 @@ fn insert_above_guard<L: Ledger>(
     requires wide { length tuple.now ≡ width_at tables.old.items at }
     requires under { IsUnder tree.now up (Meet at side) at }
     requires bare { marked ≡ false → IsBare tables.old.items }
-    ensures ok { IfOk result (λ _. ReducedAbove tree.now tables.old.items tables.new.items at) }
-    ensures refused { OnErr result (UnchangedAbove tree.now tables.old.items tables.new.items at) }
-    ensures plain { CameAs marked tables.old.items tables.new.items }
-    ensures counted { IfOk result (λ _. tally.new + 4 * size tables.old.items ≤ tally.old + 2 + 4
-        * size tables.new.items) }
-    ensures bounded { OnErr result ((n : ℕ) → AreAtMost tables.old.items n
-        → tally.new + 9 * size tables.old.items ≤ tally.old + 7 + 9 * (n * length tree.now.nodes)) }
-    ensures flat { OnErr result (HasEqualMeets tree.now → tally.new + 2 ≤ tally.old + 5
-        * (length tree.now.nodes - at)) }
+    ensures { InsertedAbove tree.now tables.old.items tables.new.items at marked result tally.old tally.new }
 {
-    is_small_at(tables, at);
+    tables[at].is_small();
     match find_part(tables, at, side, tuple, tally) {
         Some(_place) => insert_tuple(tree, tables, up, tuple, marked, tally),
         None => Ok(()),
@@ -256,20 +213,13 @@ fn insert_above_side<L: Ledger>(
     requires gaining { Gaining tree.now tables.old.items at tuple.now }
     requires under { IsUnder tree.now up (Meet guard at) at }
     requires bare { marked ≡ false → IsBare tables.old.items }
-    ensures ok { IfOk result (λ _. ReducedAbove tree.now tables.old.items tables.new.items at) }
-    ensures refused { OnErr result (UnchangedAbove tree.now tables.old.items tables.new.items at) }
-    ensures plain { CameAs marked tables.old.items tables.new.items }
-    ensures counted { IfOk result (λ _. tally.new + 4 * size tables.old.items ≤ tally.old + 2 + 4
-        * size tables.new.items) }
-    ensures bounded { OnErr result ((n : ℕ) → AreAtMost tables.old.items n
-        → tally.new + 9 * size tables.old.items ≤ tally.old + 7 + 9 * (n * length tree.now.nodes)) }
-    ensures flat { OnErr result (HasEqualMeets tree.now → tally.new + 2 ≤ tally.old + 5
-        * (length tree.now.nodes - at)) }
+    ensures { InsertedAbove tree.now tables.old.items tables.new.items at marked result tally.old tally.new }
 {
-    is_small_at(tables, guard);
-    let count = len_at(tables, guard);
+    let table = &tables[guard];
+    table.is_small();
+    let count = table.len();
+    let mut next = table.first(tuple, tally);
     let mut part = Cells::new(0);
-    let mut next = first_at(tables, guard, tuple, tally);
     for done in 0..count {
         match next {
             Some(place) => {
@@ -281,7 +231,7 @@ fn insert_above_side<L: Ledger>(
                         return Err(error);
                     }
                 }
-                next = next_at(tables, guard, place, tally);
+                next = tables[guard].next(place, tally);
             }
             None => {
                 return Ok(());

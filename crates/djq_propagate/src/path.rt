@@ -13,7 +13,7 @@ ghost use Rattle.djq_propagate.specs.Walks.{Changed};
 ghost use Rattle.djq_propagate.specs.Updates.{HasCleared, HasTaken, steps};
 
 use crate::removal::remove_tuple;
-use crate::tables::{clear_at, first_marked_at, len_at, read_at};
+use crate::tables::read_at;
 use crate::touch::touch_step;
 use djq_index::Table;
 use djq_reduct::Cells;
@@ -109,7 +109,7 @@ fn clear_above<L: Ledger>(
         (has_child (node_at tree.now.nodes up) at) * 2 }
 {
     if tree.node(up).has_child(at) {
-        clear_at(tables, up, tally);
+        tables[up].clear_marks(tally);
         return up;
     }
     at
@@ -131,7 +131,7 @@ pub(crate) fn clear_path<L: Ledger>(
     ensures flat { HaveFew tables.old.items → tally.new ≤ tally.old + (1 + steps tree.now.nodes leaf
         (length tree.now.nodes)) * 2 }
 {
-    clear_at(tables, leaf, tally);
+    tables[leaf].clear_marks(tally);
     let mut at = leaf;
     for up in 0..tree.len() {
         at = clear_above(tree, tables, at, up, tally);
@@ -151,10 +151,10 @@ pub(crate) fn take_marked<L: Ledger>(
         (record { tree = tree.now; tables = tables.new.items }) leaf }
     ensures counted { tally.new + 5 * size tables.new.items ≤ tally.old + 1 + 5 * size tables.old.items }
 {
-    let count = len_at(tables, leaf);
+    let count = tables[leaf].len();
     let mut tuple = Cells::new(0);
     for _done in 0..count {
-        match first_marked_at(tables, leaf, tally) {
+        match tables[leaf].first_marked(tally) {
             Some(place) => {
                 read_at(tables, leaf, place, &mut tuple);
                 remove_tuple(tree, tables, leaf, place, tuple.as_slice(), tally);

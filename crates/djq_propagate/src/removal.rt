@@ -7,13 +7,10 @@ ghost use Rattle.djq_index.specs.Table.{IsAt};
 ghost use Rattle.djq_tree.specs.declared.node.Node.TheVariants.{Trim, Meet};
 ghost use Rattle.djq_reduct.specs.Tables.{entries_at, key_at, width_at};
 ghost use Rattle.djq_propagate.specs.Sizes.{size};
-ghost use Rattle.djq_propagate.specs.Walks.{Ready, RemovedUpwards, Losing, ReducedAbove, Fewer};
+ghost use Rattle.djq_propagate.specs.Walks.{Ready, RemovedUpwards, Losing, RemovedAbove, Fewer};
 ghost use Rattle.djq_propagate.specs.Walks.{IsUnder, IsEmptied, IsFull};
 
-use crate::tables::{
-    column_of, find_at, first_at, has_no_column, is_shared_at, len_at, lower_at, next_at, part_of,
-    read_at, remove_at,
-};
+use crate::tables::{column_of, find_at, part_of, read_at, remove_at};
 use djq_index::{Place, Table};
 use djq_reduct::Cells;
 use djq_steps::Tally;
@@ -52,9 +49,7 @@ fn remove_above<L: Ledger>(
 )
     requires losing { Losing tree.now tables.old.items at tuple.now }
     requires wide { length tuple.now ≡ width_at tables.old.items at }
-    ensures righted { ReducedAbove tree.now tables.old.items tables.new.items at }
-    ensures fewer { Fewer tables.old.items tables.new.items }
-    ensures counted { tally.new + 5 * size tables.new.items ≤ tally.old + 2 + 5 * size tables.old.items }
+    ensures { RemovedAbove tree.now tables.old.items tables.new.items at tally.old tally.new }
 {
     match tree.parent(at) {
         None => {}
@@ -86,14 +81,12 @@ fn remove_above_trim<L: Ledger>(
     requires losing { Losing tree.now tables.old.items at tuple.now }
     requires wide { length tuple.now ≡ width_at tables.old.items at }
     requires under { IsUnder tree.now up (Trim at) at }
-    ensures righted { ReducedAbove tree.now tables.old.items tables.new.items at }
-    ensures fewer { Fewer tables.old.items tables.new.items }
-    ensures counted { tally.new + 5 * size tables.new.items ≤ tally.old + 2 + 5 * size tables.old.items }
+    ensures { RemovedAbove tree.now tables.old.items tables.new.items at tally.old tally.new }
 {
     match column_of(tables, at) {
         Some(column) => remove_above_part(tree, tables, at, up, tuple, &[tuple[column]], tally),
         None => {
-            if has_no_column(tables, at) {
+            if tables[at].key().is_empty() {
                 remove_above_part(tree, tables, at, up, tuple, &[], tally);
             } else {
                 remove_above_wide(tree, tables, at, up, tuple, tally);
@@ -116,9 +109,7 @@ fn remove_above_wide<L: Ledger>(
     requires losing { Losing tree.now tables.old.items at tuple.now }
     requires wide { length tuple.now ≡ width_at tables.old.items at }
     requires under { IsUnder tree.now up (Trim at) at }
-    ensures righted { ReducedAbove tree.now tables.old.items tables.new.items at }
-    ensures fewer { Fewer tables.old.items tables.new.items }
-    ensures counted { tally.new + 5 * size tables.new.items ≤ tally.old + 2 + 5 * size tables.old.items }
+    ensures { RemovedAbove tree.now tables.old.items tables.new.items at tally.old tally.new }
 {
     let mut part = Cells::new(0);
     part_of(tables, at, tuple, &mut part);
@@ -141,14 +132,12 @@ fn remove_above_part<L: Ledger>(
     requires wide { length tuple.now ≡ width_at tables.old.items at }
     requires under { IsUnder tree.now up (Trim at) at }
     requires part { cells.now ≡ pick (key_at tables.old.items at) tuple.now }
-    ensures righted { ReducedAbove tree.now tables.old.items tables.new.items at }
-    ensures fewer { Fewer tables.old.items tables.new.items }
-    ensures counted { tally.new + 5 * size tables.new.items ≤ tally.old + 2 + 5 * size tables.old.items }
+    ensures { RemovedAbove tree.now tables.old.items tables.new.items at tally.old tally.new }
 {
     match find_at(tables, up, cells, tally) {
         Some(place) => {
-            if is_shared_at(tables, up, place) {
-                lower_at(tables, up, place, tally);
+            if tables[up].supports(place) > 1 {
+                tables[up].lower(place, tally);
             } else {
                 remove_tuple(tree, tables, up, place, cells, tally);
             }
@@ -170,9 +159,7 @@ fn remove_above_guard<L: Ledger>(
 )
     requires losing { Losing tree.now tables.old.items at tuple.now }
     requires under { IsUnder tree.now up (Meet at side) at }
-    ensures righted { ReducedAbove tree.now tables.old.items tables.new.items at }
-    ensures fewer { Fewer tables.old.items tables.new.items }
-    ensures counted { tally.new + 5 * size tables.new.items ≤ tally.old + 2 + 5 * size tables.old.items }
+    ensures { RemovedAbove tree.now tables.old.items tables.new.items at tally.old tally.new }
 {
     match find_at(tables, up, tuple, tally) {
         Some(place) => remove_tuple(tree, tables, up, place, tuple, tally),
@@ -193,11 +180,9 @@ fn remove_above_side<L: Ledger>(
 )
     requires losing { Losing tree.now tables.old.items at tuple.now }
     requires under { IsUnder tree.now up (Meet guard at) at }
-    ensures righted { ReducedAbove tree.now tables.old.items tables.new.items at }
-    ensures fewer { Fewer tables.old.items tables.new.items }
-    ensures counted { tally.new + 5 * size tables.new.items ≤ tally.old + 2 + 5 * size tables.old.items }
+    ensures { RemovedAbove tree.now tables.old.items tables.new.items at tally.old tally.new }
 {
-    let count = len_at(tables, guard);
+    let count = tables[guard].len();
     remove_group_from_meet(tree, tables, guard, up, tuple, count, tally);
 }
 
@@ -224,13 +209,13 @@ pub(crate) fn remove_group_from_meet<L: Ledger>(
     ensures counted { tally.new + 5 * size tables.new.items ≤ tally.old + 1 + 5 * size tables.old.items }
 {
     let mut part = Cells::new(0);
-    let mut next = first_at(tables, guard, cells, tally);
+    let mut next = tables[guard].first(cells, tally);
     for _done in 0..count {
         match next {
             Some(place) => {
                 read_at(tables, guard, place, &mut part);
                 find_and_remove(tree, tables, up, part.as_slice(), tally);
-                next = next_at(tables, guard, place, tally);
+                next = tables[guard].next(place, tally);
             }
             None => {
                 return;

@@ -1,13 +1,13 @@
 //! Calls on the table of one node, among the tables of all.
 
-ghost use Rattle.std.specs.Prelude.{◌≡◌, ℕ, ◌+◌, ◌-◌, ◌<◌, ◌≤◌, false, List, [], ◌∷◌, ◌++◌, length};
-ghost use Rattle.std.specs.Prelude.{nat_lt, IsTrue, IfOk, IfSome, OnErr, MatchOption};
+ghost use Rattle.std.specs.Prelude.{◌≡◌, ℕ, ◌+◌, ◌<◌, ◌≤◌, false, List, [], ◌∷◌, length};
+ghost use Rattle.std.specs.Prelude.{IfOk, IfSome, OnErr, MatchOption};
 ghost use Rattle.djq_index.specs.Tuple.{pick};
-ghost use Rattle.djq_index.specs.Entries.{Entry, supports_of, count_of, group_of, marks, is_marked, unmarked, head_at};
-ghost use Rattle.djq_index.specs.Table.{IsTable, IsAt, IsLive, IsUnmarked, IsRaisable};
-ghost use Rattle.djq_index.specs.Changes.{InsertedAs, Removed, Touched, Supported};
-ghost use Rattle.djq_reduct.specs.Tables.{table_at, entries_at, key_at, width_at};
-ghost use Rattle.djq_propagate.specs.Walks.{Changed, IsShared};
+ghost use Rattle.djq_index.specs.Entries.{count_of, marks};
+ghost use Rattle.djq_index.specs.Table.{IsAt, IsLive};
+ghost use Rattle.djq_index.specs.Changes.{InsertedAs, Removed};
+ghost use Rattle.djq_reduct.specs.Tables.{entries_at, key_at, width_at};
+ghost use Rattle.djq_propagate.specs.Walks.{Changed};
 ghost use Rattle.djq_index.specs.declared.table.TheConstants.{TUPLES};
 ghost use Rattle.djq_index.specs.declared.cells.TheConstants.{CELLS};
 
@@ -16,22 +16,6 @@ use djq_reduct::Cells;
 use djq_steps::Tally;
 use std::alloc::AllocError;
 use std::sync::ledger::Ledger;
-
-/// The table of a node.
-fn table_of(tables: &Vec<Table>, at: usize) -> &Table
-    requires { at < length tables.now.items }
-    ensures { result.now ≡ table_at tables.now.items at }
-{
-    &tables[at]
-}
-
-/// How many tuples the table of a node has.
-pub(crate) fn len_at(tables: &Vec<Table>, at: usize) -> usize
-    requires { at < length tables.now.items }
-    ensures { result ≡ length (entries_at tables.now.items at) }
-{
-    table_of(tables, at).len()
-}
 
 /// Where a tuple lies in the table of a node.
 pub(crate) fn find_at<L: Ledger>(
@@ -45,69 +29,7 @@ pub(crate) fn find_at<L: Ledger>(
         (λ p. IsAt (entries_at tables.now.items at) p tuple.now) }
     ensures counted { tally.new ≡ tally.old + 1 }
 {
-    table_of(tables, at).find(tuple, tally)
-}
-
-/// The first of a group of the table of a node.
-pub(crate) fn first_at<L: Ledger>(
-    tables: &Vec<Table>,
-    at: usize,
-    cells: &[u64],
-    tally: &mut Tally<L>,
-) -> Option<Place>
-    requires { at < length tables.now.items }
-    ensures found { result ≡ head_at (group_of (key_at tables.now.items at)
-        (entries_at tables.now.items at) cells.now) }
-    ensures counted { tally.new ≡ tally.old + 1 }
-{
-    table_of(tables, at).first(cells, tally)
-}
-
-/// The next one of a group of the table of a node.
-pub(crate) fn next_at<L: Ledger>(
-    tables: &Vec<Table>,
-    at: usize,
-    place: Place,
-    tally: &mut Tally<L>,
-) -> Option<Place>
-    requires within { at < length tables.now.items }
-    requires live { IsLive (entries_at tables.now.items at) place }
-    ensures found { (w : List ℕ) (xs : List Entry) (e : Entry) (ys : List Entry)
-        → group_of (key_at tables.now.items at) (entries_at tables.now.items at) w ≡ xs ++ e ∷ ys
-        → e.at ≡ place → result ≡ head_at ys }
-    ensures counted { tally.new ≡ tally.old + 1 }
-{
-    table_of(tables, at).next(place, tally)
-}
-
-/// The first marked tuple of the table of a node.
-pub(crate) fn first_marked_at<L: Ledger>(
-    tables: &Vec<Table>,
-    at: usize,
-    tally: &mut Tally<L>,
-) -> Option<Place>
-    requires { at < length tables.now.items }
-    ensures found { result ≡ head_at (marks (entries_at tables.now.items at)) }
-    ensures counted { tally.new ≡ tally.old + 1 }
-{
-    table_of(tables, at).first_marked(tally)
-}
-
-/// The next marked tuple of the table of a node.
-pub(crate) fn next_marked_at<L: Ledger>(
-    tables: &Vec<Table>,
-    at: usize,
-    place: Place,
-    tally: &mut Tally<L>,
-) -> Option<Place>
-    requires within { at < length tables.now.items }
-    requires live { IsLive (entries_at tables.now.items at) place }
-    ensures found { (xs : List Entry) (e : Entry) (ys : List Entry)
-        → marks (entries_at tables.now.items at) ≡ xs ++ e ∷ ys → e.at ≡ place
-        → result ≡ head_at ys }
-    ensures counted { tally.new ≡ tally.old + 1 }
-{
-    table_of(tables, at).next_marked(place, tally)
+    tables[at].find(tuple, tally)
 }
 
 /// Reads the tuple at a place of the table of a node.
@@ -118,7 +40,7 @@ pub(crate) fn read_at(tables: &Vec<Table>, at: usize, place: Place, cells: &mut 
     ensures tuple { (u : List ℕ) → IsAt (entries_at tables.now.items at) place u → cells.new ≡ u }
     ensures wide { length cells.new ≡ width_at tables.now.items at }
 {
-    let table = table_of(tables, at);
+    let table = &tables[at];
     table.laws();
     cells.take_all(table.tuple(place));
 }
@@ -131,7 +53,7 @@ pub(crate) fn part_of(tables: &Vec<Table>, at: usize, tuple: &[u64], cells: &mut
     requires wide { length tuple.now ≡ width_at tables.now.items at }
     ensures { cells.new ≡ pick (key_at tables.now.items at) tuple.now }
 {
-    let table = table_of(tables, at);
+    let table = &tables[at];
     table.laws();
     cells.take_part(tuple, table.key());
 }
@@ -142,20 +64,12 @@ pub(crate) fn column_of(tables: &Vec<Table>, at: usize) -> Option<usize>
     ensures key { IfSome result (λ column. key_at tables.now.items at ≡ column ∷ []) }
     ensures within { IfSome result (λ column. column < width_at tables.now.items at) }
 {
-    let table = table_of(tables, at);
+    let table = &tables[at];
     table.laws();
     match table.key() {
         [column] => Some(*column),
         _ => None,
     }
-}
-
-/// Whether a node's key has no column.
-pub(crate) fn has_no_column(tables: &Vec<Table>, at: usize) -> bool
-    requires { at < length tables.now.items }
-    ensures { IsTrue result → key_at tables.now.items at ≡ [] }
-{
-    table_of(tables, at).key().is_empty()
 }
 
 /// Where the part of a tuple at the columns of a node's key lies in the table of another node. Most keys have one
@@ -209,26 +123,6 @@ fn find_wide<L: Ledger>(
     find_at(tables, to, part.as_slice(), tally)
 }
 
-/// Whether the tuple at a place of the table of a node has more than one support.
-pub(crate) fn is_shared_at(tables: &Vec<Table>, at: usize, place: Place) -> bool
-    requires within { at < length tables.now.items }
-    requires live { IsLive (entries_at tables.now.items at) place }
-    ensures { (u : List ℕ) → IsAt (entries_at tables.now.items at) place u
-        → result ≡ nat_lt 1 (supports_of (entries_at tables.now.items at) u) }
-{
-    table_of(tables, at).supports(place) > 1
-}
-
-/// Whether the tuple at a place of the table of a node is marked.
-pub(crate) fn marked_at(tables: &Vec<Table>, at: usize, place: Place) -> bool
-    requires within { at < length tables.now.items }
-    requires live { IsLive (entries_at tables.now.items at) place }
-    ensures { (u : List ℕ) → IsAt (entries_at tables.now.items at) place u
-        → result ≡ is_marked (entries_at tables.now.items at) u }
-{
-    table_of(tables, at).marked(place)
-}
-
 /// Puts a tuple into the table of a node, marked or not.
 pub(crate) fn insert_at<L: Ledger>(
     tables: &mut Vec<Table>,
@@ -269,82 +163,4 @@ pub(crate) fn remove_at<L: Ledger>(
 {
     let table = &mut tables[at];
     table.remove(place, tally);
-}
-
-/// Gives the tuple at a place of the table of a node one support more.
-pub(crate) fn raise_at<L: Ledger>(
-    tables: &mut Vec<Table>,
-    at: usize,
-    place: Place,
-    tally: &mut Tally<L>,
-)
-    requires within { at < length tables.old.items }
-    requires room { IsRaisable (entries_at tables.old.items at) place }
-    ensures raised { (u : List ℕ) → IsAt (entries_at tables.old.items at) place u
-        → Supported (entries_at tables.old.items at) (entries_at tables.new.items at) u
-        (supports_of (entries_at tables.old.items at) u)
-        (supports_of (entries_at tables.old.items at) u + 1) }
-    ensures changed { Changed tables.old.items tables.new.items at }
-    ensures counted { tally.new ≡ tally.old + 1 }
-{
-    let table = &mut tables[at];
-    table.raise(place, tally);
-}
-
-/// Takes one of the supports of the tuple at a place of the table of a node away.
-pub(crate) fn lower_at<L: Ledger>(
-    tables: &mut Vec<Table>,
-    at: usize,
-    place: Place,
-    tally: &mut Tally<L>,
-)
-    requires within { at < length tables.old.items }
-    requires shared { IsShared (entries_at tables.old.items at) place }
-    ensures lowered { (u : List ℕ) → IsAt (entries_at tables.old.items at) place u
-        → Supported (entries_at tables.old.items at) (entries_at tables.new.items at) u
-        (supports_of (entries_at tables.old.items at) u)
-        (supports_of (entries_at tables.old.items at) u - 1) }
-    ensures changed { Changed tables.old.items tables.new.items at }
-    ensures counted { tally.new ≡ tally.old + 1 }
-{
-    let table = &mut tables[at];
-    table.lower(place, tally);
-}
-
-/// Marks the unmarked tuple at a place of the table of a node.
-pub(crate) fn touch_at<L: Ledger>(
-    tables: &mut Vec<Table>,
-    at: usize,
-    place: Place,
-    tally: &mut Tally<L>,
-)
-    requires within { at < length tables.old.items }
-    requires unmarked { IsUnmarked (entries_at tables.old.items at) place }
-    ensures touched { (u : List ℕ) → IsAt (entries_at tables.old.items at) place u
-        → Touched (key_at tables.old.items at) (entries_at tables.old.items at)
-        (entries_at tables.new.items at) u }
-    ensures changed { Changed tables.old.items tables.new.items at }
-    ensures counted { tally.new ≡ tally.old + 1 }
-{
-    let table = &mut tables[at];
-    table.touch(place, tally);
-}
-
-/// Takes all marks of the table of a node away.
-pub(crate) fn clear_at<L: Ledger>(tables: &mut Vec<Table>, at: usize, tally: &mut Tally<L>)
-    requires within { at < length tables.old.items }
-    ensures cleared { entries_at tables.new.items at ≡ unmarked (entries_at tables.old.items at) }
-    ensures changed { Changed tables.old.items tables.new.items at }
-    ensures counted { tally.new ≡ tally.old + 1 + length (marks (entries_at tables.old.items at)) }
-{
-    let table = &mut tables[at];
-    table.clear_marks(tally);
-}
-
-/// The law that the table of a node has at most 4,294,967,295 tuples. It does nothing.
-pub(crate) fn is_small_at(tables: &Vec<Table>, at: usize)
-    requires { at < length tables.now.items }
-    ensures { length (entries_at tables.now.items at) ≤ TUPLES }
-{
-    table_of(tables, at).is_small();
 }

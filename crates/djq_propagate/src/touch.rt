@@ -11,10 +11,7 @@ ghost use Rattle.djq_reduct.specs.Reducts.{IsFamily};
 ghost use Rattle.djq_propagate.specs.Touches.{IsTouched, IsStep, is_marked_by, reach_one, reach, cost_one};
 ghost use Rattle.djq_propagate.specs.Walks.{IsUnder};
 
-use crate::tables::{
-    find_at, first_at, first_marked_at, len_at, marked_at, next_at, next_marked_at, part_of,
-    read_at, touch_at,
-};
+use crate::tables::{part_of, read_at};
 use djq_index::Table;
 use djq_reduct::Cells;
 use djq_steps::Tally;
@@ -34,12 +31,13 @@ pub(crate) fn touch_tuple<L: Ledger>(
     ensures touched { IsTouched tree.now tables.old.items tables.new.items at (λ v. one (same tuple.now v)) }
     ensures counted { tally.new ≤ tally.old + 2 }
 {
-    match find_at(tables, at, tuple, tally) {
+    let table = &mut tables[at];
+    match table.find(tuple, tally) {
         Some(place) => {
-            if marked_at(tables, at, place) {
+            if table.marked(place) {
                 return;
             }
-            touch_at(tables, at, place, tally);
+            table.touch(place, tally);
         }
         None => {}
     }
@@ -61,8 +59,9 @@ fn is_to_be_marked<L: Ledger>(
     ensures counted { tally.new ≤ tally.old + 1 }
 {
     if going {
-        match first_at(tables, at, cells, tally) {
-            Some(place) => marked_at(tables, at, place),
+        let table = &tables[at];
+        match table.first(cells, tally) {
+            Some(place) => table.marked(place),
             None => true,
         }
     } else {
@@ -114,15 +113,16 @@ fn touch_group<L: Ledger>(
     ensures counted { tally.new ≤ tally.old + 1 + 3 * group_size (key_at tables.old.items guard)
         (entries_at tables.old.items guard) cells.now }
 {
-    let count = len_at(tables, guard);
+    let table = &tables[guard];
+    let count = table.len();
+    let mut next = table.first(cells, tally);
     let mut part = Cells::new(0);
-    let mut next = first_at(tables, guard, cells, tally);
     for done in 0..count {
         match next {
             Some(place) => {
                 read_at(tables, guard, place, &mut part);
                 touch_tuple(tree, tables, up, part.as_slice(), tally);
-                next = next_at(tables, guard, place, tally);
+                next = tables[guard].next(place, tally);
             }
             None => {
                 return;
@@ -179,15 +179,16 @@ pub(crate) fn touch_step<L: Ledger>(
     ensures flat { HasEqualMeets tree.now → length (marks (entries_at tables.old.items at)) ≤ 1
         → tally.new ≤ tally.old + 6 }
 {
-    let count = len_at(tables, at);
+    let table = &tables[at];
+    let count = table.len();
+    let mut next = table.first_marked(tally);
     let mut tuple = Cells::new(0);
-    let mut next = first_marked_at(tables, at, tally);
     for done in 0..count {
         match next {
             Some(place) => {
                 read_at(tables, at, place, &mut tuple);
                 touch_from(tree, tables, at, up, tuple.as_slice(), going, tally);
-                next = next_marked_at(tables, at, place, tally);
+                next = tables[at].next_marked(place, tally);
             }
             None => {
                 return;

@@ -1,6 +1,8 @@
 -- A node's gain is its parent's, by the parent's equation; where one is refused, all supports are as before.
 use Rattle.std.proofs.Common.{◌≡◌, ℕ, ◌+◌, ◌-◌, ◌*◌, ◌<◌, ◌≤◌, List, length, take, drop, ap, subst, sym, ◌∙◌, arith}
-use Rattle.djq_index.specs.Entries.{Entry, supports_of, count_of, group_of}
+use Rattle.djq_index.specs.Entries.{Entry, supports_of, count_of, group_of, head_at}
+use Rattle.std.specs.Prelude.{slice_set}
+use Rattle.djq_index.specs.Table.{IsRaisable}
 use Rattle.djq_index.proofs.Changing.{inserted_length, supported_length}
 use Rattle.djq_tree.specs.declared.node.Node.TheVariants.{Trim, Meet}
 use Rattle.djq_tree.specs.Flat.{HasEqualMeets}
@@ -19,9 +21,10 @@ use Rattle.djq_propagate.proofs.Gains.{refused_ready, same_group, side_stayed, r
 use Rattle.djq_propagate.proofs.Gains.{lived_here}
 use Rattle.djq_propagate.proofs.Going.{has_table, wide_now, under_leaf, under_trim, under_guard}
 use Rattle.djq_propagate.proofs.Going.{under_side, guard_under, cut_of, cut_at, as_live, moved_at}
-use Rattle.djq_propagate.proofs.Going.{group_still, on_err, ok_map, err_map, refused_none}
+use Rattle.djq_propagate.proofs.Going.{guard_read, group_still, on_err, ok_map, err_map, refused_none}
 use Rattle.djq_propagate.proofs.Going.{plain_none}
-use Rattle.djq_propagate.proofs.Tabling.{part_none, part_one}
+use Rattle.djq_propagate.proofs.Tabling.{is_none, to_read, at_read, supported_into}
+use Rattle.djq_propagate.proofs.Tabling.{part_none, part_one, family_read, of_read, length_read, group_read, live_read}
 use Rattle.djq_propagate.proofs.Rooms.{room_size, most_more, trim_fits, guard_fits, next_fits, side_fits, side_bounded}
 use Rattle.djq_propagate.proofs.Refusing.{side_flat}
 use Rattle.djq_propagate.proofs.insertion.+insert_tuple.Goals as goal
@@ -256,97 +259,52 @@ insert_above-insert_above_side-requires g t c κs hκ =
       ),
     )
 
-pub insert_above-returns-in-None-clause-ok : goal.insert_above-returns-in-None-clause-ok
-insert_above-returns-in-None-clause-ok g t c =
-    topmost c.args.tree.now c.requires.gaining.was c.args.tables.now.items c.args.at c.requires.gaining.began
-    c.in-None.ensures.root
+pub insert_above-returns-in-None : goal.insert_above-returns-in-None
+insert_above-returns-in-None g t c =
+    record {
+      ok = topmost c.args.tree.now c.requires.gaining.was c.args.tables.now.items c.args.at c.requires.gaining.began
+          c.in-None.ensures.root;
+      refused = search rules;
+      plain = plain_refl c.args.tables.now.items;
+      counted = omega arith;
+      bounded = search rules;
+      flat = search rules;
+    }
 
-pub insert_above-returns-in-None-clause-plain : goal.insert_above-returns-in-None-clause-plain
-insert_above-returns-in-None-clause-plain g t c =
-    plain_refl c.args.tables.now.items
+pub insert_above-returns-in-Leaf : goal.insert_above-returns-in-Leaf
+insert_above-returns-in-Leaf g t c =
+    record {
+      ok = absurd (under_leaf c.args.tree.now c.args.at c.in-Some.up _ c.parent.result c.node.result
+          c.requires.gaining.began.ready.family.is_tree c.parent.ensures.parent c.in-Some.is c.node.ensures
+          c.in-Leaf.is);
+      refused = search rules;
+      plain = plain_refl c.args.tables.now.items;
+      counted = omega arith;
+      bounded = search rules;
+      flat = search rules;
+    }
 
-pub insert_above-returns-in-None-clause-counted : goal.insert_above-returns-in-None-clause-counted
-insert_above-returns-in-None-clause-counted g t c =
-    omega arith
+pub insert_above-returns-in-Trim : goal.insert_above-returns-in-Trim
+insert_above-returns-in-Trim g t c =
+    c.insert_above_trim.ensures
 
-pub insert_above-returns-in-Leaf-clause-ok : goal.insert_above-returns-in-Leaf-clause-ok
-insert_above-returns-in-Leaf-clause-ok g t c =
-    absurd (under_leaf c.args.tree.now c.args.at c.in-Some.up _ c.parent.result c.node.result
-    c.requires.gaining.began.ready.family.is_tree c.parent.ensures.parent c.in-Some.is c.node.ensures c.in-Leaf.is)
+pub insert_above-returns-then-guard-at : goal.insert_above-returns-then-guard-at
+insert_above-returns-then-guard-at g t c =
+    c.insert_above_guard.ensures
 
-pub insert_above-returns-in-Leaf-clause-plain : goal.insert_above-returns-in-Leaf-clause-plain
-insert_above-returns-in-Leaf-clause-plain g t c =
-    plain_refl c.args.tables.now.items
+pub insert_above-returns-else-guard-at : goal.insert_above-returns-else-guard-at
+insert_above-returns-else-guard-at g t c =
+    c.insert_above_side.ensures
 
-pub insert_above-returns-in-Leaf-clause-counted : goal.insert_above-returns-in-Leaf-clause-counted
-insert_above-returns-in-Leaf-clause-counted g t c =
-    omega arith
-
-pub insert_above-returns-in-Trim-clause-ok : goal.insert_above-returns-in-Trim-clause-ok
-insert_above-returns-in-Trim-clause-ok g t c =
-    c.insert_above_trim.ensures.ok
-
-pub insert_above-returns-in-Trim-clause-refused : goal.insert_above-returns-in-Trim-clause-refused
-insert_above-returns-in-Trim-clause-refused g t c =
-    c.insert_above_trim.ensures.refused
-
-pub insert_above-returns-in-Trim-clause-plain : goal.insert_above-returns-in-Trim-clause-plain
-insert_above-returns-in-Trim-clause-plain g t c =
-    c.insert_above_trim.ensures.plain
-
-pub insert_above-returns-in-Trim-clause-counted : goal.insert_above-returns-in-Trim-clause-counted
-insert_above-returns-in-Trim-clause-counted g t c =
-    c.insert_above_trim.ensures.counted
-
-pub insert_above-returns-in-Trim-clause-bounded : goal.insert_above-returns-in-Trim-clause-bounded
-insert_above-returns-in-Trim-clause-bounded g t c =
-    c.insert_above_trim.ensures.bounded
-
-pub insert_above-returns-then-guard-at-clause-ok : goal.insert_above-returns-then-guard-at-clause-ok
-insert_above-returns-then-guard-at-clause-ok g t c =
-    c.insert_above_guard.ensures.ok
-
-pub insert_above-returns-then-guard-at-clause-refused : goal.insert_above-returns-then-guard-at-clause-refused
-insert_above-returns-then-guard-at-clause-refused g t c =
-    c.insert_above_guard.ensures.refused
-
-pub insert_above-returns-then-guard-at-clause-plain : goal.insert_above-returns-then-guard-at-clause-plain
-insert_above-returns-then-guard-at-clause-plain g t c =
-    c.insert_above_guard.ensures.plain
-
-pub insert_above-returns-then-guard-at-clause-counted : goal.insert_above-returns-then-guard-at-clause-counted
-insert_above-returns-then-guard-at-clause-counted g t c =
-    c.insert_above_guard.ensures.counted
-
-pub insert_above-returns-then-guard-at-clause-bounded : goal.insert_above-returns-then-guard-at-clause-bounded
-insert_above-returns-then-guard-at-clause-bounded g t c =
-    c.insert_above_guard.ensures.bounded
-
-pub insert_above-returns-else-guard-at-clause-ok : goal.insert_above-returns-else-guard-at-clause-ok
-insert_above-returns-else-guard-at-clause-ok g t c =
-    c.insert_above_side.ensures.ok
-
-pub insert_above-returns-else-guard-at-clause-refused : goal.insert_above-returns-else-guard-at-clause-refused
-insert_above-returns-else-guard-at-clause-refused g t c =
-    c.insert_above_side.ensures.refused
-
-pub insert_above-returns-else-guard-at-clause-plain : goal.insert_above-returns-else-guard-at-clause-plain
-insert_above-returns-else-guard-at-clause-plain g t c =
-    c.insert_above_side.ensures.plain
-
-pub insert_above-returns-else-guard-at-clause-counted : goal.insert_above-returns-else-guard-at-clause-counted
-insert_above-returns-else-guard-at-clause-counted g t c =
-    c.insert_above_side.ensures.counted
-
-pub insert_above-returns-else-guard-at-clause-bounded : goal.insert_above-returns-else-guard-at-clause-bounded
-insert_above-returns-else-guard-at-clause-bounded g t c =
-    c.insert_above_side.ensures.bounded
-
-pub insert_above_guard-is_small_at-requires : goal.insert_above_guard-is_small_at-requires
-insert_above_guard-is_small_at-requires g t c =
-    has_table c.args.tree.now c.args.tables.now.items c.args.at
-    (now_family c.args.tree.now c.requires.gaining.was c.args.tables.now.items c.args.at c.requires.gaining.began)
-    c.requires.gaining.began.ready.within
+pub insert_above_guard-index-requires : goal.insert_above_guard-index-requires
+insert_above_guard-index-requires g t c =
+    omega (
+      arith,
+      has_table c.args.tree.now c.args.tables.now.items c.args.at
+          (now_family c.args.tree.now c.requires.gaining.was c.args.tables.now.items c.args.at c.requires.gaining.began)
+          c.requires.gaining.began.ready.within,
+      c.args.tables.now.ok.0,
+    )
 
 pub insert_above_guard-find_part-requires-clause-within : goal.insert_above_guard-find_part-requires-clause-within
 insert_above_guard-find_part-requires-clause-within g t c =
@@ -404,7 +362,12 @@ insert_above_guard-insert_tuple-requires g t c κs hκ =
                 guard_fits c.args.tree.now c.requires.gaining.was c.args.tables.now.items c.args.at
                     c.args.side c.args.up
                     4294967295 c.args.tuple.now c.requires.gaining.began c.requires.gaining.gains c.requires.under
-                    c.is_small_at.ensures,
+                    (of_read (λ es. length es ≤ 4294967295) (family_read c.args.tree.now c.args.tables.now.items
+                    c.args.at
+                    c.index.result.now (now_family c.args.tree.now c.requires.gaining.was c.args.tables.now.items
+                    c.args.at
+                    c.requires.gaining.began) c.requires.gaining.began.ready.within c.index.ensures)
+                    c.is_small.ensures),
                 c.requires.bare,
               ),
             ),
@@ -413,69 +376,72 @@ insert_above_guard-insert_tuple-requires g t c κs hκ =
       ),
     )
 
-pub insert_above_guard-returns-in-Some-clause-ok : goal.insert_above_guard-returns-in-Some-clause-ok
-insert_above_guard-returns-in-Some-clause-ok g t c =
-    ok_map c.insert_tuple.result (InsertedUpwards c.args.tree.now c.args.tables.now.items
-    c.insert_tuple.new.tables.items c.args.up
-    c.args.tuple.now) (ReducedAbove c.args.tree.now c.args.tables.now.items c.insert_tuple.new.tables.items c.args.at)
-    (λ l. guard_lived c.args.tree.now c.requires.gaining.was c.args.tables.now.items c.insert_tuple.new.tables.items
-    c.args.at c.args.side c.args.up c.args.tuple.now c.in-Some._place c.requires.gaining.began
-    c.requires.gaining.gains c.requires.under l
-    c.in-Some.ensures.found) c.insert_tuple.ensures.ok
+pub insert_above_guard-returns-in-Some : goal.insert_above_guard-returns-in-Some
+insert_above_guard-returns-in-Some g t c =
+    record {
+      ok = ok_map c.insert_tuple.result (InsertedUpwards c.args.tree.now c.args.tables.now.items
+          c.insert_tuple.new.tables.items c.args.up
+          c.args.tuple.now) (ReducedAbove c.args.tree.now c.args.tables.now.items c.insert_tuple.new.tables.items
+          c.args.at)
+          (λ l. guard_lived c.args.tree.now c.requires.gaining.was c.args.tables.now.items
+          c.insert_tuple.new.tables.items
+          c.args.at c.args.side c.args.up c.args.tuple.now c.in-Some._place c.requires.gaining.began
+          c.requires.gaining.gains c.requires.under l
+          c.in-Some.ensures.found) c.insert_tuple.ensures.ok;
+      refused = err_map c.insert_tuple.result (Refused c.args.tree.now c.args.tables.now.items
+          c.insert_tuple.new.tables.items
+          c.args.up)
+          (UnchangedAbove c.args.tree.now c.args.tables.now.items c.insert_tuple.new.tables.items c.args.at)
+          (λ r. stayed c.args.tree.now c.args.tables.now.items c.insert_tuple.new.tables.items c.args.at c.args.up
+          (Meet c.args.at c.args.side) c.requires.gaining.began.ready.family.is_tree c.requires.under r)
+          c.insert_tuple.ensures.refused;
+      plain = c.insert_tuple.ensures.plain;
+      counted = ok_map c.insert_tuple.result (c.insert_tuple.new.tally + 1 + 4 * size c.args.tables.now.items
+          ≤ c.find_part.new.tally + 4 * size
+          c.insert_tuple.new.tables.items)
+          (c.insert_tuple.new.tally + 4 * size c.args.tables.now.items ≤ c.args.tally.now + 2 + 4
+          * size c.insert_tuple.new.tables.items)
+          (λ h. omega (arith, h, c.find_part.ensures.counted)) c.insert_tuple.ensures.counted;
+      bounded = err_map c.insert_tuple.result
+          ((n : ℕ) → AreAtMost c.args.tables.now.items n → length (entries_at c.args.tables.now.items c.args.up) < n
+          → c.insert_tuple.new.tally + 9 * size c.args.tables.now.items ≤ c.find_part.new.tally + 9 *
+          (n * length c.args.tree.now.nodes))
+          ((n : ℕ) → AreAtMost c.args.tables.now.items n
+          → c.insert_tuple.new.tally + 9 * size c.args.tables.now.items ≤ c.args.tally.now + 7 + 9 *
+          (n * length c.args.tree.now.nodes))
+          (λ h n few. omega (
+            arith,
+            c.find_part.ensures.counted,
+            h n few
+                (guard_fits c.args.tree.now c.requires.gaining.was c.args.tables.now.items c.args.at c.args.side
+                c.args.up n
+                c.args.tuple.now c.requires.gaining.began c.requires.gaining.gains c.requires.under
+                (few.each c.args.at)),
+          ))
+          c.insert_tuple.ensures.bounded;
+      flat = err_map c.insert_tuple.result
+          (HasEqualMeets c.args.tree.now
+          → c.insert_tuple.new.tally ≤ c.find_part.new.tally + 5 * (length c.args.tree.now.nodes - c.args.up))
+          (HasEqualMeets c.args.tree.now
+          → c.insert_tuple.new.tally + 2 ≤ c.args.tally.now + 5 * (length c.args.tree.now.nodes - c.args.at))
+          (λ h meets. let low = lower_of c.args.tree.now c.args.up (Meet c.args.at c.args.side) c.args.at
+          c.requires.gaining.began.ready.family.is_tree c.requires.under in let within =
+          c.requires.under.within in omega
+          (arith, c.find_part.ensures.counted, h meets)) c.insert_tuple.ensures.flat;
+    }
 
-pub insert_above_guard-returns-in-Some-clause-refused : goal.insert_above_guard-returns-in-Some-clause-refused
-insert_above_guard-returns-in-Some-clause-refused g t c =
-    err_map c.insert_tuple.result (Refused c.args.tree.now c.args.tables.now.items c.insert_tuple.new.tables.items
-    c.args.up)
-    (UnchangedAbove c.args.tree.now c.args.tables.now.items c.insert_tuple.new.tables.items c.args.at)
-    (λ r. stayed c.args.tree.now c.args.tables.now.items c.insert_tuple.new.tables.items c.args.at c.args.up
-    (Meet c.args.at c.args.side) c.requires.gaining.began.ready.family.is_tree c.requires.under r)
-    c.insert_tuple.ensures.refused
-
-pub insert_above_guard-returns-in-Some-clause-plain : goal.insert_above_guard-returns-in-Some-clause-plain
-insert_above_guard-returns-in-Some-clause-plain g t c =
-    c.insert_tuple.ensures.plain
-
-pub insert_above_guard-returns-in-Some-clause-counted : goal.insert_above_guard-returns-in-Some-clause-counted
-insert_above_guard-returns-in-Some-clause-counted g t c =
-    ok_map c.insert_tuple.result (c.insert_tuple.new.tally + 1 + 4 * size c.args.tables.now.items
-    ≤ c.find_part.new.tally + 4 * size
-    c.insert_tuple.new.tables.items)
-    (c.insert_tuple.new.tally + 4 * size c.args.tables.now.items ≤ c.args.tally.now + 2 + 4
-    * size c.insert_tuple.new.tables.items)
-    (λ h. omega (arith, h, c.find_part.ensures.counted)) c.insert_tuple.ensures.counted
-
-pub insert_above_guard-returns-in-Some-clause-bounded : goal.insert_above_guard-returns-in-Some-clause-bounded
-insert_above_guard-returns-in-Some-clause-bounded g t c =
-    err_map c.insert_tuple.result
-    ((n : ℕ) → AreAtMost c.args.tables.now.items n → length (entries_at c.args.tables.now.items c.args.up) < n
-    → c.insert_tuple.new.tally + 9 * size c.args.tables.now.items ≤ c.find_part.new.tally + 9 *
-    (n * length c.args.tree.now.nodes))
-    ((n : ℕ) → AreAtMost c.args.tables.now.items n
-    → c.insert_tuple.new.tally + 9 * size c.args.tables.now.items ≤ c.args.tally.now + 7 + 9 *
-    (n * length c.args.tree.now.nodes))
-    (λ h n few. omega (
-      arith,
-      c.find_part.ensures.counted,
-      h n few
-          (guard_fits c.args.tree.now c.requires.gaining.was c.args.tables.now.items c.args.at c.args.side c.args.up n
-          c.args.tuple.now c.requires.gaining.began c.requires.gaining.gains c.requires.under (few.each c.args.at)),
-    ))
-    c.insert_tuple.ensures.bounded
-
-pub insert_above_guard-returns-in-None-clause-ok : goal.insert_above_guard-returns-in-None-clause-ok
-insert_above_guard-returns-in-None-clause-ok g t c =
-    guard_idle c.args.tree.now c.requires.gaining.was c.args.tables.now.items c.args.at c.args.side c.args.up
-    c.args.tuple.now c.requires.gaining.began c.requires.gaining.gains c.requires.under
-    c.in-None.ensures.found
-
-pub insert_above_guard-returns-in-None-clause-plain : goal.insert_above_guard-returns-in-None-clause-plain
-insert_above_guard-returns-in-None-clause-plain g t c =
-    plain_refl c.args.tables.now.items
-
-pub insert_above_guard-returns-in-None-clause-counted : goal.insert_above_guard-returns-in-None-clause-counted
-insert_above_guard-returns-in-None-clause-counted g t c =
-    omega (arith, c.find_part.ensures.counted)
+pub insert_above_guard-returns-in-None : goal.insert_above_guard-returns-in-None
+insert_above_guard-returns-in-None g t c =
+    record {
+      ok = guard_idle c.args.tree.now c.requires.gaining.was c.args.tables.now.items c.args.at c.args.side c.args.up
+          c.args.tuple.now c.requires.gaining.began c.requires.gaining.gains c.requires.under
+          c.in-None.ensures.found;
+      refused = search rules;
+      plain = plain_refl c.args.tables.now.items;
+      counted = omega (arith, c.find_part.ensures.counted);
+      bounded = search rules;
+      flat = search rules;
+    }
 
 pub insert_above_trim-column_of-requires : goal.insert_above_trim-column_of-requires
 insert_above_trim-column_of-requires g t c =
@@ -506,15 +472,22 @@ insert_above_trim-insert_above_part-requires g t c κs hκ =
       ),
     )
 
-pub insert_above_trim-has_no_column-requires : goal.insert_above_trim-has_no_column-requires
-insert_above_trim-has_no_column-requires g t c =
-    has_table c.args.tree.now c.args.tables.now.items c.args.at
-    (now_family c.args.tree.now c.requires.gaining.was c.args.tables.now.items c.args.at c.requires.gaining.began)
-    c.requires.gaining.began.ready.within
+pub insert_above_trim-index-requires : goal.insert_above_trim-index-requires
+insert_above_trim-index-requires g t c =
+    omega (
+      arith,
+      has_table c.args.tree.now c.args.tables.now.items c.args.at
+          (now_family c.args.tree.now c.requires.gaining.was c.args.tables.now.items c.args.at c.requires.gaining.began)
+          c.requires.gaining.began.ready.within,
+      c.args.tables.now.ok.0,
+    )
 
-pub insert_above_trim-insert_above_part-requires-then-has_no_column :
-    goal.insert_above_trim-insert_above_part-requires-then-has_no_column
-insert_above_trim-insert_above_part-requires-then-has_no_column g t c κs hκ =
+pub insert_above_trim-insert_above_part-requires-then-is_empty :
+    goal.insert_above_trim-insert_above_part-requires-then-is_empty
+insert_above_trim-insert_above_part-requires-then-is_empty g t c κs hκ =
+    let r = family_read c.args.tree.now c.args.tables.now.items c.args.at c.index.result.now
+    (now_family c.args.tree.now c.requires.gaining.was c.args.tables.now.items c.args.at c.requires.gaining.began)
+    c.requires.gaining.began.ready.within c.index.ensures in
     let d = c.decreases in (
       omega arith,
       (
@@ -526,7 +499,8 @@ insert_above_trim-insert_above_part-requires-then-has_no_column g t c κs hκ =
             (
               c.requires.under,
               (
-                part_none (key_at c.args.tables.now.items c.args.at) c.args.tuple.now (search rules),
+                part_none (key_at c.args.tables.now.items c.args.at) c.args.tuple.now
+                    (sym (c.key.ensures ∙ r.key) ∙ is_none c.key.result.now (search rules)),
                 c.requires.bare,
               ),
             ),
@@ -586,28 +560,44 @@ insert_above_part-find_at-requires g t c =
     (now_family c.args.tree.now c.requires.gaining.was c.args.tables.now.items c.args.at c.requires.gaining.began)
     c.requires.under.within
 
-pub insert_above_part-is_small_at-requires : goal.insert_above_part-is_small_at-requires
-insert_above_part-is_small_at-requires g t c =
-    has_table c.args.tree.now c.args.tables.now.items c.args.at
-    (now_family c.args.tree.now c.requires.gaining.was c.args.tables.now.items c.args.at c.requires.gaining.began)
-    c.requires.gaining.began.ready.within
+pub insert_above_part-index-requires : goal.insert_above_part-index-requires
+insert_above_part-index-requires g t c =
+    omega (
+      arith,
+      has_table c.args.tree.now c.args.tables.now.items c.args.at
+          (now_family c.args.tree.now c.requires.gaining.was c.args.tables.now.items c.args.at c.requires.gaining.began)
+          c.requires.gaining.began.ready.within,
+      c.args.tables.now.ok.0,
+    )
 
-pub insert_above_part-raise_at-requires-clause-within : goal.insert_above_part-raise_at-requires-clause-within
-insert_above_part-raise_at-requires-clause-within g t c =
-    has_table c.args.tree.now c.args.tables.now.items c.args.up
-    (now_family c.args.tree.now c.requires.gaining.was c.args.tables.now.items c.args.at c.requires.gaining.began)
-    c.requires.under.within
+pub insert_above_part-index_mut-requires : goal.insert_above_part-index_mut-requires
+insert_above_part-index_mut-requires g t c =
+    omega (
+      arith,
+      has_table c.args.tree.now c.args.tables.now.items c.args.up
+          (now_family c.args.tree.now c.requires.gaining.was c.args.tables.now.items c.args.at c.requires.gaining.began)
+          c.requires.under.within,
+      c.args.tables.now.ok.0,
+    )
 
-pub insert_above_part-raise_at-requires-clause-room : goal.insert_above_part-raise_at-requires-clause-room
-insert_above_part-raise_at-requires-clause-room g t c =
-    record {
+pub insert_above_part-raise-requires : goal.insert_above_part-raise-requires
+insert_above_part-raise-requires g t c =
+    to_read (λ es. IsRaisable es c.in-Some.place) (family_read c.args.tree.now c.args.tables.now.items c.args.up
+    c.index_mut.result.now
+    (now_family c.args.tree.now c.requires.gaining.was c.args.tables.now.items c.args.at c.requires.gaining.began)
+    c.requires.under.within c.index_mut.ensures.value)
+    (record {
       tuple = c.args.cells.now;
       is_at = c.in-Some.ensures.found;
       room = trim_room c.args.tree.now
           c.requires.gaining.was c.args.tables.now.items c.args.at c.args.up c.args.tuple.now
           c.args.cells.now
-          c.requires.gaining.began c.requires.gaining.gains c.requires.under c.is_small_at.ensures;
-    }
+          c.requires.gaining.began c.requires.gaining.gains c.requires.under
+          (of_read (λ es. length es ≤ 4294967295) (family_read c.args.tree.now c.args.tables.now.items c.args.at
+          c.index.result.now (now_family c.args.tree.now c.requires.gaining.was c.args.tables.now.items c.args.at
+          c.requires.gaining.began)
+          c.requires.gaining.began.ready.within c.index.ensures) c.is_small.ensures);
+    })
 
 pub insert_above_part-insert_tuple-requires : goal.insert_above_part-insert_tuple-requires
 insert_above_part-insert_tuple-requires g t c κs hκ =
@@ -632,7 +622,12 @@ insert_above_part-insert_tuple-requires g t c κs hκ =
               (
                 trim_fits c.args.tree.now c.requires.gaining.was c.args.tables.now.items c.args.at c.args.up 4294967295
                     c.args.tuple.now c.requires.gaining.began c.requires.gaining.gains c.requires.under
-                    c.is_small_at.ensures,
+                    (of_read (λ es. length es ≤ 4294967295) (family_read c.args.tree.now c.args.tables.now.items
+                    c.args.at
+                    c.index.result.now (now_family c.args.tree.now c.requires.gaining.was c.args.tables.now.items
+                    c.args.at
+                    c.requires.gaining.began) c.requires.gaining.began.ready.within c.index.ensures)
+                    c.is_small.ensures),
                 c.requires.bare,
               ),
             ),
@@ -641,122 +636,116 @@ insert_above_part-insert_tuple-requires g t c κs hκ =
       ),
     )
 
-pub insert_above_part-returns-in-Some-clause-ok : goal.insert_above_part-returns-in-Some-clause-ok
-insert_above_part-returns-in-Some-clause-ok g t c =
-    trim_raised c.args.tree.now c.requires.gaining.was c.args.tables.now.items c.raise_at.new.tables.items c.args.at
-    c.args.up c.args.tuple.now c.args.cells.now c.requires.gaining.began c.requires.gaining.gains
-    c.requires.under c.raise_at.ensures.changed
-    (c.raise_at.ensures.raised c.args.cells.now c.in-Some.ensures.found)
-    c.requires.part
+pub insert_above_part-returns-in-Some : goal.insert_above_part-returns-in-Some
+insert_above_part-returns-in-Some g t c =
+    let r = family_read c.args.tree.now c.args.tables.now.items c.args.up c.index_mut.result.now
+    (now_family c.args.tree.now c.requires.gaining.was c.args.tables.now.items c.args.at c.requires.gaining.began)
+    c.requires.under.within c.index_mut.ensures.value in
+    let n = supported_into (λ (x : ℕ). x + 1) c.args.cells.now r c.raise.ensures.table c.raise.ensures.key
+    c.raise.ensures.width (c.raise.ensures.raised c.args.cells.now (at_read r c.in-Some.ensures.found)) (omega arith) in
+    record {
+      ok = trim_raised c.args.tree.now c.requires.gaining.was c.args.tables.now.items
+          (slice_set c.args.tables.now.items c.args.up c.raise.new.self) c.args.at c.args.up c.args.tuple.now
+          c.args.cells.now c.requires.gaining.began c.requires.gaining.gains c.requires.under n.changed n.supported
+          c.requires.part;
+      refused = search rules;
+      plain = raised_same c.args.tables.now.items (slice_set c.args.tables.now.items c.args.up c.raise.new.self)
+          c.args.up
+          c.args.cells.now (supports_of (entries_at c.args.tables.now.items c.args.up) c.args.cells.now)
+          ((supports_of (entries_at c.args.tables.now.items c.args.up) c.args.cells.now) + 1) n.changed n.supported;
+      counted = omega (
+        arith,
+        c.find_at.ensures.counted,
+        c.raise.ensures.counted,
+        n.changed.size,
+        supported_length (entries_at c.args.tables.now.items c.args.up)
+            (entries_at (slice_set c.args.tables.now.items c.args.up c.raise.new.self) c.args.up) c.args.cells.now
+            (supports_of (entries_at c.args.tables.now.items c.args.up) c.args.cells.now)
+            ((supports_of (entries_at c.args.tables.now.items c.args.up) c.args.cells.now) + 1) n.supported,
+      );
+      bounded = search rules;
+      flat = search rules;
+    }
 
-pub insert_above_part-returns-in-Some-clause-plain : goal.insert_above_part-returns-in-Some-clause-plain
-insert_above_part-returns-in-Some-clause-plain g t c =
-    raised_same c.args.tables.now.items c.raise_at.new.tables.items c.args.up c.args.cells.now
-    (supports_of (entries_at c.args.tables.now.items c.args.up) c.args.cells.now)
-    ((supports_of (entries_at c.args.tables.now.items c.args.up) c.args.cells.now) + 1)
-    c.raise_at.ensures.changed (c.raise_at.ensures.raised c.args.cells.now c.in-Some.ensures.found)
+pub insert_above_part-returns-in-None : goal.insert_above_part-returns-in-None
+insert_above_part-returns-in-None g t c =
+    record {
+      ok = ok_map c.insert_tuple.result (InsertedUpwards c.args.tree.now c.args.tables.now.items
+          c.insert_tuple.new.tables.items c.args.up
+          c.args.cells.now) (ReducedAbove c.args.tree.now c.args.tables.now.items c.insert_tuple.new.tables.items
+          c.args.at)
+          (λ l. trim_lived c.args.tree.now c.requires.gaining.was c.args.tables.now.items
+          c.insert_tuple.new.tables.items
+          c.args.at c.args.up c.args.tuple.now c.args.cells.now c.requires.gaining.began
+          c.requires.gaining.gains c.requires.under l c.requires.part) c.insert_tuple.ensures.ok;
+      refused = err_map c.insert_tuple.result (Refused c.args.tree.now c.args.tables.now.items
+          c.insert_tuple.new.tables.items
+          c.args.up)
+          (UnchangedAbove c.args.tree.now c.args.tables.now.items c.insert_tuple.new.tables.items c.args.at)
+          (λ r. stayed c.args.tree.now c.args.tables.now.items c.insert_tuple.new.tables.items c.args.at c.args.up
+          (Trim c.args.at) c.requires.gaining.began.ready.family.is_tree c.requires.under r)
+          c.insert_tuple.ensures.refused;
+      plain = c.insert_tuple.ensures.plain;
+      counted = ok_map c.insert_tuple.result (c.insert_tuple.new.tally + 1 + 4 * size c.args.tables.now.items
+          ≤ c.find_at.new.tally + 4 * size
+          c.insert_tuple.new.tables.items)
+          (c.insert_tuple.new.tally + 4 * size c.args.tables.now.items ≤ c.args.tally.now + 2 + 4
+          * size c.insert_tuple.new.tables.items)
+          (λ h. omega (arith, h, c.find_at.ensures.counted)) c.insert_tuple.ensures.counted;
+      bounded = err_map c.insert_tuple.result
+          ((n : ℕ) → AreAtMost c.args.tables.now.items n → length (entries_at c.args.tables.now.items c.args.up) < n
+          → c.insert_tuple.new.tally + 9 * size c.args.tables.now.items ≤ c.find_at.new.tally + 9 *
+          (n * length c.args.tree.now.nodes))
+          ((n : ℕ) → AreAtMost c.args.tables.now.items n
+          → c.insert_tuple.new.tally + 9 * size c.args.tables.now.items ≤ c.args.tally.now + 7 + 9 *
+          (n * length c.args.tree.now.nodes))
+          (λ h n few. omega (
+            arith,
+            c.find_at.ensures.counted,
+            h n few
+                (trim_fits c.args.tree.now c.requires.gaining.was c.args.tables.now.items c.args.at c.args.up n
+                c.args.tuple.now
+                c.requires.gaining.began c.requires.gaining.gains c.requires.under (few.each c.args.at)),
+          ))
+          c.insert_tuple.ensures.bounded;
+      flat = err_map c.insert_tuple.result
+          (HasEqualMeets c.args.tree.now
+          → c.insert_tuple.new.tally ≤ c.find_at.new.tally + 5 * (length c.args.tree.now.nodes - c.args.up))
+          (HasEqualMeets c.args.tree.now
+          → c.insert_tuple.new.tally + 2 ≤ c.args.tally.now + 5 * (length c.args.tree.now.nodes - c.args.at))
+          (λ h meets. let low = lower_of c.args.tree.now c.args.up (Trim c.args.at) c.args.at
+          c.requires.gaining.began.ready.family.is_tree c.requires.under in let within =
+          c.requires.under.within in omega
+          (arith, c.find_at.ensures.counted, h meets)) c.insert_tuple.ensures.flat;
+    }
 
-pub insert_above_part-returns-in-Some-clause-counted : goal.insert_above_part-returns-in-Some-clause-counted
-insert_above_part-returns-in-Some-clause-counted g t c =
+pub insert_above_side-index-table-requires : goal.insert_above_side-index-table-requires
+insert_above_side-index-table-requires g t c =
+    let m = c.requires.gaining.began.ready.family.is_tree.meet c.args.up c.args.guard c.args.at c.requires.under.node in
+    let mg = m.guard_lower in
+    let within = c.requires.under.within in
     omega (
       arith,
-      c.find_at.ensures.counted,
-      c.raise_at.ensures.counted,
-      c.raise_at.ensures.changed.size,
-      supported_length (entries_at c.args.tables.now.items c.args.up)
-          (entries_at c.raise_at.new.tables.items c.args.up) c.args.cells.now
-          (supports_of (entries_at c.args.tables.now.items c.args.up) c.args.cells.now)
-          ((supports_of (entries_at c.args.tables.now.items c.args.up) c.args.cells.now) + 1)
-          (c.raise_at.ensures.raised c.args.cells.now c.in-Some.ensures.found),
+      has_table c.args.tree.now c.args.tables.now.items c.args.guard
+          (now_family c.args.tree.now c.requires.gaining.was c.args.tables.now.items c.args.at c.requires.gaining.began)
+          (omega arith),
+      c.args.tables.now.ok.0,
     )
-
-pub insert_above_part-returns-in-None-clause-ok : goal.insert_above_part-returns-in-None-clause-ok
-insert_above_part-returns-in-None-clause-ok g t c =
-    ok_map c.insert_tuple.result (InsertedUpwards c.args.tree.now c.args.tables.now.items
-    c.insert_tuple.new.tables.items c.args.up
-    c.args.cells.now) (ReducedAbove c.args.tree.now c.args.tables.now.items c.insert_tuple.new.tables.items c.args.at)
-    (λ l. trim_lived c.args.tree.now c.requires.gaining.was c.args.tables.now.items c.insert_tuple.new.tables.items
-    c.args.at c.args.up c.args.tuple.now c.args.cells.now c.requires.gaining.began
-    c.requires.gaining.gains c.requires.under l c.requires.part) c.insert_tuple.ensures.ok
-
-pub insert_above_part-returns-in-None-clause-refused : goal.insert_above_part-returns-in-None-clause-refused
-insert_above_part-returns-in-None-clause-refused g t c =
-    err_map c.insert_tuple.result (Refused c.args.tree.now c.args.tables.now.items c.insert_tuple.new.tables.items
-    c.args.up)
-    (UnchangedAbove c.args.tree.now c.args.tables.now.items c.insert_tuple.new.tables.items c.args.at)
-    (λ r. stayed c.args.tree.now c.args.tables.now.items c.insert_tuple.new.tables.items c.args.at c.args.up
-    (Trim c.args.at) c.requires.gaining.began.ready.family.is_tree c.requires.under r) c.insert_tuple.ensures.refused
-
-pub insert_above_part-returns-in-None-clause-plain : goal.insert_above_part-returns-in-None-clause-plain
-insert_above_part-returns-in-None-clause-plain g t c =
-    c.insert_tuple.ensures.plain
-
-pub insert_above_part-returns-in-None-clause-counted : goal.insert_above_part-returns-in-None-clause-counted
-insert_above_part-returns-in-None-clause-counted g t c =
-    ok_map c.insert_tuple.result (c.insert_tuple.new.tally + 1 + 4 * size c.args.tables.now.items
-    ≤ c.find_at.new.tally + 4 * size
-    c.insert_tuple.new.tables.items)
-    (c.insert_tuple.new.tally + 4 * size c.args.tables.now.items ≤ c.args.tally.now + 2 + 4
-    * size c.insert_tuple.new.tables.items)
-    (λ h. omega (arith, h, c.find_at.ensures.counted)) c.insert_tuple.ensures.counted
-
-pub insert_above_part-returns-in-None-clause-bounded : goal.insert_above_part-returns-in-None-clause-bounded
-insert_above_part-returns-in-None-clause-bounded g t c =
-    err_map c.insert_tuple.result
-    ((n : ℕ) → AreAtMost c.args.tables.now.items n → length (entries_at c.args.tables.now.items c.args.up) < n
-    → c.insert_tuple.new.tally + 9 * size c.args.tables.now.items ≤ c.find_at.new.tally + 9 *
-    (n * length c.args.tree.now.nodes))
-    ((n : ℕ) → AreAtMost c.args.tables.now.items n
-    → c.insert_tuple.new.tally + 9 * size c.args.tables.now.items ≤ c.args.tally.now + 7 + 9 *
-    (n * length c.args.tree.now.nodes))
-    (λ h n few. omega (
-      arith,
-      c.find_at.ensures.counted,
-      h n few
-          (trim_fits c.args.tree.now c.requires.gaining.was c.args.tables.now.items c.args.at c.args.up n
-          c.args.tuple.now
-          c.requires.gaining.began c.requires.gaining.gains c.requires.under (few.each c.args.at)),
-    ))
-    c.insert_tuple.ensures.bounded
-
-pub insert_above_side-is_small_at-requires : goal.insert_above_side-is_small_at-requires
-insert_above_side-is_small_at-requires g t c =
-    let m = c.requires.gaining.began.ready.family.is_tree.meet c.args.up c.args.guard c.args.at c.requires.under.node in
-    let mg = m.guard_lower in
-    let within = c.requires.under.within in
-    has_table c.args.tree.now c.args.tables.now.items c.args.guard
-    (now_family c.args.tree.now c.requires.gaining.was c.args.tables.now.items c.args.at c.requires.gaining.began)
-    (omega arith)
-
-pub insert_above_side-len_at-count-requires : goal.insert_above_side-len_at-count-requires
-insert_above_side-len_at-count-requires g t c =
-    let m = c.requires.gaining.began.ready.family.is_tree.meet c.args.up c.args.guard c.args.at c.requires.under.node in
-    let mg = m.guard_lower in
-    let within = c.requires.under.within in
-    has_table c.args.tree.now c.args.tables.now.items c.args.guard
-    (now_family c.args.tree.now c.requires.gaining.was c.args.tables.now.items c.args.at c.requires.gaining.began)
-    (omega arith)
-
-pub insert_above_side-first_at-next-requires : goal.insert_above_side-first_at-next-requires
-insert_above_side-first_at-next-requires g t c =
-    let m = c.requires.gaining.began.ready.family.is_tree.meet c.args.up c.args.guard c.args.at c.requires.under.node in
-    let mg = m.guard_lower in
-    let within = c.requires.under.within in
-    has_table c.args.tree.now c.args.tables.now.items c.args.guard
-    (now_family c.args.tree.now c.requires.gaining.was c.args.tables.now.items c.args.at c.requires.gaining.began)
-    (omega arith)
 
 pub insert_above_side-loop-done-init : goal.insert_above_side-loop-done-init
 insert_above_side-loop-done-init g t c =
+    let r = guard_read c.args.tree.now c.args.tables.now.items c.args.at c.args.up c.args.guard c.index-table.result.now
+    (now_family c.args.tree.now c.requires.gaining.was c.args.tables.now.items c.args.at c.requires.gaining.began)
+    c.requires.under c.index-table.ensures in
     record {
-      next = c.first_at-next.ensures.found;
+      next = c.first-next.ensures.found ∙ ap (λ (es : List Entry). head_at es) (group_read c.args.tuple.now r);
       grown = grown_none c.args.tree.now c.args.tables.now.items c.args.up
           (group_of (key_at c.args.tables.now.items c.args.guard) (entries_at c.args.tables.now.items c.args.guard)
           c.args.tuple.now) (ready_up c.args.tree.now c.requires.gaining.was c.args.tables.now.items c.args.at c.args.up
           (Meet c.args.guard c.args.at) c.requires.gaining.began c.requires.under);
       unchanged = plain_refl
           c.args.tables.now.items;
-      counted = omega (arith, c.first_at-next.ensures.counted);
+      counted = omega (arith, c.first-next.ensures.counted);
     }
 
 pub insert_above_side-read_at-requires-clause-within : goal.insert_above_side-read_at-requires-clause-within
@@ -834,7 +823,12 @@ insert_above_side-insert_tuple-requires g t c κs hκ =
                       c.args.tuple.now k.entry
                       c.requires.gaining.began c.requires.gaining.gains c.requires.under
                       c.loop-done.invariant.grown k.is,
-                  c.is_small_at.ensures,
+                  c.is_small.ensures,
+                  length_read (guard_read c.args.tree.now c.args.tables.now.items c.args.at c.args.up c.args.guard
+                      c.index-table.result.now
+                      (now_family c.args.tree.now c.requires.gaining.was c.args.tables.now.items c.args.at
+                      c.requires.gaining.began)
+                      c.requires.under c.index-table.ensures),
                 ),
                 still_bare c.args.marked c.args.tables.now.items c.loop-done.tables.items
                     c.loop-done.invariant.unchanged c.requires.bare,
@@ -877,59 +871,87 @@ insert_above_side-remove_group_from_meet-requires-clause-full g t c =
     c.requires.gaining.began c.requires.gaining.gains c.requires.under c.loop-done.invariant.grown
     c.in-Err.ensures.refused)
 
-pub insert_above_side-returns-in-Err-clause-refused : goal.insert_above_side-returns-in-Err-clause-refused
-insert_above_side-returns-in-Err-clause-refused g t c =
-    (side_stayed c.args.tree.now c.requires.gaining.was c.args.tables.now.items c.loop-done.tables.items
-    c.insert_tuple.new.tables.items c.remove_group_from_meet.new.tables.items c.args.guard c.args.at c.args.up
-    c.loop-done.done
-    c.args.tuple.now c.requires.gaining.began c.requires.under c.loop-done.invariant.grown c.in-Err.ensures.refused
-    c.remove_group_from_meet.ensures.emptied)
+pub insert_above_side-returns-in-Err : goal.insert_above_side-returns-in-Err
+insert_above_side-returns-in-Err g t c =
+    record {
+      ok = search rules;
+      refused = (side_stayed c.args.tree.now c.requires.gaining.was c.args.tables.now.items c.loop-done.tables.items
+          c.insert_tuple.new.tables.items c.remove_group_from_meet.new.tables.items c.args.guard c.args.at c.args.up
+          c.loop-done.done
+          c.args.tuple.now c.requires.gaining.began c.requires.under c.loop-done.invariant.grown
+          c.in-Err.ensures.refused
+          c.remove_group_from_meet.ensures.emptied);
+      plain = back_same c.args.tree.now c.args.tables.now.items c.insert_tuple.new.tables.items
+          c.remove_group_from_meet.new.tables.items
+          (now_family c.args.tree.now c.requires.gaining.was c.args.tables.now.items c.args.at c.requires.gaining.began)
+          c.in-Err.ensures.refused.family c.remove_group_from_meet.ensures.emptied.family
+          (plain_trans c.args.tables.now.items c.loop-done.tables.items c.insert_tuple.new.tables.items
+          c.loop-done.invariant.unchanged c.insert_tuple.ensures.plain) c.remove_group_from_meet.ensures.fewer
+          (side_stayed c.args.tree.now c.requires.gaining.was c.args.tables.now.items c.loop-done.tables.items
+          c.insert_tuple.new.tables.items c.remove_group_from_meet.new.tables.items c.args.guard c.args.at c.args.up
+          c.loop-done.done
+          c.args.tuple.now c.requires.gaining.began c.requires.under c.loop-done.invariant.grown
+          c.in-Err.ensures.refused
+          c.remove_group_from_meet.ensures.emptied).supports;
+      counted = search rules;
+      bounded = λ n few.
+          let k = cut_of (group_of (key_at c.args.tables.now.items c.args.guard) (entries_at c.args.tables.now.items
+          c.args.guard)
+          c.args.tuple.now) c.loop-done.done c.loop-done.next c.in-Some.place c.loop-done.invariant.next c.in-Some.is in
+          let fits = side_fits c.args.tree.now c.requires.gaining.was c.args.tables.now.items c.loop-done.tables.items
+          c.args.guard c.args.at c.args.up c.loop-done.done n c.args.tuple.now k.entry c.requires.gaining.began
+          c.requires.gaining.gains c.requires.under c.loop-done.invariant.grown k.is few in
+          let back = side_stayed c.args.tree.now c.requires.gaining.was c.args.tables.now.items c.loop-done.tables.items
+          c.insert_tuple.new.tables.items c.remove_group_from_meet.new.tables.items c.args.guard c.args.at c.args.up
+          c.loop-done.done
+          c.args.tuple.now c.requires.gaining.began c.requires.under c.loop-done.invariant.grown
+          c.in-Err.ensures.refused
+          c.remove_group_from_meet.ensures.emptied in
+          side_bounded c.args.tree.now c.args.tables.now.items c.loop-done.tables.items c.insert_tuple.new.tables.items
+          c.remove_group_from_meet.new.tables.items (n * length c.args.tree.now.nodes) c.args.tally.now
+          c.loop-done.tally
+          c.insert_tuple.new.tally c.remove_group_from_meet.new.tally
+          (now_family c.args.tree.now c.requires.gaining.was c.args.tables.now.items c.args.at c.requires.gaining.began)
+          c.loop-done.invariant.grown.family c.in-Err.ensures.refused.family
+          c.remove_group_from_meet.ensures.emptied.family
+          c.in-Err.ensures.refused.supports back.supports c.loop-done.invariant.counted
+          (c.in-Err.ensures.bounded n fits.1 fits.0) c.remove_group_from_meet.ensures.counted;
+      flat = λ meets.
+          let k = cut_of (group_of (key_at c.args.tables.now.items c.args.guard) (entries_at c.args.tables.now.items
+          c.args.guard)
+          c.args.tuple.now) c.loop-done.done c.loop-done.next c.in-Some.place c.loop-done.invariant.next c.in-Some.is in
+          let back = side_stayed c.args.tree.now c.requires.gaining.was c.args.tables.now.items c.loop-done.tables.items
+          c.insert_tuple.new.tables.items c.remove_group_from_meet.new.tables.items c.args.guard c.args.at c.args.up
+          c.loop-done.done
+          c.args.tuple.now c.requires.gaining.began c.requires.under c.loop-done.invariant.grown
+          c.in-Err.ensures.refused
+          c.remove_group_from_meet.ensures.emptied in
+          side_flat c.args.tree.now c.requires.gaining.was c.args.tables.now.items c.loop-done.tables.items
+          c.insert_tuple.new.tables.items c.remove_group_from_meet.new.tables.items c.args.guard c.args.at c.args.up
+          c.loop-done.done
+          c.args.tally.now c.loop-done.tally c.insert_tuple.new.tally c.remove_group_from_meet.new.tally
+          c.args.tuple.now
+          k.entry
+          meets c.requires.gaining.began c.requires.under c.loop-done.invariant.grown k.is
+          c.in-Err.ensures.refused.family
+          c.remove_group_from_meet.ensures.emptied.family c.in-Err.ensures.refused.supports back.supports
+          c.loop-done.invariant.counted (c.in-Err.ensures.flat meets) c.remove_group_from_meet.ensures.counted;
+    }
 
-pub insert_above_side-returns-in-Err-clause-plain : goal.insert_above_side-returns-in-Err-clause-plain
-insert_above_side-returns-in-Err-clause-plain g t c =
-    back_same c.args.tree.now c.args.tables.now.items c.insert_tuple.new.tables.items
-    c.remove_group_from_meet.new.tables.items
-    (now_family c.args.tree.now c.requires.gaining.was c.args.tables.now.items c.args.at c.requires.gaining.began)
-    c.in-Err.ensures.refused.family c.remove_group_from_meet.ensures.emptied.family
-    (plain_trans c.args.tables.now.items c.loop-done.tables.items c.insert_tuple.new.tables.items
-    c.loop-done.invariant.unchanged c.insert_tuple.ensures.plain) c.remove_group_from_meet.ensures.fewer
-    (side_stayed c.args.tree.now c.requires.gaining.was c.args.tables.now.items c.loop-done.tables.items
-    c.insert_tuple.new.tables.items c.remove_group_from_meet.new.tables.items c.args.guard c.args.at c.args.up
-    c.loop-done.done
-    c.args.tuple.now c.requires.gaining.began c.requires.under c.loop-done.invariant.grown c.in-Err.ensures.refused
-    c.remove_group_from_meet.ensures.emptied).supports
-
-pub insert_above_side-returns-in-Err-clause-bounded : goal.insert_above_side-returns-in-Err-clause-bounded
-insert_above_side-returns-in-Err-clause-bounded g t c =
-    λ n few.
-    let k = cut_of (group_of (key_at c.args.tables.now.items c.args.guard) (entries_at c.args.tables.now.items
-    c.args.guard)
-    c.args.tuple.now) c.loop-done.done c.loop-done.next c.in-Some.place c.loop-done.invariant.next c.in-Some.is in
-    let fits = side_fits c.args.tree.now c.requires.gaining.was c.args.tables.now.items c.loop-done.tables.items
-    c.args.guard c.args.at c.args.up c.loop-done.done n c.args.tuple.now k.entry c.requires.gaining.began
-    c.requires.gaining.gains c.requires.under c.loop-done.invariant.grown k.is few in
-    let back = side_stayed c.args.tree.now c.requires.gaining.was c.args.tables.now.items c.loop-done.tables.items
-    c.insert_tuple.new.tables.items c.remove_group_from_meet.new.tables.items c.args.guard c.args.at c.args.up
-    c.loop-done.done
-    c.args.tuple.now c.requires.gaining.began c.requires.under c.loop-done.invariant.grown c.in-Err.ensures.refused
-    c.remove_group_from_meet.ensures.emptied in
-    side_bounded c.args.tree.now c.args.tables.now.items c.loop-done.tables.items c.insert_tuple.new.tables.items
-    c.remove_group_from_meet.new.tables.items (n * length c.args.tree.now.nodes) c.args.tally.now c.loop-done.tally
-    c.insert_tuple.new.tally c.remove_group_from_meet.new.tally
-    (now_family c.args.tree.now c.requires.gaining.was c.args.tables.now.items c.args.at c.requires.gaining.began)
-    c.loop-done.invariant.grown.family c.in-Err.ensures.refused.family c.remove_group_from_meet.ensures.emptied.family
-    c.in-Err.ensures.refused.supports back.supports c.loop-done.invariant.counted
-    (c.in-Err.ensures.bounded n fits.1 fits.0) c.remove_group_from_meet.ensures.counted
-
-pub insert_above_side-next_at-next-requires-clause-within : goal.insert_above_side-next_at-next-requires-clause-within
-insert_above_side-next_at-next-requires-clause-within g t c =
+pub insert_above_side-index-requires : goal.insert_above_side-index-requires
+insert_above_side-index-requires g t c =
     let m = c.requires.gaining.began.ready.family.is_tree.meet c.args.up c.args.guard c.args.at c.requires.under.node in
     let mg = m.guard_lower in
     let within = c.requires.under.within in
-    has_table c.args.tree.now c.insert_tuple.new.tables.items c.args.guard c.in-Ok.ensures.ok.family (omega arith)
+    omega (
+      arith,
+      has_table c.args.tree.now c.insert_tuple.new.tables.items c.args.guard c.in-Ok.ensures.ok.family
+          (omega arith),
+      c.insert_tuple.new.tables.ok.0,
+    )
 
-pub insert_above_side-next_at-next-requires-clause-live : goal.insert_above_side-next_at-next-requires-clause-live
-insert_above_side-next_at-next-requires-clause-live g t c =
+pub insert_above_side-next-next-requires : goal.insert_above_side-next-next-requires
+insert_above_side-next-next-requires g t c =
     let k = cut_of (group_of (key_at c.args.tables.now.items c.args.guard) (entries_at c.args.tables.now.items
     c.args.guard)
     c.args.tuple.now) c.loop-done.done c.loop-done.next c.in-Some.place c.loop-done.invariant.next c.in-Some.is in
@@ -946,7 +968,9 @@ insert_above_side-next_at-next-requires-clause-live g t c =
     c.requires.under.node).guard_lower)
     (cut_at (key_at c.args.tables.now.items c.args.guard) (entries_at c.args.tables.now.items c.args.guard)
     c.args.tuple.now c.loop-done.done c.in-Some.place k))) c.in-Ok.ensures.ok) k.is) in
-    as_live (entries_at c.insert_tuple.new.tables.items c.args.guard) c.in-Some.place k.entry.tuple
+    live_read (guard_read c.args.tree.now c.insert_tuple.new.tables.items c.args.at c.args.up c.args.guard
+    c.index.result.now
+    c.in-Ok.ensures.ok.family c.requires.under c.index.ensures)
     (moved_at (entries_at c.args.tables.now.items c.args.guard) (entries_at c.insert_tuple.new.tables.items
     c.args.guard)
     c.in-Some.place k.entry.tuple
@@ -978,14 +1002,18 @@ insert_above_side-loop-done-preserved g t c =
     c.requires.under.node).guard_lower)
     (cut_at (key_at c.args.tables.now.items c.args.guard) (entries_at c.args.tables.now.items c.args.guard)
     c.args.tuple.now c.loop-done.done c.in-Some.place k))) c.in-Ok.ensures.ok) k.is) in
+    let r = guard_read c.args.tree.now c.insert_tuple.new.tables.items c.args.at c.args.up c.args.guard
+    c.index.result.now
+    c.in-Ok.ensures.ok.family c.requires.under c.index.ensures in
     record {
-      next = c.next_at-next.ensures.found c.args.tuple.now
+      next = c.next-next.ensures.found c.args.tuple.now
           (take c.loop-done.done
           (group_of (key_at c.args.tables.now.items c.args.guard) (entries_at c.args.tables.now.items c.args.guard)
           c.args.tuple.now)) k.entry
           (drop (c.loop-done.done + 1)
           (group_of (key_at c.args.tables.now.items c.args.guard) (entries_at c.args.tables.now.items c.args.guard)
-          c.args.tuple.now)) (group_still c.args.tree.now c.args.tables.now.items c.insert_tuple.new.tables.items
+          c.args.tuple.now)) (group_read c.args.tuple.now r
+          ∙ group_still c.args.tree.now c.args.tables.now.items c.insert_tuple.new.tables.items
           c.args.guard
           c.args.tuple.now (now_family c.args.tree.now c.requires.gaining.was c.args.tables.now.items c.args.at
           c.requires.gaining.began) n.family
@@ -994,43 +1022,51 @@ insert_above_side-loop-done-preserved g t c =
       grown = n;
       unchanged = plain_trans c.args.tables.now.items c.loop-done.tables.items c.insert_tuple.new.tables.items
           c.loop-done.invariant.unchanged c.insert_tuple.ensures.plain;
-      counted = omega (arith, c.loop-done.invariant.counted, c.in-Ok.ensures.counted, c.next_at-next.ensures.counted);
+      counted = omega (arith, c.loop-done.invariant.counted, c.in-Ok.ensures.counted, c.next-next.ensures.counted);
     }
 
-pub insert_above_side-returns-in-None-clause-ok : goal.insert_above_side-returns-in-None-clause-ok
-insert_above_side-returns-in-None-clause-ok g t c =
-    side_righted c.args.tree.now c.requires.gaining.was c.args.tables.now.items c.loop-done.tables.items c.args.guard
-    c.args.at c.args.up c.loop-done.done c.args.tuple.now c.requires.gaining.began c.requires.gaining.gains
-    c.requires.under c.loop-done.invariant.grown
-    (head_none (drop c.loop-done.done
-    (group_of (key_at c.args.tables.now.items c.args.guard) (entries_at c.args.tables.now.items c.args.guard)
-    c.args.tuple.now)) (sym c.loop-done.invariant.next ∙ c.in-None.is))
+pub insert_above_side-returns-in-None : goal.insert_above_side-returns-in-None
+insert_above_side-returns-in-None g t c =
+    record {
+      ok = side_righted c.args.tree.now c.requires.gaining.was c.args.tables.now.items c.loop-done.tables.items
+          c.args.guard
+          c.args.at c.args.up c.loop-done.done c.args.tuple.now c.requires.gaining.began c.requires.gaining.gains
+          c.requires.under c.loop-done.invariant.grown
+          (head_none (drop c.loop-done.done
+          (group_of (key_at c.args.tables.now.items c.args.guard) (entries_at c.args.tables.now.items c.args.guard)
+          c.args.tuple.now)) (sym c.loop-done.invariant.next ∙ c.in-None.is));
+      refused = search rules;
+      plain = c.loop-done.invariant.unchanged;
+      counted = omega (arith, c.loop-done.invariant.counted);
+      bounded = search rules;
+      flat = search rules;
+    }
 
-pub insert_above_side-returns-in-None-clause-plain : goal.insert_above_side-returns-in-None-clause-plain
-insert_above_side-returns-in-None-clause-plain g t c =
-    c.loop-done.invariant.unchanged
-
-pub insert_above_side-returns-in-None-clause-counted : goal.insert_above_side-returns-in-None-clause-counted
-insert_above_side-returns-in-None-clause-counted g t c =
-    omega (arith, c.loop-done.invariant.counted)
-
-pub insert_above_side-returns-clause-ok : goal.insert_above_side-returns-clause-ok
-insert_above_side-returns-clause-ok g t c =
-    let h = c.loop-done-test.false in
-    let x = c.loop-done.auto.done-end in
-    side_righted c.args.tree.now c.requires.gaining.was c.args.tables.now.items c.loop-done.tables.items c.args.guard
-    c.args.at c.args.up c.loop-done.done c.args.tuple.now c.requires.gaining.began c.requires.gaining.gains
-    c.requires.under c.loop-done.invariant.grown
-    (drop_group (key_at c.args.tables.now.items c.args.guard) (entries_at c.args.tables.now.items c.args.guard)
-    c.args.tuple.now c.loop-done.done (omega (arith, c.len_at-count.ensures)))
-
-pub insert_above_side-returns-clause-plain : goal.insert_above_side-returns-clause-plain
-insert_above_side-returns-clause-plain g t c =
-    c.loop-done.invariant.unchanged
-
-pub insert_above_side-returns-clause-counted : goal.insert_above_side-returns-clause-counted
-insert_above_side-returns-clause-counted g t c =
-    omega (arith, c.loop-done.invariant.counted)
+pub insert_above_side-returns : goal.insert_above_side-returns
+insert_above_side-returns g t c =
+    record {
+      ok = (let h = c.loop-done-test.false in
+          let x = c.loop-done.auto.done-end in
+          side_righted c.args.tree.now c.requires.gaining.was c.args.tables.now.items c.loop-done.tables.items
+          c.args.guard
+          c.args.at c.args.up c.loop-done.done c.args.tuple.now c.requires.gaining.began c.requires.gaining.gains
+          c.requires.under c.loop-done.invariant.grown
+          (drop_group (key_at c.args.tables.now.items c.args.guard) (entries_at c.args.tables.now.items c.args.guard)
+          c.args.tuple.now c.loop-done.done (omega (
+            arith,
+            c.len-count.ensures,
+            length_read (guard_read c.args.tree.now c.args.tables.now.items c.args.at c.args.up c.args.guard
+                c.index-table.result.now
+                (now_family c.args.tree.now c.requires.gaining.was c.args.tables.now.items c.args.at
+                c.requires.gaining.began)
+                c.requires.under c.index-table.ensures),
+          ))));
+      refused = search rules;
+      plain = c.loop-done.invariant.unchanged;
+      counted = omega (arith, c.loop-done.invariant.counted);
+      bounded = search rules;
+      flat = search rules;
+    }
 
 pub insert_tuple-returns-in_err-place-clause-flat : goal.insert_tuple-returns-in_err-place-clause-flat
 insert_tuple-returns-in_err-place-clause-flat g t c =
@@ -1042,57 +1078,3 @@ insert_tuple-returns-in_err-place-clause-flat g t c =
 pub insert_tuple-returns-in-Err-clause-flat : goal.insert_tuple-returns-in-Err-clause-flat
 insert_tuple-returns-in-Err-clause-flat g t c =
     λ meets. omega (arith, c.insert_at.ensures.counted, c.in-Err.ensures.flat meets, c.remove_at.ensures.counted)
-
-pub insert_above-returns-in-Trim-clause-flat : goal.insert_above-returns-in-Trim-clause-flat
-insert_above-returns-in-Trim-clause-flat g t c =
-    c.insert_above_trim.ensures.flat
-
-pub insert_above-returns-then-guard-at-clause-flat : goal.insert_above-returns-then-guard-at-clause-flat
-insert_above-returns-then-guard-at-clause-flat g t c =
-    c.insert_above_guard.ensures.flat
-
-pub insert_above-returns-else-guard-at-clause-flat : goal.insert_above-returns-else-guard-at-clause-flat
-insert_above-returns-else-guard-at-clause-flat g t c =
-    c.insert_above_side.ensures.flat
-
-pub insert_above_guard-returns-in-Some-clause-flat : goal.insert_above_guard-returns-in-Some-clause-flat
-insert_above_guard-returns-in-Some-clause-flat g t c =
-    err_map c.insert_tuple.result
-    (HasEqualMeets c.args.tree.now
-    → c.insert_tuple.new.tally ≤ c.find_part.new.tally + 5 * (length c.args.tree.now.nodes - c.args.up))
-    (HasEqualMeets c.args.tree.now
-    → c.insert_tuple.new.tally + 2 ≤ c.args.tally.now + 5 * (length c.args.tree.now.nodes - c.args.at))
-    (λ h meets. let low = lower_of c.args.tree.now c.args.up (Meet c.args.at c.args.side) c.args.at
-    c.requires.gaining.began.ready.family.is_tree c.requires.under in let within = c.requires.under.within in omega
-    (arith, c.find_part.ensures.counted, h meets)) c.insert_tuple.ensures.flat
-
-pub insert_above_part-returns-in-None-clause-flat : goal.insert_above_part-returns-in-None-clause-flat
-insert_above_part-returns-in-None-clause-flat g t c =
-    err_map c.insert_tuple.result
-    (HasEqualMeets c.args.tree.now
-    → c.insert_tuple.new.tally ≤ c.find_at.new.tally + 5 * (length c.args.tree.now.nodes - c.args.up))
-    (HasEqualMeets c.args.tree.now
-    → c.insert_tuple.new.tally + 2 ≤ c.args.tally.now + 5 * (length c.args.tree.now.nodes - c.args.at))
-    (λ h meets. let low = lower_of c.args.tree.now c.args.up (Trim c.args.at) c.args.at
-    c.requires.gaining.began.ready.family.is_tree c.requires.under in let within = c.requires.under.within in omega
-    (arith, c.find_at.ensures.counted, h meets)) c.insert_tuple.ensures.flat
-
-pub insert_above_side-returns-in-Err-clause-flat : goal.insert_above_side-returns-in-Err-clause-flat
-insert_above_side-returns-in-Err-clause-flat g t c =
-    λ meets.
-    let k = cut_of (group_of (key_at c.args.tables.now.items c.args.guard) (entries_at c.args.tables.now.items
-    c.args.guard)
-    c.args.tuple.now) c.loop-done.done c.loop-done.next c.in-Some.place c.loop-done.invariant.next c.in-Some.is in
-    let back = side_stayed c.args.tree.now c.requires.gaining.was c.args.tables.now.items c.loop-done.tables.items
-    c.insert_tuple.new.tables.items c.remove_group_from_meet.new.tables.items c.args.guard c.args.at c.args.up
-    c.loop-done.done
-    c.args.tuple.now c.requires.gaining.began c.requires.under c.loop-done.invariant.grown c.in-Err.ensures.refused
-    c.remove_group_from_meet.ensures.emptied in
-    side_flat c.args.tree.now c.requires.gaining.was c.args.tables.now.items c.loop-done.tables.items
-    c.insert_tuple.new.tables.items c.remove_group_from_meet.new.tables.items c.args.guard c.args.at c.args.up
-    c.loop-done.done
-    c.args.tally.now c.loop-done.tally c.insert_tuple.new.tally c.remove_group_from_meet.new.tally c.args.tuple.now
-    k.entry
-    meets c.requires.gaining.began c.requires.under c.loop-done.invariant.grown k.is c.in-Err.ensures.refused.family
-    c.remove_group_from_meet.ensures.emptied.family c.in-Err.ensures.refused.supports back.supports
-    c.loop-done.invariant.counted (c.in-Err.ensures.flat meets) c.remove_group_from_meet.ensures.counted

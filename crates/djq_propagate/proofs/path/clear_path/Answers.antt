@@ -1,10 +1,12 @@
 -- By the loop the path's nodes below the index have no marks, and each that was met is one step of the count.
-use Rattle.std.proofs.Common.{◌≡◌, ℕ, ◌+◌, ◌*◌, ◌≤◌, length, ap, subst, sym, arith}
+use Rattle.std.proofs.Common.{◌≡◌, ℕ, ◌+◌, ◌*◌, ◌≤◌, List, length, ap, subst, sym, arith}
+use Rattle.std.specs.Prelude.{slice_set}
+use Rattle.djq_index.specs.Entries.{Entry}
 use Rattle.djq_index.specs.Tuple.{one}
 use Rattle.djq_tree.specs.Tree.{node_at, has_child}
-use Rattle.djq_reduct.specs.Tables.{entries_at}
 use Rattle.djq_propagate.specs.Updates.{HasCleared, steps}
 use Rattle.djq_propagate.proofs.Going.{has_table}
+use Rattle.djq_propagate.proofs.Tabling.{family_read, length_read, marks_read, cleared_into}
 use Rattle.djq_index.proofs.Clearing.{length_marks}
 use Rattle.djq_reduct.proofs.Paths.{path_zero}
 use Rattle.djq_propagate.proofs.Paths.{path_next, steps_none, steps_more, steps_count, cleared_leaf, cleared_more}
@@ -12,30 +14,46 @@ use Rattle.djq_propagate.proofs.Updating.{leaf_within}
 use Rattle.djq_propagate.proofs.Fewing.{few_cleared, few_clear_more}
 use Rattle.djq_propagate.proofs.path.clear_path.Goals as goal
 
-pub clear_at-requires : goal.clear_at-requires
-clear_at-requires g c =
+pub index_mut-requires : goal.index_mut-requires
+index_mut-requires g c =
     let within = leaf_within c.args.tree.now c.args.leaf c.requires.family.is_tree c.requires.leaf in
-    record { within = has_table c.args.tree.now c.args.tables.now.items c.args.leaf c.requires.family within }
+    omega (
+      arith,
+      has_table c.args.tree.now c.args.tables.now.items c.args.leaf c.requires.family within,
+      c.args.tables.now.ok.0,
+    )
 
 pub loop-up-init : goal.loop-up-init
 loop-up-init g c =
+    let r = family_read c.args.tree.now c.args.tables.now.items c.args.leaf c.index_mut.result.now c.requires.family
+    (leaf_within c.args.tree.now c.args.leaf c.requires.family.is_tree c.requires.leaf) c.index_mut.ensures.value in
+    let n = cleared_into r c.clear_marks.ensures.table c.clear_marks.ensures.key c.clear_marks.ensures.width
+    c.clear_marks.ensures.cleared in
     record {
       at = sym (path_zero c.args.tree.now.nodes c.args.leaf);
-      cleared = cleared_leaf c.args.tree.now c.args.tables.now.items c.clear_at.new.tables.items c.args.leaf
-          c.requires.family c.clear_at.ensures.changed c.clear_at.ensures.cleared;
+      cleared = cleared_leaf c.args.tree.now c.args.tables.now.items
+          (slice_set c.args.tables.now.items c.args.leaf c.clear_marks.new.self) c.args.leaf
+          c.requires.family n.changed n.cleared;
       counted = λ n h. let s : (1 + steps c.args.tree.now.nodes c.args.leaf 0) * (1 + n)
           ≡ 1 * (1 + n) = ap (λ (x : ℕ). (1 + x) * (1 + n)) (steps_none c.args.tree.now.nodes c.args.leaf) in omega (
             arith,
-            c.clear_at.ensures.counted,
-            length_marks (entries_at c.args.tables.now.items c.args.leaf),
+            c.clear_marks.ensures.counted,
+            length_marks c.index_mut.result.now.entries,
+            length_read r,
             h
                 c.args.leaf,
           );
-      few = few_cleared c.args.tables.now.items c.clear_at.new.tables.items c.args.leaf c.clear_at.ensures.changed
-          c.clear_at.ensures.cleared;
+      few = few_cleared c.args.tables.now.items (slice_set c.args.tables.now.items c.args.leaf c.clear_marks.new.self)
+          c.args.leaf n.changed
+          n.cleared;
       flat = λ few. let s : (1 + steps c.args.tree.now.nodes c.args.leaf 0) * 2
-          ≡ 1 * 2 = ap (λ (x : ℕ). (1 + x) * 2) (steps_none c.args.tree.now.nodes c.args.leaf) in omega
-          (arith, c.clear_at.ensures.counted, few.each c.args.leaf);
+          ≡ 1 * 2 = ap (λ (x : ℕ). (1 + x) * 2) (steps_none c.args.tree.now.nodes c.args.leaf) in omega (
+            arith,
+            c.clear_marks.ensures.counted,
+            ap (λ (es : List Entry). length es) (marks_read r),
+            few.each
+                c.args.leaf,
+          );
     }
 
 pub clear_above-at-requires-clause-family : goal.clear_above-at-requires-clause-family

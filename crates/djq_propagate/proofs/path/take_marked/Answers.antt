@@ -1,21 +1,26 @@
 -- The first marked tuple lies in the leaf, so each round makes the leaf shorter until it has no mark.
-use Rattle.std.proofs.Common.{ℕ, List, sym, subst, ◌∙◌, arith}
+use Rattle.std.proofs.Common.{ℕ, List, ap, sym, subst, ◌∙◌, arith}
 use Rattle.djq_index.specs.Table.{IsAt}
-use Rattle.djq_index.specs.Entries.{marks}
+use Rattle.djq_index.specs.Entries.{Entry, marks, head_at}
 use Rattle.djq_index.proofs.Changing.{removed_length}
 use Rattle.djq_reduct.specs.Tables.{entries_at}
 use Rattle.djq_propagate.specs.Walks.{RemovedUpwards}
 use Rattle.djq_propagate.proofs.Gains.{width_narrow}
 use Rattle.djq_propagate.proofs.Sides.{head_none}
 use Rattle.djq_propagate.proofs.Going.{has_table, as_live}
+use Rattle.djq_propagate.proofs.Tabling.{family_read, marks_read, length_read}
 use Rattle.djq_propagate.proofs.Updating.{leaf_within, ready_leaf, taking_none, taking_more}
 use Rattle.djq_propagate.proofs.Updating.{taking_done, no_mark, no_entry, first_mark}
 use Rattle.djq_propagate.proofs.path.take_marked.Goals as goal
 
-pub len_at-count-requires : goal.len_at-count-requires
-len_at-count-requires g c =
-    has_table c.args.tree.now c.args.tables.now.items c.args.leaf c.requires.reducts.family
-    (leaf_within c.args.tree.now c.args.leaf c.requires.reducts.family.is_tree c.requires.leaf)
+pub index-requires : goal.index-requires
+index-requires g c =
+    omega (
+      arith,
+      has_table c.args.tree.now c.args.tables.now.items c.args.leaf c.requires.reducts.family
+          (leaf_within c.args.tree.now c.args.leaf c.requires.reducts.family.is_tree c.requires.leaf),
+      c.args.tables.now.ok.0,
+    )
 
 pub loop-done-init : goal.loop-done-init
 loop-done-init g c =
@@ -26,10 +31,14 @@ loop-done-init g c =
       counted = omega arith;
     }
 
-pub first_marked_at-requires : goal.first_marked_at-requires
-first_marked_at-requires g c =
-    has_table c.args.tree.now c.loop-done.tables.items c.args.leaf c.loop-done.invariant.taking.sound.family
-    (leaf_within c.args.tree.now c.args.leaf c.requires.reducts.family.is_tree c.requires.leaf)
+pub index-requires-in-loop-done : goal.index-requires-in-loop-done
+index-requires-in-loop-done g c =
+    omega (
+      arith,
+      has_table c.args.tree.now c.loop-done.tables.items c.args.leaf c.loop-done.invariant.taking.sound.family
+          (leaf_within c.args.tree.now c.args.leaf c.requires.reducts.family.is_tree c.requires.leaf),
+      c.loop-done.tables.ok.0,
+    )
 
 pub remove_tuple-requires-clause-ready : goal.remove_tuple-requires-clause-ready
 remove_tuple-requires-clause-ready g c =
@@ -48,13 +57,21 @@ read_at-requires-clause-narrow g c =
 pub read_at-requires-clause-live : goal.read_at-requires-clause-live
 read_at-requires-clause-live g c =
     let m = first_mark (entries_at c.loop-done.tables.items c.args.leaf) c.in-Some.place
-    (sym c.first_marked_at.ensures.found ∙ c.in-Some.is) in
+    (sym (c.first_marked.ensures.found ∙ ap (λ (es : List Entry). head_at es)
+    (marks_read (family_read c.args.tree.now c.loop-done.tables.items c.args.leaf c.index-in-loop-done.result.now
+    c.loop-done.invariant.taking.sound.family
+    (leaf_within c.args.tree.now c.args.leaf c.requires.reducts.family.is_tree c.requires.leaf)
+    c.index-in-loop-done.ensures))) ∙ c.in-Some.is) in
     as_live (entries_at c.loop-done.tables.items c.args.leaf) c.in-Some.place m.tuple m.is_at
 
 pub remove_tuple-requires-clause-lies : goal.remove_tuple-requires-clause-lies
 remove_tuple-requires-clause-lies g c =
     let m = first_mark (entries_at c.loop-done.tables.items c.args.leaf) c.in-Some.place
-    (sym c.first_marked_at.ensures.found ∙ c.in-Some.is) in
+    (sym (c.first_marked.ensures.found ∙ ap (λ (es : List Entry). head_at es)
+    (marks_read (family_read c.args.tree.now c.loop-done.tables.items c.args.leaf c.index-in-loop-done.result.now
+    c.loop-done.invariant.taking.sound.family
+    (leaf_within c.args.tree.now c.args.leaf c.requires.reducts.family.is_tree c.requires.leaf)
+    c.index-in-loop-done.ensures))) ∙ c.in-Some.is) in
     subst (λ (u : List ℕ). IsAt (entries_at c.loop-done.tables.items c.args.leaf) c.in-Some.place u)
     (sym (c.as_slice.ensures ∙ c.read_at.ensures.tuple m.tuple m.is_at)) m.is_at
 
@@ -66,7 +83,11 @@ loop-done-smaller g c =
 pub loop-done-preserved : goal.loop-done-preserved
 loop-done-preserved g c =
     let m = first_mark (entries_at c.loop-done.tables.items c.args.leaf) c.in-Some.place
-    (sym c.first_marked_at.ensures.found ∙ c.in-Some.is) in
+    (sym (c.first_marked.ensures.found ∙ ap (λ (es : List Entry). head_at es)
+    (marks_read (family_read c.args.tree.now c.loop-done.tables.items c.args.leaf c.index-in-loop-done.result.now
+    c.loop-done.invariant.taking.sound.family
+    (leaf_within c.args.tree.now c.args.leaf c.requires.reducts.family.is_tree c.requires.leaf)
+    c.index-in-loop-done.ensures))) ∙ c.in-Some.is) in
     let died = subst (λ (u : List ℕ). RemovedUpwards c.args.tree.now c.loop-done.tables.items
     c.remove_tuple.new.tables.items c.args.leaf
     u) (c.as_slice.ensures ∙ c.read_at.ensures.tuple m.tuple m.is_at) c.remove_tuple.ensures.died in
@@ -84,7 +105,7 @@ loop-done-preserved g c =
         arith,
         c.loop-done.invariant.counted,
         c.remove_tuple.ensures.counted,
-        c.first_marked_at.ensures.counted,
+        c.first_marked.ensures.counted,
       );
     }
 
@@ -94,20 +115,28 @@ returns-in-None-clause-taken g c =
     c.loop-done.invariant.taking
     (λ v. no_mark (entries_at c.loop-done.tables.items c.args.leaf) v
     (head_none (marks (entries_at c.loop-done.tables.items c.args.leaf))
-    (sym c.first_marked_at.ensures.found ∙ c.in-None.is)))
+    (sym (c.first_marked.ensures.found ∙ ap (λ (es : List Entry). head_at es)
+    (marks_read (family_read c.args.tree.now c.loop-done.tables.items c.args.leaf c.index-in-loop-done.result.now
+    c.loop-done.invariant.taking.sound.family
+    (leaf_within c.args.tree.now c.args.leaf c.requires.reducts.family.is_tree c.requires.leaf)
+    c.index-in-loop-done.ensures))) ∙ c.in-None.is)))
 
 pub returns-in-None-clause-counted : goal.returns-in-None-clause-counted
 returns-in-None-clause-counted g c =
-    omega (arith, c.loop-done.invariant.counted, c.first_marked_at.ensures.counted)
+    omega (arith, c.loop-done.invariant.counted, c.first_marked.ensures.counted)
 
 pub returns-clause-taken : goal.returns-clause-taken
 returns-clause-taken g c =
     let h = c.loop-done-test.false in
     let x = c.loop-done.auto._done-end in
+    let r = family_read c.args.tree.now c.args.tables.now.items c.args.leaf c.index.result.now
+    c.requires.reducts.family (leaf_within c.args.tree.now c.args.leaf c.requires.reducts.family.is_tree
+    c.requires.leaf)
+    c.index.ensures in
     taking_done c.args.tree.now c.args.tables.now.items c.loop-done.tables.items c.args.leaf
     c.loop-done.invariant.taking
     (λ v. no_entry (entries_at c.loop-done.tables.items c.args.leaf) v
-    (omega (arith, c.loop-done.invariant.few, c.len_at-count.ensures)))
+    (omega (arith, c.loop-done.invariant.few, c.len-count.ensures, length_read r)))
 
 pub returns-clause-counted : goal.returns-clause-counted
 returns-clause-counted g c =

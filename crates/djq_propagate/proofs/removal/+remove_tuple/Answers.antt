@@ -1,6 +1,8 @@
 -- A node's loss is its parent's, by the parent's equation, whose other tables stay; each step goes one up.
-use Rattle.std.proofs.Common.{rules, ◌≡◌, ℕ, ◌+◌, ◌-◌, ◌<◌, List, take, drop, subst, sym, ◌∙◌, arith}
-use Rattle.djq_index.specs.Entries.{supports_of, count_of, group_of}
+use Rattle.std.proofs.Common.{rules, ◌≡◌, ℕ, ◌+◌, ◌-◌, ◌<◌, List, take, drop, ap, subst, sym, ◌∙◌, arith}
+use Rattle.djq_index.specs.Entries.{Entry, supports_of, count_of, group_of, head_at}
+use Rattle.std.specs.Prelude.{slice_set}
+use Rattle.djq_index.specs.Table.{IsLowerable}
 use Rattle.djq_index.proofs.Changing.{removed_length, supported_length}
 use Rattle.djq_tree.specs.declared.node.Node.TheVariants.{Trim, Meet}
 use Rattle.djq_reduct.specs.Tables.{entries_at, key_at}
@@ -13,10 +15,11 @@ use Rattle.djq_propagate.proofs.Gains.{width_narrow, trim_few}
 use Rattle.djq_propagate.proofs.Losses.{trim_lowered, trim_died, trim_missing, guard_died}
 use Rattle.djq_propagate.proofs.Losses.{guard_idle, side_full, side_righted, died_here}
 use Rattle.djq_propagate.proofs.Going.{has_table, wide_now, under_leaf, under_trim, under_guard}
-use Rattle.djq_propagate.proofs.Going.{under_side, shared_more, shared_less, cut_of, cut_at}
-use Rattle.djq_propagate.proofs.Going.{as_live, moved_at, group_still}
+use Rattle.djq_propagate.proofs.Going.{under_side, cut_of, cut_at}
+use Rattle.djq_propagate.proofs.Going.{guard_read, as_live, moved_at, group_still}
 use Rattle.djq_propagate.proofs.Tabling.{wide_family}
-use Rattle.djq_propagate.proofs.Tabling.{part_none, part_one}
+use Rattle.djq_propagate.proofs.Tabling.{is_none, to_read, at_read, supported_into}
+use Rattle.djq_propagate.proofs.Tabling.{part_none, part_one, family_read, length_read, group_read, live_read}
 use Rattle.djq_propagate.proofs.removal.+remove_tuple.Goals as goal
 
 pub remove_tuple-remove_at-requires-clause-within : goal.remove_tuple-remove_at-requires-clause-within
@@ -136,67 +139,36 @@ remove_above-remove_above_side-requires g t c κs hκ =
       ),
     )
 
-pub remove_above-returns-in-None-clause-righted : goal.remove_above-returns-in-None-clause-righted
-remove_above-returns-in-None-clause-righted g t c =
-    topmost c.args.tree.now c.requires.losing.was c.args.tables.now.items c.args.at c.requires.losing.began
-    c.in-None.ensures.root
+pub remove_above-returns-in-None : goal.remove_above-returns-in-None
+remove_above-returns-in-None g t c =
+    record {
+      righted = topmost c.args.tree.now c.requires.losing.was c.args.tables.now.items c.args.at c.requires.losing.began
+          c.in-None.ensures.root;
+      fewer = fewer_refl c.args.tables.now.items;
+      counted = omega arith;
+    }
 
-pub remove_above-returns-in-None-clause-fewer : goal.remove_above-returns-in-None-clause-fewer
-remove_above-returns-in-None-clause-fewer g t c =
-    fewer_refl c.args.tables.now.items
+pub remove_above-returns-in-Leaf : goal.remove_above-returns-in-Leaf
+remove_above-returns-in-Leaf g t c =
+    record {
+      righted = absurd (under_leaf c.args.tree.now c.args.at c.in-Some.up _ c.parent.result c.node.result
+          c.requires.losing.began.ready.family.is_tree c.parent.ensures.parent c.in-Some.is c.node.ensures
+          c.in-Leaf.is);
+      fewer = fewer_refl c.args.tables.now.items;
+      counted = omega arith;
+    }
 
-pub remove_above-returns-in-None-clause-counted : goal.remove_above-returns-in-None-clause-counted
-remove_above-returns-in-None-clause-counted g t c =
-    omega arith
+pub remove_above-returns-in-Trim : goal.remove_above-returns-in-Trim
+remove_above-returns-in-Trim g t c =
+    c.remove_above_trim.ensures
 
-pub remove_above-returns-in-Leaf-clause-righted : goal.remove_above-returns-in-Leaf-clause-righted
-remove_above-returns-in-Leaf-clause-righted g t c =
-    absurd (under_leaf c.args.tree.now c.args.at c.in-Some.up _ c.parent.result c.node.result
-    c.requires.losing.began.ready.family.is_tree c.parent.ensures.parent c.in-Some.is c.node.ensures c.in-Leaf.is)
+pub remove_above-returns-then-guard-at : goal.remove_above-returns-then-guard-at
+remove_above-returns-then-guard-at g t c =
+    c.remove_above_guard.ensures
 
-pub remove_above-returns-in-Leaf-clause-fewer : goal.remove_above-returns-in-Leaf-clause-fewer
-remove_above-returns-in-Leaf-clause-fewer g t c =
-    fewer_refl c.args.tables.now.items
-
-pub remove_above-returns-in-Leaf-clause-counted : goal.remove_above-returns-in-Leaf-clause-counted
-remove_above-returns-in-Leaf-clause-counted g t c =
-    omega arith
-
-pub remove_above-returns-in-Trim-clause-righted : goal.remove_above-returns-in-Trim-clause-righted
-remove_above-returns-in-Trim-clause-righted g t c =
-    c.remove_above_trim.ensures.righted
-
-pub remove_above-returns-in-Trim-clause-fewer : goal.remove_above-returns-in-Trim-clause-fewer
-remove_above-returns-in-Trim-clause-fewer g t c =
-    c.remove_above_trim.ensures.fewer
-
-pub remove_above-returns-in-Trim-clause-counted : goal.remove_above-returns-in-Trim-clause-counted
-remove_above-returns-in-Trim-clause-counted g t c =
-    c.remove_above_trim.ensures.counted
-
-pub remove_above-returns-then-guard-at-clause-righted : goal.remove_above-returns-then-guard-at-clause-righted
-remove_above-returns-then-guard-at-clause-righted g t c =
-    c.remove_above_guard.ensures.righted
-
-pub remove_above-returns-then-guard-at-clause-fewer : goal.remove_above-returns-then-guard-at-clause-fewer
-remove_above-returns-then-guard-at-clause-fewer g t c =
-    c.remove_above_guard.ensures.fewer
-
-pub remove_above-returns-then-guard-at-clause-counted : goal.remove_above-returns-then-guard-at-clause-counted
-remove_above-returns-then-guard-at-clause-counted g t c =
-    c.remove_above_guard.ensures.counted
-
-pub remove_above-returns-else-guard-at-clause-righted : goal.remove_above-returns-else-guard-at-clause-righted
-remove_above-returns-else-guard-at-clause-righted g t c =
-    c.remove_above_side.ensures.righted
-
-pub remove_above-returns-else-guard-at-clause-fewer : goal.remove_above-returns-else-guard-at-clause-fewer
-remove_above-returns-else-guard-at-clause-fewer g t c =
-    c.remove_above_side.ensures.fewer
-
-pub remove_above-returns-else-guard-at-clause-counted : goal.remove_above-returns-else-guard-at-clause-counted
-remove_above-returns-else-guard-at-clause-counted g t c =
-    c.remove_above_side.ensures.counted
+pub remove_above-returns-else-guard-at : goal.remove_above-returns-else-guard-at
+remove_above-returns-else-guard-at g t c =
+    c.remove_above_side.ensures
 
 pub remove_above_guard-find_at-requires : goal.remove_above_guard-find_at-requires
 remove_above_guard-find_at-requires g t c =
@@ -221,42 +193,39 @@ remove_above_guard-remove_tuple-requires g t c κs hκ =
       ),
     )
 
-pub remove_above_guard-returns-in-Some-clause-righted : goal.remove_above_guard-returns-in-Some-clause-righted
-remove_above_guard-returns-in-Some-clause-righted g t c =
-    guard_died c.args.tree.now c.requires.losing.was c.args.tables.now.items c.remove_tuple.new.tables.items c.args.at
-    c.args.side c.args.up c.args.tuple.now c.requires.losing.began c.requires.losing.loses c.requires.under
-    c.remove_tuple.ensures.died
+pub remove_above_guard-returns-in-Some : goal.remove_above_guard-returns-in-Some
+remove_above_guard-returns-in-Some g t c =
+    record {
+      righted = guard_died c.args.tree.now c.requires.losing.was c.args.tables.now.items
+          c.remove_tuple.new.tables.items c.args.at
+          c.args.side c.args.up c.args.tuple.now c.requires.losing.began c.requires.losing.loses c.requires.under
+          c.remove_tuple.ensures.died;
+      fewer = c.remove_tuple.ensures.fewer;
+      counted = omega (arith, c.find_at.ensures.counted, c.remove_tuple.ensures.counted);
+    }
 
-pub remove_above_guard-returns-in-Some-clause-fewer : goal.remove_above_guard-returns-in-Some-clause-fewer
-remove_above_guard-returns-in-Some-clause-fewer g t c =
-    c.remove_tuple.ensures.fewer
+pub remove_above_guard-returns-in-None : goal.remove_above_guard-returns-in-None
+remove_above_guard-returns-in-None g t c =
+    record {
+      righted = guard_idle c.args.tree.now c.requires.losing.was c.args.tables.now.items c.args.at c.args.side c.args.up
+          c.args.tuple.now c.requires.losing.began c.requires.losing.loses c.requires.under c.in-None.ensures.found;
+      fewer = fewer_refl c.args.tables.now.items;
+      counted = omega (arith, c.find_at.ensures.counted);
+    }
 
-pub remove_above_guard-returns-in-Some-clause-counted : goal.remove_above_guard-returns-in-Some-clause-counted
-remove_above_guard-returns-in-Some-clause-counted g t c =
-    omega (arith, c.find_at.ensures.counted, c.remove_tuple.ensures.counted)
-
-pub remove_above_guard-returns-in-None-clause-righted : goal.remove_above_guard-returns-in-None-clause-righted
-remove_above_guard-returns-in-None-clause-righted g t c =
-    guard_idle c.args.tree.now c.requires.losing.was c.args.tables.now.items c.args.at c.args.side c.args.up
-    c.args.tuple.now c.requires.losing.began c.requires.losing.loses c.requires.under c.in-None.ensures.found
-
-pub remove_above_guard-returns-in-None-clause-fewer : goal.remove_above_guard-returns-in-None-clause-fewer
-remove_above_guard-returns-in-None-clause-fewer g t c =
-    fewer_refl c.args.tables.now.items
-
-pub remove_above_guard-returns-in-None-clause-counted : goal.remove_above_guard-returns-in-None-clause-counted
-remove_above_guard-returns-in-None-clause-counted g t c =
-    omega (arith, c.find_at.ensures.counted)
-
-pub remove_above_side-len_at-count-requires : goal.remove_above_side-len_at-count-requires
-remove_above_side-len_at-count-requires g t c =
+pub remove_above_side-index-requires : goal.remove_above_side-index-requires
+remove_above_side-index-requires g t c =
     let m = c.requires.losing.began.ready.family.is_tree.meet c.args.up c.args.guard c.args.at c.requires.under.node in
     let mg = m.guard_lower in
     let ms = m.side_lower in
     let within = c.requires.under.within in
-    has_table c.args.tree.now c.args.tables.now.items c.args.guard
-    (now_family c.args.tree.now c.requires.losing.was c.args.tables.now.items c.args.at c.requires.losing.began)
-    (omega arith)
+    omega (
+      arith,
+      has_table c.args.tree.now c.args.tables.now.items c.args.guard
+          (now_family c.args.tree.now c.requires.losing.was c.args.tables.now.items c.args.at c.requires.losing.began)
+          (omega arith),
+      c.args.tables.now.ok.0,
+    )
 
 pub remove_above_side-remove_group_from_meet-requires : goal.remove_above_side-remove_group_from_meet-requires
 remove_above_side-remove_group_from_meet-requires g t c κs hκ =
@@ -276,28 +245,29 @@ remove_above_side-remove_group_from_meet-requires g t c κs hκ =
           (
             m.guard_lower,
             side_full c.args.tree.now c.requires.losing.was c.args.tables.now.items c.args.guard c.args.at
-                c.args.up c.len_at-count.result c.args.tuple.now c.requires.losing.began c.requires.losing.loses
+                c.args.up c.len-count.result c.args.tuple.now c.requires.losing.began c.requires.losing.loses
                 c.requires.under,
           ),
         ),
       ),
     )
 
-pub remove_above_side-returns-clause-righted : goal.remove_above_side-returns-clause-righted
-remove_above_side-returns-clause-righted g t c =
-    side_righted c.args.tree.now c.requires.losing.was c.args.tables.now.items c.remove_group_from_meet.new.tables.items
-    c.args.guard c.args.at c.args.up c.len_at-count.result c.args.tuple.now c.requires.losing.began
-    c.requires.losing.loses c.requires.under c.remove_group_from_meet.ensures.emptied
-    (drop_group (key_at c.args.tables.now.items c.args.guard) (entries_at c.args.tables.now.items c.args.guard)
-    c.args.tuple.now c.len_at-count.result c.len_at-count.ensures)
-
-pub remove_above_side-returns-clause-fewer : goal.remove_above_side-returns-clause-fewer
-remove_above_side-returns-clause-fewer g t c =
-    c.remove_group_from_meet.ensures.fewer
-
-pub remove_above_side-returns-clause-counted : goal.remove_above_side-returns-clause-counted
-remove_above_side-returns-clause-counted g t c =
-    omega (arith, c.remove_group_from_meet.ensures.counted)
+pub remove_above_side-returns : goal.remove_above_side-returns
+remove_above_side-returns g t c =
+    record {
+      righted = side_righted c.args.tree.now c.requires.losing.was c.args.tables.now.items
+          c.remove_group_from_meet.new.tables.items
+          c.args.guard c.args.at c.args.up c.len-count.result c.args.tuple.now c.requires.losing.began
+          c.requires.losing.loses c.requires.under c.remove_group_from_meet.ensures.emptied
+          (drop_group (key_at c.args.tables.now.items c.args.guard) (entries_at c.args.tables.now.items c.args.guard)
+          c.args.tuple.now c.len-count.result
+          (c.len-count.ensures ∙ length_read (guard_read c.args.tree.now c.args.tables.now.items c.args.at c.args.up
+          c.args.guard c.index.result.now
+          (now_family c.args.tree.now c.requires.losing.was c.args.tables.now.items c.args.at c.requires.losing.began)
+          c.requires.under c.index.ensures)));
+      fewer = c.remove_group_from_meet.ensures.fewer;
+      counted = omega (arith, c.remove_group_from_meet.ensures.counted);
+    }
 
 pub remove_above_trim-column_of-requires : goal.remove_above_trim-column_of-requires
 remove_above_trim-column_of-requires g t c =
@@ -325,15 +295,22 @@ remove_above_trim-remove_above_part-requires g t c κs hκ =
       ),
     )
 
-pub remove_above_trim-has_no_column-requires : goal.remove_above_trim-has_no_column-requires
-remove_above_trim-has_no_column-requires g t c =
-    has_table c.args.tree.now c.args.tables.now.items c.args.at
-    (now_family c.args.tree.now c.requires.losing.was c.args.tables.now.items c.args.at c.requires.losing.began)
-    c.requires.losing.began.ready.within
+pub remove_above_trim-index-requires : goal.remove_above_trim-index-requires
+remove_above_trim-index-requires g t c =
+    omega (
+      arith,
+      has_table c.args.tree.now c.args.tables.now.items c.args.at
+          (now_family c.args.tree.now c.requires.losing.was c.args.tables.now.items c.args.at c.requires.losing.began)
+          c.requires.losing.began.ready.within,
+      c.args.tables.now.ok.0,
+    )
 
-pub remove_above_trim-remove_above_part-requires-then-has_no_column :
-    goal.remove_above_trim-remove_above_part-requires-then-has_no_column
-remove_above_trim-remove_above_part-requires-then-has_no_column g t c κs hκ =
+pub remove_above_trim-remove_above_part-requires-then-is_empty :
+    goal.remove_above_trim-remove_above_part-requires-then-is_empty
+remove_above_trim-remove_above_part-requires-then-is_empty g t c κs hκ =
+    let r = family_read c.args.tree.now c.args.tables.now.items c.args.at c.index.result.now
+    (now_family c.args.tree.now c.requires.losing.was c.args.tables.now.items c.args.at c.requires.losing.began)
+    c.requires.losing.began.ready.within c.index.ensures in
     let d = c.decreases in (
       omega arith,
       (
@@ -344,7 +321,8 @@ remove_above_trim-remove_above_part-requires-then-has_no_column g t c κs hκ =
             c.requires.wide,
             (
               c.requires.under,
-              part_none (key_at c.args.tables.now.items c.args.at) c.args.tuple.now (search rules),
+              part_none (key_at c.args.tables.now.items c.args.at) c.args.tuple.now
+                  (sym (c.key.ensures ∙ r.key) ∙ is_none c.key.result.now (search rules)),
             ),
           ),
         ),
@@ -399,32 +377,48 @@ remove_above_part-find_at-requires g t c =
     (now_family c.args.tree.now c.requires.losing.was c.args.tables.now.items c.args.at c.requires.losing.began)
     c.requires.under.within
 
-pub remove_above_part-is_shared_at-requires-clause-within : goal.remove_above_part-is_shared_at-requires-clause-within
-remove_above_part-is_shared_at-requires-clause-within g t c =
-    has_table c.args.tree.now c.args.tables.now.items c.args.up
+pub remove_above_part-index-requires : goal.remove_above_part-index-requires
+remove_above_part-index-requires g t c =
+    omega (
+      arith,
+      has_table c.args.tree.now c.args.tables.now.items c.args.up
+          (now_family c.args.tree.now c.requires.losing.was c.args.tables.now.items c.args.at c.requires.losing.began)
+          c.requires.under.within,
+      c.args.tables.now.ok.0,
+    )
+
+pub remove_above_part-supports-requires : goal.remove_above_part-supports-requires
+remove_above_part-supports-requires g t c =
+    live_read (family_read c.args.tree.now c.args.tables.now.items c.args.up c.index.result.now
     (now_family c.args.tree.now c.requires.losing.was c.args.tables.now.items c.args.at c.requires.losing.began)
-    c.requires.under.within
+    c.requires.under.within c.index.ensures) c.in-Some.ensures.found
 
-pub remove_above_part-is_shared_at-requires-clause-live : goal.remove_above_part-is_shared_at-requires-clause-live
-remove_above_part-is_shared_at-requires-clause-live g t c =
-    as_live (entries_at c.args.tables.now.items c.args.up) c.in-Some.place c.args.cells.now
-    c.in-Some.ensures.found
+pub remove_above_part-index_mut-requires : goal.remove_above_part-index_mut-requires
+remove_above_part-index_mut-requires g t c =
+    omega (
+      arith,
+      has_table c.args.tree.now c.args.tables.now.items c.args.up
+          (now_family c.args.tree.now c.requires.losing.was c.args.tables.now.items c.args.at c.requires.losing.began)
+          c.requires.under.within,
+      c.args.tables.now.ok.0,
+    )
 
-pub remove_above_part-lower_at-requires-clause-within : goal.remove_above_part-lower_at-requires-clause-within
-remove_above_part-lower_at-requires-clause-within g t c =
-    has_table c.args.tree.now c.args.tables.now.items c.args.up
+pub remove_above_part-lower-requires : goal.remove_above_part-lower-requires
+remove_above_part-lower-requires g t c =
+    let r = family_read c.args.tree.now c.args.tables.now.items c.args.up c.index.result.now
     (now_family c.args.tree.now c.requires.losing.was c.args.tables.now.items c.args.at c.requires.losing.began)
-    c.requires.under.within
-
-pub remove_above_part-lower_at-requires-clause-shared : goal.remove_above_part-lower_at-requires-clause-shared
-remove_above_part-lower_at-requires-clause-shared g t c =
-    record {
+    c.requires.under.within c.index.ensures in
+    let e = c.supports.ensures c.args.cells.now (at_read r c.in-Some.ensures.found)
+    ∙ ap (λ (es : List Entry). supports_of es c.args.cells.now) r.entries in
+    to_read (λ es. IsLowerable es c.in-Some.place) (family_read c.args.tree.now c.args.tables.now.items c.args.up
+    c.index_mut.result.now
+    (now_family c.args.tree.now c.requires.losing.was c.args.tables.now.items c.args.at c.requires.losing.began)
+    c.requires.under.within c.index_mut.ensures.value)
+    (record {
       tuple = c.args.cells.now;
       is_at = c.in-Some.ensures.found;
-      more = shared_more
-          c.is_shared_at.result (supports_of (entries_at c.args.tables.now.items c.args.up) c.args.cells.now)
-          (c.is_shared_at.ensures c.args.cells.now c.in-Some.ensures.found) c.if-is_shared_at.true;
-    }
+      some = omega (arith, e, c.if-supports-gt1.true);
+    })
 
 pub remove_above_part-remove_tuple-requires : goal.remove_above_part-remove_tuple-requires
 remove_above_part-remove_tuple-requires g t c κs hκ =
@@ -443,72 +437,67 @@ remove_above_part-remove_tuple-requires g t c κs hκ =
       ),
     )
 
-pub remove_above_part-returns-then-is_shared_at-clause-righted :
-    goal.remove_above_part-returns-then-is_shared_at-clause-righted
-remove_above_part-returns-then-is_shared_at-clause-righted g t c =
-    trim_lowered c.args.tree.now c.requires.losing.was c.args.tables.now.items c.lower_at.new.tables.items c.args.at
-    c.args.up c.args.tuple.now c.args.cells.now c.requires.losing.began c.requires.losing.loses
-    c.requires.under c.lower_at.ensures.changed
-    (c.lower_at.ensures.lowered c.args.cells.now c.in-Some.ensures.found)
-    c.requires.part
+pub remove_above_part-returns-then-supports-gt1 : goal.remove_above_part-returns-then-supports-gt1
+remove_above_part-returns-then-supports-gt1 g t c =
+    let r = family_read c.args.tree.now c.args.tables.now.items c.args.up c.index_mut.result.now
+    (now_family c.args.tree.now c.requires.losing.was c.args.tables.now.items c.args.at c.requires.losing.began)
+    c.requires.under.within c.index_mut.ensures.value in
+    let q = family_read c.args.tree.now c.args.tables.now.items c.args.up c.index.result.now
+    (now_family c.args.tree.now c.requires.losing.was c.args.tables.now.items c.args.at c.requires.losing.began)
+    c.requires.under.within c.index.ensures in
+    let e = c.supports.ensures c.args.cells.now (at_read q c.in-Some.ensures.found)
+    ∙ ap (λ (es : List Entry). supports_of es c.args.cells.now) (q.entries ∙ sym r.entries) in
+    let n = supported_into (λ (x : ℕ). x - 1) c.args.cells.now r c.lower.ensures.table c.lower.ensures.key
+    c.lower.ensures.width (c.lower.ensures.lowered c.args.cells.now (at_read r c.in-Some.ensures.found))
+    (omega (arith, e, c.if-supports-gt1.true)) in
+    record {
+      righted = trim_lowered c.args.tree.now c.requires.losing.was c.args.tables.now.items
+          (slice_set c.args.tables.now.items c.args.up c.lower.new.self) c.args.at c.args.up c.args.tuple.now
+          c.args.cells.now c.requires.losing.began c.requires.losing.loses c.requires.under n.changed n.supported
+          c.requires.part;
+      fewer = lowered_fewer c.args.tables.now.items (slice_set c.args.tables.now.items c.args.up c.lower.new.self)
+          c.args.up
+          c.args.cells.now (supports_of (entries_at c.args.tables.now.items c.args.up) c.args.cells.now)
+          ((supports_of (entries_at c.args.tables.now.items c.args.up) c.args.cells.now) - 1) n.changed n.supported;
+      counted = omega (
+        arith,
+        c.find_at.ensures.counted,
+        c.lower.ensures.counted,
+        n.changed.size,
+        supported_length (entries_at c.args.tables.now.items c.args.up)
+            (entries_at (slice_set c.args.tables.now.items c.args.up c.lower.new.self) c.args.up) c.args.cells.now
+            (supports_of (entries_at c.args.tables.now.items c.args.up) c.args.cells.now)
+            ((supports_of (entries_at c.args.tables.now.items c.args.up) c.args.cells.now) - 1) n.supported,
+      );
+    }
 
-pub remove_above_part-returns-then-is_shared_at-clause-fewer :
-    goal.remove_above_part-returns-then-is_shared_at-clause-fewer
-remove_above_part-returns-then-is_shared_at-clause-fewer g t c =
-    lowered_fewer c.args.tables.now.items c.lower_at.new.tables.items c.args.up c.args.cells.now
-    (supports_of (entries_at c.args.tables.now.items c.args.up) c.args.cells.now)
-    ((supports_of (entries_at c.args.tables.now.items c.args.up) c.args.cells.now) - 1)
-    c.lower_at.ensures.changed (c.lower_at.ensures.lowered c.args.cells.now c.in-Some.ensures.found)
+pub remove_above_part-returns-else-supports-gt1 : goal.remove_above_part-returns-else-supports-gt1
+remove_above_part-returns-else-supports-gt1 g t c =
+    record {
+      righted = (let r = family_read c.args.tree.now c.args.tables.now.items c.args.up c.index.result.now
+          (now_family c.args.tree.now c.requires.losing.was c.args.tables.now.items c.args.at c.requires.losing.began)
+          c.requires.under.within c.index.ensures in
+          let e = c.supports.ensures c.args.cells.now (at_read r c.in-Some.ensures.found)
+          ∙ ap (λ (es : List Entry). supports_of es c.args.cells.now) r.entries in
+          trim_died c.args.tree.now c.requires.losing.was c.args.tables.now.items c.remove_tuple.new.tables.items
+          c.args.at
+          c.args.up
+          c.args.tuple.now c.args.cells.now c.requires.losing.began c.requires.losing.loses c.requires.under
+          c.remove_tuple.ensures.died c.requires.part
+          (omega (arith, e, c.if-supports-gt1.false)));
+      fewer = c.remove_tuple.ensures.fewer;
+      counted = omega (arith, c.find_at.ensures.counted, c.remove_tuple.ensures.counted);
+    }
 
-pub remove_above_part-returns-then-is_shared_at-clause-counted :
-    goal.remove_above_part-returns-then-is_shared_at-clause-counted
-remove_above_part-returns-then-is_shared_at-clause-counted g t c =
-    omega (
-      arith,
-      c.find_at.ensures.counted,
-      c.lower_at.ensures.counted,
-      c.lower_at.ensures.changed.size,
-      supported_length (entries_at c.args.tables.now.items c.args.up)
-          (entries_at c.lower_at.new.tables.items c.args.up) c.args.cells.now
-          (supports_of (entries_at c.args.tables.now.items c.args.up) c.args.cells.now)
-          ((supports_of (entries_at c.args.tables.now.items c.args.up) c.args.cells.now) - 1)
-          (c.lower_at.ensures.lowered c.args.cells.now c.in-Some.ensures.found),
-    )
-
-pub remove_above_part-returns-else-is_shared_at-clause-righted :
-    goal.remove_above_part-returns-else-is_shared_at-clause-righted
-remove_above_part-returns-else-is_shared_at-clause-righted g t c =
-    trim_died c.args.tree.now c.requires.losing.was c.args.tables.now.items c.remove_tuple.new.tables.items c.args.at
-    c.args.up
-    c.args.tuple.now c.args.cells.now c.requires.losing.began c.requires.losing.loses c.requires.under
-    c.remove_tuple.ensures.died c.requires.part
-    (shared_less c.is_shared_at.result
-    (supports_of (entries_at c.args.tables.now.items c.args.up) c.args.cells.now)
-    (c.is_shared_at.ensures c.args.cells.now c.in-Some.ensures.found) c.if-is_shared_at.false)
-
-pub remove_above_part-returns-else-is_shared_at-clause-fewer :
-    goal.remove_above_part-returns-else-is_shared_at-clause-fewer
-remove_above_part-returns-else-is_shared_at-clause-fewer g t c =
-    c.remove_tuple.ensures.fewer
-
-pub remove_above_part-returns-else-is_shared_at-clause-counted :
-    goal.remove_above_part-returns-else-is_shared_at-clause-counted
-remove_above_part-returns-else-is_shared_at-clause-counted g t c =
-    omega (arith, c.find_at.ensures.counted, c.remove_tuple.ensures.counted)
-
-pub remove_above_part-returns-in-None-clause-righted : goal.remove_above_part-returns-in-None-clause-righted
-remove_above_part-returns-in-None-clause-righted g t c =
-    absurd (trim_missing c.args.tree.now c.requires.losing.was c.args.tables.now.items c.args.at c.args.up
-    c.args.tuple.now c.args.cells.now c.requires.losing.began c.requires.losing.loses c.requires.under
-    c.requires.part c.in-None.ensures.found)
-
-pub remove_above_part-returns-in-None-clause-fewer : goal.remove_above_part-returns-in-None-clause-fewer
-remove_above_part-returns-in-None-clause-fewer g t c =
-    fewer_refl c.args.tables.now.items
-
-pub remove_above_part-returns-in-None-clause-counted : goal.remove_above_part-returns-in-None-clause-counted
-remove_above_part-returns-in-None-clause-counted g t c =
-    omega (arith, c.find_at.ensures.counted)
+pub remove_above_part-returns-in-None : goal.remove_above_part-returns-in-None
+remove_above_part-returns-in-None g t c =
+    record {
+      righted = absurd (trim_missing c.args.tree.now c.requires.losing.was c.args.tables.now.items c.args.at c.args.up
+          c.args.tuple.now c.args.cells.now c.requires.losing.began c.requires.losing.loses c.requires.under
+          c.requires.part c.in-None.ensures.found);
+      fewer = fewer_refl c.args.tables.now.items;
+      counted = omega (arith, c.find_at.ensures.counted);
+    }
 
 pub find_and_remove-find_at-requires : goal.find_and_remove-find_at-requires
 find_and_remove-find_at-requires g t c =
@@ -543,23 +532,29 @@ pub find_and_remove-returns-in-None-clause-counted : goal.find_and_remove-return
 find_and_remove-returns-in-None-clause-counted g t c =
     absurd (omega (arith, c.requires.there, c.in-None.ensures.found))
 
-pub remove_group_from_meet-first_at-next-requires : goal.remove_group_from_meet-first_at-next-requires
-remove_group_from_meet-first_at-next-requires g t c =
+pub remove_group_from_meet-index-requires : goal.remove_group_from_meet-index-requires
+remove_group_from_meet-index-requires g t c =
     let glow = c.requires.lower in
     let within = c.requires.ready.within in
-    has_table c.args.tree.now c.args.tables.now.items c.args.guard c.requires.ready.family (omega arith)
+    omega (
+      arith,
+      has_table c.args.tree.now c.args.tables.now.items c.args.guard c.requires.ready.family (omega arith),
+      c.args.tables.now.ok.0,
+    )
 
 pub remove_group_from_meet-loop-done-init : goal.remove_group_from_meet-loop-done-init
 remove_group_from_meet-loop-done-init g t c =
+    let r = family_read c.args.tree.now c.args.tables.now.items c.args.guard c.index.result.now c.requires.ready.family
+    (omega (arith, c.requires.lower, c.requires.ready.within)) c.index.ensures in
     record {
-      next = c.first_at-next.ensures.found;
+      next = c.first-next.ensures.found ∙ ap (λ (es : List Entry). head_at es) (group_read c.args.cells.now r);
       emptied = emptied_none c.args.tree.now c.args.tables.now.items
           c.args.up (group_of (key_at c.args.tables.now.items c.args.guard) (entries_at c.args.tables.now.items
           c.args.guard)
           c.args.cells.now) c.requires.ready;
       lesser = fewer_refl c.args.tables.now.items;
       counted = omega
-          (arith, c.first_at-next.ensures.counted);
+          (arith, c.first-next.ensures.counted);
     }
 
 pub remove_group_from_meet-read_at-requires-clause-within : goal.remove_group_from_meet-read_at-requires-clause-within
@@ -621,17 +616,19 @@ remove_group_from_meet-find_and_remove-requires g t c κs hκ =
       ),
     )
 
-pub remove_group_from_meet-next_at-next-requires-clause-within :
-    goal.remove_group_from_meet-next_at-next-requires-clause-within
-remove_group_from_meet-next_at-next-requires-clause-within g t c =
+pub remove_group_from_meet-index-requires-in-Some : goal.remove_group_from_meet-index-requires-in-Some
+remove_group_from_meet-index-requires-in-Some g t c =
     let glow = c.requires.lower in
     let within = c.requires.ready.within in
-    has_table c.args.tree.now c.find_and_remove.new.tables.items c.args.guard c.find_and_remove.ensures.died.family
-    (omega arith)
+    omega (
+      arith,
+      has_table c.args.tree.now c.find_and_remove.new.tables.items c.args.guard c.find_and_remove.ensures.died.family
+          (omega arith),
+      c.find_and_remove.new.tables.ok.0,
+    )
 
-pub remove_group_from_meet-next_at-next-requires-clause-live :
-    goal.remove_group_from_meet-next_at-next-requires-clause-live
-remove_group_from_meet-next_at-next-requires-clause-live g t c =
+pub remove_group_from_meet-next-next-requires : goal.remove_group_from_meet-next-next-requires
+remove_group_from_meet-next-next-requires g t c =
     let k = cut_of (group_of (key_at c.args.tables.now.items c.args.guard) (entries_at c.args.tables.now.items
     c.args.guard)
     c.args.cells.now) c.loop-done._done c.loop-done.next c.in-Some.place c.loop-done.invariant.next c.in-Some.is in
@@ -653,7 +650,9 @@ remove_group_from_meet-next_at-next-requires-clause-live g t c =
     (λ v. group_once (key_at c.args.tables.now.items c.args.guard) (entries_at c.args.tables.now.items c.args.guard)
     c.args.cells.now v (apart_of c.args.tree.now c.args.tables.now.items c.requires.ready.family c.args.guard))
     k.is) k.is) in
-    as_live (entries_at c.find_and_remove.new.tables.items c.args.guard) c.in-Some.place k.entry.tuple
+    live_read (family_read c.args.tree.now c.find_and_remove.new.tables.items c.args.guard c.index-in-Some.result.now
+    c.find_and_remove.ensures.died.family (omega (arith, c.requires.lower, c.requires.ready.within))
+    c.index-in-Some.ensures)
     (moved_at (entries_at c.args.tables.now.items c.args.guard)
     (entries_at c.find_and_remove.new.tables.items c.args.guard) c.in-Some.place k.entry.tuple
     (n.low c.args.guard c.requires.lower)
@@ -688,14 +687,18 @@ remove_group_from_meet-loop-done-preserved g t c =
     (λ v. group_once (key_at c.args.tables.now.items c.args.guard) (entries_at c.args.tables.now.items c.args.guard)
     c.args.cells.now v (apart_of c.args.tree.now c.args.tables.now.items c.requires.ready.family c.args.guard))
     k.is) k.is) in
+    let r = family_read c.args.tree.now c.find_and_remove.new.tables.items c.args.guard c.index-in-Some.result.now
+    c.find_and_remove.ensures.died.family (omega (arith, c.requires.lower, c.requires.ready.within))
+    c.index-in-Some.ensures in
     record {
-      next = c.next_at-next.ensures.found c.args.cells.now
+      next = c.next-next.ensures.found c.args.cells.now
           (take c.loop-done._done
           (group_of (key_at c.args.tables.now.items c.args.guard) (entries_at c.args.tables.now.items c.args.guard)
           c.args.cells.now)) k.entry
           (drop (c.loop-done._done + 1)
           (group_of (key_at c.args.tables.now.items c.args.guard) (entries_at c.args.tables.now.items c.args.guard)
-          c.args.cells.now)) (group_still c.args.tree.now c.args.tables.now.items c.find_and_remove.new.tables.items
+          c.args.cells.now)) (group_read c.args.cells.now r
+          ∙ group_still c.args.tree.now c.args.tables.now.items c.find_and_remove.new.tables.items
           c.args.guard c.args.cells.now c.requires.ready.family n.family (n.low c.args.guard c.requires.lower) ∙ k.is)
           k.at;
       emptied = n;
@@ -705,7 +708,7 @@ remove_group_from_meet-loop-done-preserved g t c =
         arith,
         c.loop-done.invariant.counted,
         c.find_and_remove.ensures.counted,
-        c.next_at-next.ensures.counted,
+        c.next-next.ensures.counted,
       );
     }
 

@@ -1,6 +1,6 @@
 -- By the loop what the marks before the index reach is marked; the children are below and stay as they were.
 use Rattle.std.proofs.Common.{ℕ, ◌+◌, List, [], length, take, drop, ap, sym, ◌∙◌, arith}
-use Rattle.djq_index.specs.Entries.{Entry, marks}
+use Rattle.djq_index.specs.Entries.{Entry, marks, head_at}
 use Rattle.djq_tree.specs.Tree.{node_at}
 use Rattle.djq_reduct.specs.Tables.{entries_at}
 use Rattle.djq_propagate.specs.Touches.{reach_one, reach, cost_one}
@@ -8,6 +8,7 @@ use Rattle.djq_propagate.proofs.Families.{same_keys}
 use Rattle.djq_propagate.proofs.Sides.{head_none}
 use Rattle.djq_propagate.proofs.Gains.{width_narrow}
 use Rattle.djq_propagate.proofs.Going.{has_table, cut_of, as_live, moved_at}
+use Rattle.djq_propagate.proofs.Tabling.{family_read, marks_read, length_read, live_read}
 use Rattle.djq_propagate.proofs.Touching.{touched_none, touched_as, touched_more, reach_still}
 use Rattle.djq_propagate.proofs.Touching.{cost_still, reach_more, reach_nothing, cost_none}
 use Rattle.djq_propagate.proofs.Touching.{cost_more, cost_le, cost_bound, take_whole, cut_mark}
@@ -15,22 +16,28 @@ use Rattle.djq_propagate.proofs.Touching.{drop_marks, step_lower, kids_still}
 use Rattle.djq_propagate.proofs.Fewing.{step_few}
 use Rattle.djq_propagate.proofs.touch.touch_step.Goals as goal
 
-pub len_at-count-requires : goal.len_at-count-requires
-len_at-count-requires g c =
+pub index-table-requires : goal.index-table-requires
+index-table-requires g c =
     let low = step_lower c.args.tree.now c.args.tables.now.items c.args.at c.args.up c.requires.step in
     let within = c.requires.step.within in
-    has_table c.args.tree.now c.args.tables.now.items c.args.at c.requires.step.family (omega arith)
-
-pub first_marked_at-next-requires : goal.first_marked_at-next-requires
-first_marked_at-next-requires g c =
-    let low = step_lower c.args.tree.now c.args.tables.now.items c.args.at c.args.up c.requires.step in
-    let within = c.requires.step.within in
-    has_table c.args.tree.now c.args.tables.now.items c.args.at c.requires.step.family (omega arith)
+    omega (
+      arith,
+      has_table c.args.tree.now c.args.tables.now.items c.args.at c.requires.step.family (omega arith),
+      c.args.tables.now.ok.0,
+    )
 
 pub loop-done-init : goal.loop-done-init
 loop-done-init g c =
+    let r = family_read c.args.tree.now c.args.tables.now.items c.args.at c.index-table.result.now
+    c.requires.step.family
+    (omega (
+      arith,
+      c.requires.step.within,
+      step_lower c.args.tree.now c.args.tables.now.items c.args.at c.args.up
+          c.requires.step,
+    )) c.index-table.ensures in
     record {
-      next = c.first_marked_at-next.ensures.found;
+      next = c.first_marked-next.ensures.found ∙ ap (λ (es : List Entry). head_at es) (marks_read r);
       touched = touched_none c.args.tree.now c.args.tables.now.items
           c.args.up (λ v. reach (node_at c.args.tree.now.nodes c.args.up) c.args.going c.args.at c.args.tables.now.items
           [] v) c.requires.step.family
@@ -42,7 +49,7 @@ loop-done-init g c =
           )));
       counted = omega (
         arith,
-        c.first_marked_at-next.ensures.counted,
+        c.first_marked-next.ensures.counted,
         cost_none (node_at c.args.tree.now.nodes c.args.up) c.args.at
             c.args.tables.now.items,
       );
@@ -84,14 +91,19 @@ pub touch_from-requires-clause-wide : goal.touch_from-requires-clause-wide
 touch_from-requires-clause-wide g c =
     ap (λ (w : List ℕ). length w) c.as_slice.ensures ∙ c.read_at.ensures.wide
 
-pub next_marked_at-next-requires-clause-within : goal.next_marked_at-next-requires-clause-within
-next_marked_at-next-requires-clause-within g c =
+pub index-requires : goal.index-requires
+index-requires g c =
     let low = step_lower c.args.tree.now c.args.tables.now.items c.args.at c.args.up c.requires.step in
     let within = c.requires.step.within in
-    has_table c.args.tree.now c.touch_from.new.tables.items c.args.at c.touch_from.ensures.touched.family (omega arith)
+    omega (
+      arith,
+      has_table c.args.tree.now c.touch_from.new.tables.items c.args.at c.touch_from.ensures.touched.family
+          (omega arith),
+      c.touch_from.new.tables.ok.0,
+    )
 
-pub next_marked_at-next-requires-clause-live : goal.next_marked_at-next-requires-clause-live
-next_marked_at-next-requires-clause-live g c =
+pub next_marked-next-requires : goal.next_marked-next-requires
+next_marked-next-requires g c =
     let k = cut_of (marks (entries_at c.args.tables.now.items c.args.at)) c.loop-done.done c.loop-done.next
     c.in-Some.place c.loop-done.invariant.next c.in-Some.is in
     let low = step_lower c.args.tree.now c.args.tables.now.items c.args.at c.args.up c.requires.step in
@@ -122,7 +134,9 @@ next_marked_at-next-requires-clause-live g c =
     (λ v. reach (node_at c.args.tree.now.nodes c.args.up) c.args.going c.args.at c.args.tables.now.items
     (take c.loop-done.done (marks (entries_at c.args.tables.now.items c.args.at))) v) c.requires.step.family.is_tree
     c.loop-done.invariant.touched)))) in
-    as_live (entries_at c.touch_from.new.tables.items c.args.at) c.in-Some.place k.entry.tuple
+    let r = family_read c.args.tree.now c.touch_from.new.tables.items c.args.at c.index.result.now
+    c.touch_from.ensures.touched.family (omega arith) c.index.ensures in
+    live_read r
     (moved_at (entries_at c.args.tables.now.items c.args.at) (entries_at c.touch_from.new.tables.items c.args.at)
     c.in-Some.place k.entry.tuple (n.others c.args.at (omega arith))
     (cut_mark (entries_at c.args.tables.now.items c.args.at) c.loop-done.done c.in-Some.place k))
@@ -164,17 +178,19 @@ loop-done-preserved g c =
     (λ v. reach (node_at c.args.tree.now.nodes c.args.up) c.args.going c.args.at c.args.tables.now.items
     (take c.loop-done.done (marks (entries_at c.args.tables.now.items c.args.at))) v) c.requires.step.family.is_tree
     c.loop-done.invariant.touched)))) in
+    let r = family_read c.args.tree.now c.touch_from.new.tables.items c.args.at c.index.result.now
+    c.touch_from.ensures.touched.family (omega arith) c.index.ensures in
     record {
-      next = c.next_marked_at-next.ensures.found
+      next = c.next_marked-next.ensures.found
           (take c.loop-done.done (marks (entries_at c.args.tables.now.items c.args.at))) k.entry
           (drop (c.loop-done.done + 1) (marks (entries_at c.args.tables.now.items c.args.at)))
-          (ap (λ (es : List Entry). marks es) (n.others c.args.at (omega arith)) ∙ k.is) k.at;
+          (marks_read r ∙ ap (λ (es : List Entry). marks es) (n.others c.args.at (omega arith)) ∙ k.is) k.at;
       touched = n;
       counted = omega (
         arith,
         c.loop-done.invariant.counted,
         c.touch_from.ensures.counted,
-        c.next_marked_at-next.ensures.counted,
+        c.next_marked-next.ensures.counted,
         cost_more (node_at c.args.tree.now.nodes c.args.up) c.args.at
             c.args.tables.now.items (marks (entries_at c.args.tables.now.items c.args.at))
             c.loop-done.done k.entry k.is,
@@ -223,6 +239,14 @@ pub returns-clause-touched : goal.returns-clause-touched
 returns-clause-touched g c =
     let h = c.loop-done-test.false in
     let x = c.loop-done.auto.done-end in
+    let r = family_read c.args.tree.now c.args.tables.now.items c.args.at c.index-table.result.now
+    c.requires.step.family
+    (omega (
+      arith,
+      c.requires.step.within,
+      step_lower c.args.tree.now c.args.tables.now.items c.args.at c.args.up
+          c.requires.step,
+    )) c.index-table.ensures in
     touched_as c.args.tree.now c.args.tables.now.items c.loop-done.tables.items c.args.up
     (λ v. reach (node_at c.args.tree.now.nodes c.args.up) c.args.going c.args.at c.args.tables.now.items
     (take c.loop-done.done (marks (entries_at c.args.tables.now.items c.args.at))) v)
@@ -232,7 +256,7 @@ returns-clause-touched g c =
     c.args.tables.now.items es v)
     (sym (take_whole (marks (entries_at c.args.tables.now.items c.args.at)) c.loop-done.done
     (drop_marks (entries_at c.args.tables.now.items c.args.at) c.loop-done.done
-    (omega (arith, c.len_at-count.ensures))))))
+    (omega (arith, c.len-count.ensures, length_read r))))))
 
 pub returns-clause-counted : goal.returns-clause-counted
 returns-clause-counted g c =
