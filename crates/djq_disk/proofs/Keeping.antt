@@ -170,7 +170,6 @@ writes_down Done at piece old mid new writes syncs =
     let span : Span = record { at = at; size = length piece } in
     let bytes = put at piece old.file.bytes in
     let keeps = put_keeps at piece old.file.bytes in
-    let file : mid.file.bytes ≡ bytes = ap (λ (h : History). h.file.bytes) writes in
     let is_new : new ≡ moved_to (settled bytes) (moved_to (with_written span bytes old.file) old) = syncs
     ∙ ap (λ (h : History). moved_to (settled h.file.bytes) h) writes in
     record {

@@ -4,12 +4,11 @@ use Rattle.std.specs.Prelude.{slice_get, Some, None, refl}
 use Rattle.std.proofs.Common.{sym, ap, ◌∙◌, arith}
 use Rattle.std.proofs.lemmas.Bool.{eq-eqb, eqb-true}
 use Rattle.djq_hyper.specs.Hypergraph.{member, degree, intersection, edge_at}
-use Rattle.djq_hyper.specs.declared.step.Step.TheVariants.{Vertex, Edge}
-use Rattle.djq_hyper.specs.Gyo.{IsStep, IsIrreducible}
+use Rattle.djq_hyper.specs.declared.step.Step.TheVariants.{Vertex}
+use Rattle.djq_hyper.specs.Gyo.{IsStep}
 use Rattle.djq_hyper.proofs.Members.{has, one_true, from_true, has_intersection, has_here}
 use Rattle.djq_hyper.proofs.Counting.{degree_in}
 use Rattle.djq_hyper.proofs.Owning.{degree_more}
-use Rattle.djq_gyo.specs.Search.{HasNoOwn}
 use Rattle.djq_gyo.proofs.Places.{stands_at}
 
 -- ---- the first variable of a set

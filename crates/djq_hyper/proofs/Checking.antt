@@ -166,7 +166,6 @@ keeps_rest E (k ∷ Q) R h = keeps_rest E Q R h.1
 split_at : (B : List Link) (i : ℕ) (d : Link) → i < length B → (Y : List Link)
     × (reverse B ≡ Y ++ slice_index_or B i d ∷ reverse (take i B))
 split_at B i d within =
-    let next : suc i ≡ i + 1 = omega arith in
     let whole : B ≡ (take i B ++ slice_index_or B i d ∷ []) ++ drop (i + 1) B =
     sym (take-append-drop (i + 1) B) ∙ ap (λ (P : List Link). P ++ drop (i + 1) B) (take_more B i d within) in (
       reverse (drop (i + 1) B),

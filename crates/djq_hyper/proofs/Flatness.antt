@@ -1,14 +1,13 @@
 -- Flat queries, one variable at a time: what one pass over the edges says of it and any other.
 use Rattle.std.specs.Prelude.{◌≡◌, ◌↔◌, ℕ, ◌+◌, ◌<◌, ◌≤◌, min, max, Bool, true, false, IsTrue, not}
 use Rattle.std.specs.Prelude.{◌&&◌, ◌||◌, nat_lt, List, [], ◌∷◌, length, take, refl}
-use Rattle.std.specs.List.{list_all}
-use Rattle.std.proofs.Common.{◌⊎◌, sym, ap, subst, ◌∙◌, arith, inl, inr, lt-ltb, le-ltb}
-use Rattle.std.proofs.lemmas.Bool.{cases_lt, cases_eq, and_parts}
+use Rattle.std.proofs.Common.{sym, ap, subst, ◌∙◌, arith, inl, inr, lt-ltb}
+use Rattle.std.proofs.lemmas.Bool.{cases_lt, and_parts}
 use Rattle.std.proofs.lemmas.List.{take_all}
 use Rattle.std.proofs.lemmas.List.Folds.{list_all_more}
 use Rattle.djq_hyper.specs.Hypergraph.{member, subset, intersection, one, degree, edge_at}
-use Rattle.djq_hyper.specs.Flat.{is_within, is_apart, IsFlatAt, IsFlat}
-use Rattle.djq_hyper.proofs.Members.{has, has_other, one_true, one_false, one_and, one_or, same_one}
+use Rattle.djq_hyper.specs.Flat.{is_within, is_apart, IsFlatAt}
+use Rattle.djq_hyper.proofs.Members.{has, one_true, one_false, one_and, one_or, same_one}
 use Rattle.djq_hyper.proofs.Members.{from_true, has_intersection, subset_from, subset_says}
 
 -- what the edges L say of the variable x and any other: which are in each edge with x, in some edge with x, and in
@@ -268,12 +267,3 @@ flat_outside H F all rest x lies joined out =
       nested = λ y. or_three (is_within H x y) (is_within H y x) (is_apart H x y) (λ f g. within_none H x y none);
       headed = λ y in_head w parted. absurd cc;
     }
-
--- one variable more
-pub flat_more : (H : List (List ℕ)) (F old new : List ℕ) (v : ℕ) → old ≡ v ∷ new → IsFlatAt H F v
-    → ((x : ℕ) → has x old ≡ 0 → IsFlatAt H F x) → (x : ℕ) → has x new ≡ 0 → IsFlatAt H F x
-flat_more H F old new v is here earlier x out =
-    elim (cases_eq x v) [
-      | inl same ↦ subst (IsFlatAt H F) (sym same) here
-      | inr apart ↦ earlier x (ap (has x) is ∙ has_other x v new apart ∙ out)
-    ]

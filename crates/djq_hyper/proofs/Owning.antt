@@ -1,6 +1,6 @@
 -- In how many of the sets seen so far a variable lies: in one at least, and in two.
 use Rattle.std.specs.Prelude.{◌≡◌, ◌≢◌, ℕ, ◌+◌, ◌-◌, ◌<◌, ◌≤◌, min, Bool, true, false, ◌==◌, ◌&&◌}
-use Rattle.std.specs.Prelude.{◌||◌, nat_lt, List, [], ◌∷◌, length, take, All}
+use Rattle.std.specs.Prelude.{◌||◌, nat_lt, List, [], ◌∷◌, length, take}
 use Rattle.std.proofs.Common.{◌⊎◌, ◌↔◌, zero, suc, IsTrue, not, refl, sym, subst, ap, ◌∙◌, arith}
 use Rattle.std.proofs.Common.{inl, inr, lt-ltb, le-ltb, ltb-true, ltb-false}
 use Rattle.std.proofs.lemmas.Bool.{cases_lt, cases_eq, eq-eqb, ne_eqb}
@@ -10,7 +10,7 @@ use Rattle.std.proofs.lemmas.List.Elements.{All-filter}
 use Rattle.djq_hyper.specs.Hypergraph.{member, subset, one, degree, difference, intersection, edge_at}
 use Rattle.djq_hyper.specs.Variables.{AreCovered, AreNamed, IsVariableSet, AreVariableSets}
 use Rattle.djq_hyper.specs.declared.var_set.TheConstants.{VARIABLES}
-use Rattle.djq_hyper.proofs.Members.{has, has_here, has_other, has_tail, one_le, one_true}
+use Rattle.djq_hyper.proofs.Members.{has, has_here, has_tail, one_le, one_true}
 use Rattle.djq_hyper.proofs.Members.{from_true, same_one, one_and, has_difference, has_intersection}
 use Rattle.djq_hyper.proofs.Members.{subset_says, subset_from}
 use Rattle.djq_hyper.proofs.Counting.{degree_append}
@@ -169,16 +169,3 @@ difference_set e f set = record {
   rising = IsStrictlyIncreasing-filter (λ x. not (member x f)) e set.rising;
   below = All-filter (λ x. not (member x f)) (λ x. x < VARIABLES) e set.below;
 }
-
-member_under : (x n : ℕ) (l : List ℕ) → All (λ y. y < n) l → member x l ≡ true → x < n
-member_under x n [] all lies = absurd cc
-member_under x n (y ∷ l) all lies =
-    elim (cases_eq x y) [
-      | inl same ↦ let low : y < n = all 0 0 (omega arith) in omega arith
-      | inr apart ↦ member_under x n l (λ k d within. all (suc k) d (omega arith))
-          (one_true (member x l) (omega (arith, from_true (member x (y ∷ l)) lies, has_other x y l apart)))
-    ]
-
--- a variable of a set is below VARIABLES
-pub set_below : (x : ℕ) (e : List ℕ) → IsVariableSet e → member x e ≡ true → x < VARIABLES
-set_below x e set lies = member_under x VARIABLES e set.below lies

@@ -1,5 +1,5 @@
 -- Sets of variables as rising lists: the members tell the list.
-use Rattle.std.specs.Prelude.{◌≡◌, ◌==◌, ℕ, zero, suc, ◌<◌, true, false, List, [], ◌∷◌, length}
+use Rattle.std.specs.Prelude.{◌≡◌, ◌==◌, ℕ, suc, ◌<◌, true, false, List, [], ◌∷◌, length}
 use Rattle.std.specs.Prelude.{slice_index_or, AllPairs, refl}
 use Rattle.std.proofs.Common.{ap₂, sym, ◌∙◌, inl, inr, arith}
 use Rattle.std.proofs.lemmas.Bool.{cases_Bool, cases_eq, eq-eqb, ne_eqb, eqb-true, false≢true, or_cases}

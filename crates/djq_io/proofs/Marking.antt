@@ -6,6 +6,7 @@ use Rattle.std.specs.Prelude.{Contains}
 use Rattle.std.specs.List.{list_any}
 use Rattle.std.proofs.lemmas.Bool.Decides.{eqb_tells, nat_tests}
 use Rattle.std.proofs.lemmas.List.Filters.{length-filter_both}
+use Rattle.std.proofs.Math.Bool.{or-false, or-true, and_self}
 use Rattle.djq_io.specs.declared.sessions.Session.{Session}
 use Rattle.djq_io.specs.Hub.{Ids, EndsInput, without}
 use Rattle.djq_io.specs.SessionsInside.{open_in, ended_in, after_end}
@@ -37,10 +38,6 @@ ended_or_both other id (x ∷ xs) =
     ∙ regroup (nat_eq x.id other) x.ended (nat_eq x.id id) (list_any (λ y. nat_eq y.id other && y.ended) xs)
     (both other id xs)
 
-and_self : (b : Bool) → (b && b) ≡ b
-and_self true = refl
-and_self false = refl
-
 both_same : (id : ℕ) (sessions : List Session) → both id id sessions ≡ list_any (λ x. nat_eq x.id id) sessions
 both_same id [] = refl
 both_same id (x ∷ xs) = ap (λ b. b || both id id xs) (and_self (nat_eq x.id id))
@@ -53,14 +50,6 @@ both_none : (other id : ℕ) (sessions : List Session) → other ≢ id → both
 both_none other id [] differ = refl
 both_none other id (x ∷ xs) differ = ap (λ b. b || both other id xs) (one_of_two x.id other id differ)
     ∙ both_none other id xs differ
-
-or_false : (a : Bool) → (a || false) ≡ a
-or_false true = refl
-or_false false = refl
-
-or_true : (a : Bool) → (a || true) ≡ true
-or_true true = refl
-or_true false = refl
 
 -- the ids of the sessions whose input has ended
 ended_after_end : (id other : ℕ) (sessions : List Session) → Contains (open_in sessions) id
@@ -76,7 +65,7 @@ ended_after_end id other sessions is_open =
     λ ended. elim (eqb_tells other id) [
       | inl same ↦ inl same.1
       | inr differ ↦ inr (at_old.0
-          (sym (ended_test sessions other) ∙ sym (or_false (test sessions))
+          (sym (ended_test sessions other) ∙ sym (or-false (test sessions))
           ∙ ap (λ b. test sessions || b) (sym (both_none other id sessions differ.1)) ∙ sym all ∙ at_new.1 ended))
     ] in
     let from_id : other ≡ id → Contains (ended_in new) other =
@@ -84,7 +73,7 @@ ended_after_end id other sessions is_open =
     ∙ ap (λ b. test sessions || b)
     (subst (λ i. both other i sessions ≡ true) same
     (both_same other sessions ∙ subst (λ i. list_any (λ x. nat_eq x.id i) sessions ≡ true) (sym same) opens))
-    ∙ or_true (test sessions)) in
+    ∙ or-true (test sessions)) in
     let from_old : Contains (ended_in sessions) other → Contains (ended_in new) other =
     λ ended. at_new.0 (all ∙ ap (λ b. b || both other id sessions) (ended_test sessions other ∙ at_old.1 ended)) in
     (to, λ known. elim known [ inl same ↦ from_id same | inr ended ↦ from_old ended ])

@@ -1,15 +1,13 @@
 -- How the writes of a sink go on.
-use Rattle.std.proofs.Common.{◌≡◌, ◌≢◌, List, [], ◌∷◌, ◌++◌, ℕ, take, refl, sym, ap, ◌∙◌, append-nil}
+use Rattle.std.proofs.Common.{◌≡◌, ◌≢◌, List, [], ◌∷◌, ◌++◌, ℕ, take, sym, ap, ◌∙◌, append-nil}
 use Rattle.std.specs.Prelude.{Option}
-use Rattle.std.specs.List.{flat_map}
 use Rattle.std.proofs.lemmas.Grind.{flat_map-append}
 use Rattle.std.proofs.lemmas.List.Elements.{All-nil, All-cons, All-append}
 use Rattle.djq_io.specs.Sink.{Gains, part_taken, bytes_of}
-use Rattle.djq_io.specs.Written.{GainsBytes, FailsBehind}
-use Rattle.djq_io.specs.declared.sink.Wrote.{Wrote}
+use Rattle.djq_io.specs.Written.{GainsBytes}
 use Rattle.djq_io.specs.declared.sink.Wrote.TheVariants.{Took, Failed}
 use Rattle.djq_io.specs.declared.sink.Write.{Write}
-use Rattle.djq_io.proofs.Gains.{gains_none, gains_more}
+use Rattle.djq_io.proofs.Gains.{gains_more}
 
 -- the bytes of writes and of more behind them
 pub bytes_more : (writes more : List Write) → bytes_of (writes ++ more) ≡ bytes_of writes ++ bytes_of more
@@ -18,15 +16,6 @@ bytes_more writes more = flat_map-append (λ (w : Write). part_taken w.answer w.
 -- a write that took something didn't fail
 pub took_well : (k : ℕ) → Took k ≢ Failed
 took_well k = λ e. cc
-
--- nothing was written
-pub writes_none : (o : Option (List Write)) → GainsBytes o o []
-writes_none o = record {
-  writes = [];
-  told = gains_none o;
-  well = All-nil (λ (w : Write). w.answer ≢ Failed);
-  all = refl;
-}
 
 -- one write more
 pub writes_more : (o m n : Option (List Write)) (bytes rest : List ℕ) (k : ℕ) → GainsBytes o m bytes
@@ -43,14 +32,3 @@ writes_more o m n bytes rest k g gains =
       all = ap (λ bs. bs ++ take k rest) g.all ∙ ap (λ bs. bytes_of g.writes ++ bs) (sym (append-nil (take k rest)))
           ∙ sym (bytes_more g.writes (w ∷ []));
     }
-
--- one write more, which failed
-pub fails_behind : (o m n : Option (List Write)) (bytes rest : List ℕ) → GainsBytes o m bytes
-    → Gains m n (record { piece = rest; answer = Failed } ∷ [])
-    → FailsBehind o n bytes rest
-fails_behind o m n bytes rest g gains = record {
-  writes = g.writes;
-  told = gains_more o m n g.writes (record { piece = rest; answer = Failed } ∷ []) g.told gains;
-  well = g.well;
-  all = g.all;
-}

@@ -5,7 +5,7 @@ use Rattle.std.proofs.Common.{ap, subst, sym, ◌∙◌, eqb, append_assoc, appe
 use Rattle.std.specs.Prelude.{◌==◌, nat_le}
 use Rattle.std.proofs.lemmas.List.{length_push, length-append, get_or_append_left, get_or_push}
 use Rattle.std.proofs.lemmas.List.{get_or_past, nil_from_length}
-use Rattle.std.proofs.lemmas.Bool.{cases_lt, cases_eq, eqb-true, false≢true, le-leb, lt-leb}
+use Rattle.std.proofs.lemmas.Bool.{cases_lt, cases_eq, eqb-true, false≢true, le-leb, lt-leb, and_parts}
 use Rattle.djq_hyper.specs.Hypergraph.{member, edge_at, one}
 use Rattle.djq_hyper.specs.Variables.{IsVariableSet, AreVariableSets}
 use Rattle.djq_hyper.proofs.Members.{has, one_true, one_false}
@@ -18,7 +18,6 @@ use Rattle.djq_tree.specs.Tree.{IsTree, ShowsHead, node_at, is_out, has_child, p
 use Rattle.djq_tree.specs.Choosing.{choose}
 use Rattle.djq_tree.specs.Growing.{Growth, grown, grow, is_root, marks_below, tree_of}
 use Rattle.djq_tree.proofs.Finding.{lowest_none}
-use Rattle.djq_plan.proofs.Says.{and_left, and_right}
 use Rattle.djq_plan.proofs.Sounding.{Parent, weight, rising}
 use Rattle.djq_plan.proofs.Growths.{Grown, same_length}
 use Rattle.djq_tree.proofs.Trimming.{has_times}
@@ -128,12 +127,12 @@ lone (r ∷ q ∷ ns) h = absurd (omega arith)
 alone_at : (m : ℕ) (s : Growth) → Grown m s → is_root s.current ≡ true → Alone s
 alone_at m s g over =
     let one_left : length s.current
-    ≡ 1 = eqb-true (length s.current) 1 (and_left (length s.current == 1) (length (edge_at s.current 0) == 0) over)
+    ≡ 1 = eqb-true (length s.current) 1 (and_parts (length s.current == 1) (length (edge_at s.current 0) == 0) over).0
     in
     let bare : edge_at s.current 0
     ≡ [] = nil_from_length (edge_at s.current 0)
     (eqb-true (length (edge_at s.current 0)) 0
-    (and_right (length s.current == 1) (length (edge_at s.current 0) == 0) over)) in
+    (and_parts (length s.current == 1) (length (edge_at s.current 0) == 0) over).1) in
     let l = lone s.numbers (let e = same_length m s g in omega arith) in
     let c : s.current ≡ edge_at s.labels l.0 ∷ [] = g.paired ∙ ap (map (edge_at s.labels)) l.1 in
     record { r = l.0; only = l.1; empty = sym (ap (λ (k : List (List ℕ)). edge_at k 0) c) ∙ bare }

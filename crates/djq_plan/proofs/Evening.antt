@@ -1,10 +1,10 @@
 -- A step of the planner on the labels of a flat query: they stay so, and no proper subset is ever needed.
-use Rattle.std.proofs.Common.{◌≡◌, ◌⊎◌, ℕ, zero, suc, ◌+◌, ◌*◌, ◌<◌, ◌≤◌, min, Bool, true, false}
+use Rattle.std.proofs.Common.{◌≡◌, ◌⊎◌, ℕ, zero, suc, ◌+◌, ◌<◌, ◌≤◌, min, Bool, false}
 use Rattle.std.proofs.Common.{◌&&◌, List, [], ◌∷◌, length, refl, ap, sym, ◌∙◌, arith, inl, inr}
 use Rattle.std.specs.Prelude.{remove}
-use Rattle.std.proofs.lemmas.Bool.{cases_Bool, cases_lt, cases_eq, false≢true}
+use Rattle.std.proofs.lemmas.Bool.{cases_Bool, cases_lt, false≢true}
 use Rattle.djq_hyper.specs.Hypergraph.{member, subset, difference, degree, edge_at}
-use Rattle.djq_hyper.proofs.Members.{has, Sub, has_difference, one_le, from_true, has_here, subset_from}
+use Rattle.djq_hyper.proofs.Members.{has, has_difference, one_le, from_true, has_here, subset_from}
 use Rattle.djq_hyper.proofs.Owning.{edge_with, edge_in}
 use Rattle.djq_hyper.proofs.Bags.{labels}
 use Rattle.djq_hyper.proofs.Counting.{Same, degree_same, outside}

@@ -1,16 +1,16 @@
 -- A query is flat exactly where all meets of its tree have equal labels.
-use Rattle.std.proofs.Common.{◌≡◌, ◌⊎◌, ◌↔◌, ℕ, zero, suc, ◌+◌, ◌<◌, Bool, true, false, ◌&&◌, List}
+use Rattle.std.proofs.Common.{◌≡◌, ◌⊎◌, ℕ, zero, suc, ◌+◌, ◌<◌, Bool, true, false, ◌&&◌, List}
 use Rattle.std.proofs.Common.{[], ◌∷◌, ◌++◌, length, Option, Some, None, is_some, refl, ap, subst}
 use Rattle.std.proofs.Common.{sym, ◌∙◌, arith, inl, inr}
 use Rattle.std.specs.Prelude.{◌==◌, nat_lt, unwrap_or, slice_index}
-use Rattle.std.proofs.lemmas.Bool.{cases_lt, eqb-true}
+use Rattle.std.proofs.lemmas.Bool.{cases_lt, eqb-true, and_parts}
 use Rattle.std.proofs.lemmas.List.{get_or_past, nil_from_length}
 use Rattle.std.proofs.lemmas.List.Kept.{AllPairs-from_increasing}
 use Rattle.djq_hyper.specs.Flat.{IsFlat}
 use Rattle.djq_hyper.specs.Hypergraph.{member, subset, degree, edge_at}
 use Rattle.djq_hyper.specs.Variables.{AreCovered}
 use Rattle.djq_hyper.proofs.Members.{has, same_one, subset_says}
-use Rattle.djq_hyper.proofs.Bags.{numbers, times}
+use Rattle.djq_hyper.proofs.Bags.{numbers}
 use Rattle.djq_hyper.proofs.Rising.{same_sets}
 use Rattle.djq_tree.specs.declared.choice.Choice.{Choice}
 use Rattle.djq_tree.specs.declared.choice.Choice.TheVariants.{Trim, Meet, Stuck}
@@ -29,10 +29,10 @@ use Rattle.djq_plan.proofs.Evening.{MeetsEqual, even_step, even_back, IsBare, Mo
 use Rattle.djq_plan.proofs.Growths.{Grown, step_grown, grow_grown, start_grown, same_length, current_at, some_leaf}
 use Rattle.djq_plan.proofs.Heading.{within_has}
 use Rattle.djq_plan.proofs.Leading.{grown_current}
-use Rattle.djq_plan.proofs.Pairs.{pairs, pairs_most, pairs_least, IsEven, even_of, flat_of}
+use Rattle.djq_plan.proofs.Pairs.{pairs_most, pairs_least, IsEven, even_of, flat_of}
 use Rattle.djq_plan.proofs.Places.{times_at}
-use Rattle.djq_plan.proofs.Says.{and_left, and_right, no_twins, Says, choose_says}
-use Rattle.djq_plan.proofs.Sounding.{Sound, by_node, node_new, label_old}
+use Rattle.djq_plan.proofs.Says.{no_twins, Says, choose_says}
+use Rattle.djq_plan.proofs.Sounding.{by_node, node_new, label_old}
 
 -- ---- the rule's meets
 
@@ -52,11 +52,11 @@ twins_equal : (L : List (List ℕ)) (a : ℕ) (o : Option ℕ) → o ≡ twin L 
 twins_equal L a None e h x = absurd cc
 twins_equal L a (Some b) e h x =
     let f = lowest_some (λ b. nat_lt a b && are_equal L a b) 0 (length L) b (sym e) in
-    let both = and_right (nat_lt a b) (are_equal L a b) f.passes in
+    let both = (and_parts (nat_lt a b) (are_equal L a b) f.passes).1 in
     let ab = subset_says (edge_at L a) (edge_at L b)
-    (and_left (subset (edge_at L a) (edge_at L b)) (subset (edge_at L b) (edge_at L a)) both) x in
+    (and_parts (subset (edge_at L a) (edge_at L b)) (subset (edge_at L b) (edge_at L a)) both).0 x in
     let ba = subset_says (edge_at L b) (edge_at L a)
-    (and_right (subset (edge_at L a) (edge_at L b)) (subset (edge_at L b) (edge_at L a)) both) x in
+    (and_parts (subset (edge_at L a) (edge_at L b)) (subset (edge_at L b) (edge_at L a)) both).1 x in
     omega arith
 
 turns_equal : (keep : List ℕ) (L : List (List ℕ)) (o : Option ℕ) → o ≡ lowest (λ a. is_some (twin L a)) L
@@ -276,11 +276,12 @@ root_even L over = record {
     none : (L : List (List ℕ)) → is_root L ≡ true → (x : ℕ) → degree x L ≡ 0
     none [] h x = refl
     none (l ∷ []) h x =
-        let e : l ≡ [] = nil_from_length l (eqb-true (length l) 0 (and_right (length (l ∷ []) == 1) (length l == 0) h))
-        in
+        let e : l ≡ [] = nil_from_length l
+        (eqb-true (length l) 0 (and_parts (length (l ∷ []) == 1) (length l == 0) h).1) in
         ap (λ (k : List ℕ). has x k + 0) e
     none (l ∷ m ∷ L) h x = absurd
-        (let e = eqb-true (length (l ∷ m ∷ L)) 1 (and_left (length (l ∷ m ∷ L) == 1) (length l == 0) h) in omega arith)
+        (let e = eqb-true (length (l ∷ m ∷ L)) 1 (and_parts (length (l ∷ m ∷ L) == 1) (length l == 0) h).0 in
+        omega arith)
 
 -- between the stages all labels lie in the head
 head_even : (F : List ℕ) (L : List (List ℕ)) → are_within F L ≡ true → IsEven [] L → IsEven F L

@@ -3,7 +3,7 @@ use Rattle.std.proofs.Common.{◌≡◌, ◌≢◌, ℕ, zero, suc, ◌<◌, ◌
 use Rattle.std.proofs.Common.{length, filter, refl, ap, sym, ◌∙◌, arith, inl, inr}
 use Rattle.std.specs.Prelude.{remove, ◌==◌}
 use Rattle.std.proofs.lemmas.List.{nil_from_length}
-use Rattle.std.proofs.lemmas.Bool.{cases_Bool, cases_lt, eqb-true, eq-eqb, ne_eqb, false≢true}
+use Rattle.std.proofs.lemmas.Bool.{cases_Bool, cases_lt, eqb-true, eq-eqb, ne_eqb, false≢true, and_parts}
 use Rattle.djq_hyper.specs.Hypergraph.{member, subset, difference, degree, edge_at, one}
 use Rattle.djq_hyper.proofs.Members.{has, Sub, one_le, one_true, from_true, has_difference}
 use Rattle.djq_hyper.proofs.Members.{has_filter, has_here, subset_from, subset_says}
@@ -17,7 +17,7 @@ use Rattle.djq_tree.specs.Choosing.{removable, has_removable, choose}
 use Rattle.djq_tree.specs.Growing.{Growth, grown, grow, current_after, without_both, are_within, is_root}
 use Rattle.djq_plan.proofs.Places.{bag_remove, bag_push, bag_both, times_remove, length_remove}
 use Rattle.djq_plan.proofs.Places.{at_remove_below, place_of}
-use Rattle.djq_plan.proofs.Says.{and_left, and_right, Trims, Meets, Sticks, Says, choose_says}
+use Rattle.djq_plan.proofs.Says.{Trims, Meets, Sticks, Says, choose_says}
 
 -- ---- what a trim removes
 
@@ -224,8 +224,9 @@ pub within_all : (keep : List ℕ) (L : List (List ℕ)) → are_within keep L �
 within_all keep [] h a stands = absurd (omega arith)
 within_all keep (l ∷ L) h a stands =
     elim (cases_lt 0 (one (labels.eq a l))) [
-      | inl here ↦ rw (same_item labels a l here) (subset_says l keep (and_left (subset l keep) (are_within keep L) h))
-      | inr other ↦ within_all keep L (and_right (subset l keep) (are_within keep L) h) a (omega arith)
+      | inl here ↦ rw (same_item labels a l here)
+          (subset_says l keep (and_parts (subset l keep) (are_within keep L) h).0)
+      | inr other ↦ within_all keep L (and_parts (subset l keep) (are_within keep L) h).1 a (omega arith)
     ]
 
 pub within_from : (keep : List ℕ) (L : List (List ℕ)) → ((a : List ℕ) → 0 < count a L → Sub a keep) → are_within keep L
@@ -265,9 +266,10 @@ root_rooted L h = all_plugged [] L (λ a stands. root_empty L h a stands)
     root_empty : (L : List (List ℕ)) → is_root L ≡ true → (a : List ℕ) → 0 < count a L → Sub a []
     root_empty [] h a stands = absurd (omega arith)
     root_empty (l ∷ []) h a stands =
-        let e : l ≡ [] = nil_from_length l (eqb-true (length l) 0 (and_right (length (l ∷ []) == 1) (length l == 0) h))
-        in
+        let e : l ≡ [] = nil_from_length l
+        (eqb-true (length l) 0 (and_parts (length (l ∷ []) == 1) (length l == 0) h).1) in
         let f = same_item labels a l (omega arith) in
         rw (f, e) (λ x. omega arith)
     root_empty (l ∷ m ∷ L) h a stands = absurd
-        (let e = eqb-true (length (l ∷ m ∷ L)) 1 (and_left (length (l ∷ m ∷ L) == 1) (length l == 0) h) in omega arith)
+        (let e = eqb-true (length (l ∷ m ∷ L)) 1 (and_parts (length (l ∷ m ∷ L) == 1) (length l == 0) h).0 in
+        omega arith)

@@ -1,15 +1,14 @@
 -- In how many labels two variables lie, each of them and both: flat queries in these numbers, which sums of
 -- labels can be brought to.
-use Rattle.std.proofs.Common.{◌≡◌, ◌⊎◌, ℕ, zero, suc, ◌+◌, ◌<◌, ◌≤◌, min, Bool, true, false, not}
-use Rattle.std.proofs.Common.{◌&&◌, ◌||◌, List, [], ◌∷◌, refl, ap, sym, ◌∙◌, arith, inl, inr}
-use Rattle.std.proofs.lemmas.Bool.{cases_Bool, cases_lt}
+use Rattle.std.proofs.Common.{◌≡◌, ◌⊎◌, ℕ, zero, suc, ◌<◌, ◌≤◌, min, Bool, true, false, not}
+use Rattle.std.proofs.Common.{◌&&◌, ◌||◌, List, [], ◌∷◌, refl, ◌∙◌, arith, inl, inr}
+use Rattle.std.proofs.lemmas.Bool.{cases_Bool, and_parts}
 use Rattle.djq_hyper.specs.Hypergraph.{member, degree, edge_at, one}
 use Rattle.djq_hyper.specs.Variables.{AreCovered}
 use Rattle.djq_hyper.specs.Flat.{is_within, is_apart, IsFlat}
-use Rattle.djq_hyper.proofs.Members.{has, one_le, one_true, from_true}
+use Rattle.djq_hyper.proofs.Members.{has, one_true, from_true}
 use Rattle.djq_hyper.proofs.Bags.{labels, total, total_same}
 use Rattle.djq_hyper.proofs.Counting.{Same}
-use Rattle.djq_plan.proofs.Says.{and_left, and_right}
 
 -- how many labels have both variables
 abbrev pub pairs : ℕ → ℕ → List (List ℕ) → ℕ
@@ -54,8 +53,8 @@ parts false b h = refl
 pub within_pairs : (H : List (List ℕ)) (x y : ℕ) → is_within H x y ≡ true → pairs x y H ≡ degree x H
 within_pairs [] x y h = refl
 within_pairs (e ∷ H) x y h =
-    let here = implied (member x e) (member y e) (and_left (not (member x e) || member y e) (is_within H x y) h) in
-    let r = within_pairs H x y (and_right (not (member x e) || member y e) (is_within H x y) h) in
+    let here = implied (member x e) (member y e) (and_parts (not (member x e) || member y e) (is_within H x y) h).0 in
+    let r = within_pairs H x y (and_parts (not (member x e) || member y e) (is_within H x y) h).1 in
     omega arith
 
 pub pairs_within : (H : List (List ℕ)) (x y : ℕ) → pairs x y H ≡ degree x H → is_within H x y ≡ true
@@ -68,8 +67,8 @@ pairs_within (e ∷ H) x y h =
 apart_pairs : (H : List (List ℕ)) (x y : ℕ) → is_apart H x y ≡ true → pairs x y H ≡ 0
 apart_pairs [] x y h = refl
 apart_pairs (e ∷ H) x y h =
-    let here = parted (member x e) (member y e) (and_left (not (member x e && member y e)) (is_apart H x y) h) in
-    let r = apart_pairs H x y (and_right (not (member x e && member y e)) (is_apart H x y) h) in
+    let here = parted (member x e) (member y e) (and_parts (not (member x e && member y e)) (is_apart H x y) h).0 in
+    let r = apart_pairs H x y (and_parts (not (member x e && member y e)) (is_apart H x y) h).1 in
     omega arith
 
 pairs_apart : (H : List (List ℕ)) (x y : ℕ) → pairs x y H ≡ 0 → is_apart H x y ≡ true

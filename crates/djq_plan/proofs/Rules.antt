@@ -9,7 +9,6 @@ use Rattle.djq_tree.specs.declared.choice.Choice.TheVariants.{Trim, Meet, Stuck}
 use Rattle.djq_tree.specs.Choosing.{lowest, removable, has_removable, are_equal, is_inside, twin}
 use Rattle.djq_tree.specs.Choosing.{cover, choose_inside, choose_equal, choose}
 use Rattle.djq_tree.proofs.Finding.{lowest_is, lowest_none_is}
-use Rattle.djq_hyper.proofs.Checking.{read_at}
 
 pub twin_is : (L : List (List ℕ)) (a b : ℕ) → a < b → b < length L → are_equal L a b ≡ true
     → ((i : ℕ) → i < b → (nat_lt a i && are_equal L a i) ≡ false) → Some b ≡ twin L a

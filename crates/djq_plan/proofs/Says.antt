@@ -2,7 +2,7 @@
 use Rattle.std.proofs.Common.{◌≡◌, ◌≢◌, ℕ, ◌<◌, Bool, true, false, ◌&&◌, List, length, Option, Some}
 use Rattle.std.proofs.Common.{None, is_some, refl, ap, sym, ◌∙◌, ap₂, not, ltb-true, arith}
 use Rattle.std.specs.Prelude.{nat_lt, unwrap_or}
-use Rattle.std.proofs.lemmas.Bool.{false≢true, lt-ltb}
+use Rattle.std.proofs.lemmas.Bool.{false≢true, lt-ltb, and_parts}
 use Rattle.djq_hyper.specs.Hypergraph.{subset, edge_at}
 use Rattle.djq_tree.specs.declared.choice.Choice.{Choice}
 use Rattle.djq_tree.specs.declared.choice.Choice.TheVariants.{Trim, Meet, Stuck}
@@ -36,14 +36,6 @@ Says keep L Stuck = Sticks keep L
 
 -- ---- tests
 
-pub and_left : (a b : Bool) → (a && b) ≡ true → a ≡ true
-and_left true b h = refl
-and_left false b h = absurd cc
-
-pub and_right : (a b : Bool) → (a && b) ≡ true → b ≡ true
-and_right true b h = h
-and_right false b h = absurd cc
-
 pub after_and : (a b : Bool) → a ≡ true → (a && b) ≡ false → b ≡ false
 after_and true b e h = h
 after_and false b e h = absurd cc
@@ -51,9 +43,6 @@ after_and false b e h = absurd cc
 none_some : {A : Type 0} (o : Option A) → is_some o ≡ false → o ≡ None
 none_some None h = refl
 none_some (Some x) h = absurd cc
-
-pub lt_test : (a b : ℕ) → a < b → nat_lt a b ≡ true
-lt_test a b h = lt-ltb a b h
 
 -- ---- the three rules, the last one first
 
@@ -63,8 +52,9 @@ inside_found L s None within e h = absurd cc
 inside_found L s (Some g) within e h =
     let f = lowest_some (λ g. is_inside L s g) 0 (length L) g (sym e) in
     let guard : g < length L = (let b = f.below in omega arith) in
-    let sub = and_left (subset (edge_at L s) (edge_at L g)) (not (subset (edge_at L g) (edge_at L s))) f.passes in
-    let other = and_right (subset (edge_at L s) (edge_at L g)) (not (subset (edge_at L g) (edge_at L s))) f.passes in
+    let both = and_parts (subset (edge_at L s) (edge_at L g)) (not (subset (edge_at L g) (edge_at L s))) f.passes in
+    let sub = both.0 in
+    let other = both.1 in
     record {
       guard = guard;
       side = within;
@@ -95,14 +85,14 @@ equal_found : (L : List (List ℕ)) (a : ℕ) (o : Option ℕ) → a < length L 
 equal_found L a None within e h = absurd cc
 equal_found L a (Some b) within e h =
     let f = lowest_some (λ b. nat_lt a b && are_equal L a b) 0 (length L) b (sym e) in
-    let above : nat_lt a b ≡ true = and_left (nat_lt a b) (are_equal L a b) f.passes in
+    let above : nat_lt a b ≡ true = (and_parts (nat_lt a b) (are_equal L a b) f.passes).0 in
     let low : a < b = ltb-true a b above in
     record {
       guard = within;
       side = (let k = f.below in omega arith);
       apart = λ same. omega arith;
-      inside = and_right (subset (edge_at L a) (edge_at L b)) (subset (edge_at L b) (edge_at L a))
-          (and_right (nat_lt a b) (are_equal L a b) f.passes);
+      inside = (and_parts (subset (edge_at L a) (edge_at L b)) (subset (edge_at L b) (edge_at L a))
+          (and_parts (nat_lt a b) (are_equal L a b) f.passes).1).1;
     }
 
 -- no node has a twin, so no two labels are equal
@@ -112,7 +102,7 @@ no_twins L e a b low within =
     let c = lowest_none (λ a. is_some (twin L a)) 0 (length L) e a (omega arith) (omega arith) in
     let d = lowest_none (λ b. nat_lt a b && are_equal L a b) 0 (length L) (none_some (twin L a) c) b (omega arith)
     (omega arith) in
-    after_and (nat_lt a b) (are_equal L a b) (lt_test a b low) d
+    after_and (nat_lt a b) (are_equal L a b) (lt-ltb a b low) d
 
 says_equal : (keep : List ℕ) (L : List (List ℕ)) (o : Option ℕ) → o ≡ lowest (λ a. is_some (twin L a)) L
     → ((i : ℕ) → i < length L → has_removable keep L i ≡ false) → Says keep L (choose_equal L o)

@@ -1,5 +1,5 @@
 -- A stage, step by step.
-use Rattle.std.proofs.Common.{◌≡◌, ◌≢◌, ℕ, zero, suc, ◌+◌, ◌<◌, ◌≤◌, Bool, true, false, not, cond}
+use Rattle.std.proofs.Common.{◌≡◌, ◌≢◌, ℕ, zero, suc, ◌+◌, ◌<◌, Bool, true, false, not, cond}
 use Rattle.std.proofs.Common.{List, [], ◌∷◌, ◌++◌, length, filter, refl, ap, subst, sym, ◌∙◌, arith, inl, inr}
 use Rattle.std.specs.Prelude.{◌==◌, remove}
 use Rattle.std.specs.List.{list_any}
@@ -13,8 +13,8 @@ use Rattle.djq_tree.specs.declared.choice.Choice.{Choice}
 use Rattle.djq_tree.specs.declared.choice.Choice.TheVariants.{Trim, Meet, Stuck}
 use Rattle.djq_tree.specs.Choosing.{removable, choose}
 use Rattle.djq_tree.specs.Growing.{Growth, grown, grow, current_after, without_both, numbers_below}
-use Rattle.djq_tree.specs.Growing.{marks_below, IsStage}
-use Rattle.djq_plan.specs.Stages.{Steps, IsStuckAt}
+use Rattle.djq_tree.specs.Growing.{marks_below}
+use Rattle.djq_plan.specs.Stages.{Steps}
 use Rattle.djq_plan.proofs.Places.{bag_remove, bag_both}
 use Rattle.djq_plan.proofs.Says.{Trims, Meets, Says, choose_says}
 use Rattle.djq_plan.proofs.Leading.{removed_says, after_trim, after_meet, grown_current}

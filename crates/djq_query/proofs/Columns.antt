@@ -1,5 +1,5 @@
 -- Loops over the places of terms and columns.
-use Rattle.std.proofs.Common.{◌≡◌, ℕ, suc, ◌+◌, ◌<◌, ◌≤◌, List, [], ◌∷◌, Bool, true, false, length}
+use Rattle.std.proofs.Common.{◌≡◌, ℕ, suc, ◌+◌, ◌<◌, ◌≤◌, List, [], ◌∷◌, Bool, false, length}
 use Rattle.std.proofs.Common.{get_or, drop, min, refl, sym, subst, ap, ap₂, ◌∙◌, add-one, arith}
 use Rattle.std.proofs.Common.{drop-cons}
 use Rattle.std.specs.Prelude.{◌||◌}

@@ -8,6 +8,7 @@ use Rattle.std.proofs.lemmas.Bool.{lt-ltb}
 use Rattle.std.proofs.lemmas.List.Folds.{list_any-append}
 use Rattle.std.proofs.lemmas.List.Sums.{fold-append, fold_more}
 use Rattle.std.proofs.lemmas.List.{take-append-drop}
+use Rattle.std.proofs.Math.Bool.{or-false, or_assoc}
 use Rattle.djq_model.specs.declared.query.Atom.{Atom}
 use Rattle.djq_model.specs.declared.query.Term.{Term}
 use Rattle.djq_model.specs.declared.query.Term.TheVariants.{Variable, Hole, Constant}
@@ -17,14 +18,7 @@ use Rattle.djq_lines.specs.declared.limits.TheConstants.{VARIABLES}
 use Rattle.djq_lines.specs.Variables.{Label, is_variable, is_named, is_known, stands_in, with_term}
 use Rattle.djq_lines.specs.Variables.{with_terms, with_atom, variables_of}
 use Rattle.djq_query.specs.Standing.{is_fresh, CountsUpTo}
-
-pub or_false : (b : Bool) → (b || false) ≡ b
-or_false true = refl
-or_false false = refl
-
-or_swap : (a b c : Bool) → ((a || b) || c) ≡ (a || (b || c))
-or_swap true b c = refl
-or_swap false b c = refl
+pub use Rattle.std.proofs.Math.Bool.{or-false as or_false}
 
 or_same : (a b : Bool) → (b ≡ true → a ≡ true) → a ≡ (a || b)
 or_same true b f = refl
@@ -38,29 +32,29 @@ name_known : (known : List Label) (y x : Bytes) (b : Bool) → is_known known y 
 name_known known y x true e = or_same (is_known known x) (bytes_eq y x)
     (λ same. subst (λ z. is_known known z ≡ true) ((bytes_eq-decides y x).0 same) e)
 name_known known y x false e = list_any-append (is_named x) known (Some y ∷ [])
-    ∙ ap (λ b. is_known known x || b) (or_false (bytes_eq y x))
+    ∙ ap (λ b. is_known known x || b) (or-false (bytes_eq y x))
 
 term_known : (known : List Label) (t : Term) (x : Bytes) → is_known (with_term known t) x
     ≡ (is_known known x || is_variable x t)
 term_known known (Variable y) x = name_known known y x (is_known known y) refl
 term_known known Hole x = list_any-append (is_named x) known (None ∷ [])
-term_known known (Constant v) x = sym (or_false (is_known known x))
+term_known known (Constant v) x = sym (or-false (is_known known x))
 
 terms_known : (known : List Label) (ts : List Term) (x : Bytes) → is_known (with_terms known ts) x
     ≡ (is_known known x || list_any (is_variable x) ts)
-terms_known known [] x = sym (or_false (is_known known x))
+terms_known known [] x = sym (or-false (is_known known x))
 terms_known known (t ∷ ts) x =
     terms_known (with_term known t) ts x
     ∙ ap (λ b. b || list_any (is_variable x) ts) (term_known known t x)
-    ∙ or_swap (is_known known x) (is_variable x t) (list_any (is_variable x) ts)
+    ∙ or_assoc (is_known known x) (is_variable x t) (list_any (is_variable x) ts)
 
 atoms_known : (known : List Label) (atoms : List Atom) (x : Bytes) → is_known (fold with_atom known atoms) x
     ≡ (is_known known x || stands_in atoms x)
-atoms_known known [] x = sym (or_false (is_known known x))
+atoms_known known [] x = sym (or-false (is_known known x))
 atoms_known known (a ∷ atoms) x =
     atoms_known (with_atom known a) atoms x
     ∙ ap (λ b. b || stands_in atoms x) (terms_known known a.terms x)
-    ∙ or_swap (is_known known x) (list_any (is_variable x) a.terms) (stands_in atoms x)
+    ∙ or_assoc (is_known known x) (list_any (is_variable x) a.terms) (stands_in atoms x)
 
 -- a name is known behind the atoms in which it stands
 pub known_behind : (before : List Atom) (beside : List Term) (x : Bytes)

@@ -1,7 +1,7 @@
 -- Names that stand once each, from a place on.
-use Rattle.std.proofs.Common.{◌≡◌, ℕ, ◌+◌, ◌<◌, ◌≤◌, List, true, length, get_or, take, drop, arith, ◌-◌, ap, ◌∙◌}
+use Rattle.std.proofs.Common.{◌≡◌, ℕ, ◌+◌, ◌<◌, List, length, get_or, take, drop, arith, ◌-◌, ap}
 use Rattle.std.specs.Prelude.{not, ◌&&◌}
-use Rattle.std.proofs.lemmas.List.{drop_all, length-drop, take_all}
+use Rattle.std.proofs.lemmas.List.{length-drop, take_all}
 use Rattle.djq_model.specs.Data.{Bytes}
 use Rattle.djq_value.specs.Literal.{are_different, has_name}
 use Rattle.djq_query.proofs.Columns.{from_place}

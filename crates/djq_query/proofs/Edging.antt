@@ -1,7 +1,7 @@
 -- The variables of atoms and of a head, as sets.
 use Rattle.std.proofs.Common.{◌≡◌, ℕ, ◌+◌, ◌<◌, ◌≤◌, List, [], ◌∷◌, ◌++◌, Bool, true, false, length}
 use Rattle.std.proofs.Common.{get_or, take, refl, sym, ap, ap₂, ◌∙◌, arith, ⊎_elim}
-use Rattle.std.specs.Prelude.{slice_get, ◌||◌, ◌&&◌, ◌==◌, nat_lt}
+use Rattle.std.specs.Prelude.{slice_get, ◌||◌, ◌==◌}
 use Rattle.std.specs.List.{list_all, list_any}
 use Rattle.std.proofs.lemmas.Bool.{cases_lt, false≢true, lt-ltb, ltb-true, and_parts, and_from}
 use Rattle.std.proofs.lemmas.List.{get_or_append_left, take_more, get_or_past}
@@ -41,15 +41,6 @@ pub atom_within : (n : Numbered) (i : ℕ) (a : NumberedAtom) → IsWithin n →
 atom_within n i a within below is =
     terms_more (length n.variables) VARIABLES a.terms within.few
     (all_true_at (λ (a : NumberedAtom). are_below (length n.variables) a.terms) n.atoms i a within.body below is)
-
-pub head_within : (n : Numbered) (i x : ℕ) → IsWithin n → i < length n.head → x ≡ get_or n.head i x → x < VARIABLES
-head_within n i x within below is =
-    omega (
-      arith,
-      within.few,
-      ltb-true x (length n.variables)
-          (all_true_at (λ x. nat_lt x (length n.variables)) n.head i x within.head below is),
-    )
 
 -- edges, one after another
 pub edge_pushed : (atoms : List NumberedAtom) (es : List (List ℕ)) (i : ℕ) (a : NumberedAtom) (ts : List NumberedTerm)

@@ -1,5 +1,5 @@
 -- Rows that an atom gives, column by column.
-use Rattle.std.proofs.Common.{◌≡◌, ℕ, ◌+◌, ◌<◌, ◌≤◌, eqb, subst, List, [], ◌∷◌, ◌++◌, Bool, true}
+use Rattle.std.proofs.Common.{◌≡◌, ℕ, ◌+◌, ◌<◌, ◌≤◌, eqb, List, [], ◌∷◌, ◌++◌, Bool, true}
 use Rattle.std.proofs.Common.{false, length, get_or, set, take, refl, sym, ap, ap₂, ◌∙◌, arith, inl}
 use Rattle.std.proofs.Common.{inr, length-set}
 use Rattle.std.specs.Prelude.{◌||◌, All, slice_index, map, ◌↔◌}
@@ -14,7 +14,7 @@ use Rattle.djq_model.specs.declared.query.Operator.TheVariants.{Less}
 use Rattle.djq_query.specs.declared.pattern.Test.{Test}
 use Rattle.djq_query.specs.declared.pattern.Slot.{Slot}
 use Rattle.djq_query.specs.declared.pattern.Slot.TheVariants.{Place, Cell}
-use Rattle.djq_query.specs.Pattern.{Shape, IsPattern, IsPlain, Gives, Passes, cell_of, put_cell}
+use Rattle.djq_query.specs.Pattern.{Shape, IsPattern, IsPlain, Passes, cell_of, put_cell}
 use Rattle.djq_query.specs.Pattern.{filled, is_place, is_within}
 use Rattle.djq_query.proofs.Edging.{all_true_at}
 

@@ -2,10 +2,10 @@
 use Rattle.std.proofs.Common.{◌≡◌, ℕ, suc, ◌+◌, ◌<◌, ◌≤◌, List, [], ◌∷◌, ◌++◌, Bool, true, false}
 use Rattle.std.proofs.Common.{length, get_or, take, drop, refl, sym, subst, ap, ap₂, ◌∙◌, arith}
 use Rattle.std.proofs.Common.{ltb, append_assoc, length-append}
-use Rattle.std.specs.Prelude.{unwrap_or, nat_lt, ◌&&◌, ◌==◌, Option, None, Some, cond, not, position, map, ◌||◌}
+use Rattle.std.specs.Prelude.{unwrap_or, nat_lt, ◌==◌, Option, None, Some, cond, not, position, map, ◌||◌}
 use Rattle.std.specs.List.{fold, list_all, list_any, position_or_len, prefix_len}
 use Rattle.std.proofs.lemmas.List.{append-nil, drop_all, take_more, map-append}
-use Rattle.std.proofs.lemmas.Bool.{eqb-true, lt-ltb, ltb-true, ltb-false, false≢true, and_from, or_parts}
+use Rattle.std.proofs.lemmas.Bool.{eqb-true, lt-ltb, ltb-true, ltb-false, false≢true, and_from, or_parts, not-false}
 use Rattle.std.proofs.lemmas.List.Folds.{list_any_at}
 use Rattle.djq_model.specs.declared.relation.ColumnType.{ColumnType}
 use Rattle.djq_model.specs.declared.query.Term.{Term}
@@ -20,7 +20,7 @@ use Rattle.djq_lines.specs.Variables.{Label, is_known, is_named, stands_in, vari
 use Rattle.djq_lines.specs.Variables.{with_terms, with_atom}
 use Rattle.djq_query.specs.declared.numbered.NumberedAtom.{NumberedAtom}
 use Rattle.djq_query.specs.declared.numbered.NumberedComparison.{NumberedComparison}
-use Rattle.djq_query.proofs.Counting.{terms_more, atoms_more, known_behind, or_false}
+use Rattle.djq_query.proofs.Counting.{terms_more, atoms_more, known_behind}
 use Rattle.djq_query.specs.declared.numbered.Variable.{Variable}
 use Rattle.djq_query.specs.declared.numbered.NumberedTerm.{NumberedTerm}
 use Rattle.djq_query.specs.Numbered.{labels, number_of, numbered, numbered_terms}
@@ -28,6 +28,8 @@ use Rattle.djq_query.specs.Numbered.{numbered_comparison, with_place, with_place
 use Rattle.djq_query.specs.Numbered.{is_below, are_below, IsNumberedAtom, AreNumbered}
 use Rattle.djq_query.proofs.Columns.{from_place}
 use Rattle.djq_query.proofs.Binding.{from_read, place_up, found_by}
+pub use Rattle.std.proofs.lemmas.Bool.{not-false as not_false}
+use Rattle.std.proofs.Math.Bool.{or-false}
 
 at_most : (p : Label → Bool) (xs : List Label) → prefix_len p xs ≤ length xs
 at_most p [] = omega arith
@@ -152,10 +154,6 @@ unfolding with_places
 places_end known ts cs i past = ap (λ us. with_places known us (drop i cs)) (drop_all i ts past)
 
 -- atoms, one after another
-
-pub not_false : (b : Bool) → not b ≡ false → b ≡ true
-not_false true e = refl
-not_false false e = absurd (false≢true (sym e))
 
 pub any_false_at : {A : Type 0} (p : A → Bool) (xs : List A) (i : ℕ) (x : A) → list_any p xs ≡ false → i < length xs → x
     ≡ get_or xs i x → p x ≡ false
@@ -296,8 +294,8 @@ pub head_below : (atoms : List Atom) (head : List Bytes) → list_any (λ x. not
 head_below atoms [] none = refl
 head_below atoms (x ∷ head) none =
     let parts = or_parts (not (stands_in atoms x)) (list_any (λ x. not (stands_in atoms x)) head) none in
-    let known : is_known (variables_of atoms) x ≡ true = known_behind atoms [] x ∙ or_false (stands_in atoms x)
-    ∙ not_false (stands_in atoms x) parts.0 in
+    let known : is_known (variables_of atoms) x ≡ true = known_behind atoms [] x ∙ or-false (stands_in atoms x)
+    ∙ not-false (stands_in atoms x) parts.0 in
     and_from (nat_lt (number_of (variables_of atoms) x) (length (variables_of atoms)))
     (list_all (λ x. nat_lt x (length (variables_of atoms))) (map (number_of (variables_of atoms)) head))
     (lt-ltb (number_of (variables_of atoms) x) (length (variables_of atoms))
@@ -313,7 +311,7 @@ compared_below atoms (c ∷ cs) none =
     let parts = or_parts (not (stands_in atoms c.variable))
     (list_any (λ (c : Comparison). not (stands_in atoms c.variable)) cs) none in
     let known : is_known (variables_of atoms) c.variable ≡ true = known_behind atoms [] c.variable
-    ∙ or_false (stands_in atoms c.variable) ∙ not_false (stands_in atoms c.variable) parts.0 in
+    ∙ or-false (stands_in atoms c.variable) ∙ not-false (stands_in atoms c.variable) parts.0 in
     and_from (nat_lt (number_of (variables_of atoms) c.variable) (length (variables_of atoms)))
     (list_all (λ (n : NumberedComparison). nat_lt n.variable (length (variables_of atoms)))
     (map (numbered_comparison (variables_of atoms)) cs))

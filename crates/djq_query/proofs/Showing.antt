@@ -3,9 +3,10 @@ use Rattle.std.proofs.Common.{◌≡◌, ℕ, zero, suc, ◌+◌, ◌<◌, ◌�
 use Rattle.std.proofs.Common.{false, length, refl, sym, subst, ap, ap₂, ◌∙◌, arith, inl, inr, length-append}
 use Rattle.std.specs.Prelude.{Option, None, Some, cond, not, map, slice_get, ◌||◌}
 use Rattle.std.specs.List.{fold, list_any, find}
-use Rattle.std.proofs.lemmas.Bool.{false≢true, ne_eqb, eq-eqb, cases_lt, or_parts}
+use Rattle.std.proofs.lemmas.Bool.{false≢true, ne_eqb, eq-eqb, cases_lt, or_parts, not-false}
 use Rattle.std.proofs.lemmas.List.Folds.{find_at, position_or_len_push}
 use Rattle.std.proofs.lemmas.Option.{slice_get_within}
+use Rattle.std.proofs.Math.Bool.{or-false}
 use Rattle.djq_model.specs.declared.relation.Relation.{Relation}
 use Rattle.djq_model.specs.declared.query.Query.{Query}
 use Rattle.djq_model.specs.declared.query.Atom.{Atom}
@@ -25,9 +26,9 @@ use Rattle.djq_query.specs.Numbered.{Numbered, IsNumbered, labels, number_of, nu
 use Rattle.djq_query.specs.Numbered.{numbered_terms, numbered_comparison, AreNumbered}
 use Rattle.djq_query.specs.Meaning.{Rise, holes_among, holes_in, IsShown, AreShown, AreAtomsShown}
 use Rattle.djq_query.specs.Meaning.{AreComparisonsShown, IsShownBy}
-use Rattle.djq_query.proofs.Counting.{term_more, known_behind, or_false}
+use Rattle.djq_query.proofs.Counting.{term_more, known_behind}
 use Rattle.djq_query.proofs.Faults.{sound_of}
-use Rattle.djq_query.proofs.Numbers.{not_false, labels_columns, number_unknown}
+use Rattle.djq_query.proofs.Numbers.{labels_columns, number_unknown}
 
 -- what is known stays so
 kept : (ls ms : List Label) (k : ℕ) (l : Label) → slice_get ls k ≡ Some l → slice_get (ls ++ ms) k ≡ Some l
@@ -231,8 +232,8 @@ head_shown : (atoms : List Atom) (head : List Bytes) → list_any (λ x. not (st
 head_shown atoms [] none = refl
 head_shown atoms (x ∷ head) none =
     let parts = or_parts (not (stands_in atoms x)) (list_any (λ x. not (stands_in atoms x)) head) none in
-    let known : is_known (variables_of atoms) x ≡ true = known_behind atoms [] x ∙ or_false (stands_in atoms x)
-    ∙ not_false (stands_in atoms x) parts.0 in
+    let known : is_known (variables_of atoms) x ≡ true = known_behind atoms [] x ∙ or-false (stands_in atoms x)
+    ∙ not-false (stands_in atoms x) parts.0 in
     ap₂ (λ o os. o ∷ os) (named_at (variables_of atoms) x known) (head_shown atoms head parts.1)
 
 compared_shown : (atoms : List Atom) (comparisons : List Comparison)
@@ -243,7 +244,7 @@ compared_shown atoms (c ∷ cs) none =
     let parts = or_parts (not (stands_in atoms c.variable))
     (list_any (λ (c : Comparison). not (stands_in atoms c.variable)) cs) none in
     let known : is_known (variables_of atoms) c.variable ≡ true = known_behind atoms [] c.variable
-    ∙ or_false (stands_in atoms c.variable) ∙ not_false (stands_in atoms c.variable) parts.0 in (
+    ∙ or-false (stands_in atoms c.variable) ∙ not-false (stands_in atoms c.variable) parts.0 in (
       record { variable = named_at (variables_of atoms) c.variable known; operator = refl; constant = refl },
       compared_shown atoms cs parts.1,
     )

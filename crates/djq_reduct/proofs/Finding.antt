@@ -1,14 +1,13 @@
 -- The levels of a listing are found going down the nodes.
-use Rattle.std.proofs.Common.{◌≡◌, ℕ, zero, suc, ◌-◌, ◌<◌, ◌≤◌, true, false, List, [], ◌∷◌, ◌++◌}
+use Rattle.std.proofs.Common.{◌≡◌, ℕ, zero, suc, ◌-◌, ◌<◌, ◌≤◌, true, List, [], ◌∷◌, ◌++◌}
 use Rattle.std.proofs.Common.{refl, ap, sym, subst, ◌∙◌, arith}
 use Rattle.std.proofs.lemmas.Bool.{false≢true, le-leb}
-use Rattle.std.proofs.lemmas.List.{append_assoc, append-nil}
+use Rattle.std.proofs.lemmas.List.{append_assoc}
 use Rattle.djq_tree.specs.declared.node.Node.{Node}
 use Rattle.djq_tree.specs.declared.node.Node.TheVariants.{Leaf, Trim, Meet}
 use Rattle.djq_tree.specs.Tree.{Tree, node_at}
 use Rattle.djq_tree.specs.Levels.{levels_below, level_on}
 use Rattle.djq_tree.specs.Counts.{is_trim}
-use Rattle.djq_tree.proofs.Trimming.{no_levels}
 
 pub level_at : (t : Tree) (k : ℕ) (n : Node) → t.second_stage ≤ k → node_at t.nodes k ≡ n
     → levels_below t (suc k) ≡ level_on k n (levels_below t k)
@@ -36,9 +35,3 @@ level_found t xs all n k m had low e is yes_trim =
     append_assoc xs (k ∷ []) (levels_below t k)
     ∙ ap (λ (ks : List ℕ). xs ++ ks)
     (sym (just_below t n k m low e is ∙ on_trim k m (levels_below t k) yes_trim)) ∙ had
-
--- below the second stage there is none
-pub all_found : (t : Tree) (xs all : List ℕ) (n : ℕ) → xs ++ levels_below t n ≡ all
-    → n ≤ t.second_stage → xs ≡ all
-all_found t xs all n had low = sym (append-nil xs)
-    ∙ ap (λ (ks : List ℕ). xs ++ ks) (sym (no_levels t n low)) ∙ had

@@ -26,11 +26,9 @@ use Rattle.std.specs.List.Sorted.{IsStrictlyIncreasing}
 use Rattle.std.proofs.lemmas.Bool.{
   cases_Bool,
   cases_eq,
-  eq-eqb,
   eqb-true,
   false≢true,
   or_cases,
-  or_left,
   or_right,
 }
 use Rattle.std.proofs.lemmas.List.Kept.{AllPairs-from_increasing}

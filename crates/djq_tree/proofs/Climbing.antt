@@ -1,8 +1,8 @@
 -- The path from a node to the root.
-use Rattle.std.proofs.Common.{◌≡◌, ℕ, zero, suc, ◌+◌, ◌-◌, ◌<◌, ◌≤◌, true, false, List, []}
-use Rattle.std.proofs.Common.{◌∷◌, length, Option, Some, None, is_some, find, refl, ap, subst, sym}
-use Rattle.std.proofs.Common.{◌∙◌, ◌||◌, ◌⊎◌, eqb, arith, inl, inr}
-use Rattle.std.proofs.lemmas.Bool.{cases_Bool, cases_eq, eqb-true, false≢true, or_cases}
+use Rattle.std.proofs.Common.{◌≡◌, ℕ, zero, suc, ◌+◌, ◌<◌, ◌≤◌, true, false, List, []}
+use Rattle.std.proofs.Common.{◌∷◌, length, Option, Some, None, find, refl, ap, subst, sym}
+use Rattle.std.proofs.Common.{◌∙◌, eqb, arith, inl, inr}
+use Rattle.std.proofs.lemmas.Bool.{cases_Bool, eqb-true, or_cases}
 use Rattle.djq_tree.specs.declared.node.Node.{Node}
 use Rattle.djq_tree.specs.declared.node.Node.TheVariants.{Leaf, Trim, Meet}
 use Rattle.djq_tree.specs.Tree.{Tree, IsTree, node_at, has_child, IsRising, parent, climb, climb_on}
@@ -83,15 +83,6 @@ rising_node t k j (Meet g d) s e h =
 pub rising_of : (t : Tree) → IsTree t → IsRising t.nodes
 rising_of t s k j h = rising_node t k j (node_at t.nodes k) s refl h
 
--- a node of a tree that isn't in `out` isn't the root, and the path to the frontier goes on at its parent
-pub goes_on : (t : Tree) (j : ℕ) → IsTree t → j < length t.nodes → is_out t.out j ≡ false → j + 1 < length t.nodes
-goes_on t j s within off =
-    elim (cases_eq (j + 1) (length t.nodes)) [
-      | inl e ↦ absurd (let i : length t.nodes - 1
-          ≡ j = omega arith in false≢true (sym off ∙ ap (λ (k : ℕ). is_out t.out k) (sym i) ∙ s.root_out))
-      | inr apart ↦ omega arith
-    ]
-
 pub frontier_here : (t : Tree) (j : ℕ) → IsTree t → is_out t.out j ≡ true → IsFrontier t j j
 frontier_here t j s yes_out = rw (path_step t.nodes j (rising_of t s), yes_out) refl
 
@@ -101,10 +92,6 @@ frontier_up t j p s off e = rw (path_step t.nodes j (rising_of t s), off, e) ref
 
 pub up_within : (t : Tree) (j p : ℕ) → IsTree t → parent t.nodes j ≡ Some p → (j < p) × (p < length t.nodes)
 up_within t j p s e = let u = parent_above t.nodes j p (rising_of t s) e in (u.0, u.1)
-
-pub some_parent : (t : Tree) (j : ℕ) → IsTree t → j < length t.nodes → is_out t.out j ≡ false
-    → is_some (parent t.nodes j) ≡ true
-some_parent t j s within off = s.below j (goes_on t j s within off)
 
 -- a step of the walk to the frontier
 pub frontier_step : (u t : Tree) (nodes : List Node) (o : Option ℕ) (j p : ℕ) → u ≡ t → IsTree u → nodes ≡ u.nodes

@@ -1,5 +1,5 @@
 -- Group keys by the node's role.
-use Rattle.std.proofs.Common.{◌≡◌, ℕ, ◌-◌, ◌<◌, Bool, true, List, length, get_or, subst, Option}
+use Rattle.std.proofs.Common.{◌≡◌, ℕ, ◌<◌, Bool, true, List, length, get_or, subst, Option}
 use Rattle.std.proofs.Common.{Some, None, IfSome, refl, ap, sym, ◌∙◌, arith, inl, inr}
 use Rattle.std.specs.Prelude.{◌==◌}
 use Rattle.std.proofs.Math.Bool.{or-true}
@@ -13,7 +13,7 @@ use Rattle.djq_tree.specs.Labels.{label_at}
 use Rattle.djq_tree.specs.Tree.{Tree, IsTree, node_at, has_child, parent}
 use Rattle.djq_tree.specs.Keys.{key_under, key_by, key_of}
 use Rattle.djq_tree.proofs.Finding.{lowest_is}
-use Rattle.djq_tree.proofs.Climbing.{parent_above, rising_of, no_parent, up_within}
+use Rattle.djq_tree.proofs.Climbing.{parent_above, rising_of, up_within}
 
 -- a node with this child is its parent
 pub parent_of_child : (t : Tree) (k j : ℕ) → IsTree t → has_child (node_at t.nodes k) j ≡ true → k < length t.nodes

@@ -1,10 +1,10 @@
 -- A label's text.
 use Rattle.std.proofs.Common.{◌≡◌, ℕ, zero, suc, ◌<◌, Bool, true, List, [], ◌∷◌, ◌++◌, length, eqb}
 use Rattle.std.proofs.Common.{Some, refl, ap, sym, ◌∙◌, append_assoc, append-nil, inl, inr, arith}
-use Rattle.std.specs.Prelude.{◌≤◌, slice_get, codes, decimal, slice_index_or}
+use Rattle.std.specs.Prelude.{◌≤◌, slice_get, codes, decimal}
 use Rattle.std.proofs.lemmas.List.{get_or-take, get_or_past}
-use Rattle.std.proofs.lemmas.Bool.{cases_lt, eq-eqb}
-use Rattle.std.proofs.Math.Bool.{or-true}
+use Rattle.std.proofs.lemmas.Bool.{cases_lt, eq-eqb, or_right}
+use Rattle.std.proofs.lemmas.Option.{get_or_from_slice_get}
 use Rattle.djq_hyper.specs.Hypergraph.{member, degree}
 use Rattle.djq_hyper.specs.Variables.{AreNamed}
 use Rattle.djq_hyper.proofs.Members.{has, from_true, subset_says}
@@ -15,24 +15,15 @@ use Rattle.djq_tree.specs.Labels.{label_at}
 use Rattle.djq_tree.specs.Tree.{Tree, IsTree, node_at, is_out, leaf_labels}
 use Rattle.djq_tree.specs.Explaining.{IsNamed, name_at, listed, label_text, node_text, end_text, line_text}
 
--- what a position has
-pub found : {A : Type 0} (xs : List A) (i : ℕ) (x d : A) → slice_get xs i ≡ Some x → x ≡ slice_index_or xs i d
-found [] i x d h = absurd cc
-found (y ∷ xs) zero x d h = let same : y ≡ x = cc in sym same
-found (y ∷ xs) (suc i) x d h = found xs i x d h
-
 pub name_of : (names : List (List ℕ)) (i : ℕ) (t : List ℕ) → slice_get names i ≡ Some t → t ≡ name_at names i
-name_of names i t h = found names i t [] h
-
-member_behind : (x y : ℕ) (m : List ℕ) → member y m ≡ true → member y (x ∷ m) ≡ true
-member_behind x y m h = rw h (or-true (eqb y x))
+name_of names i t h = sym (get_or_from_slice_get names i t [] h)
 
 -- what the first variable and the others are below
 pub popped : (l m : List ℕ) (x n : ℕ) → l ≡ x ∷ m → ((y : ℕ) → member y l ≡ true → y < n) → (x < n)
     × ((y : ℕ) → member y m ≡ true → y < n)
 popped l m x n e h =
     let first : member x l ≡ true = rw (e, eq-eqb x x refl) refl in
-    (h x first, λ y k. h y (rw e (member_behind x y m k)))
+    (h x first, λ y k. h y (rw e (or_right (eqb y x) (member y m) k)))
 
 -- one more variable is written
 pub listed_more : (names : List (List ℕ)) (s s1 s2 t all l m : List ℕ) (x : ℕ) → s1 ≡ s ++ codes "," → s2 ≡ s1 ++ t

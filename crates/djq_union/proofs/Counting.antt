@@ -30,11 +30,6 @@ module _ {M : Type 0} (most asks : M → ℕ) where
   sum_here ms i m e =
       ap (λ (l : List M). sum_by asks l) (at_place ms i m e) ∙ sum_by-cons asks m (drop (i + 1) ms)
 
-  pub steps_here : (ms : List M) (i : ℕ) (m : M) → slice_get ms i ≡ Some m
-      → union_steps most asks (drop i ms)
-      ≡ most m + sum_by asks (drop (i + 1) ms) + union_steps most asks (drop (i + 1) ms)
-  steps_here ms i m e = ap (λ (l : List M). union_steps most asks l) (at_place ms i m e)
-
   grown : (j c first asked rest steps : ℕ) → first ≤ c → steps ≤ (j + 1) * c + j * rest
       → first + rest + steps ≤ (j + 1 + 1) * c + (j + 1) * (asked + rest)
   grown j c first asked rest steps one more = omega (arith, one, more)

@@ -23,14 +23,14 @@ use Rattle.std.proofs.Common.{
 }
 use Rattle.std.specs.Prelude.{⊤, ◌↔◌, ◌||◌, Contains, filter, Option, None, Some}
 use Rattle.std.specs.Bool.{OnTrue, OnFalse}
-use Rattle.std.proofs.lemmas.Bool.{false≢true, OnTrue_at, OnFalse_at, cases_Bool, or_left, or_right}
+use Rattle.std.proofs.lemmas.Bool.{false≢true, OnTrue_at, OnFalse_at, cases_Bool, or_left, or_right, both_ways}
 use Rattle.std.proofs.lemmas.List.{length_push}
 use Rattle.std.proofs.lemmas.List.Elements.{All-nil, All-contains, Contains-push}
 use Rattle.djq_union.specs.Answers.{AreSomeCells, AreAllCells, IsListingOfCells}
 use Rattle.djq_union.specs.Order.{merged}
 use Rattle.djq_union.specs.Union.{some_has, given_at, union_given, FitsFirst, UnionFits}
 use Rattle.djq_union.specs.Going.{GoesOn, MemberGoesOn, UnionGoesOn}
-use Rattle.djq_union.proofs.Lists.{both, all_of, AreOnce, once_of, different_of, once_left, counted_last}
+use Rattle.djq_union.proofs.Lists.{all_of, AreOnce, once_of, different_of, once_left, counted_last}
 use Rattle.djq_union.proofs.Lists.{uncounted_last, pigeons, reached}
 use Rattle.djq_union.proofs.Merging.{
   own_last,
@@ -44,7 +44,7 @@ use Rattle.djq_union.proofs.Merging.{
 
 or_own : (a b : Bool) → (a || b) ≡ true → b ≡ false → a ≡ true
 or_own true b e f = refl
-or_own false b e f = absurd (both b e f)
+or_own false b e f = absurd (both_ways b f e)
 
 module _ {A : Type 0} where
   -- ---- different answers
@@ -181,19 +181,6 @@ module _ {M S A : Type 0} (has : M → A → Bool) (given : M → S → List A) 
   union_some (m ∷ ms) [] h = absurd h
   union_some (m ∷ ms) (s ∷ ss) h = merged_some m ms (given_at given m s)
       (union_given has given ms ss) h.0.some (union_some ms ss h.1)
-
-  -- ---- going on: no member
-
-  pub goes_none : (ss : List (Option S)) (out : A) → UnionGoesOn has given fits [] ss ss false out
-  goes_none ss out = record {
-    fit = tt;
-    goes = record {
-      one = tt;
-      same = refl;
-      some = none_given (some_has has []);
-      all = λ t is. absurd (false≢true is);
-    };
-  }
 
   -- ---- going on: an answer that no later member has
 
@@ -371,7 +358,7 @@ module _ {M S A : Type 0} (has : M → A → Bool) (given : M → S → List A) 
   all_apart m ms s ss h all t is =
       elim (own_or_later (some_has has ms) (given_at given m s) (union_given has given ms ss) t
       (all t (or_right (has m t) (some_has has ms t) is))) [
-        | inl own ↦ absurd (both (some_has has ms t) is own.1)
+        | inl own ↦ absurd (both_ways (some_has has ms t) own.1 is)
         | inr told ↦ told
       ]
 
@@ -396,7 +383,7 @@ module _ {M S A : Type 0} (has : M → A → Bool) (given : M → S → List A) 
             elim (own_or_later later old rest t (all t (or_left (has m t) (later t) is))) [
               | inl here ↦ here.0
               | inr told ↦ absurd
-                  (both (later t) (only_has later rest (union_some ms ss h.1) t told) own)
+                  (both_ways (later t) own (only_has later rest (union_some ms ss h.1) t told))
             ]
       ]
 
@@ -405,7 +392,7 @@ module _ {M S A : Type 0} (has : M → A → Bool) (given : M → S → List A) 
       → (b ≡ false) ↔ AreAllCells (has m) (given_at given m s)
       → (true ≡ false) ↔ AreAllCells (some_has has (m ∷ ms)) (union_given has given (m ∷ ms) (s ∷ ss))
   left_here m ms s ss b h is one =
-      let left : AreAllCells (has m) (given_at given m s) → ⊥ = λ all. both b is (one.1 all) in (
+      let left : AreAllCells (has m) (given_at given m s) → ⊥ = λ all. both_ways b (one.1 all) is in (
         λ e. absurd (false≢true (sym e)),
         λ all. absurd (left (left_first m ms s ss h left all)),
       )
@@ -419,10 +406,6 @@ module _ {M S A : Type 0} (has : M → A → Bool) (given : M → S → List A) 
     λ e. merged_all m ms (given_at given m s) (union_given has given ms ss) (one.0 isnt) (rest.0 e),
     λ all. rest.1 (all_apart m ms s ss h all),
   )
-
-  pub left_none : (ss : List (Option S))
-      → (false ≡ false) ↔ AreAllCells (some_has has []) (union_given has given [] ss)
-  left_none ss = (λ e t is. absurd (false≢true is), λ all. refl)
 
   -- ---- what it contains
 

@@ -25,7 +25,7 @@ use Rattle.std.proofs.Common.{
   arith,
 }
 use Rattle.std.specs.Prelude.{⊤, All, Contains, filter}
-use Rattle.std.proofs.lemmas.Bool.{false≢true, cases_Bool}
+use Rattle.std.proofs.lemmas.Bool.{cases_Bool}
 use Rattle.std.proofs.lemmas.List.Kept.{AllPairs-cons}
 use Rattle.std.proofs.lemmas.List.Elements.{
   All-weaker,
@@ -36,9 +36,6 @@ use Rattle.std.proofs.lemmas.List.Elements.{
   Contains-push_cases,
 }
 use Rattle.djq_union.specs.Answers.{AreDifferent}
-
-pub both : (b : Bool) → b ≡ true → b ≡ false → ⊥
-both b t f = false≢true (sym f ∙ t)
 
 module _ {A : Type 0} where
   -- ---- what a list contains

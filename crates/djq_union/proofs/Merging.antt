@@ -23,8 +23,8 @@ use Rattle.std.proofs.Common.{
 }
 use Rattle.std.specs.Prelude.{Contains, filter}
 use Rattle.djq_union.specs.Order.{merged}
-use Rattle.djq_union.proofs.Lists.{both, none_contained, at_head, in_tail, head_or_tail, AreOnce, counted, uncounted}
-use Rattle.std.proofs.lemmas.Bool.{cases_Bool}
+use Rattle.djq_union.proofs.Lists.{none_contained, at_head, in_tail, head_or_tail, AreOnce, counted, uncounted}
+use Rattle.std.proofs.lemmas.Bool.{cases_Bool, both_ways}
 
 module _ {A : Type 0} (later : A → Bool) where
   -- ---- its cases
@@ -228,7 +228,7 @@ module _ {A : Type 0} (later : A → Bool) where
   merged_once (x ∷ xs) (d ∷ ds) first rest only = elim (cases_Bool (later x)) [
     | inl is ↦ once_along _ _ (shared x d xs ds is) (
       λ there. elim (own_or_later xs ds d there) [
-        | inl again ↦ both (later d) (only d (at_head d ds)) again.1
+        | inl again ↦ both_ways (later d) again.1 (only d (at_head d ds))
         | inr told ↦ rest.0 told
       ],
       merged_once xs ds first.1 rest.1 (λ t c. only t (in_tail d ds t c)),
@@ -236,7 +236,7 @@ module _ {A : Type 0} (later : A → Bool) where
     | inr isnt ↦ once_along _ _ (own x xs (d ∷ ds) isnt) (
       λ there. elim (own_or_later xs (d ∷ ds) x there) [
         | inl again ↦ first.0 again.0
-        | inr told ↦ both (later x) (only x told) isnt
+        | inr told ↦ both_ways (later x) isnt (only x told)
       ],
       merged_once xs (d ∷ ds) first.1 rest only,
     )

@@ -6,7 +6,6 @@ use Rattle.std.proofs.Common.{
   suc,
   ◌+◌,
   ◌<◌,
-  ◌≤◌,
   Bool,
   true,
   false,
@@ -25,22 +24,20 @@ use Rattle.std.proofs.Common.{
   ◌∙◌,
   arith,
 }
-use Rattle.std.specs.Prelude.{◌↔◌, ◌||◌, All, Option, None, Some, IfSome}
+use Rattle.std.specs.Prelude.{◌↔◌, ◌||◌, Option, None, Some, IfSome}
 use Rattle.std.specs.List.{slice_get}
 use Rattle.std.proofs.Math.Seq.{drop-cons}
 use Rattle.std.proofs.lemmas.Option.{slice_get_within, get_or_from_slice_get}
-use Rattle.std.proofs.lemmas.List.{drop-set, drop_all}
+use Rattle.std.proofs.lemmas.List.{drop-set, drop_more}
 use Rattle.djq_union.specs.Answers.{AreAllCells}
 use Rattle.djq_union.specs.Union.{some_has, given_at, union_given, UnionFits}
 use Rattle.djq_union.specs.Going.{MovesAt, UnionGoesOn}
 use Rattle.djq_union.proofs.Fitting.{
-  goes_none,
   goes_own,
   goes_shared,
   goes_rest,
   left_here,
   left_later,
-  left_none,
 }
 
 module _ {X : Type 0} where
@@ -51,12 +48,6 @@ module _ {X : Type 0} where
       drop-cons xs i x (slice_get_within xs i x e)
       ∙ ap₂ (λ (y : X) (l : List X). y ∷ l) (get_or_from_slice_get xs i x x e)
       (ap (λ (n : ℕ). drop n xs) next)
-
-  from_place : (xs : List X) (i : ℕ) (d : X) → i < length xs
-      → drop i xs ≡ get_or xs i d ∷ drop (i + 1) xs
-  from_place xs i d low =
-      let next : suc i ≡ i + 1 = omega arith in
-      drop-cons xs i d low ∙ ap (λ (n : ℕ). get_or xs i d ∷ drop n xs) next
 
   get_set : (xs : List X) (i : ℕ) (y : X) → i < length xs → slice_get (set xs i y) i ≡ Some y
   get_set [] i y low = absurd (omega (arith, low))
@@ -69,11 +60,6 @@ module _ {X : Type 0} where
   get_set_other (x ∷ xs) zero k y less = absurd (omega (arith, less))
   get_set_other (x ∷ xs) (suc i) zero y less = refl
   get_set_other (x ∷ xs) (suc i) (suc k) y less = get_set_other xs i k y (omega (arith, less))
-
-  pub all_at : (P : X → Type 0) (xs : List X) (i : ℕ) (x : X) → slice_get xs i ≡ Some x
-      → All P xs → P x
-  all_at P xs i x e h =
-      subst P (get_or_from_slice_get xs i x x e) (h i x (slice_get_within xs i x e))
 
 module _ {M S A : Type 0} (has : M → A → Bool) (given : M → S → List A) (fits : M → S → Type 0) where
   low_by : (m : M) (ms : List M) (os : List (Option S)) (i : ℕ)
@@ -96,7 +82,7 @@ module _ {M S A : Type 0} (has : M → A → Bool) (given : M → S → List A) 
       let members = at_place ms i m e in
       let here = subst (λ (l : List M). UnionFits has given fits l (drop i os)) members h in
       let low = low_by m (drop (i + 1) ms) os i here in
-      let states = from_place os i None low in
+      let states = drop_more os i None low in
       record {
         members = members;
         states = states;
@@ -116,11 +102,6 @@ module _ {M S A : Type 0} (has : M → A → Bool) (given : M → S → List A) 
   fit_state ms os i m o e h same =
       subst (λ (p : Option S). IfSome p (λ begun. fits m begun)) (sym same) (fit_here ms os i m e h)
 
-  pub fit_later : (ms : List M) (os : List (Option S)) (i : ℕ) (m : M) → slice_get ms i ≡ Some m
-      → UnionFits has given fits (drop i ms) (drop i os)
-      → UnionFits has given fits (drop (i + 1) ms) (drop (i + 1) os)
-  fit_later ms os i m e h = (place_of ms os i m e h).fit.1
-
   -- what a call leaves that goes on from the i-th member
   placed : (ms : List M) (os ns : List (Option S)) (i : ℕ) (m : M) (moved : Option S)
       (rests : List (Option S)) (more : Bool) (out : A) → IsPlace ms os i m
@@ -138,12 +119,6 @@ module _ {M S A : Type 0} (has : M → A → Bool) (given : M → S → List A) 
 
   -- ---- a call at the i-th member
 
-  pub goes_past : (ms : List M) (os : List (Option S)) (i : ℕ) (out : A) → length ms ≤ i
-      → UnionGoesOn has given fits (drop i ms) (drop i os) (drop i os) false out
-  goes_past ms os i out past =
-      subst (λ (l : List M). UnionGoesOn has given fits l (drop i os) (drop i os) false out)
-      (sym (drop_all i ms past)) (goes_none has given fits (drop i os) out)
-
   low_set : (os mid : List (Option S)) (i : ℕ) (moved : Option S) → i < length os
       → mid ≡ set os i moved → i < length mid
   low_set os mid i moved low e =
@@ -159,7 +134,7 @@ module _ {M S A : Type 0} (has : M → A → Bool) (given : M → S → List A) 
   later_stay os mid i moved low e =
       let low_mid : i < length mid = low_set os mid i moved low e in
       tail_same (get_or mid i None) moved (drop (i + 1) mid) (drop (i + 1) os)
-      (sym (from_place mid i None low_mid)
+      (sym (drop_more mid i None low_mid)
       ∙ ap (λ (l : List (Option S)). drop i l) e ∙ drop-set os i moved low)
 
   pub kept_by : (m : M) (os mid : List (Option S)) (i : ℕ) (more : Bool) (out : A)
@@ -246,11 +221,6 @@ module _ {M S A : Type 0} (has : M → A → Bool) (given : M → S → List A) 
 
   -- ---- a test at the i-th member
 
-  pub has_past : (ms : List M) (i : ℕ) (t : A) → length ms ≤ i
-      → false ≡ some_has has (drop i ms) t
-  has_past ms i t past =
-      sym (ap (λ (l : List M). some_has has l t) (drop_all i ms past))
-
   pub has_here : (ms : List M) (i : ℕ) (m : M) (t : A) (b : Bool) → slice_get ms i ≡ Some m
       → b ≡ has m t → b ≡ true → b ≡ some_has has (drop i ms) t
   has_here ms i m t b e same is =
@@ -276,14 +246,6 @@ module _ {M S A : Type 0} (has : M → A → Bool) (given : M → S → List A) 
       → (b ≡ false) ↔ AreAllCells (has m) (given_at given m p)
   one_along m o p b same one =
       subst (λ (q : Option S). (b ≡ false) ↔ AreAllCells (has m) (given_at given m q)) same one
-
-  pub left_past : (ms : List M) (os : List (Option S)) (i : ℕ) → length ms ≤ i
-      → (false ≡ false) ↔ AreAllCells (some_has has (drop i ms))
-      (union_given has given (drop i ms) (drop i os))
-  left_past ms os i past =
-      subst (λ (l : List M). (false ≡ false) ↔ AreAllCells (some_has has l)
-      (union_given has given l (drop i os))) (sym (drop_all i ms past))
-      (left_none has given fits (drop i os))
 
   pub left_here_at : (ms : List M) (os : List (Option S)) (i : ℕ) (m : M) (o : Option S) (b : Bool)
       → slice_get ms i ≡ Some m → UnionFits has given fits (drop i ms) (drop i os)

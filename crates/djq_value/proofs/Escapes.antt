@@ -1,13 +1,10 @@
 -- How many bytes a text has with its escapes.
 use Rattle.std.proofs.Common.{◌≡◌, ◌+◌, ◌∷◌, ◌++◌, [], ℕ, List, length, cond, true, false, Bool}
 use Rattle.std.proofs.Common.{eqb, refl, ap, ◌∙◌, arith, length-append, count_by, ◌||◌, suc, ◌<◌}
-use Rattle.std.proofs.Common.{get_or, take, sym}
 use Rattle.std.proofs.lemmas.Bool.{ne_eqb}
-use Rattle.std.proofs.lemmas.List.{take_more}
 use Rattle.std.specs.List.{flat_map}
 use Rattle.std.proofs.lemmas.List.Sums.{sum_by-cons}
 use Rattle.djq_value.specs.ValueText.{escaped, is_escaped}
-use Rattle.djq_value.proofs.Putting.{texts_more}
 
 -- a byte has one more where it needs an escape
 length-escaped : (b : ℕ) → length (escaped b) ≡ cond (is_escaped b) 2 1

@@ -101,7 +101,7 @@ front_shorter (b ∷ bs) =
     (shorter_text (text_in false bs) (length bs) (text_shorter false bs)))
     (omega (arith, length-behind_word bs)))))))))
 
-shorter_within : (o : Option (Token × Bytes)) (m n : ℕ) → m ≤ n → IsShorter m o → IsShorter n o
+pub shorter_within : (o : Option (Token × Bytes)) (m n : ℕ) → m ≤ n → IsShorter m o → IsShorter n o
 shorter_within None m n h s = tt
 shorter_within (Some t) m n h s = omega (arith, s)
 

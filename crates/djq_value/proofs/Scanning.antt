@@ -1,9 +1,8 @@
 -- How a text is scanned, byte by byte.
-use Rattle.std.proofs.Common.{◌≡◌, ℕ, ◌+◌, ◌<◌, ◌≤◌, ◌||◌, Bool, true, false, [], ◌∷◌, ◌++◌, length}
+use Rattle.std.proofs.Common.{◌≡◌, ℕ, ◌+◌, ◌<◌, ◌||◌, Bool, true, false, [], ◌∷◌, ◌++◌, length}
 use Rattle.std.proofs.Common.{Option, Some, None, refl, sym, ap, ◌∙◌, arith, append_assoc}
 use Rattle.std.proofs.Common.{length-append, subst, eqb, drop, take, get_or, drop-cons, add-one}
-use Rattle.std.proofs.Common.{length-take, count_by}
-use Rattle.std.specs.Prelude.{is_some}
+use Rattle.std.proofs.Common.{count_by}
 use Rattle.std.specs.List.{flat_map}
 use Rattle.std.proofs.Math.Seq.{take-append_seam}
 use Rattle.std.proofs.lemmas.Bool.{cond-false, or_parts}
@@ -11,7 +10,7 @@ use Rattle.std.proofs.lemmas.List.{length-drop, take_more}
 use Rattle.djq_model.specs.Data.{Bytes}
 use Rattle.djq_value.specs.Token.{in_text, text_in}
 use Rattle.djq_value.specs.Quoted.{put_front}
-use Rattle.djq_value.specs.TextAt.{EndsAt, HasText, text_at}
+use Rattle.djq_value.specs.TextAt.{EndsAt, text_at}
 use Rattle.djq_value.specs.ValueText.{escaped, is_escaped}
 use Rattle.djq_value.proofs.Escapes.{length-flat_map-escaped, plain_text}
 use Rattle.djq_value.proofs.Texts.{IsSpelledText, text_spelled}
@@ -78,9 +77,6 @@ plain_more bytes n h plain e =
     let next : drop n bytes ≡ b ∷ rest = drop-cons bytes n 0 h ∙ ap (λ m. b ∷ drop m bytes) (sym (add-one n)) in
     put_front-byte (text_in false bytes) (take n bytes) (drop n bytes) rest false b b e next (plain_step b rest plain)
     ∙ ap (λ xs. put_front xs (text_in false rest)) (sym (take_more bytes n 0 h))
-
-pub has_text : (bs : Bytes) (end n : ℕ) → EndsAt bs end n → HasText bs n
-has_text bs end n h = (ap is_some h.0, h.1)
 
 -- A text without an escape stands there as it is.
 pub plain_piece : (bs : Bytes) (end n : ℕ) → EndsAt bs end n → end ≡ n + 1 → take n bs ≡ text_at bs

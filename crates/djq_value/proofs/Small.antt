@@ -1,7 +1,7 @@
 -- Words, and integers of few digits, in front of bytes.
 use Rattle.std.proofs.Common.{◌≡◌, ℕ, ℤ, pos, zero, suc, ◌+◌, ◌<◌, ◌≤◌, Bool, true, false, cond, []}
 use Rattle.std.proofs.Common.{◌∷◌, length, get_or, take, drop, Some, None, option_map, refl, sym}
-use Rattle.std.proofs.Common.{ap, ◌∙◌, ◌++◌, arith, eqb, leb, inl, inr, add-one, ap₂, length-take, All, drop-cons}
+use Rattle.std.proofs.Common.{ap, ◌∙◌, ◌++◌, arith, eqb, leb, inl, inr, add-one, ap₂, length-take, All}
 use Rattle.std.specs.List.{list_all}
 use Rattle.std.proofs.lemmas.Bool.{and_from, and_parts, cases_Bool, cond-true, cond-false, eqb-true}
 use Rattle.std.proofs.lemmas.Bool.{false_from_ne_true, le-leb, leb-true, or_from}

@@ -19,7 +19,7 @@ use Rattle.djq_value.specs.ValueText.{escaped}
 use Rattle.std.specs.Prelude.{unwrap_or}
 use Rattle.djq_value.proofs.Texts.{IsSpelledText, text_read, text_spelled}
 use Rattle.std.specs.List.{flat_map}
-use Rattle.djq_value.proofs.Lexes.{IsShorter, token_shorter, tokens-none, tokens-some}
+use Rattle.djq_value.proofs.Lexes.{IsShorter, token_shorter, tokens-none, tokens-some, shorter_within}
 
 pub front_stop : (c : ℕ) (cs : Bytes) → ends_word c ≡ true → word_front (c ∷ cs) ≡ []
 front_stop c cs e = take_while-cons (λ b. not (ends_word b)) c cs ∙ cond-false _ _ _ (ap not e)
@@ -316,17 +316,13 @@ spell_step bs n (Some p) first s real more =
     let here = first parts.0 in
     (cut.0, p.1, cut.1, cut.2 ∙ ap (λ xs. cut.0 ++ xs) here.0, here.1, here.2, more p.1 (omega (arith, s)) parts.1)
 
-shorter_more : (o : Option (Token × Bytes)) (m n : ℕ) → m ≤ n → IsShorter m o → IsShorter n o
-shorter_more None m n h s = tt
-shorter_more (Some t) m n h s = omega (arith, s)
-
 read_spelled : (n : ℕ) (bs : Bytes) → length bs ≤ n → HasNoStray (tokens_within n bs)
     → IsSpelling (tokens_within n bs) bs
 read_spelled zero [] h real = All-nil (λ x. x ≡ 32)
 read_spelled zero (b ∷ bs) h real = absurd (omega (arith, h))
 read_spelled (suc n) bs h real =
     spell_step bs n (token_at bs) (front_first (behind_spaces bs) (no_space_first bs))
-    (shorter_more (token_at bs) (length bs) (suc n) h (token_shorter bs)) real (λ cs k r. read_spelled n cs k r)
+    (shorter_within (token_at bs) (length bs) (suc n) h (token_shorter bs)) real (λ cs k r. read_spelled n cs k r)
 
 pub tokens_spelled : (line : Bytes) (ts : List Token) → tokens line ≡ ts → HasNoStray ts → IsSpelling ts line
 unfolding tokens

@@ -1,4 +1,4 @@
-use Rattle.std.specs.Prelude.{ℕ, take}
+use Rattle.std.specs.Prelude.{take}
 use Rattle.djq_hyper.proofs.Flatness.{Compares}
 use Rattle.djq_hyper.proofs.flat.is_flat_at.Given as goal
 

@@ -1,5 +1,5 @@
 -- By the query's law all numbers of an atom are below the limit.
-use Rattle.std.proofs.Common.{◌≡◌, ◌<◌, List, length, arith, ap, ◌∙◌, get_or}
+use Rattle.std.proofs.Common.{◌<◌, List, length, arith, ap, ◌∙◌, get_or}
 use Rattle.djq_lines.specs.declared.limits.TheConstants.{VARIABLES}
 use Rattle.djq_query.specs.declared.numbered.NumberedAtom.{NumberedAtom}
 use Rattle.djq_query.specs.Numbered.{are_below}
