@@ -1,0 +1,156 @@
+//! What sessions do by turns, and what comes of it.
+use super::Move::{
+    self, Closes, Counts, Ended, Fills, HasMore, IsLast, IsShut, IsTold, Keeps, Loads, Opens, Says,
+    Steps,
+};
+use djq_lines::EndCause;
+use djq_machine::Loaded;
+
+/// Each move beside its session; one that is of none stands beside 0.
+pub(super) const SCRIPTS: [(&str, &[(u64, Move)]); 6] = [
+    (
+        "as many sessions are open as may be, and one more once one is closed",
+        &[
+            (64, Fills),
+            (65, IsShut),
+            (7, Closes),
+            (65, Opens),
+            (65, Counts(0, 0, 64, false)),
+            (65, Says(b"quit\nrel r int\n")),
+            (65, IsTold(b"bye\n")),
+            (65, Counts(0, 0, 64, false)),
+            (9, Says(b"stop\nrel r int\n")),
+            (9, IsTold(b"bye\n")),
+            (9, Counts(0, 0, 64, true)),
+        ],
+    ),
+    (
+        "a listing stays while another session stops",
+        &[
+            (1, Opens),
+            (2, Opens),
+            (
+                1,
+                Says(b"rel r int\nquery q(x) <- r(x)\nadd r 1\nadd r 2\nopen c q\n"),
+            ),
+            (
+                1,
+                IsTold(b"ok\nok query 3\nok added 1 1\nok added 2 1\nok open\n"),
+            ),
+            (1, Says(b"next c 1000\n")),
+            (2, Says(b"stop\n")),
+            (2, IsTold(b"bye\n")),
+            (1, IsTold(b"= 1\n= 2\nend\n")),
+            (1, Counts(2, 2, 2, true)),
+        ],
+    ),
+    (
+        "one session of three has too much pending",
+        &[
+            (3, Fills),
+            (
+                1,
+                Says(b"rel r int\nquery q(x) <- r(x)\nwatch p\nunwatch p\nwatch q\nwatch q\n"),
+            ),
+            (
+                1,
+                IsTold(b"ok\nok query 3\nerr 4 no query\nerr 4 no query\nok watch 0\nok watch 0\n"),
+            ),
+            (
+                1,
+                Says(b"rel b text\nquery p(x,y,z,w) <- b(x), b(y), b(z), b(w)\n"),
+            ),
+            (
+                1,
+                Says(
+                    b"add b \"0123456789012345678901234567890123456789012345678901234567890123\"\nadd b \"1123456789012345678901234567890123456789012345678901234567890123\"\nadd b \"2123456789012345678901234567890123456789012345678901234567890123\"\nadd b \"3123456789012345678901234567890123456789012345678901234567890123\"\nadd b \"4123456789012345678901234567890123456789012345678901234567890123\"\nadd b \"5123456789012345678901234567890123456789012345678901234567890123\"\nadd b \"6123456789012345678901234567890123456789012345678901234567890123\"\nadd b \"7123456789012345678901234567890123456789012345678901234567890123\"\nadd b \"8123456789012345678901234567890123456789012345678901234567890123\"\nadd b \"9123456789012345678901234567890123456789012345678901234567890123\"\n",
+                ),
+            ),
+            (2, Says(b"watch q\n")),
+            (3, Says(b"watch q\n")),
+            (2, Says(b"open c p\nnext c 1000\nnext c 1000\n")),
+            (2, Says(b"next c 1000\nnext c 1000\n")),
+            (2, HasMore(1_080_000)),
+            (3, Says(b"add r 5\n")),
+            (2, Ended(EndCause::Slow)),
+            (2, IsLast(b"more\nend slow\n")),
+            (1, IsLast(b"ok added 10 1\n+ q 5\nat q 11\n")),
+            (3, IsTold(b"ok watch 10\n+ q 5\nat q 11\nok added 11 1\n")),
+        ],
+    ),
+    (
+        "a line that changes something is kept as it was said, until the next step",
+        &[
+            (1, Opens),
+            (1, Keeps(&[])),
+            (1, Steps(b"rel r int\r\n")),
+            (1, Keeps(&[b"rel r int"])),
+            (1, Steps(b" add  r 7\n")),
+            (1, Keeps(&[b" add  r 7"])),
+            (1, Steps(b"add r 7\n")),
+            (1, Keeps(&[b"add r 7"])),
+            (1, Steps(b"del r 9\n")),
+            (1, Keeps(&[])),
+            (1, Steps(b"query q(x) <- r(x)\n")),
+            (1, Keeps(&[b"query q(x) <- r(x)"])),
+            (1, Steps(b"query p(y) <- r(y)\n")),
+            (1, Steps(b"union u q p\n")),
+            (1, Keeps(&[b"union u q p"])),
+            (1, Steps(b"union v q u\n")),
+            (1, Keeps(&[])),
+            (1, Steps(b"open c q\n")),
+            (1, Keeps(&[])),
+        ],
+    ),
+    (
+        "the lines of a batch are kept where it is done, and none of them before",
+        &[
+            (1, Opens),
+            (1, Says(b"rel r int\nbatch\n add  r 7\n")),
+            (1, Keeps(&[])),
+            (1, Steps(b"done\n")),
+            (1, Keeps(&[b"batch", b" add  r 7", b"done"])),
+            (1, Says(b"batch\n")),
+            (1, Keeps(&[])),
+        ],
+    ),
+    (
+        "what lines that were loaded left is found, and loading goes on behind it",
+        &[
+            (0, Loads(b"rel r int text", Loaded::Ran)),
+            (0, Loads(b"add r 1 \"a\"", Loaded::Ran)),
+            (0, Loads(b"add r 1 \"a\"", Loaded::Ran)),
+            (0, Loads(b"add r 2 \"b\"", Loaded::Ran)),
+            (0, Loads(b"del r 1 \"a\"", Loaded::Ran)),
+            (0, Loads(b"query q(x,t) <- r(x,t)", Loaded::Ran)),
+            (0, Loads(b"query p(x) <- r(x,\"a\")", Loaded::Ran)),
+            (0, Loads(b"query o(x) <- r(x,_)", Loaded::Ran)),
+            (0, Loads(b"union u o p", Loaded::Ran)),
+            (0, Loads(b"drop u", Loaded::Ran)),
+            (0, Loads(b"drop p", Loaded::Ran)),
+            (0, Loads(b"rel r int", Loaded::Refused)),
+            (0, Loads(b"add r 1", Loaded::Refused)),
+            (0, Loads(b"del r 3 \"a\"", Loaded::Refused)),
+            (0, Loads(b"drop p", Loaded::Refused)),
+            (0, Loads(b"union u o q", Loaded::Refused)),
+            (0, Loads(b"has q 1 \"a\"", Loaded::Refused)),
+            (0, Loads(b"stop", Loaded::Refused)),
+            (0, Loads(b"", Loaded::Refused)),
+            (
+                0,
+                Loads(b"add r 99999999999999999999 \"a\"", Loaded::Refused),
+            ),
+            (0, Keeps(&[])),
+            (0, Counts(2, 2, 0, false)),
+            (1, Opens),
+            (1, Says(b"open c q\nnext c 3\ndel r 1 \"a\"\n")),
+            (
+                1,
+                IsTold(b"ok open\n= 1 \"a\"\n= 2 \"b\"\nend\nok removed 3 0\n"),
+            ),
+            (1, Closes),
+            (0, Loads(b"drop q", Loaded::Ran)),
+            (0, Counts(3, 1, 0, false)),
+        ],
+    ),
+];
