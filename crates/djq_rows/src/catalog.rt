@@ -318,7 +318,7 @@ impl Catalog {
             → result ≡ has_row (rows_at self.now.relations id.at) row }
         ensures counted { tally.new ≡ tally.old + 1 }
     {
-        self.kept[id.at].has(cells, tally)
+        self.kept[id.at].rows.find(cells, tally).is_some()
     }
 
     /// How many copies of the row that cells stand for are there; 0 exactly where the row isn't. It

@@ -2,7 +2,7 @@ ghost use Rattle.std.specs.Prelude.{◌≡◌, ◌≤◌, ◌+◌, length};
 ghost use Rattle.std.specs.List.{AllByRecursion};
 ghost use Rattle.djq_index.specs.Entries.{supports_of};
 ghost use Rattle.djq_rows.specs.Parts.{IsCopied};
-ghost use Rattle.djq_rows.specs.Tuples.{HasTuple, AddsTuple, DeletesTuple};
+ghost use Rattle.djq_rows.specs.Tuples.{AddsTuple, DeletesTuple};
 
 use crate::refusal::RowsRefusal;
 use crate::rows::Rows;
@@ -22,14 +22,6 @@ pub struct Kept {
 }
 
 impl Kept {
-    /// Whether a row of these cells is there.
-    pub fn has<L: Ledger>(&self, cells: &[u64], tally: &mut Tally<L>) -> bool
-        ensures has { HasTuple self.now.rows.entries cells.now result }
-        ensures counted { tally.new ≡ tally.old + 1 }
-    {
-        self.rows.find(cells, tally).is_some()
-    }
-
     /// How many copies of a row of these cells are there; 0 exactly where none is.
     pub fn copies<L: Ledger>(&self, cells: &[u64], tally: &mut Tally<L>) -> u32
         ensures copies { result ≡ supports_of self.now.rows.entries cells.now }

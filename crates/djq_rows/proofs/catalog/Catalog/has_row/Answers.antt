@@ -1,4 +1,5 @@
 -- A row is in the relation that is seen exactly where its cells are in the kept one, since texts differ.
+use Rattle.djq_rows.proofs.Grouped.{found_has}
 use Rattle.djq_rows.proofs.Standing.{seen_at, read_kept, has_done}
 use Rattle.djq_rows.proofs.catalog.Catalog.has_row.Goals as goal
 
@@ -7,6 +8,8 @@ returns-clause-has g c =
     let p = c.self.inside in
     let at = c.args.id.at in
     let low = seen_at p c.args.self.now at c.self.view_is c.requires in
-    rw (← c.self.view_is) (has_done p.texts p.kept.items at c.index.result.now c.args.cells.now
-    c.has.result c.self.invariant.different c.self.invariant.sound low
-    (read_kept p.kept.items at c.index.result.now low c.index.ensures) c.has.ensures.has)
+    let k = c.index.result.now in
+    rw (← c.self.view_is) (has_done p.texts p.kept.items at k c.args.cells.now
+    c.is_some.result c.self.invariant.different c.self.invariant.sound low
+    (read_kept p.kept.items at k low c.index.ensures)
+    (found_has k.rows.entries c.args.cells.now c.find.result c.is_some.result c.find.ensures.found c.is_some.ensures))
