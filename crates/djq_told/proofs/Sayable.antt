@@ -178,7 +178,7 @@ use Rattle.djq_told.specs.Sayable.{
   StatesAreSayable,
 }
 use Rattle.djq_told.proofs.Reading.{IsSayableCommand, read_sayable}
-use Rattle.djq_told.proofs.Keeping.{change_keeps}
+use Rattle.djq_laws.proofs.Told.{change_keeps}
 use Rattle.djq_told.proofs.Storing.{
   answer_sayable,
   rel_sayable,
