@@ -7,5 +7,4 @@ pub mod MirroringBack
 pub mod Reopening
 pub mod Running
 pub mod Finishing
-pub mod Gathering
 pub mod Replaying

@@ -1,25 +1,22 @@
 -- How a log is opened, and its lines are loaded.
-use Rattle.std.specs.Prelude.{ℕ, List, [], ◌∷◌, ◌++◌, ◌≡◌, ◌⊎◌, Option, None, Some, IfSome, length, take, drop}
-use Rattle.std.proofs.Common.{refl, sym, ap, ◌∙◌, subst, inl, inr, arith}
+use Rattle.std.specs.Prelude.{ℕ, List, [], ◌∷◌, ◌++◌, ◌≡◌, Option, None, Some, IfSome, length, take, drop}
+use Rattle.std.proofs.Common.{sym, ap, ◌∙◌, subst, inl, inr}
 use Rattle.djq_disk.specs.File.{File, settled}
-use Rattle.djq_disk.specs.History.{History, WhereTold, OpensPath, Sizes}
+use Rattle.djq_disk.specs.History.{History, WhereTold}
 use Rattle.djq_disk.specs.Leaving.{LeavesOnly}
-use Rattle.djq_disk.specs.declared.disk.DiskLen.{DiskLen}
-use Rattle.djq_disk.specs.declared.disk.DiskLen.TheVariants.{Len}
-use Rattle.djq_disk.proofs.Telling.{told_so, told_both}
+use Rattle.djq_disk.proofs.Telling.{told_both}
 use Rattle.djq_disk.proofs.Keeping.{leaves_move}
 use Rattle.djq_journal.specs.Format.{OpensTo, IsBad, front}
 use Rattle.djq_journal.specs.Standing.{IsAt, IsIdle}
-use Rattle.djq_journal.specs.Calls.{after_sync, Makes, Opens, Reads}
+use Rattle.djq_journal.specs.Calls.{after_sync, Opens, Reads}
 use Rattle.djq_journal.specs.Keeping.{OpensWithin, IsKeeping}
-use Rattle.djq_journal.specs.declared.journal.Made.TheVariants.{Done as Made, Failed as Unmade}
-use Rattle.djq_journal.specs.declared.journal.Opened.TheVariants.{Ready, BadLog as NoLog, Failed as Unopened}
+use Rattle.djq_journal.specs.declared.journal.Opened.TheVariants.{Ready}
 use Rattle.djq_journal.specs.declared.line.Line.TheVariants.{Got, End, BadLog as BadLine}
 use Rattle.djq_journal.proofs.Going.{keeps_on}
 use Rattle.djq_journal.proofs.Once.{opens_once}
 use Rattle.djq_model.specs.Data.{Bytes}
-use Rattle.djq.specs.Logged.{asked_for, IsMade, Finds, LeavesUnloaded, HasNoHeader}
-use Rattle.djq.specs.Parts.{HasFile, LacksFile, IsOpened}
+use Rattle.djq.specs.Logged.{asked_for, IsMade, Finds, LeavesUnloaded}
+use Rattle.djq.specs.Parts.{HasFile, IsOpened}
 
 -- What is told in the end, by what was told before, if it matters.
 pub told_end : (old new : Option History) (P : History → History → Type 0) (Q : History → Type 0)
@@ -43,18 +40,6 @@ told_then old mid None P Q R S so p r q = tt
 told_then old None (Some n) P Q R S so p r q = absurd q
 told_then None (Some m) (Some n) P Q R S so p r q = absurd p
 told_then (Some o) (Some m) (Some n) P Q R S so p r q = so o m n p r q
-
--- The file was opened and measured.
-pub asked : (path : Bytes) (answer : DiskLen) (old mid new : Option History) → WhereTold old mid (OpensPath path)
-    → WhereTold mid new (Sizes answer)
-    → WhereTold old new (λ o n. n ≡ asked_for path o)
-asked path answer old mid new opens sizes = told_both old mid new (OpensPath path) (Sizes answer)
-    (λ o n. n ≡ asked_for path o)
-    (λ o m n p q. same answer m n q ∙ p) opens sizes
-  where
-    same : (a : DiskLen) (m n : History) → Sizes a m n → n ≡ m
-    same (Len k) m n s = s.1
-    same DiskLen.Failed m n s = s
 
 -- A journal that was made stays idle behind a sync.
 idle_none : (gate : ℕ) (h : History) → IsIdle [] gate h.file → IsKeeping [] [] gate h h

@@ -1,5 +1,5 @@
 -- A schedule's hub has no more turns than its lines, so that one turn more finds it over; and it never fails.
-use Rattle.std.specs.Prelude.{ℕ, List, [], ◌∷◌, ◌++◌, ◌≡◌, ◌+◌, ◌<◌, ◌≤◌, ◌⊎◌, ◌||◌}
+use Rattle.std.specs.Prelude.{ℕ, List, [], ◌∷◌, ◌++◌, ◌≡◌, ◌+◌, ◌<◌, ◌≤◌, ◌⊎◌}
 use Rattle.std.specs.Prelude.{false, Option, None, Some, Result, Ok, Err, MatchResult, IfSome, length, take}
 use Rattle.std.proofs.Common.{refl, sym, ap, ◌∙◌, subst, inl, inr, arith, length-append, length-take}
 use Rattle.std.proofs.lemmas.List.Sums.{sum_by-cons}
@@ -26,7 +26,6 @@ use Rattle.djq_run.specs.declared.status.Status.{Status}
 use Rattle.djq_run.specs.declared.status.Status.TheVariants.{NoMemory}
 use Rattle.djq_schedule.specs.Schedule.{lines_of}
 use Rattle.djq_schedule.specs.Made.{IsMade}
-use Rattle.djq_schedule.specs.Sent.{sent_text}
 use Rattle.djq_schedule.proofs.Counting.{AllShort, turn_for_each_line, turns_are_short}
 use Rattle.djq_serve.specs.declared.served.Served.{Served}
 use Rattle.djq_serve.specs.declared.served.Served.TheVariants.{Stopped, Over, TurnsUsed as AllTaken}
@@ -246,17 +245,6 @@ schedule_served (Err status) text answered log found first bytes made hub hub' a
     comes_to_nothing log bytes made.script.turns counted counted' hub'.past whole
     (plays log found first bytes made hub hub' answer most counted loaded counted' start state begins is_made same
     is_most ends faults) is status none
-
--- A hub in memory tells its past.
-pub tells_past : (told : List Told) (past : Option (List Told)) (text : Bytes) (whole : Status) → past ≡ Some told
-    → IfSome past (λ p. has_gone p ≡ false) → text ≡ sent_text told → TellsAll text whole past whole
-tells_past told past text whole is steady sent = record {
-  told = told;
-  is_told = is;
-  none_gone = subst (λ (p : Option (List Told)). IfSome p (λ t. has_gone t ≡ false)) is steady;
-  sent = sent;
-  is = refl;
-}
 
 -- Where nothing was asked of the disk nothing was asked of a log.
 pub unasked : (path : Option (Bor Bytes)) (disk : DiskSeen) → IsUnasked (log_seen path disk disk)

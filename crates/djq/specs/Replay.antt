@@ -1,16 +1,16 @@
 -- How `replay` ends: a schedule is read whole, its hub is served, and what was sent is written.
 use Rattle.std.specs.Prelude.{ℕ, List, [], false, ◌≡◌, ◌+◌, ◌<◌, ◌≤◌, ◌⊎◌, Option, Some, length}
 use Rattle.std.specs.Prelude.{take, drop, Result, Ok, Err}
-use Rattle.std.specs.List.{concat}
 use Rattle.djq_io.specs.Faults.{Counted}
 use Rattle.djq_io.specs.Hub.{Ids, no_ids}
 use Rattle.djq_io.specs.Script.{Script}
 use Rattle.djq_io.specs.Written.{GainsBytes, FailsBehind}
 use Rattle.djq_io.specs.declared.sink.Write.{Write}
-use Rattle.djq_io.specs.Source.{Reading, Gives}
+use Rattle.djq_io.specs.Source.{Reading}
 use Rattle.djq_io.specs.SteadyHub.{has_gone}
 use Rattle.djq_io.specs.declared.hub.Coming.{Coming}
 use Rattle.djq_io.specs.declared.hub.Told.{Told}
+use Rattle.djq_io.specs.Given.{Gave}
 use Rattle.djq_model.specs.Data.{Bytes}
 use Rattle.djq_machine.specs.State.{State}
 use Rattle.djq_machine.specs.Run.{Group, groups_of}
@@ -31,12 +31,6 @@ use Rattle.djq_serve.specs.Server.{all_done}
 use Rattle.djq_serve.specs.Logged.{UnkeptIsSilent}
 use Rattle.djq_serve.specs.Ends.{ServeEnds}
 use Rattle.djq.specs.Logged.{LogSeen, IsUnasked, status_of, Begins, Logs, NeverBegins}
-
--- The source gave these bytes, in pieces.
-pub record Gave (before now : Option Reading) (bytes : Bytes) : Type 0 where
-  pub pieces : List Bytes
-  pub told : Gives before now pieces
-  pub all : bytes ≡ concat pieces
 
 -- It gave these bytes, has nothing left, and no read failed.
 pub record ReadsWhole (before now : Option Reading) (faults faults' : ℕ) (bytes : Bytes)

@@ -3,9 +3,7 @@ use Rattle.std.proofs.Common.{
   ◌≡◌,
   ◌≢◌,
   ℕ,
-  suc,
   ◌<◌,
-  Bool,
   true,
   false,
   List,
@@ -15,16 +13,14 @@ use Rattle.std.proofs.Common.{
   map,
   refl,
   ap,
-  ap₂,
   sym,
   ◌∙◌,
   inl,
   inr,
   arith,
 }
-use Rattle.std.specs.Prelude.{⊤, ◌==◌, ◌&&◌, slice_index, slice_set}
+use Rattle.std.specs.Prelude.{⊤, ◌==◌, slice_index, slice_set}
 use Rattle.std.proofs.lemmas.Bool.{
-  cases_Bool,
   cases_eq,
   eq-eqb,
   eqb-true,
@@ -34,13 +30,13 @@ use Rattle.std.proofs.lemmas.Bool.{
   or_right,
   or_parts,
 }
-use Rattle.std.proofs.lemmas.List.{length-set, length-map, get_or-set_same, get_or-set_other}
+use Rattle.std.proofs.lemmas.List.{length-set, get_or-set_same, get_or-set_other}
 use Rattle.djq_hyper.specs.Hypergraph.{member}
 use Rattle.djq_index.specs.Tuple.{pick}
 use Rattle.djq_reduct.specs.Columns.{column, columns}
 use Rattle.djq_reduct.proofs.Placing.{column_within, column_here, column_on}
 use Rattle.djq_cursor.specs.Levels.{written}
-use Rattle.djq_reduct.proofs.Readings.{absent, cell_there, row_same, pick_itself}
+use Rattle.djq_reduct.proofs.Readings.{cell_there, row_same, pick_itself}
 
 -- ---- labels
 
@@ -117,20 +113,6 @@ cells_same F G l s a x e m = sym (cell_pick F l s x m)
 pub pick_pick : (F k l s : List ℕ) → Within k l
     → pick (columns l k) (pick (columns F l) s) ≡ pick (columns F k) s
 pick_pick F k l s h = pick_same l F k (pick (columns F l) s) s (λ x m. cell_pick F l s x (h x m))
-
-pub length_pick : (F l s : List ℕ) → length (pick (columns F l) s) ≡ length l
-length_pick F l s = ap (λ (u : List ℕ). length u) (pick_is F l s) ∙ length-map l (λ x. cell F s x)
-
-itself : (l u : List ℕ) → IsSimple l → length u ≡ length l → map (λ x. cell l u x) l ≡ u
-itself [] [] h e = refl
-itself [] (c ∷ u) h e = absurd (omega arith)
-itself (x ∷ l) [] h e = absurd (omega arith)
-itself (x ∷ l) (c ∷ u) h e =
-    ap₂ (λ (y : ℕ) (ys : List ℕ). y ∷ ys)
-    (ap (λ (i : ℕ). slice_index (c ∷ u) i) (column_here x l x refl))
-    (row_same (λ y. cell (x ∷ l) (c ∷ u) y) (λ y. cell l u y) l
-    (λ y m. ap (λ (i : ℕ). slice_index (c ∷ u) i) (column_on x l y (absent x y l h.0 m)))
-    ∙ itself l u h.1 (omega arith))
 
 -- tuples with the same cells are the same
 pub tuple_same : (l u v : List ℕ) → IsSimple l → length u ≡ length l → length v ≡ length l

@@ -30,7 +30,6 @@ use Rattle.djq_cursor.specs.Levels.{step}
 use Rattle.djq_cursor.specs.Walk.{
   Menu,
   chosen,
-  leaves,
   here,
   before,
   reached,

@@ -24,14 +24,11 @@ use Rattle.std.specs.Prelude.{◌||◌, flat_map, All, Contains}
 use Rattle.std.proofs.lemmas.Bool.{cases_Bool, false≢true, or_cases, or_left, or_right, or_parts}
 use Rattle.std.proofs.lemmas.List.Elements.{All-nil, All-cons}
 use Rattle.std.proofs.lemmas.List.Kept.{AllPairs-cons}
+use Rattle.std.proofs.Math.Bool.{or_assoc}
 use Rattle.djq_index.specs.Tuple.{same}
 use Rattle.djq_index.proofs.Tuples.{same_is, is_same, same_refl}
 use Rattle.djq_cursor.specs.Listing.{AreDifferent}
 use Rattle.djq_cursor.specs.Menus.{has, AreOnce, ahead, behind, IsFirst}
-
-or_assoc : (a b c : Bool) → (a || (b || c)) ≡ ((a || b) || c)
-or_assoc true b c = refl
-or_assoc false b c = refl
 
 pub has_here : (u : List ℕ) (xs : List (List ℕ)) → has (u ∷ xs) u ≡ true
 has_here u xs = or_left (same u u) (has xs u) (same_refl u)
@@ -122,7 +119,7 @@ next_first (x ∷ xs) v h = (xs, ap (λ (y : List ℕ). y ∷ xs) h)
 pub has-append : (xs ys : List (List ℕ)) (a : List ℕ) → has (xs ++ ys) a ≡ (has xs a || has ys a)
 has-append [] ys a = refl
 has-append (x ∷ xs) ys a = ap (λ (b : Bool). same x a || b) (has-append xs ys a)
-    ∙ or_assoc (same x a) (has xs a) (has ys a)
+    ∙ sym (or_assoc (same x a) (has xs a) (has ys a))
 
 pub has_cases : (xs ys : List (List ℕ)) (a : List ℕ) → has (xs ++ ys) a ≡ true
     → (has xs a ≡ true) ⊎ (has ys a ≡ true)

@@ -25,15 +25,6 @@ put_next cs tuple s at c u low also here value =
 pub put_end : (cs us s : List ℕ) (at : ℕ) → length cs ≤ at → put (drop at cs) us s ≡ s
 put_end cs us s at past = ap (λ (ds : List ℕ). put ds us s) (drop_all at cs past)
 
--- so are one and two, which take no loop
-pub put_one : (cs us s : List ℕ) → length cs ≡ 1 → length us ≡ length cs
-    → slice_set s (slice_index_or cs 0 0) (slice_index_or us 0 0) ≡ put cs us s
-put_one [] us s one long = absurd cc
-put_one (c ∷ []) [] s one long = absurd cc
-put_one (c ∷ []) (u ∷ []) s one long = refl
-put_one (c ∷ []) (u ∷ v ∷ us) s one long = absurd cc
-put_one (c ∷ d ∷ cs) us s one long = absurd cc
-
 -- so is a tuple over a label
 pub written_put : (F l us s : List ℕ) → written F l us s ≡ put (columns F l) us s
 unfolding columns

@@ -156,9 +156,6 @@ joined : (f : List ℕ → List (List ℕ)) (xs ys : List (List ℕ)) (u : List 
     → flat_map f (xs ++ u ∷ ys) ≡ flat_map f xs ++ (f u ++ flat_map f ys)
 joined f xs ys u = flat_map-append f xs (u ∷ ys)
 
-regroup : (a b c d e : List (List ℕ)) → a ++ (((b ++ c) ++ d) ++ e) ≡ ((a ++ b) ++ c) ++ (d ++ e)
-regroup a b c d e = simp append_assoc
-
 pub leaves_split : (r : Reducts) (menu : Menu) (n : ℕ) (s : List ℕ) (cs : List Choice)
     → Follows r menu n s cs → Splits r menu n s cs
 leaves_split r menu n s [] f =

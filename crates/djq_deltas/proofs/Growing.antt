@@ -1,9 +1,10 @@
 -- Where rows only come, each answer stays one; where they only go, none comes.
-use Rattle.std.specs.Prelude.{List, [], ◌∷◌, ◌≡◌, ◌+◌, ◌++◌, ◌⊎◌, ◌&&◌, ◌||◌, Bool, true, false}
+use Rattle.std.specs.Prelude.{List, [], ◌∷◌, ◌≡◌, ◌+◌, ◌⊎◌, ◌&&◌, Bool, true, false}
 use Rattle.std.specs.Prelude.{not, cond, Option, None, Some, option_map, All, Contains}
 use Rattle.std.specs.List.{list_any, slice_index_or}
 use Rattle.std.proofs.Common.{refl, sym, ap, ◌∙◌, subst, inl, inr}
 use Rattle.std.proofs.lemmas.List.Elements.{All-nil, All-cons, All-weaker, Contains-append_left}
+use Rattle.std.proofs.lemmas.Bool.{or_parts}
 use Rattle.djq_model.specs.declared.relation.Relation.{Relation}
 use Rattle.djq_model.specs.declared.relation.CountedRow.{CountedRow}
 use Rattle.djq_model.specs.declared.query.Query.{Query}
@@ -12,7 +13,7 @@ use Rattle.djq_model.specs.Data.{Bytes, Tuple, bytes_eq, tuple_eq, relation_of, 
 use Rattle.djq_model.specs.Data.{counted_in, counted_of, rows_of, without_row, with_row, without_copies}
 use Rattle.djq_model.specs.Answer.{IsAnswer}
 use Rattle.djq_model.specs.Equality.{bytes_eq-decides}
-use Rattle.djq_model.specs.Listed.{Listed, a_query, a_union, AnswersOf}
+use Rattle.djq_model.specs.Listed.{a_query, a_union, AnswersOf}
 use Rattle.djq_model.proofs.Counted.{tuples_with_row, tuples_without}
 use Rattle.djq_lines.specs.declared.answer.Sign.{Sign}
 use Rattle.djq_lines.specs.declared.answer.Sign.TheVariants.{Came, Went}
@@ -168,15 +169,11 @@ one_spares relations name row = (
   λ n e. rows_apart relations name (without_copies (counted_of relations name) row) n e,
 )
 
-or_none : (b c : Bool) → (b || c) ≡ false → (b ≡ false) × (c ≡ false)
-or_none true c e = absurd cc
-or_none false c e = (refl, e)
-
 -- a relation of which none of a batch comes
 pub batch_spares : BatchesSpareOthers
 batch_spares st [] n e = refl
 batch_spares st (h ∷ hs) n e =
-    let both = or_none (bytes_eq h.relation n && not (is_there st h)) (has_come (with_held st h) hs n) e in
+    let both = or_parts (bytes_eq h.relation n && not (is_there st h)) (has_come (with_held st h) hs n) e in
     batch_spares (with_held st h) hs n both.1 ∙ by (is_there st h) both.0
   where
     other : (b : Bool) → bytes_eq n h.relation ≡ b → (bytes_eq h.relation n && true) ≡ false → b ≡ false
@@ -201,7 +198,7 @@ batch_spares st (h ∷ hs) n e =
 -- a test that fails of all of a list fails of each
 pub none_any : {A : Type 0} (p : A → Bool) (xs : List A) → list_any p xs ≡ false → All (λ x. p x ≡ false) xs
 none_any p [] e = All-nil (λ x. p x ≡ false)
-none_any p (x ∷ xs) e = let both = or_none (p x) (list_any p xs) e in
+none_any p (x ∷ xs) e = let both = or_parts (p x) (list_any p xs) e in
     All-cons (λ y. p y ≡ false) x xs both.0 (none_any p xs both.1)
 
 query_rests : (before after : List Relation) (q : Query) (t : Tuple)
@@ -211,7 +208,6 @@ query_rests before after q t same h = record {
   assignment = h.assignment;
   satisfies = λ k d lt.
       let s = h.satisfies k d lt in
-      let a = slice_index_or q.atoms k d in
       record {
         row = s.row;
         is_there = subst (λ (ts : List Tuple). Contains ts s.row) (sym (same k d lt)) s.is_there;

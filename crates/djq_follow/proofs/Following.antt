@@ -1,6 +1,6 @@
 -- Lines that are followed, one after another, and the first that can't be.
 use Rattle.std.specs.Prelude.{ℕ, zero, suc, List, [], ◌∷◌, ◌++◌, ◌==◌, ◌≡◌, ◌≢◌, ◌+◌, ◌<◌, ◌≤◌, ◌⊎◌}
-use Rattle.std.specs.Prelude.{Bool, true, false, All, Option, Some, None, length, take, drop}
+use Rattle.std.specs.Prelude.{Bool, true, false, Option, Some, None, length, take, drop}
 use Rattle.std.proofs.Common.{refl, sym, ap, ◌∙◌, subst, inl, inr, get_or, arith, append_assoc}
 use Rattle.std.proofs.Common.{append-nil, length-append}
 use Rattle.std.proofs.lemmas.Bool.Decides.{eqb_tells}
@@ -11,11 +11,10 @@ use Rattle.djq_model.specs.Data.{Bytes}
 use Rattle.djq_lines.specs.Reply.{line}
 use Rattle.djq_io.specs.Source.{Reading}
 use Rattle.djq_mirror.specs.declared.mode.TheConstants.{REPLY_LINE_BYTES}
-use Rattle.djq_mirror.specs.Mirror.{Held, at_first, Follows, IsOutside}
-use Rattle.djq_mirror.specs.Inputs.{lines_text, HasNoLf, FollowsAll, Stops, IsHeld, IsRefused}
+use Rattle.djq_mirror.specs.Mirror.{Held, at_first, IsOutside}
+use Rattle.djq_mirror.specs.Inputs.{lines_text, HasNoLf, FollowsAll, Stops, IsRefused}
 use Rattle.djq_follow.specs.declared.follower.Halt.{Halt}
 use Rattle.djq_follow.specs.declared.follower.Halt.TheVariants.{Outside, TooMany, NoMem}
-use Rattle.djq_follow.specs.declared.reading.Followed.{Followed}
 use Rattle.djq_follow.specs.declared.reading.Followed.TheVariants.{Halted}
 use Rattle.djq_follow.specs.Follow.{Following, most_lines, Stopping, Takes, Halts, CountsOut}
 use Rattle.djq_follow.specs.Follow.{TakesPiece, TakesLine, KeepsFront, EndsInput, HasGivenAll}
@@ -259,16 +258,6 @@ are_followed f new bytes first h = record {
   begun = new.begun;
   is = none_begun f bytes (lines_text h.lines ++ new.begun) first h.is;
   own = h.own;
-  follows = from_first f h.lines new.held first h.follows;
-}
-
--- the whole input was followed
-pub is_held : (f new : Following) (bytes : Bytes) → IsFirst f → Takes f bytes new → new.begun ≡ []
-    → IsHeld f.name bytes new.held
-is_held f new bytes first h none = record {
-  lines = h.lines;
-  is = none_begun f bytes (lines_text h.lines ++ new.begun) first h.is
-      ∙ ap (λ (xs : Bytes). lines_text h.lines ++ xs) none ∙ append-nil (lines_text h.lines);
   follows = from_first f h.lines new.held first h.follows;
 }
 

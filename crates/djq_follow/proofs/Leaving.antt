@@ -1,5 +1,5 @@
 -- What is to be written of what was read, by how reading ended.
-use Rattle.std.specs.Prelude.{ℕ, ◌≡◌, Option, Result, Ok, Err, MatchResult}
+use Rattle.std.specs.Prelude.{ℕ, ◌≡◌, Option}
 use Rattle.std.proofs.Common.{sym, subst}
 use Rattle.djq_io.specs.Source.{Reading}
 use Rattle.djq_model.specs.Data.{Bytes}
@@ -7,17 +7,11 @@ use Rattle.djq_mirror.specs.Mirror.{Held, written}
 use Rattle.djq_follow.specs.declared.follower.Halt.{Halt}
 use Rattle.djq_follow.specs.declared.follower.Halt.TheVariants.{Outside as HaltsOutside, TooMany as HaltsFull}
 use Rattle.djq_follow.specs.declared.follower.Halt.TheVariants.{NoMem as HaltsLacking}
-use Rattle.djq_follow.specs.declared.reading.Followed.{Followed}
 use Rattle.djq_follow.specs.declared.reading.Followed.TheVariants.{Whole, Halted, ReadFault as FailedRead}
 use Rattle.djq_follow.specs.declared.command.Mirrored.{Mirrored}
-use Rattle.djq_follow.specs.declared.command.Mirrored.TheVariants.{Done, Outside, ReadFault, TooMany, NoMemory}
+use Rattle.djq_follow.specs.declared.command.Mirrored.TheVariants.{Done, ReadFault, NoMemory}
 use Rattle.djq_follow.specs.Follow.{FollowEnds}
-use Rattle.djq_follow.specs.Ends.{outside_line, IsTold, IsUntold, ComesTo, StopsFor, Leaves, LeavesNone}
-
-pub either : {A B : Type 0} (r : Result A B) (P P' : A → Type 0) (Q Q' : B → Type 0) → ((a : A) → P a → P' a)
-    → ((b : B) → Q b → Q' b) → MatchResult r P Q → MatchResult r P' Q'
-either (Ok a) P P' Q Q' f g h = f a h
-either (Err b) P P' Q Q' f g h = g b h
+use Rattle.djq_follow.specs.Ends.{IsTold, IsUntold, ComesTo, StopsFor, Leaves, LeavesNone}
 
 module _ (name : Bytes) (before now : Option Reading) (faults faults' : ℕ) where
   pub leaves_whole : (held : Held) (text : Bytes) (answer : Mirrored)

@@ -1,3 +1,2 @@
-pub mod Gathering
 pub mod Following
 pub mod Leaving

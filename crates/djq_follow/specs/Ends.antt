@@ -4,6 +4,7 @@ use Rattle.djq_io.specs.Faults.{Counted}
 use Rattle.djq_io.specs.Source.{Reading}
 use Rattle.djq_io.specs.Written.{GainsBytes, FailsBehind}
 use Rattle.djq_io.specs.declared.sink.Write.{Write}
+use Rattle.djq_io.specs.Given.{Gave}
 use Rattle.djq_model.specs.Data.{Bytes}
 use Rattle.djq_lines.specs.Reply.{numbered}
 use Rattle.djq_laws.specs.declared.limits.TheConstants.{MOST_READS}
@@ -16,7 +17,7 @@ use Rattle.djq_follow.specs.declared.follower.Halt.TheVariants.{NoMem as HaltsLa
 use Rattle.djq_follow.specs.declared.command.Mirrored.{Mirrored}
 use Rattle.djq_follow.specs.declared.command.Mirrored.TheVariants.{Done, Outside, ReadFault}
 use Rattle.djq_follow.specs.declared.command.Mirrored.TheVariants.{WriteFault, TooMany, NoMemory}
-use Rattle.djq_follow.specs.Follow.{Gave, HasGivenAll, StopsAt, AreFollowed}
+use Rattle.djq_follow.specs.Follow.{HasGivenAll, StopsAt, AreFollowed}
 
 -- the line that says which line can't be followed
 abbrev pub outside_line : ℕ → Bytes

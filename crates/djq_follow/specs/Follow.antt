@@ -1,9 +1,9 @@
 -- What a mirror comes to that follows, piece by piece, what a session was sent.
 use Rattle.std.specs.Prelude.{ℕ, List, [], ◌∷◌, ◌++◌, ◌≡◌, ◌≢◌, ◌+◌, ◌<◌, ◌≤◌, ◌⊎◌, Option, None}
 use Rattle.std.specs.Prelude.{Some, IfSome, Result, Ok, Err, length}
-use Rattle.std.specs.List.{concat}
 use Rattle.djq_io.specs.Faults.{Counted}
-use Rattle.djq_io.specs.Source.{Reading, Gives}
+use Rattle.djq_io.specs.Source.{Reading}
+use Rattle.djq_io.specs.Given.{Gave}
 use Rattle.djq_model.specs.Data.{Bytes}
 use Rattle.djq_laws.specs.declared.limits.TheConstants.{MOST_READS}
 use Rattle.djq_mirror.specs.declared.mode.TheConstants.{REPLY_LINE_BYTES}
@@ -105,12 +105,6 @@ IsNextLine count NoMem = ⊥
 abbrev pub EndsInput : Following → Option Halt → Type 0
 EndsInput f None = f.begun ≡ []
 EndsInput f (Some halt) = (f.begun ≢ []) × IsNextLine f.count halt
-
--- The source gave these bytes, in pieces.
-pub record Gave (before now : Option Reading) (bytes : Bytes) : Type 0 where
-  pub pieces : List Bytes
-  pub told : Gives before now pieces
-  pub all : bytes ≡ concat pieces
 
 -- It has nothing left, where it tells.
 abbrev pub HasGivenAll : Option Reading → Type 0

@@ -24,17 +24,13 @@ use Rattle.std.proofs.Common.{
   arith,
 }
 use Rattle.std.specs.Prelude.{◌&&◌, ◌||◌, not, Some, slice_get, slice_index_or}
-use Rattle.std.proofs.lemmas.Bool.{cases_Bool, false≢true, and_right}
+use Rattle.std.proofs.lemmas.Bool.{cases_Bool, false≢true, and_right, and_from, not_from_false}
 use Rattle.std.proofs.lemmas.Option.{same_Some, none-some}
 use Rattle.std.proofs.lemmas.List.{take-take}
 use Rattle.std.proofs.lemmas.List.Sums.{sum_by-take-le}
 use Rattle.djq_live.specs.Live.{Live}
 use Rattle.djq_live.specs.Member.{has_cells}
 use Rattle.djq_gains.specs.Gathering.{is_alone}
-
-both : (b r : Bool) → b ≡ false → r ≡ true → (not b && r) ≡ true
-both true r e h = absurd (false≢true (sym e))
-both false r e h = h
 
 first_fails : (b r : Bool) → b ≡ true → (not b && r) ≡ false
 first_fails true r e = refl
@@ -49,11 +45,13 @@ pub alone_true : (ls : List Live) (by : List Bool) (cells : List ℕ) → Pass l
     → is_alone ls by cells ≡ true
 alone_true [] by cells pass = refl
 alone_true (l ∷ ls) [] cells pass =
-    both (has_cells l cells) (is_alone ls [] cells) (pass 0 l refl refl)
+    and_from (not (has_cells l cells)) (is_alone ls [] cells)
+    (not_from_false (has_cells l cells) (pass 0 l refl refl))
     (alone_true ls [] cells (λ m p is out. pass (suc m) p is refl))
 alone_true (l ∷ ls) (true ∷ by) cells pass = alone_true ls by cells (λ m p is out. pass (suc m) p is out)
 alone_true (l ∷ ls) (false ∷ by) cells pass =
-    both (has_cells l cells) (is_alone ls by cells) (pass 0 l refl refl)
+    and_from (not (has_cells l cells)) (is_alone ls by cells)
+    (not_from_false (has_cells l cells) (pass 0 l refl refl))
     (alone_true ls by cells (λ m p is out. pass (suc m) p is out))
 
 pub alone_false : (ls : List Live) (by : List Bool) (cells : List ℕ) (m : ℕ) (p : Live)

@@ -1,8 +1,9 @@
 -- How what a source gave composes over several reads.
-use Rattle.std.proofs.Common.{◌≡◌, ℕ, List, [], ◌∷◌, ◌++◌, refl, sym, ap, ◌∙◌, append_assoc, append-nil}
+use Rattle.std.proofs.Common.{◌≡◌, ℕ, List, [], ◌∷◌, ◌++◌, refl, sym, ap, ◌∙◌, subst, append_assoc, append-nil}
 use Rattle.std.specs.Prelude.{Option, Some, None}
 use Rattle.std.specs.List.{concat}
 use Rattle.djq_io.specs.Source.{Reading, GivesPiece, Gives}
+use Rattle.djq_io.specs.Given.{Gave}
 use Rattle.std.proofs.lemmas.List.Folds.{concat-append}
 
 -- a call that reads nothing
@@ -32,3 +33,23 @@ gives_more (Some o) (Some m) (Some n) given more p q = (
       ∙ ap (λ bytes. concat given ++ bytes) q.1 ∙ sym (append_assoc (concat given) (concat more) n.left)
       ∙ sym (ap (λ bytes. bytes ++ n.left) (concat-append given more)),
 )
+
+-- ---- the bytes of the pieces
+
+-- nothing was read
+pub gave_none : (o : Option Reading) → Gave o o []
+gave_none o = record { pieces = []; told = gives_none o; all = refl }
+
+-- a piece more was read
+pub gave_more : (o m n : Option Reading) (bytes piece : List ℕ) → Gave o m bytes → GivesPiece m n piece
+    → Gave o n (bytes ++ piece)
+gave_more o m n bytes piece g p = record {
+  pieces = g.pieces ++ piece ∷ [];
+  told = gives_more o m n g.pieces (piece ∷ []) g.told (gives_piece m n piece p);
+  all = ap (λ (xs : List ℕ). xs ++ piece) g.all
+      ∙ sym (concat-append g.pieces (piece ∷ []) ∙ ap (λ (xs : List ℕ). concat g.pieces ++ xs) (append-nil piece));
+}
+
+-- nothing more was read
+pub gave_same : (o m n : Option Reading) (bytes : List ℕ) → Gave o m bytes → n ≡ m → Gave o n bytes
+gave_same o m n bytes g same = subst (λ (k : Option Reading). Gave o k bytes) (sym same) g

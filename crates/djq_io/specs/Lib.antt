@@ -2,6 +2,7 @@ pub mod Faults
 pub mod Failing
 pub mod FailingSends
 pub mod Source
+pub mod Given
 pub mod Sink
 pub mod Written
 pub mod Hub

@@ -1,13 +1,12 @@
 -- Lines that a log keeps.
-use Rattle.std.proofs.Common.{◌≡◌, ℕ, ◌<◌, ◌≤◌, List, [], ◌∷◌, ◌++◌, length, refl, sym, subst, arith, append-nil}
+use Rattle.std.proofs.Common.{◌≡◌, ℕ, ◌≤◌, List, [], ◌∷◌, ◌++◌, length, refl, sym, subst, arith}
 use Rattle.std.specs.Prelude.{Option, None, Some, slice_get}
 use Rattle.djq_disk.specs.History.{History, WhereTold}
 use Rattle.djq_journal.specs.Standing.{IsIdle}
-use Rattle.djq_journal.specs.Appending.{Appends, gate_after}
+use Rattle.djq_journal.specs.Appending.{Appends}
 use Rattle.djq_journal.specs.Keeping.{whole_lines, IsKeeping}
-use Rattle.djq_journal.specs.Logging.{grouped, HasKept, Keeps, Overfull}
+use Rattle.djq_journal.specs.Logging.{grouped, Keeps}
 use Rattle.djq_journal.specs.declared.journal.Appended.TheVariants.{Done, Failed as Unappended, Full as Overflows}
-use Rattle.djq_journal.specs.declared.limits.TheConstants.{LAST_GATE}
 use Rattle.djq_journal.specs.declared.log.Kept.TheVariants.{All, Failed, Full}
 use Rattle.djq_journal.proofs.Going.{keeps_on}
 

@@ -25,7 +25,7 @@ use Rattle.djq_machine.specs.Store.{
   DeletesAs,
   DeletesRow,
 }
-use Rattle.djq_laws.proofs.Forms.{done_of}
+use Rattle.djq_laws.proofs.Forms.{done_of, none_holds}
 use Rattle.djq_model.proofs.Counted.{
   tuples_with_row,
   tuples_with_copies,
@@ -35,7 +35,7 @@ use Rattle.djq_model.proofs.Counted.{
   without_moved,
 }
 use Rattle.djq_laws.proofs.Apart.{rows_more, rows_less, texts_apart}
-use Rattle.djq_kept.proofs.Respecting.{EndsWell, Respects, none_of, give, late_of, where_memory, by_texts}
+use Rattle.djq_kept.proofs.Respecting.{EndsWell, Respects, give, late_of, where_memory, by_texts}
 use Rattle.djq_machine.specs.declared.machine.Loaded.{Loaded}
 use Rattle.djq_machine.specs.Loading.{StoreLoads}
 use Rattle.djq_kept.specs.Kept.{HasRowsOnce, Follows}
@@ -109,7 +109,7 @@ module _ (a b : Store) (f : Follows a b) where
 
     added_free : add_refusal b name row ≡ None
     added_free = add_same a b name row f
-        ∙ none_of (add_refusal a name row) First (AddsAs a name row to) (LateAdd a to) m.answer
+        ∙ none_holds (add_refusal a name row) First (AddsAs a name row to) (LateAdd a to) m.answer
 
     added_room : length (all_learned a.texts (texts_in row)) ≤ TEXTS
     added_room = subst (λ (ts : List Bytes). length ts ≤ TEXTS) (ap (λ (st : Store). st.texts) added_as.2) added_as.1
@@ -199,7 +199,7 @@ module _ (a b : Store) (f : Follows a b) where
 
     more_free : add_refusal b name row ≡ None
     more_free = add_same a b name row f
-        ∙ none_of (add_refusal a name row) (More copies) (AddsAs a name row to) (LateMore a to) m.answer
+        ∙ none_holds (add_refusal a name row) (More copies) (AddsAs a name row to) (LateMore a to) m.answer
 
     more_there : has_row (rows_of b.relations name) row ≡ true
     more_there = same_has a b name row f ∙ more_as.0
@@ -250,7 +250,7 @@ module _ (a b : Store) (f : Follows a b) where
 
     removed_free : delete_refusal b name row ≡ None
     removed_free = delete_same a b name row f
-        ∙ none_of (delete_refusal a name row) Last (DeletesAs a name row to) (OutOfMemoryWhere ⊥) m.answer
+        ∙ none_holds (delete_refusal a name row) Last (DeletesAs a name row to) (OutOfMemoryWhere ⊥) m.answer
 
     removed_there : has_row (rows_of b.relations name) row ≡ true
     removed_there = same_has a b name row f ∙ removed_as.0
@@ -323,7 +323,7 @@ module _ (a b : Store) (f : Follows a b) where
 
     left_free : delete_refusal b name row ≡ None
     left_free = delete_same a b name row f
-        ∙ none_of (delete_refusal a name row) (Left copies) (DeletesAs a name row to) (OutOfMemoryWhere ⊥) m.answer
+        ∙ none_holds (delete_refusal a name row) (Left copies) (DeletesAs a name row to) (OutOfMemoryWhere ⊥) m.answer
 
     left_there : has_row (rows_of b.relations name) row ≡ true
     left_there = same_has a b name row f ∙ left_as.0

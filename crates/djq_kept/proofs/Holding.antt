@@ -1,9 +1,9 @@
 -- A batch that a run did: its lines, loaded where what was there is followed.
-use Rattle.std.proofs.Common.{ℕ, List, [], ◌∷◌, ◌++◌, ◌+◌, ◌≡◌, ◌<◌, ◌≤◌, inl, inr, Bool, true}
+use Rattle.std.proofs.Common.{List, [], ◌∷◌, ◌++◌, ◌+◌, ◌≡◌, ◌<◌, ◌≤◌, inl, inr, Bool, true}
 use Rattle.std.proofs.Common.{false, length, refl, sym, ◌∙◌, subst, arith, append_assoc, append-nil}
 use Rattle.std.proofs.Common.{length-append}
 use Rattle.std.specs.Prelude.{◌==◌, not, nat_le, None, Some, is_none, Ok, Err, map, codes, All, ⊤}
-use Rattle.std.proofs.lemmas.Bool.{leb-true}
+use Rattle.std.proofs.lemmas.Bool.{lt-leb}
 use Rattle.std.proofs.lemmas.List.Elements.{All-head, All-tail}
 use Rattle.djq_model.specs.Data.{Bytes, Tuple, relation_of}
 use Rattle.djq_model.specs.Typed.{fits}
@@ -111,13 +111,6 @@ abbrev pub GroupRespects : Store → Group → Store → Type 0
 GroupRespects a group to = (b : Store) → Follows a b → (rest : List Bytes) (last : Loading)
     → ((n : Store) → Follows to n → LoadsOn (loading n) rest last) → LoadsOn (loading b) (group ++ rest) last
 
-below : (n m : ℕ) → m < n → nat_le n m ≡ false
-below n m few = at (nat_le n m) refl
-  where
-    at : (b : Bool) → nat_le n m ≡ b → b ≡ false
-    at false e = refl
-    at true e = let least = leb-true n m e in absurd (omega (arith, few, least))
-
 -- the lines of a batch that is done
 abbrev pub batch_lines : List HeldRow → Group
 batch_lines held = codes "batch" ∷ map (λ (h : HeldRow). h.line) held ++ codes "done" ∷ []
@@ -127,7 +120,7 @@ suits_free : (a : Store) (held : List HeldRow) (name : Bytes) (row : Tuple) → 
     → length held < HELD
     → hold_refusal a held name row ≡ None
 suits_free a held name row suits few =
-    by (nat_le HELD (length held)) (below HELD (length held) few) (is_none (relation_of a.relations name))
+    by (nat_le HELD (length held)) (lt-leb HELD (length held) few) (is_none (relation_of a.relations name))
     (not (length row == length (types_of (relation_of a.relations name))))
     (not (fits (types_of (relation_of a.relations name)) row)) suits
   where

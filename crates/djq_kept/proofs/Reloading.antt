@@ -52,6 +52,7 @@ use Rattle.djq_machine.specs.Loading.{
   Loads,
 }
 use Rattle.djq_laws.proofs.Apart.{nothing_apart}
+use Rattle.djq_laws.proofs.Forms.{none_holds}
 use Rattle.djq_kept.specs.Kept.{
   HasRowsOnce,
   Follows,
@@ -64,7 +65,7 @@ use Rattle.djq_kept.specs.Kept.{
   StoodAt,
   StopsReload,
 }
-use Rattle.djq_kept.proofs.Respecting.{Respects, none_of, rel_respects, query_respects, union_respects, drop_respects}
+use Rattle.djq_kept.proofs.Respecting.{Respects, rel_respects, query_respects, union_respects, drop_respects}
 use Rattle.djq_kept.proofs.Copying.{add_respects, more_respects, delete_respects, left_respects}
 use Rattle.djq_kept.proofs.Following.{
   holding,
@@ -135,7 +136,7 @@ open_loaded : (a : Store) (held : List HeldRow) (l : Bytes) (c : Command) (to : 
     → Follows a b → CommandRespects (holding b held) l c to
 open_loaded a held l (Add name row) to (Ok u, k, e, same) b f =
     subst (λ (n : Loading). CommandRespects (holding b held) l (Add name row) n) (sym same)
-    (hold_respects a b f l held name row (none_of (hold_refusal a held name row) u (λ _. ⊤) (OutOfMemoryWhere ⊤) k))
+    (hold_respects a b f l held name row (none_holds (hold_refusal a held name row) u (λ _. ⊤) (OutOfMemoryWhere ⊤) k))
 open_loaded a held l (Add name row) to (Err r, k, e, same) b f = absurd (not_ran r e)
 open_loaded a held l Done to (Ok n, k, e, closed) b f =
     of_batch (λ (m : Loading). CommandRespects (holding b held) l Done m) to None closed

@@ -53,7 +53,7 @@ use Rattle.djq_machine.specs.Store.{
   answer_steps,
 }
 use Rattle.djq_machine.specs.Union.{union_refusal, AreUnder, RegistersUnion}
-use Rattle.djq_laws.proofs.Forms.{done_of}
+use Rattle.djq_laws.proofs.Forms.{done_of, none_holds}
 use Rattle.djq_laws.proofs.Apart.{nothing_apart, texts_apart}
 use Rattle.djq_machine.specs.declared.machine.Loaded.{Loaded}
 use Rattle.djq_machine.specs.declared.machine.Loaded.TheVariants.{Ran as ran, NoMem as no_memory}
@@ -72,11 +72,6 @@ pub record Respects (b : Store) (c : Command) (to : Store) : Type 0 where
   pub each : (how : Loaded) (n : Store) → StoreLoads b c how n → EndsWell how to n
 
 -- ---- what answers say
-
-pub none_of : {A : Type 0} (o : Option Refusal) (a : A) (D : A → Type 0) (L : Refusal → Type 0) → Answers o (Ok a) D L
-    → o ≡ None
-none_of None a D L h = refl
-none_of (Some r) a D L h = absurd h
 
 pub give : {A : Type 0} (o : Option Refusal) (a : A) (D : A → Type 0) (L : Refusal → Type 0) → o ≡ None → D a
     → Answers o (Ok a) D L
@@ -131,7 +126,7 @@ module _ (a b : Store) (f : Follows a b) where
 
       made_free : rel_refusal b name types ≡ None
       made_free = rel_same a b name types f.same
-          ∙ none_of (rel_refusal a name types) u (λ _. to ≡ made a) (OutOfMemoryWhere ⊤) m.answer
+          ∙ none_holds (rel_refusal a name types) u (λ _. to ≡ made a) (OutOfMemoryWhere ⊤) m.answer
 
       made_follows : Follows to (made b)
       made_follows = subst (λ (st : Store). Follows st (made b)) (sym made_is) (record {
@@ -185,7 +180,7 @@ module _ (a b : Store) (f : Follows a b) where
 
     listed_free : query_refusal b q ≡ None
     listed_free = query_same a b q f.same
-        ∙ none_of (query_refusal a q) (Registered most) (RegistersAs a q to) (RefusedLate a q to) m.answer
+        ∙ none_holds (query_refusal a q) (Registered most) (RegistersAs a q to) (RefusedLate a q to) m.answer
 
     listed_room : length (all_learned a.texts (texts_in (constants_of q))) ≤ TEXTS
     listed_room = subst (λ (ts : List Bytes). length ts ≤ TEXTS) (ap (λ (st : Store). st.texts) listed_as.3) listed_as.2
@@ -260,7 +255,7 @@ module _ (a b : Store) (f : Follows a b) where
     united_free : union_refusal b name members ≡ None
     united_free =
         union_same a b name members f.same
-        ∙ none_of (union_refusal a name members) most (United a to) (OutOfMemoryWhere ⊤) m.answer
+        ∙ none_holds (union_refusal a name members) most (United a to) (OutOfMemoryWhere ⊤) m.answer
 
     united_under : AreUnder b.queries members united_as.0
     united_under = subst (λ (qs : List Listed). AreUnder qs members united_as.0) (sym f.same.queries) united_as.1
@@ -320,7 +315,7 @@ module _ (a b : Store) (f : Follows a b) where
         ap (λ (qs : List Listed). first_refusal ((is_none (listed_of qs q), NoQuery) ∷ (is_member qs q, InUse) ∷ []))
         f.same.queries
         ∙ unused (is_none (listed_of a.queries q)) used (is_member a.queries q)
-        (none_of (drop_refusal a used q) u (λ _. to ≡ dropped a) (OutOfMemoryWhere ⊥) m.answer)
+        (none_holds (drop_refusal a used q) u (λ _. to ≡ dropped a) (OutOfMemoryWhere ⊥) m.answer)
       where
         unused : (x y z : Bool) → cond x (Some NoQuery) (cond (y || z) (Some InUse) None) ≡ None
             → cond x (Some NoQuery) (cond z (Some InUse) None) ≡ None

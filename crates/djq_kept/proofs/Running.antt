@@ -4,14 +4,13 @@ use Rattle.std.specs.Prelude.{◌==◌, Option, None, Some, IfSome, MatchOption}
 use Rattle.djq_model.specs.declared.relation.Relation.{Relation}
 use Rattle.djq_model.specs.Data.{Bytes}
 use Rattle.djq_lines.specs.declared.answer.EndCause.{EndCause}
-use Rattle.djq_lines.specs.declared.answer.EndCause.TheVariants.{Memory, Input}
+use Rattle.djq_lines.specs.declared.answer.EndCause.TheVariants.{Input}
 use Rattle.djq_lines.specs.declared.answer.Refusal.{Refusal}
 use Rattle.djq_lines.specs.declared.command.Command.{Command}
 use Rattle.djq_lines.specs.declared.held.HeldRow.{HeldRow}
 use Rattle.djq_lines.specs.Grammar.{says_command, reading_of}
-use Rattle.djq_lines.specs.Reply.{end_memory}
 use Rattle.djq_machine.specs.State.{Store, State, Session, fresh, session_of, with_session, ended_by}
-use Rattle.djq_machine.specs.Effect.{Effect, nothing, EndsWith, RefusedStep}
+use Rattle.djq_machine.specs.Effect.{Effect, nothing, RefusedStep}
 use Rattle.djq_machine.specs.LineStep.{LineOutcome, long, blank, slow, no_room, run, behind_line, FrontStep}
 use Rattle.djq_machine.specs.Step.{Event, opened, fed, stepped, took, ended, closed, FedStep}
 use Rattle.djq_machine.specs.Step.{TookStep, EndedStep, Acts, Step, SameRelations, with_relations}
@@ -23,6 +22,7 @@ use Rattle.djq_laws.proofs.Changing.{all_found}
 use Rattle.djq_laws.proofs.Forms.{Reads, turned_down, carried_out, line_reads}
 use Rattle.djq_laws.proofs.Watching.{queued_store}
 use Rattle.djq_laws.proofs.Sounding.{step_sound}
+use Rattle.djq_laws.proofs.Touching.{fed_store}
 use Rattle.djq_kept.specs.Kept.{Follows, LoadsTo, KeptLinesLoad}
 use Rattle.djq_kept.proofs.Knowing.{known_trans}
 use Rattle.djq_kept.proofs.Following.{follows_left, follows_closed, no_lines}
@@ -96,15 +96,6 @@ opened_store : (P : Type 0) (old : State) (s : ℕ) (mid : State)
     → mid.store ≡ old.store
 opened_store P old s mid (inl k) = ap (λ (st : State). st.store) k.1
 opened_store P old s mid (inr k) = ap (λ (st : State). st.store) k
-
-fed_store : (old : State) (s : ℕ) (bytes : Bytes) (e : Effect) (mid : State) (c : Option EndCause)
-    → MatchOption c
-    (((e ≡ nothing) ×
-    (mid ≡ with_session old s (λ y. record y { held = y.held ++ bytes }))) ⊎ EndsWith end_memory Memory old s e mid)
-    (λ _. (e ≡ nothing) × (mid ≡ old)) → mid.store ≡ old.store
-fed_store old s bytes e mid None (inl h) = ap (λ (st : State). st.store) h.1
-fed_store old s bytes e mid None (inr h) = ap (λ (st : State). st.store) h.1
-fed_store old s bytes e mid (Some c) h = ap (λ (st : State). st.store) h.1
 
 ended_store : (P Q : Type 0) (old : State) (s : ℕ) (e : Effect) (mid : State) (c : Option EndCause)
     → MatchOption c (P × Q × (mid ≡ with_session old s (ended_by Input))) (λ _. (e ≡ nothing) × (mid ≡ old))

@@ -27,7 +27,7 @@ use Rattle.djq_machine.specs.Loading.{Loading, loading, StoreLoads, CommandLoads
 use Rattle.djq_machine.proofs.Walks.{walk_keeps}
 use Rattle.djq_laws.specs.Form.{row_comes, row_goes, rows_come}
 use Rattle.djq_laws.specs.Sound.{IsSoundStore, IsSoundBatch, IsHeldBySaying}
-use Rattle.djq_laws.proofs.Forms.{rel_stored, query_stored, union_stored, drop_stored}
+use Rattle.djq_laws.proofs.Forms.{rel_stored, query_stored, union_stored, drop_stored, none_holds}
 use Rattle.djq_laws.proofs.Members.{HasMembers, said_members}
 use Rattle.djq_laws.proofs.Rows.{added, deleted}
 use Rattle.djq_laws.proofs.Batches.{batched}
@@ -35,7 +35,6 @@ use Rattle.djq_laws.proofs.Suiting.{types_moved, types_suit, batch_still, held_m
 use Rattle.djq_laws.proofs.Storing.{stored_sound, made_sound, moved_store}
 use Rattle.djq_laws.proofs.Sounding.{opening_is_start}
 use Rattle.djq_kept.specs.Kept.{FoundIsStart}
-use Rattle.djq_kept.proofs.Respecting.{none_of}
 use Rattle.djq_kept.proofs.Following.{holding, of_batch}
 
 -- The store is sound, and so is the batch, where one is open.
@@ -95,7 +94,7 @@ within_sound old held l (Add name row) said how new (Ok u, k, e, same) sound =
     let more : HeldRow = record { line = l; relation = name; row = row } in
     stays_so (holding old (held ++ more ∷ [])) new same (record {
       store = sound.store;
-      batch = held_more old held more (none_of (hold_refusal old held name row) u (λ _. ⊤) (OutOfMemoryWhere ⊤) k)
+      batch = held_more old held more (none_holds (hold_refusal old held name row) u (λ _. ⊤) (OutOfMemoryWhere ⊤) k)
           (record { said = said }) sound.batch;
     })
 within_sound old held l (Add name row) said how new (Err r, k, e, same) sound =

@@ -14,7 +14,6 @@ use Rattle.std.specs.Prelude.{
   Option,
   None,
   Some,
-  All,
   Contains,
   IsPermutation,
 }

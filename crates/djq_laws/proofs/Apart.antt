@@ -52,9 +52,6 @@ other_name a b e same = let yes : bytes_eq a b ≡ true = (bytes_eq-decides a b)
 
 -- Names of things of any kind.
 module _ {A : Type 0} (name_of : A → Bytes) where
-  names : List A → List Bytes
-  names xs = map name_of xs
-
   -- where none is found, each has another name
   unnamed : (xs : List A) (name : Bytes) → find (λ x. bytes_eq (name_of x) name) xs ≡ None
       → All (λ n. n ≢ name) (map name_of xs)

@@ -1,6 +1,6 @@
 -- What holds of all in a list, after a change of the first that passes a test.
-use Rattle.std.specs.Prelude.{List, [], ◌∷◌, ◌≡◌, Bool, true, false, cond, Some, find, All, map}
-use Rattle.std.proofs.Common.{refl, ap, ◌∙◌, subst}
+use Rattle.std.specs.Prelude.{List, [], ◌∷◌, ◌≡◌, ◌≤◌, Bool, true, false, cond, Some, find, All, map, length}
+use Rattle.std.proofs.Common.{refl, ap, ◌∙◌, subst, arith}
 use Rattle.std.proofs.lemmas.List.Elements.{All-nil, All-cons, All-head, All-tail}
 use Rattle.djq_model.specs.Data.{change_first, drop_first}
 use Rattle.std.proofs.lemmas.Option.{same_Some}
@@ -35,6 +35,14 @@ all_dropped P p (x ∷ xs) h = at_first (p x) (all_dropped P p xs (All-tail P x 
     at_first : (b : Bool) → All P (drop_first p xs) → All P (cond b xs (x ∷ drop_first p xs))
     at_first true rest = All-tail P x xs h
     at_first false rest = All-cons P x (drop_first p xs) (All-head P x xs h) rest
+
+pub less_dropped : {A : Type 0} (p : A → Bool) (xs : List A) → length (drop_first p xs) ≤ length xs
+less_dropped p [] = omega arith
+less_dropped p (x ∷ xs) = by (p x) (less_dropped p xs)
+  where
+    by : (b : Bool) → length (drop_first p xs) ≤ length xs → length (cond b xs (x ∷ drop_first p xs)) ≤ length (x ∷ xs)
+    by true h = omega arith
+    by false h = omega (arith, h)
 
 pub all_mapped : {A : Type 0} (P Q : A → Type 0) (f : A → A) → ((x : A) → P x → Q (f x)) → (xs : List A) → All P xs
     → All Q (map f xs)

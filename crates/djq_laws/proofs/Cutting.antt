@@ -55,7 +55,7 @@ pub record LineInFront (bytes l rest : Bytes) : Type 0 where
   pub behind : behind_lf bytes ≡ Some rest
 
 -- the line and the rest of a front
-abbrev a_line_in : Front → Bytes
+abbrev pub a_line_in : Front → Bytes
 a_line_in dry = []
 a_line_in too_long = []
 a_line_in (a_line l rest) = l
@@ -130,7 +130,7 @@ abbrev HeldSteps : State → Event → State → ℕ → Type 0
 HeldSteps old event mid t = HeldStep (fed_by t event) (line_by t event) (held_of old t) (held_of mid t) (cause_of old t)
     (cause_of mid t)
 
-none_some : (o : Option EndCause) → o ≡ None → IsSome o → ⊥
+pub none_some : (o : Option EndCause) → o ≡ None → IsSome o → ⊥
 none_some o e h = absurd cc
 
 pub some_of : (o : Option EndCause) (c : EndCause) → o ≡ Some c → IsSome o

@@ -1,8 +1,8 @@
 -- What is taken of a session's bytes comes before what is dropped, where no session opens twice.
 use Rattle.std.specs.Prelude.{ℕ, List, [], ◌∷◌, ◌==◌, ◌≡◌, ◌<◌, ◌++◌, ◌⊎◌, Bool, true, false, not}
-use Rattle.std.specs.Prelude.{cond, filter, None, Some, IsSomeAnd, find, map, All, AllPairs}
+use Rattle.std.specs.Prelude.{cond, filter, Some, IsSomeAnd, find, map, All, AllPairs}
 use Rattle.std.proofs.Common.{zero, suc, refl, sym, ap, ◌∙◌, subst, append_assoc, append-nil, inl, inr, arith}
-use Rattle.std.proofs.lemmas.Bool.{eqb-true, eq-eqb}
+use Rattle.std.proofs.lemmas.Bool.{eqb-true, eq-eqb, both_ways}
 use Rattle.std.proofs.lemmas.List.Elements.{All-nil, All-cons, All-head, All-tail, All-push, All-filter, All-weaker}
 use Rattle.djq_model.specs.Data.{Bytes}
 use Rattle.djq_machine.specs.State.{State, Session, session_of}
@@ -11,21 +11,13 @@ use Rattle.djq_machine.specs.Step.{Event, opened, fed, stepped, took, ended, clo
 use Rattle.djq_machine.specs.Run.{Did, Run, out, to_session, all_taken, taken_by, pending_of}
 use Rattle.djq_machine.specs.Call.{state_ids}
 use Rattle.djq_laws.specs.Sent.{dropped_by, all_dropped, opened_by, all_opened, SentInOrder}
-use Rattle.djq_deltas.proofs.Cases.{some_there, not_both}
+use Rattle.djq_deltas.proofs.Cases.{some_there}
 use Rattle.djq_laws.proofs.Rising.{IdsBehind, step_ids}
 use Rattle.djq_laws.proofs.Sending.{step_bytes}
 
 -- the id is none of these
 abbrev NotAmong : ℕ → List ℕ → Type 0
 NotAmong s ids = All (λ i. (i == s) ≡ false) ids
-
-not_found : (s : ℕ) (xs : List Session) → NotAmong s (map (λ (x : Session). x.id) xs)
-    → find (λ (x : Session). x.id == s) xs ≡ None
-not_found s [] h = refl
-not_found s (x ∷ xs) h =
-    let rest = map (λ (y : Session). y.id) xs in
-    ap (λ b. cond b (Some x) (find (λ (y : Session). y.id == s) xs)) (All-head (λ i. (i == s) ≡ false) x.id rest h)
-    ∙ not_found s xs (All-tail (λ i. (i == s) ≡ false) x.id rest h)
 
 -- what holds of all ids holds of that of a session that is found
 pub at_found : (P : ℕ → Type 0) (s : ℕ) (xs : List Session) (x : Session) → find (λ (y : Session). y.id == s) xs
@@ -47,7 +39,7 @@ not_there : (s t : ℕ) (old : State) (P : Session → Type 0) → (t == s) ≡ 
 not_there s t old P same out there =
     let f = some_there (session_of old t) P there in
     let found : session_of old s ≡ Some f.0 = subst (λ i. session_of old i ≡ Some f.0) (eqb-true t s same) f.1 in
-    not_both (s == s) (eq-eqb s s refl) (at_found (λ i. (i == s) ≡ false) s old.sessions f.0 found out)
+    both_ways (s == s) (at_found (λ i. (i == s) ≡ false) s old.sessions f.0 found out) (eq-eqb s s refl)
 
 none_by : (s : ℕ) (old : State) (event : Event) (e : Effect) (new : State) → Step old event e new
     → NotAmong s (state_ids old) → taken_by s event ≡ []

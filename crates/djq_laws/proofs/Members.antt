@@ -30,7 +30,7 @@ use Rattle.std.specs.Prelude.{
 use Rattle.std.specs.List.{list_any}
 use Rattle.std.specs.Str.{is_utf8}
 use Rattle.std.proofs.Common.{refl, sym, ap, ap₂, ◌∙◌, subst, arith}
-use Rattle.std.proofs.lemmas.Bool.{ltb-false, or_parts}
+use Rattle.std.proofs.lemmas.Bool.{ltb-false, or_parts, not-false}
 use Rattle.std.proofs.lemmas.List.{length-map}
 use Rattle.std.proofs.lemmas.List.Elements.{All-nil, All-cons, All-weaker}
 use Rattle.std.proofs.lemmas.List.Kept.{AllPairs-cons}
@@ -128,7 +128,6 @@ use Rattle.djq_machine.specs.Union.{
 use Rattle.djq_laws.specs.Sound.{AreApart, IsSoundUnion}
 use Rattle.djq_deltas.proofs.Growing.{none_any}
 use Rattle.djq_laws.proofs.Apart.{nothing_apart, other_name}
-use Rattle.djq_deltas.proofs.Cases.{not_false}
 
 -- ---- what a line says
 
@@ -306,7 +305,7 @@ types_agree st types (n ∷ ns) (q ∷ qs) under e =
     let k = or_parts (not (same_types types (types_under st n)))
     (list_any (λ m. not (same_types types (types_under st m))) ns) e in
     All-cons (λ (p : Query). answer_types st.relations p ≡ types) q qs
-    (sym (all_same types (types_under st n) (not_false (same_types types (types_under st n)) k.0)
+    (sym (all_same types (types_under st n) (not-false (same_types types (types_under st n)) k.0)
     ∙ ap (λ (o : Option Listed). listed_types st.relations o) f.0))
     (types_agree st types ns qs f.1 k.1)
 

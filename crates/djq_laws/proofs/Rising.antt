@@ -30,7 +30,7 @@ ids_step : (f : Session → Session) (x : Session) (xs ys : List Session) (b : B
 ids_step f x xs ys true keeps h = ap (λ (i : ℕ). i ∷ map (λ (y : Session). y.id) xs) keeps
 ids_step f x xs ys false keeps h = ap (λ (is : List ℕ). x.id ∷ is) h
 
-changed_ids : (p : Session → Bool) (f : Session → Session) → ((x : Session) → (f x).id ≡ x.id) → (xs : List Session)
+pub changed_ids : (p : Session → Bool) (f : Session → Session) → ((x : Session) → (f x).id ≡ x.id) → (xs : List Session)
     → map (λ (y : Session). y.id) (change_first p f xs) ≡ map (λ (y : Session). y.id) xs
 changed_ids p f keeps [] = refl
 changed_ids p f keeps (x ∷ xs) = ids_step f x xs (change_first p f xs) (p x) (keeps x) (changed_ids p f keeps xs)

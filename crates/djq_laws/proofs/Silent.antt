@@ -32,7 +32,7 @@ use Rattle.djq_laws.specs.Silent.{IsOver, OpensNone, OverIsSilent, OverOnce}
 use Rattle.djq_deltas.proofs.Cases.{some_there}
 use Rattle.djq_laws.proofs.Queueing.{gaining, session_other, queued_all, stepped as stepped_session}
 use Rattle.djq_laws.proofs.Alike.{CauseKept, AlikeFound}
-use Rattle.djq_laws.proofs.Touching.{AnyCause, Touches, FedTo, is_held, out_of_memory, is_dropped}
+use Rattle.djq_laws.proofs.Touching.{AnyCause, Touches, FedTo, is_held, out_of_memory, is_dropped, quiet}
 use Rattle.djq_laws.proofs.Touching.{EndedTo, input_ends, had_ended, is_fed, is_stepped, is_taken, is_ended}
 use Rattle.djq_laws.proofs.Containing.{found_there}
 use Rattle.djq_laws.proofs.Doing.{closing, begun, closing_id, rows_do}
@@ -41,6 +41,7 @@ use Rattle.djq_laws.proofs.Forms.{command_does, Reads, turned_down, carried_out,
 use Rattle.djq_laws.proofs.Sending.{gone_same, others_stay}
 use Rattle.djq_laws.proofs.Sounding.{step_sound, runs_keep_sound}
 use Rattle.djq_laws.proofs.Telling.{find_mapped, some_of}
+use Rattle.djq_laws.proofs.Cutting.{none_some}
 
 -- A session isn't there, or has ended; and then it watches nothing.
 abbrev Over : Option Session → Type 0
@@ -87,9 +88,6 @@ to_deaf st s sound over = by (session_of st s) refl over
 module _ (s : ℕ) where
   quiet_text : (t : ℕ) (text : Bytes) → (t == s) ≡ false → to_session s ((t, text) ∷ []) ≡ []
   quiet_text t text apart = rw apart refl
-
-  quiet_none : (e : Effect) → e ≡ nothing → to_session s e.queued ≡ []
-  quiet_none e h = ap (λ (d : Effect). to_session s d.queued) h
 
   quiet_says : (t : ℕ) (text : Bytes) (e : Effect) → (t == s) ≡ false → e ≡ says t text → to_session s e.queued ≡ []
   quiet_says t text e apart h = ap (λ (d : Effect). to_session s d.queued) h ∙ quiet_text t text apart
@@ -233,7 +231,7 @@ module _ (s : ℕ) where
   front_quiet : (old : State) (t : ℕ) (x : Session) (outcome : LineOutcome) (e : Effect) (mid : State)
       → FrontStep old t x outcome e mid → (t == s) ≡ false → Deaf (session_of old s) → to_session s e.queued ≡ []
   front_quiet old t x long e mid h apart deaf = quiet_says t _ e apart h.1.0
-  front_quiet old t x (blank l) e mid h apart deaf = quiet_none e h.1.then.0
+  front_quiet old t x (blank l) e mid h apart deaf = quiet s e h.1.then.0
   front_quiet old t x (slow l) e mid h apart deaf = quiet_says t _ e apart h.2.then.0
   front_quiet old t x (no_room l) e mid h apart deaf = quiet_says t _ e apart h.2.then.0
   front_quiet old t x (run l) e mid h apart deaf =
@@ -248,9 +246,9 @@ module _ (s : ℕ) where
       Memory old t e mid)
       (λ _. (e ≡ nothing) × (mid ≡ old))
       → to_session s e.queued ≡ []
-  fed_quiet old t bytes e mid None apart (inl h) = quiet_none e h.0
+  fed_quiet old t bytes e mid None apart (inl h) = quiet s e h.0
   fed_quiet old t bytes e mid None apart (inr h) = quiet_says t end_memory e apart h.0
-  fed_quiet old t bytes e mid (Some c) apart h = quiet_none e h.0
+  fed_quiet old t bytes e mid (Some c) apart h = quiet s e h.0
 
   cut_of : ℕ → Bytes → Effect
   cut_of t [] = nothing
@@ -258,7 +256,7 @@ module _ (s : ℕ) where
 
   cut_quiet : (t : ℕ) (held : Bytes) (e : Effect) → (t == s) ≡ false → e ≡ cut_of t held → to_session s e.queued ≡ []
   unfolding cut_of
-  cut_quiet t [] e apart h = quiet_none e h
+  cut_quiet t [] e apart h = quiet s e h
   cut_quiet t (b ∷ bs) e apart h = quiet_says t input_cut e apart h
 
   ended_quiet : (old : State) (t : ℕ) (x : Session) (e : Effect) (mid : State) (c : Option EndCause) → (t == s) ≡ false
@@ -267,7 +265,7 @@ module _ (s : ℕ) where
       (λ _. (e ≡ nothing) × (mid ≡ old))
       → to_session s e.queued ≡ []
   ended_quiet old t x e mid None apart h = cut_quiet t x.held e apart h.1
-  ended_quiet old t x e mid (Some c) apart h = quiet_none e h.0
+  ended_quiet old t x e mid (Some c) apart h = quiet s e h.0
 
   end_quiet : (old : State) (t : ℕ) (x : Session) (e : Effect) (mid : State) → (t == s) ≡ false
       → EndedStep old t x e mid
@@ -294,10 +292,6 @@ over_alike (Some x) (Some y) h k = by h.2
     by (inl same) = subst (λ (c : Option EndCause). IsSome c) (sym same) k
     by (inr new) = some y.cause new
 
-over_none : (o : Option EndCause) → IsSome o → o ≡ None → ⊥
-over_none None h e = absurd cc
-over_none (Some c) h e = absurd cc
-
 -- what an event of the session itself leaves of it
 over_touched : (old : State) (t : ℕ) (x : Session) (e : Effect) (mid : State) (y : Session) (s : ℕ) → (t == s) ≡ true
     → Touches old t x e mid y → (IsSome x.cause → IsSome y.cause) → Over (session_of old s) → Over (session_of mid s)
@@ -314,12 +308,12 @@ cause_there old t x s same found over =
     subst (λ (o : Option Session). Over o) found (subst (λ (i : ℕ). Over (session_of old i)) (sym is) over)
 
 fed_keeps : (x y : Session) (bytes text : Bytes) → FedTo x y bytes text → IsSome x.cause → (text ≡ []) × IsSome y.cause
-fed_keeps x y bytes text (is_held running r h n) k = absurd (over_none x.cause k running)
-fed_keeps x y bytes text (out_of_memory running m h n) k = absurd (over_none x.cause k running)
+fed_keeps x y bytes text (is_held running r h n) k = absurd (none_some x.cause running k)
+fed_keeps x y bytes text (out_of_memory running m h n) k = absurd (none_some x.cause running k)
 fed_keeps x y bytes text (is_dropped c was now h n) k = (n, rw now refl)
 
 end_keeps : (x y : Session) (text : Bytes) → EndedTo x y text → IsSome x.cause → (text ≡ []) × IsSome y.cause
-end_keeps x y text (input_ends running now dry h) k = absurd (over_none x.cause k running)
+end_keeps x y text (input_ends running now dry h) k = absurd (none_some x.cause running k)
 end_keeps x y text (had_ended c was now n) k = (n, rw now refl)
 
 opened_other : (t s : ℕ) (xs : List Session) → (t == s) ≡ false
@@ -348,7 +342,7 @@ closed_over old t s false apart over = subst (λ (o : Option Session). Over o) (
 acts_over : (s : ℕ) (old : State) (event : Event) (e : Effect) (mid : State) → Acts old event e mid → OpensNone s event
     → Over (session_of old s) → Deaf (session_of old s) → LeavesOver s e mid
 acts_over s old (opened t) e mid h none over deaf =
-    record { silent = quiet_none s e h.0; over = opened_over old t mid s none h.2 over }
+    record { silent = quiet s e h.0; over = opened_over old t mid s none h.2 over }
 acts_over s old (fed t bytes) e mid h none over deaf =
     let f = some_there (session_of old t) (λ x. FedStep old t bytes x e mid) h in
     let k = is_fed old t bytes f.0 e mid f.1 f.2 in
@@ -375,7 +369,7 @@ acts_over s old (stepped t outcome) e mid h none over deaf =
     by : (x : Session) → session_of old t ≡ Some x → x.cause ≡ None → (y : Session) → Touches old t x e mid y
         → FrontStep old t x outcome e mid → (b : Bool) → (t == s) ≡ b → LeavesOver s e mid
     by x found running y touches step true same = absurd
-        (over_none x.cause (cause_there old t x s same found over) running)
+        (none_some x.cause running (cause_there old t x s same found over))
     by x found running y touches step false apart = record {
       silent = front_quiet s old t x outcome e mid step apart deaf;
       over = over_alike (session_of old s) (session_of mid s) (touches.others s apart) over;
@@ -383,7 +377,7 @@ acts_over s old (stepped t outcome) e mid h none over deaf =
 acts_over s old (took t bytes) e mid h none over deaf =
     let f = some_there (session_of old t) (λ x. TookStep old t bytes x e mid) h in
     let k = is_taken old t bytes f.0 e mid f.1 f.2 in
-    by f.0 k.session k.touches k.cause (quiet_none s e f.2.0) (t == s) refl
+    by f.0 k.session k.touches k.cause (quiet s e f.2.0) (t == s) refl
   where
     by : (x y : Session) → Touches old t x e mid y → y.cause ≡ x.cause → to_session s e.queued ≡ [] → (b : Bool)
         → (t == s) ≡ b → LeavesOver s e mid
@@ -414,7 +408,7 @@ acts_over s old (ended t) e mid h none over deaf =
       over = over_alike (session_of old s) (session_of mid s) (touches.others s apart) over;
     }
 acts_over s old (closed t bytes) e mid h none over deaf = record {
-  silent = quiet_none s e h.0;
+  silent = quiet s e h.0;
   over = subst (λ (st : State). Over (session_of st s)) (sym h.2) (closed_over old t s (t == s) refl over);
 }
 

@@ -133,6 +133,16 @@ fed_by_cause old s bytes x e mid (Some c) found cause h = record {
   fed = is_dropped c cause cause refl (quiet s e h.0);
 }
 
+-- and the store stays
+pub fed_store : (old : State) (s : ℕ) (bytes : Bytes) (e : Effect) (mid : State) (c : Option EndCause)
+    → MatchOption c
+    (((e ≡ nothing) × (mid ≡ with_session old s (λ y. record y { held = y.held ++ bytes }))) ⊎ EndsWith end_memory
+    Memory old s e mid)
+    (λ _. (e ≡ nothing) × (mid ≡ old)) → mid.store ≡ old.store
+fed_store old s bytes e mid None (inl h) = ap (λ (st : State). st.store) h.1
+fed_store old s bytes e mid None (inr h) = ap (λ (st : State). st.store) h.1
+fed_store old s bytes e mid (Some c) h = ap (λ (st : State). st.store) h.1
+
 pub is_fed : (old : State) (s : ℕ) (bytes : Bytes) (x : Session) (e : Effect) (mid : State) → session_of old s ≡ Some x
     → FedStep old s bytes x e mid → Fed old s bytes x e mid
 is_fed old s bytes x e mid found h = fed_by_cause old s bytes x e mid x.cause found refl h
@@ -151,7 +161,7 @@ pub record Ended (old : State) (s : ℕ) (x : Session) (e : Effect) (mid : State
   pub ends : EndedTo x session (to_session s e.queued)
 
 -- what is said where bytes are held
-cut_of : ℕ → Bytes → Effect
+unfoldable pub cut_of : ℕ → Bytes → Effect
 cut_of s [] = nothing
 cut_of s (b ∷ bs) = says s input_cut
 

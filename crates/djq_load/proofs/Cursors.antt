@@ -28,12 +28,8 @@ use Rattle.std.specs.Prelude.{
   slice_index,
   ⊤,
 }
-use Rattle.std.specs.List.{list_all}
-use Rattle.std.specs.Str.{IsAscii, is_utf8}
-use Rattle.std.proofs.Common.{refl, sym, ap, ◌∙◌, subst, inl, inr, arith, leb}
-use Rattle.std.proofs.lemmas.Bool.{and_parts, leb-true}
-use Rattle.std.proofs.lemmas.Str.{IsUtf8-from_ascii, is_utf8-from_IsUtf8}
-use Rattle.std.proofs.lemmas.Str.Ascii.{IsAscii-nil, IsAscii-cons}
+use Rattle.std.proofs.Common.{refl, sym, ap, ◌∙◌, subst, inl, inr, arith}
+use Rattle.std.proofs.lemmas.Bool.{both_ways}
 use Rattle.djq_model.specs.Data.{Bytes, Tuple, bytes_eq}
 use Rattle.djq_model.specs.Listed.{Listed, AnswersOf, listed_of}
 use Rattle.djq_lines.specs.declared.answer.EndCause.{EndCause}
@@ -60,7 +56,7 @@ use Rattle.djq_lines.specs.declared.answer.Refusal.TheVariants.{
 use Rattle.djq_lines.specs.declared.held.HeldRow.{HeldRow}
 use Rattle.djq_lines.specs.declared.command.Command.{Command}
 use Rattle.djq_lines.specs.declared.command.Command.TheVariants.{Open, Next}
-use Rattle.djq_lines.specs.Line.{Front, dry, too_long, a_line, front_of, is_blank}
+use Rattle.djq_lines.specs.Line.{a_line, front_of, is_blank}
 use Rattle.djq_lines.specs.Grammar.{
   Reading,
   says_command,
@@ -73,6 +69,7 @@ use Rattle.djq_lines.specs.Grammar.{
 use Rattle.djq_lines.specs.Conditions.{Answers}
 use Rattle.djq_lines.specs.Reply.{refusal_line, end_memory, listing_lines, text_of, ok_reply}
 use Rattle.djq_value.specs.Token.{tokens}
+use Rattle.djq_value.proofs.Utf8.{ascii_utf8}
 use Rattle.djq_machine.specs.State.{
   Store,
   State,
@@ -103,7 +100,7 @@ use Rattle.djq_machine.specs.Run.{to_session, pending_of, pending_in}
 use Rattle.djq_machine.specs.Call.{IsOpen, Makes, RanStep, Counts, cause_of, cause_in, held_of, held_in}
 use Rattle.djq_laws.specs.Watched.{batch_in}
 use Rattle.djq_laws.proofs.Finding.{find_changed}
-use Rattle.djq_deltas.proofs.Cases.{some_there, not_both, none_some}
+use Rattle.djq_deltas.proofs.Cases.{some_there, none_some}
 use Rattle.djq_laws.proofs.Queueing.{
   gaining,
   session_changed,
@@ -112,6 +109,7 @@ use Rattle.djq_laws.proofs.Queueing.{
   stepped_pending,
 }
 use Rattle.djq_laws.proofs.Touching.{says_to, is_stepped}
+use Rattle.djq_laws.proofs.Cutting.{a_line_in}
 use Rattle.djq_load.specs.Lines.{IsIdle, LineRuns, TakesAll, cursors_in, cursor_at, Stands}
 use Rattle.djq_load.specs.Totals.{HasLeft, open_line, next_line}
 use Rattle.djq_load.proofs.Idle.{is_fed}
@@ -237,15 +235,9 @@ record Runs (text : Bytes) (mid new : State) : Type 0 where
   stays : IsOpen step.mid 1
   pending : pending_of step.mid 1 ≡ pending_of mid 1
 
-line_in : Front → Bytes
-line_in dry = []
-line_in too_long = []
-line_in (a_line l rest) = l
-
 text_is : (line text l rest : Bytes) (x : Session) (mid : State) → held_of mid 1 ≡ line → front_of line ≡ a_line text []
     → session_of mid 1 ≡ Some x → front_of x.held ≡ a_line l rest → l ≡ text
-unfolding line_in
-text_is line text l rest x mid held is found front = ap line_in
+text_is line text l rest x mid held is found front = ap a_line_in
     (sym front ∙ ap front_of (sym (ap held_in found) ∙ held) ∙ is)
 
 runs : (line text : Bytes) (mid new : State) (before now : Counts) → held_of mid 1 ≡ line → front_of line
@@ -254,8 +246,8 @@ runs line text mid new before now held is full (l, inl m) =
     let h = m.step in
     let f = some_there (session_of mid 1) (λ x. (x.cause ≡ None) × FrontStep mid 1 x (blank l) m.effect h.mid) h.acts in
     let t = f.2.1.1 in
-    absurd (not_both (is_blank text)
-    (ap is_blank (sym (text_is line text l t.rest f.0 mid held is f.1 t.front)) ∙ f.2.1.0) full)
+    absurd (both_ways (is_blank text) full
+    (ap is_blank (sym (text_is line text l t.rest f.0 mid held is f.1 t.front)) ∙ f.2.1.0))
 runs line text mid new before now held is full (l, inr m) =
     let h = m.step in
     let f = some_there (session_of mid 1) (λ x. (x.cause ≡ None) × FrontStep mid 1 x (run l) m.effect h.mid) h.acts in
@@ -362,7 +354,7 @@ carried_out : (st : State) (y : Session) (l : Bytes) (c : Command) (e : Effect) 
     → CommandStep st 1 y l c e m
 carried_out st y l c e m true is takes h = absurd cc
 carried_out st y l c e m false is takes (true, h) = h
-carried_out st y l c e m false is takes (false, h) = absurd (not_both (takes_memory_to_read c) h.0 takes)
+carried_out st y l c e m false is takes (false, h) = absurd (both_ways (takes_memory_to_read c) takes h.0)
 
 next_at : (given : List Tuple) (ended : Bool) (st : State) (y : Session) (e : Effect) (m : State)
     → session_of st 1 ≡ Some y → cursor_of y.cursors (codes "c") ≡ Some (cursor_at given ended) → y.batch ≡ None
@@ -382,19 +374,10 @@ next_at given ended st y e m found stands none running h =
     (λ q. NextStepAt st 1 (codes "c") q 1000 (open_at given ended) e m) at in
     next_told given st y q.0 e m found q.1 running q.2
 
-ascii : (bs : Bytes) → list_all (λ b. leb b 127) bs ≡ true → IsAscii bs
-ascii [] h = IsAscii-nil
-ascii (b ∷ bs) h =
-    let parts = and_parts (leb b 127) (list_all (λ c. leb c 127) bs) h in
-    IsAscii-cons b bs (omega (arith, leb-true b 127 parts.0)) (ascii bs parts.1)
-
-utf8 : (bs : Bytes) → list_all (λ b. leb b 127) bs ≡ true → is_utf8 bs ≡ true
-utf8 bs h = is_utf8-from_IsUtf8 bs (IsUtf8-from_ascii bs (ascii bs h))
-
 next_reads : reading_of (codes "next c 1000") ≡ says_command (Next (codes "c") 1000)
 unfolding command_of tokens
 next_reads = ap (λ (b : Bool). reading_in (cond b (command_in (tokens (codes "next c 1000"))) None))
-    (utf8 (codes "next c 1000") refl)
+    (ascii_utf8 (codes "next c 1000") refl)
 
 -- The cursor is at another place.
 moved : (given more : List Tuple) (ended end : Bool) (cursors : List Cursor) → cursor_of cursors (codes "c")
@@ -463,7 +446,7 @@ next_tells given ended old before new now idle stands h =
 open_reads : reading_of (codes "open c q") ≡ says_command (Open (codes "c") (codes "q"))
 unfolding command_of tokens
 open_reads = ap (λ (b : Bool). reading_in (cond b (command_in (tokens (codes "open c q"))) None))
-    (utf8 (codes "open c q") refl)
+    (ascii_utf8 (codes "open c q") refl)
 
 first_letter : (r : Refusal) → slice_index (refusal_line r) 0 ≡ 101
 first_letter Syntax = refl

@@ -59,7 +59,6 @@ use Rattle.djq_model.specs.Listed.{Listed, a_query, listed_name}
 use Rattle.djq_model.specs.Typed.{fits}
 use Rattle.djq_lines.specs.Columns.{types_of}
 use Rattle.djq_lines.specs.declared.answer.EndCause.{EndCause}
-use Rattle.djq_lines.specs.declared.answer.EndCause.TheVariants.{Memory}
 use Rattle.djq_lines.specs.declared.answer.Refusal.{Refusal}
 use Rattle.djq_lines.specs.declared.answer.Refusal.TheVariants.{NoRelation, Arity, WrongType, Limit}
 use Rattle.djq_lines.specs.declared.answer.AddOutcome.{AddOutcome}
@@ -94,11 +93,10 @@ use Rattle.djq_lines.specs.declared.command.Command.TheVariants.{
 }
 use Rattle.djq_lines.specs.Conditions.{first_refusal, OutOfMemoryWhere}
 use Rattle.djq_lines.specs.Grammar.{says_command, reading_of}
-use Rattle.djq_lines.specs.Reply.{end_memory}
 use Rattle.djq_lines.specs.Variables.{constants_of}
 use Rattle.djq_model.specs.Known.{texts_in}
 use Rattle.djq_machine.specs.State.{Store, State, Session, session_of, with_session}
-use Rattle.djq_machine.specs.Effect.{Effect, nothing, EndsWith}
+use Rattle.djq_machine.specs.Effect.{Effect}
 use Rattle.djq_machine.specs.Store.{
   with_rows,
   copies_of,
@@ -145,9 +143,6 @@ use Rattle.djq_laws.specs.Form.{
   changing,
   ending,
   form_of,
-  Replied,
-  is_whole,
-  is_cut,
   LearnsTexts,
   DoesTurn,
   is_turned,
@@ -155,7 +150,7 @@ use Rattle.djq_laws.specs.Form.{
   Does,
   Turn,
 }
-use Rattle.djq_laws.proofs.Changing.{all_changed, all_dropped}
+use Rattle.djq_laws.proofs.Changing.{all_changed, all_dropped, less_dropped}
 use Rattle.djq_deltas.proofs.Cases.{some_there}
 use Rattle.djq_laws.proofs.Forms.{
   done_of,
@@ -171,6 +166,7 @@ use Rattle.djq_laws.proofs.Forms.{
   line_reads,
 }
 use Rattle.djq_laws.proofs.Watching.{change_store, queued_store, replied_store}
+use Rattle.djq_laws.proofs.Touching.{fed_store}
 use Rattle.djq_load.specs.Joins.{join, IsWithin, IsJoin, Joins}
 
 -- Another store.
@@ -256,20 +252,12 @@ add_joins old name row (Err r) new h j =
     (λ t. (has_row (rows_of old.relations name) row ≡ false) × RefusedByTexts old (texts_in row) new t)
     old new h.answer h.stays (λ late. late_learned old (texts_in row) new r late.1)) j
 
-fewer : {A : Type 0} (p : A → Bool) (xs : List A) → length (drop_first p xs) ≤ length xs
-fewer p [] = omega arith
-fewer p (x ∷ xs) = by (p x) (fewer p xs)
-  where
-    by : (b : Bool) → length (drop_first p xs) ≤ length xs → length (cond b xs (x ∷ drop_first p xs)) ≤ length (x ∷ xs)
-    by true h = omega arith
-    by false h = omega (arith, h)
-
 delete_joins : (old : Store) (name : Bytes) (row : Tuple) (r : Result DeleteOutcome Refusal) (new : Store)
     → DeletesRow old name row r new → Joins old → Joins new
 delete_joins old name row (Ok Last) new h j =
     let d = done_of (delete_refusal old name row) Last (DeletesAs old name row new) (OutOfMemoryWhere ⊥) h.answer in
     let rows = counted_of old.relations name in
-    let less = fewer (λ (c : CountedRow). tuple_eq c.row row) rows in
+    let less = less_dropped (λ (c : CountedRow). tuple_eq c.row row) rows in
     subst Joins (sym d.2) (record {
       rows = rows_joins old name (without_copies rows row) (λ k. omega (arith, k, less)) j.rows;
       queries = j.queries;
@@ -455,15 +443,6 @@ opened_same : (old mid more : State) (P : Type 0) → more.store ≡ old.store �
 opened_same old mid more P same (inl h) = ap (λ (st : State). st.store) h.1 ∙ same
 opened_same old mid more P same (inr h) = ap (λ (st : State). st.store) h
 
-fed_same : (old : State) (s : ℕ) (bytes : Bytes) (e : Effect) (mid : State) (c : Option EndCause)
-    → MatchOption c
-    (((e ≡ nothing) × (mid ≡ with_session old s (λ y. record y { held = y.held ++ bytes }))) ⊎ EndsWith end_memory
-    Memory old s e mid)
-    (λ _. (e ≡ nothing) × (mid ≡ old)) → mid.store ≡ old.store
-fed_same old s bytes e mid None (inl h) = ap (λ (st : State). st.store) h.1
-fed_same old s bytes e mid None (inr h) = ap (λ (st : State). st.store) h.1
-fed_same old s bytes e mid (Some c) h = ap (λ (st : State). st.store) h.1
-
 input_same : (old mid gone : State) (P Q R : Type 0) (c : Option EndCause) → gone.store ≡ old.store
     → MatchOption c (P × Q × (mid ≡ gone)) (λ _. R × (mid ≡ old)) → mid.store ≡ old.store
 input_same old mid gone P Q R None same h = ap (λ (st : State). st.store) h.2 ∙ same
@@ -474,7 +453,7 @@ acts_joins : (old : State) (event : Event) (e : Effect) (mid : State) → IsFine
 acts_joins old (opened s) e mid fine h j = same_joins old.store mid.store (opened_same old mid _ _ refl h.2) j
 acts_joins old (fed s bytes) e mid fine h j =
     let f = some_there (session_of old s) (λ x. FedStep old s bytes x e mid) h in
-    same_joins old.store mid.store (fed_same old s bytes e mid (f.0).cause f.2) j
+    same_joins old.store mid.store (fed_store old s bytes e mid (f.0).cause f.2) j
 acts_joins old (stepped s outcome) e mid fine h j =
     let f = some_there (session_of old s) (λ x. (x.cause ≡ None) × FrontStep old s x outcome e mid) h in
     front_joins old s f.0 outcome e mid fine f.2.1 j

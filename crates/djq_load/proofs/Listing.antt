@@ -1,6 +1,6 @@
 -- The text of a listing is read as the listing is.
 use Rattle.std.specs.Prelude.{ℕ, ℤ, pos, negsuc, zero, suc, nat_lt, List, [], ◌∷◌, ◌++◌, ◌≡◌, ◌==◌}
-use Rattle.std.specs.Prelude.{◌+◌, ◌-◌, ◌*◌, ◌/◌, ◌%◌, ◌^◌, ◌<◌, ◌≤◌, Bool, true, false, cond}
+use Rattle.std.specs.Prelude.{◌+◌, ◌-◌, ◌*◌, ◌/◌, ◌%◌, ◌^◌, ◌<◌, Bool, true, false, cond}
 use Rattle.std.specs.Prelude.{Option, Some, option_map, length, map, codes, sum_by}
 use Rattle.std.specs.List.{list_all, flat_map}
 use Rattle.std.specs.Fmt.{decimal, digits, digits_onto, digit_glyph}

@@ -139,39 +139,6 @@ pub cells_are : (bs : Bytes) → are_cells_in bs ≡ true → AreCells bs
 unfolding are_cells_in
 cells_are bs h = within_cells (length bs) bs h
 
-one_pair : (o : Option (Value × Bytes)) (v w : Value) (xs ys : Bytes) → o ≡ Some (v, xs) → o ≡ Some (w, ys) → (v ≡ w)
-    × (xs ≡ ys)
-one_pair o v w xs ys h k =
-    let pairs = same_pair (v, xs) (w, ys) (sym h ∙ k) in
-    (ap (λ (p : Value × Bytes). p.0) pairs, ap (λ (p : Value × Bytes). p.1) pairs)
-  where
-    same_pair : (p q : Value × Bytes) → Some p ≡ Some q → p ≡ q
-    same_pair p q e = cc
-
-tuple_first : (v w : Value) (t u : Tuple) → is_cell v ≡ true → is_cell w ≡ true
-    → value_text v ++ cells_text t ≡ value_text w ++ cells_text u → (v ≡ w) × (cells_text t ≡ cells_text u)
-tuple_first v w t u h k e =
-    let here = (and_parts (is_small_value v) (is_text v) h).0 in
-    let there = (and_parts (is_small_value w) (is_text w) k).0 in
-    one_pair (literal_at (value_text v ++ cells_text t)) v w (cells_text t) (cells_text u)
-    (read_back v (cells_text t) here (ends_cells t)) (ap literal_at e ∙ read_back w (cells_text u) there (ends_cells u))
-
-behind_first : (b : ℕ) (xs ys : Bytes) → b ∷ xs ≡ b ∷ ys → xs ≡ ys
-behind_first b xs ys e = cc
-
--- Two answers of one text are the same.
-pub cells_apart : (t u : Tuple) → are_cells t ≡ true → are_cells u ≡ true → cells_text t ≡ cells_text u → t ≡ u
-cells_apart [] [] h k e = refl
-cells_apart [] (w ∷ u) h k e = absurd (cc)
-cells_apart (v ∷ t) [] h k e = absurd (cc)
-cells_apart (v ∷ t) (w ∷ u) h k e =
-    let here = and_parts (is_cell v) (are_cells t) h in
-    let there = and_parts (is_cell w) (are_cells u) k in
-    let first = tuple_first v w t u here.0 there.0
-    (behind_first 32 (value_text v ++ cells_text t) (value_text w ++ cells_text u) e) in
-    let more = cells_apart t u here.1 there.1 first.1 in
-    ap (λ x. x ∷ t) first.0 ∙ ap (λ (ts : Tuple). w ∷ ts) more
-
 -- What reading a literal says of a value as it is printed.
 
 both_ways : (a b : Bool) → (a ≡ true → b ≡ true) → (b ≡ true → a ≡ true) → a ≡ b

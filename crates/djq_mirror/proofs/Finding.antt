@@ -56,7 +56,8 @@ use Rattle.djq_lines.specs.declared.answer.Sign.{Sign}
 use Rattle.djq_lines.specs.declared.answer.Sign.TheVariants.{Came, Went}
 use Rattle.djq_lines.specs.Reply.{sign_text}
 use Rattle.djq_mirror.specs.Cells.{are_cells_in}
-use Rattle.djq_mirror.specs.Parts.{before, behind, parts_left}
+use Rattle.djq_model.specs.Parts.{before, behind}
+use Rattle.djq_mirror.specs.Parts.{parts_left}
 use Rattle.djq_mirror.specs.Reading.{
   News,
   opens,

@@ -1,6 +1,5 @@
 pub mod Parting
 pub mod Numerals
-pub mod Utf8
 pub mod Celling
 pub mod Bodies
 pub mod Spelling

@@ -1,39 +1,20 @@
 -- Numbers as they are printed.
-use Rattle.std.proofs.Common.{◌≡◌, ℕ, ◌+◌, ◌/◌, ◌%◌, ◌^◌, ◌<◌, ◌≤◌, true, ◌&&◌, [], ◌∷◌, ◌++◌}
-use Rattle.std.proofs.Common.{length, length-append, Option, Some, None, option_map, refl, sym, ap}
+use Rattle.std.proofs.Common.{◌≡◌, ℕ, ◌^◌, ◌<◌, ◌≤◌, true, ◌&&◌}
+use Rattle.std.proofs.Common.{Option, Some, None, option_map, refl, sym, ap}
 use Rattle.std.proofs.Common.{◌∙◌, arith, ltb, inl, inr}
 use Rattle.std.specs.List.{list_all}
 use Rattle.std.specs.Fmt.{decimal}
-use Rattle.std.proofs.lemmas.Fmt.{decimal_by_steps}
-use Rattle.std.proofs.lemmas.List.Folds.{list_all-append}
 use Rattle.std.proofs.lemmas.Bool.{and_parts, and_from, and_left, false_from_ne_true}
 use Rattle.std.proofs.lemmas.Bool.{le-ltb, lt-ltb, ltb-true, cases_lt}
 use Rattle.djq_model.specs.Data.{Bytes, bytes_eq}
 use Rattle.djq_model.specs.Equality.{bytes_eq-decides}
-use Rattle.djq_value.specs.Literal.{digits_value, is_digit, natural_of}
+use Rattle.djq_value.specs.Literal.{is_digit, natural_of}
 use Rattle.djq_value.specs.Number.{capped}
-use Rattle.djq_value.proofs.Words.{digits_value-push}
 use Rattle.djq_mirror.specs.Reading.{is_number, number_as}
-use Rattle.djq_value.proofs.Literals.{digit_is, natural_written}
-
-record IsWritten (n : ℕ) (ds : Bytes) : Type 0 where
-  some : 0 < length ds
-  digits : list_all is_digit ds ≡ true
-  value : digits_value 0 ds ≡ n
-
-one_digit : (n : ℕ) → n < 10 → IsWritten n ((48 + n) ∷ [])
-one_digit n h = record { some = omega arith; digits = and_from _ _ (digit_is n h) refl; value = omega arith }
-
-more_digits : (n : ℕ) (ds : Bytes) → 10 ≤ n → IsWritten (n / 10) ds → IsWritten n (ds ++ (48 + n % 10) ∷ [])
-more_digits n ds h w = record {
-  some = omega (arith, w.some, length-append ds ((48 + n % 10) ∷ []));
-  digits = list_all-append is_digit ds ((48 + n % 10) ∷ [])
-      ∙ and_from _ _ w.digits (and_from _ _ (digit_is (n % 10) (omega arith)) refl);
-  value = digits_value-push 0 ds (48 + n % 10) ∙ omega (arith, w.value);
-}
+use Rattle.djq_value.proofs.Literals.{natural_written, written}
 
 pub digits_written : (n : ℕ) → n < 2 ^ 64 → list_all is_digit (decimal n) ≡ true
-digits_written n h = (decimal_by_steps IsWritten one_digit more_digits n h).digits
+digits_written n h = (written n h).digits
 
 -- the two sides of equal bytes
 pub same_bytes : (xs ys : Bytes) → bytes_eq xs ys ≡ true → xs ≡ ys

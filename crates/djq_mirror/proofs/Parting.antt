@@ -6,7 +6,8 @@ use Rattle.std.proofs.lemmas.List.{append-nil}
 use Rattle.std.proofs.lemmas.Bool.{and_parts, cond-true, cond-false, eq-eqb, eqb-true, not-true, false_from_ne_true}
 use Rattle.memchr.specs.Find.{IsFirstByte, is_byte}
 use Rattle.djq_model.specs.Data.{Bytes}
-use Rattle.djq_mirror.specs.Parts.{before, behind, with_first, parts, parts_left}
+use Rattle.djq_model.specs.Parts.{before, behind, with_first}
+use Rattle.djq_mirror.specs.Parts.{parts, parts_left}
 
 -- where the first sign stands
 found : (sign : ℕ) (xs : Bytes) (k : ℕ) → k < length xs → eqb (get_or xs k 0) sign ≡ true

@@ -54,7 +54,8 @@ use Rattle.djq_lines.specs.declared.answer.Sign.{Sign}
 use Rattle.djq_lines.specs.declared.answer.Sign.TheVariants.{Came, Went}
 use Rattle.djq_lines.specs.Reply.{cells_text}
 use Rattle.djq_mirror.specs.Cells.{are_cells_in}
-use Rattle.djq_mirror.specs.Parts.{before, parts}
+use Rattle.djq_model.specs.Parts.{before}
+use Rattle.djq_mirror.specs.Parts.{parts}
 use Rattle.djq_mirror.specs.Reading.{
   News,
   lists,

@@ -1,5 +1,5 @@
 -- What is read of a line decides whether it is allowed, and what it does.
-use Rattle.std.proofs.Common.{◌≡◌, ◌<◌, ◌≤◌, true, false, Option, Some, None, length, refl, sym, ap, subst, ◌∙◌, arith}
+use Rattle.std.proofs.Common.{◌≡◌, ◌≤◌, true, false, Option, Some, None, length, refl, sym, ap, subst, ◌∙◌}
 use Rattle.djq_model.specs.Data.{Bytes}
 use Rattle.djq_mirror.specs.declared.mode.Mode.{Mode}
 use Rattle.djq_mirror.specs.declared.mode.Mode.TheVariants.{Idle, Listing, Live}

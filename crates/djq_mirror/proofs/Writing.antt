@@ -20,15 +20,6 @@ pub record IsBegun {A : Type 0} (old now : Bytes) (all rest : List (Vec ℕ A)) 
   pub items : now ≡ old ++ before
   pub split : answers_text all ≡ before ++ answers_text rest
 
-pub begun_more : {A : Type 0} (old now new : Bytes) (all rest : List (Vec ℕ A)) (k : Vec ℕ A)
-    → IsBegun old now all (k ∷ rest)
-    → new ≡ now ++ line (61 ∷ k.items) → IsBegun old new all rest
-begun_more old now new all rest k h e = record {
-  before = h.before ++ line (61 ∷ k.items);
-  items = e ∙ ap (λ (xs : Bytes). xs ++ line (61 ∷ k.items)) h.items ∙ append_assoc old h.before (line (61 ∷ k.items));
-  split = h.split ∙ sym (append_assoc h.before (line (61 ∷ k.items)) (answers_text rest));
-}
-
 pub begun_front : {A : Type 0} (old now : Bytes) (all rest : List (Vec ℕ A)) → IsBegun old now all rest
     → take (length old) now ≡ old
 begun_front old now all rest h = ap (take (length old)) h.items ∙ take_at old h.before (length old) refl

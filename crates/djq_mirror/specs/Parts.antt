@@ -2,21 +2,7 @@
 use Rattle.std.specs.Prelude.{ℕ, List, [], ◌∷◌, ◌==◌, ◌≡◌, Option, None, Some, if◌then◌else◌}
 use Rattle.std.specs.Borrow.{Bor}
 use Rattle.djq_model.specs.Data.{Bytes}
-
--- the bytes before the first sign, or all
-abbrev pub before : ℕ → Bytes → Bytes
-before sign [] = []
-before sign (b ∷ bs) = if b == sign then [] else b ∷ before sign bs
-
--- the bytes behind the first sign, where there is one
-abbrev pub behind : ℕ → Bytes → Option Bytes
-behind sign [] = None
-behind sign (b ∷ bs) = if b == sign then Some bs else behind sign bs
-
--- the parts with one byte more in front of the first
-abbrev pub with_first : ℕ → List Bytes → List Bytes
-with_first b [] = (b ∷ []) ∷ []
-with_first b (p ∷ ps) = (b ∷ p) ∷ ps
+use Rattle.djq_model.specs.Parts.{with_first}
 
 -- the parts between the signs, of which there is one at least
 abbrev pub parts : ℕ → Bytes → List Bytes

@@ -16,7 +16,8 @@ use Rattle.djq_mirror.specs.declared.turn.Act.{Act as CodeAct}
 use Rattle.djq_mirror.specs.declared.turn.Act.TheVariants.{Keep, Clear, Put, TakeOut}
 use Rattle.djq_mirror.specs.Cells.{are_cells_in}
 use Rattle.djq_mirror.specs.Mirror.{Act, keep, clear, put, take_out, turn_of_change, turn_of_count}
-use Rattle.djq_mirror.specs.Parts.{before, behind, parts, parts_left}
+use Rattle.djq_model.specs.Parts.{before, behind}
+use Rattle.djq_mirror.specs.Parts.{parts, parts_left}
 use Rattle.djq_mirror.specs.Replies.{Reply, opened, answer, more, last, stale, changed, counted, is_variable}
 
 -- what a line tells of a listing or of a query

@@ -1,7 +1,8 @@
 //! Bytes that are cut at a sign.
 ghost use Rattle.std.specs.Prelude.{◌≡◌, ◌≤◌, length};
 ghost use Rattle.std.specs.Option.{option_map};
-ghost use Rattle.djq_mirror.specs.Parts.{TakesPart, before, behind, parts_left};
+ghost use Rattle.djq_model.specs.Parts.{before, behind};
+ghost use Rattle.djq_mirror.specs.Parts.{TakesPart, parts_left};
 
 use memchr::memchr;
 use std::marker::Model;

@@ -1,5 +1,6 @@
 pub mod Padded
 pub mod Data
+pub mod Parts
 pub mod Typed
 pub mod Known
 pub mod ValueRef

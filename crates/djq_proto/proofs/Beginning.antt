@@ -3,8 +3,6 @@ use Rattle.std.proofs.Common.{
   ◌≡◌,
   ◌||◌,
   ℕ,
-  Bool,
-  true,
   false,
   [],
   ◌∷◌,

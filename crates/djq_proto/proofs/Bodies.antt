@@ -190,10 +190,6 @@ abbrev pub onto : Body → Option Body → Option Body
 onto b None = None
 onto b (Some c) = Some (b.0 ++ c.0, b.1 ++ c.1)
 
-pub onto-nothing : (o : Option Body) → o ≡ onto ([], []) o
-onto-nothing None = refl
-onto-nothing (Some c) = refl
-
 onto-more : (b : Body) (i : Item) (o : Option Body) → onto b (put_item i o) ≡ onto (with_item b i) o
 onto-more b (atom a) None = refl
 onto-more b (comparison c) None = refl
@@ -389,15 +385,6 @@ part_some in_range None (Ok a) new h inside = absurd (cc)
 part_some in_range None (Err Syntax) new h inside = absurd (cc)
 part_some in_range None (Err Range) new h inside = absurd (cc)
 part_some in_range None (Err NoMem) new h inside = absurd (cc)
-
--- and where it is outside the grammar, nothing is there
-pub part_none : {A : Type 0} (in_range : A → Bool) (o : Option (A × List Token)) (r : Result A LineRefusal)
-    (new : List Token) → ReadsPart in_range o r new → is_outside r ≡ true → o ≡ None
-part_none in_range None r new h outside = refl
-part_none in_range (Some p) (Ok a) new h outside = absurd (cc)
-part_none in_range (Some p) (Err Syntax) new h outside = absurd (h.0)
-part_none in_range (Some p) (Err Range) new h outside = absurd (cc)
-part_none in_range (Some p) (Err NoMem) new h outside = absurd (cc)
 
 -- a query whose body is refused
 pub body_refused : (n : Bytes) (head : List Bytes) (o : Option Body) (e : LineRefusal) → ReadsAs is_small_body o (Err e)

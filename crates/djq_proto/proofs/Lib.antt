@@ -4,7 +4,6 @@ pub mod Cutting
 pub mod Listing
 pub mod Bodies
 pub mod Sayings
-pub mod Utf8
 pub mod Spelled
 pub mod Making
 pub mod Rows

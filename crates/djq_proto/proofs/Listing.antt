@@ -11,10 +11,6 @@ use Rattle.djq_proto.specs.Reading.{ReadsAs, ReadsPart, is_outside, onto}
 use Rattle.djq_proto.specs.declared.refusal.LineRefusal.{LineRefusal}
 use Rattle.djq_proto.specs.declared.refusal.LineRefusal.TheVariants.{Syntax, Range, NoMem}
 
-pub onto-nothing : {A : Type 0} (o : Option (List A)) → o ≡ onto [] o
-onto-nothing None = refl
-onto-nothing (Some xs) = refl
-
 pub onto-more : {A : Type 0} (read : List A) (x : A) (o : Option (List A)) → onto read (in_front (Some x) o)
     ≡ onto (read ++ x ∷ []) o
 onto-more read x None = refl

@@ -1,11 +1,7 @@
 -- From what was read behind a keyword to the command.
 use Rattle.std.proofs.Common.{
-  ◌≡◌,
   true,
-  false,
   List,
-  [],
-  ◌∷◌,
   Option,
   Some,
   None,
@@ -23,9 +19,7 @@ use Rattle.djq_model.specs.Data.{Bytes}
 use Rattle.djq_model.specs.declared.relation.ColumnType.{ColumnType}
 use Rattle.djq_model.specs.declared.query.Query.{Query}
 use Rattle.djq_lines.specs.declared.command.Command.TheVariants.{Rel, Query as Register, Union}
-use Rattle.djq_value.specs.Token.{Token}
-use Rattle.djq_lines.specs.Grammar.{name_of, named_some, name_and_members}
-use Rattle.djq_proto.specs.Reading.{Gives, ReadsAs, has_three, is_small_query}
+use Rattle.djq_proto.specs.Reading.{Gives, ReadsAs, is_small_query}
 use Rattle.djq_proto.specs.declared.refusal.LineRefusal.{LineRefusal}
 use Rattle.djq_proto.specs.declared.refusal.LineRefusal.TheVariants.{Syntax, Range, NoMem}
 use Rattle.djq_proto.proofs.Listing.{all_true}

@@ -5,7 +5,7 @@ use Rattle.std.proofs.Common.{Some, None, option_map, refl, sym, ap, ◌∙◌, 
 use Rattle.std.specs.List.{list_all}
 use Rattle.std.proofs.Math.Dec.{eqb-suc-zero}
 use Rattle.std.proofs.Math.Nat.{pow-suc}
-use Rattle.std.proofs.lemmas.Bool.{cond-true, cond-false, cases_Bool, and_parts, eqb-true, ne_eqb, leb-true}
+use Rattle.std.proofs.lemmas.Bool.{cond-true, cond-false, cases_Bool, and_parts, eqb-true, ne_eqb, leb-true, lt-leb}
 use Rattle.djq_model.specs.Data.{Bytes, bytes_eq}
 use Rattle.djq_value.specs.Literal.{is_digit, is_lower, is_name, digits_value, natural_of, minus, integer_of}
 use Rattle.djq_proto.specs.Saying.{IsNumeral, IsInteger, decimal}
@@ -75,18 +75,11 @@ integer_from (b ∷ bs) i (inl h) =
 integer_from w i (inr h) =
     ap integer_of h.2 ∙ ap (option_map minus) (numeral_from h.0 h.1 h.3) ∙ ap (λ k. Some k) (minus-neg h.1 ∙ sym h.4)
 
-leb_above : (a b : ℕ) → b < a → leb a b ≡ false
-leb_above a b h = no (leb a b) refl
-  where
-    no : (t : Bool) → leb a b ≡ t → t ≡ false
-    no false e = refl
-    no true e = absurd (omega (arith, h, leb-true a b e))
-
 -- a byte below the letters begins no name
 low_first : (b : ℕ) (bs : Bytes) → b ≤ 57 → is_name (b ∷ bs) ≡ false
 low_first b bs h = ap
     (λ t. (t && leb b 122) && (list_all (λ c. is_lower c || is_digit c || eqb c 95) bs && leb (length bs) 31))
-    (leb_above 97 b (omega (arith, h)))
+    (lt-leb 97 b (omega (arith, h)))
 
 other_first : (b c : ℕ) (bs : Bytes) → b < c → bytes_eq (b ∷ bs) (c ∷ []) ≡ false
 other_first b c bs h = ap (λ t. t && bytes_eq bs []) (ne_eqb b c (λ e. absurd (omega (arith, e, h))))

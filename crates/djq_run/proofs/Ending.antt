@@ -1,6 +1,6 @@
 -- How a run ends: what the session came to, as a status.
 use Rattle.std.specs.Prelude.{ℕ, List, [], ◌∷◌, ◌⊎◌, false, Result, Ok, Err, is_err, ⊤, ◌++◌, ◌≡◌}
-use Rattle.std.specs.Prelude.{◌+◌, ◌<◌, ◌≤◌, true, Option, None, Some, IsSomeAnd, is_some, length}
+use Rattle.std.specs.Prelude.{◌+◌, ◌<◌, ◌≤◌, true, Option, None, Some, IsSomeAnd, length}
 use Rattle.std.proofs.Common.{refl, sym, ap, ◌∙◌, subst, inl, inr, length-append, arith}
 use Rattle.std.proofs.lemmas.Grind.{flat_map-append}
 use Rattle.djq_io.specs.Source.{Reading}

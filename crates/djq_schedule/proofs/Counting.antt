@@ -10,7 +10,8 @@ use Rattle.djq_io.specs.declared.hub.Incoming.TheVariants.{Opens, Brings, Ends, 
 use Rattle.djq_model.specs.Data.{Bytes}
 use Rattle.djq_schedule.specs.declared.line.Keyword.{Keyword}
 use Rattle.djq_schedule.specs.declared.line.Keyword.TheVariants.{Open, Say, Part, Again, Free, End}
-use Rattle.djq_schedule.specs.Schedule.{Order, Stage, before, behind, rest_of, lines_of, keyword_of}
+use Rattle.djq_model.specs.Parts.{before, behind}
+use Rattle.djq_schedule.specs.Schedule.{Order, Stage, rest_of, lines_of, keyword_of}
 use Rattle.djq_schedule.specs.Schedule.{id_of, takes_text, order_with, order_behind, order_of}
 use Rattle.djq_schedule.specs.Schedule.{may_stand, text_or_none, turn_of}
 use Rattle.djq_schedule.specs.Made.{standing, in_grammar, coming_of, next_stage, behind_turns}

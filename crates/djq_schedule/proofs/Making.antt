@@ -1,14 +1,15 @@
 -- A schedule's hub, line by line.
 use Rattle.std.specs.Prelude.{ℕ, List, [], ◌∷◌, ◌++◌, ◌≡◌, ◌+◌, ◌<◌, ◌≤◌, ◌==◌, Bool, true, false}
 use Rattle.std.specs.Prelude.{cond, Option, None, Some, IsSomeAnd, length, Result, Ok, Err}
-use Rattle.std.proofs.Common.{refl, sym, ap, ◌∙◌, subst, append_assoc, append-nil, arith}
+use Rattle.std.proofs.Common.{refl, sym, ap, ◌∙◌, subst, append_assoc, arith}
 use Rattle.djq_io.specs.Hub.{no_ids}
 use Rattle.djq_io.specs.MemHub.{Recorded, with_coming}
 use Rattle.djq_io.specs.declared.hub.Coming.{Coming}
 use Rattle.djq_model.specs.Data.{Bytes}
-use Rattle.djq_schedule.specs.Schedule.{Order, Stage, before, behind, rest_of, lines_of}
+use Rattle.djq_model.specs.Parts.{before, behind}
+use Rattle.djq_schedule.specs.Schedule.{Order, Stage, rest_of, lines_of}
 use Rattle.djq_schedule.specs.Made.{in_grammar, coming_of, next_stage, behind_turns, turns_by}
-use Rattle.djq_schedule.specs.Made.{turns_from, turns_of, first_stage, IsMade, AddsLine}
+use Rattle.djq_schedule.specs.Made.{turns_from, turns_of, AddsLine}
 use Rattle.djq_schedule.proofs.Splitting.{first_line}
 
 -- a hub that was asked nothing yet
@@ -25,18 +26,6 @@ pub record Making (bytes : Bytes) (hub : Recorded) (st : Stage) (number : ℕ) (
   pub turns : turns_of bytes ≡ behind_turns hub.script.turns (turns_from st (number + 1) (lines_of rest))
   pub fresh : IsFresh hub
   pub few : number + length rest ≤ length bytes
-
-no_turns : (r : Result (List Coming) ℕ) → r ≡ behind_turns [] r
-no_turns (Ok turns) = refl
-no_turns (Err n) = refl
-
-pub made_none : (bytes : Bytes) (hub : Recorded) → hub.script.turns ≡ [] → IsFresh hub
-    → Making bytes hub first_stage 0 bytes
-made_none bytes hub none fresh = record {
-  turns = no_turns (turns_of bytes) ∙ ap (λ (turns : List Coming). behind_turns turns (turns_of bytes)) (sym none);
-  fresh = fresh;
-  few = omega arith;
-}
 
 -- the first line of bytes, and the turns of them
 turns_at : (st : Stage) (n : ℕ) (l : Bytes) (ls : List Bytes) (o : Order) → in_grammar st l ≡ Some o

@@ -2,9 +2,11 @@
 use Rattle.std.specs.Prelude.{ℕ, zero, suc, List, [], ◌∷◌, ◌==◌, ◌≡◌, ◌+◌, ◌<◌, Bool, true, false}
 use Rattle.std.specs.Prelude.{cond, None, Some, length, take, drop}
 use Rattle.std.proofs.Common.{refl, ap, ◌∙◌, get_or, arith}
+use Rattle.std.proofs.lemmas.Bool.{false_from_ne_true}
 use Rattle.memchr.specs.Find.{IsFirstByte, is_byte}
 use Rattle.djq_model.specs.Data.{Bytes}
-use Rattle.djq_schedule.specs.Schedule.{before, behind, rest_of, with_first, lines_of}
+use Rattle.djq_model.specs.Parts.{before, behind, with_first}
+use Rattle.djq_schedule.specs.Schedule.{rest_of, lines_of}
 
 -- what stands before the first of these bytes, and behind it
 pub split_found : (sign : ℕ) (xs : Bytes) (k : ℕ) → k < length xs → (get_or xs k 0 == sign) ≡ true
@@ -47,15 +49,12 @@ first_line b (d ∷ bytes) = at_first (b == 10) (first_line d bytes)
     at_first false h = ap (λ (ls : List Bytes). with_first b ls) h
 
 -- the same, as the search for a byte says it
-fails : (t : Bool) → (t ≡ true → ⊥) → t ≡ false
-fails true h = absurd (h refl)
-fails false h = refl
-
 pub split_first : (sign : ℕ) (xs : Bytes) (k : ℕ) → IsFirstByte (is_byte sign) xs (Some k)
     → (before sign xs ≡ take k xs) × (behind sign xs ≡ Some (drop (k + 1) xs))
 split_first sign xs k h = split_found sign xs k h.0.high h.1
-    (λ j less. fails (get_or xs j 0 == sign) (h.0.before j (omega arith) less))
+    (λ j less. false_from_ne_true (get_or xs j 0 == sign) (h.0.before j (omega arith) less))
 
 pub split_none_of : (sign : ℕ) (xs : Bytes) → IsFirstByte (is_byte sign) xs None → (before sign xs ≡ xs)
     × (behind sign xs ≡ None)
-split_none_of sign xs h = split_none sign xs (λ j less. fails (get_or xs j 0 == sign) (h j (omega arith) less))
+split_none_of sign xs h = split_none sign xs
+    (λ j less. false_from_ne_true (get_or xs j 0 == sign) (h j (omega arith) less))

@@ -6,28 +6,14 @@ use Rattle.std.specs.List.{list_any}
 use Rattle.djq_io.specs.declared.hub.Incoming.{Incoming}
 use Rattle.djq_io.specs.declared.hub.Incoming.TheVariants.{Opens, Brings, Ends, Nothing}
 use Rattle.djq_model.specs.Data.{Bytes, bytes_eq}
+use Rattle.djq_model.specs.Parts.{before, behind, with_first}
 use Rattle.djq_schedule.specs.declared.line.Keyword.{Keyword}
 use Rattle.djq_schedule.specs.declared.line.Keyword.TheVariants.{Open, Say, Part, Again, Free, End}
-
--- the bytes before the first of these, or all
-abbrev pub before : ℕ → Bytes → Bytes
-before sign [] = []
-before sign (b ∷ bytes) = if b == sign then [] else b ∷ before sign bytes
-
--- the bytes behind it, where there is one
-abbrev pub behind : ℕ → Bytes → Option Bytes
-behind sign [] = None
-behind sign (b ∷ bytes) = if b == sign then Some bytes else behind sign bytes
 
 -- the rest; none where there is none
 abbrev pub rest_of : Option Bytes → Bytes
 rest_of None = []
 rest_of (Some rest) = rest
-
--- lines with one more byte in front of the first of them
-abbrev pub with_first : ℕ → List Bytes → List Bytes
-with_first b [] = (b ∷ []) ∷ []
-with_first b (l ∷ ls) = (b ∷ l) ∷ ls
 
 -- the lines of a schedule, without their LFs
 abbrev pub lines_of : Bytes → List Bytes

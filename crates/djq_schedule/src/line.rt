@@ -1,6 +1,7 @@
 ghost use Rattle.std.specs.Prelude.{◌≡◌};
 ghost use Rattle.std.specs.Option.{option_map};
-ghost use Rattle.djq_schedule.specs.Schedule.{before, behind, keyword_of, id_of, takes_text, order_of};
+ghost use Rattle.djq_model.specs.Parts.{before, behind};
+ghost use Rattle.djq_schedule.specs.Schedule.{keyword_of, id_of, takes_text, order_of};
 
 use memchr::memchr;
 

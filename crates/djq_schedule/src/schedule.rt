@@ -1,5 +1,6 @@
 ghost use Rattle.std.specs.Prelude.{◌≡◌, ◌≤◌, length, IfOk, MatchBool, MatchOption, MatchResult, option_map};
-ghost use Rattle.djq_schedule.specs.Schedule.{before, behind, rest_of, lines_of, turn_of};
+ghost use Rattle.djq_model.specs.Parts.{before, behind};
+ghost use Rattle.djq_schedule.specs.Schedule.{rest_of, lines_of, turn_of};
 ghost use Rattle.djq_schedule.specs.Made.{in_grammar, AddsLine, IsMade, Refuses};
 
 use crate::line::{Keyword, read_order, split_at};

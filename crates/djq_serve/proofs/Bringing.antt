@@ -1,5 +1,5 @@
 -- What a turn brings, up to the flush or the lines behind it.
-use Rattle.std.specs.Prelude.{ℕ, List, [], ◌∷◌, ◌≡◌, ◌<◌, ◌≤◌, cond, Option, None, Some, Err, length, take, All}
+use Rattle.std.specs.Prelude.{ℕ, List, [], ◌∷◌, ◌≡◌, ◌<◌, ◌≤◌, cond, Err, length, take, All}
 use Rattle.std.proofs.Common.{refl, sym, ap, ◌∙◌, subst, inl, inr, length-take, arith}
 use Rattle.std.proofs.lemmas.Bool.{lt-ltb, le-ltb}
 use Rattle.std.proofs.lemmas.List.Sorted.{IsPermutation-refl}
@@ -19,14 +19,13 @@ use Rattle.djq_machine.specs.Effect.{nothing}
 use Rattle.djq_machine.specs.Step.{opened, fed, ended, SameRelations, Step}
 use Rattle.djq_machine.specs.Call.{IsOpen, Makes, OpenGives, Counts}
 use Rattle.djq_laws.specs.declared.limits.TheConstants.{READ_BYTES}
-use Rattle.djq_serve.specs.declared.served.Served.{Served}
 use Rattle.djq_serve.specs.declared.served.Served.TheVariants.{HubFault}
 use Rattle.djq_serve.specs.Told.{Shown, Tells, turns_in}
 use Rattle.djq_serve.specs.Server.{next_turn, no_turn, waiting, lines, flushing, closing, server}
 use Rattle.djq_serve.specs.Server.{offering, LetsIn, refusal_for}
 use Rattle.djq_serve.specs.Goes.{Far, one_turn, seen, Goes}
 use Rattle.djq_serve.specs.Kept.{Agrees, IsNew}
-use Rattle.djq_serve.specs.Parts.{Admits, Refuses, MayAnswer, TurnAnswers}
+use Rattle.djq_serve.specs.Parts.{Admits, Refuses}
 use Rattle.djq_serve.proofs.Telling.{tells_none, tells_more}
 use Rattle.djq_serve.proofs.Agreeing.{is_above, not_open, refused_in}
 use Rattle.djq_serve.proofs.Moving.{happens, turn_goes}

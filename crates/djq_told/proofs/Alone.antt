@@ -1,8 +1,8 @@
 -- What an input comes to in a mirror is all that it comes to: lines are cut in one way, and a line has one turn.
 use Rattle.std.specs.Prelude.{ℕ, List, [], ◌∷◌, ◌++◌, ◌≡◌, ◌≢◌, ◌||◌, ◌&&◌, Bool, true, not, Option, None, Some}
-use Rattle.std.specs.List.Sorted.{IsStrictlySortedBy}
 use Rattle.std.proofs.Common.{refl, sym, ap, ap₂, ◌∙◌, subst, append_assoc}
 use Rattle.std.proofs.lemmas.List.Elements.{All-head, All-tail}
+use Rattle.std.proofs.lemmas.Bool.{both_ways}
 use Rattle.djq_model.specs.Data.{Bytes, bytes_eq}
 use Rattle.djq_lines.specs.Reply.{line, cells_text}
 use Rattle.djq_mirror.specs.declared.mode.Mode.{Mode}
@@ -14,7 +14,7 @@ use Rattle.djq_mirror.specs.Replies.{Reply}
 use Rattle.djq_mirror.proofs.Telling.{reply_told}
 use Rattle.djq_mirror.proofs.Turning.{turn_told}
 use Rattle.djq_told.specs.Whole.{HeldAlone}
-use Rattle.djq_deltas.proofs.Cases.{not_both}
+use Rattle.djq_told.proofs.Sorting.{nothing_sorted}
 
 -- ---- lines
 
@@ -73,10 +73,6 @@ turned_alike a b a' b' (Some turn) h one two = record { mode = two.0 ∙ sym one
     by (put t) p q u = q.1 u ∙ ap (λ (has : Bool). bytes_eq t u || has) (h.texts u) ∙ sym (p.1 u)
     by (take_out t) p q u = q.1 u ∙ ap (λ (has : Bool). not (bytes_eq t u) && has) (h.texts u) ∙ sym (p.1 u)
 
-none_in_order : IsInOrder []
-unfolding IsStrictlySortedBy
-none_in_order = tt
-
 turned_in_order : (old new : Held) (t : Option (Mode × Act)) → Turned old t new → IsInOrder old.texts
     → IsInOrder new.texts
 turned_in_order old new None h order = absurd h
@@ -84,7 +80,7 @@ turned_in_order old new (Some turn) h order = by turn.1 h.1
   where
     by : (act : Act) → Acted old.texts act new.texts → IsInOrder new.texts
     by keep p = subst (λ (ts : List Bytes). IsInOrder ts) (sym p) order
-    by clear p = subst (λ (ts : List Bytes). IsInOrder ts) (sym p) none_in_order
+    by clear p = subst (λ (ts : List Bytes). IsInOrder ts) (sym p) nothing_sorted
     by (put t) p = p.0
     by (take_out t) p = p.0
 
@@ -156,7 +152,7 @@ stops_nowhere name a b h (l ∷ ls) [] a' b' bad (x ∷ behind) e one two own st
     ≡ turn_of name a.mode f.reply = ap (λ m. turn_of name m f.reply) still.mode in
     let allowed : allows name b' f.reply ≡ true =
     ap (may_turn b'.texts) turn ∙ may_alike a b' (turn_of name a.mode f.reply) still ∙ f.allowed in
-    not_both (allows name b' f.reply) allowed (stops.1 f.reply here)
+    both_ways (allows name b' f.reply) (stops.1 f.reply here) allowed
 stops_nowhere name a b h (l ∷ ls) (m ∷ ms) a' b' bad behind e one two own stops =
     let cut = one_front l m (lines_text ls) (lines_text ms ++ (bad ++ behind)) one.1 two.1
     (sym (line_then l (lines_text ls)) ∙ e ∙ append_assoc (line m) (lines_text ms) (bad ++ behind)
@@ -180,7 +176,7 @@ held_alone name input held h = (
       k.follows in (
         same.mode,
         λ q relations shows. record {
-          order = in_order_behind name at_first k.lines other k.follows none_in_order;
+          order = in_order_behind name at_first k.lines other k.follows nothing_sorted;
           texts = λ u has. shows.texts u (sym (same.texts u) ∙ has);
           tuples = λ t is. same.texts (cells_text t) ∙ shows.tuples t is;
         },

@@ -5,7 +5,7 @@ use Rattle.std.proofs.Common.{refl, sym, ap, ◌∙◌, subst, inl, inr, arith}
 use Rattle.std.proofs.lemmas.Bool.{eqb-true, eq-eqb}
 use Rattle.std.proofs.lemmas.List.{length-map}
 use Rattle.std.proofs.lemmas.List.Elements.{All-nil}
-use Rattle.djq_model.specs.Data.{Bytes, Tuple, bytes_eq, drop_first}
+use Rattle.djq_model.specs.Data.{Bytes, Tuple, bytes_eq}
 use Rattle.djq_lines.specs.declared.limits.TheConstants.{SESSIONS}
 use Rattle.djq_lines.specs.declared.answer.EndCause.{EndCause}
 use Rattle.djq_lines.specs.declared.answer.EndCause.TheVariants.{Input, Memory}
@@ -51,12 +51,12 @@ use Rattle.djq_laws.specs.Form.{
   is_refused,
   Does,
 }
-use Rattle.djq_laws.proofs.Changing.{all_dropped, all_mapped}
+use Rattle.djq_laws.proofs.Changing.{all_dropped, all_mapped, less_dropped}
 use Rattle.djq_deltas.proofs.Cases.{some_there}
 use Rattle.djq_laws.proofs.Forms.{command_does, Reads, turned_down, carried_out, line_reads}
 use Rattle.djq_laws.proofs.Queueing.{session_changed, session_other}
 use Rattle.djq_laws.proofs.Doing.{closing, begun, closing_id, closing_cursors, rows_do}
-use Rattle.djq_told.proofs.Keeping.{change_keeps}
+use Rattle.djq_laws.proofs.Told.{change_keeps}
 use Rattle.djq_laws.proofs.Staying.{find_front}
 use Rattle.djq_laws.proofs.Telling.{find_mapped}
 
@@ -76,14 +76,6 @@ pub record Has (s : ℕ) (name : Bytes) (P : List Tuple → Bool → Type 0) (st
   pub session : Session
   pub is : session_of st s ≡ Some session
   pub few : HasFew name P session
-
-less_dropped : {A : Type 0} (p : A → Bool) (xs : List A) → length (drop_first p xs) ≤ length xs
-less_dropped p [] = omega arith
-less_dropped p (x ∷ xs) = by (p x) (less_dropped p xs)
-  where
-    by : (b : Bool) → length (drop_first p xs) ≤ length xs → length (cond b xs (x ∷ drop_first p xs)) ≤ length (x ∷ xs)
-    by true h = omega arith
-    by false h = omega (arith, h)
 
 find_kept : (p keep : Session → Bool) → ((x : Session) → p x ≡ true → keep x ≡ true) → (xs : List Session)
     → find p (filter keep xs) ≡ find p xs

@@ -7,7 +7,7 @@ use Rattle.std.proofs.Common.{refl, sym, ap, ap₂, ◌∙◌, subst, inl, inr, 
 use Rattle.std.proofs.lemmas.Bool.{eqb-true, eq-eqb, ne_eqb}
 use Rattle.std.proofs.lemmas.Grind.{flat_map-append}
 use Rattle.std.proofs.lemmas.List.Elements.{All-head, All-tail, All-contains, All-weaker}
-use Rattle.djq_model.specs.Data.{Bytes, bytes_eq, change_first}
+use Rattle.djq_model.specs.Data.{Bytes, bytes_eq}
 use Rattle.djq_model.specs.Listed.{listed_name}
 use Rattle.djq_lines.specs.declared.answer.EndCause.{EndCause}
 use Rattle.djq_lines.specs.declared.answer.EndCause.TheVariants.{Slow, Memory}
@@ -28,7 +28,8 @@ use Rattle.djq_deltas.proofs.Cases.{some_there}
 use Rattle.djq_laws.proofs.Queueing.{gaining, session_changed, session_other, queued_all}
 use Rattle.djq_laws.proofs.Telling.{IsOver, over_stays, find_mapped}
 use Rattle.djq_laws.proofs.Containing.{found_there, found_passes}
-use Rattle.djq_told.proofs.Keeping.{beginning, session_keeps, delta_keeps}
+use Rattle.djq_laws.proofs.Told.{beginning, session_keeps, delta_keeps}
+use Rattle.djq_laws.proofs.Rising.{changed_ids}
 use Rattle.djq_told.specs.Told.{replies_text, delta_replies}
 
 -- ---- bytes of replies
@@ -62,17 +63,6 @@ part_other s t qs text e =
     ∙ append-nil (to_session s qs)
 
 -- ---- ids
-
-pub changed_ids : (p : Session → Bool) (f : Session → Session) → ((x : Session) → (f x).id ≡ x.id) → (xs : List Session)
-    → map (λ (x : Session). x.id) (change_first p f xs) ≡ map (λ (x : Session). x.id) xs
-changed_ids p f keeps [] = refl
-changed_ids p f keeps (x ∷ xs) = by (p x) (changed_ids p f keeps xs)
-  where
-    by : (b : Bool) → map (λ (y : Session). y.id) (change_first p f xs) ≡ map (λ (y : Session). y.id) xs
-        → map (λ (y : Session). y.id) (cond b (f x ∷ xs) (x ∷ change_first p f xs))
-        ≡ map (λ (y : Session). y.id) (x ∷ xs)
-    by true h = ap (λ i. i ∷ map (λ (y : Session). y.id) xs) (keeps x)
-    by false h = ap (λ is. x.id ∷ is) h
 
 mapped_ids : (f : Session → Session) → ((x : Session) → (f x).id ≡ x.id) → (xs : List Session)
     → map (λ (x : Session). x.id) (map f xs) ≡ map (λ (x : Session). x.id) xs

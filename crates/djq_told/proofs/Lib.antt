@@ -1,6 +1,5 @@
 mod Utf8
 mod Reading
-mod Keeping
 mod Storing
 pub mod Sayable
 mod Hearing

@@ -1,6 +1,6 @@
 -- What a session is sent that watches a query and reads it through one cursor at a time, a mirror of
 -- the query takes, step by step.
-use Rattle.std.specs.Prelude.{ℕ, List, [], ◌∷◌, ◌++◌, ◌==◌, ◌≡◌, ◌≤◌, ◌&&◌, Bool, true, false, not}
+use Rattle.std.specs.Prelude.{ℕ, List, [], ◌∷◌, ◌++◌, ◌==◌, ◌≡◌, ◌≤◌, Bool, true, false, not}
 use Rattle.std.specs.Prelude.{cond, length, filter, find, Option, None, Some, is_some, is_none}
 use Rattle.std.specs.Prelude.{IsSomeAnd, MatchOption, option_map, nat_le, map, Result, Ok, Err, codes, All, Contains, ⊤}
 use Rattle.std.proofs.Common.{refl, sym, ap, ap₂, ◌∙◌, subst, inl, inr, arith, append-nil}
@@ -63,7 +63,7 @@ use Rattle.djq_told.proofs.Printed.{IsFine, one_fine, number_small, answers_fine
 use Rattle.djq_told.proofs.Replying.{ExplainsNone, IsHarmless, harmless_form, last_reply, last_fine}
 use Rattle.djq_told.proofs.Replying.{behind_fine, listing_text, talks}
 use Rattle.djq_told.proofs.Sayable.{step_sayable}
-use Rattle.djq_told.proofs.Storing.{answer_sayable}
+use Rattle.djq_told.proofs.Storing.{answer_sayable, second_fails}
 use Rattle.djq_told.proofs.Telling.{ExplainsNothing, StepTold, tells_none, tells_delta}
 use Rattle.djq_told.proofs.Telling.{reading_talks, event_talks, step_says}
 
@@ -477,10 +477,6 @@ calm_reading s name P (says_command c) e = calm_command s name P c e
 calm_reading s name P outside e = tt
 calm_reading s name P (past_limit c) e = tt
 
-second_false : (a b : Bool) → (a && b) ≡ false → a ≡ true → b ≡ false
-second_false true b e f = e
-second_false false b e f = absurd cc
-
 calm_event : (s : ℕ) (name : Bytes) (P : List Tuple → Bool → Type 0) (event : Event) → event_talks s event ≡ false
     → ((t : ℕ) → (bytes : Bytes) → event ≡ closed t bytes → (t == s) ≡ false) → EventCalm s name P event
 calm_event s name P (opened t) e apart = tt
@@ -490,14 +486,14 @@ calm_event s name P (stepped t (blank l)) e apart = tt
 calm_event s name P (stepped t (slow l)) e apart = tt
 calm_event s name P (stepped t (no_room l)) e apart = tt
 calm_event s name P (stepped t (run l)) e apart =
-    λ same. calm_reading s name P (reading_of l) (second_false (t == s) (reading_talks (reading_of l)) e same)
+    λ same. calm_reading s name P (reading_of l) (second_fails (t == s) (reading_talks (reading_of l)) same e)
 calm_event s name P (took t bytes) e apart = tt
 calm_event s name P (ended t) e apart = tt
 calm_event s name P (closed t bytes) e apart = apart t bytes refl
 
 calm_explains : (s : ℕ) (event : Event) → event_talks s event ≡ false → ExplainsNothing s event
 calm_explains s (stepped t (run l)) e = λ same. of (reading_of l)
-    (second_false (t == s) (reading_talks (reading_of l)) e same)
+    (second_fails (t == s) (reading_talks (reading_of l)) same e)
   where
     of_command : (c : Command) → talks c ≡ false → ExplainsNone (says_command c)
     of_command (Explain q) k = absurd cc

@@ -18,7 +18,7 @@ use Rattle.djq_mirror.specs.declared.mode.Mode.{Mode}
 use Rattle.djq_mirror.specs.declared.mode.Mode.TheVariants.{Idle, Listing, Live}
 use Rattle.djq_mirror.specs.Replies.{Reply, opened, answer, more as more_line, last as last_line}
 use Rattle.djq_mirror.specs.Replies.{stale, changed, counted}
-use Rattle.djq_mirror.specs.Mirror.{Held, Act, keep, put, take_out, turn_of, turn_of_change}
+use Rattle.djq_mirror.specs.Mirror.{Held, keep, put, take_out, turn_of, turn_of_change}
 use Rattle.djq_mirror.specs.Mirror.{turn_of_count, may_turn, has_text, IsInOrder, Turned}
 use Rattle.djq_machine.specs.Delta.{Change, HasChanged, IsDelta}
 use Rattle.djq_deltas.specs.Decided.{Decided}
@@ -30,7 +30,7 @@ use Rattle.djq_told.specs.Mirrored.{Passes, Shows}
 use Rattle.djq_told.proofs.Replying.{IsHarmless}
 use Rattle.djq_told.proofs.Sorting.{put_in, taken_out, has_put, has_out, sorted_put, sorted_out}
 use Rattle.djq_told.proofs.Sorting.{put_is, out_is, nothing_sorted}
-use Rattle.std.proofs.lemmas.Bool.{or_left, or_right, false_from_ne_true, or_cases}
+use Rattle.std.proofs.lemmas.Bool.{or_left, or_right, false_from_ne_true, or_cases, and_from, not_from_false}
 use Rattle.djq_mirror.proofs.Celling.{ends_cells}
 
 -- ---- one reply after the other
@@ -39,10 +39,6 @@ pub passes_then : (name : Bytes) (a b c : Held) (rs ts : List Reply) → Passes 
     → Passes name a (rs ++ ts) c
 passes_then name a b c [] ts h k = subst (λ (x : Held). Passes name x ts c) h k
 passes_then name a b c (r ∷ rs) ts h k = (h.0, h.1, h.2, passes_then name h.0 b c rs ts h.3 k)
-
--- what a reply does in a mode, given
-abbrev Does : Bytes → Held → Reply → Mode → Act → Type 0
-Does name old r mode act = turn_of name old.mode r ≡ Some (mode, act)
 
 -- a reply whose turn keeps all
 pub stays : (name : Bytes) (held : Held) (r : Reply) → turn_of name held.mode r ≡ Some (held.mode, keep)
@@ -91,10 +87,6 @@ same_bytes a = (bytes_eq-decides a a).1 refl
 and_split : (a b : Bool) → (not a && b) ≡ true → (a ≡ false) × (b ≡ true)
 and_split true b e = absurd cc
 and_split false b e = (refl, e)
-
-and_join : (a b : Bool) → a ≡ false → b ≡ true → (not a && b) ≡ true
-and_join true b e f = absurd cc
-and_join false b e f = f
 
 -- ---- one text is put in, or taken out
 
@@ -147,9 +139,10 @@ out_shown held mode P Q t h fine there from to = (
     tuples = λ u q.
         let k = from u q in
         has_out (cells_text t) held.texts (cells_text u)
-        ∙ and_join (bytes_eq (cells_text u) (cells_text t)) (has_text held.texts (cells_text u))
+        ∙ and_from (not (bytes_eq (cells_text u) (cells_text t))) (has_text held.texts (cells_text u))
+        (not_from_false (bytes_eq (cells_text u) (cells_text t))
         (false_from_ne_true (bytes_eq (cells_text u) (cells_text t)) (λ e.
-        k.1 (same_cells u t (fine u k.0) (fine t there) ((bytes_eq-decides (cells_text u) (cells_text t)).0 e))))
+        k.1 (same_cells u t (fine u k.0) (fine t there) ((bytes_eq-decides (cells_text u) (cells_text t)).0 e)))))
         (h.tuples u k.0);
   },
 )

@@ -165,7 +165,7 @@ use Rattle.djq_laws.proofs.Changing.{all_changed, all_found, all_dropped, all_ma
 use Rattle.djq_value.specs.Literal.{IsName}
 use Rattle.djq_told.specs.Sayable.{IsSayableRow, IsSayableRelation, IsSayableListed, IsSayableStore, IsSayablePosition, IsSayableCursor, IsSayableHeld, IsSayableSession, IsSayableState, RunsKeepSayable, OpeningIsSayable, StatesAreSayable}
 use Rattle.djq_told.proofs.Reading.{IsSayableCommand, read_sayable}
-use Rattle.djq_told.proofs.Keeping.{change_keeps}
+use Rattle.djq_laws.proofs.Told.{change_keeps}
 use Rattle.djq_told.proofs.Storing.{
   answer_sayable,
   rel_sayable,

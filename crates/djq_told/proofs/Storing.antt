@@ -42,7 +42,7 @@ use Rattle.std.specs.Prelude.{
 }
 use Rattle.std.specs.List.{list_any}
 use Rattle.std.proofs.Common.{refl, sym, ap, ◌∙◌, subst, inl, inr, arith}
-use Rattle.std.proofs.lemmas.Bool.{eq-eqb, leb-false, ltb-false}
+use Rattle.std.proofs.lemmas.Bool.{eq-eqb, leb-false, ltb-false, not-false}
 use Rattle.std.proofs.lemmas.List.Elements.{All-nil, All-cons, All-head, All-tail, All-push, All-contains, All-weaker}
 use Rattle.std.proofs.lemmas.List.Sorted.{All-permutation}
 use Rattle.std.proofs.lemmas.List.{length-map}
@@ -139,8 +139,16 @@ use Rattle.djq_laws.proofs.Members.{under_names, under_registered}
 use Rattle.djq_laws.proofs.Apart.{without_dropped}
 use Rattle.djq_laws.proofs.Containing.{mapped_from}
 use Rattle.djq_value.specs.Literal.{IsName}
-use Rattle.djq_told.specs.Sayable.{IsSayableValue, IsSayableRow, IsSayableRelation, IsSayableQuery, IsAskable, IsSayableListed, IsSayableHeld, IsSayableStore}
-use Rattle.djq_deltas.proofs.Cases.{not_false}
+use Rattle.djq_told.specs.Sayable.{
+  IsSayableValue,
+  IsSayableRow,
+  IsSayableRelation,
+  IsSayableQuery,
+  IsAskable,
+  IsSayableListed,
+  IsSayableHeld,
+  IsSayableStore,
+}
 use Rattle.std.proofs.lemmas.Nat.{mul-le}
 
 -- ---- conditions that all fail
@@ -158,7 +166,7 @@ all_fail (c ∷ cs) e = by c.0 refl e (λ f. all_fail cs f)
     by true k f more = absurd cc
     by false k f more = (k, more f)
 
-second_fails : (a b : Bool) → a ≡ true → (a && b) ≡ false → b ≡ false
+pub second_fails : (a b : Bool) → a ≡ true → (a && b) ≡ false → b ≡ false
 second_fails true b e f = f
 second_fails false b e f = absurd cc
 
@@ -462,7 +470,7 @@ variable_is x (Constant v) e = absurd cc
 
 bound_where : (q : Query) → list_any (λ x. not (stands_in q.atoms x)) q.head ≡ false → IsBound q
 bound_where q e x c =
-    let stands = not_false (stands_in q.atoms x)
+    let stands = not-false (stands_in q.atoms x)
     (All-contains (λ (y : Bytes). not (stands_in q.atoms y) ≡ false) q.head x
     (none_any (λ y. not (stands_in q.atoms y)) q.head e) c) in
     let a = some_pass (λ (m : Atom). list_any (is_variable x) m.terms) q.atoms stands in

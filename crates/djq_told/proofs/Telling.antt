@@ -17,7 +17,6 @@ use Rattle.std.specs.Prelude.{
   Bool,
   true,
   false,
-  not,
   cond,
   filter,
   Option,
@@ -81,7 +80,6 @@ use Rattle.djq_laws.specs.Watched.{
   done_outdater,
   line_outdater,
   event_changes,
-  number_by,
   numbers_along,
   Told,
   all_added_up,
@@ -97,6 +95,8 @@ use Rattle.djq_laws.proofs.Rows.{RowsMade, outdater_by, added, deleted}
 use Rattle.djq_laws.proofs.Sounding.{step_sound}
 use Rattle.djq_laws.proofs.Watched.{watchers_have_answers, number_none, number_one, listing_stays}
 use Rattle.djq_laws.proofs.Watching.{StepTells, is_quiet, is_told, change_store, queued_store, step_tells, changed_to}
+use Rattle.djq_laws.proofs.Rising.{changed_ids}
+use Rattle.djq_laws.proofs.Touching.{cut_of}
 use Rattle.djq_told.specs.Told.{replies_text, is_told_of, delta_replies, WatchersAreToldExactly}
 use Rattle.djq_told.specs.Sayable.{IsSayableRelation, IsSayableListed, IsSayableStore, IsSayableSession, IsSayableState}
 use Rattle.djq_told.proofs.Printed.{IsFine, number_small, delta_fine, added_copies, left_copies}
@@ -104,7 +104,7 @@ use Rattle.djq_told.proofs.Lengths.{line_less}
 use Rattle.djq_told.proofs.Reading.{read_sayable, read_short}
 use Rattle.djq_told.proofs.Sayable.{front_kept}
 use Rattle.djq_told.proofs.Exactly.{all_unmapped, pairs_unmapped, told_one, told_none}
-use Rattle.djq_told.proofs.Hearing.{heard, all_heard, own_replies, text_append, changed_ids, change_heard}
+use Rattle.djq_told.proofs.Hearing.{heard, all_heard, own_replies, text_append, change_heard}
 use Rattle.djq_told.proofs.Replying.{
   IsPlain,
   IsHarmless,
@@ -567,11 +567,6 @@ fed_quiet s old t bytes e mid None (inl h) = nothing_quiet s e h.0
 fed_quiet s old t bytes e mid None (inr h) = ends_quiet s t end_memory Memory old e mid
     (of_form end_memory (is_ended memory_line) refl (λ name. refl) (λ u. (tt, tt))) h
 fed_quiet s old t bytes e mid (Some c) h = nothing_quiet s e h.0
-
--- what is said where bytes are held
-cut_of : ℕ → Bytes → Effect
-cut_of s [] = nothing
-cut_of s (b ∷ bs) = says s input_cut
 
 cut_quiet : {U : Type 0} (s t : ℕ) (held : Bytes) (e : Effect) → e ≡ cut_of t held → IsQuiet s e.queued false U
 unfolding cut_of

@@ -9,3 +9,4 @@ pub mod Putting
 pub mod Writing
 pub mod Literals
 pub mod Small
+pub mod Utf8

@@ -32,10 +32,10 @@ use Rattle.djq_value.proofs.Words.{digits_value-push, natural-some}
 use Rattle.djq_value.proofs.Spellings.{IsFirst, IsReal, cut_spaces, front_first, no_space, no_space_first, token_read}
 
 -- What a decimal number is read as.
-record IsWritten (n : ℕ) (ds : Bytes) : Type 0 where
-  some : 0 < length ds
-  digits : list_all is_digit ds ≡ true
-  value : digits_value 0 ds ≡ n
+pub record IsWritten (n : ℕ) (ds : Bytes) : Type 0 where
+  pub some : 0 < length ds
+  pub digits : list_all is_digit ds ≡ true
+  pub value : digits_value 0 ds ≡ n
 
 pub digit_is : (d : ℕ) → d < 10 → is_digit (48 + d) ≡ true
 digit_is d h = and_from _ _ (le-leb 48 (48 + d) (omega arith)) (le-leb (48 + d) 57 (omega arith))
@@ -51,7 +51,7 @@ more_digits n ds h w = record {
   value = digits_value-push 0 ds (48 + n % 10) ∙ omega (arith, w.value);
 }
 
-written : (n : ℕ) → n < 2 ^ 64 → IsWritten n (decimal n)
+pub written : (n : ℕ) → n < 2 ^ 64 → IsWritten n (decimal n)
 written n h = decimal_by_steps IsWritten one_digit more_digits n h
 
 pub natural_written : (n : ℕ) → n < 2 ^ 64 → natural_of (decimal n) ≡ Some n

@@ -17,7 +17,7 @@ use Rattle.djq_words.specs.declared.commands.Asked.{Asked}
 use Rattle.djq_words.specs.declared.commands.Asked.TheVariants.{Run, Serve, Replay, Gen, Mirror}
 use Rattle.djq_words.specs.Commands.{djq_app}
 use Rattle.djq_words.specs.Asks.{Spells, ReadsAs, TurnsAre, IsGiven, IsRead, IsAsked, AskedBy}
-use Rattle.djq_words.specs.Asks.{ServeAsked, GenAsked, MirrorAsked, Answers}
+use Rattle.djq_words.specs.Asks.{ServeAsked, MirrorAsked, Answers}
 
 pub simple : is_simple djq_app ≡ true
 unfolding clap_on_literals

@@ -1,6 +1,7 @@
 -- Without a path nothing is loaded; with one, its lines are loaded before the batch they leave open is ended.
 use Rattle.std.proofs.Common.{[], Bor, refl, sym, ap, subst}
 use Rattle.std.specs.Prelude.{Option, Ok, Err}
+use Rattle.std.proofs.lemmas.Result.{MatchResult-weaker}
 use Rattle.djq_model.specs.Data.{Bytes}
 use Rattle.djq_machine.specs.State.{State}
 use Rattle.djq_machine.specs.Call.{counts}
@@ -8,7 +9,6 @@ use Rattle.djq_core.specs.Views.{loading_in}
 use Rattle.djq.specs.Logged.{disk_seen, log_seen}
 use Rattle.djq.specs.Parts.{OpensLog}
 use Rattle.djq.proofs.Logging.{begins_empty, ended_begins, unended_begins}
-use Rattle.djq_follow.proofs.Leaving.{either}
 use Rattle.djq.proofs.log.open_log.Goals as goal
 
 pub returns-in_default : goal.returns-in_default
@@ -44,12 +44,12 @@ returns-in-Ok g c =
     let ended = c.end_batch.ensures in
     subst (λ (path : Option (Bor Bytes)). OpensLog (log_seen path first last) c.end_batch.result start counted loaded)
     (sym c.in-Some.is)
-    (either c.end_batch.result _ _ _ _
+    (MatchResult-weaker c.end_batch.result
+    ended.ends
     (λ log ends. ended_begins path first mid last c.in-Ok.journal log end new state start counted loaded then.listing
     c.in-Ok.ensures ends refl ended.rest ended.listing)
     (λ status cant. unended_begins path first mid last c.in-Ok.journal status end state counted loaded then.listing
-    c.in-Ok.ensures cant ended.listing)
-    ended.ends)
+    c.in-Ok.ensures cant ended.listing))
 
 pub returns-in-Err : goal.returns-in-Err
 returns-in-Err g c =

@@ -3,7 +3,7 @@ use Rattle.djq_machine.specs.Call.{counts}
 use Rattle.djq_core.specs.Views.{loading_in}
 use Rattle.djq.specs.Logged.{disk_seen, log_at}
 use Rattle.djq.proofs.Logging.{read_whole, unloaded_begins}
-use Rattle.djq_follow.proofs.Leaving.{either}
+use Rattle.std.proofs.lemmas.Result.{MatchResult-weaker}
 use Rattle.djq.proofs.log.read_log.Goals as goal
 
 pub load_lines-requires : goal.load_lines-requires
@@ -19,9 +19,9 @@ returns-in-Ok g c =
     let mid = disk_seen (told c.open_journal.new.disk) (faults c.open_journal.new.disk) in
     let last = disk_seen (told c.load_lines.new.disk) (faults c.load_lines.new.disk) in
     let log = log_at c.args.path.now first last in
-    either c.load_lines.result _ _ _ _
+    MatchResult-weaker c.load_lines.result
+    c.load_lines.ensures
     (λ gate loads. read_whole log c.in-Ok.journal mid gate (loading_in c.load_lines.new.machine)
     c.load_lines.new.machine.state before.listing now.listing c.in-Ok.ensures loads)
     (λ status stops. unloaded_begins log c.in-Ok.journal mid status
     (counts before.listing before.update before.rows) (counts now.listing now.update now.rows) c.in-Ok.ensures stops)
-    c.load_lines.ensures

@@ -2,8 +2,8 @@
 use Rattle.std.proofs.Common.{ℕ, List, ◌≡◌, ◌++◌, ◌∙◌, refl, sym, ap, subst, length, take}
 use Rattle.std.proofs.Common.{length-append, length-take, arith, rules}
 use Rattle.djq_io.specs.Faults.{Counted}
-use Rattle.djq.specs.Replay.{Gave}
-use Rattle.djq.proofs.Gathering.{gave_none, gave_more, gave_same}
+use Rattle.djq_io.specs.Given.{Gave}
+use Rattle.djq_io.proofs.Gives.{gave_none, gave_more, gave_same}
 use Rattle.djq.proofs.replay.read_pieces.Goals as goal
 
 pub loop-init : goal.loop-init

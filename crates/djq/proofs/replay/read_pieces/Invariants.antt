@@ -1,5 +1,5 @@
 use Rattle.std.proofs.Common.{◌≡◌, ◌≤◌, length}
-use Rattle.djq.specs.Replay.{Gave}
+use Rattle.djq_io.specs.Given.{Gave}
 use Rattle.djq.proofs.replay.read_pieces.Given as goal
 
 abbrev pub invariant-loop : goal.invariant-loop

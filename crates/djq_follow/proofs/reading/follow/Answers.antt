@@ -1,9 +1,9 @@
 -- The pieces so far, one behind another, are what was given, and the follower has taken just those bytes.
-use Rattle.std.proofs.Common.{ℕ, List, ◌≡◌, ◌∙◌, ◌++◌, length, take, sym, ap, subst, refl, arith}
-use Rattle.std.proofs.Common.{rules, length-append, length-take}
+use Rattle.std.proofs.Common.{ℕ, ◌∙◌, ◌++◌, take, subst, arith}
+use Rattle.std.proofs.Common.{length-append, length-take}
 use Rattle.djq_io.specs.Faults.{Counted}
-use Rattle.djq_follow.proofs.Gathering.{gave_none, gave_more, gave_same}
-use Rattle.djq_follow.proofs.Following.{IsFirst, given_all, takes_more, are_followed, is_held, halted_as, ended_as}
+use Rattle.djq_io.proofs.Gives.{gave_more, gave_same}
+use Rattle.djq_follow.proofs.Following.{IsFirst, given_all, takes_more, are_followed, halted_as, ended_as}
 use Rattle.djq_follow.proofs.reading.follow.Goals as goal
 
 pub returns-in-Some : goal.returns-in-Some

@@ -1,5 +1,6 @@
-use Rattle.std.proofs.Common.{List, ℕ, ◌≡◌, ◌≤◌, ◌++◌, length}
-use Rattle.djq_follow.specs.Follow.{Gave, Takes}
+use Rattle.std.proofs.Common.{List, ℕ, ◌≡◌, ◌≤◌, length}
+use Rattle.djq_follow.specs.Follow.{Takes}
+use Rattle.djq_io.specs.Given.{Gave}
 use Rattle.djq_follow.proofs.reading.follow.Given as goal
 
 abbrev pub invariant-loop : goal.invariant-loop

@@ -1,7 +1,7 @@
 -- The first value that was given for `Q` is the query, which is asked of exactly where it is a name.
 use Rattle.std.proofs.Common.{ℕ, List, Bor, Option, ◌≡◌, ◌∙◌, sym, ap, subst, option_map, codes, refl}
 use Rattle.std.specs.Prelude.{Some, Bool, true, false}
-use Rattle.clap.specs.Words.{Text, first_of, found_of, rows_of}
+use Rattle.clap.specs.Words.{Text, found_of, rows_of}
 use Rattle.clap.proofs.WalkLemmas.{first_value-rows}
 use Rattle.djq_value.specs.Literal.{is_name}
 use Rattle.djq_words.specs.declared.commands.Asked.{Asked}

@@ -1,6 +1,6 @@
 -- The piece is cut at its LFs: each line was taken in turn, and what is left behind the last has no LF.
-use Rattle.std.proofs.Common.{ℕ, List, ◌≡◌, ◌∙◌, ◌-◌, ◌+◌, ◌++◌, ◌∷◌, [], Some, length, take, drop}
-use Rattle.std.proofs.Common.{sym, ap, subst, arith, append_assoc, length-drop}
+use Rattle.std.proofs.Common.{ℕ, List, ◌∙◌, ◌-◌, ◌+◌, ◌++◌, ◌∷◌, [], Some, length, take, drop}
+use Rattle.std.proofs.Common.{sym, ap, arith, append_assoc, length-drop}
 use Rattle.std.proofs.lemmas.List.{take_all}
 use Rattle.djq_follow.proofs.Following.{at_first_lf, at_no_lf, takes_line, takes_more, takes_rest}
 use Rattle.djq_follow.proofs.Following.{front_is_piece, line_is_piece}
