@@ -469,14 +469,18 @@ fn written_out(alloc: Global, parts: &[Numbered]) -> Result<Vec<u8>, Fail> {
     Ok(lines)
 }
 
+/// Whether a session is told this, and ends so.
+fn is_told(rt: &HostRuntime, long: &Long) -> Result<bool, Fail> {
+    let said = written_out(rt.alloc(), long.said)?;
+    let wanted = written_out(rt.alloc(), long.told)?;
+    let (status, told) = outcome(rt, &RUN, &said, 8192, (0, 0))?;
+    Ok(status == long.status && told.as_slice() == wanted.as_slice())
+}
+
 #[test]
 fn much_is_said_and_told(rt: HostRuntime) -> Result<(), Fail> {
     for long in &LONG {
-        let said = written_out(rt.alloc(), long.said)?;
-        let wanted = written_out(rt.alloc(), long.told)?;
-        let (status, told) = outcome(&rt, &RUN, &said, 8192, (0, 0))?;
-        assert_eq!(rt; status, long.status, "{}", long.name);
-        assert_eq!(rt; told.as_slice(), wanted.as_slice(), "{}", long.name);
+        assert!(rt; is_told(&rt, long)?, "{}", long.name);
     }
     Ok(())
 }
