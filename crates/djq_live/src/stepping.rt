@@ -1,12 +1,11 @@
 //! What an update does to reducts, leaf after leaf.
 ghost use Rattle.std.specs.Prelude.{◌≡◌, ◌+◌, ◌<◌, ◌≤◌, true, false, length, OnOk, OnErr};
 ghost use Rattle.djq_tree.specs.Labels.{label_at};
-ghost use Rattle.djq_index.specs.Entries.{count_of};
 ghost use Rattle.djq_reduct.specs.Tables.{entries_at};
 ghost use Rattle.djq_reduct.specs.Reducts as spec;
 ghost use Rattle.djq_reduct.specs.Reducts.{IsReducts};
 ghost use Rattle.djq_reduct.specs.Marks.{AreMarks, IsBare, IsWithout};
-ghost use Rattle.djq_propagate.specs.Updates.{HasGained, HasKept, HasLost};
+ghost use Rattle.djq_propagate.specs.Updates.{HasKept};
 ghost use Rattle.djq_cursor.specs.Changed.{IsGained};
 ghost use Rattle.djq_live.specs.Changes.{Gains, Loses};
 ghost use Rattle.djq_live.specs.Stepping.{
@@ -59,62 +58,8 @@ pub(crate) fn list_changes<L: Ledger>(
     }
 }
 
-/// Puts a tuple into a leaf that lacks it, and tells of the answers that come.
-fn add_and_tell<L: Ledgers>(
-    reducts: &mut Reducts,
-    leaf: usize,
-    tuple: &[u64],
-    log: &mut DeltaLog,
-    steps: &mut Steps<L>,
-) -> Result<(), NoMem>
-    requires leaf { leaf < reducts.old.tree.leaves }
-    requires wide { length tuple.now ≡ length (label_at reducts.old.tree.labels leaf) }
-    requires absent { count_of (entries_at reducts.old.tables leaf) tuple.now ≡ 0 }
-    requires few { length (entries_at reducts.old.tables leaf) < TUPLES }
-    requires bare { IsBare reducts.old.tables }
-    ensures gained { OnOk result (HasGained reducts.old reducts.new leaf tuple.now) }
-    ensures listed { OnOk result (ListsAll true (IsGained reducts.new reducts.old)
-        (length reducts.old.tree.head) 1 log.old log.new steps.old.listing steps.new.listing) }
-    ensures refused { OnErr result (HasKept reducts.old reducts.new) }
-    ensures log { OnErr result (log.new ≡ log.old) }
-    ensures listing { OnErr result (steps.new.listing ≡ steps.old.listing) }
-    ensures updates { OnOk result (CountsLeaf reducts.old leaf 1
-        steps.old.update steps.new.update) }
-    ensures refusal { OnErr result (CountsLeaf reducts.old leaf 2
-        steps.old.update steps.new.update) }
-    ensures rows { steps.new.rows ≡ steps.old.rows }
-{
-    reducts.laws();
-    insert_leaf(reducts, leaf, tuple, &mut steps.update)?;
-    list_changes(reducts, leaf, true, log, &mut steps.listing);
-    finish_insertion(reducts, leaf, &mut steps.update);
-    Ok(())
-}
-
-/// Takes a tuple out of a leaf that has it, and tells of the answers that go.
-fn delete_and_tell<L: Ledgers>(
-    reducts: &mut Reducts,
-    leaf: usize,
-    tuple: &[u64],
-    log: &mut DeltaLog,
-    steps: &mut Steps<L>,
-)
-    requires leaf { leaf < reducts.old.tree.leaves }
-    requires there { 0 < count_of (entries_at reducts.old.tables leaf) tuple.now }
-    requires bare { IsBare reducts.old.tables }
-    ensures lost { HasLost reducts.old reducts.new leaf tuple.now }
-    ensures listed { ListsAll false (IsGained reducts.old reducts.new)
-        (length reducts.old.tree.head) 1 log.old log.new steps.old.listing steps.new.listing }
-    ensures updates { CountsLeaves reducts.old 1 steps.old.update steps.new.update }
-    ensures rows { steps.new.rows ≡ steps.old.rows }
-{
-    reducts.laws();
-    mark_removal(reducts, leaf, tuple, &mut steps.update);
-    list_changes(reducts, leaf, false, log, &mut steps.listing);
-    finish_removal(reducts, leaf, &mut steps.update);
-}
-
-/// Puts the tuple of a row, where there is one, into a leaf that lacks it.
+/// Puts the tuple of a row, where there is one, into a leaf that lacks it, and tells of the answers
+/// that come where that is wanted.
 fn add_to_leaf<L: Ledgers>(
     reducts: &mut Reducts,
     pattern: &Pattern,
@@ -150,14 +95,17 @@ fn add_to_leaf<L: Ledgers>(
         return Ok(());
     };
     if wanted {
-        add_and_tell(reducts, leaf, tuple, log, steps)?;
+        insert_leaf(reducts, leaf, tuple, &mut steps.update)?;
+        list_changes(reducts, leaf, true, log, &mut steps.listing);
+        finish_insertion(reducts, leaf, &mut steps.update);
         return Ok(());
     }
     add_leaf(reducts, leaf, tuple, &mut steps.update)?;
     Ok(())
 }
 
-/// Takes the tuple of a row, where there is one, out of a leaf that has it.
+/// Takes the tuple of a row, where there is one, out of a leaf that has it, and tells of the answers
+/// that go where that is wanted.
 fn delete_from_leaf<L: Ledgers>(
     reducts: &mut Reducts,
     pattern: &Pattern,
@@ -185,7 +133,9 @@ fn delete_from_leaf<L: Ledgers>(
         return;
     };
     if wanted {
-        delete_and_tell(reducts, leaf, tuple, log, steps);
+        mark_removal(reducts, leaf, tuple, &mut steps.update);
+        list_changes(reducts, leaf, false, log, &mut steps.listing);
+        finish_removal(reducts, leaf, &mut steps.update);
         return;
     }
     drop_leaf(reducts, leaf, tuple, &mut steps.update);
