@@ -28,7 +28,7 @@ use Rattle.std.specs.Prelude.{
 use Rattle.std.specs.Int.Signed.{lt_z}
 use Rattle.std.specs.Ordering.{int_eq}
 use Rattle.std.proofs.Common.{refl, sym, ap, ap₂, ◌∙◌, subst, inl, inr, arith}
-use Rattle.std.proofs.lemmas.Bool.{lt-ltb, le-ltb, ltb-false, ltb-true, and_parts}
+use Rattle.std.proofs.lemmas.Bool.{lt-ltb, le-ltb, ltb-false, ltb-true}
 use Rattle.std.proofs.lemmas.Bool.Decides.{Decides-int_eq}
 use Rattle.std.proofs.lemmas.List.Elements.{All-head, All-tail, Contains-append_left, Contains-append_right}
 use Rattle.djq_model.specs.declared.value.Value.{Value}
@@ -161,6 +161,10 @@ abbrev suits : List Comparison → Bytes → Value → Bool
 suits [] x v = true
 suits (c ∷ cs) x v = cond (passes c x v) (suits cs x v) false
 
+both : (a b : Bool) → cond a b false ≡ true → (a ≡ true) × (b ≡ true)
+both true b h = (refl, h)
+both false b h = absurd cc
+
 suits_above : (cs : List Comparison) (x : Bytes) (n m : ℕ) → past cs ≤ n → past cs ≤ m
     → suits cs x (Int (pos n)) ≡ suits cs x (Int (pos m))
 suits_above [] x n m fn fm = refl
@@ -185,7 +189,7 @@ suits_text : (cs : List Comparison) (x t : Bytes) (n : ℕ) → past cs ≤ n �
     → Contains (constants cs) (Text t) ⊎ (suits cs x (Int (pos n)) ≡ true)
 suits_text [] x t n far h = inr refl
 suits_text (c ∷ cs) x t n far h =
-    let parts = and_parts (passes c x (Text t)) (suits cs x (Text t)) h in
+    let parts = both (passes c x (Text t)) (suits cs x (Text t)) h in
     step (value_eq (Text t) c.constant) refl parts.0 (suits_text cs x t n (omega (arith, far)) parts.1)
   where
     number : (b : Bool) → value_eq (Text t) c.constant ≡ false
@@ -310,7 +314,7 @@ suited : (cs : List Comparison) (c : Comparison) (v : Value) → Contains cs c �
     → compares c.operator v c.constant ≡ true
 suited [] c v k h = absurd (nothing_there c k)
 suited (d ∷ cs) c v k h =
-    let parts = and_parts (passes d c.variable v) (suits cs c.variable v) h in
+    let parts = both (passes d c.variable v) (suits cs c.variable v) h in
     step (first_or_later d cs c k) parts.0 (λ l. suited cs c v l parts.1)
   where
     itself : (b : Bool) → bytes_eq c.variable c.variable ≡ b → cond b (compares c.operator v c.constant) true ≡ true
