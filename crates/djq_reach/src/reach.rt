@@ -2,10 +2,10 @@
 //! looked at.
 ghost use Rattle.std.specs.Prelude.{◌≡◌, ◌<◌, [], ◌∷◌, ⊤, false, IsSomeAnd, OnOk, OnErr, length};
 ghost use Rattle.djq_live.specs.Changes.{Came, Went};
-ghost use Rattle.djq_live.specs.Updating.{CanAdd, CanDelete, CountsDelta};
+ghost use Rattle.djq_live.specs.Updating.{CanAdd, CanDelete};
 ghost use Rattle.djq_reach.specs.Places.{place_at, watched_at, AreOnce};
-ghost use Rattle.djq_reach.specs.Tending.{Readies, TellsWhere, Tends, TellsAt, Shows, Costs};
-ghost use Rattle.djq_reach.specs.Tending.{AreUnwatched, CountsEither, HaveLogs, Empties, Works};
+ghost use Rattle.djq_reach.specs.Tending.{Readies, Tends, TellsAt, Shows, Costs};
+ghost use Rattle.djq_reach.specs.Tending.{AreUnwatched, HaveLogs, Empties, Works};
 ghost use Rattle.djq_reach.specs.Reaching.{Reach, AllAt, CanCome, CanGo, TakesIn, LetsOut, Remains, GivesBack, Ages};
 
 use crate::places::is_watched;
@@ -24,54 +24,7 @@ pub(crate) fn clear_if(log: &mut DeltaLog, wanted: bool)
     }
 }
 
-/// A query takes in a row that came. Where it is watched, its log tells anew which answers came.
-fn insert_into_query<L: Ledgers>(
-    query: &mut LiveQuery,
-    wanted: bool,
-    log: &mut DeltaLog,
-    relation: RelationId,
-    cells: &[u64],
-    steps: &mut Steps<L>,
-) -> Result<(), NoMem>
-    requires { CanAdd query.old relation.at cells.now }
-    ensures taken { OnOk result (TakesIn relation.at cells.now query.old query.new) }
-    ensures refused { OnErr result (Remains query.old query.new) }
-    ensures tells { OnOk result (TellsWhere wanted (λ c d. Came c d relation.at cells.now)
-        query.old log.old log.new) }
-    ensures none { OnErr result (log.new.lines ≡ []) }
-    ensures counted { CountsDelta wanted (λ c d. Came c d relation.at cells.now)
-        query.old relation.at steps.old.listing steps.new.listing }
-    ensures updates { OnOk result (CountsEither 1 query.old relation.at
-        steps.old.update steps.new.update) }
-    ensures refusal { OnErr result (CountsEither 3 query.old relation.at
-        steps.old.update steps.new.update) }
-{
-    clear_if(log, wanted);
-    query.add(relation, cells, wanted, log, steps)
-}
-
-/// A query lets out a row that went. Where it is watched, its log tells anew which answers went.
-fn delete_from_query<L: Ledgers>(
-    query: &mut LiveQuery,
-    wanted: bool,
-    log: &mut DeltaLog,
-    relation: RelationId,
-    cells: &[u64],
-    steps: &mut Steps<L>,
-)
-    requires { CanDelete query.old relation.at cells.now }
-    ensures lets { LetsOut relation.at cells.now query.old query.new }
-    ensures tells { TellsWhere wanted (λ c d. Went c d relation.at cells.now)
-        query.old log.old log.new }
-    ensures counted { CountsDelta wanted (λ c d. Went c d relation.at cells.now)
-        query.old relation.at steps.old.listing steps.new.listing }
-    ensures updates { CountsEither 1 query.old relation.at steps.old.update steps.new.update }
-{
-    clear_if(log, wanted);
-    query.delete(relation, cells, wanted, log, steps);
-}
-
-/// The query in a place takes in a row that came.
+/// The query in a place takes in a row that came. Where it is watched, its log tells anew which answers came.
 fn insert_at<L: Ledgers>(
     queries: &mut Vec<Option<LiveQuery>>,
     watchers: &[u32],
@@ -102,13 +55,15 @@ fn insert_at<L: Ledgers>(
         steps.old.update steps.new.update) }
 {
     let wanted = is_watched(watchers, at);
+    let log = &mut logs[at];
+    clear_if(log, wanted);
     match &mut queries[at] {
-        Some(query) => insert_into_query(query, wanted, &mut logs[at], relation, cells, steps),
+        Some(query) => query.add(relation, cells, wanted, log, steps),
         None => unreachable!(),
     }
 }
 
-/// It lets out a row that went.
+/// It lets out a row that went, and where it is watched its log tells anew which answers went.
 fn delete_at<L: Ledgers>(
     queries: &mut Vec<Option<LiveQuery>>,
     watchers: &[u32],
@@ -134,8 +89,10 @@ fn delete_at<L: Ledgers>(
         steps.old.update steps.new.update }
 {
     let wanted = is_watched(watchers, at);
+    let log = &mut logs[at];
+    clear_if(log, wanted);
     match &mut queries[at] {
-        Some(query) => delete_from_query(query, wanted, &mut logs[at], relation, cells, steps),
+        Some(query) => query.delete(relation, cells, wanted, log, steps),
         None => unreachable!(),
     }
 }

@@ -1,89 +1,59 @@
--- The place has a query, the one read, and a log; either it took the row in or it is as before, with no line.
+-- The place has a query, the one read, and a log, emptied before where it is wanted; either the query took the row in
+-- or it is as before, with no line.
 use Rattle.std.proofs.Common.{◌∙◌, subst, Bool}
+use Rattle.std.specs.Prelude.{OnOk}
+use Rattle.djq_model.specs.Data.{Tuple}
+use Rattle.djq_rows.specs.Catalog.{Catalog}
 use Rattle.djq_live.specs.Changes.{Came}
 use Rattle.djq_live.specs.Updating.{CanAdd}
 use Rattle.djq_reach.specs.Reaching.{Remains, TakesIn}
 use Rattle.djq_reach.specs.Tending.{Shows, TellsAt, TellsWhere}
 use Rattle.djq_reach.proofs.Reaching.{below_some, place_read, reach_read}
-use Rattle.djq_reach.proofs.Tending.{costs_one, lists_nothing, on_err, on_ok, shows_either, tends_read}
+use Rattle.djq_reach.proofs.Tending.{costs_one, lists_nothing, on_both, on_err, on_ok, on_refused, shows_either}
+use Rattle.djq_reach.proofs.Tending.{tells_where, tends_read}
 use Rattle.djq_reach.proofs.Working.{works_one}
 use Rattle.djq_reach.proofs.reach.insert_at.Goals as goal
 
-pub returns-clause-ok : goal.returns-clause-ok
-returns-clause-ok g c =
-    on_ok c.insert_into_query.result
-    (λ t. reach_read (TakesIn c.args.relation.at c.args.cells.now) c.args.queries.now.items c.args.at
-    c.index_mut.result.now c.in-Some.query c.insert_into_query.new.query
-    (λ l. CanAdd l c.args.relation.at c.args.cells.now) c.requires.can c.index_mut.ensures.value c.in-Some.is t)
-    c.insert_into_query.ensures.taken
-
-pub returns-clause-err : goal.returns-clause-err
-returns-clause-err g c =
-    on_err c.insert_into_query.result
-    (λ t. reach_read Remains c.args.queries.now.items c.args.at c.index_mut.result.now c.in-Some.query
-    c.insert_into_query.new.query
-    (λ l. CanAdd l c.args.relation.at c.args.cells.now) c.requires.can c.index_mut.ensures.value c.in-Some.is t)
-    c.insert_into_query.ensures.refused
-
-pub returns-clause-tells : goal.returns-clause-tells
-returns-clause-tells g c =
-    on_ok c.insert_into_query.result
-    (λ t. tends_read (TellsAt c.args.watchers.now (λ x d. Came x d c.args.relation.at c.args.cells.now))
-    c.args.queries.now.items c.args.logs.now.items c.args.at c.in-Some.query c.index_mut-in-Some.result.now
-    c.insert_into_query.new.log c.requires.logged
-    (place_read c.args.queries.now.items c.args.at c.index_mut.result.now c.in-Some.query
-    (below_some c.args.queries.now.items c.args.at (λ l. CanAdd l c.args.relation.at c.args.cells.now)
-    c.requires.can) c.index_mut.ensures.value c.in-Some.is) c.index_mut-in-Some.ensures.value
-    (subst (λ (b : Bool). TellsWhere b (λ x d. Came x d c.args.relation.at c.args.cells.now) c.in-Some.query
-    c.index_mut-in-Some.result.now c.insert_into_query.new.log) c.is_watched-wanted.ensures t))
-    c.insert_into_query.ensures.tells
-
-pub returns-clause-shows : goal.returns-clause-shows
-returns-clause-shows g c =
-    tends_read (Shows (λ x d. Came x d c.args.relation.at c.args.cells.now)) c.args.queries.now.items
-    c.args.logs.now.items c.args.at c.in-Some.query c.index_mut-in-Some.result.now c.insert_into_query.new.log
-    c.requires.logged
-    (place_read c.args.queries.now.items c.args.at c.index_mut.result.now c.in-Some.query
-    (below_some c.args.queries.now.items c.args.at (λ l. CanAdd l c.args.relation.at c.args.cells.now)
-    c.requires.can) c.index_mut.ensures.value c.in-Some.is) c.index_mut-in-Some.ensures.value
-    (shows_either (λ x d. Came x d c.args.relation.at c.args.cells.now) c.is_watched-wanted.result c.args.at
-    c.in-Some.query c.index_mut-in-Some.result.now c.insert_into_query.new.log c.insert_into_query.result
-    c.insert_into_query.ensures.tells
-    c.insert_into_query.ensures.none)
-
-pub returns-clause-counted : goal.returns-clause-counted
-returns-clause-counted g c =
-    costs_one (λ x d. Came x d c.args.relation.at c.args.cells.now) c.args.watchers.now c.args.relation.at
-    c.args.queries.now.items c.args.at c.in-Some.query c.is_watched-wanted.result
-    c.args.steps.now.listing c.insert_into_query.new.steps.listing
-    (place_read c.args.queries.now.items c.args.at c.index_mut.result.now c.in-Some.query
-    (below_some c.args.queries.now.items c.args.at (λ l. CanAdd l c.args.relation.at c.args.cells.now)
-    c.requires.can) c.index_mut.ensures.value c.in-Some.is)
-    c.is_watched-wanted.ensures c.insert_into_query.ensures.counted
-
-pub returns-clause-updates : goal.returns-clause-updates
-returns-clause-updates g c =
-    on_ok c.insert_into_query.result
-    (λ h. works_one c.args.queries.now.items c.args.relation.at 1 c.args.at c.in-Some.query c.args.steps.now.update
-    c.insert_into_query.new.steps.update
-    (place_read c.args.queries.now.items c.args.at c.index_mut.result.now c.in-Some.query
-    (below_some c.args.queries.now.items c.args.at (λ l. CanAdd l c.args.relation.at c.args.cells.now) c.requires.can)
-    c.index_mut.ensures.value c.in-Some.is) h)
-    c.insert_into_query.ensures.updates
-
-pub returns-clause-refusal : goal.returns-clause-refusal
-returns-clause-refusal g c =
-    on_err c.insert_into_query.result
-    (λ h. works_one c.args.queries.now.items c.args.relation.at 3 c.args.at c.in-Some.query c.args.steps.now.update
-    c.insert_into_query.new.steps.update
-    (place_read c.args.queries.now.items c.args.at c.index_mut.result.now c.in-Some.query
-    (below_some c.args.queries.now.items c.args.at (λ l. CanAdd l c.args.relation.at c.args.cells.now) c.requires.can)
-    c.index_mut.ensures.value c.in-Some.is) h)
-    c.insert_into_query.ensures.refusal
-
-pub returns-clause-unlisted : goal.returns-clause-unlisted
-returns-clause-unlisted g c none =
-    lists_nothing (λ x d. Came x d c.args.relation.at c.args.cells.now) c.in-Some.query c.is_watched-wanted.result
-    c.args.relation.at
-    c.args.steps.now.listing c.insert_into_query.new.steps.listing (c.is_watched-wanted.ensures ∙ none)
-    c.insert_into_query.ensures.counted
+pub returns : goal.returns
+returns g c =
+    let at = c.args.relation.at in
+    let cells = c.args.cells.now in
+    let gs = c.args.queries.now.items in
+    let logs = c.args.logs.now.items in
+    let i = c.args.at in
+    let query = c.index_mut.result.now in
+    let l = c.in-Some.query in
+    let log = c.index_mut-log.result.now in
+    let wanted = c.is_watched-wanted.result in
+    let came = λ (x d : Catalog) (row : Tuple). Came x d at cells row in
+    let there = place_read gs i query l (below_some gs i (λ l. CanAdd l at cells) c.requires.can)
+    c.index_mut.ensures.value c.in-Some.is in
+    let told : OnOk c.add.result (TellsWhere wanted came l log c.add.new.log) = on_ok c.add.result
+    (λ h. tells_where came wanted l log c.clear_if.new.log c.add.new.log c.clear_if.ensures h) c.add.ensures.log in
+    record {
+      ok = on_both c.add.result
+          (λ h k. reach_read (TakesIn at cells) gs i query l c.add.new.self (λ l. CanAdd l at cells) c.requires.can
+          c.index_mut.ensures.value c.in-Some.is (record { follows = h; same = c.add.ensures.same; grows = k }))
+          c.add.ensures.added c.add.ensures.grows;
+      err = on_err c.add.result
+          (λ h. reach_read Remains gs i query l c.add.new.self (λ l. CanAdd l at cells) c.requires.can
+          c.index_mut.ensures.value c.in-Some.is (record { kept = h; same = c.add.ensures.same }))
+          c.add.ensures.refused;
+      tells = on_ok c.add.result
+          (λ t. tends_read (TellsAt c.args.watchers.now came) gs logs i l log c.add.new.log c.requires.logged there
+          c.index_mut-log.ensures.value (subst (λ (b : Bool). TellsWhere b came l log c.add.new.log)
+          c.is_watched-wanted.ensures t)) told;
+      shows = tends_read (Shows came) gs logs i l log c.add.new.log c.requires.logged there
+          c.index_mut-log.ensures.value (shows_either came wanted i l log c.add.new.log c.add.result told
+          (on_err c.add.result (λ h. h.lines) c.add.ensures.emptied));
+      counted = costs_one came c.args.watchers.now at gs i l wanted c.args.steps.now.listing
+          c.add.new.steps.listing there c.is_watched-wanted.ensures c.add.ensures.counted;
+      unlisted = λ none. lists_nothing came l wanted at c.args.steps.now.listing c.add.new.steps.listing
+          (c.is_watched-wanted.ensures ∙ none) c.add.ensures.counted;
+      updates = on_both c.add.result
+          (λ h k. works_one gs at 1 i l c.args.steps.now.update c.add.new.steps.update there (h, k))
+          c.add.ensures.updates c.add.ensures.flat;
+      refusal = on_refused c.add.result
+          (λ h k. works_one gs at 3 i l c.args.steps.now.update c.add.new.steps.update there (h, k))
+          c.add.ensures.refusal c.add.ensures.flat_refusal;
+    }
