@@ -92,7 +92,7 @@ never_unknown {P} k d e q own p h =
 pub watches_given_up : (old : Kept) (before : Talk) (k : Kept) (d e : Talk) → GivingWatches old before k d
     → PopsWatch d e None → GivesUpWatches old before k e
 watches_given_up old before k d e g p =
-    let none : e.watches ≡ [] = ap (λ (x : Talk). x.watches) p.1 ∙ p.0 in record {
+    record {
       rest = g.rest;
       session = p.1 ∙ g.session ∙ ap (λ (ws : List Bytes). record before { watches = ws }) p.0;
       counted = subst (λ (ws : List Bytes). StaysCounted old.registered before.watches k.registered ws) p.0 g.counted;

@@ -1,6 +1,5 @@
 ghost use Rattle.std.specs.Prelude.{◌≡◌};
 ghost use Rattle.djq_machine.specs.Keeping.{is_removal};
-ghost use Rattle.djq_core.specs.Changing.{is_kept};
 ghost use Rattle.djq_core.specs.Stepping.{is_kept_by};
 
 use djq_lines::{AddOutcome, DeleteOutcome, HeldRow, Refusal};
@@ -15,19 +14,6 @@ pub(crate) enum Outcome {
     Deleted(Result<DeleteOutcome, Refusal>),
     /// Of `done`, with the rows that the batch held.
     Done(Result<usize, Refusal>, Sequence<HeldRow>),
-}
-
-impl Outcome {
-    /// Whether the line is kept, alone or with the batch that it ends.
-    pub(crate) fn is_kept(&self) -> bool
-        ensures { result ≡ is_kept self.now }
-    {
-        match self {
-            Outcome::Added(result) => result.is_ok(),
-            Outcome::Deleted(result) => is_removal(*result),
-            Outcome::Done(result, _held) => result.is_ok(),
-        }
-    }
 }
 
 /// Whether a copy of a row went.
@@ -55,14 +41,16 @@ pub(crate) enum Left {
 }
 
 impl Left {
-    /// Whether the line is kept.
+    /// Whether the line is kept, alone or with the batch that it ends.
     pub(crate) fn is_kept(&self) -> bool
         ensures { result ≡ is_kept_by self.now }
     {
         match self {
             Left::Nothing { kept } => *kept,
             Left::Stopping => false,
-            Left::Telling(outcome) => outcome.is_kept(),
+            Left::Telling(Outcome::Added(result)) => result.is_ok(),
+            Left::Telling(Outcome::Deleted(result)) => is_removal(*result),
+            Left::Telling(Outcome::Done(result, _held)) => result.is_ok(),
         }
     }
 }

@@ -11,10 +11,8 @@ ghost use Rattle.djq_lines.specs.declared.command.Command.TheVariants.{Explain, 
 ghost use Rattle.djq_core.specs.Opens.{Opens};
 ghost use Rattle.djq_machine.specs.Keeping.{is_registration};
 ghost use Rattle.djq_core.specs.Performs.{Executes, ExecutesKeeping};
-ghost use Rattle.djq_core.specs.Changing.{Adds, Deletes};
 ghost use Rattle.djq_core.specs.Sound.{IsReady};
 
-use crate::change::Outcome;
 use crate::ending::{cut_off, give_up};
 use bytes::BytesMut;
 use djq_lines::limits::CURSORS;
@@ -41,34 +39,6 @@ pub(crate) fn run_rel(
     let outcome = engine.rel(name, types);
     session.answer_done(outcome);
     outcome.is_ok()
-}
-
-/// `add`: a row goes into a relation. What is left is to tell it and to answer.
-pub(crate) fn run_add<L: Ledgers>(
-    engine: &mut Store,
-    name: &Name,
-    row: &[Value],
-    steps: &mut Steps<L>,
-) -> Outcome
-    ensures { Adds engine.old name.now row.now result engine.new steps.old.listing
-        steps.new.listing }
-{
-    engine.laws();
-    Outcome::Added(engine.add(name, row, steps))
-}
-
-/// `del`: a row goes out of a relation, likewise.
-pub(crate) fn run_del<L: Ledgers>(
-    engine: &mut Store,
-    name: &Name,
-    row: &[Value],
-    steps: &mut Steps<L>,
-) -> Outcome
-    ensures { Deletes engine.old name.now row.now result engine.new steps.old.listing
-        steps.new.listing }
-{
-    engine.laws();
-    Outcome::Deleted(engine.del(name, row, steps))
 }
 
 /// `query`: a query is registered, or a rest shows why it isn't. Out of memory in a long rest, the

@@ -30,7 +30,11 @@ impl KeptLines {
             KeptLines::Batch(_) => false,
         };
         if !same {
-            *self = line_where(kept);
+            *self = if kept {
+                KeptLines::Line
+            } else {
+                KeptLines::Nothing
+            };
         }
     }
 
@@ -81,16 +85,5 @@ fn line_of_batch(rows: &[HeldRow], i: usize) -> Option<&[u8]>
                 None
             }
         }
-    }
-}
-
-/// The line that was run, where it is kept.
-fn line_where(kept: bool) -> KeptLines
-    ensures { result ≡ line_where kept }
-{
-    if kept {
-        KeptLines::Line
-    } else {
-        KeptLines::Nothing
     }
 }

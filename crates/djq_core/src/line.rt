@@ -10,10 +10,10 @@ ghost use Rattle.djq_core.specs.Sound.{BatchSuits, IsOwn, IsReady};
 ghost use Rattle.djq_core.specs.Stepping.{Copies, IsRunnable, LeavesTo, LineLeaves, Obeys, is_on_row};
 
 use crate::batch::{run_batch, run_in_batch};
-use crate::change::Left;
+use crate::change::{Left, Outcome};
 use crate::commands::{
-    run_add, run_close, run_del, run_drop, run_explain, run_has, run_open, run_query, run_quit,
-    run_rel, run_shape, run_stop, run_union,
+    run_close, run_drop, run_explain, run_has, run_open, run_query, run_quit, run_rel, run_shape,
+    run_stop, run_union,
 };
 use crate::copied::Copied;
 use crate::ending::end_by;
@@ -110,7 +110,7 @@ fn run_command<L: Ledgers>(
 
 /// Takes the line in front of a session, with a batch open or without, runs what it says, and tells
 /// what is left to do. Room for a reply was kept.
-fn run_front<L: Ledgers>(
+fn run_line<L: Ledgers>(
     alloc: Global,
     engine: &mut Store,
     session: &mut Session<CursorId, Name>,
@@ -132,40 +132,18 @@ fn run_front<L: Ledgers>(
     if session.has_batch() {
         return run_in_batch(alloc, engine, session, end, rest, row, steps);
     }
-    run_line(alloc, engine, session, end, rest, row, steps)
-}
-
-/// Takes the line in front of a session without a batch, runs what it says, and tells what is left to
-/// do. Room for a reply was kept.
-fn run_line<L: Ledgers>(
-    alloc: Global,
-    engine: &mut Store,
-    session: &mut Session<CursorId, Name>,
-    end: usize,
-    rest: usize,
-    row: &mut Vec<Value>,
-    steps: &mut Steps<L>,
-) -> Left
-    requires ready { IsReady engine.old session.old }
-    requires front { front_of session.old.held ≡ a_line (take end session.old.held)
-        (drop rest session.old.held) }
-    requires within { (end ≤ length session.old.held) × (rest ≤ length session.old.held) }
-    requires said { is_blank_line (take end session.old.held) ≡ false }
-    requires few { length session.old.pending ≤ PENDING_BYTES }
-    requires alone { session.old.batch ≡ None }
-    ensures { LineLeaves (take end session.old.held) result
-        engine.old session.old engine.new session.new steps.old.listing steps.new.listing }
-{
     match read_row(alloc, &session.held()[..end], row) {
         RowLine::Add(name) => {
-            let outcome = run_add(engine, &Name::new(name), row.as_slice(), steps);
+            engine.laws();
+            let outcome = engine.add(&Name::new(name), row.as_slice(), steps);
             session.take_line(rest);
-            Left::Telling(outcome)
+            Left::Telling(Outcome::Added(outcome))
         }
         RowLine::Del(name) => {
-            let outcome = run_del(engine, &Name::new(name), row.as_slice(), steps);
+            engine.laws();
+            let outcome = engine.del(&Name::new(name), row.as_slice(), steps);
             session.take_line(rest);
-            Left::Telling(outcome)
+            Left::Telling(Outcome::Deleted(outcome))
         }
         RowLine::Refused(_verb, refusal) => {
             session.take_line(rest);
@@ -176,7 +154,7 @@ fn run_line<L: Ledgers>(
     }
 }
 
-/// The same of a line that isn't one of a row. It stands apart so that a row's line clears no room for
+/// The same of a line that isn't one of a row, where no batch is open. It stands apart so that a row's line clears no room for
 /// a command.
 #[inline(never)]
 fn run_other<L: Ledgers>(
@@ -257,7 +235,7 @@ fn step_line<L: Ledgers>(
     }
     match session.keep(REPLY_BYTES) {
         Ok(()) => {
-            let left = run_front(alloc, engine, session, end, rest, row, steps);
+            let left = run_line(alloc, engine, session, end, rest, row, steps);
             let kept = left.is_kept();
             (Stepped::Ran { kept }, left)
         }

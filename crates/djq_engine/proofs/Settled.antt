@@ -129,31 +129,39 @@ unwatched_reached p s none (g ∷ groups) within =
 
 -- ---- the rows are in the catalog
 
+-- What is known once the rows of a batch are in the catalog.
+pub record WentIn (old : Parts) (held : List HeldRow) (now : Catalog) (groups : List Group) (count : ℕ) : Type 0 where
+  pub law : CellsStay
+  pub was : IsCatalog old.catalog
+  pub is : IsCatalog now
+  pub suit : SuitAll (kept_in old).store held
+  pub put : PutsAll (kept_in old).store held now count groups
+  pub more : List Bytes
+  pub texts : now.texts ≡ (old.catalog).texts ++ more
+
 module _ (old : Parts) (s : IsWhole old) (held : List HeldRow) (now : Catalog) (groups : List Group) (count : ℕ)
-    (law : CellsStay) (ic : IsCatalog old.catalog) (inow : IsCatalog now)
-    (suit : SuitAll (kept_in old).store held) (p : PutsAll (kept_in old).store held now count groups)
-    (more : List Bytes) (texts : now.texts ≡ (old.catalog).texts ++ more) where
+    (w : WentIn old held now groups count) where
   pub start_here : Catalog
-  start_here = start_of old.catalog now ic inow law more texts (p.grouped).long (p.grouped).names (p.grouped).types
-      groups
+  start_here = start_of old.catalog now w.was w.is w.law w.more w.texts (w.put.grouped).long
+      (w.put.grouped).names (w.put.grouped).types groups
 
   facts : (length start_here.relations ≡ length (old.catalog).relations)
       × ((r : ℕ) → (relation_at start_here.relations r).name ≡ (relation_at (old.catalog).relations r).name)
       × ((r : ℕ) → (relation_at start_here.relations r).types ≡ (relation_at (old.catalog).relations r).types)
       × ((r : ℕ) → rows_at start_here.relations r ≡ rows_at (old.catalog).relations r) × (start_here.texts ≡ now.texts)
   unfolding start_here
-  facts = start_facts old.catalog now ic inow law more texts (p.grouped).long (p.grouped).names (p.grouped).types groups
-      p.grouped
+  facts = start_facts old.catalog now w.was w.is w.law w.more w.texts (w.put.grouped).long
+      (w.put.grouped).names (w.put.grouped).types groups w.put.grouped
 
   pub came_within : All (λ g. g.relation.at < length (old.catalog).relations) groups
-  came_within = groups_within groups (length (old.catalog).relations) (p.grouped).within
+  came_within = groups_within groups (length (old.catalog).relations) (w.put.grouped).within
 
   pub came_here : (readers : List (List ℕ)) → readers ≡ old.readers.items
       → All (λ g. g.relation.at < length readers) groups
   came_here readers e =
       let same = ap (λ (rs : List (List ℕ)). length rs) e in
       groups_within groups (length readers)
-      (λ r f. (let low = (p.grouped).within r f in omega (arith, low, s.long, same)))
+      (λ r f. (let low = (w.put.grouped).within r f in omega (arith, low, s.long, same)))
 
   start_leads : Leads old.readers.items groups old.queries.items start_here now
   unfolding start_here
@@ -161,10 +169,10 @@ module _ (old : Parts) (s : IsWhole old) (held : List HeldRow) (now : Catalog) (
       let f = facts in
       let r = sound_readers old.catalog old.queries.items old.order old.readers.items s in
       record {
-        comes = start_by old.catalog now ic inow law more texts (p.grouped).long (p.grouped).names (p.grouped).types
-            groups p.grouped;
+        comes = start_by old.catalog now w.was w.is w.law w.more w.texts (w.put.grouped).long
+            (w.put.grouped).names (w.put.grouped).types groups w.put.grouped;
         within = groups_within groups (length start_here.relations)
-            (λ k e. (let low = (p.grouped).within k e in omega (arith, low, f.0)));
+            (λ k e. (let low = (w.put.grouped).within k e in omega (arith, low, f.0)));
         long = s.long ∙ sym f.0;
         reading = λ k i low. r.reading k i (omega (arith, low, f.0))
             ∙ ap (λ (x : Bytes). reads_place x (place_at old.queries.items i)) (sym (f.1 k));
@@ -175,11 +183,11 @@ module _ (old : Parts) (s : IsWhole old) (held : List HeldRow) (now : Catalog) (
   begun some =
       let f = facts in
       record {
-        found = all_found (kept_in old).store held suit;
-        puts = p;
+        found = all_found (kept_in old).store held w.suit;
+        puts = w.put;
         some = some;
-        same = start_same old.catalog now ic inow law more texts (p.grouped).long (p.grouped).names (p.grouped).types
-            groups p.grouped;
+        same = start_same old.catalog now w.was w.is w.law w.more w.texts (w.put.grouped).long
+            (w.put.grouped).names (w.put.grouped).types groups w.put.grouped;
         long = f.0;
         names = f.1;
         types = f.2;
@@ -199,22 +207,22 @@ module _ (old : Parts) (s : IsWhole old) (held : List HeldRow) (now : Catalog) (
   -- the relations of groups are those of which a row came
   pub came_tested : (c : Catalog) → c ≡ now → AreTested c.relations groups (has_come (kept_in old).store held)
   came_tested c e r low =
-      let long = (p.grouped).long in
+      let long = (w.put.grouped).long in
       let same = ap (λ (x : Catalog). length x.relations) e in
       ap (has_come (kept_in old).store held)
-      (ap (λ (x : Catalog). (relation_at x.relations r).name) e ∙ (p.grouped).names r)
-      ∙ sym (p.come r (omega (arith, low, long, same)))
+      (ap (λ (x : Catalog). (relation_at x.relations r).name) e ∙ (w.put.grouped).names r)
+      ∙ sym (w.put.come r (omega (arith, low, long, same)))
 
   pub came_found : (c : Catalog) → c ≡ now → All (λ h. IsSome (relation_of c.relations h.relation)) held
   came_found c e =
       subst (λ (rs : List Relation). All (λ h. IsSome (relation_of rs h.relation)) held)
-      (sym (ap (λ (x : Catalog). x.relations) e ∙ p.relations))
+      (sym (ap (λ (x : Catalog). x.relations) e ∙ w.put.relations))
       (all_found (with_all (kept_in old).store held) held
       (λ k d low. suits_all (kept_in old).store held (get_or held k d).relation (get_or held k d).row
-      ∙ suit k d low))
+      ∙ w.suit k d low))
 
   pub came_seq : (count ≡ 0 → ⊥) → old.seq < LAST_SEQ
-  came_seq some = seq_goes (kept_in old).store held p.places (λ e. some (p.count ∙ e))
+  came_seq some = seq_goes (kept_in old).store held w.put.places (λ e. some (w.put.count ∙ e))
 
   -- the queries took them in
   module _ (live : LiveStays) (some : count ≡ 0 → ⊥) (mid : Parts)
@@ -243,8 +251,8 @@ module _ (old : Parts) (s : IsWhole old) (held : List HeldRow) (now : Catalog) (
         (subst (λ (x : Catalog). AreReaders x.relations old.readers.items mid.queries.items) (sym e)
         (readers_renewed (old.catalog).relations now.relations old.readers.items old.queries.items mid.queries.items now
         (reached old.readers.items groups)
-        (sound_readers old.catalog old.queries.items old.order old.readers.items s) (p.grouped).long (p.grouped).names
-        reach_now))
+        (sound_readers old.catalog old.queries.items old.order old.readers.items s) (w.put.grouped).long
+        (w.put.grouped).names reach_now))
 
 -- ---- memory lacks
 

@@ -54,7 +54,7 @@ pub use djq_live::{LiveQuery, Next};
 pub use djq_reduct::{Answer, Cells};
 pub use engine::Engine;
 pub use lent::LentAnswer;
-pub use watching::WATCHERS;
+pub use watching::{WATCHERS, sign_of};
 
 mod asking;
 mod batch;

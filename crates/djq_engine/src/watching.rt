@@ -18,11 +18,11 @@ use djq_live::showable_cells_stand;
 use djq_model::Name;
 use djq_reduct::Cells;
 
-/// Whether a line tells that an answer came or that it went.
-fn sign_of(line: &Line) -> Sign
-    ensures { result ≡ sign_of line.now.came }
+/// Whether an answer came or went.
+pub fn sign_of(came: bool) -> Sign
+    ensures { result ≡ sign_of came }
 {
-    if line.came { Sign::Came } else { Sign::Went }
+    if came { Sign::Came } else { Sign::Went }
 }
 
 /// A line of a log.
@@ -148,7 +148,7 @@ impl Engine {
         let line = line_at(&self.parts.logs[id.at], nth);
         match &self.parts.queries[id.at] {
             Some(live) => (
-                sign_of(line),
+                sign_of(line.came),
                 LentAnswer::new(&self.parts.catalog, live, &line.answer),
             ),
             None => unreachable!(),

@@ -1,14 +1,13 @@
 //! What the last change affected, and how the answers of queries and unions changed.
 ghost use Rattle.std.specs.Prelude.{◌≡◌, ◌<◌, None, Some, IsSomeAnd, if◌then◌else◌, option_map, length, slice_get};
 ghost use Rattle.djq_engine.specs.Kept.{IsRegistered, told_at};
-ghost use Rattle.djq_engine.specs.Lending.{sign_of};
 
 use crate::below::engine_laws;
 use crate::finding::joined_in;
 use crate::joined::Joined;
 use crate::store::Store;
 use djq_cursor::Line;
-use djq_engine::{CursorId, LentAnswer, QueryId};
+use djq_engine::{CursorId, LentAnswer, QueryId, sign_of};
 use djq_lines::Sign;
 use djq_lines::limits::QUERIES;
 
@@ -28,13 +27,6 @@ fn told_line(joined: &Joined, nth: usize) -> &Line
     ensures { slice_get joined.now.log.lines nth ≡ Some result.now }
 {
     &joined.log.lines()[nth]
-}
-
-/// Whether an answer came or went.
-fn sign_of(came: bool) -> Sign
-    ensures { result ≡ sign_of came }
-{
-    if came { Sign::Came } else { Sign::Went }
 }
 
 impl Store {

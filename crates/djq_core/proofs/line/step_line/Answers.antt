@@ -66,15 +66,15 @@ returns-in-Ok g c =
     let old = c.args.session.now in
     let line = take c.args.end old.held in
     let same : c.keep.new.self.held ≡ old.held = ap (λ (d : Talk). d.held) c.in-Ok.ensures.others in
-    let left : LineLeaves line c.run_front-left.result c.args.engine.now c.keep.new.self c.run_front-left.new.engine
-    c.run_front-left.new.session c.args.steps.now.listing c.run_front-left.new.steps.listing
-    = subst (λ (bs : Bytes). LineLeaves (take c.args.end bs) c.run_front-left.result c.args.engine.now c.keep.new.self
-    c.run_front-left.new.engine c.run_front-left.new.session c.args.steps.now.listing
-    c.run_front-left.new.steps.listing) same c.run_front-left.ensures in
+    let left : LineLeaves line c.run_line-left.result c.args.engine.now c.keep.new.self c.run_line-left.new.engine
+    c.run_line-left.new.session c.args.steps.now.listing c.run_line-left.new.steps.listing
+    = subst (λ (bs : Bytes). LineLeaves (take c.args.end bs) c.run_line-left.result c.args.engine.now c.keep.new.self
+    c.run_line-left.new.engine c.run_line-left.new.session c.args.steps.now.listing
+    c.run_line-left.new.steps.listing) same c.run_line-left.ensures in
     let before = counts c.args.steps.now.listing c.args.steps.now.update c.args.steps.now.rows in
-    let now = counts c.run_front-left.new.steps.listing c.run_front-left.new.steps.update
-    c.run_front-left.new.steps.rows in
-    subst (λ (kept : Bool). LeavesTo (Ran kept) c.run_front-left.result c.args.engine.now old
-    c.run_front-left.new.engine c.run_front-left.new.session before now) (sym c.is_kept-kept.ensures)
-    (step_leaves c.run_front-left.result c.args.engine.now old c.keep.new.self line c.run_front-left.new.engine
-    c.run_front-left.new.session before now c.in-Ok.ensures.others c.requires.running left)
+    let now = counts c.run_line-left.new.steps.listing c.run_line-left.new.steps.update
+    c.run_line-left.new.steps.rows in
+    subst (λ (kept : Bool). LeavesTo (Ran kept) c.run_line-left.result c.args.engine.now old
+    c.run_line-left.new.engine c.run_line-left.new.session before now) (sym c.is_kept-kept.ensures)
+    (step_leaves c.run_line-left.result c.args.engine.now old c.keep.new.self line c.run_line-left.new.engine
+    c.run_line-left.new.session before now c.in-Ok.ensures.others c.requires.running left)

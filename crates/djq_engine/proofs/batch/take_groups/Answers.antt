@@ -32,87 +32,76 @@ insert_batch_into_readers-requires-clause-watched g c = ap (λ (ws : List ℕ). 
     c.as_slice-watchers.ensures.value
     ∙ c.requires.watched
 
-pub returns-clause-taken : goal.returns-clause-taken
-returns-clause-taken g c =
-    on_both c.insert_batch_into_readers.result
-    (λ reach tends. record {
-      reach = λ d here.
-          subst (λ (rs : List (List ℕ)). Reach (reached rs c.args.groups.now) (Renews c.args.parts.now.catalog)
-          c.args.parts.now.queries.items c.insert_batch_into_readers.new.queries.items) c.as_slice-readers.ensures.value
-          (reach d c.args.parts.now.catalog
-          (subst (λ (rs : List (List ℕ)). Leads rs c.args.groups.now c.args.parts.now.queries.items d
-          c.args.parts.now.catalog) (sym c.as_slice-readers.ensures.value) here.leads)
-          (subst (λ (rs : List (List ℕ)). AllAt (reached rs c.args.groups.now) c.args.parts.now.queries.items
-          (λ l. IsKept d l)) (sym c.as_slice-readers.ensures.value) here.kept));
-      tends =
-          subst (λ (ws : List ℕ). Tends (reached c.args.parts.now.readers.items c.args.groups.now)
-          (TellsAt ws (λ x y (what : ⊤). Leads c.args.parts.now.readers.items c.args.groups.now
-          c.args.parts.now.queries.items x y))
-          c.args.parts.now.queries.items c.args.parts.now.logs.items c.insert_batch_into_readers.new.logs.items)
-          c.as_slice-watchers.ensures.value
-          (subst (λ (rs : List (List ℕ)). Tends (reached rs c.args.groups.now)
-          (TellsAt c.as_slice-watchers.result.now
-          (λ x y (what : ⊤). Leads rs c.args.groups.now c.args.parts.now.queries.items x y))
-          c.args.parts.now.queries.items c.args.parts.now.logs.items c.insert_batch_into_readers.new.logs.items)
-          c.as_slice-readers.ensures.value tends);
-    }) c.insert_batch_into_readers.ensures.taken c.insert_batch_into_readers.ensures.tells
-
-pub returns-clause-given : goal.returns-clause-given
-returns-clause-given g c =
-    on_refused c.insert_batch_into_readers.result
-    (λ reach empties. record {
-      reach = λ d here.
-          subst (λ (rs : List (List ℕ)). Reach (reached rs c.args.groups.now) (Renews d) c.args.parts.now.queries.items
-          c.insert_batch_into_readers.new.queries.items) c.as_slice-readers.ensures.value
-          (reach d c.args.parts.now.catalog
-          (subst (λ (rs : List (List ℕ)). Leads rs c.args.groups.now c.args.parts.now.queries.items d
-          c.args.parts.now.catalog) (sym c.as_slice-readers.ensures.value) here.leads)
-          (subst (λ (rs : List (List ℕ)). AllAt (reached rs c.args.groups.now) c.args.parts.now.queries.items
-          (λ l. IsKept d l)) (sym c.as_slice-readers.ensures.value) here.kept));
-      empties =
-          subst (λ (rs : List (List ℕ)). Empties (reached rs c.args.groups.now) c.args.parts.now.logs.items
-          c.insert_batch_into_readers.new.logs.items) c.as_slice-readers.ensures.value empties;
-    }) c.insert_batch_into_readers.ensures.given c.insert_batch_into_readers.ensures.emptied
-
-pub returns-clause-counted : goal.returns-clause-counted
-returns-clause-counted g c =
-    subst (λ (ws : List ℕ). CostsBy c.args.parts.now.readers.items c.args.groups.now ws c.args.parts.now.queries.items
-    c.args.steps.now.listing c.insert_batch_into_readers.new.steps.listing) c.as_slice-watchers.ensures.value
-    (subst (λ (rs : List (List ℕ)). CostsBy rs c.args.groups.now c.as_slice-watchers.result.now
-    c.args.parts.now.queries.items c.args.steps.now.listing c.insert_batch_into_readers.new.steps.listing)
-    c.as_slice-readers.ensures.value
-    c.insert_batch_into_readers.ensures.counted)
-
-pub returns-clause-unlisted : goal.returns-clause-unlisted
-returns-clause-unlisted g c none =
-    c.insert_batch_into_readers.ensures.unlisted
-    (subst (λ (ws : List ℕ). AreUnwatched ws (reached c.as_slice-readers.result.now c.args.groups.now))
-    (sym c.as_slice-watchers.ensures.value)
-    (subst (λ (rs : List (List ℕ)). AreUnwatched c.args.parts.now.watchers.items (reached rs c.args.groups.now))
-    (sym c.as_slice-readers.ensures.value) none))
-
-pub returns-clause-rest : goal.returns-clause-rest
-returns-clause-rest g c = record {
-  readers = refl;
-  order = refl;
-  seq = refl;
-  watchers = refl;
-  affected = refl;
-  room = refl;
-  long = either c.insert_batch_into_readers.result (λ t. t.long) (λ e. e.long) c.insert_batch_into_readers.ensures.tells
-      c.insert_batch_into_readers.ensures.emptied;
+pub returns : goal.returns
+returns g c = record {
+  taken = on_both c.insert_batch_into_readers.result
+      (λ reach tends. record {
+        reach = λ d here.
+            subst (λ (rs : List (List ℕ)). Reach (reached rs c.args.groups.now) (Renews c.args.parts.now.catalog)
+            c.args.parts.now.queries.items c.insert_batch_into_readers.new.queries.items)
+            c.as_slice-readers.ensures.value
+            (reach d c.args.parts.now.catalog
+            (subst (λ (rs : List (List ℕ)). Leads rs c.args.groups.now c.args.parts.now.queries.items d
+            c.args.parts.now.catalog) (sym c.as_slice-readers.ensures.value) here.leads)
+            (subst (λ (rs : List (List ℕ)). AllAt (reached rs c.args.groups.now) c.args.parts.now.queries.items
+            (λ l. IsKept d l)) (sym c.as_slice-readers.ensures.value) here.kept));
+        tends =
+            subst (λ (ws : List ℕ). Tends (reached c.args.parts.now.readers.items c.args.groups.now)
+            (TellsAt ws (λ x y (what : ⊤). Leads c.args.parts.now.readers.items c.args.groups.now
+            c.args.parts.now.queries.items x y))
+            c.args.parts.now.queries.items c.args.parts.now.logs.items c.insert_batch_into_readers.new.logs.items)
+            c.as_slice-watchers.ensures.value
+            (subst (λ (rs : List (List ℕ)). Tends (reached rs c.args.groups.now)
+            (TellsAt c.as_slice-watchers.result.now
+            (λ x y (what : ⊤). Leads rs c.args.groups.now c.args.parts.now.queries.items x y))
+            c.args.parts.now.queries.items c.args.parts.now.logs.items c.insert_batch_into_readers.new.logs.items)
+            c.as_slice-readers.ensures.value tends);
+      }) c.insert_batch_into_readers.ensures.taken c.insert_batch_into_readers.ensures.tells;
+  given = on_refused c.insert_batch_into_readers.result
+      (λ reach empties. record {
+        reach = λ d here.
+            subst (λ (rs : List (List ℕ)). Reach (reached rs c.args.groups.now) (Renews d)
+            c.args.parts.now.queries.items
+            c.insert_batch_into_readers.new.queries.items) c.as_slice-readers.ensures.value
+            (reach d c.args.parts.now.catalog
+            (subst (λ (rs : List (List ℕ)). Leads rs c.args.groups.now c.args.parts.now.queries.items d
+            c.args.parts.now.catalog) (sym c.as_slice-readers.ensures.value) here.leads)
+            (subst (λ (rs : List (List ℕ)). AllAt (reached rs c.args.groups.now) c.args.parts.now.queries.items
+            (λ l. IsKept d l)) (sym c.as_slice-readers.ensures.value) here.kept));
+        empties =
+            subst (λ (rs : List (List ℕ)). Empties (reached rs c.args.groups.now) c.args.parts.now.logs.items
+            c.insert_batch_into_readers.new.logs.items) c.as_slice-readers.ensures.value empties;
+      }) c.insert_batch_into_readers.ensures.given c.insert_batch_into_readers.ensures.emptied;
+  counted = subst (λ (ws : List ℕ). CostsBy c.args.parts.now.readers.items c.args.groups.now ws
+      c.args.parts.now.queries.items
+      c.args.steps.now.listing c.insert_batch_into_readers.new.steps.listing) c.as_slice-watchers.ensures.value
+      (subst (λ (rs : List (List ℕ)). CostsBy rs c.args.groups.now c.as_slice-watchers.result.now
+      c.args.parts.now.queries.items c.args.steps.now.listing c.insert_batch_into_readers.new.steps.listing)
+      c.as_slice-readers.ensures.value
+      c.insert_batch_into_readers.ensures.counted);
+  unlisted = λ none. c.insert_batch_into_readers.ensures.unlisted
+      (subst (λ (ws : List ℕ). AreUnwatched ws (reached c.as_slice-readers.result.now c.args.groups.now))
+      (sym c.as_slice-watchers.ensures.value)
+      (subst (λ (rs : List (List ℕ)). AreUnwatched c.args.parts.now.watchers.items (reached rs c.args.groups.now))
+      (sym c.as_slice-readers.ensures.value) none));
+  updates = subst (λ (rs : List (List ℕ)). OnOk c.insert_batch_into_readers.result
+      (WorksBy rs c.args.groups.now c.args.parts.now.queries.items (rows_in c.args.groups.now) (λ x. 1)
+      c.args.steps.now.update c.insert_batch_into_readers.new.steps.update))
+      c.as_slice-readers.ensures.value c.insert_batch_into_readers.ensures.updates;
+  refusal = subst (λ (rs : List (List ℕ)). OnErr c.insert_batch_into_readers.result
+      (WorksBy rs c.args.groups.now c.args.parts.now.queries.items (rows_in c.args.groups.now) times_back
+      c.args.steps.now.update c.insert_batch_into_readers.new.steps.update))
+      c.as_slice-readers.ensures.value c.insert_batch_into_readers.ensures.refusal;
+  rest = record {
+    readers = refl;
+    order = refl;
+    seq = refl;
+    watchers = refl;
+    affected = refl;
+    room = refl;
+    long = either c.insert_batch_into_readers.result (λ t. t.long) (λ e. e.long)
+        c.insert_batch_into_readers.ensures.tells
+        c.insert_batch_into_readers.ensures.emptied;
+  };
+  catalog = refl;
 }
-
-pub returns-clause-updates : goal.returns-clause-updates
-returns-clause-updates g c =
-    subst (λ (rs : List (List ℕ)). OnOk c.insert_batch_into_readers.result
-    (WorksBy rs c.args.groups.now c.args.parts.now.queries.items (rows_in c.args.groups.now) (λ x. 1)
-    c.args.steps.now.update c.insert_batch_into_readers.new.steps.update))
-    c.as_slice-readers.ensures.value c.insert_batch_into_readers.ensures.updates
-
-pub returns-clause-refusal : goal.returns-clause-refusal
-returns-clause-refusal g c =
-    subst (λ (rs : List (List ℕ)). OnErr c.insert_batch_into_readers.result
-    (WorksBy rs c.args.groups.now c.args.parts.now.queries.items (rows_in c.args.groups.now) times_back
-    c.args.steps.now.update c.insert_batch_into_readers.new.steps.update))
-    c.as_slice-readers.ensures.value c.insert_batch_into_readers.ensures.refusal

@@ -1,9 +1,9 @@
 -- The lent places are the relation's readers, each kept over the catalog, so the row can go out of each.
 use Rattle.std.proofs.Common.{◌∙◌, ℕ, List, ap, arith, refl, subst, sym}
 use Rattle.std.specs.Prelude.{◌&&◌}
-use Rattle.djq_model.specs.Data.{Bytes, without_copies}
+use Rattle.djq_model.specs.Data.{Bytes, Tuple, without_copies}
 use Rattle.djq_lines.specs.declared.answer.DeleteOutcome.{DeleteOutcome}
-use Rattle.djq_rows.specs.Catalog.{counted_at}
+use Rattle.djq_rows.specs.Catalog.{Catalog, StandForRow, counted_at}
 use Rattle.djq_rows.specs.Changes.{DeletesRow}
 use Rattle.djq_live.specs.Changes.{Went}
 use Rattle.djq_live.specs.Live.{IsKept}
@@ -79,124 +79,75 @@ delete_from_readers-requires-clause-can g c =
     (places_read old.readers.items c.args.id.at c.index.result.now c.as_slice-places.result.now
     (omega (arith, c.requires.there, c.requires.whole.long)) c.index.ensures c.as_slice-places.ensures)
 
-pub returns-clause-deletes : goal.returns-clause-deletes
-returns-clause-deletes g c row stand =
+pub returns : goal.returns
+returns g c =
     let old = c.args.parts.now in
+    let at = c.args.id.at in
+    let cells = c.args.cells.now in
     let d = c.delete_row.new.self in
-    let gone = (subst (λ (o : DeleteOutcome). DeletesRow old.catalog.relations c.args.id.at row o d.relations)
-    c.in-Last.is (c.delete_row.ensures.deletes row stand)) in
-    let was : IsOld old.catalog c.args.id.at c.args.cells.now row = record { stand = stand; there = gone.0 } in (
-      gone.0,
-      gone.1,
-      record {
-        texts = c.delete_row.ensures.texts;
-        has = record {
-          relations = gone.2;
-          carries = drop_carries old.catalog d c.args.id.at c.requires.there c.args.cells.now row was c.laws-2.ensures
-              c.delete_row.ensures.texts gone.2 c.deleted_went.ensures old.queries.items old.order old.readers.items
-              c.requires.whole c.as_slice-places.result.now
-              (places_read old.readers.items c.args.id.at c.index.result.now c.as_slice-places.result.now
-              (omega (arith, c.requires.there, c.requires.whole.long)) c.index.ensures c.as_slice-places.ensures)
-              c.went_passes.ensures c.delete_from_readers.new.queries.items c.delete_from_readers.ensures.reach;
-        };
-      },
-    )
-
-pub returns-clause-tells : goal.returns-clause-tells
-returns-clause-tells g c row stand =
-    let old = c.args.parts.now in
-    let d = c.delete_row.new.self in
-    let gone = (subst (λ (o : DeleteOutcome). DeletesRow old.catalog.relations c.args.id.at row o d.relations)
-    c.in-Last.is (c.delete_row.ensures.deletes row stand)) in
-    let was : IsOld old.catalog c.args.id.at c.args.cells.now row = record { stand = stand; there = gone.0 } in
-    tells_rows (λ x y. Went x y c.args.id.at c.args.cells.now) old.catalog d old.queries.items old.order
-    old.readers.items c.requires.whole c.args.id.at c.requires.there
-    old.watchers.items c.as_slice-places.result.now
-    (places_read old.readers.items c.args.id.at c.index.result.now c.as_slice-places.result.now
-    (omega (arith, c.requires.there, c.requires.whole.long)) c.index.ensures c.as_slice-places.ensures)
-    row (c.deleted_went.ensures old.catalog d c.args.id.at c.args.cells.now row c.laws-2.ensures c.requires.there
-    was.stand c.delete_row.ensures.texts gone.2)
-    (without_copies (counted_at old.catalog.relations c.args.id.at) row) gone.2 old.logs.items
-    c.delete_from_readers.new.logs.items
-    (subst (λ (ws : List ℕ). Tends c.as_slice-places.result.now
-    (TellsAt ws (λ x y. Went x y c.args.id.at c.args.cells.now)) old.queries.items old.logs.items
-    c.delete_from_readers.new.logs.items) c.as_slice-watchers.ensures.value
-    c.delete_from_readers.ensures.tells)
-
-pub returns-clause-counted : goal.returns-clause-counted
-returns-clause-counted g c row stand =
-    let old = c.args.parts.now in
-    let d = c.delete_row.new.self in
-    let gone = (subst (λ (o : DeleteOutcome). DeletesRow old.catalog.relations c.args.id.at row o d.relations)
-    c.in-Last.is (c.delete_row.ensures.deletes row stand)) in
-    let was : IsOld old.catalog c.args.id.at c.args.cells.now row = record { stand = stand; there = gone.0 } in
-    counts_rows (λ x y. Went x y c.args.id.at c.args.cells.now) old.catalog d old.queries.items old.order
-    old.readers.items c.requires.whole c.args.id.at c.requires.there
-    old.watchers.items c.as_slice-places.result.now
-    (places_read old.readers.items c.args.id.at c.index.result.now c.as_slice-places.result.now
-    (omega (arith, c.requires.there, c.requires.whole.long)) c.index.ensures c.as_slice-places.ensures)
-    row (c.deleted_went.ensures old.catalog d c.args.id.at c.args.cells.now row c.laws-2.ensures c.requires.there
-    was.stand c.delete_row.ensures.texts gone.2)
-    (without_copies (counted_at old.catalog.relations c.args.id.at) row) gone.2 c.args.steps.now.listing
-    c.delete_from_readers.new.steps.listing
-    (subst (λ (ws : List ℕ). Costs (λ x y. Went x y c.args.id.at c.args.cells.now) c.as_slice-places.result.now ws
-    old.queries.items c.args.id.at c.args.steps.now.listing c.delete_from_readers.new.steps.listing)
-    c.as_slice-watchers.ensures.value
-    c.delete_from_readers.ensures.counted)
-
-pub returns-clause-shown : goal.returns-clause-shown
-returns-clause-shown g c =
-    let old = c.args.parts.now in
-    let d = c.delete_row.new.self in
-    let row = c.requires.row.0 in
-    let gone = (subst (λ (o : DeleteOutcome). DeletesRow old.catalog.relations c.args.id.at c.requires.row.0 o
-    d.relations)
-    c.in-Last.is (c.delete_row.ensures.deletes c.requires.row.0 c.requires.row.1)) in
-    let was : IsOld old.catalog c.args.id.at c.args.cells.now row =
-    record { stand = c.requires.row.1; there = gone.0 } in
-    let tells = c.delete_from_readers.ensures.tells in
-    subst (λ (ts : List Bytes). AreShown ts old.queries.items c.delete_from_readers.new.logs.items)
-    (sym c.delete_row.ensures.texts)
-    (shown_tended (λ x y. Went x y c.args.id.at c.args.cells.now) old.catalog d old.queries.items
-    c.as_slice-places.result.now old.logs.items c.delete_from_readers.new.logs.items row
-    (subst (λ (ps : List ℕ). AllAt ps old.queries.items (λ l. IsKept old.catalog l))
-    (sym (places_read old.readers.items c.args.id.at c.index.result.now c.as_slice-places.result.now
-    (omega (arith, c.requires.there, c.requires.whole.long)) c.index.ensures c.as_slice-places.ensures))
-    (readers_kept old.catalog old.queries.items old.order old.readers.items c.requires.whole c.args.id.at
-    c.requires.there))
-    (c.deleted_went.ensures old.catalog d c.args.id.at c.args.cells.now row c.laws-2.ensures c.requires.there was.stand
-    c.delete_row.ensures.texts gone.2) c.delete_row.ensures.texts
-    (tells_show (λ x y. Went x y c.args.id.at c.args.cells.now) c.as_slice-watchers.result.now
-    c.as_slice-places.result.now old.queries.items old.logs.items c.delete_from_readers.new.logs.items tells)
-    c.requires.tended.shown)
-
-pub returns-clause-quiet : goal.returns-clause-quiet
-returns-clause-quiet g c i l there e =
-    let old = c.args.parts.now in
-    tends_quiet (λ x y. Went x y c.args.id.at c.args.cells.now) old.watchers.items c.as_slice-places.result.now
-    old.queries.items old.logs.items c.delete_from_readers.new.logs.items
-    (subst (λ (ws : List ℕ). Tends c.as_slice-places.result.now
-    (TellsAt ws (λ x y. Went x y c.args.id.at c.args.cells.now)) old.queries.items old.logs.items
-    c.delete_from_readers.new.logs.items) c.as_slice-watchers.ensures.value
-    c.delete_from_readers.ensures.tells) i l there
-    (ap (λ (ps : List ℕ). is_reader ps i && watched_at old.watchers.items i)
-    (places_read old.readers.items c.args.id.at c.index.result.now c.as_slice-places.result.now
-    (omega (arith, c.requires.there, c.requires.whole.long)) c.index.ensures c.as_slice-places.ensures) ∙ e)
-
-pub returns-clause-updates : goal.returns-clause-updates
-returns-clause-updates g c =
-    let old = c.args.parts.now in
-    subst (λ (ps : List ℕ). Works ps old.queries.items c.args.id.at 1 c.args.steps.now.update
-    c.delete_from_readers.new.steps.update)
-    (places_read old.readers.items c.args.id.at c.index.result.now c.as_slice-places.result.now
-    (omega (arith, c.requires.there, c.requires.whole.long)) c.index.ensures c.as_slice-places.ensures)
-    c.delete_from_readers.ensures.updates
-
-pub returns-clause-unlisted : goal.returns-clause-unlisted
-returns-clause-unlisted g c none =
-    let old = c.args.parts.now in
-    let places = places_read old.readers.items c.args.id.at c.index.result.now c.as_slice-places.result.now
-    (omega (arith, c.requires.there, c.requires.whole.long)) c.index.ensures c.as_slice-places.ensures in
-    c.delete_from_readers.ensures.unlisted
-    (subst (λ (ws : List ℕ). AreUnwatched ws c.as_slice-places.result.now) (sym c.as_slice-watchers.ensures.value)
-    (subst (λ (ps : List ℕ). AreUnwatched old.watchers.items ps) (sym places) none))
+    let whole = c.requires.whole in
+    let low = c.requires.there in
+    let xs = c.as_slice-places.result.now in
+    let logs = c.delete_from_readers.new.logs.items in
+    let texts = c.delete_row.ensures.texts in
+    let places = places_read old.readers.items at c.index.result.now xs (omega (arith, low, whole.long))
+    c.index.ensures c.as_slice-places.ensures in
+    let did = λ (x y : Catalog) (row : Tuple). Went x y at cells row in
+    let gone = λ (row : Tuple) (stand : StandForRow old.catalog at cells row).
+    subst (λ (o : DeleteOutcome). DeletesRow old.catalog.relations at row o d.relations) c.in-Last.is
+    (c.delete_row.ensures.deletes row stand) in
+    let goes = λ (row : Tuple) (stand : StandForRow old.catalog at cells row).
+    c.deleted_went.ensures old.catalog d at cells row c.laws-2.ensures low stand texts (gone row stand).2 in
+    let kept = subst (λ (ps : List ℕ). AllAt ps old.queries.items (λ l. IsKept old.catalog l)) (sym places)
+    (readers_kept old.catalog old.queries.items old.order old.readers.items whole at low) in
+    let tends = subst (λ (ws : List ℕ). Tends xs (TellsAt ws did) old.queries.items old.logs.items logs)
+    c.as_slice-watchers.ensures.value c.delete_from_readers.ensures.tells in
+    record {
+      deletes = λ row stand. (
+        (gone row stand).0,
+        (gone row stand).1,
+        record {
+          texts = texts;
+          has = record {
+            relations = (gone row stand).2;
+            carries = drop_carries old.catalog d at low cells row
+                (record { stand = stand; there = (gone row stand).0 }) c.laws-2.ensures texts (gone row stand).2
+                c.deleted_went.ensures old.queries.items old.order old.readers.items whole xs places
+                c.went_passes.ensures c.delete_from_readers.new.queries.items c.delete_from_readers.ensures.reach;
+          };
+        },
+      );
+      rest = record {
+        readers = refl;
+        order = refl;
+        seq = refl;
+        watchers = refl;
+        affected = refl;
+        room = refl;
+        long = c.delete_from_readers.ensures.tells.long;
+      };
+      quiet = λ i l there e. tends_quiet did old.watchers.items xs old.queries.items old.logs.items logs tends i l
+          there (ap (λ (ps : List ℕ). is_reader ps i && watched_at old.watchers.items i) places ∙ e);
+      shown = subst (λ (ts : List Bytes). AreShown ts old.queries.items logs) (sym texts)
+          (shown_tended did old.catalog d old.queries.items xs old.logs.items logs c.requires.row.0 kept
+          (goes c.requires.row.0 c.requires.row.1) texts
+          (tells_show did c.as_slice-watchers.result.now xs old.queries.items old.logs.items logs
+          c.delete_from_readers.ensures.tells) c.requires.tended.shown);
+      tells = λ row stand. tells_rows did old.catalog d old.queries.items old.order old.readers.items whole at low
+          old.watchers.items xs places row (goes row stand)
+          (without_copies (counted_at old.catalog.relations at) row) (gone row stand).2 old.logs.items logs tends;
+      counted = λ row stand. counts_rows did old.catalog d old.queries.items old.order old.readers.items whole at low
+          old.watchers.items xs places row (goes row stand)
+          (without_copies (counted_at old.catalog.relations at) row) (gone row stand).2 c.args.steps.now.listing
+          c.delete_from_readers.new.steps.listing
+          (subst (λ (ws : List ℕ). Costs did xs ws old.queries.items at c.args.steps.now.listing
+          c.delete_from_readers.new.steps.listing) c.as_slice-watchers.ensures.value
+          c.delete_from_readers.ensures.counted);
+      idle = tt;
+      unlisted = λ none. c.delete_from_readers.ensures.unlisted
+          (subst (λ (ws : List ℕ). AreUnwatched ws xs) (sym c.as_slice-watchers.ensures.value)
+          (subst (λ (ps : List ℕ). AreUnwatched old.watchers.items ps) (sym places) none));
+      updates = subst (λ (ps : List ℕ). Works ps old.queries.items at 1 c.args.steps.now.update
+          c.delete_from_readers.new.steps.update) places c.delete_from_readers.ensures.updates;
+      unmoved = tt;
+    }

@@ -1,10 +1,10 @@
 -- A row that came wasn't there before, so each reader of its relation can take it in, and give it back.
 use Rattle.std.proofs.Common.{◌∙◌, ℕ, List, ap, arith, refl, subst, sym}
 use Rattle.std.specs.Prelude.{◌&&◌, Ok, Err}
-use Rattle.djq_model.specs.Data.{Bytes, with_row}
+use Rattle.djq_model.specs.Data.{Bytes, Tuple, with_row}
 use Rattle.djq_lines.specs.declared.answer.AddOutcome.{AddOutcome}
 use Rattle.djq_rows.specs.declared.refusal.RowsRefusal.{RowsRefusal}
-use Rattle.djq_rows.specs.Catalog.{counted_at}
+use Rattle.djq_rows.specs.Catalog.{Catalog, StandForRow, counted_at}
 use Rattle.djq_rows.specs.Changes.{AddsRow}
 use Rattle.djq_live.specs.Changes.{Came}
 use Rattle.djq_live.specs.Live.{IsKept}
@@ -115,216 +115,150 @@ insert_into_readers-requires-clause-can g c =
     (omega (arith, c.requires.there, c.requires.whole.long)) c.index.ensures c.as_slice-places.ensures)
     c.added_came.ensures c.deleted_went.ensures
 
-pub returns-in-Ok-clause-adds : goal.returns-in-Ok-clause-adds
-returns-in-Ok-clause-adds g c row stand =
+pub returns-in-Ok : goal.returns-in-Ok
+returns-in-Ok g c =
     let old = c.args.parts.now in
+    let at = c.args.id.at in
+    let cells = c.args.cells.now in
     let d = c.add_row.new.self in
-    let adds = (subst (λ (o : AddOutcome). AddsRow old.catalog.relations c.args.id.at row (Ok o) d.relations)
-    c.in-Ok-First.field-0-is (c.in-Ok-First.ensures.adds row stand)) in
-    let new = came_new old.catalog c.args.id.at c.args.cells.now row d.relations stand adds in (
-      adds.0,
-      record {
-        texts = c.add_row.ensures.texts;
-        has = record {
-          relations = adds.2;
-          carries = put_carries old.catalog d c.args.id.at c.requires.there c.args.cells.now row new c.laws.ensures
-              c.laws-2.ensures c.add_row.ensures.texts adds.2
-              old.queries.items old.order old.readers.items c.requires.whole c.as_slice-places.result.now
-              (places_read old.readers.items c.args.id.at c.index.result.now c.as_slice-places.result.now
-              (omega (arith, c.requires.there, c.requires.whole.long)) c.index.ensures c.as_slice-places.ensures)
-              c.added_came.ensures c.other_queries_stay.ensures c.insert_into_readers.new.queries.items
-              c.in-Ok.ensures.taken;
-        };
-      },
-    )
+    let whole = c.requires.whole in
+    let low = c.requires.there in
+    let xs = c.as_slice-places.result.now in
+    let logs = c.insert_into_readers.new.logs.items in
+    let texts = c.add_row.ensures.texts in
+    let places = places_read old.readers.items at c.index.result.now xs (omega (arith, low, whole.long))
+    c.index.ensures c.as_slice-places.ensures in
+    let did = λ (x y : Catalog) (row : Tuple). Came x y at cells row in
+    let adds = λ (row : Tuple) (stand : StandForRow old.catalog at cells row).
+    subst (λ (o : AddOutcome). AddsRow old.catalog.relations at row (Ok o) d.relations) c.in-Ok-First.field-0-is
+    (c.in-Ok-First.ensures.adds row stand) in
+    let new = λ (row : Tuple) (stand : StandForRow old.catalog at cells row).
+    came_new old.catalog at cells row d.relations stand (adds row stand) in
+    let comes = λ (row : Tuple) (stand : StandForRow old.catalog at cells row).
+    came old.catalog d at low cells row (new row stand) c.laws.ensures c.laws-2.ensures texts (adds row stand).2
+    c.added_came.ensures in
+    let kept = subst (λ (ps : List ℕ). AllAt ps old.queries.items (λ l. IsKept old.catalog l)) (sym places)
+    (readers_kept old.catalog old.queries.items old.order old.readers.items whole at low) in
+    let shown = shown_tended did old.catalog d old.queries.items xs old.logs.items logs c.requires.row.0 kept
+    (comes c.requires.row.0 c.requires.row.1) texts c.insert_into_readers.ensures.shows c.requires.tended.shown in
+    let costs = subst (λ (ws : List ℕ). Costs did xs ws old.queries.items at c.args.steps.now.listing
+    c.insert_into_readers.new.steps.listing) c.as_slice-watchers.ensures.value
+    c.insert_into_readers.ensures.counted in
+    let tends = subst (λ (ws : List ℕ). Tends xs (TellsAt ws did) old.queries.items old.logs.items logs)
+    c.as_slice-watchers.ensures.value c.in-Ok.ensures.tells in
+    record {
+      adds = λ row stand. (
+        (adds row stand).0,
+        record {
+          texts = texts;
+          has = record {
+            relations = (adds row stand).2;
+            carries = put_carries old.catalog d at low cells row (new row stand) c.laws.ensures c.laws-2.ensures texts
+                (adds row stand).2 old.queries.items old.order old.readers.items whole xs places c.added_came.ensures
+                c.other_queries_stay.ensures c.insert_into_readers.new.queries.items c.in-Ok.ensures.taken;
+          };
+        },
+      );
+      rest = record {
+        readers = refl;
+        order = refl;
+        seq = refl;
+        watchers = refl;
+        affected = refl;
+        room = refl;
+        long = c.insert_into_readers.ensures.shows.long;
+      };
+      quiet = λ i l there e. tends_quiet did old.watchers.items xs old.queries.items old.logs.items logs tends i l
+          there (ap (λ (ps : List ℕ). is_reader ps i && watched_at old.watchers.items i) places ∙ e);
+      apart = tt;
+      shown = subst (λ (ts : List Bytes). AreShown ts old.queries.items logs) (sym texts) shown;
+      tells = λ row stand. tells_rows did old.catalog d old.queries.items old.order old.readers.items whole at low
+          old.watchers.items xs places row (comes row stand) (with_row (counted_at old.catalog.relations at) row)
+          (adds row stand).2 old.logs.items logs tends;
+      counted = λ row stand. counts_rows did old.catalog d old.queries.items old.order old.readers.items whole at low
+          old.watchers.items xs places row (comes row stand) (with_row (counted_at old.catalog.relations at) row)
+          (adds row stand).2 c.args.steps.now.listing c.insert_into_readers.new.steps.listing costs;
+      listed = tt;
+      idle = tt;
+      unlisted = λ none. c.insert_into_readers.ensures.unlisted
+          (subst (λ (ws : List ℕ). AreUnwatched ws xs) (sym c.as_slice-watchers.ensures.value)
+          (subst (λ (ps : List ℕ). AreUnwatched old.watchers.items ps) (sym places) none));
+      updates = subst (λ (ps : List ℕ). Works ps old.queries.items at 1 c.args.steps.now.update
+          c.insert_into_readers.new.steps.update) places c.in-Ok.ensures.updates;
+      refusal = tt;
+      unmoved = tt;
+    }
 
-pub returns-in-Err-clause-adds : goal.returns-in-Err-clause-adds
-returns-in-Err-clause-adds g c row stand =
+pub returns-in-Err : goal.returns-in-Err
+returns-in-Err g c =
     let old = c.args.parts.now in
+    let at = c.args.id.at in
+    let cells = c.args.cells.now in
     let d = c.add_row.new.self in
-    let adds = (subst (λ (o : AddOutcome). AddsRow old.catalog.relations c.args.id.at row (Ok o) d.relations)
-    c.in-Ok-First.field-0-is (c.in-Ok-First.ensures.adds row stand)) in
-    let new = came_new old.catalog c.args.id.at c.args.cells.now row d.relations stand adds in
-    let back = catalog_back old.catalog d c.args.id.at c.requires.there c.args.cells.now row new c.laws.ensures
-    c.laws-2.ensures c.add_row.ensures.texts adds.2
-    c.delete_row.new.self c.delete_row.result
-    (c.delete_row.ensures.deletes row
-    (stand_now old.catalog d c.args.id.at c.requires.there c.args.cells.now row new c.laws.ensures c.laws-2.ensures
-    c.add_row.ensures.texts adds.2)) c.delete_row.ensures.texts in (
-      adds.0,
-      record {
-        catalog = back;
-        carries = wait_carries old.catalog d c.args.id.at c.requires.there c.args.cells.now row new c.laws.ensures
-            c.laws-2.ensures c.add_row.ensures.texts adds.2
-            old.queries.items old.order old.readers.items c.requires.whole c.as_slice-places.result.now
-            (places_read old.readers.items c.args.id.at c.index.result.now c.as_slice-places.result.now
-            (omega (arith, c.requires.there, c.requires.whole.long)) c.index.ensures c.as_slice-places.ensures)
-            c.added_came.ensures c.deleted_went.ensures c.insert_into_readers.new.queries.items c.in-Err.ensures.given
-            c.delete_row.new.self back;
-      },
-    )
-
-pub returns-in-Ok-clause-tells : goal.returns-in-Ok-clause-tells
-returns-in-Ok-clause-tells g c row stand =
-    let old = c.args.parts.now in
-    let d = c.add_row.new.self in
-    let adds = (subst (λ (o : AddOutcome). AddsRow old.catalog.relations c.args.id.at row (Ok o) d.relations)
-    c.in-Ok-First.field-0-is (c.in-Ok-First.ensures.adds row stand)) in
-    let new = came_new old.catalog c.args.id.at c.args.cells.now row d.relations stand adds in
-    tells_rows (λ x y. Came x y c.args.id.at c.args.cells.now) old.catalog d old.queries.items old.order
-    old.readers.items c.requires.whole c.args.id.at c.requires.there
-    old.watchers.items c.as_slice-places.result.now
-    (places_read old.readers.items c.args.id.at c.index.result.now c.as_slice-places.result.now
-    (omega (arith, c.requires.there, c.requires.whole.long)) c.index.ensures c.as_slice-places.ensures)
-    row (came old.catalog d c.args.id.at c.requires.there c.args.cells.now row new c.laws.ensures c.laws-2.ensures
-    c.add_row.ensures.texts adds.2 c.added_came.ensures)
-    (with_row (counted_at old.catalog.relations c.args.id.at) row) adds.2 old.logs.items
-    c.insert_into_readers.new.logs.items
-    (subst (λ (ws : List ℕ). Tends c.as_slice-places.result.now
-    (TellsAt ws (λ x y. Came x y c.args.id.at c.args.cells.now)) old.queries.items old.logs.items
-    c.insert_into_readers.new.logs.items) c.as_slice-watchers.ensures.value
-    c.in-Ok.ensures.tells)
-
-pub returns-in-Ok-clause-counted : goal.returns-in-Ok-clause-counted
-returns-in-Ok-clause-counted g c row stand =
-    let old = c.args.parts.now in
-    let d = c.add_row.new.self in
-    let adds = (subst (λ (o : AddOutcome). AddsRow old.catalog.relations c.args.id.at row (Ok o) d.relations)
-    c.in-Ok-First.field-0-is (c.in-Ok-First.ensures.adds row stand)) in
-    let new = came_new old.catalog c.args.id.at c.args.cells.now row d.relations stand adds in
-    counts_rows (λ x y. Came x y c.args.id.at c.args.cells.now) old.catalog d old.queries.items old.order
-    old.readers.items c.requires.whole c.args.id.at c.requires.there
-    old.watchers.items c.as_slice-places.result.now
-    (places_read old.readers.items c.args.id.at c.index.result.now c.as_slice-places.result.now
-    (omega (arith, c.requires.there, c.requires.whole.long)) c.index.ensures c.as_slice-places.ensures)
-    row (came old.catalog d c.args.id.at c.requires.there c.args.cells.now row new c.laws.ensures c.laws-2.ensures
-    c.add_row.ensures.texts adds.2 c.added_came.ensures)
-    (with_row (counted_at old.catalog.relations c.args.id.at) row) adds.2 c.args.steps.now.listing
-    c.insert_into_readers.new.steps.listing
-    (subst (λ (ws : List ℕ). Costs (λ x y. Came x y c.args.id.at c.args.cells.now) c.as_slice-places.result.now ws
-    old.queries.items c.args.id.at c.args.steps.now.listing c.insert_into_readers.new.steps.listing)
-    c.as_slice-watchers.ensures.value
-    c.insert_into_readers.ensures.counted)
-
-pub returns-in-Err-clause-listed : goal.returns-in-Err-clause-listed
-returns-in-Err-clause-listed g c row stand =
-    let old = c.args.parts.now in
-    let d = c.add_row.new.self in
-    let adds = (subst (λ (o : AddOutcome). AddsRow old.catalog.relations c.args.id.at row (Ok o) d.relations)
-    c.in-Ok-First.field-0-is (c.in-Ok-First.ensures.adds row stand)) in
-    let new = came_new old.catalog c.args.id.at c.args.cells.now row d.relations stand adds in
-    counts_rows (λ x y. Came x y c.args.id.at c.args.cells.now) old.catalog d old.queries.items old.order
-    old.readers.items c.requires.whole c.args.id.at c.requires.there
-    old.watchers.items c.as_slice-places.result.now
-    (places_read old.readers.items c.args.id.at c.index.result.now c.as_slice-places.result.now
-    (omega (arith, c.requires.there, c.requires.whole.long)) c.index.ensures c.as_slice-places.ensures)
-    row (came old.catalog d c.args.id.at c.requires.there c.args.cells.now row new c.laws.ensures c.laws-2.ensures
-    c.add_row.ensures.texts adds.2 c.added_came.ensures)
-    (with_row (counted_at old.catalog.relations c.args.id.at) row) adds.2 c.args.steps.now.listing
-    c.insert_into_readers.new.steps.listing
-    (subst (λ (ws : List ℕ). Costs (λ x y. Came x y c.args.id.at c.args.cells.now) c.as_slice-places.result.now ws
-    old.queries.items c.args.id.at c.args.steps.now.listing c.insert_into_readers.new.steps.listing)
-    c.as_slice-watchers.ensures.value
-    c.insert_into_readers.ensures.counted)
-
-pub returns-in-Ok-clause-shown : goal.returns-in-Ok-clause-shown
-returns-in-Ok-clause-shown g c =
-    let old = c.args.parts.now in
-    let d = c.add_row.new.self in
-    let row = c.requires.row.0 in
-    let adds = (subst (λ (o : AddOutcome). AddsRow old.catalog.relations c.args.id.at c.requires.row.0 (Ok o)
-    d.relations)
-    c.in-Ok-First.field-0-is (c.in-Ok-First.ensures.adds c.requires.row.0 c.requires.row.1)) in
-    let new = came_new old.catalog c.args.id.at c.args.cells.now row d.relations c.requires.row.1 adds in
-    subst (λ (ts : List Bytes). AreShown ts old.queries.items c.insert_into_readers.new.logs.items)
-    (sym c.add_row.ensures.texts)
-    (shown_tended (λ x y. Came x y c.args.id.at c.args.cells.now) old.catalog d old.queries.items
-    c.as_slice-places.result.now old.logs.items c.insert_into_readers.new.logs.items row
-    (subst (λ (ps : List ℕ). AllAt ps old.queries.items (λ l. IsKept old.catalog l))
-    (sym (places_read old.readers.items c.args.id.at c.index.result.now c.as_slice-places.result.now
-    (omega (arith, c.requires.there, c.requires.whole.long)) c.index.ensures c.as_slice-places.ensures))
-    (readers_kept old.catalog old.queries.items old.order old.readers.items c.requires.whole c.args.id.at
-    c.requires.there))
-    (came old.catalog d c.args.id.at c.requires.there c.args.cells.now row new c.laws.ensures c.laws-2.ensures
-    c.add_row.ensures.texts adds.2 c.added_came.ensures) c.add_row.ensures.texts c.insert_into_readers.ensures.shows
-    c.requires.tended.shown)
-
-pub returns-in-Err-clause-shown : goal.returns-in-Err-clause-shown
-returns-in-Err-clause-shown g c =
-    let old = c.args.parts.now in
-    let d = c.add_row.new.self in
-    let row = c.requires.row.0 in
-    let adds = (subst (λ (o : AddOutcome). AddsRow old.catalog.relations c.args.id.at c.requires.row.0 (Ok o)
-    d.relations)
-    c.in-Ok-First.field-0-is (c.in-Ok-First.ensures.adds c.requires.row.0 c.requires.row.1)) in
-    let new = came_new old.catalog c.args.id.at c.args.cells.now row d.relations c.requires.row.1 adds in
-    subst (λ (ts : List Bytes). AreShown ts old.queries.items c.insert_into_readers.new.logs.items)
-    (sym (c.delete_row.ensures.texts ∙ c.add_row.ensures.texts))
-    (shown_tended (λ x y. Came x y c.args.id.at c.args.cells.now) old.catalog d old.queries.items
-    c.as_slice-places.result.now old.logs.items c.insert_into_readers.new.logs.items row
-    (subst (λ (ps : List ℕ). AllAt ps old.queries.items (λ l. IsKept old.catalog l))
-    (sym (places_read old.readers.items c.args.id.at c.index.result.now c.as_slice-places.result.now
-    (omega (arith, c.requires.there, c.requires.whole.long)) c.index.ensures c.as_slice-places.ensures))
-    (readers_kept old.catalog old.queries.items old.order old.readers.items c.requires.whole c.args.id.at
-    c.requires.there))
-    (came old.catalog d c.args.id.at c.requires.there c.args.cells.now row new c.laws.ensures c.laws-2.ensures
-    c.add_row.ensures.texts adds.2 c.added_came.ensures) c.add_row.ensures.texts c.insert_into_readers.ensures.shows
-    c.requires.tended.shown)
-
-pub returns-in-Ok-clause-quiet : goal.returns-in-Ok-clause-quiet
-returns-in-Ok-clause-quiet g c i l there e =
-    let old = c.args.parts.now in
-    tends_quiet (λ x y. Came x y c.args.id.at c.args.cells.now) old.watchers.items c.as_slice-places.result.now
-    old.queries.items old.logs.items c.insert_into_readers.new.logs.items
-    (subst (λ (ws : List ℕ). Tends c.as_slice-places.result.now
-    (TellsAt ws (λ x y. Came x y c.args.id.at c.args.cells.now)) old.queries.items old.logs.items
-    c.insert_into_readers.new.logs.items) c.as_slice-watchers.ensures.value
-    c.in-Ok.ensures.tells) i l there
-    (ap (λ (ps : List ℕ). is_reader ps i && watched_at old.watchers.items i)
-    (places_read old.readers.items c.args.id.at c.index.result.now c.as_slice-places.result.now
-    (omega (arith, c.requires.there, c.requires.whole.long)) c.index.ensures c.as_slice-places.ensures) ∙ e)
-
-pub returns-in-Err-clause-apart : goal.returns-in-Err-clause-apart
-returns-in-Err-clause-apart g c i l there e =
-    let old = c.args.parts.now in
-    tends_apart (Shows (λ x y. Came x y c.args.id.at c.args.cells.now)) c.as_slice-places.result.now old.queries.items
-    old.logs.items c.insert_into_readers.new.logs.items c.insert_into_readers.ensures.shows i
-    (ap (λ (ps : List ℕ). is_reader ps i)
-    (places_read old.readers.items c.args.id.at c.index.result.now c.as_slice-places.result.now
-    (omega (arith, c.requires.there, c.requires.whole.long)) c.index.ensures c.as_slice-places.ensures) ∙ e)
-
-pub returns-in-Ok-clause-updates : goal.returns-in-Ok-clause-updates
-returns-in-Ok-clause-updates g c =
-    let old = c.args.parts.now in
-    subst (λ (ps : List ℕ). Works ps old.queries.items c.args.id.at 1 c.args.steps.now.update
-    c.insert_into_readers.new.steps.update)
-    (places_read old.readers.items c.args.id.at c.index.result.now c.as_slice-places.result.now
-    (omega (arith, c.requires.there, c.requires.whole.long)) c.index.ensures c.as_slice-places.ensures)
-    c.in-Ok.ensures.updates
-
-pub returns-in-Err-clause-refusal : goal.returns-in-Err-clause-refusal
-returns-in-Err-clause-refusal g c =
-    let old = c.args.parts.now in
-    subst (λ (ps : List ℕ). Works ps old.queries.items c.args.id.at 3 c.args.steps.now.update
-    c.insert_into_readers.new.steps.update)
-    (places_read old.readers.items c.args.id.at c.index.result.now c.as_slice-places.result.now
-    (omega (arith, c.requires.there, c.requires.whole.long)) c.index.ensures c.as_slice-places.ensures)
-    c.in-Err.ensures.refusal
-
-pub returns-in-Ok-clause-unlisted : goal.returns-in-Ok-clause-unlisted
-returns-in-Ok-clause-unlisted g c none =
-    let old = c.args.parts.now in
-    let places = places_read old.readers.items c.args.id.at c.index.result.now c.as_slice-places.result.now
-    (omega (arith, c.requires.there, c.requires.whole.long)) c.index.ensures c.as_slice-places.ensures in
-    c.insert_into_readers.ensures.unlisted
-    (subst (λ (ws : List ℕ). AreUnwatched ws c.as_slice-places.result.now) (sym c.as_slice-watchers.ensures.value)
-    (subst (λ (ps : List ℕ). AreUnwatched old.watchers.items ps) (sym places) none))
-
-pub returns-in-Err-clause-unlisted : goal.returns-in-Err-clause-unlisted
-returns-in-Err-clause-unlisted g c none =
-    let old = c.args.parts.now in
-    let places = places_read old.readers.items c.args.id.at c.index.result.now c.as_slice-places.result.now
-    (omega (arith, c.requires.there, c.requires.whole.long)) c.index.ensures c.as_slice-places.ensures in
-    c.insert_into_readers.ensures.unlisted
-    (subst (λ (ws : List ℕ). AreUnwatched ws c.as_slice-places.result.now) (sym c.as_slice-watchers.ensures.value)
-    (subst (λ (ps : List ℕ). AreUnwatched old.watchers.items ps) (sym places) none))
+    let whole = c.requires.whole in
+    let low = c.requires.there in
+    let xs = c.as_slice-places.result.now in
+    let logs = c.insert_into_readers.new.logs.items in
+    let texts = c.add_row.ensures.texts in
+    let places = places_read old.readers.items at c.index.result.now xs (omega (arith, low, whole.long))
+    c.index.ensures c.as_slice-places.ensures in
+    let did = λ (x y : Catalog) (row : Tuple). Came x y at cells row in
+    let adds = λ (row : Tuple) (stand : StandForRow old.catalog at cells row).
+    subst (λ (o : AddOutcome). AddsRow old.catalog.relations at row (Ok o) d.relations) c.in-Ok-First.field-0-is
+    (c.in-Ok-First.ensures.adds row stand) in
+    let new = λ (row : Tuple) (stand : StandForRow old.catalog at cells row).
+    came_new old.catalog at cells row d.relations stand (adds row stand) in
+    let comes = λ (row : Tuple) (stand : StandForRow old.catalog at cells row).
+    came old.catalog d at low cells row (new row stand) c.laws.ensures c.laws-2.ensures texts (adds row stand).2
+    c.added_came.ensures in
+    let kept = subst (λ (ps : List ℕ). AllAt ps old.queries.items (λ l. IsKept old.catalog l)) (sym places)
+    (readers_kept old.catalog old.queries.items old.order old.readers.items whole at low) in
+    let shown = shown_tended did old.catalog d old.queries.items xs old.logs.items logs c.requires.row.0 kept
+    (comes c.requires.row.0 c.requires.row.1) texts c.insert_into_readers.ensures.shows c.requires.tended.shown in
+    let costs = subst (λ (ws : List ℕ). Costs did xs ws old.queries.items at c.args.steps.now.listing
+    c.insert_into_readers.new.steps.listing) c.as_slice-watchers.ensures.value
+    c.insert_into_readers.ensures.counted in
+    let back = λ (row : Tuple) (stand : StandForRow old.catalog at cells row).
+    catalog_back old.catalog d at low cells row (new row stand) c.laws.ensures c.laws-2.ensures texts
+    (adds row stand).2 c.delete_row.new.self c.delete_row.result
+    (c.delete_row.ensures.deletes row (stand_now old.catalog d at low cells row (new row stand) c.laws.ensures
+    c.laws-2.ensures texts (adds row stand).2)) c.delete_row.ensures.texts in
+    record {
+      adds = λ row stand. (
+        (adds row stand).0,
+        record {
+          catalog = back row stand;
+          carries = wait_carries old.catalog d at low cells row (new row stand) c.laws.ensures c.laws-2.ensures texts
+              (adds row stand).2 old.queries.items old.order old.readers.items whole xs places c.added_came.ensures
+              c.deleted_went.ensures c.insert_into_readers.new.queries.items c.in-Err.ensures.given c.delete_row.new.self
+              (back row stand);
+        },
+      );
+      rest = record {
+        readers = refl;
+        order = refl;
+        seq = refl;
+        watchers = refl;
+        affected = refl;
+        room = refl;
+        long = c.insert_into_readers.ensures.shows.long;
+      };
+      quiet = tt;
+      apart = λ i l there e. tends_apart (Shows did) xs old.queries.items old.logs.items logs
+          c.insert_into_readers.ensures.shows i (ap (λ (ps : List ℕ). is_reader ps i) places ∙ e);
+      shown = subst (λ (ts : List Bytes). AreShown ts old.queries.items logs)
+          (sym (c.delete_row.ensures.texts ∙ texts)) shown;
+      tells = tt;
+      counted = tt;
+      listed = λ row stand. counts_rows did old.catalog d old.queries.items old.order old.readers.items whole at low
+          old.watchers.items xs places row (comes row stand) (with_row (counted_at old.catalog.relations at) row)
+          (adds row stand).2 c.args.steps.now.listing c.insert_into_readers.new.steps.listing costs;
+      idle = tt;
+      unlisted = λ none. c.insert_into_readers.ensures.unlisted
+          (subst (λ (ws : List ℕ). AreUnwatched ws xs) (sym c.as_slice-watchers.ensures.value)
+          (subst (λ (ps : List ℕ). AreUnwatched old.watchers.items ps) (sym places) none));
+      updates = tt;
+      refusal = subst (λ (ps : List ℕ). Works ps old.queries.items at 3 c.args.steps.now.update
+          c.insert_into_readers.new.steps.update) places c.in-Err.ensures.refusal;
+      unmoved = tt;
+    }

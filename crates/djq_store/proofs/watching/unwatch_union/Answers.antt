@@ -14,7 +14,6 @@ use Rattle.djq_store.proofs.watching.unwatch_union.Goals as goal
 
 pub ignore-requires : goal.ignore-requires
 ignore-requires c =
-    let old = c.args.parts.now in
     let j = c.joined_in-joined.result.now in
     let found = subst (λ (us : List (Option Joined)). joined_at us c.args.slot ≡ Some j) c.as_slice.ensures.value
     c.joined_in-joined.ensures in
@@ -23,15 +22,14 @@ ignore-requires c =
 
 pub ignore-requires-2 : goal.ignore-requires-2
 ignore-requires-2 c =
-    let old = c.args.parts.now in
     let j = c.joined_in-joined.result.now in
     let found = subst (λ (us : List (Option Joined)). joined_at us c.args.slot ≡ Some j) c.as_slice.ensures.value
     c.joined_in-joined.ensures in
     let some = subst (λ (o : Option Joined). IsSomeAnd o (λ j. 0 < j.watchers)) found c.requires.some in
     subst (λ (o : Option Joined). IsSomeAnd o (λ j. 0 < j.watchers)) (sym found) some
 
-pub returns-then-joined-gt1-clause-whole : goal.returns-then-joined-gt1-clause-whole
-returns-then-joined-gt1-clause-whole c =
+pub returns-then-joined-gt1 : goal.returns-then-joined-gt1
+returns-then-joined-gt1 c =
     let old = c.args.parts.now in
     let j = c.joined_in-joined.result.now in
     let found = subst (λ (us : List (Option Joined)). joined_at us c.args.slot ≡ Some j) c.as_slice.ensures.value
@@ -42,59 +40,49 @@ returns-then-joined-gt1-clause-whole c =
     c.requires.whole.listed c.requires.whole.counted c.args.slot (λ n. n - 1) c.ignore.new.unions.items m j found in
     let same : m.old.watchers ≡ j.watchers = ap (λ (x : Joined). x.watchers) is in
     record {
-      listed = on_listed old.engine old.unions.items old.order.items old.sessions.items old.affected.items
-          c.requires.whole.listed c.requires.whole.counted c.args.slot (λ n. n - 1) c.ignore.new.unions.items m (λ n. n)
-          [];
-      counted = on_counted old.engine old.unions.items old.order.items old.sessions.items old.affected.items
-          c.requires.whole.listed c.requires.whole.counted c.args.slot (λ n. n - 1) c.ignore.new.unions.items m
-          (omega (arith, same, some)) (omega (arith, same, c.if-joined-gt1.true))
-          (omega (
-            arith,
-            old_few old.engine old.unions.items old.order.items old.sessions.items old.affected.items
-                c.requires.whole.listed c.requires.whole.counted c.args.slot (λ n. n - 1) c.ignore.new.unions.items m,
-          ));
-      roomy = record { order = c.requires.whole.roomy.order; affected = c.requires.whole.roomy.affected };
+      whole = record {
+        listed = on_listed old.engine old.unions.items old.order.items old.sessions.items old.affected.items
+            c.requires.whole.listed c.requires.whole.counted c.args.slot (λ n. n - 1) c.ignore.new.unions.items m
+            (λ n. n)
+            [];
+        counted = on_counted old.engine old.unions.items old.order.items old.sessions.items old.affected.items
+            c.requires.whole.listed c.requires.whole.counted c.args.slot (λ n. n - 1) c.ignore.new.unions.items m
+            (omega (arith, same, some)) (omega (arith, same, c.if-joined-gt1.true))
+            (omega (
+              arith,
+              old_few old.engine old.unions.items old.order.items old.sessions.items old.affected.items
+                  c.requires.whole.listed c.requires.whole.counted c.args.slot (λ n. n - 1)
+                  c.ignore.new.unions.items m,
+            ));
+        roomy = record { order = c.requires.whole.roomy.order; affected = c.requires.whole.roomy.affected };
+      };
+      watches = on_seen old.engine old.unions.items old.order.items old.sessions.items old.affected.items
+          c.requires.whole.listed
+          c.requires.whole.counted c.args.slot (λ n. n - 1) c.ignore.new.unions.items m old.engine.registered;
     }
 
-pub returns-then-joined-gt1-clause-watches : goal.returns-then-joined-gt1-clause-watches
-returns-then-joined-gt1-clause-watches c =
-    let old = c.args.parts.now in
-    let j = c.joined_in-joined.result.now in
-    let found = subst (λ (us : List (Option Joined)). joined_at us c.args.slot ≡ Some j) c.as_slice.ensures.value
-    c.joined_in-joined.ensures in
-    let m = c.ignore.ensures in
-    let is = old_is old.engine old.unions.items old.order.items old.sessions.items old.affected.items
-    c.requires.whole.listed c.requires.whole.counted c.args.slot (λ n. n - 1) c.ignore.new.unions.items m j found in
-    let same : m.old.watchers ≡ j.watchers = ap (λ (x : Joined). x.watchers) is in
-    on_seen old.engine old.unions.items old.order.items old.sessions.items old.affected.items c.requires.whole.listed
-    c.requires.whole.counted c.args.slot (λ n. n - 1) c.ignore.new.unions.items m old.engine.registered
-
-pub unwatch_members-requires-clause-apart : goal.unwatch_members-requires-clause-apart
-unwatch_members-requires-clause-apart c =
-    let old = c.args.parts.now in
-    let j = c.joined_in-joined.result.now in
-    let found = subst (λ (us : List (Option Joined)). joined_at us c.args.slot ≡ Some j) c.as_slice.ensures.value
-    c.joined_in-joined.ensures in
-    subst (λ (ks : List ℕ). AllPairs (λ j k. j ≡ k → ⊥) ks) (sym c.members.ensures)
-    (c.requires.whole.listed.united c.args.slot j found).members.differ
-
-pub unwatch_members-requires-clause-watched : goal.unwatch_members-requires-clause-watched
-unwatch_members-requires-clause-watched c i d low =
+pub unwatch_members-requires : goal.unwatch_members-requires
+unwatch_members-requires c =
     let old = c.args.parts.now in
     let j = c.joined_in-joined.result.now in
     let found = subst (λ (us : List (Option Joined)). joined_at us c.args.slot ≡ Some j) c.as_slice.ensures.value
     c.joined_in-joined.ensures in
     let some = subst (λ (o : Option Joined). IsSomeAnd o (λ j. 0 < j.watchers)) found c.requires.some in
-    subst (λ (ks : List ℕ). IsSomeAnd (registered_at old.engine.registered (id_at (get_or ks i d)))
-    (λ r. 0 < r.watchers)) (sym c.members.ensures)
-    (let below : i < length j.union.members = omega (arith, low, ap length c.members.ensures) in
-    subst (λ (at : ℕ). IsSomeAnd (registered_at old.engine.registered (id_at at)) (λ r. 0 < r.watchers))
-    (get_or_default j.union.members i 0 d below)
-    (member_heard old.engine c.engine_laws.ensures.engine old.unions.items old.order.items old.sessions.items
-    c.requires.whole.listed c.requires.whole.counted c.args.slot j found i below some))
+    record {
+      apart = subst (λ (ks : List ℕ). AllPairs (λ j k. j ≡ k → ⊥) ks) (sym c.members.ensures)
+          (c.requires.whole.listed.united c.args.slot j found).members.differ;
+      watched = λ i d low. subst (λ (ks : List ℕ). IsSomeAnd (registered_at old.engine.registered (id_at (get_or ks i
+          d)))
+          (λ r. 0 < r.watchers)) (sym c.members.ensures)
+          (let below : i < length j.union.members = omega (arith, low, ap length c.members.ensures) in
+          subst (λ (at : ℕ). IsSomeAnd (registered_at old.engine.registered (id_at at)) (λ r. 0 < r.watchers))
+          (get_or_default j.union.members i 0 d below)
+          (member_heard old.engine c.engine_laws.ensures.engine old.unions.items old.order.items old.sessions.items
+          c.requires.whole.listed c.requires.whole.counted c.args.slot j found i below some));
+    }
 
-pub returns-clause-whole : goal.returns-clause-whole
-returns-clause-whole c =
+pub returns : goal.returns
+returns c =
     let old = c.args.parts.now in
     let j = c.joined_in-joined.result.now in
     let found = subst (λ (us : List (Option Joined)). joined_at us c.args.slot ≡ Some j) c.as_slice.ensures.value
@@ -102,39 +90,30 @@ returns-clause-whole c =
     let some = subst (λ (o : Option Joined). IsSomeAnd o (λ j. 0 < j.watchers)) found c.requires.some in
     let m = c.ignore-2.ensures in
     let is = old_is old.engine old.unions.items old.order.items old.sessions.items old.affected.items
-    c.requires.whole.listed c.requires.whole.counted c.args.slot (λ n. n - 1) c.ignore-2.new.unions.items m j found
-    in
+    c.requires.whole.listed c.requires.whole.counted c.args.slot (λ n. n - 1) c.ignore-2.new.unions.items m j found in
     let same : m.old.watchers ≡ j.watchers = ap (λ (x : Joined). x.watchers) is in
     let members = c.members.ensures ∙ ap (λ (x : Joined). x.union.members) (sym is) in
     record {
-      listed = subst (λ (x : Kept). IsListed x c.ignore-2.new.unions.items old.order.items)
+      whole = record {
+        listed = subst (λ (x : Kept). IsListed x c.ignore-2.new.unions.items old.order.items)
+            (sym c.unwatch_members.ensures)
+            (on_listed old.engine old.unions.items old.order.items old.sessions.items old.affected.items
+            c.requires.whole.listed c.requires.whole.counted c.args.slot (λ n. n - 1) c.ignore-2.new.unions.items m
+            (λ n. n - 1) c.members.result.now);
+        counted = subst (λ (x : Kept). IsCounted x c.ignore-2.new.unions.items old.sessions.items)
+            (sym c.unwatch_members.ensures)
+            (last_counted old.engine old.unions.items old.order.items old.sessions.items old.affected.items
+            c.requires.whole.listed c.requires.whole.counted c.args.slot (λ n. n - 1) c.ignore-2.new.unions.items m
+            (omega (arith, same, some)) (omega (arith, same, c.if-joined-gt1.false)) c.members.result.now members);
+        roomy = record { order = c.requires.whole.roomy.order; affected = c.requires.whole.roomy.affected };
+      };
+      watches = subst (λ (x : Kept). seen x c.ignore-2.new.unions.items old.order.items old.sessions.items
+          old.affected.items
+          ≡ record (kept_in old)
+          { registered = with_watchers (id_at (256 + c.args.slot)) (λ n. n - 1) (kept_in old).registered })
           (sym c.unwatch_members.ensures)
-          (on_listed old.engine old.unions.items old.order.items old.sessions.items old.affected.items
-          c.requires.whole.listed c.requires.whole.counted c.args.slot (λ n. n - 1) c.ignore-2.new.unions.items m
-          (λ n. n - 1) c.members.result.now);
-      counted = subst (λ (x : Kept). IsCounted x c.ignore-2.new.unions.items old.sessions.items)
-          (sym c.unwatch_members.ensures)
-          (last_counted old.engine old.unions.items old.order.items old.sessions.items old.affected.items
-          c.requires.whole.listed c.requires.whole.counted c.args.slot (λ n. n - 1) c.ignore-2.new.unions.items m
-          (omega (arith, same, some)) (omega (arith, same, c.if-joined-gt1.false)) c.members.result.now members);
-      roomy = record { order = c.requires.whole.roomy.order; affected = c.requires.whole.roomy.affected };
+          (on_seen old.engine old.unions.items old.order.items old.sessions.items old.affected.items
+          c.requires.whole.listed
+          c.requires.whole.counted c.args.slot (λ n. n - 1) c.ignore-2.new.unions.items m
+          (with_all (λ n. n - 1) c.members.result.now old.engine.registered));
     }
-
-pub returns-clause-watches : goal.returns-clause-watches
-returns-clause-watches c =
-    let old = c.args.parts.now in
-    let j = c.joined_in-joined.result.now in
-    let found = subst (λ (us : List (Option Joined)). joined_at us c.args.slot ≡ Some j) c.as_slice.ensures.value
-    c.joined_in-joined.ensures in
-    let m = c.ignore-2.ensures in
-    let is = old_is old.engine old.unions.items old.order.items old.sessions.items old.affected.items
-    c.requires.whole.listed c.requires.whole.counted c.args.slot (λ n. n - 1) c.ignore-2.new.unions.items m j found
-    in
-    let same : m.old.watchers ≡ j.watchers = ap (λ (x : Joined). x.watchers) is in
-    subst (λ (x : Kept). seen x c.ignore-2.new.unions.items old.order.items old.sessions.items old.affected.items
-    ≡ record (kept_in old)
-    { registered = with_watchers (id_at (256 + c.args.slot)) (λ n. n - 1) (kept_in old).registered })
-    (sym c.unwatch_members.ensures)
-    (on_seen old.engine old.unions.items old.order.items old.sessions.items old.affected.items c.requires.whole.listed
-    c.requires.whole.counted c.args.slot (λ n. n - 1) c.ignore-2.new.unions.items m
-    (with_all (λ n. n - 1) c.members.result.now old.engine.registered))

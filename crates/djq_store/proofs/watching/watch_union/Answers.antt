@@ -30,8 +30,8 @@ listen-requires-2 c =
     let less = subst (λ (o : Option Joined). IsSomeAnd o (λ j. j.watchers < SESSIONS)) found c.requires.few in
     subst (λ (o : Option Joined). IsSomeAnd o (λ j. j.watchers < 4294967295)) (sym found) (omega (arith, less))
 
-pub returns-then-joined-gt0-clause-whole : goal.returns-then-joined-gt0-clause-whole
-returns-then-joined-gt0-clause-whole c =
+pub returns-then-joined-gt0 : goal.returns-then-joined-gt0
+returns-then-joined-gt0 c =
     let old = c.args.parts.now in
     let j = c.joined_in-joined.result.now in
     let found = subst (λ (us : List (Option Joined)). joined_at us c.args.slot ≡ Some j) c.as_slice.ensures.value
@@ -42,27 +42,20 @@ returns-then-joined-gt0-clause-whole c =
     c.requires.whole.listed c.requires.whole.counted c.args.slot (λ n. n + 1) c.listen.new.unions.items m j found in
     let same : m.old.watchers ≡ j.watchers = ap (λ (x : Joined). x.watchers) is in
     record {
-      listed = on_listed old.engine old.unions.items old.order.items old.sessions.items old.affected.items
-          c.requires.whole.listed c.requires.whole.counted c.args.slot (λ n. n + 1) c.listen.new.unions.items m (λ n. n)
-          [];
-      counted = on_counted old.engine old.unions.items old.order.items old.sessions.items old.affected.items
-          c.requires.whole.listed c.requires.whole.counted c.args.slot (λ n. n + 1) c.listen.new.unions.items m
-          (omega (arith, same, c.if-joined-gt0.true)) (omega arith) (omega (arith, same, less));
-      roomy = record { order = c.requires.whole.roomy.order; affected = c.requires.whole.roomy.affected };
+      whole = record {
+        listed = on_listed old.engine old.unions.items old.order.items old.sessions.items old.affected.items
+            c.requires.whole.listed c.requires.whole.counted c.args.slot (λ n. n + 1) c.listen.new.unions.items m
+            (λ n. n)
+            [];
+        counted = on_counted old.engine old.unions.items old.order.items old.sessions.items old.affected.items
+            c.requires.whole.listed c.requires.whole.counted c.args.slot (λ n. n + 1) c.listen.new.unions.items m
+            (omega (arith, same, c.if-joined-gt0.true)) (omega arith) (omega (arith, same, less));
+        roomy = record { order = c.requires.whole.roomy.order; affected = c.requires.whole.roomy.affected };
+      };
+      watches = on_seen old.engine old.unions.items old.order.items old.sessions.items old.affected.items
+          c.requires.whole.listed
+          c.requires.whole.counted c.args.slot (λ n. n + 1) c.listen.new.unions.items m old.engine.registered;
     }
-
-pub returns-then-joined-gt0-clause-watches : goal.returns-then-joined-gt0-clause-watches
-returns-then-joined-gt0-clause-watches c =
-    let old = c.args.parts.now in
-    let j = c.joined_in-joined.result.now in
-    let found = subst (λ (us : List (Option Joined)). joined_at us c.args.slot ≡ Some j) c.as_slice.ensures.value
-    c.joined_in-joined.ensures in
-    let m = c.listen.ensures in
-    let is = old_is old.engine old.unions.items old.order.items old.sessions.items old.affected.items
-    c.requires.whole.listed c.requires.whole.counted c.args.slot (λ n. n + 1) c.listen.new.unions.items m j found in
-    let same : m.old.watchers ≡ j.watchers = ap (λ (x : Joined). x.watchers) is in
-    on_seen old.engine old.unions.items old.order.items old.sessions.items old.affected.items c.requires.whole.listed
-    c.requires.whole.counted c.args.slot (λ n. n + 1) c.listen.new.unions.items m old.engine.registered
 
 pub watch_members-requires : goal.watch_members-requires
 watch_members-requires c i d low =
@@ -78,8 +71,8 @@ watch_members-requires c i d low =
     (member_roomy old.engine c.engine_laws.ensures.engine old.unions.items old.order.items old.sessions.items
     c.requires.whole.listed c.requires.whole.counted c.args.slot j found i below))
 
-pub returns-clause-whole : goal.returns-clause-whole
-returns-clause-whole c =
+pub returns : goal.returns
+returns c =
     let old = c.args.parts.now in
     let j = c.joined_in-joined.result.now in
     let found = subst (λ (us : List (Option Joined)). joined_at us c.args.slot ≡ Some j) c.as_slice.ensures.value
@@ -87,40 +80,31 @@ returns-clause-whole c =
     let less = subst (λ (o : Option Joined). IsSomeAnd o (λ j. j.watchers < SESSIONS)) found c.requires.few in
     let m = c.listen-2.ensures in
     let is = old_is old.engine old.unions.items old.order.items old.sessions.items old.affected.items
-    c.requires.whole.listed c.requires.whole.counted c.args.slot (λ n. n + 1) c.listen-2.new.unions.items m j found
-    in
+    c.requires.whole.listed c.requires.whole.counted c.args.slot (λ n. n + 1) c.listen-2.new.unions.items m j found in
     let same : m.old.watchers ≡ j.watchers = ap (λ (x : Joined). x.watchers) is in
     let members = c.members.ensures ∙ ap (λ (x : Joined). x.union.members) (sym is) in
     record {
-      listed = subst (λ (x : Kept). IsListed x c.listen-2.new.unions.items old.order.items)
+      whole = record {
+        listed = subst (λ (x : Kept). IsListed x c.listen-2.new.unions.items old.order.items)
+            (sym c.watch_members.ensures)
+            (on_listed old.engine old.unions.items old.order.items old.sessions.items old.affected.items
+            c.requires.whole.listed c.requires.whole.counted c.args.slot (λ n. n + 1) c.listen-2.new.unions.items m
+            (λ n. n + 1) c.members.result.now);
+        counted = subst (λ (x : Kept). IsCounted x c.listen-2.new.unions.items old.sessions.items)
+            (sym c.watch_members.ensures)
+            (first_counted old.engine old.unions.items old.order.items old.sessions.items old.affected.items
+            c.requires.whole.listed c.requires.whole.counted c.args.slot (λ n. n + 1) c.listen-2.new.unions.items m
+            (omega (arith, same, c.if-joined-gt0.false)) (omega arith) (omega (arith, same, less))
+            c.members.result.now members);
+        roomy = record { order = c.requires.whole.roomy.order; affected = c.requires.whole.roomy.affected };
+      };
+      watches = subst (λ (x : Kept). seen x c.listen-2.new.unions.items old.order.items old.sessions.items
+          old.affected.items
+          ≡ record (kept_in old)
+          { registered = with_watchers (id_at (256 + c.args.slot)) (λ n. n + 1) (kept_in old).registered })
           (sym c.watch_members.ensures)
-          (on_listed old.engine old.unions.items old.order.items old.sessions.items old.affected.items
-          c.requires.whole.listed c.requires.whole.counted c.args.slot (λ n. n + 1) c.listen-2.new.unions.items m
-          (λ n. n + 1) c.members.result.now);
-      counted = subst (λ (x : Kept). IsCounted x c.listen-2.new.unions.items old.sessions.items)
-          (sym c.watch_members.ensures)
-          (first_counted old.engine old.unions.items old.order.items old.sessions.items old.affected.items
-          c.requires.whole.listed c.requires.whole.counted c.args.slot (λ n. n + 1) c.listen-2.new.unions.items m
-          (omega (arith, same, c.if-joined-gt0.false)) (omega arith) (omega (arith, same, less))
-          c.members.result.now members);
-      roomy = record { order = c.requires.whole.roomy.order; affected = c.requires.whole.roomy.affected };
+          (on_seen old.engine old.unions.items old.order.items old.sessions.items old.affected.items
+          c.requires.whole.listed
+          c.requires.whole.counted c.args.slot (λ n. n + 1) c.listen-2.new.unions.items m
+          (with_all (λ n. n + 1) c.members.result.now old.engine.registered));
     }
-
-pub returns-clause-watches : goal.returns-clause-watches
-returns-clause-watches c =
-    let old = c.args.parts.now in
-    let j = c.joined_in-joined.result.now in
-    let found = subst (λ (us : List (Option Joined)). joined_at us c.args.slot ≡ Some j) c.as_slice.ensures.value
-    c.joined_in-joined.ensures in
-    let m = c.listen-2.ensures in
-    let is = old_is old.engine old.unions.items old.order.items old.sessions.items old.affected.items
-    c.requires.whole.listed c.requires.whole.counted c.args.slot (λ n. n + 1) c.listen-2.new.unions.items m j found
-    in
-    let same : m.old.watchers ≡ j.watchers = ap (λ (x : Joined). x.watchers) is in
-    subst (λ (x : Kept). seen x c.listen-2.new.unions.items old.order.items old.sessions.items old.affected.items
-    ≡ record (kept_in old)
-    { registered = with_watchers (id_at (256 + c.args.slot)) (λ n. n + 1) (kept_in old).registered })
-    (sym c.watch_members.ensures)
-    (on_seen old.engine old.unions.items old.order.items old.sessions.items old.affected.items c.requires.whole.listed
-    c.requires.whole.counted c.args.slot (λ n. n + 1) c.listen-2.new.unions.items m
-    (with_all (λ n. n + 1) c.members.result.now old.engine.registered))

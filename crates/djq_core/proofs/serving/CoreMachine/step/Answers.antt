@@ -177,9 +177,6 @@ tell_change-requires-clause-sound g c =
 
 pub tell_change-requires-clause-room : goal.tell_change-requires-clause-room
 tell_change-requires-clause-room g c =
-    let h = here_by c.self.inside.engine c.self.inside.ids.items c.as_slice.result.now c.self.inside.sessions.items _ _
-    c.place_of-at.result c.args.id c.index_mut-found.result.now c.self.invariant.0 c.as_slice.ensures.value
-    c.place_of-at.ensures.within c.place_of-at.ensures.there c.index_mut-found.ensures.value in
     let before = counts c.args.steps.now.listing c.args.steps.now.update c.args.steps.now.rows in
     let now = counts c.step_session-stepped.new.steps.listing c.step_session-stepped.new.steps.update
     c.step_session-stepped.new.steps.rows in
@@ -199,9 +196,6 @@ tell_change-requires-clause-room g c =
 
 pub tell_change-requires-clause-registered : goal.tell_change-requires-clause-registered
 tell_change-requires-clause-registered g c =
-    let h = here_by c.self.inside.engine c.self.inside.ids.items c.as_slice.result.now c.self.inside.sessions.items _ _
-    c.place_of-at.result c.args.id c.index_mut-found.result.now c.self.invariant.0 c.as_slice.ensures.value
-    c.place_of-at.ensures.within c.place_of-at.ensures.there c.index_mut-found.ensures.value in
     let before = counts c.args.steps.now.listing c.args.steps.now.update c.args.steps.now.rows in
     let now = counts c.step_session-stepped.new.steps.listing c.step_session-stepped.new.steps.update
     c.step_session-stepped.new.steps.rows in
@@ -211,10 +205,6 @@ tell_change-requires-clause-registered g c =
     let t = telling_ran c.step_session-stepped.result.0 c.in-Telling.outcome c.self.inside.engine
     (c.index_mut-found.result.now).session c.step_session-stepped.new.engine c.step_session-stepped.new.session
     before now leaves in
-    let i = id_by c.self.inside.engine c.self.inside.ids.items c.as_slice.result.now c.self.inside.sessions.items _ _
-    c.place_of-at.result c.args.id c.index_mut-found.result.now c.self.invariant.0 c.as_slice.ensures.value
-    c.place_of-at.ensures.within c.place_of-at.ensures.there c.index_mut-found.ensures.value in
-    let y : OpenSession = record c.index_mut-found.result.now { session = c.step_session-stepped.new.session } in
     registered_left c.in-Telling.outcome c.self.inside.engine c.step_session-stepped.new.engine
     (c.index_mut-found.result.now).session c.step_session-stepped.new.session before.listing now.listing t.1
 

@@ -8,6 +8,7 @@ use Rattle.djq_machine.specs.Store.{add_refusal}
 use Rattle.djq_engine.specs.declared.change.AddRefusal.{AddRefusal}
 use Rattle.djq_rows.specs.Catalog.{counted_at}
 use Rattle.djq_machine.specs.Changes.{row_in}
+use Rattle.djq_engine.specs.declared.parts.Parts.{Parts}
 use Rattle.djq_engine.specs.Judging.{bare}
 use Rattle.djq_engine.specs.Changing.{
   AddsTo,
@@ -68,183 +69,6 @@ use Rattle.djq_engine.proofs.Working.{counts_updates}
 use Rattle.djq_engine.proofs.Enlisted.{unwatched_readers}
 use Rattle.djq_engine.proofs.engine.Engine.add.Goals as goal
 
-pub invariant_of-self-in-Err-Full : goal.invariant_of-self-in-Err-Full
-invariant_of-self-in-Err-Full g c = (
-  rested_whole c.self.inside.parts c.put_row.new.parts c.self.invariant.0
-      (subst (λ (r : AddRefusal). AddsTo c.in_ok-id.id.at c.args.row.now c.self.inside.parts (Err r)
-      c.put_row.new.parts) c.in-Err-Full.field-0-is c.in-Err-Full.ensures.adds).rests c.put_row.ensures.rest,
-  tended_still c.self.inside.parts c.put_row.new.parts c.self.invariant.1 c.put_row.ensures.rest
-      (subst (λ (r : AddRefusal). AddsTo c.in_ok-id.id.at c.args.row.now c.self.inside.parts (Err r)
-      c.put_row.new.parts) c.in-Err-Full.field-0-is c.in-Err-Full.ensures.adds).rests.queries
-      c.put_row.ensures.shown,
-)
-
-pub returns-in-Err-Full-clause-outdates : goal.returns-in-Err-Full-clause-outdates
-returns-in-Err-Full-clause-outdates g c =
-    rw (← c.self.view_is) (rested_cursors c.self.inside.parts c.put_row.new.parts
-    (subst (λ (r : AddRefusal). AddsTo c.in_ok-id.id.at c.args.row.now c.self.inside.parts (Err r)
-    c.put_row.new.parts)
-    c.in-Err-Full.field-0-is c.in-Err-Full.ensures.adds).rests)
-
-pub returns-in-Err-Full-clause-adds : goal.returns-in-Err-Full-clause-adds
-returns-in-Err-Full-clause-adds g c =
-    rw (← c.self.view_is)
-    (add_limited c.self.inside.parts c.args.name.now c.args.row.now c.in_ok-id.id.at c.in_ok-id.ensures.ok
-    c.put_row.new.parts (subst
-    (λ (r : AddRefusal). AddsTo c.in_ok-id.id.at c.args.row.now c.self.inside.parts (Err r) c.put_row.new.parts)
-    c.in-Err-Full.field-0-is c.in-Err-Full.ensures.adds) c.put_row.ensures.rest.order c.put_row.ensures.rest.seq)
-
-pub outdate_readers-requires-clause-once : goal.outdate_readers-requires-clause-once
-outdate_readers-requires-clause-once g c =
-    let lacks = subst (λ (r : AddRefusal). AddsTo c.in_ok-id.id.at c.args.row.now c.self.inside.parts (Err r)
-    c.put_row.new.parts) c.in-Err-NoMem.field-0-is c.in-Err-NoMem.ensures.adds in
-    mid_once c.self.inside.parts (record c.put_row.new.parts { logs = c.empty_logs.new.logs }) c.self.invariant.0
-    c.in_ok-id.id.at c.in_ok-id.ensures.ok.relation.below
-    lacks.1.carries c.put_row.ensures.rest.readers c.put_row.ensures.rest.order
-    (names_kept c.self.inside.parts.catalog c.put_row.new.parts.catalog lacks.1.relations)
-
-pub outdate_readers-requires-clause-there : goal.outdate_readers-requires-clause-there
-outdate_readers-requires-clause-there g c =
-    let lacks = subst (λ (r : AddRefusal). AddsTo c.in_ok-id.id.at c.args.row.now c.self.inside.parts (Err r)
-    c.put_row.new.parts) c.in-Err-NoMem.field-0-is c.in-Err-NoMem.ensures.adds in
-    mid_there c.self.inside.parts (record c.put_row.new.parts { logs = c.empty_logs.new.logs }) c.self.invariant.0
-    c.in_ok-id.id.at c.in_ok-id.ensures.ok.relation.below
-    lacks.1.carries c.put_row.ensures.rest.readers c.put_row.ensures.rest.order
-    (names_kept c.self.inside.parts.catalog c.put_row.new.parts.catalog lacks.1.relations)
-
-pub invariant_of-self-in-Err-NoMem : goal.invariant_of-self-in-Err-NoMem
-invariant_of-self-in-Err-NoMem g c =
-    let lacks = subst (λ (r : AddRefusal). AddsTo c.in_ok-id.id.at c.args.row.now c.self.inside.parts (Err r)
-    c.put_row.new.parts) c.in-Err-NoMem.field-0-is c.in-Err-NoMem.ensures.adds in (
-      (aged c.self.inside.parts (record c.put_row.new.parts { logs = c.empty_logs.new.logs }) c.self.invariant.0
-          c.in_ok-id.id.at c.in_ok-id.ensures.ok.relation.below
-          lacks.1.carries c.put_row.ensures.rest.readers c.put_row.ensures.rest.order
-          (names_kept c.self.inside.parts.catalog c.put_row.new.parts.catalog lacks.1.relations)
-          c.outdate_readers.new.parts
-          c.args.name.now c.in_ok-id.ensures.ok.relation.named c.outdate_readers.ensures).whole,
-      tended_now c.self.inside.parts (record c.put_row.new.parts { logs = c.empty_logs.new.logs })
-          c.outdate_readers.new.parts
-          c.in_ok-id.id.at c.args.name.now
-          (subst (λ (r : AddRefusal). AddsTo c.in_ok-id.id.at c.args.row.now c.self.inside.parts (Err r)
-          c.put_row.new.parts) c.in-Err-NoMem.field-0-is c.in-Err-NoMem.ensures.adds).1.carries
-          c.put_row.ensures.rest.watchers c.put_row.ensures.rest.order (c.empty_logs.ensures.long
-          ∙ c.put_row.ensures.rest.long) c.outdate_readers.ensures c.self.invariant.1
-          (room_kept c.self.inside.parts c.put_row.new.parts c.self.invariant.1 c.put_row.ensures.rest)
-          (shown_emptied c.put_row.new.parts.catalog.texts c.self.inside.parts.queries.items c.as_slice.result.now
-          c.put_row.new.parts.logs.items c.empty_logs.new.logs.items c.empty_logs.ensures c.put_row.ensures.shown),
-    )
-
-pub returns-in-Err-NoMem-clause-outdates : goal.returns-in-Err-NoMem-clause-outdates
-returns-in-Err-NoMem-clause-outdates g c =
-    let lacks = subst (λ (r : AddRefusal). AddsTo c.in_ok-id.id.at c.args.row.now c.self.inside.parts (Err r)
-    c.put_row.new.parts) c.in-Err-NoMem.field-0-is c.in-Err-NoMem.ensures.adds in
-    rw (← c.self.view_is)
-    ((aged c.self.inside.parts (record c.put_row.new.parts { logs = c.empty_logs.new.logs }) c.self.invariant.0
-    c.in_ok-id.id.at c.in_ok-id.ensures.ok.relation.below
-    lacks.1.carries c.put_row.ensures.rest.readers c.put_row.ensures.rest.order
-    (names_kept c.self.inside.parts.catalog c.put_row.new.parts.catalog lacks.1.relations) c.outdate_readers.new.parts
-    c.args.name.now c.in_ok-id.ensures.ok.relation.named c.outdate_readers.ensures).cursors)
-
-pub outdate_readers-requires-2-clause-once : goal.outdate_readers-requires-2-clause-once
-outdate_readers-requires-2-clause-once g c =
-    let came = subst (λ (o : AddOutcome). AddsTo c.in_ok-id.id.at c.args.row.now c.self.inside.parts (Ok o)
-    c.put_row.new.parts) c.in-Ok-First.field-0-is c.in-Ok-First.ensures.adds in
-    mid_once c.self.inside.parts
-    (record c.put_row.new.parts { seq = c.put_row.new.parts.seq + 1; affected = c.affect.new.affected })
-    c.self.invariant.0 c.in_ok-id.id.at c.in_ok-id.ensures.ok.relation.below
-    came.1.has.carries c.put_row.ensures.rest.readers c.put_row.ensures.rest.order
-    (same_names c.self.inside.parts.catalog c.put_row.new.parts.catalog c.in_ok-id.id.at
-    (with_row (counted_at c.self.inside.parts.catalog.relations c.in_ok-id.id.at) c.args.row.now)
-    c.in_ok-id.ensures.ok.relation.below came.1.has.relations)
-
-pub outdate_readers-requires-2-clause-there : goal.outdate_readers-requires-2-clause-there
-outdate_readers-requires-2-clause-there g c =
-    let came = subst (λ (o : AddOutcome). AddsTo c.in_ok-id.id.at c.args.row.now c.self.inside.parts (Ok o)
-    c.put_row.new.parts) c.in-Ok-First.field-0-is c.in-Ok-First.ensures.adds in
-    mid_there c.self.inside.parts
-    (record c.put_row.new.parts { seq = c.put_row.new.parts.seq + 1; affected = c.affect.new.affected })
-    c.self.invariant.0 c.in_ok-id.id.at c.in_ok-id.ensures.ok.relation.below
-    came.1.has.carries c.put_row.ensures.rest.readers c.put_row.ensures.rest.order
-    (same_names c.self.inside.parts.catalog c.put_row.new.parts.catalog c.in_ok-id.id.at
-    (with_row (counted_at c.self.inside.parts.catalog.relations c.in_ok-id.id.at) c.args.row.now)
-    c.in_ok-id.ensures.ok.relation.below came.1.has.relations)
-
-pub invariant_of-self-2 : goal.invariant_of-self-2
-invariant_of-self-2 g c =
-    let came = subst (λ (o : AddOutcome). AddsTo c.in_ok-id.id.at c.args.row.now c.self.inside.parts (Ok o)
-    c.put_row.new.parts) c.in-Ok-First.field-0-is c.in-Ok-First.ensures.adds in (
-      (aged c.self.inside.parts
-          (record c.put_row.new.parts { seq = c.put_row.new.parts.seq + 1; affected = c.affect.new.affected })
-          c.self.invariant.0 c.in_ok-id.id.at c.in_ok-id.ensures.ok.relation.below
-          came.1.has.carries c.put_row.ensures.rest.readers c.put_row.ensures.rest.order
-          (same_names c.self.inside.parts.catalog c.put_row.new.parts.catalog c.in_ok-id.id.at
-          (with_row (counted_at c.self.inside.parts.catalog.relations c.in_ok-id.id.at) c.args.row.now)
-          c.in_ok-id.ensures.ok.relation.below came.1.has.relations) c.outdate_readers-2.new.parts c.args.name.now
-          c.in_ok-id.ensures.ok.relation.named c.outdate_readers-2.ensures).whole,
-      tended_now c.self.inside.parts
-          (record c.put_row.new.parts { seq = c.put_row.new.parts.seq + 1; affected = c.affect.new.affected })
-          c.outdate_readers-2.new.parts c.in_ok-id.id.at c.args.name.now
-          (subst (λ (o : AddOutcome). AddsTo c.in_ok-id.id.at c.args.row.now c.self.inside.parts (Ok o)
-          c.put_row.new.parts)
-          c.in-Ok-First.field-0-is c.in-Ok-First.ensures.adds).1.has.carries
-          c.put_row.ensures.rest.watchers c.put_row.ensures.rest.order c.put_row.ensures.rest.long
-          c.outdate_readers-2.ensures
-          c.self.invariant.1
-          (omega (
-            arith,
-            room_kept c.self.inside.parts c.put_row.new.parts c.self.invariant.1 c.put_row.ensures.rest,
-            c.affect.ensures.room,
-          )) c.put_row.ensures.shown,
-    )
-
-pub returns-clause-outdates : goal.returns-clause-outdates
-returns-clause-outdates g c =
-    let came = subst (λ (o : AddOutcome). AddsTo c.in_ok-id.id.at c.args.row.now c.self.inside.parts (Ok o)
-    c.put_row.new.parts) c.in-Ok-First.field-0-is c.in-Ok-First.ensures.adds in
-    rw (← c.self.view_is) ((aged c.self.inside.parts
-    (record c.put_row.new.parts { seq = c.put_row.new.parts.seq + 1; affected = c.affect.new.affected })
-    c.self.invariant.0 c.in_ok-id.id.at c.in_ok-id.ensures.ok.relation.below
-    came.1.has.carries c.put_row.ensures.rest.readers c.put_row.ensures.rest.order
-    (same_names c.self.inside.parts.catalog c.put_row.new.parts.catalog c.in_ok-id.id.at
-    (with_row (counted_at c.self.inside.parts.catalog.relations c.in_ok-id.id.at) c.args.row.now)
-    c.in_ok-id.ensures.ok.relation.below came.1.has.relations) c.outdate_readers-2.new.parts c.args.name.now
-    c.in_ok-id.ensures.ok.relation.named c.outdate_readers-2.ensures).cursors)
-
-pub returns-clause-adds : goal.returns-clause-adds
-returns-clause-adds g c =
-    let came = subst (λ (o : AddOutcome). AddsTo c.in_ok-id.id.at c.args.row.now c.self.inside.parts (Ok o)
-    c.put_row.new.parts) c.in-Ok-First.field-0-is c.in-Ok-First.ensures.adds in
-    rw (← c.self.view_is)
-    (add_done c.self.inside.parts c.args.name.now c.args.row.now c.in_ok-id.id.at c.in_ok-id.ensures.ok
-    c.rows_by_name_or_place.ensures
-    c.laws.ensures.names c.put_row.new.parts c.outdate_readers-2.new.parts
-    came.0
-    came.1 c.outdate_readers-2.ensures.catalog
-    (c.outdate_readers-2.ensures.rest.seq ∙ ap (λ n. n + 1) c.put_row.ensures.rest.seq)
-    (aged c.self.inside.parts
-    (record c.put_row.new.parts { seq = c.put_row.new.parts.seq + 1; affected = c.affect.new.affected })
-    c.self.invariant.0 c.in_ok-id.id.at c.in_ok-id.ensures.ok.relation.below
-    came.1.has.carries c.put_row.ensures.rest.readers c.put_row.ensures.rest.order
-    (same_names c.self.inside.parts.catalog c.put_row.new.parts.catalog c.in_ok-id.id.at
-    (with_row (counted_at c.self.inside.parts.catalog.relations c.in_ok-id.id.at) c.args.row.now)
-    c.in_ok-id.ensures.ok.relation.below came.1.has.relations) c.outdate_readers-2.new.parts c.args.name.now
-    c.in_ok-id.ensures.ok.relation.named c.outdate_readers-2.ensures).queries)
-
-pub returns-in-Err-NoMem-clause-adds : goal.returns-in-Err-NoMem-clause-adds
-returns-in-Err-NoMem-clause-adds g c =
-    let lacks = subst (λ (r : AddRefusal). AddsTo c.in_ok-id.id.at c.args.row.now c.self.inside.parts (Err r)
-    c.put_row.new.parts) c.in-Err-NoMem.field-0-is c.in-Err-NoMem.ensures.adds in
-    rw (← c.self.view_is)
-    (add_lacking c.self.inside.parts c.args.name.now c.args.row.now c.in_ok-id.id.at c.in_ok-id.ensures.ok
-    c.put_row.new.parts c.outdate_readers.new.parts
-    lacks.0
-    lacks.1 c.outdate_readers.ensures.catalog (c.outdate_readers.ensures.rest.seq ∙ c.put_row.ensures.rest.seq)
-    (aged c.self.inside.parts (record c.put_row.new.parts { logs = c.empty_logs.new.logs }) c.self.invariant.0
-    c.in_ok-id.id.at c.in_ok-id.ensures.ok.relation.below
-    lacks.1.carries c.put_row.ensures.rest.readers c.put_row.ensures.rest.order
-    (names_kept c.self.inside.parts.catalog c.put_row.new.parts.catalog lacks.1.relations) c.outdate_readers.new.parts
-    c.args.name.now c.in_ok-id.ensures.ok.relation.named c.outdate_readers.ensures).queries)
-
 pub returns-in_err-id-clause-tells : goal.returns-in_err-id-clause-tells
 returns-in_err-id-clause-tells g c =
     let old = c.self.inside.parts in
@@ -255,312 +79,352 @@ returns-in_err-id-clause-tells g c =
     (add_refused_tells old c.args.name.now c.args.row.now c.from_residual.result c.from_residual.ensures.0 h
     c.args.steps.now.listing)
 
-pub returns-in-Err-Full-clause-watches : goal.returns-in-Err-Full-clause-watches
-returns-in-Err-Full-clause-watches g c =
-    rw (← c.self.view_is) (registered_still c.self.inside.parts c.put_row.new.parts c.put_row.ensures.rest
-    (subst (λ (r : AddRefusal). AddsTo c.in_ok-id.id.at c.args.row.now c.self.inside.parts (Err r)
-    c.put_row.new.parts) c.in-Err-Full.field-0-is c.in-Err-Full.ensures.adds).rests.queries)
-
-pub returns-in-Err-Full-clause-tells : goal.returns-in-Err-Full-clause-tells
-returns-in-Err-Full-clause-tells g c =
-    let old = c.self.inside.parts in
-    rw (← c.self.view_is)
-    (tells_nothing (kept_in old) (kept_in c.put_row.new.parts) c.args.steps.now.listing c.put_row.new.steps.listing
-    (subst (λ (r : AddRefusal). IfStill (Err r) (c.put_row.new.steps.listing ≤ c.args.steps.now.listing))
-    c.in-Err-Full.field-0-is c.in-Err-Full.ensures.idle)
-    (affected_same old c.put_row.new.parts c.put_row.ensures.rest.affected)
-    (λ id h. told_full c.showable_stays.ensures c.texts_stay.ensures old c.put_row.new.parts c.in_ok-id.id.at
-    c.args.row.now
-    (subst (λ (r : AddRefusal). AddsTo c.in_ok-id.id.at c.args.row.now c.self.inside.parts (Err r)
-    c.put_row.new.parts)
-    c.in-Err-Full.field-0-is c.in-Err-Full.ensures.adds) c.self.invariant.1 id.at))
-
-pub returns-in-Err-NoMem-clause-watches : goal.returns-in-Err-NoMem-clause-watches
-returns-in-Err-NoMem-clause-watches g c =
-    rw (← c.self.view_is)
-    (registered_now c.self.inside.parts (record c.put_row.new.parts { logs = c.empty_logs.new.logs })
-    c.outdate_readers.new.parts c.in_ok-id.id.at c.args.name.now
-    (subst (λ (r : AddRefusal). AddsTo c.in_ok-id.id.at c.args.row.now c.self.inside.parts (Err r)
-    c.put_row.new.parts)
-    c.in-Err-NoMem.field-0-is c.in-Err-NoMem.ensures.adds).1.carries
-    c.put_row.ensures.rest.watchers c.put_row.ensures.rest.order (c.empty_logs.ensures.long
-    ∙ c.put_row.ensures.rest.long) c.outdate_readers.ensures)
-
-pub returns-in-Err-NoMem-clause-tells : goal.returns-in-Err-NoMem-clause-tells
-returns-in-Err-NoMem-clause-tells g c =
-    let old = c.self.inside.parts in
-    let mid = c.put_row.new.parts in
-    let new = c.outdate_readers.new.parts in
-    let lacks = (subst (λ (r : AddRefusal). AddsTo c.in_ok-id.id.at c.args.row.now c.self.inside.parts (Err r)
-    c.put_row.new.parts) c.in-Err-NoMem.field-0-is c.in-Err-NoMem.ensures.adds).1 in
-    let m = c.in_ok-id.ensures.ok in
-    let alike = alike_now old (record mid { logs = c.empty_logs.new.logs }) new c.in_ok-id.id.at c.args.name.now
-    lacks.carries
-    c.put_row.ensures.rest.watchers c.put_row.ensures.rest.order (c.empty_logs.ensures.long
-    ∙ c.put_row.ensures.rest.long) c.outdate_readers.ensures in
-    let places = places_read mid.readers.items c.in_ok-id.id.at c.index.result.now c.as_slice.result.now
-    (readers_within old mid c.self.invariant.0 c.in_ok-id.id.at m.relation.below c.put_row.ensures.rest.readers)
-    c.index.ensures c.as_slice.ensures in
-    let empties = subst (λ (ps : List ℕ). Empties ps mid.logs.items c.empty_logs.new.logs.items) places
-    c.empty_logs.ensures in
-    rw (← c.self.view_is)
-    (adds_refused old c.self.invariant.0 c.args.name.now c.args.row.now c.in_ok-id.id.at m.relation
-    c.deltas_exist.ensures
-    c.heads_are_bound.ensures c.rows_by_name_or_place.ensures c.laws.ensures.names
-    c.args.steps.now.listing c.put_row.new.steps.listing
-    (subst (λ (r : AddRefusal). IfLacking (Err r)
-    (CountsRows c.in_ok-id.id.at
-    (with_row (counted_at c.self.inside.parts.catalog.relations c.in_ok-id.id.at) c.args.row.now) c.self.inside.parts
-    c.args.steps.now.listing c.put_row.new.steps.listing)) c.in-Err-NoMem.field-0-is c.in-Err-NoMem.ensures.listed)
-    new
-    (affected_same old new (c.outdate_readers.ensures.rest.affected ∙ c.put_row.ensures.rest.affected))
-    (discards_by old mid new c.self.invariant.0 c.in_ok-id.id.at m.relation.below c.put_row.ensures.rest.readers
-    (subst (λ (r : AddRefusal). IfLacking (Err r)
-    (KeepsLogs (reads_at c.self.inside.parts c.in_ok-id.id.at) c.self.inside.parts c.put_row.new.parts))
-    c.in-Err-NoMem.field-0-is c.in-Err-NoMem.ensures.apart)
-    (subst (λ (ls : List Log). Empties (readers_at mid.readers.items c.in_ok-id.id.at) mid.logs.items ls)
-    (sym c.outdate_readers.ensures.logs) empties) alike)
-    (told_lacking c.showable_stays.ensures c.texts_stay.ensures old mid new c.in_ok-id.id.at c.args.row.now lacks
-    c.outdate_readers.ensures.catalog c.self.invariant.1 alike))
-
-pub returns-clause-watches : goal.returns-clause-watches
-returns-clause-watches g c =
-    rw (← c.self.view_is) (registered_now c.self.inside.parts
-    (record c.put_row.new.parts { seq = c.put_row.new.parts.seq + 1; affected = c.affect.new.affected })
-    c.outdate_readers-2.new.parts c.in_ok-id.id.at c.args.name.now
-    (subst (λ (o : AddOutcome). AddsTo c.in_ok-id.id.at c.args.row.now c.self.inside.parts (Ok o) c.put_row.new.parts)
-    c.in-Ok-First.field-0-is c.in-Ok-First.ensures.adds).1.has.carries
-    c.put_row.ensures.rest.watchers c.put_row.ensures.rest.order c.put_row.ensures.rest.long
-    c.outdate_readers-2.ensures)
-
-pub returns-clause-tells : goal.returns-clause-tells
-returns-clause-tells g c =
-    let came = subst (λ (o : AddOutcome). AddsTo c.in_ok-id.id.at c.args.row.now c.self.inside.parts (Ok o)
-    c.put_row.new.parts) c.in-Ok-First.field-0-is c.in-Ok-First.ensures.adds in
-    rw (← c.self.view_is)
-    (adds_done c.self.inside.parts c.self.invariant.0 c.args.name.now c.args.row.now c.in_ok-id.id.at
-    c.in_ok-id.ensures.ok.relation c.deltas_exist.ensures c.heads_are_bound.ensures c.rows_by_name_or_place.ensures
-    c.laws.ensures.names
-    c.args.steps.now.listing c.put_row.new.steps.listing
-    (record c.put_row.new.parts { seq = c.put_row.new.parts.seq + 1; affected = c.affect.new.affected })
-    c.outdate_readers-2.new.parts c.outdate_readers-2.ensures.logs c.outdate_readers-2.ensures.catalog
-    (alike_now c.self.inside.parts (record c.put_row.new.parts {
-      seq = c.put_row.new.parts.seq + 1;
-      affected = c.affect.new.affected;
-    }) c.outdate_readers-2.new.parts c.in_ok-id.id.at c.args.name.now
-    came.1.has.carries
-    c.put_row.ensures.rest.watchers c.put_row.ensures.rest.order c.put_row.ensures.rest.long
-    c.outdate_readers-2.ensures)
-    (c.outdate_readers-2.ensures.rest.affected ∙ c.affect.ensures.items
-    ∙ ap (λ (rs : List (List ℕ)). readers_at rs c.in_ok-id.id.at) c.put_row.ensures.rest.readers)
-    (subst (λ (o : AddOutcome). IfCame (Ok o)
-    (KeepsLogs (tells_at c.self.inside.parts c.in_ok-id.id.at) c.self.inside.parts c.put_row.new.parts))
-    c.in-Ok-First.field-0-is c.in-Ok-First.ensures.quiet)
-    (told_put c.showable_stays.ensures c.texts_stay.ensures c.self.inside.parts c.put_row.new.parts
-    c.outdate_readers-2.new.parts c.in_ok-id.id.at c.args.row.now came.1 c.outdate_readers-2.ensures.catalog
-    c.self.invariant.1
-    (alike_now c.self.inside.parts (record c.put_row.new.parts {
-      seq = c.put_row.new.parts.seq + 1;
-      affected = c.affect.new.affected;
-    }) c.outdate_readers-2.new.parts c.in_ok-id.id.at c.args.name.now
-    came.1.has.carries
-    c.put_row.ensures.rest.watchers c.put_row.ensures.rest.order c.put_row.ensures.rest.long
-    c.outdate_readers-2.ensures))
-    (subst (λ (o : AddOutcome). IfCame (Ok o)
-    (CountsRows c.in_ok-id.id.at
-    (with_row (counted_at c.self.inside.parts.catalog.relations c.in_ok-id.id.at) c.args.row.now) c.self.inside.parts
-    c.args.steps.now.listing c.put_row.new.steps.listing)) c.in-Ok-First.field-0-is c.in-Ok-First.ensures.counted)
-    (subst (λ (o : AddOutcome). IfCame (Ok o)
-    (TellsRows c.in_ok-id.id.at
-    (with_row (counted_at c.self.inside.parts.catalog.relations c.in_ok-id.id.at) c.args.row.now) c.self.inside.parts
-    c.put_row.new.parts)) c.in-Ok-First.field-0-is c.in-Ok-First.ensures.tells))
-
-pub index-requires : goal.index-requires
-index-requires g c = omega (
-  arith,
-  readers_within c.self.inside.parts c.put_row.new.parts c.self.invariant.0
-      c.in_ok-id.id.at c.in_ok-id.ensures.ok.relation.below
-      c.put_row.ensures.rest.readers,
-  c.put_row.new.parts.readers.ok.0,
-)
-
-pub empty_logs-requires : goal.empty_logs-requires
-empty_logs-requires g c =
-    let old = c.self.inside.parts in
-    let mid = c.put_row.new.parts in
-    subst (λ (ps : List ℕ). HaveLogs ps mid.logs.items)
-    (sym (places_read mid.readers.items c.in_ok-id.id.at c.index.result.now c.as_slice.result.now
-    (readers_within old mid c.self.invariant.0 c.in_ok-id.id.at
-    c.in_ok-id.ensures.ok.relation.below c.put_row.ensures.rest.readers)
-    c.index.ensures c.as_slice.ensures))
-    (have_logs old mid c.self.invariant.0 c.in_ok-id.id.at
-    c.in_ok-id.ensures.ok.relation.below c.self.invariant.1
-    c.put_row.ensures.rest)
-
 pub returns-in_err-id-clause-updates : goal.returns-in_err-id-clause-updates
 returns-in_err-id-clause-updates g c =
     rw (← c.self.view_is) (record { counted = λ n flat few. omega arith })
-
-pub returns-in-Err-Full-clause-updates : goal.returns-in-Err-Full-clause-updates
-returns-in-Err-Full-clause-updates g c =
-    let still = subst (λ (r : AddRefusal). IfStill (Err r) (c.put_row.new.steps.update ≤ c.args.steps.now.update))
-    c.in-Err-Full.field-0-is c.in-Err-Full.ensures.unmoved in
-    rw (← c.self.view_is) (record { counted = λ n flat few. omega (arith, still) })
-
-pub returns-in-Err-NoMem-clause-updates : goal.returns-in-Err-NoMem-clause-updates
-returns-in-Err-NoMem-clause-updates g c =
-    let m = c.in_ok-id.ensures.ok in
-    rw (← c.self.view_is)
-    (counts_updates c.self.inside.parts c.self.invariant.0 c.in_ok-id.id.at m.relation.below c.args.name.now
-    m.relation.named
-    _ c.leaves_are_small.ensures
-    3 c.args.steps.now.update c.put_row.new.steps.update
-    (subst (λ (r : AddRefusal). IfLacking (Err r)
-    (WorksRows c.in_ok-id.id.at 3 c.self.inside.parts c.args.steps.now.update c.put_row.new.steps.update))
-    c.in-Err-NoMem.field-0-is c.in-Err-NoMem.ensures.refusal))
-
-pub returns-clause-updates : goal.returns-clause-updates
-returns-clause-updates g c =
-    let m = c.in_ok-id.ensures.ok in
-    rw (← c.self.view_is)
-    (counts_updates c.self.inside.parts c.self.invariant.0 c.in_ok-id.id.at m.relation.below c.args.name.now
-    m.relation.named
-    _ c.leaves_are_small.ensures
-    1 c.args.steps.now.update c.put_row.new.steps.update
-    (subst (λ (o : AddOutcome). IfCame (Ok o)
-    (WorksRows c.in_ok-id.id.at 1 c.self.inside.parts c.args.steps.now.update c.put_row.new.steps.update))
-    c.in-Ok-First.field-0-is c.in-Ok-First.ensures.updates))
-
-pub invariant_of-self : goal.invariant_of-self
-invariant_of-self g c =
-    let more = (subst (λ (o : AddOutcome). AddsTo c.in_ok-id.id.at c.args.row.now c.self.inside.parts (Ok o)
-    c.put_row.new.parts) c.in-Ok-More.field-0-is c.in-Ok-More.ensures.adds) in (
-      copied_whole c.self.inside.parts c.put_row.new.parts c.in_ok-id.id.at c.args.row.now c.in-Ok-More.copies
-          c.self.invariant.0
-          c.in_ok-id.ensures.ok.relation.below more.has c.put_row.ensures.rest,
-      tended_still c.self.inside.parts c.put_row.new.parts c.self.invariant.1 c.put_row.ensures.rest more.has.queries
-          c.put_row.ensures.shown,
-    )
-
-pub returns-in-Ok-More-clause-adds : goal.returns-in-Ok-More-clause-adds
-returns-in-Ok-More-clause-adds g c =
-    let more = (subst (λ (o : AddOutcome). AddsTo c.in_ok-id.id.at c.args.row.now c.self.inside.parts (Ok o)
-    c.put_row.new.parts) c.in-Ok-More.field-0-is c.in-Ok-More.ensures.adds) in
-    rw (← c.self.view_is)
-    (add_further c.self.inside.parts c.args.name.now c.args.row.now c.in_ok-id.id.at c.in_ok-id.ensures.ok
-    c.rows_by_name_or_place.ensures c.laws.ensures.names c.put_row.new.parts c.in-Ok-More.copies more
-    c.put_row.ensures.rest.order c.put_row.ensures.rest.seq)
-
-pub returns-in-Ok-More-clause-outdates : goal.returns-in-Ok-More-clause-outdates
-returns-in-Ok-More-clause-outdates g c =
-    let more = (subst (λ (o : AddOutcome). AddsTo c.in_ok-id.id.at c.args.row.now c.self.inside.parts (Ok o)
-    c.put_row.new.parts) c.in-Ok-More.field-0-is c.in-Ok-More.ensures.adds) in
-    rw (← c.self.view_is)
-    (copied_cursors c.self.inside.parts c.put_row.new.parts c.in_ok-id.id.at c.args.row.now c.in-Ok-More.copies
-    more.has)
-
-pub returns-in-Ok-More-clause-watches : goal.returns-in-Ok-More-clause-watches
-returns-in-Ok-More-clause-watches g c =
-    let more = (subst (λ (o : AddOutcome). AddsTo c.in_ok-id.id.at c.args.row.now c.self.inside.parts (Ok o)
-    c.put_row.new.parts) c.in-Ok-More.field-0-is c.in-Ok-More.ensures.adds) in
-    rw (← c.self.view_is)
-    (registered_still c.self.inside.parts c.put_row.new.parts c.put_row.ensures.rest more.has.queries)
-
-pub returns-in-Ok-More-clause-tells : goal.returns-in-Ok-More-clause-tells
-returns-in-Ok-More-clause-tells g c =
-    let more = (subst (λ (o : AddOutcome). AddsTo c.in_ok-id.id.at c.args.row.now c.self.inside.parts (Ok o)
-    c.put_row.new.parts) c.in-Ok-More.field-0-is c.in-Ok-More.ensures.adds) in
-    let new = c.put_row.new.parts in
-    rw (← c.self.view_is)
-    (tells_nothing (kept_in c.self.inside.parts) (kept_in new) c.args.steps.now.listing c.put_row.new.steps.listing
-    (subst (λ (o : AddOutcome). IfStill (Ok o) (c.put_row.new.steps.listing ≤ c.args.steps.now.listing))
-    c.in-Ok-More.field-0-is c.in-Ok-More.ensures.idle)
-    (affected_same c.self.inside.parts new c.put_row.ensures.rest.affected)
-    (λ id h. told_same c.self.inside.parts new more.has.texts more.has.queries more.has.logs id.at))
-
-pub returns-in-Ok-More-clause-updates : goal.returns-in-Ok-More-clause-updates
-returns-in-Ok-More-clause-updates g c =
-    let still = (subst (λ (o : AddOutcome). IfStill (Ok o) (c.put_row.new.steps.update ≤ c.args.steps.now.update))
-    c.in-Ok-More.field-0-is c.in-Ok-More.ensures.unmoved) in
-    rw (← c.self.view_is) (record { counted = λ n flat few. omega (arith, still) })
-
-pub returns-in-Err-Full-clause-unlisted : goal.returns-in-Err-Full-clause-unlisted
-returns-in-Err-Full-clause-unlisted g c =
-    rw (← c.self.view_is) (λ none. c.put_row.ensures.unlisted
-    (unwatched_readers c.self.inside.parts.catalog c.self.inside.parts.queries.items c.self.inside.parts.order
-    c.self.inside.parts.readers.items c.self.inside.parts.watchers.items c.self.invariant.0
-    c.in_ok-id.id.at c.in_ok-id.ensures.ok.relation.below none))
-
-pub returns-in-Err-NoMem-clause-unlisted : goal.returns-in-Err-NoMem-clause-unlisted
-returns-in-Err-NoMem-clause-unlisted g c =
-    rw (← c.self.view_is) (λ none. c.put_row.ensures.unlisted
-    (unwatched_readers c.self.inside.parts.catalog c.self.inside.parts.queries.items c.self.inside.parts.order
-    c.self.inside.parts.readers.items c.self.inside.parts.watchers.items c.self.invariant.0
-    c.in_ok-id.id.at c.in_ok-id.ensures.ok.relation.below none))
-
-pub returns-in-Ok-More-clause-unlisted : goal.returns-in-Ok-More-clause-unlisted
-returns-in-Ok-More-clause-unlisted g c =
-    rw (← c.self.view_is) (λ none. c.put_row.ensures.unlisted
-    (unwatched_readers c.self.inside.parts.catalog c.self.inside.parts.queries.items c.self.inside.parts.order
-    c.self.inside.parts.readers.items c.self.inside.parts.watchers.items c.self.invariant.0
-    c.in_ok-id.id.at c.in_ok-id.ensures.ok.relation.below none))
-
-pub returns-clause-unlisted : goal.returns-clause-unlisted
-returns-clause-unlisted g c =
-    rw (← c.self.view_is) (λ none. c.put_row.ensures.unlisted
-    (unwatched_readers c.self.inside.parts.catalog c.self.inside.parts.queries.items c.self.inside.parts.order
-    c.self.inside.parts.readers.items c.self.inside.parts.watchers.items c.self.invariant.0
-    c.in_ok-id.id.at c.in_ok-id.ensures.ok.relation.below none))
-
-pub affect-requires-clause-within : goal.affect-requires-clause-within
-affect-requires-clause-within g c =
-    readers_within c.self.inside.parts c.put_row.new.parts c.self.invariant.0 c.in_ok-id.id.at
-    c.in_ok-id.ensures.ok.relation.below
-    c.put_row.ensures.rest.readers
-
-pub affect-requires-clause-room : goal.affect-requires-clause-room
-affect-requires-clause-room g c =
-    readers_few c.self.inside.parts c.put_row.new.parts c.self.invariant.0 c.in_ok-id.id.at
-    c.in_ok-id.ensures.ok.relation.below
-    c.put_row.ensures.rest c.self.invariant.1
 
 pub returns-in_err-id-clause-places : goal.returns-in_err-id-clause-places
 returns-in_err-id-clause-places g c =
     rw (← c.self.view_is) (keeps_equal _ c.self.inside.parts.queries.items c.self.inside.parts.queries.items refl)
 
-pub returns-in-Err-Full-clause-places : goal.returns-in-Err-Full-clause-places
-returns-in-Err-Full-clause-places g c =
-    rw (← c.self.view_is) (keeps_equal _ c.self.inside.parts.queries.items c.put_row.new.parts.queries.items
-    (subst (λ (r : AddRefusal). AddsTo c.in_ok-id.id.at c.args.row.now c.self.inside.parts (Err r)
-    c.put_row.new.parts)
-    c.in-Err-Full.field-0-is c.in-Err-Full.ensures.adds).rests.queries)
+pub invariant_of-self-in-Err-Full : goal.invariant_of-self-in-Err-Full
+invariant_of-self-in-Err-Full g c =
+    let old = c.self.inside.parts in
+    let s = c.self.invariant.0 in
+    let t = c.self.invariant.1 in
+    let at = c.in_ok-id.id.at in
+    let put = c.put_row.new.parts in
+    let rest = c.put_row.ensures.rest in
+    let row = c.args.row.now in
+    let full = subst (λ (r : AddRefusal). AddsTo at row old (Err r) put) c.in-Err-Full.field-0-is
+    c.in-Err-Full.ensures.adds in (
+      rested_whole old put s full.rests rest,
+      tended_still old put t rest full.rests.queries c.put_row.ensures.shown,
+    )
 
-pub returns-in-Err-NoMem-clause-places : goal.returns-in-Err-NoMem-clause-places
-returns-in-Err-NoMem-clause-places g c =
-    rw (← c.self.view_is)
-    (keeps_changed c.self.inside.parts (record c.put_row.new.parts { logs = c.empty_logs.new.logs })
-    c.outdate_readers.new.parts
-    c.self.invariant.0
-    c.in_ok-id.id.at c.args.name.now (row_in c.self.inside.parts.catalog.relations c.args.name.now c.args.row.now).after
-    c.in_ok-id.ensures.ok.relation.below c.in_ok-id.ensures.ok.relation.named
-    (subst (λ (r : AddRefusal). AddsTo c.in_ok-id.id.at c.args.row.now c.self.inside.parts (Err r)
-    c.put_row.new.parts)
-    c.in-Err-NoMem.field-0-is c.in-Err-NoMem.ensures.adds).1.carries
-    c.put_row.ensures.rest.readers c.outdate_readers.ensures)
+pub returns-in-Err-Full : goal.returns-in-Err-Full
+returns-in-Err-Full g c =
+    let old = c.self.inside.parts in
+    let s = c.self.invariant.0 in
+    let t = c.self.invariant.1 in
+    let at = c.in_ok-id.id.at in
+    let m = c.in_ok-id.ensures.ok in
+    let put = c.put_row.new.parts in
+    let rest = c.put_row.ensures.rest in
+    let name = c.args.name.now in
+    let row = c.args.row.now in
+    let from = c.args.steps.now.listing in
+    let to = c.put_row.new.steps.listing in
+    let full = subst (λ (r : AddRefusal). AddsTo at row old (Err r) put) c.in-Err-Full.field-0-is
+    c.in-Err-Full.ensures.adds in
+    let idle = subst (λ (r : AddRefusal). IfStill (Err r) (to ≤ from)) c.in-Err-Full.field-0-is
+    c.in-Err-Full.ensures.idle in
+    let still = subst (λ (r : AddRefusal). IfStill (Err r) (c.put_row.new.steps.update ≤ c.args.steps.now.update))
+    c.in-Err-Full.field-0-is c.in-Err-Full.ensures.unmoved in
+    rw (← c.self.view_is) (record {
+      adds = add_limited old name row at m put full rest.order rest.seq;
+      outdates = rested_cursors old put full.rests;
+      watches = registered_still old put rest full.rests.queries;
+      tells = tells_nothing (kept_in old) (kept_in put) from to idle (affected_same old put rest.affected)
+          (λ id h. told_full c.showable_stays.ensures c.texts_stay.ensures old put at row full t id.at);
+      unlisted = λ none. c.put_row.ensures.unlisted (unwatched_readers old.catalog old.queries.items old.order
+          old.readers.items old.watchers.items s at m.relation.below none);
+      updates = record { counted = λ n flat few. omega (arith, still) };
+      places = keeps_equal _ old.queries.items put.queries.items full.rests.queries;
+    })
 
-pub returns-in-Ok-More-clause-places : goal.returns-in-Ok-More-clause-places
-returns-in-Ok-More-clause-places g c =
-    rw (← c.self.view_is) (keeps_equal _ c.self.inside.parts.queries.items c.put_row.new.parts.queries.items
-    (subst (λ (o : AddOutcome). AddsTo c.in_ok-id.id.at c.args.row.now c.self.inside.parts (Ok o) c.put_row.new.parts)
-    c.in-Ok-More.field-0-is c.in-Ok-More.ensures.adds).has.queries)
+pub index-requires : goal.index-requires
+index-requires g c =
+    omega (
+      arith,
+      readers_within c.self.inside.parts c.put_row.new.parts c.self.invariant.0 c.in_ok-id.id.at
+          c.in_ok-id.ensures.ok.relation.below c.put_row.ensures.rest.readers,
+      c.put_row.new.parts.readers.ok.0,
+    )
 
-pub returns-clause-places : goal.returns-clause-places
-returns-clause-places g c =
-    rw (← c.self.view_is) (keeps_changed c.self.inside.parts
-    (record c.put_row.new.parts { seq = c.put_row.new.parts.seq + 1; affected = c.affect.new.affected })
-    c.outdate_readers-2.new.parts c.self.invariant.0
-    c.in_ok-id.id.at c.args.name.now (row_in c.self.inside.parts.catalog.relations c.args.name.now c.args.row.now).after
-    c.in_ok-id.ensures.ok.relation.below c.in_ok-id.ensures.ok.relation.named
-    (subst (λ (o : AddOutcome). AddsTo c.in_ok-id.id.at c.args.row.now c.self.inside.parts (Ok o) c.put_row.new.parts)
-    c.in-Ok-First.field-0-is c.in-Ok-First.ensures.adds).1.has.carries
-    c.put_row.ensures.rest.readers c.outdate_readers-2.ensures)
+pub empty_logs-requires : goal.empty_logs-requires
+empty_logs-requires g c =
+    let old = c.self.inside.parts in
+    let s = c.self.invariant.0 in
+    let t = c.self.invariant.1 in
+    let at = c.in_ok-id.id.at in
+    let m = c.in_ok-id.ensures.ok in
+    let put = c.put_row.new.parts in
+    let rest = c.put_row.ensures.rest in
+    subst (λ (ps : List ℕ). HaveLogs ps put.logs.items)
+    (sym (places_read put.readers.items at c.index.result.now c.as_slice.result.now
+    (readers_within old put s at m.relation.below rest.readers) c.index.ensures c.as_slice.ensures))
+    (have_logs old put s at m.relation.below t rest)
+
+pub outdate_readers-requires-clause-once : goal.outdate_readers-requires-clause-once
+outdate_readers-requires-clause-once g c =
+    let old = c.self.inside.parts in
+    let s = c.self.invariant.0 in
+    let at = c.in_ok-id.id.at in
+    let m = c.in_ok-id.ensures.ok in
+    let put = c.put_row.new.parts in
+    let rest = c.put_row.ensures.rest in
+    let row = c.args.row.now in
+    let mid : Parts = record put { logs = c.empty_logs.new.logs } in
+    let lacks = subst (λ (r : AddRefusal). AddsTo at row old (Err r) put) c.in-Err-NoMem.field-0-is
+    c.in-Err-NoMem.ensures.adds in
+    let names = names_kept old.catalog put.catalog lacks.1.relations in
+    mid_once old mid s at m.relation.below lacks.1.carries rest.readers rest.order names
+
+pub outdate_readers-requires-clause-there : goal.outdate_readers-requires-clause-there
+outdate_readers-requires-clause-there g c =
+    let old = c.self.inside.parts in
+    let s = c.self.invariant.0 in
+    let at = c.in_ok-id.id.at in
+    let m = c.in_ok-id.ensures.ok in
+    let put = c.put_row.new.parts in
+    let rest = c.put_row.ensures.rest in
+    let row = c.args.row.now in
+    let mid : Parts = record put { logs = c.empty_logs.new.logs } in
+    let lacks = subst (λ (r : AddRefusal). AddsTo at row old (Err r) put) c.in-Err-NoMem.field-0-is
+    c.in-Err-NoMem.ensures.adds in
+    let names = names_kept old.catalog put.catalog lacks.1.relations in
+    mid_there old mid s at m.relation.below lacks.1.carries rest.readers rest.order names
+
+pub invariant_of-self-in-Err-NoMem : goal.invariant_of-self-in-Err-NoMem
+invariant_of-self-in-Err-NoMem g c =
+    let old = c.self.inside.parts in
+    let s = c.self.invariant.0 in
+    let t = c.self.invariant.1 in
+    let at = c.in_ok-id.id.at in
+    let m = c.in_ok-id.ensures.ok in
+    let put = c.put_row.new.parts in
+    let rest = c.put_row.ensures.rest in
+    let name = c.args.name.now in
+    let row = c.args.row.now in
+    let mid : Parts = record put { logs = c.empty_logs.new.logs } in
+    let lacks = subst (λ (r : AddRefusal). AddsTo at row old (Err r) put) c.in-Err-NoMem.field-0-is
+    c.in-Err-NoMem.ensures.adds in
+    let names = names_kept old.catalog put.catalog lacks.1.relations in
+    let new = c.outdate_readers.new.parts in
+    let ages = c.outdate_readers.ensures in
+    let now = aged old mid s at m.relation.below lacks.1.carries rest.readers rest.order names new name m.relation.named
+    ages in
+    let long = c.empty_logs.ensures.long ∙ rest.long in (
+      now.whole,
+      tended_now old mid new at name lacks.1.carries rest.watchers rest.order long ages t (room_kept old put t rest)
+          (shown_emptied put.catalog.texts old.queries.items c.as_slice.result.now put.logs.items mid.logs.items
+          c.empty_logs.ensures c.put_row.ensures.shown),
+    )
+
+pub returns-in-Err-NoMem : goal.returns-in-Err-NoMem
+returns-in-Err-NoMem g c =
+    let old = c.self.inside.parts in
+    let s = c.self.invariant.0 in
+    let t = c.self.invariant.1 in
+    let at = c.in_ok-id.id.at in
+    let m = c.in_ok-id.ensures.ok in
+    let put = c.put_row.new.parts in
+    let rest = c.put_row.ensures.rest in
+    let name = c.args.name.now in
+    let row = c.args.row.now in
+    let from = c.args.steps.now.listing in
+    let to = c.put_row.new.steps.listing in
+    let mid : Parts = record put { logs = c.empty_logs.new.logs } in
+    let lacks = subst (λ (r : AddRefusal). AddsTo at row old (Err r) put) c.in-Err-NoMem.field-0-is
+    c.in-Err-NoMem.ensures.adds in
+    let names = names_kept old.catalog put.catalog lacks.1.relations in
+    let new = c.outdate_readers.new.parts in
+    let ages = c.outdate_readers.ensures in
+    let now = aged old mid s at m.relation.below lacks.1.carries rest.readers rest.order names new name m.relation.named
+    ages in
+    let long = c.empty_logs.ensures.long ∙ rest.long in
+    let alike = alike_now old mid new at name lacks.1.carries rest.watchers rest.order long ages in
+    let places = places_read put.readers.items at c.index.result.now c.as_slice.result.now
+    (readers_within old put s at m.relation.below rest.readers) c.index.ensures c.as_slice.ensures in
+    let empties = subst (λ (ps : List ℕ). Empties ps put.logs.items mid.logs.items) places c.empty_logs.ensures in
+    rw (← c.self.view_is) (record {
+      adds = add_lacking old name row at m put new lacks.0 lacks.1 ages.catalog (ages.rest.seq ∙ rest.seq) now.queries;
+      outdates = now.cursors;
+      watches = registered_now old mid new at name lacks.1.carries rest.watchers rest.order long ages;
+      tells = adds_refused old s name row at m.relation c.deltas_exist.ensures c.heads_are_bound.ensures
+          c.rows_by_name_or_place.ensures c.laws.ensures.names from to
+          (subst (λ (r : AddRefusal). IfLacking (Err r)
+          (CountsRows at (with_row (counted_at old.catalog.relations at) row) old from to))
+          c.in-Err-NoMem.field-0-is c.in-Err-NoMem.ensures.listed) new
+          (affected_same old new (ages.rest.affected ∙ rest.affected))
+          (discards_by old put new s at m.relation.below rest.readers
+          (subst (λ (r : AddRefusal). IfLacking (Err r) (KeepsLogs (reads_at old at) old put))
+          c.in-Err-NoMem.field-0-is c.in-Err-NoMem.ensures.apart)
+          (subst (λ (ls : List Log). Empties (readers_at put.readers.items at) put.logs.items ls) (sym ages.logs)
+          empties) alike)
+          (told_lacking c.showable_stays.ensures c.texts_stay.ensures old put new at row lacks.1 ages.catalog t alike);
+      unlisted = λ none. c.put_row.ensures.unlisted (unwatched_readers old.catalog old.queries.items old.order
+          old.readers.items old.watchers.items s at m.relation.below none);
+      updates = counts_updates old s at m.relation.below name m.relation.named _ c.leaves_are_small.ensures 3
+          c.args.steps.now.update c.put_row.new.steps.update (subst (λ (r : AddRefusal). IfLacking (Err r)
+          (WorksRows at 3 old c.args.steps.now.update c.put_row.new.steps.update)) c.in-Err-NoMem.field-0-is
+          c.in-Err-NoMem.ensures.refusal);
+      places = keeps_changed old mid new s at name (row_in old.catalog.relations name row).after m.relation.below
+          m.relation.named lacks.1.carries rest.readers ages;
+    })
+
+pub invariant_of-self : goal.invariant_of-self
+invariant_of-self g c =
+    let old = c.self.inside.parts in
+    let s = c.self.invariant.0 in
+    let t = c.self.invariant.1 in
+    let at = c.in_ok-id.id.at in
+    let m = c.in_ok-id.ensures.ok in
+    let put = c.put_row.new.parts in
+    let rest = c.put_row.ensures.rest in
+    let row = c.args.row.now in
+    let more = subst (λ (o : AddOutcome). AddsTo at row old (Ok o) put) c.in-Ok-More.field-0-is
+    c.in-Ok-More.ensures.adds in (
+      copied_whole old put at row c.in-Ok-More.copies s m.relation.below more.has rest,
+      tended_still old put t rest more.has.queries c.put_row.ensures.shown,
+    )
+
+pub returns-in-Ok-More : goal.returns-in-Ok-More
+returns-in-Ok-More g c =
+    let old = c.self.inside.parts in
+    let s = c.self.invariant.0 in
+    let at = c.in_ok-id.id.at in
+    let m = c.in_ok-id.ensures.ok in
+    let put = c.put_row.new.parts in
+    let rest = c.put_row.ensures.rest in
+    let name = c.args.name.now in
+    let row = c.args.row.now in
+    let from = c.args.steps.now.listing in
+    let to = c.put_row.new.steps.listing in
+    let more = subst (λ (o : AddOutcome). AddsTo at row old (Ok o) put) c.in-Ok-More.field-0-is
+    c.in-Ok-More.ensures.adds in
+    let idle = subst (λ (o : AddOutcome). IfStill (Ok o) (to ≤ from)) c.in-Ok-More.field-0-is
+    c.in-Ok-More.ensures.idle in
+    let still = subst (λ (o : AddOutcome). IfStill (Ok o) (c.put_row.new.steps.update ≤ c.args.steps.now.update))
+    c.in-Ok-More.field-0-is c.in-Ok-More.ensures.unmoved in
+    rw (← c.self.view_is) (record {
+      adds = add_further old name row at m c.rows_by_name_or_place.ensures c.laws.ensures.names put
+          c.in-Ok-More.copies more rest.order rest.seq;
+      outdates = copied_cursors old put at row c.in-Ok-More.copies more.has;
+      watches = registered_still old put rest more.has.queries;
+      tells = tells_nothing (kept_in old) (kept_in put) from to idle (affected_same old put rest.affected)
+          (λ id h. told_same old put more.has.texts more.has.queries more.has.logs id.at);
+      unlisted = λ none. c.put_row.ensures.unlisted (unwatched_readers old.catalog old.queries.items old.order
+          old.readers.items old.watchers.items s at m.relation.below none);
+      updates = record { counted = λ n flat few. omega (arith, still) };
+      places = keeps_equal _ old.queries.items put.queries.items more.has.queries;
+    })
+
+pub affect-requires-clause-within : goal.affect-requires-clause-within
+affect-requires-clause-within g c =
+    readers_within c.self.inside.parts c.put_row.new.parts c.self.invariant.0 c.in_ok-id.id.at
+    c.in_ok-id.ensures.ok.relation.below c.put_row.ensures.rest.readers
+
+pub affect-requires-clause-room : goal.affect-requires-clause-room
+affect-requires-clause-room g c =
+    readers_few c.self.inside.parts c.put_row.new.parts c.self.invariant.0 c.in_ok-id.id.at
+    c.in_ok-id.ensures.ok.relation.below c.put_row.ensures.rest c.self.invariant.1
+
+pub outdate_readers-requires-2-clause-once : goal.outdate_readers-requires-2-clause-once
+outdate_readers-requires-2-clause-once g c =
+    let old = c.self.inside.parts in
+    let s = c.self.invariant.0 in
+    let at = c.in_ok-id.id.at in
+    let m = c.in_ok-id.ensures.ok in
+    let put = c.put_row.new.parts in
+    let rest = c.put_row.ensures.rest in
+    let row = c.args.row.now in
+    let mid : Parts = record put { seq = put.seq + 1; affected = c.affect.new.affected } in
+    let came = subst (λ (o : AddOutcome). AddsTo at row old (Ok o) put) c.in-Ok-First.field-0-is
+    c.in-Ok-First.ensures.adds in
+    let names = same_names old.catalog put.catalog at (with_row (counted_at old.catalog.relations at) row)
+    m.relation.below came.1.has.relations in
+    mid_once old mid s at m.relation.below came.1.has.carries rest.readers rest.order names
+
+pub outdate_readers-requires-2-clause-there : goal.outdate_readers-requires-2-clause-there
+outdate_readers-requires-2-clause-there g c =
+    let old = c.self.inside.parts in
+    let s = c.self.invariant.0 in
+    let at = c.in_ok-id.id.at in
+    let m = c.in_ok-id.ensures.ok in
+    let put = c.put_row.new.parts in
+    let rest = c.put_row.ensures.rest in
+    let row = c.args.row.now in
+    let mid : Parts = record put { seq = put.seq + 1; affected = c.affect.new.affected } in
+    let came = subst (λ (o : AddOutcome). AddsTo at row old (Ok o) put) c.in-Ok-First.field-0-is
+    c.in-Ok-First.ensures.adds in
+    let names = same_names old.catalog put.catalog at (with_row (counted_at old.catalog.relations at) row)
+    m.relation.below came.1.has.relations in
+    mid_there old mid s at m.relation.below came.1.has.carries rest.readers rest.order names
+
+pub invariant_of-self-2 : goal.invariant_of-self-2
+invariant_of-self-2 g c =
+    let old = c.self.inside.parts in
+    let s = c.self.invariant.0 in
+    let t = c.self.invariant.1 in
+    let at = c.in_ok-id.id.at in
+    let m = c.in_ok-id.ensures.ok in
+    let put = c.put_row.new.parts in
+    let rest = c.put_row.ensures.rest in
+    let name = c.args.name.now in
+    let row = c.args.row.now in
+    let mid : Parts = record put { seq = put.seq + 1; affected = c.affect.new.affected } in
+    let came = subst (λ (o : AddOutcome). AddsTo at row old (Ok o) put) c.in-Ok-First.field-0-is
+    c.in-Ok-First.ensures.adds in
+    let names = same_names old.catalog put.catalog at (with_row (counted_at old.catalog.relations at) row)
+    m.relation.below came.1.has.relations in
+    let new = c.outdate_readers-2.new.parts in
+    let ages = c.outdate_readers-2.ensures in
+    let now = aged old mid s at m.relation.below came.1.has.carries rest.readers rest.order names new name
+    m.relation.named ages in (
+      now.whole,
+      tended_now old mid new at name came.1.has.carries rest.watchers rest.order rest.long ages t
+          (omega (arith, room_kept old put t rest, c.affect.ensures.room)) c.put_row.ensures.shown,
+    )
+
+pub returns : goal.returns
+returns g c =
+    let old = c.self.inside.parts in
+    let s = c.self.invariant.0 in
+    let t = c.self.invariant.1 in
+    let at = c.in_ok-id.id.at in
+    let m = c.in_ok-id.ensures.ok in
+    let put = c.put_row.new.parts in
+    let rest = c.put_row.ensures.rest in
+    let name = c.args.name.now in
+    let row = c.args.row.now in
+    let from = c.args.steps.now.listing in
+    let to = c.put_row.new.steps.listing in
+    let mid : Parts = record put { seq = put.seq + 1; affected = c.affect.new.affected } in
+    let came = subst (λ (o : AddOutcome). AddsTo at row old (Ok o) put) c.in-Ok-First.field-0-is
+    c.in-Ok-First.ensures.adds in
+    let names = same_names old.catalog put.catalog at (with_row (counted_at old.catalog.relations at) row)
+    m.relation.below came.1.has.relations in
+    let new = c.outdate_readers-2.new.parts in
+    let ages = c.outdate_readers-2.ensures in
+    let now = aged old mid s at m.relation.below came.1.has.carries rest.readers rest.order names new name
+    m.relation.named ages in
+    let alike = alike_now old mid new at name came.1.has.carries rest.watchers rest.order rest.long ages in
+    rw (← c.self.view_is) (record {
+      adds = add_done old name row at m c.rows_by_name_or_place.ensures c.laws.ensures.names put new came.0 came.1
+          ages.catalog (ages.rest.seq ∙ ap (λ n. n + 1) rest.seq) now.queries;
+      outdates = now.cursors;
+      watches = registered_now old mid new at name came.1.has.carries rest.watchers rest.order rest.long ages;
+      tells = adds_done old s name row at m.relation c.deltas_exist.ensures c.heads_are_bound.ensures
+          c.rows_by_name_or_place.ensures c.laws.ensures.names from to mid new ages.logs ages.catalog alike
+          (ages.rest.affected ∙ c.affect.ensures.items
+          ∙ ap (λ (rs : List (List ℕ)). readers_at rs at) rest.readers)
+          (subst (λ (o : AddOutcome). IfCame (Ok o) (KeepsLogs (tells_at old at) old put)) c.in-Ok-First.field-0-is
+          c.in-Ok-First.ensures.quiet)
+          (told_put c.showable_stays.ensures c.texts_stay.ensures old put new at row came.1 ages.catalog t alike)
+          (subst (λ (o : AddOutcome). IfCame (Ok o)
+          (CountsRows at (with_row (counted_at old.catalog.relations at) row) old from to)) c.in-Ok-First.field-0-is
+          c.in-Ok-First.ensures.counted)
+          (subst (λ (o : AddOutcome). IfCame (Ok o)
+          (TellsRows at (with_row (counted_at old.catalog.relations at) row) old put)) c.in-Ok-First.field-0-is
+          c.in-Ok-First.ensures.tells);
+      unlisted = λ none. c.put_row.ensures.unlisted (unwatched_readers old.catalog old.queries.items old.order
+          old.readers.items old.watchers.items s at m.relation.below none);
+      updates = counts_updates old s at m.relation.below name m.relation.named _ c.leaves_are_small.ensures 1
+          c.args.steps.now.update c.put_row.new.steps.update (subst (λ (o : AddOutcome). IfCame (Ok o)
+          (WorksRows at 1 old c.args.steps.now.update c.put_row.new.steps.update)) c.in-Ok-First.field-0-is
+          c.in-Ok-First.ensures.updates);
+      places = keeps_changed old mid new s at name (row_in old.catalog.relations name row).after m.relation.below
+          m.relation.named came.1.has.carries rest.readers ages;
+    })

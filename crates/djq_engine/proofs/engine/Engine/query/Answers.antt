@@ -137,15 +137,28 @@ returns-in_default-build-clause-registers g c =
     c.intern_constants-known.new.catalog.texts c.in-Ok-known.ensures.interns.0)
     c.laws.ensures.many refl)
 
-pub register-requires-clause-whole : goal.register-requires-clause-whole
-register-requires-clause-whole g c =
+pub register-requires : goal.register-requires
+register-requires g c =
     let old = c.self.inside.parts in
-    sound_texts old.catalog c.intern_constants-known.new.catalog old.queries.items old.order old.readers.items
-    c.intern_constants-known.ensures.relations
-    (constants_stay c.live_stays.ensures c.texts_stay.ensures old.catalog c.intern_constants-known.new.catalog
-    old.queries.items old.order old.readers.items c.self.invariant.0 c.laws.ensures
-    c.intern_constants-known.ensures.relations (constants_of c.args.query) c.intern_constants-known.result
-    c.intern_constants-known.ensures.interns) c.self.invariant.0
+    record {
+      whole = sound_texts old.catalog c.intern_constants-known.new.catalog old.queries.items old.order old.readers.items
+          c.intern_constants-known.ensures.relations
+          (constants_stay c.live_stays.ensures c.texts_stay.ensures old.catalog c.intern_constants-known.new.catalog
+          old.queries.items old.order old.readers.items c.self.invariant.0 c.laws.ensures
+          c.intern_constants-known.ensures.relations (constants_of c.args.query) c.intern_constants-known.result
+          c.intern_constants-known.ensures.interns) c.self.invariant.0;
+      tended = record {
+        watched = c.self.invariant.1.watched;
+        logged = c.self.invariant.1.logged;
+        room = c.self.invariant.1.room;
+        shown = mid_shown c.showable_stays.ensures c.texts_stay.ensures old.catalog.texts
+            c.intern_constants-known.new.catalog.texts (constants_of c.args.query) c.intern_constants-known.result
+            c.intern_constants-known.ensures.interns old.queries.items old.logs.items c.self.invariant.1.shown;
+      };
+      room = (passes_of old.catalog old.queries.items old.order old.readers.items old.seq c.self.invariant.0
+          c.args.query
+          (sym c.in_default.ensures)).few;
+    }
 
 pub invariant_of-self-2 : goal.invariant_of-self-2
 invariant_of-self-2 g c =
@@ -300,18 +313,6 @@ returns-in_default-register-clause-cursors g c =
     c.intern_constants-known.ensures.relations (constants_of c.args.query) c.intern_constants-known.result
     c.intern_constants-known.ensures.interns) id)
 
-pub register-requires-clause-tended : goal.register-requires-clause-tended
-register-requires-clause-tended g c =
-    let old = c.self.inside.parts in
-    record {
-      watched = c.self.invariant.1.watched;
-      logged = c.self.invariant.1.logged;
-      room = c.self.invariant.1.room;
-      shown = mid_shown c.showable_stays.ensures c.texts_stay.ensures old.catalog.texts
-          c.intern_constants-known.new.catalog.texts (constants_of c.args.query) c.intern_constants-known.result
-          c.intern_constants-known.ensures.interns old.queries.items old.logs.items c.self.invariant.1.shown;
-    }
-
 pub returns-clause-enrols : goal.returns-clause-enrols
 returns-clause-enrols g c =
     let old = c.self.inside.parts in
@@ -415,12 +416,6 @@ returns-in_default-register-clause-tellings g c =
           c.intern_constants-known.ensures.interns old.queries.items new.queries.items old.logs.items new.logs.items
           c.self.invariant.1.shown r.logs id.at (r.queries id.at),
     )
-
-pub register-requires-clause-room : goal.register-requires-clause-room
-register-requires-clause-room g c =
-    let old = c.self.inside.parts in
-    (passes_of old.catalog old.queries.items old.order old.readers.items old.seq c.self.invariant.0 c.args.query
-    (sym c.in_default.ensures)).few
 
 pub returns-clause-places : goal.returns-clause-places
 returns-clause-places g c =

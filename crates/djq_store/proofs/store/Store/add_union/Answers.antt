@@ -26,24 +26,24 @@ places_of-requires c =
     are_known old.engine c.engine_laws.ensures.engine c.head_types_are.ensures old.unions.items old.order.items
     old.sessions.items old.affected.items c.self.invariant.listed c.args.members.now fit.known fit.queries
 
-pub most_of-most-requires-clause-members : goal.most_of-most-requires-clause-members
-most_of-most-requires-clause-members c =
+pub most_of-most-requires : goal.most_of-most-requires
+most_of-most-requires c =
     let old = c.self.inside.parts in
-    subst (λ (gs : _). AreMembers gs c.as_slice.result.now) (sym c.places.ensures)
-    (subst (λ (ps : List ℕ). AreMembers old.engine.places ps) (sym c.as_slice.ensures)
-    (joining_members old.engine c.engine_laws.ensures.engine c.head_types_are.ensures old.unions.items old.order.items
-    old.sessions.items old.affected.items c.self.invariant.listed
-    c.args.name c.args.members.now c.requires (sym c.judge_union.ensures ∙ c.in_default.is) c.in-Ok.places
-    c.in-Ok.ensures))
-
-pub most_of-most-requires-clause-kept : goal.most_of-most-requires-clause-kept
-most_of-most-requires-clause-kept c =
     let over = c.engine_laws.ensures.engine.over in
-    are_kept c.places.result.now
-    (λ k l there. (
-      over.catalog,
-      (over.live k l (subst (λ (gs : _). query_at gs k ≡ Some l) c.places.ensures there)).kept,
-    )) c.as_slice.result.now
+    record {
+      members = subst (λ (gs : _). AreMembers gs c.as_slice.result.now) (sym c.places.ensures)
+          (subst (λ (ps : List ℕ). AreMembers old.engine.places ps) (sym c.as_slice.ensures)
+          (joining_members old.engine c.engine_laws.ensures.engine c.head_types_are.ensures old.unions.items
+          old.order.items
+          old.sessions.items old.affected.items c.self.invariant.listed
+          c.args.name c.args.members.now c.requires (sym c.judge_union.ensures ∙ c.in_default.is) c.in-Ok.places
+          c.in-Ok.ensures));
+      kept = are_kept c.places.result.now
+          (λ k l there. (
+            over.catalog,
+            (over.live k l (subst (λ (gs : _). query_at gs k ≡ Some l) c.places.ensures there)).kept,
+          )) c.as_slice.result.now;
+    }
 
 pub invariant_of-self : goal.invariant_of-self
 invariant_of-self c =
@@ -71,74 +71,66 @@ invariant_of-self c =
       };
     }
 
-pub returns-in-Ok-fill_slot-clause-registers : goal.returns-in-Ok-fill_slot-clause-registers
-returns-in-Ok-fill_slot-clause-registers c =
-    let old = c.self.inside.parts in
-    let free = sym c.judge_union.ensures ∙ c.in_default.is in
-    subst (λ (k : Kept). RegistersUnion k.store c.args.name c.args.members.now (Ok c.most_of-most.result)
-    (seen old.engine c.fill_slot.new.unions.items c.push_reserved.new.self.items old.sessions.items
-    old.affected.items).store) c.self.view_is
-    (subst (λ (xs : List ℕ). RegistersUnion
-    (seen old.engine old.unions.items old.order.items old.sessions.items old.affected.items).store c.args.name
-    c.args.members.now (Ok c.most_of-most.result)
-    (seen old.engine c.fill_slot.new.unions.items xs old.sessions.items old.affected.items).store)
-    (sym c.push_reserved.ensures.items)
-    (joining_registers old.engine c.engine_laws.ensures.engine c.head_types_are.ensures old.unions.items old.order.items
-    old.sessions.items old.affected.items c.self.invariant.listed
-    c.args.name c.args.members.now c.requires free c.in-Ok.places c.in-Ok.ensures c.fill_slot.new.unions.items
-    c.in-Ok-fill_slot.slot _ c.in-Ok-fill_slot.ensures.ok c.new.ensures.is refl c.most_of-most.result
-    (subst (λ (gs : List (Option Live)). c.most_of-most.result
-    ≡ answer_steps (a_union c.args.name (map (λ l. l.query) (queries_at gs c.in-Ok.places)))) c.places.ensures
-    (subst (λ (ps : List ℕ). c.most_of-most.result
-    ≡ answer_steps (a_union c.args.name (map (λ l. l.query) (queries_at c.places.result.now ps))))
-    c.as_slice.ensures (c.most_of-most.ensures c.args.name)))))
-
-pub returns-in-Ok-fill_slot-clause-cursors : goal.returns-in-Ok-fill_slot-clause-cursors
-returns-in-Ok-fill_slot-clause-cursors c =
-    let old = c.self.inside.parts in
-    let free = sym c.judge_union.ensures ∙ c.in_default.is in
-    subst (λ (k : Kept). SameCursors k.cursors
-    (seen old.engine c.fill_slot.new.unions.items c.push_reserved.new.self.items old.sessions.items
-    old.affected.items).cursors) c.self.view_is
-    (joining_cursors old.engine c.engine_laws.ensures.engine c.head_types_are.ensures old.unions.items old.order.items
-    old.sessions.items old.affected.items c.self.invariant.listed
-    c.args.name c.args.members.now c.requires free c.in-Ok.places c.in-Ok.ensures c.fill_slot.new.unions.items
-    c.in-Ok-fill_slot.slot _ c.in-Ok-fill_slot.ensures.ok c.new.ensures.is refl)
-
-pub returns-in-Ok-fill_slot-clause-enrols : goal.returns-in-Ok-fill_slot-clause-enrols
-returns-in-Ok-fill_slot-clause-enrols c =
-    let old = c.self.inside.parts in
-    let free = sym c.judge_union.ensures ∙ c.in_default.is in
-    subst (λ (k : Kept). EnrolsUnion k c.args.name c.args.members.now (Ok c.most_of-most.result)
-    (seen old.engine c.fill_slot.new.unions.items c.push_reserved.new.self.items old.sessions.items
-    old.affected.items)) c.self.view_is
-    (subst (λ (xs : List ℕ). EnrolsUnion
-    (seen old.engine old.unions.items old.order.items old.sessions.items old.affected.items) c.args.name
-    c.args.members.now (Ok c.most_of-most.result)
-    (seen old.engine c.fill_slot.new.unions.items xs old.sessions.items old.affected.items))
-    (sym c.push_reserved.ensures.items)
-    (joining_enrols old.engine c.engine_laws.ensures.engine c.head_types_are.ensures old.unions.items old.order.items
-    old.sessions.items old.affected.items c.self.invariant.listed
-    c.args.name c.args.members.now c.requires free c.in-Ok.places c.in-Ok.ensures c.fill_slot.new.unions.items
-    c.in-Ok-fill_slot.slot _ c.in-Ok-fill_slot.ensures.ok c.new.ensures.is refl c.most_of-most.result))
-
-pub returns-in-Ok-fill_slot-clause-tellings : goal.returns-in-Ok-fill_slot-clause-tellings
-returns-in-Ok-fill_slot-clause-tellings c =
+pub returns-in-Ok-fill_slot : goal.returns-in-Ok-fill_slot
+returns-in-Ok-fill_slot c =
     let old = c.self.inside.parts in
     let free = sym c.judge_union.ensures ∙ c.in_default.is in
     let members = joining_members old.engine c.engine_laws.ensures.engine c.head_types_are.ensures old.unions.items
     old.order.items old.sessions.items old.affected.items c.self.invariant.listed
     c.args.name c.args.members.now c.requires free c.in-Ok.places c.in-Ok.ensures in
-    subst (λ (k : Kept). EnrolsUnionTelling k c.args.name (Ok c.most_of-most.result)
-    (seen old.engine c.fill_slot.new.unions.items c.push_reserved.new.self.items old.sessions.items
-    old.affected.items)) c.self.view_is
-    (subst (λ (xs : List ℕ). EnrolsUnionTelling
-    (seen old.engine old.unions.items old.order.items old.sessions.items old.affected.items) c.args.name
-    (Ok c.most_of-most.result)
-    (seen old.engine c.fill_slot.new.unions.items xs old.sessions.items old.affected.items))
-    (sym c.push_reserved.ensures.items)
-    (joining_tells old.engine c.engine_laws.ensures.engine c.head_types_are.ensures old.unions.items old.order.items
-    old.sessions.items old.affected.items c.self.invariant.listed
-    c.args.name c.args.members.now c.requires free c.in-Ok.places c.in-Ok.ensures c.fill_slot.new.unions.items
-    c.in-Ok-fill_slot.slot _ c.in-Ok-fill_slot.ensures.ok c.new.ensures.is refl
-    (c.new.ensures.united old.engine.places members) c.new-2.ensures.kept c.new-2.ensures.lines c.most_of-most.result))
+    record {
+      registers = subst (λ (k : Kept). RegistersUnion k.store c.args.name c.args.members.now (Ok c.most_of-most.result)
+          (seen old.engine c.fill_slot.new.unions.items c.push_reserved.new.self.items old.sessions.items
+          old.affected.items).store) c.self.view_is
+          (subst (λ (xs : List ℕ). RegistersUnion
+          (seen old.engine old.unions.items old.order.items old.sessions.items old.affected.items).store c.args.name
+          c.args.members.now (Ok c.most_of-most.result)
+          (seen old.engine c.fill_slot.new.unions.items xs old.sessions.items old.affected.items).store)
+          (sym c.push_reserved.ensures.items)
+          (joining_registers old.engine c.engine_laws.ensures.engine c.head_types_are.ensures old.unions.items
+          old.order.items
+          old.sessions.items old.affected.items c.self.invariant.listed
+          c.args.name c.args.members.now c.requires free c.in-Ok.places c.in-Ok.ensures c.fill_slot.new.unions.items
+          c.in-Ok-fill_slot.slot _ c.in-Ok-fill_slot.ensures.ok c.new.ensures.is refl c.most_of-most.result
+          (subst (λ (gs : List (Option Live)). c.most_of-most.result
+          ≡ answer_steps (a_union c.args.name (map (λ l. l.query) (queries_at gs c.in-Ok.places)))) c.places.ensures
+          (subst (λ (ps : List ℕ). c.most_of-most.result
+          ≡ answer_steps (a_union c.args.name (map (λ l. l.query) (queries_at c.places.result.now ps))))
+          c.as_slice.ensures (c.most_of-most.ensures c.args.name)))));
+      cursors = subst (λ (k : Kept). SameCursors k.cursors
+          (seen old.engine c.fill_slot.new.unions.items c.push_reserved.new.self.items old.sessions.items
+          old.affected.items).cursors) c.self.view_is
+          (joining_cursors old.engine c.engine_laws.ensures.engine c.head_types_are.ensures old.unions.items
+          old.order.items
+          old.sessions.items old.affected.items c.self.invariant.listed
+          c.args.name c.args.members.now c.requires free c.in-Ok.places c.in-Ok.ensures c.fill_slot.new.unions.items
+          c.in-Ok-fill_slot.slot _ c.in-Ok-fill_slot.ensures.ok c.new.ensures.is refl);
+      enrols = subst (λ (k : Kept). EnrolsUnion k c.args.name c.args.members.now (Ok c.most_of-most.result)
+          (seen old.engine c.fill_slot.new.unions.items c.push_reserved.new.self.items old.sessions.items
+          old.affected.items)) c.self.view_is
+          (subst (λ (xs : List ℕ). EnrolsUnion
+          (seen old.engine old.unions.items old.order.items old.sessions.items old.affected.items) c.args.name
+          c.args.members.now (Ok c.most_of-most.result)
+          (seen old.engine c.fill_slot.new.unions.items xs old.sessions.items old.affected.items))
+          (sym c.push_reserved.ensures.items)
+          (joining_enrols old.engine c.engine_laws.ensures.engine c.head_types_are.ensures old.unions.items
+          old.order.items
+          old.sessions.items old.affected.items c.self.invariant.listed
+          c.args.name c.args.members.now c.requires free c.in-Ok.places c.in-Ok.ensures c.fill_slot.new.unions.items
+          c.in-Ok-fill_slot.slot _ c.in-Ok-fill_slot.ensures.ok c.new.ensures.is refl c.most_of-most.result));
+      tellings = subst (λ (k : Kept). EnrolsUnionTelling k c.args.name (Ok c.most_of-most.result)
+          (seen old.engine c.fill_slot.new.unions.items c.push_reserved.new.self.items old.sessions.items
+          old.affected.items)) c.self.view_is
+          (subst (λ (xs : List ℕ). EnrolsUnionTelling
+          (seen old.engine old.unions.items old.order.items old.sessions.items old.affected.items) c.args.name
+          (Ok c.most_of-most.result)
+          (seen old.engine c.fill_slot.new.unions.items xs old.sessions.items old.affected.items))
+          (sym c.push_reserved.ensures.items)
+          (joining_tells old.engine c.engine_laws.ensures.engine c.head_types_are.ensures old.unions.items
+          old.order.items
+          old.sessions.items old.affected.items c.self.invariant.listed
+          c.args.name c.args.members.now c.requires free c.in-Ok.places c.in-Ok.ensures c.fill_slot.new.unions.items
+          c.in-Ok-fill_slot.slot _ c.in-Ok-fill_slot.ensures.ok c.new.ensures.is refl
+          (c.new.ensures.united old.engine.places members) c.new-2.ensures.kept c.new-2.ensures.lines
+          c.most_of-most.result));
+    }

@@ -13,57 +13,27 @@ use Rattle.djq_store.proofs.Rowed.{did_by, turn_low, turn_few, turn_comes, store
 use Rattle.djq_store.proofs.Rowing.{delete_known, delete_turns, delete_grows}
 use Rattle.djq_store.proofs.store.Store.del.Goals as goal
 
-pub follow_one-requires-clause-members : goal.follow_one-requires-clause-members
-follow_one-requires-clause-members g c =
+pub follow_one-requires : goal.follow_one-requires
+follow_one-requires g c =
     let p = c.self.inside.parts in
     let e' = c.del-outcome.new.self in
     let r = c.del-outcome.result in
     let a = c.del-outcome.ensures in
     let change = row_out (p.engine.store).relations c.args.name.now c.args.row.now in
     let outcome = delete_outcome change r in
-    let names = c.args.name.now ∷ [] in
     let b = c.engine_laws.ensures.engine in
     let did = did_by p.engine e' outcome b c.engine_laws-2.ensures.engine a.watches a.outdates a.places
     (delete_grows (p.engine).store e'.store c.args.name.now c.args.row.now r a.deletes) in
     let turn = c.delete_turn-turn.result in
     let is = c.delete_turn-turn.ensures ∙ delete_turns change r in
-    members_behind p e' c.self.invariant c.engine_laws.ensures.staying (tried outcome) did
-
-pub follow_one-requires-clause-low : goal.follow_one-requires-clause-low
-follow_one-requires-clause-low g c =
-    let p = c.self.inside.parts in
-    let e' = c.del-outcome.new.self in
-    let r = c.del-outcome.result in
-    let a = c.del-outcome.ensures in
-    let change = row_out (p.engine.store).relations c.args.name.now c.args.row.now in
-    let outcome = delete_outcome change r in
-    let names = c.args.name.now ∷ [] in
-    let b = c.engine_laws.ensures.engine in
-    let did = did_by p.engine e' outcome b c.engine_laws-2.ensures.engine a.watches a.outdates a.places
-    (delete_grows (p.engine).store e'.store c.args.name.now c.args.row.now r a.deletes) in
-    let turn = c.delete_turn-turn.result in
-    let is = c.delete_turn-turn.ensures ∙ delete_turns change r in
-    turn_low p e' b false outcome turn is c.args.steps.now.listing c.del-outcome.new.steps.listing a.tells
-
-pub follow_one-requires-clause-few : goal.follow_one-requires-clause-few
-follow_one-requires-clause-few g c =
-    let p = c.self.inside.parts in
-    let e' = c.del-outcome.new.self in
-    let r = c.del-outcome.result in
-    let a = c.del-outcome.ensures in
-    let change = row_out (p.engine.store).relations c.args.name.now c.args.row.now in
-    let outcome = delete_outcome change r in
-    let names = c.args.name.now ∷ [] in
-    let b = c.engine_laws.ensures.engine in
-    let did = did_by p.engine e' outcome b c.engine_laws-2.ensures.engine a.watches a.outdates a.places
-    (delete_grows (p.engine).store e'.store c.args.name.now c.args.row.now r a.deletes) in
-    let turn = c.delete_turn-turn.result in
-    let is = c.delete_turn-turn.ensures ∙ delete_turns change r in
-    turn_few p e' c.self.invariant false outcome turn is c.args.steps.now.listing c.del-outcome.new.steps.listing
-    a.tells
-
-pub follow_one-requires-clause-room : goal.follow_one-requires-clause-room
-follow_one-requires-clause-room g c = order_few c.self.inside.parts c.self.invariant
+    let from = c.args.steps.now.listing in
+    let mid = c.del-outcome.new.steps.listing in
+    record {
+      members = members_behind p e' c.self.invariant c.engine_laws.ensures.staying (tried outcome) did;
+      low = turn_low p e' b false outcome turn is from mid a.tells;
+      few = turn_few p e' c.self.invariant false outcome turn is from mid a.tells;
+      room = order_few p c.self.invariant;
+    }
 
 pub invariant_of-self : goal.invariant_of-self
 invariant_of-self g c =
@@ -73,120 +43,59 @@ invariant_of-self g c =
     let a = c.del-outcome.ensures in
     let change = row_out (p.engine.store).relations c.args.name.now c.args.row.now in
     let outcome = delete_outcome change r in
-    let names = c.args.name.now ∷ [] in
     let b = c.engine_laws.ensures.engine in
     let did = did_by p.engine e' outcome b c.engine_laws-2.ensures.engine a.watches a.outdates a.places
     (delete_grows (p.engine).store e'.store c.args.name.now c.args.row.now r a.deletes) in
     let turn = c.delete_turn-turn.result in
     let is = c.delete_turn-turn.ensures ∙ delete_turns change r in
-    let comes = turn_comes p c.follow_one.new.parts e' false names outcome turn is c.args.steps.now.listing
-    c.del-outcome.new.steps.listing c.follow_one.new.listing c.self.invariant c.engine_laws.ensures.staying did a.tells
+    let from = c.args.steps.now.listing in
+    let mid = c.del-outcome.new.steps.listing in
+    let q = c.follow_one.new.parts in
+    let to = c.follow_one.new.listing in
+    let comes = turn_comes p q e' false (c.args.name.now ∷ []) outcome turn is from mid to c.self.invariant
+    c.engine_laws.ensures.staying did a.tells
     (delete_known p.engine e' c.args.name.now c.args.row.now r a.deletes) c.follow_one.ensures.follows
     c.follow_one.ensures.counted in
     comes.whole
 
-pub returns-clause-deletes : goal.returns-clause-deletes
-returns-clause-deletes g c =
+pub returns : goal.returns
+returns g c =
     let p = c.self.inside.parts in
     let e' = c.del-outcome.new.self in
     let r = c.del-outcome.result in
     let a = c.del-outcome.ensures in
     let change = row_out (p.engine.store).relations c.args.name.now c.args.row.now in
     let outcome = delete_outcome change r in
-    let names = c.args.name.now ∷ [] in
     let b = c.engine_laws.ensures.engine in
     let did = did_by p.engine e' outcome b c.engine_laws-2.ensures.engine a.watches a.outdates a.places
     (delete_grows (p.engine).store e'.store c.args.name.now c.args.row.now r a.deletes) in
     let turn = c.delete_turn-turn.result in
     let is = c.delete_turn-turn.ensures ∙ delete_turns change r in
-    let comes = turn_comes p c.follow_one.new.parts e' false names outcome turn is c.args.steps.now.listing
-    c.del-outcome.new.steps.listing c.follow_one.new.listing c.self.invariant c.engine_laws.ensures.staying did a.tells
+    let from = c.args.steps.now.listing in
+    let mid = c.del-outcome.new.steps.listing in
+    let q = c.follow_one.new.parts in
+    let to = c.follow_one.new.listing in
+    let comes = turn_comes p q e' false (c.args.name.now ∷ []) outcome turn is from mid to c.self.invariant
+    c.engine_laws.ensures.staying did a.tells
     (delete_known p.engine e' c.args.name.now c.args.row.now r a.deletes) c.follow_one.ensures.follows
     c.follow_one.ensures.counted in
-    subst (λ (k : Kept). DeletesRow k.store c.args.name.now c.args.row.now r (kept_in c.follow_one.new.parts).store)
-    c.self.view_is
-    (store_deletes p c.follow_one.new.parts e' c.args.name.now c.args.row.now r a.deletes comes.store)
-
-pub returns-clause-outdates : goal.returns-clause-outdates
-returns-clause-outdates g c =
-    let p = c.self.inside.parts in
-    let e' = c.del-outcome.new.self in
-    let r = c.del-outcome.result in
-    let a = c.del-outcome.ensures in
-    let change = row_out (p.engine.store).relations c.args.name.now c.args.row.now in
-    let outcome = delete_outcome change r in
-    let names = c.args.name.now ∷ [] in
-    let b = c.engine_laws.ensures.engine in
-    let did = did_by p.engine e' outcome b c.engine_laws-2.ensures.engine a.watches a.outdates a.places
-    (delete_grows (p.engine).store e'.store c.args.name.now c.args.row.now r a.deletes) in
-    let turn = c.delete_turn-turn.result in
-    let is = c.delete_turn-turn.ensures ∙ delete_turns change r in
-    let comes = turn_comes p c.follow_one.new.parts e' false names outcome turn is c.args.steps.now.listing
-    c.del-outcome.new.steps.listing c.follow_one.new.listing c.self.invariant c.engine_laws.ensures.staying did a.tells
-    (delete_known p.engine e' c.args.name.now c.args.row.now r a.deletes) c.follow_one.ensures.follows
-    c.follow_one.ensures.counted in
-    subst (λ (k : Kept). Outdates k
-    (tried (delete_outcome (row_out (k.store).relations c.args.name.now c.args.row.now) r))
-    (kept_in c.follow_one.new.parts)) c.self.view_is comes.outdates
-
-pub returns-clause-watches : goal.returns-clause-watches
-returns-clause-watches g c =
-    let p = c.self.inside.parts in
-    let e' = c.del-outcome.new.self in
-    let r = c.del-outcome.result in
-    let a = c.del-outcome.ensures in
-    let change = row_out (p.engine.store).relations c.args.name.now c.args.row.now in
-    let outcome = delete_outcome change r in
-    let names = c.args.name.now ∷ [] in
-    let b = c.engine_laws.ensures.engine in
-    let did = did_by p.engine e' outcome b c.engine_laws-2.ensures.engine a.watches a.outdates a.places
-    (delete_grows (p.engine).store e'.store c.args.name.now c.args.row.now r a.deletes) in
-    let turn = c.delete_turn-turn.result in
-    let is = c.delete_turn-turn.ensures ∙ delete_turns change r in
-    let comes = turn_comes p c.follow_one.new.parts e' false names outcome turn is c.args.steps.now.listing
-    c.del-outcome.new.steps.listing c.follow_one.new.listing c.self.invariant c.engine_laws.ensures.staying did a.tells
-    (delete_known p.engine e' c.args.name.now c.args.row.now r a.deletes) c.follow_one.ensures.follows
-    c.follow_one.ensures.counted in
-    subst (λ (k : Kept). (kept_in c.follow_one.new.parts).registered ≡ k.registered) c.self.view_is comes.registered
-
-pub returns-clause-tells : goal.returns-clause-tells
-returns-clause-tells g c =
-    let p = c.self.inside.parts in
-    let e' = c.del-outcome.new.self in
-    let r = c.del-outcome.result in
-    let a = c.del-outcome.ensures in
-    let change = row_out (p.engine.store).relations c.args.name.now c.args.row.now in
-    let outcome = delete_outcome change r in
-    let names = c.args.name.now ∷ [] in
-    let b = c.engine_laws.ensures.engine in
-    let did = did_by p.engine e' outcome b c.engine_laws-2.ensures.engine a.watches a.outdates a.places
-    (delete_grows (p.engine).store e'.store c.args.name.now c.args.row.now r a.deletes) in
-    let turn = c.delete_turn-turn.result in
-    let is = c.delete_turn-turn.ensures ∙ delete_turns change r in
-    let comes = turn_comes p c.follow_one.new.parts e' false names outcome turn is c.args.steps.now.listing
-    c.del-outcome.new.steps.listing c.follow_one.new.listing c.self.invariant c.engine_laws.ensures.staying did a.tells
-    (delete_known p.engine e' c.args.name.now c.args.row.now r a.deletes) c.follow_one.ensures.follows
-    c.follow_one.ensures.counted in
-    subst (λ (k : Kept). TellsChange k (delete_outcome (row_out (k.store).relations c.args.name.now c.args.row.now) r)
-    (kept_in c.follow_one.new.parts) c.args.steps.now.listing c.follow_one.new.listing) c.self.view_is comes.tells
-
-pub returns-clause-unlisted : goal.returns-clause-unlisted
-returns-clause-unlisted g c = λ none.
-    let p = c.self.inside.parts in
-    let b = c.engine_laws.ensures.engine in
-    let quiet = subst IsUnwatched (sym c.self.view_is) none in
-    c.follow_one.ensures.unlisted (unions_unwatched p b c.self.invariant quiet)
-    ∙ c.del-outcome.ensures.unlisted (engine_unwatched p b c.self.invariant quiet)
-
-pub returns-clause-updates : goal.returns-clause-updates
-returns-clause-updates g c =
-    let p = c.self.inside.parts in
-    let r = c.del-outcome.result in
-    let change = row_out (p.engine.store).relations c.args.name.now c.args.row.now in
-    subst (λ (k : Kept). CountsUpdates (delete_times r) k
-    (row_out (k.store).relations c.args.name.now c.args.row.now) c.args.steps.now.update c.del-outcome.new.steps.update)
-    c.self.view_is
-    (counts_seen p.engine c.engine_laws.ensures.engine p.unions.items p.order.items c.self.invariant.listed
-    p.sessions.items
-    (delete_times r) change (kept_in p) c.args.steps.now.update c.del-outcome.new.steps.update
-    refl refl c.del-outcome.ensures.updates)
+    record {
+      deletes = subst (λ (k : Kept). DeletesRow k.store c.args.name.now c.args.row.now r (kept_in q).store)
+          c.self.view_is (store_deletes p q e' c.args.name.now c.args.row.now r a.deletes comes.store);
+      outdates = subst (λ (k : Kept). Outdates k
+          (tried (delete_outcome (row_out (k.store).relations c.args.name.now c.args.row.now) r))
+          (kept_in q)) c.self.view_is comes.outdates;
+      watches = subst (λ (k : Kept). (kept_in q).registered ≡ k.registered) c.self.view_is comes.registered;
+      tells = subst (λ (k : Kept). TellsChange k
+          (delete_outcome (row_out (k.store).relations c.args.name.now c.args.row.now) r)
+          (kept_in q) from to) c.self.view_is comes.tells;
+      unlisted = λ none. let quiet = subst IsUnwatched (sym c.self.view_is) none in
+          c.follow_one.ensures.unlisted (unions_unwatched p b c.self.invariant quiet)
+          ∙ a.unlisted (engine_unwatched p b c.self.invariant quiet);
+      updates = subst (λ (k : Kept). CountsUpdates (delete_times r) k
+          (row_out (k.store).relations c.args.name.now c.args.row.now) c.args.steps.now.update
+          c.del-outcome.new.steps.update) c.self.view_is
+          (counts_seen p.engine b p.unions.items p.order.items c.self.invariant.listed p.sessions.items
+          (delete_times r) change (kept_in p) c.args.steps.now.update c.del-outcome.new.steps.update refl refl
+          a.updates);
+    }

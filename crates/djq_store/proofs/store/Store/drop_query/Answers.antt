@@ -23,9 +23,6 @@ use Rattle.djq_store.proofs.store.Store.drop_query.Goals as goal
 pub joined_in-joined-requires : goal.joined_in-joined-requires
 joined_in-joined-requires c =
     let old = c.self.inside.parts in
-    let e = old.engine in
-    let b = c.engine_laws.ensures.engine in
-    let w = c.self.invariant.listed in
     let name = c.args.name.now in
     let f = found_union old.unions.items c.as_slice.result.now name c.in-Some.slot c.as_slice.ensures.value
     c.in-Some.ensures in

@@ -13,27 +13,28 @@ use Rattle.djq_store.proofs.Having.{query_tells, query_steps, union_tells, union
 use Rattle.djq_store.proofs.Named.{found_union, no_union}
 use Rattle.djq_store.proofs.store.Store.has.Goals as goal
 
-pub returns-in_default-clause-tells : goal.returns-in_default-clause-tells
-returns-in_default-clause-tells g c =
+pub returns-in_default : goal.returns-in_default
+returns-in_default g c =
     let old = c.self.inside.parts in
-    subst (λ (k : Kept). TellsWhether k.store c.args.name.now c.args.tuple.now c.has.result) c.self.view_is
-    (query_tells old.engine c.engine_laws.ensures.engine old.unions.items old.order.items old.sessions.items
-    old.affected.items c.self.invariant.listed
-    c.args.name.now c.args.tuple.now c.has.result
-    (no_union old.unions.items c.as_slice.result.now c.args.name.now c.as_slice.ensures.value c.in_default.ensures)
-    c.has.ensures.tells)
-
-pub returns-in_default-clause-counted : goal.returns-in_default-clause-counted
-returns-in_default-clause-counted g c =
-    let old = c.self.inside.parts in
-    subst (λ (k : Kept). c.has.new.listing ≤ c.args.listing.now + has_steps (listed_of k.store.queries c.args.name.now))
-    c.self.view_is
-    (subst (λ (n : ℕ). c.has.new.listing ≤ c.args.listing.now + n)
-    (sym (query_steps old.engine c.engine_laws.ensures.engine old.unions.items old.order.items old.sessions.items
-    old.affected.items c.self.invariant.listed
-    c.args.name.now c.args.tuple.now c.has.result
-    (no_union old.unions.items c.as_slice.result.now c.args.name.now c.as_slice.ensures.value c.in_default.ensures)))
-    c.has.ensures.counted)
+    record {
+      tells = subst (λ (k : Kept). TellsWhether k.store c.args.name.now c.args.tuple.now c.has.result) c.self.view_is
+          (query_tells old.engine c.engine_laws.ensures.engine old.unions.items old.order.items old.sessions.items
+          old.affected.items c.self.invariant.listed
+          c.args.name.now c.args.tuple.now c.has.result
+          (no_union old.unions.items c.as_slice.result.now c.args.name.now c.as_slice.ensures.value
+          c.in_default.ensures)
+          c.has.ensures.tells);
+      counted = subst (λ (k : Kept). c.has.new.listing ≤ c.args.listing.now + has_steps (listed_of k.store.queries
+          c.args.name.now))
+          c.self.view_is
+          (subst (λ (n : ℕ). c.has.new.listing ≤ c.args.listing.now + n)
+          (sym (query_steps old.engine c.engine_laws.ensures.engine old.unions.items old.order.items old.sessions.items
+          old.affected.items c.self.invariant.listed
+          c.args.name.now c.args.tuple.now c.has.result
+          (no_union old.unions.items c.as_slice.result.now c.args.name.now c.as_slice.ensures.value
+          c.in_default.ensures)))
+          c.has.ensures.counted);
+    }
 
 pub joined_in-joined-requires : goal.joined_in-joined-requires
 joined_in-joined-requires g c =
@@ -57,8 +58,8 @@ some_has-requires g c =
     subst (λ (ks : List ℕ). AreMembers old.engine.places ks) (sym same)
     (c.self.invariant.listed.united c.in-Some.slot f.union f.there).members
 
-pub returns-clause-tells : goal.returns-clause-tells
-returns-clause-tells g c =
+pub returns : goal.returns
+returns g c =
     let old = c.self.inside.parts in
     let f = found_union old.unions.items c.as_slice.result.now c.args.name.now c.in-Some.slot c.as_slice.ensures.value
     c.in-Some.ensures in
@@ -67,28 +68,20 @@ returns-clause-tells g c =
     let same : c.members.result.now ≡ f.union.union.members = c.members.ensures
     ∙ ap (λ (j : Joined). j.union.members)
     (same_slot old.unions.items c.in-Some.slot c.joined_in-joined.result.now f.union found f.there) in
-    subst (λ (k : Kept). TellsWhether k.store c.args.name.now c.args.tuple.now c.some_has.result) c.self.view_is
-    (union_tells old.engine c.engine_laws.ensures.engine old.unions.items old.order.items old.sessions.items
-    old.affected.items c.self.invariant.listed
-    c.args.name.now c.args.tuple.now c.some_has.result c.in-Some.slot f
-    (subst (λ (ks : List ℕ). TellsOf (old.engine.store).relations
-    (a_union f.union.union.name (asked_in old.engine.places ks)) c.args.tuple.now c.some_has.result) same
-    (c.some_has.ensures.tells f.union.union.name)))
-
-pub returns-clause-counted : goal.returns-clause-counted
-returns-clause-counted g c =
-    let old = c.self.inside.parts in
-    let f = found_union old.unions.items c.as_slice.result.now c.args.name.now c.in-Some.slot c.as_slice.ensures.value
-    c.in-Some.ensures in
-    let found = subst (λ (us : List (Option Joined)). joined_at us c.in-Some.slot ≡ Some c.joined_in-joined.result.now)
-    c.as_slice-2.ensures.value c.joined_in-joined.ensures in
-    let same : c.members.result.now ≡ f.union.union.members = c.members.ensures
-    ∙ ap (λ (j : Joined). j.union.members)
-    (same_slot old.unions.items c.in-Some.slot c.joined_in-joined.result.now f.union found f.there) in
-    subst (λ (k : Kept). c.some_has.new.listing ≤ c.args.listing.now + has_steps
-    (listed_of k.store.queries c.args.name.now)) c.self.view_is
-    (subst (λ (n : ℕ). c.some_has.new.listing ≤ c.args.listing.now + n)
-    (ap (λ (ks : List ℕ). atoms_of (asked_in old.engine.places ks)) same
-    ∙ sym (union_steps old.engine c.engine_laws.ensures.engine old.unions.items old.order.items old.sessions.items
-    old.affected.items c.self.invariant.listed
-    c.args.name.now c.args.tuple.now c.some_has.result c.in-Some.slot f)) c.some_has.ensures.counted)
+    record {
+      tells = subst (λ (k : Kept). TellsWhether k.store c.args.name.now c.args.tuple.now c.some_has.result)
+          c.self.view_is
+          (union_tells old.engine c.engine_laws.ensures.engine old.unions.items old.order.items old.sessions.items
+          old.affected.items c.self.invariant.listed
+          c.args.name.now c.args.tuple.now c.some_has.result c.in-Some.slot f
+          (subst (λ (ks : List ℕ). TellsOf (old.engine.store).relations
+          (a_union f.union.union.name (asked_in old.engine.places ks)) c.args.tuple.now c.some_has.result) same
+          (c.some_has.ensures.tells f.union.union.name)));
+      counted = subst (λ (k : Kept). c.some_has.new.listing ≤ c.args.listing.now + has_steps
+          (listed_of k.store.queries c.args.name.now)) c.self.view_is
+          (subst (λ (n : ℕ). c.some_has.new.listing ≤ c.args.listing.now + n)
+          (ap (λ (ks : List ℕ). atoms_of (asked_in old.engine.places ks)) same
+          ∙ sym (union_steps old.engine c.engine_laws.ensures.engine old.unions.items old.order.items old.sessions.items
+          old.affected.items c.self.invariant.listed
+          c.args.name.now c.args.tuple.now c.some_has.result c.in-Some.slot f)) c.some_has.ensures.counted);
+    }

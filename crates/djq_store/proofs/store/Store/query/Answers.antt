@@ -79,89 +79,8 @@ invariant_of-self met c =
       };
     }
 
-pub returns-in-Some-clause-registers : goal.returns-in-Some-clause-registers
-returns-in-Some-clause-registers met c =
-    let old = c.self.inside.parts in
-    let e = old.engine in
-    let w = c.self.invariant.listed in
-    let none = sought_none old.unions.items c.as_slice.result.now c.args.query.name c.as_slice.ensures.value
-    c.find_union.result c.find_union.ensures (sym c.is_some.ensures ∙ c.if-is_some.false) in
-    let less : length old.order.items < QUERIES = omega (arith, c.if-len-ge-QUERIES.false, c.len.ensures) in
-    let e' = c.query-outcome.new.self in
-    let q = c.args.query in
-    let result = c.query-outcome.result in
-    let r = query_rests e e' c.engine_laws.ensures.engine c.engine_laws-2.ensures.engine c.engine_laws.ensures.staying
-    c.query-outcome.ensures.places q result c.query-outcome.ensures.registers in
-    let o = outcome_of result (sym c.is_registered.ensures ∙ c.if-is_registered.true) in
-    let g = subst (λ (x : Result QueryOutcome Refusal). RegistersQuery e.store q x e'.store) o.is
-    c.query-outcome.ensures.registers in
-    let en = subst (λ (x : Result QueryOutcome Refusal). Enrols e.registered q x e'.registered) o.is
-    c.query-outcome.ensures.enrols in
-    subst (λ (k : Kept). RegistersQuery k.store q result
-    (seen e' old.unions.items c.push_reserved.new.self.items (set old.sessions.items c.in-Some.id.at 0)
-    old.affected.items).store) c.self.view_is
-    (subst (λ (xs : List ℕ). RegistersQuery
-    (seen e old.unions.items old.order.items old.sessions.items old.affected.items).store q result
-    (seen e' old.unions.items xs (set old.sessions.items c.in-Some.id.at 0) old.affected.items).store)
-    (sym c.push_reserved.ensures.items)
-    (subst (λ (x : Result QueryOutcome Refusal). RegistersQuery
-    (seen e old.unions.items old.order.items old.sessions.items old.affected.items).store q x
-    (seen e' old.unions.items (old.order.items ++ c.in-Some.id.at ∷ []) (set old.sessions.items c.in-Some.id.at 0)
-    old.affected.items).store) (sym o.is)
-    (registered_registers e e' r old.unions.items old.order.items old.sessions.items old.affected.items w q none less
-    o.most g en c.in-Some.id c.in-Some.ensures)))
-
-pub returns-in-Some-clause-cursors : goal.returns-in-Some-clause-cursors
-returns-in-Some-clause-cursors met c =
-    let old = c.self.inside.parts in
-    let e = old.engine in
-    let w = c.self.invariant.listed in
-    let none = sought_none old.unions.items c.as_slice.result.now c.args.query.name c.as_slice.ensures.value
-    c.find_union.result c.find_union.ensures (sym c.is_some.ensures ∙ c.if-is_some.false) in
-    let less : length old.order.items < QUERIES = omega (arith, c.if-len-ge-QUERIES.false, c.len.ensures) in
-    let e' = c.query-outcome.new.self in
-    let q = c.args.query in
-    let result = c.query-outcome.result in
-    let r = query_rests e e' c.engine_laws.ensures.engine c.engine_laws-2.ensures.engine c.engine_laws.ensures.staying
-    c.query-outcome.ensures.places q result c.query-outcome.ensures.registers in
-    subst (λ (k : Kept). SameCursors k.cursors (cursors_in e' old.unions.items)) c.self.view_is
-    (cursors_over e e' r old.unions.items old.order.items old.sessions.items old.affected.items w
-    c.query-outcome.ensures.cursors)
-
-pub returns-in-Some-clause-enrols : goal.returns-in-Some-clause-enrols
-returns-in-Some-clause-enrols met c =
-    let old = c.self.inside.parts in
-    let e = old.engine in
-    let w = c.self.invariant.listed in
-    let none = sought_none old.unions.items c.as_slice.result.now c.args.query.name c.as_slice.ensures.value
-    c.find_union.result c.find_union.ensures (sym c.is_some.ensures ∙ c.if-is_some.false) in
-    let less : length old.order.items < QUERIES = omega (arith, c.if-len-ge-QUERIES.false, c.len.ensures) in
-    let e' = c.query-outcome.new.self in
-    let q = c.args.query in
-    let result = c.query-outcome.result in
-    let r = query_rests e e' c.engine_laws.ensures.engine c.engine_laws-2.ensures.engine c.engine_laws.ensures.staying
-    c.query-outcome.ensures.places q result c.query-outcome.ensures.registers in
-    let o = outcome_of result (sym c.is_registered.ensures ∙ c.if-is_registered.true) in
-    let g = subst (λ (x : Result QueryOutcome Refusal). RegistersQuery e.store q x e'.store) o.is
-    c.query-outcome.ensures.registers in
-    let en = subst (λ (x : Result QueryOutcome Refusal). Enrols e.registered q x e'.registered) o.is
-    c.query-outcome.ensures.enrols in
-    subst (λ (k : Kept). Enrols k.registered q result
-    (seen e' old.unions.items c.push_reserved.new.self.items (set old.sessions.items c.in-Some.id.at 0)
-    old.affected.items).registered) c.self.view_is
-    (subst (λ (xs : List ℕ). Enrols
-    (seen e old.unions.items old.order.items old.sessions.items old.affected.items).registered q result
-    (seen e' old.unions.items xs (set old.sessions.items c.in-Some.id.at 0) old.affected.items).registered)
-    (sym c.push_reserved.ensures.items)
-    (subst (λ (x : Result QueryOutcome Refusal). Enrols
-    (seen e old.unions.items old.order.items old.sessions.items old.affected.items).registered q x
-    (seen e' old.unions.items (old.order.items ++ c.in-Some.id.at ∷ []) (set old.sessions.items c.in-Some.id.at 0)
-    old.affected.items).registered) (sym o.is)
-    (registered_enrols e e' r old.unions.items old.order.items old.sessions.items old.affected.items w q none less
-    o.most g en c.in-Some.id c.in-Some.ensures c.self.invariant.counted.long)))
-
-pub returns-in-Some-clause-tellings : goal.returns-in-Some-clause-tellings
-returns-in-Some-clause-tellings met c =
+pub returns-in-Some : goal.returns-in-Some
+returns-in-Some met c =
     let old = c.self.inside.parts in
     let e = old.engine in
     let w = c.self.invariant.listed in
@@ -179,19 +98,53 @@ returns-in-Some-clause-tellings met c =
     let en = subst (λ (x : Result QueryOutcome Refusal). Enrols e.registered q x e'.registered) o.is
     c.query-outcome.ensures.enrols in
     let t = subst (λ (x : Result QueryOutcome Refusal). EnrolsTelling e q x e') o.is c.query-outcome.ensures.tellings in
-    subst (λ (k : Kept). EnrolsTelling k q result
-    (seen e' old.unions.items c.push_reserved.new.self.items (set old.sessions.items c.in-Some.id.at 0)
-    old.affected.items)) c.self.view_is
-    (subst (λ (xs : List ℕ). EnrolsTelling
-    (seen e old.unions.items old.order.items old.sessions.items old.affected.items) q result
-    (seen e' old.unions.items xs (set old.sessions.items c.in-Some.id.at 0) old.affected.items))
-    (sym c.push_reserved.ensures.items)
-    (subst (λ (x : Result QueryOutcome Refusal). EnrolsTelling
-    (seen e old.unions.items old.order.items old.sessions.items old.affected.items) q x
-    (seen e' old.unions.items (old.order.items ++ c.in-Some.id.at ∷ []) (set old.sessions.items c.in-Some.id.at 0)
-    old.affected.items)) (sym o.is)
-    (registered_tells e e' r old.unions.items old.order.items old.sessions.items old.affected.items w q none less o.most
-    g en c.in-Some.id c.in-Some.ensures c.self.invariant.counted.long t)))
+    record {
+      registers = subst (λ (k : Kept). RegistersQuery k.store q result
+          (seen e' old.unions.items c.push_reserved.new.self.items (set old.sessions.items c.in-Some.id.at 0)
+          old.affected.items).store) c.self.view_is
+          (subst (λ (xs : List ℕ). RegistersQuery
+          (seen e old.unions.items old.order.items old.sessions.items old.affected.items).store q result
+          (seen e' old.unions.items xs (set old.sessions.items c.in-Some.id.at 0) old.affected.items).store)
+          (sym c.push_reserved.ensures.items)
+          (subst (λ (x : Result QueryOutcome Refusal). RegistersQuery
+          (seen e old.unions.items old.order.items old.sessions.items old.affected.items).store q x
+          (seen e' old.unions.items (old.order.items ++ c.in-Some.id.at ∷ []) (set old.sessions.items c.in-Some.id.at 0)
+          old.affected.items).store) (sym o.is)
+          (registered_registers e e' r old.unions.items old.order.items old.sessions.items old.affected.items w q none
+          less
+          o.most g en c.in-Some.id c.in-Some.ensures)));
+      cursors = subst (λ (k : Kept). SameCursors k.cursors (cursors_in e' old.unions.items)) c.self.view_is
+          (cursors_over e e' r old.unions.items old.order.items old.sessions.items old.affected.items w
+          c.query-outcome.ensures.cursors);
+      enrols = subst (λ (k : Kept). Enrols k.registered q result
+          (seen e' old.unions.items c.push_reserved.new.self.items (set old.sessions.items c.in-Some.id.at 0)
+          old.affected.items).registered) c.self.view_is
+          (subst (λ (xs : List ℕ). Enrols
+          (seen e old.unions.items old.order.items old.sessions.items old.affected.items).registered q result
+          (seen e' old.unions.items xs (set old.sessions.items c.in-Some.id.at 0) old.affected.items).registered)
+          (sym c.push_reserved.ensures.items)
+          (subst (λ (x : Result QueryOutcome Refusal). Enrols
+          (seen e old.unions.items old.order.items old.sessions.items old.affected.items).registered q x
+          (seen e' old.unions.items (old.order.items ++ c.in-Some.id.at ∷ []) (set old.sessions.items c.in-Some.id.at 0)
+          old.affected.items).registered) (sym o.is)
+          (registered_enrols e e' r old.unions.items old.order.items old.sessions.items old.affected.items w q none less
+          o.most g en c.in-Some.id c.in-Some.ensures c.self.invariant.counted.long)));
+      tellings = subst (λ (k : Kept). EnrolsTelling k q result
+          (seen e' old.unions.items c.push_reserved.new.self.items (set old.sessions.items c.in-Some.id.at 0)
+          old.affected.items)) c.self.view_is
+          (subst (λ (xs : List ℕ). EnrolsTelling
+          (seen e old.unions.items old.order.items old.sessions.items old.affected.items) q result
+          (seen e' old.unions.items xs (set old.sessions.items c.in-Some.id.at 0) old.affected.items))
+          (sym c.push_reserved.ensures.items)
+          (subst (λ (x : Result QueryOutcome Refusal). EnrolsTelling
+          (seen e old.unions.items old.order.items old.sessions.items old.affected.items) q x
+          (seen e' old.unions.items (old.order.items ++ c.in-Some.id.at ∷ []) (set old.sessions.items c.in-Some.id.at 0)
+          old.affected.items)) (sym o.is)
+          (registered_tells e e' r old.unions.items old.order.items old.sessions.items old.affected.items w q none
+          less o.most
+          g en c.in-Some.id c.in-Some.ensures c.self.invariant.counted.long t)));
+      counted = c.query-outcome.ensures.counted;
+    }
 
 pub invariant_of-self-else-is_registered : goal.invariant_of-self-else-is_registered
 invariant_of-self-else-is_registered met c =

@@ -16,45 +16,26 @@ invariant_of-self c =
     c.engine_laws-2.ensures.engine c.engine_laws.ensures.staying c.rel-made.ensures.makes c.rel-made.ensures.places in
     whole_over p e' rests c.rel-made.ensures.registered c.self.invariant
 
-pub returns-clause-makes : goal.returns-clause-makes
-returns-clause-makes c =
+pub returns : goal.returns
+returns c =
     let p = c.self.inside.parts in
     let e' = c.rel-made.new.self in
     let rests = made_rests p.engine e' c.args.name c.args.types c.rel-made.result c.engine_laws.ensures.engine
     c.engine_laws-2.ensures.engine c.engine_laws.ensures.staying c.rel-made.ensures.makes c.rel-made.ensures.places in
-    subst (λ (k : Kept). MakesRelation k.store c.args.name c.args.types c.rel-made.result
-    (kept_in (record p { engine = e' })).store)
-    c.self.view_is
-    (store_makes p e' c.args.name c.args.types c.rel-made.result rests c.self.invariant c.rel-made.ensures.makes)
-
-pub returns-clause-cursors : goal.returns-clause-cursors
-returns-clause-cursors c =
-    let p = c.self.inside.parts in
-    let e' = c.rel-made.new.self in
-    let rests = made_rests p.engine e' c.args.name c.args.types c.rel-made.result c.engine_laws.ensures.engine
-    c.engine_laws-2.ensures.engine c.engine_laws.ensures.staying c.rel-made.ensures.makes c.rel-made.ensures.places in
-    subst (λ (k : Kept). SameCursors k.cursors (kept_in (record p { engine = e' })).cursors) c.self.view_is
-    (cursors_over p.engine e' rests p.unions.items p.order.items p.sessions.items p.affected.items
-    c.self.invariant.listed
-    c.rel-made.ensures.cursors)
-
-pub returns-clause-registered : goal.returns-clause-registered
-returns-clause-registered c =
-    let p = c.self.inside.parts in
-    let e' = c.rel-made.new.self in
-    let rests = made_rests p.engine e' c.args.name c.args.types c.rel-made.result c.engine_laws.ensures.engine
-    c.engine_laws-2.ensures.engine c.engine_laws.ensures.staying c.rel-made.ensures.makes c.rel-made.ensures.places in
-    subst (λ (k : Kept). (kept_in (record p { engine = e' })).registered ≡ k.registered) c.self.view_is
-    (registered_over p.engine e' rests p.unions.items p.order.items p.sessions.items p.affected.items
-    c.self.invariant.listed)
-
-pub returns-clause-tellings : goal.returns-clause-tellings
-returns-clause-tellings c =
-    let p = c.self.inside.parts in
-    let e' = c.rel-made.new.self in
-    let rests = made_rests p.engine e' c.args.name c.args.types c.rel-made.result c.engine_laws.ensures.engine
-    c.engine_laws-2.ensures.engine c.engine_laws.ensures.staying c.rel-made.ensures.makes c.rel-made.ensures.places in
-    subst (λ (k : Kept). SameTellings k (kept_in (record p { engine = e' }))) c.self.view_is
-    (tellings_over p.engine e' rests p.unions.items p.order.items p.sessions.items p.affected.items
-    c.self.invariant.listed
-    c.rel-made.ensures.tellings)
+    record {
+      makes = subst (λ (k : Kept). MakesRelation k.store c.args.name c.args.types c.rel-made.result
+          (kept_in (record p { engine = e' })).store)
+          c.self.view_is
+          (store_makes p e' c.args.name c.args.types c.rel-made.result rests c.self.invariant c.rel-made.ensures.makes);
+      cursors = subst (λ (k : Kept). SameCursors k.cursors (kept_in (record p { engine = e' })).cursors) c.self.view_is
+          (cursors_over p.engine e' rests p.unions.items p.order.items p.sessions.items p.affected.items
+          c.self.invariant.listed
+          c.rel-made.ensures.cursors);
+      registered = subst (λ (k : Kept). (kept_in (record p { engine = e' })).registered ≡ k.registered) c.self.view_is
+          (registered_over p.engine e' rests p.unions.items p.order.items p.sessions.items p.affected.items
+          c.self.invariant.listed);
+      tellings = subst (λ (k : Kept). SameTellings k (kept_in (record p { engine = e' }))) c.self.view_is
+          (tellings_over p.engine e' rests p.unions.items p.order.items p.sessions.items p.affected.items
+          c.self.invariant.listed
+          c.rel-made.ensures.tellings);
+    }
