@@ -2,7 +2,7 @@
 use Rattle.std.specs.Prelude.{ℕ, List, [], ◌∷◌, ◌++◌, ◌≡◌, ◌<◌, Option, None, Some, IsSome, codes}
 use Rattle.std.proofs.Common.{refl, sym, subst}
 use Rattle.djq_io.specs.Faults.{Counted}
-use Rattle.djq_disk.specs.History.{History, WhereTold}
+use Rattle.djq_disk.specs.History.{History, WhereHistoryTold}
 use Rattle.djq_disk.proofs.Telling.{told_so}
 use Rattle.djq_journal.specs.Standing.{IsIdle}
 use Rattle.djq_journal.specs.Appending.{Appends, gate_after}
@@ -24,7 +24,7 @@ use Rattle.djq.specs.Parts.{EndsBatch, CantEnd}
 
 -- what an append of `abandon` came to, behind whatever lines
 abbrev pub Kept : Appended → ℕ → DiskSeen → DiskSeen → Type 0
-Kept answer gate before now = (lines : List Bytes) → WhereTold before.told now.told
+Kept answer gate before now = (lines : List Bytes) → WhereHistoryTold before.told now.told
     (λ o n. IsIdle lines gate o.file → Appends answer lines abandoning o n)
 
 -- A batch was left open: it is ended by the line that was loaded and kept.
@@ -44,7 +44,8 @@ batch_ended gate behind log old new how before now is_open step at faults append
       closed = ran.1;
       behind = behind;
       at = at;
-      kept = λ found. subst (λ (b : Option (List HeldRow)). WhereTold before.told now.told (λ o n. (start : History)
+      kept = λ found. subst
+          (λ (b : Option (List HeldRow)). WhereHistoryTold before.told now.told (λ o n. (start : History)
           → IsKeeping found [] gate start o → IsKeeping found (first_kept b) behind start n)) (sym e)
           (told_so before.told now.told
           (λ o n. IsIdle (found ++ whole_lines []) gate o.file

@@ -4,11 +4,11 @@ use Rattle.std.proofs.Common.{refl, sym, ap, ◌∙◌, subst, inl, inr, arith, 
 use Rattle.std.specs.Borrow.{Bor}
 use Rattle.djq_io.specs.Faults.{Counted}
 use Rattle.djq_disk.specs.File.{File, settled}
-use Rattle.djq_disk.specs.History.{History, WhereTold}
+use Rattle.djq_disk.specs.History.{History, WhereHistoryTold}
 use Rattle.djq_disk.proofs.Telling.{told_none, told_so, told_both}
 use Rattle.djq_journal.specs.Standing.{IsIdle}
 use Rattle.djq_journal.specs.Keeping.{IsKeeping}
-use Rattle.djq_journal.specs.Logging.{HasKept, Overfull}
+use Rattle.djq_journal.specs.Logging.{HasKeptGroups, Overfull}
 use Rattle.djq_model.specs.Data.{Bytes}
 use Rattle.djq_lines.specs.declared.held.HeldRow.{HeldRow}
 use Rattle.djq_machine.specs.State.{Store, State, opening}
@@ -25,9 +25,9 @@ use Rattle.djq_run.specs.declared.status.Status.TheVariants.{DiskFault as DiskFa
 use Rattle.djq_run.specs.declared.status.Status.TheVariants.{LogFull as Filled, BadLog, Mirror}
 use Rattle.djq_serve.specs.declared.served.Served.{Served}
 use Rattle.djq_serve.specs.declared.served.Served.TheVariants.{Stopped, Over, TurnsUsed, HubFault, DiskFault, LogFull}
-use Rattle.djq_serve.specs.Logged.{AllKept, LastLost, LastLeft, KeepsBy, DiskCounts, IsPlain}
+use Rattle.djq_serve.specs.Logged.{AllKept, LastLost, LastLeft, KeepsBy, DiskCounts, IsNotOfDisk}
 use Rattle.djq_laws.proofs.Courses.{walk_then}
-use Rattle.djq.specs.Logged.{DiskSeen, LogSeen, log_at, log_seen, SinceOpened, first_kept, Finds}
+use Rattle.djq.specs.Logged.{DiskSeen, LogSeen, log_seen_at, log_seen, SinceOpened, first_kept, FindsLines}
 use Rattle.djq.specs.Logged.{KeptAs, Logs, FoundIn, Begins, LeavesUnloaded, UnloadedFor, Unloaded}
 use Rattle.djq.specs.Logged.{NeverBegins}
 use Rattle.djq.specs.Parts.{OpensJournal, LoadsLines, StopsLoading, ReadsLog, EndsBatch, CantEnd}
@@ -36,7 +36,7 @@ use Rattle.djq.proofs.Opening.{told_end, opened_finds, opened_leaves}
 -- A journal that keeps on, whatever it began with, is there.
 still_there : (gate' : Option ℕ) (found : List Bytes) (first all : List Group) (gate : ℕ) (since m n : History)
     → IsKeeping found first gate since m
-    → ((start : History) → IsKeeping found first gate start m → HasKept gate' found all start n)
+    → ((start : History) → IsKeeping found first gate start m → HasKeptGroups gate' found all start n)
     → (g : ℕ) × IsKeeping found all g since n
 still_there (Some g) found first all gate since m n keeping kept = (g, kept since keeping)
 still_there None found first all gate since m n keeping kept =
@@ -63,13 +63,13 @@ still_there None found first all gate since m n keeping kept =
 -- All groups are kept behind the lines found and what was kept first.
 all_kept : (path : Bytes) (found : List Bytes) (first groups : List Group) (gate : ℕ) (gate' : Option ℕ)
     (old mid new : Option History)
-    → WhereTold old mid (Finds path found first gate) → AllKept (Some gate) gate' groups mid new
-    → WhereTold old new
+    → WhereHistoryTold old mid (FindsLines path found first gate) → AllKept (Some gate) gate' groups mid new
+    → WhereHistoryTold old new
     (λ o n. SinceOpened path found (λ since. (g : ℕ) × IsKeeping found (first ++ groups) g since n) o)
 all_kept path found first groups gate gate' old mid new finds kept =
-    told_both old mid new (Finds path found first gate)
+    told_both old mid new (FindsLines path found first gate)
     (λ a b. (lines : List Bytes) (had : List Group) (start : History)
-    → HasKept (Some gate) lines had start a → HasKept gate' lines (had ++ groups) start b)
+    → HasKeptGroups (Some gate) lines had start a → HasKeptGroups gate' lines (had ++ groups) start b)
     (λ o n. SinceOpened path found (λ since. (g : ℕ) × IsKeeping found (first ++ groups) g since n) o)
     (λ o m n p q. record {
       since = p.since;
@@ -79,10 +79,10 @@ all_kept path found first groups gate gate' old mid new finds kept =
     }) finds kept
 
 lost_kept : (path : Bytes) (found : List Bytes) (first groups : List Group) (gate : ℕ) (old mid new : Option History)
-    → WhereTold old mid (Finds path found first gate) → LastLost (Some gate) groups mid new
-    → WhereTold old new (λ o n. SinceOpened path found (λ since. KeptAs DiskFault found first groups since n) o)
+    → WhereHistoryTold old mid (FindsLines path found first gate) → LastLost (Some gate) groups mid new
+    → WhereHistoryTold old new (λ o n. SinceOpened path found (λ since. KeptAs DiskFault found first groups since n) o)
 lost_kept path found first groups gate old mid new finds lost =
-    told_both old mid new (Finds path found first gate) _
+    told_both old mid new (FindsLines path found first gate) _
     (λ o n. SinceOpened path found (λ since. KeptAs DiskFault found first groups since n) o)
     (λ o m n p q. record {
       since = p.since;
@@ -91,15 +91,16 @@ lost_kept path found first groups gate old mid new finds lost =
     }) finds lost.kept
 
 left_kept : (path : Bytes) (found : List Bytes) (first groups : List Group) (gate : ℕ) (old mid new : Option History)
-    → WhereTold old mid (Finds path found first gate) → LastLeft (Some gate) groups mid new
-    → WhereTold old new (λ o n. SinceOpened path found (λ since. KeptAs LogFull found first groups since n) o)
+    → WhereHistoryTold old mid (FindsLines path found first gate) → LastLeft (Some gate) groups mid new
+    → WhereHistoryTold old new (λ o n. SinceOpened path found (λ since. KeptAs LogFull found first groups since n) o)
 left_kept path found first groups gate old mid new finds left = by_gate left.gate' left.full left.kept
   where
     by_gate : (gate' : Option ℕ) → Overfull gate' left.last → AllKept (Some gate) gate' left.whole mid new
-        → WhereTold old new (λ o n. SinceOpened path found (λ since. KeptAs LogFull found first groups since n) o)
+        → WhereHistoryTold old new
+        (λ o n. SinceOpened path found (λ since. KeptAs LogFull found first groups since n) o)
     by_gate None full kept = absurd full
     by_gate (Some g) full kept =
-        told_both old mid new (Finds path found first gate) _
+        told_both old mid new (FindsLines path found first gate) _
         (λ o n. SinceOpened path found (λ since. KeptAs LogFull found first groups since n) o)
         (λ o m n p q. record {
           since = p.since;
@@ -116,8 +117,9 @@ left_kept path found first groups gate old mid new finds left = by_gate left.gat
 
 kept_as : (answer : Served) (path : Bytes) (found : List Bytes) (first groups : List Group) (gate : ℕ)
     (gate' : Option ℕ) (old mid new : Option History)
-    → WhereTold old mid (Finds path found first gate) → KeepsBy (Some answer) (Some gate) gate' groups mid new
-    → WhereTold old new (λ o n. SinceOpened path found (λ since. KeptAs answer found first groups since n) o)
+    → WhereHistoryTold old mid (FindsLines path found first gate)
+    → KeepsBy (Some answer) (Some gate) gate' groups mid new
+    → WhereHistoryTold old new (λ o n. SinceOpened path found (λ since. KeptAs answer found first groups since n) o)
 kept_as Stopped path found first groups gate gate' old mid new finds kept =
     all_kept path found first groups gate gate' old mid new finds kept
 kept_as Over path found first groups gate gate' old mid new finds kept =
@@ -135,7 +137,7 @@ kept_as LogFull path found first groups gate gate' old mid new finds kept =
 pub logs_kept : (path : Option (Bor Bytes)) (found : List Bytes) (first : List Group) (answer : Served)
     (groups : List Group) (gate gate' : Option ℕ) (before mid now : DiskSeen)
     → FoundIn (log_seen path before mid) found first gate → KeepsBy (Some answer) gate gate' groups mid.told now.told
-    → DiskCounts (Some answer) mid.faults now.faults → (gate ≡ None → IsPlain answer)
+    → DiskCounts (Some answer) mid.faults now.faults → (gate ≡ None → IsNotOfDisk answer)
     → Logs (log_seen path before now) found first answer groups
 logs_kept None found first answer groups gate gate' before mid now lines kept counted plain = plain lines
 logs_kept (Some path) found first answer groups None gate' before mid now lines kept counted plain = absurd lines
@@ -189,11 +191,11 @@ unloaded_begins log first mid status counted counted' opens stops = record {
 -- The batch that its lines leave open is ended, if they do.
 pub ended_begins : (path : Bytes) (before mid now : DiskSeen) (gate : ℕ) (log : Option ℕ) (end new : Loading)
     (state start : State) (counted loaded : Counts) (listing : ℕ)
-    → ReadsLog (log_at path before mid) gate end state counted.listing listing → EndsBatch gate log end new mid now
+    → ReadsLog (log_seen_at path before mid) gate end state counted.listing listing → EndsBatch gate log end new mid now
     → new.store ≡ start.store → start ≡ record state { store = start.store } → loaded.listing ≡ listing
     → (found : List Bytes) × (first : List Group)
-    × Begins (Some (log_at path before now)) found first counted start loaded
-    × FoundIn (Some (log_at path before now)) found first log
+    × Begins (Some (log_seen_at path before now)) found first counted start loaded
+    × FoundIn (Some (log_seen_at path before now)) found first log
 ended_begins path before mid now gate log end new state start counted loaded listing r e same rest unlisted = (
   r.found,
   first_kept end.batch,
@@ -205,10 +207,10 @@ ended_begins path before mid now gate log end new state start counted loaded lis
     fresh = rest ∙ ap (λ (st : State). record st { store = start.store }) r.fresh;
     counts = unlisted ∙ r.unlisted;
   },
-  subst (λ (k : Option ℕ). FoundIn (Some (log_at path before now)) r.found (first_kept end.batch) k) (sym e.at) (
+  subst (λ (k : Option ℕ). FoundIn (Some (log_seen_at path before now)) r.found (first_kept end.batch) k) (sym e.at) (
     e.faults ∙ r.faults,
-    told_both before.told mid.told now.told (Finds path r.found [] gate) _
-        (Finds path r.found (first_kept end.batch) e.behind)
+    told_both before.told mid.told now.told (FindsLines path r.found [] gate) _
+        (FindsLines path r.found (first_kept end.batch) e.behind)
         (λ o m n p q. record { since = p.since; begins = p.begins; holds = q p.since p.holds }) r.finds
         (e.kept r.found),
   ),
@@ -221,11 +223,11 @@ ended_begins path before mid now gate log end new state start counted loaded lis
 -- It isn't.
 pub unended_begins : (path : Bytes) (before mid now : DiskSeen) (gate : ℕ) (status : Status) (end : Loading)
     (state : State) (counted counted' : Counts) (listing : ℕ)
-    → ReadsLog (log_at path before mid) gate end state counted.listing listing → CantEnd status gate end mid now
-    → counted'.listing ≡ listing → Unloaded (log_at path before now) status counted counted'
+    → ReadsLog (log_seen_at path before mid) gate end state counted.listing listing → CantEnd status gate end mid now
+    → counted'.listing ≡ listing → Unloaded (log_seen_at path before now) status counted counted'
 unended_begins path before mid now gate DiskFailed end state counted counted' listing r c unlisted = record {
   caused = subst (λ (n : ℕ). Counted n now.faults) r.faults c.1;
-  leaves = told_both before.told mid.told now.told (Finds path r.found [] gate) _ (LeavesUnloaded path)
+  leaves = told_both before.told mid.told now.told (FindsLines path r.found [] gate) _ (LeavesUnloaded path)
       (λ o m n p q. inr (inr (inr (record {
         found = r.found;
         leaves = record { end = end; loads = r.loads; is_open = c.0 };
@@ -241,17 +243,18 @@ unended_begins path before mid now gate Filled end state counted counted' listin
       leaves = record { end = end; loads = r.loads; is_open = c.0 };
       gate = gate;
       full = c.2;
-      idle = told_end before.told now.told (Finds path r.found [] gate) (λ h. IsIdle r.found gate h.file)
+      idle = told_end before.told now.told (FindsLines path r.found [] gate) (λ h. IsIdle r.found gate h.file)
           (λ o n p. subst (λ (ls : List Bytes). IsIdle ls gate n.file) (append-nil r.found) ((p.holds).idle)) still;
     },
   );
-  leaves = told_so before.told now.told (Finds path r.found [] gate) (LeavesUnloaded path)
+  leaves = told_so before.told now.told (FindsLines path r.found [] gate) (LeavesUnloaded path)
       (λ o n p. inr (inr (inl (r.found, gate, p)))) still;
   unlisted = unlisted ∙ r.unlisted;
 }
   where
-    still : WhereTold before.told now.told (Finds path r.found [] gate)
-    still = told_both before.told mid.told now.told (Finds path r.found [] gate) _ (Finds path r.found [] gate)
+    still : WhereHistoryTold before.told now.told (FindsLines path r.found [] gate)
+    still = told_both before.told mid.told now.told (FindsLines path r.found [] gate) _
+        (FindsLines path r.found [] gate)
         (λ o m n p q. record { since = p.since; begins = p.begins; holds = q p.since p.holds }) r.finds (c.3 r.found)
 unended_begins path before mid now gate Done end state counted counted' listing r c unlisted = absurd c
 unended_begins path before mid now gate Usage end state counted counted' listing r c unlisted = absurd c

@@ -5,13 +5,13 @@ use Rattle.std.proofs.lemmas.Grind.{flat_map-append}
 use Rattle.std.proofs.lemmas.List.Elements.{All-head}
 use Rattle.std.proofs.lemmas.List.Kept.{AllPairs-cons}
 use Rattle.djq_io.specs.Sink.{bytes_of}
-use Rattle.djq_io.specs.Source.{Reading}
+use Rattle.djq_io.specs.Source.{SourceReading}
 use Rattle.djq_io.specs.Written.{GainsBytes}
 use Rattle.djq_io.specs.declared.sink.Write.{Write}
 use Rattle.djq_model.specs.Data.{Bytes}
 use Rattle.djq_model.specs.Listed.{Listed, listed_name, AnswersOf}
 use Rattle.djq_mirror.specs.declared.mode.Mode.TheVariants.{Live}
-use Rattle.djq_mirror.specs.Inputs.{IsHeld, IsRefused}
+use Rattle.djq_mirror.specs.Inputs.{HoldsAtEnd, FirstIsRefused}
 use Rattle.djq_mirror.specs.Mirror.{Held}
 use Rattle.djq_machine.specs.State.{State}
 use Rattle.djq_machine.specs.Run.{Did, Walk, out, all_taken, pending_of}
@@ -33,7 +33,7 @@ use Rattle.djq_follow.specs.declared.command.Mirrored.TheVariants.{Done, Outside
 use Rattle.djq_follow.specs.declared.command.Mirrored.TheVariants.{ReadFault, WriteFault, TooMany, NoMemory}
 use Rattle.djq_follow.specs.Ends.{ComesTo, StopsFor, WritesOf, MirrorEnds}
 use Rattle.djq_told.specs.Sayable.{IsSayableStore}
-use Rattle.djq_told.specs.Mirrored.{Shows}
+use Rattle.djq_told.specs.Mirrored.{HoldsTextsOf}
 use Rattle.djq_told.specs.Whole.{ReadsSinceOpened}
 use Rattle.djq_told.proofs.Alone.{held_alone}
 use Rattle.djq_told.proofs.Opening.{opened_are_read_back, front}
@@ -41,22 +41,23 @@ use Rattle.djq.specs.Mirrored.{WritesAnswers, IsMirroredBack}
 
 -- ---- one mirror
 
-module _ (q : Listed) (sent : Bytes) (at : State) (held : Held) (input : IsHeld (listed_name q) sent held)
-    (live : held.mode ≡ Live → Shows held (AnswersOf at.store.relations q)) where
-  unrefused : (n : ℕ) (bytes : Bytes) → bytes ≡ sent → IsRefused (listed_name q) bytes n → ⊥
+module _ (q : Listed) (sent : Bytes) (at : State) (held : Held) (input : HoldsAtEnd (listed_name q) sent held)
+    (live : held.mode ≡ Live → HoldsTextsOf held (AnswersOf at.store.relations q)) where
+  unrefused : (n : ℕ) (bytes : Bytes) → bytes ≡ sent → FirstIsRefused (listed_name q) bytes n → ⊥
   unrefused n bytes same refused =
       (held_alone (listed_name q) sent held input).0 n
-      (subst (λ (bs : Bytes). IsRefused (listed_name q) bs n) same refused)
+      (subst (λ (bs : Bytes). FirstIsRefused (listed_name q) bs n) same refused)
 
   -- all of it was read, and nothing is left
-  to_the_end : (bytes : Bytes) (reading : Reading) → reading.left ≡ [] → bytes ++ reading.left ≡ sent → bytes ≡ sent
+  to_the_end : (bytes : Bytes) (reading : SourceReading) → reading.left ≡ [] → bytes ++ reading.left ≡ sent
+      → bytes ≡ sent
   to_the_end bytes reading none all = sym (append-nil bytes) ∙ ap (λ (bs : Bytes). bytes ++ bs) (sym none) ∙ all
 
   abbrev Ends : Mirrored → Option (List Write) → Option (List Write) → Type 0
   Ends answer writing writing' =
       ((n : ℕ) → answer ≢ Halted n) × (answer ≡ Done → WritesAnswers q at writing writing')
 
-  writes : (answer : Mirrored) (text bytes : Bytes) (reading : Reading) (writing writing' : Option (List Write))
+  writes : (answer : Mirrored) (text bytes : Bytes) (reading : SourceReading) (writing writing' : Option (List Write))
       (faults faults' : ℕ)
       → bytes ++ reading.left ≡ sent → (whole : Mirrored) → ComesTo whole text (listed_name q) bytes (Some reading)
       → WritesOf answer whole text writing writing' faults faults' → Ends answer writing writing'
@@ -64,8 +65,8 @@ module _ (q : Listed) (sent : Bytes) (at : State) (held : Held) (input : IsHeld 
     λ n is. absurd (done_halted n (sym wrote.0 ∙ is)),
     λ is.
         let same = to_the_end bytes reading comes.0 all in
-        let other : IsHeld (listed_name q) sent comes.1 =
-        subst (λ (bs : Bytes). IsHeld (listed_name q) bs comes.1) same comes.2 in
+        let other : HoldsAtEnd (listed_name q) sent comes.1 =
+        subst (λ (bs : Bytes). HoldsAtEnd (listed_name q) bs comes.1) same comes.2 in
         let alone = (held_alone (listed_name q) sent held input).1 comes.1 other in record {
           held = comes.1;
           wrote = subst (λ (bs : Bytes). GainsBytes writing writing' bs) comes.3 wrote.1;
@@ -88,8 +89,8 @@ module _ (q : Listed) (sent : Bytes) (at : State) (held : Held) (input : IsHeld 
   writes answer text bytes reading writing writing' faults faults' all (Halted n) comes (inl wrote) = absurd
       (by comes.0)
     where
-      by : ((more : Bytes) → IsRefused (listed_name q) (bytes ++ more) n) ⊎
-          ((reading.left ≡ []) × IsRefused (listed_name q) bytes n) → ⊥
+      by : ((more : Bytes) → FirstIsRefused (listed_name q) (bytes ++ more) n) ⊎
+          ((reading.left ≡ []) × FirstIsRefused (listed_name q) bytes n) → ⊥
       by (inl always) = unrefused n (bytes ++ reading.left) all (always reading.left)
       by (inr here) = unrefused n bytes (to_the_end bytes reading here.0 all) here.1
   writes answer text bytes reading writing writing' faults faults' all ReadFault comes (inl wrote) = absurd comes
@@ -120,10 +121,10 @@ module _ (q : Listed) (sent : Bytes) (at : State) (held : Held) (input : IsHeld 
 
 -- what is read back, as it was sent
 sent_back : (q : Listed) (sent all : Bytes) (at : State) → sent ≡ all → (held : Held)
-    → IsHeld (listed_name q) all held → (held.mode ≡ Live → Shows held (AnswersOf at.store.relations q))
+    → HoldsAtEnd (listed_name q) all held → (held.mode ≡ Live → HoldsTextsOf held (AnswersOf at.store.relations q))
     → IsMirroredBack q sent at
 sent_back q sent all at same held input live =
-    mirrors q sent at held (subst (λ (bs : Bytes). IsHeld (listed_name q) bs held) (sym same) input) live
+    mirrors q sent at held (subst (λ (bs : Bytes). HoldsAtEnd (listed_name q) bs held) (sym same) input) live
 
 -- ---- the program's runs
 

@@ -4,7 +4,7 @@ use Rattle.std.proofs.Common.{refl, sym, ap, ap₂, ◌∙◌, subst, arith, app
 use Rattle.std.proofs.lemmas.Grind.{flat_map-append}
 use Rattle.djq_disk.specs.History.{History}
 use Rattle.djq_disk.specs.Leaving.{LeavesOnly}
-use Rattle.djq_journal.specs.Format.{OpensTo}
+use Rattle.djq_journal.specs.Format.{FileOpensTo}
 use Rattle.djq_journal.specs.Keeping.{whole_lines, OpensWithin, IsKeeping}
 use Rattle.djq_journal.proofs.Going.{keeps_on}
 use Rattle.djq_model.specs.Data.{Bytes}
@@ -132,7 +132,7 @@ reopens found first start done state least image loads run sound o =
       later = o.later;
       cut = b.cut;
       some = omega (arith, o.acknowledged, ap (λ (gs : List Group). length gs) b.is, length-append first b.rest);
-      opens = subst (λ (ls : List Bytes). OpensTo ls image) same o.opens;
+      opens = subst (λ (ls : List Bytes). FileOpensTo ls image) same o.opens;
       at = stood.0;
       loads = stood.1;
     }

@@ -6,7 +6,7 @@ use Rattle.std.proofs.lemmas.List.Sums.{sum_by-cons}
 use Rattle.std.specs.Borrow.{Bor}
 use Rattle.djq_io.specs.Hub.{Ids, no_ids}
 use Rattle.djq_io.specs.MemHub.{Recorded}
-use Rattle.djq_io.specs.Script.{Script, Passes, Cuts, Sends}
+use Rattle.djq_io.specs.Script.{Script, ScriptPasses, Cuts, Sends}
 use Rattle.djq_io.specs.SteadyHub.{has_gone, NeverFails}
 use Rattle.djq_io.specs.declared.hub.Coming.{Coming}
 use Rattle.djq_io.specs.declared.hub.Incoming.{Incoming}
@@ -24,20 +24,20 @@ use Rattle.djq_machine.specs.Call.{Counts}
 use Rattle.djq_laws.specs.declared.limits.TheConstants.{READ_BYTES}
 use Rattle.djq_run.specs.declared.status.Status.{Status}
 use Rattle.djq_run.specs.declared.status.Status.TheVariants.{NoMemory}
-use Rattle.djq_schedule.specs.Schedule.{lines_of}
-use Rattle.djq_schedule.specs.Made.{IsMade}
+use Rattle.djq_schedule.specs.Schedule.{schedule_lines}
+use Rattle.djq_schedule.specs.Made.{ScheduleIsMade}
 use Rattle.djq_schedule.proofs.Counting.{AllShort, turn_for_each_line, turns_are_short}
 use Rattle.djq_serve.specs.declared.served.Served.{Served}
 use Rattle.djq_serve.specs.declared.served.Served.TheVariants.{Stopped, Over, TurnsUsed as AllTaken}
 use Rattle.djq_serve.specs.declared.served.Served.TheVariants.{HubFault as HubFailed, DiskFault as DiskFailed, LogFull}
-use Rattle.djq_serve.specs.Told.{Shown, shown, Place, place, IsAnswered, turn_is_over}
-use Rattle.djq_serve.specs.Told.{turn_is_failed, by_turn, has_over, has_failed, turn_in, turns_in}
+use Rattle.djq_serve.specs.Told.{Shown, hub_shown, Place, hub_place, IsAnswered, turn_is_over}
+use Rattle.djq_serve.specs.Told.{turn_is_failed, by_turn, has_over, turn_failed, turn_in, turns_in}
 use Rattle.djq_serve.specs.Server.{all_told, all_done}
 use Rattle.djq_serve.specs.Logged.{UnkeptIsSilent}
 use Rattle.djq_serve.specs.Ends.{FaultsCount, ServeEnds}
-use Rattle.djq.specs.Logged.{DiskSeen, LogSeen, log_seen, IsUnasked, status_of, Begins, Logs}
-use Rattle.djq.specs.Replay.{hub_of, IsWhole, Plays, ComesTo, ComesToNothing, first_fault}
-use Rattle.djq.specs.Parts.{TellsAll, TellsNone}
+use Rattle.djq.specs.Logged.{DiskSeen, LogSeen, log_seen, IsUnasked, served_status, Begins, Logs}
+use Rattle.djq.specs.Replay.{hub_of, ServedWhole, Plays, ReplayComesTo, ComesToNothing, first_fault}
+use Rattle.djq.specs.Parts.{TellsWhole, TellsNone}
 use Rattle.djq.proofs.Logging.{never_began}
 use Rattle.std.proofs.lemmas.Bool.{or_parts}
 
@@ -46,7 +46,7 @@ record OneLess (old new : List Coming) : Type 0 where
   pub less : length old ≡ length new + 1
   pub short : AllShort new
 
-passed : (old : Script) (next : Incoming) (new : Script) → Passes old next new → AllShort old.turns
+passed : (old : Script) (next : Incoming) (new : Script) → ScriptPasses old next new → AllShort old.turns
     → OneLess old.turns new.turns
 passed old next new h all = record {
   less = omega (arith, ap (λ (turns : List Coming). length turns) h);
@@ -71,7 +71,7 @@ turned (Opened id) piece old new (buf, room, is, follows, ids) all over failed =
     follows.1 all
 turned (Brought id n) piece old new (buf, room, is, follows, ids) all over failed = by_piece follows.1
   where
-    by_piece : Passes old.script (Brings id (take n buf)) new.script ⊎
+    by_piece : ScriptPasses old.script (Brings id (take n buf)) new.script ⊎
         ((n ≡ length buf) × Cuts old.script id (take n buf) new.script) → OneLess old.script.turns new.script.turns
     by_piece (inl p) = passed old.script _ new.script p all
     by_piece (inr (all_of, cuts)) = absurd (uncut old.script id n buf new.script room all_of cuts all)
@@ -111,14 +111,14 @@ one_call (Closing s) old new h all over failed = record {
 one_call (Listening addr answer) old new h all over failed = absurd h
 
 calls : (told : List Told) (old new : Place) → Walk IsAnswered old told new → AllShort old.script.turns → has_over told
-    ≡ false → has_failed told ≡ false → TookAtMost old.script.turns told new.script.turns
+    ≡ false → turn_failed told ≡ false → TookAtMost old.script.turns told new.script.turns
 calls [] old new h all over failed = record {
   taken = omega (arith, ap (λ (p : Place). length p.script.turns) h);
   short = subst (λ (p : Place). AllShort p.script.turns) (sym h) all;
 }
 calls (t ∷ told) old new (mid, first, more) all over failed =
     let o = or_parts (by_turn turn_is_over t) (has_over told) over in
-    let f = or_parts (by_turn turn_is_failed t) (has_failed told) failed in
+    let f = or_parts (by_turn turn_is_failed t) (turn_failed told) failed in
     let one = one_call t old mid first all o.0 f.0 in
     let rest = calls told mid new more one.short o.1 f.1 in
     record { taken = omega (arith, one.taken, rest.taken, sum_by-cons turn_in t told); short = rest.short }
@@ -130,32 +130,33 @@ no_fault (least, inr top) = absurd (omega (arith, top))
 -- Serving such a hub, which tells its turns to the end, ends as it is over, a session says `stop`, or the log fails.
 is_whole : (answer : Served) (turns : List Coming) (most : ℕ) (counted counted' : Counts) (start state : State)
     (past : Option (List Told)) (left : Script) (ids : Ids)
-    → ServeEnds answer most (hub_of turns) counted start (shown past (Some left) ids) counted' state
-    → FaultsCount answer 0 0 → AllShort turns → length turns < most → IsWhole answer
+    → ServeEnds answer most (hub_of turns) counted start (hub_shown past (Some left) ids) counted' state
+    → FaultsCount answer 0 0 → AllShort turns → length turns < most → ServedWhole answer
 is_whole Stopped turns most counted counted' start state past left ids ends faults all fewer = tt
 is_whole Over turns most counted counted' start state past left ids ends faults all fewer = tt
 is_whole DiskFailed turns most counted counted' start state past left ids ends faults all fewer = tt
 is_whole LogFull turns most counted counted' start state past left ids ends faults all fewer = tt
 is_whole HubFailed turns most counted counted' start state past left ids ends faults all fewer = no_fault faults
 is_whole AllTaken turns most counted counted' start state past left ids ends faults all fewer =
-    let begin = place (record { blocked = []; turns = turns }) no_ids in
-    let took = calls (all_told ends.goes.moves) begin (place left ids) ends.goes.told.played all ends.caused.over
+    let begin = hub_place (record { blocked = []; turns = turns }) no_ids in
+    let took = calls (all_told ends.goes.moves) begin (hub_place left ids) ends.goes.told.played all ends.caused.over
     ends.caused.failed in
     absurd (omega (arith, took.taken, ends.goes.turned, ends.has_taken, fewer))
 
 -- a hub in memory of which no call is to fail, as it shows itself
 abbrev pub steady : Recorded → Shown
-steady hub = shown hub.past (Some hub.script) hub.ids
+steady hub = hub_shown hub.past (Some hub.script) hub.ids
 
 -- the hub that a schedule is made
-made_hub : (bytes : Bytes) (hub : Recorded) → IsMade bytes hub → steady hub ≡ hub_of hub.script.turns
+made_hub : (bytes : Bytes) (hub : Recorded) → ScheduleIsMade bytes hub → steady hub ≡ hub_of hub.script.turns
 made_hub bytes hub made =
-    ap (λ (past : Option (List Told)). shown past (Some hub.script) hub.ids) made.past
-    ∙ ap (λ (blocked : List ℕ). shown (Some []) (Some (record { blocked = blocked; turns = hub.script.turns })) hub.ids)
+    ap (λ (past : Option (List Told)). hub_shown past (Some hub.script) hub.ids) made.past
+    ∙ ap (λ (blocked : List ℕ). hub_shown (Some [])
+    (Some (record { blocked = blocked; turns = hub.script.turns })) hub.ids)
     made.blocked
-    ∙ ap (λ (ids : Ids). shown (Some []) (Some (record { blocked = []; turns = hub.script.turns })) ids) made.ids
+    ∙ ap (λ (ids : Ids). hub_shown (Some []) (Some (record { blocked = []; turns = hub.script.turns })) ids) made.ids
 
-pub made_steady : (bytes : Bytes) (hub : Recorded) → IsMade bytes hub → NeverFails hub
+pub made_steady : (bytes : Bytes) (hub : Recorded) → ScheduleIsMade bytes hub → NeverFails hub
 made_steady bytes hub made = record {
   listens = made.listens;
   turns = made.fails;
@@ -174,13 +175,15 @@ pub record EndsKept (log : Option LogSeen) (found : List Bytes) (first : List Gr
 -- The hub of a schedule was served.
 pub plays : (log : Option LogSeen) (found : List Bytes) (first : List Group) (bytes : Bytes) (made hub hub' : Recorded)
     (answer : Served) (most : ℕ) (counted loaded counted' : Counts) (start state : State)
-    → Begins log found first counted start loaded → IsMade bytes made → hub ≡ made → most ≡ length (lines_of bytes) + 1
+    → Begins log found first counted start loaded → ScheduleIsMade bytes made → hub ≡ made
+    → most ≡ length (schedule_lines bytes) + 1
     → EndsKept log found first answer most (steady hub) loaded start (steady hub') counted' state
-    → FaultsCount answer 0 0 → Plays log made.script.turns (length (lines_of bytes) + 1) counted counted' hub'.past
+    → FaultsCount answer 0 0
+    → Plays log made.script.turns (length (schedule_lines bytes) + 1) counted counted' hub'.past
 plays log found first bytes made hub hub' answer most counted loaded counted' start state begins is_made same is_most
     ends faults =
     let turns = made.script.turns in
-    let lines = length (lines_of bytes) in
+    let lines = length (schedule_lines bytes) in
     let of_made = ap steady same ∙ made_hub bytes made is_made in
     let of_turns : EndsKept log found first answer most (hub_of turns) loaded start (steady hub') counted' state =
     subst (λ (h : Shown). EndsKept log found first answer most h loaded start (steady hub') counted' state) of_made ends
@@ -209,17 +212,18 @@ plays log found first bytes made hub hub' answer most counted loaded counted' st
 -- Its past is told at the end, or there is no memory for it.
 pub comes_to : (log : Option LogSeen) (bytes : Bytes) (turns : List Coming) (counted counted' : Counts)
     (past : Option (List Told)) (whole : Status)
-    (p : Plays log turns (length (lines_of bytes) + 1) counted counted' past) → whole ≡ status_of p.answer
-    → (text : Bytes) (status : Status) → TellsAll text status past whole
-    → ComesTo log (Ok turns) bytes counted counted' text status
+    (p : Plays log turns (length (schedule_lines bytes) + 1) counted counted' past) → whole ≡ served_status p.answer
+    → (text : Bytes) (status : Status) → TellsWhole text status past whole
+    → ReplayComesTo log (Ok turns) bytes counted counted' text status
 comes_to log bytes turns counted counted' past whole p is text status tells =
-    let both = subst (λ (o : Option (List Told)). (q : Plays log turns (length (lines_of bytes) + 1) counted counted' o)
-    × (whole ≡ status_of q.answer)) tells.is_told (p, is) in
+    let both = subst
+    (λ (o : Option (List Told)). (q : Plays log turns (length (schedule_lines bytes) + 1) counted counted' o)
+    × (whole ≡ served_status q.answer)) tells.is_told (p, is) in
     record { told = tells.told; plays = both.0; none_gone = tells.none_gone; sent = tells.sent; is = tells.is ∙ both.1 }
 
 pub comes_to_nothing : (log : Option LogSeen) (bytes : Bytes) (turns : List Coming) (counted counted' : Counts)
     (past : Option (List Told)) (whole : Status)
-    (p : Plays log turns (length (lines_of bytes) + 1) counted counted' past) → whole ≡ status_of p.answer
+    (p : Plays log turns (length (schedule_lines bytes) + 1) counted counted' past) → whole ≡ served_status p.answer
     → (status : Status) → TellsNone status whole → ComesToNothing log status (Ok turns) bytes counted counted'
 comes_to_nothing log bytes turns counted counted' past whole p is status none =
     inr (record { past = past; plays = p; is = none ∙ ap (λ (s : Status). first_fault s NoMemory) is })
@@ -228,11 +232,12 @@ comes_to_nothing log bytes turns counted counted' past whole p is status none =
 pub schedule_served : {A : Type 0} (r : Result A Status) (text : A → Bytes) (answered : A → Status)
     (log : Option LogSeen) (found : List Bytes) (first : List Group) (bytes : Bytes) (made hub hub' : Recorded)
     (answer : Served) (most : ℕ) (counted loaded counted' : Counts) (start state : State) (whole : Status)
-    → Begins log found first counted start loaded → IsMade bytes made → hub ≡ made → most ≡ length (lines_of bytes) + 1
+    → Begins log found first counted start loaded → ScheduleIsMade bytes made → hub ≡ made
+    → most ≡ length (schedule_lines bytes) + 1
     → EndsKept log found first answer most (steady hub) loaded start (steady hub') counted' state
-    → FaultsCount answer 0 0 → whole ≡ status_of answer
-    → MatchResult r (λ a. TellsAll (text a) (answered a) hub'.past whole) (λ status. TellsNone status whole)
-    → MatchResult r (λ a. ComesTo log (Ok made.script.turns) bytes counted counted' (text a) (answered a))
+    → FaultsCount answer 0 0 → whole ≡ served_status answer
+    → MatchResult r (λ a. TellsWhole (text a) (answered a) hub'.past whole) (λ status. TellsNone status whole)
+    → MatchResult r (λ a. ReplayComesTo log (Ok made.script.turns) bytes counted counted' (text a) (answered a))
     (λ status. ComesToNothing log status (Ok made.script.turns) bytes counted counted')
 unfolding plays
 schedule_served (Ok a) text answered log found first bytes made hub hub' answer most counted loaded counted' start state

@@ -17,7 +17,7 @@ use Rattle.djq_value.specs.Literal.{is_name}
 use Rattle.djq_words.specs.declared.commands.Asked.{Asked}
 use Rattle.djq_words.specs.declared.commands.Asked.TheVariants.{Mirror}
 use Rattle.djq_words.specs.Commands.{djq_app}
-use Rattle.djq_words.specs.Asks.{IsAsked, Answers}
+use Rattle.djq_words.specs.Asks.{SubcommandAsks, WordsAsk}
 use Rattle.djq.specs.Ends.{Serves}
 
 -- The machine was at the start, and no session is open there.
@@ -37,15 +37,16 @@ pub faults_from : (answer : Served) (a b c : ℕ) → b ≡ a → FaultsCount an
 faults_from answer a b c same h = subst (λ (n : ℕ). FaultsCount answer n c) same h
 
 -- what the words ask for, by what was read
-pub asks_for : (words : List Bytes) (o p : Option Asked) → o ≡ p → Answers words o → Answers words p
-asks_for words o p e h = subst (λ (k : Option Asked). Answers words k) e h
+pub asks_for : (words : List Bytes) (o p : Option Asked) → o ≡ p → WordsAsk words o → WordsAsk words p
+asks_for words o p e h = subst (λ (k : Option Asked). WordsAsk words k) e h
 
 -- The query of which a mirror is asked for is a name.
-pub names_query : (words : List Text) (query : Bor Text) → Answers words (Some (Mirror query)) → is_name query.now
+pub names_query : (words : List Text) (query : Bor Text) → WordsAsk words (Some (Mirror query)) → is_name query.now
     ≡ true
 names_query words query asks = named (subcommand_of djq_app words) asks.1
   where
-    named : (o : Option (Text × List Row)) → IsSomeAnd o (λ c. IsAsked c (Mirror query)) → is_name query.now ≡ true
+    named : (o : Option (Text × List Row)) → IsSomeAnd o (λ c. SubcommandAsks c (Mirror query))
+        → is_name query.now ≡ true
     named None h = absurd h
     named (Some c) h = h.2
 

@@ -25,15 +25,16 @@ use Rattle.djq_serve.specs.Logged.{UnkeptIsSilent}
 use Rattle.djq_serve.specs.Ends.{ServeEnds, FaultsCount}
 use Rattle.djq_words.specs.declared.commands.Asked.{Asked}
 use Rattle.djq_words.specs.declared.commands.Asked.TheVariants.{Run, Serve, Replay, Gen, Mirror}
-use Rattle.djq_words.specs.Asks.{Asks, Answers}
-use Rattle.djq.specs.Logged.{DiskSeen, LogSeen, log_seen, status_of, Begins, Logs, FoundIn, NeverBegins}
+use Rattle.djq_words.specs.Asks.{Asks, WordsAsk}
+use Rattle.djq.specs.Logged.{DiskSeen, LogSeen, log_seen, served_status, Begins, Logs, FoundIn, NeverBegins}
 use Rattle.djq.specs.Gen.{GenEnds}
 use Rattle.djq.specs.Replay.{ReplayEnds}
 use Rattle.djq.specs.Mirror.{MirrorsSource}
 
 -- the line that tells the commands
 abbrev pub usage_line : Bytes
-usage_line = line (codes "usage: djq run | serve ADDR [--turns N] [--log PATH] | replay [--log PATH] | gen N SEED | mirror Q")
+usage_line =
+    line (codes "usage: djq run | serve ADDR [--turns N] [--log PATH] | replay [--log PATH] | gen N SEED | mirror Q")
 
 -- **The theorem of `run`.** There is a run of the join machine from the start to this state.
 -- The pieces that it was fed are those that were read, in order, and what was read is run and
@@ -82,7 +83,7 @@ pub record ServesHub (log : Option LogSeen) (status : Status) (addr : Bytes) (tu
   pub faults : FaultsCount answer hub.faults hub'.faults
   pub logs : Logs log found first answer (groups_of (all_done ends.goes.moves))
   pub silent : UnkeptIsSilent answer ends.goes.moves
-  pub is : status ≡ status_of answer
+  pub is : status ≡ served_status answer
 
 -- The lines of the log were loaded, and the hub failed to listen.
 pub record Unheard (log : Option LogSeen) (status : Status) (addr : Bytes) (hub : HubSeen) (counted : Counts)
@@ -112,13 +113,13 @@ pub record OnlyWrites (before now : Outside) : Type 0 where
 
 -- Where the words are no command nothing is read or counted, and the usage line is written; or a
 -- first part of it is, and then a write fails, which is the last.
-abbrev pub Explains : Status → Outside → Outside → Type 0
-Explains Usage before now = OnlyWrites before now
+abbrev pub WritesUsage : Status → Outside → Outside → Type 0
+WritesUsage Usage before now = OnlyWrites before now
     × GainsBytes before.writing now.writing usage_line × (now.write_faults ≡ before.write_faults)
-Explains WriteFault before now = OnlyWrites before now × (n : ℕ) × (n < length usage_line)
+WritesUsage WriteFault before now = OnlyWrites before now × (n : ℕ) × (n < length usage_line)
     × FailsBehind before.writing now.writing (take n usage_line) (drop n usage_line)
     × Counted before.write_faults now.write_faults
-Explains _ before now = ⊥
+WritesUsage _ before now = ⊥
 
 -- neither read nor written
 pub record NoTransfer (before now : Outside) : Type 0 where
@@ -154,7 +155,7 @@ AsksForLog words = (asked : Asked) × (has_log asked ≡ true) × Asks words ask
 -- How the program ends, by what its words ask for. What it starts from is the state in which nothing
 -- has happened, or what lines found in a log give.
 abbrev pub EndsAs : Option Asked → Status → Outside → HubSeen → DiskSeen → Outside → HubSeen → DiskSeen → Type 0
-EndsAs None status before hub disk now hub' disk' = Explains status before now × (hub' ≡ hub)
+EndsAs None status before hub disk now hub' disk' = WritesUsage status before now × (hub' ≡ hub)
 EndsAs (Some Run) status before hub disk now hub' disk' =
     Serves opening status before now × (hub' ≡ hub)
 EndsAs (Some (Serve addr turns log)) status before hub disk now hub' disk' =
@@ -171,5 +172,5 @@ EndsAs (Some (Mirror query)) status before hub disk now hub' disk' =
 -- where they ask for nothing; or out of memory before they were read.
 abbrev pub ProgramEnds : Status → List Bytes → Outside → HubSeen → DiskSeen → Outside → HubSeen → DiskSeen → Type 0
 ProgramEnds status words before hub disk now hub' disk' =
-    ((asked : Option Asked) × Answers words asked × EndsAs asked status before hub disk now hub' disk')
+    ((asked : Option Asked) × WordsAsk words asked × EndsAs asked status before hub disk now hub' disk')
     ⊎ ((status ≡ NoMemory) × (now ≡ before) × (hub' ≡ hub) × (disk' ≡ disk))

@@ -2,9 +2,9 @@
 use Rattle.std.specs.Prelude.{ℕ, List, [], ◌∷◌, ◌++◌, ◌≡◌, ◌⊎◌, Option, None, Some, IsSome, IfSome, drop, codes}
 use Rattle.std.specs.Borrow.{Bor}
 use Rattle.djq_io.specs.Faults.{Counted}
-use Rattle.djq_disk.specs.History.{History, WhereTold}
-use Rattle.djq_journal.specs.Format.{header, OpensTo, IsBad}
-use Rattle.djq_journal.specs.Standing.{IsAt, IsIdle}
+use Rattle.djq_disk.specs.History.{History, WhereHistoryTold}
+use Rattle.djq_journal.specs.Format.{header, FileOpensTo, IsBad}
+use Rattle.djq_journal.specs.Standing.{IsAtGate, IsIdle}
 use Rattle.djq_journal.specs.Calls.{after_sync}
 use Rattle.djq_journal.specs.Keeping.{IsKeeping, WasKeeping}
 use Rattle.djq_journal.specs.Logging.{Overfull}
@@ -23,7 +23,7 @@ use Rattle.djq_serve.specs.declared.served.Served.TheVariants.{Stopped, Over, Tu
 use Rattle.djq_serve.specs.declared.served.Served.TheVariants.{HubFault as HubFailed}
 use Rattle.djq_serve.specs.declared.served.Served.TheVariants.{DiskFault as DiskFailed}
 use Rattle.djq_serve.specs.declared.served.Served.TheVariants.{LogFull as Full}
-use Rattle.djq_serve.specs.Logged.{DiskCounts, IsPlain}
+use Rattle.djq_serve.specs.Logged.{DiskCounts, IsNotOfDisk}
 
 -- A disk, as the program shows it: what it went through, where that is told, and its count of faults.
 pub record DiskSeen : Type 0 where
@@ -42,13 +42,13 @@ pub record LogSeen : Type 0 where
   pub now : DiskSeen
 
 -- the log that is asked for by a path, on a disk that was and now is so
-abbrev pub log_at : Bytes → DiskSeen → DiskSeen → LogSeen
-log_at path before now = record { path = path; before = before; now = now }
+abbrev pub log_seen_at : Bytes → DiskSeen → DiskSeen → LogSeen
+log_seen_at path before now = record { path = path; before = before; now = now }
 
 -- the log that is asked for, if one is
 abbrev pub log_seen : Option (Bor Bytes) → DiskSeen → DiskSeen → Option LogSeen
 log_seen None before now = None
-log_seen (Some path) before now = Some (log_at path.now before now)
+log_seen (Some path) before now = Some (log_seen_at path.now before now)
 
 -- nothing was asked of its disk
 abbrev pub IsUnasked : Option LogSeen → Type 0
@@ -56,34 +56,34 @@ IsUnasked None = Unit {0}
 IsUnasked (Some log) = log.now ≡ log.before
 
 -- the status that the answer of the loop comes to
-abbrev pub status_of : Served → Status
-status_of Stopped = Done
-status_of Over = Done
-status_of AllTaken = TurnsUsed
-status_of HubFailed = HubFault
-status_of DiskFailed = DiskFault
-status_of Full = LogFull
+abbrev pub served_status : Served → Status
+served_status Stopped = Done
+served_status Over = Done
+served_status AllTaken = TurnsUsed
+served_status HubFailed = HubFault
+served_status DiskFailed = DiskFault
+served_status Full = LogFull
 
 -- the history behind an open of the file at this path, whatever it answered
 abbrev pub asked_for : Bytes → History → History
 asked_for path h = record h { paths = h.paths ++ path ∷ [] }
 
 -- A journal without lines was made, in a file without bytes.
-pub record IsMade (path : Bytes) (found : List Bytes) (old since : History) : Type 0 where
+pub record LogIsMade (path : Bytes) (found : List Bytes) (old since : History) : Type 0 where
   pub empty : old.file.bytes ≡ []
   pub none : found ≡ []
   pub paths : since.paths ≡ old.paths ++ path ∷ []
 
 -- An older journal was opened, which has these lines. All that was asked of the disk is a sync.
 pub record IsOlder (path : Bytes) (found : List Bytes) (old since : History) : Type 0 where
-  pub lines : OpensTo found old.file.bytes
+  pub lines : FileOpensTo found old.file.bytes
   pub is : since ≡ after_sync (asked_for path old)
 
 -- One file was opened, by this path. Its journal was made, or an older one of these lines was
 -- opened, and this holds of the moment when that was done.
 pub record SinceOpened (path : Bytes) (found : List Bytes) (P : History → Type 0) (old : History) : Type 0 where
   pub since : History
-  pub begins : IsMade path found old since ⊎ IsOlder path found old since
+  pub begins : LogIsMade path found old since ⊎ IsOlder path found old since
   pub holds : P since
 
 -- the group that ends a batch which the lines found leave open
@@ -98,8 +98,8 @@ first_kept (Some held) = abandoning ∷ []
 
 -- The journal has these lines, and behind them these groups, and stands idle then; and at each moment
 -- since it was opened a stop leaves the lines and whole groups, the first ones.
-abbrev pub Finds : Bytes → List Bytes → List Group → ℕ → History → History → Type 0
-Finds path found first gate old new = SinceOpened path found (λ since. IsKeeping found first gate since new) old
+abbrev pub FindsLines : Bytes → List Bytes → List Group → ℕ → History → History → Type 0
+FindsLines path found first gate old new = SinceOpened path found (λ since. IsKeeping found first gate since new) old
 
 -- All but the last of some groups were kept behind the first ones, and that may be.
 pub record LostLast (found : List Bytes) (first groups : List Group) (since new : History) : Type 0 where
@@ -128,9 +128,9 @@ KeptAs _ found first groups since new = (gate : ℕ) × IsKeeping found (first +
 -- What serving leaves in the log that is asked for, if one is: behind the lines found what was kept
 -- first, and the groups of lines that the machine's steps kept. Without one it doesn't end by the disk.
 abbrev pub Logs : Option LogSeen → List Bytes → List Group → Served → List Group → Type 0
-Logs None found first answer groups = IsPlain answer
+Logs None found first answer groups = IsNotOfDisk answer
 Logs (Some log) found first answer groups = DiskCounts (Some answer) log.before.faults log.now.faults
-    × WhereTold log.before.told log.now.told
+    × WhereHistoryTold log.before.told log.now.told
     (λ o n. SinceOpened log.path found (λ since. KeptAs answer found first groups since n) o)
 
 -- The log that is asked for, if one is, has these lines and what was kept first, and nothing else was
@@ -139,7 +139,7 @@ abbrev pub FoundIn : Option LogSeen → List Bytes → List Group → Option ℕ
 FoundIn None found first gate = gate ≡ None
 FoundIn (Some log) found first None = ⊥
 FoundIn (Some log) found first (Some gate) = (log.now.faults ≡ log.before.faults)
-    × WhereTold log.before.told log.now.told (Finds log.path found first gate)
+    × WhereHistoryTold log.before.told log.now.told (FindsLines log.path found first gate)
 
 -- What loading counts: no lookup or link of a listing. Where no log is asked for no line is found,
 -- and nothing is counted.
@@ -191,7 +191,7 @@ pub record IsUnended (path : Bytes) (old new : History) : Type 0 where
 -- or a journal with its lines and nothing behind them; or with `abandon` behind them, or not.
 abbrev pub LeavesUnloaded : Bytes → History → History → Type 0
 LeavesUnloaded path old new = IsUnwritten path old new ⊎ (IsUnmade path old new
-    ⊎ (((found : List Bytes) × (gate : ℕ) × Finds path found [] gate old new) ⊎ IsUnended path old new))
+    ⊎ (((found : List Bytes) × (gate : ℕ) × FindsLines path found [] gate old new) ⊎ IsUnended path old new))
 
 -- the file doesn't begin as a journal does; the place is its first
 abbrev pub HasNoHeader : ℕ → History → Type 0
@@ -202,14 +202,14 @@ pub record IsRefusedAt (at : ℕ) (found : List Bytes) (end : Loading) (told : O
   pub line : Bytes
   pub same : Loading
   pub refuses : LoadStep end line refused same
-  pub stands : IfSome told (λ h. (behind : ℕ) × IsAt (found ++ line ∷ []) behind h.file)
+  pub stands : IfSome told (λ h. (behind : ℕ) × IsAtGate (found ++ line ∷ []) behind h.file)
 
 -- The lines before a place are loaded, and there the file is bad, or its line is refused.
 pub record IsBadBehind (at : ℕ) (told : Option History) : Type 0 where
   pub found : List Bytes
   pub end : Loading
   pub loads : Loads (loading opening.store) found end
-  pub stands : IfSome told (λ h. IsAt found at h.file)
+  pub stands : IfSome told (λ h. IsAtGate found at h.file)
   pub bad : IfSome told (λ h. IsBad (drop at h.file.bytes)) ⊎ IsRefusedAt at found end told
 
 -- Why a log is bad from this place on, as far as its file is told.
@@ -237,7 +237,7 @@ UnloadedFor _ faults now = ⊥
 -- failed, the log is full or bad, or memory was wanted. No lookup or link of a listing was counted.
 pub record Unloaded (log : LogSeen) (status : Status) (counted counted' : Counts) : Type 0 where
   pub caused : UnloadedFor status log.before.faults log.now
-  pub leaves : WhereTold log.before.told log.now.told (LeavesUnloaded log.path)
+  pub leaves : WhereHistoryTold log.before.told log.now.told (LeavesUnloaded log.path)
   pub unlisted : counted'.listing ≡ counted.listing
 
 -- So nothing began; without a log memory was wanted, before anything was done.

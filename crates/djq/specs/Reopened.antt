@@ -1,7 +1,7 @@
 -- What a stop leaves of a log, opened and loaded at the next start.
 use Rattle.std.specs.Prelude.{ℕ, List, ◌++◌, ◌≡◌, ◌≤◌, ◌-◌, Some, IfSome, length}
 use Rattle.djq_disk.specs.Leaving.{LeavesOnly}
-use Rattle.djq_journal.specs.Format.{OpensTo}
+use Rattle.djq_journal.specs.Format.{FileOpensTo}
 use Rattle.djq_model.specs.Data.{Bytes}
 use Rattle.djq_machine.specs.State.{State, opening}
 use Rattle.djq_machine.specs.Run.{Did, Group, groups_of, lines_in}
@@ -30,7 +30,7 @@ pub record Reopens (found : List Bytes) (start : State) (done : List Did) (state
   pub later : List Group
   pub cut : groups_of done ≡ whole ++ later
   pub some : least ≤ length whole
-  pub opens : OpensTo (found ++ lines_in whole) file
+  pub opens : FileOpensTo (found ++ lines_in whole) file
   pub at : StoodAt start done state whole
   pub loads : LoadsTo opening.store (found ++ lines_in whole) at.mid.store
 

@@ -6,7 +6,7 @@ use Rattle.djq_io.specs.Hub.{Ids, no_ids}
 use Rattle.djq_io.specs.Script.{Script}
 use Rattle.djq_io.specs.Written.{GainsBytes, FailsBehind}
 use Rattle.djq_io.specs.declared.sink.Write.{Write}
-use Rattle.djq_io.specs.Source.{Reading}
+use Rattle.djq_io.specs.Source.{SourceReading}
 use Rattle.djq_io.specs.SteadyHub.{has_gone}
 use Rattle.djq_io.specs.declared.hub.Coming.{Coming}
 use Rattle.djq_io.specs.declared.hub.Told.{Told}
@@ -21,19 +21,19 @@ use Rattle.djq_run.specs.declared.status.Status.{Status}
 use Rattle.djq_run.specs.declared.status.Status.TheVariants.{ReadFault, WriteFault, TurnsUsed}
 use Rattle.djq_run.specs.declared.status.Status.TheVariants.{NoMemory, Schedule, DiskFault, LogFull}
 use Rattle.djq_run.specs.Ends.{IsAtEnd}
-use Rattle.djq_schedule.specs.Schedule.{lines_of}
+use Rattle.djq_schedule.specs.Schedule.{schedule_lines}
 use Rattle.djq_schedule.specs.Made.{turns_of}
 use Rattle.djq_schedule.specs.Sent.{sent_text, outside_line}
 use Rattle.djq_serve.specs.declared.served.Served.{Served}
 use Rattle.djq_serve.specs.declared.served.Served.TheVariants.{TurnsUsed as AllTaken, HubFault as HubFailed}
-use Rattle.djq_serve.specs.Told.{Shown, shown}
+use Rattle.djq_serve.specs.Told.{Shown, hub_shown}
 use Rattle.djq_serve.specs.Server.{all_done}
 use Rattle.djq_serve.specs.Logged.{UnkeptIsSilent}
 use Rattle.djq_serve.specs.Ends.{ServeEnds}
-use Rattle.djq.specs.Logged.{LogSeen, IsUnasked, status_of, Begins, Logs, NeverBegins}
+use Rattle.djq.specs.Logged.{LogSeen, IsUnasked, served_status, Begins, Logs, NeverBegins}
 
 -- It gave these bytes, has nothing left, and no read failed.
-pub record ReadsWhole (before now : Option Reading) (faults faults' : ℕ) (bytes : Bytes)
+pub record SourceReadsWhole (before now : Option SourceReading) (faults faults' : ℕ) (bytes : Bytes)
     : Type 0 where
   pub gave : Gave before now bytes
   pub at_end : IsAtEnd now
@@ -41,28 +41,28 @@ pub record ReadsWhole (before now : Option Reading) (faults faults' : ℕ) (byte
 
 -- Why reading stopped before the source's end: a read failed, as many were made as may be, or
 -- memory was wanted.
-abbrev pub StopsFor : Status → Bytes → ℕ → ℕ → Type 0
-StopsFor ReadFault bytes faults faults' = Counted faults faults'
-StopsFor TurnsUsed bytes faults faults' = (MOST_READS ≤ length bytes) × (faults' ≡ faults)
-StopsFor NoMemory bytes faults faults' = faults' ≡ faults
-StopsFor _ bytes faults faults' = ⊥
+abbrev pub ReadingStopsFor : Status → Bytes → ℕ → ℕ → Type 0
+ReadingStopsFor ReadFault bytes faults faults' = Counted faults faults'
+ReadingStopsFor TurnsUsed bytes faults faults' = (MOST_READS ≤ length bytes) × (faults' ≡ faults)
+ReadingStopsFor NoMemory bytes faults faults' = faults' ≡ faults
+ReadingStopsFor _ bytes faults faults' = ⊥
 
 -- Reading stopped so.
-pub record StopsReading (status : Status) (before now : Option Reading) (faults faults' : ℕ)
+pub record StopsReading (status : Status) (before now : Option SourceReading) (faults faults' : ℕ)
     : Type 0 where
   pub bytes : Bytes
   pub gave : Gave before now bytes
-  pub stops : StopsFor status bytes faults faults'
+  pub stops : ReadingStopsFor status bytes faults faults'
 
 -- a hub that was asked nothing yet, with these turns to come
 abbrev pub hub_of : List Coming → Shown
-hub_of turns = shown (Some []) (Some (record { blocked = []; turns = turns })) no_ids
+hub_of turns = hub_shown (Some []) (Some (record { blocked = []; turns = turns })) no_ids
 
 -- whether serving ended as the hub was over, a session said `stop`, or the log failed
-abbrev pub IsWhole : Served → Type 0
-IsWhole AllTaken = ⊥
-IsWhole HubFailed = ⊥
-IsWhole _ = Unit {0}
+abbrev pub ServedWhole : Served → Type 0
+ServedWhole AllTaken = ⊥
+ServedWhole HubFailed = ⊥
+ServedWhole _ = Unit {0}
 
 -- The lines of the log were loaded, a batch that they left open was ended, and the hub of these turns
 -- was served from what they gave on, until it was over, a session said `stop`, or the log failed: by
@@ -80,11 +80,11 @@ pub record Plays (log : Option LogSeen) (turns : List Coming) (most : ℕ) (coun
   pub ids : Ids
   pub state : State
   pub answer : Served
-  pub ends : ServeEnds answer most (hub_of turns) loaded start (shown past (Some left) ids)
+  pub ends : ServeEnds answer most (hub_of turns) loaded start (hub_shown past (Some left) ids)
       counted' state
   pub logs : Logs log found first answer (groups_of (all_done ends.goes.moves))
   pub silent : UnkeptIsSilent answer ends.goes.moves
-  pub whole : IsWhole answer
+  pub whole : ServedWhole answer
 
 -- **The theorem of `replay`.** The hub of these turns was served, and tells all calls that it was
 -- asked. No send among them found its session gone: so each took all that was offered, unless the
@@ -96,16 +96,16 @@ pub record Replays (log : Option LogSeen) (turns : List Coming) (most : ℕ) (co
   pub plays : Plays log turns most counted counted' (Some told)
   pub none_gone : has_gone told ≡ false
   pub sent : text ≡ sent_text told
-  pub is : status ≡ status_of plays.answer
+  pub is : status ≡ served_status plays.answer
 
 -- What is to be written for a schedule, and the status where it is: the line that says which of its
 -- lines is the first outside the grammar, and nothing is loaded or run; or what was sent, where none
 -- is. It is served for one turn more than it has lines.
-abbrev pub ComesTo : Option LogSeen → Result (List Coming) ℕ → Bytes → Counts → Counts → Bytes → Status → Type 0
-ComesTo log (Err n) bytes counted counted' text status = (text ≡ outside_line n)
+abbrev pub ReplayComesTo : Option LogSeen → Result (List Coming) ℕ → Bytes → Counts → Counts → Bytes → Status → Type 0
+ReplayComesTo log (Err n) bytes counted counted' text status = (text ≡ outside_line n)
     × (status ≡ Schedule n) × (counted' ≡ counted) × IsUnasked log
-ComesTo log (Ok turns) bytes counted counted' text status =
-    Replays log turns (length (lines_of bytes) + 1) counted counted' text status
+ReplayComesTo log (Ok turns) bytes counted counted' text status =
+    Replays log turns (length (schedule_lines bytes) + 1) counted counted' text status
 
 -- the status where two things failed: that of the log, where it failed as the schedule was run, and
 -- else that of what failed later
@@ -119,7 +119,7 @@ pub record Untold (log : Option LogSeen) (status : Status) (turns : List Coming)
     (counted counted' : Counts) : Type 0 where
   pub past : Option (List Told)
   pub plays : Plays log turns most counted counted' past
-  pub is : status ≡ first_fault (status_of plays.answer) NoMemory
+  pub is : status ≡ first_fault (served_status plays.answer) NoMemory
 
 -- What was done for a schedule of which nothing is to be written: nothing began, as the log wasn't
 -- loaded or memory was wanted; or its hub was served all the same, and what was sent couldn't be told.
@@ -128,7 +128,7 @@ ComesToNothing log status (Err n) bytes counted counted' = (status ≡ NoMemory)
     × IsUnasked log
 ComesToNothing log status (Ok turns) bytes counted counted' =
     NeverBegins log status counted counted'
-    ⊎ Untold log status turns (length (lines_of bytes) + 1) counted counted'
+    ⊎ Untold log status turns (length (schedule_lines bytes) + 1) counted counted'
 
 -- The sink took all of the text, and the status is this; or it took a first part that isn't the
 -- whole, and then a write failed, which was the last.
@@ -144,7 +144,7 @@ Wrote status whole text writing faults writing' faults' =
 abbrev pub WritesFor : Option LogSeen → Status → Bytes → Option (List Write) → ℕ → Counts
     → Option (List Write) → ℕ → Counts → Type 0
 WritesFor log status bytes writing faults counted writing' faults' counted' =
-    ((text : Bytes) × (whole : Status) × ComesTo log (turns_of bytes) bytes counted counted' text whole
+    ((text : Bytes) × (whole : Status) × ReplayComesTo log (turns_of bytes) bytes counted counted' text whole
     × Wrote status whole text writing faults writing' faults')
     ⊎ (ComesToNothing log status (turns_of bytes) bytes counted counted'
     × (writing' ≡ writing) × (faults' ≡ faults))
@@ -152,12 +152,12 @@ WritesFor log status bytes writing faults counted writing' faults' counted' =
 -- The whole schedule was read, and then written of.
 pub record WritesWhole (log : Option LogSeen) (status : Status) (before now : Outside) : Type 0 where
   pub bytes : Bytes
-  pub reads : ReadsWhole before.reading now.reading before.read_faults now.read_faults bytes
+  pub reads : SourceReadsWhole before.reading now.reading before.read_faults now.read_faults bytes
   pub writes : WritesFor log status bytes before.writing before.write_faults before.counted now.writing
       now.write_faults now.counted
 
 -- Reading stopped before the end: nothing is loaded, run or written.
-pub record Stops (log : Option LogSeen) (status : Status) (before now : Outside) : Type 0 where
+pub record ReadingStops (log : Option LogSeen) (status : Status) (before now : Outside) : Type 0 where
   pub reading : StopsReading status before.reading now.reading before.read_faults now.read_faults
   pub writing : now.writing ≡ before.writing
   pub no_fault : now.write_faults ≡ before.write_faults
@@ -166,4 +166,4 @@ pub record Stops (log : Option LogSeen) (status : Status) (before now : Outside)
 
 -- How `replay` ends.
 abbrev pub ReplayEnds : Option LogSeen → Status → Outside → Outside → Type 0
-ReplayEnds log status before now = WritesWhole log status before now ⊎ Stops log status before now
+ReplayEnds log status before now = WritesWhole log status before now ⊎ ReadingStops log status before now

@@ -1,9 +1,9 @@
 ghost use Rattle.std.specs.Prelude.{◌≡◌, [], None, IfSome, MatchResult};
-ghost use Rattle.djq_disk.specs.History.{WhereTold};
-ghost use Rattle.djq_journal.specs.Standing.{IsAt};
+ghost use Rattle.djq_disk.specs.History.{WhereHistoryTold};
+ghost use Rattle.djq_journal.specs.Standing.{IsAtGate};
 ghost use Rattle.djq_machine.specs.State.{opening};
 ghost use Rattle.djq_machine.specs.Call.{counts};
-ghost use Rattle.djq.specs.Logged.{LeavesUnloaded, UnloadedFor, Unloaded, disk_seen, log_at, log_seen};
+ghost use Rattle.djq.specs.Logged.{LeavesUnloaded, UnloadedFor, Unloaded, disk_seen, log_seen_at, log_seen};
 ghost use Rattle.djq_core.specs.Views.{loading_in};
 ghost use Rattle.djq.specs.Parts.{OpensLog, OpensFile, OpensJournal, LoadsLines, StopsLoading};
 ghost use Rattle.djq.specs.Parts.{ReadsLog, EndsBatch, CantEnd};
@@ -57,10 +57,10 @@ fn read_log<D: Disk, L: Ledgers>(
     requires fresh { machine.old.state ≡ opening }
     requires closed { machine.old.batch ≡ None }
     ensures { MatchResult result
-        (λ journal. ReadsLog (log_at path.now (disk_seen (D.told disk.old) (D.faults disk.old))
+        (λ journal. ReadsLog (log_seen_at path.now (disk_seen (D.told disk.old) (D.faults disk.old))
         (disk_seen (D.told disk.new) (D.faults disk.new)))
         journal (loading_in machine.new) machine.new.state steps.old.listing steps.new.listing)
-        (λ status. Unloaded (log_at path.now (disk_seen (D.told disk.old) (D.faults disk.old))
+        (λ status. Unloaded (log_seen_at path.now (disk_seen (D.told disk.old) (D.faults disk.old))
         (disk_seen (D.told disk.new) (D.faults disk.new)))
         status (counts steps.old.listing steps.old.update steps.old.rows)
         (counts steps.new.listing steps.new.update steps.new.rows)) }
@@ -78,7 +78,7 @@ fn open_journal<D: Disk>(disk: &mut D, path: &str) -> Result<Journal, Status>
         (disk_seen (D.told disk.new) (D.faults disk.new)))
         (λ status. UnloadedFor status (D.faults disk.old)
         (disk_seen (D.told disk.new) (D.faults disk.new))
-        × WhereTold (D.told disk.old) (D.told disk.new) (LeavesUnloaded path.now)) }
+        × WhereHistoryTold (D.told disk.old) (D.told disk.new) (LeavesUnloaded path.now)) }
 {
     match open_file(disk, path) {
         DiskDid::Done => {}
@@ -149,7 +149,7 @@ fn load_lines<D: Disk, L: Ledgers>(
 ) -> Result<Journal, Status>
     requires fresh { machine.old.state ≡ opening }
     requires closed { machine.old.batch ≡ None }
-    requires first { IfSome (D.told disk.old) (λ h. IsAt [] journal h.file) }
+    requires first { IfSome (D.told disk.old) (λ h. IsAtGate [] journal h.file) }
     ensures { MatchResult result
         (λ journal. LoadsLines journal (loading_in machine.new) machine.new.state
         (disk_seen (D.told disk.old) (D.faults disk.old))

@@ -1,13 +1,13 @@
 ghost use Rattle.std.specs.Prelude.{◌≡◌, ℕ, [], true, Option, map};
-ghost use Rattle.djq_io.specs.Source.{Reading};
+ghost use Rattle.djq_io.specs.Source.{SourceReading};
 ghost use Rattle.djq_machine.specs.State.{opening};
 ghost use Rattle.djq_machine.specs.Call.{Counts, counts};
 ghost use Rattle.djq_laws.specs.Course.{outside};
 ghost use Rattle.djq_value.specs.Literal.{is_name};
-ghost use Rattle.djq_serve.specs.Told.{shown};
-ghost use Rattle.djq.specs.Logged.{disk_seen, log_seen, status_of};
+ghost use Rattle.djq_serve.specs.Told.{hub_shown};
+ghost use Rattle.djq.specs.Logged.{disk_seen, log_seen, served_status};
 ghost use Rattle.djq.specs.Mirror.{mirror_status, MirrorsSource};
-ghost use Rattle.djq.specs.Ends.{ProgramEnds, AsksToServe, AsksForLog, Serves, HubEnds, Explains, hub_seen};
+ghost use Rattle.djq.specs.Ends.{ProgramEnds, AsksToServe, AsksForLog, Serves, HubEnds, WritesUsage, hub_seen};
 
 use crate::load::generate;
 use crate::log::open_log;
@@ -54,11 +54,11 @@ pub fn run_program<S: Source, K: Sink, H: Hub, D: Disk, L: Ledgers>(
     ensures ends { ProgramEnds result (map (λ word. word.now) words.entry.now)
         (outside (S.told source.old) (S.faults source.old) (K.told sink.old) (K.faults sink.old)
         (counts steps.old.listing steps.old.update steps.old.rows))
-        (hub_seen (shown (H.past hub.old) (H.script hub.old) (H.ids hub.old)) (H.faults hub.old))
+        (hub_seen (hub_shown (H.past hub.old) (H.script hub.old) (H.ids hub.old)) (H.faults hub.old))
         (disk_seen (D.told disk.old) (D.faults disk.old))
         (outside (S.told source.new) (S.faults source.new) (K.told sink.new) (K.faults sink.new)
         (counts steps.new.listing steps.new.update steps.new.rows))
-        (hub_seen (shown (H.past hub.new) (H.script hub.new) (H.ids hub.new)) (H.faults hub.new))
+        (hub_seen (hub_shown (H.past hub.new) (H.script hub.new) (H.ids hub.new)) (H.faults hub.new))
         (disk_seen (D.told disk.new) (D.faults disk.new)) }
     ensures spared { (AsksToServe (map (λ word. word.now) words.entry.now) → ⊥)
         → hub.new ≡ hub.old }
@@ -119,9 +119,9 @@ fn serve_hub<H: Hub, D: Disk, L: Ledgers>(
     ensures { HubEnds (log_seen path.entry (disk_seen (D.told disk.old) (D.faults disk.old))
         (disk_seen (D.told disk.new) (D.faults disk.new)))
         result addr.now turns
-        (hub_seen (shown (H.past hub.old) (H.script hub.old) (H.ids hub.old)) (H.faults hub.old))
+        (hub_seen (hub_shown (H.past hub.old) (H.script hub.old) (H.ids hub.old)) (H.faults hub.old))
         (counts steps.old.listing steps.old.update steps.old.rows)
-        (hub_seen (shown (H.past hub.new) (H.script hub.new) (H.ids hub.new)) (H.faults hub.new))
+        (hub_seen (hub_shown (H.past hub.new) (H.script hub.new) (H.ids hub.new)) (H.faults hub.new))
         (counts steps.new.listing steps.new.update steps.new.rows) }
 {
     let Ok(mut machine) = Core::new(alloc) else {
@@ -145,7 +145,7 @@ fn serve_hub<H: Hub, D: Disk, L: Ledgers>(
 
 /// The status that the answer of the loop comes to.
 pub(crate) fn ended_status(served: Served) -> Status
-    ensures { result ≡ status_of served }
+    ensures { result ≡ served_status served }
 {
     match served {
         Served::Stopped | Served::Over => Status::Done,
@@ -187,7 +187,7 @@ fn mirror_status(answer: Mirrored) -> Status
 
 /// Writes the usage line.
 fn explain_usage<K: Sink>(sink: &mut K) -> Status
-    ensures { (reading : Option Reading) (faults : ℕ) (counted : Counts) → Explains result
+    ensures { (reading : Option SourceReading) (faults : ℕ) (counted : Counts) → WritesUsage result
         (outside reading faults (K.told sink.old) (K.faults sink.old) counted)
         (outside reading faults (K.told sink.new) (K.faults sink.new) counted) }
 {

@@ -1,13 +1,13 @@
 ghost use Rattle.std.specs.Prelude.{◌≡◌, ℕ, List, ◌+◌, ◌<◌, length, Option, Ok, Err, MatchResult};
-ghost use Rattle.djq_io.specs.Source.{Reading};
+ghost use Rattle.djq_io.specs.Source.{SourceReading};
 ghost use Rattle.djq_machine.specs.Call.{counts};
 ghost use Rattle.djq_laws.specs.Course.{outside};
-ghost use Rattle.djq_schedule.specs.Schedule.{lines_of};
-ghost use Rattle.djq_schedule.specs.Made.{turns_of, IsMade};
+ghost use Rattle.djq_schedule.specs.Schedule.{schedule_lines};
+ghost use Rattle.djq_schedule.specs.Made.{turns_of, ScheduleIsMade};
 ghost use Rattle.djq_schedule.specs.Sent.{outside_line};
 ghost use Rattle.djq.specs.Logged.{disk_seen, log_seen};
-ghost use Rattle.djq.specs.Parts.{TellsAll, TellsNone};
-ghost use Rattle.djq.specs.Replay.{ReadsWhole, StopsReading, ComesTo, ComesToNothing, first_fault};
+ghost use Rattle.djq.specs.Parts.{TellsWhole, TellsNone};
+ghost use Rattle.djq.specs.Replay.{SourceReadsWhole, StopsReading, ReplayComesTo, ComesToNothing, first_fault};
 ghost use Rattle.djq.specs.Replay.{Wrote, WritesFor, ReplayEnds};
 
 use crate::log::open_log;
@@ -52,7 +52,7 @@ pub(crate) fn replay<S: Source, K: Sink, D: Disk, L: Ledgers>(
 /// All bytes of the source; or the status for which reading stopped before its end.
 fn read_whole<S: Source>(alloc: Global, source: &mut S) -> Result<Vec<u8>, Status>
     ensures { MatchResult result
-        (λ bytes. ReadsWhole (S.told source.old) (S.told source.new) (S.faults source.old)
+        (λ bytes. SourceReadsWhole (S.told source.old) (S.told source.new) (S.faults source.old)
         (S.faults source.new) bytes.items)
         (λ status. StopsReading status (S.told source.old) (S.told source.new) (S.faults source.old)
         (S.faults source.new)) }
@@ -71,7 +71,7 @@ fn read_pieces<S: Source>(
 ) -> Result<Vec<u8>, Status>
     requires { 0 < length buffer.old }
     ensures { MatchResult result
-        (λ bytes. ReadsWhole (S.told source.old) (S.told source.new) (S.faults source.old)
+        (λ bytes. SourceReadsWhole (S.told source.old) (S.told source.new) (S.faults source.old)
         (S.faults source.new) bytes.items)
         (λ status. StopsReading status (S.told source.old) (S.told source.new) (S.faults source.old)
         (S.faults source.new)) }
@@ -147,7 +147,7 @@ fn make_text<D: Disk, L: Ledgers>(
     steps: &mut Steps<L>,
 ) -> Result<(Vec<u8>, Status), Status>
     ensures { MatchResult result
-        (λ made. ComesTo (log_seen path.entry (disk_seen (D.told disk.old) (D.faults disk.old))
+        (λ made. ReplayComesTo (log_seen path.entry (disk_seen (D.told disk.old) (D.faults disk.old))
         (disk_seen (D.told disk.new) (D.faults disk.new)))
         (turns_of bytes.now) bytes.now (counts steps.old.listing steps.old.update steps.old.rows)
         (counts steps.new.listing steps.new.update steps.new.rows) made.0.items made.1)
@@ -188,9 +188,9 @@ fn serve_schedule<D: Disk, L: Ledgers>(
     disk: &mut D,
     steps: &mut Steps<L>,
 ) -> Result<(Vec<u8>, Status), Status>
-    requires { IsMade bytes.now hub }
+    requires { ScheduleIsMade bytes.now hub }
     ensures { MatchResult result
-        (λ made. ComesTo (log_seen path.entry (disk_seen (D.told disk.old) (D.faults disk.old))
+        (λ made. ReplayComesTo (log_seen path.entry (disk_seen (D.told disk.old) (D.faults disk.old))
         (disk_seen (D.told disk.new) (D.faults disk.new)))
         (Ok hub.script.turns) bytes.now (counts steps.old.listing steps.old.update steps.old.rows)
         (counts steps.new.listing steps.new.update steps.new.rows) made.0.items made.1)
@@ -229,7 +229,7 @@ fn serve_schedule<D: Disk, L: Ledgers>(
 ///
 /// The status where there is no memory for them.
 fn tell_sent(alloc: Global, hub: &SteadyHub, status: Status) -> Result<(Vec<u8>, Status), Status>
-    ensures { MatchResult result (λ made. TellsAll made.0.items made.1 hub.now.past status)
+    ensures { MatchResult result (λ made. TellsWhole made.0.items made.1 hub.now.past status)
         (λ lacking. TellsNone lacking status) }
 {
     let Some(past) = hub.past() else {

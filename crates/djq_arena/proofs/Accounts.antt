@@ -6,43 +6,46 @@ use Rattle.std.specs.Result.{IfOk, OnErr}
 use Rattle.djq_arena.specs.declared.store.Store.{Store}
 use Rattle.djq_arena.specs.declared.chain.Ends.{Ends}
 use Rattle.djq_arena.specs.Chains.{AreBelow, first_of, last_of, Linked, pair_at}
-use Rattle.djq_arena.specs.Store.{cells_at, live_of, free_of, IsSound, rows_in, rows_of, IsSame, IsTidy}
-use Rattle.djq_arena.specs.Rows.{Row, SlotRows, slots, IsHeld, AreWideRows, AreRows}
+use Rattle.djq_arena.specs.Store.{cells_at, live_of, free_of, ChainsAreSound, rows_in, store_rows, IsSame, IsTidy}
+use Rattle.djq_arena.specs.Rows.{Row, SlotRows, slots, IsRowHeld, AreWideRows, AreRows}
 use Rattle.djq_arena.proofs.Lists.{different_front, below_front}
 use Rattle.djq_arena.proofs.Chaining.{prev_here, next_here}
 use Rattle.djq_arena.proofs.Storing.{held_within}
 use Rattle.djq_arena.proofs.Filling.{row_fits}
 use Rattle.djq_arena.proofs.RowLemmas.{split_at, held_slot, slots_in, same_rows}
 
-pub row_within : (a : Store) (i : ℕ) → IsSound a → IsHeld (rows_of a) i → i < length a.order.items
+pub row_within : (a : Store) (i : ℕ) → ChainsAreSound a → IsRowHeld (store_rows a) i → i < length a.order.items
 row_within a i h held = held_within a i h (held_slot a i held)
 
-pub row_cells : (a : Store) (i : ℕ) (xs : List Row) (r : Row) (ys : List Row) → rows_of a ≡ xs ++ r ∷ ys → r.slot ≡ i
+pub row_cells : (a : Store) (i : ℕ) (xs : List Row) (r : Row) (ys : List Row) → store_rows a ≡ xs ++ r ∷ ys → r.slot ≡ i
     → cells_at a.width a.cells.items i ≡ r.cells
 row_cells a i xs r ys is at = ap (cells_at a.width a.cells.items) (sym at) ∙ (split_at a xs r ys is).cells
 
-row_chain : (a : Store) (i : ℕ) (xs : List Row) (r : Row) (ys : List Row) → IsSound a → rows_of a ≡ xs ++ r ∷ ys
+row_chain : (a : Store) (i : ℕ) (xs : List Row) (r : Row) (ys : List Row) → ChainsAreSound a
+    → store_rows a ≡ xs ++ r ∷ ys
     → r.slot ≡ i → Linked a.order.items None (slots xs ++ i ∷ slots ys) None
 row_chain a i xs r ys h is at =
     subst (λ zs. Linked a.order.items None zs None)
     ((split_at a xs r ys is).live ∙ ap (λ (n : ℕ). slots xs ++ n ∷ slots ys) at) h.store.order
 
-pub row_next : (a : Store) (i : ℕ) (xs : List Row) (r : Row) (ys : List Row) → IsSound a → rows_of a ≡ xs ++ r ∷ ys
+pub row_next : (a : Store) (i : ℕ) (xs : List Row) (r : Row) (ys : List Row) → ChainsAreSound a
+    → store_rows a ≡ xs ++ r ∷ ys
     → r.slot ≡ i → (pair_at a.order.items i).next ≡ first_of (slots ys)
 row_next a i xs r ys h is at = next_here a.order.items (slots xs) i (slots ys) (row_chain a i xs r ys h is at)
 
-pub row_prev : (a : Store) (i : ℕ) (xs : List Row) (r : Row) (ys : List Row) → IsSound a → rows_of a ≡ xs ++ r ∷ ys
+pub row_prev : (a : Store) (i : ℕ) (xs : List Row) (r : Row) (ys : List Row) → ChainsAreSound a
+    → store_rows a ≡ xs ++ r ∷ ys
     → r.slot ≡ i → (pair_at a.order.items i).prev ≡ last_of (slots xs)
 row_prev a i xs r ys h is at = prev_here a.order.items (slots xs) i (slots ys) (row_chain a i xs r ys h is at)
 
-slots_of : (a : Store) → slots (rows_of a) ≡ live_of a
-unfolding rows_of
+slots_of : (a : Store) → slots (store_rows a) ≡ live_of a
+unfolding store_rows
 slots_of a = slots_in a.width a.cells.items (live_of a)
 
-pub first_row : (a : Store) → IsSound a → a.live.first ≡ first_of (slots (rows_of a))
+pub first_row : (a : Store) → ChainsAreSound a → a.live.first ≡ first_of (slots (store_rows a))
 first_row a h = ap (λ (e : Ends). e.first) h.store.live ∙ ap first_of (sym (slots_of a))
 
-pub last_row : (a : Store) → IsSound a → a.live.last ≡ last_of (slots (rows_of a))
+pub last_row : (a : Store) → ChainsAreSound a → a.live.last ≡ last_of (slots (store_rows a))
 last_row a h = ap (λ (e : Ends). e.last) h.store.live ∙ ap last_of (sym (slots_of a))
 
 length_slots : (rs : List Row) → length (slots rs) ≡ length rs
@@ -50,8 +53,8 @@ unfolding slots
 length_slots [] = refl
 length_slots (r ∷ rs) = ap suc (length_slots rs)
 
-pub row_count : (a : Store) → IsSound a → a.len ≡ length (rows_of a)
-row_count a h = sym h.store.count ∙ ap (λ (xs : List ℕ). length xs) (sym (slots_of a)) ∙ length_slots (rows_of a)
+pub row_count : (a : Store) → ChainsAreSound a → a.len ≡ length (store_rows a)
+row_count a h = sym h.store.count ∙ ap (λ (xs : List ℕ). length xs) (sym (slots_of a)) ∙ length_slots (store_rows a)
 
 row_wide : (w n : ℕ) (cells : List ℕ) (i : ℕ) → length cells ≡ n * w → i < n → length (cells_at w cells i) ≡ w
 unfolding cells_at
@@ -63,16 +66,16 @@ unfolding AreWideRows rows_in AreBelow
 rows_wide w n cells [] long b = tt
 rows_wide w n cells (x ∷ xs) long b = (row_wide w n cells x long b.0, rows_wide w n cells xs long b.1)
 
-all_wide : (a : Store) → IsSound a → AreWideRows a.width (rows_of a)
-unfolding rows_of
+all_wide : (a : Store) → ChainsAreSound a → AreWideRows a.width (store_rows a)
+unfolding store_rows
 all_wide a h = rows_wide a.width (length a.order.items) a.cells.items (live_of a) h.store.cells
     (below_front (length a.order.items) (live_of a) (free_of a) h.store.below)
 
 -- what an arena shows of its store
 abbrev pub value : Store → SlotRows
-value a = record { width = a.width; room = length a.order.items; rows = rows_of a }
+value a = record { width = a.width; room = length a.order.items; rows = store_rows a }
 
-pub rows_law : (a : Store) → IsSound a → AreRows (value a)
+pub rows_law : (a : Store) → ChainsAreSound a → AreRows (value a)
 rows_law a h = record {
   different = rw slots_of (different_front (live_of a) (free_of a) h.store.apart);
   below = rw slots_of (below_front (length a.order.items) (live_of a) (free_of a) h.store.below);

@@ -4,8 +4,8 @@ use Rattle.std.proofs.Common.{Some, None, replicate, refl, ap, subst, sym, ◌�
 use Rattle.std.proofs.Common.{length-append, length-set, get_or-set_same, get_or-set_other}
 use Rattle.std.proofs.lemmas.Bool.{cases_eq}
 use Rattle.std.proofs.lemmas.List.{get_or-replicate}
-use Rattle.djq_arena.specs.Chains.{IsOut, AreDifferent, AreBelow}
-use Rattle.djq_arena.specs.Buckets.{link_at, Chained, IsBucket, AreBuckets, Stands, IsBehind}
+use Rattle.djq_arena.specs.Chains.{IsOut, AreDistinctSlots, AreBelow}
+use Rattle.djq_arena.specs.Buckets.{link_at, Chained, IsBucket, AreBuckets, StandsInChain, IsBehind}
 use Rattle.djq_arena.specs.Buckets.{relinked, reheaded, IsUnlisted}
 use Rattle.djq_arena.proofs.Lists.{out_front, out_less, out_middle, out_here, different_out}
 use Rattle.djq_arena.proofs.Lists.{different_here, ends_with, in_or_out, holds_in, held_not_out}
@@ -52,7 +52,7 @@ buckets_kept falls others links more heads xs b same keeps = record {
 -- buckets without slots
 pub empty_buckets : (falls : ℕ → ℕ) (links heads : List (Option ℕ)) → heads ≡ replicate (length heads) None
     → AreBuckets falls links heads []
-unfolding Chained AreDifferent IsOut
+unfolding Chained AreDistinctSlots IsOut
 empty_buckets falls links heads h = record {
   each = λ k inside. record {
     slots = [];
@@ -68,12 +68,12 @@ pub bucket_short : (falls : ℕ → ℕ) (k : ℕ) (links : List (Option ℕ)) (
     → (b : IsBucket falls k links head xs) → length b.slots ≤ length xs
 bucket_short falls k links head xs b = no_longer b.slots xs b.different b.only
 
-different_more : (i : ℕ) (xs : List ℕ) → IsOut i xs → AreDifferent xs → AreDifferent (i ∷ xs)
-unfolding AreDifferent
+different_more : (i : ℕ) (xs : List ℕ) → IsOut i xs → AreDistinctSlots xs → AreDistinctSlots (i ∷ xs)
+unfolding AreDistinctSlots
 different_more i xs h k = (h, k)
 
-different_first : (i : ℕ) (xs : List ℕ) → AreDifferent (i ∷ xs) → IsOut i xs
-unfolding AreDifferent
+different_first : (i : ℕ) (xs : List ℕ) → AreDistinctSlots (i ∷ xs) → IsOut i xs
+unfolding AreDistinctSlots
 different_first i xs h = h.0
 
 -- a slot comes in as the first of its bucket
@@ -121,14 +121,14 @@ listed_buckets falls links heads xs i k b out within inside here = record {
 -- a slot stands in its bucket
 pub bucket_stands : (falls : ℕ → ℕ) (k : ℕ) (links : List (Option ℕ)) (head : Option ℕ) (xs : List ℕ) (i : ℕ)
     → IsBucket falls k links head xs → (IsOut i xs → ⊥) → falls i ≡ k → AreBelow (length links) xs
-    → length xs ≤ length links → Stands links head i
+    → length xs ≤ length links → StandsInChain links head i
 bucket_stands falls k links head xs i b held here below few =
     let place = holds_in i b.slots (λ out. held (b.all i here out)) in
     record {
       front = place.front;
       back = place.back;
       chained = subst (Chained links head) place.is b.chained;
-      different = subst AreDifferent place.is b.different;
+      different = subst AreDistinctSlots place.is b.different;
       below = subst (AreBelow (length links)) place.is (all_below (length links) b.slots xs b.only below);
       short = omega (
         arith,
@@ -162,7 +162,7 @@ less_mine falls k links heads xs i before b out inside here behind = record {
   its = λ j other. out_less j front i back (subst (IsOut j) slots_are (b.its j other));
 }
   where
-    place : Stands links (link_at heads k) i
+    place : StandsInChain links (link_at heads k) i
     place = behind.place
 
     front : List ℕ

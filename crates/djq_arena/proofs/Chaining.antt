@@ -4,7 +4,7 @@ use Rattle.std.proofs.Common.{Some, None, refl, ap, sym, ◌∙◌, length-set, 
 use Rattle.std.proofs.Common.{get_or-set_other}
 use Rattle.djq_arena.specs.declared.chain.Pair.{Pair}
 use Rattle.djq_arena.specs.Chains.{pair_at, first_or, last_from, first_of, last_of, Linked, Onward}
-use Rattle.djq_arena.specs.Chains.{IsOut, AreDifferent, AreBelow, set_prev, set_next, entered, left}
+use Rattle.djq_arena.specs.Chains.{IsOut, AreDistinctSlots, AreBelow, set_prev, set_next, entered, chain_without}
 use Rattle.djq_arena.specs.Chains.{Differs, Avoids, Agree, trail}
 use Rattle.djq_arena.proofs.Lists.{first_append, different_front, different_back, different_out}
 use Rattle.djq_arena.proofs.Lists.{different_swap, below_out, below_front, below_back, last_differs}
@@ -134,19 +134,19 @@ below_rest : (n : ℕ) (x : ℕ) (xs : List ℕ) → AreBelow n (x ∷ xs) → A
 unfolding AreBelow
 below_rest n x xs h = h.1
 
-different_first : (x : ℕ) (xs : List ℕ) → AreDifferent (x ∷ xs) → IsOut x xs
-unfolding AreDifferent
+different_first : (x : ℕ) (xs : List ℕ) → AreDistinctSlots (x ∷ xs) → IsOut x xs
+unfolding AreDistinctSlots
 different_first x xs h = h.0
 
-different_rest : (x : ℕ) (xs : List ℕ) → AreDifferent (x ∷ xs) → AreDifferent xs
-unfolding AreDifferent
+different_rest : (x : ℕ) (xs : List ℕ) → AreDistinctSlots (x ∷ xs) → AreDistinctSlots xs
+unfolding AreDistinctSlots
 different_rest x xs h = h.1
 
 last_unlike : (x y : ℕ) (ys : List ℕ) → IsOut x (y ∷ ys) → Differs (last_from (Some y) ys) x
 unfolding IsOut
 last_unlike x y ys h = last_differs (Some y) ys x h.0 h.1
 
-set_end : (links : List Pair) (o : Option ℕ) (x : ℕ) (xs : List ℕ) (z v : Option ℕ) → AreDifferent (x ∷ xs)
+set_end : (links : List Pair) (o : Option ℕ) (x : ℕ) (xs : List ℕ) (z v : Option ℕ) → AreDistinctSlots (x ∷ xs)
     → AreBelow (length links) (x ∷ xs) → Linked links o (x ∷ xs) z
     → Linked (set_next (last_from (Some x) xs) v links) o (x ∷ xs) v
 unfolding Linked
@@ -163,13 +163,13 @@ set_end links o x (y ∷ ys) z v d b h =
           h.2,
     )
 
-pub end_set : (links : List Pair) (xs : List ℕ) (z v : Option ℕ) → AreDifferent xs → AreBelow (length links) xs
+pub end_set : (links : List Pair) (xs : List ℕ) (z v : Option ℕ) → AreDistinctSlots xs → AreBelow (length links) xs
     → Linked links None xs z → Linked (set_next (last_of xs) v links) None xs v
 unfolding Linked
 end_set links [] z v d b h = tt
 end_set links (x ∷ xs) z v d b h = set_end links None x xs z v d b h
 
-pub start_set : (links : List Pair) (o : Option ℕ) (xs : List ℕ) (z v : Option ℕ) → AreDifferent xs
+pub start_set : (links : List Pair) (o : Option ℕ) (xs : List ℕ) (z v : Option ℕ) → AreDistinctSlots xs
     → AreBelow (length links) xs → Linked links o xs z → Linked (set_prev (first_of xs) v links) v xs z
 unfolding Linked
 start_set links o [] z v d b h = tt
@@ -187,7 +187,7 @@ alone : (links : List Pair) (o : Option ℕ) (i : ℕ) → (pair_at links i).pre
 unfolding Linked
 alone links o i h k = (h, k, tt)
 
-pub entered_linked : (links : List Pair) (xs : List ℕ) (i : ℕ) → AreDifferent xs → AreBelow (length links) xs
+pub entered_linked : (links : List Pair) (xs : List ℕ) (i : ℕ) → AreDistinctSlots xs → AreBelow (length links) xs
     → IsOut i xs → i < length links → Linked links None xs None
     → Linked (entered (last_of xs) i links) None (xs ++ i ∷ []) None
 unfolding entered
@@ -221,42 +221,42 @@ linked_rest : (links : List Pair) (o : Option ℕ) (x : ℕ) (xs : List ℕ) (z 
 unfolding Linked
 linked_rest links o x xs z h = h.2
 
-left_parts : (links : List Pair) (xs : List ℕ) (i : ℕ) (ys : List ℕ) → AreDifferent (xs ++ i ∷ ys)
+left_parts : (links : List Pair) (xs : List ℕ) (i : ℕ) (ys : List ℕ) → AreDistinctSlots (xs ++ i ∷ ys)
     → AreBelow (length links) (xs ++ i ∷ ys) → Linked links None xs (Some i) → Linked links (Some i) ys None
     → Linked (set_prev (first_of ys) (last_of xs) (set_next (last_of xs) (first_of ys) links)) None (xs ++ ys) None
 left_parts links xs i ys d b h k =
-    let both : AreDifferent (xs ++ ys) = different_out xs i ys d in
+    let both : AreDistinctSlots (xs ++ ys) = different_out xs i ys d in
     let below : AreBelow (length links) (xs ++ ys) = below_out (length links) xs i ys b in
     let mid = set_next (last_of xs) (first_of ys) links in
     let front : Linked mid None xs (first_of ys) = end_set links xs (Some i) (first_of ys) (different_front xs ys both)
     (below_front (length links) xs ys below) h in
     let back : Linked mid (Some i) ys None = linked_same links mid (Some i) ys None
     (agree_next (last_of xs) (first_of ys) links ys (last_avoids None xs ys (avoids_none ys) both)) k in
-    let swapped : AreDifferent (ys ++ xs) = different_swap xs ys both in
+    let swapped : AreDistinctSlots (ys ++ xs) = different_swap xs ys both in
     join (set_prev (first_of ys) (last_of xs) mid) None xs ys None
     (linked_same mid (set_prev (first_of ys) (last_of xs) mid) None xs (first_of ys)
     (agree_prev (first_of ys) (last_of xs) mid xs (first_avoids ys xs swapped)) front)
     (start_set mid (Some i) ys None (last_of xs) (different_back xs ys both)
     (rw (length-set_next (last_of xs) (first_of ys) links) (below_back (length links) xs ys below)) back)
 
-pub left_linked : (links : List Pair) (xs : List ℕ) (i : ℕ) (ys : List ℕ) → AreDifferent (xs ++ i ∷ ys)
+pub left_linked : (links : List Pair) (xs : List ℕ) (i : ℕ) (ys : List ℕ) → AreDistinctSlots (xs ++ i ∷ ys)
     → AreBelow (length links) (xs ++ i ∷ ys) → Linked links None (xs ++ i ∷ ys) None
-    → Linked (left (pair_at links i) links) None (xs ++ ys) None
-unfolding left
+    → Linked (chain_without (pair_at links i) links) None (xs ++ ys) None
+unfolding chain_without
 left_linked links xs i ys d b h =
     rw (prev_here links xs i ys h, next_here links xs i ys h)
     (left_parts links xs i ys d b (part_front links None xs (i ∷ ys) None h)
     (linked_rest links (last_of xs) i ys None (part_back links None xs (i ∷ ys) None h)))
 
 pub left_agree : (links : List Pair) (p : Pair) (zs : List ℕ) → Avoids p.prev zs → Avoids p.next zs
-    → Agree links (left p links) zs
-unfolding left
+    → Agree links (chain_without p links) zs
+unfolding chain_without
 left_agree links p zs a b =
     agree_trans links (set_next p.prev p.next links) (set_prev p.next p.prev (set_next p.prev p.next links)) zs
     (agree_next p.prev p.next links zs a) (agree_prev p.next p.prev (set_next p.prev p.next links) zs b)
 
-pub length-left : (links : List Pair) (p : Pair) → length (left p links) ≡ length links
-unfolding left
+pub length-left : (links : List Pair) (p : Pair) → length (chain_without p links) ≡ length links
+unfolding chain_without
 length-left links p = length-set_prev p.next p.prev (set_next p.prev p.next links) ∙ length-set_next p.prev p.next links
 
 -- a walk along a chain gives its list

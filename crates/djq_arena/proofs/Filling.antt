@@ -10,8 +10,8 @@ use Rattle.djq_arena.specs.declared.chain.Pair.{Pair}
 use Rattle.djq_arena.specs.declared.store.Store.{Store}
 use Rattle.djq_arena.specs.Chains.{pair_at, IsOut, AreBelow, Agree}
 use Rattle.djq_arena.specs.Rows.{Row}
-use Rattle.djq_arena.specs.Store.{class, cells_at, bucket_of, IsStore, live_of, free_of, IsSound}
-use Rattle.djq_arena.specs.Store.{rows_in, rows_of, IsSame, IsPrepared}
+use Rattle.djq_arena.specs.Store.{class, cells_at, bucket_of_slot, IsStore, live_of, free_of, ChainsAreSound}
+use Rattle.djq_arena.specs.Store.{rows_in, store_rows, IsSame, IsPrepared}
 use Rattle.djq_arena.specs.Buckets.{AreBuckets}
 use Rattle.djq_arena.proofs.Lists.{out_front, different_out, different_here, below_front}
 use Rattle.djq_arena.proofs.Lists.{below_back, below_here, below_out, below_more, below_unlike}
@@ -58,10 +58,10 @@ agree_append ls p (x ∷ xs) h =
     (get_or_append_left ls (p ∷ []) (record { prev = None; next = None }) x h.0, agree_append ls p xs h.1)
 
 pub buckets_moved : (m w : ℕ) (old new : List ℕ) (bucket more heads : List (Option ℕ)) (xs : List ℕ)
-    → AreBuckets (bucket_of m w old) bucket heads xs → Alike w old new xs → Keeps bucket more xs
-    → AreBuckets (bucket_of m w new) more heads xs
+    → AreBuckets (bucket_of_slot m w old) bucket heads xs → Alike w old new xs → Keeps bucket more xs
+    → AreBuckets (bucket_of_slot m w new) more heads xs
 buckets_moved m w old new bucket more heads xs b h k =
-    buckets_kept (bucket_of m w old) (bucket_of m w new) bucket more heads xs b
+    buckets_kept (bucket_of_slot m w old) (bucket_of_slot m w new) bucket more heads xs b
     (λ i held. ap (class m) (alike_at w old new xs i h held)) k
 
 -- a new slot
@@ -133,9 +133,9 @@ extend_store a b xs fs u h e wide room = record {
     grown : length a.cells.items + length u ≡ (length a.order.items + 1) * a.width
     grown = omega (arith, h.cells, wide)
 
-pub extends : (a b : Store) (u : List ℕ) → IsSound a → Extends a b u → length u ≡ a.width
+pub extends : (a b : Store) (u : List ℕ) → ChainsAreSound a → Extends a b u → length u ≡ a.width
     → length a.order.items < 4294967295 → IsPrepared a b (length a.order.items) u
-unfolding rows_of
+unfolding store_rows
 extends a b u h e wide room =
     let s = extend_store a b (live_of a) (free_of a) u h.store e wide room in
     let live = live_is b (live_of a) (free_of a) s in
@@ -158,7 +158,7 @@ extends a b u h e wide room =
       alone = λ tidy. omega (arith, longer, tidy, e.len, e.spare);
     }
   where
-    rows_same : live_of b ≡ live_of a → rows_of b ≡ rows_of a
+    rows_same : live_of b ≡ live_of a → store_rows b ≡ store_rows a
     rows_same live = ap (λ (xs : List ℕ). rows_in b.width b.cells.items xs) live
         ∙ ap₂ (λ (w : ℕ) (cs : List ℕ). rows_in w cs (live_of a)) e.width e.cells
         ∙ rows_alike a.width a.cells.items (a.cells.items ++ u) (live_of a)
@@ -195,7 +195,7 @@ stay_store a b xs fs h s = record {
   numbers = rw s.order h.numbers;
 }
 
-pub stays : (a b : Store) → IsSound a → Stays a b → IsSame a b
+pub stays : (a b : Store) → ChainsAreSound a → Stays a b → IsSame a b
 stays a b h s =
     let k = stay_store a b (live_of a) (free_of a) h.store s in
     record {
@@ -320,8 +320,8 @@ module _ (a b : Store) (xs gs : List ℕ) (i : ℕ) (u : List ℕ) (h : IsStore 
     numbers = rw r.order h.numbers;
   }
 
-  reuse_rows : live_of b ≡ live_of a → live_of a ≡ xs → rows_of b ≡ rows_of a
-  unfolding rows_of
+  reuse_rows : live_of b ≡ live_of a → live_of a ≡ xs → store_rows b ≡ store_rows a
+  unfolding store_rows
   reuse_rows live is = ap (λ (ys : List ℕ). rows_in b.width b.cells.items ys) (live ∙ is)
       ∙ ap₂ (λ (w : ℕ) (cs : List ℕ). rows_in w cs xs) r.width reuse_cells
       ∙ rows_alike a.width a.cells.items (written a.cells.items (i * a.width) u) xs reuse_alike
@@ -347,20 +347,21 @@ module _ (a b : Store) (xs gs : List ℕ) (i : ℕ) (u : List ℕ) (h : IsStore 
         alone = λ tidy. ap (λ (ls : List Pair). length ls) r.order ∙ omega (arith, tidy, r.len, r.spare, h.spare);
       }
 
-pub reuses : (a b : Store) (i : ℕ) (u : List ℕ) → IsSound a → a.free ≡ Some i → Reuses a b i u → length u ≡ a.width
+pub reuses : (a b : Store) (i : ℕ) (u : List ℕ) → ChainsAreSound a → a.free ≡ Some i → Reuses a b i u
+    → length u ≡ a.width
     → IsPrepared a b i u
 reuses a b i u h newest r wide =
     let e = starts_with (free_of a) i (sym h.store.free ∙ newest) in
     reuse_prepared a b (live_of a) e.back i u (subst (IsStore a (live_of a)) e.is h.store) r wide refl
 
 -- what is asked of the newest free slot
-pub newest_free : (a : Store) (i : ℕ) → IsSound a → a.free ≡ Some i → i < length a.order.items
+pub newest_free : (a : Store) (i : ℕ) → ChainsAreSound a → a.free ≡ Some i → i < length a.order.items
 newest_free a i h newest =
     let e = starts_with (free_of a) i (sym h.store.free ∙ newest) in
     below_here (length a.order.items) (live_of a) i e.back
     (subst (λ fs. AreBelow (length a.order.items) (live_of a ++ fs)) e.is h.store.below)
 
-pub newest_fits : (a : Store) (i : ℕ) (u : List ℕ) → IsSound a → a.free ≡ Some i → length u ≡ a.width
+pub newest_fits : (a : Store) (i : ℕ) (u : List ℕ) → ChainsAreSound a → a.free ≡ Some i → length u ≡ a.width
     → i * a.width + length u ≤ length a.cells.items
 newest_fits a i u h newest wide = omega
     (arith, row_fits i (length a.order.items) a.width (newest_free a i h newest), h.store.cells, wide)
@@ -370,12 +371,13 @@ pub on_err : {T E : Type 0} (r : Result T E) (P : Type 0) → P → OnErr r P
 on_err (Ok x) P p = tt
 on_err (Err e) P p = p
 
-pub extends_at : (a b : Store) (u : List ℕ) (n : ℕ) → length a.order.items ≡ n → IsSound a → Extends a b u → length u
+pub extends_at : (a b : Store) (u : List ℕ) (n : ℕ) → length a.order.items ≡ n → ChainsAreSound a
+    → Extends a b u → length u
     ≡ a.width → n < 4294967295 → IsPrepared a b n u
 extends_at a b u n long h e wide room = subst (λ m. IsPrepared a b m u) long
     (extends a b u h e wide (omega (arith, long, room)))
 
 -- where no slot is free, each one holds a row
-pub none_free : (a : Store) → IsSound a → a.free ≡ None → a.spare ≡ 0
+pub none_free : (a : Store) → ChainsAreSound a → a.free ≡ None → a.spare ≡ 0
 none_free a h none = sym h.store.spare
     ∙ ap (λ (xs : List ℕ). length xs) (starts_empty (free_of a) (sym h.store.free ∙ none))

@@ -4,8 +4,8 @@ use Rattle.std.proofs.Common.{Some, None, refl, ap, subst, sym, ◌∙◌, arith
 use Rattle.std.proofs.Common.{length-append, get_or-set_same, get_or-set_other}
 use Rattle.std.proofs.lemmas.List.{get_or_append_left}
 use Rattle.std.proofs.lemmas.Option.{same_Some}
-use Rattle.djq_arena.specs.Chains.{last_from, last_of, IsOut, AreDifferent, AreBelow, Differs}
-use Rattle.djq_arena.specs.Buckets.{link_at, Chained, Stands, IsBehind, relinked, reheaded}
+use Rattle.djq_arena.specs.Chains.{last_from, last_of, IsOut, AreDistinctSlots, AreBelow, Differs}
+use Rattle.djq_arena.specs.Buckets.{link_at, Chained, StandsInChain, IsBehind, relinked, reheaded}
 use Rattle.djq_arena.proofs.Lists.{last_append, last_differs, out_front, out_here, below_here}
 use Rattle.djq_arena.proofs.Lists.{below_front, below_back, ends_with, different_back}
 
@@ -110,8 +110,8 @@ relinked_other : (o to : Option ℕ) (links : List (Option ℕ)) (x : ℕ) → D
 relinked_other None to links x h = refl
 relinked_other (Some i) to links x h = get_or-set_other links i x to None (λ k. h (sym k))
 
-apart_first : (x : ℕ) (xs : List ℕ) → AreDifferent (x ∷ xs) → IsOut x xs × AreDifferent xs
-unfolding AreDifferent
+apart_first : (x : ℕ) (xs : List ℕ) → AreDistinctSlots (x ∷ xs) → IsOut x xs × AreDistinctSlots xs
+unfolding AreDistinctSlots
 apart_first x xs h = h
 
 below_both : (n x : ℕ) (xs : List ℕ) → AreBelow n (x ∷ xs) → (x < n) × AreBelow n xs
@@ -123,7 +123,7 @@ unfolding IsOut
 out_both i x xs h = h
 
 passed_over : (links : List (Option ℕ)) (at : Option ℕ) (x : ℕ) (xs : List ℕ) (i : ℕ) (ys : List ℕ)
-    → AreDifferent (x ∷ (xs ++ i ∷ ys)) → AreBelow (length links) (x ∷ (xs ++ i ∷ ys))
+    → AreDistinctSlots (x ∷ (xs ++ i ∷ ys)) → AreBelow (length links) (x ∷ (xs ++ i ∷ ys))
     → Chained links at (x ∷ (xs ++ i ∷ ys))
     → Chained (relinked (last_from (Some x) xs) (link_at links i) links) at (x ∷ (xs ++ ys))
 unfolding Chained
@@ -152,7 +152,7 @@ head_kept None k to heads h = absurd (h refl)
 head_kept (Some i) k to heads h = refl
 
 pub chained_without : (links heads : List (Option ℕ)) (k : ℕ) (xs : List ℕ) (i : ℕ) (ys : List ℕ) → k < length heads
-    → AreDifferent (xs ++ i ∷ ys) → AreBelow (length links) (xs ++ i ∷ ys)
+    → AreDistinctSlots (xs ++ i ∷ ys) → AreBelow (length links) (xs ++ i ∷ ys)
     → Chained links (link_at heads k) (xs ++ i ∷ ys)
     → Chained (relinked (last_of xs) (link_at links i) links)
     (link_at (reheaded (last_of xs) k (link_at links i) heads) k) (xs ++ ys)
@@ -169,14 +169,15 @@ pub record Searching (links : List (Option ℕ)) (head : Option ℕ) (i : ℕ) (
     pub middle : List ℕ
     pub back : List ℕ
     pub chained : Chained links head (front ++ (middle ++ i ∷ back))
-    pub different : AreDifferent (front ++ (middle ++ i ∷ back))
+    pub different : AreDistinctSlots (front ++ (middle ++ i ∷ back))
     pub below : AreBelow (length links) (front ++ (middle ++ i ∷ back))
     pub short : length front + length middle < length links
     pub ahead : Chained links at (middle ++ i ∷ back)
     pub is : before ≡ last_of front
     pub steps : length front ≡ step
 
-pub searching : (links : List (Option ℕ)) (head : Option ℕ) (i : ℕ) (before : Option ℕ) → Stands links head i → before
+pub searching : (links : List (Option ℕ)) (head : Option ℕ) (i : ℕ) (before : Option ℕ)
+    → StandsInChain links head i → before
     ≡ None → Searching links head i before head 0
 searching links head i before s none = record {
   front = [];
@@ -210,7 +211,7 @@ search_within links head i before here step s =
 -- the parts of a walk that has come to a slot
 search_ends : (links : List (Option ℕ)) (head : Option ℕ) (i : ℕ) (before : Option ℕ) (here : ℕ)
     (front middle back : List ℕ)
-    → Chained links head (front ++ (middle ++ i ∷ back)) → AreDifferent (front ++ (middle ++ i ∷ back))
+    → Chained links head (front ++ (middle ++ i ∷ back)) → AreDistinctSlots (front ++ (middle ++ i ∷ back))
     → AreBelow (length links) (front ++ (middle ++ i ∷ back)) → length front + length middle < length links
     → Chained links (Some here) (middle ++ i ∷ back) → before ≡ last_of front → here ≡ i → IsBehind links head i before
 search_ends links head i before here front [] back c d b s a is same =
@@ -234,7 +235,7 @@ last_put : (xs : List ℕ) (i : ℕ) → last_of (xs ++ i ∷ []) ≡ Some i
 last_put xs i = last_append None xs (i ∷ [])
 
 search_steps : (links : List (Option ℕ)) (head : Option ℕ) (i : ℕ) (here : ℕ) (front middle back : List ℕ) (step : ℕ)
-    → Chained links head (front ++ (middle ++ i ∷ back)) → AreDifferent (front ++ (middle ++ i ∷ back))
+    → Chained links head (front ++ (middle ++ i ∷ back)) → AreDistinctSlots (front ++ (middle ++ i ∷ back))
     → AreBelow (length links) (front ++ (middle ++ i ∷ back)) → length front + length middle < length links
     → Chained links (Some here) (middle ++ i ∷ back) → length front ≡ step → (here ≡ i → ⊥)
     → Searching links head i (Some here) (link_at links here) (step + 1)
@@ -269,7 +270,7 @@ pub search_over : (links : List (Option ℕ)) (head : Option ℕ) (i : ℕ) (bef
     → Searching links head i before at step → length links < step + 1 → ⊥
 search_over links head i before at step s over = omega (arith, s.short, s.steps, over)
 
-pub stands_within : (links : List (Option ℕ)) (head : Option ℕ) (i : ℕ) → Stands links head i → i < length links
+pub stands_within : (links : List (Option ℕ)) (head : Option ℕ) (i : ℕ) → StandsInChain links head i → i < length links
 stands_within links head i s = below_here (length links) s.front i s.back s.below
 
 pub behind_within : (links : List (Option ℕ)) (head : Option ℕ) (i : ℕ) (before : Option ℕ) (x : ℕ)

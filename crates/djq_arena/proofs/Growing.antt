@@ -6,10 +6,10 @@ use Rattle.std.proofs.lemmas.Bool.{cases_eq}
 use Rattle.std.proofs.lemmas.List.{length-replicate}
 use Rattle.djq_arena.specs.declared.chain.Pair.{Pair}
 use Rattle.djq_arena.specs.declared.store.Store.{Store}
-use Rattle.djq_arena.specs.Chains.{Linked, Onward, IsOut, AreDifferent, AreBelow}
+use Rattle.djq_arena.specs.Chains.{Linked, Onward, IsOut, AreDistinctSlots, AreBelow}
 use Rattle.djq_arena.specs.Buckets.{link_at}
-use Rattle.djq_arena.specs.Store.{ends_of, class, cells_at, bucket_of, AreListed, IsStore, live_of}
-use Rattle.djq_arena.specs.Store.{free_of, IsSound, rows_in, rows_of, IsSame}
+use Rattle.djq_arena.specs.Store.{ends_of, class, cells_at, bucket_of_slot, AreInBuckets, IsStore, live_of}
+use Rattle.djq_arena.specs.Store.{free_of, ChainsAreSound, rows_in, store_rows, IsSame}
 use Rattle.djq_arena.proofs.Lists.{different_front, below_front, in_or_out, held_not_out, below_at}
 use Rattle.djq_arena.proofs.Lists.{no_longer, out_first, out_rest, out_more}
 use Rattle.djq_arena.proofs.Bucketing.{buckets_same, empty_buckets, listed_buckets}
@@ -20,13 +20,13 @@ unfolding IsOut
 out_none i = tt
 
 pub none_listed : (w : ℕ) (cells : List ℕ) (links heads : List (Option ℕ)) → heads ≡ replicate (length heads) None
-    → AreListed w cells links heads 0
+    → AreInBuckets w cells links heads 0
 none_listed w cells links heads empty = record {
   slots = [];
   count = refl;
   done = λ i below out. omega (arith, below);
   out = λ i above. out_none i;
-  buckets = empty_buckets (bucket_of (length heads) w cells) links heads empty;
+  buckets = empty_buckets (bucket_of_slot (length heads) w cells) links heads empty;
 }
 
 done_before : (j i : ℕ) (xs : List ℕ) → ((n : ℕ) → n < j → IsOut n xs → ⊥) → i < j + 1 → IsOut i (j ∷ xs) → ⊥
@@ -37,16 +37,17 @@ done_before j i xs done below out =
     ]
 
 -- slot j comes into bucket k
-pub listed_more : (w : ℕ) (cells : List ℕ) (links heads : List (Option ℕ)) (j k : ℕ) → AreListed w cells links heads j
+pub listed_more : (w : ℕ) (cells : List ℕ) (links heads : List (Option ℕ)) (j k : ℕ)
+    → AreInBuckets w cells links heads j
     → j < length links → k < length heads → k ≡ class (length heads) (cells_at w cells j)
-    → AreListed w cells (slice_set links j (link_at heads k)) (slice_set heads k (Some j)) (j + 1)
+    → AreInBuckets w cells (slice_set links j (link_at heads k)) (slice_set heads k (Some j)) (j + 1)
 listed_more w cells links heads j k r within inside its = record {
   slots = j ∷ r.slots;
   count = omega (arith, r.count);
   done = λ i below out. done_before j i r.slots r.done below out;
   out = λ i above. out_more i j r.slots (λ same. omega (arith, above, same)) (r.out i (omega (arith, above)));
   buckets = rw length-set
-      (listed_buckets (bucket_of (length heads) w cells) links heads r.slots j k r.buckets (r.out j (omega arith))
+      (listed_buckets (bucket_of_slot (length heads) w cells) links heads r.slots j k r.buckets (r.out j (omega arith))
       within inside (sym its));
 }
 
@@ -61,14 +62,14 @@ pub record Relists (a b : Store) : Type 0 where
   pub spare : b.spare ≡ a.spare
   pub pairs : length b.bucket.items ≡ length a.bucket.items
   pub some : 0 < length b.heads.items
-  pub listed : AreListed a.width a.cells.items b.bucket.items b.heads.items (length a.bucket.items)
+  pub listed : AreInBuckets a.width a.cells.items b.bucket.items b.heads.items (length a.bucket.items)
 
-different_with : (i : ℕ) (xs : List ℕ) → IsOut i xs → AreDifferent xs → AreDifferent (i ∷ xs)
-unfolding AreDifferent
+different_with : (i : ℕ) (xs : List ℕ) → IsOut i xs → AreDistinctSlots xs → AreDistinctSlots (i ∷ xs)
+unfolding AreDistinctSlots
 different_with i xs h k = (h, k)
 
 -- where each slot holds a row, the slots are those of the rows
-pub rebuilt : (a b : Store) → IsSound a → length a.order.items ≡ a.len → Relists a b → IsSame a b
+pub rebuilt : (a b : Store) → ChainsAreSound a → length a.order.items ≡ a.len → Relists a b → IsSame a b
 rebuilt a b h full r = record {
   alike = record {
     sound = sound b (live_of a) (free_of a) s;
@@ -123,7 +124,7 @@ rebuilt a b h full r = record {
       order = rw r.order h.store.order;
       rest = rw r.order h.store.rest;
       buckets = rw (r.width, r.cells)
-          (buckets_same (bucket_of (length b.heads.items) a.width a.cells.items) b.bucket.items b.heads.items
+          (buckets_same (bucket_of_slot (length b.heads.items) a.width a.cells.items) b.bucket.items b.heads.items
           r.listed.slots (live_of a) r.listed.buckets there back);
       some = r.some;
       pairs = rw r.order (r.pairs ∙ h.store.pairs);
@@ -135,7 +136,7 @@ rebuilt a b h full r = record {
 -- a store without rows
 pub empty_store : (s : Store) (n : ℕ) → s.order.items ≡ [] → s.bucket.items ≡ [] → s.cells.items ≡ [] → s.heads.items
     ≡ replicate n None → 0 < n → s.live ≡ ends_of [] → s.free ≡ None → s.len ≡ 0 → s.spare ≡ 0 → IsStore s [] []
-unfolding AreDifferent AreBelow Linked Onward
+unfolding AreDistinctSlots AreBelow Linked Onward
 empty_store s n order bucket cells heads some live free len spare = record {
   live = live;
   free = free;
@@ -145,7 +146,7 @@ empty_store s n order bucket cells heads some live free len spare = record {
   below = tt;
   order = tt;
   rest = tt;
-  buckets = empty_buckets (bucket_of (length s.heads.items) s.width s.cells.items) s.bucket.items s.heads.items
+  buckets = empty_buckets (bucket_of_slot (length s.heads.items) s.width s.cells.items) s.bucket.items s.heads.items
       (heads ∙ ap (λ (k : ℕ). replicate k None)
       (sym (ap (λ (ls : List (Option ℕ)). length ls) heads ∙ length-replicate n None)));
   some = rw (heads, length-replicate) some;
@@ -159,6 +160,6 @@ empty_rows : (w : ℕ) (cells : List ℕ) → rows_in w cells [] ≡ []
 unfolding rows_in
 empty_rows w cells = refl
 
-pub empty_is : (s : Store) → IsStore s [] [] → rows_of s ≡ []
-unfolding rows_of
+pub empty_is : (s : Store) → IsStore s [] [] → store_rows s ≡ []
+unfolding store_rows
 empty_is s h = ap (rows_in s.width s.cells.items) (live_is s [] [] h) ∙ empty_rows s.width s.cells.items

@@ -2,9 +2,9 @@
 use Rattle.std.proofs.Common.{◌≡◌, ◌⊎◌, ℕ, ◌≤◌, ◌<◌, List, [], ◌∷◌, ◌++◌, length, Option, Some}
 use Rattle.std.proofs.Common.{None, refl, ap, subst, sym, arith, inl, inr, length-append}
 use Rattle.std.proofs.lemmas.Bool.{cases_eq}
-use Rattle.djq_arena.specs.Chains.{first_or, last_from, first_of, last_of, IsOut, AreDifferent}
-use Rattle.djq_arena.specs.Chains.{AreBelow, IsWithin, Differs, Avoids, AreOut}
-use Rattle.djq_arena.specs.Store.{Holds}
+use Rattle.djq_arena.specs.Chains.{first_or, last_from, first_of, last_of, IsOut, AreDistinctSlots}
+use Rattle.djq_arena.specs.Chains.{AreBelow, IsSlotBelow, Differs, Avoids, AreOut}
+use Rattle.djq_arena.specs.Store.{HoldsSlot}
 
 pub first_append : (xs ys : List ℕ) (o : Option ℕ) → first_or (xs ++ ys) o ≡ first_or xs (first_or ys o)
 first_append [] ys o = refl
@@ -47,18 +47,18 @@ out_here i (x ∷ xs) ys k = out_here i xs ys k.1
 pub out_swap : (i : ℕ) (xs ys : List ℕ) → IsOut i (xs ++ ys) → IsOut i (ys ++ xs)
 out_swap i xs ys h = out_append i ys xs (out_back i xs ys h) (out_front i xs ys h)
 
-pub different_front : (xs ys : List ℕ) → AreDifferent (xs ++ ys) → AreDifferent xs
-unfolding AreDifferent
+pub different_front : (xs ys : List ℕ) → AreDistinctSlots (xs ++ ys) → AreDistinctSlots xs
+unfolding AreDistinctSlots
 different_front [] ys h = tt
 different_front (x ∷ xs) ys h = (out_front x xs ys h.0, different_front xs ys h.1)
 
-pub different_back : (xs ys : List ℕ) → AreDifferent (xs ++ ys) → AreDifferent ys
-unfolding AreDifferent
+pub different_back : (xs ys : List ℕ) → AreDistinctSlots (xs ++ ys) → AreDistinctSlots ys
+unfolding AreDistinctSlots
 different_back [] ys h = h
 different_back (x ∷ xs) ys h = different_back xs ys h.1
 
-pub different_out : (xs : List ℕ) (y : ℕ) (ys : List ℕ) → AreDifferent (xs ++ y ∷ ys) → AreDifferent (xs ++ ys)
-unfolding AreDifferent
+pub different_out : (xs : List ℕ) (y : ℕ) (ys : List ℕ) → AreDistinctSlots (xs ++ y ∷ ys) → AreDistinctSlots (xs ++ ys)
+unfolding AreDistinctSlots
 different_out [] y ys h = h.1
 different_out (x ∷ xs) y ys h = (out_less x xs y ys h.0, different_out xs y ys h.1)
 
@@ -67,8 +67,8 @@ unfolding IsOut
 unlike_middle x [] y ys h = h.0
 unlike_middle x (z ∷ xs) y ys h = unlike_middle x xs y ys h.1
 
-pub different_here : (xs : List ℕ) (y : ℕ) (ys : List ℕ) → AreDifferent (xs ++ y ∷ ys) → IsOut y (xs ++ ys)
-unfolding AreDifferent IsOut
+pub different_here : (xs : List ℕ) (y : ℕ) (ys : List ℕ) → AreDistinctSlots (xs ++ y ∷ ys) → IsOut y (xs ++ ys)
+unfolding AreDistinctSlots IsOut
 different_here [] y ys h = h.0
 different_here (x ∷ xs) y ys h = ((λ k. unlike_middle x xs y ys h.0 (sym k)), different_here xs y ys h.1)
 
@@ -80,9 +80,9 @@ pub out_rest : (x : ℕ) (xs : List ℕ) (y : ℕ) → IsOut y (x ∷ xs) → Is
 unfolding IsOut
 out_rest x xs y h = h.1
 
-pub different_in : (xs : List ℕ) (y : ℕ) (ys : List ℕ) → AreDifferent (xs ++ ys) → IsOut y (xs ++ ys)
-    → AreDifferent (xs ++ y ∷ ys)
-unfolding AreDifferent
+pub different_in : (xs : List ℕ) (y : ℕ) (ys : List ℕ) → AreDistinctSlots (xs ++ ys) → IsOut y (xs ++ ys)
+    → AreDistinctSlots (xs ++ y ∷ ys)
+unfolding AreDistinctSlots
 different_in [] y ys h k = (k, h)
 different_in (x ∷ xs) y ys h k = (
   out_middle x xs y ys (λ same. out_first x (xs ++ ys) y k (sym same)) h.0,
@@ -90,13 +90,14 @@ different_in (x ∷ xs) y ys h k = (
       (out_rest x (xs ++ ys) y k),
 )
 
-pub different_append : (xs ys : List ℕ) → AreDifferent xs → AreDifferent ys → AreOut xs ys → AreDifferent (xs ++ ys)
-unfolding AreDifferent AreOut
+pub different_append : (xs ys : List ℕ) → AreDistinctSlots xs → AreDistinctSlots ys → AreOut xs ys
+    → AreDistinctSlots (xs ++ ys)
+unfolding AreDistinctSlots AreOut
 different_append [] ys h k o = k
 different_append (x ∷ xs) ys h k o = (out_append x xs ys h.0 o.0, different_append xs ys h.1 k o.1)
 
-pub outs : (xs ys : List ℕ) → AreDifferent (xs ++ ys) → AreOut xs ys
-unfolding AreDifferent AreOut
+pub outs : (xs ys : List ℕ) → AreDistinctSlots (xs ++ ys) → AreOut xs ys
+unfolding AreDistinctSlots AreOut
 outs [] ys h = tt
 outs (x ∷ xs) ys h = (out_back x xs ys h.0, outs xs ys h.1)
 
@@ -115,7 +116,7 @@ unfolding AreOut
 outs_swap [] ys h = outs_nil ys
 outs_swap (x ∷ xs) ys h = outs_cons x ys xs h.0 (outs_swap xs ys h.1)
 
-pub different_swap : (xs ys : List ℕ) → AreDifferent (xs ++ ys) → AreDifferent (ys ++ xs)
+pub different_swap : (xs ys : List ℕ) → AreDistinctSlots (xs ++ ys) → AreDistinctSlots (ys ++ xs)
 different_swap xs ys h = different_append ys xs (different_back xs ys h) (different_front xs ys h)
     (outs_swap xs ys (outs xs ys h))
 
@@ -161,12 +162,13 @@ below_unlike n [] h = tt
 below_unlike n (x ∷ xs) h = ((λ k. omega (arith, k, h.0)), below_unlike n xs h.1)
 
 -- the ends of a list
-pub last_within : (n : ℕ) (o : Option ℕ) (xs : List ℕ) → IsWithin n o → AreBelow n xs → IsWithin n (last_from o xs)
+pub last_within : (n : ℕ) (o : Option ℕ) (xs : List ℕ) → IsSlotBelow n o → AreBelow n xs
+    → IsSlotBelow n (last_from o xs)
 unfolding AreBelow
 last_within n o [] h k = h
 last_within n o (x ∷ xs) h k = last_within n (Some x) xs k.0 k.1
 
-pub first_within : (n : ℕ) (xs : List ℕ) → AreBelow n xs → IsWithin n (first_of xs)
+pub first_within : (n : ℕ) (xs : List ℕ) → AreBelow n xs → IsSlotBelow n (first_of xs)
 unfolding AreBelow
 first_within n [] k = tt
 first_within n (x ∷ xs) k = k.0
@@ -193,13 +195,14 @@ avoids_some i [] h = tt
 avoids_some i (x ∷ xs) h = ((λ k. h.0 (sym k)), avoids_some i xs h.1)
 
 -- the last of one list avoids a list that has none of it
-pub last_avoids : (o : Option ℕ) (xs zs : List ℕ) → Avoids o zs → AreDifferent (xs ++ zs) → Avoids (last_from o xs) zs
-unfolding AreDifferent
+pub last_avoids : (o : Option ℕ) (xs zs : List ℕ) → Avoids o zs → AreDistinctSlots (xs ++ zs)
+    → Avoids (last_from o xs) zs
+unfolding AreDistinctSlots
 last_avoids o [] zs h k = h
 last_avoids o (x ∷ xs) zs h k = last_avoids (Some x) xs zs (avoids_some x zs (out_back x xs zs k.0)) k.1
 
-pub first_avoids : (xs : List ℕ) (zs : List ℕ) → AreDifferent (xs ++ zs) → Avoids (first_of xs) zs
-unfolding AreDifferent
+pub first_avoids : (xs : List ℕ) (zs : List ℕ) → AreDistinctSlots (xs ++ zs) → Avoids (first_of xs) zs
+unfolding AreDistinctSlots
 first_avoids [] zs k = avoids_none zs
 first_avoids (x ∷ xs) zs k = avoids_some x zs (out_back x xs zs k.0)
 
@@ -235,16 +238,16 @@ pub out_middles : (i : ℕ) (xs ys zs : List ℕ) → IsOut i (xs ++ (ys ++ zs))
 out_middles i xs ys zs h = out_append i xs zs (out_front i xs (ys ++ zs) h)
     (out_back i ys zs (out_back i xs (ys ++ zs) h))
 
-pub without_middle : (xs ys zs : List ℕ) → AreDifferent (xs ++ (ys ++ zs)) → AreDifferent (xs ++ zs)
-unfolding AreDifferent
+pub without_middle : (xs ys zs : List ℕ) → AreDistinctSlots (xs ++ (ys ++ zs)) → AreDistinctSlots (xs ++ zs)
+unfolding AreDistinctSlots
 without_middle [] ys zs h = different_back ys zs h
 without_middle (x ∷ xs) ys zs h = (out_middles x xs ys zs h.0, without_middle xs ys zs h.1)
 
 -- a slot is in a list, or out of it
-holds_more : (x : ℕ) (xs : List ℕ) (i : ℕ) → Holds xs i → Holds (x ∷ xs) i
+holds_more : (x : ℕ) (xs : List ℕ) (i : ℕ) → HoldsSlot xs i → HoldsSlot (x ∷ xs) i
 holds_more x xs i h = record { front = x ∷ h.front; back = h.back; is = ap (λ (zs : List ℕ). x ∷ zs) h.is }
 
-pub in_or_out : (i : ℕ) (xs : List ℕ) → Holds xs i ⊎ IsOut i xs
+pub in_or_out : (i : ℕ) (xs : List ℕ) → HoldsSlot xs i ⊎ IsOut i xs
 unfolding IsOut
 in_or_out i [] = inr tt
 in_or_out i (x ∷ xs) =
@@ -253,10 +256,10 @@ in_or_out i (x ∷ xs) =
       | inr other ↦ elim (in_or_out i xs) [ inl later ↦ inl (holds_more x xs i later) | inr out ↦ inr (other, out) ]
     ]
 
-pub holds_in : (i : ℕ) (xs : List ℕ) → (IsOut i xs → ⊥) → Holds xs i
+pub holds_in : (i : ℕ) (xs : List ℕ) → (IsOut i xs → ⊥) → HoldsSlot xs i
 holds_in i xs h = elim (in_or_out i xs) [ inl held ↦ held | inr out ↦ absurd (h out) ]
 
-pub held_not_out : (i : ℕ) (xs : List ℕ) → Holds xs i → IsOut i xs → ⊥
+pub held_not_out : (i : ℕ) (xs : List ℕ) → HoldsSlot xs i → IsOut i xs → ⊥
 held_not_out i xs held out = out_here i held.front held.back (subst (IsOut i) held.is out)
 
 pub not_first_out : (x : ℕ) (xs : List ℕ) → IsOut x (x ∷ xs) → ⊥
@@ -276,8 +279,8 @@ all_below n [] xs h b = tt
 all_below n (z ∷ zs) xs h b = (below_at n z xs b (λ out. (h z out).0 refl), all_below n zs xs (λ i out. (h i out).1) b)
 
 -- a list without repeats is no longer than one that has all of it
-pub no_longer : (zs ys : List ℕ) → AreDifferent zs → ((i : ℕ) → IsOut i ys → IsOut i zs) → length zs ≤ length ys
-unfolding AreDifferent IsOut
+pub no_longer : (zs ys : List ℕ) → AreDistinctSlots zs → ((i : ℕ) → IsOut i ys → IsOut i zs) → length zs ≤ length ys
+unfolding AreDistinctSlots IsOut
 no_longer [] ys d h = omega arith
 no_longer (z ∷ zs) ys d h =
     let held = holds_in z ys (λ out. (h z out).0 refl) in

@@ -2,9 +2,9 @@
 use Rattle.std.proofs.Common.{◌≡◌, ℕ, ◌+◌, List, [], ◌∷◌, ◌++◌, refl, ap, ap₂, sym, ◌∙◌, arith, max}
 use Rattle.std.proofs.lemmas.List.{map-append}
 use Rattle.djq_arena.specs.declared.store.Store.{Store}
-use Rattle.djq_arena.specs.Store.{cells_at, live_of, rows_in, rows_of, IsAlike, IsLinked, IsSame}
-use Rattle.djq_arena.specs.Store.{Holds, IsPrepared, IsPut, IsUnlinked, IsReleased, IsRenewed}
-use Rattle.djq_arena.specs.Rows.{Row, slots, IsRow, IsHeld}
+use Rattle.djq_arena.specs.Store.{cells_at, live_of, rows_in, store_rows, IsAlike, IsAppended, IsSame}
+use Rattle.djq_arena.specs.Store.{HoldsSlot, IsPrepared, IsPut, IsUnlinked, IsReleased, IsRenewed}
+use Rattle.djq_arena.specs.Rows.{Row, slots, IsRow, IsRowHeld}
 
 pub rows_in-append : (w : ℕ) (cells : List ℕ) (xs ys : List ℕ) → rows_in w cells (xs ++ ys)
     ≡ rows_in w cells xs ++ rows_in w cells ys
@@ -25,20 +25,21 @@ alike_rows : (a b : Store) → IsAlike a b → (xs : List ℕ) → rows_in b.wid
     ≡ rows_in a.width a.cells.items xs
 alike_rows a b h xs = ap₂ (λ (w : ℕ) (cs : List ℕ). rows_in w cs xs) h.width h.cells
 
-pub same_rows : (a b : Store) → IsSame a b → rows_of b ≡ rows_of a
-unfolding rows_of
+pub same_rows : (a b : Store) → IsSame a b → store_rows b ≡ store_rows a
+unfolding store_rows
 same_rows a b h = ap (λ (xs : List ℕ). rows_in b.width b.cells.items xs) h.live ∙ alike_rows a b h.alike (live_of a)
 
-linked_rows : (d e : Store) (i : ℕ) (u : List ℕ) → IsLinked d e i → cells_at d.width d.cells.items i ≡ u → rows_of e
-    ≡ rows_of d ++ record { slot = i; cells = u } ∷ []
-unfolding rows_of
+linked_rows : (d e : Store) (i : ℕ) (u : List ℕ) → IsAppended d e i → cells_at d.width d.cells.items i ≡ u
+    → store_rows e
+    ≡ store_rows d ++ record { slot = i; cells = u } ∷ []
+unfolding store_rows
 linked_rows d e i u h here =
     ap (λ (xs : List ℕ). rows_in e.width e.cells.items xs) h.live ∙ alike_rows d e h.alike (live_of d ++ i ∷ [])
     ∙ rows_in-append d.width d.cells.items (live_of d) (i ∷ [])
     ∙ ap (λ (rs : List Row). rows_in d.width d.cells.items (live_of d) ++ rs)
     (rows_in_one d.width d.cells.items i u here)
 
-pub puts : (a d e : Store) (i : ℕ) (u : List ℕ) → IsPrepared a d i u → IsLinked d e i → IsPut a e i u
+pub puts : (a d e : Store) (i : ℕ) (u : List ℕ) → IsPrepared a d i u → IsAppended d e i → IsPut a e i u
 puts a d e i u p l = record {
   sound = l.alike.sound;
   width = l.alike.width ∙ p.width;
@@ -72,9 +73,9 @@ same_twice a m b h k = record {
 }
 
 -- a slot that holds a row
-pub holds_row : (a : Store) (i : ℕ) (u : List ℕ) → Holds (live_of a) i → cells_at a.width a.cells.items i ≡ u
-    → IsRow (rows_of a) i u
-unfolding rows_of
+pub holds_row : (a : Store) (i : ℕ) (u : List ℕ) → HoldsSlot (live_of a) i → cells_at a.width a.cells.items i ≡ u
+    → IsRow (store_rows a) i u
+unfolding store_rows
 holds_row a i u h here = record {
   front = rows_in a.width a.cells.items h.front;
   back = rows_in a.width a.cells.items h.back;
@@ -121,8 +122,8 @@ first_cells w cells r ys h =
     let first : record { slot = r.slot; cells = cells_at w cells r.slot } ≡ r = cc in
     (ap (λ (q : Row). q.cells) first, cc)
 
-pub split_at : (a : Store) (xs : List Row) (r : Row) (ys : List Row) → rows_of a ≡ xs ++ r ∷ ys → Split a xs r ys
-unfolding rows_of
+pub split_at : (a : Store) (xs : List Row) (r : Row) (ys : List Row) → store_rows a ≡ xs ++ r ∷ ys → Split a xs r ys
+unfolding store_rows
 split_at a xs r ys h =
     let live = sym (slots_in a.width a.cells.items (live_of a)) ∙ ap slots h ∙ slots-append xs (r ∷ ys)
     ∙ ap (λ (zs : List ℕ). slots xs ++ zs) (slots_cons r ys) in
@@ -131,14 +132,14 @@ split_at a xs r ys h =
     let f = first_cells a.width a.cells.items r ys k.1 in
     record { live = live; front = k.0; back = f.1; cells = f.0 }
 
-pub held_slot : (a : Store) (i : ℕ) → IsHeld (rows_of a) i → Holds (live_of a) i
+pub held_slot : (a : Store) (i : ℕ) → IsRowHeld (store_rows a) i → HoldsSlot (live_of a) i
 held_slot a i h =
     let s = split_at a h.row.front (record { slot = i; cells = h.cells }) h.row.back h.row.is in
     record { front = slots h.row.front; back = slots h.row.back; is = s.live }
 
 pub taken_rows : (a m b : Store) (i : ℕ) → IsUnlinked a m i → IsReleased m b → (xs : List Row) (r : Row) (ys : List Row)
-    → rows_of a ≡ xs ++ r ∷ ys → r.slot ≡ i → rows_of b ≡ xs ++ ys
-unfolding rows_of
+    → store_rows a ≡ xs ++ r ∷ ys → r.slot ≡ i → store_rows b ≡ xs ++ ys
+unfolding store_rows
 taken_rows a m b i h k xs r ys is at =
     let s = split_at a xs r ys is in
     ap (λ (zs : List ℕ). rows_in b.width b.cells.items zs)
@@ -146,9 +147,9 @@ taken_rows a m b i h k xs r ys is at =
     ∙ alike_rows m b k.alike (slots xs ++ slots ys) ∙ alike_rows a m h.alike (slots xs ++ slots ys)
     ∙ rows_in-append a.width a.cells.items (slots xs) (slots ys) ∙ ap₂ (λ (f g : List Row). f ++ g) s.front s.back
 
-pub renewed_rows : (a b : Store) (i : ℕ) → IsRenewed a b i → (xs : List Row) (r : Row) (ys : List Row) → rows_of a
-    ≡ xs ++ r ∷ ys → r.slot ≡ i → rows_of b ≡ (xs ++ ys) ++ r ∷ []
-unfolding rows_of
+pub renewed_rows : (a b : Store) (i : ℕ) → IsRenewed a b i → (xs : List Row) (r : Row) (ys : List Row) → store_rows a
+    ≡ xs ++ r ∷ ys → r.slot ≡ i → store_rows b ≡ (xs ++ ys) ++ r ∷ []
+unfolding store_rows
 renewed_rows a b i h xs r ys is at =
     let s = split_at a xs r ys is in
     ap (λ (zs : List ℕ). rows_in b.width b.cells.items zs)

@@ -6,7 +6,8 @@ use Rattle.std.proofs.lemmas.Nat.{and_le_r}
 use Rattle.djq_arena.specs.declared.store.Store.{Store}
 use Rattle.djq_arena.specs.Chains.{IsOut}
 use Rattle.djq_arena.specs.Buckets.{link_at, Chained}
-use Rattle.djq_arena.specs.Store.{class, hash, cells_at, bucket_of, live_of, free_of, IsSound, rows_in, rows_of}
+use Rattle.djq_arena.specs.Store.{class, hash, cells_at, bucket_of_slot, live_of, free_of, ChainsAreSound, rows_in}
+use Rattle.djq_arena.specs.Store.{store_rows}
 use Rattle.djq_arena.specs.Rows.{IsAbsent, IsRow}
 use Rattle.djq_arena.proofs.Lists.{holds_in, not_first_out, out_more, out_rest, below_at, below_front}
 use Rattle.djq_arena.proofs.Following.{chained_over, ahead}
@@ -28,7 +29,7 @@ pub record Seeking (a : Store) (u : List ℕ) (at : Option ℕ) (step : ℕ) : T
   pub misses : (i : ℕ) → IsOut i ahead → (IsOut i (live_of a) → ⊥) → cells_at a.width a.cells.items i ≢ u
   pub room : length ahead + step ≤ a.len
 
-pub seeking : (a : Store) (u : List ℕ) (at : Option ℕ) → IsSound a
+pub seeking : (a : Store) (u : List ℕ) (at : Option ℕ) → ChainsAreSound a
     → class (length a.heads.items) u < length a.heads.items → at
     ≡ link_at a.heads.items (class (length a.heads.items) u) → Seeking a u at 0
 seeking a u at h inside head =
@@ -41,7 +42,7 @@ seeking a u at h inside head =
       misses = λ i out held same. held (b.all i (ap (class (length a.heads.items)) same) out);
       room = omega (
         arith,
-        bucket_short (bucket_of (length a.heads.items) a.width a.cells.items) k a.bucket.items
+        bucket_short (bucket_of_slot (length a.heads.items) a.width a.cells.items) k a.bucket.items
             (link_at a.heads.items k) (live_of a) b,
         h.store.count,
       );
@@ -74,8 +75,8 @@ unfolding IsOut
 out_nil i = tt
 
 pub over : (a : Store) (u : List ℕ) (at : Option ℕ) (step : ℕ) → Seeking a u at step → at ≡ None
-    → IsAbsent (rows_of a) u
-unfolding rows_of
+    → IsAbsent (store_rows a) u
+unfolding store_rows
 over a u at step s none =
     let empty = chained_over a.bucket.items s.ahead
     (subst (λ (o : Option ℕ). Chained a.bucket.items o s.ahead) none s.chained) in
@@ -103,12 +104,12 @@ stop a u i step s =
 stop_held : (a : Store) (u : List ℕ) (i step : ℕ) → Stop a u i step → IsOut i (live_of a) → ⊥
 stop_held a u i step s out = not_first_out i s.ahead (s.only i out)
 
-pub stop_within : (a : Store) (u : List ℕ) (i step : ℕ) → IsSound a → Stop a u i step → i < length a.order.items
+pub stop_within : (a : Store) (u : List ℕ) (i step : ℕ) → ChainsAreSound a → Stop a u i step → i < length a.order.items
 stop_within a u i step h s = below_at (length a.order.items) i (live_of a)
     (below_front (length a.order.items) (live_of a) (free_of a) h.store.below) (stop_held a u i step s)
 
 pub found : (a : Store) (u : List ℕ) (i step : ℕ) → Stop a u i step → cells_at a.width a.cells.items i ≡ u
-    → IsRow (rows_of a) i u
+    → IsRow (store_rows a) i u
 found a u i step s here = holds_row a i u (holds_in i (live_of a) (stop_held a u i step s)) here
 
 pub further : (a : Store) (u : List ℕ) (i step : ℕ) (next : Option ℕ) → Stop a u i step

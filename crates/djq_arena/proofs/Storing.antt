@@ -7,12 +7,12 @@ use Rattle.djq_arena.specs.declared.chain.Pair.{Pair}
 use Rattle.djq_arena.specs.declared.chain.Ends.{Ends}
 use Rattle.djq_arena.specs.declared.store.Store.{Store}
 use Rattle.djq_arena.specs.Chains.{pair_at, last_from, first_of, last_of, Linked, Onward, IsOut}
-use Rattle.djq_arena.specs.Chains.{AreDifferent, AreBelow, set_next, entered, left, IsWithin}
+use Rattle.djq_arena.specs.Chains.{AreDistinctSlots, AreBelow, set_next, entered, chain_without, IsSlotBelow}
 use Rattle.djq_arena.specs.Chains.{Avoids}
-use Rattle.djq_arena.specs.Store.{class, cells_at, bucket_of, ends_of, extended, shrunk, beside}
-use Rattle.djq_arena.specs.Store.{IsStore, live_of, free_of, IsSound, IsLoose, IsLinked, IsUnlinked}
-use Rattle.djq_arena.specs.Store.{IsReleased, IsRenewed, Holds}
-use Rattle.djq_arena.specs.Buckets.{link_at, AreBuckets, Stands, IsUnlisted}
+use Rattle.djq_arena.specs.Store.{class, cells_at, bucket_of_slot, ends_of, extended, shrunk, beside}
+use Rattle.djq_arena.specs.Store.{IsStore, live_of, free_of, ChainsAreSound, IsLoose, IsAppended, IsUnlinked}
+use Rattle.djq_arena.specs.Store.{IsReleased, IsRenewed, HoldsSlot}
+use Rattle.djq_arena.specs.Buckets.{link_at, AreBuckets, StandsInChain, IsUnlisted}
 use Rattle.djq_arena.proofs.Lists.{last_append, out_front, out_back, out_swap, out_last}
 use Rattle.djq_arena.proofs.Lists.{out_to_front, out_middle, out_first, out_rest, held_not_out}
 use Rattle.djq_arena.proofs.Lists.{different_front, different_back, different_out, different_in}
@@ -35,7 +35,7 @@ pub free_is : (s : Store) (xs fs : List ℕ) → IsStore s xs fs → free_of s �
 unfolding free_of
 free_is s xs fs h = rw (h.free, ← h.spare) (onward_trail s.order.items fs h.rest)
 
-pub sound : (s : Store) (xs fs : List ℕ) → IsStore s xs fs → IsSound s
+pub sound : (s : Store) (xs fs : List ℕ) → IsStore s xs fs → ChainsAreSound s
 sound s xs fs h = record {
   store = subst (λ ys. IsStore s ys (free_of s)) (sym (live_is s xs fs h))
       (subst (IsStore s xs) (sym (free_is s xs fs h)) h);
@@ -86,7 +86,7 @@ link_store a b xs fs i k h r out within room inside its = record {
 }
   where
     falls : ℕ → ℕ
-    falls = bucket_of (length a.heads.items) a.width a.cells.items
+    falls = bucket_of_slot (length a.heads.items) a.width a.cells.items
 
     length_heads : length b.heads.items ≡ length a.heads.items
     length_heads = ap (λ (os : List (Option ℕ)). length os) r.heads ∙ length-set a.heads.items k (Some i)
@@ -96,14 +96,14 @@ link_store a b xs fs i k h r out within room inside its = record {
         (listed_buckets falls a.bucket.items a.heads.items xs i k h.buckets (out_front i xs fs out) (rw h.pairs within)
         inside (sym its))
 
-    buckets_are : AreBuckets (bucket_of (length b.heads.items) b.width b.cells.items) b.bucket.items b.heads.items
+    buckets_are : AreBuckets (bucket_of_slot (length b.heads.items) b.width b.cells.items) b.bucket.items b.heads.items
         (xs ++ i ∷ [])
     buckets_are = rw (length_heads, r.width, r.cells)
         (buckets_same falls b.bucket.items b.heads.items (i ∷ xs) (xs ++ i ∷ []) listed (λ j away. out_last j i xs away)
         (λ j away. out_swap j xs (i ∷ []) away))
 
-pub links : (a b : Store) (i k : ℕ) → IsSound a → IsLoose a i → Relinks a b i k → k < length a.heads.items → k
-    ≡ class (length a.heads.items) (cells_at a.width a.cells.items i) → IsLinked a b i
+pub links : (a b : Store) (i k : ℕ) → ChainsAreSound a → IsLoose a i → Relinks a b i k → k < length a.heads.items → k
+    ≡ class (length a.heads.items) (cells_at a.width a.cells.items i) → IsAppended a b i
 links a b i k h l r inside its =
     let s = link_store a b (live_of a) (free_of a) i k h.store r l.out l.within l.room inside its in
     record {
@@ -120,7 +120,7 @@ links a b i k h l r inside its =
     }
 
 -- what is asked where a slot comes in
-pub last_in_order : (a : Store) → IsSound a → IsWithin (length a.order.items) a.live.last
+pub last_in_order : (a : Store) → ChainsAreSound a → IsSlotBelow (length a.order.items) a.live.last
 last_in_order a h = rw h.store.live
     (last_within (length a.order.items) None (live_of a) tt
     (below_front (length a.order.items) (live_of a) (free_of a) h.store.below))
@@ -152,7 +152,7 @@ shrunk_is p xs i ys h k = ap₂ (λ (f l : Option ℕ). record { first = f; last
 pub record Unlinks (a b : Store) (i k : ℕ) : Type 0 where
   pub width : b.width ≡ a.width
   pub cells : b.cells.items ≡ a.cells.items
-  pub order : b.order.items ≡ left (pair_at a.order.items i) a.order.items
+  pub order : b.order.items ≡ chain_without (pair_at a.order.items i) a.order.items
   pub live : b.live ≡ shrunk (pair_at a.order.items i) a.live
   pub bucket : IsUnlisted a.bucket.items b.bucket.items a.heads.items b.heads.items k i
   pub free : b.free ≡ a.free
@@ -172,7 +172,7 @@ unlink_store a b xs i ys fs k h u inside its = record {
   below = rw (u.order, length-left, append_assoc) (below_out (length a.order.items) xs i (ys ++ fs) below_all);
   order = rw u.order (left_linked a.order.items xs i ys (different_front (xs ++ i ∷ ys) fs h.apart)
       (below_front (length a.order.items) (xs ++ i ∷ ys) fs h.below) h.order);
-  rest = rw u.order (onward_same a.order.items (left (pair_at a.order.items i) a.order.items) fs
+  rest = rw u.order (onward_same a.order.items (chain_without (pair_at a.order.items i) a.order.items) fs
       (left_agree a.order.items (pair_at a.order.items i) fs
       (subst (λ o. Avoids o fs) (sym prev) (last_avoids None xs fs (avoids_none fs) apart_front))
       (subst (λ o. Avoids o fs) (sym next) (first_avoids ys fs apart_back)))
@@ -195,23 +195,23 @@ unlink_store a b xs i ys fs k h u inside its = record {
     next : (pair_at a.order.items i).next ≡ first_of ys
     next = next_here a.order.items xs i ys h.order
 
-    apart_all : AreDifferent (xs ++ i ∷ (ys ++ fs))
-    apart_all = subst AreDifferent (append_assoc xs (i ∷ ys) fs) h.apart
+    apart_all : AreDistinctSlots (xs ++ i ∷ (ys ++ fs))
+    apart_all = subst AreDistinctSlots (append_assoc xs (i ∷ ys) fs) h.apart
 
     below_all : AreBelow (length a.order.items) (xs ++ i ∷ (ys ++ fs))
     below_all = subst (AreBelow (length a.order.items)) (append_assoc xs (i ∷ ys) fs) h.below
 
-    apart_rest : AreDifferent ((xs ++ ys) ++ fs)
+    apart_rest : AreDistinctSlots ((xs ++ ys) ++ fs)
     apart_rest = rw append_assoc (different_out xs i (ys ++ fs) apart_all)
 
-    apart_back : AreDifferent (ys ++ fs)
+    apart_back : AreDistinctSlots (ys ++ fs)
     apart_back = different_back xs (ys ++ fs) (different_out xs i (ys ++ fs) apart_all)
 
-    apart_front : AreDifferent (xs ++ fs)
+    apart_front : AreDistinctSlots (xs ++ fs)
     apart_front = without_middle xs ys fs (different_out xs i (ys ++ fs) apart_all)
 
     falls : ℕ → ℕ
-    falls = bucket_of (length a.heads.items) a.width a.cells.items
+    falls = bucket_of_slot (length a.heads.items) a.width a.cells.items
 
     length_heads : length b.heads.items ≡ length a.heads.items
     length_heads = unlisted_heads a.bucket.items b.bucket.items a.heads.items b.heads.items k i u.bucket
@@ -221,13 +221,14 @@ unlink_store a b xs i ys fs k h u inside its = record {
         (λ j away. out_to_front j xs i ys away)
         (λ j away. out_middle j xs i ys (out_first i (xs ++ ys) j away) (out_rest i (xs ++ ys) j away))
 
-    buckets_are : AreBuckets (bucket_of (length b.heads.items) b.width b.cells.items) b.bucket.items b.heads.items
+    buckets_are : AreBuckets (bucket_of_slot (length b.heads.items) b.width b.cells.items) b.bucket.items b.heads.items
         (xs ++ ys)
     buckets_are = rw (length_heads, u.width, u.cells)
         (unlisted_buckets falls a.bucket.items b.bucket.items a.heads.items b.heads.items (xs ++ ys) i k first
         (different_here xs i ys (different_front (xs ++ i ∷ ys) fs h.apart)) inside (sym its) u.bucket)
 
-pub unlinks : (a b : Store) (i k : ℕ) → IsSound a → Holds (live_of a) i → Unlinks a b i k → k < length a.heads.items → k
+pub unlinks : (a b : Store) (i k : ℕ) → ChainsAreSound a → HoldsSlot (live_of a) i → Unlinks a b i k
+    → k < length a.heads.items → k
     ≡ class (length a.heads.items) (cells_at a.width a.cells.items i) → IsUnlinked a b i
 unlinks a b i k h held u inside its =
     let was = subst (λ xs. IsStore a xs (free_of a)) held.is h.store in
@@ -248,7 +249,7 @@ unlinks a b i k h held u inside its =
           free_is b (held.front ++ held.back) (free_of a) s,
           append_assoc,
         ) (different_here held.front i (held.back ++ free_of a)
-            (subst AreDifferent (append_assoc held.front (i ∷ held.back) (free_of a)) was.apart));
+            (subst AreDistinctSlots (append_assoc held.front (i ∷ held.back) (free_of a)) was.apart));
         within = rw (u.order, length-left)
             (below_here (length a.order.items) held.front i held.back
             (below_front (length a.order.items) (held.front ++ i ∷ held.back) (free_of a) was.below));
@@ -260,13 +261,13 @@ unlinks a b i k h held u inside its =
     }
 
 -- what is asked where a slot goes
-pub held_within : (a : Store) (i : ℕ) → IsSound a → Holds (live_of a) i → i < length a.order.items
+pub held_within : (a : Store) (i : ℕ) → ChainsAreSound a → HoldsSlot (live_of a) i → i < length a.order.items
 held_within a i h held = below_here (length a.order.items) held.front i held.back
     (subst (AreBelow (length a.order.items)) held.is
     (below_front (length a.order.items) (live_of a) (free_of a) h.store.below))
 
-pub held_prev : (a : Store) (i : ℕ) → IsSound a → Holds (live_of a) i
-    → IsWithin (length a.order.items) (pair_at a.order.items i).prev
+pub held_prev : (a : Store) (i : ℕ) → ChainsAreSound a → HoldsSlot (live_of a) i
+    → IsSlotBelow (length a.order.items) (pair_at a.order.items i).prev
 held_prev a i h held =
     let below = subst (AreBelow (length a.order.items)) held.is
     (below_front (length a.order.items) (live_of a) (free_of a) h.store.below) in
@@ -275,8 +276,8 @@ held_prev a i h held =
     (last_within (length a.order.items) None held.front tt
     (below_front (length a.order.items) held.front (i ∷ held.back) below))
 
-pub held_next : (a : Store) (i : ℕ) → IsSound a → Holds (live_of a) i
-    → IsWithin (length a.order.items) (pair_at a.order.items i).next
+pub held_next : (a : Store) (i : ℕ) → ChainsAreSound a → HoldsSlot (live_of a) i
+    → IsSlotBelow (length a.order.items) (pair_at a.order.items i).next
 held_next a i h held =
     let below = subst (AreBelow (length a.order.items)) held.is
     (below_front (length a.order.items) (live_of a) (free_of a) h.store.below) in
@@ -318,7 +319,7 @@ release_store a b xs fs i h r out within room = record {
   numbers = rw (r.order, length-set_next) h.numbers;
 }
 
-pub releases : (a b : Store) (i : ℕ) → IsSound a → IsLoose a i → Releases a b i → IsReleased a b
+pub releases : (a b : Store) (i : ℕ) → ChainsAreSound a → IsLoose a i → Releases a b i → IsReleased a b
 releases a b i h l r =
     let s = release_store a b (live_of a) (free_of a) i h.store r l.out l.within l.room in
     record {
@@ -335,11 +336,12 @@ releases a b i h l r =
     }
 
 -- a held slot stands in its bucket
-pub held_in_bucket : (a : Store) (i k : ℕ) → IsSound a → Holds (live_of a) i → k < length a.heads.items → k
+pub held_in_bucket : (a : Store) (i k : ℕ) → ChainsAreSound a → HoldsSlot (live_of a) i → k < length a.heads.items → k
     ≡ class (length a.heads.items) (cells_at a.width a.cells.items i)
-    → Stands a.bucket.items (link_at a.heads.items k) i
+    → StandsInChain a.bucket.items (link_at a.heads.items k) i
 held_in_bucket a i k h held inside its =
-    bucket_stands (bucket_of (length a.heads.items) a.width a.cells.items) k a.bucket.items (link_at a.heads.items k)
+    bucket_stands (bucket_of_slot (length a.heads.items) a.width a.cells.items) k a.bucket.items
+    (link_at a.heads.items k)
     (live_of a) i (h.store.buckets.each k inside) (held_not_out i (live_of a) held) (sym its)
     (rw h.store.pairs (below_front (length a.order.items) (live_of a) (free_of a) h.store.below))
     (omega (arith, h.store.count, h.store.room, h.store.pairs))
@@ -349,7 +351,7 @@ pub record Renews (a b : Store) (i : ℕ) : Type 0 where
   pub width : b.width ≡ a.width
   pub cells : b.cells.items ≡ a.cells.items
   pub order : b.order.items
-      ≡ entered (shrunk (pair_at a.order.items i) a.live).last i (left (pair_at a.order.items i) a.order.items)
+      ≡ entered (shrunk (pair_at a.order.items i) a.live).last i (chain_without (pair_at a.order.items i) a.order.items)
   pub live : b.live ≡ extended i (shrunk (pair_at a.order.items i) a.live)
   pub bucket : b.bucket.items ≡ a.bucket.items
   pub heads : b.heads.items ≡ a.heads.items
@@ -368,13 +370,14 @@ module _ (a b : Store) (xs : List ℕ) (i : ℕ) (ys fs : List ℕ) (h : IsStore
   renew_ends = ap (shrunk (pair_at a.order.items i)) h.live
       ∙ shrunk_is (pair_at a.order.items i) xs i ys renew_prev renew_next
 
-  renew_order : b.order.items ≡ entered (last_of (xs ++ ys)) i (left (pair_at a.order.items i) a.order.items)
-  renew_order = r.order ∙ ap (λ (e : Ends). entered e.last i (left (pair_at a.order.items i) a.order.items)) renew_ends
+  renew_order : b.order.items ≡ entered (last_of (xs ++ ys)) i (chain_without (pair_at a.order.items i) a.order.items)
+  renew_order = r.order
+      ∙ ap (λ (e : Ends). entered e.last i (chain_without (pair_at a.order.items i) a.order.items)) renew_ends
 
-  renew_apart_all : AreDifferent (xs ++ i ∷ (ys ++ fs))
-  renew_apart_all = subst AreDifferent (append_assoc xs (i ∷ ys) fs) h.apart
+  renew_apart_all : AreDistinctSlots (xs ++ i ∷ (ys ++ fs))
+  renew_apart_all = subst AreDistinctSlots (append_assoc xs (i ∷ ys) fs) h.apart
 
-  renew_apart : AreDifferent ((xs ++ ys) ++ fs)
+  renew_apart : AreDistinctSlots ((xs ++ ys) ++ fs)
   renew_apart = rw append_assoc (different_out xs i (ys ++ fs) renew_apart_all)
 
   renew_out : IsOut i ((xs ++ ys) ++ fs)
@@ -391,35 +394,35 @@ module _ (a b : Store) (xs : List ℕ) (i : ℕ) (ys fs : List ℕ) (h : IsStore
 
   renew_long : length b.order.items ≡ length a.order.items
   renew_long = ap (λ (ls : List Pair). length ls) renew_order
-      ∙ length-entered (left (pair_at a.order.items i) a.order.items) (last_of (xs ++ ys)) i
+      ∙ length-entered (chain_without (pair_at a.order.items i) a.order.items) (last_of (xs ++ ys)) i
       ∙ length-left a.order.items (pair_at a.order.items i)
 
-  renew_gone : Linked (left (pair_at a.order.items i) a.order.items) None (xs ++ ys) None
+  renew_gone : Linked (chain_without (pair_at a.order.items i) a.order.items) None (xs ++ ys) None
   renew_gone = left_linked a.order.items xs i ys (different_front (xs ++ i ∷ ys) fs h.apart)
       (below_front (length a.order.items) (xs ++ i ∷ ys) fs h.below) h.order
 
   renew_linked : Linked b.order.items None ((xs ++ ys) ++ i ∷ []) None
   renew_linked = rw renew_order
-      (entered_linked (left (pair_at a.order.items i) a.order.items) (xs ++ ys) i
+      (entered_linked (chain_without (pair_at a.order.items i) a.order.items) (xs ++ ys) i
       (different_front (xs ++ ys) fs renew_apart)
       (rw length-left (below_front (length a.order.items) (xs ++ ys) fs renew_below))
       (out_front i (xs ++ ys) fs renew_out) (rw length-left renew_within) renew_gone)
 
-  renew_rest_left : Onward (left (pair_at a.order.items i) a.order.items) fs
-  renew_rest_left = onward_same a.order.items (left (pair_at a.order.items i) a.order.items) fs
+  renew_rest_left : Onward (chain_without (pair_at a.order.items i) a.order.items) fs
+  renew_rest_left = onward_same a.order.items (chain_without (pair_at a.order.items i) a.order.items) fs
       (left_agree a.order.items (pair_at a.order.items i) fs
       (subst (λ o. Avoids o fs) (sym renew_prev)
       (last_avoids None xs fs (avoids_none fs)
-      (without_middle xs ys fs (subst AreDifferent (append_assoc xs ys fs) renew_apart))))
+      (without_middle xs ys fs (subst AreDistinctSlots (append_assoc xs ys fs) renew_apart))))
       (subst (λ o. Avoids o fs) (sym renew_next)
-      (first_avoids ys fs (different_back xs (ys ++ fs) (subst AreDifferent (append_assoc xs ys fs) renew_apart)))))
+      (first_avoids ys fs (different_back xs (ys ++ fs) (subst AreDistinctSlots (append_assoc xs ys fs) renew_apart)))))
       h.rest
 
   renew_rest : Onward b.order.items fs
   renew_rest = rw renew_order
-      (onward_same (left (pair_at a.order.items i) a.order.items)
-      (entered (last_of (xs ++ ys)) i (left (pair_at a.order.items i) a.order.items)) fs
-      (entered_agree (left (pair_at a.order.items i) a.order.items) (last_of (xs ++ ys)) i fs
+      (onward_same (chain_without (pair_at a.order.items i) a.order.items)
+      (entered (last_of (xs ++ ys)) i (chain_without (pair_at a.order.items i) a.order.items)) fs
+      (entered_agree (chain_without (pair_at a.order.items i) a.order.items) (last_of (xs ++ ys)) i fs
       (last_avoids None (xs ++ ys) fs (avoids_none fs) renew_apart) (out_back i (xs ++ ys) fs renew_out))
       renew_rest_left)
 
@@ -442,7 +445,7 @@ module _ (a b : Store) (xs : List ℕ) (i : ℕ) (ys fs : List ℕ) (h : IsStore
     order = renew_linked;
     rest = renew_rest;
     buckets = rw (r.heads, r.width, r.cells, r.bucket)
-        (buckets_same (bucket_of (length a.heads.items) a.width a.cells.items) a.bucket.items a.heads.items
+        (buckets_same (bucket_of_slot (length a.heads.items) a.width a.cells.items) a.bucket.items a.heads.items
         (xs ++ i ∷ ys) ((xs ++ ys) ++ i ∷ []) h.buckets renew_there renew_back);
     some = rw r.heads h.some;
     pairs = rw (r.bucket, renew_long) h.pairs;
@@ -451,7 +454,7 @@ module _ (a b : Store) (xs : List ℕ) (i : ℕ) (ys fs : List ℕ) (h : IsStore
     numbers = rw renew_long h.numbers;
   }
 
-pub renews : (a b : Store) (i : ℕ) → IsSound a → Holds (live_of a) i → Renews a b i → IsRenewed a b i
+pub renews : (a b : Store) (i : ℕ) → ChainsAreSound a → HoldsSlot (live_of a) i → Renews a b i → IsRenewed a b i
 renews a b i h held r =
     let s = renew_store a b held.front i held.back (free_of a) (subst (λ xs. IsStore a xs (free_of a)) held.is h.store)
     r in
@@ -471,15 +474,16 @@ renews a b i h held r =
     }
 
 -- what is asked where a slot comes in behind the others, after it has left
-pub renewed_last : (a : Store) (i : ℕ) → IsSound a → Holds (live_of a) i
-    → IsWithin (length (left (pair_at a.order.items i) a.order.items)) (shrunk (pair_at a.order.items i) a.live).last
+pub renewed_last : (a : Store) (i : ℕ) → ChainsAreSound a → HoldsSlot (live_of a) i
+    → IsSlotBelow (length (chain_without (pair_at a.order.items i) a.order.items))
+    (shrunk (pair_at a.order.items i) a.live).last
 renewed_last a i h held =
     let was = subst (λ xs. IsStore a xs (free_of a)) held.is h.store in
     let ends = ap (shrunk (pair_at a.order.items i)) was.live
     ∙ shrunk_is (pair_at a.order.items i) held.front i held.back
     (prev_here a.order.items held.front i held.back was.order)
     (next_here a.order.items held.front i held.back was.order) in
-    subst (λ (e : Ends). IsWithin (length (left (pair_at a.order.items i) a.order.items)) e.last) (sym ends)
+    subst (λ (e : Ends). IsSlotBelow (length (chain_without (pair_at a.order.items i) a.order.items)) e.last) (sym ends)
     (rw length-left (last_within (length a.order.items) None (held.front ++ held.back) tt
     (below_out (length a.order.items) held.front i held.back
     (below_front (length a.order.items) (held.front ++ i ∷ held.back) (free_of a) was.below))))

@@ -1,7 +1,7 @@
 -- Chains of single links over slots: for each slot the one behind it.
 use Rattle.std.specs.Prelude.{◌≡◌, ◌≢◌, ℕ, ◌<◌, List, [], ◌∷◌, ◌++◌, length, slice_index_or}
 use Rattle.std.specs.Prelude.{slice_set, Option, Some, None}
-use Rattle.djq_arena.specs.Chains.{last_of, IsOut, AreDifferent, AreBelow}
+use Rattle.djq_arena.specs.Chains.{last_of, IsOut, AreDistinctSlots, AreBelow}
 
 -- where the link of a slot, or the head of a bucket, points to
 abbrev pub link_at : List (Option ℕ) → ℕ → Option ℕ
@@ -17,7 +17,7 @@ Chained links at (x ∷ xs) = (at ≡ Some x) × Chained links (link_at links x)
 pub record IsBucket (falls : ℕ → ℕ) (k : ℕ) (links : List (Option ℕ)) (head : Option ℕ) (xs : List ℕ) : Type 0 where
   pub slots : List ℕ
   pub chained : Chained links head slots
-  pub different : AreDifferent slots
+  pub different : AreDistinctSlots slots
   pub all : (i : ℕ) → falls i ≡ k → IsOut i slots → IsOut i xs
   pub only : (i : ℕ) → IsOut i xs → IsOut i slots
   pub its : (i : ℕ) → falls i ≢ k → IsOut i slots
@@ -27,17 +27,17 @@ pub record AreBuckets (falls : ℕ → ℕ) (links heads : List (Option ℕ)) (x
   pub each : (k : ℕ) → k < length heads → IsBucket falls k links (link_at heads k) xs
 
 -- slot i stands in the chain from a head on
-pub record Stands (links : List (Option ℕ)) (head : Option ℕ) (i : ℕ) : Type 0 where
+pub record StandsInChain (links : List (Option ℕ)) (head : Option ℕ) (i : ℕ) : Type 0 where
   pub front : List ℕ
   pub back : List ℕ
   pub chained : Chained links head (front ++ i ∷ back)
-  pub different : AreDifferent (front ++ i ∷ back)
+  pub different : AreDistinctSlots (front ++ i ∷ back)
   pub below : AreBelow (length links) (front ++ i ∷ back)
   pub short : length front < length links
 
 -- slot i stands there, behind this one, or first
 pub record IsBehind (links : List (Option ℕ)) (head : Option ℕ) (i : ℕ) (before : Option ℕ) : Type 0 where
-  pub place : Stands links head i
+  pub place : StandsInChain links head i
   pub is : before ≡ last_of place.front
 
 -- the links once a slot that stood behind `before` is passed over

@@ -42,9 +42,9 @@ IsOut i [] = ⊤
 IsOut i (x ∷ xs) = (x ≢ i) × IsOut i xs
 
 -- none stands twice in the list
-unfoldable pub AreDifferent : List ℕ → Type 0
-AreDifferent [] = ⊤
-AreDifferent (x ∷ xs) = IsOut x xs × AreDifferent xs
+unfoldable pub AreDistinctSlots : List ℕ → Type 0
+AreDistinctSlots [] = ⊤
+AreDistinctSlots (x ∷ xs) = IsOut x xs × AreDistinctSlots xs
 
 -- each of the list is below n
 unfoldable pub AreBelow : ℕ → List ℕ → Type 0
@@ -66,13 +66,13 @@ unfoldable pub entered : Option ℕ → ℕ → List Pair → List Pair
 entered last i links = slice_set (set_next last (Some i) links) i (record { prev = last; next = None })
 
 -- slot i, with these neighbours, goes
-unfoldable pub left : Pair → List Pair → List Pair
-left p links = set_prev p.next p.prev (set_next p.prev p.next links)
+unfoldable pub chain_without : Pair → List Pair → List Pair
+chain_without p links = set_prev p.next p.prev (set_next p.prev p.next links)
 
 -- a slot, if there is one, is below n
-abbrev pub IsWithin : ℕ → Option ℕ → Type 0
-IsWithin n None = ⊤
-IsWithin n (Some i) = i < n
+abbrev pub IsSlotBelow : ℕ → Option ℕ → Type 0
+IsSlotBelow n None = ⊤
+IsSlotBelow n (Some i) = i < n
 
 -- a slot, if there is one, is another than x
 abbrev pub Differs : Option ℕ → ℕ → Type 0

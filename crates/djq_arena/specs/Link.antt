@@ -5,8 +5,8 @@ use Rattle.djq_arena.specs.declared.link.Link.TheInside.{Inside}
 use Rattle.djq_arena.specs.declared.link.TheConstants.{SLOTS}
 
 -- what a number stands for: the highest one for none
-abbrev pub shown : ℕ → Option ℕ
-shown n = cond (n == SLOTS) None (Some n)
+abbrev pub link_number : ℕ → Option ℕ
+link_number n = cond (n == SLOTS) None (Some n)
 
 -- the number that stands for it
 abbrev pub number : Option ℕ → ℕ
@@ -18,5 +18,5 @@ back n true h = sym (eqb-true n SLOTS h)
 back n false h = refl
 
 -- the number of the slot, or none, that a link stands for is the link's own
-pub shown_back : (l : Inside) → record { slot = number (shown l.slot) } ≡ l
+pub shown_back : (l : Inside) → record { slot = number (link_number l.slot) } ≡ l
 shown_back l = ap (λ (n : ℕ). record { slot = n }) (back l.slot (l.slot == SLOTS) refl)

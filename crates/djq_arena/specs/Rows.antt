@@ -1,6 +1,6 @@
 -- What an arena holds, as a list of rows.
 use Rattle.std.specs.Prelude.{◌≡◌, ◌≢◌, ⊤, ℕ, ◌≤◌, List, [], ◌∷◌, ◌++◌, map, length}
-use Rattle.djq_arena.specs.Chains.{AreDifferent, AreBelow}
+use Rattle.djq_arena.specs.Chains.{AreDistinctSlots, AreBelow}
 use Rattle.djq_arena.specs.declared.link.TheConstants.{SLOTS}
 
 -- a row: its slot, and its cells
@@ -34,7 +34,7 @@ pub record IsRow (rows : List Row) (slot : ℕ) (cells : List ℕ) : Type 0 wher
   pub is : rows ≡ front ++ record { slot = slot; cells = cells } ∷ back
 
 -- a row lies in this slot
-pub record IsHeld (rows : List Row) (slot : ℕ) : Type 0 where
+pub record IsRowHeld (rows : List Row) (slot : ℕ) : Type 0 where
   pub cells : List ℕ
   pub row : IsRow rows slot cells
 
@@ -46,7 +46,7 @@ AreWideRows width (r ∷ rs) = (length r.cells ≡ width) × AreWideRows width r
 -- what holds of every arena: no two rows lie in one slot, each slot is one of the room, and each row has
 -- the width
 pub record AreRows (a : SlotRows) : Type 0 where
-  pub different : AreDifferent (slots a.rows)
+  pub different : AreDistinctSlots (slots a.rows)
   pub below : AreBelow a.room (slots a.rows)
   pub numbers : a.room ≤ SLOTS
   pub wide : AreWideRows a.width a.rows

@@ -6,7 +6,7 @@ use Rattle.std.specs.Prelude.{None, vec_len, vec_capacity}
 use Rattle.djq_arena.specs.declared.chain.Pair.{Pair}
 use Rattle.djq_arena.specs.declared.chain.Ends.{Ends}
 use Rattle.djq_arena.specs.declared.store.Store.{Store}
-use Rattle.djq_arena.specs.Chains.{first_of, last_of, Linked, Onward, IsOut, AreDifferent, AreBelow, trail}
+use Rattle.djq_arena.specs.Chains.{first_of, last_of, Linked, Onward, IsOut, AreDistinctSlots, AreBelow, trail}
 use Rattle.djq_arena.specs.Rows.{Row}
 use Rattle.djq_arena.specs.Buckets.{AreBuckets}
 use Rattle.djq_arena.specs.declared.link.TheConstants.{SLOTS}
@@ -48,20 +48,20 @@ unfoldable pub cells_at : ℕ → List ℕ → ℕ → List ℕ
 cells_at width cells i = take width (drop (i * width) cells)
 
 -- the bucket that a slot falls into by its cells, of m
-abbrev pub bucket_of : ℕ → ℕ → List ℕ → ℕ → ℕ
-bucket_of m width cells i = class m (cells_at width cells i)
+abbrev pub bucket_of_slot : ℕ → ℕ → List ℕ → ℕ → ℕ
+bucket_of_slot m width cells i = class m (cells_at width cells i)
 
 -- the rows that lie in these slots
 unfoldable pub rows_in : ℕ → List ℕ → List ℕ → List Row
 rows_in width cells xs = map (λ i. record { slot = i; cells = cells_at width cells i }) xs
 
 -- the first j slots are in the buckets that they fall into, and no others are
-pub record AreListed (width : ℕ) (cells : List ℕ) (links heads : List (Option ℕ)) (j : ℕ) : Type 0 where
+pub record AreInBuckets (width : ℕ) (cells : List ℕ) (links heads : List (Option ℕ)) (j : ℕ) : Type 0 where
   pub slots : List ℕ
   pub count : length slots ≡ j
   pub done : (i : ℕ) → i < j → IsOut i slots → ⊥
   pub out : (i : ℕ) → j ≤ i → IsOut i slots
-  pub buckets : AreBuckets (bucket_of (length heads) width cells) links heads slots
+  pub buckets : AreBuckets (bucket_of_slot (length heads) width cells) links heads slots
 
 -- the slots xs hold the rows, in this order, and the slots fs are free
 pub record IsStore (s : Store) (xs fs : List ℕ) : Type 0 where
@@ -69,11 +69,11 @@ pub record IsStore (s : Store) (xs fs : List ℕ) : Type 0 where
   pub free : s.free ≡ first_of fs
   pub count : length xs ≡ s.len
   pub spare : length fs ≡ s.spare
-  pub apart : AreDifferent (xs ++ fs)
+  pub apart : AreDistinctSlots (xs ++ fs)
   pub below : AreBelow (length s.order.items) (xs ++ fs)
   pub order : Linked s.order.items None xs None
   pub rest : Onward s.order.items fs
-  pub buckets : AreBuckets (bucket_of (length s.heads.items) s.width s.cells.items) s.bucket.items s.heads.items xs
+  pub buckets : AreBuckets (bucket_of_slot (length s.heads.items) s.width s.cells.items) s.bucket.items s.heads.items xs
   pub some : 0 < length s.heads.items
   pub pairs : length s.bucket.items ≡ length s.order.items
   pub cells : length s.cells.items ≡ length s.order.items * s.width
@@ -89,7 +89,7 @@ unfoldable pub free_of : Store → List ℕ
 free_of s = trail s.spare s.order.items s.free
 
 -- the slots that the store's two chains lead to are those of its rows, in order, and the free ones
-pub record IsSound (s : Store) : Type 0 where
+pub record ChainsAreSound (s : Store) : Type 0 where
   pub store : IsStore s (live_of s) (free_of s)
 
 -- each slot holds a row, or is free
@@ -97,8 +97,8 @@ abbrev pub IsTidy : Store → Type 0
 IsTidy s = length s.order.items ≡ s.len + s.spare
 
 -- there is room for one more slot with n cells
-abbrev pub HasRoom : Store → ℕ → Type 0
-HasRoom s n = (vec_len s.order < vec_capacity s.order) × (vec_len s.bucket < vec_capacity s.bucket)
+abbrev pub HasSlotRoom : Store → ℕ → Type 0
+HasSlotRoom s n = (vec_len s.order < vec_capacity s.order) × (vec_len s.bucket < vec_capacity s.bucket)
     × (vec_len s.cells + n ≤ vec_capacity s.cells)
 
 -- slot i holds no row, and isn't free
@@ -108,24 +108,24 @@ pub record IsLoose (s : Store) (i : ℕ) : Type 0 where
   pub room : s.len + s.spare < length s.order.items
 
 -- the rows
-unfoldable pub rows_of : Store → List Row
-rows_of s = rows_in s.width s.cells.items (live_of s)
+unfoldable pub store_rows : Store → List Row
+store_rows s = rows_in s.width s.cells.items (live_of s)
 
 -- slot i is in the list
-pub record Holds (xs : List ℕ) (i : ℕ) : Type 0 where
+pub record HoldsSlot (xs : List ℕ) (i : ℕ) : Type 0 where
   pub front : List ℕ
   pub back : List ℕ
   pub is : xs ≡ front ++ i ∷ back
 
 -- slots and cells are as they were
 pub record IsAlike (old new : Store) : Type 0 where
-  pub sound : IsSound new
+  pub sound : ChainsAreSound new
   pub width : new.width ≡ old.width
   pub cells : new.cells.items ≡ old.cells.items
   pub slots : length new.order.items ≡ length old.order.items
 
 -- slot i came in behind all
-pub record IsLinked (old new : Store) (i : ℕ) : Type 0 where
+pub record IsAppended (old new : Store) (i : ℕ) : Type 0 where
   pub alike : IsAlike old new
   pub live : live_of new ≡ live_of old ++ i ∷ []
   pub len : new.len ≡ old.len + 1
@@ -155,21 +155,21 @@ pub record IsReleased (old new : Store) : Type 0 where
 
 -- slot i, which held no row, is loose, and has these cells
 pub record IsPrepared (old new : Store) (i : ℕ) (u : List ℕ) : Type 0 where
-  pub sound : IsSound new
+  pub sound : ChainsAreSound new
   pub loose : IsLoose new i
   pub live : live_of new ≡ live_of old
   pub width : new.width ≡ old.width
   pub here : cells_at new.width new.cells.items i ≡ u
-  pub rows : rows_of new ≡ rows_of old
+  pub rows : store_rows new ≡ store_rows old
   pub slots : length new.order.items ≡ max (length old.order.items) (i + 1)
   pub fits : i ≤ length old.order.items
   pub alone : IsTidy old → length new.order.items ≡ new.len + new.spare + 1
 
 -- a row came, behind all others
 pub record IsPut (old new : Store) (i : ℕ) (u : List ℕ) : Type 0 where
-  pub sound : IsSound new
+  pub sound : ChainsAreSound new
   pub width : new.width ≡ old.width
-  pub rows : rows_of new ≡ rows_of old ++ record { slot = i; cells = u } ∷ []
+  pub rows : store_rows new ≡ store_rows old ++ record { slot = i; cells = u } ∷ []
   pub slots : length new.order.items ≡ max (length old.order.items) (i + 1)
   pub fits : i ≤ length old.order.items
   pub tidy : IsTidy old → IsTidy new

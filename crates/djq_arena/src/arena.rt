@@ -1,7 +1,7 @@
 ghost use Rattle.std.specs.Prelude.{◌≡◌, ◌↔◌, IsTrue, ℕ, ◌+◌, ◌<◌, ◌≤◌, ◌==◌, max, List, [], ◌∷◌};
 ghost use Rattle.std.specs.Prelude.{◌++◌, length, IfOk, OnErr, MatchOption};
 ghost use Rattle.djq_arena.specs.Chains.{first_of, last_of};
-ghost use Rattle.djq_arena.specs.Rows.{Row, slots, IsAbsent, IsRow, IsHeld, IsFull, AreRows};
+ghost use Rattle.djq_arena.specs.Rows.{Row, slots, IsAbsent, IsRow, IsRowHeld, IsFull, AreRows};
 ghost use Rattle.djq_arena.specs.Store.{hash};
 ghost use Rattle.djq_arena.specs.declared.link.TheConstants.{SLOTS};
 
@@ -28,11 +28,11 @@ impl Model for Arena {
     ghost Value = { SlotRows };
 
     ghost use Rattle.std.specs.Prelude.{length};
-    ghost use Rattle.djq_arena.specs.Store.{rows_of, IsSound, IsTidy};
+    ghost use Rattle.djq_arena.specs.Store.{store_rows, ChainsAreSound, IsTidy};
 
-    ghost view = { λ a. record { width = a.store.width; room = length a.store.order.items; rows = rows_of a.store } };
+    ghost view = { λ a. record { width = a.store.width; room = length a.store.order.items; rows = store_rows a.store } };
 
-    ghost invariant = { λ a. IsSound a.store × IsTidy a.store };
+    ghost invariant = { λ a. ChainsAreSound a.store × IsTidy a.store };
 }
 
 impl Arena {
@@ -167,7 +167,7 @@ impl Arena {
 
     /// Takes the row in a slot out.
     pub fn remove(&mut self, slot: u32)
-        requires { IsHeld self.old.rows slot }
+        requires { IsRowHeld self.old.rows slot }
         ensures removed { (xs : List Row) (r : Row) (ys : List Row) → self.old.rows ≡ xs ++ r ∷ ys
             → r.slot ≡ slot → self.new.rows ≡ xs ++ ys }
         ensures room { self.new.room ≡ self.old.room }
@@ -179,7 +179,7 @@ impl Arena {
 
     /// Puts the row in a slot behind all others. It keeps its slot.
     pub fn renew(&mut self, slot: u32)
-        requires { IsHeld self.old.rows slot }
+        requires { IsRowHeld self.old.rows slot }
         ensures renewed { (xs : List Row) (r : Row) (ys : List Row) → self.old.rows ≡ xs ++ r ∷ ys
             → r.slot ≡ slot → self.new.rows ≡ (xs ++ ys) ++ r ∷ [] }
         ensures room { self.new.room ≡ self.old.room }
@@ -190,7 +190,7 @@ impl Arena {
 
     /// The cells of the row in a slot.
     pub fn cells(&self, slot: u32) -> &[u64]
-        requires { IsHeld self.now.rows slot }
+        requires { IsRowHeld self.now.rows slot }
         ensures { (xs : List Row) (r : Row) (ys : List Row) → self.now.rows ≡ xs ++ r ∷ ys
             → r.slot ≡ slot → result.now ≡ r.cells }
     {
@@ -213,7 +213,7 @@ impl Arena {
 
     /// The slot of the row that came next after the one in a slot.
     pub fn next(&self, slot: u32) -> Option<u32>
-        requires { IsHeld self.now.rows slot }
+        requires { IsRowHeld self.now.rows slot }
         ensures { (xs : List Row) (r : Row) (ys : List Row) → self.now.rows ≡ xs ++ r ∷ ys
             → r.slot ≡ slot → result ≡ first_of (slots ys) }
     {
@@ -222,7 +222,7 @@ impl Arena {
 
     /// The slot of the row that came before the one in a slot.
     pub fn prev(&self, slot: u32) -> Option<u32>
-        requires { IsHeld self.now.rows slot }
+        requires { IsRowHeld self.now.rows slot }
         ensures { (xs : List Row) (r : Row) (ys : List Row) → self.now.rows ≡ xs ++ r ∷ ys
             → r.slot ≡ slot → result ≡ last_of (slots xs) }
     {

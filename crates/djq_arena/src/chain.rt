@@ -1,5 +1,5 @@
 ghost use Rattle.std.specs.Prelude.{◌≡◌, ◌<◌, length, slice_index_or, Some};
-ghost use Rattle.djq_arena.specs.Chains.{pair_at, set_prev, set_next, entered, left, IsWithin};
+ghost use Rattle.djq_arena.specs.Chains.{pair_at, set_prev, set_next, entered, chain_without, IsSlotBelow};
 ghost use Rattle.djq_arena.specs.Store.{extended, shrunk};
 ghost use Rattle.djq_arena.specs.declared.link.TheConstants.{SLOTS};
 
@@ -38,7 +38,7 @@ pub fn follow(links: &mut Vec<Pair>, slot: u32, next: Link)
 /// Chains a slot behind the last one of its chain.
 #[tactic(auto, unfolding(crate::specs::Chains::entered))]
 pub fn enter(links: &mut Vec<Pair>, last: Link, slot: u32)
-    requires last { IsWithin (length links.old.items) last }
+    requires last { IsSlotBelow (length links.old.items) last }
     requires slot { slot < length links.old.items }
     requires number { slot < SLOTS }
     ensures { links.new.items ≡ entered last slot links.old.items }
@@ -54,11 +54,11 @@ pub fn enter(links: &mut Vec<Pair>, last: Link, slot: u32)
 
 /// Takes a slot with these neighbours out of its chain, which has these ends. Each neighbour is asked for once: where
 /// there is none, an end changes in its place.
-#[tactic(auto, unfolding(crate::specs::Chains::left))]
+#[tactic(auto, unfolding(crate::specs::Chains::chain_without))]
 pub fn leave(links: &mut Vec<Pair>, ends: &mut Ends, pair: &Pair)
-    requires prev { IsWithin (length links.old.items) pair.now.prev }
-    requires next { IsWithin (length links.old.items) pair.now.next }
-    ensures links { links.new.items ≡ left pair.now links.old.items }
+    requires prev { IsSlotBelow (length links.old.items) pair.now.prev }
+    requires next { IsSlotBelow (length links.old.items) pair.now.next }
+    ensures links { links.new.items ≡ chain_without pair.now links.old.items }
     ensures ends { ends.new ≡ shrunk pair.now ends.old }
 {
     match pair.prev.get() {

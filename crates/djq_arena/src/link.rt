@@ -16,9 +16,9 @@ impl Model for Link {
 
     ghost Value = { Option ℕ };
 
-    ghost use Rattle.djq_arena.specs.Link.{shown, number, shown_back};
+    ghost use Rattle.djq_arena.specs.Link.{link_number, number, shown_back};
 
-    ghost view = { λ l. shown l.slot };
+    ghost view = { λ l. link_number l.slot };
 
     ghost inverse = { λ o. record { slot = number o } };
 

@@ -2,10 +2,10 @@ ghost use Rattle.std.specs.Prelude.{◌≡◌, ◌+◌, ◌*◌, ◌<◌, ◌≤
 ghost use Rattle.std.specs.Prelude.{Some, None, ℕ, IfOk, OnErr, slice_set, replicate, IsTrue, ◌↔◌};
 ghost use Rattle.std.specs.Prelude.{MatchOption, List, vec_len, vec_capacity};
 ghost use Rattle.djq_arena.specs.Rows.{slots, IsAbsent, IsRow};
-ghost use Rattle.djq_arena.specs.Store.{mixed, hash, class, cells_at, AreListed, IsPrepared, IsPut};
-ghost use Rattle.djq_arena.specs.Store.{IsRenewed, IsSound, IsLoose, IsLinked, IsUnlinked};
-ghost use Rattle.djq_arena.specs.Store.{IsSame, IsReleased, HasRoom, Holds, live_of, rows_of};
-ghost use Rattle.djq_arena.specs.Buckets.{link_at, Stands, IsBehind, IsUnlisted};
+ghost use Rattle.djq_arena.specs.Store.{mixed, hash, class, cells_at, AreInBuckets, IsPrepared, IsPut};
+ghost use Rattle.djq_arena.specs.Store.{IsRenewed, ChainsAreSound, IsLoose, IsAppended, IsUnlinked};
+ghost use Rattle.djq_arena.specs.Store.{IsSame, IsReleased, HasSlotRoom, HoldsSlot, live_of, store_rows};
+ghost use Rattle.djq_arena.specs.Buckets.{link_at, StandsInChain, IsBehind, IsUnlisted};
 ghost use Rattle.djq_arena.specs.declared.link.TheConstants.{SLOTS};
 
 use crate::chain::{Ends, Pair, ends_after_push, enter, follow, leave, pair_of};
@@ -126,10 +126,10 @@ fn link_of(links: &Vec<Link>, at: usize) -> Link
 /// called, so that what is known there of the cells isn't asked again at each step.
 #[inline(always)]
 pub fn find_from(store: &Store, head: Link, cells: &[u64]) -> Option<u32>
-    requires sound { IsSound store.now }
+    requires sound { ChainsAreSound store.now }
     requires head { head ≡ link_at store.now.heads.items (class (length store.now.heads.items) cells.now) }
-    ensures { MatchOption result (IsAbsent (rows_of store.now) cells.now)
-        (λ slot. IsRow (rows_of store.now) slot cells.now) }
+    ensures { MatchOption result (IsAbsent (store_rows store.now) cells.now)
+        (λ slot. IsRow (store_rows store.now) slot cells.now) }
 {
     let mut at = head;
     while let Some(slot) = at.get() {
@@ -144,10 +144,10 @@ pub fn find_from(store: &Store, head: Link, cells: &[u64]) -> Option<u32>
 /// The same for cells of any number. It stands apart, so that a search for one or two cells saves no registers.
 #[inline(never)]
 pub fn find_any(store: &Store, head: Link, cells: &[u64]) -> Option<u32>
-    requires sound { IsSound store.now }
+    requires sound { ChainsAreSound store.now }
     requires head { head ≡ link_at store.now.heads.items (class (length store.now.heads.items) cells.now) }
-    ensures { MatchOption result (IsAbsent (rows_of store.now) cells.now)
-        (λ slot. IsRow (rows_of store.now) slot cells.now) }
+    ensures { MatchOption result (IsAbsent (store_rows store.now) cells.now)
+        (λ slot. IsRow (store_rows store.now) slot cells.now) }
 {
     find_from(store, head, cells)
 }
@@ -167,7 +167,7 @@ fn push_bucket(bucket: &mut Vec<Link>, heads: &mut Vec<Link>, class: usize, slot
 /// The slot that stands before this one in its bucket, if any. A bucket is short, and whoever takes a row
 /// out has mostly just looked it up.
 fn before(bucket: &Vec<Link>, head: Link, slot: u32) -> Link
-    requires { Stands bucket.now.items head slot }
+    requires { StandsInChain bucket.now.items head slot }
     ensures { IsBehind bucket.now.items head slot result }
 {
     let mut before = Link::none();
@@ -190,7 +190,7 @@ fn before(bucket: &Vec<Link>, head: Link, slot: u32) -> Link
 /// Takes a slot out of its bucket.
 fn unlist(bucket: &mut Vec<Link>, heads: &mut Vec<Link>, class: usize, slot: u32)
     requires class { class < length heads.old.items }
-    requires stands { Stands bucket.old.items (link_at heads.old.items class) slot }
+    requires stands { StandsInChain bucket.old.items (link_at heads.old.items class) slot }
     ensures unlisted { IsUnlisted bucket.old.items bucket.new.items heads.old.items heads.new.items class slot }
 {
     let after = link_of(bucket, slot as usize);
@@ -202,10 +202,10 @@ fn unlist(bucket: &mut Vec<Link>, heads: &mut Vec<Link>, class: usize, slot: u32
 
 /// Puts a loose slot behind all rows: the cells that lie in it, of this hash, are a row now.
 pub fn link(store: &mut Store, slot: u32, code: u64)
-    requires sound { IsSound store.old }
+    requires sound { ChainsAreSound store.old }
     requires loose { IsLoose store.old slot }
     requires here { code ≡ hash (cells_at store.old.width store.old.cells.items slot) }
-    ensures linked { IsLinked store.old store.new slot }
+    ensures linked { IsAppended store.old store.new slot }
 {
     let class = bucket_in(store, code);
     push_bucket(&mut store.bucket, &mut store.heads, class, slot);
@@ -216,8 +216,8 @@ pub fn link(store: &mut Store, slot: u32, code: u64)
 
 /// Takes the row in a slot out of its chains: the slot is loose then, and keeps its cells.
 pub fn unlink(store: &mut Store, slot: u32)
-    requires sound { IsSound store.old }
-    requires held { Holds (live_of store.old) slot }
+    requires sound { ChainsAreSound store.old }
+    requires held { HoldsSlot (live_of store.old) slot }
     ensures unlinked { IsUnlinked store.old store.new slot }
 {
     let class = bucket_in(store, hash_of(cells_of(store, slot)));
@@ -229,7 +229,7 @@ pub fn unlink(store: &mut Store, slot: u32)
 
 /// Gives a loose slot back: it is the newest free one then. The free ones are a stack.
 pub fn release(store: &mut Store, slot: u32)
-    requires sound { IsSound store.old }
+    requires sound { ChainsAreSound store.old }
     requires loose { IsLoose store.old slot }
     ensures released { IsReleased store.old store.new }
 {
@@ -240,7 +240,7 @@ pub fn release(store: &mut Store, slot: u32)
 
 /// Writes a row into the newest of the free slots, which is loose then.
 pub fn reuse(store: &mut Store, slot: u32, cells: &[u64])
-    requires sound { IsSound store.old }
+    requires sound { ChainsAreSound store.old }
     requires wide { length cells.now ≡ store.old.width }
     requires newest { store.old.free ≡ Some slot }
     ensures prepared { IsPrepared store.old store.new slot cells.now }
@@ -302,10 +302,10 @@ fn append(cells: &mut Vec<u64>, more: &[u64])
 
 /// Writes a row into a new slot, which is loose and for which there is room.
 fn fresh(store: &mut Store, cells: &[u64]) -> u32
-    requires sound { IsSound store.old }
+    requires sound { ChainsAreSound store.old }
     requires wide { length cells.now ≡ store.old.width }
     requires few { length store.old.order.items < SLOTS }
-    requires room { HasRoom store.old (length cells.now) }
+    requires room { HasSlotRoom store.old (length cells.now) }
     ensures { IsPrepared store.old store.new result cells.now }
 {
     let slot = store.order.len();
@@ -343,7 +343,7 @@ fn list_all(bucket: &mut [Link], heads: &mut [Link], cells: &[u64], width: usize
     requires empty { heads.old ≡ replicate (length heads.old) None }
     requires long { length cells.now ≡ length bucket.old * width }
     requires numbers { length bucket.old ≤ SLOTS }
-    ensures listed { AreListed width cells.now bucket.new heads.new (length bucket.old) }
+    ensures listed { AreInBuckets width cells.now bucket.new heads.new (length bucket.old) }
     ensures slots { length bucket.new ≡ length bucket.old }
     ensures buckets { length heads.new ≡ length heads.old }
 {
@@ -356,7 +356,7 @@ fn list_all(bucket: &mut [Link], heads: &mut [Link], cells: &[u64], width: usize
 
 /// Puts all slots, each of which holds a row, into other buckets, which are empty yet.
 fn rebuild(store: &mut Store, heads: Vec<Link>)
-    requires sound { IsSound store.old }
+    requires sound { ChainsAreSound store.old }
     requires full { length store.old.order.items ≡ store.old.len }
     requires some { 0 < length heads.items }
     requires empty { heads.items ≡ replicate (length heads.items) None }
@@ -382,7 +382,7 @@ pub fn buckets(alloc: Global, count: usize) -> Result<Vec<Link>, AllocError>
 
 /// Twice as many buckets, where there are no more of them than rows. Where there is no memory, all stays as it was.
 fn grow_full(store: &mut Store, alloc: Global) -> Result<(), AllocError>
-    requires sound { IsSound store.old }
+    requires sound { ChainsAreSound store.old }
     requires full { length store.old.order.items ≡ store.old.len }
     ensures same { IsSame store.old store.new }
 {
@@ -395,9 +395,9 @@ fn grow_full(store: &mut Store, alloc: Global) -> Result<(), AllocError>
 
 /// Room for one more slot with so many cells. Where there is no memory, all stays as it was.
 fn reserve(store: &mut Store, cells: usize) -> Result<(), AllocError>
-    requires sound { IsSound store.old }
+    requires sound { ChainsAreSound store.old }
     ensures same { IsSame store.old store.new }
-    ensures room { IfOk result (λ _. HasRoom store.new cells) }
+    ensures room { IfOk result (λ _. HasSlotRoom store.new cells) }
 {
     store.order.reserve(1)?;
     store.bucket.reserve(1)?;
@@ -406,7 +406,7 @@ fn reserve(store: &mut Store, cells: usize) -> Result<(), AllocError>
 
 /// Whether there is room for one more slot with so many cells, and a bucket for each row.
 fn is_roomy(store: &Store, cells: usize) -> bool
-    ensures { IsTrue result → HasRoom store.now cells }
+    ensures { IsTrue result → HasSlotRoom store.now cells }
 {
     store.heads.len() > store.len as usize
         && store.order.len() < store.order.capacity()
@@ -417,11 +417,11 @@ fn is_roomy(store: &Store, cells: usize) -> bool
 /// Puts in a row behind all others, into a new slot for which there is room.
 #[inline(always)]
 fn put_ready(store: &mut Store, cells: &[u64], code: u64) -> u32
-    requires sound { IsSound store.old }
+    requires sound { ChainsAreSound store.old }
     requires wide { length cells.now ≡ store.old.width }
     requires coded { code ≡ hash cells.now }
     requires few { length store.old.order.items < SLOTS }
-    requires room { HasRoom store.old (length cells.now) }
+    requires room { HasSlotRoom store.old (length cells.now) }
     ensures { IsPut store.old store.new result cells.now }
 {
     let slot = fresh(store, cells);
@@ -438,7 +438,7 @@ fn put_growing(
     cells: &[u64],
     code: u64,
 ) -> Result<u32, AllocError>
-    requires sound { IsSound store.old }
+    requires sound { ChainsAreSound store.old }
     requires full { length store.old.order.items ≡ store.old.len }
     requires wide { length cells.now ≡ store.old.width }
     requires coded { code ≡ hash cells.now }
@@ -460,7 +460,7 @@ pub fn put_fresh(
     cells: &[u64],
     code: u64,
 ) -> Result<u32, AllocError>
-    requires sound { IsSound store.old }
+    requires sound { ChainsAreSound store.old }
     requires full { length store.old.order.items ≡ store.old.len }
     requires wide { length cells.now ≡ store.old.width }
     requires coded { code ≡ hash cells.now }
@@ -477,8 +477,8 @@ pub fn put_fresh(
 
 /// Puts a row behind all others; its slot stays, and so does its bucket, whose order is any.
 pub fn renew(store: &mut Store, slot: u32)
-    requires sound { IsSound store.old }
-    requires held { Holds (live_of store.old) slot }
+    requires sound { ChainsAreSound store.old }
+    requires held { HoldsSlot (live_of store.old) slot }
     ensures renewed { IsRenewed store.old store.new slot }
 {
     let neighbours = pair_of(&store.order, slot);

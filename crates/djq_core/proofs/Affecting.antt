@@ -17,7 +17,7 @@ use Rattle.djq_machine.specs.State.{Store}
 use Rattle.djq_engine.specs.Kept.{Kept, Registered, IsRegistered, is_watched, registered_at, same_query, told_at}
 use Rattle.djq_engine.specs.Watching.{LogTells, LogsTell}
 use Rattle.djq_core.specs.declared.open.OpenSession.{OpenSession}
-use Rattle.djq_core.specs.Sound.{IsSound, watchers_in, listed}
+use Rattle.djq_core.specs.Sound.{IsSound, watchers_in, without_watchers}
 use Rattle.djq_core.specs.Telling.{KeepsTold, Prints, GoesOnTelling, TellsQuery, AreAffected, TellsAffected}
 use Rattle.djq_core.proofs.Spreading.{Reaches, reaches_on, TellsSoFar, told_all, nobody_reaches}
 use Rattle.djq_core.proofs.Spreading.{goes_on_on, goes_on_same}
@@ -142,7 +142,8 @@ none_left old xs deltas k ys a = by a.rest a.logs a.reaches
     by (d ∷ rest) logs reaches stopped start m so = absurd logs
 
 -- A registered query is the same, whoever watches it.
-pub same_at : (rs qs : List Registered) (id : QueryId) (r : Registered) → listed qs ≡ listed rs → registered_at rs id
+pub same_at : (rs qs : List Registered) (id : QueryId) (r : Registered) → without_watchers qs ≡ without_watchers rs
+    → registered_at rs id
     ≡ Some r
     → (s : Registered) × (registered_at qs id ≡ Some s) × (s.query ≡ r.query) × (s.id ≡ r.id)
 same_at [] qs id r e f = absurd (cc (f))
@@ -152,10 +153,10 @@ same_at (x ∷ rs) (y ∷ qs) id r e f = step (same_query x.id id) refl f (λ g.
     bare : Registered → Registered
     bare z = record z { watchers = 0 }
 
-    heads : listed (y ∷ qs) ≡ listed (x ∷ rs) → bare y ≡ bare x
+    heads : without_watchers (y ∷ qs) ≡ without_watchers (x ∷ rs) → bare y ≡ bare x
     heads g = cc (g)
 
-    tails : listed (y ∷ qs) ≡ listed (x ∷ rs) → listed qs ≡ listed rs
+    tails : without_watchers (y ∷ qs) ≡ without_watchers (x ∷ rs) → without_watchers qs ≡ without_watchers rs
     tails g = cc (g)
 
     step : (b : Bool) → same_query x.id id ≡ b → cond b (Some x) (registered_at rs id) ≡ Some r

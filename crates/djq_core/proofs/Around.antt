@@ -10,9 +10,9 @@ use Rattle.djq_engine.specs.declared.cursor.CursorId.{CursorId}
 use Rattle.djq_engine.specs.Kept.{Kept, HeldCursor}
 use Rattle.djq_machine.specs.State.{Session, State, session_of, with_session}
 use Rattle.djq_core.specs.declared.open.OpenSession.{OpenSession}
-use Rattle.djq_core.specs.Views.{Talk, session_in, open_in, state_in}
-use Rattle.djq_core.specs.Sound.{IsBelow, Rises, ids_of_cursors, all_ids, AreHeld, AreApart, AreOwned}
-use Rattle.djq_core.specs.Sound.{NoneOnceEnded, AreEndedWithout, AreCounted, IsSound}
+use Rattle.djq_core.specs.Views.{Talk, session_in, session_seen, state_in}
+use Rattle.djq_core.specs.Sound.{IsBelowAll, Rises, ids_of_cursors, all_ids, AreHeld, CursorsDiffer, AreOwned}
+use Rattle.djq_core.specs.Sound.{NoneOnceEnded, AreEndedWithout, WatchersAreCounted, IsSound}
 use Rattle.djq_core.specs.Performs.{among}
 use Rattle.djq_core.proofs.Ids.{held_split, held_join}
 
@@ -22,11 +22,11 @@ map_append f (x ∷ xs) ys = ap (λ r. f x ∷ r) (map_append f xs ys)
 
 -- Numbers that rise.
 
-pub below_split : (n : ℕ) (xs ys : List ℕ) → IsBelow n (xs ++ ys) → IsBelow n xs × IsBelow n ys
+pub below_split : (n : ℕ) (xs ys : List ℕ) → IsBelowAll n (xs ++ ys) → IsBelowAll n xs × IsBelowAll n ys
 below_split n [] ys h = (tt, h)
 below_split n (x ∷ xs) ys h = let r = below_split n xs ys h.1 in ((h.0, r.0), r.1)
 
-pub below_join : (n : ℕ) (xs ys : List ℕ) → IsBelow n xs → IsBelow n ys → IsBelow n (xs ++ ys)
+pub below_join : (n : ℕ) (xs ys : List ℕ) → IsBelowAll n xs → IsBelowAll n ys → IsBelowAll n (xs ++ ys)
 below_join n [] ys h g = g
 below_join n (x ∷ xs) ys h g = (h.0, below_join n xs ys h.1 g)
 
@@ -41,7 +41,7 @@ abbrev pub IsAbove : ℕ → List ℕ → Type 0
 IsAbove n [] = ⊤
 IsAbove n (m ∷ ms) = (m < n) × IsAbove n ms
 
-pub above_front : (xs : List ℕ) (n : ℕ) (ys : List ℕ) → Rises (xs ++ n ∷ ys) → IsAbove n xs × IsBelow n ys
+pub above_front : (xs : List ℕ) (n : ℕ) (ys : List ℕ) → Rises (xs ++ n ∷ ys) → IsAbove n xs × IsBelowAll n ys
 above_front [] n ys h = (tt, h.0)
 above_front (x ∷ xs) n ys h =
     let s = below_split x xs (n ∷ ys) h.0 in
@@ -68,8 +68,9 @@ cursors_are (x ∷ front) s d back = ap (λ (r : List CursorId). ids_of_cursors 
     ∙ sym (append_assoc (ids_of_cursors (x.session).cursors) (all_ids front) (ids_of_cursors d.cursors ++ all_ids back))
 
 pub open_are : (hs : List HeldCursor) (front : List OpenSession) (s : ℕ) (d : Talk) (back : List OpenSession)
-    → map (open_in hs) (among front s d back) ≡ map (open_in hs) front ++ session_in hs s d ∷ map (open_in hs) back
-open_are hs front s d back = map_append (open_in hs) front (record { id = s; session = d } ∷ back)
+    → map (session_seen hs) (among front s d back) ≡ map (session_seen hs) front ++ session_in hs s d
+    ∷ map (session_seen hs) back
+open_are hs front s d back = map_append (session_seen hs) front (record { id = s; session = d } ∷ back)
 
 -- What is known of a session and of those around it.
 pub record Around (hs : List HeldCursor) (front : List OpenSession) (s : ℕ) (d : Talk) (back : List OpenSession) :
@@ -80,7 +81,7 @@ pub record Around (hs : List HeldCursor) (front : List OpenSession) (s : ℕ) (d
     pub held_front : AreHeld hs (all_ids front)
     pub held_here : AreHeld hs (ids_of_cursors d.cursors)
     pub held_back : AreHeld hs (all_ids back)
-    pub apart : AreApart (all_ids front ++ (ids_of_cursors d.cursors ++ all_ids back))
+    pub apart : CursorsDiffer (all_ids front ++ (ids_of_cursors d.cursors ++ all_ids back))
     pub owned : AreOwned hs (all_ids front ++ (ids_of_cursors d.cursors ++ all_ids back))
     pub ended_front : AreEndedWithout front
     pub ended_here : NoneOnceEnded d.cause d.cursors
@@ -107,7 +108,7 @@ parts k front s d back sound =
       held_front = one.0;
       held_here = two.0;
       held_back = two.1;
-      apart = subst AreApart (cursors_are front s d back) sound.apart;
+      apart = subst CursorsDiffer (cursors_are front s d back) sound.apart;
       owned = subst (AreOwned k.cursors) (cursors_are front s d back) sound.owned;
       ended_front = ended.0;
       ended_here = ended.1.0;
@@ -115,7 +116,7 @@ parts k front s d back sound =
     }
 
 pub whole : (k : Kept) (front : List OpenSession) (s : ℕ) (d : Talk) (back : List OpenSession)
-    → Around k.cursors front s d back → AreCounted k.registered (among front s d back)
+    → Around k.cursors front s d back → WatchersAreCounted k.registered (among front s d back)
     → IsSound k (among front s d back)
 whole k front s d back p counted = record {
   rising = subst Rises (sym (ids_are front s d back)) p.rising;
@@ -123,7 +124,7 @@ whole k front s d back p counted = record {
   cursors_held = subst (λ (cs : List CursorId). AreHeld k.cursors cs) (sym (cursors_are front s d back))
       (held_join k.cursors (all_ids front) (ids_of_cursors d.cursors ++ all_ids back) p.held_front
       (held_join k.cursors (ids_of_cursors d.cursors) (all_ids back) p.held_here p.held_back));
-  apart = subst AreApart (sym (cursors_are front s d back)) p.apart;
+  apart = subst CursorsDiffer (sym (cursors_are front s d back)) p.apart;
   owned = subst (AreOwned k.cursors) (sym (cursors_are front s d back)) p.owned;
   ended = ended_join front (record { id = s; session = d } ∷ back) p.ended_front (p.ended_here, p.ended_back);
   counted = counted;
@@ -131,7 +132,7 @@ whole k front s d back p counted = record {
 
 -- What is found and changed at a session's id.
 
-not_here : (hs : List HeldCursor) (x : OpenSession) (s : ℕ) → x.id < s → eqb (open_in hs x).id s ≡ false
+not_here : (hs : List HeldCursor) (x : OpenSession) (s : ℕ) → x.id < s → eqb (session_seen hs x).id s ≡ false
 not_here hs x s l = step (eqb x.id s) refl
   where
     step : (v : Bool) → eqb x.id s ≡ v → v ≡ false
@@ -143,22 +144,27 @@ here hs s d = eq-eqb s s refl
 
 found_in : (hs : List HeldCursor) (front : List OpenSession) (s : ℕ) (d : Talk) (rest : List Session)
     → IsAbove s (map (λ (x : OpenSession). x.id) front)
-    → find (λ (x : Session). eqb x.id s) (map (open_in hs) front ++ session_in hs s d ∷ rest) ≡ Some (session_in hs s d)
+    → find (λ (x : Session). eqb x.id s) (map (session_seen hs) front ++ session_in hs s d ∷ rest)
+    ≡ Some (session_in hs s d)
 found_in hs [] s d rest a = cond-true _ _ _ (here hs s d)
 found_in hs (x ∷ front) s d rest a = cond-false _ _ _ (not_here hs x s a.0) ∙ found_in hs front s d rest a.1
 
 changed_in : (hs : List HeldCursor) (front : List OpenSession) (s : ℕ) (d : Talk) (rest : List Session)
     (f : Session → Session) → IsAbove s (map (λ (x : OpenSession). x.id) front)
-    → change_first (λ (x : Session). eqb x.id s) f (map (open_in hs) front ++ session_in hs s d ∷ rest)
-    ≡ map (open_in hs) front ++ f (session_in hs s d) ∷ rest
+    → change_first (λ (x : Session). eqb x.id s) f (map (session_seen hs) front ++ session_in hs s d ∷ rest)
+    ≡ map (session_seen hs) front ++ f (session_in hs s d) ∷ rest
 changed_in hs [] s d rest f a = cond-true _ _ _ (here hs s d)
 changed_in hs (x ∷ front) s d rest f a = cond-false _ _ _ (not_here hs x s a.0)
-    ∙ ap (λ (r : List Session). open_in hs x ∷ r) (changed_in hs front s d rest f a.1)
+    ∙ ap (λ (r : List Session). session_seen hs x ∷ r) (changed_in hs front s d rest f a.1)
 
 -- the state with a session among others, as the machine sees it
 abbrev pub around : Kept → Bool → List OpenSession → Session → List OpenSession → State
-around k stopped front x back = record
-    { store = k.store; stopped = stopped; sessions = map (open_in k.cursors) front ++ x ∷ map (open_in k.cursors) back }
+around k stopped front x back = record {
+  store = k.store;
+  stopped = stopped;
+  sessions = map (session_seen k.cursors) front ++ x
+      ∷ map (session_seen k.cursors) back;
+}
 
 pub state_is : (k : Kept) (stopped : Bool) (front : List OpenSession) (s : ℕ) (d : Talk) (back : List OpenSession)
     → state_in k stopped (among front s d back) ≡ around k stopped front (session_in k.cursors s d) back
@@ -172,7 +178,7 @@ pub found : (k : Kept) (stopped : Bool) (front : List OpenSession) (s : ℕ) (d 
 found k stopped front s d back p =
     let above = above_front (map (λ (x : OpenSession). x.id) front) s (map (λ (x : OpenSession). x.id) back) p.rising in
     ap (λ (xs : List Session). find (λ (x : Session). eqb x.id s) xs) (open_are k.cursors front s d back)
-    ∙ found_in k.cursors front s d (map (open_in k.cursors) back) above.0
+    ∙ found_in k.cursors front s d (map (session_seen k.cursors) back) above.0
 
 pub changed_here : (k : Kept) (stopped : Bool) (front : List OpenSession) (s : ℕ) (d : Talk) (back : List OpenSession)
     (f : Session → Session) → Around k.cursors front s d back
@@ -182,7 +188,7 @@ changed_here k stopped front s d back f p =
     let above = above_front (map (λ (x : OpenSession). x.id) front) s (map (λ (x : OpenSession). x.id) back) p.rising in
     ap (λ (xs : List Session). record { store = k.store; stopped = stopped; sessions = xs })
     (ap (λ (xs : List Session). change_first (λ (x : Session). eqb x.id s) f xs) (open_are k.cursors front s d back)
-    ∙ changed_in k.cursors front s d (map (open_in k.cursors) back) f above.0)
+    ∙ changed_in k.cursors front s d (map (session_seen k.cursors) back) f above.0)
 
 -- the same session, whatever room it has
 pub becomes : (k : Kept) (stopped : Bool) (front : List OpenSession) (s : ℕ) (d e : Talk) (back : List OpenSession)

@@ -15,9 +15,9 @@ use Rattle.djq_machine.specs.Batch.{hold_refusal}
 use Rattle.djq_machine.specs.Command.{AddStep, HoldStep, CommandStep, with_batch}
 use Rattle.djq_machine.specs.Effect.{Effect}
 use Rattle.djq_machine.specs.Keeping.{no_line, kept_where}
-use Rattle.djq_session.specs.Dialog.{Replies, rows_held}
+use Rattle.djq_session.specs.Dialog.{Replies, batch_rows}
 use Rattle.djq_engine.specs.Kept.{Kept}
-use Rattle.djq_core.specs.Batching.{Holds, row_of}
+use Rattle.djq_core.specs.Batching.{HoldsMadeRow, held_row_of}
 use Rattle.djq_core.specs.Performs.{among, to_one, unqueued, Performs, Executes}
 use Rattle.djq_core.specs.Sound.{IsSound}
 use Rattle.djq_core.specs.Views.{Talk, session_in, state_in}
@@ -90,8 +90,8 @@ counted_one held row = length-append held (row ∷ [])
 
 pub does_hold : (k : Kept) (before after : Talk) (held : List HeldRow) (l name : Bytes) (row : Tuple)
     (made : Result HeldRow Refusal) → before.batch ≡ Some held
-    → Answers (hold_refusal k.store held name row) made (λ h. h ≡ row_of l name row) (OutOfMemoryWhere ⊤)
-    → Holds before made after → Performs (HoldsIn l name row) false k before k after 0 0
+    → Answers (hold_refusal k.store held name row) made (λ h. h ≡ held_row_of l name row) (OutOfMemoryWhere ⊤)
+    → HoldsMadeRow before made after → Performs (HoldsIn l name row) false k before k after 0 0
 does_hold k before after held l name row (Err r) is a h =
     refused (HoldsIn l name row) k before after (refusal_line r) h (λ st s x f g. (
       in_batch st s x held l name row (to_one s (Some (refusal_line r)) 0) st (ap (λ (y : Session). y.batch) g ∙ is)
@@ -105,7 +105,8 @@ does_hold k before after held l name row (Err r) is a h =
       refl,
     ))
   where
-    err_alike : (o : Option Refusal) → Answers {A = HeldRow} o (Err r) (λ h. h ≡ row_of l name row) (OutOfMemoryWhere ⊤)
+    err_alike : (o : Option Refusal)
+        → Answers {A = HeldRow} o (Err r) (λ h. h ≡ held_row_of l name row) (OutOfMemoryWhere ⊤)
         → Answers {A = ⊤} o (Err r) (λ d. ⊤) (OutOfMemoryWhere ⊤)
     err_alike None b = b
     err_alike (Some q) b = b
@@ -123,18 +124,19 @@ does_hold k before after held l name row (Ok new) is a (inr h) =
       refl,
     ))
   where
-    lacks : (o : Option Refusal) → Answers {A = HeldRow} o (Ok new) (λ h. h ≡ row_of l name row) (OutOfMemoryWhere ⊤)
+    lacks : (o : Option Refusal)
+        → Answers {A = HeldRow} o (Ok new) (λ h. h ≡ held_row_of l name row) (OutOfMemoryWhere ⊤)
         → Answers {A = ⊤} o (Err NoMemory) (λ d. ⊤) (OutOfMemoryWhere ⊤)
     lacks None b = tt
     lacks (Some q) b = absurd b
 does_hold k before after held l name row (Ok new) is a (inl h) =
-    let rows = held ++ row_of l name row ∷ [] in
-    let same : rows_held before.batch ++ new ∷ []
-    ≡ rows = ap (λ (o : Option (List HeldRow)). rows_held o ++ new ∷ []) is
+    let rows = held ++ held_row_of l name row ∷ [] in
+    let same : batch_rows before.batch ++ new ∷ []
+    ≡ rows = ap (λ (o : Option (List HeldRow)). batch_rows o ++ new ∷ []) is
     ∙ ap (λ (n : HeldRow). held ++ n ∷ []) (is_new (hold_refusal k.store held name row) a) in
     becomes_batch (HoldsIn l name row) k before after (Some rows) (held_reply {A = ⊤} (Ok tt) (length held + 1))
     (subst (λ (n : ℕ). Replies (record before { batch = Some rows }) after (held_reply {A = ⊤} (Ok tt) n))
-    (counted_one held (row_of l name row))
+    (counted_one held (held_row_of l name row))
     (subst (λ (hs : List HeldRow). Replies (record before { batch = Some hs }) after
     (held_reply {A = ⊤} (Ok tt) (length hs))) same h)) (λ st s x f g. (
       in_batch st s x held l name row (to_one s (Some (held_reply {A = ⊤} (Ok tt) (length held + 1))) 0)
@@ -148,17 +150,19 @@ does_hold k before after held l name row (Ok new) is a (inl h) =
       refl,
     ))
   where
-    is_new : (o : Option Refusal) → Answers {A = HeldRow} o (Ok new) (λ h. h ≡ row_of l name row) (OutOfMemoryWhere ⊤)
-        → new ≡ row_of l name row
+    is_new : (o : Option Refusal)
+        → Answers {A = HeldRow} o (Ok new) (λ h. h ≡ held_row_of l name row) (OutOfMemoryWhere ⊤)
+        → new ≡ held_row_of l name row
     is_new None b = b
     is_new (Some q) b = absurd b
 
-    done : (o : Option Refusal) → Answers {A = HeldRow} o (Ok new) (λ h. h ≡ row_of l name row) (OutOfMemoryWhere ⊤)
+    done : (o : Option Refusal)
+        → Answers {A = HeldRow} o (Ok new) (λ h. h ≡ held_row_of l name row) (OutOfMemoryWhere ⊤)
         → Answers {A = ⊤} o (Ok tt) (λ d. ⊤) (OutOfMemoryWhere ⊤)
     done None b = tt
     done (Some q) b = absurd b
 
 -- a session with a batch open has these rows
-pub open_rows : (o : Option (List HeldRow)) → IsSome o → o ≡ Some (rows_held o)
+pub open_rows : (o : Option (List HeldRow)) → IsSome o → o ≡ Some (batch_rows o)
 open_rows None h = absurd (cc (h))
 open_rows (Some held) h = refl

@@ -42,10 +42,10 @@ use Rattle.djq_engine.specs.Watching.{LogsTell, queries_affected}
 use Rattle.djq_core.specs.declared.open.OpenSession.{OpenSession}
 use Rattle.djq_core.specs.declared.change.Outcome.{Outcome}
 use Rattle.djq_core.specs.declared.change.Outcome.TheVariants.{Added, Deleted, Done}
-use Rattle.djq_core.specs.Views.{Talk, session_in, open_in, state_in, lines_of}
+use Rattle.djq_core.specs.Views.{Talk, session_in, session_seen, state_in, lines_of_step}
 use Rattle.djq_core.specs.Sound.{ids_of_cursors, all_ids, AreHeld, IsSound, is_among_watches, watchers_in}
 use Rattle.djq_core.specs.Performs.{among}
-use Rattle.djq_core.specs.Changing.{Changed, IsChange, LeavesChange, is_accepted, reply_of, is_kept, lines_kept}
+use Rattle.djq_core.specs.Changing.{EngineChanged, IsChange, LeavesChange, is_accepted, reply_of, is_kept, lines_kept}
 use Rattle.djq_core.specs.Stepping.{Copies}
 use Rattle.djq_core.specs.Telling.{AreAffected, TellsAll}
 use Rattle.djq_core.proofs.Ids.{agree_same, agree_held, agree_open, outdated_find, outdated_all_held, outdated_open}
@@ -81,7 +81,7 @@ moves_still old new (Some change) c out i =
 moves_still old new None c out i = subst (λ (o : Option HeldCursor). IsSome o) (out c) i
 
 moves_open : (old new : Kept) (stopped : Bool) (o : Option RowsChange) (xs : List OpenSession) → Outdates old o new
-    → map (open_in new.cursors) xs ≡ sessions_behind (state_in old stopped xs) o (new.store).seq
+    → map (session_seen new.cursors) xs ≡ sessions_behind (state_in old stopped xs) o (new.store).seq
 moves_open old new stopped (Some change) xs out =
     let f = change.outdater in
     outdated_open (old.store).queries f (new.store).seq old.cursors new.cursors xs
@@ -116,13 +116,14 @@ changed_is old new stopped xs o out = ap
 
 -- ---- who watches
 
-watch_seen : (hs : List HeldCursor) (q : Bytes) (xs : List OpenSession) → list_any (is_watching q) (map (open_in hs) xs)
+watch_seen : (hs : List HeldCursor) (q : Bytes) (xs : List OpenSession)
+    → list_any (is_watching q) (map (session_seen hs) xs)
     ≡ nat_lt 0 (watchers_in xs q)
 watch_seen hs q [] = refl
 watch_seen hs q (x ∷ xs) = step (is_among_watches (x.session).watches q) (watch_seen hs q xs)
   where
-    step : (b : Bool) → list_any (is_watching q) (map (open_in hs) xs) ≡ nat_lt 0 (watchers_in xs q)
-        → (b || list_any (is_watching q) (map (open_in hs) xs)) ≡ nat_lt 0 (cond b 1 0 + watchers_in xs q)
+    step : (b : Bool) → list_any (is_watching q) (map (session_seen hs) xs) ≡ nat_lt 0 (watchers_in xs q)
+        → (b || list_any (is_watching q) (map (session_seen hs) xs)) ≡ nat_lt 0 (cond b 1 0 + watchers_in xs q)
     step true h = sym (more (watchers_in xs q))
       where
         more : (n : ℕ) → nat_lt 0 (1 + n) ≡ true
@@ -166,13 +167,13 @@ affected_is : (k : Kept) (stopped : Bool) (xs : List OpenSession) (change : Rows
     → map (λ (r : Registered). r.query) k.registered ≡ (k.store).queries
     → map (λ (r : Registered). r.query) (affected_of k.registered change) ≡ affected (state_in k stopped xs) change
 affected_is k stopped xs change sound queries =
-    affects k.registered (map (open_in k.cursors) xs) change
-    (hold_each (λ (r : Registered). list_any (is_watching (listed_name r.query)) (map (open_in k.cursors) xs)
+    affects k.registered (map (session_seen k.cursors) xs) change
+    (hold_each (λ (r : Registered). list_any (is_watching (listed_name r.query)) (map (session_seen k.cursors) xs)
     ≡ is_watched r) k.registered
     (λ r c. watch_seen k.cursors (listed_name r.query) xs
     ∙ ap (λ (n : ℕ). nat_lt 0 n) (sym (sound.counted.counted r c))))
     ∙ ap (λ (qs : List Listed). filter
-    (λ (q : Listed). is_outdated change q && list_any (is_watching (listed_name q)) (map (open_in k.cursors) xs))
+    (λ (q : Listed). is_outdated change q && list_any (is_watching (listed_name q)) (map (session_seen k.cursors) xs))
     qs) queries
 
 filter_twice : {A : Type 0} (p q : A → Bool) (xs : List A) → filter q (filter p xs) ≡ filter (λ x. p x && q x) xs
@@ -194,7 +195,7 @@ readers_by rs (out_of_memory change) = []
 readers_by rs unchanged = []
 
 -- the affected queries, with their logs
-pub affected_logs : (old new : Kept) (outcome : RowsOutcome) (was now : ℕ) (c : Changed old outcome new was now)
+pub affected_logs : (old new : Kept) (outcome : RowsOutcome) (was now : ℕ) (c : EngineChanged old outcome new was now)
     → is_made outcome ≡ true → AreAffected new (readers_by old.registered outcome) (c.tells).deltas
 affected_logs old new (accepted change) was now c e =
     let rs = old.registered in
@@ -230,7 +231,7 @@ listed_as old stopped xs (Some change) ds sound queries h =
 -- what the machine says of a change, once its line was taken
 change_step : (old mid new : Kept) (stopped : Bool) (xs ys : List OpenSession) (s : ℕ) (outcome : RowsOutcome)
     (reply : Bytes) (kept : Keeping) (was now : ℕ)
-    → (c : Changed old outcome mid was now) → IsSound old xs → TellsAll (is_made outcome) reply mid s xs new ys
+    → (c : EngineChanged old outcome mid was now) → IsSound old xs → TellsAll (is_made outcome) reply mid s xs new ys
     → (e : Effect) × (last : State)
     × (ChangeStep (state_in old stopped xs) s outcome mid.store reply e last × (e.kept ≡ kept))
     × (queue_all last e.queued ≡ state_in new stopped ys) × (now ≤ was + e.cost)
@@ -291,7 +292,7 @@ keeping_of (Done result held) = kept_batch held result
 
 -- the group that is
 group_kept : (change : Outcome) (l : Bytes)
-    → KeepsGroup (is_kept change) (groups_in l (keeping_of change)) (lines_of (lines_kept change) l)
+    → KeepsGroup (is_kept change) (groups_in l (keeping_of change)) (lines_of_step (lines_kept change) l)
 group_kept (Added (Ok a)) l = refl
 group_kept (Added (Err r)) l = (refl, refl)
 group_kept (Deleted (Ok Last)) l = refl
@@ -423,7 +424,7 @@ pub change_gives : (change : Outcome) (old mid new : Kept) (before after : Talk)
     → TellsAll (is_accepted change) (reply_of change (mid.store).seq) mid s (among front s after back) new ys
     → Copies (Ran (is_kept change)) before.held copy
     → StepGives (state_in old stopped (among front s before back)) s (Ran (is_kept change)) (state_in new stopped ys)
-    was now (lines_of (lines_kept change) copy)
+    was now (lines_of_step (lines_kept change) copy)
 change_gives change old mid new before after front s back ys stopped copy was now c sound t copies =
     let st = state_in old stopped (among front s before back) in
     let x = session_in old.cursors s before in
@@ -462,8 +463,8 @@ change_gives change old mid new before after front s back ys stopped copy was no
           listing = r.counted;
         }),
       ),
-      subst (λ (k : Keeping). KeepsGroup (is_kept change) (groups_in c.line k) (lines_of (lines_kept change) copy))
+      subst (λ (k : Keeping). KeepsGroup (is_kept change) (groups_in c.line k) (lines_of_step (lines_kept change) copy))
           (sym r.keeps)
           (subst (λ (m : Bytes). KeepsGroup (is_kept change) (groups_in c.line (keeping_of change))
-          (lines_of (lines_kept change) m)) (sym same) (group_kept change c.line)),
+          (lines_of_step (lines_kept change) m)) (sym same) (group_kept change c.line)),
     )

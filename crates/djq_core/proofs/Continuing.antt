@@ -16,16 +16,17 @@ use Rattle.djq_machine.specs.Store.{answer_steps}
 use Rattle.djq_machine.specs.Effect.{Effect, RefusedStep}
 use Rattle.djq_machine.specs.Command.{CommandStep, NextStepAt, IsNextLine}
 use Rattle.djq_session.specs.declared.named.NamedCursor.{NamedCursor}
-use Rattle.djq_session.specs.Dialog.{Replies, named, EndsWith}
+use Rattle.djq_session.specs.Dialog.{Replies, named, DialogEndsWith}
 use Rattle.djq_engine.specs.declared.cursor.CursorId.{CursorId}
 use Rattle.djq_engine.specs.Kept.{Kept, HeldCursor, held_at, same_id}
 use Rattle.djq_core.specs.declared.open.OpenSession.{OpenSession}
 use Rattle.djq_core.specs.declared.listing.Listed.TheVariants.{Whole, Cut as WasCut, Stale as WasStale}
-use Rattle.djq_core.specs.Views.{Talk, query_in, position_in, cursor_in, session_in, state_in}
-use Rattle.djq_core.specs.Sound.{ids_of_cursors, all_ids, AreHeld, IsApart, AreApart, IsSound, IsOwn, IsReady, is_among}
+use Rattle.djq_core.specs.Views.{Talk, cursor_query, cursor_position, cursor_in, session_in, state_in}
+use Rattle.djq_core.specs.Sound.{ids_of_cursors, all_ids, AreHeld, IsApart, CursorsDiffer, IsSound, IsOwn}
+use Rattle.djq_core.specs.Sound.{CommandIsReady, is_cursor_among}
 use Rattle.djq_core.specs.Listing.{StandsAt, WholeListing, CutListing, ListsAt, Lists}
-use Rattle.djq_core.specs.Ends.{GivesUp, CutsOff}
-use Rattle.djq_core.specs.Performs.{among, to_one, behind, unqueued, Performs, Executes}
+use Rattle.djq_core.specs.Ends.{SessionGivesUp, CutsOff}
+use Rattle.djq_core.specs.Performs.{among, to_one, with_text_behind, unqueued, Performs, Executes}
 use Rattle.djq_core.proofs.Ids.{agree_others, agree_held, agree_names, apart_split, taken_out}
 use Rattle.djq_core.proofs.Ids.{held_split, held_join, same_id_flip, same_id_same, owned_still}
 use Rattle.djq_core.proofs.Around.{Around, parts, whole, map_append}
@@ -90,11 +91,11 @@ ids_cut names c n cut = ap ids_of_cursors cut.list ∙ ids_append cut.front (n �
 own_moved : (old new : Kept) (names : List (NamedCursor CursorId)) (c : Bytes) (n : NamedCursor CursorId)
     (h : HeldCursor)
     (p : Position) → NameCut names c n → StandsAt old n.cursor h p new
-    → AreHeld old.cursors (ids_of_cursors names) → AreApart (ids_of_cursors names)
+    → AreHeld old.cursors (ids_of_cursors names) → CursorsDiffer (ids_of_cursors names)
     → AreHeld new.cursors (ids_of_cursors names)
 own_moved old new names c n h p cut s held apart =
     let ids = ids_cut names c n cut in
-    let a = taken_out (ids_of_cursors cut.front) n.cursor (ids_of_cursors cut.back) (subst AreApart ids apart) in
+    let a = taken_out (ids_of_cursors cut.front) n.cursor (ids_of_cursors cut.back) (subst CursorsDiffer ids apart) in
     let hs = held_split old.cursors (ids_of_cursors cut.front) (n.cursor ∷ ids_of_cursors cut.back)
     (subst (λ (cs : List CursorId). AreHeld old.cursors cs) ids held) in
     subst (λ (cs : List CursorId). AreHeld new.cursors cs) (sym ids)
@@ -118,7 +119,7 @@ moved_among old new before c n h p cut held s front back i stopped room a =
     let id = n.cursor in
     let ids = ids_cut before.cursors c n cut in
     let apart = taken_out (all_ids front ++ ids_of_cursors cut.front) id (ids_of_cursors cut.back ++ all_ids back)
-    (subst AreApart (ap (λ (cs : List CursorId). all_ids front ++ (cs ++ all_ids back)) ids
+    (subst CursorsDiffer (ap (λ (cs : List CursorId). all_ids front ++ (cs ++ all_ids back)) ids
     ∙ regroup (all_ids front) (ids_of_cursors cut.front) (ids_of_cursors cut.back) (all_ids back) id) a.apart) in
     let fronts = apart_split id (all_ids front) (ids_of_cursors cut.front) apart.0 in
     let backs = apart_split id (ids_of_cursors cut.back) (all_ids back) apart.1.0 in
@@ -127,8 +128,9 @@ moved_among old new before c n h p cut held s front back i stopped room a =
     let gf = agree_others old.cursors new.cursors id (ids_of_cursors cut.front) s.others fronts.1 in
     let gb = agree_others old.cursors new.cursors id (ids_of_cursors cut.back) s.others backs.0 in
     let here : cursor_in new.cursors n ≡ record (cursor_in old.cursors n) { position = p }
-    = ap (λ (o : Option HeldCursor). record { name = n.name; query = query_in o; position = position_in o }) s.there
-    ∙ ap (λ (o : Option HeldCursor). record { name = n.name; query = query_in o; position = p }) (sym held) in
+    = ap (λ (o : Option HeldCursor).
+    record { name = n.name; query = cursor_query o; position = cursor_position o }) s.there
+    ∙ ap (λ (o : Option HeldCursor). record { name = n.name; query = cursor_query o; position = p }) (sym held) in
     let names : map (cursor_in new.cursors) before.cursors
     ≡ with_position (map (cursor_in old.cursors) before.cursors) c p
     = ap (map (cursor_in new.cursors)) cut.list ∙ map_append (cursor_in new.cursors) cut.front (n ∷ cut.back)
@@ -185,8 +187,8 @@ next_at old before c n h q count st st' s x e f held known store same step =
     subst (λ (y : Session). CommandStep st s y [] (Next c count) e st') (sym same)
     (at_found old.cursors before.cursors c n (RefusedStep st s NoCursor e st')
     (λ k. IsSomeAnd (listed_of (st.store).queries k.query) (λ p. NextStepAt st s c p count k.position e st')) f
-    (subst (λ (o : Option HeldCursor). IsSomeAnd (listed_of (st.store).queries (query_in o))
-    (λ p. NextStepAt st s c p count (position_in o) e st')) (sym held)
+    (subst (λ (o : Option HeldCursor). IsSomeAnd (listed_of (st.store).queries (cursor_query o))
+    (λ p. NextStepAt st s c p count (cursor_position o) e st')) (sym held)
     (subst (λ w. IsSomeAnd (listed_of w.queries h.query) (λ p. NextStepAt st s c p count h.position e st')) (sym store)
     (subst (λ (o : Option Listed). IsSomeAnd o (λ p. NextStepAt st s c p count h.position e st')) (sym known) step))))
 
@@ -235,19 +237,19 @@ does_whole old new before after c n h q given ended count was now f held known a
 does_cut : (old mid new : Kept) (before between last after : Talk) (c : Bytes) (n : NamedCursor CursorId)
     (h : HeldCursor)
     (q : Listed) (given : List Tuple) (ended : Bool) (count was now : ℕ)
-    → IsReady old before → named before.cursors c ≡ Some n → held_at old.cursors n.cursor ≡ Some h
+    → CommandIsReady old before → named before.cursors c ≡ Some n → held_at old.cursors n.cursor ≡ Some h
     → listed_of (old.store).queries h.query ≡ Some q → h.position ≡ open_at given ended
-    → CutListing old n.cursor before count h q given mid between was now → GivesUp mid between new last
-    → EndsWith last after end_memory Memory
+    → CutListing old n.cursor before count h q given mid between was now → SessionGivesUp mid between new last
+    → DialogEndsWith last after end_memory Memory
     → Executes (Next c count) false old before new after was now
 does_cut old mid new before between last after c n h q given ended count was now ready f held known at w g r =
     let lines = text_of (map answer_line w.told) in
     let text = lines ++ end_memory in
     let cut = name_cut before.cursors c n f in
-    let up : GivesUp old before new (record before { cursors = []; watches = [] }) = record {
+    let up : SessionGivesUp old before new (record before { cursors = []; watches = [] }) = record {
       store = g.store ∙ w.stands.store;
       gone = λ x a. g.gone x
-          (subst (λ (cs : List CursorId). is_among x cs ≡ true)
+          (subst (λ (cs : List CursorId). is_cursor_among x cs ≡ true)
           (sym (ap (λ (d : Talk). ids_of_cursors d.cursors) w.queued)) a);
       others = λ x a.
           let same = ap (λ (d : Talk). ids_of_cursors d.cursors) w.queued in
@@ -265,7 +267,7 @@ does_cut old mid new before between last after c n h q given ended count was now
       room = after.room;
       cause = Some Memory;
       batch = None;
-      pending = behind
+      pending = with_text_behind
           before.pending (Some text);
     }
     = r ∙ ap (λ (d : Talk). record d
@@ -327,10 +329,10 @@ does_next_whole old new before after c n count was now f l = whole_at old new be
 
 cut_at : (old mid new : Kept) (before between last after : Talk) (c : Bytes) (n : NamedCursor CursorId) (h : HeldCursor)
     (q : Listed) (p : Position) (count was now : ℕ)
-    → IsReady old before → named before.cursors c ≡ Some n → held_at old.cursors n.cursor ≡ Some h
+    → CommandIsReady old before → named before.cursors c ≡ Some n → held_at old.cursors n.cursor ≡ Some h
     → listed_of (old.store).queries h.query ≡ Some q → h.position ≡ p
-    → ListsAt old n.cursor before count h q p WasCut mid between was now → GivesUp mid between new last
-    → EndsWith last after end_memory Memory
+    → ListsAt old n.cursor before count h q p WasCut mid between was now → SessionGivesUp mid between new last
+    → DialogEndsWith last after end_memory Memory
     → Executes (Next c count) false old before new after was now
 cut_at old mid new before between last after c n h q (open_at given ended) count was now ready f held known at l g r =
     does_cut old mid new before between last after c n h q given ended count was now ready f held known at l g r
@@ -338,7 +340,8 @@ cut_at old mid new before between last after c n h q (stale a b) count was now r
 
 pub does_next_cut : (old mid new : Kept) (before between after : Talk) (c : Bytes) (n : NamedCursor CursorId)
     (count was now : ℕ)
-    → IsReady old before → named before.cursors c ≡ Some n → Lists old n.cursor before count WasCut mid between was now
+    → CommandIsReady old before → named before.cursors c ≡ Some n
+    → Lists old n.cursor before count WasCut mid between was now
     → CutsOff mid between new after
     → Executes (Next c count) false old before new after was now
 does_next_cut old mid new before between after c n count was now ready f l cut =
@@ -355,7 +358,7 @@ cut_owns old mid before between c n h q (open_at given ended) count was now own 
     record {
       cursors_held = subst (λ (ns : List (NamedCursor CursorId)). AreHeld mid.cursors (ids_of_cursors ns)) (sym same)
           (own_moved old mid before.cursors c n h w.position cut w.stands own.cursors_held own.apart);
-      apart = subst (λ (ns : List (NamedCursor CursorId)). AreApart (ids_of_cursors ns)) (sym same) own.apart;
+      apart = subst (λ (ns : List (NamedCursor CursorId)). CursorsDiffer (ids_of_cursors ns)) (sym same) own.apart;
       counted = count_moved old.registered mid.registered before.watches between.watches w.stands.registered
           (ap (λ (d : Talk). d.watches) w.queued) own.counted;
     }

@@ -15,7 +15,7 @@ use Rattle.djq_session.specs.Dialog.{named}
 use Rattle.djq_engine.specs.declared.cursor.CursorId.{CursorId}
 use Rattle.djq_engine.specs.Kept.{Kept, HeldCursor}
 use Rattle.djq_core.specs.declared.open.OpenSession.{OpenSession}
-use Rattle.djq_core.specs.Views.{Talk, cursor_in, session_in, open_in, state_in}
+use Rattle.djq_core.specs.Views.{Talk, cursor_in, session_in, session_seen, state_in}
 use Rattle.djq_core.specs.Sound.{ids_of_cursors, all_ids}
 use Rattle.djq_core.specs.Opens.{refusal_of}
 use Rattle.djq_core.specs.Performs.{among}
@@ -114,13 +114,16 @@ moved old new stopped front s d e back f p af ab store same =
     ∙ joined (agree_open old.cursors new.cursors front af) (agree_open old.cursors new.cursors back ab)
     ∙ sym (changed_here old stopped front s d back f p)
   where
-    joined : map (open_in new.cursors) front ≡ map (open_in old.cursors) front → map (open_in new.cursors) back
-        ≡ map (open_in old.cursors) back
+    joined : map (session_seen new.cursors) front ≡ map (session_seen old.cursors) front
+        → map (session_seen new.cursors) back
+        ≡ map (session_seen old.cursors) back
         → around new stopped front (session_in new.cursors s e) back
         ≡ around old stopped front (f (session_in old.cursors s d)) back
     joined g h =
-        let xs : map (open_in new.cursors) front ++ session_in new.cursors s e ∷ map (open_in new.cursors) back
-        ≡ map (open_in old.cursors) front ++ f (session_in old.cursors s d) ∷ map (open_in old.cursors) back = cc in
+        let xs : map (session_seen new.cursors) front ++ session_in new.cursors s e
+        ∷ map (session_seen new.cursors) back
+        ≡ map (session_seen old.cursors) front ++ f (session_in old.cursors s d)
+        ∷ map (session_seen old.cursors) back = cc in
         ap₂ (λ (st : Store) (ys : List Session). record { store = st; stopped = stopped; sessions = ys }) store xs
 
 -- what is kept for the cursor of a name

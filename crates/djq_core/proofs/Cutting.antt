@@ -12,15 +12,16 @@ use Rattle.djq_machine.specs.State.{Session, State, with_session, ended_by}
 use Rattle.djq_machine.specs.Store.{RegistersQuery}
 use Rattle.djq_machine.specs.Effect.{Effect}
 use Rattle.djq_session.specs.declared.named.NamedCursor.{NamedCursor}
-use Rattle.djq_session.specs.Dialog.{Lacks}
+use Rattle.djq_session.specs.Dialog.{DialogLacks}
 use Rattle.djq_engine.specs.declared.cursor.CursorId.{CursorId}
 use Rattle.djq_engine.specs.Kept.{Kept, SameCursors}
 use Rattle.djq_core.specs.declared.open.OpenSession.{OpenSession}
 use Rattle.djq_core.specs.Views.{Talk, session_in, state_in}
-use Rattle.djq_core.specs.Sound.{ids_of_cursors, all_ids, AreHeld, AreApart, HasCount, StaysCounted, IsOwn, IsSound}
-use Rattle.djq_core.specs.Sound.{IsReady}
-use Rattle.djq_core.specs.Ends.{GivesUp, CutsOff}
-use Rattle.djq_core.specs.Performs.{among, to_keep, behind, unqueued, Performs, ExecutesKeeping}
+use Rattle.djq_core.specs.Sound.{ids_of_cursors, all_ids, AreHeld, CursorsDiffer, HasCount, StaysCounted, IsOwn}
+use Rattle.djq_core.specs.Sound.{IsSound}
+use Rattle.djq_core.specs.Sound.{CommandIsReady}
+use Rattle.djq_core.specs.Ends.{SessionGivesUp, CutsOff}
+use Rattle.djq_core.specs.Performs.{among, to_keep, with_text_behind, unqueued, Performs, ExecutesKeeping}
 use Rattle.djq_core.proofs.Ids.{agree_same, agree_held, agree_open}
 use Rattle.djq_core.proofs.Around.{parts, whole}
 use Rattle.djq_core.proofs.GivingUp.{ends_among}
@@ -40,7 +41,7 @@ cut_off_after M old mid new before between after was now kept same stays roomy c
     let cut' : CutsOff mid (record before { room = between.room }) new after = subst
     (λ (d : Talk). CutsOff mid d new after) roomy cut in
     let g = cut'.gives_up in
-    let up : GivesUp mid before new (record before { cursors = []; watches = [] }) = record
+    let up : SessionGivesUp mid before new (record before { cursors = []; watches = [] }) = record
     { store = g.store; gone = g.gone; others = g.others; session = refl; counted = g.counted } in
     let left : after ≡ record before {
       cursors = [];
@@ -48,7 +49,7 @@ cut_off_after M old mid new before between after was now kept same stays roomy c
       room = after.room;
       cause = Some Memory;
       batch = None;
-      pending = behind
+      pending = with_text_behind
           before.pending (Some end_memory);
     } = cut'.ends in
     let around = λ (front back : List OpenSession) (s : ℕ) (sound : IsSound old (among front s before back)).
@@ -79,10 +80,11 @@ cut_off_after M old mid new before between after was now kept same stays roomy c
             room = after.room;
             cause = Some Memory;
             batch = None;
-            pending = behind
+            pending = with_text_behind
                 before.pending (Some end_memory);
           }) back
-          (ends_among mid new before Memory false after.room (behind before.pending (Some end_memory)) up front back s
+          (ends_among mid new before Memory false after.room (with_text_behind before.pending (Some end_memory))
+          up front back s
           (around front back s sound)).1
           (recount old new.registered front s before
           (record before {
@@ -92,7 +94,7 @@ cut_off_after M old mid new before between after was now kept same stays roomy c
             cause = Some Memory;
             batch = None;
             pending
-                = behind before.pending (Some end_memory);
+                = with_text_behind before.pending (Some end_memory);
           }) back
           (stays_on old.registered mid.registered new.registered before.watches before.watches [] stays g.counted)
           (λ q. refl) sound));
@@ -109,7 +111,7 @@ own_still old mid before between same stays roomy own =
       cursors_held = subst (λ (ns : List (NamedCursor CursorId)). AreHeld mid.cursors (ids_of_cursors ns)) (sym names)
           (agree_held old.cursors mid.cursors (ids_of_cursors before.cursors)
           (agree_same old.cursors mid.cursors (ids_of_cursors before.cursors) same) own.cursors_held);
-      apart = subst (λ (ns : List (NamedCursor CursorId)). AreApart (ids_of_cursors ns)) (sym names) own.apart;
+      apart = subst (λ (ns : List (NamedCursor CursorId)). CursorsDiffer (ids_of_cursors ns)) (sym names) own.apart;
       counted = subst (λ (ws : List Bytes). HasCount mid.registered ws) (sym (ap (λ (d : Talk). d.watches) roomy))
           ((own.counted).0, stays (own.counted).0 (own.counted).1);
     }
@@ -117,9 +119,10 @@ own_still old mid before between same stays roomy own =
 -- the reply to `query` is cut
 pub does_query_cut : (old mid new : Kept) (before between after : Talk) (q : Query)
     (result : Result QueryOutcome Refusal) (was now : ℕ)
-    → now ≡ was → IsReady old before → RegistersQuery old.store q result mid.store → SameCursors old.cursors mid.cursors
+    → now ≡ was → CommandIsReady old before → RegistersQuery old.store q result mid.store
+    → SameCursors old.cursors mid.cursors
     → StaysCounted old.registered before.watches mid.registered before.watches
-    → Lacks before between (query_reply result) → CutsOff mid between new after
+    → DialogLacks before between (query_reply result) → CutsOff mid between new after
     → ExecutesKeeping (Register q) (is_registration result) false old before new after was now
 does_query_cut old mid new before between after q result was now counted ready registers same stays lacks cut =
     cut_off_after _ old mid new before between after was now (kept_where (is_registration result)) same stays lacks.same

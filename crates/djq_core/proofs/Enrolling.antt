@@ -25,7 +25,7 @@ use Rattle.djq_engine.specs.Watching.{Enrols}
 use Rattle.djq_store.specs.Registering.{EnrolsUnion}
 use Rattle.djq_core.specs.Views.{Talk}
 use Rattle.djq_core.specs.Sound.{times_in, StaysCounted}
-use Rattle.djq_core.specs.Opens.{Opens}
+use Rattle.djq_core.specs.Opens.{SessionOpens}
 use Rattle.djq_deltas.proofs.Lists.{nothing_there, first_or_later, first_there, later_there, pairs_head, pairs_tail}
 use Rattle.djq_core.proofs.Watching.{NamesApart, stays_same}
 use Rattle.djq_core.proofs.Rewatching.{is_there, not_there}
@@ -159,7 +159,7 @@ none_there rs st q laws (Some id) h s = absurd (cc)
 pub opens_limit : (k : Kept) (d : Talk) (c q : Bytes) (o : Option QueryId) → is_some (named d.cursors c) ≡ false
     → map (λ (r : Registered). r.query) k.registered ≡ (k.store).queries
     → o ≡ option_map (λ (r : Registered). r.id) (registered_of k.registered q) → is_some o ≡ true
-    → CURSORS ≤ length d.cursors → Opens k d c q (Err Limit) k d
+    → CURSORS ≤ length d.cursors → SessionOpens k d c q (Err Limit) k d
 opens_limit k d c q o a laws h s l = record {
   answer = limit_answer _ _ _ a (some_there k.registered k.store q laws o h s) (le-leb CURSORS (length d.cursors) l);
   opens = (refl, (λ id. refl), refl, refl);
@@ -168,7 +168,7 @@ opens_limit k d c q o a laws h s l = record {
 pub opens_none : (k : Kept) (d : Talk) (c q : Bytes) (o : Option QueryId) → is_some (named d.cursors c) ≡ false
     → map (λ (r : Registered). r.query) k.registered ≡ (k.store).queries
     → o ≡ option_map (λ (r : Registered). r.id) (registered_of k.registered q) → is_some o ≡ false
-    → Opens k d c q (Err NoQuery) k d
+    → SessionOpens k d c q (Err NoQuery) k d
 opens_none k d c q o a laws h s = record {
   answer = none_answer _ _ _ a (none_there k.registered k.store q laws o h s);
   opens = (refl, (λ id. refl), refl, refl);

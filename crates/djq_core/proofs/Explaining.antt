@@ -28,7 +28,7 @@ use Rattle.djq_session.specs.Dialog.{Replies, Queues, MayQueue}
 use Rattle.djq_engine.specs.Kept.{Kept, HasTree}
 use Rattle.djq_store.specs.declared.explained.Explained.{Explained}
 use Rattle.djq_store.specs.declared.explained.Explained.TheVariants.{Tree, Members}
-use Rattle.djq_store.specs.Explaining.{Explains, ExplainGives, TakesMemory}
+use Rattle.djq_store.specs.Explaining.{Explains, ExplainGives, ExplainTakesMemory}
 use Rattle.djq_core.specs.Views.{Talk}
 use Rattle.djq_core.specs.Ends.{CutsOff}
 use Rattle.djq_core.specs.Explaining.{AreExplaining, QueuesExplained, member_lines}
@@ -132,7 +132,7 @@ cut_explained k new before between after name roomy cut tree =
 
 abbrev explain_answers : Option Listed → Result Explained Refusal → Type 0
 explain_answers o r = Answers (first_refusal ((is_none o, NoQuery) ∷ [])) r
-    (λ explained. IsSomeAnd o (λ q. Explains q explained)) (OutOfMemoryWhere (IsSomeAnd o TakesMemory))
+    (λ explained. IsSomeAnd o (λ q. Explains q explained)) (OutOfMemoryWhere (IsSomeAnd o ExplainTakesMemory))
 
 told_of : (o : Option Listed) (x : Explained) → explain_answers o (Ok x) → IsSomeAnd o (λ q. Explains q x)
 told_of None x h = absurd h
@@ -199,7 +199,7 @@ late_is P InUse h = absurd h
 absent_of : (o : Option Listed) (r : Refusal) → (r ≡ NoMemory → ⊥) → explain_answers o (Err r) → (o ≡ None)
     × (r ≡ NoQuery)
 absent_of None r other h = (refl, h)
-absent_of (Some q) r other h = absurd (other (late_is (IsSomeAnd (Some q) TakesMemory) r h))
+absent_of (Some q) r other h = absurd (other (late_is (IsSomeAnd (Some q) ExplainTakesMemory) r h))
 
 -- There is no such query.
 pub does_explain_refused : (k : Kept) (before after : Talk) (name : Bytes) (r : Refusal)

@@ -16,10 +16,11 @@ use Rattle.djq_engine.specs.declared.cursor.CursorId.{CursorId}
 use Rattle.djq_engine.specs.Kept.{Kept, HeldCursor, held_at, same_id, IsHeld, ClosesCursor}
 use Rattle.djq_core.specs.declared.open.OpenSession.{OpenSession}
 use Rattle.djq_core.specs.Views.{Talk, session_in, state_in}
-use Rattle.djq_core.specs.Sound.{ids_of_cursors, all_ids, AreHeld, IsApart, AreApart, IsOwn, IsSound, is_among, listed}
-use Rattle.djq_core.specs.Ends.{GivesUp, GivesUpCursors, GivesUpWatches, cut_text}
+use Rattle.djq_core.specs.Sound.{ids_of_cursors, all_ids, AreHeld, IsApart, CursorsDiffer, IsOwn, IsSound}
+use Rattle.djq_core.specs.Sound.{is_cursor_among, without_watchers}
+use Rattle.djq_core.specs.Ends.{SessionGivesUp, GivesUpCursors, GivesUpWatches, cut_text}
 use Rattle.djq_core.specs.Telling.{KeepsTold}
-use Rattle.djq_core.specs.Performs.{among, to_one, behind, unqueued, Performs}
+use Rattle.djq_core.specs.Performs.{among, to_one, with_text_behind, unqueued, Performs}
 use Rattle.djq_core.proofs.Ids.{Agree, agree_others, agree_held, apart_split, apart_join, taken_out}
 use Rattle.djq_core.proofs.Ids.{held_split, same_id_flip, owned_without, same_id_same}
 use Rattle.djq_core.proofs.Around.{Around, parts, whole}
@@ -34,7 +35,7 @@ pub record Giving (old : Kept) (before : Talk) (k : Kept) (d : Talk) : Type 0 wh
   pub others : (c : CursorId) → IsApart c (ids_of_cursors before.cursors) → held_at k.cursors c ≡ held_at old.cursors c
   pub session : d ≡ record before { cursors = d.cursors }
   pub gone : (gone : List (NamedCursor CursorId)) × (before.cursors ≡ d.cursors ++ gone)
-  pub lost : (c : CursorId) → is_among c (ids_of_cursors gone.0) ≡ true → held_at k.cursors c ≡ None
+  pub lost : (c : CursorId) → is_cursor_among c (ids_of_cursors gone.0) ≡ true → held_at k.cursors c ≡ None
   pub registered : k.registered ≡ old.registered
   pub affected : k.affected ≡ old.affected
   pub told : k.told ≡ old.told
@@ -68,7 +69,7 @@ pub giving_goes_on : (old : Kept) (before : Talk) (k : Kept) (d e : Talk) (k' : 
 giving_goes_on old before k d e k' id g p o =
     let ids : ids_of_cursors d.cursors ≡ ids_of_cursors e.cursors ++ id ∷ [] = ap ids_of_cursors p.1
     ∙ ids_append e.cursors (record { name = p.0; cursor = id } ∷ []) in
-    let apart = taken_out (ids_of_cursors e.cursors) id [] (subst AreApart ids g.own.apart) in
+    let apart = taken_out (ids_of_cursors e.cursors) id [] (subst CursorsDiffer ids g.own.apart) in
     let held = held_split k.cursors (ids_of_cursors e.cursors) (id ∷ [])
     (subst (λ (cs : List CursorId). AreHeld k.cursors cs) ids g.own.cursors_held) in
     let all : ids_of_cursors before.cursors ≡ (ids_of_cursors e.cursors ++ id ∷ []) ++ ids_of_cursors g.gone.0 = ap
@@ -78,7 +79,7 @@ giving_goes_on old before k d e k' id g p o =
       own = record {
         cursors_held = agree_held k.cursors k'.cursors (ids_of_cursors e.cursors)
             (agree_others k.cursors k'.cursors id (ids_of_cursors e.cursors) o.others apart.0) held.0;
-        apart = subst AreApart (append-nil (ids_of_cursors e.cursors)) apart.1.1;
+        apart = subst CursorsDiffer (append-nil (ids_of_cursors e.cursors)) apart.1.1;
         counted = count_moved k.registered k'.registered d.watches e.watches o.registered
             (ap (λ (x : Talk). x.watches) p.2) g.own.counted;
       };
@@ -102,14 +103,14 @@ giving_goes_on old before k d e k' id g p o =
     }
   where
     -- the one that is popped is gone, and so are those before it
-    step : (c : CursorId) (b : Bool) → same_id id c ≡ b → (b || is_among c (ids_of_cursors g.gone.0)) ≡ true
+    step : (c : CursorId) (b : Bool) → same_id id c ≡ b → (b || is_cursor_among c (ids_of_cursors g.gone.0)) ≡ true
         → held_at k'.cursors c ≡ None
     step c true e a = ap (held_at k'.cursors) (sym (same_id_same id c e)) ∙ o.gone
     step c false e a = o.others c (same_id_flip id c e) ∙ g.lost c a
 
 -- The watches are given up behind them.
 pub both_given_up : (old mid new : Kept) (before between after : Talk) → GivesUpCursors old before mid between
-    → GivesUpWatches mid between new after → GivesUp old before new after
+    → GivesUpWatches mid between new after → SessionGivesUp old before new after
 both_given_up old mid new before between after g w =
     let rest = w.rest in record {
       store = ap (λ (k : Kept). k.store) rest ∙ g.store;
@@ -125,7 +126,7 @@ pub both_kept_told : (old mid new : Kept) (before between after : Talk) → Give
     → GivesUpWatches mid between new after → KeepsTold old new
 both_kept_told old mid new before between after g w = record {
   store = ap (λ (k : Kept). k.store) w.rest ∙ g.store;
-  listed = w.listed ∙ ap listed g.registered;
+  listed = w.listed ∙ ap without_watchers g.registered;
   affected = ap (λ (k : Kept). k.affected) w.rest ∙ g.affected;
   told = ap (λ (k : Kept). k.told) w.rest ∙ g.told;
 }
@@ -136,11 +137,11 @@ abbrev pub all_apart : List CursorId → List CursorId → Type 0
 all_apart [] bs = ⊤
 all_apart (a ∷ cs) bs = IsApart a bs × all_apart cs bs
 
-pub apart_fronts : (xs bs cs : List CursorId) → AreApart (xs ++ (bs ++ cs)) → all_apart xs bs
+pub apart_fronts : (xs bs cs : List CursorId) → CursorsDiffer (xs ++ (bs ++ cs)) → all_apart xs bs
 apart_fronts [] bs cs h = tt
 apart_fronts (a ∷ xs) bs cs h = ((apart_split a bs cs (apart_split a xs (bs ++ cs) h.0).1).0, apart_fronts xs bs cs h.1)
 
-pub apart_rest : (xs bs : List CursorId) → AreApart (xs ++ bs) → AreApart bs
+pub apart_rest : (xs bs : List CursorId) → CursorsDiffer (xs ++ bs) → CursorsDiffer bs
 apart_rest [] bs h = h
 apart_rest (a ∷ xs) bs h = apart_rest xs bs h.1
 
@@ -152,11 +153,11 @@ none_more : (cs : List CursorId) → all_apart cs []
 none_more [] = tt
 none_more (c ∷ cs) = (tt, none_more cs)
 
-pub apart_backs : (bs cs : List CursorId) → AreApart (bs ++ cs) → all_apart cs bs
+pub apart_backs : (bs cs : List CursorId) → CursorsDiffer (bs ++ cs) → all_apart cs bs
 apart_backs [] cs h = none_more cs
 apart_backs (b ∷ bs) cs h = one_more b bs cs (apart_split b bs cs h.0).1 (apart_backs bs cs h.1)
 
-pub without : (xs bs cs : List CursorId) → AreApart (xs ++ (bs ++ cs)) → AreApart (xs ++ cs)
+pub without : (xs bs cs : List CursorId) → CursorsDiffer (xs ++ (bs ++ cs)) → CursorsDiffer (xs ++ cs)
 without [] bs cs h = apart_rest bs cs h
 without (a ∷ xs) bs cs h =
     let s = apart_split a xs (bs ++ cs) h.0 in
@@ -169,7 +170,7 @@ agree_apart old new bs (c ∷ cs) h a = (h c a.0, agree_apart old new bs cs h a.
 
 -- A session that has given up its cursors and ends, among others.
 pub ends_among : (old new : Kept) (before : Talk) (cause : EndCause) (stopped : Bool) (room : ℕ) (pending : Bytes)
-    → GivesUp old before new (record before { cursors = []; watches = [] })
+    → SessionGivesUp old before new (record before { cursors = []; watches = [] })
     → (front back : List OpenSession) (s : ℕ) → Around old.cursors front s before back
     → (state_in new stopped
     (among front s (record before { cursors = []; watches = []; room = room; cause = Some cause; batch = None })
@@ -203,7 +204,7 @@ ends_among old new before cause stopped room pending g front back s p =
 -- A session gives up its cursors and ends, for a cause; a text may be queued to it.
 pub ends_costing : (M : State → ℕ → Session → Effect → State → Type 0) (stops : Bool) (old new : Kept)
     (before after : Talk) (text : Option Bytes) (cost : ℕ) (cause : EndCause) (was now : ℕ)
-    → GivesUp old before new (record before { cursors = []; watches = [] }) → after
+    → SessionGivesUp old before new (record before { cursors = []; watches = [] }) → after
     ≡ record before {
       cursors = [];
       watches = [];
@@ -211,7 +212,7 @@ pub ends_costing : (M : State → ℕ → Session → Effect → State → Type 
       cause = Some cause;
       batch = None;
       pending =
-          behind before.pending text;
+          with_text_behind before.pending text;
     }
     → now ≤ was + cost
     → ((st : State) (s : ℕ) (x : Session) → st.store ≡ old.store → x ≡ session_in old.cursors s before
@@ -240,10 +241,10 @@ ends_costing M stops old new before after text cost cause was now up left counte
         room = after.room;
         cause = Some cause;
         batch = None;
-        pending = behind
+        pending = with_text_behind
             before.pending text;
       }) back
-      (ends_among old new before cause false after.room (behind before.pending text) up front back s p).1
+      (ends_among old new before cause false after.room (with_text_behind before.pending text) up front back s p).1
       (recount old new.registered front s before
       (record before {
         cursors = [];
@@ -252,15 +253,15 @@ ends_costing M stops old new before after text cost cause was now up left counte
         cause = Some cause;
         batch = None;
         pending =
-            behind before.pending text;
+            with_text_behind before.pending text;
       }) back up.counted (λ q. refl) sound));
   counted = counted;
 }
 
 pub ends : (M : State → ℕ → Session → Effect → State → Type 0) (stops : Bool) (old new : Kept) (before mid after : Talk)
     (text : Option Bytes) (cause : EndCause)
-    → GivesUp old before new mid → after
-    ≡ record mid { pending = behind mid.pending text; room = after.room; cause = Some cause; batch = None }
+    → SessionGivesUp old before new mid → after
+    ≡ record mid { pending = with_text_behind mid.pending text; room = after.room; cause = Some cause; batch = None }
     → ((st : State) (s : ℕ) (x : Session)
     → M st s x (to_one s text 0) (with_session (record st { stopped = stops || st.stopped }) s (ended_by cause)))
     → Performs M stops old before new after 0 0
@@ -271,12 +272,12 @@ ends M stops old new before mid after text cause g same does =
       room = after.room;
       cause = Some cause;
       batch = None;
-      pending = behind
+      pending = with_text_behind
           before.pending text;
     }
     = same ∙ ap (λ (d : Talk). record d
-    { pending = behind d.pending text; room = after.room; cause = Some cause; batch = None }) g.session in
-    let up : GivesUp old before new (record before { cursors = []; watches = [] }) = record
+    { pending = with_text_behind d.pending text; room = after.room; cause = Some cause; batch = None }) g.session in
+    let up : SessionGivesUp old before new (record before { cursors = []; watches = [] }) = record
     { store = g.store; gone = g.gone; others = g.others; session = refl; counted = g.counted } in
     ends_costing M stops old new before after text 0 cause 0 0 up left (omega arith) (λ st s x e f. does st s x)
 

@@ -12,11 +12,11 @@ use Rattle.djq_lines.specs.Line.{a_line, front_of, is_blank}
 use Rattle.djq_lines.specs.Grammar.{says_command, reading_of}
 use Rattle.djq_lines.specs.Reply.{refusal_line}
 use Rattle.djq_machine.specs.Command.{is_misplaced}
-use Rattle.djq_session.specs.Dialog.{Replies, rows_held}
+use Rattle.djq_session.specs.Dialog.{Replies, batch_rows}
 use Rattle.djq_engine.specs.Kept.{Kept}
 use Rattle.djq_core.specs.declared.change.Left.TheVariants.{Nothing, Stopping, Telling}
 use Rattle.djq_core.specs.declared.change.Outcome.{Outcome}
-use Rattle.djq_core.specs.Batching.{Holds, MakesRow, RefusedBy}
+use Rattle.djq_core.specs.Batching.{HoldsMadeRow, MakesRow, RefusedBy}
 use Rattle.djq_core.specs.Changing.{AddsAll}
 use Rattle.djq_core.specs.Performs.{ExecutesKeeping}
 use Rattle.djq_core.specs.Stepping.{LineLeaves, is_on_row}
@@ -34,14 +34,14 @@ module _ (before mid : Talk) (l rest : Bytes) (f : front_of before.held ≡ a_li
   open_still : IsSome mid.batch
   open_still = subst (λ (o : Option (List HeldRow)). IsSome o) (sym (ap (λ (d : Talk). d.batch) e)) some
 
-  rows_still : rows_held mid.batch ≡ rows_held before.batch
-  rows_still = ap (λ (d : Talk). rows_held d.batch) e
+  rows_still : batch_rows mid.batch ≡ batch_rows before.batch
+  rows_still = ap (λ (d : Talk). batch_rows d.batch) e
 
   -- a row is held
   pub hold_leaves : (k : Kept) (name : Bytes) (row : Tuple) (made : Result HeldRow Refusal) (count : ℕ) (after : Talk)
       (was : ℕ)
-      → reading_of l ≡ says_command (Add name row) → count ≡ length (rows_held before.batch)
-      → MakesRow k.store count l name row made → Holds mid made after
+      → reading_of l ≡ says_command (Add name row) → count ≡ length (batch_rows before.batch)
+      → MakesRow k.store count l name row made → HoldsMadeRow mid made after
       → LineLeaves l (Nothing false) k before k after was was
   unfolding open_still
   hold_leaves k name row made count after was reads c makes holds =
@@ -49,13 +49,13 @@ module _ (before mid : Talk) (l rest : Bytes) (f : front_of before.held ≡ a_li
       (reads_said false false k mid l (Add name row) k after was was reads
       (placed_in mid.batch (Add name row) open_still refl)
       (counting _ false k mid k after was was (omega arith)
-      (does_hold k mid after (rows_held mid.batch) l name row made (open_rows mid.batch open_still)
-      (makes (rows_held mid.batch) (ap (λ (rows : List HeldRow). length rows) rows_still ∙ sym c)) holds)))
+      (does_hold k mid after (batch_rows mid.batch) l name row made (open_rows mid.batch open_still)
+      (makes (batch_rows mid.batch) (ap (λ (rows : List HeldRow). length rows) rows_still ∙ sym c)) holds)))
 
   -- the batch is done
   pub done_leaves : (old : Kept) (change : Outcome) (new : Kept) (after : Talk) (was now : ℕ) → before.cause ≡ None
       → REPLY_BYTES + LAST_LINE_BYTES ≤ before.room
-      → reading_of l ≡ says_command Done → AddsAll old (rows_held mid.batch) change new was now → after
+      → reading_of l ≡ says_command Done → AddsAll old (batch_rows mid.batch) change new was now → after
       ≡ record mid { batch = None } → LineLeaves l (Telling change) old before new after was now
   done_leaves old change new after was now running room reads adds closed =
       line_leaves (Telling change) old before mid l rest Done new after was now f e said few running room reads

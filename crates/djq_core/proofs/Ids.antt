@@ -7,12 +7,13 @@ use Rattle.djq_model.specs.Data.{Bytes}
 use Rattle.djq_model.specs.Listed.{Listed}
 use Rattle.djq_session.specs.declared.named.NamedCursor.{NamedCursor}
 use Rattle.djq_engine.specs.declared.cursor.CursorId.{CursorId}
-use Rattle.djq_engine.specs.Kept.{HeldCursor, held_at, same_id, SameCursors, OthersStay, outdated_held}
+use Rattle.djq_engine.specs.Kept.{HeldCursor, held_at, same_id, SameCursors, OtherCursorsStay, outdated_held}
 use Rattle.djq_machine.specs.State.{Cursor, Position, open_at, stale}
 use Rattle.djq_machine.specs.Stale.{outdated, outdater_of, outdated_cursor, outdated_sessions}
 use Rattle.djq_core.specs.declared.open.OpenSession.{OpenSession}
-use Rattle.djq_core.specs.Views.{query_in, position_in, cursor_in, open_in}
-use Rattle.djq_core.specs.Sound.{ids_of_cursors, all_ids, GivesApart, AreHeld, IsApart, AreApart, is_among, AreOwned}
+use Rattle.djq_core.specs.Views.{cursor_query, cursor_position, cursor_in, session_seen}
+use Rattle.djq_core.specs.Sound.{ids_of_cursors, all_ids, GivesApart, AreHeld, IsApart, CursorsDiffer, is_cursor_among}
+use Rattle.djq_core.specs.Sound.{AreOwned}
 use Rattle.djq_deltas.proofs.Cases.{first_holds}
 
 second_true : (a b : Bool) → (a && b) ≡ true → b ≡ true
@@ -55,8 +56,8 @@ apart_join c [] ys h g = g
 apart_join c (x ∷ xs) ys h g = (h.0, apart_join c xs ys h.1 g)
 
 -- One is taken out of those that are apart.
-pub taken_out : (xs : List CursorId) (c : CursorId) (ys : List CursorId) → AreApart (xs ++ c ∷ ys) → IsApart c xs
-    × (IsApart c ys × AreApart (xs ++ ys))
+pub taken_out : (xs : List CursorId) (c : CursorId) (ys : List CursorId) → CursorsDiffer (xs ++ c ∷ ys) → IsApart c xs
+    × (IsApart c ys × CursorsDiffer (xs ++ ys))
 taken_out [] c ys h = (tt, (h.0, h.1))
 taken_out (x ∷ xs) c ys h =
     let r = taken_out xs c ys h.1 in
@@ -64,8 +65,8 @@ taken_out (x ∷ xs) c ys h =
     ((same_id_flip c x a.1.0, r.0), (r.1.0, (apart_join x xs ys a.0 a.1.1, r.1.1)))
 
 -- One that is apart from all is put among them.
-pub put_in : (xs : List CursorId) (c : CursorId) (ys : List CursorId) → AreApart (xs ++ ys) → IsApart c xs
-    → IsApart c ys → AreApart (xs ++ c ∷ ys)
+pub put_in : (xs : List CursorId) (c : CursorId) (ys : List CursorId) → CursorsDiffer (xs ++ ys) → IsApart c xs
+    → IsApart c ys → CursorsDiffer (xs ++ c ∷ ys)
 put_in [] c ys h a b = (b, h)
 put_in (x ∷ xs) c ys h a b =
     let r = apart_split x xs ys h.0 in
@@ -101,7 +102,7 @@ pub agree_same : (old new : List HeldCursor) (cs : List CursorId) → SameCursor
 agree_same old new [] h = tt
 agree_same old new (c ∷ cs) h = (h c, agree_same old new cs h)
 
-pub agree_others : (old new : List HeldCursor) (id : CursorId) (cs : List CursorId) → OthersStay old id new
+pub agree_others : (old new : List HeldCursor) (id : CursorId) (cs : List CursorId) → OtherCursorsStay old id new
     → IsApart id cs
     → Agree old new cs
 agree_others old new id [] h a = tt
@@ -119,22 +120,24 @@ agree_names old new (n ∷ names) g =
     let rest = agree_names old new names g.1 in
     let here : cursor_in new n
     ≡ cursor_in old n = ap
-    (λ (o : Option HeldCursor). record { name = n.name; query = query_in o; position = position_in o }) g.0 in cc
+    (λ (o : Option HeldCursor).
+    record { name = n.name; query = cursor_query o; position = cursor_position o }) g.0 in cc
 
 pub agree_split : (old new : List HeldCursor) (xs ys : List CursorId) → Agree old new (xs ++ ys) → Agree old new xs
     × Agree old new ys
 agree_split old new [] ys g = (tt, g)
 agree_split old new (x ∷ xs) ys g = let r = agree_split old new xs ys g.1 in ((g.0, r.0), r.1)
 
-pub agree_open : (old new : List HeldCursor) (xs : List OpenSession) → Agree old new (all_ids xs) → map (open_in new) xs
-    ≡ map (open_in old) xs
+pub agree_open : (old new : List HeldCursor) (xs : List OpenSession) → Agree old new (all_ids xs)
+    → map (session_seen new) xs
+    ≡ map (session_seen old) xs
 agree_open old new [] g = refl
 agree_open old new (x ∷ xs) g =
     let parts = agree_split old new (ids_of_cursors (x.session).cursors) (all_ids xs) g in
     let rest = agree_open old new xs parts.1 in
     let names = agree_names old new (x.session).cursors parts.0 in
-    let here : open_in new x
-    ≡ open_in old x = ap (λ (cs : List Cursor). record (open_in old x) { cursors = cs }) names in cc
+    let here : session_seen new x
+    ≡ session_seen old x = ap (λ (cs : List Cursor). record (session_seen old x) { cursors = cs }) names in cc
 
 -- Cursors of the engine, and whose they are.
 
@@ -142,33 +145,37 @@ pub or_true : (b : Bool) → (b || true) ≡ true
 or_true true = refl
 or_true false = refl
 
-pub among_append : (c : CursorId) (xs ys : List CursorId) → is_among c (xs ++ ys) ≡ (is_among c xs || is_among c ys)
+pub among_append : (c : CursorId) (xs ys : List CursorId)
+    → is_cursor_among c (xs ++ ys) ≡ (is_cursor_among c xs || is_cursor_among c ys)
 among_append c [] ys = refl
 among_append c (x ∷ xs) ys = ap (λ b. same_id x c || b) (among_append c xs ys) ∙ step (same_id x c)
   where
-    step : (b : Bool) → (b || (is_among c xs || is_among c ys)) ≡ ((b || is_among c xs) || is_among c ys)
+    step : (b : Bool)
+        → (b || (is_cursor_among c xs || is_cursor_among c ys)) ≡ ((b || is_cursor_among c xs) || is_cursor_among c ys)
     step true = refl
     step false = refl
 
 -- what is among a part is among the whole
-pub among_front : (c : CursorId) (xs ys : List CursorId) → is_among c xs ≡ true → is_among c (xs ++ ys) ≡ true
-among_front c xs ys h = among_append c xs ys ∙ ap (λ b. b || is_among c ys) h
+pub among_front : (c : CursorId) (xs ys : List CursorId) → is_cursor_among c xs ≡ true
+    → is_cursor_among c (xs ++ ys) ≡ true
+among_front c xs ys h = among_append c xs ys ∙ ap (λ b. b || is_cursor_among c ys) h
 
-pub among_back : (c : CursorId) (xs ys : List CursorId) → is_among c ys ≡ true → is_among c (xs ++ ys) ≡ true
-among_back c xs ys h = among_append c xs ys ∙ ap (λ b. is_among c xs || b) h ∙ or_true (is_among c xs)
+pub among_back : (c : CursorId) (xs ys : List CursorId) → is_cursor_among c ys ≡ true
+    → is_cursor_among c (xs ++ ys) ≡ true
+among_back c xs ys h = among_append c xs ys ∙ ap (λ b. is_cursor_among c xs || b) h ∙ or_true (is_cursor_among c xs)
 
-pub among_either : (c : CursorId) (xs ys : List CursorId) → is_among c (xs ++ ys) ≡ true
-    → (is_among c xs ≡ true) ⊎ (is_among c ys ≡ true)
-among_either c xs ys h = or_cases (is_among c xs) (is_among c ys) (sym (among_append c xs ys) ∙ h)
+pub among_either : (c : CursorId) (xs ys : List CursorId) → is_cursor_among c (xs ++ ys) ≡ true
+    → (is_cursor_among c xs ≡ true) ⊎ (is_cursor_among c ys ≡ true)
+among_either c xs ys h = or_cases (is_cursor_among c xs) (is_cursor_among c ys) (sym (among_append c xs ys) ∙ h)
 
 -- none of these, or one
-pub apart_or : (c : CursorId) (xs : List CursorId) → (IsApart c xs) ⊎ (is_among c xs ≡ true)
+pub apart_or : (c : CursorId) (xs : List CursorId) → (IsApart c xs) ⊎ (is_cursor_among c xs ≡ true)
 apart_or c [] = inl tt
 apart_or c (x ∷ xs) = step (same_id x c) refl (apart_or c xs)
   where
-    step : (b : Bool) → same_id x c ≡ b → (IsApart c xs) ⊎ (is_among c xs ≡ true)
-        → (IsApart c (x ∷ xs)) ⊎ (is_among c (x ∷ xs) ≡ true)
-    step true e r = inr (ap (λ b. b || is_among c xs) e)
+    step : (b : Bool) → same_id x c ≡ b → (IsApart c xs) ⊎ (is_cursor_among c xs ≡ true)
+        → (IsApart c (x ∷ xs)) ⊎ (is_cursor_among c (x ∷ xs) ≡ true)
+    step true e r = inr (ap (λ b. b || is_cursor_among c xs) e)
     step false e (inl a) = inl (e, a)
     step false e (inr h) = inr (ap (λ b. same_id x c || b) h ∙ or_true (same_id x c))
 
@@ -178,31 +185,33 @@ pub owned_still : (old new : List HeldCursor) (cs : List CursorId)
 owned_still old new cs f h c i = h c (f c i)
 
 -- the engine holds one more
-pub owned_more : (old new : List HeldCursor) (id : CursorId) (xs ys : List CursorId) → OthersStay old id new
+pub owned_more : (old new : List HeldCursor) (id : CursorId) (xs ys : List CursorId) → OtherCursorsStay old id new
     → AreOwned old (xs ++ ys) → AreOwned new (xs ++ id ∷ ys)
 owned_more old new id xs ys o h c i = step (same_id c id) refl
   where
-    behind : (is_among c xs ≡ true) ⊎ (is_among c ys ≡ true) → is_among c (xs ++ id ∷ ys) ≡ true
+    behind : (is_cursor_among c xs ≡ true) ⊎ (is_cursor_among c ys ≡ true) → is_cursor_among c (xs ++ id ∷ ys) ≡ true
     behind (inl e) = among_front c xs (id ∷ ys) e
     behind (inr e) = among_back c xs (id ∷ ys) (ap (λ b. same_id id c || b) e ∙ or_true (same_id id c))
 
-    step : (b : Bool) → same_id c id ≡ b → is_among c (xs ++ id ∷ ys) ≡ true
+    step : (b : Bool) → same_id c id ≡ b → is_cursor_among c (xs ++ id ∷ ys) ≡ true
     step true e =
         let same : id ≡ c = sym (same_id_same c id e) in
-        among_back c xs (id ∷ ys) (ap (λ b. b || is_among c ys) (ap (λ d. same_id id d) (sym same) ∙ same_id_refl id))
+        among_back c xs (id ∷ ys)
+        (ap (λ b. b || is_cursor_among c ys) (ap (λ d. same_id id d) (sym same) ∙ same_id_refl id))
     step false e = behind (among_either c xs ys (h c (subst (λ (o : Option HeldCursor). IsSome o) (o c e) i)))
 
 -- it holds one less
 pub owned_less : (old new : List HeldCursor) (id : CursorId) (xs ys : List CursorId) → held_at new id ≡ None
-    → OthersStay old id new → AreOwned old (xs ++ id ∷ ys) → AreOwned new (xs ++ ys)
+    → OtherCursorsStay old id new → AreOwned old (xs ++ id ∷ ys) → AreOwned new (xs ++ ys)
 owned_less old new id xs ys gone o h c i = step (same_id c id) refl
   where
-    behind : same_id c id ≡ false → (is_among c xs ≡ true) ⊎ (is_among c (id ∷ ys) ≡ true) → is_among c (xs ++ ys)
+    behind : same_id c id ≡ false → (is_cursor_among c xs ≡ true) ⊎ (is_cursor_among c (id ∷ ys) ≡ true)
+        → is_cursor_among c (xs ++ ys)
         ≡ true
     behind e (inl f) = among_front c xs ys f
-    behind e (inr f) = among_back c xs ys (sym (ap (λ b. b || is_among c ys) (same_id_flip c id e)) ∙ f)
+    behind e (inr f) = among_back c xs ys (sym (ap (λ b. b || is_cursor_among c ys) (same_id_flip c id e)) ∙ f)
 
-    step : (b : Bool) → same_id c id ≡ b → is_among c (xs ++ ys) ≡ true
+    step : (b : Bool) → same_id c id ≡ b → is_cursor_among c (xs ++ ys) ≡ true
     step true e =
         let none : IsSome {T = HeldCursor} None = subst (λ (o : Option HeldCursor). IsSome o)
         (ap (held_at new) (same_id_same c id e) ∙ gone) i in absurd (cc)
@@ -210,24 +219,26 @@ owned_less old new id xs ys gone o h c i = step (same_id c id) refl
 
 -- it holds none of these any more
 pub owned_without : (old new : List HeldCursor) (xs ys zs : List CursorId)
-    → ((c : CursorId) → is_among c ys ≡ true → held_at new c ≡ None)
+    → ((c : CursorId) → is_cursor_among c ys ≡ true → held_at new c ≡ None)
     → ((c : CursorId) → IsApart c ys → held_at new c ≡ held_at old c)
     → AreOwned old (xs ++ (ys ++ zs)) → AreOwned new (xs ++ zs)
 owned_without old new xs ys zs gone others h c i = step (apart_or c ys)
   where
-    not_mine : IsApart c ys → (is_among c ys ≡ true) ⊎ (is_among c zs ≡ true) → is_among c zs ≡ true
+    not_mine : IsApart c ys → (is_cursor_among c ys ≡ true) ⊎ (is_cursor_among c zs ≡ true)
+        → is_cursor_among c zs ≡ true
     not_mine a (inl e) = absurd (never ys a e)
       where
-        never : (ys : List CursorId) → IsApart c ys → is_among c ys ≡ true → ⊥
+        never : (ys : List CursorId) → IsApart c ys → is_cursor_among c ys ≡ true → ⊥
         never [] a e = cc
-        never (y ∷ ys) a e = never ys a.1 (sym (ap (λ b. b || is_among c ys) a.0) ∙ e)
+        never (y ∷ ys) a e = never ys a.1 (sym (ap (λ b. b || is_cursor_among c ys) a.0) ∙ e)
     not_mine a (inr e) = e
 
-    behind : IsApart c ys → (is_among c xs ≡ true) ⊎ (is_among c (ys ++ zs) ≡ true) → is_among c (xs ++ zs) ≡ true
+    behind : IsApart c ys → (is_cursor_among c xs ≡ true) ⊎ (is_cursor_among c (ys ++ zs) ≡ true)
+        → is_cursor_among c (xs ++ zs) ≡ true
     behind a (inl e) = among_front c xs zs e
     behind a (inr e) = among_back c xs zs (not_mine a (among_either c ys zs e))
 
-    step : (IsApart c ys) ⊎ (is_among c ys ≡ true) → is_among c (xs ++ zs) ≡ true
+    step : (IsApart c ys) ⊎ (is_cursor_among c ys ≡ true) → is_cursor_among c (xs ++ zs) ≡ true
     step (inr e) =
         let none : IsSome {T = HeldCursor} None = subst (λ (o : Option HeldCursor). IsSome o) (gone c e) i in
         absurd (cc)
@@ -280,11 +291,11 @@ stale_stays (Some r) n = refl
 outdated_one : (queries : List Listed) (outdater : Listed → Option Bytes) (n : ℕ) (name : Bytes) (o : Option HeldCursor)
     → record {
       name = name;
-      query = query_in (option_map (outdated_held queries outdater n) o);
-      position = position_in
+      query = cursor_query (option_map (outdated_held queries outdater n) o);
+      position = cursor_position
           (option_map (outdated_held queries outdater n) o);
     }
-    ≡ outdated_cursor queries outdater n (record { name = name; query = query_in o; position = position_in o })
+    ≡ outdated_cursor queries outdater n (record { name = name; query = cursor_query o; position = cursor_position o })
 outdated_one queries outdater n name None = ap (λ (p : Position). record { name = name; query = []; position = p })
     (stale_stays (outdater_of queries outdater []) n)
 outdated_one queries outdater n name (Some h) = refl
@@ -298,23 +309,24 @@ outdated_names queries outdater n old new (x ∷ names) out =
     let moved : cursor_in new x
     ≡ record {
       name = x.name;
-      query = query_in
+      query = cursor_query
           (option_map (outdated_held queries outdater n) (held_at old x.cursor));
-      position = position_in
+      position = cursor_position
           (option_map (outdated_held queries outdater n) (held_at old x.cursor));
     }
-    = ap (λ (o : Option HeldCursor). record { name = x.name; query = query_in o; position = position_in o })
+    = ap (λ (o : Option HeldCursor). record { name = x.name; query = cursor_query o; position = cursor_position o })
     (out x.cursor) in
     let here : cursor_in new x ≡ outdated_cursor queries outdater n (cursor_in old x) = moved
     ∙ outdated_one queries outdater n x.name (held_at old x.cursor) in cc
 
 pub outdated_open : (queries : List Listed) (outdater : Listed → Option Bytes) (n : ℕ) (old new : List HeldCursor)
     (xs : List OpenSession) → Outdated queries outdater n old new
-    → map (open_in new) xs ≡ outdated_sessions queries outdater n (map (open_in old) xs)
+    → map (session_seen new) xs ≡ outdated_sessions queries outdater n (map (session_seen old) xs)
 outdated_open queries outdater n old new [] out = refl
 outdated_open queries outdater n old new (x ∷ xs) out =
     let rest = outdated_open queries outdater n old new xs out in
     let names = outdated_names queries outdater n old new (x.session).cursors out in
-    let here : open_in new x
-    ≡ record (open_in old x) { cursors = map (outdated_cursor queries outdater n) (open_in old x).cursors } = ap
-    (λ (cs : List Cursor). record (open_in old x) { cursors = cs }) names in cc
+    let here : session_seen new x
+    ≡ record (session_seen old x)
+    { cursors = map (outdated_cursor queries outdater n) (session_seen old x).cursors } = ap
+    (λ (cs : List Cursor). record (session_seen old x) { cursors = cs }) names in cc

@@ -15,7 +15,7 @@ use Rattle.std.specs.Prelude.{⊤, IsSome}
 use Rattle.djq_machine.specs.Command.{is_misplaced}
 use Rattle.djq_lines.specs.declared.command.Command.TheVariants.{Done}
 use Rattle.djq_lines.specs.declared.held.HeldRow.{HeldRow}
-use Rattle.djq_session.specs.Dialog.{rows_held}
+use Rattle.djq_session.specs.Dialog.{batch_rows}
 use Rattle.djq_core.specs.declared.change.Outcome.{Outcome}
 use Rattle.djq_core.specs.Changing.{AddsAll, IsChange}
 use Rattle.djq_core.proofs.Batching.{open_rows}
@@ -75,7 +75,7 @@ tells_alone change old mid new was now command e c = (
 
 -- and of one whose batch is done
 pub tells_done : (change : Outcome) (old : Kept) (mid : Talk) (new : Kept) (after : Talk) (was now : ℕ)
-    → IsSome mid.batch → AddsAll old (rows_held mid.batch) change new was now
+    → IsSome mid.batch → AddsAll old (batch_rows mid.batch) change new was now
     → after ≡ record mid { batch = None } → Obeys Done (Telling change) old mid new after was now
 tells_done change old mid new after was now some c e = (
   subst (λ (o : Option (List HeldRow)). IsChange Done o old change new was now) (sym (open_rows mid.batch some)) c,

@@ -21,9 +21,9 @@ use Rattle.djq_machine.specs.Call.{EndedStepAs, StepGives, cause_of, cause_in, h
 use Rattle.djq_engine.specs.Kept.{Kept}
 use Rattle.djq_core.specs.declared.open.OpenSession.{OpenSession}
 use Rattle.djq_core.specs.Changing.{line_where}
-use Rattle.djq_core.specs.Views.{Talk, session_in, state_in, lines_of}
+use Rattle.djq_core.specs.Views.{Talk, session_in, state_in, lines_of_step}
 use Rattle.djq_core.specs.Sound.{IsSound}
-use Rattle.djq_core.specs.Performs.{among, to_one, to_keep, behind, unqueued, Performs}
+use Rattle.djq_core.specs.Performs.{among, to_one, to_keep, with_text_behind, unqueued, Performs}
 use Rattle.djq_core.specs.Stepping.{Fronts, FrontsKeeping, EndsBefore, Unchanged, StepsTo, Copies, line_kept}
 use Rattle.djq_core.proofs.Around.{parts, found, becomes}
 use Rattle.djq_core.proofs.Replying.{around_bytes}
@@ -36,7 +36,7 @@ same_relations (r ∷ rs) = (refl, refl, IsPermutation-refl r.rows, same_relatio
 -- what was queued to a session is queued by the machine
 pub queued : (k : Kept) (stopped : Bool) (front : List OpenSession) (s : ℕ) (before after : Talk)
     (back : List OpenSession) (text : Option Bytes) (cost : ℕ) → IsSound k (among front s after back)
-    → after.pending ≡ behind before.pending text → state_in k stopped (among front s after back)
+    → after.pending ≡ with_text_behind before.pending text → state_in k stopped (among front s after back)
     ≡ queue_all (state_in k stopped (among front s (unqueued before after) back)) (to_one s text cost).queued
 queued k stopped front s before after back None cost sound e = ap
     (λ (bs : Bytes). state_in k stopped (among front s (record after { pending = bs }) back)) e
@@ -137,12 +137,12 @@ unchanged stops old before new after was now front back s stopped u =
     ∙ ap₂ (λ (k : Kept) (d : Talk). state_in k stopped (among front s d back)) u.engine u.session
 
 -- the group that is kept of a line, where it is
-pub line_group : (b : Bool) (l : Bytes) → KeepsGroup b (groups_in l (kept_where b)) (lines_of (line_where b) l)
+pub line_group : (b : Bool) (l : Bytes) → KeepsGroup b (groups_in l (kept_where b)) (lines_of_step (line_where b) l)
 line_group true l = refl
 line_group false l = (refl, refl)
 
 -- of a blank line none is
-unkept_blank : (b : Bool) (l : Bytes) → no_line ≡ kept_where b → KeepsGroup b [] (lines_of (line_where b) l)
+unkept_blank : (b : Bool) (l : Bytes) → no_line ≡ kept_where b → KeepsGroup b [] (lines_of_step (line_where b) l)
 unkept_blank true l e = absurd (cc (e))
 unkept_blank false l e = (refl, refl)
 
@@ -156,7 +156,7 @@ pub step_gives : (result : Stepped) (stops : Bool) (old : Kept) (before : Talk) 
     → StepsTo result stops old before new after was now → Copies result before.held copy
     → IsSound old (among front s before back)
     → StepGives (state_in old stopped (among front s before back)) s result
-    (state_in new (stops || stopped) (among front s after back)) was now (lines_of (line_kept result) copy)
+    (state_in new (stops || stopped) (among front s after back)) was now (lines_of_step (line_kept result) copy)
 step_gives (Ran kept) stops old before new after copy was now front back s stopped t copies sound = by t.1.1
   where
     by : (FrontsKeeping (blank t.1.0) kept stops old before new after was.listing now.listing ⊎ FrontsKeeping
@@ -164,7 +164,7 @@ step_gives (Ran kept) stops old before new after copy was now front back s stopp
         → (ran : RanStep (state_in old stopped (among front s before back)) s
         (state_in new (stops || stopped) (among front s after back)) was now)
         × KeepsGroup kept (groups_by (state_in old stopped (among front s before back)) s
-        (state_in new (stops || stopped) (among front s after back)) was now ran) (lines_of (line_where kept) copy)
+        (state_in new (stops || stopped) (among front s after back)) was now ran) (lines_of_step (line_where kept) copy)
     by (inl f) =
         let m = fronts_keeping (blank t.1.0) kept stops old before new after was now front back s stopped t.0 f sound in
         let d = f.does front back s stopped sound in
@@ -174,8 +174,9 @@ step_gives (Ran kept) stops old before new after copy was now front back s stopp
         let d = f.does front back s stopped sound in
         let same : copy ≡ t.1.0 = one_front before.held t.1.0 copy (d.0.2).rest copies.0 (d.0.2).front copies.1 in (
           (t.1.0, inr m.0),
-          subst (λ (k : Keeping). KeepsGroup kept (groups_in t.1.0 k) (lines_of (line_where kept) copy)) (sym m.1)
-              (subst (λ (l : Bytes). KeepsGroup kept (groups_in t.1.0 (kept_where kept)) (lines_of (line_where kept) l))
+          subst (λ (k : Keeping). KeepsGroup kept (groups_in t.1.0 k) (lines_of_step (line_where kept) copy)) (sym m.1)
+              (subst (λ (l : Bytes). KeepsGroup kept (groups_in t.1.0 (kept_where kept))
+              (lines_of_step (line_where kept) l))
               (sym same) (line_group kept t.1.0)),
         )
 step_gives Dry stops old before new after copy was now front back s stopped t copies sound = (

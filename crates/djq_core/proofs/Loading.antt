@@ -30,18 +30,18 @@ use Rattle.djq_machine.specs.LineStep.{past_limit_refusal}
 use Rattle.djq_machine.specs.Loading.{CommandLoads, Loading, LoadStep, ReadingLoads, StoreLoads, loaded_by, refused_by}
 use Rattle.djq_proto.specs.declared.refusal.LineRefusal.{LineRefusal}
 use Rattle.djq_proto.specs.declared.refusal.LineRefusal.TheVariants.{Syntax as Outside, Range, NoMem}
-use Rattle.djq_proto.specs.Reading.{Reads}
+use Rattle.djq_proto.specs.Reading.{LineReadsAs}
 use Rattle.djq_engine.specs.declared.cursor.CursorId.{CursorId}
 use Rattle.djq_engine.specs.Kept.{Kept, HeldCursor, Registered, held_at, is_watched, SameCursors}
 use Rattle.djq_engine.specs.Kept.{Outdates, outdated_held, Uses, DropGives, DropsRegistered}
 use Rattle.djq_engine.specs.Watching.{Enrols}
 use Rattle.djq_store.specs.Registering.{EnrolsUnion}
 use Rattle.djq_core.specs.declared.open.OpenSession.{OpenSession}
-use Rattle.djq_core.specs.Views.{open_in, state_in}
-use Rattle.djq_core.specs.Sound.{BatchSuits, AreSuited, batches_of, IsSound, IsCore}
+use Rattle.djq_core.specs.Views.{session_seen, state_in}
+use Rattle.djq_core.specs.Sound.{BatchSuits, BatchesSuit, batches_of, IsSound, IsCore}
 use Rattle.djq_core.specs.Stepping.{refused_as}
-use Rattle.djq_core.specs.Batching.{MakesRow, RefusedBy, row_of}
-use Rattle.djq_core.specs.Loading.{IsIdle, LoadsRow, comes_to, is_batch, loading_by}
+use Rattle.djq_core.specs.Batching.{MakesRow, RefusedBy, held_row_of}
+use Rattle.djq_core.specs.Loading.{IsUnused, LoadsRow, comes_to, is_batch, loading_by}
 use Rattle.djq_core.proofs.Ids.{outdated_find}
 use Rattle.djq_core.proofs.Lifting.{same_relations}
 use Rattle.djq_core.proofs.Saying.{in_any_batch, in_memory, in_outside, in_range_past, late_alone, reads_as}
@@ -53,11 +53,11 @@ pub none_open : (k : Kept) (stopped : Bool) (xs : List OpenSession) (st : State)
     → st.sessions ≡ [] → xs ≡ []
 none_open k stopped xs st v none = by xs (ap (λ (x : State). x.sessions) v ∙ none)
   where
-    by : (ys : List OpenSession) → map (open_in k.cursors) ys ≡ [] → ys ≡ []
+    by : (ys : List OpenSession) → map (session_seen k.cursors) ys ≡ [] → ys ≡ []
     by [] e = refl
     by (y ∷ ys) e = absurd (cc (e))
 
-idle_sound : (k : Kept) → IsSound k [] → IsIdle k
+idle_sound : (k : Kept) → IsSound k [] → IsUnused k
 idle_sound k sound = record {
   cursorless = λ c. by c (held_at k.cursors c) refl;
   unwatched = hold_each (λ (r : Registered). is_watched r ≡ false) k.registered
@@ -68,7 +68,7 @@ idle_sound k sound = record {
     by c None e = e
     by c (Some h) e = absurd (false≢true (sound.owned c (subst (λ (o : Option HeldCursor). IsSome o) (sym e) refl)))
 
-sound_idle : (k : Kept) → IsIdle k → IsSound k []
+sound_idle : (k : Kept) → IsUnused k → IsSound k []
 sound_idle k idle = record {
   rising = tt;
   few = omega arith;
@@ -90,11 +90,11 @@ sound_idle k idle = record {
     nobody (suc n) e = absurd (false≢true (sym e ∙ lt-ltb 0 (suc n) (omega arith)))
 
 pub idle_core : (k : Kept) (is : List ℕ) (xs : List OpenSession) (id_room room : ℕ) → IsCore k is xs id_room room → xs
-    ≡ [] → IsIdle k
+    ≡ [] → IsUnused k
 idle_core k is xs id_room room core none = idle_sound k (subst (IsSound k) none core.sound)
 
 pub core_idle : (old new : Kept) (is : List ℕ) (xs : List OpenSession) (id_room room : ℕ)
-    → IsCore old is xs id_room room → xs ≡ [] → IsIdle new → IsCore new is xs id_room room
+    → IsCore old is xs id_room room → xs ≡ [] → IsUnused new → IsCore new is xs id_room room
 core_idle old new is xs id_room room core none idle = record {
   ids_are = core.ids_are;
   sound = subst (IsSound new) (sym none) (sound_idle new idle);
@@ -104,22 +104,22 @@ core_idle old new is xs id_room room core none idle = record {
 
 -- where no session is open, the batch of the loaded lines is the only one
 pub suits_loaded : (st : Store) (batch : Option (List HeldRow)) (xs : List OpenSession) → xs ≡ [] → BatchSuits st batch
-    → AreSuited st (batches_of batch xs)
-suits_loaded st batch xs none h = subst (λ (ys : List OpenSession). AreSuited st (batches_of batch ys)) (sym none)
+    → BatchesSuit st (batches_of batch xs)
+suits_loaded st batch xs none h = subst (λ (ys : List OpenSession). BatchesSuit st (batches_of batch ys)) (sym none)
     (h, tt)
 
 -- ---- what the verbs leave
 
-pub idle_same : (old new : Kept) → IsIdle old → SameCursors old.cursors new.cursors → new.registered ≡ old.registered
-    → IsIdle new
+pub idle_same : (old new : Kept) → IsUnused old → SameCursors old.cursors new.cursors → new.registered ≡ old.registered
+    → IsUnused new
 idle_same old new idle same still = record {
   cursorless = λ c. same c ∙ idle.cursorless c;
   unwatched = subst (λ (rs : List Registered). All (λ (r : Registered). is_watched r ≡ false) rs) (sym still)
       idle.unwatched;
 }
 
-pub idle_outdated : (old new : Kept) (o : Option RowsChange) → IsIdle old → Outdates old o new → new.registered
-    ≡ old.registered → IsIdle new
+pub idle_outdated : (old new : Kept) (o : Option RowsChange) → IsUnused old → Outdates old o new → new.registered
+    ≡ old.registered → IsUnused new
 idle_outdated old new None idle out still = idle_same old new idle out still
 idle_outdated old new (Some change) idle out still = record {
   cursorless = λ c. out c ∙ outdated_find (old.store).queries change.outdater (new.store).seq old.cursors c
@@ -145,9 +145,9 @@ enrolled old new q (Ok (NotConnex rest)) e h = subst
 enrolled old new q (Err r) e h = subst (λ (rs : List Registered). All (λ (r : Registered). is_watched r ≡ false) rs)
     (sym e) h
 
-pub idle_enrolled : (old new : Kept) (q : Query) (result : Result QueryOutcome Refusal) → IsIdle old
+pub idle_enrolled : (old new : Kept) (q : Query) (result : Result QueryOutcome Refusal) → IsUnused old
     → SameCursors old.cursors new.cursors
-    → Enrols old.registered q result new.registered → IsIdle new
+    → Enrols old.registered q result new.registered → IsUnused new
 idle_enrolled old new q result idle same e = record {
   cursorless = λ c. same c ∙ idle.cursorless c;
   unwatched = enrolled old.registered new.registered q result e idle.unwatched;
@@ -165,9 +165,9 @@ united old new name members (Ok most) e h =
 united old new name members (Err r) e h = subst
     (λ (rs : List Registered). All (λ (r : Registered). is_watched r ≡ false) rs) (sym e) h
 
-pub idle_united : (old new : Kept) (name : Bytes) (members : List Bytes) (result : Result ℕ Refusal) → IsIdle old
+pub idle_united : (old new : Kept) (name : Bytes) (members : List Bytes) (result : Result ℕ Refusal) → IsUnused old
     → SameCursors old.cursors new.cursors
-    → EnrolsUnion old name members result new → IsIdle new
+    → EnrolsUnion old name members result new → IsUnused new
 idle_united old new name members result idle same e = record {
   cursorless = λ c. same c ∙ idle.cursorless c;
   unwatched = united old new name members result e idle.unwatched;
@@ -183,8 +183,8 @@ left old new q (Ok done) e h =
 left old new q (Err r) e h = subst (λ (rs : List Registered). All (λ (r : Registered). is_watched r ≡ false) rs) (sym e)
     h
 
-pub idle_dropped : (old new : Kept) (q : Bytes) (result : Result ⊤ Refusal) → IsIdle old → DropGives old q result new
-    → IsIdle new
+pub idle_dropped : (old new : Kept) (q : Bytes) (result : Result ⊤ Refusal) → IsUnused old → DropGives old q result new
+    → IsUnused new
 idle_dropped old new q result idle d = record {
   cursorless = λ c. (d.cursors c) ∙ idle.cursorless c;
   unwatched = left old.registered new.registered q result d.registered idle.unwatched;
@@ -203,7 +203,7 @@ unwatched_found p (x ∷ rs) h f = by (p x) f
     by false f more = more f
 
 -- No query is in use.
-pub drops_unused : (old new : Kept) (q : Bytes) (result : Result ⊤ Refusal) → IsIdle old → DropGives old q result new
+pub drops_unused : (old new : Kept) (q : Bytes) (result : Result ⊤ Refusal) → IsUnused old → DropGives old q result new
     → DropsQuery old.store false q result new.store
 drops_unused old new q result idle d = by d.used d.is_used d.store
   where
@@ -236,7 +236,7 @@ step_loads old new line how l =
 
 module _ (k : Kept) (line : Bytes) where
   -- outside a batch: one opens
-  pub opens_batch : (c : Command) → Reads line (Ok c) → is_batch c ≡ true
+  pub opens_batch : (c : Command) → LineReadsAs line (Ok c) → is_batch c ≡ true
       → ReadingLoads (loading_by k None) line (reading_of line) ran (loading_by k (Some []))
   opens_batch c g b =
       subst (λ (r : Reading). ReadingLoads (loading_by k None) line r ran (loading_by k (Some [])))
@@ -247,7 +247,7 @@ module _ (k : Kept) (line : Bytes) where
       by _ e = absurd (cc (e))
 
   -- or a command is loaded by itself
-  pub said_alone : (new : Kept) (c : Command) (how : Loaded) → Reads line (Ok c) → is_batch c ≡ false
+  pub said_alone : (new : Kept) (c : Command) (how : Loaded) → LineReadsAs line (Ok c) → is_batch c ≡ false
       → StoreLoads k.store c how new.store
       → ReadingLoads (loading_by k None) line (reading_of line) how (loading_by new None)
   said_alone new c how g b l =
@@ -260,7 +260,7 @@ module _ (k : Kept) (line : Bytes) where
       by _ e h = (h, refl)
 
   -- or the line gives none
-  pub unread_alone : (r : LineRefusal) → Reads line (Err r)
+  pub unread_alone : (r : LineRefusal) → LineReadsAs line (Err r)
       → ReadingLoads (loading_by k None) line (reading_of line) (refused_by (refused_as r)) (loading_by k None)
   unread_alone Outside g =
       subst (λ (r : Reading). ReadingLoads (loading_by k None) line r refused (loading_by k None))
@@ -288,26 +288,27 @@ module _ (k : Kept) (line : Bytes) (held : List HeldRow) where
   )
     where
       made_new : (o : Option Refusal) (new : HeldRow)
-          → Answers {A = HeldRow} o (Ok new) (λ h. h ≡ row_of line name row) (OutOfMemoryWhere ⊤)
-          → (new ≡ row_of line name row) × Answers {A = ⊤} o (Ok tt) (λ d. ⊤) (OutOfMemoryWhere ⊤)
+          → Answers {A = HeldRow} o (Ok new) (λ h. h ≡ held_row_of line name row) (OutOfMemoryWhere ⊤)
+          → (new ≡ held_row_of line name row) × Answers {A = ⊤} o (Ok tt) (λ d. ⊤) (OutOfMemoryWhere ⊤)
           × Answers {A = ⊤} o (Err NoMemory) (λ d. ⊤) (OutOfMemoryWhere ⊤)
       made_new None new a = (a, tt, tt)
       made_new (Some r) new a = absurd a
 
       made_none : (o : Option Refusal) (r : Refusal)
-          → Answers {A = HeldRow} o (Err r) (λ h. h ≡ row_of line name row) (OutOfMemoryWhere ⊤)
+          → Answers {A = HeldRow} o (Err r) (λ h. h ≡ held_row_of line name row) (OutOfMemoryWhere ⊤)
           → Answers {A = ⊤} o (Err r) (λ d. ⊤) (OutOfMemoryWhere ⊤)
       made_none None r a = a
       made_none (Some q) r a = a
 
       by : (m : Result HeldRow Refusal)
-          → Answers (hold_refusal k.store held name row) m (λ h. h ≡ row_of line name row) (OutOfMemoryWhere ⊤)
+          → Answers (hold_refusal k.store held name row) m (λ h. h ≡ held_row_of line name row) (OutOfMemoryWhere ⊤)
           → LoadsRow held m how rows
           → CommandLoads (loading_by k (Some held)) line (Add name row) how (loading_by k (Some rows))
           × (BatchSuits k.store (Some held) → BatchSuits k.store (Some rows))
       by (Ok new) a (inl l) =
           let n = made_new (hold_refusal k.store held name row) new a in
-          let grown : rows ≡ held ++ row_of line name row ∷ [] = l.1 ∙ ap (λ (h : HeldRow). held ++ h ∷ []) n.0 in (
+          let grown : rows ≡ held ++ held_row_of line name row ∷ [] = l.1
+          ∙ ap (λ (h : HeldRow). held ++ h ∷ []) n.0 in (
             (Ok tt, n.1, l.0, ap (λ (hs : List HeldRow). loading_by k (Some hs)) grown),
             λ h. subst (λ (hs : List HeldRow). BatchSuits k.store (Some hs)) (sym grown)
                 (holds k.store held line name row (Ok tt) n.1 h tt refl),

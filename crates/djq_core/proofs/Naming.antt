@@ -14,14 +14,14 @@ use Rattle.djq_machine.specs.Conditions.{Answers, OutOfMemoryWhere}
 use Rattle.djq_machine.specs.Effect.{Effect}
 use Rattle.djq_machine.specs.Command.{open_refusal, with_cursor, CommandStep}
 use Rattle.djq_session.specs.declared.named.NamedCursor.{NamedCursor}
-use Rattle.djq_session.specs.Dialog.{Replies, named, is_named}
+use Rattle.djq_session.specs.Dialog.{Replies, named, cursor_is_named}
 use Rattle.djq_engine.specs.declared.cursor.CursorId.{CursorId}
 use Rattle.djq_engine.specs.Kept.{Kept, HeldCursor, held_at, IsHeld, OpensCursor, ClosesCursor}
 use Rattle.djq_core.specs.declared.open.OpenSession.{OpenSession}
-use Rattle.djq_core.specs.Views.{Talk, query_in, position_in, cursor_in, session_in, state_in}
-use Rattle.djq_core.specs.Sound.{ids_of_cursors, all_ids, AreHeld, IsApart, AreApart, NoneOnceEnded}
-use Rattle.djq_core.specs.Sound.{QuietOnceEnded, StaysCounted, IsReady, AreOwned}
-use Rattle.djq_core.specs.Opens.{Opens}
+use Rattle.djq_core.specs.Views.{Talk, cursor_query, cursor_position, cursor_in, session_in, state_in}
+use Rattle.djq_core.specs.Sound.{ids_of_cursors, all_ids, AreHeld, IsApart, CursorsDiffer, NoneOnceEnded}
+use Rattle.djq_core.specs.Sound.{QuietOnceEnded, StaysCounted, CommandIsReady, AreOwned}
+use Rattle.djq_core.specs.Opens.{SessionOpens}
 use Rattle.djq_core.specs.Performs.{among, to_one, unqueued, Performs, Executes}
 use Rattle.djq_core.proofs.Ids.{Agree, agree_others, agree_held, agree_names, fresh_apart}
 use Rattle.djq_core.proofs.Ids.{apart_split, apart_join, taken_out, put_in, held_split, held_join}
@@ -68,11 +68,11 @@ new_held : (hs : List HeldCursor) (id : CursorId) (q : Bytes) → held_at hs id
 new_held hs id q there =
     ((record { id = id; query = q; position = open_at [] false }, there, (λ i j d lt within. absurd (omega arith))), tt)
 
-opens_apart : (a b : List CursorId) (id : CursorId) (c : List CursorId) → AreApart (a ++ (b ++ c)) → IsApart id a
-    → IsApart id b → IsApart id c → AreApart (a ++ ((b ++ id ∷ []) ++ c))
+opens_apart : (a b : List CursorId) (id : CursorId) (c : List CursorId) → CursorsDiffer (a ++ (b ++ c)) → IsApart id a
+    → IsApart id b → IsApart id c → CursorsDiffer (a ++ ((b ++ id ∷ []) ++ c))
 opens_apart a b id c h ia ib ic =
-    subst AreApart (sym (regroup a b [] c id))
-    (put_in (a ++ b) id c (subst AreApart (sym (append_assoc a b c)) h) (apart_join id a b ia ib) ic)
+    subst CursorsDiffer (sym (regroup a b [] c id))
+    (put_in (a ++ b) id c (subst CursorsDiffer (sym (append_assoc a b c)) h) (apart_join id a b ia ib) ic)
 
 opened : (old new : Kept) (before : Talk) (c q : Bytes) (id : CursorId) → OpensCursor old q id new → before.cause ≡ None
     → (front back : List OpenSession) (s : ℕ) (stopped : Bool) (room : ℕ) → Around old.cursors front s before back
@@ -91,7 +91,8 @@ opened old new before c q id o running front back s stopped room p =
     let gb = agree_others old.cursors new.cursors id (ids_of_cursors before.cursors) o.others b in
     let ge = agree_others old.cursors new.cursors id (all_ids back) o.others e in
     let fresh_cursor : cursor_in new.cursors added ≡ record { name = c; query = q; position = open_at [] false }
-    = ap (λ (h : Option HeldCursor). record { name = c; query = query_in h; position = position_in h }) o.there in
+    = ap (λ (h : Option HeldCursor).
+    record { name = c; query = cursor_query h; position = cursor_position h }) o.there in
     let names : map (cursor_in new.cursors) (before.cursors ++ added ∷ [])
     ≡ map (cursor_in old.cursors) before.cursors ++ record { name = c; query = q; position = open_at [] false } ∷ []
     = map_append (cursor_in new.cursors) before.cursors (added ∷ [])
@@ -110,7 +111,7 @@ opened old new before c q id o running front back s stopped room p =
             (agree_held old.cursors new.cursors (ids_of_cursors before.cursors) gb p.held_here)
             (new_held new.cursors id q o.there));
         held_back = agree_held old.cursors new.cursors (all_ids back) ge p.held_back;
-        apart = subst (λ (cs : List CursorId). AreApart (all_ids front ++ (cs ++ all_ids back)))
+        apart = subst (λ (cs : List CursorId). CursorsDiffer (all_ids front ++ (cs ++ all_ids back)))
             (sym (ids_append before.cursors (added ∷ [])))
             (opens_apart (all_ids front) (ids_of_cursors before.cursors) id (all_ids back) p.apart a b e);
         owned = subst (λ (cs : List CursorId). AreOwned new.cursors (all_ids front ++ (cs ++ all_ids back)))
@@ -129,7 +130,8 @@ opened old new before c q id o running front back s stopped room p =
     )
 
 pub does_open : (old new : Kept) (before mid after : Talk) (c q : Bytes) (result : Result ⊤ Refusal)
-    → IsReady old before → Opens old before c q result new mid → Replies mid after (ok_reply (codes "ok open") result)
+    → CommandIsReady old before → SessionOpens old before c q result new mid
+    → Replies mid after (ok_reply (codes "ok open") result)
     → Executes (Open c q) false old before new after 0 0
 does_open old new before mid after c q (Ok u) ready opens r =
     let o = opens.opens in
@@ -176,20 +178,20 @@ held_found hs (x ∷ front) n back h = held_found hs front n back h.1
 pub is_held : (k : Kept) (names : List (NamedCursor CursorId)) (c : Bytes) (n : NamedCursor CursorId)
     → AreHeld k.cursors (ids_of_cursors names) → named names c ≡ Some n → IsHeld k n.cursor
 is_held k names c n h f =
-    let cut = cut_found (is_named c) names n f in
+    let cut = cut_found (cursor_is_named c) names n f in
     let r = held_found k.cursors cut.front n cut.back
     (subst (λ (xs : List (NamedCursor CursorId)). AreHeld k.cursors (ids_of_cursors xs)) cut.list h) in
     ap (λ (o : Option HeldCursor). is_some o) r.1
 
 -- the cursors of a session around one of them, and those of the others
 closed : (old new : Kept) (before : Talk) (c : Bytes) (n : NamedCursor CursorId) → ClosesCursor old n.cursor new
-    → before.cause ≡ None → Cut (is_named c) before.cursors n
+    → before.cause ≡ None → Cut (cursor_is_named c) before.cursors n
     → (front back : List OpenSession) (s : ℕ) (stopped : Bool) (room : ℕ) → Around old.cursors front s before back
     → (state_in new stopped
-    (among front s (record before { cursors = drop_first (is_named c) before.cursors; room = room }) back)
+    (among front s (record before { cursors = drop_first (cursor_is_named c) before.cursors; room = room }) back)
     ≡ with_session (state_in old stopped (among front s before back)) s
     (λ x. record x { cursors = drop_first (λ k. bytes_eq k.name c) x.cursors }))
-    × Around new.cursors front s (record before { cursors = drop_first (is_named c) before.cursors }) back
+    × Around new.cursors front s (record before { cursors = drop_first (cursor_is_named c) before.cursors }) back
 closed old new before c n o running cut front back s stopped room p =
     let id = n.cursor in
     let ids : ids_of_cursors before.cursors ≡ ids_of_cursors cut.front ++ id ∷ ids_of_cursors cut.back = ap
@@ -198,7 +200,7 @@ closed old new before c n o running cut front back s stopped room p =
     let kept : ids_of_cursors (cut.front ++ cut.back) ≡ ids_of_cursors cut.front ++ ids_of_cursors cut.back =
     ids_append cut.front cut.back in
     let apart = taken_out (all_ids front ++ ids_of_cursors cut.front) id (ids_of_cursors cut.back ++ all_ids back)
-    (subst AreApart (ap (λ (cs : List CursorId). all_ids front ++ (cs ++ all_ids back)) ids
+    (subst CursorsDiffer (ap (λ (cs : List CursorId). all_ids front ++ (cs ++ all_ids back)) ids
     ∙ regroup (all_ids front) (ids_of_cursors cut.front) (ids_of_cursors cut.back) (all_ids back) id) p.apart) in
     let fronts = apart_split id (all_ids front) (ids_of_cursors cut.front) apart.0 in
     let backs = apart_split id (ids_of_cursors cut.back) (all_ids back) apart.1.0 in
@@ -213,13 +215,13 @@ closed old new before c n o running cut front back s stopped room p =
     let left : AreHeld old.cursors (ids_of_cursors (cut.front ++ cut.back)) = subst
     (λ (cs : List CursorId). AreHeld old.cursors cs) (sym kept)
     (held_join old.cursors (ids_of_cursors cut.front) (ids_of_cursors cut.back) held.0 held.1.1) in
-    let names : map (cursor_in new.cursors) (drop_first (is_named c) before.cursors)
+    let names : map (cursor_in new.cursors) (drop_first (cursor_is_named c) before.cursors)
     ≡ drop_first (λ (k : Cursor). bytes_eq k.name c) (map (cursor_in old.cursors) before.cursors)
     = ap (map (cursor_in new.cursors)) cut.dropped ∙ agree_names old.cursors new.cursors (cut.front ++ cut.back) gh
     ∙ sym (ap (map (cursor_in old.cursors)) cut.dropped)
     ∙ sym (drop-map (cursor_in old.cursors) (λ (k : Cursor). bytes_eq k.name c) before.cursors) in (
       moved old new stopped front s before
-          (record before { cursors = drop_first (is_named c) before.cursors; room = room }) back
+          (record before { cursors = drop_first (cursor_is_named c) before.cursors; room = room }) back
           (λ x. record x { cursors = drop_first (λ k. bytes_eq k.name c) x.cursors }) p ga ge o.store
           (ap (λ (cs : List Cursor). record (session_in old.cursors s before) { cursors = cs }) names),
       record {
@@ -230,11 +232,11 @@ closed old new before c n o running cut front back s stopped room p =
             (sym cut.dropped)
             (agree_held old.cursors new.cursors (ids_of_cursors (cut.front ++ cut.back)) gh left);
         held_back = agree_held old.cursors new.cursors (all_ids back) ge p.held_back;
-        apart = subst (λ (xs : List (NamedCursor CursorId)). AreApart
+        apart = subst (λ (xs : List (NamedCursor CursorId)). CursorsDiffer
             (all_ids front ++ (ids_of_cursors xs ++ all_ids back)))
             (sym cut.dropped)
-            (subst (λ (cs : List CursorId). AreApart (all_ids front ++ (cs ++ all_ids back))) (sym kept)
-            (subst AreApart (ungroup (all_ids front) (ids_of_cursors cut.front) (ids_of_cursors cut.back)
+            (subst (λ (cs : List CursorId). CursorsDiffer (all_ids front ++ (cs ++ all_ids back))) (sym kept)
+            (subst CursorsDiffer (ungroup (all_ids front) (ids_of_cursors cut.front) (ids_of_cursors cut.back)
             (all_ids back)) apart.1.1));
         owned = subst (λ (xs : List (NamedCursor CursorId)). AreOwned new.cursors
             (all_ids front ++ (ids_of_cursors xs ++ all_ids back))) (sym cut.dropped)
@@ -249,7 +251,8 @@ closed old new before c n o running cut front back s stopped room p =
             ∙ regroup (all_ids front) (ids_of_cursors cut.front) (ids_of_cursors cut.back) (all_ids back) id)
             p.owned))));
         ended_front = p.ended_front;
-        ended_here = subst (λ (cause : _). NoneOnceEnded cause (drop_first (is_named c) before.cursors)) (sym running)
+        ended_here =
+            subst (λ (cause : _). NoneOnceEnded cause (drop_first (cursor_is_named c) before.cursors)) (sym running)
             tt;
         ended_back = p.ended_back;
       },
@@ -269,15 +272,15 @@ at_none hs names c P Q f p = subst (λ (o : Option Cursor). MatchOption o P Q)
     (sym (cursor_seen hs names c ∙ ap (option_map (cursor_in hs)) f)) p
 
 pub does_close : (old new : Kept) (before mid after : Talk) (c : Bytes) (n : NamedCursor CursorId)
-    → IsReady old before → named before.cursors c ≡ Some n → ClosesCursor old n.cursor new → mid
-    ≡ record before { cursors = drop_first (is_named c) before.cursors }
+    → CommandIsReady old before → named before.cursors c ≡ Some n → ClosesCursor old n.cursor new → mid
+    ≡ record before { cursors = drop_first (cursor_is_named c) before.cursors }
     → Replies mid after (line (codes "ok")) → Executes (Close c) false old before new after 0 0
 does_close old new before mid after c n ready f o same r =
     answered _ old new before mid after (line (codes "ok")) r (ap (λ (d : Talk). d.pending) same)
     (stays_same old.registered new.registered before.watches mid.watches o.registered
     (ap (λ (d : Talk). d.watches) same))
     (subst (λ (d : Talk). QuietOnceEnded d.cause d.watches) (sym same)) (λ front back s stopped p.
-    let step = closed old new before c n o ready.running (cut_found (is_named c) before.cursors n f) front back s
+    let step = closed old new before c n o ready.running (cut_found (cursor_is_named c) before.cursors n f) front back s
     stopped after.room p in (
       at_found old.cursors before.cursors c n _ _ f (
         refl,

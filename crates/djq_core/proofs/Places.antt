@@ -26,11 +26,11 @@ use Rattle.djq_machine.specs.Call.{Counts, Makes, IsOpen, FedGives, StepGives, c
 use Rattle.djq_engine.specs.declared.cursor.CursorId.{CursorId}
 use Rattle.djq_engine.specs.Kept.{Kept, HeldCursor}
 use Rattle.djq_core.specs.declared.open.OpenSession.{OpenSession}
-use Rattle.djq_session.specs.Dialog.{IsFresh}
-use Rattle.djq_core.specs.Views.{Talk, cursor_in, session_in, open_in, state_in, lines_of}
-use Rattle.djq_core.specs.Sound.{IsBelow, Rises, IsSound, IsOwn, IsCore, ids_of_cursors, all_ids, AreHeld}
-use Rattle.djq_core.specs.Sound.{AreApart, NoneOnceEnded, AreOwned}
-use Rattle.djq_core.specs.Ends.{GivesUp, EndsQuietly}
+use Rattle.djq_session.specs.Dialog.{IsNewDialog}
+use Rattle.djq_core.specs.Views.{Talk, cursor_in, session_in, session_seen, state_in, lines_of_step}
+use Rattle.djq_core.specs.Sound.{IsBelowAll, Rises, IsSound, IsOwn, IsCore, ids_of_cursors, all_ids, AreHeld}
+use Rattle.djq_core.specs.Sound.{CursorsDiffer, NoneOnceEnded, AreOwned}
+use Rattle.djq_core.specs.Ends.{SessionGivesUp, EndsQuietly}
 use Rattle.djq_core.specs.Performs.{among, to_keep, Performs}
 use Rattle.djq_core.specs.Stepping.{StepsTo, Copies, line_kept}
 use Rattle.djq_core.proofs.Watching.{has_count, count_left, count_more}
@@ -111,15 +111,16 @@ id_by k is sl xs id_room room at s e core v l i h =
 
 -- an open session's id is among the ids
 found_id : (hs : List HeldCursor) (xs : List OpenSession) (s : ℕ)
-    → is_some (find (λ (x : Session). eqb x.id s) (map (open_in hs) xs)) ≡ true → (n : ℕ)
+    → is_some (find (λ (x : Session). eqb x.id s) (map (session_seen hs) xs)) ≡ true → (n : ℕ)
     × (n < length (map (λ (x : OpenSession). x.id) xs)) × (get_or (map (λ (x : OpenSession). x.id) xs) n s ≡ s)
 found_id hs [] s h = absurd (cc)
 found_id hs (x ∷ xs) s h = step (eqb x.id s) refl (λ rest. found_id hs xs s rest) h
   where
     step : (b : Bool) → eqb x.id s ≡ b
-        → (is_some (find (λ (y : Session). eqb y.id s) (map (open_in hs) xs)) ≡ true → (n : ℕ)
+        → (is_some (find (λ (y : Session). eqb y.id s) (map (session_seen hs) xs)) ≡ true → (n : ℕ)
         × (n < length (map (λ (y : OpenSession). y.id) xs)) × (get_or (map (λ (y : OpenSession). y.id) xs) n s ≡ s))
-        → is_some (cond b (Some (open_in hs x)) (find (λ (y : Session). eqb y.id s) (map (open_in hs) xs))) ≡ true
+        → is_some (cond b (Some (session_seen hs x))
+        (find (λ (y : Session). eqb y.id s) (map (session_seen hs) xs))) ≡ true
         → (n : ℕ) × (n < suc (length (map (λ (y : OpenSession). y.id) xs)))
         × (get_or (x.id ∷ map (λ (y : OpenSession). y.id) xs) n s ≡ s)
     step true e rest h = (0, omega arith, eqb-true x.id s e)
@@ -136,10 +137,10 @@ pub ids_rise : (k : Kept) (is : List ℕ) (xs : List OpenSession) (id_room room 
 ids_rise k is xs id_room room core = subst Rises (sym core.ids_are) core.sound.rising
 
 -- its cursors are its own
-pub apart_of : (xs ys zs : List CursorId) → AreApart (xs ++ (ys ++ zs)) → AreApart ys
+pub apart_of : (xs ys zs : List CursorId) → CursorsDiffer (xs ++ (ys ++ zs)) → CursorsDiffer ys
 apart_of [] ys zs h = front ys zs h
   where
-    front : (ys zs : _) → AreApart (ys ++ zs) → AreApart ys
+    front : (ys zs : _) → CursorsDiffer (ys ++ zs) → CursorsDiffer ys
     front [] zs h = tt
     front (y ∷ ys) zs h = ((apart_split y ys zs h.0).0, front ys zs h.1)
 apart_of (x ∷ xs) ys zs h = apart_of xs ys zs h.1
@@ -171,14 +172,14 @@ pub steps : (k new : Kept) (xs : List OpenSession) (at s : ℕ) (e : OpenSession
     → StepsTo result stops k e.session new d was now → Copies result (e.session).held copy
     → StepGives (state_in k stopped xs) s result
     (state_in new (stops || stopped) (set xs at (record e { session = d }))) was now
-    (lines_of (line_kept result) copy)
+    (lines_of_step (line_kept result) copy)
 steps k new xs at s e d result stops stopped copy was now h t copies =
     subst (λ (ys : List OpenSession). StepGives (state_in k stopped ys) s result
     (state_in new (stops || stopped) (set xs at (record e { session = d }))) was now
-    (lines_of (line_kept result) copy)) (sym h.is)
+    (lines_of_step (line_kept result) copy)) (sym h.is)
     (subst (λ (ys : List OpenSession). StepGives
     (state_in k stopped (among (take at xs) s e.session (drop (suc at) xs))) s result
-    (state_in new (stops || stopped) ys) was now (lines_of (line_kept result) copy)) (sym (h.put d))
+    (state_in new (stops || stopped) ys) was now (lines_of_step (line_kept result) copy)) (sym (h.put d))
     (step_gives result stops k e.session new d copy was now (take at xs) (drop (suc at) xs) s stopped t copies h.sound))
 
 pub steps_sound : (k new : Kept) (is : List ℕ) (xs : List OpenSession) (id_room room at s : ℕ) (e : OpenSession)
@@ -194,7 +195,7 @@ rises_up [] r i j le l = absurd (omega arith)
 rises_up (x ∷ xs) r zero zero le l = omega arith
 rises_up (x ∷ xs) r zero (suc j) le l = at xs j r.0 (omega arith)
   where
-    at : (ys : List ℕ) (k : ℕ) → IsBelow x ys → k < length ys → x ≤ get_or ys k 0
+    at : (ys : List ℕ) (k : ℕ) → IsBelowAll x ys → k < length ys → x ≤ get_or ys k 0
     at [] k b m = absurd (omega arith)
     at (y ∷ ys) zero b m = omega (arith, b.0)
     at (y ∷ ys) (suc k) b m = at ys k b.1 (omega arith)
@@ -464,19 +465,20 @@ apart_ids n s h = step (eqb n s) refl
     step true e = absurd (h (eqb-true n s e))
     step false e = refl
 
-all_below : (hs : List HeldCursor) (back : List OpenSession) (s : ℕ) → IsBelow s (map (λ (x : OpenSession). x.id) back)
-    → filter (λ (x : Session). not (eqb x.id s)) (map (open_in hs) back) ≡ map (open_in hs) back
+all_below : (hs : List HeldCursor) (back : List OpenSession) (s : ℕ)
+    → IsBelowAll s (map (λ (x : OpenSession). x.id) back)
+    → filter (λ (x : Session). not (eqb x.id s)) (map (session_seen hs) back) ≡ map (session_seen hs) back
 all_below hs [] s b = refl
 all_below hs (x ∷ back) s b = cond-true _ _ _ (ap not (apart_ids x.id s (λ e. absurd (omega (arith, e, b.0)))))
-    ∙ ap (λ (r : List Session). open_in hs x ∷ r) (all_below hs back s b.1)
+    ∙ ap (λ (r : List Session). session_seen hs x ∷ r) (all_below hs back s b.1)
 
 filtered : (hs : List HeldCursor) (front : List OpenSession) (s : ℕ) (d : Talk) (back : List OpenSession)
-    → IsAbove s (map (λ (x : OpenSession). x.id) front) → IsBelow s (map (λ (x : OpenSession). x.id) back)
-    → filter (λ (x : Session). not (eqb x.id s)) (map (open_in hs) (among front s d back))
-    ≡ map (open_in hs) (front ++ back)
+    → IsAbove s (map (λ (x : OpenSession). x.id) front) → IsBelowAll s (map (λ (x : OpenSession). x.id) back)
+    → filter (λ (x : Session). not (eqb x.id s)) (map (session_seen hs) (among front s d back))
+    ≡ map (session_seen hs) (front ++ back)
 filtered hs [] s d back a b = cond-false _ _ _ (ap not (eq-eqb s s refl)) ∙ all_below hs back s b
 filtered hs (x ∷ front) s d back a b = cond-true _ _ _ (ap not (apart_ids x.id s (λ e. absurd (omega (arith, e, a.0)))))
-    ∙ ap (λ (r : List Session). open_in hs x ∷ r) (filtered hs front s d back a.1 b)
+    ∙ ap (λ (r : List Session). session_seen hs x ∷ r) (filtered hs front s d back a.1 b)
 
 all_ids_append : (front back : List OpenSession) → all_ids (front ++ back) ≡ all_ids front ++ all_ids back
 all_ids_append [] back = refl
@@ -489,7 +491,8 @@ agree_join old new (x ∷ xs) ys g h = (g.0, agree_join old new xs ys g.1 h)
 
 -- The sessions without one that has given up its cursors.
 pub closes : (k new : Kept) (is : List ℕ) (xs : List OpenSession) (id_room room at s : ℕ) (e : OpenSession) (d : Talk)
-    (stopped : Bool) → IsCore k is xs id_room room → Here k xs at s e → at < length xs → GivesUp k e.session new d
+    (stopped : Bool) → IsCore k is xs id_room room → Here k xs at s e → at < length xs
+    → SessionGivesUp k e.session new d
     → Makes (state_in k stopped xs) (closed s (pending_of (state_in k stopped xs) s))
     (state_in new stopped (remove (set xs at (record e { session = d })) at))
     × IsCore new (remove is at) (remove (set xs at (record e { session = d })) at) id_room room
@@ -536,7 +539,7 @@ closes k new is xs id_room room at s e d stopped core h within g =
           cursors_held = subst (λ (cs : _). AreHeld new.cursors cs) (sym both)
               (agree_held k.cursors new.cursors (all_ids front ++ all_ids back) joined
               (held_join k.cursors (all_ids front) (all_ids back) p.held_front p.held_back));
-          apart = subst AreApart (sym both) (without (all_ids front) mine (all_ids back) p.apart);
+          apart = subst CursorsDiffer (sym both) (without (all_ids front) mine (all_ids back) p.apart);
           owned = subst (AreOwned new.cursors) (sym both)
               (owned_without k.cursors new.cursors (all_ids front) mine (all_ids back) g.gone g.others p.owned);
           ended = ended_join front back p.ended_front p.ended_back;
@@ -550,13 +553,13 @@ closes k new is xs id_room room at s e d stopped core h within g =
 -- `open_session`
 
 above_all : (hs : List HeldCursor) (xs : List OpenSession) (s : ℕ)
-    → All (λ (x : Session). x.id < s) (map (open_in hs) xs) → IsAbove s (map (λ (x : OpenSession). x.id) xs)
+    → All (λ (x : Session). x.id < s) (map (session_seen hs) xs) → IsAbove s (map (λ (x : OpenSession). x.id) xs)
 above_all hs [] s h = tt
 above_all hs (x ∷ xs) s h =
-    (h 0 (open_in hs x) (omega arith), above_all hs xs s (λ k d l. h (suc k) d (omega (arith, l))))
+    (h 0 (session_seen hs x) (omega arith), above_all hs xs s (λ k d l. h (suc k) d (omega (arith, l))))
 
 -- a session that opens is as the machine has it
-fresh_session : (hs : List HeldCursor) (s : ℕ) (d : Talk) → IsFresh d → session_in hs s d ≡ fresh s
+fresh_session : (hs : List HeldCursor) (s : ℕ) (d : Talk) → IsNewDialog d → session_in hs s d ≡ fresh s
 fresh_session hs s d f =
     ap₂ (λ (held pending : Bytes). record (session_in hs s d) { held = held; pending = pending }) f.held f.pending
     ∙ ap₂ (λ (c : Option EndCause) (ns : _). record {
@@ -575,21 +578,21 @@ fresh_session hs s d f =
     { id = s; held = []; pending = []; cause = None; cursors = []; watches = []; batch = b }) f.batch
 
 pub opens : (k : Kept) (is : List ℕ) (xs : List OpenSession) (id_room room s : ℕ) (d : Talk) (st : State)
-    (stopped : Bool) → IsCore k is xs id_room room → state_in k stopped xs ≡ st → length is < SESSIONS → IsFresh d
+    (stopped : Bool) → IsCore k is xs id_room room → state_in k stopped xs ≡ st → length is < SESSIONS → IsNewDialog d
     → All (λ (x : Session). x.id < s) st.sessions
     → (Makes st (opened s) (state_in k stopped (xs ++ record { id = s; session = d } ∷ []))
     × IsOpen (state_in k stopped (xs ++ record { id = s; session = d } ∷ [])) s)
     × IsCore k (is ++ s ∷ []) (xs ++ record { id = s; session = d } ∷ []) id_room room
 opens k is xs id_room room s d st stopped core v less f above =
-    let below : All (λ (x : Session). x.id < s) (map (open_in k.cursors) xs) = subst
+    let below : All (λ (x : Session). x.id < s) (map (session_seen k.cursors) xs) = subst
     (λ (z : State). All (λ (x : Session). x.id < s) z.sessions) (sym v) above in
     let higher = above_all k.cursors xs s below in
     let grown = xs ++ record { id = s; session = d } ∷ [] in
     let few : length xs < SESSIONS = omega
     (arith, less, ap length core.ids_are, length-map xs (λ (x : OpenSession). x.id)) in
-    let sessions : map (open_in k.cursors) grown
-    ≡ map (open_in k.cursors) xs ++ fresh s ∷ [] = open_are k.cursors xs s d []
-    ∙ ap (λ (x : Session). map (open_in k.cursors) xs ++ x ∷ []) (fresh_session k.cursors s d f) in
+    let sessions : map (session_seen k.cursors) grown
+    ≡ map (session_seen k.cursors) xs ++ fresh s ∷ [] = open_are k.cursors xs s d []
+    ∙ ap (λ (x : Session). map (session_seen k.cursors) xs ++ x ∷ []) (fresh_session k.cursors s d f) in
     let ids : all_ids grown ≡ all_ids xs = cursors_are xs s d []
     ∙ ap (λ (ns : _). all_ids xs ++ (ids_of_cursors ns ++ [])) f.cursors ∙ append-nil (all_ids xs) in
     let rise : map (λ (x : OpenSession). x.id) grown
@@ -598,7 +601,7 @@ opens k is xs id_room room s d st stopped core v less f above =
       rising = subst Rises (sym rise) (rises_push (map (λ (x : OpenSession). x.id) xs) s core.sound.rising higher);
       few = omega (arith, few, length-append xs (record { id = s; session = d } ∷ []));
       cursors_held = subst (λ (cs : _). AreHeld k.cursors cs) (sym ids) core.sound.cursors_held;
-      apart = subst AreApart (sym ids) core.sound.apart;
+      apart = subst CursorsDiffer (sym ids) core.sound.apart;
       owned = subst (AreOwned k.cursors) (sym ids) core.sound.owned;
       ended = ended_join xs (record { id = s; session = d } ∷ []) core.sound.ended
           (subst (λ (c : Option EndCause). NoneOnceEnded c d.cursors) (sym f.cause) tt, tt);
@@ -610,8 +613,8 @@ opens k is xs id_room room s d st stopped core v less f above =
               refl,
               below,
               inl (
-                (let c : length (map (open_in k.cursors) xs) < SESSIONS = omega
-                    (arith, few, length-map xs (open_in k.cursors)) in c),
+                (let c : length (map (session_seen k.cursors) xs) < SESSIONS = omega
+                    (arith, few, length-map xs (session_seen k.cursors)) in c),
                 ap
                     (λ (ys : List Session). record { store = k.store; stopped = stopped; sessions = ys }) sessions,
               ),

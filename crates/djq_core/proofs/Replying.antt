@@ -32,9 +32,9 @@ use Rattle.djq_session.specs.Dialog.{Replies}
 use Rattle.djq_engine.specs.Kept.{Kept, HeldCursor, held_at, SameCursors, same_id, Uses, DropGives}
 use Rattle.djq_engine.specs.Kept.{Registered, registered_of, is_watched}
 use Rattle.djq_core.specs.declared.open.OpenSession.{OpenSession}
-use Rattle.djq_core.specs.Views.{Talk, session_in, open_in, state_in, query_in, cursor_in}
-use Rattle.djq_core.specs.Sound.{ids_of_cursors, all_ids, AreHeld, AreCounted, StaysCounted, IsSound}
-use Rattle.djq_core.specs.Sound.{is_among, watchers_in, times_in, is_among_watches}
+use Rattle.djq_core.specs.Views.{Talk, session_in, session_seen, state_in, cursor_query, cursor_in}
+use Rattle.djq_core.specs.Sound.{ids_of_cursors, all_ids, AreHeld, WatchersAreCounted, StaysCounted, IsSound}
+use Rattle.djq_core.specs.Sound.{is_cursor_among, watchers_in, times_in, is_among_watches}
 use Rattle.djq_core.specs.Performs.{among, to_one, to_keep, unqueued, Performs, Executes, ExecutesKeeping}
 use Rattle.djq_core.proofs.Ids.{agree_same, agree_held, agree_open, owned_still, among_either}
 use Rattle.djq_core.proofs.Ids.{held_split, same_id_same, or_true}
@@ -50,9 +50,10 @@ quiet hs s before after text r = ap (λ (d : Talk). session_in hs s (unqueued be
 -- the open sessions look the same
 pub open_quiet : (hs : List HeldCursor) (front : List OpenSession) (s : ℕ) (d e : Talk) (back : List OpenSession)
     → session_in hs s e ≡ session_in hs s d
-    → map (open_in hs) (among front s e back) ≡ map (open_in hs) (among front s d back)
+    → map (session_seen hs) (among front s e back) ≡ map (session_seen hs) (among front s d back)
 open_quiet hs front s d e back same = open_are hs front s e back
-    ∙ ap (λ (x : Session). map (open_in hs) front ++ x ∷ map (open_in hs) back) same ∙ sym (open_are hs front s d back)
+    ∙ ap (λ (x : Session). map (session_seen hs) front ++ x ∷ map (session_seen hs) back) same
+    ∙ sym (open_are hs front s d back)
 
 -- what is known around a session holds at other cursors that are held, and with other bytes
 pub around_held : (old new : List HeldCursor) (front : List OpenSession) (s : ℕ) (d : Talk) (back : List OpenSession)
@@ -119,7 +120,7 @@ sound_batch k front s d b back sound =
 -- a reply leaves all sound
 pub sound_replied : (k : Kept) (front : List OpenSession) (s : ℕ) (before after : Talk) (text : Bytes)
     (back : List OpenSession) → Replies before after text
-    → Around k.cursors front s before back → AreCounted k.registered (among front s before back)
+    → Around k.cursors front s before back → WatchersAreCounted k.registered (among front s before back)
     → IsSound k (among front s after back)
 sound_replied k front s before after text back r p counted =
     subst (λ (d : Talk). IsSound k (among front s d back)) (sym r)
@@ -152,7 +153,8 @@ replied_among M old new before after text cost was now kept r same stays counted
   pending = ap (λ (d : Talk). d.pending) r;
   does = λ front back s stopped sound.
       let xs = among front s before back in
-      let eq : map (open_in new.cursors) (among front s (unqueued before after) back) ≡ map (open_in old.cursors) xs
+      let eq : map (session_seen new.cursors) (among front s (unqueued before after) back)
+      ≡ map (session_seen old.cursors) xs
       = open_quiet new.cursors front s before (unqueued before after) back (quiet new.cursors s before after text r)
       ∙ agree_open old.cursors new.cursors xs (agree_same old.cursors new.cursors (all_ids xs) same) in
       subst (λ (ys : List Session). M (state_in old stopped xs) s (session_in old.cursors s before)
@@ -296,13 +298,13 @@ names_unused : (hs : List HeldCursor) (q : Bytes) (names : List (NamedCursor Cur
     → list_any (λ (c : Cursor). bytes_eq c.query q) (map (cursor_in hs) names) ≡ false
 names_unused hs q [] held none = refl
 names_unused hs q (n ∷ names) held none =
-    ap₂ (λ b d. b || d) (ap (λ (o : Option HeldCursor). bytes_eq (query_in o) q) held.0.1
+    ap₂ (λ b d. b || d) (ap (λ (o : Option HeldCursor). bytes_eq (cursor_query o) q) held.0.1
     ∙ other_query held.0.0 q (none n.cursor held.0.0 held.0.1))
     (names_unused hs q names held.1 none)
 
 sessions_unused : (hs : List HeldCursor) (q : Bytes) (xs : List OpenSession) → AreHeld hs (all_ids xs)
     → ((id : CursorId) (h : HeldCursor) → held_at hs id ≡ Some h → h.query ≡ q → ⊥) → watchers_in xs q ≡ 0
-    → list_any (uses q) (map (open_in hs) xs) ≡ false
+    → list_any (uses q) (map (session_seen hs) xs) ≡ false
 sessions_unused hs q [] held none watched = refl
 sessions_unused hs q (x ∷ xs) held none watched =
     let two = held_split hs (ids_of_cursors (x.session).cursors) (all_ids xs) held in
@@ -311,67 +313,69 @@ sessions_unused hs q (x ∷ xs) held none watched =
     (unwatched (x.session).watches q z.0)) (sessions_unused hs q xs two.1 none z.1)
 
 names_used : (hs : List HeldCursor) (q : Bytes) (id : CursorId) (h : HeldCursor) (names : List (NamedCursor CursorId))
-    → held_at hs id ≡ Some h → h.query ≡ q → is_among id (ids_of_cursors names) ≡ true
+    → held_at hs id ≡ Some h → h.query ≡ q → is_cursor_among id (ids_of_cursors names) ≡ true
     → list_any (λ (c : Cursor). bytes_eq c.query q) (map (cursor_in hs) names) ≡ true
 names_used hs q id h [] found same there = absurd (cc)
 names_used hs q id h (n ∷ names) found same there = step (same_id n.cursor id) refl there
     (λ k. names_used hs q id h names found same k)
   where
-    step : (b : Bool) → same_id n.cursor id ≡ b → (b || is_among id (ids_of_cursors names)) ≡ true
-        → (is_among id (ids_of_cursors names) ≡ true → list_any (λ (c : Cursor). bytes_eq c.query q)
+    step : (b : Bool) → same_id n.cursor id ≡ b → (b || is_cursor_among id (ids_of_cursors names)) ≡ true
+        → (is_cursor_among id (ids_of_cursors names) ≡ true → list_any (λ (c : Cursor). bytes_eq c.query q)
         (map (cursor_in hs) names)
         ≡ true)
-        → (bytes_eq (query_in (held_at hs n.cursor)) q || list_any (λ (c : Cursor). bytes_eq c.query q)
+        → (bytes_eq (cursor_query (held_at hs n.cursor)) q || list_any (λ (c : Cursor). bytes_eq c.query q)
         (map (cursor_in hs) names)) ≡ true
     step true e k more =
-        let here : bytes_eq (query_in (held_at hs n.cursor)) q ≡ true =
-        ap (λ (o : Option HeldCursor). bytes_eq (query_in o) q) (ap (held_at hs) (same_id_same n.cursor id e) ∙ found)
+        let here : bytes_eq (cursor_query (held_at hs n.cursor)) q ≡ true =
+        ap (λ (o : Option HeldCursor). bytes_eq (cursor_query o) q)
+        (ap (held_at hs) (same_id_same n.cursor id e) ∙ found)
         ∙ (bytes_eq-decides h.query q).1 same in
         ap (λ b. b || list_any (λ (c : Cursor). bytes_eq c.query q) (map (cursor_in hs) names)) here
     step false e k more =
-        ap (λ d. bytes_eq (query_in (held_at hs n.cursor)) q || d) (more k)
-        ∙ or_true (bytes_eq (query_in (held_at hs n.cursor)) q)
+        ap (λ d. bytes_eq (cursor_query (held_at hs n.cursor)) q || d) (more k)
+        ∙ or_true (bytes_eq (cursor_query (held_at hs n.cursor)) q)
 
 sessions_used : (hs : List HeldCursor) (q : Bytes) (id : CursorId) (h : HeldCursor) (xs : List OpenSession)
     → held_at hs id ≡ Some h
-    → h.query ≡ q → is_among id (all_ids xs) ≡ true
-    → list_any (uses q) (map (open_in hs) xs) ≡ true
+    → h.query ≡ q → is_cursor_among id (all_ids xs) ≡ true
+    → list_any (uses q) (map (session_seen hs) xs) ≡ true
 sessions_used hs q id h [] found same there = absurd (cc)
 sessions_used hs q id h (x ∷ xs) found same there = step
     (among_either id (ids_of_cursors (x.session).cursors) (all_ids xs) there) (λ k. sessions_used hs q id h xs found
     same k)
   where
-    step : (is_among id (ids_of_cursors (x.session).cursors) ≡ true) ⊎ (is_among id (all_ids xs) ≡ true)
-        → (is_among id (all_ids xs) ≡ true → list_any (uses q) (map (open_in hs) xs) ≡ true)
-        → list_any (uses q) (map (open_in hs) (x ∷ xs)) ≡ true
+    step : (is_cursor_among id (ids_of_cursors (x.session).cursors) ≡ true) ⊎ (is_cursor_among id (all_ids xs) ≡ true)
+        → (is_cursor_among id (all_ids xs) ≡ true → list_any (uses q) (map (session_seen hs) xs) ≡ true)
+        → list_any (uses q) (map (session_seen hs) (x ∷ xs)) ≡ true
     step (inl e) more = ap
-        (λ b. (b || is_among_watches (x.session).watches q) || list_any (uses q) (map (open_in hs) xs))
+        (λ b. (b || is_among_watches (x.session).watches q) || list_any (uses q) (map (session_seen hs) xs))
         (names_used hs q id h (x.session).cursors found same e)
-    step (inr e) more = ap (λ d. uses q (open_in hs x) || d) (more e) ∙ or_true (uses q (open_in hs x))
+    step (inr e) more = ap (λ d. uses q (session_seen hs x) || d) (more e) ∙ or_true (uses q (session_seen hs x))
 
 -- a session that watches it uses it
 sessions_watch : (hs : List HeldCursor) (q : Bytes) (xs : List OpenSession) → 0 < watchers_in xs q
-    → list_any (uses q) (map (open_in hs) xs) ≡ true
+    → list_any (uses q) (map (session_seen hs) xs) ≡ true
 sessions_watch hs q [] some = absurd (omega (arith, some))
 sessions_watch hs q (x ∷ xs) some = step (is_among_watches (x.session).watches q) refl (times_in (x.session).watches q)
     refl some (λ k. sessions_watch hs q xs k)
   where
     step : (b : Bool) → is_among_watches (x.session).watches q ≡ b → (n : ℕ) → times_in (x.session).watches q ≡ n
         → 0 < n + watchers_in xs q
-        → (0 < watchers_in xs q → list_any (uses q) (map (open_in hs) xs) ≡ true)
-        → list_any (uses q) (map (open_in hs) (x ∷ xs)) ≡ true
+        → (0 < watchers_in xs q → list_any (uses q) (map (session_seen hs) xs) ≡ true)
+        → list_any (uses q) (map (session_seen hs) (x ∷ xs)) ≡ true
     step true e n f some more =
         ap (λ b. (list_any (λ (c : Cursor). bytes_eq c.query q) (map (cursor_in hs) (x.session).cursors) || b) ||
-        list_any (uses q) (map (open_in hs) xs)) e
-        ∙ ap (λ b. b || list_any (uses q) (map (open_in hs) xs))
+        list_any (uses q) (map (session_seen hs) xs)) e
+        ∙ ap (λ b. b || list_any (uses q) (map (session_seen hs) xs))
         (or_true (list_any (λ (c : Cursor). bytes_eq c.query q) (map (cursor_in hs) (x.session).cursors)))
     step false e n f some more =
         let none : n ≡ 0 = sym f ∙ ap (λ (b : Bool). if b then 1 else 0) e in
-        ap (λ d. uses q (open_in hs x) || d) (more (omega (arith, some, none))) ∙ or_true (uses q (open_in hs x))
+        ap (λ d. uses q (session_seen hs x) || d) (more (omega (arith, some, none)))
+        ∙ or_true (uses q (session_seen hs x))
 
 -- how many sessions watch a query, as the engine tells it
 
-watched_by : (rs : List Registered) (xs : List OpenSession) (q : Bytes) → AreCounted rs xs → (r : Registered)
+watched_by : (rs : List Registered) (xs : List OpenSession) (q : Bytes) → WatchersAreCounted rs xs → (r : Registered)
     → registered_of rs q ≡ Some r → r.watchers ≡ watchers_in xs q
 watched_by rs xs q counted r f =
     let there = found_there rs q r f in
@@ -388,7 +392,7 @@ is_watched_none r h = step r.watchers refl h
     step (suc n) e h = let some : nat_lt 0 r.watchers
         ≡ true = lt-ltb 0 r.watchers (omega (arith, e)) in absurd (cc (some, h))
 
-sees_watched : (rs : List Registered) (xs : List OpenSession) (q : Bytes) → AreCounted rs xs
+sees_watched : (rs : List Registered) (xs : List OpenSession) (q : Bytes) → WatchersAreCounted rs xs
     → IsSomeAnd (registered_of rs q) (λ r. is_watched r ≡ true) → 0 < watchers_in xs q
 sees_watched rs xs q counted h = by (registered_of rs q) refl h
   where
@@ -397,7 +401,7 @@ sees_watched rs xs q counted h = by (registered_of rs q) refl h
     by None f g = absurd g
     by (Some r) f g = subst (λ (n : ℕ). 0 < n) (watched_by rs xs q counted r f) (is_watched_some r g)
 
-sees_unwatched : (rs : List Registered) (xs : List OpenSession) (q : Bytes) → AreCounted rs xs
+sees_unwatched : (rs : List Registered) (xs : List OpenSession) (q : Bytes) → WatchersAreCounted rs xs
     → IfSome (registered_of rs q) (λ r. is_watched r ≡ false) → watchers_in xs q ≡ 0
 sees_unwatched rs xs q counted h = by (registered_of rs q) refl h (watchers_in xs q) refl
   where
@@ -409,7 +413,7 @@ sees_unwatched rs xs q counted h = by (registered_of rs q) refl h (watchers_in x
         (cc (some, f))
 
 use_is : (k : Kept) (q : Bytes) (used : Bool) (xs : List OpenSession) → IsSound k xs → Uses k q used → used
-    ≡ list_any (uses q) (map (open_in k.cursors) xs)
+    ≡ list_any (uses q) (map (session_seen k.cursors) xs)
 use_is k q true xs sound (inl u) = sym
     (sessions_used k.cursors q u.0 u.1 xs u.2 u.3
     (sound.owned u.0 (subst (λ (o : Option HeldCursor). IsSome o) (sym u.2) refl)))

@@ -22,7 +22,7 @@ use Rattle.djq_engine.specs.Kept.{Kept, HeldCursor, Registered, held_at, SameCur
 use Rattle.djq_engine.specs.Kept.{registered_at, with_watchers}
 use Rattle.djq_core.specs.declared.open.OpenSession.{OpenSession}
 use Rattle.djq_core.specs.Views.{Talk, session_in, state_in}
-use Rattle.djq_core.specs.Sound.{all_ids, is_among_watches, times_in, AreOnce, HasCount, StaysCounted, QuietOnceEnded}
+use Rattle.djq_core.specs.Sound.{all_ids, is_among_watches, times_in, NamesOnce, HasCount, StaysCounted, QuietOnceEnded}
 use Rattle.djq_core.specs.Performs.{among, to_one, Executes}
 use Rattle.djq_core.specs.Watches.{Rewatches, BeginsWatch, CeasesWatch, with_query, without_query}
 use Rattle.djq_core.proofs.Ids.{agree_same}
@@ -54,7 +54,7 @@ dropped_there (w ∷ ws) q p e = step (bytes_eq w q) refl (dropped_there ws q p 
     step false f h = ap (λ (b : Bool). bytes_eq w p || b) h
 
 -- it isn't there any more
-dropped_gone : (ws : List Bytes) (q : Bytes) → AreOnce ws → is_among_watches (without_query q ws) q ≡ false
+dropped_gone : (ws : List Bytes) (q : Bytes) → NamesOnce ws → is_among_watches (without_query q ws) q ≡ false
 dropped_gone [] q o = refl
 dropped_gone (w ∷ ws) q o = step (bytes_eq w q) refl (dropped_gone ws q o.1)
   where
@@ -63,11 +63,12 @@ dropped_gone (w ∷ ws) q o = step (bytes_eq w q) refl (dropped_gone ws q o.1)
     step true f h = subst (λ (p : Bytes). is_among_watches ws p ≡ false) (same_name w q f) o.0
     step false f h = ap₂ (λ (a b : Bool). a || b) f h
 
-dropped_once : (ws : List Bytes) (q : Bytes) → AreOnce ws → AreOnce (without_query q ws)
+dropped_once : (ws : List Bytes) (q : Bytes) → NamesOnce ws → NamesOnce (without_query q ws)
 dropped_once [] q o = tt
 dropped_once (w ∷ ws) q o = step (bytes_eq w q) refl (dropped_once ws q o.1)
   where
-    step : (b : Bool) → bytes_eq w q ≡ b → AreOnce (without_query q ws) → AreOnce (cond b ws (w ∷ without_query q ws))
+    step : (b : Bool) → bytes_eq w q ≡ b → NamesOnce (without_query q ws)
+        → NamesOnce (cond b ws (w ∷ without_query q ws))
     step true f h = o.1
     step false f h = (dropped_there ws q w f ∙ o.0, h)
 

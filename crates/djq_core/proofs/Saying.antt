@@ -35,19 +35,19 @@ use Rattle.djq_lines.specs.declared.keyword.Keyword.TheVariants.{Abandon as Aban
 use Rattle.djq_lines.specs.declared.keyword.Keyword.TheVariants.{Quit as QuitWord, Stop as StopWord}
 use Rattle.djq_lines.specs.Grammar.{Reading, outside, past_limit, says_command, reading_in, reading_of}
 use Rattle.djq_lines.specs.Grammar.{command_of, command_in, command_with, command_behind}
-use Rattle.djq_lines.specs.Grammar.{is_in_range, takes_memory_to_read, is_count, count_of}
-use Rattle.djq_lines.specs.Grammar.{keyword_of, nothing, type_of, all_of, named_some, named_any}
-use Rattle.djq_lines.specs.Grammar.{query_in, query_of, Body, body_in, items_in, with_atoms}
+use Rattle.djq_lines.specs.Grammar.{is_in_range, takes_memory_to_read, is_count, answer_count}
+use Rattle.djq_lines.specs.Grammar.{keyword_of, at_line_end, type_of, all_of, named_some, named_any}
+use Rattle.djq_lines.specs.Grammar.{query_of_tokens, query_of, Body, body_in, items_in, with_atoms}
 use Rattle.djq_lines.specs.Grammar.{in_front, list_in, name_of, one_name, two_names, name_and_count}
 use Rattle.djq_lines.specs.Grammar.{name_and_members}
 use Rattle.djq_proto.specs.declared.refusal.LineRefusal.{LineRefusal}
 use Rattle.djq_proto.specs.declared.refusal.LineRefusal.TheVariants.{Syntax as Outside, Range, NoMem}
-use Rattle.djq_proto.specs.Reading.{Gives, Reads}
+use Rattle.djq_proto.specs.Reading.{GivesCommand, LineReadsAs}
 use Rattle.djq_proto.specs.RowReading.{begins_row, row_word_in}
 use Rattle.djq_proto.specs.declared.row.RowWord.{RowWord}
 use Rattle.djq_proto.specs.declared.row.RowWord.TheVariants.{Add as Adds, Del as Deletes}
 use Rattle.djq_proto.proofs.RowWords.{row_word_for, begins_for}
-use Rattle.djq_proto.specs.Saying.{Says}
+use Rattle.djq_proto.specs.Saying.{SaysCommand}
 use Rattle.djq_proto.proofs.Sayings.{commands_are_said}
 use Rattle.djq_machine.specs.Command.{is_misplaced}
 use Rattle.djq_machine.specs.LineStep.{past_limit_refusal}
@@ -61,23 +61,23 @@ read_by : (in_range : Bool) (c : Command) → in_range ≡ true → cond in_rang
 read_by true c e = refl
 read_by false c e = absurd (cc)
 
-in_says : (o : Option Command) (c : Command) → Gives o (Ok c) → reading_in o ≡ says_command c
+in_says : (o : Option Command) (c : Command) → GivesCommand o (Ok c) → reading_in o ≡ says_command c
 in_says None c g = absurd (cc (g.0))
 in_says (Some a) c g = read_by (is_in_range a) a g.0.1 ∙ ap (λ (x : Command). says_command x) (sym g.0.0)
 
-pub reads_as : (line : Bytes) (c : Command) → Reads line (Ok c) → reading_of line ≡ says_command c
+pub reads_as : (line : Bytes) (c : Command) → LineReadsAs line (Ok c) → reading_of line ≡ says_command c
 reads_as line c g = in_says (command_of line) c g
 
-pub in_outside : (o : Option Command) → Gives o (Err Outside) → reading_in o ≡ outside
+pub in_outside : (o : Option Command) → GivesCommand o (Err Outside) → reading_in o ≡ outside
 in_outside None g = refl
 in_outside (Some a) g = absurd g.0
 
-pub in_range_past : (o : Option Command) → Gives o (Err Range) → (c : Command) × (o ≡ Some c)
+pub in_range_past : (o : Option Command) → GivesCommand o (Err Range) → (c : Command) × (o ≡ Some c)
     × (reading_in o ≡ past_limit c) × (is_in_range c ≡ false)
 in_range_past None g = absurd (cc (g.0))
 in_range_past (Some a) g = (a, refl, ap (λ (b : Bool). cond b (says_command a) (past_limit a)) g.0, g.0)
 
-pub in_memory : (o : Option Command) → Gives o (Err NoMem) → (c : Command) × (o ≡ Some c)
+pub in_memory : (o : Option Command) → GivesCommand o (Err NoMem) → (c : Command) × (o ≡ Some c)
     × (reading_in o ≡ says_command c)
     × (takes_memory_to_read c ≡ true)
 in_memory None g = absurd (cc (g.0))
@@ -110,7 +110,7 @@ late_misplaced Stop n (inr e) = absurd (cc (e))
 late_misplaced _ n e = refl
 
 -- A line that gives no command is refused so where its command would have its place.
-pub placed_refused : (b : Option (List HeldRow)) (line : Bytes) (r : LineRefusal) → Reads line (Err r)
+pub placed_refused : (b : Option (List HeldRow)) (line : Bytes) (r : LineRefusal) → LineReadsAs line (Err r)
     → ((c : Command) → command_of line ≡ Some c → IsLate c → is_misplaced b c ≡ false)
     → RefusedBy b (reading_of line) (refused_as r)
 placed_refused b line Outside g placed = subst (λ (o : Reading). RefusedBy b o Syntax)
@@ -124,7 +124,7 @@ placed_refused b line NoMem g placed =
     subst (λ (o : Reading). RefusedBy b o NoMemory) (sym m.2) (inr (placed m.0 m.1 (inr m.3), m.3, refl))
 
 -- And so where it would have none.
-pub misplaced_refused : (b : Option (List HeldRow)) (line : Bytes) (r : LineRefusal) → Reads line (Err r)
+pub misplaced_refused : (b : Option (List HeldRow)) (line : Bytes) (r : LineRefusal) → LineReadsAs line (Err r)
     → ((c : Command) → command_of line ≡ Some c → IsLate c → is_misplaced b c ≡ true)
     → RefusedBy b (reading_of line) (misplaced_as r)
 misplaced_refused b line Outside g mis = subst (λ (o : Reading). RefusedBy b o Syntax)
@@ -138,12 +138,13 @@ misplaced_refused b line NoMem g mis =
     subst (λ (o : Reading). RefusedBy b o Misplaced) (sym m.2) (inl (mis m.0 m.1 (inr m.3), refl))
 
 -- a command that is read, and has no place
-pub misplaced_said : (b : Option (List HeldRow)) (line : Bytes) (c : Command) → Reads line (Ok c) → is_misplaced b c
+pub misplaced_said : (b : Option (List HeldRow)) (line : Bytes) (c : Command) → LineReadsAs line (Ok c)
+    → is_misplaced b c
     ≡ true → RefusedBy b (reading_of line) Misplaced
 misplaced_said b line c g m = subst (λ (o : Reading). RefusedBy b o Misplaced) (sym (reads_as line c g)) (inl (m, refl))
 
 -- outside a batch
-pub refused_alone : (b : Option (List HeldRow)) (line : Bytes) (r : LineRefusal) → b ≡ None → Reads line (Err r)
+pub refused_alone : (b : Option (List HeldRow)) (line : Bytes) (r : LineRefusal) → b ≡ None → LineReadsAs line (Err r)
     → RefusedBy b (reading_of line) (refused_as r)
 refused_alone b line r e g =
     placed_refused b line r g (λ c f late. ap (λ (o : Option (List HeldRow)). is_misplaced o c) e ∙ late_alone c late)
@@ -154,22 +155,23 @@ adds_word (Add name row) e = refl
 adds_word (Del name row) e = absurd (cc (e))
 adds_word _ e = absurd (cc (e))
 
-pub refused_add : (line : Bytes) (r : LineRefusal) → row_word_in (tokens line) ≡ Some Adds → Reads line (Err r)
+pub refused_add : (line : Bytes) (r : LineRefusal) → row_word_in (tokens line) ≡ Some Adds → LineReadsAs line (Err r)
     → RefusedBy (Some []) (reading_of line) (refused_as r)
 refused_add line r w g = placed_refused (Some []) line r g (λ c f late. adds_word c (sym (begins_for line c f) ∙ w))
 
-pub refused_delete : (line : Bytes) (r : LineRefusal) → row_word_in (tokens line) ≡ Some Deletes → Reads line (Err r)
+pub refused_delete : (line : Bytes) (r : LineRefusal) → row_word_in (tokens line) ≡ Some Deletes
+    → LineReadsAs line (Err r)
     → RefusedBy (Some []) (reading_of line) (misplaced_as r)
 refused_delete line r w g =
     misplaced_refused (Some []) line r g
     (λ c f late. late_misplaced c (λ a. absurd (cc (sym (begins_for line c f) ∙ w, a))) late)
 
 pub refused_row : (line : Bytes) (verb : RowWord) (r : LineRefusal) → row_word_in (tokens line) ≡ Some verb
-    → Reads line (Err r) → RefusedBy (Some []) (reading_of line) (row_refused_as verb r)
+    → LineReadsAs line (Err r) → RefusedBy (Some []) (reading_of line) (row_refused_as verb r)
 refused_row line Adds r w g = refused_add line r w g
 refused_row line Deletes r w g = refused_delete line r w g
 
-pub refused_other : (line : Bytes) (r : LineRefusal) → begins_row (tokens line) ≡ false → Reads line (Err r)
+pub refused_other : (line : Bytes) (r : LineRefusal) → begins_row (tokens line) ≡ false → LineReadsAs line (Err r)
     → RefusedBy (Some []) (reading_of line) (misplaced_as r)
 refused_other line r w g =
     misplaced_refused (Some []) line r g
@@ -201,7 +203,7 @@ made_of : {A : Type 0} (f : A → Command) (o : Option A) (command : Command) (P
 made_of f None command P h e = absurd (cc)
 made_of f (Some a) command P h e = h a refl (cc)
 
-one_at_least : (o : Option ℕ) (n : ℕ) → count_of o ≡ Some n → 1 ≤ n
+one_at_least : (o : Option ℕ) (n : ℕ) → answer_count o ≡ Some n → 1 ≤ n
 one_at_least None n e = absurd (cc)
 one_at_least (Some k) n e = step (is_count k) refl e
   where
@@ -217,8 +219,8 @@ words_say c k p e = step (is_name c) e
     made None e = absurd (cc)
     made (Some n) e = let same : (c, n) ≡ p = cc in ap (λ (q : Bytes × ℕ). Some q.1) same
 
-    step : (b : Bool) → cond b (option_map (λ n. (c, n)) (count_of (natural_of k))) None ≡ Some p → 1 ≤ p.1
-    step true e = one_at_least (natural_of k) p.1 (made (count_of (natural_of k)) e)
+    step : (b : Bool) → cond b (option_map (λ n. (c, n)) (answer_count (natural_of k))) None ≡ Some p → 1 ≤ p.1
+    step true e = one_at_least (natural_of k) p.1 (made (answer_count (natural_of k)) e)
     step false e = absurd (cc)
 
 count_said : (ts : List Token) (p : Bytes × ℕ) → name_and_count ts ≡ Some p → 1 ≤ p.1
@@ -242,7 +244,7 @@ count_said (operator o ∷ ts) p e = absurd (cc)
 count_said (stray ∷ ts) p e = absurd (cc)
 
 no_count : (command : Command) (ts : List Token) (other : Command) (P : Type 0) → (command ≡ other → P)
-    → nothing command ts ≡ Some other → P
+    → at_line_end command ts ≡ Some other → P
 no_count command [] other P h e = h (cc)
 no_count command (t ∷ ts) other P h e = absurd (cc)
 
@@ -280,7 +282,7 @@ query_some name (Some head) q e = by (body_in head.1) refl e
         let same : said name head.0 body ≡ q = cc in
         subst (λ (p : Query). 0 < length p.atoms) same (body_some head.1 body f)
 
-query_said : (ts : List Token) (q : Query) → query_in ts ≡ Some q → 0 < length q.atoms
+query_said : (ts : List Token) (q : Query) → query_of_tokens ts ≡ Some q → 0 < length q.atoms
 query_said [] q e = absurd (cc)
 query_said (word n ∷ ts) q e = by (is_name n) e
   where
@@ -372,7 +374,7 @@ runnable_behind AddWord ts command e = made_of (λ p. Add p.0 p.1) (named_some l
     (IsRunnable command) (λ a f g. subst IsRunnable g tt) e
 runnable_behind DelWord ts command e = made_of (λ p. Del p.0 p.1) (named_some literal_of ts) command
     (IsRunnable command) (λ a f g. subst IsRunnable g tt) e
-runnable_behind QueryWord ts command e = made_of (λ q. Register q) (query_in ts) command (IsRunnable command)
+runnable_behind QueryWord ts command e = made_of (λ q. Register q) (query_of_tokens ts) command (IsRunnable command)
     (λ q f g. subst IsRunnable g (query_said ts q f)) e
 runnable_behind UnionWord ts command e = made_of (λ p. Union p.0 p.1) (name_and_members ts) command (IsRunnable command)
     (λ p f g. subst IsRunnable g (members_said ts p f)) e
@@ -424,33 +426,34 @@ run_as line c e = step (is_utf8 line) e
     step true f = in_tokens (tokens line) f
     step false f = absurd (cc)
 
-runnable_in : (line : Bytes) (o : Option Command) (c : Command) → command_of line ≡ o → Gives o (Ok c) → IsRunnable c
+runnable_in : (line : Bytes) (o : Option Command) (c : Command) → command_of line ≡ o → GivesCommand o (Ok c)
+    → IsRunnable c
 runnable_in line None c e g = absurd (cc (g.0))
 runnable_in line (Some a) c e g = run_as line c (e ∙ ap (λ (x : Command). Some x) (sym g.0.0))
 
-pub runnable : (line : Bytes) (c : Command) → Reads line (Ok c) → IsRunnable c
+pub runnable : (line : Bytes) (c : Command) → LineReadsAs line (Ok c) → IsRunnable c
 runnable line c g = runnable_in line (command_of line) c refl g
 
 -- What a line says, its tokens say.
 
-said_within : (line : Bytes) (c : Command) → command_of line ≡ Some c → Says c (tokens line)
+said_within : (line : Bytes) (c : Command) → command_of line ≡ Some c → SaysCommand c (tokens line)
 unfolding command_of
 said_within line c e = step (is_utf8 line) e
   where
-    step : (b : Bool) → cond b (command_in (tokens line)) None ≡ Some c → Says c (tokens line)
+    step : (b : Bool) → cond b (command_in (tokens line)) None ≡ Some c → SaysCommand c (tokens line)
     step true f = (commands_are_said (tokens line) c).0 f
     step false f = absurd (cc)
 
-said_in : (line : Bytes) (o : Option Command) (c : Command) → command_of line ≡ o → Gives o (Ok c)
-    → Says c (tokens line)
+said_in : (line : Bytes) (o : Option Command) (c : Command) → command_of line ≡ o → GivesCommand o (Ok c)
+    → SaysCommand c (tokens line)
 said_in line None c e g = absurd (cc (g.0))
 said_in line (Some a) c e g = said_within line c (e ∙ ap (λ (x : Command). Some x) (sym g.0.0))
 
-tokens_say : (line : Bytes) (c : Command) → Reads line (Ok c) → Says c (tokens line)
+tokens_say : (line : Bytes) (c : Command) → LineReadsAs line (Ok c) → SaysCommand c (tokens line)
 tokens_say line c g = said_in line (command_of line) c refl g
 
 -- where they begin with no row's keyword, it isn't on a row
-other_said : (c : Command) (ts : List Token) → Says c ts → begins_row ts ≡ false → is_on_row c ≡ false
+other_said : (c : Command) (ts : List Token) → SaysCommand c ts → begins_row ts ≡ false → is_on_row c ≡ false
 other_said (Rel n cs) ts h e = refl
 other_said (Add n row) ts h e = absurd (true≢false (sym (ap begins_row h.1.3) ∙ e))
 other_said (Del n row) ts h e = absurd (true≢false (sym (ap begins_row h.1.3) ∙ e))
@@ -471,7 +474,8 @@ other_said Abandon ts h e = refl
 other_said Quit ts h e = refl
 other_said Stop ts h e = refl
 
-pub other : (line : Bytes) (c : Command) → Reads line (Ok c) → begins_row (tokens line) ≡ false → is_on_row c ≡ false
+pub other : (line : Bytes) (c : Command) → LineReadsAs line (Ok c) → begins_row (tokens line) ≡ false
+    → is_on_row c ≡ false
 other line c g e = other_said c (tokens line) (tokens_say line c g) e
 
 -- The name of a row's relation is a name.
@@ -481,14 +485,15 @@ short_name [] e = absurd (cc)
 short_name (b ∷ bs) e = omega
     (arith, leb-true (length bs) 31 (and_parts _ (nat_le (length bs) 31) (and_parts (is_lower b) _ e).1).1)
 
-pub short_to_add : (line n : Bytes) (row : Tuple) → Reads line (Ok (Add n row)) → length n ≤ 32
+pub short_to_add : (line n : Bytes) (row : Tuple) → LineReadsAs line (Ok (Add n row)) → length n ≤ 32
 short_to_add line n row g = short_name n (tokens_say line (Add n row) g).1.1
 
-pub short_to_delete : (line n : Bytes) (row : Tuple) → Reads line (Ok (Del n row)) → length n ≤ 32
+pub short_to_delete : (line n : Bytes) (row : Tuple) → LineReadsAs line (Ok (Del n row)) → length n ≤ 32
 short_to_delete line n row g = short_name n (tokens_say line (Del n row) g).1.1
 
 -- What a command that isn't one of a row is in a batch.
-pub said_in_batch : (line : Bytes) (c : Command) → Reads line (Ok c) → begins_row (tokens line) ≡ false → (row : Tuple)
+pub said_in_batch : (line : Bytes) (c : Command) → LineReadsAs line (Ok c) → begins_row (tokens line) ≡ false
+    → (row : Tuple)
     → ReadsInBatch line (in_batch c) row
 said_in_batch line (Add name values) g e row = absurd (cc (other line (Add name values) g e))
 said_in_batch line (Del name values) g e row = absurd (cc (other line (Del name values) g e))

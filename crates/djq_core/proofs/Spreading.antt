@@ -15,7 +15,7 @@ use Rattle.djq_machine.specs.Watch.{Delta, Telling, is_watching, watching, watch
 use Rattle.djq_machine.specs.Watch.{TellsSession, TellsDelta}
 use Rattle.djq_engine.specs.Kept.{Kept}
 use Rattle.djq_core.specs.declared.open.OpenSession.{OpenSession}
-use Rattle.djq_core.specs.Views.{Talk, session_in, open_in, state_in}
+use Rattle.djq_core.specs.Views.{Talk, session_in, session_seen, state_in}
 use Rattle.djq_core.specs.Performs.{among, to_keep, unqueued, Performs}
 use Rattle.djq_core.specs.Sound.{IsSound, IsOwn, times_in, watchers_in, is_among_watches, all_ids}
 use Rattle.djq_core.specs.Sound.{ids_of_cursors}
@@ -282,16 +282,16 @@ told_all q whole text old xs at k ys so l d n same fits stopped start m told =
 
 -- Nobody watches.
 nobody : (k : Kept) (xs : List OpenSession) (q : Bytes) (s : ℕ) → watchers_in xs q ≡ 0
-    → watching q (find (λ (x : Session). eqb x.id s) (map (open_in k.cursors) xs)) ≡ None
+    → watching q (find (λ (x : Session). eqb x.id s) (map (session_seen k.cursors) xs)) ≡ None
 nobody k [] q s h = refl
 nobody k (x ∷ xs) q s h =
     let z = none_watching x xs q h in
     step (eqb x.id s) z.0 (nobody k xs q s z.1)
   where
     step : (b : Bool) → times_in (x.session).watches q ≡ 0
-        → watching q (find (λ (y : Session). eqb y.id s) (map (open_in k.cursors) xs)) ≡ None
-        → watching q (cond b (Some (open_in k.cursors x))
-        (find (λ (y : Session). eqb y.id s) (map (open_in k.cursors) xs))) ≡ None
+        → watching q (find (λ (y : Session). eqb y.id s) (map (session_seen k.cursors) xs)) ≡ None
+        → watching q (cond b (Some (session_seen k.cursors x))
+        (find (λ (y : Session). eqb y.id s) (map (session_seen k.cursors) xs))) ≡ None
     step true t r = cond-false _ _ _ (unwatched (x.session).watches q t)
     step false t r = r
 

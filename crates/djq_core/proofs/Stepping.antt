@@ -20,7 +20,7 @@ use Rattle.djq_core.specs.declared.change.Left.TheVariants.{Telling}
 use Rattle.djq_core.specs.Views.{Talk}
 use Rattle.djq_core.specs.Sound.{IsSound}
 use Rattle.djq_core.specs.Performs.{among}
-use Rattle.djq_core.specs.Changing.{Changed, IsChange, LeavesChange, is_accepted, is_kept}
+use Rattle.djq_core.specs.Changing.{EngineChanged, IsChange, LeavesChange, is_accepted, is_kept}
 use Rattle.djq_core.specs.Stepping.{LeavesTo}
 use Rattle.djq_core.proofs.Composing.{sound_changed, add_made, delete_made, batch_made, readers_by, affected_logs}
 
@@ -69,7 +69,8 @@ pub told_there : (P : OpenSession → Type 0) (xs : List OpenSession) (at : ℕ)
     → IsSomeAnd (slice_get (set xs at y) at) P → P y
 told_there P xs at y l h = subst (λ (o : Option OpenSession). IsSomeAnd o P) (set_there xs at y l) h
 
-readers_are : (old new : Kept) (outcome : RowsOutcome) (was now : ℕ) → Changed old outcome new was now → is_made outcome
+readers_are : (old new : Kept) (outcome : RowsOutcome) (was now : ℕ) → EngineChanged old outcome new was now
+    → is_made outcome
     ≡ true → All (IsRegistered new) new.affected
 readers_are old new outcome was now c held =
     let r = affected_logs old new outcome was now c held in

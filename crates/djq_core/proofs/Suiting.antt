@@ -60,7 +60,7 @@ use Rattle.djq_machine.specs.Store.{answer_steps, with_rows, with_copies_of, cop
 use Rattle.djq_machine.specs.Store.{add_refusal, delete_refusal, query_refusal, drop_refusal}
 use Rattle.djq_machine.specs.Store.{MakesRelation, AddsAs, AddsRow, DeletesAs, DeletesRow}
 use Rattle.djq_machine.specs.Store.{RefusedByTexts, RegistersAs, RefusedLate, RegistersQuery, DropsQuery}
-use Rattle.djq_core.specs.Sound.{BatchSuits, AreSuited}
+use Rattle.djq_core.specs.Sound.{BatchSuits, BatchesSuit}
 use Rattle.djq_core.proofs.Carrying.{CarriedOut}
 use Rattle.djq_machine.specs.Batch.{suit_refusal, hold_refusal, SuitAll, is_there, with_held}
 use Rattle.djq_machine.specs.Batch.{with_all, count_came, AddsBatch}
@@ -331,24 +331,24 @@ batch_still old new None keep h = tt
 batch_still old new (Some held) keep h = (h.0, suit_all_still old new held keep h.1)
 
 pub batches_still : (old new : Store) (bs : List (Option (List HeldRow))) → KeepTypes old.relations new.relations
-    → AreSuited old bs → AreSuited new bs
+    → BatchesSuit old bs → BatchesSuit new bs
 batches_still old new [] keep h = tt
 batches_still old new (b ∷ bs) keep h = (batch_still old new b keep h.0, batches_still old new bs keep h.1)
 
 -- one of them is another
 session_suits : (st : Store) (xs : List Session) (s : ℕ) (f : Session → Session)
-    → ((x : Session) → BatchSuits st x.batch → BatchSuits st (f x).batch) → AreSuited st (batches xs)
-    → AreSuited st (batches (change_first (λ (x : Session). eqb x.id s) f xs))
+    → ((x : Session) → BatchSuits st x.batch → BatchSuits st (f x).batch) → BatchesSuit st (batches xs)
+    → BatchesSuit st (batches (change_first (λ (x : Session). eqb x.id s) f xs))
 session_suits st [] s f still h = tt
 session_suits st (x ∷ xs) s f still h = by (eqb x.id s) (session_suits st xs s f still h.1)
   where
-    by : (b : Bool) → AreSuited st (batches (change_first (λ (y : Session). eqb y.id s) f xs))
-        → AreSuited st (batches (cond b (f x ∷ xs) (x ∷ change_first (λ (y : Session). eqb y.id s) f xs)))
+    by : (b : Bool) → BatchesSuit st (batches (change_first (λ (y : Session). eqb y.id s) f xs))
+        → BatchesSuit st (batches (cond b (f x ∷ xs) (x ∷ change_first (λ (y : Session). eqb y.id s) f xs)))
     by true more = (still x h.0, h.1)
     by false more = (h.0, more)
 
 -- the one of an id is among them
-own_suits : (st : Store) (xs : List Session) (s : ℕ) (P : Session → Type 0) → AreSuited st (batches xs)
+own_suits : (st : Store) (xs : List Session) (s : ℕ) (P : Session → Type 0) → BatchesSuit st (batches xs)
     → IsSomeAnd (find (λ (x : Session). eqb x.id s) xs) P → (x : Session) × BatchSuits st x.batch × P x
 own_suits st [] s P h f = absurd f
 own_suits st (x ∷ xs) s P h f = by (eqb x.id s) (λ g. own_suits st xs s P h.1 g) f
@@ -363,7 +363,7 @@ own_suits st (x ∷ xs) s P h f = by (eqb x.id s) (λ g. own_suits st xs s P h.1
 -- A state goes on to another: its relations stay, with their types, and batches suit where they did.
 pub record GoesOn (old new : State) : Type 0 where
   pub types : KeepTypes (old.store).relations (new.store).relations
-  pub suits : AreSuited old.store (batches old.sessions) → AreSuited new.store (batches new.sessions)
+  pub suits : BatchesSuit old.store (batches old.sessions) → BatchesSuit new.store (batches new.sessions)
 
 goes_same : (old new : State) → new ≡ old → GoesOn old new
 goes_same old new e = subst (λ (st : State). GoesOn old st) (sym e)
@@ -407,7 +407,7 @@ goes_changed : (old : State) (o : Option RowsChange) (store : Store) → KeepTyp
 goes_changed old None store keep = goes_store old store keep
 goes_changed old (Some change) store keep = record {
   types = keep;
-  suits = λ h. subst (AreSuited store)
+  suits = λ h. subst (BatchesSuit store)
       (sym (outdated_batches (old.store).queries change.outdater store.seq old.sessions))
       (batches_still old.store store (batches old.sessions) keep h);
 }
@@ -659,7 +659,7 @@ front_goes old s x (run l) e new own h =
 
 -- Where a session's line is run, all go on.
 pub step_goes : (old : State) (s : ℕ) (o : LineOutcome) (e : Effect) (new : State)
-    → AreSuited old.store (batches old.sessions) → Step old (stepped s o) e new → GoesOn old new
+    → BatchesSuit old.store (batches old.sessions) → Step old (stepped s o) e new → GoesOn old new
 step_goes old s o e new suited h =
     let own = own_suits old.store old.sessions s (λ x. (x.cause ≡ None) × FrontStep old s x o e h.mid) suited h.acts in
     let front = front_goes old s own.0 o e h.mid own.1 own.2.1 in
@@ -671,20 +671,20 @@ step_goes old s o e new suited h =
     (goes_queued moved e.queued))
 
 ended_goes : (c : EndCause) (old : State) (s : ℕ) (new : State) (was now : Counts)
-    → AreSuited old.store (batches old.sessions) → EndedStepAs c old s new was now → GoesOn old new
+    → BatchesSuit old.store (batches old.sessions) → EndedStepAs c old s new was now → GoesOn old new
 ended_goes Long old s new was now suited h = step_goes old s long h.effect new suited h.step
 ended_goes Slow old s new was now suited h = step_goes old s (slow h.0) h.1.effect new suited h.1.step
 ended_goes Memory old s new was now suited h = step_goes old s (no_room h.0) h.1.effect new suited h.1.step
 ended_goes _ old s new was now suited h = absurd h
 
-ran_goes : (old : State) (s : ℕ) (new : State) (was now : Counts) → AreSuited old.store (batches old.sessions)
+ran_goes : (old : State) (s : ℕ) (new : State) (was now : Counts) → BatchesSuit old.store (batches old.sessions)
     → RanStep old s new was now → GoesOn old new
 ran_goes old s new was now suited (l, inl m) = step_goes old s (blank l) m.effect new suited m.step
 ran_goes old s new was now suited (l, inr m) = step_goes old s (run l) m.effect new suited m.step
 
 -- So it is of what a step answers.
 pub given_goes : (old : State) (s : ℕ) (result : Stepped) (new : State) (was now : Counts) (lines : List Bytes)
-    → AreSuited old.store (batches old.sessions) → StepGives old s result new was now lines → GoesOn old new
+    → BatchesSuit old.store (batches old.sessions) → StepGives old s result new was now lines → GoesOn old new
 given_goes old s (Ran kept) new was now lines suited h = ran_goes old s new was now suited h.0
 given_goes old s Dry new was now lines suited h = goes_same old new h.0
 given_goes old s (Ended c) new was now lines suited h = by (cause_of old s) h.1

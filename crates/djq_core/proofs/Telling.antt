@@ -16,7 +16,7 @@ use Rattle.djq_lines.specs.declared.limits.TheConstants.{REPLY_BYTES, LAST_LINE_
 use Rattle.djq_lines.specs.Reply.{answer_line, last_line, text_of}
 use Rattle.djq_machine.specs.State.{Position, open_at, stale}
 use Rattle.djq_machine.specs.Store.{IsLeft, AreAll, TellsAnswers, answer_steps}
-use Rattle.djq_session.specs.Dialog.{Queues, Lacks, MayQueue}
+use Rattle.djq_session.specs.Dialog.{Queues, DialogLacks, MayQueue}
 use Rattle.djq_engine.specs.declared.cursor.CursorId.{CursorId}
 use Rattle.djq_live.specs.declared.listing.Next.{Next}
 use Rattle.djq_live.specs.declared.listing.Next.TheVariants.{Given, End, Stale}
@@ -333,7 +333,7 @@ above : (before room : ℕ) (text line : Bytes) (ls : List Bytes) (l : Bytes) �
 above before room text line ls l e kept had lacks = omega (arith, ap length e, length-append text line)
 
 lacked : (before d d' : Talk) (text line : Bytes) → d
-    ≡ record before { pending = before.pending ++ text; room = d.room } → Lacks d d' line → d'
+    ≡ record before { pending = before.pending ++ text; room = d.room } → DialogLacks d d' line → d'
     ≡ record before { pending = before.pending ++ text; room = d'.room }
 lacked before d d' text line e l = l.same ∙ ap (λ (y : Talk). record y { room = d'.room }) e
 
@@ -342,7 +342,7 @@ cut_at_answer : (old : Kept) (id : CursorId) (before : Talk) (h : HeldCursor) (p
     (d : Talk) (was now : ℕ) (answer : List ℕ) (k' : Kept) (d' : Talk) (now' : ℕ) (tuple : Tuple)
     → held_at old.cursors id ≡ Some h → h.position ≡ p → REPLY_BYTES + LAST_LINE_BYTES ≤ before.room → n < count
     → SoFarAt old id before h p n k d was now → NextGives k id Given answer k' now now'
-    → AnswerIs k' id answer tuple → Lacks d d' (answer_line tuple)
+    → AnswerIs k' id answer tuple → DialogLacks d d' (answer_line tuple)
     → (q : Listed) × (listed_of (old.store).queries h.query ≡ Some q)
     × ListsAt old id before count h q p Cut k' d' was now'
 cut_at_answer old id before h (open_at given ended) n count k d was now answer k' d' now' tuple e f room below t g lent
@@ -350,7 +350,7 @@ cut_at_answer old id before h (open_at given ended) n count k d was now answer k
     let r = read_open old id h (given ++ t.told) t.ended k Given answer k' now now' t.stands g in
     let x = further old id h given t.told t.ended k answer k' now now' e t.stands r in
     let cells = lent_is k' id answer x.tuple tuple x.is lent in
-    let lacks' : Lacks d d' (answer_line x.tuple) = subst (λ (l : Bytes). Lacks d d' l)
+    let lacks' : DialogLacks d d' (answer_line x.tuple) = subst (λ (l : Bytes). DialogLacks d d' l)
     (ap answer_line cells) lacks in (
       r.query,
       r.registered,
@@ -378,7 +378,7 @@ pub is_cut : (old : Kept) (id : CursorId) (before : Talk) (n count : ℕ) (k : K
     (answer : List ℕ) (k' : Kept) (d' : Talk) (now' : ℕ) (tuple : Tuple)
     → REPLY_BYTES + LAST_LINE_BYTES ≤ before.room → n < count → SoFar old id before n k d was now
     → NextGives k id Given answer k' now now'
-    → AnswerIs k' id answer tuple → Lacks d d' (answer_line tuple) → Lists old id before count Cut k' d' was now'
+    → AnswerIs k' id answer tuple → DialogLacks d d' (answer_line tuple) → Lists old id before count Cut k' d' was now'
 is_cut old id before n count k d was now answer k' d' now' tuple room below s g lent lacks =
     let r = cut_at_answer old id before s.cursor (s.cursor).position n count k d was now answer k' d' now' tuple s.held
     refl room below s.so_far g lent lacks in
@@ -583,7 +583,7 @@ is_asked old id before n count k d was now more k' d' now' outcome listed room s
 
 -- what queueing came to
 pub was_lacking : (d d' : Talk) (l : Bytes) (outcome : Result ⊤ NoMem) → is_err outcome ≡ true → MayQueue d d' l outcome
-    → Lacks d d' l
+    → DialogLacks d d' l
 was_lacking d d' l (Ok u) e q = absurd (cc)
 was_lacking d d' l (Err r) e q = q
 

@@ -17,7 +17,7 @@ use Rattle.djq_machine.specs.Effect.{Effect, RefusedStep}
 use Rattle.djq_machine.specs.Command.{NextStepAt, CloseStep, ExplainStepOf, TellsLines, explain_lines, union_lines}
 use Rattle.djq_engine.specs.Kept.{Kept}
 use Rattle.djq_core.specs.Views.{Talk}
-use Rattle.djq_core.specs.Performs.{Does, Executes, ExecutesKeeping}
+use Rattle.djq_core.specs.Performs.{CommandDoes, Executes, ExecutesKeeping}
 
 -- whether a command's line may be kept
 abbrev may_keep : Command → Bool
@@ -68,7 +68,7 @@ module _ (st : State) (s : ℕ) (e : Effect) (st' : State) where
   explain_unkept (Some (a_query q)) h = lines_unkept (explain_lines q h.tree) h.tells
   explain_unkept (Some (a_union name qs)) h = lines_unkept (union_lines qs) h
 
-  step_unkept : (x : Session) (c : Command) → may_keep c ≡ false → Does c st s x e st' → e.kept ≡ no_line
+  step_unkept : (x : Session) (c : Command) → may_keep c ≡ false → CommandDoes c st s x e st' → e.kept ≡ no_line
   step_unkept x (Open c q) m h = ap (λ (f : Effect). f.kept) h.effect
   step_unkept x (Next c count) m h = read_unkept c count (cursor_of x.cursors c) h
   step_unkept x (Close c) m h = close_unkept c (cursor_of x.cursors c) h

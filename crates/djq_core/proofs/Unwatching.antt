@@ -6,7 +6,7 @@ use Rattle.djq_session.specs.Dialog.{PopsWatch}
 use Rattle.djq_engine.specs.declared.cursor.QueryId.{QueryId}
 use Rattle.djq_engine.specs.Kept.{Kept, Registered, registered_of, registered_at, with_watchers}
 use Rattle.djq_core.specs.Views.{Talk}
-use Rattle.djq_core.specs.Sound.{HasCount, StaysCounted, listed}
+use Rattle.djq_core.specs.Sound.{HasCount, StaysCounted, without_watchers}
 use Rattle.djq_core.specs.Ends.{GivesUpWatches}
 use Rattle.djq_core.proofs.Watching.{IdsApart, NamesApart, stays_same, stays_on, watches_less}
 use Rattle.djq_core.proofs.Watching.{has_watcher, watched_known, found_there, at_its_id}
@@ -17,7 +17,7 @@ pub record GivingWatches (old : Kept) (before : Talk) (k : Kept) (d : Talk) : Ty
   pub own : HasCount k.registered d.watches
   pub rest : k ≡ record old { registered = k.registered }
   pub session : d ≡ record before { watches = d.watches }
-  pub listed : listed k.registered ≡ listed old.registered
+  pub listed : without_watchers k.registered ≡ without_watchers old.registered
 
 pub watches_start : (k : Kept) (d : Talk) → HasCount k.registered d.watches → GivingWatches k d k d
 watches_start k d own = record {
@@ -75,7 +75,8 @@ watches_go_on old before k d e k' q id g p apart named h u =
       rest = u ∙ ap (λ (x : Kept). record x { registered = with_watchers id (λ n. n - 1) k.registered }) g.rest
           ∙ ap (λ (qs : List Registered). record old { registered = qs }) (sym (ap (λ (x : Kept). x.registered) u));
       session = p.1 ∙ ap (λ (x : Talk). record x { watches = e.watches }) g.session;
-      listed = ap listed (ap (λ (x : Kept). x.registered) u) ∙ listed_with (λ n. n - 1) id k.registered ∙ g.listed;
+      listed = ap without_watchers (ap (λ (x : Kept). x.registered) u)
+          ∙ listed_with (λ n. n - 1) id k.registered ∙ g.listed;
     }
 
 pub never_unknown : {P : Type 0} (k : Kept) (d e : Talk) (q : Bytes) → HasCount k.registered d.watches

@@ -14,9 +14,9 @@ use Rattle.djq_engine.specs.declared.cursor.QueryId.{QueryId}
 use Rattle.djq_engine.specs.Kept.{Kept, Registered, registered_of, registered_at, same_query, with_watchers}
 use Rattle.djq_core.specs.declared.open.OpenSession.{OpenSession}
 use Rattle.djq_core.specs.Views.{Talk}
-use Rattle.djq_core.specs.Sound.{is_among_watches, times_in, watchers_in, AreOnce, AllOnce}
-use Rattle.djq_core.specs.Sound.{QuietOnceEnded, AreQuiet, AreCounted, IsCounted, HasCount}
-use Rattle.djq_core.specs.Sound.{StaysCounted, IsSound, listed}
+use Rattle.djq_core.specs.Sound.{is_among_watches, times_in, watchers_in, NamesOnce, SessionsWatchOnce}
+use Rattle.djq_core.specs.Sound.{QuietOnceEnded, AreQuiet, WatchersAreCounted, SessionIsCounted, HasCount}
+use Rattle.djq_core.specs.Sound.{StaysCounted, IsSound, without_watchers}
 use Rattle.djq_core.specs.Performs.{among}
 use Rattle.djq_deltas.proofs.Cases.{or_false}
 use Rattle.djq_core.proofs.Ids.{or_true}
@@ -48,12 +48,12 @@ few_watch [] q = omega arith
 few_watch (x ∷ xs) q = omega (arith, at_most_one (x.session).watches q, few_watch xs q)
 
 pub once_split : (front : List OpenSession) (s : ℕ) (d : Talk) (back : List OpenSession)
-    → AllOnce (among front s d back) → AllOnce front × AreOnce d.watches × AllOnce back
+    → SessionsWatchOnce (among front s d back) → SessionsWatchOnce front × NamesOnce d.watches × SessionsWatchOnce back
 once_split [] s d back h = (tt, h.0, h.1)
 once_split (x ∷ front) s d back h = let r = once_split front s d back h.1 in ((h.0, r.0), r.1, r.2)
 
-pub once_join : (front : List OpenSession) (s : ℕ) (d : Talk) (back : List OpenSession) → AllOnce front
-    → AreOnce d.watches → AllOnce back → AllOnce (among front s d back)
+pub once_join : (front : List OpenSession) (s : ℕ) (d : Talk) (back : List OpenSession) → SessionsWatchOnce front
+    → NamesOnce d.watches → SessionsWatchOnce back → SessionsWatchOnce (among front s d back)
 once_join [] s d back f o b = (o, b)
 once_join (x ∷ front) s d back f o b = (f.0, once_join front s d back f.1 o b)
 
@@ -83,7 +83,7 @@ others_in front back q = watchers_in front q + watchers_in back q
 
 pub counted_of : (k : Kept) (front : List OpenSession) (s : ℕ) (d : Talk) (back : List OpenSession)
     → IsSound k (among front s d back)
-    → IsCounted (others_in front back) k.registered d.watches
+    → SessionIsCounted (others_in front back) k.registered d.watches
 counted_of k front s d back sound = record {
   counted = λ r h. sound.counted.counted r h ∙ count_among front s d back (listed_name r.query);
   known = λ q h. sound.counted.known q (subst (λ (n : ℕ). 0 < n) (sym (count_among front s d back q)) h);
@@ -99,8 +99,9 @@ counted_of k front s d back sound = record {
 
 -- What is counted of all, where it stays so of one.
 pub counted_among : (rs : List Registered) (front : List OpenSession) (s : ℕ) (d : Talk) (back : List OpenSession)
-    → IsCounted (others_in front back) rs d.watches
-    → AllOnce front → AllOnce back → AreQuiet (among front s d back) → AreCounted rs (among front s d back)
+    → SessionIsCounted (others_in front back) rs d.watches
+    → SessionsWatchOnce front → SessionsWatchOnce back → AreQuiet (among front s d back)
+    → WatchersAreCounted rs (among front s d back)
 counted_among rs front s d back h f b quiet = record {
   counted = λ r c. h.counted r c ∙ sym (count_among front s d back (listed_name r.query));
   known = λ q p. h.known q (subst (λ (n : ℕ). 0 < n) (count_among front s d back q) p);
@@ -110,7 +111,7 @@ counted_among rs front s d back h f b quiet = record {
 
 pub counted_same : (rs : List Registered) (front : List OpenSession) (s : ℕ) (d e : Talk) (back : List OpenSession)
     → e.watches ≡ d.watches → (QuietOnceEnded d.cause d.watches → QuietOnceEnded e.cause e.watches)
-    → AreCounted rs (among front s d back) → AreCounted rs (among front s e back)
+    → WatchersAreCounted rs (among front s d back) → WatchersAreCounted rs (among front s e back)
 counted_same rs front s d e back same still h =
     let w = quiet_split front s d back h.quiet in
     let count = λ (q : Bytes). count_among front s e back q
@@ -119,7 +120,7 @@ counted_same rs front s d e back same still h =
     record {
       counted = λ r c. h.counted r c ∙ sym (count (listed_name r.query));
       known = λ q p. h.known q (subst (λ (n : ℕ). 0 < n) (count q) p);
-      once = once_join front s e back o.0 (subst AreOnce (sym same) o.1) o.2;
+      once = once_join front s e back o.0 (subst NamesOnce (sym same) o.1) o.2;
       quiet = quiet_join front s e back w.0 (still w.1) w.2;
     }
 
@@ -127,7 +128,7 @@ pub recount : (old : Kept) (rs : List Registered) (front : List OpenSession) (s 
     (back : List OpenSession)
     → StaysCounted old.registered before.watches rs after.watches
     → (QuietOnceEnded before.cause before.watches → QuietOnceEnded after.cause after.watches)
-    → IsSound old (among front s before back) → AreCounted rs (among front s after back)
+    → IsSound old (among front s before back) → WatchersAreCounted rs (among front s after back)
 recount old rs front s before after back stays still sound =
     let o = once_split front s before back sound.counted.once in
     let w = quiet_split front s before back sound.counted.quiet in
@@ -143,8 +144,8 @@ has_count k front s d back sound = (others_in front back, counted_of k front s d
 
 pub stays_same : (rs rs' : List Registered) (ws ws' : List Bytes) → rs' ≡ rs → ws' ≡ ws → StaysCounted rs ws rs' ws'
 stays_same rs rs' ws ws' e f others h =
-    subst (λ (qs : List Registered). IsCounted others qs ws') (sym e)
-    (subst (λ (vs : List Bytes). IsCounted others rs vs) (sym f) h)
+    subst (λ (qs : List Registered). SessionIsCounted others qs ws') (sym e)
+    (subst (λ (vs : List Bytes). SessionIsCounted others rs vs) (sym f) h)
 
 pub stays_on : (fs bs cs : List Registered) (us vs ws : List Bytes) → StaysCounted fs us bs vs
     → StaysCounted bs vs cs ws → StaysCounted fs us cs ws
@@ -170,7 +171,8 @@ watch_append (x ∷ front) back q = more (times_in (x.session).watches q) (watch
     more : (a b c n : ℕ) → n ≡ b + c → a + n ≡ (a + b) + c
     more a b c n e = omega (arith, e)
 
-once_append : (front back : List OpenSession) → AllOnce front → AllOnce back → AllOnce (front ++ back)
+once_append : (front back : List OpenSession) → SessionsWatchOnce front → SessionsWatchOnce back
+    → SessionsWatchOnce (front ++ back)
 once_append [] back f b = b
 once_append (x ∷ front) back f b = (f.0, once_append front back f.1 b)
 
@@ -180,7 +182,7 @@ quiet_append (x ∷ front) back f b = (f.0, quiet_append front back f.1 b)
 
 pub count_left : (k new : Kept) (front : List OpenSession) (s : ℕ) (d e : Talk) (back : List OpenSession)
     → StaysCounted k.registered d.watches new.registered []
-    → IsSound k (among front s d back) → AreCounted new.registered (front ++ back)
+    → IsSound k (among front s d back) → WatchersAreCounted new.registered (front ++ back)
 count_left k new front s d e back stays sound =
     let h = stays (others_in front back) (counted_of k front s d back sound) in
     let o = once_split front s d back sound.counted.once in
@@ -195,14 +197,14 @@ count_left k new front s d e back stays sound =
 
 -- a session more, which watches nothing
 pub count_more : (rs : List Registered) (xs : List OpenSession) (s : ℕ) (d : Talk) → d.watches ≡ [] → d.cause ≡ None
-    → AreCounted rs xs → AreCounted rs (xs ++ record { id = s; session = d } ∷ [])
+    → WatchersAreCounted rs xs → WatchersAreCounted rs (xs ++ record { id = s; session = d } ∷ [])
 count_more rs xs s d none on h =
     let none_more = λ (q : Bytes). watch_append xs (record { id = s; session = d } ∷ []) q
     ∙ ap (λ (ws : List Bytes). watchers_in xs q + (times_in ws q + 0)) none ∙ nothing_more (watchers_in xs q) in
     record {
       counted = λ r c. h.counted r c ∙ sym (none_more (listed_name r.query));
       known = λ q p. h.known q (subst (λ (n : ℕ). 0 < n) (none_more q) p);
-      once = once_append xs (record { id = s; session = d } ∷ []) h.once (subst AreOnce (sym none) tt, tt);
+      once = once_append xs (record { id = s; session = d } ∷ []) h.once (subst NamesOnce (sym none) tt, tt);
       quiet = quiet_append xs (record { id = s; session = d } ∷ []) h.quiet
           (subst (λ (o : Option EndCause). QuietOnceEnded o d.watches) (sym on) tt, tt);
     }
@@ -356,12 +358,14 @@ names_with f id (x ∷ rs) q = step (same_query x.id id) (names_with f id rs q)
     step false e = both (bytes_eq (listed_name x.query) q) (registered_of (with_watchers id f rs) q)
         (registered_of rs q) e
 
-pub listed_with : (f : ℕ → ℕ) (id : QueryId) (rs : List Registered) → listed (with_watchers id f rs) ≡ listed rs
+pub listed_with : (f : ℕ → ℕ) (id : QueryId) (rs : List Registered)
+    → without_watchers (with_watchers id f rs) ≡ without_watchers rs
 listed_with f id [] = refl
 listed_with f id (x ∷ rs) = step (same_query x.id id) (listed_with f id rs)
   where
-    step : (b : Bool) → listed (with_watchers id f rs) ≡ listed rs
-        → listed (cond b (record x { watchers = f x.watchers } ∷ rs) (x ∷ with_watchers id f rs)) ≡ listed (x ∷ rs)
+    step : (b : Bool) → without_watchers (with_watchers id f rs) ≡ without_watchers rs
+        → without_watchers (cond b (record x { watchers = f x.watchers } ∷ rs) (x ∷ with_watchers id f rs))
+        ≡ without_watchers (x ∷ rs)
     step true e = refl
     step false e = ap (λ (qs : List Registered). record x { watchers = 0 } ∷ qs) e
 
@@ -378,7 +382,8 @@ among_append (w ∷ ws) vs q = step (bytes_eq w q) (among_append ws vs q)
     step false e = e
 
 -- the last of names, no two of which are the same
-pub once_last : (ws : List Bytes) (q : Bytes) → AreOnce (ws ++ q ∷ []) → AreOnce ws × (is_among_watches ws q ≡ false)
+pub once_last : (ws : List Bytes) (q : Bytes) → NamesOnce (ws ++ q ∷ []) → NamesOnce ws
+    × (is_among_watches ws q ≡ false)
 once_last [] q h = (tt, refl)
 once_last (w ∷ ws) q h =
     let r = once_last ws q h.1 in
@@ -400,7 +405,7 @@ once_last (w ∷ ws) q h =
     turned false e f = other_name w q
         (λ same. let so : bytes_eq q w ≡ true = (bytes_eq-decides q w).1 (sym same) in absurd (cc (so, e)))
 
-pub once_more : (ws : List Bytes) (q : Bytes) → AreOnce ws → is_among_watches ws q ≡ false → AreOnce (ws ++ q ∷ [])
+pub once_more : (ws : List Bytes) (q : Bytes) → NamesOnce ws → is_among_watches ws q ≡ false → NamesOnce (ws ++ q ∷ [])
 once_more [] q o n = (refl, tt)
 once_more (w ∷ ws) q o n =
     let p = split (bytes_eq w q) (is_among_watches ws q) n in (
@@ -504,7 +509,7 @@ watches_less rs ws q r a n found others h =
 
 -- a query that is watched has a watcher
 pub has_watcher : (others : Bytes → ℕ) (rs : List Registered) (ws : List Bytes) (q : Bytes) (r : Registered)
-    → IsCounted others rs (ws ++ q ∷ []) → registered_of rs q ≡ Some r → 0 < r.watchers
+    → SessionIsCounted others rs (ws ++ q ∷ []) → registered_of rs q ≡ Some r → 0 < r.watchers
 has_watcher others rs ws q r h found =
     let there = found_there rs q r found in
     let name = same_name (listed_name r.query) q there.1 in
@@ -512,7 +517,7 @@ has_watcher others rs ws q r h found =
 
 -- it is registered
 pub watched_known : (others : Bytes → ℕ) (rs : List Registered) (ws : List Bytes) (q : Bytes)
-    → IsCounted others rs (ws ++ q ∷ []) → IsSome (registered_of rs q)
+    → SessionIsCounted others rs (ws ++ q ∷ []) → IsSome (registered_of rs q)
 watched_known others rs ws q h = h.known q (omega (arith, times_here ws q))
 
 -- ---- a query that nobody watches

@@ -42,7 +42,7 @@ use Rattle.djq_proto.specs.declared.refusal.LineRefusal.{LineRefusal}
 use Rattle.djq_proto.specs.declared.refusal.LineRefusal.TheVariants.{Syntax as Outside}
 use Rattle.djq_proto.specs.declared.row.RowWord.{RowWord}
 use Rattle.djq_proto.specs.declared.row.RowWord.TheVariants.{Add as Adds, Del as Deletes}
-use Rattle.djq_session.specs.Dialog.{Replies, rows_held}
+use Rattle.djq_session.specs.Dialog.{Replies, batch_rows}
 use Rattle.djq_core.specs.Stepping.{refused_as}
 use Rattle.djq_core.specs.Views.{Talk}
 use Rattle.djq_core.specs.declared.reading.BatchLine.{BatchLine}
@@ -86,18 +86,18 @@ ReadsInBatch line Stop row = reading_of line ≡ says_command SayStop
 ReadsInBatch line (Refused r) row = RefusedBy (Some []) (reading_of line) r
 
 -- the row that a line says, to be held for a relation
-abbrev pub row_of : Bytes → Bytes → Tuple → HeldRow
-row_of line name row = record { line = line; relation = name; row = row }
+abbrev pub held_row_of : Bytes → Bytes → Tuple → HeldRow
+held_row_of line name row = record { line = line; relation = name; row = row }
 
 -- A row is made to be held behind so many; or it isn't, by the first condition that holds, or out of
 -- memory.
 abbrev pub MakesRow : Store → ℕ → Bytes → Bytes → Tuple → Result HeldRow Refusal → Type 0
 MakesRow st count line name row made = (held : List HeldRow) → length held ≡ count
-    → Answers (hold_refusal st held name row) made (λ h. h ≡ row_of line name row) (OutOfMemoryWhere ⊤)
+    → Answers (hold_refusal st held name row) made (λ h. h ≡ held_row_of line name row) (OutOfMemoryWhere ⊤)
 
 -- A row that was made is held behind the others, unless memory is wanting, and this is answered.
-abbrev pub Holds : Talk → Result HeldRow Refusal → Talk → Type 0
-Holds before (Ok row) after = let held = rows_held before.batch ++ row ∷ [] in
+abbrev pub HoldsMadeRow : Talk → Result HeldRow Refusal → Talk → Type 0
+HoldsMadeRow before (Ok row) after = let held = batch_rows before.batch ++ row ∷ [] in
     Replies (record before { batch = Some held }) after (held_reply {A = ⊤} (Ok tt) (length held))
     ⊎ Replies before after (refusal_line NoMemory)
-Holds before (Err r) after = Replies before after (refusal_line r)
+HoldsMadeRow before (Err r) after = Replies before after (refusal_line r)

@@ -83,7 +83,7 @@ reply_of (Done result held) n = done_reply result n
 
 -- What the engine did of a change, whoever watches. Its registered queries are those of the store, and their ids
 -- differ.
-pub record Changed (old : Kept) (outcome : RowsOutcome) (new : Kept) (was now : ℕ) : Type 0 where
+pub record EngineChanged (old : Kept) (outcome : RowsOutcome) (new : Kept) (was now : ℕ) : Type 0 where
   pub outdated : Outdates old (tried outcome) new
   pub registered : new.registered ≡ old.registered
   pub queries : map (λ r. r.query) old.registered ≡ (old.store).queries
@@ -91,11 +91,12 @@ pub record Changed (old : Kept) (outcome : RowsOutcome) (new : Kept) (was now : 
   pub tells : TellsChange old outcome new was now
 
 -- A row was to be added.
-pub record Adds (old : Kept) (name : Bytes) (row : Tuple) (outcome : Outcome) (new : Kept) (was now : ℕ) : Type 0 where
+pub record TriesToAdd (old : Kept) (name : Bytes) (row : Tuple) (outcome : Outcome) (new : Kept)
+    (was now : ℕ) : Type 0 where
   pub result : Result AddOutcome Refusal
   pub is : outcome ≡ Added result
   pub done : AddsRow old.store name row result new.store
-  pub changed : Changed old (add_outcome (row_in (old.store).relations name row) result) new was now
+  pub changed : EngineChanged old (add_outcome (row_in (old.store).relations name row) result) new was now
 
 -- A row was to be deleted.
 pub record Deletes (old : Kept) (name : Bytes) (row : Tuple) (outcome : Outcome) (new : Kept) (was now : ℕ) : Type 0
@@ -103,7 +104,7 @@ pub record Deletes (old : Kept) (name : Bytes) (row : Tuple) (outcome : Outcome)
     pub result : Result DeleteOutcome Refusal
     pub is : outcome ≡ Deleted result
     pub done : DeletesRow old.store name row result new.store
-    pub changed : Changed old (delete_outcome (row_out (old.store).relations name row) result) new was now
+    pub changed : EngineChanged old (delete_outcome (row_out (old.store).relations name row) result) new was now
 
 -- The rows that a batch held were to be added, at once.
 pub record AddsAll (old : Kept) (held : List HeldRow) (outcome : Outcome) (new : Kept) (was now : ℕ) : Type 0
@@ -111,11 +112,11 @@ pub record AddsAll (old : Kept) (held : List HeldRow) (outcome : Outcome) (new :
     pub result : Result ℕ Refusal
     pub is : outcome ≡ Done result held
     pub done : AddsBatch old.store held result new.store
-    pub changed : Changed old (batch_outcome old.store held result) new was now
+    pub changed : EngineChanged old (batch_outcome old.store held result) new was now
 
 -- What a command that may change rows comes to, of a session with this batch open, or with none.
 abbrev pub IsChange : Command → Option (List HeldRow) → Kept → Outcome → Kept → ℕ → ℕ → Type 0
-IsChange (Add name row) None old outcome new was now = Adds old name row outcome new was now
+IsChange (Add name row) None old outcome new was now = TriesToAdd old name row outcome new was now
 IsChange (Del name row) None old outcome new was now = Deletes old name row outcome new was now
 IsChange SayDone (Some held) old outcome new was now = AddsAll old held outcome new was now
 IsChange _ _ old outcome new was now = ⊥

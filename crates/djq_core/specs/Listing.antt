@@ -10,7 +10,7 @@ use Rattle.djq_machine.specs.State.{Position, open_at, stale}
 use Rattle.djq_machine.specs.Store.{TellsAnswers, answer_steps}
 use Rattle.djq_machine.specs.Command.{IsNextLine}
 use Rattle.djq_engine.specs.declared.cursor.CursorId.{CursorId}
-use Rattle.djq_engine.specs.Kept.{Kept, HeldCursor, held_at, OthersStay}
+use Rattle.djq_engine.specs.Kept.{Kept, HeldCursor, held_at, OtherCursorsStay}
 use Rattle.djq_core.specs.declared.listing.Listed.{Listed as HowListed}
 use Rattle.djq_core.specs.declared.listing.Listed.TheVariants.{Whole, Cut, Stale}
 use Rattle.djq_core.specs.Views.{Talk}
@@ -19,7 +19,7 @@ use Rattle.djq_core.specs.Sound.{GivesApart}
 -- The engine's cursor stands here now, and nothing else of the engine has changed.
 pub record StandsAt (old : Kept) (id : CursorId) (h : HeldCursor) (position : Position) (new : Kept) : Type 0 where
   pub there : held_at new.cursors id ≡ Some (record h { position = position })
-  pub others : OthersStay old.cursors id new.cursors
+  pub others : OtherCursorsStay old.cursors id new.cursors
   pub store : new.store ≡ old.store
   pub registered : new.registered ≡ old.registered
   pub apart : GivesApart position

@@ -30,7 +30,7 @@ use Rattle.djq_engine.specs.Kept.{Kept, held_at, IsUnwatched}
 use Rattle.djq_core.specs.Sound.{BatchSuits}
 
 -- The engine holds no cursor, and nobody watches a query.
-pub record IsIdle (k : Kept) : Type 0 where
+pub record IsUnused (k : Kept) : Type 0 where
   pub cursorless : (c : CursorId) → held_at k.cursors c ≡ None
   pub unwatched : IsUnwatched k
 
@@ -49,10 +49,10 @@ abbrev pub loading_by : Kept → Option (List HeldRow) → Loading
 loading_by k batch = record { store = k.store; batch = batch }
 
 -- A line is loaded, and nobody watches behind it either. Batches suit as before.
-pub record LoadsTo (line : Bytes) (how : Loaded) (old : Kept) (before : Option (List HeldRow)) (new : Kept)
+pub record LoadsLine (line : Bytes) (how : Loaded) (old : Kept) (before : Option (List HeldRow)) (new : Kept)
     (after : Option (List HeldRow)) : Type 0 where
   pub loads : ReadingLoads (loading_by old before) line (reading_of line) how (loading_by new after)
-  pub idle : IsIdle new
+  pub idle : IsUnused new
   pub suits : BatchSuits old.store before → BatchSuits new.store after
 
 -- A row that was made is held behind the others, or nothing changes.

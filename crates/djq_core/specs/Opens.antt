@@ -20,14 +20,15 @@ refusal_of k d c q = first_refusal (
     ∷ [])
 
 -- The session has a cursor more, which is a new one of the engine; or all is as before.
-abbrev pub OpensTo : Kept → Talk → Bytes → Bytes → Result ⊤ Refusal → Kept → Talk → Type 0
-OpensTo old before c q (Ok _) new after = (id : CursorId) × OpensCursor old q id new
+abbrev pub SessionOpensTo : Kept → Talk → Bytes → Bytes → Result ⊤ Refusal → Kept → Talk → Type 0
+SessionOpensTo old before c q (Ok _) new after = (id : CursorId) × OpensCursor old q id new
     × (after ≡ record before { cursors = before.cursors ++ record { name = c; cursor = id } ∷ [] })
-OpensTo old before c q (Err _) new after = (new.store ≡ old.store) × SameCursors old.cursors new.cursors
+SessionOpensTo old before c q (Err _) new after = (new.store ≡ old.store) × SameCursors old.cursors new.cursors
     × (new.registered ≡ old.registered) × (after ≡ before)
 
 -- A session opens a cursor over a query, or is told why it doesn't.
-pub record Opens (old : Kept) (before : Talk) (c q : Bytes) (result : Result ⊤ Refusal) (new : Kept) (after : Talk) :
+pub record SessionOpens (old : Kept) (before : Talk) (c q : Bytes) (result : Result ⊤ Refusal) (new : Kept)
+    (after : Talk) :
     Type 0 where
   pub answer : Answers (refusal_of old before c q) result (λ _. ⊤) (OutOfMemoryWhere ⊤)
-  pub opens : OpensTo old before c q result new after
+  pub opens : SessionOpensTo old before c q result new after

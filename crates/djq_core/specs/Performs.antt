@@ -29,9 +29,9 @@ abbrev pub to_one : ℕ → Option Bytes → ℕ → Effect
 to_one s text cost = to_keep s text cost no_line
 
 -- bytes with a text behind them, where there is one
-abbrev pub behind : Bytes → Option Bytes → Bytes
-behind pending None = pending
-behind pending (Some text) = pending ++ text
+abbrev pub with_text_behind : Bytes → Option Bytes → Bytes
+with_text_behind pending None = pending
+with_text_behind pending (Some text) = pending ++ text
 
 -- a session before its bytes are queued
 abbrev pub unqueued : Talk → Talk → Talk
@@ -45,7 +45,7 @@ pub record Performs (Machine : State → ℕ → Session → Effect → State �
   pub text : Option Bytes
   pub cost : ℕ
   pub kept : Keeping
-  pub pending : after.pending ≡ behind before.pending text
+  pub pending : after.pending ≡ with_text_behind before.pending text
   pub does : (front back : List OpenSession) (s : ℕ) (stopped : Bool) → IsSound old (among front s before back)
       → Machine (state_in old stopped (among front s before back)) s (session_in old.cursors s before)
       (to_keep s text cost kept)
@@ -55,15 +55,17 @@ pub record Performs (Machine : State → ℕ → Session → Effect → State �
   pub counted : now ≤ was + cost
 
 -- What a command that isn't one of a row does: which line says it makes no difference.
-abbrev pub Does : Command → State → ℕ → Session → Effect → State → Type 0
-Does command st s x e st' = CommandStep st s x [] command e st'
+abbrev pub CommandDoes : Command → State → ℕ → Session → Effect → State → Type 0
+CommandDoes command st s x e st' = CommandStep st s x [] command e st'
 
 -- Such a command is done, and its line is kept where this holds.
 abbrev pub ExecutesKeeping : Command → Bool → Bool → Kept → Talk → Kept → Talk → ℕ → ℕ → Type 0
 ExecutesKeeping command kept stops old before new after was now =
-    Performs (λ st s x e st'. Does command st s x e st' × (e.kept ≡ kept_where kept)) stops old before new after was now
+    Performs (λ st s x e st'. CommandDoes command st s x e st' × (e.kept ≡ kept_where kept)) stops old before
+    new after was now
 
 -- Such a command is done.
 abbrev pub Executes : Command → Bool → Kept → Talk → Kept → Talk → ℕ → ℕ → Type 0
-Executes command stops old before new after was now = Performs (λ st s x e st'. Does command st s x e st') stops old
+Executes command stops old before new after was now =
+    Performs (λ st s x e st'. CommandDoes command st s x e st') stops old
     before new after was now

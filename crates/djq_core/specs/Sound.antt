@@ -17,14 +17,14 @@ use Rattle.djq_core.specs.declared.open.OpenSession.{OpenSession}
 use Rattle.djq_core.specs.Views.{Talk}
 
 -- n is below each of these numbers
-abbrev pub IsBelow : ℕ → List ℕ → Type 0
-IsBelow n [] = ⊤
-IsBelow n (m ∷ ms) = (n < m) × IsBelow n ms
+abbrev pub IsBelowAll : ℕ → List ℕ → Type 0
+IsBelowAll n [] = ⊤
+IsBelowAll n (m ∷ ms) = (n < m) × IsBelowAll n ms
 
 -- the numbers of a list rise
 abbrev pub Rises : List ℕ → Type 0
 Rises [] = ⊤
-Rises (n ∷ ns) = IsBelow n ns × Rises ns
+Rises (n ∷ ns) = IsBelowAll n ns × Rises ns
 
 -- the engine's cursors of a session
 abbrev pub ids_of_cursors : List (NamedCursor CursorId) → List CursorId
@@ -51,17 +51,17 @@ IsApart c [] = ⊤
 IsApart c (d ∷ ds) = (same_id d c ≡ false) × IsApart c ds
 
 -- no two are the same
-abbrev pub AreApart : List CursorId → Type 0
-AreApart [] = ⊤
-AreApart (c ∷ cs) = IsApart c cs × AreApart cs
+abbrev pub CursorsDiffer : List CursorId → Type 0
+CursorsDiffer [] = ⊤
+CursorsDiffer (c ∷ cs) = IsApart c cs × CursorsDiffer cs
 
 -- whether a cursor is one of these
-abbrev pub is_among : CursorId → List CursorId → Bool
-is_among c cs = list_any (λ d. same_id d c) cs
+abbrev pub is_cursor_among : CursorId → List CursorId → Bool
+is_cursor_among c cs = list_any (λ d. same_id d c) cs
 
 -- The engine holds no other cursors than these.
 abbrev pub AreOwned : List HeldCursor → List CursorId → Type 0
-AreOwned hs cs = (c : CursorId) → IsSome (held_at hs c) → is_among c cs ≡ true
+AreOwned hs cs = (c : CursorId) → IsSome (held_at hs c) → is_cursor_among c cs ≡ true
 
 -- a session that has ended has no cursors
 abbrev pub NoneOnceEnded : Option EndCause → List (NamedCursor CursorId) → Type 0
@@ -87,14 +87,14 @@ watchers_in [] q = 0
 watchers_in (x ∷ xs) q = times_in (x.session).watches q + watchers_in xs q
 
 -- no name is there twice
-abbrev pub AreOnce : List Bytes → Type 0
-AreOnce [] = ⊤
-AreOnce (w ∷ ws) = (is_among_watches ws w ≡ false) × AreOnce ws
+abbrev pub NamesOnce : List Bytes → Type 0
+NamesOnce [] = ⊤
+NamesOnce (w ∷ ws) = (is_among_watches ws w ≡ false) × NamesOnce ws
 
 -- no session watches a query twice
-abbrev pub AllOnce : List OpenSession → Type 0
-AllOnce [] = ⊤
-AllOnce (x ∷ xs) = AreOnce (x.session).watches × AllOnce xs
+abbrev pub SessionsWatchOnce : List OpenSession → Type 0
+SessionsWatchOnce [] = ⊤
+SessionsWatchOnce (x ∷ xs) = NamesOnce (x.session).watches × SessionsWatchOnce xs
 
 -- a session that has ended watches nothing
 abbrev pub QuietOnceEnded : Option EndCause → List Bytes → Type 0
@@ -107,31 +107,31 @@ AreQuiet [] = ⊤
 AreQuiet (x ∷ xs) = QuietOnceEnded (x.session).cause (x.session).watches × AreQuiet xs
 
 -- The engine counts the sessions that watch each query, and each query that is watched is registered.
-pub record AreCounted (rs : List Registered) (xs : List OpenSession) : Type 0 where
+pub record WatchersAreCounted (rs : List Registered) (xs : List OpenSession) : Type 0 where
   pub counted : (r : Registered) → Contains rs r → r.watchers ≡ watchers_in xs (listed_name r.query)
   pub known : (q : Bytes) → 0 < watchers_in xs q → IsSome (registered_of rs q)
-  pub once : AllOnce xs
+  pub once : SessionsWatchOnce xs
   pub quiet : AreQuiet xs
 
 -- The same of a session that watches these queries, where so many others watch each.
-pub record IsCounted (others : Bytes → ℕ) (rs : List Registered) (ws : List Bytes) : Type 0 where
+pub record SessionIsCounted (others : Bytes → ℕ) (rs : List Registered) (ws : List Bytes) : Type 0 where
   pub counted : (r : Registered) → Contains rs r
       → r.watchers ≡ others (listed_name r.query) + times_in ws (listed_name r.query)
   pub known : (q : Bytes) → 0 < others q + times_in ws q → IsSome (registered_of rs q)
   pub few : (q : Bytes) → others q < SESSIONS
-  pub once : AreOnce ws
+  pub once : NamesOnce ws
 
 -- What a session watches is counted, with what others do.
 abbrev pub HasCount : List Registered → List Bytes → Type 0
-HasCount rs ws = (others : Bytes → ℕ) × IsCounted others rs ws
+HasCount rs ws = (others : Bytes → ℕ) × SessionIsCounted others rs ws
 
 -- Whatever others watch, the engine counts right afterwards where it did before.
 abbrev pub StaysCounted : List Registered → List Bytes → List Registered → List Bytes → Type 0
-StaysCounted rs ws rs' ws' = (others : Bytes → ℕ) → IsCounted others rs ws → IsCounted others rs' ws'
+StaysCounted rs ws rs' ws' = (others : Bytes → ℕ) → SessionIsCounted others rs ws → SessionIsCounted others rs' ws'
 
 -- the registered queries, whoever watches them
-abbrev pub listed : List Registered → List Registered
-listed rs = map (λ (r : Registered). record r { watchers = 0 }) rs
+abbrev pub without_watchers : List Registered → List Registered
+without_watchers rs = map (λ (r : Registered). record r { watchers = 0 }) rs
 
 -- The ids of the sessions rise, and there are at most so many; the engine holds their cursors, no two of which are the
 -- same, and no others; those that have ended have none; and what they watch is counted.
@@ -139,19 +139,19 @@ pub record IsSound (k : Kept) (xs : List OpenSession) : Type 0 where
   pub rising : Rises (map (λ x. x.id) xs)
   pub few : length xs ≤ SESSIONS
   pub cursors_held : AreHeld k.cursors (all_ids xs)
-  pub apart : AreApart (all_ids xs)
+  pub apart : CursorsDiffer (all_ids xs)
   pub owned : AreOwned k.cursors (all_ids xs)
   pub ended : AreEndedWithout xs
-  pub counted : AreCounted k.registered xs
+  pub counted : WatchersAreCounted k.registered xs
 
 -- A session's own cursors are held by the engine, and no two are the same; and what it watches is counted.
 pub record IsOwn (k : Kept) (d : Talk) : Type 0 where
   pub cursors_held : AreHeld k.cursors (ids_of_cursors d.cursors)
-  pub apart : AreApart (ids_of_cursors d.cursors)
+  pub apart : CursorsDiffer (ids_of_cursors d.cursors)
   pub counted : HasCount k.registered d.watches
 
 -- A session's command begins: it goes on, and there is room for a reply and for its last line.
-pub record IsReady (k : Kept) (d : Talk) : Type 0 where
+pub record CommandIsReady (k : Kept) (d : Talk) : Type 0 where
   pub own : IsOwn k d
   pub running : d.cause ≡ None
   pub room : REPLY_BYTES + LAST_LINE_BYTES ≤ d.room
@@ -162,9 +162,9 @@ BatchSuits st None = ⊤
 BatchSuits st (Some held) = (length held ≤ HELD) × SuitAll st held
 
 -- Each of these batches, where it is open, holds few rows enough, which suit their relations.
-abbrev pub AreSuited : Store → List (Option (List HeldRow)) → Type 0
-AreSuited st [] = ⊤
-AreSuited st (b ∷ bs) = BatchSuits st b × AreSuited st bs
+abbrev pub BatchesSuit : Store → List (Option (List HeldRow)) → Type 0
+BatchesSuit st [] = ⊤
+BatchesSuit st (b ∷ bs) = BatchSuits st b × BatchesSuit st bs
 
 -- the batches of the sessions, behind that of the loaded lines
 abbrev pub batches_of : Option (List HeldRow) → List OpenSession → List (Option (List HeldRow))

@@ -17,12 +17,12 @@ use Rattle.djq_engine.specs.Kept.{Kept, Registered, is_watched, registered_at, t
 use Rattle.djq_engine.specs.Watching.{LogsTell}
 use Rattle.djq_core.specs.declared.open.OpenSession.{OpenSession}
 use Rattle.djq_core.specs.Views.{Talk, state_in}
-use Rattle.djq_core.specs.Sound.{IsSound, listed, watchers_in}
+use Rattle.djq_core.specs.Sound.{IsSound, without_watchers, watchers_in}
 
 -- The store and the registered queries are the same, whoever watches them, and what was told of them stays.
 pub record KeepsTold (old new : Kept) : Type 0 where
   pub store : new.store ≡ old.store
-  pub listed : listed new.registered ≡ listed old.registered
+  pub listed : without_watchers new.registered ≡ without_watchers old.registered
   pub affected : new.affected ≡ old.affected
   pub told : new.told ≡ old.told
 

@@ -17,19 +17,19 @@ abbrev pub Talk : Type 0
 Talk = Dialog CursorId Bytes
 
 -- the query and the position of a cursor that the engine holds; it holds each that a session has
-abbrev pub query_in : Option HeldCursor → Bytes
-query_in None = []
-query_in (Some h) = h.query
+abbrev pub cursor_query : Option HeldCursor → Bytes
+cursor_query None = []
+cursor_query (Some h) = h.query
 
 -- the position of a cursor that the engine holds
-abbrev pub position_in : Option HeldCursor → Position
-position_in None = stale [] 0
-position_in (Some h) = h.position
+abbrev pub cursor_position : Option HeldCursor → Position
+cursor_position None = stale [] 0
+cursor_position (Some h) = h.position
 
 -- a cursor of a session
 abbrev pub cursor_in : List HeldCursor → NamedCursor CursorId → Cursor
 cursor_in hs n = record
-    { name = n.name; query = query_in (held_at hs n.cursor); position = position_in (held_at hs n.cursor) }
+    { name = n.name; query = cursor_query (held_at hs n.cursor); position = cursor_position (held_at hs n.cursor) }
 
 -- a session of this id
 abbrev pub session_in : List HeldCursor → ℕ → Talk → Session
@@ -44,12 +44,12 @@ session_in hs s d = record {
 }
 
 -- an open session
-abbrev pub open_in : List HeldCursor → OpenSession → Session
-open_in hs x = session_in hs x.id x.session
+abbrev pub session_seen : List HeldCursor → OpenSession → Session
+session_seen hs x = session_in hs x.id x.session
 
 -- the state of the join machine
 abbrev pub state_in : Kept → Bool → List OpenSession → State
-state_in k stopped xs = record { store = k.store; stopped = stopped; sessions = map (open_in k.cursors) xs }
+state_in k stopped xs = record { store = k.store; stopped = stopped; sessions = map (session_seen k.cursors) xs }
 
 -- What contracts see of the core: the state of the join machine, the lines that its last step kept, and
 -- the rows that the batch of the loaded lines holds, where one is open.
@@ -63,13 +63,13 @@ abbrev pub loading_in : Visible → Loading
 loading_in c = record { store = (c.state).store; batch = c.batch }
 
 -- the lines that a step kept: none, the one that it ran, or the batch that this one ended, whole
-abbrev pub lines_of : KeptLines → Bytes → List Bytes
-lines_of Nothing line = []
-lines_of Line line = line ∷ []
-lines_of (Batch held) line = codes "batch" ∷ map (λ h. h.line) held ++ codes "done" ∷ []
+abbrev pub lines_of_step : KeptLines → Bytes → List Bytes
+lines_of_step Nothing line = []
+lines_of_step Line line = line ∷ []
+lines_of_step (Batch held) line = codes "batch" ∷ map (λ h. h.line) held ++ codes "done" ∷ []
 
 -- a core with this engine, these sessions, what its last step kept, of which this is the line, and the
 -- batch of the loaded lines
 abbrev pub seen_in : Kept → Bool → List OpenSession → KeptLines → Bytes → Option (List HeldRow) → Visible
 seen_in k stopped xs kept line batch =
-    record { state = state_in k stopped xs; kept = lines_of kept line; batch = batch }
+    record { state = state_in k stopped xs; kept = lines_of_step kept line; batch = batch }

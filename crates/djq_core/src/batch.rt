@@ -3,11 +3,11 @@ ghost use Rattle.std.specs.Prelude.{◌≡◌, ◌+◌, ◌≤◌, None, IsSome,
 ghost use Rattle.djq_lines.specs.Line.{a_line, front_of, is_blank as is_blank_line};
 ghost use Rattle.djq_lines.specs.declared.command.Command.TheVariants.{Batch};
 ghost use Rattle.djq_lines.specs.declared.limits.TheConstants.{PENDING_BYTES, REPLY_BYTES, LAST_LINE_BYTES};
-ghost use Rattle.djq_session.specs.Dialog.{rows_held};
-ghost use Rattle.djq_core.specs.Batching.{Holds};
+ghost use Rattle.djq_session.specs.Dialog.{batch_rows};
+ghost use Rattle.djq_core.specs.Batching.{HoldsMadeRow};
 ghost use Rattle.djq_core.specs.Changing.{AddsAll};
 ghost use Rattle.djq_core.specs.Performs.{Executes};
-ghost use Rattle.djq_core.specs.Sound.{BatchSuits, IsReady};
+ghost use Rattle.djq_core.specs.Sound.{BatchSuits, CommandIsReady};
 ghost use Rattle.djq_core.specs.Stepping.{LineLeaves};
 
 use crate::change::{Left, Outcome};
@@ -23,7 +23,7 @@ use std::alloc::Global;
 
 /// `batch`: rows that are added are held from now on.
 pub(crate) fn run_batch(engine: &Store, session: &mut Session<CursorId, Name>)
-    requires { IsReady engine.now session.old }
+    requires { CommandIsReady engine.now session.old }
     ensures { Executes Batch false engine.now session.old engine.now session.new 0 0 }
 {
     session.open_batch();
@@ -41,7 +41,7 @@ pub(crate) fn run_in_batch<L: Ledgers>(
     row: &mut Vec<Value>,
     steps: &mut Steps<L>,
 ) -> Left
-    requires ready { IsReady engine.old session.old }
+    requires ready { CommandIsReady engine.old session.old }
     requires open { IsSome session.old.batch }
     requires suits { BatchSuits engine.old.store session.old.batch }
     requires front { front_of session.old.held ≡ a_line (take end session.old.held)
@@ -93,7 +93,7 @@ pub(crate) fn run_in_batch<L: Ledgers>(
 fn hold(session: &mut Session<CursorId, Name>, made: Result<HeldRow, Refusal>)
     requires open { IsSome session.old.batch }
     requires room { REPLY_BYTES + LAST_LINE_BYTES ≤ session.old.room }
-    ensures { Holds session.old made session.new }
+    ensures { HoldsMadeRow session.old made session.new }
 {
     let outcome = match made {
         Ok(row) => match session.hold(row) {
@@ -113,7 +113,7 @@ fn run_done<L: Ledgers>(
 ) -> Outcome
     requires open { IsSome session.old.batch }
     requires suits { BatchSuits engine.old.store session.old.batch }
-    ensures adds { AddsAll engine.old (rows_held session.old.batch) result engine.new
+    ensures adds { AddsAll engine.old (batch_rows session.old.batch) result engine.new
         steps.old.listing steps.new.listing }
     ensures closed { session.new ≡ record session.old { batch = None } }
 {

@@ -8,10 +8,10 @@ ghost use Rattle.djq_lines.specs.declared.command.Command.TheVariants.{Rel};
 ghost use Rattle.djq_lines.specs.declared.command.Command.TheVariants.{Query as Register, Drop, Open};
 ghost use Rattle.djq_lines.specs.declared.command.Command.TheVariants.{Close, Has, Quit, Stop};
 ghost use Rattle.djq_lines.specs.declared.command.Command.TheVariants.{Explain, Shape, Union};
-ghost use Rattle.djq_core.specs.Opens.{Opens};
+ghost use Rattle.djq_core.specs.Opens.{SessionOpens};
 ghost use Rattle.djq_machine.specs.Keeping.{is_registration};
 ghost use Rattle.djq_core.specs.Performs.{Executes, ExecutesKeeping};
-ghost use Rattle.djq_core.specs.Sound.{IsReady};
+ghost use Rattle.djq_core.specs.Sound.{CommandIsReady};
 
 use crate::ending::{cut_off, give_up};
 use bytes::BytesMut;
@@ -31,7 +31,7 @@ pub(crate) fn run_rel(
     name: Name,
     types: Types,
 ) -> bool
-    requires ready { IsReady engine.old session.old }
+    requires ready { CommandIsReady engine.old session.old }
     requires some { 0 < length types }
     ensures { ExecutesKeeping (Rel name types) result false
         engine.old session.old engine.new session.new 0 0 }
@@ -49,7 +49,7 @@ pub(crate) fn run_query<L: Ledgers>(
     query: Query,
     steps: &mut Steps<L>,
 ) -> bool
-    requires ready { IsReady engine.old session.old }
+    requires ready { CommandIsReady engine.old session.old }
     requires some { 0 < length query.atoms }
     ensures { ExecutesKeeping (Register query) result false
         engine.old session.old engine.new session.new
@@ -72,7 +72,7 @@ pub(crate) fn run_union(
     name: Name,
     members: &Names,
 ) -> bool
-    requires ready { IsReady engine.old session.old }
+    requires ready { CommandIsReady engine.old session.old }
     requires several { 2 ≤ length members.now }
     ensures { ExecutesKeeping (Union name members.now) result false
         engine.old session.old engine.new session.new 0 0 }
@@ -101,7 +101,7 @@ pub(crate) fn run_open(
     name: &Name,
     query: &Name,
 )
-    requires { IsReady engine.old session.old }
+    requires { CommandIsReady engine.old session.old }
     ensures { Executes (Open name.now query.now) false
         engine.old session.old engine.new session.new 0 0 }
 {
@@ -116,7 +116,7 @@ fn open_cursor(
     name: &Name,
     query: &Name,
 ) -> Result<(), Refusal>
-    ensures { Opens engine.old session.old name.now query.now result engine.new session.new }
+    ensures { SessionOpens engine.old session.old name.now query.now result engine.new session.new }
 {
     if session.cursor(name).is_some() {
         return Err(Refusal::Taken);
@@ -141,7 +141,7 @@ fn open_cursor(
 
 /// `close`: a cursor is given up.
 pub(crate) fn run_close(engine: &mut Store, session: &mut Session<CursorId, Name>, name: &Name)
-    requires { IsReady engine.old session.old }
+    requires { CommandIsReady engine.old session.old }
     ensures { Executes (Close name.now) false engine.old session.old engine.new session.new 0 0 }
 {
     match session.cursor(name) {
@@ -160,7 +160,7 @@ pub(crate) fn run_drop(
     session: &mut Session<CursorId, Name>,
     query: &Name,
 ) -> bool
-    requires { IsReady engine.old session.old }
+    requires { CommandIsReady engine.old session.old }
     ensures { ExecutesKeeping (Drop query.now) result false
         engine.old session.old engine.new session.new 0 0 }
 {
@@ -177,7 +177,7 @@ pub(crate) fn run_has<L: Ledgers>(
     tuple: &[Value],
     listing: &mut Tally<Listing<L>>,
 )
-    requires { IsReady engine.now session.old }
+    requires { CommandIsReady engine.now session.old }
     ensures { Executes (Has query.now tuple.now) false engine.now session.old engine.now session.new
         listing.old listing.new }
 {
@@ -233,7 +233,7 @@ pub(crate) fn run_explain(
     session: &mut Session<CursorId, Name>,
     query: &Name,
 )
-    requires { IsReady engine.old session.old }
+    requires { CommandIsReady engine.old session.old }
     ensures { Executes (Explain query.now) false
         engine.old session.old engine.new session.new 0 0 }
 {
@@ -252,7 +252,7 @@ pub(crate) fn run_explain(
 
 /// `shape`: what bounds an update of a query.
 pub(crate) fn run_shape(engine: &Store, session: &mut Session<CursorId, Name>, query: &Name)
-    requires { IsReady engine.now session.old }
+    requires { CommandIsReady engine.now session.old }
     ensures { Executes (Shape query.now) false engine.now session.old engine.now session.new 0 0 }
 {
     let outcome = engine.shape(query);
@@ -261,7 +261,7 @@ pub(crate) fn run_shape(engine: &Store, session: &mut Session<CursorId, Name>, q
 
 /// `quit`: the session ends.
 pub(crate) fn run_quit(engine: &mut Store, session: &mut Session<CursorId, Name>)
-    requires { IsReady engine.old session.old }
+    requires { CommandIsReady engine.old session.old }
     ensures { Executes Quit false engine.old session.old engine.new session.new 0 0 }
 {
     give_up(engine, session);
@@ -270,7 +270,7 @@ pub(crate) fn run_quit(engine: &mut Store, session: &mut Session<CursorId, Name>
 
 /// `stop`: the session ends, and the server is stopped.
 pub(crate) fn run_stop(engine: &mut Store, session: &mut Session<CursorId, Name>)
-    requires { IsReady engine.old session.old }
+    requires { CommandIsReady engine.old session.old }
     ensures { Executes Stop true engine.old session.old engine.new session.new 0 0 }
 {
     give_up(engine, session);

@@ -3,7 +3,7 @@ ghost use Rattle.std.specs.Prelude.{◌≡◌, [], false, None, Some};
 ghost use Rattle.djq_lines.specs.Reply.{end_line, input_cut};
 ghost use Rattle.djq_lines.specs.declared.answer.EndCause.TheVariants.{Input};
 ghost use Rattle.djq_machine.specs.Effect.{EndsWith};
-ghost use Rattle.djq_core.specs.Ends.{CutsOff, GivesUp, GivesUpCursors, GivesUpWatches, EndsQuietly};
+ghost use Rattle.djq_core.specs.Ends.{CutsOff, SessionGivesUp, GivesUpCursors, GivesUpWatches, EndsQuietly};
 ghost use Rattle.djq_core.specs.Performs.{Performs};
 ghost use Rattle.djq_core.specs.Telling.{KeepsTold};
 ghost use Rattle.djq_core.specs.Sound.{IsOwn, HasCount};
@@ -39,7 +39,7 @@ fn give_up_watches(engine: &mut Store, session: &mut Session<CursorId, Name>)
 /// The store gives up the cursors and the watches of a session, and nothing else.
 pub(crate) fn give_up(engine: &mut Store, session: &mut Session<CursorId, Name>)
     requires { IsOwn engine.old session.old }
-    ensures gives_up { GivesUp engine.old session.old engine.new session.new }
+    ensures gives_up { SessionGivesUp engine.old session.old engine.new session.new }
     ensures told { KeepsTold engine.old engine.new }
 {
     give_up_cursors(engine, session);

@@ -1,6 +1,6 @@
 //! Rows that are to be held: judged, and put together with copies of their lines.
 ghost use Rattle.std.specs.Prelude.{◌≡◌, IfOk};
-ghost use Rattle.djq_core.specs.Batching.{MakesRow, row_of};
+ghost use Rattle.djq_core.specs.Batching.{MakesRow, held_row_of};
 
 use djq_lines::limits::HELD;
 use djq_lines::{HeldRow, Refusal};
@@ -42,7 +42,7 @@ fn put_together(
     name: &Name,
     row: &mut Vec<Value>,
 ) -> Result<HeldRow, NoMem>
-    ensures { IfOk result (λ h. h ≡ row_of line.now name.now row.old.items) }
+    ensures { IfOk result (λ h. h ≡ held_row_of line.now name.now row.old.items) }
 {
     Ok(HeldRow {
         line: copy_line(alloc, line)?,

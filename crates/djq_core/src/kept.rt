@@ -1,7 +1,7 @@
 ghost use Rattle.std.specs.Prelude.{◌≡◌, ◌∷◌, ◌++◌, [], codes, map, slice_get};
 ghost use Rattle.std.specs.Option.{option_copied};
 ghost use Rattle.djq_core.specs.Changing.{line_where, lines_kept};
-ghost use Rattle.djq_core.specs.Views.{lines_of};
+ghost use Rattle.djq_core.specs.Views.{lines_of_step};
 
 use crate::change::{Outcome, is_removal};
 use djq_lines::HeldRow;
@@ -58,7 +58,7 @@ impl KeptLines {
     /// The line with this number, counted from 0, of those that were kept, where this is a copy of the
     /// line that was run.
     pub(crate) fn get<'a>(&'a self, i: usize, copied: &'a [u8]) -> Option<&'a [u8]>
-        ensures { option_copied result ≡ slice_get (lines_of self.now copied.now) i }
+        ensures { option_copied result ≡ slice_get (lines_of_step self.now copied.now) i }
     {
         match self {
             KeptLines::Nothing => None,

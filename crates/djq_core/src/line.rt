@@ -6,7 +6,7 @@ ghost use Rattle.djq_machine.specs.Call.{counts};
 ghost use Rattle.djq_proto.specs.RowReading.{begins_row};
 ghost use Rattle.djq_value.specs.Token.{tokens};
 ghost use Rattle.djq_machine.specs.Command.{is_misplaced};
-ghost use Rattle.djq_core.specs.Sound.{BatchSuits, IsOwn, IsReady};
+ghost use Rattle.djq_core.specs.Sound.{BatchSuits, IsOwn, CommandIsReady};
 ghost use Rattle.djq_core.specs.Stepping.{Copies, IsRunnable, LeavesTo, LineLeaves, Obeys, is_on_row};
 
 use crate::batch::{run_batch, run_in_batch};
@@ -38,7 +38,7 @@ fn run_command<L: Ledgers>(
     command: Command,
     steps: &mut Steps<L>,
 ) -> Left
-    requires ready { IsReady engine.old session.old }
+    requires ready { CommandIsReady engine.old session.old }
     requires runnable { IsRunnable command }
     requires other { is_on_row command ≡ false }
     requires alone { is_misplaced {A = ⊤} None command ≡ false }
@@ -119,7 +119,7 @@ fn run_line<L: Ledgers>(
     row: &mut Vec<Value>,
     steps: &mut Steps<L>,
 ) -> Left
-    requires ready { IsReady engine.old session.old }
+    requires ready { CommandIsReady engine.old session.old }
     requires suits { BatchSuits engine.old.store session.old.batch }
     requires front { front_of session.old.held ≡ a_line (take end session.old.held)
         (drop rest session.old.held) }
@@ -165,7 +165,7 @@ fn run_other<L: Ledgers>(
     rest: usize,
     steps: &mut Steps<L>,
 ) -> Left
-    requires ready { IsReady engine.old session.old }
+    requires ready { CommandIsReady engine.old session.old }
     requires front { front_of session.old.held ≡ a_line (take end session.old.held)
         (drop rest session.old.held) }
     requires within { (end ≤ length session.old.held) × (rest ≤ length session.old.held) }

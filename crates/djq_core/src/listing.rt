@@ -4,7 +4,7 @@ ghost use Rattle.djq_lines.specs.declared.limits.TheConstants.{LAST_LINE_BYTES, 
 ghost use Rattle.djq_lines.specs.declared.command.Command.TheVariants.{Next as NextCommand};
 ghost use Rattle.djq_core.specs.Listing.{Lists, Lasts};
 ghost use Rattle.djq_core.specs.Performs.{Executes};
-ghost use Rattle.djq_core.specs.Sound.{AreHeld, IsReady};
+ghost use Rattle.djq_core.specs.Sound.{AreHeld, CommandIsReady};
 
 use crate::ending::cut_off;
 use djq_lines::Refusal;
@@ -33,7 +33,7 @@ pub(crate) fn run_next<L: Ledgers>(
     count: u32,
     listing: &mut Tally<Listing<L>>,
 )
-    requires ready { IsReady engine.old session.old }
+    requires ready { CommandIsReady engine.old session.old }
     requires some { 1 ≤ count }
     ensures { Executes (NextCommand name.now count) false
         engine.old session.old engine.new session.new listing.old listing.new }

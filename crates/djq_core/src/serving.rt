@@ -2,7 +2,7 @@ ghost use Rattle.std.specs.Prelude.{◌≡◌, ◌<◌, ◌&&◌, [], None, nat_
 ghost use Rattle.std.specs.Prelude.{length, slice_index, Contains};
 ghost use Rattle.djq_model.specs.Data.{rows_of};
 ghost use Rattle.djq_machine.specs.State.{opening};
-ghost use Rattle.djq_session.specs.Dialog.{is_due};
+ghost use Rattle.djq_session.specs.Dialog.{dialog_is_due};
 ghost use Rattle.djq_core.specs.Sound.{Rises};
 ghost use Rattle.djq_core.specs.Changing.{line_where};
 ghost use Rattle.djq_core.specs.Stepping.{line_kept};
@@ -62,13 +62,13 @@ impl Model for Core {
 
     ghost use Rattle.std.specs.Prelude.{vec_capacity};
     ghost use Rattle.djq_core.specs.Views.{seen_in};
-    ghost use Rattle.djq_core.specs.Sound.{IsCore, AreSuited, batches_of};
+    ghost use Rattle.djq_core.specs.Sound.{IsCore, BatchesSuit, batches_of};
 
     ghost view = { λ c. seen_in c.engine c.stopped c.sessions.items c.kept c.copied c.batch };
 
     ghost invariant = { λ c. IsCore c.engine c.ids.items c.sessions.items (vec_capacity c.ids)
         (vec_capacity c.sessions)
-        × AreSuited (c.engine).store (batches_of c.batch c.sessions.items) };
+        × BatchesSuit (c.engine).store (batches_of c.batch c.sessions.items) };
 }
 
 impl Core {
@@ -245,7 +245,7 @@ fn is_line_kept(stepped: Stepped) -> bool
 
 /// The first of these sessions of at least this id to which something is due.
 fn first_due(sessions: &[OpenSession], from: u128) -> Option<u64>
-    ensures { result ≡ option_map (λ x. x.id) (find (λ x. nat_le from x.id && is_due x.session) sessions.now) }
+    ensures { result ≡ option_map (λ x. x.id) (find (λ x. nat_le from x.id && dialog_is_due x.session) sessions.now) }
 {
     sessions
         .iter()

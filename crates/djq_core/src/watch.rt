@@ -2,7 +2,7 @@
 ghost use Rattle.std.specs.Prelude.{◌≡◌, false};
 ghost use Rattle.djq_lines.specs.declared.command.Command.TheVariants.{Watch, Unwatch};
 ghost use Rattle.djq_core.specs.Performs.{Executes};
-ghost use Rattle.djq_core.specs.Sound.{IsOwn, IsReady};
+ghost use Rattle.djq_core.specs.Sound.{IsOwn, CommandIsReady};
 ghost use Rattle.djq_core.specs.Watches.{BeginsWatch, CeasesWatch};
 
 use djq_lines::Refusal;
@@ -12,7 +12,7 @@ use djq_store::{CursorId, Store};
 
 /// `watch`: the session is told from now on how the answers of a query change.
 pub(crate) fn run_watch(engine: &mut Store, session: &mut Session<CursorId, Name>, query: &Name)
-    requires { IsReady engine.old session.old }
+    requires { CommandIsReady engine.old session.old }
     ensures { Executes (Watch query.now) false engine.old session.old engine.new session.new 0 0 }
 {
     let outcome = begin_watch(engine, session, query);
@@ -44,7 +44,7 @@ fn begin_watch(
 
 /// `unwatch`: the session is told no more how the answers of a query change.
 pub(crate) fn run_unwatch(engine: &mut Store, session: &mut Session<CursorId, Name>, query: &Name)
-    requires { IsReady engine.old session.old }
+    requires { CommandIsReady engine.old session.old }
     ensures { Executes (Unwatch query.now) false engine.old session.old engine.new session.new 0 0 }
 {
     let outcome = cease_watch(engine, session, query);

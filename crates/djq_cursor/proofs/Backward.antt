@@ -34,7 +34,7 @@ use Rattle.std.specs.Prelude.{◌&&◌, not, nat_lt, IfSome, IfNone}
 use Rattle.std.proofs.lemmas.Bool.{cases_Bool, cases_lt, lt-ltb, le-ltb}
 use Rattle.std.proofs.lemmas.List.{reverse-append, reverse-reverse, length-reverse, append-nil}
 use Rattle.djq_index.specs.declared.place.Place.{Place}
-use Rattle.djq_index.specs.Tuple.{same, pick, one}
+use Rattle.djq_index.specs.Tuple.{same, pick, one_if}
 use Rattle.djq_index.specs.Entries.{
   Entry,
   count_of,
@@ -46,7 +46,7 @@ use Rattle.djq_index.specs.Entries.{
   head_at,
   last_at,
 }
-use Rattle.djq_index.specs.Table.{AreApart, AreLast, IsAt, IsLive}
+use Rattle.djq_index.specs.Table.{TuplesDiffer, AreLast, IsAt, IsOccupied}
 use Rattle.djq_index.proofs.Tuples.{same_is, is_same, one_true, one_false, true_from_one}
 use Rattle.djq_index.proofs.Counts.{cnt_split, cnt_length, length_grp}
 use Rattle.djq_index.proofs.Groups.{cnt_grp, grp_yes, grp_no}
@@ -59,7 +59,7 @@ use Rattle.djq_reduct.specs.Tables.{entries_at, key_at}
 use Rattle.djq_reduct.specs.Reducts.{Reducts, IsReducts}
 use Rattle.djq_reduct.proofs.Family.{apart_at}
 use Rattle.djq_cursor.specs.declared.places.Choice.{Choice}
-use Rattle.djq_cursor.specs.Menus.{has, behind}
+use Rattle.djq_cursor.specs.Menus.{has_tuple, tuples_behind}
 use Rattle.djq_cursor.specs.Levels.{source}
 use Rattle.djq_cursor.specs.Walk.{IsAlive, IsFirstAt, chosen}
 use Rattle.djq_cursor.proofs.Groups.{tuples, cnt_has, grp_nil, both_positive, group_says}
@@ -285,11 +285,11 @@ last_none r k w o h e is = none_of (part (group_entries r k w))
 -- ---- one step backwards
 
 -- whether a tuple is marked, by counts
-marked_by : (es : List Entry) (u : List ℕ) → AreApart es → 0 < count_of (marks es) u
+marked_by : (es : List Entry) (u : List ℕ) → TuplesDiffer es → 0 < count_of (marks es) u
     → is_marked es u ≡ true
 marked_by es u h some = (let c = marked_cnt es u h in true_from_one (is_marked es u) (omega arith))
 
-unmarked_by : (es : List Entry) (u : List ℕ) → AreApart es → count_of (marks es) u ≡ 0
+unmarked_by : (es : List Entry) (u : List ℕ) → TuplesDiffer es → count_of (marks es) u ≡ 0
     → is_marked es u ≡ false
 unmarked_by es u h none =
     let c = marked_cnt es u h in
@@ -333,7 +333,7 @@ SaysPrev key es p o = (w : List ℕ) (xs : List Entry) (e : Entry) (ys : List En
 pub record Later (r : Reducts) (c : Choice) (w : List ℕ) (o : Option Place) : Type 0 where
   pub back : List Entry
   pub head : o ≡ head_at back
-  pub later : behind (changed_at r c.level w) (chosen r c) ≡ tuples back
+  pub later : tuples_behind (changed_at r c.level w) (chosen r c) ≡ tuples back
   pub inside : (xs : List Entry) (e : Entry) (ys : List Entry) → back ≡ xs ++ e ∷ ys
       → Inside (entries_at r.tables (source r.tree c.level)) e
 
@@ -353,7 +353,7 @@ head_none = refl
 step_all : (r : Reducts) (c : Choice) (w : List ℕ) (o : Option Place) (here before : Bool)
     (back : List Entry) → IsReducts r → Marked r c o here before
     → length (marks (group_entries r c.level w)) ≡ 0
-    → has (tuples (group_entries r c.level w)) (chosen r c) ≡ true → o ≡ last_at (reverse back)
+    → has_tuple (tuples (group_entries r c.level w)) (chosen r c) ≡ true → o ≡ last_at (reverse back)
     → kept o here before ≡ head_at back
 step_all r c w o here before back h m none on e =
     let n = source r.tree c.level in
@@ -378,7 +378,7 @@ step_all r c w o here before back h m none on e =
 step_some : (r : Reducts) (c : Choice) (w : List ℕ) (o : Option Place) (here before : Bool)
     (front : List Entry) (e : Entry) (back : List Entry) → IsReducts r → Marked r c o here before
     → 0 < length (marks (group_entries r c.level w))
-    → has (tuples (part (group_entries r c.level w))) (chosen r c) ≡ true
+    → has_tuple (tuples (part (group_entries r c.level w))) (chosen r c) ≡ true
     → part (group_entries r c.level w) ≡ front ++ e ∷ back
     → o ≡ last_at (plain (group_entries r c.level w) ++ reverse back)
     → kept o here before ≡ head_at back
@@ -404,7 +404,7 @@ step_some r c w o here before front e [] h m some on is says =
     (λ (l : List Entry). count_of l b.entry.tuple) (plain_grp key es w) in
     let product = cnt_grp key (plain es) w b.entry.tuple in
     let in_table =
-    (both_positive (count_of (plain es) b.entry.tuple) (one (same (pick key b.entry.tuple) w))
+    (both_positive (count_of (plain es) b.entry.tuple) (one_if (same (pick key b.entry.tuple) w))
     (omega arith)).0 in
     let split = cnt_split es b.entry.tuple in
     let once = cnt_once es b.entry.tuple apart in
@@ -432,7 +432,7 @@ step_some r c w o here before front e (b ∷ bs) h m some on is says =
 step_cases : (r : Reducts) (c : Choice) (w : List ℕ) (o : Option Place) (here before : Bool) (n : ℕ)
     → length (marks (group_entries r c.level w)) ≡ n → IsReducts r → Marked r c o here before
     → (s : Stood (part (group_entries r c.level w)) (chosen r c))
-    → has (tuples (part (group_entries r c.level w))) (chosen r c) ≡ true
+    → has_tuple (tuples (part (group_entries r c.level w))) (chosen r c) ≡ true
     → (t : Stands (group_entries r c.level w) s.entry (reverse s.back)) → o ≡ last_at t.before
     → kept o here before ≡ head_at s.back
 step_cases r c w o here before zero many_marks h m s on t says =
@@ -444,7 +444,7 @@ step_cases r c w o here before (suc n) many_marks h m s on t says =
 
 later : (r : Reducts) (c : Choice) (w : List ℕ) (o : Option Place) (here before : Bool)
     → IsReducts r → IsAlive r c → Marked r c o here before
-    → has (changed_at r c.level w) (chosen r c) ≡ true
+    → has_tuple (changed_at r c.level w) (chosen r c) ≡ true
     → SaysPrev (key_at r.tables (source r.tree c.level))
     (entries_at r.tables (source r.tree c.level)) c.place o → Later r c w (kept o here before)
 unfolding changed_at
@@ -490,8 +490,8 @@ pub if_next : (r : Reducts) (c : Choice) (n : ℕ) (key : List ℕ) (es : List E
     (o result : Option Place) (here before : Bool) → IsReducts r → IsAlive r c
     → n ≡ source r.tree c.level → key ≡ key_at r.tables n → es ≡ entries_at r.tables n
     → SaysPrev key es c.place o → Marked r c o here before → result ≡ kept o here before
-    → IfSome result (λ p. (w : List ℕ) → has (changed_at r c.level w) (chosen r c) ≡ true
-    → IsFirstAt r (behind (changed_at r c.level w) (chosen r c))
+    → IfSome result (λ p. (w : List ℕ) → has_tuple (changed_at r c.level w) (chosen r c) ≡ true
+    → IsFirstAt r (tuples_behind (changed_at r c.level w) (chosen r c))
     (record { level = c.level; place = p }))
 if_next r c n key es o None here before h l at same_key same says m is = tt
 if_next r c n key es o (Some p) here before h l at same_key same says m is = λ w on.
@@ -504,8 +504,8 @@ pub if_last : (r : Reducts) (c : Choice) (n : ℕ) (key : List ℕ) (es : List E
     → n ≡ source r.tree c.level → key ≡ key_at r.tables n → es ≡ entries_at r.tables n
     → SaysPrev key es c.place o → Marked r c o here before → result ≡ kept o here before
     → IfNone result
-    ((w : List ℕ) → has (changed_at r c.level w) (chosen r c) ≡ true
-    → behind (changed_at r c.level w) (chosen r c) ≡ [])
+    ((w : List ℕ) → has_tuple (changed_at r c.level w) (chosen r c) ≡ true
+    → tuples_behind (changed_at r c.level w) (chosen r c) ≡ [])
 if_last r c n key es o None here before h l at same_key same says m is = λ w on.
     let t = later r c w o here before h l m on (says_in r c n key es o at same_key same says) in
     t.later ∙ none_of t.back (sym t.head ∙ sym is)
@@ -528,8 +528,8 @@ if_empty r k n key es w None h at same_key same e = last_none r k w None h
 if_empty r k n key es w (Some p) h at same_key same e = tt
 
 -- the place before is live
-pub prior_live : (key : List ℕ) (es : List Entry) (p q : Place) (o : Option Place) → IsLive es p
-    → SaysPrev key es p o → o ≡ Some q → IsLive es q
+pub prior_live : (key : List ℕ) (es : List Entry) (p q : Place) (o : Option Place) → IsOccupied es p
+    → SaysPrev key es p o → o ≡ Some q → IsOccupied es q
 prior_live key es p q o l says found =
     let a = l.is_at in
     let w = pick key a.entry.tuple in
@@ -541,7 +541,7 @@ prior_live key es p q o l says found =
     ∙ ap (λ (f : List Entry). f ++ a.entry ∷ group_of key a.back w) b.is
     ∙ append_assoc b.front (b.entry ∷ []) (a.entry ∷ group_of key a.back w) in
     let i = inside_group key es w b.front b.entry (a.entry ∷ group_of key a.back w) whole in
-    subst (λ (x : Place). IsLive es x) b.at
+    subst (λ (x : Place). IsOccupied es x) b.at
     (live es b.entry.at b.entry.tuple (at_inside es b.entry i))
 
 -- what the table says of the two marks
@@ -570,8 +570,8 @@ marks_none r c =
     record { at = refl; prior = λ q v found is. absurd (let e : None ≡ Some q = found in cc) }
 
 pub live_in : (r : Reducts) (c : Choice) (n : ℕ) (es : List Entry) → IsAlive r c
-    → n ≡ source r.tree c.level → es ≡ entries_at r.tables n → IsLive es c.place
-live_in r c n es l at same = subst (λ (fs : List Entry). IsLive fs c.place)
+    → n ≡ source r.tree c.level → es ≡ entries_at r.tables n → IsOccupied es c.place
+live_in r c n es l at same = subst (λ (fs : List Entry). IsOccupied fs c.place)
     (sym (same ∙ ap (λ (i : ℕ). entries_at r.tables i) at)) l.live
 
 -- ---- the root
@@ -588,7 +588,7 @@ pub root_found : (r : Reducts) (es : List Entry) (b : Bool) → IsReducts r
 unfolding root_marked
 root_found r es b h e is =
     let n = length r.tree.nodes - 1 in
-    let apart : AreApart es = subst AreApart (sym e) (apart_at r.tables n (h.family.sound n)) in
+    let apart : TuplesDiffer es = subst TuplesDiffer (sym e) (apart_at r.tables n (h.family.sound n)) in
     let c = marked_cnt es [] apart in
     is
     ∙ elim (cases_Bool (is_marked es [])) [

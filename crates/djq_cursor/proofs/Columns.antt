@@ -35,7 +35,7 @@ use Rattle.djq_hyper.specs.Hypergraph.{member}
 use Rattle.djq_index.specs.Tuple.{pick}
 use Rattle.djq_reduct.specs.Columns.{column, columns}
 use Rattle.djq_reduct.proofs.Placing.{column_within, column_here, column_on}
-use Rattle.djq_cursor.specs.Levels.{written}
+use Rattle.djq_cursor.specs.Levels.{written_cells}
 use Rattle.djq_reduct.proofs.Readings.{cell_there, row_same, pick_itself}
 
 -- ---- labels
@@ -122,7 +122,7 @@ tuple_same l u v h e d same = sym (pick_itself l u h e) ∙ pick_same l l l u v 
 
 -- ---- a tuple written into an answer
 
-pub length_written : (F l us s : List ℕ) → length (written F l us s) ≡ length s
+pub length_written : (F l us s : List ℕ) → length (written_cells F l us s) ≡ length s
 length_written F [] us s = refl
 length_written F (x ∷ l) [] s = refl
 length_written F (x ∷ l) (u ∷ us) s = length_written F l us (slice_set s (column F x) u)
@@ -130,7 +130,7 @@ length_written F (x ∷ l) (u ∷ us) s = length_written F l us (slice_set s (co
 
 -- elsewhere it is as before
 pub written_else : (F l us s : List ℕ) (y : ℕ) → Within l F → member y F ≡ true → member y l ≡ false
-    → cell F (written F l us s) y ≡ cell F s y
+    → cell F (written_cells F l us s) y ≡ cell F s y
 written_else F [] us s y h m out = refl
 written_else F (x ∷ l) [] s y h m out = refl
 written_else F (x ∷ l) (u ∷ us) s y h m out =
@@ -142,7 +142,7 @@ written_else F (x ∷ l) (u ∷ us) s y h m out =
 
 -- there it is the tuple's
 pub written_there : (F l us s : List ℕ) (y : ℕ) → IsSimple l → Within l F → length us ≡ length l
-    → length s ≡ length F → member y l ≡ true → cell F (written F l us s) y ≡ cell l us y
+    → length s ≡ length F → member y l ≡ true → cell F (written_cells F l us s) y ≡ cell l us y
 written_there F [] us s y simple h e d m = absurd (false≢true m)
 written_there F (x ∷ l) [] s y simple h e d m = absurd (omega arith)
 written_there F (x ∷ l) (u ∷ us) s y simple h e d m =
@@ -168,6 +168,6 @@ written_there F (x ∷ l) (u ∷ us) s y simple h e d m =
 
 -- so the projection on its label is the tuple
 pub pick_written : (F l us s : List ℕ) → IsSimple l → Within l F → length us ≡ length l
-    → length s ≡ length F → pick (columns F l) (written F l us s) ≡ us
-pick_written F l us s simple h e d = pick_same F l l (written F l us s) us
+    → length s ≡ length F → pick (columns F l) (written_cells F l us s) ≡ us
+pick_written F l us s simple h e d = pick_same F l l (written_cells F l us s) us
     (λ y m. written_there F l us s y simple h e d m) ∙ pick_itself l us simple e

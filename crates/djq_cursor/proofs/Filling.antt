@@ -12,7 +12,8 @@ use Rattle.djq_tree.specs.Levels.{levels, levels_below, level_on}
 use Rattle.djq_reduct.specs.Reducts.{Reducts, IsReducts}
 use Rattle.djq_cursor.specs.declared.places.Choice.{Choice}
 use Rattle.djq_cursor.specs.Levels.{IsLevel, IsNextLevel, step}
-use Rattle.djq_cursor.specs.Walk.{Menu, chosen, here, reached, Follows, Descends, IsComplete, Stands, blank}
+use Rattle.djq_cursor.specs.Walk.{Menu, chosen, here, reached_level, GoesThrough, Descends, IsComplete, ChoicesStand}
+use Rattle.djq_cursor.specs.Walk.{blank}
 use Rattle.djq_cursor.proofs.Stepping.{step_wide}
 use Rattle.djq_cursor.proofs.Walking.{length_levels}
 
@@ -47,7 +48,7 @@ next_is t (suc n) k ks high h = next_test t n k (nat_le t.second_stage n) ks ref
     (λ deeper. next_is t n k ks (omega arith) deeper)
 
 pub reached_within : (r : Reducts) (menu : Menu) (n : ℕ) (s : List ℕ) (cs : List Choice)
-    → n ≤ length r.tree.nodes → Follows r menu n s cs → reached n cs ≤ n
+    → n ≤ length r.tree.nodes → GoesThrough r menu n s cs → reached_level n cs ≤ n
 reached_within r menu n s [] high f = omega arith
 reached_within r menu n s (c ∷ cs) high f =
     let low = (next_is r.tree n c.level (levels_below r.tree c.level) high f.0).0 in
@@ -57,8 +58,8 @@ reached_within r menu n s (c ∷ cs) high f =
 
 -- the levels that have no choice yet, as the list of all levels tells them
 left_below : (r : Reducts) (menu : Menu) (n : ℕ) (s : List ℕ) (cs : List Choice)
-    → Follows r menu n s cs
-    → drop (length cs) (levels_below r.tree n) ≡ levels_below r.tree (reached n cs)
+    → GoesThrough r menu n s cs
+    → drop (length cs) (levels_below r.tree n) ≡ levels_below r.tree (reached_level n cs)
 left_below r menu n s [] f = refl
 left_below r menu n s (c ∷ cs) f =
     ap (λ (ks : List ℕ). drop (suc (length cs)) ks) f.0
@@ -89,9 +90,9 @@ next_down t (suc n) k ks h = down_test t n k (nat_le t.second_stage n) ks h
 -- the first of them is the next level
 pub next_listed : (r : Reducts) (menu : Menu) (cs : List Choice) (ls : List ℕ) (at : ℕ)
     → Descends r menu cs → ls ≡ levels r.tree → at ≡ length cs → at < length ls
-    → IsNextLevel r.tree (reached (length r.tree.nodes) cs) (slice_index_or ls at 0)
+    → IsNextLevel r.tree (reached_level (length r.tree.nodes) cs) (slice_index_or ls at 0)
 next_listed r menu cs ls at f all is low =
-    next_down r.tree (reached (length r.tree.nodes) cs) (slice_index_or ls at 0) (drop (at + 1) ls)
+    next_down r.tree (reached_level (length r.tree.nodes) cs) (slice_index_or ls at 0) (drop (at + 1) ls)
     (sym (left_below r menu (length r.tree.nodes) (blank r.tree) cs f)
     ∙ ap₂ (λ (i : ℕ) (ks : List ℕ). drop i ks) (sym is) (sym all)
     ∙ drop_more ls at 0 low)
@@ -100,7 +101,7 @@ pub level_listed : (r : Reducts) (menu : Menu) (cs : List Choice) (ls : List ℕ
     → Descends r menu cs → ls ≡ levels r.tree → at ≡ length cs → at < length ls
     → IsLevel r.tree (slice_index_or ls at 0)
 level_listed r menu cs ls at f all is low =
-    (next_is r.tree (reached (length r.tree.nodes) cs) (slice_index_or ls at 0)
+    (next_is r.tree (reached_level (length r.tree.nodes) cs) (slice_index_or ls at 0)
     (levels_below r.tree (slice_index_or ls at 0))
     (reached_within r menu (length r.tree.nodes) (blank r.tree) cs (omega arith) f)
     (next_listed r menu cs ls at f all is low)).1
@@ -114,7 +115,7 @@ pub all_chosen : (r : Reducts) (menu : Menu) (cs : List Choice) → Descends r m
     → length (levels r.tree) ≤ length cs → IsComplete r cs
 all_chosen r menu cs f many =
     let l = length_levels r menu (length r.tree.nodes) (blank r.tree) cs f in
-    no_more (levels_below r.tree (reached (length r.tree.nodes) cs)) (omega arith)
+    no_more (levels_below r.tree (reached_level (length r.tree.nodes) cs)) (omega arith)
 
 -- and no level has two
 pub few_chosen : (r : Reducts) (menu : Menu) (cs : List Choice) → Descends r menu cs
@@ -132,11 +133,11 @@ here_wide r s (c ∷ cs) = here_wide r (step r.tree c.level s (chosen r c)) cs
 
 -- there is room for it
 pub room_for : (r : Reducts) (menu : Menu) (n k : ℕ) (cs : List Choice) (a : List ℕ) → IsReducts r
-    → IsSmall r.tree → Stands r menu cs a → n ≡ reached (length r.tree.nodes) cs
+    → IsSmall r.tree → ChoicesStand r menu cs a → n ≡ reached_level (length r.tree.nodes) cs
     → IsNextLevel r.tree n k → length cs < 16
 room_for r menu n k cs a h small st is next =
     let l = length_levels r menu (length r.tree.nodes) (blank r.tree) cs st.follows in
-    let e : length (levels_below r.tree (reached (length r.tree.nodes) cs)) ≡ suc
+    let e : length (levels_below r.tree (reached_level (length r.tree.nodes) cs)) ≡ suc
     (length (levels_below r.tree k)) = ap (λ (i : ℕ). length (levels_below r.tree i)) (sym is)
     ∙ ap (λ (ks : List ℕ). length ks) next in
     let few = small.few_levels in

@@ -40,7 +40,7 @@ use Rattle.djq_reduct.specs.Reducts.{Reducts, IsReducts}
 use Rattle.djq_reduct.proofs.Family.{trim_law, meet_law}
 use Rattle.djq_reduct.proofs.Placing.{columns_none}
 use Rattle.djq_reduct.specs.Answers.{on_node}
-use Rattle.djq_cursor.specs.Walk.{AreAlike}
+use Rattle.djq_cursor.specs.Walk.{ProjectAlike}
 use Rattle.djq_cursor.proofs.Columns.{Within, cell, cells_same, pick_same, pick_pick}
 use Rattle.djq_reduct.proofs.Readings.{within_of}
 use Rattle.djq_cursor.proofs.Outs.{root_or_parent}
@@ -199,7 +199,7 @@ node_in r k s h within good =
     ]
 
 pub node_alike : (t : Tree) (k : ℕ) (s a : List ℕ) → IsTree t → k < length t.nodes
-    → AreAlike t (suc k) s a → on_node t k s ≡ on_node t k a
+    → ProjectAlike t (suc k) s a → on_node t k s ≡ on_node t k a
 node_alike t k s a h within alike =
     elim (root_or_parent t k h within) [
       | inl root ↦ ap (λ (i : ℕ). on_node t i s) root ∙ root_node t s h
@@ -241,7 +241,7 @@ good_meet r k g d s h late within e good =
     }
 
 pub alike_meet : (t : Tree) (k g d : ℕ) (s a : List ℕ) → IsTree t → k < length t.nodes
-    → node_at t.nodes k ≡ Meet g d → AreAlike t (suc k) s a → AreAlike t k s a
+    → node_at t.nodes k ≡ Meet g d → ProjectAlike t (suc k) s a → ProjectAlike t k s a
 alike_meet t k g d s a h within e alike =
     let m = h.meet k g d e in
     let same = node_cells t k s a (node_alike t k s a h within alike) in

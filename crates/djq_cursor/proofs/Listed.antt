@@ -33,11 +33,11 @@ use Rattle.djq_cursor.specs.declared.cursor.State.{State}
 use Rattle.djq_cursor.specs.declared.cursor.State.TheVariants.{Start, At, End}
 use Rattle.djq_cursor.specs.declared.cursor.Cursor.{Cursor}
 use Rattle.djq_cursor.specs.declared.places.Choice.{Choice}
-use Rattle.djq_cursor.specs.Listing.{AreSome, IsListing}
+use Rattle.djq_cursor.specs.Listing.{AreSome, ListsTuples}
 use Rattle.djq_reduct.specs.Answers.{on_node, IsAnswerOf}
-use Rattle.djq_cursor.specs.Menus.{has, AreOnce}
+use Rattle.djq_cursor.specs.Menus.{has_tuple, TuplesOnce}
 use Rattle.djq_cursor.specs.Levels.{group_at}
-use Rattle.djq_cursor.specs.Walk.{Menu, leaves, IsClear, blank, all_given, given_by, FitsBy}
+use Rattle.djq_cursor.specs.Walk.{Menu, leaves, IsClear, blank, all_given, walk_given, FitsBy}
 use Rattle.djq_cursor.specs.Given.{has_root, given, Fits}
 use Rattle.djq_cursor.proofs.Menus.{has_left, once_front, all_of, different_of, contains_of}
 use Rattle.djq_cursor.proofs.Walking.{leaves_split, given_whole}
@@ -86,9 +86,9 @@ clear_of r menu Good Answer entered h g e = record {
 
 -- all that is given, once
 pub record Whole (Answer : List ℕ → Type 0) (all : List (List ℕ)) : Type 0 where
-  pub answers : (a : List ℕ) → has all a ≡ true → Answer a
-  pub once : AreOnce all
-  pub complete : (a : List ℕ) → Answer a → has all a ≡ true
+  pub answers : (a : List ℕ) → has_tuple all a ≡ true → Answer a
+  pub once : TuplesOnce all
+  pub complete : (a : List ℕ) → Answer a → has_tuple all a ≡ true
 
 whole_cases : (r : Reducts) (menu : Menu) (Good : ℕ → List ℕ → Type 0) (Answer : List ℕ → Type 0)
     (entered b : Bool) → IsReducts r → IsGuide r menu Good Answer → IsEntered r Good Answer entered
@@ -115,7 +115,7 @@ whole_of r menu Good Answer entered h g e = whole_cases r menu Good Answer enter
     refl
 
 pub whole_listing : (Answer : List ℕ → Type 0) (all : List (List ℕ)) → Whole Answer all
-    → IsListing Answer all
+    → ListsTuples Answer all
 whole_listing Answer all w =
     record {
       different = different_of all w.once;
@@ -127,14 +127,14 @@ whole_listing Answer all w =
 pub front_some : (Answer : List ℕ → Type 0) (all front rest : List (List ℕ)) → Whole Answer all
     → all ≡ front ++ rest → AreSome Answer front
 front_some Answer all front rest w e = record {
-  different = different_of front (once_front front rest (subst AreOnce e w.once));
+  different = different_of front (once_front front rest (subst TuplesOnce e w.once));
   all = all_of Answer front
-      (λ a m. w.answers a (ap (λ (l : List (List ℕ)). has l a) e ∙ has_left front rest a m));
+      (λ a m. w.answers a (ap (λ (l : List (List ℕ)). has_tuple l a) e ∙ has_left front rest a m));
 }
 
 given_front : (r : Reducts) (menu : Menu) (entered : Bool) (cs : List Choice) (a : List ℕ)
     → FitsBy r menu entered At cs a → (rest : List (List ℕ))
-    × (all_given r menu entered ≡ given_by r menu entered At cs ++ rest)
+    × (all_given r menu entered ≡ walk_given r menu entered At cs ++ rest)
 given_front r menu entered cs a f =
     let n = length r.tree.nodes in
     let p = leaves_split r menu n (blank r.tree) cs f.1 in (
@@ -148,12 +148,12 @@ given_front r menu entered cs a f =
 pub given_some : (r : Reducts) (menu : Menu) (Answer : List ℕ → Type 0) (entered : Bool)
     (state : State) (cs : List Choice) (a : List ℕ) → Whole Answer (all_given r menu entered)
     → FitsBy r menu entered state cs a
-    → AreSome Answer (given_by r menu entered state cs)
+    → AreSome Answer (walk_given r menu entered state cs)
 given_some r menu Answer entered Start cs a w f =
     record { different = different_of [] tt; all = All-nil Answer }
 given_some r menu Answer entered At cs a w f =
     let p = given_front r menu entered cs a f in
-    front_some Answer (all_given r menu entered) (given_by r menu entered At cs) p.0 w p.1
+    front_some Answer (all_given r menu entered) (walk_given r menu entered At cs) p.0 w p.1
 given_some r menu Answer entered End cs a w f =
     record {
       different = different_of (all_given r menu entered) w.once;
@@ -163,8 +163,8 @@ given_some r menu Answer entered End cs a w f =
 
 -- where all was given it is a listing
 pub given_listing : (Answer : List ℕ → Type 0) (all given : List (List ℕ)) → Whole Answer all
-    → given ≡ all → IsListing Answer given
-given_listing Answer all given w e = subst (IsListing Answer) (sym e) (whole_listing Answer all w)
+    → given ≡ all → ListsTuples Answer given
+given_listing Answer all given w e = subst (ListsTuples Answer) (sym e) (whole_listing Answer all w)
 
 -- the last of different ones is none of the others
 pub last_is_new : (Answer : List ℕ → Type 0) (old new : List (List ℕ)) (a : List ℕ)
@@ -182,7 +182,7 @@ last_is_new Answer old new a e some c =
 
 -- where one more was given it wasn't
 pub one_left : (Answer : List ℕ → Type 0) (old new : List (List ℕ)) (a : List ℕ)
-    → new ≡ old ++ a ∷ [] → AreSome Answer new → IsListing Answer old → ⊥
+    → new ≡ old ++ a ∷ [] → AreSome Answer new → ListsTuples Answer old → ⊥
 one_left Answer old new a e some listing =
     let here : length old < length new =
     (let l = ap (λ (l : List (List ℕ)). length l) e ∙ length_push old a in omega arith) in
@@ -254,7 +254,7 @@ cursor_answers r c h f = given_some r (group_at r) (IsAnswerOf r) (has_root r) c
 
 pub cursor_one : (r : Reducts) (old new : Cursor) (a : List ℕ) (b : Bool)
     → OnTrue b
-    (given_by r (group_at r) (has_root r) new.state new.places ≡ given_by r (group_at r)
+    (walk_given r (group_at r) (has_root r) new.state new.places ≡ walk_given r (group_at r)
     (has_root r) old.state old.places ++ a ∷ []) → OnTrue b (given r new ≡ given r old ++ a ∷ [])
 unfolding given
 cursor_one r old new a b h = h
@@ -266,24 +266,24 @@ on_false_both false x y z p q = q ∙ sym p
 
 pub cursor_same : (r : Reducts) (old new : Cursor) (b : Bool)
     → OnFalse b
-    (given_by r (group_at r) (has_root r) old.state old.places ≡ all_given r (group_at r)
+    (walk_given r (group_at r) (has_root r) old.state old.places ≡ all_given r (group_at r)
     (has_root r))
     → OnFalse b
-    (given_by r (group_at r) (has_root r) new.state new.places ≡ all_given r (group_at r)
+    (walk_given r (group_at r) (has_root r) new.state new.places ≡ all_given r (group_at r)
     (has_root r))
     → OnFalse b (given r new ≡ given r old)
 unfolding given
 cursor_same r old new b p q = on_false_both b
-    (given_by r (group_at r) (has_root r) old.state old.places)
-    (given_by r (group_at r) (has_root r) new.state new.places)
+    (walk_given r (group_at r) (has_root r) old.state old.places)
+    (walk_given r (group_at r) (has_root r) new.state new.places)
     (all_given r (group_at r) (has_root r)) p q
 
 pub cursor_end : (r : Reducts) (old new : Cursor) (a : List ℕ) (b : Bool) → IsReducts r → Fits r new
     → OnTrue b
-    (given_by r (group_at r) (has_root r) new.state new.places ≡ given_by r (group_at r)
+    (walk_given r (group_at r) (has_root r) new.state new.places ≡ walk_given r (group_at r)
     (has_root r) old.state old.places ++ a ∷ [])
-    → OnFalse b (given_by r (group_at r) (has_root r) old.state old.places ≡ all_given r
-    (group_at r) (has_root r)) → (b ≡ false) ↔ IsListing (IsAnswerOf r) (given r old)
+    → OnFalse b (walk_given r (group_at r) (has_root r) old.state old.places ≡ all_given r
+    (group_at r) (has_root r)) → (b ≡ false) ↔ ListsTuples (IsAnswerOf r) (given r old)
 unfolding given Fits
 cursor_end r old new a true h f one all = (
   λ e. absurd (false≢true (sym e)),

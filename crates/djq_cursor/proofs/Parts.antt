@@ -25,15 +25,15 @@ use Rattle.std.proofs.Common.{
 use Rattle.std.proofs.Math.Nat.{zero-mul, mul-zero}
 use Rattle.std.proofs.lemmas.Bool.{cases_Bool}
 use Rattle.std.proofs.lemmas.List.{length-reverse, length-map, reverse-append}
-use Rattle.djq_index.specs.Tuple.{same, pick, one}
+use Rattle.djq_index.specs.Tuple.{same, pick, one_if}
 use Rattle.djq_index.specs.Entries.{Entry, count_of, group_size, group_of, marks}
-use Rattle.djq_index.specs.Table.{AreApart}
+use Rattle.djq_index.specs.Table.{TuplesDiffer}
 use Rattle.djq_index.proofs.Tuples.{one_same, one_le}
 use Rattle.djq_index.proofs.Counts.{cnt_cons, count_of-append, cnt_split, length_grp}
 use Rattle.djq_index.proofs.Groups.{cnt_grp, grp_yes, grp_no}
 use Rattle.djq_index.proofs.Marks.{marks_yes, marks_no}
 use Rattle.djq_index.proofs.Apart.{cnt_once}
-use Rattle.djq_cursor.specs.Menus.{has, AreOnce}
+use Rattle.djq_cursor.specs.Menus.{has_tuple, TuplesOnce}
 use Rattle.djq_cursor.proofs.Groups.{
   tuples,
   has_cnt,
@@ -61,10 +61,10 @@ cnt_reverse (e ∷ es) u =
     omega arith
 
 -- each tuple once, by counts
-pub once_by : (es : List Entry) → ((u : List ℕ) → count_of es u ≤ 1) → AreOnce (tuples es)
+pub once_by : (es : List Entry) → ((u : List ℕ) → count_of es u ≤ 1) → TuplesOnce (tuples es)
 once_by [] h = tt
 once_by (e ∷ es) h = (
-  elim (cases_Bool (has (tuples es) e.tuple)) [
+  elim (cases_Bool (has_tuple (tuples es) e.tuple)) [
     | inl is ↦ absurd
         (let p = has_cnt es e.tuple is in let c = cnt_cons e es e.tuple in let o = one_same
         e.tuple in let l = h e.tuple in omega arith)
@@ -132,11 +132,11 @@ part_few g u =
     let f = or_few (marks g) g u (omega arith) in
     omega arith
 
-pub part_in : (g : List Entry) (u : List ℕ) → has (tuples (part g)) u ≡ true
-    → has (tuples g) u ≡ true
+pub part_in : (g : List Entry) (u : List ℕ) → has_tuple (tuples (part g)) u ≡ true
+    → has_tuple (tuples g) u ≡ true
 part_in g u h = cnt_has g u (let p = has_cnt (part g) u h in let f = part_few g u in omega arith)
 
-pub part_once : (g : List Entry) → ((u : List ℕ) → count_of g u ≤ 1) → AreOnce (tuples (part g))
+pub part_once : (g : List Entry) → ((u : List ℕ) → count_of g u ≤ 1) → TuplesOnce (tuples (part g))
 part_once g h = once_by (part g) (λ u. let f = part_few g u in let l = h u in omega arith)
 
 -- it isn't empty where the group isn't
@@ -151,7 +151,7 @@ part_filled g h e =
 
 -- where there are marks it has the marked ones, and else all
 pub part_marked : (g : List Entry) (u : List ℕ) → 0 < length (marks g)
-    → has (tuples (part g)) u ≡ true → 0 < count_of (marks g) u
+    → has_tuple (tuples (part g)) u ≡ true → 0 < count_of (marks g) u
 part_marked g u some h =
     let p = has_cnt (part g) u h in
     let r = cnt_reverse (marked_or (marks g) g) u in
@@ -165,20 +165,20 @@ part_cases [] g u h k = h
 part_cases (m ∷ ms) g u h k = k (omega arith)
 
 pub in_part : (g : List Entry) (u : List ℕ) → 0 < count_of g u
-    → (0 < length (marks g) → 0 < count_of (marks g) u) → has (tuples (part g)) u ≡ true
+    → (0 < length (marks g) → 0 < count_of (marks g) u) → has_tuple (tuples (part g)) u ≡ true
 in_part g u h k = cnt_has (part g) u
     (let c = part_cases (marks g) g u h k in let r = cnt_reverse (marked_or (marks g) g) u in omega
     arith)
 
 -- ---- in a group of a table
 
-pub group_few : (key : List ℕ) (es : List Entry) (w u : List ℕ) → AreApart es
+pub group_few : (key : List ℕ) (es : List Entry) (w u : List ℕ) → TuplesDiffer es
     → count_of (group_of key es w) u ≤ 1
 group_few key es w u h =
     let c = cnt_grp key es w u in
     let o = cnt_once es u h in
     let l = one_le (same (pick key u) w) in
-    let p = small_product (count_of es u) (one (same (pick key u) w)) o l in
+    let p = small_product (count_of es u) (one_if (same (pick key u) w)) o l in
     omega arith
   where
     small_product : (a b : ℕ) → a ≤ 1 → b ≤ 1 → a * b ≤ 1
@@ -199,13 +199,13 @@ marked_in_group key es w u h =
     let e : count_of (marks (group_of key es w)) u ≡ count_of (group_of key (marks es) w) u = ap
     (λ (fs : List Entry). count_of fs u) (marks_grp key es w) in
     let c = cnt_grp key (marks es) w u in
-    (both_positive (count_of (marks es) u) (one (same (pick key u) w)) (omega arith)).0
+    (both_positive (count_of (marks es) u) (one_if (same (pick key u) w)) (omega arith)).0
 
 pub group_marked : (key : List ℕ) (es : List Entry) (w u : List ℕ) → 0 < count_of (marks es) u
-    → 0 < one (same (pick key u) w) → 0 < count_of (marks (group_of key es w)) u
+    → 0 < one_if (same (pick key u) w) → 0 < count_of (marks (group_of key es w)) u
 group_marked key es w u h k =
     let e : count_of (marks (group_of key es w)) u ≡ count_of (group_of key (marks es) w) u = ap
     (λ (fs : List Entry). count_of fs u) (marks_grp key es w) in
     let c = cnt_grp key (marks es) w u in
-    let p = product_positive (count_of (marks es) u) (one (same (pick key u) w)) h k in
+    let p = product_positive (count_of (marks es) u) (one_if (same (pick key u) w)) h k in
     omega arith

@@ -30,7 +30,7 @@ use Rattle.std.proofs.lemmas.Bool.{cases_Bool, false≢true, lt-ltb, le-ltb}
 use Rattle.djq_index.specs.declared.place.Place.{Place}
 use Rattle.djq_index.specs.Tuple.{same, pick}
 use Rattle.djq_index.specs.Entries.{Entry, count_of, group_of, head_at}
-use Rattle.djq_index.specs.Table.{AreApart, IsAt}
+use Rattle.djq_index.specs.Table.{TuplesDiffer, IsAt}
 use Rattle.djq_index.proofs.Tuples.{same_is, same_refl}
 use Rattle.djq_index.proofs.Groups.{grp_yes, grp_no}
 use Rattle.djq_index.proofs.Apart.{there}
@@ -39,7 +39,7 @@ use Rattle.djq_reduct.specs.Tables.{entries_at, key_at}
 use Rattle.djq_reduct.specs.Reducts.{Reducts, IsReducts}
 use Rattle.djq_reduct.proofs.Family.{apart_at}
 use Rattle.djq_cursor.specs.declared.places.Choice.{Choice}
-use Rattle.djq_cursor.specs.Menus.{has, behind}
+use Rattle.djq_cursor.specs.Menus.{has_tuple, tuples_behind}
 use Rattle.djq_cursor.specs.Levels.{source, group_at}
 use Rattle.djq_cursor.specs.Walk.{IsAlive, IsFirstAt, chosen}
 use Rattle.djq_cursor.specs.Given.{has_root}
@@ -97,7 +97,7 @@ place_else e es u h =
       | inr other ↦ ap (λ (b : Bool). cond b (Some e.at) (place_in es u)) other
     ]
 
-place_middle : (xs : List Entry) (e : Entry) (ys : List Entry) → AreApart (xs ++ e ∷ ys)
+place_middle : (xs : List Entry) (e : Entry) (ys : List Entry) → TuplesDiffer (xs ++ e ∷ ys)
     → place_in (xs ++ e ∷ ys) e.tuple ≡ Some e.at
 place_middle [] e ys h = ap (λ (b : Bool). cond b (Some e.at) (place_in ys e.tuple))
     (same_refl e.tuple)
@@ -107,15 +107,15 @@ place_middle (x ∷ xs) e ys h =
     x.tuple refl (sym same_tuple) in omega arith)
     ∙ place_middle xs e ys (apart_tail x (xs ++ e ∷ ys) h)
 
-pub place_is : (es : List Entry) (p : Place) (u : List ℕ) → AreApart es → IsAt es p u
+pub place_is : (es : List Entry) (p : Place) (u : List ℕ) → TuplesDiffer es → IsAt es p u
     → place_in es u ≡ Some p
 place_is es p u h a =
     ap (λ (fs : List Entry). place_in fs u) a.is
     ∙ ap (λ (v : List ℕ). place_in (a.front ++ a.entry ∷ a.back) v) (sym a.tuple)
-    ∙ place_middle a.front a.entry a.back (subst AreApart a.is h)
+    ∙ place_middle a.front a.entry a.back (subst TuplesDiffer a.is h)
     ∙ ap (λ (q : Place). Some q) a.at
 
-pub one_place : (es : List Entry) (p q : Place) (u : List ℕ) → AreApart es → IsAt es p u
+pub one_place : (es : List Entry) (p q : Place) (u : List ℕ) → TuplesDiffer es → IsAt es p u
     → IsAt es q u → p ≡ q
 one_place es p q u h a b = let e : Some p ≡ Some q = sym (place_is es p u h a)
     ∙ place_is es q u h b in cc
@@ -128,10 +128,10 @@ pub record Stood (g : List Entry) (u : List ℕ) : Type 0 where
   pub back : List Entry
   pub is : g ≡ front ++ entry ∷ back
   pub tuple : entry.tuple ≡ u
-  pub later : behind (tuples g) u ≡ tuples back
+  pub later : tuples_behind (tuples g) u ≡ tuples back
 
 stood_step : (b : Bool) (d : Entry) (g : List Entry) (u : List ℕ) → same d.tuple u ≡ b
-    → (b || has (tuples g) u) ≡ true → (has (tuples g) u ≡ true → Stood g u) → Stood (d ∷ g) u
+    → (b || has_tuple (tuples g) u) ≡ true → (has_tuple (tuples g) u ≡ true → Stood g u) → Stood (d ∷ g) u
 stood_step true d g u e h r =
     record {
       front = [];
@@ -140,7 +140,7 @@ stood_step true d g u e h r =
       is = refl;
       tuple = same_is d.tuple u e;
       later = ap
-          (λ (b : Bool). cond b (tuples g) (behind (tuples g) u)) e;
+          (λ (b : Bool). cond b (tuples g) (tuples_behind (tuples g) u)) e;
     }
 stood_step false d g u e h r =
     let s = r h in
@@ -150,10 +150,10 @@ stood_step false d g u e h r =
       back = s.back;
       is = ap (λ (l : List Entry). d ∷ l) s.is;
       tuple = s.tuple;
-      later = ap (λ (b : Bool). cond b (tuples g) (behind (tuples g) u)) e ∙ s.later;
+      later = ap (λ (b : Bool). cond b (tuples g) (tuples_behind (tuples g) u)) e ∙ s.later;
     }
 
-pub stood : (g : List Entry) (u : List ℕ) → has (tuples g) u ≡ true → Stood g u
+pub stood : (g : List Entry) (u : List ℕ) → has_tuple (tuples g) u ≡ true → Stood g u
 stood [] u h = absurd (false≢true h)
 stood (d ∷ g) u h = stood_step (same d.tuple u) d g u refl h (stood g u)
 
@@ -205,7 +205,7 @@ first_none r k w o e is = none_of (group_entries r k w) (sym e ∙ is)
 pub record Later (r : Reducts) (c : Choice) (w : List ℕ) (o : Option Place) : Type 0 where
   pub back : List Entry
   pub head : o ≡ head_at back
-  pub later : behind (group_at r c.level w) (chosen r c) ≡ tuples back
+  pub later : tuples_behind (group_at r c.level w) (chosen r c) ≡ tuples back
   pub inside : (xs : List Entry) (e : Entry) (ys : List Entry) → back ≡ xs ++ e ∷ ys
       → Inside (entries_at r.tables (source r.tree c.level)) e
 
@@ -215,7 +215,7 @@ regroup [] d xs e ys = refl
 regroup (x ∷ f) d xs e ys = ap (λ (l : List Entry). x ∷ l) (regroup f d xs e ys)
 
 pub later : (r : Reducts) (c : Choice) (w : List ℕ) (o : Option Place) → IsReducts r → IsAlive r c
-    → has (group_at r c.level w) (chosen r c) ≡ true
+    → has_tuple (group_at r c.level w) (chosen r c) ≡ true
     → ((v : List ℕ) (xs : List Entry) (e : Entry) (ys : List Entry)
     → group_entries r c.level v ≡ xs ++ e ∷ ys → e.at ≡ c.place → o ≡ head_at ys)
     → Later r c w o
@@ -243,14 +243,14 @@ later r c w o h l on says =
 
 pub next_some : (r : Reducts) (c : Choice) (w : List ℕ) (o : Option Place) (p : Place) → IsReducts r
     → Later r c w o → o ≡ Some p
-    → IsFirstAt r (behind (group_at r c.level w) (chosen r c))
+    → IsFirstAt r (tuples_behind (group_at r c.level w) (chosen r c))
     (record { level = c.level; place = p })
 next_some r c w o p h l is = subst
     (λ (us : List (List ℕ)). IsFirstAt r us (record { level = c.level; place = p })) (sym l.later)
     (first_of r c.level l.back p h l.inside (sym l.head ∙ is))
 
 pub next_none : (r : Reducts) (c : Choice) (w : List ℕ) (o : Option Place) → Later r c w o
-    → o ≡ None → behind (group_at r c.level w) (chosen r c) ≡ []
+    → o ≡ None → tuples_behind (group_at r c.level w) (chosen r c) ≡ []
 next_none r c w o l is = l.later ∙ none_of l.back (sym l.head ∙ is)
 
 -- ---- the root
@@ -299,7 +299,7 @@ SaysNext key es p o = (w : List ℕ) (xs : List Entry) (e : Entry) (ys : List En
 later_in : (r : Reducts) (c : Choice) (n : ℕ) (key : List ℕ) (es : List Entry) (w : List ℕ)
     (o : Option Place) → IsReducts r → IsAlive r c → n ≡ source r.tree c.level
     → key ≡ key_at r.tables n → es ≡ entries_at r.tables n
-    → SaysNext key es c.place o → has (group_at r c.level w) (chosen r c) ≡ true → Later r c w o
+    → SaysNext key es c.place o → has_tuple (group_at r c.level w) (chosen r c) ≡ true → Later r c w o
 later_in r c n key es w o h l at same_key same says on = later r c w o h l on
     (λ v xs e ys g p. says v xs e ys (same_group r c.level n key es v at same_key same ∙ g) p)
 
@@ -307,8 +307,8 @@ pub if_next : (r : Reducts) (c : Choice) (n : ℕ) (key : List ℕ) (es : List E
     → IsReducts r → IsAlive r c → n ≡ source r.tree c.level → key ≡ key_at r.tables n
     → es ≡ entries_at r.tables n
     → SaysNext key es c.place o
-    → IfSome o (λ p. (w : List ℕ) → has (group_at r c.level w) (chosen r c) ≡ true
-    → IsFirstAt r (behind (group_at r c.level w) (chosen r c))
+    → IfSome o (λ p. (w : List ℕ) → has_tuple (group_at r c.level w) (chosen r c) ≡ true
+    → IsFirstAt r (tuples_behind (group_at r c.level w) (chosen r c))
     (record { level = c.level; place = p }))
 if_next r c n key es None h l at same_key same says = tt
 if_next r c n key es (Some p) h l at same_key same says = λ w on. next_some r c w (Some p) p h
@@ -319,8 +319,8 @@ pub if_last : (r : Reducts) (c : Choice) (n : ℕ) (key : List ℕ) (es : List E
     → es ≡ entries_at r.tables n
     → SaysNext key es c.place o
     → IfNone o
-    ((w : List ℕ) → has (group_at r c.level w) (chosen r c) ≡ true
-    → behind (group_at r c.level w) (chosen r c) ≡ [])
+    ((w : List ℕ) → has_tuple (group_at r c.level w) (chosen r c) ≡ true
+    → tuples_behind (group_at r c.level w) (chosen r c) ≡ [])
 if_last r c n key es None h l at same_key same says = λ w on. next_none r c w None
     (later_in r c n key es w None h l at same_key same says on) refl
 if_last r c n key es (Some p) h l at same_key same says = tt

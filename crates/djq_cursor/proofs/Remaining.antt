@@ -47,24 +47,24 @@ use Rattle.djq_cursor.specs.declared.cursor.State.{State}
 use Rattle.djq_cursor.specs.declared.cursor.State.TheVariants.{Start}
 use Rattle.djq_cursor.specs.declared.cursor.Cursor.{Cursor}
 use Rattle.djq_cursor.specs.declared.places.Choice.{Choice}
-use Rattle.djq_cursor.specs.Listing.{IsTupleLeft, IsListing}
-use Rattle.djq_cursor.specs.Menus.{has, AreOnce, behind}
+use Rattle.djq_cursor.specs.Listing.{IsTupleLeft, ListsTuples}
+use Rattle.djq_cursor.specs.Menus.{has_tuple, TuplesOnce, tuples_behind}
 use Rattle.djq_cursor.specs.Levels.{group_at}
 use Rattle.djq_cursor.specs.Walk.{
   Menu,
   chosen,
   leaves,
   here,
-  before,
-  reached,
-  IsOpen,
+  answers_ahead,
+  reached_level,
+  MenusAreOpen,
   IsClear,
   IsFirstAt,
   HasNext,
   blank,
-  all_of,
+  menu_answers,
   all_given,
-  given_by,
+  walk_given,
 }
 use Rattle.djq_cursor.specs.Given.{has_root, given}
 use Rattle.djq_cursor.proofs.Menus.{has_here, has_right}
@@ -88,7 +88,7 @@ use Rattle.djq_cursor.proofs.Listed.{
 -- ---- an open listing has a first answer
 
 first_branch : (f : List ℕ → List (List ℕ)) (us : List (List ℕ)) → (us ≡ [] → ⊥)
-    → ((u : List ℕ) → has us u ≡ true → HasNext [] (f u)) → HasNext [] (flat_map f us)
+    → ((u : List ℕ) → has_tuple us u ≡ true → HasNext [] (f u)) → HasNext [] (flat_map f us)
 first_branch f [] some each = absurd (some refl)
 first_branch f (u ∷ us) some each =
     let b = each u (has_here u us) in
@@ -98,7 +98,7 @@ first_branch f (u ∷ us) some each =
       is = ap (λ (l : List (List ℕ)). l ++ flat_map f us) b.is;
     }
 
-pub open_leaf : (t : Tree) (menu : Menu) (ks s : List ℕ) → IsOpen t menu ks s
+pub open_leaf : (t : Tree) (menu : Menu) (ks s : List ℕ) → MenusAreOpen t menu ks s
     → HasNext [] (leaves t menu ks s)
 open_leaf t menu [] s o = record { next = s; rest = []; is = refl }
 open_leaf t menu (k ∷ ks) s o = first_branch _ _ o.0
@@ -108,12 +108,12 @@ open_leaf t menu (k ∷ ks) s o = first_branch _ _ o.0
 
 pub next_left : (r : Reducts) (menu : Menu) (old mid : List Choice) (c d : Choice)
     (all : List (List ℕ)) → Retreats r menu old mid c → old ≡ mid ++ c ∷ []
-    → ((k : ℕ) (w : List ℕ) → AreOnce (menu k w))
-    → IsOpen r.tree menu (levels r.tree) (blank r.tree) → d.level ≡ c.level
-    → ((w : List ℕ) → has (menu c.level w) (chosen r c) ≡ true
-    → IsFirstAt r (behind (menu c.level w) (chosen r c)) d)
+    → ((k : ℕ) (w : List ℕ) → TuplesOnce (menu k w))
+    → MenusAreOpen r.tree menu (levels r.tree) (blank r.tree) → d.level ≡ c.level
+    → ((w : List ℕ) → has_tuple (menu c.level w) (chosen r c) ≡ true
+    → IsFirstAt r (tuples_behind (menu c.level w) (chosen r c)) d)
     → given_to r menu (length r.tree.nodes) (blank r.tree) old ≡ all
-    → HasNext all (all_of r.tree menu)
+    → HasNext all (menu_answers r.tree menu)
 next_left r menu old mid c d all t e once opened same next given =
     let n = length r.tree.nodes in
     let s = blank r.tree in
@@ -123,9 +123,9 @@ next_left r menu old mid c d all t e once opened same next given =
     let j = joins_next r menu n s mid c d t.joins same f.first f.live in
     let follows = follows_push r menu n s mid d t.follows j in
     let split = leaves_split r menu n s cs follows in
-    let leaf = open_leaf r.tree menu (levels_below r.tree (reached n cs)) (here r s cs)
+    let leaf = open_leaf r.tree menu (levels_below r.tree (reached_level n cs)) (here r s cs)
     (still_open r menu n s cs follows opened) in
-    let front : before r menu s cs ≡ all =
+    let front : answers_ahead r menu s cs ≡ all =
     sym (given_next r menu n s mid c d (once c.level w) same f.first)
     ∙ sym (ap (λ (ds : List Choice). given_to r menu n s ds) e) ∙ given in
     record {
@@ -149,12 +149,12 @@ cut cs made at d e some within =
 -- the same with what was found behind the choice
 pub found_left : (r : Reducts) (menu : Menu) (old mid : List Choice) (c : Choice)
     (found : Option Place) (all : List (List ℕ)) → Retreats r menu old mid c
-    → old ≡ mid ++ c ∷ [] → ((k : ℕ) (w : List ℕ) → AreOnce (menu k w))
-    → IsOpen r.tree menu (levels r.tree) (blank r.tree) → true ≡ is_some found
-    → IfSome found (λ p. (w : List ℕ) → has (menu c.level w) (chosen r c) ≡ true
-    → IsFirstAt r (behind (menu c.level w) (chosen r c)) (record { level = c.level; place = p }))
+    → old ≡ mid ++ c ∷ [] → ((k : ℕ) (w : List ℕ) → TuplesOnce (menu k w))
+    → MenusAreOpen r.tree menu (levels r.tree) (blank r.tree) → true ≡ is_some found
+    → IfSome found (λ p. (w : List ℕ) → has_tuple (menu c.level w) (chosen r c) ≡ true
+    → IsFirstAt r (tuples_behind (menu c.level w) (chosen r c)) (record { level = c.level; place = p }))
     → given_to r menu (length r.tree.nodes) (blank r.tree) old ≡ all
-    → HasNext all (all_of r.tree menu)
+    → HasNext all (menu_answers r.tree menu)
 found_left r menu old mid c (Some p) all t e once opened some next given =
     next_left r menu old mid c (record { level = c.level; place = p }) all t e once opened refl next
     given
@@ -175,12 +175,12 @@ start_cases all entered false e h = tt
 
 pub start_left : (r : Reducts) (menu : Menu) (entered b : Bool) (state : State) (cs : List Choice)
     → state ≡ Start → IsClear r menu entered → b ≡ entered
-    → OnTrue b (HasNext (given_by r menu entered state cs) (all_given r menu entered))
+    → OnTrue b (HasNext (walk_given r menu entered state cs) (all_given r menu entered))
 start_left r menu entered b state cs is clear e =
     subst
-    (λ (s : State). OnTrue b (HasNext (given_by r menu entered s cs) (all_given r menu entered)))
+    (λ (s : State). OnTrue b (HasNext (walk_given r menu entered s cs) (all_given r menu entered)))
     (sym is)
-    (start_cases (all_of r.tree menu) entered b e
+    (start_cases (menu_answers r.tree menu) entered b e
     (λ may. open_leaf r.tree menu (levels r.tree) (blank r.tree) (clear.filled may)))
 
 -- ---- in answers
@@ -191,7 +191,7 @@ next_is_left Answer all given w h = (
   h.next,
   record {
     is = w.answers h.next
-        (ap (λ (l : List (List ℕ)). has l h.next) h.is
+        (ap (λ (l : List (List ℕ)). has_tuple l h.next) h.is
         ∙ has_right given (h.next ∷ h.rest) h.next (has_here h.next h.rest));
     fresh = last_is_new Answer given (given ++ h.next ∷ []) h.next refl
         (front_some Answer all (given ++ h.next ∷ []) h.rest w
@@ -201,7 +201,7 @@ next_is_left Answer all given w h = (
 
 left_or_all : (Answer : List ℕ → Type 0) (all given : List (List ℕ)) (b : Bool)
     → Whole Answer all → OnTrue b (HasNext given all) → OnFalse b (given ≡ all)
-    → (b ≡ false) ↔ IsListing Answer given
+    → (b ≡ false) ↔ ListsTuples Answer given
 left_or_all Answer all given true w left none = (
   λ e. absurd (false≢true (sym e)),
   λ listing.
@@ -217,7 +217,7 @@ some_left Answer all given true w left = next_is_left Answer all given w left
 some_left Answer all given false w left = tt
 
 pub cursor_left : (r : Reducts) (c : Cursor) (b : Bool) → IsReducts r
-    → OnTrue b (HasNext (given_by r (group_at r) (has_root r) c.state c.places)
+    → OnTrue b (HasNext (walk_given r (group_at r) (has_root r) c.state c.places)
     (all_given r (group_at r) (has_root r)))
     → OnTrue b ((u : List ℕ) × IsTupleLeft (IsAnswerOf r) (given r c) u)
 unfolding given
@@ -225,10 +225,10 @@ cursor_left r c b h left = some_left (IsAnswerOf r) (all_given r (group_at r) (h
     (given r c) b (whole_answers r h) left
 
 pub cursor_done : (r : Reducts) (c : Cursor) (b : Bool) → IsReducts r
-    → OnTrue b (HasNext (given_by r (group_at r) (has_root r) c.state c.places)
+    → OnTrue b (HasNext (walk_given r (group_at r) (has_root r) c.state c.places)
     (all_given r (group_at r) (has_root r)))
-    → OnFalse b (given_by r (group_at r) (has_root r) c.state c.places ≡ all_given r (group_at r)
-    (has_root r)) → (b ≡ false) ↔ IsListing (IsAnswerOf r) (given r c)
+    → OnFalse b (walk_given r (group_at r) (has_root r) c.state c.places ≡ all_given r (group_at r)
+    (has_root r)) → (b ≡ false) ↔ ListsTuples (IsAnswerOf r) (given r c)
 unfolding given
 cursor_done r c b h left none = left_or_all (IsAnswerOf r)
     (all_given r (group_at r) (has_root r)) (given r c) b (whole_answers r h) left none

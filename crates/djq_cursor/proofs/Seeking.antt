@@ -9,24 +9,24 @@ use Rattle.djq_index.specs.Tuple.{pick}
 use Rattle.djq_index.proofs.Columns.{column_below}
 use Rattle.djq_reduct.specs.Columns.{column, columns}
 use Rattle.djq_reduct.proofs.Placing.{columns_within}
-use Rattle.djq_cursor.specs.Levels.{written, put}
+use Rattle.djq_cursor.specs.Levels.{written_cells, cells_put}
 
 -- ---- cells are written at columns, one after another
 
 pub put_next : (cs tuple s : List ℕ) (at c u : ℕ) → at < length cs → at < length tuple
     → c ≡ slice_index_or cs at 0 → u ≡ slice_index_or tuple at 0
-    → put (drop (at + 1) cs) (drop (at + 1) tuple) (slice_set s c u)
-    ≡ put (drop at cs) (drop at tuple) s
+    → cells_put (drop (at + 1) cs) (drop (at + 1) tuple) (slice_set s c u)
+    ≡ cells_put (drop at cs) (drop at tuple) s
 put_next cs tuple s at c u low also here value =
-    ap₂ (λ (i v : ℕ). put (drop (at + 1) cs) (drop (at + 1) tuple) (slice_set s i v)) here value
-    ∙ sym (ap₂ (λ (ds us : List ℕ). put ds us s) (drop_more cs at 0 low)
+    ap₂ (λ (i v : ℕ). cells_put (drop (at + 1) cs) (drop (at + 1) tuple) (slice_set s i v)) here value
+    ∙ sym (ap₂ (λ (ds us : List ℕ). cells_put ds us s) (drop_more cs at 0 low)
     (drop_more tuple at 0 also))
 
-pub put_end : (cs us s : List ℕ) (at : ℕ) → length cs ≤ at → put (drop at cs) us s ≡ s
-put_end cs us s at past = ap (λ (ds : List ℕ). put ds us s) (drop_all at cs past)
+pub put_end : (cs us s : List ℕ) (at : ℕ) → length cs ≤ at → cells_put (drop at cs) us s ≡ s
+put_end cs us s at past = ap (λ (ds : List ℕ). cells_put ds us s) (drop_all at cs past)
 
 -- so is a tuple over a label
-pub written_put : (F l us s : List ℕ) → written F l us s ≡ put (columns F l) us s
+pub written_put : (F l us s : List ℕ) → written_cells F l us s ≡ cells_put (columns F l) us s
 unfolding columns
 written_put F [] us s = refl
 written_put F (x ∷ l) [] s = refl

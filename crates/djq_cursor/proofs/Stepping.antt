@@ -21,7 +21,7 @@ use Rattle.std.proofs.Common.{
 }
 use Rattle.std.proofs.lemmas.Bool.{cases_Bool, cases_eq, false≢true}
 use Rattle.djq_hyper.specs.Hypergraph.{member}
-use Rattle.djq_index.specs.Tuple.{same, pick, one}
+use Rattle.djq_index.specs.Tuple.{same, pick, one_if}
 use Rattle.djq_index.specs.Entries.{Entry, count_of}
 use Rattle.djq_index.specs.Table.{AreWide}
 use Rattle.djq_index.proofs.Tuples.{same_is, one_false}
@@ -34,9 +34,9 @@ use Rattle.djq_reduct.specs.Tables.{table_at, entries_at, key_at, width_at}
 use Rattle.djq_reduct.specs.Reducts.{Reducts, IsReducts}
 use Rattle.djq_reduct.proofs.Family.{apart_at}
 use Rattle.djq_reduct.specs.Answers.{on_node, IsAnswerOf}
-use Rattle.djq_cursor.specs.Menus.{has, AreOnce}
+use Rattle.djq_cursor.specs.Menus.{has_tuple, TuplesOnce}
 use Rattle.djq_cursor.specs.Levels.{IsLevel, source, group_at, step}
-use Rattle.djq_cursor.specs.Walk.{AreAlike}
+use Rattle.djq_cursor.specs.Walk.{ProjectAlike}
 use Rattle.djq_cursor.proofs.Columns.{Within, cell, cells_same, pick_written, written_else, written_there}
 use Rattle.djq_cursor.proofs.Columns.{length_written, tuple_same}
 use Rattle.djq_reduct.proofs.Readings.{within_of}
@@ -67,7 +67,7 @@ use Rattle.djq_cursor.proofs.Good.{
 
 -- ---- a level's group
 
-pub group_in : (r : Reducts) (k : ℕ) (w u : List ℕ) → has (group_at r k w) u ≡ true
+pub group_in : (r : Reducts) (k : ℕ) (w u : List ℕ) → has_tuple (group_at r k w) u ≡ true
     → (0 < count_of (entries_at r.tables (source r.tree k)) u)
     × (pick (key_at r.tables (source r.tree k)) u ≡ w)
 unfolding group_at
@@ -76,12 +76,12 @@ group_in r k w u h = group_says (key_at r.tables (source r.tree k))
 
 pub in_group : (r : Reducts) (k : ℕ) (w u : List ℕ)
     → 0 < count_of (entries_at r.tables (source r.tree k)) u
-    → pick (key_at r.tables (source r.tree k)) u ≡ w → has (group_at r k w) u ≡ true
+    → pick (key_at r.tables (source r.tree k)) u ≡ w → has_tuple (group_at r k w) u ≡ true
 unfolding group_at
 in_group r k w u h e = group_has (key_at r.tables (source r.tree k))
     (entries_at r.tables (source r.tree k)) w u h e
 
-pub group_is_once : (r : Reducts) (k : ℕ) (w : List ℕ) → IsReducts r → AreOnce (group_at r k w)
+pub group_is_once : (r : Reducts) (k : ℕ) (w : List ℕ) → IsReducts r → TuplesOnce (group_at r k w)
 unfolding group_at
 group_is_once r k w h = group_once (key_at r.tables (source r.tree k))
     (entries_at r.tables (source r.tree k)) w
@@ -111,7 +111,7 @@ wide_in width (e ∷ es) u h there =
     elim (cases_Bool (same e.tuple u)) [
       | inl here ↦ ap (λ (v : List ℕ). length v) (sym (same_is e.tuple u here)) ∙ p.0
       | inr other ↦ wide_in width es u p.1
-          (let c = cnt_cons e es u in let o : one (same e.tuple u) ≡ 0 = one_false (same e.tuple u)
+          (let c = cnt_cons e es u in let o : one_if (same e.tuple u) ≡ 0 = one_false (same e.tuple u)
           other in omega arith)
     ]
 
@@ -139,7 +139,7 @@ pub record Joins (r : Reducts) (k : ℕ) (s u : List ℕ) : Type 0 where
   pub key : pick (key_at r.tables (source r.tree k)) u ≡ on_node r.tree k s
 
 pub joins : (r : Reducts) (k : ℕ) (s u : List ℕ) → IsLevel r.tree k → length s ≡ length r.tree.head
-    → has (group_at r k (on_node r.tree k s)) u ≡ true → Joins r k s u
+    → has_tuple (group_at r k (on_node r.tree k s)) u ≡ true → Joins r k s u
 joins r k s u l wide h = let g = group_in r k (on_node r.tree k s) u h in
     record { level = l; wide = wide; there = g.0; key = g.1 }
 
@@ -243,7 +243,7 @@ good_step r k s u h j good =
 
 -- what is alike behind the step was alike before it
 pub alike_back : (r : Reducts) (k : ℕ) (s u a : List ℕ) → IsReducts r → Joins r k s u
-    → AreAlike r.tree k (step r.tree k s u) a → AreAlike r.tree (suc k) s a
+    → ProjectAlike r.tree k (step r.tree k s u) a → ProjectAlike r.tree (suc k) s a
 alike_back r k s u a h j alike = record {
   below = λ i n from child.
       sym (step_else r k i n s u h j (omega arith) child
@@ -253,13 +253,13 @@ alike_back r k s u a h j alike = record {
 
 -- one tuple makes it alike: its own projection
 pub alike_tuple : (r : Reducts) (k : ℕ) (s u a : List ℕ) → IsReducts r → Joins r k s u
-    → AreAlike r.tree k (step r.tree k s u) a → u ≡ on_node r.tree (source r.tree k) a
+    → ProjectAlike r.tree k (step r.tree k s u) a → u ≡ on_node r.tree (source r.tree k) a
 alike_tuple r k s u a h j alike = sym (step_child r k s u h j)
     ∙ alike.below k (source r.tree k) (omega arith) (source_child r.tree k j.level)
 
 pub alike_step : (r : Reducts) (k : ℕ) (s u a : List ℕ) → IsReducts r → Joins r k s u
-    → u ≡ on_node r.tree (source r.tree k) a → AreAlike r.tree (suc k) s a
-    → AreAlike r.tree k (step r.tree k s u) a
+    → u ≡ on_node r.tree (source r.tree k) a → ProjectAlike r.tree (suc k) s a
+    → ProjectAlike r.tree k (step r.tree k s u) a
 alike_step r k s u a h j e alike =
     let t = r.tree in
     let tree = h.family.is_tree in
@@ -274,8 +274,8 @@ alike_step r k s u a h j e alike =
 -- where the same tuple is written into both, whatever it is
 pub same_step : (t : Tree) (k : ℕ) (s a u : List ℕ) → IsTree t → IsLevel t k
     → length u ≡ length (label_at t.labels (source t k)) → length s ≡ length t.head
-    → length a ≡ length t.head → AreAlike t (suc k) s a
-    → AreAlike t k (step t k s u) (step t k a u)
+    → length a ≡ length t.head → ProjectAlike t (suc k) s a
+    → ProjectAlike t k (step t k s u) (step t k a u)
 unfolding step
 same_step t k s a u h l long wide too alike =
     let c = source t k in
@@ -304,8 +304,8 @@ same_step t k s a u h l long wide too alike =
 
 -- an answer's projection is in the group
 pub answer_in : (r : Reducts) (k : ℕ) (s a : List ℕ) → IsReducts r → IsLevel r.tree k
-    → IsAnswerOf r a → AreAlike r.tree (suc k) s a
-    → has (group_at r k (on_node r.tree k s)) (on_node r.tree (source r.tree k) a) ≡ true
+    → IsAnswerOf r a → ProjectAlike r.tree (suc k) s a
+    → has_tuple (group_at r k (on_node r.tree k s)) (on_node r.tree (source r.tree k) a) ≡ true
 answer_in r k s a h l answer alike =
     let t = r.tree in
     let c = source t k in
@@ -332,7 +332,7 @@ good_answer r s h good = record {
 }
 
 pub alike_same : (r : Reducts) (s a : List ℕ) → IsReducts r → length s ≡ length r.tree.head
-    → length a ≡ length r.tree.head → AreAlike r.tree r.tree.second_stage s a → s ≡ a
+    → length a ≡ length r.tree.head → ProjectAlike r.tree r.tree.second_stage s a → s ≡ a
 alike_same r s a h wide too alike =
     let t = r.tree in
     let tree = h.family.is_tree in

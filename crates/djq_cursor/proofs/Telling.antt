@@ -33,9 +33,9 @@ use Rattle.djq_reduct.specs.Tables.{entries_at, key_at}
 use Rattle.djq_reduct.specs.Reducts.{Reducts, IsReducts}
 use Rattle.djq_reduct.proofs.Family.{apart_at}
 use Rattle.djq_reduct.specs.Answers.{on_node, IsAnswerOf}
-use Rattle.djq_cursor.specs.Menus.{has, AreOnce}
+use Rattle.djq_cursor.specs.Menus.{has_tuple, TuplesOnce}
 use Rattle.djq_cursor.specs.Levels.{IsLevel, source, group_at}
-use Rattle.djq_cursor.specs.Walk.{blank, AreAlike, IsClear, all_given}
+use Rattle.djq_cursor.specs.Walk.{blank, ProjectAlike, IsClear, all_given}
 use Rattle.djq_cursor.proofs.Outs.{child_out, level_trim}
 use Rattle.djq_cursor.proofs.Groups.{has_cnt}
 use Rattle.djq_cursor.proofs.Good.{node_in, root_node, trim_down}
@@ -69,13 +69,13 @@ use Rattle.djq_cursor.proofs.Marking.{
 
 -- ---- a level's menu
 
-changed_in : (r : Reducts) (k : ℕ) (w u : List ℕ) → has (changed_at r k w) u ≡ true
-    → has (group_at r k w) u ≡ true
+changed_in : (r : Reducts) (k : ℕ) (w u : List ℕ) → has_tuple (changed_at r k w) u ≡ true
+    → has_tuple (group_at r k w) u ≡ true
 unfolding changed_at group_at
 changed_in r k w u h = part_in
     (group_of (key_at r.tables (source r.tree k)) (entries_at r.tables (source r.tree k)) w) u h
 
-changed_once : (r : Reducts) (k : ℕ) (w : List ℕ) → IsReducts r → AreOnce (changed_at r k w)
+changed_once : (r : Reducts) (k : ℕ) (w : List ℕ) → IsReducts r → TuplesOnce (changed_at r k w)
 unfolding changed_at
 changed_once r k w h =
     let es = entries_at r.tables (source r.tree k) in
@@ -95,7 +95,7 @@ changed_filled r k w h l there =
 -- where the group has marks, a marked tuple is chosen
 changed_marked : (r : Reducts) (k : ℕ) (w u : List ℕ)
     → 0 < group_size (key_at r.tables (source r.tree k)) (marks (entries_at r.tables (source r.tree k))) w
-    → has (changed_at r k w) u ≡ true → IsMarkedAt r.tables (source r.tree k) u
+    → has_tuple (changed_at r k w) u ≡ true → IsMarkedAt r.tables (source r.tree k) u
 unfolding changed_at
 changed_marked r k w u some h =
     let key = key_at r.tables (source r.tree k) in
@@ -103,9 +103,9 @@ changed_marked r k w u some h =
     marked_in_group key es w u
     (part_marked (group_of key es w) u (let g = marked_group key es w in omega arith) h)
 
-in_changed : (r : Reducts) (k : ℕ) (w u : List ℕ) → has (group_at r k w) u ≡ true
+in_changed : (r : Reducts) (k : ℕ) (w u : List ℕ) → has_tuple (group_at r k w) u ≡ true
     → (0 < group_size (key_at r.tables (source r.tree k)) (marks (entries_at r.tables (source r.tree k)))
-    w → IsMarkedAt r.tables (source r.tree k) u) → has (changed_at r k w) u ≡ true
+    w → IsMarkedAt r.tables (source r.tree k) u) → has_tuple (changed_at r k w) u ≡ true
 unfolding changed_at group_at
 in_changed r k w u h marked =
     let key = key_at r.tables (source r.tree k) in
@@ -132,8 +132,8 @@ none_many key es w h =
 -- ---- they lead to the answers that are changed
 
 changed_picked : (r : Reducts) (a k : ℕ) (s b : List ℕ) → IsReducts r → IsUpdated r a
-    → IsLevel r.tree k → IsChanged r a b → AreAlike r.tree (suc k) s b
-    → has (changed_at r k (on_node r.tree k s)) (on_node r.tree (source r.tree k) b) ≡ true
+    → IsLevel r.tree k → IsChanged r a b → ProjectAlike r.tree (suc k) s b
+    → has_tuple (changed_at r k (on_node r.tree k s)) (on_node r.tree (source r.tree k) b) ≡ true
 changed_picked r a k s b h m l changed alike =
     let t = r.tree in
     let c = source t k in

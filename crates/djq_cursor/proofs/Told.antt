@@ -7,13 +7,13 @@ use Rattle.djq_reduct.specs.Reducts.{Reducts, IsReducts}
 use Rattle.djq_cursor.specs.declared.cursor.Cursor.{Cursor}
 use Rattle.djq_cursor.specs.declared.cursor.State.TheVariants.{Start}
 use Rattle.djq_cursor.specs.declared.places.Choice.{Choice}
-use Rattle.djq_cursor.specs.Listing.{AreSome, IsListing}
-use Rattle.djq_cursor.specs.Walk.{all_given, given_by, FitsBy}
+use Rattle.djq_cursor.specs.Listing.{AreSome, ListsTuples}
+use Rattle.djq_cursor.specs.Walk.{all_given, walk_given, FitsBy}
 use Rattle.djq_cursor.proofs.Listed.{given_some, given_listing, one_left, on_false_both}
 use Rattle.djq_cursor.specs.declared.delta.DeltaCursor.{DeltaCursor}
 use Rattle.djq_cursor.proofs.Updates.{IsUpdated}
 use Rattle.djq_cursor.specs.Changed.{IsChanged}
-use Rattle.djq_cursor.specs.Told.{changed_at, root_marked, told, DeltaFits}
+use Rattle.djq_cursor.specs.Told.{changed_at, root_marked, told_so_far, DeltaFits}
 use Rattle.djq_cursor.proofs.Telling.{changed_answers}
 
 pub start_fits : (r : Reducts) (a : ℕ) (cs : List Choice) (x : List ℕ) → cs ≡ []
@@ -22,8 +22,8 @@ unfolding DeltaFits
 start_fits r a cs x e = e
 
 pub start_told : (r : Reducts) (a : ℕ) (cs : List Choice) (x : List ℕ)
-    → told r (record { leaf = a; cursor = record { places = cs; state = Start; answer = x } }) ≡ []
-unfolding told
+    → told_so_far r (record { leaf = a; cursor = record { places = cs; state = Start; answer = x } }) ≡ []
+unfolding told_so_far
 start_told r a cs x = refl
 
 pub fits_by : (r : Reducts) (d : DeltaCursor) → DeltaFits r d
@@ -40,50 +40,50 @@ by_fits r a c f = f
 
 pub told_some : (r : Reducts) (a b : ℕ) (c : Cursor) → IsReducts r → IsUpdated r a
     → FitsBy r (changed_at r) (root_marked r) c.state c.places c.answer
-    → AreSome (IsChanged r a) (told r (record { leaf = b; cursor = c }))
-unfolding told
+    → AreSome (IsChanged r a) (told_so_far r (record { leaf = b; cursor = c }))
+unfolding told_so_far
 told_some r a b c h m f = given_some r (changed_at r) (IsChanged r a) (root_marked r) c.state
     c.places c.answer (changed_answers r a h m) f
 
 pub told_one : (r : Reducts) (old : DeltaCursor) (a : ℕ) (new : Cursor) (x : List ℕ) (b : Bool)
-    → OnTrue b (given_by r (changed_at r) (root_marked r) new.state new.places ≡ given_by r
+    → OnTrue b (walk_given r (changed_at r) (root_marked r) new.state new.places ≡ walk_given r
     (changed_at r) (root_marked r) (old.cursor).state (old.cursor).places ++ x ∷ [])
-    → OnTrue b (told r (record { leaf = a; cursor = new }) ≡ told r old ++ x ∷ [])
-unfolding told
+    → OnTrue b (told_so_far r (record { leaf = a; cursor = new }) ≡ told_so_far r old ++ x ∷ [])
+unfolding told_so_far
 told_one r old a new x b h = h
 
 pub told_same : (r : Reducts) (old : DeltaCursor) (a : ℕ) (new : Cursor) (b : Bool)
     → OnFalse b
-    (given_by r (changed_at r) (root_marked r) (old.cursor).state (old.cursor).places ≡ all_given r
+    (walk_given r (changed_at r) (root_marked r) (old.cursor).state (old.cursor).places ≡ all_given r
     (changed_at r) (root_marked r))
-    → OnFalse b (given_by r (changed_at r) (root_marked r) new.state new.places ≡ all_given r
+    → OnFalse b (walk_given r (changed_at r) (root_marked r) new.state new.places ≡ all_given r
     (changed_at r) (root_marked r))
-    → OnFalse b (told r (record { leaf = a; cursor = new }) ≡ told r old)
-unfolding told
+    → OnFalse b (told_so_far r (record { leaf = a; cursor = new }) ≡ told_so_far r old)
+unfolding told_so_far
 told_same r old a new b p q =
     on_false_both b
-    (given_by r (changed_at r) (root_marked r) (old.cursor).state (old.cursor).places)
-    (given_by r (changed_at r) (root_marked r) new.state new.places)
+    (walk_given r (changed_at r) (root_marked r) (old.cursor).state (old.cursor).places)
+    (walk_given r (changed_at r) (root_marked r) new.state new.places)
     (all_given r (changed_at r) (root_marked r)) p q
 
 pub told_end : (r : Reducts) (old : DeltaCursor) (a : ℕ) (new : Cursor) (x : List ℕ) (b : Bool)
     → IsReducts r → IsUpdated r a → FitsBy r (changed_at r) (root_marked r) new.state new.places new.answer
-    → OnTrue b (given_by r (changed_at r) (root_marked r) new.state new.places ≡ given_by r
+    → OnTrue b (walk_given r (changed_at r) (root_marked r) new.state new.places ≡ walk_given r
     (changed_at r) (root_marked r) (old.cursor).state (old.cursor).places ++ x ∷ [])
-    → OnFalse b (given_by r (changed_at r) (root_marked r) (old.cursor).state
+    → OnFalse b (walk_given r (changed_at r) (root_marked r) (old.cursor).state
     (old.cursor).places ≡ all_given r (changed_at r) (root_marked r)) → (b ≡ false)
-    ↔ IsListing (IsChanged r a) (told r old)
-unfolding told
+    ↔ ListsTuples (IsChanged r a) (told_so_far r old)
+unfolding told_so_far
 told_end r old a new x true h m f one all = (
   λ e. absurd (false≢true (sym e)),
   λ listing. absurd
-      (one_left (IsChanged r a) (told r old)
-      (given_by r (changed_at r) (root_marked r) new.state new.places) x one
+      (one_left (IsChanged r a) (told_so_far r old)
+      (walk_given r (changed_at r) (root_marked r) new.state new.places) x one
       (given_some r (changed_at r) (IsChanged r a) (root_marked r) new.state new.places
       new.answer (changed_answers r a h m) f) listing),
 )
 told_end r old a new x false h m f one all = (
-  λ e. given_listing (IsChanged r a) (all_given r (changed_at r) (root_marked r)) (told r old)
+  λ e. given_listing (IsChanged r a) (all_given r (changed_at r) (root_marked r)) (told_so_far r old)
       (changed_answers r a h m) all,
   λ listing. refl,
 )

@@ -31,7 +31,7 @@ use Rattle.djq_reduct.specs.Columns.{columns}
 use Rattle.djq_reduct.specs.Tables.{entries_at}
 use Rattle.djq_reduct.specs.Reducts.{Reducts, IsReducts}
 use Rattle.djq_cursor.specs.declared.places.Choice.{Choice}
-use Rattle.djq_cursor.specs.Levels.{IsLevel, source, tuple_at, put, step}
+use Rattle.djq_cursor.specs.Levels.{IsLevel, source, tuple_at, cells_put, step}
 use Rattle.djq_cursor.specs.Walk.{IsAlive, chosen}
 use Rattle.djq_cursor.proofs.Outs.{source_within, child_out}
 use Rattle.djq_cursor.proofs.Seeking.{written_put}
@@ -106,11 +106,11 @@ read_chosen r c es n u l h e at says =
 
 pub put_chosen : (r : Reducts) (c : Choice) (cs u old new : List ℕ)
     → cs ≡ columns r.tree.head (label_at r.tree.labels (source r.tree c.level)) → u ≡ chosen r c
-    → new ≡ put cs u old → new ≡ step r.tree c.level old (chosen r c)
+    → new ≡ cells_put cs u old → new ≡ step r.tree c.level old (chosen r c)
 unfolding step
 put_chosen r c cs u old new is same e =
     let l = label_at r.tree.labels (source r.tree c.level) in
-    e ∙ ap₂ (λ (ds v : List ℕ). put ds v old) is same
+    e ∙ ap₂ (λ (ds v : List ℕ). cells_put ds v old) is same
     ∙ sym (written_put r.tree.head l (chosen r c) old)
 
 -- ---- what is read of a tree

@@ -58,17 +58,17 @@ group_at r k w = map (λ e. e.tuple)
     (group_of (key_at r.tables (source r.tree k)) (entries_at r.tables (source r.tree k)) w)
 
 -- an answer over the head F, once the cells u of the variables l are written
-abbrev pub written : List ℕ → List ℕ → List ℕ → List ℕ → List ℕ
-written F [] us s = s
-written F (x ∷ l) [] s = s
-written F (x ∷ l) (u ∷ us) s = written F l us (slice_set s (column F x) u)
+abbrev pub written_cells : List ℕ → List ℕ → List ℕ → List ℕ → List ℕ
+written_cells F [] us s = s
+written_cells F (x ∷ l) [] s = s
+written_cells F (x ∷ l) (u ∷ us) s = written_cells F l us (slice_set s (column F x) u)
 
 -- cells, once the cells us are put at these columns
-abbrev pub put : List ℕ → List ℕ → List ℕ → List ℕ
-put [] us s = s
-put (c ∷ cs) [] s = s
-put (c ∷ cs) (u ∷ us) s = put cs us (slice_set s c u)
+abbrev pub cells_put : List ℕ → List ℕ → List ℕ → List ℕ
+cells_put [] us s = s
+cells_put (c ∷ cs) [] s = s
+cells_put (c ∷ cs) (u ∷ us) s = cells_put cs us (slice_set s c u)
 
 -- an answer, once the tuple u is chosen at the level k
 unfoldable pub step : Tree → ℕ → List ℕ → List ℕ → List ℕ
-step t k s u = written t.head (label_at t.labels (source t k)) u s
+step t k s u = written_cells t.head (label_at t.labels (source t k)) u s

@@ -2,12 +2,12 @@
 use Rattle.std.specs.Prelude.{◌≡◌, ℕ, List, All, AllPairs, Contains}
 
 -- no two of a list are equal
-abbrev pub AreDifferent : List (List ℕ) → Type 0
-AreDifferent ts = AllPairs (λ s t. s ≡ t → ⊥) ts
+abbrev pub AreDistinctTuples : List (List ℕ) → Type 0
+AreDistinctTuples ts = AllPairs (λ s t. s ≡ t → ⊥) ts
 
 -- different tuples that have a property
 pub record AreSome (P : List ℕ → Type 0) (ts : List (List ℕ)) : Type 0 where
-  pub different : AreDifferent ts
+  pub different : AreDistinctTuples ts
   pub all : All P ts
 
 -- a tuple that has a property, and isn't among these
@@ -16,7 +16,7 @@ pub record IsTupleLeft (P : List ℕ → Type 0) (ts : List (List ℕ)) (t : Lis
   pub fresh : Contains ts t → ⊥
 
 -- a listing has each tuple with the property once, and nothing else
-pub record IsListing (P : List ℕ → Type 0) (ts : List (List ℕ)) : Type 0 where
-  pub different : AreDifferent ts
+pub record ListsTuples (P : List ℕ → Type 0) (ts : List (List ℕ)) : Type 0 where
+  pub different : AreDistinctTuples ts
   pub all : All P ts
   pub complete : (t : List ℕ) → P t → Contains ts t

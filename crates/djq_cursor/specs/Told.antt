@@ -22,7 +22,7 @@ use Rattle.djq_index.specs.Entries.{Entry, count_of, group_of, marks}
 use Rattle.djq_reduct.specs.Tables.{entries_at, key_at}
 use Rattle.djq_reduct.specs.Reducts.{Reducts}
 use Rattle.djq_cursor.specs.Levels.{source}
-use Rattle.djq_cursor.specs.Walk.{given_by, FitsBy}
+use Rattle.djq_cursor.specs.Walk.{walk_given, FitsBy}
 use Rattle.djq_cursor.specs.declared.delta.DeltaCursor.{DeltaCursor}
 
 -- the marked ones if there are any, else all
@@ -46,8 +46,8 @@ unfoldable pub root_marked : Reducts → Bool
 root_marked r = nat_lt 0 (count_of (marks (entries_at r.tables (length r.tree.nodes - 1))) [])
 
 -- the answers that a cursor has given, by its state, its places, the reducts and their marks
-unfoldable pub told : Reducts → DeltaCursor → List (List ℕ)
-told r d = given_by r (changed_at r) (root_marked r) (d.cursor).state (d.cursor).places
+unfoldable pub told_so_far : Reducts → DeltaCursor → List (List ℕ)
+told_so_far r d = walk_given r (changed_at r) (root_marked r) (d.cursor).state (d.cursor).places
 
 -- the cursor fits the reducts and their marks
 unfoldable pub DeltaFits : Reducts → DeltaCursor → Type 0

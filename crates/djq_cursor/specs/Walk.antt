@@ -17,7 +17,7 @@ use Rattle.std.specs.Prelude.{
   replicate,
   flat_map,
 }
-use Rattle.djq_index.specs.Table.{IsLive}
+use Rattle.djq_index.specs.Table.{IsOccupied}
 use Rattle.djq_tree.specs.Tree.{Tree, node_at, has_child}
 use Rattle.djq_tree.specs.Levels.{levels, levels_below}
 use Rattle.djq_reduct.specs.Tables.{entries_at}
@@ -26,7 +26,7 @@ use Rattle.djq_cursor.specs.declared.places.Choice.{Choice}
 use Rattle.djq_cursor.specs.declared.cursor.State.{State}
 use Rattle.djq_cursor.specs.declared.cursor.State.TheVariants.{Start, At, End}
 use Rattle.djq_reduct.specs.Answers.{on_node}
-use Rattle.djq_cursor.specs.Menus.{has, ahead, AreOnce, IsFirst}
+use Rattle.djq_cursor.specs.Menus.{has_tuple, tuples_ahead, TuplesOnce, IsFirstTuple}
 use Rattle.djq_cursor.specs.Levels.{IsLevel, IsNextLevel, source, tuple_at, group_at, step}
 
 -- the tuples to choose from, by the level and the cells of its label
@@ -52,32 +52,32 @@ here r s [] = s
 here r s (c ∷ cs) = here r (step r.tree c.level s (chosen r c)) cs
 
 -- the answers ahead of these choices
-abbrev pub before : Reducts → Menu → List ℕ → List Choice → List (List ℕ)
-before r menu s [] = []
-before r menu s (c ∷ cs) =
+abbrev pub answers_ahead : Reducts → Menu → List ℕ → List Choice → List (List ℕ)
+answers_ahead r menu s [] = []
+answers_ahead r menu s (c ∷ cs) =
     flat_map (λ u. leaves r.tree menu (levels_below r.tree c.level) (step r.tree c.level s u))
-    (ahead (menu_at r.tree menu c.level s) (chosen r c))
-    ++ before r menu (step r.tree c.level s (chosen r c)) cs
+    (tuples_ahead (menu_at r.tree menu c.level s) (chosen r c))
+    ++ answers_ahead r menu (step r.tree c.level s (chosen r c)) cs
 
 -- the number below which the levels have no choice yet
-abbrev pub reached : ℕ → List Choice → ℕ
-reached n [] = n
-reached n (c ∷ cs) = reached c.level cs
+abbrev pub reached_level : ℕ → List Choice → ℕ
+reached_level n [] = n
+reached_level n (c ∷ cs) = reached_level c.level cs
 
 -- these choices go through the levels below n: each is a live place, whose tuple is on the menu
-abbrev pub Follows : Reducts → Menu → ℕ → List ℕ → List Choice → Type 0
-Follows r menu n s [] = ⊤
-Follows r menu n s (c ∷ cs) =
+abbrev pub GoesThrough : Reducts → Menu → ℕ → List ℕ → List Choice → Type 0
+GoesThrough r menu n s [] = ⊤
+GoesThrough r menu n s (c ∷ cs) =
     IsNextLevel r.tree n c.level
-    × IsLive (entries_at r.tables (source r.tree c.level)) c.place
-    × (has (menu_at r.tree menu c.level s) (chosen r c) ≡ true)
-    × Follows r menu c.level (step r.tree c.level s (chosen r c)) cs
+    × IsOccupied (entries_at r.tables (source r.tree c.level)) c.place
+    × (has_tuple (menu_at r.tree menu c.level s) (chosen r c) ≡ true)
+    × GoesThrough r menu c.level (step r.tree c.level s (chosen r c)) cs
 
 -- no menu is empty, whatever is chosen above it
-abbrev pub IsOpen : Tree → Menu → List ℕ → List ℕ → Type 0
-IsOpen t menu [] s = ⊤
-IsOpen t menu (k ∷ ks) s = (menu_at t menu k s ≡ [] → ⊥)
-    × ((u : List ℕ) → has (menu_at t menu k s) u ≡ true → IsOpen t menu ks (step t k s u))
+abbrev pub MenusAreOpen : Tree → Menu → List ℕ → List ℕ → Type 0
+MenusAreOpen t menu [] s = ⊤
+MenusAreOpen t menu (k ∷ ks) s = (menu_at t menu k s ≡ [] → ⊥)
+    × ((u : List ℕ) → has_tuple (menu_at t menu k s) u ≡ true → MenusAreOpen t menu ks (step t k s u))
 
 -- an answer of which nothing is known
 abbrev pub blank : Tree → List ℕ
@@ -89,57 +89,57 @@ made_by r cs = here r (blank r.tree) cs
 
 -- the answers ahead of the one that choices from the root down make
 abbrev pub ahead_of : Reducts → Menu → List Choice → List (List ℕ)
-ahead_of r menu cs = before r menu (blank r.tree) cs
+ahead_of r menu cs = answers_ahead r menu (blank r.tree) cs
 
 -- all answers of the menus
-abbrev pub all_of : Tree → Menu → List (List ℕ)
-all_of t menu = leaves t menu (levels t) (blank t)
+abbrev pub menu_answers : Tree → Menu → List (List ℕ)
+menu_answers t menu = leaves t menu (levels t) (blank t)
 
 -- the choices go down from the root, as far as they come
 abbrev pub Descends : Reducts → Menu → List Choice → Type 0
-Descends r menu cs = Follows r menu (length r.tree.nodes) (blank r.tree) cs
+Descends r menu cs = GoesThrough r menu (length r.tree.nodes) (blank r.tree) cs
 
 -- the choices come to the end: no level is left below them
 abbrev pub IsComplete : Reducts → List Choice → Type 0
-IsComplete r cs = levels_below r.tree (reached (length r.tree.nodes) cs) ≡ []
+IsComplete r cs = levels_below r.tree (reached_level (length r.tree.nodes) cs) ≡ []
 
 -- the choice has the first of these tuples, at a live place
 pub record IsFirstAt (r : Reducts) (us : List (List ℕ)) (c : Choice) : Type 0 where
-  pub live : IsLive (entries_at r.tables (source r.tree c.level)) c.place
-  pub first : IsFirst us (chosen r c)
+  pub live : IsOccupied (entries_at r.tables (source r.tree c.level)) c.place
+  pub first : IsFirstTuple us (chosen r c)
 
 -- the choice is one of a level, at a live place
 pub record IsAlive (r : Reducts) (c : Choice) : Type 0 where
   pub level : IsLevel r.tree c.level
-  pub live : IsLive (entries_at r.tables (source r.tree c.level)) c.place
+  pub live : IsOccupied (entries_at r.tables (source r.tree c.level)) c.place
 
 -- two answers have the same projections on the children of the nodes from k on
-pub record AreAlike (t : Tree) (k : ℕ) (s a : List ℕ) : Type 0 where
+pub record ProjectAlike (t : Tree) (k : ℕ) (s a : List ℕ) : Type 0 where
   pub below : (i j : ℕ) → k ≤ i → has_child (node_at t.nodes i) j ≡ true
       → on_node t j s ≡ on_node t j a
 
 -- the choices go down from the root, and the answer is what they make as far as they come; whatever
 -- cells it has elsewhere
-pub record Stands (r : Reducts) (menu : Menu) (cs : List Choice) (a : List ℕ) : Type 0 where
+pub record ChoicesStand (r : Reducts) (menu : Menu) (cs : List Choice) (a : List ℕ) : Type 0 where
   pub follows : Descends r menu cs
   pub wide : length a ≡ length r.tree.head
-  pub alike : AreAlike r.tree (reached (length r.tree.nodes) cs) a (made_by r cs)
+  pub alike : ProjectAlike r.tree (reached_level (length r.tree.nodes) cs) a (made_by r cs)
 
 -- the menus are parts of the levels' groups
-abbrev pub AreGroups : Reducts → Menu → Type 0
-AreGroups r menu = (k : ℕ) (w u : List ℕ) → has (menu k w) u ≡ true
-    → has (group_at r k w) u ≡ true
+abbrev pub AreGroupMenus : Reducts → Menu → Type 0
+AreGroupMenus r menu = (k : ℕ) (w u : List ℕ) → has_tuple (menu k w) u ≡ true
+    → has_tuple (group_at r k w) u ≡ true
 
 -- what is known of menus: they are parts of groups, none has a tuple twice, and where the listing
 -- may be entered none is empty
 pub record IsClear (r : Reducts) (menu : Menu) (entered : Bool) : Type 0 where
-  pub group : AreGroups r menu
-  pub once : (k : ℕ) (w : List ℕ) → AreOnce (menu k w)
-  pub filled : entered ≡ true → IsOpen r.tree menu (levels r.tree) (blank r.tree)
+  pub group : AreGroupMenus r menu
+  pub once : (k : ℕ) (w : List ℕ) → TuplesOnce (menu k w)
+  pub filled : entered ≡ true → MenusAreOpen r.tree menu (levels r.tree) (blank r.tree)
 
 -- all answers, in the order in which they are given
 abbrev pub all_given : Reducts → Menu → Bool → List (List ℕ)
-all_given r menu entered = cond entered (all_of r.tree menu) []
+all_given r menu entered = cond entered (menu_answers r.tree menu) []
 
 -- behind these answers there is a next one
 pub record HasNext (given all : List (List ℕ)) : Type 0 where
@@ -148,10 +148,10 @@ pub record HasNext (given all : List (List ℕ)) : Type 0 where
   pub is : all ≡ given ++ next ∷ rest
 
 -- what was given in this state, with these choices
-abbrev pub given_by : Reducts → Menu → Bool → State → List Choice → List (List ℕ)
-given_by r menu entered Start cs = []
-given_by r menu entered At cs = ahead_of r menu cs ++ made_by r cs ∷ []
-given_by r menu entered End cs = all_given r menu entered
+abbrev pub walk_given : Reducts → Menu → Bool → State → List Choice → List (List ℕ)
+walk_given r menu entered Start cs = []
+walk_given r menu entered At cs = ahead_of r menu cs ++ made_by r cs ∷ []
+walk_given r menu entered End cs = all_given r menu entered
 
 -- the state, the choices and the answer fit: there is no choice at the start, and later one at each
 -- level, and the answer is what they make

@@ -8,10 +8,10 @@ use std::sync::ledger::Ledger;
 /// changed.
 pub trait Choices {
     ghost use Rattle.std.specs.Prelude.{◌≡◌, ℕ, ◌+◌, Bool, true, List, [], IfSome, IfNone};
-    ghost use Rattle.djq_index.specs.Table.{IsLive};
+    ghost use Rattle.djq_index.specs.Table.{IsOccupied};
     ghost use Rattle.djq_reduct.specs.Tables.{entries_at};
     ghost use Rattle.djq_reduct.specs.Reducts.{Reducts};
-    ghost use Rattle.djq_cursor.specs.Menus.{has, behind};
+    ghost use Rattle.djq_cursor.specs.Menus.{has_tuple, tuples_behind};
     ghost use Rattle.djq_cursor.specs.Levels.{IsLevel};
     ghost use Rattle.djq_cursor.specs.Walk.{IsFirstAt, IsAlive, chosen};
 
@@ -52,13 +52,13 @@ pub trait Choices {
         requires { IsAlive reducts.now choice }
         ensures some { IfSome result
             (λ p. (w : List ℕ)
-            → has (menu self.now reducts.now choice.level w) (chosen reducts.now choice) ≡ true
+            → has_tuple (menu self.now reducts.now choice.level w) (chosen reducts.now choice) ≡ true
             → IsFirstAt reducts.now
-            (behind (menu self.now reducts.now choice.level w) (chosen reducts.now choice))
+            (tuples_behind (menu self.now reducts.now choice.level w) (chosen reducts.now choice))
             (record { level = choice.level; place = p })) }
         ensures none { IfNone result
             ((w : List ℕ)
-            → has (menu self.now reducts.now choice.level w) (chosen reducts.now choice) ≡ true
-            → behind (menu self.now reducts.now choice.level w) (chosen reducts.now choice) ≡ []) }
+            → has_tuple (menu self.now reducts.now choice.level w) (chosen reducts.now choice) ≡ true
+            → tuples_behind (menu self.now reducts.now choice.level w) (chosen reducts.now choice) ≡ []) }
         ensures counted { listing.new ≡ listing.old + 1 };
 }

@@ -1,7 +1,7 @@
 ghost use Rattle.std.specs.Prelude.{◌≡◌, ◌↔◌, ◌+◌, ◌*◌, ◌≤◌, false, [], ◌∷◌, ◌++◌, length, ℕ, List};
 ghost use Rattle.std.specs.Bool.{OnTrue, OnFalse};
 ghost use Rattle.djq_reduct.specs.Reducts as spec;
-ghost use Rattle.djq_cursor.specs.Listing.{AreSome, IsTupleLeft, IsListing};
+ghost use Rattle.djq_cursor.specs.Listing.{AreSome, IsTupleLeft, ListsTuples};
 ghost use Rattle.djq_reduct.specs.Answers.{IsAnswerOf};
 ghost use Rattle.djq_cursor.specs.Given.{Fits, given};
 
@@ -60,7 +60,7 @@ impl Cursor {
         ensures same { OnFalse result (given reducts.now self.new ≡ given reducts.now self.old) }
         ensures answers { AreSome (IsAnswerOf reducts.now) (given reducts.now self.new) }
         ensures end { result ≡ false
-            ↔ IsListing (IsAnswerOf reducts.now) (given reducts.now self.old) }
+            ↔ ListsTuples (IsAnswerOf reducts.now) (given reducts.now self.old) }
         ensures counted { listing.new ≤ listing.old + (2 * length reducts.now.tree.head + 1) }
     {
         reducts.laws();
@@ -82,7 +82,7 @@ impl Cursor {
         ensures same { OnFalse result (given reducts.now self.new ≡ given reducts.now self.old) }
         ensures answers { AreSome (IsAnswerOf reducts.now) (given reducts.now self.new) }
         ensures end { result ≡ false
-            ↔ IsListing (IsAnswerOf reducts.now) (given reducts.now self.old) }
+            ↔ ListsTuples (IsAnswerOf reducts.now) (given reducts.now self.old) }
         ensures counted { listing.new ≤ listing.old + (2 * length reducts.now.tree.head + 1) }
     {
         if !self.step(reducts, listing) {
@@ -100,7 +100,7 @@ impl Cursor {
         ensures left { OnTrue result ((u : List ℕ)
             × IsTupleLeft (IsAnswerOf reducts.now) (given reducts.now self.now) u) }
         ensures end { result ≡ false
-            ↔ IsListing (IsAnswerOf reducts.now) (given reducts.now self.now) }
+            ↔ ListsTuples (IsAnswerOf reducts.now) (given reducts.now self.now) }
         ensures counted { listing.new ≤ listing.old + (length reducts.now.tree.head + 1) }
     {
         reducts.laws();

@@ -3,9 +3,9 @@ ghost use Rattle.std.specs.Bool.{OnTrue, OnFalse};
 ghost use Rattle.djq_reduct.specs.Reducts as spec;
 ghost use Rattle.djq_reduct.specs.Reducts.{IsReducts};
 ghost use Rattle.djq_reduct.specs.Marks.{AreMarks, IsWithout};
-ghost use Rattle.djq_cursor.specs.Listing.{AreSome, IsListing};
+ghost use Rattle.djq_cursor.specs.Listing.{AreSome, ListsTuples};
 ghost use Rattle.djq_cursor.specs.Changed.{IsChanged, IsGained};
-ghost use Rattle.djq_cursor.specs.Told.{DeltaFits, told};
+ghost use Rattle.djq_cursor.specs.Told.{DeltaFits, told_so_far};
 
 use crate::marked::Marked;
 use crate::{Cursor, Places, State, advance_by};
@@ -29,7 +29,7 @@ impl DeltaCursor {
     pub fn start(leaf: usize) -> DeltaCursor
         ensures leaf { result.leaf ≡ leaf }
         ensures fits { (r : spec.Reducts) → DeltaFits r result }
-        ensures none { (r : spec.Reducts) → told r result ≡ [] }
+        ensures none { (r : spec.Reducts) → told_so_far r result ≡ [] }
     {
         DeltaCursor {
             leaf,
@@ -51,13 +51,13 @@ impl DeltaCursor {
         ensures leaf { self.new.leaf ≡ self.old.leaf }
         ensures fits { DeltaFits reducts.now self.new }
         ensures one { OnTrue result
-            (told reducts.now self.new ≡ told reducts.now self.old
+            (told_so_far reducts.now self.new ≡ told_so_far reducts.now self.old
             ++ (self.new.cursor).answer ∷ []) }
-        ensures same { OnFalse result (told reducts.now self.new ≡ told reducts.now self.old) }
+        ensures same { OnFalse result (told_so_far reducts.now self.new ≡ told_so_far reducts.now self.old) }
         ensures answers { AreSome (IsChanged reducts.now self.old.leaf)
-            (told reducts.now self.new) }
+            (told_so_far reducts.now self.new) }
         ensures end { result ≡ false
-            ↔ IsListing (IsChanged reducts.now self.old.leaf) (told reducts.now self.old) }
+            ↔ ListsTuples (IsChanged reducts.now self.old.leaf) (told_so_far reducts.now self.old) }
         ensures counted { listing.new ≤ listing.old + (2 * length reducts.now.tree.head + 1) }
     {
         reducts.laws();
@@ -78,12 +78,12 @@ impl DeltaCursor {
         ensures leaf { self.new.leaf ≡ self.old.leaf }
         ensures fits { DeltaFits reducts.now self.new }
         ensures one { OnTrue result
-            (told reducts.now self.new ≡ told reducts.now self.old ++ answer.new ∷ []) }
-        ensures same { OnFalse result (told reducts.now self.new ≡ told reducts.now self.old) }
+            (told_so_far reducts.now self.new ≡ told_so_far reducts.now self.old ++ answer.new ∷ []) }
+        ensures same { OnFalse result (told_so_far reducts.now self.new ≡ told_so_far reducts.now self.old) }
         ensures answers { AreSome (IsChanged reducts.now self.old.leaf)
-            (told reducts.now self.new) }
+            (told_so_far reducts.now self.new) }
         ensures end { result ≡ false
-            ↔ IsListing (IsChanged reducts.now self.old.leaf) (told reducts.now self.old) }
+            ↔ ListsTuples (IsChanged reducts.now self.old.leaf) (told_so_far reducts.now self.old) }
         ensures counted { listing.new ≤ listing.old + (2 * length reducts.now.tree.head + 1) }
     {
         if !self.step(reducts, listing) {

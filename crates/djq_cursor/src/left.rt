@@ -1,19 +1,19 @@
 ghost use Rattle.std.specs.Prelude.{◌≡◌, ◌+◌, ◌≤◌, [], ◌∷◌, ◌++◌, length, ℕ, List};
 ghost use Rattle.std.specs.Bool.{OnTrue, OnFalse};
 ghost use Rattle.djq_tree.specs.Levels.{levels};
-ghost use Rattle.djq_cursor.specs.Menus.{AreOnce};
+ghost use Rattle.djq_cursor.specs.Menus.{TuplesOnce};
 ghost use Rattle.djq_cursor.specs.Walk.{
   Descends,
   FitsBy,
   HasNext,
   IsClear,
   IsComplete,
-  IsOpen,
+  MenusAreOpen,
   ahead_of,
   all_given,
-  all_of,
+  menu_answers,
   blank,
-  given_by,
+  walk_given,
   made_by,
 };
 
@@ -32,17 +32,17 @@ fn has_next<C: Choices, L: Ledger>(
     places: &Places,
     listing: &mut Tally<L>,
 ) -> bool
-    requires once { (k : ℕ) (w : List ℕ) → AreOnce (C.menu choices.now reducts.now k w) }
-    requires opened { IsOpen reducts.now.tree (C.menu choices.now reducts.now)
+    requires once { (k : ℕ) (w : List ℕ) → TuplesOnce (C.menu choices.now reducts.now k w) }
+    requires opened { MenusAreOpen reducts.now.tree (C.menu choices.now reducts.now)
         (levels reducts.now.tree) (blank reducts.now.tree) }
     requires descends { Descends reducts.now (C.menu choices.now reducts.now) places.now }
     requires whole { IsComplete reducts.now places.now }
     ensures next { OnTrue result
         (HasNext (ahead_of reducts.now (C.menu choices.now reducts.now) places.now
         ++ made_by reducts.now places.now ∷ [])
-        (all_of reducts.now.tree (C.menu choices.now reducts.now))) }
+        (menu_answers reducts.now.tree (C.menu choices.now reducts.now))) }
     ensures all { OnFalse result
-        (all_of reducts.now.tree (C.menu choices.now reducts.now) ≡ ahead_of reducts.now
+        (menu_answers reducts.now.tree (C.menu choices.now reducts.now) ≡ ahead_of reducts.now
         (C.menu choices.now reducts.now) places.now ++ made_by reducts.now places.now ∷ []) }
     ensures counted { listing.new ≤ listing.old + length (levels reducts.now.tree) }
 {
@@ -71,12 +71,12 @@ pub fn is_left_by<C: Choices, L: Ledger>(
         (C.entered choices.now reducts.now) cursor.now.state cursor.now.places
         cursor.now.answer }
     ensures next { OnTrue result
-        (HasNext (given_by reducts.now (C.menu choices.now reducts.now)
+        (HasNext (walk_given reducts.now (C.menu choices.now reducts.now)
         (C.entered choices.now reducts.now) cursor.now.state cursor.now.places)
         (all_given reducts.now (C.menu choices.now reducts.now)
         (C.entered choices.now reducts.now))) }
     ensures all { OnFalse result
-        (given_by reducts.now (C.menu choices.now reducts.now) (C.entered choices.now reducts.now)
+        (walk_given reducts.now (C.menu choices.now reducts.now) (C.entered choices.now reducts.now)
         cursor.now.state cursor.now.places ≡ all_given reducts.now (C.menu choices.now reducts.now)
         (C.entered choices.now reducts.now)) }
     ensures counted { listing.new ≤ listing.old + (length reducts.now.tree.head + 1) }

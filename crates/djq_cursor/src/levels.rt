@@ -2,7 +2,7 @@ ghost use Rattle.std.specs.Prelude.{◌≡◌, ◌<◌, true, length};
 ghost use Rattle.djq_index.specs.Table.{AreColumns};
 ghost use Rattle.djq_tree.specs.Tree.{is_out};
 ghost use Rattle.djq_reduct.specs.Answers.{on_node};
-ghost use Rattle.djq_cursor.specs.Levels.{IsLevel, put, source, step};
+ghost use Rattle.djq_cursor.specs.Levels.{IsLevel, cells_put, source, step};
 ghost use Rattle.djq_cursor.specs.Walk.{IsAlive, chosen};
 
 use crate::places::Choice;
@@ -38,7 +38,7 @@ pub(crate) fn project(reducts: &Reducts, node: usize, answer: &Answer, cells: &m
 fn write_tuple(columns: &[usize], tuple: &[u64], answer: &mut Answer)
     requires long { length tuple.now ≡ length columns.now }
     requires within { AreColumns (length answer.old) columns.now }
-    ensures { answer.new ≡ put columns.now tuple.now answer.old }
+    ensures { answer.new ≡ cells_put columns.now tuple.now answer.old }
 {
     match columns.len() {
         1 => answer.set(columns[0], tuple[0]),
@@ -55,7 +55,7 @@ fn write_tuple(columns: &[usize], tuple: &[u64], answer: &mut Answer)
 fn write_each(columns: &[usize], tuple: &[u64], answer: &mut Answer)
     requires long { length tuple.now ≡ length columns.now }
     requires within { AreColumns (length answer.old) columns.now }
-    ensures { answer.new ≡ put columns.now tuple.now answer.old }
+    ensures { answer.new ≡ cells_put columns.now tuple.now answer.old }
 {
     for at in 0..columns.len() {
         answer.set(columns[at], tuple[at]);

@@ -5,20 +5,20 @@ ghost use Rattle.djq_tree.specs.Levels.{levels};
 ghost use Rattle.djq_reduct.specs.Answers.{on_node};
 ghost use Rattle.djq_reduct.specs.Columns.{columns};
 ghost use Rattle.djq_cursor.specs.Levels.{IsLevel};
-ghost use Rattle.djq_cursor.specs.Menus.{AreOnce};
+ghost use Rattle.djq_cursor.specs.Menus.{TuplesOnce};
 ghost use Rattle.djq_cursor.specs.Walk.{
-  AreGroups,
+  AreGroupMenus,
   FitsBy,
   IsClear,
   IsComplete,
   IsFirstAt,
-  IsOpen,
-  Stands,
+  MenusAreOpen,
+  ChoicesStand,
   ahead_of,
   all_given,
-  all_of,
+  menu_answers,
   blank,
-  given_by,
+  walk_given,
   made_by,
 };
 
@@ -109,10 +109,10 @@ fn fill<C: Choices, L: Ledger>(
     answer: &mut Answer,
     listing: &mut Tally<L>,
 )
-    requires opened { IsOpen reducts.now.tree (C.menu choices.now reducts.now)
+    requires opened { MenusAreOpen reducts.now.tree (C.menu choices.now reducts.now)
         (levels reducts.now.tree) (blank reducts.now.tree) }
-    requires stands { Stands reducts.now (C.menu choices.now reducts.now) places.old answer.old }
-    ensures stands { Stands reducts.now (C.menu choices.now reducts.now) places.new answer.new }
+    requires stands { ChoicesStand reducts.now (C.menu choices.now reducts.now) places.old answer.old }
+    ensures stands { ChoicesStand reducts.now (C.menu choices.now reducts.now) places.new answer.new }
     ensures whole { IsComplete reducts.now places.new }
     ensures before { ahead_of reducts.now (C.menu choices.now reducts.now) places.new
         ≡ ahead_of reducts.now (C.menu choices.now reducts.now) places.old }
@@ -142,20 +142,20 @@ fn go_on<C: Choices, L: Ledger>(
     answer: &mut Answer,
     listing: &mut Tally<L>,
 ) -> bool
-    requires group { AreGroups reducts.now (C.menu choices.now reducts.now) }
-    requires once { (k : ℕ) (w : List ℕ) → AreOnce (C.menu choices.now reducts.now k w) }
-    requires opened { IsOpen reducts.now.tree (C.menu choices.now reducts.now)
+    requires group { AreGroupMenus reducts.now (C.menu choices.now reducts.now) }
+    requires once { (k : ℕ) (w : List ℕ) → TuplesOnce (C.menu choices.now reducts.now k w) }
+    requires opened { MenusAreOpen reducts.now.tree (C.menu choices.now reducts.now)
         (levels reducts.now.tree) (blank reducts.now.tree) }
-    requires stands { Stands reducts.now (C.menu choices.now reducts.now) places.old answer.old }
+    requires stands { ChoicesStand reducts.now (C.menu choices.now reducts.now) places.old answer.old }
     requires whole { IsComplete reducts.now places.old }
     ensures stands { OnTrue result
-        (Stands reducts.now (C.menu choices.now reducts.now) places.new answer.new) }
+        (ChoicesStand reducts.now (C.menu choices.now reducts.now) places.new answer.new) }
     ensures whole { OnTrue result (IsComplete reducts.now places.new) }
     ensures before { OnTrue result
         (ahead_of reducts.now (C.menu choices.now reducts.now) places.new ≡ ahead_of reducts.now
         (C.menu choices.now reducts.now) places.old ++ made_by reducts.now places.old ∷ []) }
     ensures all { OnFalse result
-        (all_of reducts.now.tree (C.menu choices.now reducts.now) ≡ ahead_of reducts.now
+        (menu_answers reducts.now.tree (C.menu choices.now reducts.now) ≡ ahead_of reducts.now
         (C.menu choices.now reducts.now) places.old ++ made_by reducts.now places.old ∷ []) }
     ensures counted { listing.new ≤ listing.old + 2 * length (levels reducts.now.tree) }
 {
@@ -190,7 +190,7 @@ fn begin<C: Choices, L: Ledger>(
         (C.entered choices.now reducts.now) cursor.new.state cursor.new.places
         cursor.new.answer }
     ensures one { OnTrue result
-        (given_by reducts.now (C.menu choices.now reducts.now) (C.entered choices.now reducts.now)
+        (walk_given reducts.now (C.menu choices.now reducts.now) (C.entered choices.now reducts.now)
         cursor.new.state cursor.new.places ≡ cursor.new.answer ∷ []) }
     ensures none { OnFalse result
         (all_given reducts.now (C.menu choices.now reducts.now)
@@ -233,16 +233,16 @@ pub fn advance_by<C: Choices, L: Ledger>(
         (C.entered choices.now reducts.now) cursor.new.state cursor.new.places
         cursor.new.answer }
     ensures one { OnTrue result
-        (given_by reducts.now (C.menu choices.now reducts.now) (C.entered choices.now reducts.now)
-        cursor.new.state cursor.new.places ≡ given_by reducts.now (C.menu choices.now reducts.now)
+        (walk_given reducts.now (C.menu choices.now reducts.now) (C.entered choices.now reducts.now)
+        cursor.new.state cursor.new.places ≡ walk_given reducts.now (C.menu choices.now reducts.now)
         (C.entered choices.now reducts.now) cursor.old.state cursor.old.places
         ++ cursor.new.answer ∷ []) }
     ensures all { OnFalse result
-        (given_by reducts.now (C.menu choices.now reducts.now) (C.entered choices.now reducts.now)
+        (walk_given reducts.now (C.menu choices.now reducts.now) (C.entered choices.now reducts.now)
         cursor.old.state cursor.old.places ≡ all_given reducts.now (C.menu choices.now reducts.now)
         (C.entered choices.now reducts.now)) }
     ensures same { OnFalse result
-        (given_by reducts.now (C.menu choices.now reducts.now) (C.entered choices.now reducts.now)
+        (walk_given reducts.now (C.menu choices.now reducts.now) (C.entered choices.now reducts.now)
         cursor.new.state cursor.new.places ≡ all_given reducts.now (C.menu choices.now reducts.now)
         (C.entered choices.now reducts.now)) }
     ensures counted { listing.new ≤ listing.old + (2 * length reducts.now.tree.head + 1) }

@@ -4,7 +4,7 @@ use Rattle.std.specs.Prelude.{slice_index, Option, Some, None}
 use Rattle.std.proofs.lemmas.Bool.{cases_eq, cases_lt}
 use Rattle.std.proofs.lemmas.List.{length-map}
 use Rattle.djq_dict.specs.declared.chain.Link.{Link}
-use Rattle.djq_dict.specs.Chains.{HasNone, IsFirst, IsLastWith, IsLinked, bucket_at, bucket_of, hashes_of, nexts_of}
+use Rattle.djq_dict.specs.Chains.{HasNone, IsChainHead, IsLastWith, IsLinked, bucket_at, bucket_of, hashes_of, nexts_of}
 use Rattle.djq_dict.specs.Index.{IsIndex}
 use Rattle.djq_dict.proofs.Linking.{hash-at, next-at}
 
@@ -16,7 +16,7 @@ pub record IsRest (buckets : ℕ) (hashes : List ℕ) (hash n rest : ℕ) : Type
 
 -- a walk begins with a bucket's chain
 pub rest-first : (buckets : ℕ) (hashes : List ℕ) (hash n chain : ℕ)
-    → IsFirst buckets hashes (bucket_of buckets hash) n chain → IsRest buckets hashes hash n chain
+    → IsChainHead buckets hashes (bucket_of buckets hash) n chain → IsRest buckets hashes hash n chain
 rest-first buckets hashes hash n chain f = record {
   within = f.within;
   here = f.here;
@@ -58,7 +58,7 @@ rest-over buckets hashes hash n rest none r = λ j low under. r.none j (omega ar
 -- what a walk from a place gives
 abbrev pub Follows : List Link → ℕ → ℕ → Option ℕ → Type 0
 Follows links hash chain r = (buckets n : ℕ) → IsLinked buckets (hashes_of links) (nexts_of links)
-    → IsFirst buckets (hashes_of links) (bucket_of buckets hash) n chain → IsLastWith (hashes_of links) hash n r
+    → IsChainHead buckets (hashes_of links) (bucket_of buckets hash) n chain → IsLastWith (hashes_of links) hash n r
 
 -- the chains of an index
 linked : (links : List Link) (heads : List ℕ) → IsIndex links heads

@@ -7,11 +7,11 @@ use Rattle.std.proofs.lemmas.Grind.{get_or-set_at}
 use Rattle.std.proofs.lemmas.List.{get_or-map, get_or-set_other, get_or_append_left, length-map, length-set, map-set}
 use Rattle.std.proofs.Math.Seq.{map-set_same}
 use Rattle.djq_dict.specs.declared.chain.Link.{Link}
-use Rattle.djq_dict.specs.Chains.{IsChained, IsFirst, bucket_at, hashes_of, nexts_of}
+use Rattle.djq_dict.specs.Chains.{IsChained, IsChainHead, bucket_at, hashes_of, nexts_of}
 
 -- a text is the first of its bucket's chain
 first_itself : (buckets : ℕ) (hashes : List ℕ) (bucket n : ℕ) → bucket_at buckets hashes n ≡ bucket
-    → IsFirst buckets hashes bucket (n + 1) (n + 1)
+    → IsChainHead buckets hashes bucket (n + 1) (n + 1)
 first_itself buckets hashes bucket n same = record {
   within = omega arith;
   here = λ _. let e : (n + 1) - 1 ≡ n = omega arith in rw e same;
@@ -20,7 +20,7 @@ first_itself buckets hashes bucket n same = record {
 
 -- the chains of the other buckets stay
 first_kept : (buckets : ℕ) (hashes : List ℕ) (bucket n chain : ℕ) → bucket_at buckets hashes n ≢ bucket
-    → IsFirst buckets hashes bucket n chain → IsFirst buckets hashes bucket (n + 1) chain
+    → IsChainHead buckets hashes bucket n chain → IsChainHead buckets hashes bucket (n + 1) chain
 first_kept buckets hashes bucket n chain other f = record {
   within = let w = f.within in omega arith;
   here = f.here;
@@ -53,7 +53,7 @@ chained-put hashes nexts heads n below within h =
 
 -- more texts behind those that are in chains change no chain
 first-longer : (buckets : ℕ) (hashes more : List ℕ) (bucket n chain : ℕ) → n ≤ length hashes
-    → IsFirst buckets hashes bucket n chain → IsFirst buckets (hashes ++ more) bucket n chain
+    → IsChainHead buckets hashes bucket n chain → IsChainHead buckets (hashes ++ more) bucket n chain
 first-longer buckets hashes more bucket n chain most f = record {
   within = f.within;
   here = λ some.

@@ -21,7 +21,7 @@ bucket_at buckets hashes number = bucket_of buckets (slice_index hashes number)
 
 -- a chain begins with the last text below n that is in a bucket, if there is one: it shows one past its
 -- number, and else 0
-pub record IsFirst (buckets : ℕ) (hashes : List ℕ) (bucket n chain : ℕ) : Type 0 where
+pub record IsChainHead (buckets : ℕ) (hashes : List ℕ) (bucket n chain : ℕ) : Type 0 where
   pub within : chain ≤ n
   pub here : 0 < chain → bucket_at buckets hashes (chain - 1) ≡ bucket
   pub last : (j : ℕ) → chain ≤ j → j < n → bucket_at buckets hashes j ≢ bucket
@@ -29,7 +29,7 @@ pub record IsFirst (buckets : ℕ) (hashes : List ℕ) (bucket n chain : ℕ) : 
 -- the texts below n are in chains
 pub record IsLinkedBelow (buckets : ℕ) (hashes nexts : List ℕ) (n : ℕ) : Type 0 where
   -- each goes on with the last one before it in the same bucket
-  pub each : (i : ℕ) → i < n → IsFirst buckets hashes (bucket_at buckets hashes i) i (slice_index nexts i)
+  pub each : (i : ℕ) → i < n → IsChainHead buckets hashes (bucket_at buckets hashes i) i (slice_index nexts i)
 
 -- all texts are
 abbrev pub IsLinked : ℕ → List ℕ → List ℕ → Type 0
@@ -37,7 +37,7 @@ IsLinked buckets hashes nexts = IsLinkedBelow buckets hashes nexts (length hashe
 
 -- the texts below n are in the chains of their buckets, whose heads are given
 pub record IsChained (hashes nexts heads : List ℕ) (n : ℕ) : Type 0 where
-  pub headed : (b : ℕ) → b < length heads → IsFirst (length heads) hashes b n (slice_index heads b)
+  pub headed : (b : ℕ) → b < length heads → IsChainHead (length heads) hashes b n (slice_index heads b)
   pub linked : IsLinkedBelow (length heads) hashes nexts n
 
 -- every chain goes on with lower numbers alone

@@ -1,5 +1,5 @@
 ghost use Rattle.std.specs.Prelude.{◌≡◌, ℕ, ◌+◌, ◌<◌, ◌≤◌, length, replicate};
-ghost use Rattle.djq_dict.specs.Chains.{IsChained, IsFalling, IsFirst, IsLinked, IsLastWith};
+ghost use Rattle.djq_dict.specs.Chains.{IsChained, IsFalling, IsChainHead, IsLinked, IsLastWith};
 ghost use Rattle.djq_dict.specs.Chains.{bucket_of, hashes_of, nexts_of};
 ghost use Rattle.djq_dict.specs.declared.dict.TheConstants.{MOST_TEXTS};
 
@@ -92,7 +92,7 @@ pub(crate) fn follow(links: &[Link], from: Chain, hash: u32) -> Option<u32>
     requires within { from ≤ length links.now }
     requires falling { IsFalling (nexts_of links.now) }
     ensures { (buckets n : ℕ) → IsLinked buckets (hashes_of links.now) (nexts_of links.now)
-        → IsFirst buckets (hashes_of links.now) (bucket_of buckets hash) n from
+        → IsChainHead buckets (hashes_of links.now) (bucket_of buckets hash) n from
         → IsLastWith (hashes_of links.now) hash n result }
 {
     let mut rest = from;

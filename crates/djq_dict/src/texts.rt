@@ -19,7 +19,12 @@ impl Model for Texts {
 
     ghost use Rattle.std.specs.Prelude.{◌-◌, length, vec_len, vec_capacity};
 
-    ghost view = { λ t. record { texts = pieces t.bytes.items 0 t.ends.items; room = vec_capacity t.bytes - vec_len t.bytes; places = vec_capacity t.ends - vec_len t.ends } };
+    ghost view = { λ t. record {
+      texts = pieces t.bytes.items 0 t.ends.items;
+      room =
+          vec_capacity t.bytes - vec_len t.bytes;
+      places = vec_capacity t.ends - vec_len t.ends;
+    } };
 
     ghost invariant = { λ t. IsCut 0 t.ends.items (length t.bytes.items) };
 }

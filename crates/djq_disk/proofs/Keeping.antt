@@ -4,8 +4,8 @@ use Rattle.std.proofs.Common.{take, drop, get_or, replicate, refl, sym, ap, subs
 use Rattle.std.proofs.Common.{append_assoc, append-nil, length-append, length-take, length-drop}
 use Rattle.std.specs.List.{AllByRecursion}
 use Rattle.std.proofs.lemmas.List.{length-replicate, get_or_append_left, get_or-take, get_or-drop, get_or-append_right}
-use Rattle.djq_disk.specs.File.{Span, File, IsSettled, settled, with_written, put, Keeps}
-use Rattle.djq_disk.specs.History.{History, moved_to, Writes, Syncs}
+use Rattle.djq_disk.specs.File.{Span, File, IsSettled, settled, with_written, piece_put, KeepsOutside}
+use Rattle.djq_disk.specs.History.{History, moved_to, DiskWrites, Syncs}
 use Rattle.djq_disk.specs.Leaving.{LeavesOnly, LeavesSince}
 use Rattle.djq_disk.specs.WritingDown.{WritesDown}
 use Rattle.djq_disk.specs.declared.disk.DiskDid.{DiskDid}
@@ -59,12 +59,12 @@ leaves_so P Q old new so p = record {
   now = λ image is. so image (p.now image is);
 }
 
-pub keeps_all : (span : Span) (bytes : List ℕ) → Keeps span bytes bytes
+pub keeps_all : (span : Span) (bytes : List ℕ) → KeepsOutside span bytes bytes
 keeps_all span bytes = record { longer = omega arith; same = λ i within out. refl }
 
 -- a write that was done
 pub put_keeps : (at : ℕ) (piece bytes : List ℕ)
-    → Keeps (record { at = at; size = length piece }) bytes (put at piece bytes)
+    → KeepsOutside (record { at = at; size = length piece }) bytes (piece_put at piece bytes)
 put_keeps at piece bytes = record {
   longer = omega (arith, sizes, front_size);
   same = λ i within out. elim out [ inl before ↦ before_it i within before | inr behind ↦ behind_it i within behind ];
@@ -91,7 +91,7 @@ put_keeps at piece bytes = record {
           (at - length bytes) 0,
     )
 
-    before_it : (i : ℕ) → i < length bytes → i < at → get_or (put at piece bytes) i 0 ≡ get_or bytes i 0
+    before_it : (i : ℕ) → i < length bytes → i < at → get_or (piece_put at piece bytes) i 0 ≡ get_or bytes i 0
     before_it i within before =
         let in_take : i < length (take at bytes) = omega (arith, length-take at bytes) in
         let in_zeros : i < length (take at bytes ++ replicate (at - length bytes) 0) = omega
@@ -102,40 +102,43 @@ put_keeps at piece bytes = record {
         ∙ get_or_append_left (take at bytes) (replicate (at - length bytes) 0) 0 i in_take
         ∙ get_or-take at bytes i 0 before
 
-    behind_it : (i : ℕ) → i < length bytes → at + length piece ≤ i → get_or (put at piece bytes) i 0 ≡ get_or bytes i 0
+    behind_it : (i : ℕ) → i < length bytes → at + length piece ≤ i
+        → get_or (piece_put at piece bytes) i 0 ≡ get_or bytes i 0
     behind_it i within behind =
         let there : (at + length piece) + (i - (at + length piece)) ≡ i = omega arith in
         get_or-append_right front (drop (at + length piece) bytes) (at + length piece) i 0 front_size behind
         ∙ get_or-drop (at + length piece) bytes (i - (at + length piece)) 0 ∙ ap (λ k. get_or bytes k 0) there
 
 -- Whatever a write answers, it keeps what is outside its part.
-pub write_keeps : (did : DiskDid) (at : ℕ) (piece : List ℕ) (old new : History) → Writes did at piece old new
-    → (bytes : List ℕ) × Keeps (record { at = at; size = length piece }) old.file.bytes bytes
+pub write_keeps : (did : DiskDid) (at : ℕ) (piece : List ℕ) (old new : History) → DiskWrites did at piece old new
+    → (bytes : List ℕ) × KeepsOutside (record { at = at; size = length piece }) old.file.bytes bytes
     × (new ≡ moved_to (with_written (record { at = at; size = length piece }) bytes old.file) old)
-write_keeps Done at piece old new writes = (put at piece old.file.bytes, put_keeps at piece old.file.bytes, writes)
+write_keeps Done at piece old new writes =
+    (piece_put at piece old.file.bytes, put_keeps at piece old.file.bytes, writes)
 write_keeps Failed at piece old new writes = (writes.0, writes.1.keeps, writes.2)
 
 -- what a stop leaves of a file that is settled
-pub settled_leaves : (span : Span) (old bytes : List ℕ) → Keeps span old bytes
-    → LeavesOnly (Keeps span old) (settled bytes)
+pub settled_leaves : (span : Span) (old bytes : List ℕ) → KeepsOutside span old bytes
+    → LeavesOnly (KeepsOutside span old) (settled bytes)
 settled_leaves span old bytes keeps image is = record {
   longer = omega (arith, keeps.longer, is.long);
   same = λ i within out. is.kept i (omega (arith, keeps.longer)) tt ∙ keeps.same i within out;
 }
 
 -- and of one that was then written
-pub written_leaves : (span : Span) (old bytes : List ℕ) → Keeps span old bytes
-    → LeavesOnly (Keeps span old) (with_written span bytes (settled old))
+pub written_leaves : (span : Span) (old bytes : List ℕ) → KeepsOutside span old bytes
+    → LeavesOnly (KeepsOutside span old) (with_written span bytes (settled old))
 written_leaves span old bytes keeps image is = record {
   longer = is.long;
   same = λ i within out. is.kept i within (out, tt) ∙ keeps.same i within out;
 }
 
 -- A settled file is written: each moment from then on.
-pub write_leaves : (span : Span) (bytes : List ℕ) (old : History) → IsSettled old.file → Keeps span old.file.bytes bytes
-    → LeavesSince (Keeps span old.file.bytes) old (moved_to (with_written span bytes old.file) old)
+pub write_leaves : (span : Span) (bytes : List ℕ) (old : History) → IsSettled old.file
+    → KeepsOutside span old.file.bytes bytes
+    → LeavesSince (KeepsOutside span old.file.bytes) old (moved_to (with_written span bytes old.file) old)
 write_leaves span bytes old is keeps =
-    let P = Keeps span old.file.bytes in
+    let P = KeepsOutside span old.file.bytes in
     let before : LeavesOnly P old.file = subst (λ (f : File). LeavesOnly P f) (sym is)
     (settled_leaves span old.file.bytes old.file.bytes (keeps_all span old.file.bytes)) in
     let behind : LeavesOnly P (with_written span bytes old.file) = subst
@@ -144,38 +147,40 @@ write_leaves span bytes old is keeps =
     leaves_move P old old (with_written span bytes old.file) (leaves_none P old before) behind
 
 -- a write that failed, and no sync
-pub fails_down : (at : ℕ) (piece : List ℕ) (old new : History) → Writes Failed at piece old new
+pub fails_down : (at : ℕ) (piece : List ℕ) (old new : History) → DiskWrites Failed at piece old new
     → WritesDown Failed at piece old new
 fails_down at piece old new writes =
     let kept = write_keeps Failed at piece old new writes in
     record {
       paths = ap (λ (h : History). h.paths) kept.2;
       leaves = λ is. subst (λ (h : History). LeavesSince
-          (Keeps (record { at = at; size = length piece }) old.file.bytes) old h) (sym kept.2)
+          (KeepsOutside (record { at = at; size = length piece }) old.file.bytes) old h) (sym kept.2)
           (write_leaves _ kept.0 old is kept.1);
       done = λ wrong. cc;
     }
 
 -- a write that was done, and a sync
-pub writes_down : (did : DiskDid) (at : ℕ) (piece : List ℕ) (old mid new : History) → Writes Done at piece old mid
+pub writes_down : (did : DiskDid) (at : ℕ) (piece : List ℕ) (old mid new : History) → DiskWrites Done at piece old mid
     → Syncs did mid new → WritesDown did at piece old new
 writes_down Failed at piece old mid new writes syncs = record {
   paths = ap (λ (h : History). h.paths) (syncs ∙ writes);
-  leaves = λ is. subst (λ (h : History). LeavesSince (Keeps (record { at = at; size = length piece }) old.file.bytes)
+  leaves = λ is. subst
+      (λ (h : History). LeavesSince (KeepsOutside (record { at = at; size = length piece }) old.file.bytes)
       old h) (sym (syncs ∙ writes))
-      (write_leaves _ (put at piece old.file.bytes) old is (put_keeps at piece old.file.bytes));
+      (write_leaves _ (piece_put at piece old.file.bytes) old is (put_keeps at piece old.file.bytes));
   done = λ wrong. cc;
 }
 writes_down Done at piece old mid new writes syncs =
     let span : Span = record { at = at; size = length piece } in
-    let bytes = put at piece old.file.bytes in
+    let bytes = piece_put at piece old.file.bytes in
     let keeps = put_keeps at piece old.file.bytes in
     let is_new : new ≡ moved_to (settled bytes) (moved_to (with_written span bytes old.file) old) = syncs
     ∙ ap (λ (h : History). moved_to (settled h.file.bytes) h) writes in
     record {
       paths = ap (λ (h : History). h.paths) is_new;
-      leaves = λ is. subst (λ (h : History). LeavesSince (Keeps span old.file.bytes) old h) (sym is_new)
-          (leaves_move (Keeps span old.file.bytes) old (moved_to (with_written span bytes old.file) old) (settled bytes)
+      leaves = λ is. subst (λ (h : History). LeavesSince (KeepsOutside span old.file.bytes) old h) (sym is_new)
+          (leaves_move (KeepsOutside span old.file.bytes) old (moved_to (with_written span bytes old.file) old)
+          (settled bytes)
           (write_leaves span bytes old is keeps) (settled_leaves span old.file.bytes bytes keeps));
       done = λ _. ap (λ (h : History). h.file) is_new;
     }

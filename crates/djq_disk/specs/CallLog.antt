@@ -2,7 +2,7 @@
 use Rattle.std.specs.Prelude.{◌≡◌, ℕ, List, [], ◌∷◌, ◌++◌, length, Option}
 use Rattle.std.specs.Option.{option_map}
 use Rattle.djq_io.specs.Sink.{Gains}
-use Rattle.djq_disk.specs.File.{settled, with_written, put}
+use Rattle.djq_disk.specs.File.{settled, with_written, piece_put}
 use Rattle.djq_disk.specs.History.{History, moved_to}
 use Rattle.djq_disk.specs.declared.disk.DiskDid.{DiskDid}
 use Rattle.djq_disk.specs.declared.disk.DiskDid.TheVariants.{Done, Failed}
@@ -16,26 +16,26 @@ untouched bytes = record { paths = []; past = []; file = settled bytes }
 -- the history after a write of a disk in memory, which leaves its part as it was where it fails
 abbrev pub after_write : History → ℕ → List ℕ → DiskDid → History
 after_write h at piece Done = moved_to
-    (with_written (record { at = at; size = length piece }) (put at piece h.file.bytes) h.file) h
+    (with_written (record { at = at; size = length piece }) (piece_put at piece h.file.bytes) h.file) h
 after_write h at piece Failed = moved_to (with_written (record { at = at; size = length piece }) h.file.bytes h.file) h
 
 -- the history after a sync
-abbrev pub after_sync : History → DiskDid → History
-after_sync h Done = moved_to (settled h.file.bytes) h
-after_sync h Failed = h
+abbrev pub after_sync_call : History → DiskDid → History
+after_sync_call h Done = moved_to (settled h.file.bytes) h
+after_sync_call h Failed = h
 
 -- the history after a call
-abbrev pub after_call : History → DiskCall → History
-after_call h (Opening path answer) = record h { paths = h.paths ++ path ∷ [] }
-after_call h (Measuring answer) = h
-after_call h (Reading at answer) = h
-after_call h (Writing at piece answer) = after_write h at piece answer
-after_call h (Syncing answer) = after_sync h answer
+abbrev pub history_after_call : History → DiskCall → History
+history_after_call h (Opening path answer) = record h { paths = h.paths ++ path ∷ [] }
+history_after_call h (Measuring answer) = h
+history_after_call h (Reading at answer) = h
+history_after_call h (Writing at piece answer) = after_write h at piece answer
+history_after_call h (Syncing answer) = after_sync_call h answer
 
 -- the history after these calls, in order
 abbrev pub after_calls : History → List DiskCall → History
 after_calls h [] = h
-after_calls h (call ∷ calls) = after_calls (after_call h call) calls
+after_calls h (call ∷ calls) = after_calls (history_after_call h call) calls
 
 -- A disk in memory by its calls: the bytes of its file at first, and its calls in order with their
 -- answers, unless it has lost them.

@@ -23,10 +23,10 @@ CountsLen (Len n) old new = new ≡ old
 CountsLen Unmeasured old new = Counted old new
 
 -- a read,
-abbrev pub CountsRead : DiskRead → ℕ → ℕ → Type 0
-CountsRead (Got n) old new = new ≡ old
-CountsRead End old new = new ≡ old
-CountsRead Unread old new = Counted old new
+abbrev pub CountsDiskRead : DiskRead → ℕ → ℕ → Type 0
+CountsDiskRead (Got n) old new = new ≡ old
+CountsDiskRead End old new = new ≡ old
+CountsDiskRead Unread old new = Counted old new
 
 -- a write or a sync,
 abbrev pub CountsDid : DiskDid → ℕ → ℕ → Type 0

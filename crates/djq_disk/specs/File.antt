@@ -9,8 +9,8 @@ pub record Span : Type 0 where
   pub size : ℕ
 
 -- a place that isn't in the part
-abbrev pub IsOutside : ℕ → Span → Type 0
-IsOutside i span = (i < span.at) ⊎ (span.at + span.size ≤ i)
+abbrev pub IsOutsideSpan : ℕ → Span → Type 0
+IsOutsideSpan i span = (i < span.at) ⊎ (span.at + span.size ≤ i)
 
 -- A file: its bytes as a read gives them, how many it had at the last sync that was done, and the
 -- parts that were written since.
@@ -24,7 +24,7 @@ pub record File : Type 0 where
 -- synced one on.
 pub record IsImage (file : File) (image : List ℕ) : Type 0 where
   pub long : file.synced ≤ length image
-  pub kept : (i : ℕ) → i < file.synced → AllByRecursion (IsOutside i) file.written
+  pub kept : (i : ℕ) → i < file.synced → AllByRecursion (IsOutsideSpan i) file.written
       → slice_index_or image i 0 ≡ slice_index_or file.bytes i 0
 
 -- the file with these bytes, all of them synced and nothing written since
@@ -40,16 +40,16 @@ abbrev pub with_written : Span → List ℕ → File → File
 with_written span bytes file = record { bytes = bytes; synced = file.synced; written = file.written ++ span ∷ [] }
 
 -- the bytes with a piece written at a place: what was before it, or zeros where nothing was
-abbrev pub put : ℕ → List ℕ → List ℕ → List ℕ
-put at piece bytes = take at bytes ++ replicate (at - length bytes) 0 ++ piece ++ drop (at + length piece) bytes
+abbrev pub piece_put : ℕ → List ℕ → List ℕ → List ℕ
+piece_put at piece bytes = take at bytes ++ replicate (at - length bytes) 0 ++ piece ++ drop (at + length piece) bytes
 
 -- From some bytes to others nothing is gone, and each outside a part is as it was.
-pub record Keeps (span : Span) (old new : List ℕ) : Type 0 where
+pub record KeepsOutside (span : Span) (old new : List ℕ) : Type 0 where
   pub longer : length old ≤ length new
-  pub same : (i : ℕ) → i < length old → IsOutside i span → slice_index_or new i 0 ≡ slice_index_or old i 0
+  pub same : (i : ℕ) → i < length old → IsOutsideSpan i span → slice_index_or new i 0 ≡ slice_index_or old i 0
 
 -- A write in a part was cut short: the bytes in it may be any, and it may have lengthened the file
 -- no further than to its own end.
 pub record Torn (span : Span) (old new : List ℕ) : Type 0 where
-  pub keeps : Keeps span old new
+  pub keeps : KeepsOutside span old new
   pub within : length new ≤ max (length old) (span.at + span.size)

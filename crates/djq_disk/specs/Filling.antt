@@ -6,10 +6,10 @@ use Rattle.djq_disk.specs.declared.filling.Filled.TheVariants.{Whole, Short, Fai
 
 -- A buffer is filled from a place on with the bytes that the file has there, or the file ends before
 -- it, or the disk fails. Nothing of the file changes.
-abbrev pub Fills : Filled → ℕ → List ℕ → History → History → Type 0
-Fills Whole at buf old new = (buf ≡ take (length buf) (drop at old.file.bytes)) × (new ≡ old)
-Fills Short at buf old new = (length old.file.bytes < at + length buf) × (new ≡ old)
-Fills Failed at buf old new = new ≡ old
+abbrev pub FillsBuffer : Filled → ℕ → List ℕ → History → History → Type 0
+FillsBuffer Whole at buf old new = (buf ≡ take (length buf) (drop at old.file.bytes)) × (new ≡ old)
+FillsBuffer Short at buf old new = (length old.file.bytes < at + length buf) × (new ≡ old)
+FillsBuffer Failed at buf old new = new ≡ old
 
 -- a buffer that was filled ends at a place that a number names, told or not
 abbrev pub FillsWithin : Filled → ℕ → List ℕ → Type 0

@@ -1,6 +1,6 @@
 -- What a disk went through, and what each of its calls does to that.
 use Rattle.std.specs.Prelude.{◌≡◌, ℕ, ◌+◌, ◌≤◌, List, [], ◌∷◌, ◌++◌, length, take, drop, Option, IfSome, IsSomeAnd}
-use Rattle.djq_disk.specs.File.{File, settled, with_written, put, Torn}
+use Rattle.djq_disk.specs.File.{File, settled, with_written, piece_put, Torn}
 use Rattle.djq_disk.specs.declared.disk.DiskLen.{DiskLen}
 use Rattle.djq_disk.specs.declared.disk.DiskLen.TheVariants.{Len, Failed as Unmeasured}
 use Rattle.djq_disk.specs.declared.disk.DiskRead.{DiskRead}
@@ -22,8 +22,8 @@ pub record History : Type 0 where
 
 -- where a history is told as the later state comes, it was told in the earlier one, and this holds
 -- of both
-abbrev pub WhereTold : Option History → Option History → (History → History → Type 0) → Type 0
-WhereTold old new P = IfSome new (λ n. IsSomeAnd old (λ o. P o n))
+abbrev pub WhereHistoryTold : Option History → Option History → (History → History → Type 0) → Type 0
+WhereHistoryTold old new P = IfSome new (λ n. IsSomeAnd old (λ o. P o n))
 
 -- the history a moment later, with this file
 abbrev pub moved_to : File → History → History
@@ -46,22 +46,24 @@ IsPart End at buf bytes = length bytes ≤ at
 IsPart Unread at buf bytes = Unit {0}
 
 -- A read gives a part of the file, and nothing changes.
-abbrev pub Reads : DiskRead → ℕ → List ℕ → History → History → Type 0
-Reads answer at buf old new = IsPart answer at buf old.file.bytes × (new ≡ old)
+abbrev pub DiskReads : DiskRead → ℕ → List ℕ → History → History → Type 0
+DiskReads answer at buf old new = IsPart answer at buf old.file.bytes × (new ≡ old)
 
 -- What a read may give, told or not: at least one byte, at most as many as the buffer has room for,
 -- and none past the last place that a number names.
-abbrev pub Fits : DiskRead → ℕ → List ℕ → Type 0
-Fits (Got n) at buf = (1 ≤ n) × (n ≤ length buf) × (at + n ≤ 18446744073709551615)
-Fits End at buf = Unit {0}
-Fits Unread at buf = Unit {0}
+abbrev pub FitsRead : DiskRead → ℕ → List ℕ → Type 0
+FitsRead (Got n) at buf = (1 ≤ n) × (n ≤ length buf) × (at + n ≤ 18446744073709551615)
+FitsRead End at buf = Unit {0}
+FitsRead Unread at buf = Unit {0}
 
 -- A write that was done has written the whole piece. One that failed may have left any bytes in its
 -- part. Both count as written since the last sync.
-abbrev pub Writes : DiskDid → ℕ → List ℕ → History → History → Type 0
-Writes Done at piece old new =
-    new ≡ moved_to (with_written (record { at = at; size = length piece }) (put at piece old.file.bytes) old.file) old
-Writes Failed at piece old new = (bytes : List ℕ) × Torn (record { at = at; size = length piece }) old.file.bytes bytes
+abbrev pub DiskWrites : DiskDid → ℕ → List ℕ → History → History → Type 0
+DiskWrites Done at piece old new =
+    new ≡ moved_to
+    (with_written (record { at = at; size = length piece }) (piece_put at piece old.file.bytes) old.file) old
+DiskWrites Failed at piece old new = (bytes : List ℕ)
+    × Torn (record { at = at; size = length piece }) old.file.bytes bytes
     × (new ≡ moved_to (with_written (record { at = at; size = length piece }) bytes old.file) old)
 
 -- After a sync that was done a stop leaves what a read gives. One that failed counts as none.

@@ -2,7 +2,7 @@
 use Rattle.std.specs.Prelude.{◌≡◌, ℕ, List, ◌++◌}
 use Rattle.std.specs.List.{AllByRecursion}
 use Rattle.djq_disk.specs.File.{File, IsImage}
-use Rattle.djq_disk.specs.History.{History, OpensPath, Sizes, Reads, Writes, Syncs}
+use Rattle.djq_disk.specs.History.{History, OpensPath, Sizes, DiskReads, DiskWrites, Syncs}
 use Rattle.djq_disk.specs.declared.disk.DiskLen.{DiskLen}
 use Rattle.djq_disk.specs.declared.disk.DiskRead.{DiskRead}
 use Rattle.djq_disk.specs.declared.disk.DiskDid.{DiskDid}
@@ -31,8 +31,8 @@ pub record StaysAnImage : Type 0 where
       → ReadsAsImage new.file
   pub sizing : (answer : DiskLen) (old new : History) → Sizes answer old new → ReadsAsImage old.file
       → ReadsAsImage new.file
-  pub reading : (answer : DiskRead) (at : ℕ) (buf : List ℕ) (old new : History) → Reads answer at buf old new
+  pub reading : (answer : DiskRead) (at : ℕ) (buf : List ℕ) (old new : History) → DiskReads answer at buf old new
       → ReadsAsImage old.file → ReadsAsImage new.file
-  pub writing : (did : DiskDid) (at : ℕ) (piece : List ℕ) (old new : History) → Writes did at piece old new
+  pub writing : (did : DiskDid) (at : ℕ) (piece : List ℕ) (old new : History) → DiskWrites did at piece old new
       → ReadsAsImage old.file → ReadsAsImage new.file
   pub syncing : (did : DiskDid) (old new : History) → Syncs did old new → ReadsAsImage old.file → ReadsAsImage new.file

@@ -1,21 +1,21 @@
 -- What callers see of a disk in memory, and what it answers.
 use Rattle.std.specs.Prelude.{ℕ, List, if◌then◌else◌}
-use Rattle.djq_io.specs.Failing.{is_due}
-use Rattle.djq_disk.specs.File.{put}
+use Rattle.djq_io.specs.Failing.{is_failing}
+use Rattle.djq_disk.specs.File.{piece_put}
 use Rattle.djq_disk.specs.CallLog.{Calls}
 use Rattle.djq_disk.specs.declared.disk.DiskDid.{DiskDid}
 use Rattle.djq_disk.specs.declared.disk.DiskDid.TheVariants.{Done, Failed}
 
 -- A disk in memory: its calls, and those to come that are to fail.
-pub record Kept : Type 0 where
+pub record MemDiskInside : Type 0 where
   pub log : Calls
   pub to_fail : List ℕ
 
 -- what a write or a sync answers
-abbrev pub did_of : Kept → DiskDid
-did_of disk = if is_due disk.to_fail then Failed else Done
+abbrev pub did_of : MemDiskInside → DiskDid
+did_of disk = if is_failing disk.to_fail then Failed else Done
 
 -- the bytes of a disk in memory after a write with this answer
 abbrev pub put_by : DiskDid → ℕ → List ℕ → List ℕ → List ℕ
-put_by Done at piece bytes = put at piece bytes
+put_by Done at piece bytes = piece_put at piece bytes
 put_by Failed at piece bytes = bytes

@@ -1,6 +1,6 @@
 -- What a piece that is written and then synced leaves.
 use Rattle.std.specs.Prelude.{◌≡◌, ℕ, List, length}
-use Rattle.djq_disk.specs.File.{IsSettled, settled, put, Keeps}
+use Rattle.djq_disk.specs.File.{IsSettled, settled, piece_put, KeepsOutside}
 use Rattle.djq_disk.specs.History.{History}
 use Rattle.djq_disk.specs.Leaving.{LeavesSince}
 use Rattle.djq_disk.specs.declared.disk.DiskDid.{DiskDid}
@@ -11,5 +11,6 @@ use Rattle.djq_disk.specs.declared.disk.DiskDid.TheVariants.{Done}
 -- both were done, the file has the piece and all is synced.
 pub record WritesDown (did : DiskDid) (at : ℕ) (piece : List ℕ) (old new : History) : Type 0 where
   pub paths : new.paths ≡ old.paths
-  pub leaves : IsSettled old.file → LeavesSince (Keeps (record { at = at; size = length piece }) old.file.bytes) old new
-  pub done : did ≡ Done → new.file ≡ settled (put at piece old.file.bytes)
+  pub leaves : IsSettled old.file
+      → LeavesSince (KeepsOutside (record { at = at; size = length piece }) old.file.bytes) old new
+  pub done : did ≡ Done → new.file ≡ settled (piece_put at piece old.file.bytes)

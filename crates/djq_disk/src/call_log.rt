@@ -1,7 +1,7 @@
 ghost use Rattle.std.specs.Prelude.{◌≡◌, [], Some, None, MatchResult};
 ghost use Rattle.std.specs.Option.{option_copied};
-ghost use Rattle.djq_disk.specs.History.{WhereTold};
-ghost use Rattle.djq_disk.specs.CallLog.{told_by, after_call, GainsCall};
+ghost use Rattle.djq_disk.specs.History.{WhereHistoryTold};
+ghost use Rattle.djq_disk.specs.CallLog.{told_by, history_after_call, GainsCall};
 
 use crate::disk::{DiskDid, DiskLen, DiskOpen, DiskRead};
 use djq_io::{Piece, Recording};
@@ -60,8 +60,8 @@ impl CallLog {
     pub(crate) fn push(&mut self, call: Result<DiskCall, AllocError>)
         ensures first { self.new.first ≡ self.old.first }
         ensures gains { MatchResult call (λ made. GainsCall made self.old self.new) (λ _. self.new.calls ≡ None) }
-        ensures told { MatchResult call (λ made. WhereTold (told_by self.old) (told_by self.new)
-            (λ o n. n ≡ after_call o made))
+        ensures told { MatchResult call (λ made. WhereHistoryTold (told_by self.old) (told_by self.new)
+            (λ o n. n ≡ history_after_call o made))
             (λ _. told_by self.new ≡ None) }
     {
         self.calls.push_made(call);

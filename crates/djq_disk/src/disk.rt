@@ -33,8 +33,9 @@ pub enum DiskDid {
 /// A disk with one file.
 pub trait Disk {
     ghost use Rattle.std.specs.Prelude.{◌≡◌, ℕ, ◌+◌, ◌<◌, ◌≤◌, length, Option};
-    ghost use Rattle.djq_disk.specs.History.{History, WhereTold, OpensPath, Sizes, Reads, Fits, Writes, Syncs};
-    ghost use Rattle.djq_disk.specs.DiskFaults.{CountsOpen, CountsLen, CountsRead, CountsDid};
+    ghost use Rattle.djq_disk.specs.History.{History, WhereHistoryTold, OpensPath, Sizes, DiskReads, FitsRead};
+    ghost use Rattle.djq_disk.specs.History.{DiskWrites, Syncs};
+    ghost use Rattle.djq_disk.specs.DiskFaults.{CountsOpen, CountsLen, CountsDiskRead, CountsDid};
 
     // What it went through, where the disk tells it.
     ghost told: { Self → Option History };
@@ -44,30 +45,30 @@ pub trait Disk {
 
     /// Opens the file at the path, where it makes it if none is there.
     fn open(&mut self, path: &str) -> DiskOpen
-        ensures told { WhereTold (told self.old) (told self.new) (OpensPath path.now) }
+        ensures told { WhereHistoryTold (told self.old) (told self.new) (OpensPath path.now) }
         ensures faults { CountsOpen result (faults self.old) (faults self.new) };
 
     /// How many bytes the file has.
     fn len(&mut self) -> DiskLen
-        ensures told { WhereTold (told self.old) (told self.new) (Sizes result) }
+        ensures told { WhereHistoryTold (told self.old) (told self.new) (Sizes result) }
         ensures faults { CountsLen result (faults self.old) (faults self.new) };
 
     /// Reads some bytes from the place on into the start of the buffer. Past them the buffer may
     /// change too.
     fn read(&mut self, at: u64, buf: &mut [u8]) -> DiskRead
         requires { 0 < length buf.old }
-        ensures fits { Fits result at buf.new }
-        ensures told { WhereTold (told self.old) (told self.new) (Reads result at buf.new) }
-        ensures faults { CountsRead result (faults self.old) (faults self.new) };
+        ensures fits { FitsRead result at buf.new }
+        ensures told { WhereHistoryTold (told self.old) (told self.new) (DiskReads result at buf.new) }
+        ensures faults { CountsDiskRead result (faults self.old) (faults self.new) };
 
     /// Writes the whole piece at the place.
     fn write_at(&mut self, at: u64, piece: &[u8]) -> DiskDid
         requires { at + length piece.now ≤ 18446744073709551615 }
-        ensures told { WhereTold (told self.old) (told self.new) (Writes result at piece.now) }
+        ensures told { WhereHistoryTold (told self.old) (told self.new) (DiskWrites result at piece.now) }
         ensures faults { CountsDid result (faults self.old) (faults self.new) };
 
     /// Waits until all that was written outlives a stop.
     fn sync(&mut self) -> DiskDid
-        ensures told { WhereTold (told self.old) (told self.new) (Syncs result) }
+        ensures told { WhereHistoryTold (told self.old) (told self.new) (Syncs result) }
         ensures faults { CountsDid result (faults self.old) (faults self.new) };
 }

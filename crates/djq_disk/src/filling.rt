@@ -1,7 +1,7 @@
 ghost use Rattle.std.specs.Prelude.{◌≡◌, ◌+◌, ◌≤◌, length};
-ghost use Rattle.djq_disk.specs.History.{WhereTold};
+ghost use Rattle.djq_disk.specs.History.{WhereHistoryTold};
 ghost use Rattle.djq_disk.specs.DiskFaults.{CountsFill};
-ghost use Rattle.djq_disk.specs.Filling.{Fills, FillsWithin};
+ghost use Rattle.djq_disk.specs.Filling.{FillsBuffer, FillsWithin};
 
 use crate::disk::{Disk, DiskRead};
 
@@ -18,7 +18,7 @@ pub enum Filled {
 /// Fills the whole buffer with the bytes of the file from the place on, by as many reads as it
 /// takes.
 pub fn fill<D: Disk>(disk: &mut D, at: u64, buf: &mut [u8]) -> Filled
-    ensures told { WhereTold (D.told disk.old) (D.told disk.new) (Fills result at buf.new) }
+    ensures told { WhereHistoryTold (D.told disk.old) (D.told disk.new) (FillsBuffer result at buf.new) }
     ensures within { FillsWithin result at buf.new }
     ensures faults { CountsFill result (D.faults disk.old) (D.faults disk.new) }
 {

@@ -1,9 +1,10 @@
 ghost use Rattle.std.specs.Prelude.{◌≡◌, ◌+◌, ◌<◌, ◌≤◌, [], ◌∷◌, ◌++◌, length, Some, OnOk, OnErr, IfOk, IfSome};
 ghost use Rattle.std.specs.Option.{option_copied};
 ghost use Rattle.djq_io.specs.Failing.{after_call, failed_count};
-ghost use Rattle.djq_disk.specs.File.{put};
-ghost use Rattle.djq_disk.specs.History.{WhereTold, OpensPath, Sizes, IsPart, Reads, Fits, Writes, Syncs};
-ghost use Rattle.djq_disk.specs.DiskFaults.{CountsOpen, CountsLen, CountsRead, CountsDid};
+ghost use Rattle.djq_disk.specs.File.{piece_put};
+ghost use Rattle.djq_disk.specs.History.{WhereHistoryTold, OpensPath, Sizes, IsPart, DiskReads, FitsRead, DiskWrites};
+ghost use Rattle.djq_disk.specs.History.{Syncs};
+ghost use Rattle.djq_disk.specs.DiskFaults.{CountsOpen, CountsLen, CountsDiskRead, CountsDid};
 ghost use Rattle.djq_disk.specs.CallLog.{told_by, GainsCall};
 ghost use Rattle.djq_disk.specs.MemDisk.{did_of, put_by};
 ghost use Rattle.djq_disk.specs.declared.call_log.DiskCall.TheVariants.{Opening, Measuring, Reading, Writing, Syncing};
@@ -30,9 +31,9 @@ pub struct MemDisk {
 impl Model for MemDisk {
     ghost use Rattle.std.specs.Prelude.{◌≡◌, IfSome};
     ghost use Rattle.djq_disk.specs.CallLog.{told_by};
-    ghost use Rattle.djq_disk.specs.MemDisk.{Kept};
+    ghost use Rattle.djq_disk.specs.MemDisk.{MemDiskInside};
 
-    ghost Value = { Kept };
+    ghost Value = { MemDiskInside };
 
     ghost view = { λ d. record { log = d.log; to_fail = d.to_fail } };
 
@@ -100,7 +101,7 @@ impl MemDisk {
 /// Writes a piece into bytes, with zeros before it where they ended earlier.
 fn put_piece(bytes: &mut Vec<u8>, at: usize, piece: &[u8]) -> Result<(), AllocError>
     requires { at + length piece.now ≤ 18446744073709551615 }
-    ensures { OnOk result (bytes.new.items ≡ put at piece.now bytes.old.items) }
+    ensures { OnOk result (bytes.new.items ≡ piece_put at piece.now bytes.old.items) }
 {
     let alloc = *bytes.allocator();
     let end = bytes.len().min(at + piece.len());
@@ -134,7 +135,7 @@ fn write(
 fn read_from(bytes: &[u8], at: u64, buf: &mut [u8]) -> DiskRead
     requires { 0 < length buf.old }
     ensures part { IsPart result at buf.new bytes.now }
-    ensures fits { Fits result at buf.new }
+    ensures fits { FitsRead result at buf.new }
     ensures works { result ≡ DiskRead.Failed → ⊥ }
 {
     let from = bytes.len().min(at as usize);
@@ -154,7 +155,7 @@ impl Disk for MemDisk {
     fn open(&mut self, path: &str) -> DiskOpen
         ensures call { GainsCall (Opening path.now result) self.old.log self.new.log }
         ensures to_fail { self.new.to_fail ≡ after_call self.old.to_fail }
-        ensures told { WhereTold (told_by self.old.log) (told_by self.new.log) (OpensPath path.now) }
+        ensures told { WhereHistoryTold (told_by self.old.log) (told_by self.new.log) (OpensPath path.now) }
         ensures faults { CountsOpen result (failed_count self.old.to_fail) (failed_count self.new.to_fail) }
     {
         let answer = if self.to_fail.count_down() {
@@ -171,7 +172,7 @@ impl Disk for MemDisk {
     fn len(&mut self) -> DiskLen
         ensures call { GainsCall (Measuring result) self.old.log self.new.log }
         ensures to_fail { self.new.to_fail ≡ after_call self.old.to_fail }
-        ensures told { WhereTold (told_by self.old.log) (told_by self.new.log) (Sizes result) }
+        ensures told { WhereHistoryTold (told_by self.old.log) (told_by self.new.log) (Sizes result) }
         ensures faults { CountsLen result (failed_count self.old.to_fail) (failed_count self.new.to_fail) }
     {
         let answer = if self.to_fail.count_down() {
@@ -187,9 +188,9 @@ impl Disk for MemDisk {
         requires { 0 < length buf.old }
         ensures call { GainsCall (Reading at result) self.old.log self.new.log }
         ensures to_fail { self.new.to_fail ≡ after_call self.old.to_fail }
-        ensures fits { Fits result at buf.new }
-        ensures told { WhereTold (told_by self.old.log) (told_by self.new.log) (Reads result at buf.new) }
-        ensures faults { CountsRead result (failed_count self.old.to_fail) (failed_count self.new.to_fail) }
+        ensures fits { FitsRead result at buf.new }
+        ensures told { WhereHistoryTold (told_by self.old.log) (told_by self.new.log) (DiskReads result at buf.new) }
+        ensures faults { CountsDiskRead result (failed_count self.old.to_fail) (failed_count self.new.to_fail) }
     {
         let answer = if self.to_fail.count_down() {
             DiskRead::Failed
@@ -205,7 +206,7 @@ impl Disk for MemDisk {
         ensures exact { result ≡ did_of self.old }
         ensures call { GainsCall (Writing at piece.now result) self.old.log self.new.log }
         ensures to_fail { self.new.to_fail ≡ after_call self.old.to_fail }
-        ensures told { WhereTold (told_by self.old.log) (told_by self.new.log) (Writes result at piece.now) }
+        ensures told { WhereHistoryTold (told_by self.old.log) (told_by self.new.log) (DiskWrites result at piece.now) }
         ensures faults { CountsDid result (failed_count self.old.to_fail) (failed_count self.new.to_fail) }
     {
         let answer = self.did();
@@ -218,7 +219,7 @@ impl Disk for MemDisk {
         ensures exact { result ≡ did_of self.old }
         ensures call { GainsCall (Syncing result) self.old.log self.new.log }
         ensures to_fail { self.new.to_fail ≡ after_call self.old.to_fail }
-        ensures told { WhereTold (told_by self.old.log) (told_by self.new.log) (Syncs result) }
+        ensures told { WhereHistoryTold (told_by self.old.log) (told_by self.new.log) (Syncs result) }
         ensures faults { CountsDid result (failed_count self.old.to_fail) (failed_count self.new.to_fail) }
     {
         let answer = self.did();

@@ -1,6 +1,7 @@
 ghost use Rattle.std.specs.Prelude.{◌≡◌, ℕ, ◌+◌, ◌<◌, ◌≤◌, length, None};
-ghost use Rattle.djq_disk.specs.History.{History, WhereTold, OpensPath, Sizes, Reads, Fits, Writes, Syncs};
-ghost use Rattle.djq_disk.specs.DiskFaults.{CountsOpen, CountsLen, CountsRead, CountsDid};
+ghost use Rattle.djq_disk.specs.History.{History, WhereHistoryTold, OpensPath, Sizes, DiskReads, FitsRead, DiskWrites};
+ghost use Rattle.djq_disk.specs.History.{Syncs};
+ghost use Rattle.djq_disk.specs.DiskFaults.{CountsOpen, CountsLen, CountsDiskRead, CountsDid};
 
 use crate::disk::{Disk, DiskDid, DiskLen, DiskOpen, DiskRead};
 

@@ -21,15 +21,15 @@ use Rattle.djq_live.specs.Updating.{change_of}
 use Rattle.djq_reach.specs.declared.group.Group.{Group}
 use Rattle.djq_reach.specs.Places.{place_at, is_reader, watched_at, log_at}
 use Rattle.djq_reach.specs.Reaching.{Reach, Renews}
-use Rattle.djq_reach.specs.Tending.{AreShown, Tells, TellsWhere, TellsAt, TendedAt, Tends}
-use Rattle.djq_reach.specs.Grouping.{Leads, CostsBy, reached}
+use Rattle.djq_reach.specs.Tending.{LogsCanBeShown, LogTellsOver, TellsWhere, LogTellsAt, TendedAt, Tends}
+use Rattle.djq_reach.specs.Grouping.{GroupsLead, CostsBy, reached}
 use Rattle.djq_engine.specs.declared.parts.Parts.{Parts}
 use Rattle.djq_engine.specs.Kept.{Outdates, is_tried}
 use Rattle.djq_engine.proofs.Placed.{KeepsIn, keeps_turned}
 use Rattle.djq_engine.specs.Places.{query_in, queries_in}
 use Rattle.djq_engine.specs.Outdating.{AgesAll}
-use Rattle.djq_engine.specs.Watching.{TellsChange}
-use Rattle.djq_engine.specs.Whole.{kept_in, IsWhole, IsTended}
+use Rattle.djq_engine.specs.Watching.{EngineTellsChange}
+use Rattle.djq_engine.specs.Whole.{kept_in, EngineIsWhole, IsTended}
 use Rattle.djq_engine.proofs.Affecting.{outdated_places, place_outdated, AreFor, deltas_with, accepted_tells}
 use Rattle.djq_engine.proofs.Carrying.{stays_then}
 use Rattle.djq_engine.proofs.HeldRows.{all_queries}
@@ -49,7 +49,7 @@ pub record Takes (old : Parts) (before : Catalog) (groups : List Group) (mid : P
   pub passes : (i : ℕ) (l : Live) → place_at old.queries.items i ≡ Some l
       → is_reader (reached old.readers.items groups) i ≡ false → StaysOver before mid.catalog l
   pub tends : Tends (reached old.readers.items groups)
-      (TellsAt old.watchers.items (λ c d (what : ⊤). Leads old.readers.items groups old.queries.items c d))
+      (LogTellsAt old.watchers.items (λ c d (what : ⊤). GroupsLead old.readers.items groups old.queries.items c d))
       old.queries.items old.logs.items mid.logs.items
 
 -- Then the number of changes, the affected queries and the cursors follow.
@@ -64,7 +64,7 @@ pub record Settles (old : Parts) (held : List HeldRow) (groups : List Group) (mi
   pub affected : new.affected.items ≡ filter (is_reader (reached old.readers.items groups)) old.order
   pub room : length old.order ≤ vec_capacity new.affected
 
-module _ (old mid new : Parts) (s : IsWhole old) (t : IsTended old) (held : List HeldRow) (before : Catalog)
+module _ (old mid new : Parts) (s : EngineIsWhole old) (t : IsTended old) (held : List HeldRow) (before : Catalog)
     (groups : List Group) (count : ℕ) (k : Filled old held before mid.catalog groups count)
     (takes : Takes old before groups mid) (x : Settles old held groups mid new) (live : LiveStays)
     (showable : ShowableStays) where
@@ -124,7 +124,7 @@ module _ (old mid new : Parts) (s : IsWhole old) (t : IsTended old) (held : List
   alike : AreAlike old.queries.items new.queries.items
   alike = alike_then outdater places old mid new s turned
 
-  pub taken_whole : IsWhole new
+  pub taken_whole : EngineIsWhole new
   taken_whole = whole_then outdater places old mid new s turned
 
   pub taken_registered : (kept_in new).registered ≡ (kept_in old).registered
@@ -161,22 +161,24 @@ module _ (old mid new : Parts) (s : IsWhole old) (t : IsTended old) (held : List
   -- the query in a place that is reached tells, where it is watched
   tended_at : (i : ℕ) (l : Live) → is_reader places i ≡ true → place_at old.queries.items i ≡ Some l
       → TellsWhere (watched_at old.watchers.items i)
-      (λ c d (what : ⊤). Leads old.readers.items groups old.queries.items c d) l (log_at old.logs.items i)
+      (λ c d (what : ⊤). GroupsLead old.readers.items groups old.queries.items c d) l (log_at old.logs.items i)
       (log_at mid.logs.items i)
   tended_at i l e there =
       (let a = subst (λ (b : Bool). TendedAt
-      (TellsAt old.watchers.items (λ c d (what : ⊤). Leads old.readers.items groups old.queries.items c d) i) b
+      (LogTellsAt old.watchers.items (λ c d (what : ⊤). GroupsLead old.readers.items groups old.queries.items c d) i) b
       (place_at old.queries.items i) (log_at old.logs.items i) (log_at mid.logs.items i)) e ((takes.tends).each i)
       in
       let b = subst (λ (o : Option Live). TendedAt
-      (TellsAt old.watchers.items (λ c d (what : ⊤). Leads old.readers.items groups old.queries.items c d) i) true o
+      (LogTellsAt old.watchers.items
+      (λ c d (what : ⊤). GroupsLead old.readers.items groups old.queries.items c d) i) true o
       (log_at old.logs.items i) (log_at mid.logs.items i)) there a in b)
 
   told_anew : (i : ℕ) (l : Live) → is_reader places i ≡ true → watched_at old.watchers.items i ≡ true
       → place_at old.queries.items i ≡ Some l
-      → Tells (λ c d (what : ⊤). Leads old.readers.items groups old.queries.items c d) l (log_at mid.logs.items i)
+      → LogTellsOver (λ c d (what : ⊤). GroupsLead old.readers.items groups old.queries.items c d) l
+      (log_at mid.logs.items i)
   told_anew i l e w there =
-      subst (λ (b : Bool). TellsWhere b (λ c d (what : ⊤). Leads old.readers.items groups old.queries.items c d) l
+      subst (λ (b : Bool). TellsWhere b (λ c d (what : ⊤). GroupsLead old.readers.items groups old.queries.items c d) l
       (log_at old.logs.items i) (log_at mid.logs.items i)) w (tended_at i l e there)
 
   log_kept : (i : ℕ) (l : Live) → place_at old.queries.items i ≡ Some l
@@ -188,18 +190,20 @@ module _ (old mid new : Parts) (s : IsWhole old) (t : IsTended old) (held : List
           → log_at mid.logs.items i ≡ log_at old.logs.items i
       by true f true g h = absurd (false≢true (sym h))
       by true f false g h =
-          subst (λ (b : Bool). TellsWhere b (λ c d (what : ⊤). Leads old.readers.items groups old.queries.items c d) l
+          subst (λ (b : Bool). TellsWhere b
+          (λ c d (what : ⊤). GroupsLead old.readers.items groups old.queries.items c d) l
           (log_at old.logs.items i) (log_at mid.logs.items i)) g (tended_at i l f there)
       by false f b g h =
           subst (λ (b : Bool). TendedAt
-          (TellsAt old.watchers.items (λ c d (what : ⊤). Leads old.readers.items groups old.queries.items c d) i) b
+          (LogTellsAt old.watchers.items
+          (λ c d (what : ⊤). GroupsLead old.readers.items groups old.queries.items c d) i) b
           (place_at old.queries.items i) (log_at old.logs.items i) (log_at mid.logs.items i)) f
           ((takes.tends).each i)
 
   before_kept : (i : ℕ) (l : Live) → place_at old.queries.items i ≡ Some l → IsKept before l
   before_kept i l there = (before_live old s held before mid.catalog groups count k live i l there).live.kept
 
-  shown_mid : AreShown (mid.catalog).texts old.queries.items mid.logs.items
+  shown_mid : LogsCanBeShown (mid.catalog).texts old.queries.items mid.logs.items
   shown_mid i l there kept = by (is_reader places i && watched_at old.watchers.items i) refl
     where
       by : (b : Bool) → (is_reader places i && watched_at old.watchers.items i) ≡ b
@@ -218,8 +222,8 @@ module _ (old mid new : Parts) (s : IsWhole old) (t : IsTended old) (held : List
     watched = ap (λ (xs : List ℕ). length xs) x.watchers ∙ t.watched ∙ sym ((x.ages).long ∙ (takes.reach).length);
     logged = ap (λ (xs : List Log). length xs) x.logs ∙ (takes.tends).long ∙ t.logged
         ∙ sym ((x.ages).long ∙ (takes.reach).length);
-    shown = subst (λ (c : Catalog). AreShown c.texts new.queries.items new.logs.items) (sym x.catalog)
-        (subst (λ (ls : List Log). AreShown (mid.catalog).texts new.queries.items ls) (sym x.logs)
+    shown = subst (λ (c : Catalog). LogsCanBeShown c.texts new.queries.items new.logs.items) (sym x.catalog)
+        (subst (λ (ls : List Log). LogsCanBeShown (mid.catalog).texts new.queries.items ls) (sym x.logs)
         (shown_alike (mid.catalog).texts old.queries.items new.queries.items mid.logs.items alike shown_mid));
     room = omega (arith, x.room, ap (λ (xs : List ℕ). length xs) x.order);
   }
@@ -237,8 +241,8 @@ module _ (old mid new : Parts) (s : IsWhole old) (t : IsTended old) (held : List
     counts = counts_batch old s held before mid.catalog groups count k change refl refl
         (λ i e. (let y = is_there i e in sym (outdated_here i y) ∙ e)) live from now costs
 
-    pub taken_tells : TellsChange (kept_in old) (batch_outcome st held (Ok count)) (kept_in new) from now
-    taken_tells = subst (λ (o : RowsOutcome). TellsChange (kept_in old) o (kept_in new) from now)
+    pub taken_tells : EngineTellsChange (kept_in old) (batch_outcome st held (Ok count)) (kept_in new) from now
+    taken_tells = subst (λ (o : RowsOutcome). EngineTellsChange (kept_in old) o (kept_in new) from now)
         (sym (outcome_some st held count k.some))
         (accepted_tells old s change (outdated_places old.queries.items old.order change) refl have from now counts new
         (λ i l e w there lost.

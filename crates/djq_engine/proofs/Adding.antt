@@ -27,14 +27,14 @@ use Rattle.djq_engine.specs.declared.parts.Parts.{Parts}
 use Rattle.djq_machine.specs.Stale.{by_relation}
 use Rattle.djq_engine.specs.Kept.{held_at, outdated_held}
 use Rattle.djq_reach.specs.Places.{readers_at, AreOnce}
-use Rattle.djq_engine.specs.Places.{queries_in, store_of, held_from}
-use Rattle.djq_engine.specs.Sound.{IsSound}
+use Rattle.djq_engine.specs.Places.{queries_in, store_of, query_cursors_from}
+use Rattle.djq_engine.specs.Sound.{QueriesAreSound}
 use Rattle.djq_reach.specs.Reaching.{Reach, AllAt, Ages, Carries}
-use Rattle.djq_engine.specs.Judging.{bare, Deletion, MayCome, MayGo}
+use Rattle.djq_engine.specs.Judging.{bare_store, Deletion, MayCome, MayGo}
 use Rattle.djq_engine.specs.Changing.{KeepsRest, PutsRow, LacksMemory, NoPlace, for_copies}
-use Rattle.djq_engine.specs.Changing.{for_texts, LacksPlace, HasCopies, HasMore, DeletesFrom}
+use Rattle.djq_engine.specs.Changing.{for_texts, RowLacksPlace, HasCopies, HasCopyMore, DeletesFrom}
 use Rattle.djq_engine.specs.Changing.{AgesReaders, RestsOver}
-use Rattle.djq_engine.specs.Whole.{kept_in, IsWhole}
+use Rattle.djq_engine.specs.Whole.{kept_in, EngineIsWhole}
 use Rattle.djq_engine.proofs.Conditions.{answers_refused, answers_done}
 use Rattle.djq_engine.proofs.Carrying.{field_with, long_with, readers_once, readers_there, sound_rows, sound_texts}
 use Rattle.djq_engine.proofs.Aging.{turned, carried_there, SameNames, turned_sound, turned_queries}
@@ -67,13 +67,13 @@ names_kept c d e = record {
 
 -- What is kept once the readers of a relation were carried over and their cursors outdated.
 pub record Aged (old new : Parts) (name : Bytes) (n : ℕ) : Type 0 where
-  pub whole : IsWhole new
-  pub cursors : (id : CursorId) → held_at (held_from (new.catalog).texts zero new.queries.items) id
+  pub whole : EngineIsWhole new
+  pub cursors : (id : CursorId) → held_at (query_cursors_from (new.catalog).texts zero new.queries.items) id
       ≡ held_at (map (outdated_held (queries_in old.queries.items old.order) (by_relation name) n)
-      (held_from (old.catalog).texts zero old.queries.items)) id
+      (query_cursors_from (old.catalog).texts zero old.queries.items)) id
   pub queries : queries_in new.queries.items new.order ≡ queries_in old.queries.items old.order
 
-module _ (old mid : Parts) (s : IsWhole old) (at : ℕ) (low : at < length (old.catalog).relations)
+module _ (old mid : Parts) (s : EngineIsWhole old) (at : ℕ) (low : at < length (old.catalog).relations)
     (carries : Carries (readers_at old.readers.items at) old.catalog old.queries.items mid.catalog mid.queries.items)
     (readers : mid.readers.items ≡ old.readers.items) (order : mid.order ≡ old.order)
     (names : SameNames old.catalog mid.catalog) where
@@ -106,67 +106,69 @@ module _ (old mid : Parts) (s : IsWhole old) (at : ℕ) (low : at < length (old.
       old.readers.items s at low new.seq t carries.stay names in
       record {
         whole =
-            subst (λ (x : Catalog). IsSound x new.queries.items new.order new.readers.items) (sym a.catalog)
-            (subst (λ (o : List ℕ). IsSound mid.catalog new.queries.items o new.readers.items)
+            subst (λ (x : Catalog). QueriesAreSound x new.queries.items new.order new.readers.items) (sym a.catalog)
+            (subst (λ (o : List ℕ). QueriesAreSound mid.catalog new.queries.items o new.readers.items)
             (sym (a.rest.order ∙ order))
-            (subst (λ (rs : List (List ℕ)). IsSound mid.catalog new.queries.items old.order rs)
+            (subst (λ (rs : List (List ℕ)). QueriesAreSound mid.catalog new.queries.items old.order rs)
             (sym (a.rest.readers ∙ readers)) sound));
         cursors = λ id.
-            ap (λ (x : Catalog). held_at (held_from x.texts zero new.queries.items) id) a.catalog ∙ held id
+            ap (λ (x : Catalog). held_at (query_cursors_from x.texts zero new.queries.items) id) a.catalog ∙ held id
             ∙ ap (λ (x : Bytes). held_at
             (map (outdated_held (queries_in old.queries.items old.order) (by_relation x) new.seq)
-            (held_from (old.catalog).texts zero old.queries.items)) id) named;
+            (query_cursors_from (old.catalog).texts zero old.queries.items)) id) named;
         queries = ap (queries_in new.queries.items) (a.rest.order ∙ order) ∙ queries;
       }
 
 -- where no query is reached
 
-pub rested_whole : (old new : Parts) → IsWhole old → RestsOver old new → KeepsRest old new → IsWhole new
+pub rested_whole : (old new : Parts) → EngineIsWhole old → RestsOver old new → KeepsRest old new → EngineIsWhole new
 rested_whole old new s r k =
-    subst (λ (qs : List (Option Live)). IsSound new.catalog qs new.order new.readers.items) (sym r.queries)
-    (subst (λ (o : List ℕ). IsSound new.catalog old.queries.items o new.readers.items) (sym k.order)
-    (subst (λ (rs : List (List ℕ)). IsSound new.catalog old.queries.items old.order rs) (sym k.readers)
+    subst (λ (qs : List (Option Live)). QueriesAreSound new.catalog qs new.order new.readers.items) (sym r.queries)
+    (subst (λ (o : List ℕ). QueriesAreSound new.catalog old.queries.items o new.readers.items) (sym k.order)
+    (subst (λ (rs : List (List ℕ)). QueriesAreSound new.catalog old.queries.items old.order rs) (sym k.readers)
     (sound_texts old.catalog new.catalog old.queries.items old.order old.readers.items r.relations r.stay s)))
 
 pub rested_cursors : (old new : Parts) → RestsOver old new → (id : CursorId)
-    → held_at (held_from (new.catalog).texts zero new.queries.items) id
-    ≡ held_at (held_from (old.catalog).texts zero old.queries.items) id
+    → held_at (query_cursors_from (new.catalog).texts zero new.queries.items) id
+    ≡ held_at (query_cursors_from (old.catalog).texts zero old.queries.items) id
 rested_cursors old new r id =
-    ap (λ (qs : List (Option Live)). held_at (held_from (new.catalog).texts zero qs) id) r.queries
+    ap (λ (qs : List (Option Live)). held_at (query_cursors_from (new.catalog).texts zero qs) id) r.queries
     ∙ rested_held old.catalog new.catalog old.queries.items r.stay id
 
 -- where a row has other copies
 
-pub copied_whole : (old new : Parts) (at : ℕ) (row : Tuple) (n : ℕ) → IsWhole old → at < length (old.catalog).relations
-    → HasCopies at row n old new → KeepsRest old new → IsWhole new
+pub copied_whole : (old new : Parts) (at : ℕ) (row : Tuple) (n : ℕ) → EngineIsWhole old
+    → at < length (old.catalog).relations
+    → HasCopies at row n old new → KeepsRest old new → EngineIsWhole new
 copied_whole old new at row n s low h k =
     let names = same_names old.catalog new.catalog at (with_copies (counted_at (old.catalog).relations at) row n) low
     h.relations in
-    subst (λ (qs : List (Option Live)). IsSound new.catalog qs new.order new.readers.items) (sym h.queries)
-    (subst (λ (o : List ℕ). IsSound new.catalog old.queries.items o new.readers.items) (sym k.order)
-    (subst (λ (rs : List (List ℕ)). IsSound new.catalog old.queries.items old.order rs) (sym k.readers)
+    subst (λ (qs : List (Option Live)). QueriesAreSound new.catalog qs new.order new.readers.items) (sym h.queries)
+    (subst (λ (o : List ℕ). QueriesAreSound new.catalog old.queries.items o new.readers.items) (sym k.order)
+    (subst (λ (rs : List (List ℕ)). QueriesAreSound new.catalog old.queries.items old.order rs) (sym k.readers)
     (sound_rows old.catalog new.catalog old.queries.items old.order old.readers.items names.long names.names h.stay s)))
 
 pub copied_cursors : (old new : Parts) (at : ℕ) (row : Tuple) (n : ℕ) → HasCopies at row n old new → (id : CursorId)
-    → held_at (held_from (new.catalog).texts zero new.queries.items) id
-    ≡ held_at (held_from (old.catalog).texts zero old.queries.items) id
+    → held_at (query_cursors_from (new.catalog).texts zero new.queries.items) id
+    ≡ held_at (query_cursors_from (old.catalog).texts zero old.queries.items) id
 copied_cursors old new at row n h id =
-    ap₂ (λ (ts : List Bytes) (qs : List (Option Live)). held_at (held_from ts zero qs) id) h.texts h.queries
+    ap₂ (λ (ts : List Bytes) (qs : List (Option Live)). held_at (query_cursors_from ts zero qs) id) h.texts h.queries
 
 -- where nothing changes at all
 
-pub same_whole : (old new : Parts) → IsWhole old → new.catalog ≡ old.catalog → new.queries.items ≡ old.queries.items
-    → KeepsRest old new → IsWhole new
+pub same_whole : (old new : Parts) → EngineIsWhole old → new.catalog ≡ old.catalog
+    → new.queries.items ≡ old.queries.items
+    → KeepsRest old new → EngineIsWhole new
 same_whole old new s e q k =
-    subst (λ (x : Catalog). IsSound x new.queries.items new.order new.readers.items) (sym e)
-    (subst (λ (qs : List (Option Live)). IsSound old.catalog qs new.order new.readers.items) (sym q)
-    (subst (λ (o : List ℕ). IsSound old.catalog old.queries.items o new.readers.items) (sym k.order)
-    (subst (λ (rs : List (List ℕ)). IsSound old.catalog old.queries.items old.order rs) (sym k.readers) s)))
+    subst (λ (x : Catalog). QueriesAreSound x new.queries.items new.order new.readers.items) (sym e)
+    (subst (λ (qs : List (Option Live)). QueriesAreSound old.catalog qs new.order new.readers.items) (sym q)
+    (subst (λ (o : List ℕ). QueriesAreSound old.catalog old.queries.items o new.readers.items) (sym k.order)
+    (subst (λ (rs : List (List ℕ)). QueriesAreSound old.catalog old.queries.items old.order rs) (sym k.readers) s)))
 
 -- `add`
 
 module _ (old : Parts) (name : Bytes) (row : Tuple) where
-  pub add_refused : (r : Refusal) → add_refusal (bare (old.catalog).relations old.seq) name row ≡ Some r
+  pub add_refused : (r : Refusal) → add_refusal (bare_store (old.catalog).relations old.seq) name row ≡ Some r
       → AddsRow (kept_in old).store name row (Err r) (kept_in old).store
   add_refused r e = record {
     answer = answers_refused (add_refusal (kept_in old).store name row) r
@@ -174,8 +176,8 @@ module _ (old : Parts) (name : Bytes) (row : Tuple) where
     stays = λ h. refl;
   }
 
-  none_stays : {P : Type 0} → add_refusal (bare (old.catalog).relations old.seq) name row ≡ None
-      → is_some (add_refusal (bare (old.catalog).relations old.seq) name row) ≡ true → P
+  none_stays : {P : Type 0} → add_refusal (bare_store (old.catalog).relations old.seq) name row ≡ None
+      → is_some (add_refusal (bare_store (old.catalog).relations old.seq) name row) ≡ true → P
   none_stays e h = absurd (false≢true (sym (ap is_some e) ∙ h))
 
   module _ (at : ℕ) (m : MayCome (old.catalog).relations name row old.seq at) where
@@ -185,7 +187,7 @@ module _ (old : Parts) (name : Bytes) (row : Tuple) where
 
     -- a row that isn't there may come
     comes : has_row (rows_at (old.catalog).relations at) row ≡ false
-        → add_refusal (bare (old.catalog).relations old.seq) name row ≡ None
+        → add_refusal (bare_store (old.catalog).relations old.seq) name row ≡ None
     comes e = add_passes (old.catalog).relations name row old.seq at m.relation e (m.room e) (m.more e)
 
     copies_are : copies_of (kept_in old).store name row ≡ copies_among (counted_at (old.catalog).relations at) row
@@ -236,7 +238,7 @@ module _ (old : Parts) (name : Bytes) (row : Tuple) where
         h.texts (ap₂ queries_in h.queries order) seq
 
     pub add_further : NamesTell → AllPairs (λ r s. r.name ≢ s.name) (old.catalog).relations → (new : Parts) (n : ℕ)
-        → HasMore at row n old new → new.order ≡ old.order → new.seq ≡ old.seq
+        → HasCopyMore at row n old new → new.order ≡ old.order → new.seq ≡ old.seq
         → AddsRow (kept_in old).store name row (Ok (More n)) (kept_in new).store
     add_further law differ new n h order seq =
         let passes = add_more (old.catalog).relations name row old.seq at m.relation h.there
@@ -257,7 +259,7 @@ module _ (old : Parts) (name : Bytes) (row : Tuple) where
     texts_only new e g h = store_as old.catalog new.catalog old.queries.items new.queries.items old.order new.order
         old.seq new.seq (old.catalog).relations (new.catalog).texts e refl g h
 
-    pub add_limited : (new : Parts) → LacksPlace at row old new → new.order ≡ old.order → new.seq ≡ old.seq
+    pub add_limited : (new : Parts) → RowLacksPlace at row old new → new.order ≡ old.order → new.seq ≡ old.seq
         → AddsRow (kept_in old).store name row (Err Limit) (kept_in new).store
     add_limited new l order seq = by_cause l.why
       where

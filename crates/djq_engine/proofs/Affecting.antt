@@ -20,11 +20,11 @@ use Rattle.djq_live.specs.Updating.{change_of}
 use Rattle.djq_reach.specs.Places.{place_at, is_reader, watched_at, log_at}
 use Rattle.djq_engine.specs.declared.parts.Parts.{Parts}
 use Rattle.djq_engine.specs.Kept.{Kept, Registered, readers_of, affected_of, is_watched, told_at}
-use Rattle.djq_engine.specs.Places.{is_live, query_in, id_at, registered_as, registered_in, told_from}
-use Rattle.djq_engine.specs.Sound.{IsSound}
+use Rattle.djq_engine.specs.Places.{is_live, query_in, id_at, query_registered_as, registered_in, told_from}
+use Rattle.djq_engine.specs.Sound.{QueriesAreSound}
 use Rattle.djq_engine.specs.Changing.{KeepsLogs}
-use Rattle.djq_engine.specs.Watching.{LogTells, LogsTell, TellsChange, reaches}
-use Rattle.djq_engine.specs.Whole.{kept_in, IsWhole}
+use Rattle.djq_engine.specs.Watching.{LogTells, LogsTell, EngineTellsChange, reaches}
+use Rattle.djq_engine.specs.Whole.{kept_in, EngineIsWhole}
 use Rattle.djq_engine.proofs.Enlisted.{map_mapped, filter_mapped, filter_both, registered_has}
 use Rattle.djq_engine.proofs.Listing.{reader_filter}
 use Rattle.djq_engine.proofs.Naming.{There, live_there}
@@ -56,21 +56,21 @@ abbrev pub outdated_places : List (Option Live) → List ℕ → RowsChange → 
 outdated_places gs order change = filter (λ i. is_outdated change (query_in (place_at gs i))) order
 
 module _ (c : Catalog) (gs : List (Option Live)) (order : List ℕ) (readers : List (List ℕ))
-    (s : IsSound c gs order readers) (ws : List ℕ)
+    (s : QueriesAreSound c gs order readers) (ws : List ℕ)
     (change : RowsChange) (places : List ℕ) (are : places ≡ outdated_places gs order change) where
   abbrev watched : List ℕ
   watched = filter (watched_at ws) places
 
   pub outdated_are : readers_of (registered_in gs ws order) change ≡ registered_in gs ws places
   outdated_are =
-      filter_mapped (λ r. is_outdated change r.query) (registered_as gs ws) order
+      filter_mapped (λ r. is_outdated change r.query) (query_registered_as gs ws) order
       ∙ ap (registered_in gs ws) (sym are)
 
   pub affected_here : affected_of (registered_in gs ws order) change ≡ registered_in gs ws watched
   affected_here =
       filter_both c gs order readers ws s (λ r. is_outdated change r.query) is_watched (registered_in gs ws order)
       ∙ ap (filter is_watched) outdated_are
-      ∙ filter_mapped is_watched (registered_as gs ws) places
+      ∙ filter_mapped is_watched (query_registered_as gs ws) places
 
   -- that a place is among them
   pub place_is : (i : ℕ) → is_reader places i ≡ (is_live gs i && is_outdated change (query_in (place_at gs i)))
@@ -102,7 +102,7 @@ module _ (c : Catalog) (gs : List (Option Live)) (order : List ℕ) (readers : L
   listed_with f h = record {
     of_queries =
         map_mapped (λ (d : Delta). d.query) (delta_at f) watched
-        ∙ sym (map_mapped (λ (r : Registered). r.query) (registered_as gs ws) watched)
+        ∙ sym (map_mapped (λ (r : Registered). r.query) (query_registered_as gs ws) watched)
         ∙ ap (map (λ (r : Registered). r.query)) (sym affected_here);
     are_deltas = all_made (λ d. IsDelta (AnswersOf c.relations d.query) (AnswersOf change.after d.query) d.changes)
         (delta_at f) watched (λ i e.
@@ -150,18 +150,19 @@ module _ (c : Catalog) (gs : List (Option Live)) (order : List ℕ) (readers : L
 
   pub affected_with : map id_at places ≡ map (λ r. r.id) (readers_of (registered_in gs ws order) change)
   affected_with =
-      sym (map_mapped (λ (r : Registered). r.id) (registered_as gs ws) places)
+      sym (map_mapped (λ (r : Registered). r.id) (query_registered_as gs ws) places)
       ∙ ap (map (λ (r : Registered). r.id)) (sym outdated_are)
 
   pub logs_with : (f : ℕ → List Change) (new : Kept)
-      → ((i : ℕ) → is_reader places i ≡ true → LogTells new (registered_as gs ws i) (delta_at f i))
+      → ((i : ℕ) → is_reader places i ≡ true → LogTells new (query_registered_as gs ws i) (delta_at f i))
       → LogsTell new (affected_of (registered_in gs ws order) change) (deltas_with f)
   logs_with f new h =
       subst (λ (rs : List Registered). LogsTell new rs (deltas_with f)) (sym affected_here)
       (over watched (λ i e. h i
       (and_parts (is_reader places i) (watched_at ws i) (sym (reader_filter (watched_at ws) places i) ∙ e)).0))
     where
-      over : (xs : List ℕ) → ((i : ℕ) → is_reader xs i ≡ true → LogTells new (registered_as gs ws i) (delta_at f i))
+      over : (xs : List ℕ)
+          → ((i : ℕ) → is_reader xs i ≡ true → LogTells new (query_registered_as gs ws i) (delta_at f i))
           → LogsTell new (registered_in gs ws xs) (map (delta_at f) xs)
       over [] k = tt
       over (x ∷ xs) k = (
@@ -221,7 +222,7 @@ module _ (c : Catalog) (gs : List (Option Live)) (order : List ℕ) (readers : L
         by_told None e = some_are i l there
         by_told (Some changes) e = h i l r w there changes e
 
-    pub told_by_log : (new : Kept) (i : ℕ) → LogTells new (registered_as gs ws i) (delta_at (told_changes new) i)
+    pub told_by_log : (new : Kept) (i : ℕ) → LogTells new (query_registered_as gs ws i) (delta_at (told_changes new) i)
     unfolding told_changes told_or
     told_by_log new i = by_told (told_at new (id_at i)) refl
       where
@@ -264,7 +265,7 @@ pub record Discards (old : Parts) (reached : ℕ → Bool) (new : Parts) : Type 
   pub emptied : (i : ℕ) → reached i ≡ true → told_at (kept_in new) (id_at i) ≡ Some []
   pub others : KeepsLogs reached old new
 
-module _ (old : Parts) (s : IsWhole old) (change : RowsChange) (places : List ℕ)
+module _ (old : Parts) (s : EngineIsWhole old) (change : RowsChange) (places : List ℕ)
     (are : places ≡ outdated_places old.queries.items old.order change)
     (have : (i : ℕ) (l : Live) → place_at old.queries.items i ≡ Some l → (changes : List Change)
     × IsDelta (IsAnswer (old.catalog).relations l.query) (IsAnswer change.after l.query) changes) (before now : ℕ)
@@ -281,7 +282,7 @@ module _ (old : Parts) (s : IsWhole old) (change : RowsChange) (places : List �
   -- where memory was refused
   pub refused_tells : (new : Parts) → (kept_in new).affected ≡ (kept_in old).affected
       → Discards old (is_reader places) new → ToldStay old new
-      → TellsChange (kept_in old) (out_of_memory change) (kept_in new) before now
+      → EngineTellsChange (kept_in old) (out_of_memory change) (kept_in new) before now
   refused_tells new affected empty told =
       let f = some_changes old.catalog old.queries.items old.order old.readers.items s old.watchers.items change places
       are have in
@@ -314,7 +315,7 @@ module _ (old : Parts) (s : IsWhole old) (change : RowsChange) (places : List �
       (map (change_of (new.catalog).texts l) (log_at new.logs.items i).lines))
       → AreAlike old.queries.items new.queries.items → new.affected.items ≡ places
       → KeepsLogs (λ i. is_reader places i && watched_at old.watchers.items i) old new → ToldStay old new
-      → TellsChange (kept_in old) (accepted change) (kept_in new) before now
+      → EngineTellsChange (kept_in old) (accepted change) (kept_in new) before now
   accepted_tells new tells alike affected quiet told =
       let f = told_changes old.catalog old.queries.items old.order old.readers.items s old.watchers.items change places
       are have (kept_in new) in

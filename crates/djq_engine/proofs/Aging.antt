@@ -17,8 +17,9 @@ use Rattle.djq_live.specs.Staying.{StaysOver}
 use Rattle.djq_engine.specs.declared.cursor.CursorId.{CursorId}
 use Rattle.djq_engine.specs.Kept.{HeldCursor, held_at, same_id, outdated_held}
 use Rattle.djq_reach.specs.Places.{place_at, is_reader, readers_at, reads_place}
-use Rattle.djq_engine.specs.Places.{is_live, query_in, queries_in, held_as, held_of, held_from}
-use Rattle.djq_engine.specs.Sound.{IsSound}
+use Rattle.djq_engine.specs.Places.{is_live, query_in, queries_in, held_query_cursor, query_cursor_of}
+use Rattle.djq_engine.specs.Places.{query_cursors_from}
+use Rattle.djq_engine.specs.Sound.{QueriesAreSound}
 use Rattle.djq_reach.specs.Reaching.{DoneAt, Reach, AllAt, Ages, Renews}
 use Rattle.djq_engine.proofs.Firsts.{find_mapped}
 use Rattle.djq_engine.proofs.Holding.{held_is}
@@ -83,7 +84,7 @@ pub record SameNames (c d : Catalog) : Type 0 where
   pub names : (r : ℕ) → (relation_at d.relations r).name ≡ (relation_at c.relations r).name
 
 module _ (c d : Catalog) (gs ks : List (Option Live)) (order : List ℕ) (readers : List (List ℕ))
-    (s : IsSound c gs order readers) (at : ℕ) (low : at < length c.relations)
+    (s : QueriesAreSound c gs order readers) (at : ℕ) (low : at < length c.relations)
     (n : ℕ) (turns : Reach (readers_at readers at) (Turns d (relation_at c.relations at).name n) gs ks)
     (stay : (i : ℕ) (l : Live) → place_at gs i ≡ Some l → is_reader (readers_at readers at) i ≡ false → StaysOver c d l)
     (names : SameNames c d) where
@@ -131,7 +132,7 @@ module _ (c d : Catalog) (gs ks : List (Option Live)) (order : List ℕ) (reader
       by_place None g h q = let none : is_some (place_at gs i) ≡ false = ap is_some g in absurd cc
       by_place (Some l) g h q = (l, g, same_listed m.query l.query (sym q ∙ ap query_in g))
 
-  pub turned_sound : IsSound d ks order readers
+  pub turned_sound : QueriesAreSound d ks order readers
   turned_sound = record {
     live = live_now;
     named = λ i j x y e f q.
@@ -171,9 +172,10 @@ module _ (c d : Catalog) (gs ks : List (Option Live)) (order : List ℕ) (reader
   step_reader : (id : CursorId) (l m : Live) → m.query ≡ l.query
       → outdater_of (queries_in gs order) (by_relation (relation_at c.relations at).name) l.query.name
       ≡ Some (relation_at c.relations at).name → (o : Option Progress)
-      → option_map (held_as d.texts m id) (option_map (outdated_progress (relation_at c.relations at).name n) o)
+      → option_map (held_query_cursor d.texts m id)
+      (option_map (outdated_progress (relation_at c.relations at).name n) o)
       ≡ option_map (outdated_held (queries_in gs order) (by_relation (relation_at c.relations at).name) n)
-      (option_map (held_as c.texts l id) o)
+      (option_map (held_query_cursor c.texts l id) o)
   step_reader id l m q e None = refl
   step_reader id l m q e (Some (Open cursor ended)) =
       ap (λ (x : Query). Some (held_with id x.name (stale (relation_at c.relations at).name n))) q
@@ -186,62 +188,66 @@ module _ (c d : Catalog) (gs ks : List (Option Live)) (order : List ℕ) (reader
   step_other : (id : CursorId) (l : Live)
       → outdater_of (queries_in gs order) (by_relation (relation_at c.relations at).name) l.query.name ≡ None
       → (o : Option Progress) → ((p : Progress) → o ≡ Some p → position_of d.texts l p ≡ position_of c.texts l p)
-      → option_map (held_as d.texts l id) o
+      → option_map (held_query_cursor d.texts l id) o
       ≡ option_map (outdated_held (queries_in gs order) (by_relation (relation_at c.relations at).name) n)
-      (option_map (held_as c.texts l id) o)
+      (option_map (held_query_cursor c.texts l id) o)
   step_other id l e None h = refl
   step_other id l e (Some p) h =
       ap (λ (x : Position). Some (held_with id l.query.name x)) (h p refl)
       ∙ ap (λ (o : Option Bytes). Some (held_with id l.query.name (outdated o n (position_of c.texts l p)))) (sym e)
 
-  held_now : (id : CursorId) → held_of d.texts id (place_at ks id.query.at)
+  held_now : (id : CursorId) → query_cursor_of d.texts id (place_at ks id.query.at)
       ≡ option_map (outdated_held (queries_in gs order) (by_relation (relation_at c.relations at).name) n)
-      (held_of c.texts id (place_at gs id.query.at))
+      (query_cursor_of c.texts id (place_at gs id.query.at))
   held_now id = by_place (is_reader (readers_at readers at) id.query.at) refl (place_at gs id.query.at) refl
       (place_at ks id.query.at) (turns.each id.query.at)
     where
       by_place : (b : Bool) → is_reader (readers_at readers at) id.query.at ≡ b → (o : Option Live)
           → place_at gs id.query.at ≡ o → (p : Option Live) → DoneAt (Turns d (relation_at c.relations at).name n) b o p
-          → held_of d.texts id p
+          → query_cursor_of d.texts id p
           ≡ option_map (outdated_held (queries_in gs order) (by_relation (relation_at c.relations at).name) n)
-          (held_of c.texts id o)
-      by_place false f None g p t = ap (held_of d.texts id) t
+          (query_cursor_of c.texts id o)
+      by_place false f None g p t = ap (query_cursor_of d.texts id) t
       by_place false f (Some l) g p t =
-          ap (held_of d.texts id) t
+          ap (query_cursor_of d.texts id) t
           ∙ step_other id l (outdater_is id.query.at l g false f) (slot_at l.cursors id.cursor)
           (λ q h. (stay id.query.at l g f).stands id.cursor q h)
       by_place true f None g None t = refl
       by_place true f None g (Some m) t = absurd t
       by_place true f (Some l) g None t = absurd t
       by_place true f (Some l) g (Some m) t =
-          ap (λ (slots : List (Option Progress)). option_map (held_as d.texts m id) (slot_at slots id.cursor)) t.cursors
-          ∙ ap (option_map (held_as d.texts m id)) (outdated_at (relation_at c.relations at).name n l.cursors id.cursor)
+          ap (λ (slots : List (Option Progress)). option_map (held_query_cursor d.texts m id)
+          (slot_at slots id.cursor)) t.cursors
+          ∙ ap (option_map (held_query_cursor d.texts m id))
+          (outdated_at (relation_at c.relations at).name n l.cursors id.cursor)
           ∙ step_reader id l m t.query (outdater_is id.query.at l g true f) (slot_at l.cursors id.cursor)
 
-  pub turned_held : (id : CursorId) → held_at (held_from d.texts zero ks) id
+  pub turned_held : (id : CursorId) → held_at (query_cursors_from d.texts zero ks) id
       ≡ held_at (map (outdated_held (queries_in gs order) (by_relation (relation_at c.relations at).name) n)
-      (held_from c.texts zero gs)) id
+      (query_cursors_from c.texts zero gs)) id
   turned_held id =
       held_is d.texts ks id ∙ held_now id
       ∙ sym (find_mapped (λ h. same_id h.id id)
       (outdated_held (queries_in gs order) (by_relation (relation_at c.relations at).name) n)
-      (held_from c.texts zero gs)
+      (query_cursors_from c.texts zero gs)
       ∙ ap (option_map (outdated_held (queries_in gs order) (by_relation (relation_at c.relations at).name) n))
       (held_is c.texts gs id))
 
 -- where no query is reached, all cursors stand where they stood
 pub rested_held : (c d : Catalog) (gs : List (Option Live))
     → ((i : ℕ) (l : Live) → place_at gs i ≡ Some l → StaysOver c d l)
-    → (id : CursorId) → held_at (held_from d.texts zero gs) id ≡ held_at (held_from c.texts zero gs) id
+    → (id : CursorId)
+    → held_at (query_cursors_from d.texts zero gs) id ≡ held_at (query_cursors_from c.texts zero gs) id
 rested_held c d gs stay id = held_is d.texts gs id ∙ by_place (place_at gs id.query.at) refl
     ∙ sym (held_is c.texts gs id)
   where
     by_slot : (l : Live) → place_at gs id.query.at ≡ Some l → (o : Option Progress) → slot_at l.cursors id.cursor ≡ o
-        → option_map (held_as d.texts l id) o ≡ option_map (held_as c.texts l id) o
+        → option_map (held_query_cursor d.texts l id) o ≡ option_map (held_query_cursor c.texts l id) o
     by_slot l e None f = refl
     by_slot l e (Some p) f = ap (λ (x : Position). Some (held_with id l.query.name x))
         ((stay id.query.at l e).stands id.cursor p f)
 
-    by_place : (o : Option Live) → place_at gs id.query.at ≡ o → held_of d.texts id o ≡ held_of c.texts id o
+    by_place : (o : Option Live) → place_at gs id.query.at ≡ o
+        → query_cursor_of d.texts id o ≡ query_cursor_of c.texts id o
     by_place None e = refl
     by_place (Some l) e = by_slot l e (slot_at l.cursors id.cursor) refl

@@ -11,8 +11,8 @@ use Rattle.djq_engine.specs.declared.cursor.QueryId.{QueryId}
 use Rattle.djq_engine.specs.declared.parts.Parts.{Parts}
 use Rattle.djq_engine.specs.Kept.{Kept, Registered, registered_at, IsRegistered, with_watchers, told_at}
 use Rattle.djq_reach.specs.Places.{place_at, watchers_at, log_at}
-use Rattle.djq_engine.specs.Places.{told_of, registered_as, kept_of}
-use Rattle.djq_engine.specs.Whole.{kept_in, watches_in, IsWhole, IsTended}
+use Rattle.djq_engine.specs.Places.{told_of, query_registered_as, kept_of}
+use Rattle.djq_engine.specs.Whole.{kept_in, watches_in, EngineIsWhole, IsTended}
 use Rattle.djq_engine.proofs.Enlisted.{registered_has, registered_there, registered_gives, watchers_with}
 use Rattle.djq_engine.proofs.Naming.{There}
 use Rattle.djq_reach.proofs.Reaching.{place_below, place_read}
@@ -35,20 +35,21 @@ got (y ∷ xs) (suc k) x e = let g = got xs k x e in ((let low = g.0 in omega (a
 pub all_got : (P : Line → Type 0) (xs : List Line) (k : ℕ) (x : Line) → slice_get xs k ≡ Some x → All P xs → P x
 all_got P xs k x e h = let g = got xs k x e in subst P g.1 (h k x g.0)
 
-module _ (p : Parts) (s : IsWhole p) (id : QueryId) where
+module _ (p : Parts) (s : EngineIsWhole p) (id : QueryId) where
   pub has_query : (P : Registered → Type 0) → IsSomeAnd (registered_at (kept_in p).registered id) P
       → There p.queries.items id.at
   has_query P h = (registered_has p.catalog p.queries.items p.order p.readers.items p.watchers.items s id P h).0
 
   pub has_that : (P : Registered → Type 0) → IsSomeAnd (registered_at (kept_in p).registered id) P
-      → P (registered_as p.queries.items p.watchers.items id.at)
+      → P (query_registered_as p.queries.items p.watchers.items id.at)
   has_that P h = (registered_has p.catalog p.queries.items p.order p.readers.items p.watchers.items s id P h).1
 
   pub query_kept_there : IsRegistered (kept_in p) id → There p.queries.items id.at
   query_kept_there h = registered_there p.catalog p.queries.items p.order p.readers.items p.watchers.items s id h
 
   pub gives_that : (P : Registered → Type 0) → There p.queries.items id.at
-      → P (registered_as p.queries.items p.watchers.items id.at) → IsSomeAnd (registered_at (kept_in p).registered id) P
+      → P (query_registered_as p.queries.items p.watchers.items id.at)
+      → IsSomeAnd (registered_at (kept_in p).registered id) P
   gives_that P t h = registered_gives p.catalog p.queries.items p.order p.readers.items p.watchers.items s id P t h
 
   pub below_queries : There p.queries.items id.at → id.at < length p.queries.items

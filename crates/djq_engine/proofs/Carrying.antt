@@ -15,7 +15,7 @@ use Rattle.djq_live.specs.Live.{Live, IsKept, IsLive}
 use Rattle.djq_live.specs.Staying.{StaysOver, CamePasses, WentPasses}
 use Rattle.djq_reach.specs.Places.{place_at, is_reader, readers_at, reads_place, AreOnce}
 use Rattle.djq_engine.specs.Places.{is_live}
-use Rattle.djq_engine.specs.Sound.{IsSound}
+use Rattle.djq_engine.specs.Sound.{QueriesAreSound}
 use Rattle.djq_reach.specs.Reaching.{DoneAt, Reach, AllAt, TakesIn, LetsOut, GivesBack, Renews, Carries}
 use Rattle.djq_engine.proofs.Listing.{reader_filter, once_filter}
 use Rattle.djq_reach.proofs.Reaching.{same_refl}
@@ -83,7 +83,7 @@ back_with rs at rows low =
 -- ---- readers
 
 module _ (c : Catalog) (gs : List (Option Live)) (order : List ℕ) (readers : List (List ℕ))
-    (s : IsSound c gs order readers) (at : ℕ) (low : at < length c.relations) where
+    (s : QueriesAreSound c gs order readers) (at : ℕ) (low : at < length c.relations) where
   pub readers_once : AreOnce (readers_at readers at)
   readers_once = subst AreOnce (sym (s.reading at low))
       (once_filter (λ i. reads_place (relation_at c.relations at).name (place_at gs i)) order s.once)
@@ -157,7 +157,8 @@ stays_then c d e l a b = record { live = b.live; stands = λ k p f. b.stands k p
 -- ---- a row came, and maybe went again
 
 module _ (c d : Catalog) (gs hs : List (Option Live)) (order : List ℕ) (readers : List (List ℕ))
-    (s : IsSound c gs order readers) (at : ℕ) (low : at < length c.relations) (cells : List ℕ) (row : Tuple) where
+    (s : QueriesAreSound c gs order readers) (at : ℕ) (low : at < length c.relations) (cells : List ℕ)
+    (row : Tuple) where
   unread : (i : ℕ) (l : Live) → place_at gs i ≡ Some l → is_reader (readers_at readers at) i ≡ false
       → reads l.query (relation_at c.relations at).name ≡ false
   unread i l e f = sym (reader_reads c gs order readers s at low i l e) ∙ f
@@ -203,7 +204,7 @@ texts_then c d e gs hs ps stay k = record {
 
 pub sound_texts : (c d : Catalog) (gs : List (Option Live)) (order : List ℕ) (readers : List (List ℕ)) → d.relations
     ≡ c.relations → ((i : ℕ) (l : Live) → place_at gs i ≡ Some l → StaysOver c d l)
-    → IsSound c gs order readers → IsSound d gs order readers
+    → QueriesAreSound c gs order readers → QueriesAreSound d gs order readers
 sound_texts c d gs order readers same stay s = record {
   live = λ i l e. (stay i l e).live;
   named = s.named;
@@ -221,7 +222,7 @@ pub sound_rows : (c d : Catalog) (gs : List (Option Live)) (order : List ℕ) (r
     → length d.relations ≡ length c.relations
     → ((r : ℕ) → (relation_at d.relations r).name ≡ (relation_at c.relations r).name)
     → ((i : ℕ) (l : Live) → place_at gs i ≡ Some l → StaysOver c d l)
-    → IsSound c gs order readers → IsSound d gs order readers
+    → QueriesAreSound c gs order readers → QueriesAreSound d gs order readers
 sound_rows c d gs order readers long names stay s = record {
   live = λ i l e. (stay i l e).live;
   named = s.named;

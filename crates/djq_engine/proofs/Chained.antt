@@ -17,7 +17,7 @@ use Rattle.djq_rows.specs.Catalog.{rows_at, with_rows_at}
 use Rattle.djq_live.specs.Changes.{HasSameRows, StandForRows}
 use Rattle.djq_reach.specs.declared.group.Group.{Group}
 use Rattle.djq_reach.specs.Places.{is_reader, AreOnce}
-use Rattle.djq_reach.specs.Grouping.{relations_of, ComesBy}
+use Rattle.djq_reach.specs.Grouping.{group_relations, ComesBy}
 use Rattle.djq_engine.specs.Putting.{AreGrouped, rows_for}
 use Rattle.djq_engine.proofs.Carrying.{rows_with, field_with, long_with}
 
@@ -121,16 +121,16 @@ module _ (c d : Catalog) (ic : IsCatalog c) (id : IsCatalog d) (law : CellsStay)
       { relations = with_rows_at e.relations g.relation.at (counted_at c.relations g.relation.at) })
 
   abbrev AreWithin : List Group → Type 0
-  AreWithin groups = (r : ℕ) → is_reader (relations_of groups) r ≡ true → r < length c.relations
+  AreWithin groups = (r : ℕ) → is_reader (group_relations groups) r ≡ true → r < length c.relations
 
   within_first : (g : Group) (groups : List Group) → AreWithin (g ∷ groups) → g.relation.at < length c.relations
   within_first g groups w = w g.relation.at
-      (ap (λ b. b || is_reader (relations_of groups) g.relation.at) (eq-eqb g.relation.at g.relation.at refl))
+      (ap (λ b. b || is_reader (group_relations groups) g.relation.at) (eq-eqb g.relation.at g.relation.at refl))
 
   within_rest : (g : Group) (groups : List Group) → AreWithin (g ∷ groups) → AreWithin groups
   within_rest g groups w r e = w r (by (g.relation.at == r))
     where
-      by : (b : Bool) → (b || is_reader (relations_of groups) r) ≡ true
+      by : (b : Bool) → (b || is_reader (group_relations groups) r) ≡ true
       by true = refl
       by false = e
 
@@ -165,16 +165,16 @@ module _ (c d : Catalog) (ic : IsCatalog c) (id : IsCatalog d) (law : CellsStay)
 
   -- the relations of groups have the rows that they had, and the others those that they have
   start_counted : (groups : List Group) → AreWithin groups → (r : ℕ) → counted_at (start_of groups).relations r
-      ≡ cond (is_reader (relations_of groups) r) (counted_at c.relations r) (counted_at d.relations r)
+      ≡ cond (is_reader (group_relations groups) r) (counted_at c.relations r) (counted_at d.relations r)
   unfolding start_of
   start_counted [] w r = refl
   start_counted (g ∷ groups) w r = by (g.relation.at == r) refl (start_counted groups (within_rest g groups w) r)
     where
       by : (b : Bool) → (g.relation.at == r) ≡ b
           → counted_at (start_of groups).relations r
-          ≡ cond (is_reader (relations_of groups) r) (counted_at c.relations r) (counted_at d.relations r)
+          ≡ cond (is_reader (group_relations groups) r) (counted_at c.relations r) (counted_at d.relations r)
           → counted_at (with_rows_at (start_of groups).relations g.relation.at (counted_at c.relations g.relation.at)) r
-          ≡ cond (b || is_reader (relations_of groups) r) (counted_at c.relations r) (counted_at d.relations r)
+          ≡ cond (b || is_reader (group_relations groups) r) (counted_at c.relations r) (counted_at d.relations r)
       by true e more =
           let s = eqb-true g.relation.at r e in
           ap (counted_at (with_rows_at (start_of groups).relations g.relation.at
@@ -206,10 +206,10 @@ module _ (c d : Catalog) (ic : IsCatalog c) (id : IsCatalog d) (law : CellsStay)
 
   -- rows came into these relations
   abbrev HaveCome : List Group → Type 0
-  HaveCome groups = (r : ℕ) → is_reader (relations_of groups) r ≡ true → (rows : List Tuple)
+  HaveCome groups = (r : ℕ) → is_reader (group_relations groups) r ≡ true → (rows : List Tuple)
       × (rows_at d.relations r ≡ rows_at c.relations r ++ rows) × StandForRows d r (rows_for groups r) rows
 
-  pub start_comes : (groups : List Group) → AreWithin groups → AreOnce (relations_of groups) → HaveCome groups
+  pub start_comes : (groups : List Group) → AreWithin groups → AreOnce (group_relations groups) → HaveCome groups
       → ComesBy (start_of groups) groups d
   unfolding start_of
   start_comes [] w once h = refl
@@ -219,7 +219,7 @@ module _ (c d : Catalog) (ic : IsCatalog c) (id : IsCatalog d) (law : CellsStay)
       let f : Catalog = record e { relations = with_rows_at e.relations at (counted_at c.relations at) } in
       let wr = within_rest g groups w in
       let low : at < length e.relations = omega (arith, within_first g groups w, start_long groups) in
-      let here = h at (ap (λ b. b || is_reader (relations_of groups) at) (eq-eqb at at refl)) in
+      let here = h at (ap (λ b. b || is_reader (group_relations groups) at) (eq-eqb at at refl)) in
       let group_rows : rows_for (g ∷ groups) at
       ≡ g.rows = ap (λ b. cond b g.rows (rows_for groups at)) (eq-eqb at at refl) in
       let now : counted_at e.relations at ≡ counted_at d.relations at = start_counted groups wr at
@@ -261,33 +261,35 @@ module _ (c d : Catalog) (ic : IsCatalog c) (id : IsCatalog d) (law : CellsStay)
             )),
       )
     where
-      in_rest : (r : ℕ) (b : Bool) → is_reader (relations_of groups) r ≡ true → (b || is_reader (relations_of groups) r)
+      in_rest : (r : ℕ) (b : Bool) → is_reader (group_relations groups) r ≡ true
+          → (b || is_reader (group_relations groups) r)
           ≡ true
       in_rest r true m = refl
       in_rest r false m = m
 
-      rest_rows : (r : ℕ) → is_reader (relations_of groups) r ≡ true → rows_for (g ∷ groups) r ≡ rows_for groups r
+      rest_rows : (r : ℕ) → is_reader (group_relations groups) r ≡ true → rows_for (g ∷ groups) r ≡ rows_for groups r
       rest_rows r m = by (g.relation.at == r) refl
         where
           by : (b : Bool) → (g.relation.at == r) ≡ b → cond b g.rows (rows_for groups r) ≡ rows_for groups r
           by true e = absurd (false≢true
-              (sym once.0 ∙ ap (is_reader (relations_of groups)) (eqb-true g.relation.at r e) ∙ m))
+              (sym once.0 ∙ ap (is_reader (group_relations groups)) (eqb-true g.relation.at r e) ∙ m))
           by false e = refl
 
   start_rows : (groups : List Group) → AreGrouped c.relations d groups → (r : ℕ) → rows_at (start_of groups).relations r
       ≡ rows_at c.relations r
-  start_rows groups k r = ap plain_of (start_counted groups k.within r) ∙ by r (is_reader (relations_of groups) r) refl
+  start_rows groups k r = ap plain_of (start_counted groups k.within r)
+      ∙ by r (is_reader (group_relations groups) r) refl
     where
-      none_for : (gs : List Group) (r : ℕ) → is_reader (relations_of gs) r ≡ false → rows_for gs r ≡ []
+      none_for : (gs : List Group) (r : ℕ) → is_reader (group_relations gs) r ≡ false → rows_for gs r ≡ []
       none_for [] r e = refl
       none_for (g ∷ gs) r e = step (g.relation.at == r) e (none_for gs r)
         where
-          step : (b : Bool) → (b || is_reader (relations_of gs) r) ≡ false
-              → (is_reader (relations_of gs) r ≡ false → rows_for gs r ≡ []) → cond b g.rows (rows_for gs r) ≡ []
+          step : (b : Bool) → (b || is_reader (group_relations gs) r) ≡ false
+              → (is_reader (group_relations gs) r ≡ false → rows_for gs r ≡ []) → cond b g.rows (rows_for gs r) ≡ []
           step true f more = absurd (false≢true (sym f))
           step false f more = more f
 
-      by : (r : ℕ) (b : Bool) → is_reader (relations_of groups) r ≡ b
+      by : (r : ℕ) (b : Bool) → is_reader (group_relations groups) r ≡ b
           → plain_of (cond b (counted_at c.relations r) (counted_at d.relations r)) ≡ rows_at c.relations r
       by r true e = refl
       by r false e =

@@ -20,13 +20,14 @@ use Rattle.djq_live.specs.declared.listing.Next.TheVariants.{Given, End, Stale a
 use Rattle.djq_live.specs.Live.{Live, IsLive, position_of, values_of}
 use Rattle.djq_live.specs.Reading as live
 use Rattle.djq_engine.specs.declared.cursor.CursorId.{CursorId}
-use Rattle.djq_engine.specs.Kept.{HeldCursor, Kept, held_at, MovesCursor, OpensCursor, OpenGives}
-use Rattle.djq_engine.specs.Kept.{ClosesCursor, NextGives, NextGivesAt, read_steps, MoreGives}
+use Rattle.djq_engine.specs.Kept.{HeldCursor, Kept, held_at, MovesCursor, OpensCursor, CursorOpenGives}
+use Rattle.djq_engine.specs.Kept.{ClosesCursor, EngineNextGives, EngineNextGivesAt, read_steps, MoreGives}
 use Rattle.djq_engine.specs.Kept.{MoreGivesAt, IsHeld, IsThere, AnswerIs, IsFresh, IsOpenAt}
 use Rattle.djq_reach.specs.Places.{place_at}
-use Rattle.djq_engine.specs.Places.{queries_in, held_as, held_from, held_of, kept_of, is_query, Watches, told_of}
-use Rattle.djq_engine.specs.Sound.{IsSound}
-use Rattle.djq_engine.specs.Moving.{Moves, IsReadable, IsFreshly, OpensAt, ClosesAt, ReadsAt, TellsAt}
+use Rattle.djq_engine.specs.Places.{queries_in, held_query_cursor, query_cursors_from, query_cursor_of, kept_of}
+use Rattle.djq_engine.specs.Places.{is_query, Watches, told_of}
+use Rattle.djq_engine.specs.Sound.{QueriesAreSound}
+use Rattle.djq_engine.specs.Moving.{Moves, IsReadableInSlot, IsFreshInSlot, OpensAt, ClosesAt, ReadsAt, TellsMore}
 use Rattle.djq_engine.proofs.Conditions.{answers_refused, answers_done, answers_lacking}
 use Rattle.djq_engine.proofs.Holding.{held_is}
 use Rattle.djq_engine.proofs.Naming.{Named, query_kept, query_named, no_query_of}
@@ -51,11 +52,12 @@ pub record HasCursor (gs : List (Option Live)) (id : CursorId) : Type 0 where
   pub slot : slot_at query.cursors id.cursor ≡ Some progress
 
 found : (texts : List Bytes) (gs : List (Option Live)) (id : CursorId) (o : Option Live) → place_at gs id.query.at ≡ o
-    → IsSome (held_of texts id o) → HasCursor gs id
+    → IsSome (query_cursor_of texts id o) → HasCursor gs id
 found texts gs id None e h = absurd cc
 found texts gs id (Some l) e h = by_slot (slot_at l.cursors id.cursor) refl h
   where
-    by_slot : (o : Option Progress) → slot_at l.cursors id.cursor ≡ o → IsSome (option_map (held_as texts l id) o)
+    by_slot : (o : Option Progress) → slot_at l.cursors id.cursor ≡ o
+        → IsSome (option_map (held_query_cursor texts l id) o)
         → HasCursor gs id
     by_slot None f h = absurd cc
     by_slot (Some p) f h = record { query = l; there = e; progress = p; slot = f }
@@ -80,34 +82,36 @@ pub same_live : (x y : Live) (o : Option Live) → o ≡ Some x → o ≡ Some y
 same_live x y o e f = cc
 
 module _ (c : Catalog) (gs : List (Option Live)) (order : List ℕ) (readers : List (List ℕ)) (seq : ℕ) (w : Watches)
-    (s : IsSound c gs order readers) (id : CursorId) (h : HasCursor gs id) where
-  pub readable : IsSomeAnd (place_at gs id.query.at) (IsReadable id.cursor)
-  readable = subst (λ (o : Option Live). IsSomeAnd o (IsReadable id.cursor)) (sym h.there)
+    (s : QueriesAreSound c gs order readers) (id : CursorId) (h : HasCursor gs id) where
+  pub readable : IsSomeAnd (place_at gs id.query.at) (IsReadableInSlot id.cursor)
+  readable = subst (λ (o : Option Live). IsSomeAnd o (IsReadableInSlot id.cursor)) (sym h.there)
       (record {
         there = some_slot h.query.cursors id.cursor h.progress h.slot;
         fits =
             (s.live id.query.at h.query h.there).fits id.cursor;
       })
 
-  pub cursor_found : held_at (held_from c.texts zero gs) id ≡ Some (held_as c.texts h.query id h.progress)
-  cursor_found = held_is c.texts gs id ∙ ap (held_of c.texts id) h.there
-      ∙ ap (option_map (held_as c.texts h.query id)) h.slot
+  pub cursor_found : held_at (query_cursors_from c.texts zero gs) id
+      ≡ Some (held_query_cursor c.texts h.query id h.progress)
+  cursor_found = held_is c.texts gs id ∙ ap (query_cursor_of c.texts id) h.there
+      ∙ ap (option_map (held_query_cursor c.texts h.query id)) h.slot
 
   -- what holds of the cursor and its query
-  of_both : (P : HeldCursor → Listed → Type 0) → P (held_as c.texts h.query id h.progress) (a_query h.query.query)
-      → IsSomeAnd (held_at (held_from c.texts zero gs) id)
+  of_both : (P : HeldCursor → Listed → Type 0)
+      → P (held_query_cursor c.texts h.query id h.progress) (a_query h.query.query)
+      → IsSomeAnd (held_at (query_cursors_from c.texts zero gs) id)
       (λ x. IsSomeAnd (listed_of (queries_in gs order) x.query) (λ q. P x q))
   of_both P x =
       subst (λ (o : Option HeldCursor). IsSomeAnd o (λ x. IsSomeAnd (listed_of (queries_in gs order) x.query)
       (λ q. P x q)))
       (sym cursor_found)
-      (subst (λ (o : Option Listed). IsSomeAnd o (λ q. P (held_as c.texts h.query id h.progress) q))
+      (subst (λ (o : Option Listed). IsSomeAnd o (λ q. P (held_query_cursor c.texts h.query id h.progress) q))
       (sym (query_kept c gs order readers s id.query.at h.query h.there)) x)
 
   -- a fresh cursor is open
-  pub freshly : IsFresh (kept_of c gs order seq w) id → IsSomeAnd (place_at gs id.query.at) (IsFreshly id.cursor)
+  pub freshly : IsFresh (kept_of c gs order seq w) id → IsSomeAnd (place_at gs id.query.at) (IsFreshInSlot id.cursor)
   freshly f =
-      subst (λ (o : Option Live). IsSomeAnd o (IsFreshly id.cursor)) (sym h.there)
+      subst (λ (o : Option Live). IsSomeAnd o (IsFreshInSlot id.cursor)) (sym h.there)
       (record {
         fresh = by_progress h.progress h.slot
             (subst (λ (o : Option HeldCursor). IsSomeAnd o (λ x. IsOpenAt x.position)) cursor_found f);
@@ -122,18 +126,18 @@ module _ (c : Catalog) (gs : List (Option Live)) (order : List ℕ) (readers : L
 
   module _ (hs : List (Option Live)) (m : Live) (is : hs ≡ set gs id.query.at (Some m)) where
     -- the cursor is moved
-    moves : (position : Position) → live.MovesTo c h.query id.cursor position m
-        → IsSound c hs order readers
-        × MovesCursor (kept_of c gs order seq w) (held_as c.texts h.query id h.progress) position
+    moves : (position : Position) → live.QueryCursorMoves c h.query id.cursor position m
+        → QueriesAreSound c hs order readers
+        × MovesCursor (kept_of c gs order seq w) (held_query_cursor c.texts h.query id h.progress) position
         (kept_of c hs order seq w)
     moves position t =
         let same : m.query ≡ h.query.query = ap (λ (x : Live). x.query) t.moved in
         let sets = slot_set h.query.cursors id.cursor h.progress (Some t.progress) h.slot in
         let cs = set h.query.cursors id.cursor (Some t.progress) in (
-          subst (λ (xs : List (Option Live)). IsSound c xs order readers) (sym is)
+          subst (λ (xs : List (Option Live)). QueriesAreSound c xs order readers) (sym is)
               (moved_sound c gs order readers s id h.query m h.there same t.live),
           subst (λ (xs : List (Option Live)). MovesCursor (kept_of c gs order seq w)
-              (held_as c.texts h.query id h.progress) position (kept_of c xs order seq w)) (sym is)
+              (held_query_cursor c.texts h.query id h.progress) position (kept_of c xs order seq w)) (sym is)
               (record {
                 there = moved_there c gs order readers s id h.query m h.there same (Some t.progress) cs t.moved sets
                     ∙ ap (λ (p : Position).
@@ -158,7 +162,7 @@ module _ (c : Catalog) (gs : List (Option Live)) (order : List ℕ) (readers : L
         set_same xs i l f = ap (set xs i) (sym f) ∙ set-get_or xs i None
 
     -- an answer that was given is there to be lent
-    lends : (u : List ℕ) (position : Position) (t : live.MovesTo c h.query id.cursor position m)
+    lends : (u : List ℕ) (position : Position) (t : live.QueryCursorMoves c h.query id.cursor position m)
         → IsAnswerOf h.query.reducts u
         → IsThere (kept_of c hs order seq w) id u
         × AnswerIs (kept_of c hs order seq w) id u (values_of c.texts h.query u)
@@ -172,9 +176,10 @@ module _ (c : Catalog) (gs : List (Option Live)) (order : List ℕ) (readers : L
               (ap (λ (x : Live). values_of c.texts x u) (sym t.moved)),
         )
 
-    next_by : (p : Position) (result : Next) (u : List ℕ) → live.NextGivesAt c h.query id.cursor p result u m
-        → IsSound c hs order readers
-        × NextGivesAt (kept_of c gs order seq w) (held_as c.texts h.query id h.progress) (a_query h.query.query) p
+    next_by : (p : Position) (result : Next) (u : List ℕ) → live.QueryNextGivesAt c h.query id.cursor p result u m
+        → QueriesAreSound c hs order readers
+        × EngineNextGivesAt (kept_of c gs order seq w) (held_query_cursor c.texts h.query id h.progress)
+        (a_query h.query.query) p
         result u (kept_of c hs order seq w)
     next_by (open_at given ended) Given u x =
         let y = moves (open_at (given ++ values_of c.texts h.query u ∷ []) false) x.2 in
@@ -184,15 +189,16 @@ module _ (c : Catalog) (gs : List (Option Live)) (order : List ℕ) (readers : L
     next_by (open_at given ended) (StaleNext r n) u x = absurd x
     next_by (stale r n) (StaleNext relation k) u x =
         let e = kept_as x.2 in (
-          subst (λ (xs : List (Option Live)). IsSound c xs order readers) (sym e) s,
+          subst (λ (xs : List (Option Live)). QueriesAreSound c xs order readers) (sym e) s,
           (x.0, x.1, ap (λ (xs : List (Option Live)). kept_of c xs order seq w) e),
         )
     next_by (stale r n) Given u x = absurd x
     next_by (stale r n) End u x = absurd x
 
-    more_by : (p : Position) (result : Bool) → live.MoreGivesAt c h.query id.cursor p result m
-        → IsSound c hs order readers
-        × MoreGivesAt (kept_of c gs order seq w) (held_as c.texts h.query id h.progress) (a_query h.query.query) p
+    more_by : (p : Position) (result : Bool) → live.QueryMoreGivesAt c h.query id.cursor p result m
+        → QueriesAreSound c hs order readers
+        × MoreGivesAt (kept_of c gs order seq w) (held_query_cursor c.texts h.query id h.progress)
+        (a_query h.query.query) p
         result (kept_of c hs order seq w)
     more_by (open_at given ended) true x = let y = moves (open_at given false) x.1 in (y.0, (x.0, y.1))
     more_by (open_at given ended) false x = let y = moves (open_at given true) x.1 in (y.0, (x.0, y.1))
@@ -206,34 +212,34 @@ module _ (c : Catalog) (gs : List (Option Live)) (order : List ℕ) (readers : L
 
   pub next_gives : (hs : List (Option Live)) (result : Next) (u : List ℕ) (before now : ℕ)
       → Moves (ReadsAt id.cursor result u before now) id.query.at gs hs
-      → IsSound c hs order readers
-      × NextGives (kept_of c gs order seq w) id result u (kept_of c hs order seq w) before now
+      → QueriesAreSound c hs order readers
+      × EngineNextGives (kept_of c gs order seq w) id result u (kept_of c hs order seq w) before now
   next_gives hs result u before now v =
       let e : v.old ≡ h.query = same_live v.old h.query (place_at gs id.query.at) v.there h.there in
       let d = subst (λ (x : Live). ReadsAt id.cursor result u before now x v.new) e v.done in
       let live_now = s.live id.query.at h.query h.there in
       let g = subst (λ (o : Option Progress). IsSomeAnd o
-      (λ p. live.NextGivesAt c h.query id.cursor (position_of c.texts h.query p) result u v.new)) h.slot
+      (λ p. live.QueryNextGivesAt c h.query id.cursor (position_of c.texts h.query p) result u v.new)) h.slot
       (d.gives c live_now) in
       let y = next_by hs v.new v.is (position_of c.texts h.query h.progress) result u g in (
         y.0,
         record {
-          gives = of_both (λ x q. NextGivesAt (kept_of c gs order seq w) x q x.position result u
+          gives = of_both (λ x q. EngineNextGivesAt (kept_of c gs order seq w) x q x.position result u
               (kept_of c hs order seq w) × (now ≤ before + read_steps result q))
               (y.1, subst (λ (n : ℕ). now ≤ before + n) (steps_same result h.query.query) (d.counted c live_now));
         },
       )
 
   pub more_gives : (hs : List (Option Live)) (result : Bool) (before now : ℕ)
-      → Moves (TellsAt id.cursor result before now) id.query.at gs hs
-      → IsSound c hs order readers
+      → Moves (TellsMore id.cursor result before now) id.query.at gs hs
+      → QueriesAreSound c hs order readers
       × MoreGives (kept_of c gs order seq w) id result (kept_of c hs order seq w) before now
   more_gives hs result before now v =
       let e : v.old ≡ h.query = same_live v.old h.query (place_at gs id.query.at) v.there h.there in
-      let d = subst (λ (x : Live). TellsAt id.cursor result before now x v.new) e v.done in
+      let d = subst (λ (x : Live). TellsMore id.cursor result before now x v.new) e v.done in
       let live_now = s.live id.query.at h.query h.there in
       let g = subst (λ (o : Option Progress). IsSomeAnd o
-      (λ p. live.MoreGivesAt c h.query id.cursor (position_of c.texts h.query p) result v.new)) h.slot
+      (λ p. live.QueryMoreGivesAt c h.query id.cursor (position_of c.texts h.query p) result v.new)) h.slot
       (d.gives c live_now) in
       let y = more_by hs v.new v.is (position_of c.texts h.query h.progress) result g in (
         y.0,
@@ -244,7 +250,8 @@ module _ (c : Catalog) (gs : List (Option Live)) (order : List ℕ) (readers : L
         },
       )
 
-  pub closes : (hs : List (Option Live)) → Moves (ClosesAt id.cursor) id.query.at gs hs → IsSound c hs order readers
+  pub closes : (hs : List (Option Live)) → Moves (ClosesAt id.cursor) id.query.at gs hs
+      → QueriesAreSound c hs order readers
       × ClosesCursor (kept_of c gs order seq w) id (kept_of c hs order seq w)
   closes hs v =
       let e : v.old ≡ h.query = same_live v.old h.query (place_at gs id.query.at) v.there h.there in
@@ -253,7 +260,7 @@ module _ (c : Catalog) (gs : List (Option Live)) (order : List ℕ) (readers : L
       let same : (v.new).query ≡ h.query.query = ap (λ (x : Live). x.query) d.closes in
       let sets = slot_set h.query.cursors id.cursor h.progress None h.slot in
       let cs = set h.query.cursors id.cursor None in (
-        subst (λ (xs : List (Option Live)). IsSound c xs order readers) (sym v.is)
+        subst (λ (xs : List (Option Live)). QueriesAreSound c xs order readers) (sym v.is)
             (moved_sound c gs order readers s id h.query v.new h.there same (d.live c live_now)),
         subst (λ (xs : List (Option Live)). ClosesCursor (kept_of c gs order seq w) id (kept_of c xs order seq w))
             (sym v.is)
@@ -274,9 +281,9 @@ module _ (c : Catalog) (gs : List (Option Live)) (order : List ℕ) (readers : L
 -- `open`
 
 module _ (c : Catalog) (gs : List (Option Live)) (order : List ℕ) (readers : List (List ℕ)) (seq : ℕ) (w : Watches)
-    (s : IsSound c gs order readers) (query : Bytes) where
+    (s : QueriesAreSound c gs order readers) (query : Bytes) where
   pub open_refused : None ≡ position (is_query query) gs
-      → OpenGives (kept_of c gs order seq w) query (Err NoQuery) (kept_of c gs order seq w)
+      → CursorOpenGives (kept_of c gs order seq w) query (Err NoQuery) (kept_of c gs order seq w)
   open_refused e = record {
     answer = answers_refused (first_refusal ((is_none (listed_of (queries_in gs order) query), NoQuery) ∷ [])) NoQuery
         (λ id. OpensCursor (kept_of c gs order seq w) query id (kept_of c gs order seq w)) _
@@ -291,11 +298,11 @@ module _ (c : Catalog) (gs : List (Option Live)) (order : List ℕ) (readers : L
   passes at n = ap (λ (o : Option Listed). first_refusal ((is_none o, NoQuery) ∷ []))
       (query_named c gs order readers s query at n)
 
-  pub open_lacks : (at : ℕ) (hs : List (Option Live)) → Named gs query at → hs ≡ gs → IsSound c hs order readers
-      × OpenGives (kept_of c gs order seq w) query (Err NoMemory) (kept_of c hs order seq w)
+  pub open_lacks : (at : ℕ) (hs : List (Option Live)) → Named gs query at → hs ≡ gs → QueriesAreSound c hs order readers
+      × CursorOpenGives (kept_of c gs order seq w) query (Err NoMemory) (kept_of c hs order seq w)
   open_lacks at hs n e = (
-    subst (λ (xs : List (Option Live)). IsSound c xs order readers) (sym e) s,
-    subst (λ (xs : List (Option Live)). OpenGives (kept_of c gs order seq w) query (Err NoMemory)
+    subst (λ (xs : List (Option Live)). QueriesAreSound c xs order readers) (sym e) s,
+    subst (λ (xs : List (Option Live)). CursorOpenGives (kept_of c gs order seq w) query (Err NoMemory)
         (kept_of c xs order seq w)) (sym e) (record {
           answer = answers_lacking (first_refusal ((is_none (listed_of (queries_in gs order) query), NoQuery) ∷ []))
               (λ id. OpensCursor (kept_of c gs order seq w) query id (kept_of c gs order seq w)) _ (passes at n) tt;
@@ -304,7 +311,7 @@ module _ (c : Catalog) (gs : List (Option Live)) (order : List ℕ) (readers : L
   )
 
   opened : (id : CursorId) (hs : List (Option Live)) → Named gs query id.query.at
-      → Moves (OpensAt id.cursor) id.query.at gs hs → IsSound c hs order readers
+      → Moves (OpensAt id.cursor) id.query.at gs hs → QueriesAreSound c hs order readers
       × OpensCursor (kept_of c gs order seq w) query id (kept_of c hs order seq w)
   opened id hs n v =
       let l = n.query in
@@ -313,13 +320,13 @@ module _ (c : Catalog) (gs : List (Option Live)) (order : List ℕ) (readers : L
       let o = d.opens in
       let cs = (v.new).cursors in
       let same : (v.new).query ≡ l.query = ap (λ (x : Live). x.query) o.others in (
-        subst (λ (xs : List (Option Live)). IsSound c xs order readers) (sym v.is)
+        subst (λ (xs : List (Option Live)). QueriesAreSound c xs order readers) (sym v.is)
             (moved_sound c gs order readers s id l v.new n.there same (d.live c (s.live id.query.at l n.there))),
         subst (λ (xs : List (Option Live)). OpensCursor (kept_of c gs order seq w) query id (kept_of c xs order seq w))
             (sym v.is)
             (record {
-              fresh = held_is c.texts gs id ∙ ap (held_of c.texts id) n.there
-                  ∙ ap (option_map (held_as c.texts l id)) o.free;
+              fresh = held_is c.texts gs id ∙ ap (query_cursor_of c.texts id) n.there
+                  ∙ ap (option_map (held_query_cursor c.texts l id)) o.free;
               there = moved_there c gs order readers s id l v.new n.there same (Some (Open o.cursor false)) cs o.others
                   o.sets
                   ∙ ap (λ (us : List (List ℕ)).
@@ -347,8 +354,8 @@ module _ (c : Catalog) (gs : List (Option Live)) (order : List ℕ) (readers : L
       )
 
   pub open_gives : (id : CursorId) (hs : List (Option Live)) → Named gs query id.query.at
-      → Moves (OpensAt id.cursor) id.query.at gs hs → IsSound c hs order readers
-      × OpenGives (kept_of c gs order seq w) query (Ok id) (kept_of c hs order seq w)
+      → Moves (OpensAt id.cursor) id.query.at gs hs → QueriesAreSound c hs order readers
+      × CursorOpenGives (kept_of c gs order seq w) query (Ok id) (kept_of c hs order seq w)
   open_gives id hs n v =
       let y = opened id hs n v in (
         y.0,

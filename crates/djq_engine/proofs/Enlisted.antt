@@ -19,8 +19,8 @@ use Rattle.djq_engine.specs.declared.cursor.QueryId.{QueryId}
 use Rattle.djq_engine.specs.Kept.{Registered, same_query, registered_at, registered_of}
 use Rattle.djq_engine.specs.Kept.{with_watchers, is_watched, readers_of, affected_of}
 use Rattle.djq_reach.specs.Places.{place_at, is_reader, readers_at, reads_place, watchers_at, watched_at, AreOnce}
-use Rattle.djq_engine.specs.Places.{is_live, query_in, queries_in, is_query, id_at, registered_as, registered_in}
-use Rattle.djq_engine.specs.Sound.{IsSound}
+use Rattle.djq_engine.specs.Places.{is_live, query_in, queries_in, is_query, id_at, query_registered_as, registered_in}
+use Rattle.djq_engine.specs.Sound.{QueriesAreSound}
 use Rattle.djq_reach.proofs.Among.{apart}
 use Rattle.djq_engine.proofs.Listing.{map_members, filter_members}
 use Rattle.djq_engine.proofs.Naming.{There, Named, live_there, order_there, unnamed}
@@ -97,58 +97,60 @@ outdated_reads name q = step (listed_reads q name)
     step false = refl
 
 module _ (c : Catalog) (gs : List (Option Live)) (order : List ℕ) (readers : List (List ℕ)) (ws : List ℕ)
-    (s : IsSound c gs order readers) where
+    (s : QueriesAreSound c gs order readers) where
   found_is : (id : QueryId) (xs : List ℕ) → registered_at (registered_in gs ws xs) id
-      ≡ cond (is_reader xs id.at) (Some (registered_as gs ws id.at)) None
+      ≡ cond (is_reader xs id.at) (Some (query_registered_as gs ws id.at)) None
   found_is id [] = refl
   found_is id (x ∷ xs) = step (x == id.at) refl (found_is id xs)
     where
       step : (b : Bool) → (x == id.at) ≡ b → registered_at (registered_in gs ws xs) id
-          ≡ cond (is_reader xs id.at) (Some (registered_as gs ws id.at)) None
-          → cond b (Some (registered_as gs ws x)) (registered_at (registered_in gs ws xs) id)
-          ≡ cond (b || is_reader xs id.at) (Some (registered_as gs ws id.at)) None
-      step true e h = ap (λ (j : ℕ). Some (registered_as gs ws j)) (eqb-true x id.at e)
+          ≡ cond (is_reader xs id.at) (Some (query_registered_as gs ws id.at)) None
+          → cond b (Some (query_registered_as gs ws x)) (registered_at (registered_in gs ws xs) id)
+          ≡ cond (b || is_reader xs id.at) (Some (query_registered_as gs ws id.at)) None
+      step true e h = ap (λ (j : ℕ). Some (query_registered_as gs ws j)) (eqb-true x id.at e)
       step false e h = h
 
   pub registered_is : (id : QueryId) → registered_at (registered_in gs ws order) id
-      ≡ cond (is_live gs id.at) (Some (registered_as gs ws id.at)) None
-  registered_is id = found_is id order ∙ ap (λ b. cond b (Some (registered_as gs ws id.at)) None) (s.listed id.at)
+      ≡ cond (is_live gs id.at) (Some (query_registered_as gs ws id.at)) None
+  registered_is id = found_is id order ∙ ap (λ b. cond b (Some (query_registered_as gs ws id.at)) None) (s.listed id.at)
 
   -- that an id stands for a query, as the code knows it
   pub registered_there : (id : QueryId) → IsSome (registered_at (registered_in gs ws order) id) → There gs id.at
   registered_there id h = by_live (is_live gs id.at) refl
       (subst (λ (o : Option Registered). IsSome o) (registered_is id) h)
     where
-      by_live : (b : Bool) → is_live gs id.at ≡ b → IsSome (cond b (Some (registered_as gs ws id.at)) None)
+      by_live : (b : Bool) → is_live gs id.at ≡ b → IsSome (cond b (Some (query_registered_as gs ws id.at)) None)
           → There gs id.at
       by_live true e k = live_there gs id.at e
       by_live false e k = absurd (false≢true k)
 
   pub registered_has : (id : QueryId) (P : Registered → Type 0)
-      → IsSomeAnd (registered_at (registered_in gs ws order) id) P → There gs id.at × P (registered_as gs ws id.at)
+      → IsSomeAnd (registered_at (registered_in gs ws order) id) P → There gs id.at
+      × P (query_registered_as gs ws id.at)
   registered_has id P h = by_live (is_live gs id.at) refl
       (subst (λ (o : Option Registered). IsSomeAnd o P) (registered_is id) h)
     where
-      by_live : (b : Bool) → is_live gs id.at ≡ b → IsSomeAnd (cond b (Some (registered_as gs ws id.at)) None) P
-          → There gs id.at × P (registered_as gs ws id.at)
+      by_live : (b : Bool) → is_live gs id.at ≡ b → IsSomeAnd (cond b (Some (query_registered_as gs ws id.at)) None) P
+          → There gs id.at × P (query_registered_as gs ws id.at)
       by_live true e k = (live_there gs id.at e, k)
       by_live false e k = absurd k
 
-  pub registered_gives : (id : QueryId) (P : Registered → Type 0) → There gs id.at → P (registered_as gs ws id.at)
+  pub registered_gives : (id : QueryId) (P : Registered → Type 0) → There gs id.at → P (query_registered_as gs ws id.at)
       → IsSomeAnd (registered_at (registered_in gs ws order) id) P
   registered_gives id P t h = subst (λ (o : Option Registered). IsSomeAnd o P)
-      (sym (registered_is id ∙ ap (λ b. cond b (Some (registered_as gs ws id.at)) None) (ap is_some t.is))) h
+      (sym (registered_is id ∙ ap (λ b. cond b (Some (query_registered_as gs ws id.at)) None) (ap is_some t.is))) h
 
   pub registered_none : (id : QueryId) → place_at gs id.at ≡ None → registered_at (registered_in gs ws order) id ≡ None
-  registered_none id e = registered_is id ∙ ap (λ b. cond b (Some (registered_as gs ws id.at)) None) (ap is_some e)
+  registered_none id e = registered_is id
+      ∙ ap (λ b. cond b (Some (query_registered_as gs ws id.at)) None) (ap is_some e)
 
   -- ---- what a name stands for
 
   pub name_found : (name : Bytes) (at : ℕ) → Named gs name at → registered_of (registered_in gs ws order) name
-      ≡ Some (registered_as gs ws at)
+      ≡ Some (query_registered_as gs ws at)
   name_found name at n =
-      found_mapped (λ r. bytes_eq (listed_name r.query) name) (registered_as gs ws) order
-      ∙ ap (option_map (registered_as gs ws))
+      found_mapped (λ r. bytes_eq (listed_name r.query) name) (query_registered_as gs ws) order
+      ∙ ap (option_map (query_registered_as gs ws))
       (find_place (λ i. bytes_eq (listed_name (query_in (place_at gs i))) name) order at
       (s.listed at ∙ ap is_some n.there)
       (ap (λ (o : Option Live). bytes_eq (listed_name (query_in o)) name) n.there
@@ -162,8 +164,8 @@ module _ (c : Catalog) (gs : List (Option Live)) (order : List ℕ) (readers : L
   pub name_unknown : (name : Bytes) → None ≡ position (is_query name) gs
       → registered_of (registered_in gs ws order) name ≡ None
   name_unknown name e =
-      found_mapped (λ r. bytes_eq (listed_name r.query) name) (registered_as gs ws) order
-      ∙ ap (option_map (registered_as gs ws))
+      found_mapped (λ r. bytes_eq (listed_name r.query) name) (query_registered_as gs ws) order
+      ∙ ap (option_map (query_registered_as gs ws))
       (no_place (λ i. bytes_eq (listed_name (query_in (place_at gs i))) name) order
       (λ j h. let t = order_there c gs order readers s j h in
       ap (λ (o : Option Live). bytes_eq (listed_name (query_in o)) name) t.is ∙ unnamed gs name j t.query e t.is))
@@ -171,12 +173,12 @@ module _ (c : Catalog) (gs : List (Option Live)) (order : List ℕ) (readers : L
   -- ---- laws
 
   pub queries_are : map (λ r. r.query) (registered_in gs ws order) ≡ queries_in gs order
-  queries_are = map_mapped (λ (r : Registered). r.query) (registered_as gs ws) order
+  queries_are = map_mapped (λ (r : Registered). r.query) (query_registered_as gs ws) order
 
   -- what holds of the queries in any two different places of a list
   all_pairs : (P : Registered → Registered → Type 0) (xs : List ℕ) → AreOnce xs
       → ((i j : ℕ) → is_reader xs i ≡ true → is_reader xs j ≡ true → i ≢ j
-      → P (registered_as gs ws i) (registered_as gs ws j))
+      → P (query_registered_as gs ws i) (query_registered_as gs ws j))
       → AllPairs P (registered_in gs ws xs)
   all_pairs P [] once h i j d l m = absurd (omega (arith, m))
   all_pairs P (x ∷ xs) once h zero zero d l m = absurd (omega (arith, l))
@@ -184,8 +186,8 @@ module _ (c : Catalog) (gs : List (Option Live)) (order : List ℕ) (readers : L
       (λ y e. h x y (here x xs) (behind x xs y e) (λ f. false≢true (sym once.0 ∙ ap (is_reader xs) f ∙ e)))
     where
       behind_all : (ys : List ℕ) (k : ℕ) → k < length (registered_in gs ws ys)
-          → ((y : ℕ) → is_reader ys y ≡ true → P (registered_as gs ws x) (registered_as gs ws y))
-          → P (registered_as gs ws x) (get_or (registered_in gs ws ys) k d)
+          → ((y : ℕ) → is_reader ys y ≡ true → P (query_registered_as gs ws x) (query_registered_as gs ws y))
+          → P (query_registered_as gs ws x) (get_or (registered_in gs ws ys) k d)
       behind_all [] k low f = absurd (omega (arith, low))
       behind_all (y ∷ ys) zero low f = f y (here y ys)
       behind_all (y ∷ ys) (suc k) low f = behind_all ys k (omega (arith, low)) (λ z e. f z (behind y ys z e))
@@ -230,7 +232,7 @@ module _ (c : Catalog) (gs : List (Option Live)) (order : List ℕ) (readers : L
       ≡ registered_in gs ws (readers_at readers at)
   readers_read at low =
       let name = (relation_at c.relations at).name in
-      filter_mapped (λ r. listed_reads r.query name) (registered_as gs ws) order
+      filter_mapped (λ r. listed_reads r.query name) (query_registered_as gs ws) order
       ∙ ap (registered_in gs ws)
       (filter_members (λ i. listed_reads (query_in (place_at gs i)) name) (λ i. reads_place name (place_at gs i))
       order (reads_as name)
@@ -241,7 +243,7 @@ module _ (c : Catalog) (gs : List (Option Live)) (order : List ℕ) (readers : L
       ≡ registered_in gs ws (readers_at readers at)
   readers_are at low after =
       let name = (relation_at c.relations at).name in
-      filter_mapped (λ r. is_some (by_relation name r.query)) (registered_as gs ws) order
+      filter_mapped (λ r. is_some (by_relation name r.query)) (query_registered_as gs ws) order
       ∙ ap (registered_in gs ws)
       (filter_members (λ i. is_some (by_relation name (query_in (place_at gs i))))
       (λ i. reads_place name (place_at gs i)) order
@@ -264,7 +266,7 @@ module _ (c : Catalog) (gs : List (Option Live)) (order : List ℕ) (readers : L
       filter_both (λ r. is_some (by_relation (relation_at c.relations at).name r.query)) is_watched
       (registered_in gs ws order)
       ∙ ap (filter is_watched) (readers_are at low after)
-      ∙ filter_mapped is_watched (registered_as gs ws) (readers_at readers at)
+      ∙ filter_mapped is_watched (query_registered_as gs ws) (readers_at readers at)
 
   -- where nobody watches a query, nobody watches the readers of a relation
   pub unwatched_readers : (at : ℕ) → at < length c.relations
@@ -275,20 +277,21 @@ module _ (c : Catalog) (gs : List (Option Live)) (order : List ℕ) (readers : L
       (All-filter (λ i. reads_place (relation_at c.relations at).name (place_at gs i)) (λ i. watched_at ws i ≡ false)
       order (by_place order none))
     where
-      by_place : (xs : List ℕ) → All (λ r. is_watched r ≡ false) (map (registered_as gs ws) xs)
+      by_place : (xs : List ℕ) → All (λ r. is_watched r ≡ false) (map (query_registered_as gs ws) xs)
           → All (λ i. watched_at ws i ≡ false) xs
       by_place [] h = All-nil (λ i. watched_at ws i ≡ false)
       by_place (x ∷ xs) h =
           All-cons (λ i. watched_at ws i ≡ false) x xs
-          (All-head (λ r. is_watched r ≡ false) (registered_as gs ws x) (map (registered_as gs ws) xs) h)
-          (by_place xs (All-tail (λ r. is_watched r ≡ false) (registered_as gs ws x) (map (registered_as gs ws) xs) h))
+          (All-head (λ r. is_watched r ≡ false) (query_registered_as gs ws x) (map (query_registered_as gs ws) xs) h)
+          (by_place xs (All-tail (λ r. is_watched r ≡ false) (query_registered_as gs ws x)
+          (map (query_registered_as gs ws) xs) h))
 
 -- ---- other watchers
 
 module _ (gs : List (Option Live)) (ws vs : List ℕ) (id : QueryId) (f : ℕ → ℕ)
     (at_id : watchers_at vs id.at ≡ f (watchers_at ws id.at))
     (others : (j : ℕ) → j ≢ id.at → watchers_at vs j ≡ watchers_at ws j) where
-  as_before : (j : ℕ) → j ≢ id.at → registered_as gs vs j ≡ registered_as gs ws j
+  as_before : (j : ℕ) → j ≢ id.at → query_registered_as gs vs j ≡ query_registered_as gs ws j
   as_before j d = ap (λ (n : ℕ). registered_with (id_at j) (query_in (place_at gs j)) n) (others j d)
 
   pub watchers_with : (xs : List ℕ) → AreOnce xs → is_reader xs id.at ≡ true → registered_in gs vs xs
@@ -298,14 +301,14 @@ module _ (gs : List (Option Live)) (ws vs : List ℕ) (id : QueryId) (f : ℕ �
     where
       step : (b : Bool) → (x == id.at) ≡ b → (b || is_reader xs id.at) ≡ true
           → (is_reader xs id.at ≡ true → registered_in gs vs xs ≡ with_watchers id f (registered_in gs ws xs))
-          → registered_as gs vs x ∷ registered_in gs vs xs
+          → query_registered_as gs vs x ∷ registered_in gs vs xs
           ≡ cond b (registered_with (id_at x) (query_in (place_at gs x)) (f (watchers_at ws x)) ∷ registered_in gs
-          ws xs) (registered_as gs ws x ∷ with_watchers id f (registered_in gs ws xs))
+          ws xs) (query_registered_as gs ws x ∷ with_watchers id f (registered_in gs ws xs))
       step true e k more =
           let same = eqb-true x id.at e in
           ap₂ (λ (n : ℕ) (rs : List Registered). registered_with (id_at x) (query_in (place_at gs x)) n ∷ rs)
           (ap (watchers_at vs) same ∙ at_id ∙ ap (λ (i : ℕ). f (watchers_at ws i)) (sym same))
-          (map_members (registered_as gs vs) (registered_as gs ws) xs
+          (map_members (query_registered_as gs vs) (query_registered_as gs ws) xs
           (λ j m. as_before j (λ d. false≢true (sym once.0 ∙ ap (is_reader xs) (same ∙ sym d) ∙ m))))
       step false e k more =
           ap₂ (λ (r : Registered) (rs : List Registered). r ∷ rs)
@@ -320,9 +323,9 @@ pub enlisted : (gs hs : List (Option Live)) (ws vs : List ℕ) (order : List ℕ
     → registered_in hs vs (order ++ place ∷ [])
     ≡ registered_in gs ws order ++ registered_with (id_at place) (a_query q.query) 0 ∷ []
 enlisted gs hs ws vs order place q out at none others watched =
-    map-append (registered_as hs vs) order (place ∷ [])
+    map-append (query_registered_as hs vs) order (place ∷ [])
     ∙ ap₂ (λ (rs : List Registered) (r : Registered). rs ++ r ∷ [])
-    (map_members (registered_as hs vs) (registered_as gs ws) order (λ i e.
+    (map_members (query_registered_as hs vs) (query_registered_as gs ws) order (λ i e.
     let d : i ≢ place = λ same. false≢true (sym out ∙ ap (is_reader order) (sym same) ∙ e) in
     ap₂ (λ (o : Option Live) (n : ℕ). registered_with (id_at i) (query_in o) n) (others i d) (watched i d)))
     (ap₂ (λ (o : Option Live) (n : ℕ). registered_with (id_at place) (query_in o) n) at none)
@@ -331,7 +334,7 @@ pub registered_same : (gs hs : List (Option Live)) (ws vs : List ℕ) (order : L
     → ((i : ℕ) → query_in (place_at hs i) ≡ query_in (place_at gs i)) → ((i : ℕ) → watchers_at vs i ≡ watchers_at ws i)
     → registered_in hs vs order ≡ registered_in gs ws order
 registered_same gs hs ws vs order e f =
-    map_members (registered_as hs vs) (registered_as gs ws) order
+    map_members (query_registered_as hs vs) (query_registered_as gs ws) order
     (λ i h. ap₂ (λ (q : Listed) (n : ℕ). registered_with (id_at i) q n) (e i) (f i))
 
 pub delisted : (gs hs : List (Option Live)) (ws : List ℕ) (order : List ℕ) (at : ℕ) (name : Bytes)
@@ -343,13 +346,13 @@ delisted gs hs ws [] at name others named = refl
 delisted gs hs ws (x ∷ xs) at name others named =
     step (x == at) refl (delisted gs hs ws xs at name others (λ j e. named j (behind x xs j e)))
     ∙ sym (ap (λ b. cond (not b)
-    (registered_as gs ws x ∷ filter (λ r. not (bytes_eq (listed_name r.query) name)) (registered_in gs ws xs))
+    (query_registered_as gs ws x ∷ filter (λ r. not (bytes_eq (listed_name r.query) name)) (registered_in gs ws xs))
     (filter (λ r. not (bytes_eq (listed_name r.query) name)) (registered_in gs ws xs))) (named x (here x xs)))
   where
     step : (b : Bool) → (x == at) ≡ b → registered_in hs ws (filter (λ i. not (i == at)) xs)
         ≡ filter (λ r. not (bytes_eq (listed_name r.query) name)) (registered_in gs ws xs)
         → registered_in hs ws (cond (not b) (x ∷ filter (λ i. not (i == at)) xs) (filter (λ i. not (i == at)) xs))
-        ≡ cond (not b) (registered_as gs ws x ∷ filter (λ r. not (bytes_eq (listed_name r.query) name))
+        ≡ cond (not b) (query_registered_as gs ws x ∷ filter (λ r. not (bytes_eq (listed_name r.query) name))
         (registered_in gs ws xs)) (filter (λ r. not (bytes_eq (listed_name r.query) name)) (registered_in gs ws xs))
     step true e h = h
     step false e h =

@@ -17,8 +17,9 @@ use Rattle.djq_live.specs.Cursors.{Progress, slot_at, are_vacant}
 use Rattle.djq_live.specs.Live.{Live, IsLive}
 use Rattle.djq_engine.specs.Kept.{SameCursors}
 use Rattle.djq_reach.specs.Places.{place_at, is_reader, readers_at, reads_place, AreOnce}
-use Rattle.djq_engine.specs.Places.{is_live, query_in, queries_in, held_as, held_of, held_from, left}
-use Rattle.djq_engine.specs.Sound.{IsSound}
+use Rattle.djq_engine.specs.Places.{is_live, query_in, queries_in, held_query_cursor, query_cursor_of}
+use Rattle.djq_engine.specs.Places.{query_cursors_from, places_without}
+use Rattle.djq_engine.specs.Sound.{QueriesAreSound}
 use Rattle.djq_engine.specs.Placing.{SamePlaces, SameLists, LeavesAll, JoinsReaders, JoinsSome, AllOnce}
 use Rattle.djq_engine.proofs.Holding.{held_is, slot_none}
 use Rattle.djq_reach.proofs.Among.{apart, reader_more, or_true}
@@ -38,7 +39,7 @@ none_some x o e f = cc
 -- ---- a query more
 
 module _ (c : Catalog) (gs hs : List (Option Live)) (order order' : List ℕ) (readers readers' : List (List ℕ))
-    (s : IsSound c gs order readers) (q : Live) (live : IsLive c q) (idle : q.cursors ≡ [])
+    (s : QueriesAreSound c gs order readers) (q : Live) (live : IsLive c q) (idle : q.cursors ≡ [])
     (place : ℕ) (vacant : place_at gs place ≡ None) (here : place_at hs place ≡ Some q)
     (others : (i : ℕ) → i ≢ place → place_at hs i ≡ place_at gs i)
     (last : order' ≡ order ++ place ∷ []) (joins : JoinsReaders c.relations q.query place readers readers')
@@ -104,7 +105,7 @@ module _ (c : Catalog) (gs hs : List (Option Live)) (order order' : List ℕ) (r
       (append-nil (filter (λ i. reads_place (relation_at c.relations r).name (place_at gs i)) order))
       ∙ sym (over_new (relation_at c.relations r).name false e)
 
-  sound_with : IsSound c hs (order ++ place ∷ []) readers'
+  sound_with : QueriesAreSound c hs (order ++ place ∷ []) readers'
   sound_with = record {
     live = λ i l e. all_queries (λ i l. IsLive c l) s.live live i l e;
     named = named_all;
@@ -116,16 +117,17 @@ module _ (c : Catalog) (gs hs : List (Option Live)) (order order' : List ℕ) (r
     reading = λ r low. readers_all r low (reads q.query (relation_at c.relations r).name) refl;
   }
 
-  pub registered_sound : IsSound c hs order' readers'
-  registered_sound = subst (λ xs. IsSound c hs xs readers') (sym last) sound_with
+  pub registered_sound : QueriesAreSound c hs order' readers'
+  registered_sound = subst (λ xs. QueriesAreSound c hs xs readers') (sym last) sound_with
 
-  pub registered_cursors : SameCursors (held_from c.texts zero gs) (held_from c.texts zero hs)
+  pub registered_cursors : SameCursors (query_cursors_from c.texts zero gs) (query_cursors_from c.texts zero hs)
   registered_cursors id = held_is c.texts hs id
-      ∙ everywhere (λ i. held_of c.texts id (place_at hs i) ≡ held_of c.texts id (place_at gs i)) place
-      (ap (held_of c.texts id) here ∙ ap (λ slots. option_map (held_as c.texts q id) (slot_at slots id.cursor)) idle
-      ∙ ap (option_map (held_as c.texts q id)) (slot_none id.cursor)
-      ∙ sym (ap (held_of c.texts id) vacant))
-      (λ i d. ap (held_of c.texts id) (others i d)) id.query.at ∙ sym (held_is c.texts gs id)
+      ∙ everywhere (λ i. query_cursor_of c.texts id (place_at hs i) ≡ query_cursor_of c.texts id (place_at gs i)) place
+      (ap (query_cursor_of c.texts id) here
+      ∙ ap (λ slots. option_map (held_query_cursor c.texts q id) (slot_at slots id.cursor)) idle
+      ∙ ap (option_map (held_query_cursor c.texts q id)) (slot_none id.cursor)
+      ∙ sym (ap (query_cursor_of c.texts id) vacant))
+      (λ i d. ap (query_cursor_of c.texts id) (others i d)) id.query.at ∙ sym (held_is c.texts gs id)
 
   pub registered_queries : queries_in hs order' ≡ queries_in gs order ++ a_query q.query ∷ []
   registered_queries =
@@ -149,8 +151,9 @@ all_empty (Some p ∷ slots) e k = absurd
     (omega (arith, e, sum_by-cons (λ (o : Option Progress). cond (is_some o) 1 0) (Some p) slots))
 
 module _ (c : Catalog) (gs hs : List (Option Live)) (order order' : List ℕ) (readers readers' : List (List ℕ))
-    (s : IsSound c gs order readers) (at : ℕ) (l : Live) (there : place_at gs at ≡ Some l)
-    (is : hs ≡ set gs at None) (places : order' ≡ left at order) (leaves : LeavesAll at readers readers') where
+    (s : QueriesAreSound c gs order readers) (at : ℕ) (l : Live) (there : place_at gs at ≡ Some l)
+    (is : hs ≡ set gs at None) (places : order' ≡ places_without at order)
+    (leaves : LeavesAll at readers readers') where
   gone : place_at hs at ≡ None
   gone = ap (λ xs. place_at xs at) is ∙ get_or-set_same gs at None None (place_below gs at l there)
 
@@ -161,7 +164,7 @@ module _ (c : Catalog) (gs hs : List (Option Live)) (order order' : List ℕ) (r
   still = everywhere (λ i. (m : Live) → place_at hs i ≡ Some m → place_at gs i ≡ Some m) at
       (λ m e. absurd (none_some m (place_at hs at) gone e)) (λ i d m e. sym (others i d) ∙ e)
 
-  listed_left : (i : ℕ) → is_reader (left at order) i ≡ is_live hs i
+  listed_left : (i : ℕ) → is_reader (places_without at order) i ≡ is_live hs i
   listed_left i = reader_filter (λ j. not (j == at)) order i ∙ by_place i
     where
       by_place : (i : ℕ) → (is_reader order i && not (i == at)) ≡ is_live hs i
@@ -171,10 +174,10 @@ module _ (c : Catalog) (gs hs : List (Option Live)) (order order' : List ℕ) (r
           (λ i d. ap (λ b. is_reader order i && not b) (apart i at d) ∙ all_and (is_reader order i) ∙ s.listed i
           ∙ sym (ap is_some (others i d)))
 
-  member_apart : (i : ℕ) → is_reader (left at order) i ≡ true → i ≡ at → ⊥
+  member_apart : (i : ℕ) → is_reader (places_without at order) i ≡ true → i ≡ at → ⊥
   member_apart i e same = false≢true (sym (listed_left i ∙ ap (is_live hs) same ∙ ap is_some gone) ∙ e)
 
-  sound_left : IsSound c hs (left at order) readers'
+  sound_left : QueriesAreSound c hs (places_without at order) readers'
   sound_left = record {
     live = λ i m e. s.live i m (still i m e);
     named = λ i j x y e f n. s.named i j x y (still i x e) (still j y f) n;
@@ -183,25 +186,25 @@ module _ (c : Catalog) (gs hs : List (Option Live)) (order order' : List ℕ) (r
     few = omega (arith, s.few, filter_few (λ j. not (j == at)) order);
     bounded = omega (arith, s.bounded, ap (λ (xs : List (Option Live)). length xs) is, length-set gs at None);
     long = leaves.long ∙ s.long;
-    reading = λ r low. leaves.each r ∙ ap (left at) (s.reading r low)
+    reading = λ r low. leaves.each r ∙ ap (places_without at) (s.reading r low)
         ∙ filter_twice (λ j. not (j == at)) (λ i. reads_place (relation_at c.relations r).name (place_at gs i)) order
         ∙ filter_members (λ i. reads_place (relation_at c.relations r).name (place_at gs i))
-        (λ i. reads_place (relation_at c.relations r).name (place_at hs i)) (left at order)
+        (λ i. reads_place (relation_at c.relations r).name (place_at hs i)) (places_without at order)
         (λ i e. ap (reads_place (relation_at c.relations r).name) (sym (others i (member_apart i e))));
   }
 
-  pub dropped_sound : IsSound c hs order' readers'
-  dropped_sound = subst (λ xs. IsSound c hs xs readers') (sym places) sound_left
+  pub dropped_sound : QueriesAreSound c hs order' readers'
+  dropped_sound = subst (λ xs. QueriesAreSound c hs xs readers') (sym places) sound_left
 
   pub dropped_cursors : are_vacant l.cursors ≡ true
-      → SameCursors (held_from c.texts zero gs) (held_from c.texts zero hs)
+      → SameCursors (query_cursors_from c.texts zero gs) (query_cursors_from c.texts zero hs)
   dropped_cursors e id = held_is c.texts hs id
-      ∙ everywhere (λ i. held_of c.texts id (place_at hs i) ≡ held_of c.texts id (place_at gs i)) at
-      (ap (held_of c.texts id) gone
-      ∙ sym (ap (held_of c.texts id) there
-      ∙ ap (option_map (held_as c.texts l id))
+      ∙ everywhere (λ i. query_cursor_of c.texts id (place_at hs i) ≡ query_cursor_of c.texts id (place_at gs i)) at
+      (ap (query_cursor_of c.texts id) gone
+      ∙ sym (ap (query_cursor_of c.texts id) there
+      ∙ ap (option_map (held_query_cursor c.texts l id))
       (all_empty l.cursors (eqb-true (count_by is_some l.cursors) 0 e) id.cursor)))
-      (λ i d. ap (held_of c.texts id) (others i d)) id.query.at ∙ sym (held_is c.texts gs id)
+      (λ i d. ap (query_cursor_of c.texts id) (others i d)) id.query.at ∙ sym (held_is c.texts gs id)
 
   pub by_name : (j : ℕ) → is_reader order j ≡ true → bytes_eq (listed_name (query_in (place_at gs j))) l.query.name
       ≡ (j == at)
@@ -225,15 +228,15 @@ module _ (c : Catalog) (gs hs : List (Option Live)) (order order' : List ℕ) (r
       ≡ drop_first (λ q. bytes_eq (listed_name q) l.query.name) (queries_in gs order)
   dropped_queries =
       ap (queries_in hs) places
-      ∙ map_members (λ i. query_in (place_at hs i)) (λ i. query_in (place_at gs i)) (left at order)
+      ∙ map_members (λ i. query_in (place_at hs i)) (λ i. query_in (place_at gs i)) (places_without at order)
       (λ i e. ap query_in (others i (member_apart i e)))
       ∙ sym (drop_listed (λ i. query_in (place_at gs i)) order l.query.name at s.once by_name)
 
 -- ---- places and lists in which the same stands
 
 pub sound_same : (c : Catalog) (gs hs : List (Option Live)) (order : List ℕ) (readers readers' : List (List ℕ))
-    → SamePlaces gs hs → SameLists readers readers' → length hs ≤ QUERIES → IsSound c gs order readers
-    → IsSound c hs order readers'
+    → SamePlaces gs hs → SameLists readers readers' → length hs ≤ QUERIES → QueriesAreSound c gs order readers
+    → QueriesAreSound c hs order readers'
 sound_same c gs hs order readers readers' e f bounded s = record {
   live = λ i l h. s.live i l (sym (e i) ∙ h);
   named = λ i j l m h k n. s.named i j l m (sym (e i) ∙ h) (sym (e j) ∙ k) n;
@@ -254,13 +257,14 @@ queries_same gs hs order e = map_members (λ i. query_in (place_at hs i)) (λ i.
     (λ i h. ap query_in (e i))
 
 pub cursors_same : (texts : List Bytes) (gs hs : List (Option Live)) → SamePlaces gs hs
-    → SameCursors (held_from texts zero gs) (held_from texts zero hs)
-cursors_same texts gs hs e id = held_is texts hs id ∙ ap (held_of texts id) (e id.query.at) ∙ sym (held_is texts gs id)
+    → SameCursors (query_cursors_from texts zero gs) (query_cursors_from texts zero hs)
+cursors_same texts gs hs e id = held_is texts hs id ∙ ap (query_cursor_of texts id) (e id.query.at)
+    ∙ sym (held_is texts gs id)
 
 -- ---- the readers of all relations
 
 pub lists_once : (c : Catalog) (gs : List (Option Live)) (order : List ℕ) (readers : List (List ℕ))
-    → IsSound c gs order readers → AllOnce readers
+    → QueriesAreSound c gs order readers → AllOnce readers
 lists_once c gs order readers s r = by_length (cases_lt r (length c.relations))
   where
     by_length : (r < length c.relations) ⊎ (length c.relations ≤ r) → AreOnce (readers_at readers r)
@@ -270,7 +274,8 @@ lists_once c gs order readers s r = by_length (cases_lt r (length c.relations))
 
 -- a vacant place is in no list
 pub lists_without : (c : Catalog) (gs : List (Option Live)) (order : List ℕ) (readers : List (List ℕ)) (place : ℕ)
-    → IsSound c gs order readers → place_at gs place ≡ None → (r : ℕ) → is_reader (readers_at readers r) place ≡ false
+    → QueriesAreSound c gs order readers → place_at gs place ≡ None → (r : ℕ)
+    → is_reader (readers_at readers r) place ≡ false
 lists_without c gs order readers place s vacant r = by_length (cases_lt r (length c.relations))
   where
     by_length : (r < length c.relations) ⊎ (length c.relations ≤ r) → is_reader (readers_at readers r) place ≡ false
@@ -281,10 +286,11 @@ lists_without c gs order readers place s vacant r = by_length (cases_lt r (lengt
         ∙ both_false (is_reader order place)
     by_length (inr high) = ap (λ xs. is_reader xs place) (get_or_past readers r [] (omega (arith, high, s.long)))
 
-left_pushed : (xs : List ℕ) (i : ℕ) → is_reader xs i ≡ false → left i (xs ++ i ∷ []) ≡ xs
+left_pushed : (xs : List ℕ) (i : ℕ) → is_reader xs i ≡ false → places_without i (xs ++ i ∷ []) ≡ xs
 left_pushed xs i e =
-    filter-append (λ j. not (j == i)) xs (i ∷ []) ∙ ap (λ b. left i xs ++ cond (not b) (i ∷ []) []) (eq-eqb i i refl)
-    ∙ append-nil (left i xs) ∙ all_but xs i e
+    filter-append (λ j. not (j == i)) xs (i ∷ [])
+    ∙ ap (λ b. places_without i xs ++ cond (not b) (i ∷ []) []) (eq-eqb i i refl)
+    ∙ append-nil (places_without i xs) ∙ all_but xs i e
 
 -- a place that joined some lists, and left them again
 pub joined_once : (place : ℕ) (old new : List (List ℕ)) → AllOnce old
@@ -304,6 +310,6 @@ joined_left place old mid new out joins leaves = record {
 }
   where
     by_case : (r : ℕ) → (readers_at mid r ≡ readers_at old r) ⊎ (readers_at mid r ≡ readers_at old r ++ place ∷ [])
-        → left place (readers_at mid r) ≡ readers_at old r
-    by_case r (inl e) = ap (left place) e ∙ all_but (readers_at old r) place (out r)
-    by_case r (inr e) = ap (left place) e ∙ left_pushed (readers_at old r) place (out r)
+        → places_without place (readers_at mid r) ≡ readers_at old r
+    by_case r (inl e) = ap (places_without place) e ∙ all_but (readers_at old r) place (out r)
+    by_case r (inr e) = ap (places_without place) e ∙ left_pushed (readers_at old r) place (out r)

@@ -24,11 +24,11 @@ use Rattle.djq_live.specs.Live.{Live, IsKept}
 use Rattle.djq_live.specs.Staying.{StaysOver, LiveStays}
 use Rattle.djq_reach.specs.declared.group.Group.{Group}
 use Rattle.djq_reach.specs.Places.{place_at, reads_place, is_reader, watched_at}
-use Rattle.djq_reach.specs.Grouping.{Leads, CostsBy, reached, relations_of, batch_cost, batch_cost_at}
+use Rattle.djq_reach.specs.Grouping.{GroupsLead, CostsBy, reached, group_relations, batch_cost, batch_cost_at}
 use Rattle.djq_engine.specs.declared.parts.Parts.{Parts}
 use Rattle.djq_engine.specs.Places.{query_in, is_live}
 use Rattle.djq_engine.specs.Putting.{PutsAll}
-use Rattle.djq_engine.specs.Whole.{kept_in, IsWhole}
+use Rattle.djq_engine.specs.Whole.{kept_in, EngineIsWhole}
 use Rattle.djq_engine.proofs.Affecting.{outdated_places, place_is, AreFor, deltas_with, steps_by}
 use Rattle.djq_engine.proofs.GivenUp.{sound_readers}
 use Rattle.djq_engine.proofs.Listing.{behind}
@@ -57,9 +57,10 @@ pub record Filled (old : Parts) (held : List HeldRow) (before now : Catalog) (gr
     pub types : (r : ℕ) → (relation_at before.relations r).types ≡ (relation_at (old.catalog).relations r).types
     pub rows : (r : ℕ) → rows_at before.relations r ≡ rows_at (old.catalog).relations r
     pub texts : before.texts ≡ now.texts
-    pub leads : Leads old.readers.items groups old.queries.items before now
+    pub leads : GroupsLead old.readers.items groups old.queries.items before now
 
-module _ (old : Parts) (s : IsWhole old) (held : List HeldRow) (before now : Catalog) (groups : List Group) (count : ℕ)
+module _ (old : Parts) (s : EngineIsWhole old) (held : List HeldRow) (before now : Catalog)
+    (groups : List Group) (count : ℕ)
     (k : Filled old held before now groups count) where
   abbrev st : Store
   st = (kept_in old).store
@@ -119,28 +120,29 @@ module _ (old : Parts) (s : IsWhole old) (held : List HeldRow) (before now : Cat
     reached_outdated i e = outdated_is i ∙ ap₂ (λ (a b : Bool). a && b) (ap is_some (reached_there i e).is) (wider i e)
 
     cost_some : (f : ℕ → List Change) (i : ℕ) → There old.queries.items i → watched_at old.watchers.items i ≡ true
-        → batch_cost_at old.watchers.items old.queries.items (relations_of groups) f i ≤ delta_steps change
+        → batch_cost_at old.watchers.items old.queries.items (group_relations groups) f i ≤ delta_steps change
         (record { query = query_in (place_at old.queries.items i); changes = f i; parts = [] })
     cost_some f i y w =
         let l = y.query in
         let kept = (s.live i l y.is).kept in
         let fewer = subst (λ (t : Bytes → Bool). length
-        (filter (λ m. is_reader (relations_of groups) m.relation) (l.numbered).atoms) ≤ length
+        (filter (λ m. is_reader (group_relations groups) m.relation) (l.numbered).atoms) ≤ length
         (filter (λ a. t a.relation) (l.query).atoms)) (sym touches)
         (atoms_touched st held k.found old.readers.items old.queries.items
         (sound_readers old.catalog old.queries.items old.order old.readers.items s) groups (k.puts).grouped.within
         (k.puts).come
         old.catalog (λ r. refl) (l.numbered).variables (l.query).atoms (l.numbered).atoms kept.over.asked.atoms) in
-        let cost : batch_cost_at old.watchers.items old.queries.items (relations_of groups) f i
-        ≡ batch_cost (relations_of groups) (f i) (place_at old.queries.items i)
-        = ap (λ b. cond b (batch_cost (relations_of groups) (f i) (place_at old.queries.items i)) 0) w in
-        let bound : batch_cost (relations_of groups) (f i) (Some l) ≤ delta_steps change
+        let cost : batch_cost_at old.watchers.items old.queries.items (group_relations groups) f i
+        ≡ batch_cost (group_relations groups) (f i) (place_at old.queries.items i)
+        = ap (λ b. cond b (batch_cost (group_relations groups) (f i) (place_at old.queries.items i)) 0) w in
+        let bound : batch_cost (group_relations groups) (f i) (Some l) ≤ delta_steps change
         (record { query = a_query l.query; changes = f i; parts = [] })
-        = mul-le (length (f i) + length (filter (λ m. is_reader (relations_of groups) m.relation) (l.numbered).atoms))
+        = mul-le (length (f i) + length
+        (filter (λ m. is_reader (group_relations groups) m.relation) (l.numbered).atoms))
         (most_steps (length l.query.head))
         (length (f i) + length (filter (λ a. change.touches a.relation) (l.query).atoms))
         (most_steps (length l.query.head)) (omega (arith, fewer)) (omega arith) in
-        let there = subst (λ (o : Option Live). batch_cost (relations_of groups) (f i) o ≤ delta_steps change
+        let there = subst (λ (o : Option Live). batch_cost (group_relations groups) (f i) o ≤ delta_steps change
         (record { query = query_in o; changes = f i; parts = [] })) (sym y.is) bound in
         omega (arith, cost, there)
 
@@ -177,14 +179,14 @@ module _ (old : Parts) (s : IsWhole old) (held : List HeldRow) (before now : Cat
         (after ∙ sym (k.puts).relations)
         (h i l (reached_outdated i e) w there)))
         (λ i e. s.listed i ∙ ap is_some (reached_there i e).is) in
-        let smaller = fewer_places (batch_cost_at old.watchers.items old.queries.items (relations_of groups) f)
+        let smaller = fewer_places (batch_cost_at old.watchers.items old.queries.items (group_relations groups) f)
         (is_reader (reached old.readers.items groups))
         (λ i. is_outdated change (query_in (place_at old.queries.items i))) old.order
         (λ i m e. wider i e) in
         let steps = steps_by old.catalog old.queries.items old.order old.readers.items s old.watchers.items change
         (outdated_places old.queries.items old.order change) refl
-        (batch_cost_at old.watchers.items old.queries.items (relations_of groups) f) f
-        (λ i e w. ap (λ b. cond b (batch_cost (relations_of groups) (f i) (place_at old.queries.items i)) 0) w)
+        (batch_cost_at old.watchers.items old.queries.items (group_relations groups) f) f
+        (λ i e w. ap (λ b. cond b (batch_cost (group_relations groups) (f i) (place_at old.queries.items i)) 0) w)
         (λ i e w. cost_some f i
         (live_there old.queries.items i (and_parts (is_live old.queries.items i) _ (sym (outdated_is i) ∙ e)).0) w)
         in

@@ -9,12 +9,13 @@ use Rattle.std.proofs.lemmas.List.{get_or_append_left, get_or-map, length-map}
 use Rattle.std.proofs.lemmas.List.Folds.{find_at}
 use Rattle.std.proofs.lemmas.List.Quantifiers.{position-Some}
 use Rattle.djq_model.specs.Data.{change_first}
-use Rattle.djq_engine.specs.Finding.{IsFirst}
+use Rattle.djq_engine.specs.Finding.{IsFirstPassing}
 use Rattle.djq_query.proofs.Numbers.{number_none}
 
 -- what a search gives
 
-pub first_of_position : {A : Type 0} (p : A → Bool) (xs : List A) (i : ℕ) → position p xs ≡ Some i → IsFirst p xs i
+pub first_of_position : {A : Type 0} (p : A → Bool) (xs : List A) (i : ℕ) → position p xs ≡ Some i
+    → IsFirstPassing p xs i
 first_of_position p [] i e = absurd cc
 first_of_position p (x ∷ xs) i e = record {
   below = (position-Some p (x ∷ xs) i x e).0;
@@ -30,8 +31,8 @@ none_of_position p xs e =
 
 -- a first one, and lookups
 
-pub first_behind : {A : Type 0} (p : A → Bool) (x : A) (xs : List A) (i : ℕ) → IsFirst p (x ∷ xs) (suc i)
-    → IsFirst p xs i
+pub first_behind : {A : Type 0} (p : A → Bool) (x : A) (xs : List A) (i : ℕ) → IsFirstPassing p (x ∷ xs) (suc i)
+    → IsFirstPassing p xs i
 first_behind p x xs i h = record {
   below = omega (arith, h.below);
   passes = λ d. h.passes d;
@@ -54,7 +55,8 @@ find_mapped p f (x ∷ xs) = step (p (f x)) (find_mapped p f xs)
     step true e = refl
     step false e = e
 
-pub first_more : {A : Type 0} (p : A → Bool) (xs ys : List A) (i : ℕ) → IsFirst p xs i → IsFirst p (xs ++ ys) i
+pub first_more : {A : Type 0} (p : A → Bool) (xs ys : List A) (i : ℕ) → IsFirstPassing p xs i
+    → IsFirstPassing p (xs ++ ys) i
 first_more p xs ys i h = record {
   below = omega (arith, h.below, length-append xs ys);
   passes = λ d. ap p (get_or_append_left xs ys d i h.below) ∙ h.passes d;

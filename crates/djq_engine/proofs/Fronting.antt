@@ -17,7 +17,7 @@ use Rattle.djq_rows.specs.Catalog.{Catalog, rows_at}
 use Rattle.djq_live.specs.Live.{Live}
 use Rattle.djq_reach.specs.declared.group.Group.{Group}
 use Rattle.djq_reach.specs.Places.{place_at}
-use Rattle.djq_engine.specs.Judging.{Suits}
+use Rattle.djq_engine.specs.Judging.{RowSuits}
 use Rattle.djq_engine.specs.Outdating.{AgesAt, AgesBy, AgesAll}
 use Rattle.djq_engine.specs.Putting.{PutsAll, PutsOne, ComeFirst}
 use Rattle.djq_engine.proofs.HeldRows.{come_more, there_here}
@@ -32,8 +32,8 @@ module _ (st : Store) (xs : List HeldRow) (c : Catalog) (count : ℕ) (groups : 
       → is_there (with_all st xs) h ≡ false → has_come st xs h.relation ≡ true
   came_before zero one long absent =
       let m = one.0 in
-      let suits : Suits (with_all st xs).relations h.relation h.row m.at =
-      subst (λ (rs : List Relation). Suits rs h.relation h.row m.at) p.relations (m.stands).relation in
+      let suits : RowSuits (with_all st xs).relations h.relation h.row m.at =
+      subst (λ (rs : List Relation). RowSuits rs h.relation h.row m.at) p.relations (m.stands).relation in
       absurd (false≢true (sym absent ∙ there_here (with_all st xs) h m.at suits
       ∙ ap (λ (rs : List Relation). has_row (rows_at rs m.at) h.row) (sym p.relations) ∙ m.there))
   came_before (suc zero) one long absent =

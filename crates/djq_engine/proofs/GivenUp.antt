@@ -25,17 +25,17 @@ use Rattle.djq_live.specs.Staying.{StaysOver}
 use Rattle.djq_live.specs.Updating.{IsEmpty}
 use Rattle.djq_reach.specs.Places.{place_at, reads_place, is_reader, readers_at, log_at, AreOnce}
 use Rattle.djq_reach.specs.Reaching.{DoneAt, Reach, Renews}
-use Rattle.djq_reach.specs.Tending.{AreShown}
+use Rattle.djq_reach.specs.Tending.{LogsCanBeShown}
 use Rattle.djq_reach.proofs.Reaching.{place_below}
 use Rattle.djq_reach.proofs.Tending.{all_none}
 use Rattle.djq_engine.specs.declared.parts.Parts.{Parts}
 use Rattle.djq_engine.specs.Kept.{Outdates, SameShape, is_tried}
 use Rattle.djq_engine.specs.Places.{is_live, query_in, queries_in}
-use Rattle.djq_engine.specs.Sound.{IsSound}
+use Rattle.djq_engine.specs.Sound.{QueriesAreSound}
 use Rattle.djq_engine.specs.Changing.{KeepsRest, KeepsLogs}
-use Rattle.djq_engine.specs.Outdating.{AreReaders, AgesAll, GivesUp, reads_held}
-use Rattle.djq_engine.specs.Watching.{TellsChange}
-use Rattle.djq_engine.specs.Whole.{kept_in, IsWhole, IsTended}
+use Rattle.djq_engine.specs.Outdating.{AreReaders, AgesAll, BatchGivesUp, reads_held}
+use Rattle.djq_engine.specs.Watching.{EngineTellsChange}
+use Rattle.djq_engine.specs.Whole.{kept_in, EngineIsWhole, IsTended}
 use Rattle.djq_engine.proofs.Adding.{names_kept}
 use Rattle.djq_engine.proofs.Affecting.{outdated_places, place_is, AreFor, deltas_with, Discards, refused_tells}
 use Rattle.djq_engine.proofs.Carrying.{readers_once, reader_is}
@@ -51,7 +51,7 @@ use Rattle.djq_engine.proofs.Told.{AlikeAt, AreAlike, told_is, told_empty}
 -- ---- what holds before
 
 pub sound_readers : (c : Catalog) (gs : List (Option Live)) (order : List ℕ) (readers : List (List ℕ))
-    → IsSound c gs order readers → AreReaders c.relations readers gs
+    → QueriesAreSound c gs order readers → AreReaders c.relations readers gs
 sound_readers c gs order readers s = record {
   long = s.long;
   once = λ r. by_length r (cases_lt r (length c.relations));
@@ -69,7 +69,7 @@ sound_readers c gs order readers s = record {
     by_place name (Some l) = refl
 
 -- a place of a reader has a log
-pub readers_logged : (p : Parts) → IsWhole p → IsTended p → (r i : ℕ) → is_reader (readers_at p.readers.items r) i
+pub readers_logged : (p : Parts) → EngineIsWhole p → IsTended p → (r i : ℕ) → is_reader (readers_at p.readers.items r) i
     ≡ true → i < length p.logs.items
 readers_logged p s t r i e = by_length (cases_lt r (length (p.catalog).relations))
   where
@@ -101,14 +101,14 @@ all_found st held suit k d low = suits_found st (get_or held k d) (suit k d low)
 -- ---- what is kept once it is given up
 
 -- The logs of all queries that read a held relation are empty, and their cursors outdated.
-module _ (old mid new : Parts) (s : IsWhole old) (t : IsTended old) (held : List HeldRow) (places : List ℕ)
+module _ (old mid new : Parts) (s : EngineIsWhole old) (t : IsTended old) (held : List HeldRow) (places : List ℕ)
     (reach : Reach places (Renews mid.catalog) old.queries.items mid.queries.items)
     (stay : (i : ℕ) (l : Live) → place_at old.queries.items i ≡ Some l → StaysOver old.catalog mid.catalog l)
     (within : (i : ℕ) → is_reader places i ≡ true → reads_held held (place_at old.queries.items i) ≡ true)
     (relations : (mid.catalog).relations ≡ (old.catalog).relations) (more : List Bytes)
     (texts : (mid.catalog).texts ≡ (old.catalog).texts ++ more)
     (rest : KeepsRest old mid) (logs : KeepsLogs (λ i. reads_held held (place_at old.queries.items i)) old mid)
-    (g : GivesUp held mid new) where
+    (g : BatchGivesUp held mid new) where
   abbrev outdater : Listed → Option Bytes
   outdater = first_read held (λ name. true)
 
@@ -148,7 +148,7 @@ module _ (old mid new : Parts) (s : IsWhole old) (t : IsTended old) (held : List
   given_alike : AreAlike old.queries.items new.queries.items
   given_alike = alike_then outdater places old mid new s turned
 
-  pub given_whole : IsWhole new
+  pub given_whole : EngineIsWhole new
   given_whole = whole_then outdater places old mid new s turned
 
   pub given_cursors : Outdates (kept_in old) (Some change) (kept_in new)
@@ -196,7 +196,7 @@ module _ (old mid new : Parts) (s : IsWhole old) (t : IsTended old) (held : List
       ≡ false → log_at new.logs.items i ≡ log_at old.logs.items i
   log_kept i l there e = g.logs.others i (reads_mid i ∙ e) ∙ logs i l there e
 
-  shown_now : ShowableStays → AreShown (mid.catalog).texts new.queries.items new.logs.items
+  shown_now : ShowableStays → LogsCanBeShown (mid.catalog).texts new.queries.items new.logs.items
   shown_now law i m there kept = by_place (place_at old.queries.items i) refl
       (subst (λ (o : Option Live). AlikeAt (place_at old.queries.items i) o) there (given_alike i))
     where
@@ -222,7 +222,8 @@ module _ (old mid new : Parts) (s : IsWhole old) (t : IsTended old) (held : List
     watched = ap (λ (xs : List ℕ). length xs) (g.rest.watchers ∙ rest.watchers) ∙ t.watched
         ∙ sym (g.queries.long ∙ reach.length);
     logged = g.logs.long ∙ rest.long ∙ t.logged ∙ sym (g.queries.long ∙ reach.length);
-    shown = subst (λ (x : Catalog). AreShown x.texts new.queries.items new.logs.items) (sym g.catalog) (shown_now law);
+    shown = subst (λ (x : Catalog). LogsCanBeShown x.texts new.queries.items new.logs.items) (sym g.catalog)
+        (shown_now law);
     room = omega (arith, t.room, rest.room, g.rest.room, ap (λ (xs : List ℕ). length xs) (g.rest.order ∙ rest.order));
   }
 
@@ -258,7 +259,7 @@ module _ (old mid new : Parts) (s : IsWhole old) (t : IsTended old) (held : List
           (ap is_some there)) ∙ e);
     }
 
-    pub given_tells : TellsChange (kept_in old) (out_of_memory change) (kept_in new) before now
+    pub given_tells : EngineTellsChange (kept_in old) (out_of_memory change) (kept_in new) before now
     given_tells =
         refused_tells old s change (outdated_places old.queries.items old.order change) refl have before now counts new
         (affected_same old new (g.rest.affected ∙ rest.affected)) discards

@@ -22,11 +22,11 @@ use Rattle.djq_machine.specs.Batch.{suit_refusal, is_there, with_held, with_all,
 use Rattle.djq_machine.specs.Batch.{has_come, place_refusal, HavePlaces}
 use Rattle.djq_rows.specs.Laws.{NamesTell}
 use Rattle.djq_rows.specs.Catalog.{counted_at, rows_at, with_rows_at}
-use Rattle.djq_engine.specs.Judging.{Suits}
+use Rattle.djq_engine.specs.Judging.{RowSuits}
 
 -- ---- one row
 
-module _ (st : Store) (h : HeldRow) (at : ℕ) (s : Suits st.relations h.relation h.row at) where
+module _ (st : Store) (h : HeldRow) (at : ℕ) (s : RowSuits st.relations h.relation h.row at) where
   counted_here : counted_of st.relations h.relation ≡ counted_at st.relations at
   counted_here = ap counted_in s.found
 

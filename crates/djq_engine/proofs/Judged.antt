@@ -17,20 +17,21 @@ use Rattle.djq_machine.specs.Conditions.{first_refusal}
 use Rattle.djq_machine.specs.Store.{row_refusals, add_refusal, delete_refusal}
 use Rattle.djq_machine.specs.Batch.{suit_refusal}
 use Rattle.djq_rows.specs.Catalog.{relation_at, counted_at, rows_at}
-use Rattle.djq_engine.specs.Judging.{bare, Suits}
+use Rattle.djq_engine.specs.Judging.{bare_store, RowSuits}
 use Rattle.djq_engine.proofs.Conditions.{front_refuses, front_passes}
 use Rattle.djq_reach.proofs.Among.{apart}
 use Rattle.djq_live.proofs.Rowing.{fits_long}
 
 module _ (rs : List Relation) (name : Bytes) (row : Tuple) where
-  pub suited_none : relation_of rs name ≡ None → first_refusal (row_refusals (bare rs 0) name row) ≡ Some NoRelation
+  pub suited_none : relation_of rs name ≡ None
+      → first_refusal (row_refusals (bare_store rs 0) name row) ≡ Some NoRelation
   suited_none e = ap (λ (o : Option Relation). first_refusal
       ((is_none o, NoRelation) ∷ (not (length row == length (types_of o)), Arity) ∷
       (not (fits (types_of o) row), WrongType) ∷ [])) e
 
   pub by_parts : (r : Relation) (a b : Bool) → relation_of rs name ≡ Some r → (length row == length r.types) ≡ a
       → fits r.types row ≡ b
-      → first_refusal (row_refusals (bare rs 0) name row) ≡ cond (not a) (Some Arity)
+      → first_refusal (row_refusals (bare_store rs 0) name row) ≡ cond (not a) (Some Arity)
       (cond (not b) (Some WrongType) None)
   by_parts r a b e f h =
       ap (λ (o : Option Relation). first_refusal
@@ -39,11 +40,11 @@ module _ (rs : List Relation) (name : Bytes) (row : Tuple) where
       ∙ ap₂ (λ x y. cond (not x) (Some Arity) (cond (not y) (Some WrongType) None)) f h
 
   pub suited_arity : (r : Relation) → relation_of rs name ≡ Some r → (length row ≡ length r.types → ⊥)
-      → first_refusal (row_refusals (bare rs 0) name row) ≡ Some Arity
+      → first_refusal (row_refusals (bare_store rs 0) name row) ≡ Some Arity
   suited_arity r e d = by_parts r false (fits r.types row) e (apart (length row) (length r.types) d) refl
 
   pub suited_type : (r : Relation) → relation_of rs name ≡ Some r → length row ≡ length r.types → fits r.types row
-      ≡ false → first_refusal (row_refusals (bare rs 0) name row) ≡ Some WrongType
+      ≡ false → first_refusal (row_refusals (bare_store rs 0) name row) ≡ Some WrongType
   suited_type r e l f = by_parts r true false e (eq-eqb (length row) (length r.types) l) f
 
   -- the conditions behind them
@@ -56,22 +57,23 @@ module _ (rs : List Relation) (name : Bytes) (row : Tuple) where
   deleting rows seq = ((copies_among rows row == 1) && nat_le LAST_SEQ seq, Limit) ∷ []
 
   module _ (seq : ℕ) where
-    pub add_unsuited : (x : Refusal) → first_refusal (row_refusals (bare rs 0) name row) ≡ Some x
-        → add_refusal (bare rs seq) name row ≡ Some x
-    add_unsuited x e = front_refuses (row_refusals (bare rs 0) name row) (adding (counted_of rs name) seq) x e
+    pub add_unsuited : (x : Refusal) → first_refusal (row_refusals (bare_store rs 0) name row) ≡ Some x
+        → add_refusal (bare_store rs seq) name row ≡ Some x
+    add_unsuited x e = front_refuses (row_refusals (bare_store rs 0) name row) (adding (counted_of rs name) seq) x e
 
-    pub delete_unsuited : (x : Refusal) → first_refusal (row_refusals (bare rs 0) name row) ≡ Some x
-        → delete_refusal (bare rs seq) name row ≡ Some x
-    delete_unsuited x e = front_refuses (row_refusals (bare rs 0) name row) (deleting (counted_of rs name) seq) x e
+    pub delete_unsuited : (x : Refusal) → first_refusal (row_refusals (bare_store rs 0) name row) ≡ Some x
+        → delete_refusal (bare_store rs seq) name row ≡ Some x
+    delete_unsuited x e =
+        front_refuses (row_refusals (bare_store rs 0) name row) (deleting (counted_of rs name) seq) x e
 
-    module _ (at : ℕ) (s : Suits rs name row at) where
+    module _ (at : ℕ) (s : RowSuits rs name row at) where
       pub counted_found : counted_of rs name ≡ counted_at rs at
       counted_found = ap counted_in s.found
 
       pub rows_found : rows_of rs name ≡ rows_at rs at
       rows_found = ap plain_of counted_found
 
-      pub suits_pass : first_refusal (row_refusals (bare rs 0) name row) ≡ None
+      pub suits_pass : first_refusal (row_refusals (bare_store rs 0) name row) ≡ None
       suits_pass = by_parts (relation_at rs at) true true s.found
           (eq-eqb (length row) (length (relation_at rs at).types) (fits_long (relation_at rs at).types row s.suits))
           s.suits
@@ -96,19 +98,20 @@ module _ (rs : List Relation) (name : Bytes) (row : Tuple) where
       add_by : (many there full last : Bool) → nat_le COPIES (copies_among (counted_at rs at) row) ≡ many
           → has_row (rows_at rs at) row ≡ there → nat_le ROWS (length (rows_at rs at)) ≡ full → nat_le LAST_SEQ seq
           ≡ last
-          → add_refusal (bare rs seq) name row
+          → add_refusal (bare_store rs seq) name row
           ≡ cond many (Some Limit) (cond (not there && full) (Some Limit) (cond (not there && last) (Some Limit) None))
       add_by many there full last m e f h =
-          front_passes (row_refusals (bare rs 0) name row) (adding (counted_of rs name) seq) suits_pass
+          front_passes (row_refusals (bare_store rs 0) name row) (adding (counted_of rs name) seq) suits_pass
           ∙ place_by many there full last m e f h
 
       -- a row that is there may have a copy more, where it has fewer than there may be
       pub add_more : has_row (rows_at rs at) row ≡ true → copies_among (counted_at rs at) row < COPIES
-          → add_refusal (bare rs seq) name row ≡ None
+          → add_refusal (bare_store rs seq) name row ≡ None
       add_more e l = add_by false true (nat_le ROWS (length (rows_at rs at))) (nat_le LAST_SEQ seq)
           (lt-leb COPIES (copies_among (counted_at rs at) row) l) e refl refl
 
-      pub add_most : COPIES ≤ copies_among (counted_at rs at) row → add_refusal (bare rs seq) name row ≡ Some Limit
+      pub add_most : COPIES ≤ copies_among (counted_at rs at) row
+          → add_refusal (bare_store rs seq) name row ≡ Some Limit
       add_most l = add_by true (has_row (rows_at rs at) row) (nat_le ROWS (length (rows_at rs at)))
           (nat_le LAST_SEQ seq) (le-leb COPIES (copies_among (counted_at rs at) row) l) refl refl refl
 
@@ -152,24 +155,24 @@ module _ (rs : List Relation) (name : Bytes) (row : Tuple) where
           (nat_le LAST_SEQ seq) (le-leb COPIES (copies_among (counted_at rs at) row) l) refl refl refl
 
       pub add_limited : has_row (rows_at rs at) row ≡ false → (ROWS ≤ length (rows_at rs at)) ⊎ (seq ≡ LAST_SEQ)
-          → add_refusal (bare rs seq) name row ≡ Some Limit
+          → add_refusal (bare_store rs seq) name row ≡ Some Limit
       add_limited e h =
-          front_passes (row_refusals (bare rs 0) name row) (adding (counted_of rs name) seq) suits_pass
+          front_passes (row_refusals (bare_store rs 0) name row) (adding (counted_of rs name) seq) suits_pass
           ∙ place_limited e h
 
       pub add_passes : has_row (rows_at rs at) row ≡ false → length (rows_at rs at) < ROWS → seq < LAST_SEQ
-          → add_refusal (bare rs seq) name row ≡ None
+          → add_refusal (bare_store rs seq) name row ≡ None
       add_passes e l m = add_by false false false false (none_yet e) e (lt-leb ROWS (length (rows_at rs at)) l)
           (lt-leb LAST_SEQ seq m)
 
       delete_by : (one last : Bool) → (copies_among (counted_at rs at) row == 1) ≡ one → nat_le LAST_SEQ seq ≡ last
-          → delete_refusal (bare rs seq) name row ≡ cond (one && last) (Some Limit) None
+          → delete_refusal (bare_store rs seq) name row ≡ cond (one && last) (Some Limit) None
       delete_by one last e h =
-          front_passes (row_refusals (bare rs 0) name row) (deleting (counted_of rs name) seq) suits_pass
+          front_passes (row_refusals (bare_store rs 0) name row) (deleting (counted_of rs name) seq) suits_pass
           ∙ ap (λ (rows : List CountedRow). first_refusal (deleting rows seq)) counted_found
           ∙ ap₂ (λ x y. cond (x && y) (Some Limit) None) e h
 
-      pub delete_absent : has_row (rows_at rs at) row ≡ false → (delete_refusal (bare rs seq) name row ≡ None)
+      pub delete_absent : has_row (rows_at rs at) row ≡ false → (delete_refusal (bare_store rs seq) name row ≡ None)
           × (has_row (rows_of rs name) row ≡ false)
       delete_absent e = (
         delete_by false (nat_le LAST_SEQ seq) (ap (λ (n : ℕ). n == 1) (no_copies (counted_at rs at) row e)) refl,
@@ -177,11 +180,11 @@ module _ (rs : List Relation) (name : Bytes) (row : Tuple) where
       )
 
       pub delete_limited : copies_among (counted_at rs at) row ≡ 1 → seq ≡ LAST_SEQ
-          → delete_refusal (bare rs seq) name row ≡ Some Limit
+          → delete_refusal (bare_store rs seq) name row ≡ Some Limit
       delete_limited e l = delete_by true true (eq-eqb (copies_among (counted_at rs at) row) 1 e)
           (le-leb LAST_SEQ seq (omega (arith, l)))
 
-      pub delete_passes : seq < LAST_SEQ → delete_refusal (bare rs seq) name row ≡ None
+      pub delete_passes : seq < LAST_SEQ → delete_refusal (bare_store rs seq) name row ≡ None
       delete_passes m = delete_by (copies_among (counted_at rs at) row == 1) false refl (lt-leb LAST_SEQ seq m)
           ∙ never (copies_among (counted_at rs at) row == 1)
         where
@@ -190,13 +193,14 @@ module _ (rs : List Relation) (name : Bytes) (row : Tuple) where
           never false = refl
 
       -- one of several copies, or none
-      pub delete_several : (copies_among (counted_at rs at) row ≡ 1 → ⊥) → delete_refusal (bare rs seq) name row ≡ None
+      pub delete_several : (copies_among (counted_at rs at) row ≡ 1 → ⊥)
+          → delete_refusal (bare_store rs seq) name row ≡ None
       delete_several d = delete_by false (nat_le LAST_SEQ seq) (apart (copies_among (counted_at rs at) row) 1 d) refl
 
 -- a row that suits a relation that is found suits it in its place
 pub suits_here : (rs : List Relation) (seq : ℕ) (name : Bytes) (row : Tuple) (at : ℕ)
-    → suit_refusal (bare rs seq) name row ≡ None → at < length rs → (relation_at rs at).name ≡ name
-    → relation_of rs name ≡ Some (relation_at rs at) → Suits rs name row at
+    → suit_refusal (bare_store rs seq) name row ≡ None → at < length rs → (relation_at rs at).name ≡ name
+    → relation_of rs name ≡ Some (relation_at rs at) → RowSuits rs name row at
 suits_here rs seq name row at suit low named found = record {
   below = low;
   named = named;

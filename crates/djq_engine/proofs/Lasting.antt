@@ -12,7 +12,7 @@ use Rattle.djq_engine.specs.Kept.{same_query, SameTellings}
 use Rattle.djq_reach.specs.Places.{place_at, no_log, log_at}
 use Rattle.djq_engine.specs.Places.{id_at, told_of, told_from, Watches, kept_of}
 use Rattle.djq_engine.specs.Placing.{SameLogs}
-use Rattle.djq_reach.specs.Tending.{AreShown}
+use Rattle.djq_reach.specs.Tending.{LogsCanBeShown}
 use Rattle.djq_reach.proofs.Reaching.{place_below}
 use Rattle.djq_engine.proofs.Told.{alike_same, told_is, told_stays}
 
@@ -38,7 +38,7 @@ told_learned law texts more now e (Some l) p same log new is shown =
 
 pub told_then : ShowableStays → (old more now : List Bytes) → now ≡ old ++ more
     → (gs hs : List (Option Live)) (logs new : List Log)
-    → AreShown old gs logs → SameLogs gs logs new → (i : ℕ) → place_at hs i ≡ place_at gs i
+    → LogsCanBeShown old gs logs → SameLogs gs logs new → (i : ℕ) → place_at hs i ≡ place_at gs i
     → slice_index_or (told_from now hs new) i None ≡ slice_index_or (told_from old gs logs) i None
 told_then law old more now e gs hs logs new shown same i place =
     told_is now hs new i

@@ -15,9 +15,11 @@ use Rattle.djq_live.specs.Updating.{change_of}
 use Rattle.djq_reach.specs.Places.{place_at, log_at}
 use Rattle.djq_engine.specs.declared.cursor.CursorId.{CursorId}
 use Rattle.djq_engine.specs.declared.parts.Parts.{Parts}
-use Rattle.djq_engine.specs.Kept.{HeldCursor, IsOver, ArePlaced, AreListed, AreHeld, AreTold, CellsAre, registered_at}
-use Rattle.djq_engine.specs.Places.{query_in, id_at, held_as, held_of, registered_as, told_of, told_from}
-use Rattle.djq_engine.specs.Whole.{kept_in, IsWhole, IsTended}
+use Rattle.djq_engine.specs.Kept.{HeldCursor, PlacesAreKept, IdsArePlaced, PlacesAreRegistered, CursorsAreRegistered}
+use Rattle.djq_engine.specs.Kept.{ToldCellsFit, CellsAre, registered_at}
+use Rattle.djq_engine.specs.Places.{query_in, id_at, held_query_cursor, query_cursor_of, query_registered_as, told_of}
+use Rattle.djq_engine.specs.Places.{told_from}
+use Rattle.djq_engine.specs.Whole.{kept_in, EngineIsWhole, IsTended}
 use Rattle.djq_engine.proofs.Affecting.{all_made}
 use Rattle.djq_engine.proofs.Enlisted.{registered_gives}
 use Rattle.djq_engine.proofs.Holding.{held_is}
@@ -44,19 +46,19 @@ lines_have p l law (k ∷ lines) h =
     )
     (lines_have p l law lines (All-tail (λ k. IsShowable (p.catalog).texts l k.answer) k lines h))
 
-module _ (p : Parts) (s : IsWhole p) where
-  pub are_over : IsOver (kept_in p)
+module _ (p : Parts) (s : EngineIsWhole p) where
+  pub are_over : PlacesAreKept (kept_in p)
   are_over = record { catalog = p.catalog; relations = refl; texts = refl; live = s.live }
 
-  pub are_placed : ArePlaced (kept_in p)
+  pub are_placed : IdsArePlaced (kept_in p)
   are_placed = all_made (λ r. IsSomeAnd (place_at p.queries.items r.id.at) (λ l. r.query ≡ a_query l.query))
-      (registered_as p.queries.items p.watchers.items) p.order
+      (query_registered_as p.queries.items p.watchers.items) p.order
       (λ i e.
       let t = order_there p.catalog p.queries.items p.order p.readers.items s i e in
       subst (λ (o : Option Live). IsSomeAnd o (λ l. query_in (place_at p.queries.items i) ≡ a_query l.query)) (sym t.is)
       (ap query_in t.is))
 
-  pub are_listed : AreListed (kept_in p)
+  pub are_listed : PlacesAreRegistered (kept_in p)
   are_listed i l e = registered_gives p.catalog p.queries.items p.order p.readers.items p.watchers.items s (id_at i)
       (λ r. r.query ≡ a_query l.query) (record { query = l; is = e }) (ap query_in e)
 
@@ -64,7 +66,7 @@ module _ (p : Parts) (s : IsWhole p) where
   IsHeldAt id h = (h.id ≡ id)
       × IsSomeAnd (registered_at (kept_in p).registered id.query) (λ r. h.query ≡ listed_name r.query)
 
-  pub are_held : AreHeld (kept_in p)
+  pub are_held : CursorsAreRegistered (kept_in p)
   are_held id h held = by_place (place_at p.queries.items id.query.at) refl
       (sym (held_is (p.catalog).texts p.queries.items id) ∙ held)
     where
@@ -72,10 +74,10 @@ module _ (p : Parts) (s : IsWhole p) where
       same_held x y e = cc
 
       by_slot : (l : Live) → place_at p.queries.items id.query.at ≡ Some l → (o : Option Progress)
-          → option_map (held_as (p.catalog).texts l id) o ≡ Some h → IsHeldAt id h
+          → option_map (held_query_cursor (p.catalog).texts l id) o ≡ Some h → IsHeldAt id h
       by_slot l e None f = absurd cc
       by_slot l e (Some q) f =
-          let same = same_held (held_as (p.catalog).texts l id q) h f in (
+          let same = same_held (held_query_cursor (p.catalog).texts l id q) h f in (
             ap (λ (x : HeldCursor). x.id) (sym same),
             registered_gives p.catalog p.queries.items p.order p.readers.items p.watchers.items s id.query
                 (λ r. h.query ≡ listed_name r.query) (record { query = l; is = e })
@@ -84,14 +86,14 @@ module _ (p : Parts) (s : IsWhole p) where
           )
 
       by_place : (o : Option Live) → place_at p.queries.items id.query.at ≡ o
-          → held_of (p.catalog).texts id o ≡ Some h → IsHeldAt id h
+          → query_cursor_of (p.catalog).texts id o ≡ Some h → IsHeldAt id h
       by_place None e f = absurd cc
       by_place (Some l) e f = by_slot l e (slot_at l.cursors id.cursor) f
 
   abbrev HaveCells : List Change → Live → Type 0
   HaveCells changes l = All (λ c. (cells : List ℕ) × CellsAre (kept_in p) l cells c) changes
 
-  pub are_told : IsTended p → ShowableCellsStand → AreTold (kept_in p)
+  pub are_told : IsTended p → ShowableCellsStand → ToldCellsFit (kept_in p)
   are_told t law id changes told = by_place (place_at p.queries.items id.at) refl
       (sym (told_is (p.catalog).texts p.queries.items p.logs.items id.at) ∙ told)
     where

@@ -4,7 +4,7 @@ use Rattle.std.specs.Prelude.{◌==◌, ◌&&◌, ◌||◌, not, cond, filter, m
 use Rattle.std.proofs.lemmas.Bool.{eqb-true, eq-eqb, or_parts}
 use Rattle.djq_model.specs.Data.{Bytes, bytes_eq, drop_first}
 use Rattle.djq_model.specs.Listed.{Listed, listed_name}
-use Rattle.djq_engine.specs.Finding.{IsFirst}
+use Rattle.djq_engine.specs.Finding.{IsFirstPassing}
 use Rattle.djq_reach.specs.Places.{is_reader, AreOnce}
 use Rattle.djq_reach.proofs.Among.{apart, reader_more, or_true}
 use Rattle.djq_deltas.proofs.Cases.{or_false}
@@ -80,7 +80,7 @@ all_but (x ∷ xs) i e =
     ap (λ b. cond (not b) (x ∷ filter (λ j. not (j == i)) xs) (filter (λ j. not (j == i)) xs)) n.0
     ∙ ap (λ l. x ∷ l) (all_but xs i n.1)
 
-removed_first : (xs : List ℕ) (i k : ℕ) → AreOnce xs → IsFirst (λ j. j == i) xs k → remove xs k
+removed_first : (xs : List ℕ) (i k : ℕ) → AreOnce xs → IsFirstPassing (λ j. j == i) xs k → remove xs k
     ≡ filter (λ j. not (j == i)) xs
 removed_first [] i k o h = absurd (omega (arith, h.below))
 removed_first (x ∷ xs) i zero o h =
@@ -90,7 +90,7 @@ removed_first (x ∷ xs) i zero o h =
     ∙ all_but xs i out)
 removed_first (x ∷ xs) i (suc k) o h =
     let e : (x == i) ≡ false = h.before 0 0 (omega arith) in
-    let rest : IsFirst (λ j. j == i) xs k = record {
+    let rest : IsFirstPassing (λ j. j == i) xs k = record {
       below = omega (arith, h.below);
       passes = λ d. h.passes d;
       before = λ n d l. h.before (suc n) d (omega arith);

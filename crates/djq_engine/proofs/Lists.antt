@@ -8,7 +8,7 @@ use Rattle.std.specs.Prelude.{Option, None, Some}
 use Rattle.djq_cursor.specs.Log.{Log}
 use Rattle.djq_live.specs.Live.{Live}
 use Rattle.djq_reach.specs.Places.{place_at, readers_at, no_log}
-use Rattle.djq_engine.specs.Places.{left}
+use Rattle.djq_engine.specs.Places.{places_without}
 use Rattle.djq_model.specs.declared.relation.Relation.{Relation}
 use Rattle.djq_model.specs.declared.query.Query.{Query}
 use Rattle.djq_machine.specs.Stale.{reads}
@@ -45,30 +45,30 @@ front_more f old now k q low long done rest is = record {
     by_order r (inr (inr b)) l = absurd (omega (arith, b, l))
 
 pub left_more : (at : ℕ) (old now : List (List ℕ)) (k : ℕ) (q : List ℕ) → k < length now → length now ≡ length old
-    → ((r : ℕ) → r < k → readers_at now r ≡ left at (readers_at old r))
+    → ((r : ℕ) → r < k → readers_at now r ≡ places_without at (readers_at old r))
     → ((r : ℕ) → k ≤ r → readers_at now r ≡ readers_at old r)
-    → q ≡ left at (readers_at old k)
+    → q ≡ places_without at (readers_at old k)
     → record {
       long : length (set now k q) ≡ length old;
-      done : (r : ℕ) → r < k + 1 → readers_at (set now k q) r ≡ left at (readers_at old r);
+      done : (r : ℕ) → r < k + 1 → readers_at (set now k q) r ≡ places_without at (readers_at old r);
       rest : (r : ℕ) → k + 1 ≤ r → readers_at (set now k q) r ≡ readers_at old r;
     }
 left_more at old now k q low long done rest is =
-    let h = front_more (λ r xs. left at xs) old now k q low long done rest is in record
+    let h = front_more (λ r xs. places_without at xs) old now k q low long done rest is in record
     { long = h.long; done = h.done; rest = h.rest }
 
 pub left_whole : (at : ℕ) (old new : List (List ℕ)) (k : ℕ) → length old ≤ k → length new ≡ length old
-    → ((r : ℕ) → r < k → readers_at new r ≡ left at (readers_at old r)) → LeavesAll at old new
+    → ((r : ℕ) → r < k → readers_at new r ≡ places_without at (readers_at old r)) → LeavesAll at old new
 left_whole at old new k past long done = record {
   long = long;
   each = λ r. by_length r (cases_lt r k);
 }
   where
-    by_length : (r : ℕ) → (r < k) ⊎ (k ≤ r) → readers_at new r ≡ left at (readers_at old r)
+    by_length : (r : ℕ) → (r < k) ⊎ (k ≤ r) → readers_at new r ≡ places_without at (readers_at old r)
     by_length r (inl l) = done r l
     by_length r (inr l) =
         get_or_past new r [] (omega (arith, l, past, long))
-        ∙ ap (left at) (sym (get_or_past old r [] (omega (arith, l, past))))
+        ∙ ap (places_without at) (sym (get_or_past old r [] (omega (arith, l, past))))
 
 -- a place comes last among the readers
 

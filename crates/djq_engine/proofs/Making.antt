@@ -15,13 +15,13 @@ use Rattle.djq_query.specs.declared.numbered.NumberedAtom.{NumberedAtom}
 use Rattle.djq_rows.specs.declared.refusal.RowsRefusal.{RowsRefusal}
 use Rattle.djq_rows.specs.declared.refusal.RowsRefusal.TheVariants.{NameTaken, Full, NoMem}
 use Rattle.djq_rows.specs.Catalog.{Catalog, IsCatalog, no_relation, relation_at, rows_at}
-use Rattle.djq_rows.specs.Changes.{MakesRelation}
+use Rattle.djq_rows.specs.Changes.{MakesRelationAt}
 use Rattle.djq_live.specs.Asked.{AreAtomsOf}
 use Rattle.djq_live.specs.Changes.{HasSameRows}
 use Rattle.djq_live.specs.Live.{Live}
 use Rattle.djq_live.specs.Staying.{LiveStays}
 use Rattle.djq_reach.specs.Places.{place_at, is_reader, readers_at, reads_place}
-use Rattle.djq_engine.specs.Sound.{IsSound}
+use Rattle.djq_engine.specs.Sound.{QueriesAreSound}
 use Rattle.djq_engine.proofs.Listing.{filter_members}
 use Rattle.djq_engine.proofs.Naming.{none_passes, order_there}
 use Rattle.djq_live.proofs.Moving.{same_catalog}
@@ -62,10 +62,11 @@ no_one (x ∷ xs) = no_one xs
 
 pub made_sound : LiveStays
     → (c d : Catalog) (gs : List (Option Live)) (order : List ℕ) (readers readers' : List (List ℕ)) (r : Relation)
-    → IsSound c gs order readers → IsCatalog d
+    → QueriesAreSound c gs order readers → IsCatalog d
     → d.relations ≡ c.relations ++ r ∷ [] → d.texts ≡ c.texts → relation_of c.relations r.name ≡ None → readers'
-    ≡ readers ++ [] ∷ [] → IsSound d gs order readers'
-made_sound law c d gs order readers readers' r s h e f none new = subst (λ (rs : List (List ℕ)). IsSound d gs order rs)
+    ≡ readers ++ [] ∷ [] → QueriesAreSound d gs order readers'
+made_sound law c d gs order readers readers' r s h e f none new =
+    subst (λ (rs : List (List ℕ)). QueriesAreSound d gs order rs)
     (sym new) (record {
       live = λ i l g. (law c d l (longer c d r h e f) (s.live i l g)).live;
       named = s.named;
@@ -111,16 +112,16 @@ made_sound law c d gs order readers readers' r s h e f none new = subst (λ (rs 
         last
 
 unmade : (rs new : List Relation) (name : Bytes) (types : List ColumnType) (r : RowsRefusal)
-    → MakesRelation rs name types (Err r) new → new ≡ rs
+    → MakesRelationAt rs name types (Err r) new → new ≡ rs
 unmade rs new name types NameTaken h = h.1
 unmade rs new name types Full h = h.2
 unmade rs new name types NoMem h = h.2
 
 pub unmade_sound : (c d : Catalog) (gs : List (Option Live)) (order : List ℕ) (readers readers' : List (List ℕ))
-    (name : Bytes) (types : List ColumnType) (r : RowsRefusal) → IsSound c gs order readers
-    → MakesRelation c.relations name types (Err r) d.relations → d.texts ≡ c.texts → readers' ≡ readers
-    → IsSound d gs order readers'
+    (name : Bytes) (types : List ColumnType) (r : RowsRefusal) → QueriesAreSound c gs order readers
+    → MakesRelationAt c.relations name types (Err r) d.relations → d.texts ≡ c.texts → readers' ≡ readers
+    → QueriesAreSound d gs order readers'
 unmade_sound c d gs order readers readers' name types r s m f e =
-    subst (λ (x : Catalog). IsSound x gs order readers')
+    subst (λ (x : Catalog). QueriesAreSound x gs order readers')
     (sym (same_catalog c d (unmade c.relations d.relations name types r m) f))
-    (subst (λ (rs : List (List ℕ)). IsSound c gs order rs) (sym e) s)
+    (subst (λ (rs : List (List ℕ)). QueriesAreSound c gs order rs) (sym e) s)

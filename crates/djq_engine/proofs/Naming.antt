@@ -9,7 +9,7 @@ use Rattle.djq_rows.specs.Catalog.{Catalog}
 use Rattle.djq_live.specs.Live.{Live}
 use Rattle.djq_reach.specs.Places.{place_at, is_reader}
 use Rattle.djq_engine.specs.Places.{is_live, is_query, query_in, queries_in}
-use Rattle.djq_engine.specs.Sound.{IsSound}
+use Rattle.djq_engine.specs.Sound.{QueriesAreSound}
 use Rattle.djq_engine.proofs.Firsts.{first_of_position, none_of_position}
 use Rattle.djq_engine.proofs.Listing.{find_listed, none_listed}
 use Rattle.djq_reach.proofs.Reaching.{place_below}
@@ -27,7 +27,7 @@ live_there gs i e = by_place (place_at gs i) refl e
     by_place (Some l) f h = record { query = l; is = f }
 
 module _ (c : Catalog) (gs : List (Option Live)) (order : List ℕ) (readers : List (List ℕ))
-    (s : IsSound c gs order readers) where
+    (s : QueriesAreSound c gs order readers) where
   pub order_there : (i : ℕ) → is_reader order i ≡ true → There gs i
   order_there i e = live_there gs i (sym (s.listed i) ∙ e)
 
@@ -83,7 +83,7 @@ unnamed gs name j l e there =
     ∙ none_passes (is_query name) gs (none_of_position (is_query name) gs (sym e)) j None (place_below gs j l there)
 
 module _ (c : Catalog) (gs : List (Option Live)) (order : List ℕ) (readers : List (List ℕ))
-    (s : IsSound c gs order readers) (name : Bytes) where
+    (s : QueriesAreSound c gs order readers) (name : Bytes) where
   pub query_named : (i : ℕ) (n : Named gs name i) → listed_of (queries_in gs order) name ≡ Some (a_query n.query.query)
   query_named i n = query_there c gs order readers s name i n.query n.there n.called
 

@@ -23,7 +23,7 @@ use Rattle.djq_reach.specs.Places.{place_at, reads_place, is_reader, readers_at,
 use Rattle.djq_reach.specs.Reaching.{DoneAt, Reach, Ages}
 use Rattle.djq_reach.specs.Tending.{Empties}
 use Rattle.djq_reach.specs.declared.group.Group.{Group}
-use Rattle.djq_reach.specs.Grouping.{relations_of}
+use Rattle.djq_reach.specs.Grouping.{group_relations}
 use Rattle.djq_engine.specs.Outdating.{AreReaders, AgesBy, AgesAt, AgesAll, ClearsLogs, reads_held, by_tested}
 
 -- ---- cursors
@@ -156,7 +156,7 @@ outdates_tested held k d test n gs hs ks low a b =
     both false r name = refl
 
 pub group_any : (groups : List Group) (at : ℕ) → list_any (λ g. g.relation.at == at) groups
-    ≡ is_reader (relations_of groups) at
+    ≡ is_reader (group_relations groups) at
 group_any [] at = refl
 group_any (g ∷ groups) at = ap (λ b. (g.relation.at == at) || b) (group_any groups at)
 

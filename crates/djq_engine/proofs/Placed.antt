@@ -15,12 +15,12 @@ use Rattle.djq_reach.specs.Places.{place_at, is_reader, readers_at}
 use Rattle.djq_reach.specs.Reaching.{DoneAt, Reach, Renews, Ages, Carries}
 use Rattle.djq_reach.proofs.Reaching.{everywhere, place_below}
 use Rattle.djq_engine.specs.declared.parts.Parts.{Parts}
-use Rattle.djq_engine.specs.Kept.{SameShape, SameTables, KeepsQuery, is_tried}
+use Rattle.djq_engine.specs.Kept.{SameShape, SameLiveTables, KeepsQuery, is_tried}
 use Rattle.djq_engine.specs.Changing.{AgesReaders}
 use Rattle.djq_engine.specs.Outdating.{AgesBy, AgesAt}
 use Rattle.djq_engine.specs.Places.{query_in}
 use Rattle.djq_engine.specs.Placing.{SamePlaces}
-use Rattle.djq_engine.specs.Whole.{IsWhole}
+use Rattle.djq_engine.specs.Whole.{EngineIsWhole}
 use Rattle.djq_engine.proofs.Carrying.{reader_reads}
 use Rattle.djq_engine.proofs.Enlisted.{outdated_reads}
 use Rattle.djq_engine.proofs.Told.{AlikeAt, AreAlike, alike_same, aged_alike}
@@ -31,17 +31,17 @@ abbrev pub KeepsIn : (Listed → Bool) → List (Option Live) → List (Option L
 KeepsIn reached gs hs = (i : ℕ) (l : Live) → place_at gs i ≡ Some l
     → IsSomeAnd (place_at hs i) (KeepsQuery reached l)
 
-shape_of : (l m : Live) → SameTables l m → SameShape l m
+shape_of : (l m : Live) → SameLiveTables l m → SameShape l m
 shape_of l m t = record {
   query = t.query;
   numbered = t.numbered;
   tree = ap (λ (r : Reducts). r.tree) t.reducts;
 }
 
-keeps_tables : (reached : Listed → Bool) (l m : Live) → SameTables l m → KeepsQuery reached l m
+keeps_tables : (reached : Listed → Bool) (l m : Live) → SameLiveTables l m → KeepsQuery reached l m
 keeps_tables reached l m t = record { shape = shape_of l m t; tables = λ e. t }
 
-same_itself : (l : Live) → SameTables l l
+same_itself : (l : Live) → SameLiveTables l l
 same_itself l = record { query = refl; numbered = refl; reducts = refl }
 
 pub keeps_same : (reached : Listed → Bool) (gs hs : List (Option Live)) → SamePlaces gs hs → KeepsIn reached gs hs
@@ -54,7 +54,7 @@ keeps_equal reached gs hs e = keeps_same reached gs hs (λ i. ap (λ (xs : List 
 
 -- one query moves, with its tables
 module _ (at : ℕ) (gs hs : List (Option Live)) (old new : Live) (there : place_at gs at ≡ Some old)
-    (is : hs ≡ set gs at (Some new)) (same : SameTables old new) where
+    (is : hs ≡ set gs at (Some new)) (same : SameLiveTables old new) where
   here : place_at hs at ≡ Some new
   here = ap (λ (xs : List (Option Live)). place_at xs at) is
       ∙ get_or-set_same gs at (Some new) None (place_below gs at old there)
@@ -99,7 +99,7 @@ keeps_at : (reached : Listed → Bool) (l : Live) (p : Option Live) → AlikeAt 
 keeps_at reached l None a h = absurd a
 keeps_at reached l (Some m) a h = record {
   shape = a;
-  tables = λ e. subst (λ (x : Live). SameTables l x) (same_some l m (sym (h e))) (same_itself l);
+  tables = λ e. subst (λ (x : Live). SameLiveTables l x) (same_some l m (sym (h e))) (same_itself l);
 }
   where
     same_some : (x y : Live) → Some x ≡ Some y → x ≡ y
@@ -120,7 +120,7 @@ unreached Does places gs hs r i e = subst (λ (b : Bool). DoneAt Does b (place_a
 
 -- ---- a change of one relation
 
-module _ (old mid new : Parts) (s : IsWhole old) (at : ℕ) (name : Bytes) (after : List Relation)
+module _ (old mid new : Parts) (s : EngineIsWhole old) (at : ℕ) (name : Bytes) (after : List Relation)
     (low : at < length (old.catalog).relations) (named : (relation_at (old.catalog).relations at).name ≡ name)
     (carries : Carries (readers_at old.readers.items at) old.catalog old.queries.items mid.catalog mid.queries.items)
     (readers : mid.readers.items ≡ old.readers.items) (a : AgesReaders at name mid new) where
@@ -147,7 +147,7 @@ module _ (old mid new : Parts) (s : IsWhole old) (at : ℕ) (name : Bytes) (afte
 -- ---- a change of several
 
 pub keeps_turned : (outdater : Listed → Option Bytes) (reached : Listed → Bool) (places : List ℕ)
-    (old mid new : Parts) (s : IsWhole old) → ((q : Listed) → reached q ≡ is_some (outdater q))
+    (old mid new : Parts) (s : EngineIsWhole old) → ((q : Listed) → reached q ≡ is_some (outdater q))
     → Turned outdater places old mid new
     → KeepsIn reached old.queries.items new.queries.items
 keeps_turned outdater reached places old mid new s by b =

@@ -19,7 +19,7 @@ use Rattle.djq_lines.specs.declared.held.HeldRow.{HeldRow}
 use Rattle.djq_machine.specs.State.{Store}
 use Rattle.djq_machine.specs.Store.{LearnsFirst, FindsNoPlace}
 use Rattle.djq_machine.specs.Batch.{suit_refusal, SuitAll, is_there, with_held, with_all, has_come}
-use Rattle.djq_machine.specs.Batch.{place_refusal, HavePlaces, StopsAt}
+use Rattle.djq_machine.specs.Batch.{place_refusal, HavePlaces, BatchStopsAt}
 use Rattle.djq_model.specs.Typed.{fits}
 use Rattle.djq_rows.specs.Cells.{StandFor}
 use Rattle.djq_rows.specs.Laws.{NamesTell, TextsStay, CellsStay}
@@ -28,10 +28,10 @@ use Rattle.djq_rows.specs.Catalog.{counted_at, rows_at, with_rows_at}
 use Rattle.djq_live.specs.Changes.{StandForRows}
 use Rattle.djq_reach.specs.declared.group.Group.{Group}
 use Rattle.djq_reach.specs.Places.{is_reader}
-use Rattle.djq_reach.specs.Grouping.{relations_of}
-use Rattle.djq_engine.specs.Judging.{bare, Suits, MayStand}
+use Rattle.djq_reach.specs.Grouping.{group_relations}
+use Rattle.djq_engine.specs.Judging.{bare_store, RowSuits, MayStand}
 use Rattle.djq_engine.specs.Putting.{bare_of, Placed, IsStoreOf, PutsNew, PutsMore, PutsOne}
-use Rattle.djq_engine.specs.Putting.{JoinsGroup, PutsAll, RefusesAll, WentIn, WentInAll, AreCounted}
+use Rattle.djq_engine.specs.Putting.{JoinsGroup, PutsAll, RefusesAll, WentIn, WentInAll, CopiesAreCounted}
 use Rattle.djq_engine.specs.Putting.{rows_for}
 use Rattle.djq_engine.proofs.Carrying.{rows_with, field_with, long_with}
 use Rattle.djq_engine.proofs.Chained.{other_at, stand_as}
@@ -44,13 +44,13 @@ use Rattle.djq_engine.proofs.HeldRows.{come_more, places_more, all_seq}
 
 place_as : (a b : Store) (h : HeldRow) → a.relations ≡ b.relations → a.seq ≡ b.seq → place_refusal a h
     ≡ place_refusal b h
-place_as a b h r s = ap₂ (λ (rs : List Relation) (n : ℕ). place_refusal (bare rs n) h) r s
+place_as a b h r s = ap₂ (λ (rs : List Relation) (n : ℕ). place_refusal (bare_store rs n) h) r s
 
 there_as : (a b : Store) (h : HeldRow) → a.relations ≡ b.relations → is_there a h ≡ is_there b h
-there_as a b h r = ap (λ (rs : List Relation). is_there (bare rs 0) h) r
+there_as a b h r = ap (λ (rs : List Relation). is_there (bare_store rs 0) h) r
 
 pub stops_as : (a b : Store) (h : HeldRow) (known : List Bytes) (r : Refusal) → a.relations ≡ b.relations → a.texts
-    ≡ b.texts → a.seq ≡ b.seq → StopsAt a h known r → StopsAt b h known r
+    ≡ b.texts → a.seq ≡ b.seq → BatchStopsAt a h known r → BatchStopsAt b h known r
 stops_as a b h known Limit rs ts n (inl s) = inl (sym (place_as a b h rs n) ∙ s.0, s.1 ∙ ts)
 stops_as a b h known Limit rs ts n (inr s) = inr (
   sym (place_as a b h rs n) ∙ s.0,
@@ -66,7 +66,7 @@ pub refused_kind : (st : Store) (held : List HeldRow) (texts : List Bytes) (r : 
     → (r ≡ Limit) ⊎ (r ≡ NoMemory)
 refused_kind st held texts r x = by r x.stops
   where
-    by : (r : Refusal) → StopsAt (with_all st x.front) x.at texts r → (r ≡ Limit) ⊎ (r ≡ NoMemory)
+    by : (r : Refusal) → BatchStopsAt (with_all st x.front) x.at texts r → (r ≡ Limit) ⊎ (r ≡ NoMemory)
     by Limit s = inl refl
     by NoMemory s = inr refl
     by _ s = absurd s
@@ -150,11 +150,11 @@ module _ (st : Store) (xs : List HeldRow) (c : Catalog) (count : ℕ) (groups : 
     (p : PutsAll st xs c count groups) (h : HeldRow) (seq : ℕ) (same : st.seq ≡ seq) (names : NamesTell)
     (ic : IsCatalog c) where
   -- the row suits its relation, and has its place, over what the rows before it left
-  suits_now : (at : ℕ) → MayStand c.relations h seq at → Suits (with_all st xs).relations h.relation h.row at
-  suits_now at m = subst (λ (rs : List Relation). Suits rs h.relation h.row at) p.relations m.relation
+  suits_now : (at : ℕ) → MayStand c.relations h seq at → RowSuits (with_all st xs).relations h.relation h.row at
+  suits_now at m = subst (λ (rs : List Relation). RowSuits rs h.relation h.row at) p.relations m.relation
 
   place_now : (at : ℕ) → MayStand c.relations h seq at → place_refusal (with_all st xs) h ≡ None
-  place_now at m = place_as (with_all st xs) (bare c.relations seq) h (sym p.relations) (all_seq st xs ∙ same)
+  place_now at m = place_as (with_all st xs) (bare_store c.relations seq) h (sym p.relations) (all_seq st xs ∙ same)
       ∙ m.passes
 
   differ_now : AllPairs (λ r s. r.name ≢ s.name) (with_all st xs).relations
@@ -282,7 +282,7 @@ module _ (st : Store) (xs : List HeldRow) (c : Catalog) (count : ℕ) (groups : 
         ∙ ap (λ (s : Store). s.relations) (sym (all_more st xs h))
 
     -- memory may lack behind it
-    pub new_stops : StopsAt (with_all st xs) h d.texts NoMemory
+    pub new_stops : BatchStopsAt (with_all st xs) h d.texts NoMemory
     new_stops = (
       place_now q.relation.at n.stands,
       record {
@@ -351,7 +351,7 @@ module _ (st : Store) (xs : List HeldRow) (c : Catalog) (count : ℕ) (groups : 
         size = omega (arith, p.size, j.more);
         grouped = record {
           differ = j.differ (p.grouped).differ;
-          within = λ r e. by_there r (is_reader (relations_of groups) r) refl (sym (j.there r) ∙ e);
+          within = λ r e. by_there r (is_reader (group_relations groups) r) refl (sym (j.there r) ∙ e);
           long = ap (λ (rs : List Relation). length rs) n.relations
               ∙ long_with c.relations q.relation.at (with_row (counted_at c.relations q.relation.at) h.row)
               ∙ (p.grouped).long;
@@ -376,7 +376,7 @@ module _ (st : Store) (xs : List HeldRow) (c : Catalog) (count : ℕ) (groups : 
           and_not true t e = ap not e
           and_not false t e = refl
 
-          by_there : (r : ℕ) (b : Bool) → is_reader (relations_of groups) r ≡ b → (b || (q.relation.at == r)) ≡ true
+          by_there : (r : ℕ) (b : Bool) → is_reader (group_relations groups) r ≡ b → (b || (q.relation.at == r)) ≡ true
               → r < length st.relations
           by_there r true e f = (p.grouped).within r e
           by_there r false e f = let long = (p.grouped).long in let s = eqb-true q.relation.at r f in omega
@@ -385,18 +385,19 @@ module _ (st : Store) (xs : List HeldRow) (c : Catalog) (count : ℕ) (groups : 
 -- ---- the loop
 
 pub suit_of : (c : Catalog) (seq : ℕ) (st : Store) → IsStoreOf c seq st → (held : List HeldRow)
-    → SuitAll (bare c.relations seq) held → SuitAll st held
+    → SuitAll (bare_store c.relations seq) held → SuitAll st held
 suit_of c seq st s held suit k d low =
-    ap (λ (rs : List Relation). suit_refusal (bare rs seq) (get_or held k d).relation (get_or held k d).row) s.relations
+    ap (λ (rs : List Relation). suit_refusal (bare_store rs seq) (get_or held k d).relation
+    (get_or held k d).row) s.relations
     ∙ suit k d low
 
 pub suit_next : (c : Catalog) (seq : ℕ) (held : List HeldRow) (k : ℕ) (x : HeldRow) (now : List Relation) (n : ℕ)
-    → k < length held → x ≡ get_or held k x → SuitAll (bare c.relations seq) held
-    → now ≡ (with_all (bare_of c seq) (take k held)).relations → suit_refusal (bare now n) x.relation x.row ≡ None
+    → k < length held → x ≡ get_or held k x → SuitAll (bare_store c.relations seq) held
+    → now ≡ (with_all (bare_of c seq) (take k held)).relations → suit_refusal (bare_store now n) x.relation x.row ≡ None
 suit_next c seq held k x now n low is suit e =
-    ap (λ (rs : List Relation). suit_refusal (bare rs n) x.relation x.row) e
+    ap (λ (rs : List Relation). suit_refusal (bare_store rs n) x.relation x.row) e
     ∙ suits_all (bare_of c seq) (take k held) x.relation x.row
-    ∙ subst (λ (y : HeldRow). suit_refusal (bare c.relations seq) y.relation y.row ≡ None) (sym is) (suit k x low)
+    ∙ subst (λ (y : HeldRow). suit_refusal (bare_store c.relations seq) y.relation y.row ≡ None) (sym is) (suit k x low)
 
 pub next_row : (held : List HeldRow) (k : ℕ) (x : HeldRow) → k < length held → x ≡ get_or held k x → take (k + 1) held
     ≡ take k held ++ x ∷ []
@@ -410,16 +411,17 @@ split_at (h ∷ held) (suc k) x low is = let r = split_at held k x (omega (arith
     (r.0, ap (λ (xs : List HeldRow). h ∷ xs) r.1)
 
 pub went_front : (c : Catalog) (seq : ℕ) (st : Store) → IsStoreOf c seq st → IsCatalog c
-    → (held : List HeldRow) (k : ℕ) (now : List Relation) → SuitAll (bare c.relations seq) held
+    → (held : List HeldRow) (k : ℕ) (now : List Relation) → SuitAll (bare_store c.relations seq) held
     → now ≡ (with_all st (take k held)).relations → WentInAll st (take k held) now
 went_front c seq st s ic held k now suit e = record {
   suits = All-take (λ (h : HeldRow). suit_refusal st h.relation h.row ≡ None) k held (suit_of c seq st s held suit);
-  counted = subst AreCounted (sym s.relations) (catalog_counted c ic);
+  counted = subst CopiesAreCounted (sym s.relations) (catalog_counted c ic);
   are = e;
 }
 
 -- what became known at a row that is refused
-pub stops_learned : TextsStay → (st : Store) (h : HeldRow) (known : List Bytes) (r : Refusal) → StopsAt st h known r
+pub stops_learned : TextsStay → (st : Store) (h : HeldRow) (known : List Bytes) (r : Refusal)
+    → BatchStopsAt st h known r
     → (more : List Bytes) × (known ≡ st.texts ++ more)
 stops_learned law st h known Limit (inl s) = ([], s.1 ∙ sym (append-nil st.texts))
 stops_learned law st h known Limit (inr s) = let k = law st.texts (s.2).first in (k.0, (s.2).learned ∙ k.1)
@@ -459,7 +461,8 @@ none_put : (c : Catalog) (seq : ℕ) → PutsAll (bare_of c seq) [] c 0 []
 none_put c seq = put_none (bare_of c seq) c refl refl
 
 pub one_in : NamesTell → TextsStay → (c : Catalog) (seq : ℕ) (h : HeldRow) → IsCatalog c
-    → suit_refusal (bare c.relations seq) h.relation h.row ≡ None → (d : Catalog) (q : Placed) → PutsNew c h seq q d
+    → suit_refusal (bare_store c.relations seq) h.relation h.row ≡ None → (d : Catalog) (q : Placed)
+    → PutsNew c h seq q d
     → WentIn (bare_of c seq) h d.relations
 one_in names texts c seq h ic suit d q n = record {
   suits = suit;
@@ -468,6 +471,6 @@ one_in names texts c seq h ic suit d q n = record {
 }
 
 pub one_stops : NamesTell → TextsStay → (c : Catalog) (seq : ℕ) (h : HeldRow) → IsCatalog c → (d : Catalog) (q : Placed)
-    → PutsNew c h seq q d → StopsAt (bare_of c seq) h d.texts NoMemory
+    → PutsNew c h seq q d → BatchStopsAt (bare_of c seq) h d.texts NoMemory
 one_stops names texts c seq h ic d q n = new_stops (bare_of c seq) [] c 0 [] (none_put c seq) h seq refl names ic texts
     d q n

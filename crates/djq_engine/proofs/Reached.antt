@@ -25,7 +25,7 @@ use Rattle.djq_live.specs.Asked.{AreAtomsOf}
 use Rattle.djq_live.specs.Live.{Live}
 use Rattle.djq_reach.specs.declared.group.Group.{Group}
 use Rattle.djq_reach.specs.Places.{place_at, reads_place, is_reader, readers_at}
-use Rattle.djq_reach.specs.Grouping.{relations_of, reached}
+use Rattle.djq_reach.specs.Grouping.{group_relations, reached}
 use Rattle.djq_engine.specs.Outdating.{AreReaders}
 use Rattle.djq_deltas.proofs.Cases.{same_tests}
 use Rattle.djq_reach.proofs.Clearing.{reader_both, reached_end}
@@ -33,7 +33,7 @@ use Rattle.djq_reach.proofs.Clearing.{reader_both, reached_end}
 -- ---- readers of groups
 
 -- a reader of a group's relation is reached
-pub reached_by : (readers : List (List ℕ)) (groups : List Group) (r i : ℕ) → is_reader (relations_of groups) r ≡ true
+pub reached_by : (readers : List (List ℕ)) (groups : List Group) (r i : ℕ) → is_reader (group_relations groups) r ≡ true
     → is_reader (readers_at readers r) i ≡ true → is_reader (reached readers groups) i ≡ true
 reached_by readers [] r i e f = absurd (false≢true e)
 reached_by readers (g ∷ groups) r i e f =
@@ -44,8 +44,8 @@ reached_by readers (g ∷ groups) r i e f =
     second true b h = refl
     second false b h = h
 
-    by : (b : Bool) → (g.relation.at == r) ≡ b → (b || is_reader (relations_of groups) r) ≡ true
-        → (is_reader (relations_of groups) r ≡ true → is_reader (reached readers groups) i ≡ true)
+    by : (b : Bool) → (g.relation.at == r) ≡ b → (b || is_reader (group_relations groups) r) ≡ true
+        → (is_reader (group_relations groups) r ≡ true → is_reader (reached readers groups) i ≡ true)
         → (is_reader (readers_at readers g.relation.at) i || is_reader (reached readers groups) i) ≡ true
     by true h k more = ap (λ (n : ℕ). is_reader (readers_at readers n) i || is_reader (reached readers groups) i)
         (eqb-true g.relation.at r h) ∙ ap (λ b. b || is_reader (reached readers groups) i) f
@@ -54,26 +54,27 @@ reached_by readers (g ∷ groups) r i e f =
 
 -- one that is reached is a reader of a group's relation
 pub reached_has : (readers : List (List ℕ)) (groups : List Group) (i : ℕ) → is_reader (reached readers groups) i ≡ true
-    → (r : ℕ) × (is_reader (relations_of groups) r ≡ true) × (is_reader (readers_at readers r) i ≡ true)
+    → (r : ℕ) × (is_reader (group_relations groups) r ≡ true) × (is_reader (readers_at readers r) i ≡ true)
 reached_has readers [] i e = absurd (false≢true e)
 reached_has readers (g ∷ groups) i e =
     by (is_reader (readers_at readers g.relation.at) i) refl
     (sym (reader_both (readers_at readers g.relation.at) (reached readers groups) i) ∙ e)
     (reached_has readers groups i)
   where
-    behind : (b : Bool) (r : ℕ) → is_reader (relations_of groups) r ≡ true → (b || is_reader (relations_of groups) r)
+    behind : (b : Bool) (r : ℕ) → is_reader (group_relations groups) r ≡ true
+        → (b || is_reader (group_relations groups) r)
         ≡ true
     behind true r h = refl
     behind false r h = h
 
     by : (b : Bool) → is_reader (readers_at readers g.relation.at) i ≡ b → (b || is_reader (reached readers groups) i)
         ≡ true
-        → (is_reader (reached readers groups) i ≡ true → (r : ℕ) × (is_reader (relations_of groups) r ≡ true)
+        → (is_reader (reached readers groups) i ≡ true → (r : ℕ) × (is_reader (group_relations groups) r ≡ true)
         × (is_reader (readers_at readers r) i ≡ true))
-        → (r : ℕ) × (is_reader (relations_of (g ∷ groups)) r ≡ true) × (is_reader (readers_at readers r) i ≡ true)
+        → (r : ℕ) × (is_reader (group_relations (g ∷ groups)) r ≡ true) × (is_reader (readers_at readers r) i ≡ true)
     by true h k more = (
       g.relation.at,
-      ap (λ b. b || is_reader (relations_of groups) g.relation.at)
+      ap (λ b. b || is_reader (group_relations groups) g.relation.at)
           (eq-eqb g.relation.at g.relation.at refl),
       h,
     )
@@ -91,15 +92,15 @@ reached_next readers groups k g i low is e f =
 
 -- a group is among its groups
 pub group_there : (groups : List Group) (k : ℕ) (g : Group) → k < length groups → g ≡ get_or groups k g
-    → is_reader (relations_of groups) g.relation.at ≡ true
+    → is_reader (group_relations groups) g.relation.at ≡ true
 group_there [] k g low is = absurd (omega (arith, low))
-group_there (x ∷ groups) zero g low is = ap (λ b. b || is_reader (relations_of groups) g.relation.at)
+group_there (x ∷ groups) zero g low is = ap (λ b. b || is_reader (group_relations groups) g.relation.at)
     (eq-eqb x.relation.at g.relation.at (ap (λ (y : Group). y.relation.at) (sym is)))
 group_there (x ∷ groups) (suc k) g low is = by (x.relation.at == g.relation.at)
     (group_there groups k g (omega (arith, low)) is)
   where
-    by : (b : Bool) → is_reader (relations_of groups) g.relation.at ≡ true
-        → (b || is_reader (relations_of groups) g.relation.at) ≡ true
+    by : (b : Bool) → is_reader (group_relations groups) g.relation.at ≡ true
+        → (b || is_reader (group_relations groups) g.relation.at) ≡ true
     by true e = refl
     by false e = e
 
@@ -161,8 +162,8 @@ found_place (r ∷ rs) name h = by (bytes_eq r.name name) refl h (found_place rs
 -- A query that is reached is outdated by a relation of which a row came, and by no other.
 module _ (st : Store) (held : List HeldRow) (found : All (λ h. IsSome (relation_of st.relations h.relation)) held)
     (readers : List (List ℕ)) (gs : List (Option Live)) (are : AreReaders st.relations readers gs)
-    (groups : List Group) (within : (r : ℕ) → is_reader (relations_of groups) r ≡ true → r < length st.relations)
-    (come : (r : ℕ) → r < length st.relations → is_reader (relations_of groups) r
+    (groups : List Group) (within : (r : ℕ) → is_reader (group_relations groups) r ≡ true → r < length st.relations)
+    (come : (r : ℕ) → r < length st.relations → is_reader (group_relations groups) r
     ≡ has_come st held (relation_at st.relations r).name) where
   pub reached_outdates : (i : ℕ) (l : Live) → place_at gs i ≡ Some l → is_reader (reached readers groups) i
       ≡ is_some (first_read held (has_come st held) (a_query l.query))
@@ -195,19 +196,19 @@ module _ (st : Store) (held : List HeldRow) (found : All (λ h. IsSome (relation
   -- atoms over relations of groups are over relations of which a row came
   pub atoms_touched : (c : Catalog) → ((r : ℕ) → (relation_at c.relations r).name ≡ (relation_at st.relations r).name)
       → (variables : List Variable) (atoms : List Atom) (ms : List NumberedAtom) → AreAtomsOf c variables atoms ms
-      → length (filter (λ m. is_reader (relations_of groups) m.relation) ms) ≤ length
+      → length (filter (λ m. is_reader (group_relations groups) m.relation) ms) ≤ length
       (filter (λ a. has_come st held a.relation) atoms)
   atoms_touched c names variables [] [] h = omega arith
   atoms_touched c names variables [] (m ∷ ms) h = absurd h
   atoms_touched c names variables (a ∷ atoms) [] h = absurd h
-  atoms_touched c names variables (a ∷ atoms) (m ∷ ms) h = by (is_reader (relations_of groups) m.relation) refl
+  atoms_touched c names variables (a ∷ atoms) (m ∷ ms) h = by (is_reader (group_relations groups) m.relation) refl
       (has_come st held a.relation) refl (atoms_touched c names variables atoms ms h.1)
     where
-      by : (b : Bool) → is_reader (relations_of groups) m.relation ≡ b → (t : Bool) → has_come st held a.relation ≡ t
-          → length (filter (λ m. is_reader (relations_of groups) m.relation) ms) ≤ length
+      by : (b : Bool) → is_reader (group_relations groups) m.relation ≡ b → (t : Bool) → has_come st held a.relation ≡ t
+          → length (filter (λ m. is_reader (group_relations groups) m.relation) ms) ≤ length
           (filter (λ a. has_come st held a.relation) atoms)
-          → length (cond b (m ∷ filter (λ m. is_reader (relations_of groups) m.relation) ms)
-          (filter (λ m. is_reader (relations_of groups) m.relation) ms))
+          → length (cond b (m ∷ filter (λ m. is_reader (group_relations groups) m.relation) ms)
+          (filter (λ m. is_reader (group_relations groups) m.relation) ms))
           ≤ length (cond t (a ∷ filter (λ a. has_come st held a.relation) atoms)
           (filter (λ a. has_come st held a.relation) atoms))
       by true e true f k = omega (arith, k)

@@ -36,16 +36,17 @@ use Rattle.djq_live.specs.Staying.{StaysOver, LiveStays}
 use Rattle.djq_engine.specs.declared.cursor.CursorId.{CursorId}
 use Rattle.djq_engine.specs.declared.parts.Parts.{Parts}
 use Rattle.djq_engine.specs.Kept.{HeldCursor, Registered as Enlisted, registered_of, same_query}
-use Rattle.djq_engine.specs.Kept.{is_watched, held_at, SameCursors, DropGives, TellsOf}
+use Rattle.djq_engine.specs.Kept.{is_watched, held_at, SameCursors, DropGives, TellsOfQuery}
 use Rattle.djq_reach.specs.Places.{place_at, watched_at}
-use Rattle.djq_engine.specs.Places.{query_in, queries_in, store_of, kept_of, held_as, held_from}
-use Rattle.djq_engine.specs.Places.{held_of, is_query, left, id_at, registered_as, registered_in, told_from, Watches}
-use Rattle.djq_engine.specs.Sound.{IsSound}
-use Rattle.djq_reach.specs.Tending.{AreShown}
+use Rattle.djq_engine.specs.Places.{query_in, queries_in, store_of, kept_of, held_query_cursor, query_cursors_from}
+use Rattle.djq_engine.specs.Places.{query_cursor_of, is_query, places_without, id_at, query_registered_as}
+use Rattle.djq_engine.specs.Places.{registered_in, told_from, Watches}
+use Rattle.djq_engine.specs.Sound.{QueriesAreSound}
+use Rattle.djq_reach.specs.Tending.{LogsCanBeShown}
 use Rattle.djq_engine.proofs.Tending.{shown_more}
 use Rattle.djq_engine.specs.Placing.{LeavesAll, SameLogs}
 use Rattle.djq_engine.specs.Registering.{Registers, SameParts}
-use Rattle.djq_engine.specs.Whole.{kept_in, IsWhole}
+use Rattle.djq_engine.specs.Whole.{kept_in, EngineIsWhole}
 use Rattle.djq_engine.proofs.Conditions.{answers_refused, answers_done, front_refuses, front_passes, first_false}
 use Rattle.djq_engine.proofs.Enrolling.{registered_sound, registered_cursors, registered_queries}
 use Rattle.djq_engine.proofs.Enrolling.{dropped_sound, dropped_cursors, dropped_queries, by_name}
@@ -79,7 +80,7 @@ pub record Passes (c : Catalog) (gs : List (Option Live)) (order : List ℕ) (q 
   pub few : length order < QUERIES
 
 module _ (c : Catalog) (gs : List (Option Live)) (order : List ℕ) (readers : List (List ℕ)) (seq : ℕ)
-    (s : IsSound c gs order readers) (q : Query) where
+    (s : QueriesAreSound c gs order readers) (q : Query) where
   refusal_by : (t : Bool) → is_some (listed_of (queries_in gs order) q.name) ≡ t
       → query_refusal (store_of c gs order seq) q
       ≡ cond t (Some Taken)
@@ -145,7 +146,8 @@ constants_learned old cs (Err TextsFull) new h = (h.first, h.learned)
 constants_learned old cs (Err NoMemForTexts) new h = (h.first, h.learned)
 
 pub constants_stay : LiveStays → TextsStay
-    → (c d : Catalog) (gs : List (Option Live)) (order : List ℕ) (readers : List (List ℕ)) → IsSound c gs order readers
+    → (c d : Catalog) (gs : List (Option Live)) (order : List ℕ) (readers : List (List ℕ))
+    → QueriesAreSound c gs order readers
     → IsCatalog d → d.relations ≡ c.relations
     → (cs : Tuple) (result : Result ⊤ InternRefusal) → InternsConstants c.texts cs result d.texts → (i : ℕ) (l : Live)
     → place_at gs i ≡ Some l → StaysOver c d l
@@ -155,8 +157,8 @@ constants_stay law texts c d gs order readers s h e cs result k =
 
 -- what can be shown stays so as they do
 pub mid_shown : ShowableStays → TextsStay → (old new : List Bytes) (cs : Tuple) (result : Result ⊤ InternRefusal)
-    → InternsConstants old cs result new → (gs : List (Option Live)) (logs : List Log) → AreShown old gs logs
-    → AreShown new gs logs
+    → InternsConstants old cs result new → (gs : List (Option Live)) (logs : List Log) → LogsCanBeShown old gs logs
+    → LogsCanBeShown new gs logs
 mid_shown law texts old new cs result k gs logs h =
     let t = constants_learned old cs result new k in
     let m = texts old t.0 in
@@ -165,7 +167,7 @@ mid_shown law texts old new cs result k gs logs h =
 -- and so does what is told
 pub mid_told : ShowableStays → TextsStay → (old now : List Bytes) (cs : Tuple) (result : Result ⊤ InternRefusal)
     → InternsConstants old cs result now → (gs hs : List (Option Live)) (logs new : List Log)
-    → AreShown old gs logs → SameLogs gs logs new → (i : ℕ) → place_at hs i ≡ place_at gs i
+    → LogsCanBeShown old gs logs → SameLogs gs logs new → (i : ℕ) → place_at hs i ≡ place_at gs i
     → slice_index_or (told_from now hs new) i None ≡ slice_index_or (told_from old gs logs) i None
 mid_told law texts old now cs result k gs hs logs new shown same =
     let t = constants_learned old cs result now k in
@@ -247,18 +249,19 @@ module _ (c d : Catalog) (gs hs : List (Option Live)) (order places : List ℕ) 
 
 -- ---- a query that is registered
 
-module _ (mid new : Parts) (s : IsWhole mid) (l : Live) (live : IsLive mid.catalog l) (idle : l.cursors ≡ [])
+module _ (mid new : Parts) (s : EngineIsWhole mid) (l : Live) (live : IsLive mid.catalog l) (idle : l.cursors ≡ [])
     (r : Registers l mid new)
     (fresh : listed_of (queries_in mid.queries.items mid.order) l.query.name ≡ None) (few : length mid.order < QUERIES)
   where
-    pub enrolled_whole : IsWhole new
-    enrolled_whole = subst (λ (x : Catalog). IsSound x new.queries.items new.order new.readers.items) (sym r.catalog)
+    pub enrolled_whole : EngineIsWhole new
+    enrolled_whole =
+        subst (λ (x : Catalog). QueriesAreSound x new.queries.items new.order new.readers.items) (sym r.catalog)
         (registered_sound mid.catalog mid.queries.items new.queries.items mid.order new.order mid.readers.items
         new.readers.items s l live idle r.place r.vacant r.here r.others r.last r.readers fresh few r.bounded)
 
-    pub enrolled_cursors : SameCursors (held_from (mid.catalog).texts zero mid.queries.items)
-        (held_from (new.catalog).texts zero new.queries.items)
-    enrolled_cursors id = ap (λ (x : Catalog). held_at (held_from x.texts zero new.queries.items) id) r.catalog
+    pub enrolled_cursors : SameCursors (query_cursors_from (mid.catalog).texts zero mid.queries.items)
+        (query_cursors_from (new.catalog).texts zero new.queries.items)
+    enrolled_cursors id = ap (λ (x : Catalog). held_at (query_cursors_from x.texts zero new.queries.items) id) r.catalog
         ∙ registered_cursors mid.catalog mid.queries.items new.queries.items mid.order new.order mid.readers.items
         new.readers.items s l live idle r.place r.vacant r.here r.others r.last r.readers fresh few r.bounded id
 
@@ -268,16 +271,16 @@ module _ (mid new : Parts) (s : IsWhole mid) (l : Live) (live : IsLive mid.catal
         mid.readers.items new.readers.items s l live idle r.place r.vacant r.here r.others r.last r.readers fresh few
         r.bounded
 
-module _ (mid new : Parts) (s : IsWhole mid) (r : SameParts mid new) where
-  pub same_whole : IsWhole new
-  same_whole = subst (λ (x : Catalog). IsSound x new.queries.items new.order new.readers.items) (sym r.catalog)
-      (subst (λ (o : List ℕ). IsSound mid.catalog new.queries.items o new.readers.items) (sym r.order)
+module _ (mid new : Parts) (s : EngineIsWhole mid) (r : SameParts mid new) where
+  pub same_whole : EngineIsWhole new
+  same_whole = subst (λ (x : Catalog). QueriesAreSound x new.queries.items new.order new.readers.items) (sym r.catalog)
+      (subst (λ (o : List ℕ). QueriesAreSound mid.catalog new.queries.items o new.readers.items) (sym r.order)
       (sound_same mid.catalog mid.queries.items new.queries.items mid.order mid.readers.items new.readers.items
       r.queries r.readers r.bounded s))
 
-  pub same_cursors : SameCursors (held_from (mid.catalog).texts zero mid.queries.items)
-      (held_from (new.catalog).texts zero new.queries.items)
-  same_cursors id = ap (λ (x : Catalog). held_at (held_from x.texts zero new.queries.items) id) r.catalog
+  pub same_cursors : SameCursors (query_cursors_from (mid.catalog).texts zero mid.queries.items)
+      (query_cursors_from (new.catalog).texts zero new.queries.items)
+  same_cursors id = ap (λ (x : Catalog). held_at (query_cursors_from x.texts zero new.queries.items) id) r.catalog
       ∙ cursors_same (mid.catalog).texts mid.queries.items new.queries.items r.queries id
 
   pub same_queries : queries_in new.queries.items new.order ≡ queries_in mid.queries.items mid.order
@@ -302,20 +305,20 @@ query_of_held (Some x) = x.query
 
 -- a cursor that is held is over the query in its place
 over_place : (texts : List Bytes) (gs : List (Option Live)) (id : CursorId) (h : HeldCursor)
-    → held_at (held_from texts zero gs) id ≡ Some h
+    → held_at (query_cursors_from texts zero gs) id ≡ Some h
     → (l : Live) × (place_at gs id.query.at ≡ Some l) × (h.query ≡ l.query.name)
     × (is_some (slot_at l.cursors id.cursor) ≡ true)
 unfolding query_of_held
 over_place texts gs id h e = by_place (place_at gs id.query.at) refl (sym (held_is texts gs id) ∙ e)
   where
     by_slot : (l : Live) → place_at gs id.query.at ≡ Some l → (p : Option Progress) → slot_at l.cursors id.cursor ≡ p
-        → option_map (held_as texts l id) p ≡ Some h
+        → option_map (held_query_cursor texts l id) p ≡ Some h
         → (l : Live) × (place_at gs id.query.at ≡ Some l) × (h.query ≡ l.query.name)
         × (is_some (slot_at l.cursors id.cursor) ≡ true)
     by_slot l f None g k = absurd (cc)
     by_slot l f (Some p) g k = (l, f, ap query_of_held (sym k), ap is_some g)
 
-    by_place : (o : Option Live) → place_at gs id.query.at ≡ o → held_of texts id o ≡ Some h
+    by_place : (o : Option Live) → place_at gs id.query.at ≡ o → query_cursor_of texts id o ≡ Some h
         → (l : Live) × (place_at gs id.query.at ≡ Some l) × (h.query ≡ l.query.name)
         × (is_some (slot_at l.cursors id.cursor) ≡ true)
     by_place None f k = absurd (cc)
@@ -327,7 +330,7 @@ one_filled [] h = absurd (h refl)
 one_filled (None ∷ slots) h = let r = one_filled slots h in (suc r.0, r.1, r.2)
 one_filled (Some p ∷ slots) h = (zero, p, refl)
 
-module _ (old : Parts) (s : IsWhole old) (name : Bytes) where
+module _ (old : Parts) (s : EngineIsWhole old) (name : Bytes) where
   pub drop_unknown : None ≡ position (is_query name) old.queries.items
       → DropGives (kept_in old) name (Err NoQuery) (kept_in old)
   drop_unknown e = record {
@@ -362,10 +365,10 @@ module _ (old : Parts) (s : IsWhole old) (name : Bytes) where
         let k = one_filled n.query.cursors (λ z. false≢true (sym e ∙ eq-eqb (count_by is_some n.query.cursors) 0 z)) in
         let id : CursorId = record { query = record { at = at }; cursor = k.0 } in (
           id,
-          held_as (old.catalog).texts n.query id k.1,
+          held_query_cursor (old.catalog).texts n.query id k.1,
           held_is (old.catalog).texts old.queries.items id
-              ∙ ap (held_of (old.catalog).texts id) n.there
-              ∙ ap (option_map (held_as (old.catalog).texts n.query id)) k.2,
+              ∙ ap (query_cursor_of (old.catalog).texts id) n.there
+              ∙ ap (option_map (held_query_cursor (old.catalog).texts n.query id)) k.2,
           n.called,
         )
 
@@ -384,7 +387,7 @@ module _ (old : Parts) (s : IsWhole old) (name : Bytes) where
     }
 
     enlisted_as : registered_of (kept_in old).registered name
-        ≡ Some (registered_as old.queries.items old.watchers.items at)
+        ≡ Some (query_registered_as old.queries.items old.watchers.items at)
     enlisted_as = name_found old.catalog old.queries.items old.order old.readers.items old.watchers.items s name at n
 
     pub drop_watched : watched_at old.watchers.items at ≡ true → DropGives (kept_in old) name (Err InUse) (kept_in old)
@@ -414,10 +417,11 @@ module _ (old : Parts) (s : IsWhole old) (name : Bytes) where
         ∙ ap is_some (all_empty n.query.cursors (eqb-true (count_by is_some n.query.cursors) 0 e) id.cursor)) ∙ o.3)
 
     pub drop_done : (hs : List (Option Live)) (order' : List ℕ) (readers' : List (List ℕ)) (x : Log)
-        (affected' : List ℕ) → affected' ≡ left at old.affected.items → hs ≡ set old.queries.items at None → order'
-        ≡ left at old.order → LeavesAll at old.readers.items readers'
+        (affected' : List ℕ) → affected' ≡ places_without at old.affected.items
+        → hs ≡ set old.queries.items at None → order'
+        ≡ places_without at old.order → LeavesAll at old.readers.items readers'
         → are_vacant n.query.cursors ≡ true → watched_at old.watchers.items at ≡ false
-        → IsSound old.catalog hs order' readers'
+        → QueriesAreSound old.catalog hs order' readers'
         × DropGives (kept_in old) name (Ok tt)
         (kept_of old.catalog hs order' old.seq
         (record {
@@ -472,7 +476,7 @@ module _ (old : Parts) (s : IsWhole old) (name : Bytes) where
                   affected';
             } in
             let new = kept_of old.catalog hs order' old.seq v in
-            subst (λ (o : Option Enlisted). IsSomeAnd o (λ r. TellsOf (kept_in old) r.id None new
+            subst (λ (o : Option Enlisted). IsSomeAnd o (λ r. TellsOfQuery (kept_in old) r.id None new
             × (new.affected ≡ filter (λ id. not (same_query id r.id)) (kept_in old).affected))) (sym enlisted_as) (
               record {
                 here = ap (λ (xs : List (Option Live)). slice_index_or (told_from texts xs v.logs) at None) is

@@ -18,8 +18,9 @@ use Rattle.djq_engine.specs.declared.cursor.CursorId.{CursorId}
 use Rattle.djq_engine.specs.Kept.{HeldCursor, held_at, same_id, outdated_held}
 use Rattle.djq_reach.specs.Places.{place_at, is_reader, reads_place}
 use Rattle.djq_reach.specs.Reaching.{DoneAt, Reach, Renews}
-use Rattle.djq_engine.specs.Places.{is_live, query_in, queries_in, held_as, held_of, held_from}
-use Rattle.djq_engine.specs.Sound.{IsSound}
+use Rattle.djq_engine.specs.Places.{is_live, query_in, queries_in, held_query_cursor, query_cursor_of}
+use Rattle.djq_engine.specs.Places.{query_cursors_from}
+use Rattle.djq_engine.specs.Sound.{QueriesAreSound}
 use Rattle.djq_engine.specs.Outdating.{AgesBy, AgesAt, AgesAll}
 use Rattle.djq_engine.proofs.Aging.{Turns, SameNames, outdated_at, held_with}
 use Rattle.djq_engine.proofs.Firsts.{find_mapped}
@@ -117,7 +118,7 @@ module _ (c d : Catalog) (outdater : Listed → Option Bytes) (n : ℕ) (places 
           (aged m (place_at ks i) (outdater (a_query m.query)) a)
 
 module _ (c d : Catalog) (gs ks : List (Option Live)) (order : List ℕ) (readers : List (List ℕ))
-    (s : IsSound c gs order readers)
+    (s : QueriesAreSound c gs order readers)
     (outdater : Listed → Option Bytes) (n : ℕ)
     (turns : (i : ℕ) → TurnsAt c d outdater n (place_at gs i) (place_at ks i)) (many : length ks ≡ length gs)
     (names : SameNames c d) where
@@ -170,7 +171,7 @@ module _ (c d : Catalog) (gs ks : List (Option Live)) (order : List ℕ) (reader
       by_place None g h q = let none : is_some (place_at gs i) ≡ false = ap is_some g in absurd cc
       by_place (Some l) g h q = (l, g, same_listed m.query l.query (sym q ∙ ap query_in g))
 
-  pub outdated_sound : IsSound d ks order readers
+  pub outdated_sound : QueriesAreSound d ks order readers
   outdated_sound = record {
     live = live_now;
     named = λ i j x y e f q.
@@ -208,8 +209,8 @@ module _ (c d : Catalog) (gs ks : List (Option Live)) (order : List ℕ) (reader
 
   step_outdated : (id : CursorId) (l m : Live) (r : Bytes) → m.query ≡ l.query
       → outdater_of (queries_in gs order) outdater l.query.name ≡ Some r → (o : Option Progress)
-      → option_map (held_as d.texts m id) (option_map (outdated_progress r n) o)
-      ≡ option_map aged (option_map (held_as c.texts l id) o)
+      → option_map (held_query_cursor d.texts m id) (option_map (outdated_progress r n) o)
+      ≡ option_map aged (option_map (held_query_cursor c.texts l id) o)
   step_outdated id l m r q e None = refl
   step_outdated id l m r q e (Some (Open cursor ended)) =
       ap (λ (x : Query). Some (held_with id x.name (stale r n))) q
@@ -221,37 +222,38 @@ module _ (c d : Catalog) (gs ks : List (Option Live)) (order : List ℕ) (reader
 
   step_other : (id : CursorId) (l : Live) → outdater_of (queries_in gs order) outdater l.query.name ≡ None
       → (o : Option Progress) → ((p : Progress) → o ≡ Some p → position_of d.texts l p ≡ position_of c.texts l p)
-      → option_map (held_as d.texts l id) o ≡ option_map aged (option_map (held_as c.texts l id) o)
+      → option_map (held_query_cursor d.texts l id) o ≡ option_map aged (option_map (held_query_cursor c.texts l id) o)
   step_other id l e None h = refl
   step_other id l e (Some p) h =
       ap (λ (x : Position). Some (held_with id l.query.name x)) (h p refl)
       ∙ ap (λ (o : Option Bytes). Some (held_with id l.query.name (outdated o n (position_of c.texts l p)))) (sym e)
 
-  held_now : (id : CursorId) → held_of d.texts id (place_at ks id.query.at)
-      ≡ option_map aged (held_of c.texts id (place_at gs id.query.at))
+  held_now : (id : CursorId) → query_cursor_of d.texts id (place_at ks id.query.at)
+      ≡ option_map aged (query_cursor_of c.texts id (place_at gs id.query.at))
   held_now id = by_place (place_at gs id.query.at) refl (place_at ks id.query.at) (turns id.query.at)
     where
       by_outdater : (l : Live) → place_at gs id.query.at ≡ Some l → (p : Option Live) (r : Option Bytes)
           → outdater (a_query l.query) ≡ r → TurnsBy c d r n l p
-          → held_of d.texts id p ≡ option_map aged (held_of c.texts id (Some l))
+          → query_cursor_of d.texts id p ≡ option_map aged (query_cursor_of c.texts id (Some l))
       by_outdater l g p None e t =
-          ap (held_of d.texts id) t.0
+          ap (query_cursor_of d.texts id) t.0
           ∙ step_other id l (outdater_is id.query.at l g ∙ e) (slot_at l.cursors id.cursor)
           (λ q h. t.1.stands id.cursor q h)
       by_outdater l g None (Some r) e t = absurd t
       by_outdater l g (Some m) (Some r) e t =
-          ap (λ (slots : List (Option Progress)). option_map (held_as d.texts m id) (slot_at slots id.cursor)) t.cursors
-          ∙ ap (option_map (held_as d.texts m id)) (outdated_at r n l.cursors id.cursor)
+          ap (λ (slots : List (Option Progress)). option_map (held_query_cursor d.texts m id)
+          (slot_at slots id.cursor)) t.cursors
+          ∙ ap (option_map (held_query_cursor d.texts m id)) (outdated_at r n l.cursors id.cursor)
           ∙ step_outdated id l m r t.query (outdater_is id.query.at l g ∙ e) (slot_at l.cursors id.cursor)
 
       by_place : (o : Option Live) → place_at gs id.query.at ≡ o → (p : Option Live) → TurnsAt c d outdater n o p
-          → held_of d.texts id p ≡ option_map aged (held_of c.texts id o)
-      by_place None g p t = ap (held_of d.texts id) t
+          → query_cursor_of d.texts id p ≡ option_map aged (query_cursor_of c.texts id o)
+      by_place None g p t = ap (query_cursor_of d.texts id) t
       by_place (Some l) g p t = by_outdater l g p (outdater (a_query l.query)) refl t
 
-  pub outdated_cursors : (id : CursorId) → held_at (held_from d.texts zero ks) id
-      ≡ held_at (map aged (held_from c.texts zero gs)) id
+  pub outdated_cursors : (id : CursorId) → held_at (query_cursors_from d.texts zero ks) id
+      ≡ held_at (map aged (query_cursors_from c.texts zero gs)) id
   outdated_cursors id =
       held_is d.texts ks id ∙ held_now id
-      ∙ sym (find_mapped (λ h. same_id h.id id) aged (held_from c.texts zero gs)
+      ∙ sym (find_mapped (λ h. same_id h.id id) aged (query_cursors_from c.texts zero gs)
       ∙ ap (option_map aged) (held_is c.texts gs id))

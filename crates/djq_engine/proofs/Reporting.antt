@@ -43,16 +43,16 @@ use Rattle.djq_engine.specs.declared.cursor.QueryId.{QueryId}
 use Rattle.djq_engine.specs.Kept.{Kept, registered_at, told_at}
 use Rattle.djq_reach.specs.Places.{place_at, is_reader, readers_at, reads_place, watched_at, log_at}
 use Rattle.djq_engine.specs.Places.{is_live, query_in, id_at, registered_in, told_of, told_from}
-use Rattle.djq_reach.specs.Tending.{AreShown, Empties, HaveLogs, cost_of, cost_at}
+use Rattle.djq_reach.specs.Tending.{LogsCanBeShown, Empties, HaveLogs, listing_cost, cost_at}
 use Rattle.djq_engine.proofs.Tending.{shown_alike}
 use Rattle.djq_engine.specs.declared.parts.Parts.{Parts}
 use Rattle.djq_reach.specs.Reaching.{Carries}
 use Rattle.djq_engine.specs.Changing.{IsDeltaWith, TellsRows, CountsRows, KeepsRest, KeepsLogs}
 use Rattle.djq_engine.specs.Changing.{AgesReaders, LacksMemory, NoPlace, for_copies, for_texts}
-use Rattle.djq_engine.specs.Changing.{LacksPlace, PutsRow, Drops, reads_at, tells_at}
-use Rattle.djq_engine.specs.Watching.{TellsChange, reaches}
-use Rattle.djq_engine.specs.Whole.{kept_in, IsWhole, IsTended}
-use Rattle.djq_engine.specs.Judging.{bare, Suits}
+use Rattle.djq_engine.specs.Changing.{RowLacksPlace, PutsRow, DropsRow, reads_at, tells_at}
+use Rattle.djq_engine.specs.Watching.{EngineTellsChange, reaches}
+use Rattle.djq_engine.specs.Whole.{kept_in, EngineIsWhole, IsTended}
+use Rattle.djq_engine.specs.Judging.{bare_store, RowSuits}
 use Rattle.djq_engine.proofs.Judged.{counted_found}
 use Rattle.djq_engine.proofs.Listing.{filter_members}
 use Rattle.djq_engine.proofs.Carrying.{reader_is, reader_reads}
@@ -114,7 +114,7 @@ told_stay law old new more e t alike i same =
     (λ l there kept. t.shown i l there kept)
     ∙ sym (told_is (old.catalog).texts old.queries.items old.logs.items i)
 
-pub discards_by : (old mid new : Parts) → IsWhole old → (at : ℕ) → at < length (old.catalog).relations
+pub discards_by : (old mid new : Parts) → EngineIsWhole old → (at : ℕ) → at < length (old.catalog).relations
     → mid.readers.items ≡ old.readers.items → KeepsLogs (reads_at old at) old mid
     → Empties (readers_at mid.readers.items at) mid.logs.items new.logs.items
     → AreAlike old.queries.items new.queries.items → Discards old (reads_at old at) new
@@ -131,12 +131,12 @@ discards_by old mid new s at low readers apart empty alike = record {
 }
 
 -- the places of the readers are those of the code, and each has its log
-pub readers_within : (old mid : Parts) → IsWhole old → (at : ℕ) → at < length (old.catalog).relations
+pub readers_within : (old mid : Parts) → EngineIsWhole old → (at : ℕ) → at < length (old.catalog).relations
     → mid.readers.items ≡ old.readers.items → at < length mid.readers.items
 readers_within old mid s at low same = subst (λ (rs : List (List ℕ)). at < length rs) (sym same)
     (omega (arith, low, s.long))
 
-pub have_logs : (old mid : Parts) → IsWhole old → (at : ℕ) → at < length (old.catalog).relations → IsTended old
+pub have_logs : (old mid : Parts) → EngineIsWhole old → (at : ℕ) → at < length (old.catalog).relations → IsTended old
     → KeepsRest old mid → HaveLogs (readers_at mid.readers.items at) mid.logs.items
 have_logs old mid s at low t rest i e =
     let there = live_there old.queries.items i (and_parts (is_live old.queries.items i) _
@@ -162,7 +162,7 @@ told_same old new texts queries logs i =
     ∙ ap₂ (λ (gs : List (Option Live)) (ls : List Log). slice_index_or (told_from (old.catalog).texts gs ls) i None)
     queries logs
 
-pub told_full : ShowableStays → TextsStay → (old new : Parts) (at : ℕ) (row : Tuple) → LacksPlace at row old new
+pub told_full : ShowableStays → TextsStay → (old new : Parts) (at : ℕ) (row : Tuple) → RowLacksPlace at row old new
     → IsTended old
     → (i : ℕ) → told_at (kept_in new) (id_at i) ≡ told_at (kept_in old) (id_at i)
 told_full law texts old new at row l t i = by_cause l.why
@@ -187,7 +187,7 @@ pub told_put : ShowableStays → TextsStay → (old mid new : Parts) (at : ℕ) 
 told_put law texts old mid new at row p same t alike = told_by law texts old new (texts_in row)
     (ap (λ (x : Catalog). x.texts) same ∙ p.learns.0) t alike
 
-pub told_drop : ShowableStays → (old mid new : Parts) (at : ℕ) (row : Tuple) → Drops at row old mid
+pub told_drop : ShowableStays → (old mid new : Parts) (at : ℕ) (row : Tuple) → DropsRow at row old mid
     → new.catalog ≡ mid.catalog → IsTended old
     → AreAlike old.queries.items new.queries.items → ToldStay old new
 told_drop law old mid new at row p same t alike =
@@ -203,7 +203,7 @@ affected_same old new same = ap (map id_at) same
 pub tells_nothing : (old new : Kept) (before now : ℕ) → now ≤ before → new.affected ≡ old.affected
     → ((id : QueryId) → IsSomeAnd (registered_at old.registered id) (λ r. reaches unchanged r ≡ false)
     → told_at new id ≡ told_at old id)
-    → TellsChange old unchanged new before now
+    → EngineTellsChange old unchanged new before now
 tells_nothing old new before now h affected stays = record {
   deltas = [];
   listed = refl;
@@ -214,7 +214,7 @@ tells_nothing old new before now h affected stays = record {
   stays = stays;
 }
 
-module _ (old : Parts) (s : IsWhole old) (at : ℕ) (low : at < length (old.catalog).relations) (name : Bytes)
+module _ (old : Parts) (s : EngineIsWhole old) (at : ℕ) (low : at < length (old.catalog).relations) (name : Bytes)
     (named : (relation_at (old.catalog).relations at).name ≡ name) (rows : List CountedRow)
     (law : NamesTell) (differ : AllPairs (λ r s. r.name ≢ s.name) (old.catalog).relations)
     (have : (i : ℕ) (l : Live) → place_at old.queries.items i ≡ Some l → (changes : List Change)
@@ -268,14 +268,14 @@ module _ (old : Parts) (s : IsWhole old) (at : ℕ) (low : at < length (old.cata
       let steps = steps_by old.catalog old.queries.items old.order old.readers.items s old.watchers.items one
       (readers_at old.readers.items at) places_are
       (cost_at old.watchers.items old.queries.items at f) f
-      (λ i e w. ap (λ b. cond b (cost_of at (f i) (place_at old.queries.items i)) 0) w)
+      (λ i e w. ap (λ b. cond b (listing_cost at (f i) (place_at old.queries.items i)) 0) w)
       (λ i e w.
       let t = live_there old.queries.items i
       (and_parts (is_live old.queries.items i) _
       (sym (reader_is old.catalog old.queries.items old.order old.readers.items s at low i) ∙ e)).0 in
-      let bound : cost_of at (f i) (place_at old.queries.items i) ≤ delta_steps one
+      let bound : listing_cost at (f i) (place_at old.queries.items i) ≤ delta_steps one
       (record { query = query_in (place_at old.queries.items i); changes = f i; parts = [] }) =
-      subst (λ (o : Option Live). cost_of at (f i) o ≤ delta_steps one
+      subst (λ (o : Option Live). listing_cost at (f i) o ≤ delta_steps one
       (record { query = query_in o; changes = f i; parts = [] })) (sym t.is)
       (subst (λ (x : Bytes). delta_bound t.query at (f i) ≤ delta_steps
       (one_change x (with_rows (old.catalog).relations name rows))
@@ -283,15 +283,15 @@ module _ (old : Parts) (s : IsWhole old) (at : ℕ) (low : at < length (old.cata
       (bound_steps old.catalog at t.query (f i) (with_rows (old.catalog).relations name rows)
       (s.live i t.query t.is).kept)) in
       let cost : cost_at old.watchers.items old.queries.items at f i
-      ≡ cost_of at (f i) (place_at old.queries.items i) = ap
-      (λ b. cond b (cost_of at (f i) (place_at old.queries.items i)) 0) w in
+      ≡ listing_cost at (f i) (place_at old.queries.items i) = ap
+      (λ b. cond b (listing_cost at (f i) (place_at old.queries.items i)) 0) w in
       omega (arith, cost, bound)) in
       omega (arith, total, steps)
 
   -- where memory was refused
   pub tells_refused : (new : Parts) → (kept_in new).affected ≡ (kept_in old).affected
       → Discards old (reads_at old at) new → ToldStay old new
-      → TellsChange (kept_in old) (out_of_memory one) (kept_in new) before now
+      → EngineTellsChange (kept_in old) (out_of_memory one) (kept_in new) before now
   tells_refused = refused_tells old s one (readers_at old.readers.items at) places_are have_one before now counts_one
 
   -- where the change was accepted
@@ -303,7 +303,7 @@ module _ (old : Parts) (s : IsWhole old) (at : ℕ) (low : at < length (old.cata
       (map (change_of (new.catalog).texts l) (log_at new.logs.items i).lines))
       → AreAlike old.queries.items new.queries.items → new.affected.items ≡ readers_at old.readers.items at
       → KeepsLogs (tells_at old at) old new → ToldStay old new
-      → TellsChange (kept_in old) (accepted one) (kept_in new) before now
+      → EngineTellsChange (kept_in old) (accepted one) (kept_in new) before now
   tells_done new tells =
       accepted_tells old s one (readers_at old.readers.items at) places_are have_one before now counts_one new
       (λ i l r w there lost. subst
@@ -329,13 +329,13 @@ module _ (old mid new : Parts) (at : ℕ) (name : Bytes)
       (λ i. query_alike_at (place_at old.queries.items i) (place_at new.queries.items i) (alike_now i)) (λ i. refl)
 
   pub tended_now : IsTended old → length mid.order ≤ vec_capacity mid.affected
-      → AreShown (mid.catalog).texts old.queries.items mid.logs.items → IsTended new
+      → LogsCanBeShown (mid.catalog).texts old.queries.items mid.logs.items → IsTended new
   tended_now t room h = record {
     watched = ap (λ (xs : List ℕ). length xs) (a.rest.watchers ∙ watchers) ∙ t.watched
         ∙ sym (a.reach.length ∙ carries.reach.length);
     logged = ap (λ (xs : List Log). length xs) a.logs ∙ long ∙ t.logged ∙ sym (a.reach.length ∙ carries.reach.length);
-    shown = subst (λ (x : Catalog). AreShown x.texts new.queries.items new.logs.items) (sym a.catalog)
-        (subst (λ (xs : List Log). AreShown (mid.catalog).texts new.queries.items xs) (sym a.logs)
+    shown = subst (λ (x : Catalog). LogsCanBeShown x.texts new.queries.items new.logs.items) (sym a.catalog)
+        (subst (λ (xs : List Log). LogsCanBeShown (mid.catalog).texts new.queries.items xs) (sym a.logs)
         (shown_alike (mid.catalog).texts old.queries.items new.queries.items mid.logs.items alike_now h));
     room = omega (arith, room, a.rest.room, ap (λ (xs : List ℕ). length xs) a.rest.order);
   }
@@ -353,7 +353,7 @@ filter_few p (x ∷ xs) = step (p x) (filter_few p xs)
 pub room_kept : (old new : Parts) → IsTended old → KeepsRest old new → length new.order ≤ vec_capacity new.affected
 room_kept old new t k = omega (arith, t.room, k.room, ap (λ (xs : List ℕ). length xs) k.order)
 
-pub readers_few : (old mid : Parts) → IsWhole old → (at : ℕ) → at < length (old.catalog).relations
+pub readers_few : (old mid : Parts) → EngineIsWhole old → (at : ℕ) → at < length (old.catalog).relations
     → KeepsRest old mid → IsTended old → length (readers_at mid.readers.items at) ≤ vec_capacity mid.affected
 readers_few old mid s at low k t =
     let few = filter_few (λ i. reads_place (relation_at (old.catalog).relations at).name (place_at old.queries.items i))
@@ -363,12 +363,12 @@ readers_few old mid s at low k t =
     omega (arith, few, long, t.room, k.room)
 
 pub tended_still : (old new : Parts) → IsTended old → KeepsRest old new → new.queries.items ≡ old.queries.items
-    → AreShown (new.catalog).texts old.queries.items new.logs.items → IsTended new
+    → LogsCanBeShown (new.catalog).texts old.queries.items new.logs.items → IsTended new
 tended_still old new t k q h = record {
   watched = ap (λ (xs : List ℕ). length xs) k.watchers ∙ t.watched
       ∙ sym (ap (λ (gs : List (Option Live)). length gs) q);
   logged = k.long ∙ t.logged ∙ sym (ap (λ (gs : List (Option Live)). length gs) q);
-  shown = subst (λ (gs : List (Option Live)). AreShown (new.catalog).texts gs new.logs.items) (sym q) h;
+  shown = subst (λ (gs : List (Option Live)). LogsCanBeShown (new.catalog).texts gs new.logs.items) (sym q) h;
   room = room_kept old new t k;
 }
 
@@ -381,8 +381,8 @@ registered_still old new k q =
 
 -- ---- a row that is added or deleted
 
-module _ (old : Parts) (s : IsWhole old) (name : Bytes) (row : Tuple) (at : ℕ)
-    (m : Suits (old.catalog).relations name row at) (exist : DeltasExist) (bound : HeadsAreBound) (law : NamesTell)
+module _ (old : Parts) (s : EngineIsWhole old) (name : Bytes) (row : Tuple) (at : ℕ)
+    (m : RowSuits (old.catalog).relations name row at) (exist : DeltasExist) (bound : HeadsAreBound) (law : NamesTell)
     (differ : AllPairs (λ r s. r.name ≢ s.name) (old.catalog).relations) (before now : ℕ) where
   have : (rows : List CountedRow) (i : ℕ) (l : Live) → place_at old.queries.items i ≡ Some l → (changes : List Change)
       × IsDelta (IsAnswer (old.catalog).relations l.query)
@@ -395,9 +395,11 @@ module _ (old : Parts) (s : IsWhole old) (name : Bytes) (row : Tuple) (at : ℕ)
 
   pub adds_refused : CountsRows at (with_row (counted_at (old.catalog).relations at) row) old before now → (new : Parts)
       → (kept_in new).affected ≡ (kept_in old).affected → Discards old (reads_at old at) new → ToldStay old new
-      → TellsChange (kept_in old) (out_of_memory (row_in (old.catalog).relations name row)) (kept_in new) before now
+      → EngineTellsChange (kept_in old) (out_of_memory (row_in (old.catalog).relations name row))
+      (kept_in new) before now
   adds_refused counts new affected empty told =
-      subst (λ (rows : List CountedRow). TellsChange (kept_in old) (out_of_memory (new_rows (old.catalog).relations name
+      subst (λ (rows : List CountedRow). EngineTellsChange (kept_in old)
+      (out_of_memory (new_rows (old.catalog).relations name
       (with_row rows row))) (kept_in new) before now) (sym rows_are)
       (tells_refused old s at m.below name m.named (with_row (counted_at (old.catalog).relations at) row) law differ
       (have (with_row (counted_at (old.catalog).relations at) row)) before now counts new affected empty told)
@@ -407,7 +409,8 @@ module _ (old : Parts) (s : IsWhole old) (name : Bytes) (row : Tuple) (at : ℕ)
       (places : new.affected.items ≡ readers_at old.readers.items at)
       (quiet : KeepsLogs (tells_at old at) old mid) (told : ToldStay old new) where
     done : (rows : List CountedRow) → CountsRows at rows old before now → TellsRows at rows old mid
-        → TellsChange (kept_in old) (accepted (new_rows (old.catalog).relations name rows)) (kept_in new) before now
+        → EngineTellsChange (kept_in old) (accepted (new_rows (old.catalog).relations name rows))
+        (kept_in new) before now
     done rows counts tells = tells_done old s at m.below name m.named rows law differ (have rows) before now counts new
         (λ i l r w there. subst
         (λ (ls : List Log). (log_at ls i).lost ≡ false
@@ -421,15 +424,15 @@ module _ (old : Parts) (s : IsWhole old) (name : Bytes) (row : Tuple) (at : ℕ)
 
     pub adds_done : CountsRows at (with_row (counted_at (old.catalog).relations at) row) old before now
         → TellsRows at (with_row (counted_at (old.catalog).relations at) row) old mid
-        → TellsChange (kept_in old) (accepted (row_in (old.catalog).relations name row)) (kept_in new) before now
-    adds_done counts tells = subst (λ (rows : List CountedRow). TellsChange (kept_in old)
+        → EngineTellsChange (kept_in old) (accepted (row_in (old.catalog).relations name row)) (kept_in new) before now
+    adds_done counts tells = subst (λ (rows : List CountedRow). EngineTellsChange (kept_in old)
         (accepted (new_rows (old.catalog).relations name (with_row rows row))) (kept_in new) before now) (sym rows_are)
         (done (with_row (counted_at (old.catalog).relations at) row) counts tells)
 
     pub deletes_done : CountsRows at (without_copies (counted_at (old.catalog).relations at) row) old before now
         → TellsRows at (without_copies (counted_at (old.catalog).relations at) row) old mid
-        → TellsChange (kept_in old) (accepted (row_out (old.catalog).relations name row)) (kept_in new) before now
-    deletes_done counts tells = subst (λ (rows : List CountedRow). TellsChange (kept_in old)
+        → EngineTellsChange (kept_in old) (accepted (row_out (old.catalog).relations name row)) (kept_in new) before now
+    deletes_done counts tells = subst (λ (rows : List CountedRow). EngineTellsChange (kept_in old)
         (accepted (new_rows (old.catalog).relations name (without_copies rows row))) (kept_in new) before now)
         (sym rows_are)
         (done (without_copies (counted_at (old.catalog).relations at) row) counts tells)
@@ -441,7 +444,7 @@ outcome_by change None = unchanged
 outcome_by change (Some r) = add_outcome change (Err r)
 
 pub refused_quietly : (change : RowsChange) (relations : List Relation) (name : Bytes) (row : Tuple) (seq : ℕ)
-    (r : Refusal) → add_refusal (bare relations seq) name row ≡ Some r
+    (r : Refusal) → add_refusal (bare_store relations seq) name row ≡ Some r
     → add_outcome change (Err r) ≡ unchanged
 unfolding outcome_by
 refused_quietly change relations name row seq r e =
@@ -467,24 +470,26 @@ refused_quietly change relations name row seq r e =
 
 abbrev pub TellsAdd : Parts → Bytes → Tuple → Result AddOutcome Refusal → ℕ → Type 0
 TellsAdd old name row result n =
-    TellsChange (kept_in old) (add_outcome (row_in (old.catalog).relations name row) result) (kept_in old) n n
+    EngineTellsChange (kept_in old) (add_outcome (row_in (old.catalog).relations name row) result) (kept_in old) n n
 
 add_err_tells : (old : Parts) (name : Bytes) (row : Tuple) (r : Refusal)
-    → add_refusal (bare (old.catalog).relations old.seq) name row ≡ Some r → (n : ℕ) → TellsAdd old name row (Err r) n
+    → add_refusal (bare_store (old.catalog).relations old.seq) name row ≡ Some r → (n : ℕ)
+    → TellsAdd old name row (Err r) n
 add_err_tells old name row r h n =
-    subst (λ (o : RowsOutcome). TellsChange (kept_in old) o (kept_in old) n n)
+    subst (λ (o : RowsOutcome). EngineTellsChange (kept_in old) o (kept_in old) n n)
     (sym (refused_quietly (row_in (old.catalog).relations name row) (old.catalog).relations name row old.seq r h))
     (tells_nothing (kept_in old) (kept_in old) n n (omega arith) refl (λ id k. refl))
 
 pub add_refused_tells : (old : Parts) (name : Bytes) (row : Tuple) (result : Result AddOutcome Refusal) → IsErr result
-    → IfErr result (λ r. add_refusal (bare (old.catalog).relations old.seq) name row ≡ Some r) → (n : ℕ)
+    → IfErr result (λ r. add_refusal (bare_store (old.catalog).relations old.seq) name row ≡ Some r) → (n : ℕ)
     → TellsAdd old name row result n
 add_refused_tells old name row (Ok x) e h n = absurd (false≢true e)
 add_refused_tells old name row (Err r) e h n = add_err_tells old name row r h n
 
 pub delete_refused_tells : (old : Parts) (name : Bytes) (row : Tuple) (result : Result DeleteOutcome Refusal)
     → IsErr result → (n : ℕ)
-    → TellsChange (kept_in old) (delete_outcome (row_out (old.catalog).relations name row) result) (kept_in old) n n
+    → EngineTellsChange (kept_in old) (delete_outcome (row_out (old.catalog).relations name row) result)
+    (kept_in old) n n
 delete_refused_tells old name row (Ok x) e n = absurd (false≢true e)
 delete_refused_tells old name row (Err r) e n = tells_nothing (kept_in old) (kept_in old) n n (omega arith) refl
     (λ id k. refl)

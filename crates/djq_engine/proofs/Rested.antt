@@ -15,7 +15,7 @@ use Rattle.djq_machine.specs.State.{Store}
 use Rattle.djq_machine.specs.Stale.{listed_reads}
 use Rattle.djq_machine.specs.Changes.{unchanged}
 use Rattle.djq_machine.specs.Store.{LearnsFirst}
-use Rattle.djq_machine.specs.Batch.{AddsBatch, RefusesBatch, HavePlaces, StopsAt, is_there}
+use Rattle.djq_machine.specs.Batch.{AddsBatch, RefusesBatch, HavePlaces, BatchStopsAt, is_there}
 use Rattle.djq_machine.specs.Batch.{with_held, with_all, has_come, count_came, first_read, store_behind}
 use Rattle.djq_rows.specs.Catalog.{Catalog, IsCatalog, relation_at, rows_at}
 use Rattle.djq_live.specs.Changes.{HasSameRows}
@@ -24,13 +24,13 @@ use Rattle.djq_live.specs.Staying.{LiveStays}
 use Rattle.djq_reach.specs.declared.group.Group.{Group}
 use Rattle.djq_reach.specs.Places.{place_at, is_reader}
 use Rattle.djq_reach.specs.Reaching.{Reach, Renews}
-use Rattle.djq_reach.specs.Grouping.{relations_of, reached}
+use Rattle.djq_reach.specs.Grouping.{group_relations, reached}
 use Rattle.djq_engine.specs.declared.parts.Parts.{Parts}
 use Rattle.djq_engine.specs.Kept.{Outdates}
 use Rattle.djq_engine.specs.Putting.{PutsAll, RefusesAll}
 use Rattle.djq_engine.specs.Outdating.{reads_held}
-use Rattle.djq_engine.specs.Watching.{TellsChange}
-use Rattle.djq_engine.specs.Whole.{kept_in, IsWhole, IsTended}
+use Rattle.djq_engine.specs.Watching.{EngineTellsChange}
+use Rattle.djq_engine.specs.Whole.{kept_in, EngineIsWhole, IsTended}
 use Rattle.djq_engine.proofs.Aging.{rested_held}
 use Rattle.djq_engine.proofs.Carrying.{sound_rows, reach_as}
 use Rattle.djq_engine.proofs.Filled.{Filled, reaches, reached_there}
@@ -43,14 +43,14 @@ use Rattle.djq_reach.proofs.Batching.{kept_same}
 
 -- ---- only the catalog has changed
 
-module _ (old : Parts) (s : IsWhole old) (t : IsTended old) (d : Catalog) (same : HasSameRows old.catalog d)
+module _ (old : Parts) (s : EngineIsWhole old) (t : IsTended old) (d : Catalog) (same : HasSameRows old.catalog d)
     (long : length d.relations ≡ length (old.catalog).relations)
     (names : (r : ℕ) → (relation_at d.relations r).name ≡ (relation_at (old.catalog).relations r).name)
     (live : LiveStays) (showable : ShowableStays) where
   abbrev new : Parts
   new = record old { catalog = d }
 
-  pub rests_whole : IsWhole (record old { catalog = d })
+  pub rests_whole : EngineIsWhole (record old { catalog = d })
   rests_whole = sound_rows old.catalog d old.queries.items old.order old.readers.items long names
       (λ i l e. live old.catalog d l same (s.live i l e)) s
 
@@ -67,7 +67,7 @@ module _ (old : Parts) (s : IsWhole old) (t : IsTended old) (d : Catalog) (same 
   rests_cursors = rested_held old.catalog d old.queries.items (λ i l e. live old.catalog d l same (s.live i l e))
 
   pub rests_tells : (before now : ℕ) → now ≤ before
-      → TellsChange (kept_in old) unchanged (kept_in (record old { catalog = d })) before now
+      → EngineTellsChange (kept_in old) unchanged (kept_in (record old { catalog = d })) before now
   rests_tells before now h =
       tells_nothing (kept_in old) (kept_in (record old { catalog = d })) before now h refl
       (λ id k. told_stay showable old (record old { catalog = d }) (same.later).more (same.later).texts t
@@ -91,8 +91,8 @@ pub no_groups : (st : Store) (held : List HeldRow) (c : Catalog) (count : ℕ) (
     → PutsAll st held c count groups → count ≡ 0 → groups ≡ []
 no_groups st held c count [] p e = refl
 no_groups st held c count (g ∷ groups) p e =
-    let here : is_reader (relations_of (g ∷ groups)) g.relation.at
-    ≡ true = ap (λ b. b || is_reader (relations_of groups) g.relation.at) (eq-eqb g.relation.at g.relation.at refl)
+    let here : is_reader (group_relations (g ∷ groups)) g.relation.at
+    ≡ true = ap (λ b. b || is_reader (group_relations groups) g.relation.at) (eq-eqb g.relation.at g.relation.at refl)
     in
     let low = (p.grouped).within g.relation.at here in
     absurd (false≢true (sym (none_come st held (sym p.count ∙ e) (relation_at st.relations g.relation.at).name)
@@ -133,7 +133,8 @@ refuses_batch st held texts r x after e = record {
   rest = x.rest;
   parts = x.parts;
   places = x.places;
-  stops = subst (λ (ts : List Bytes). StopsAt (with_all st x.front) x.at ts r) (ap (λ (y : Store). y.texts) (sym e))
+  stops = subst (λ (ts : List Bytes). BatchStopsAt (with_all st x.front) x.at ts r)
+      (ap (λ (y : Store). y.texts) (sym e))
       x.stops;
   stays = e ∙ ap (λ (ts : List Bytes). (let y : Store = record st { texts = ts } in y))
       (ap (λ (y : Store). y.texts) (sym e));
@@ -188,7 +189,8 @@ wider_first (h ∷ held) test q e = by (test h.relation) (listed_reads q h.relat
     by true false f more = more f
     by false false f more = more f
 
-module _ (old : Parts) (s : IsWhole old) (held : List HeldRow) (before now : Catalog) (groups : List Group) (count : ℕ)
+module _ (old : Parts) (s : EngineIsWhole old) (held : List HeldRow) (before now : Catalog)
+    (groups : List Group) (count : ℕ)
     (k : Filled old held before now groups count) where
   -- a query that was reached reads a held relation
   pub reached_reads : (i : ℕ) → is_reader (reached old.readers.items groups) i ≡ true

@@ -26,18 +26,18 @@ use Rattle.djq_reach.specs.declared.group.Group.{Group}
 use Rattle.djq_reach.specs.Places.{place_at, reads_place, is_reader, readers_at, watched_at}
 use Rattle.djq_reach.specs.Reaching.{DoneAt, Reach, Renews}
 use Rattle.djq_reach.specs.Tending.{AreUnwatched}
-use Rattle.djq_reach.specs.Grouping.{Leads, CostsBy, reached, relations_of}
+use Rattle.djq_reach.specs.Grouping.{GroupsLead, CostsBy, reached, group_relations}
 use Rattle.djq_reach.proofs.Reaching.{reach_none}
 use Rattle.djq_reach.proofs.Chaining.{stays_by}
 use Rattle.djq_engine.specs.declared.parts.Parts.{Parts}
 use Rattle.djq_engine.specs.Changing.{KeepsRest, KeepsLogs}
 use Rattle.djq_engine.specs.Kept.{Outdates, IsUnwatched, is_tried}
-use Rattle.djq_engine.specs.Outdating.{AreReaders, AreTested, GivesUp, reads_held}
+use Rattle.djq_engine.specs.Outdating.{AreReaders, AreTested, BatchGivesUp, reads_held}
 use Rattle.djq_engine.specs.Places.{query_in}
 use Rattle.djq_engine.specs.Putting.{PutsAll, RefusesAll}
 use Rattle.djq_engine.specs.Taking.{LeadsHere, TakesGroups, LacksGroups}
-use Rattle.djq_engine.specs.Watching.{TellsChange}
-use Rattle.djq_engine.specs.Whole.{kept_in, IsWhole, IsTended}
+use Rattle.djq_engine.specs.Watching.{EngineTellsChange}
+use Rattle.djq_engine.specs.Whole.{kept_in, EngineIsWhole, IsTended}
 use Rattle.djq_engine.proofs.Affecting.{outdated_places, AreFor, deltas_with}
 use Rattle.djq_engine.proofs.Accepted.{Takes}
 use Rattle.djq_engine.proofs.Chained.{start_of, start_same, start_by, start_facts}
@@ -64,7 +64,7 @@ use Rattle.djq_engine.proofs.Storing.{same_rows, all_stay}
 
 -- ---- small facts
 
-groups_within : (groups : List Group) (n : ℕ) → ((r : ℕ) → is_reader (relations_of groups) r ≡ true → r < n)
+groups_within : (groups : List Group) (n : ℕ) → ((r : ℕ) → is_reader (group_relations groups) r ≡ true → r < n)
     → All (λ g. g.relation.at < n) groups
 groups_within groups n h k d low = h (get_or groups k d).relation.at
     (group_there groups k (get_or groups k d) low (get_or_default groups k d (get_or groups k d) low))
@@ -116,7 +116,7 @@ readers_renewed rs qs readers gs hs c places r long names reach = record {
     by_place name true (Some l) (Some m) d = ap (λ q. reads_place name (Some (record l { query = q }))) d.same.query
 
 -- where nobody watches a query, nobody watches one that is reached
-pub unwatched_reached : (p : Parts) → IsWhole p → IsUnwatched (kept_in p) → (groups : List Group)
+pub unwatched_reached : (p : Parts) → EngineIsWhole p → IsUnwatched (kept_in p) → (groups : List Group)
     → All (λ g. g.relation.at < length (p.catalog).relations) groups
     → AreUnwatched p.watchers.items (reached p.readers.items groups)
 unwatched_reached p s none [] within = All-nil (λ i. watched_at p.watchers.items i ≡ false)
@@ -139,7 +139,7 @@ pub record WentIn (old : Parts) (held : List HeldRow) (now : Catalog) (groups : 
   pub more : List Bytes
   pub texts : now.texts ≡ (old.catalog).texts ++ more
 
-module _ (old : Parts) (s : IsWhole old) (held : List HeldRow) (now : Catalog) (groups : List Group) (count : ℕ)
+module _ (old : Parts) (s : EngineIsWhole old) (held : List HeldRow) (now : Catalog) (groups : List Group) (count : ℕ)
     (w : WentIn old held now groups count) where
   pub start_here : Catalog
   start_here = start_of old.catalog now w.was w.is w.law w.more w.texts (w.put.grouped).long
@@ -163,7 +163,7 @@ module _ (old : Parts) (s : IsWhole old) (held : List HeldRow) (now : Catalog) (
       groups_within groups (length readers)
       (λ r f. (let low = (w.put.grouped).within r f in omega (arith, low, s.long, same)))
 
-  start_leads : Leads old.readers.items groups old.queries.items start_here now
+  start_leads : GroupsLead old.readers.items groups old.queries.items start_here now
   unfolding start_here
   start_leads =
       let f = facts in
@@ -267,7 +267,7 @@ pub record Lacks (old mid : Parts) (held : List HeldRow) (places : List ℕ) : T
   pub rest : KeepsRest old mid
   pub logs : KeepsLogs (λ i. reads_held held (place_at old.queries.items i)) old mid
 
-pub lacks_rows : (old : Parts) → IsWhole old → (held : List HeldRow) (d : Catalog) → LiveStays → IsCatalog d
+pub lacks_rows : (old : Parts) → EngineIsWhole old → (held : List HeldRow) (d : Catalog) → LiveStays → IsCatalog d
     → d.relations ≡ (old.catalog).relations → (more : List Bytes) → d.texts ≡ (old.catalog).texts ++ more
     → Lacks old (record old { catalog = d }) held []
 lacks_rows old s held d live id relations more texts = record {
@@ -290,7 +290,8 @@ lacks_rows old s held d live id relations more texts = record {
   logs = λ i l e f. refl;
 }
 
-pub lacks_groups : (old : Parts) (s : IsWhole old) (held : List HeldRow) (before now : Catalog) (groups : List Group)
+pub lacks_groups : (old : Parts) (s : EngineIsWhole old) (held : List HeldRow) (before now : Catalog)
+    (groups : List Group)
     (count : ℕ) (k : Filled old held before now groups count)
     (mid : Parts) → LacksGroups groups (record old { catalog = now }) mid → KeepsRest (record old { catalog = now }) mid
     → LeadsHere (record old { catalog = now }) groups before
@@ -324,7 +325,7 @@ lacks_groups old s held before now groups count k mid g rest here live after ia 
     unreached i true e f = absurd (false≢true (sym f ∙ reached_reads old s held before now groups count k i e))
     unreached i false e f = refl
 
-module _ (old mid : Parts) (s : IsWhole old) (t : IsTended old) (held : List HeldRow) (places : List ℕ)
+module _ (old mid : Parts) (s : EngineIsWhole old) (t : IsTended old) (held : List HeldRow) (places : List ℕ)
     (k : Lacks old mid held places) where
   pub lacks_readers : AreReaders (mid.catalog).relations mid.readers.items mid.queries.items
   lacks_readers =
@@ -347,8 +348,8 @@ module _ (old mid : Parts) (s : IsWhole old) (t : IsTended old) (held : List Hel
   lacks_found suit = subst (λ (rs : List Relation). All (λ h. IsSome (relation_of rs h.relation)) held)
       (sym k.relations) (all_found (kept_in old).store held suit)
 
-  module _ (new : Parts) (g : GivesUp held mid new) where
-    pub lacks_whole : IsWhole new
+  module _ (new : Parts) (g : BatchGivesUp held mid new) where
+    pub lacks_whole : EngineIsWhole new
     lacks_whole = given_whole old mid new s t held places k.reach k.stay k.within k.relations k.more k.texts k.rest
         k.logs g
 
@@ -388,7 +389,7 @@ module _ (old mid : Parts) (s : IsWhole old) (t : IsTended old) (held : List Hel
         (deltas_with old.catalog old.queries.items old.order old.readers.items s old.watchers.items
         (rows_tried (kept_in old).store held)
         (outdated_places old.queries.items old.order (rows_tried (kept_in old).store held)) refl f))
-        → TellsChange (kept_in old) (out_of_memory (rows_tried (kept_in old).store held)) (kept_in new) from to
+        → EngineTellsChange (kept_in old) (out_of_memory (rows_tried (kept_in old).store held)) (kept_in new) from to
     lacks_tells law have from to counts = given_tells old mid new s t held places k.reach k.stay k.within k.relations
         k.more k.texts k.rest k.logs g law have from to counts
 
@@ -401,7 +402,8 @@ lacks_last st held c count groups p some texts e =
     (refuses_last st held p.places (none_held st held count p.count some))
 
 -- what listing counts, where memory lacks
-pub lacks_counts : (old : Parts) (s : IsWhole old) (held : List HeldRow) (before now : Catalog) (groups : List Group)
+pub lacks_counts : (old : Parts) (s : EngineIsWhole old) (held : List HeldRow) (before now : Catalog)
+    (groups : List Group)
     (count : ℕ) (k : Filled old held before now groups count) → LiveStays
     → (from to : ℕ) → CostsBy old.readers.items groups old.watchers.items old.queries.items from to
     → (f : ℕ → List Change)

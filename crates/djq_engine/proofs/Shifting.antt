@@ -14,11 +14,12 @@ use Rattle.djq_live.specs.Cursors.{Progress}
 use Rattle.djq_live.specs.Cursors.{slot_at, SetsSlot}
 use Rattle.djq_live.specs.Live.{Live, IsLive}
 use Rattle.djq_engine.specs.declared.cursor.CursorId.{CursorId}
-use Rattle.djq_engine.specs.Kept.{Registered, held_at, OthersStay}
+use Rattle.djq_engine.specs.Kept.{Registered, held_at, OtherCursorsStay}
 use Rattle.djq_reach.specs.Places.{place_at, reads_place, watchers_at}
-use Rattle.djq_engine.specs.Places.{is_live, query_in, queries_in, held_as, held_from, held_of}
-use Rattle.djq_engine.specs.Places.{store_of, id_at, registered_as, registered_in}
-use Rattle.djq_engine.specs.Sound.{IsSound}
+use Rattle.djq_engine.specs.Places.{is_live, query_in, queries_in, held_query_cursor, query_cursors_from}
+use Rattle.djq_engine.specs.Places.{query_cursor_of}
+use Rattle.djq_engine.specs.Places.{store_of, id_at, query_registered_as, registered_in}
+use Rattle.djq_engine.specs.Sound.{QueriesAreSound}
 use Rattle.djq_engine.proofs.Holding.{held_is}
 use Rattle.djq_engine.proofs.Listing.{filter_members, map_members}
 use Rattle.djq_reach.proofs.Reaching.{everywhere, place_below}
@@ -36,7 +37,7 @@ slot_set slots k p slot e = record {
 
 -- one query becomes another of the same name, which reads the same
 module _ (c : Catalog) (gs : List (Option Live)) (order : List ℕ) (readers : List (List ℕ))
-    (s : IsSound c gs order readers) (id : CursorId) (l m : Live)
+    (s : QueriesAreSound c gs order readers) (id : CursorId) (l m : Live)
     (e : place_at gs id.query.at ≡ Some l) (same : m.query ≡ l.query) where
   pub place_here : place_at (set gs id.query.at (Some m)) id.query.at ≡ Some m
   place_here = get_or-set_same gs id.query.at (Some m) None (place_below gs id.query.at l e)
@@ -70,7 +71,7 @@ module _ (c : Catalog) (gs : List (Option Live)) (order : List ℕ) (readers : L
       (λ x f. (l, e, sym same ∙ ap (λ (z : Live). z.query) (same_some m x (sym place_here ∙ f))))
       (λ j d x f. (x, sym (place_else j d) ∙ f, refl))
 
-  pub moved_sound : IsLive c m → IsSound c (set gs id.query.at (Some m)) order readers
+  pub moved_sound : IsLive c m → QueriesAreSound c (set gs id.query.at (Some m)) order readers
   moved_sound live = record {
     live = everywhere (λ j. (x : Live) → place_at (set gs id.query.at (Some m)) j ≡ Some x → IsLive c x) id.query.at
         (λ x f. subst (λ (z : Live). IsLive c z) (same_some m x (sym place_here ∙ f)) live)
@@ -101,24 +102,26 @@ module _ (c : Catalog) (gs : List (Option Live)) (order : List ℕ) (readers : L
 
   pub moved_registered : (ws : List ℕ) → registered_in (set gs id.query.at (Some m)) ws order
       ≡ registered_in gs ws order
-  moved_registered ws = map_members (registered_as (set gs id.query.at (Some m)) ws) (registered_as gs ws) order
+  moved_registered ws =
+      map_members (query_registered_as (set gs id.query.at (Some m)) ws) (query_registered_as gs ws) order
       (λ j h. ap (λ (q : Listed).
       (let r : Registered = record { id = id_at j; query = q; watchers = watchers_at ws j } in r)) (query_same j))
 
   -- where only a slot of its cursors has changed
   module _ (slot : Option Progress) (cs : List (Option Progress)) (is : m ≡ record l { cursors = cs })
       (moved : SetsSlot l.cursors id.cursor slot cs) where
-    held_here : (other : CursorId) → held_of c.texts other (Some m)
-        ≡ option_map (held_as c.texts l other) (slot_at cs other.cursor)
-    held_here other = ap (λ (x : Live). held_of c.texts other (Some x)) is
+    held_here : (other : CursorId) → query_cursor_of c.texts other (Some m)
+        ≡ option_map (held_query_cursor c.texts l other) (slot_at cs other.cursor)
+    held_here other = ap (λ (x : Live). query_cursor_of c.texts other (Some x)) is
 
-    pub moved_there : held_at (held_from c.texts zero (set gs id.query.at (Some m))) id
-        ≡ option_map (held_as c.texts l id) slot
+    pub moved_there : held_at (query_cursors_from c.texts zero (set gs id.query.at (Some m))) id
+        ≡ option_map (held_query_cursor c.texts l id) slot
     moved_there =
-        held_is c.texts (set gs id.query.at (Some m)) id ∙ ap (held_of c.texts id) place_here ∙ held_here id
-        ∙ ap (option_map (held_as c.texts l id)) moved.there
+        held_is c.texts (set gs id.query.at (Some m)) id ∙ ap (query_cursor_of c.texts id) place_here ∙ held_here id
+        ∙ ap (option_map (held_query_cursor c.texts l id)) moved.there
 
-    pub moved_others : OthersStay (held_from c.texts zero gs) id (held_from c.texts zero (set gs id.query.at (Some m)))
+    pub moved_others : OtherCursorsStay (query_cursors_from c.texts zero gs) id
+        (query_cursors_from c.texts zero (set gs id.query.at (Some m)))
     moved_others other d =
         held_is c.texts (set gs id.query.at (Some m)) other ∙ by_query (cases_order other.query.at id.query.at)
         ∙ sym (held_is c.texts gs other)
@@ -128,15 +131,16 @@ module _ (c : Catalog) (gs : List (Option Live)) (order : List ℕ) (readers : L
         apart_slots false c e f = absurd cc
 
         by_query : (other.query.at ≡ id.query.at) ⊎ ((other.query.at < id.query.at) ⊎ (id.query.at < other.query.at))
-            → held_of c.texts other (place_at (set gs id.query.at (Some m)) other.query.at)
-            ≡ held_of c.texts other (place_at gs other.query.at)
+            → query_cursor_of c.texts other (place_at (set gs id.query.at (Some m)) other.query.at)
+            ≡ query_cursor_of c.texts other (place_at gs other.query.at)
         by_query (inl f) =
             let slots : (other.cursor ≡ id.cursor → ⊥) = λ g.
             false≢true (sym (apart_slots (other.query.at == id.query.at) (other.cursor == id.cursor)
             (eq-eqb other.query.at id.query.at f) d) ∙ eq-eqb other.cursor id.cursor g) in
-            ap (λ (j : ℕ). held_of c.texts other (place_at (set gs id.query.at (Some m)) j)) f
-            ∙ ap (held_of c.texts other) place_here ∙ held_here other
-            ∙ ap (option_map (held_as c.texts l other)) (moved.others other.cursor slots)
-            ∙ sym (ap (λ (j : ℕ). held_of c.texts other (place_at gs j)) f ∙ ap (held_of c.texts other) e)
-        by_query (inr (inl low)) = ap (held_of c.texts other) (place_else other.query.at (λ f. omega arith))
-        by_query (inr (inr low)) = ap (held_of c.texts other) (place_else other.query.at (λ f. omega arith))
+            ap (λ (j : ℕ). query_cursor_of c.texts other (place_at (set gs id.query.at (Some m)) j)) f
+            ∙ ap (query_cursor_of c.texts other) place_here ∙ held_here other
+            ∙ ap (option_map (held_query_cursor c.texts l other)) (moved.others other.cursor slots)
+            ∙ sym (ap (λ (j : ℕ). query_cursor_of c.texts other (place_at gs j)) f
+            ∙ ap (query_cursor_of c.texts other) e)
+        by_query (inr (inl low)) = ap (query_cursor_of c.texts other) (place_else other.query.at (λ f. omega arith))
+        by_query (inr (inr low)) = ap (query_cursor_of c.texts other) (place_else other.query.at (λ f. omega arith))

@@ -10,12 +10,12 @@ use Rattle.djq_lines.specs.declared.answer.Refusal.TheVariants.{Limit, NoMemory}
 use Rattle.djq_lines.specs.declared.held.HeldRow.{HeldRow}
 use Rattle.djq_lines.specs.declared.limits.TheConstants.{ROWS, COPIES, TEXTS}
 use Rattle.djq_dict.specs.declared.refusal.InternRefusal.TheVariants.{Full as TextsFull, NoMem as NoMemForTexts}
-use Rattle.djq_machine.specs.Batch.{is_there, StopsAt}
+use Rattle.djq_machine.specs.Batch.{is_there, BatchStopsAt}
 use Rattle.djq_rows.specs.declared.refusal.RowsRefusal.TheVariants.{Full, NoMem}
 use Rattle.djq_rows.specs.declared.relation_id.RelationId.{RelationId}
 use Rattle.djq_rows.specs.Cells.{HaveCells, cells_of}
 use Rattle.djq_rows.specs.Catalog.{Catalog, IsCatalog, counted_at, rows_at, with_rows_at}
-use Rattle.djq_rows.specs.Changes.{AddsRow, InternsRow}
+use Rattle.djq_rows.specs.Changes.{AddsRowAt, InternsRow}
 use Rattle.djq_engine.specs.Judging.{MayCome, MayStand}
 use Rattle.djq_engine.specs.Putting.{bare_of, PutsNew, PutsMore}
 use Rattle.djq_engine.proofs.Judged.{rows_found, place_passes, place_more, place_most}
@@ -36,7 +36,7 @@ module _ (c : Catalog) (h : HeldRow) (seq : ℕ) (id : RelationId) (m : MayCome 
 
     -- a text of it finds no place, or no memory
     pub text_full : (known : List Bytes) → InternsRow c.texts h.row (Err TextsFull) known
-        → has_row (rows_at c.relations id.at) h.row ≡ false → StopsAt (bare_of c seq) h known Limit
+        → has_row (rows_at c.relations id.at) h.row ≡ false → BatchStopsAt (bare_of c seq) h known Limit
     text_full known x absent = inr (
       (stands_new absent).passes,
       is_absent absent,
@@ -53,7 +53,7 @@ module _ (c : Catalog) (h : HeldRow) (seq : ℕ) (id : RelationId) (m : MayCome 
 
     pub text_lacks : (known : List Bytes) → InternsRow c.texts h.row (Err NoMemForTexts) known
         → has_row (rows_at c.relations id.at) h.row ≡ false → length known ≤ TEXTS
-        → StopsAt (bare_of c seq) h known NoMemory
+        → BatchStopsAt (bare_of c seq) h known NoMemory
     text_lacks known x absent many = (
       (stands_new absent).passes,
       record { first = x.first; rest = x.rest; parts = x.parts; learned = x.learned },
@@ -74,7 +74,7 @@ module _ (c : Catalog) (h : HeldRow) (seq : ℕ) (id : RelationId) (m : MayCome 
       none_new ic there =
           texts ∙ interns.0 ∙ none_learned c.texts h.row (known_there c id.at h.row ic (m.relation).below there)
 
-      pub puts_new : AddsRow d.relations id.at h.row (Ok First) e.relations
+      pub puts_new : AddsRowAt d.relations id.at h.row (Ok First) e.relations
           → PutsNew c h seq (record { relation = id; cells = cells }) e
       puts_new x =
           let absent : has_row (rows_at c.relations id.at) h.row ≡ false = sym has_as ∙ x.0 in
@@ -88,7 +88,7 @@ module _ (c : Catalog) (h : HeldRow) (seq : ℕ) (id : RelationId) (m : MayCome 
                 same;
           }
 
-      pub puts_more : IsCatalog c → (n : ℕ) → AddsRow d.relations id.at h.row (Ok (More n)) e.relations
+      pub puts_more : IsCatalog c → (n : ℕ) → AddsRowAt d.relations id.at h.row (Ok (More n)) e.relations
           → PutsMore c h seq e
       puts_more ic n x =
           let there : has_row (rows_at c.relations id.at) h.row ≡ true = sym has_as ∙ x.0 in
@@ -111,11 +111,11 @@ module _ (c : Catalog) (h : HeldRow) (seq : ℕ) (id : RelationId) (m : MayCome 
                 (with_copies (counted_at rs id.at) h.row (copies_among (counted_at rs id.at) h.row + 1))) same;
           }
 
-      pub no_place : IsCatalog c → AddsRow d.relations id.at h.row (Err Full) e.relations
-          → StopsAt (bare_of c seq) h e.texts Limit
+      pub no_place : IsCatalog c → AddsRowAt d.relations id.at h.row (Err Full) e.relations
+          → BatchStopsAt (bare_of c seq) h e.texts Limit
       no_place ic x = by (has_row (rows_at c.relations id.at) h.row) refl
         where
-          by : (b : Bool) → has_row (rows_at c.relations id.at) h.row ≡ b → StopsAt (bare_of c seq) h e.texts Limit
+          by : (b : Bool) → has_row (rows_at c.relations id.at) h.row ≡ b → BatchStopsAt (bare_of c seq) h e.texts Limit
           by true there = inl (
             place_most c.relations h.relation h.row seq id.at m.relation
                 (subst (λ (rs : List Relation). COPIES ≤ copies_among (counted_at rs id.at) h.row) same
@@ -127,8 +127,8 @@ module _ (c : Catalog) (h : HeldRow) (seq : ℕ) (id : RelationId) (m : MayCome 
               ((x.0).rows (has_as ∙ absent)) in
               let few = m.room absent in omega (arith, full, few))
 
-      pub row_lacks : AddsRow d.relations id.at h.row (Err NoMem) e.relations
-          → StopsAt (bare_of c seq) h e.texts NoMemory
+      pub row_lacks : AddsRowAt d.relations id.at h.row (Err NoMem) e.relations
+          → BatchStopsAt (bare_of c seq) h e.texts NoMemory
       row_lacks x = (
         (stands_new (sym has_as ∙ x.0)).passes,
         record {

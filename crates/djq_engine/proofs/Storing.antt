@@ -23,7 +23,7 @@ use Rattle.djq_rows.specs.Cells.{StandFor, HaveCells, cells_of}
 use Rattle.djq_model.specs.Typed.{fits}
 use Rattle.djq_rows.specs.Catalog.{Catalog, IsCatalog, StandForRow, no_relation, relation_at}
 use Rattle.djq_rows.specs.Catalog.{counted_at, rows_at, with_rows_at}
-use Rattle.djq_rows.specs.Changes.{AddsRow, DeletesRow, HasNoPlace, InternsRow}
+use Rattle.djq_rows.specs.Changes.{AddsRowAt, DeletesRowAt, HasNoPlace, InternsRow}
 use Rattle.djq_rows.specs.Laws.{TextsStay}
 use Rattle.djq_live.specs.Changes.{HasSameRows, Came, Went, AddedCame, DeletedWent, CopiesKeepRows}
 use Rattle.djq_live.specs.Live.{Live, IsKept}
@@ -31,10 +31,10 @@ use Rattle.djq_live.specs.Staying.{StaysOver, LiveStays, CamePasses, WentPasses}
 use Rattle.djq_live.proofs.Members.{in_last}
 use Rattle.djq_engine.specs.declared.parts.Parts.{Parts}
 use Rattle.djq_reach.specs.Places.{place_at, readers_at, AreOnce}
-use Rattle.djq_engine.specs.Sound.{IsSound}
+use Rattle.djq_engine.specs.Sound.{QueriesAreSound}
 use Rattle.djq_reach.specs.Reaching.{Reach, AllAt, CanCome, CanGo, TakesIn, LetsOut, GivesBack, Carries}
-use Rattle.djq_engine.specs.Changing.{IsNew, IsOld, LacksMemory, Puts, Waits, PutsRow, NoPlace}
-use Rattle.djq_engine.specs.Changing.{for_copies, for_texts, HasCopies, HasMore, AddsCells, AddsTo}
+use Rattle.djq_engine.specs.Changing.{IsNewRow, IsOld, LacksMemory, PutsKnownRow, Waits, PutsRow, NoPlace}
+use Rattle.djq_engine.specs.Changing.{for_copies, for_texts, HasCopies, HasCopyMore, AddsCells, AddsTo}
 use Rattle.djq_engine.specs.Changing.{IfCame, IfLacking, IfStill, for_text}
 use Rattle.djq_lines.specs.declared.limits.TheConstants.{TEXTS, ROWS, COPIES}
 use Rattle.djq_engine.proofs.Carrying.{without_last, last_there, rows_with}
@@ -76,7 +76,7 @@ interned old row (Err TextsFull) new h = (h.1.first, h.1.learned)
 interned old row (Err NoMemForTexts) new h = (h.first, h.learned)
 
 pub all_stay : LiveStays → (c d : Catalog) (gs : List (Option Live)) (order : List ℕ) (readers : List (List ℕ))
-    → IsSound c gs order readers → HasSameRows c d
+    → QueriesAreSound c gs order readers → HasSameRows c d
     → (i : ℕ) (l : Live) → place_at gs i ≡ Some l → StaysOver c d l
 all_stay law c d gs order readers s h i l e = law c d l h (s.live i l e)
 
@@ -116,11 +116,11 @@ lacks_of at row old new NoMemForTexts h e q logs many stay absent = (
 
 -- the cells of a row that came stand for one that wasn't there
 pub came_new : (c : Catalog) (at : ℕ) (cells : List ℕ) (row : Tuple) (new : List Relation) → StandForRow c at cells row
-    → AddsRow c.relations at row (Ok First) new → IsNew c at cells row
+    → AddsRowAt c.relations at row (Ok First) new → IsNewRow c at cells row
 came_new c at cells row new stand h = record { stand = stand; absent = h.0; room = h.1 }
 
 -- a row with one copy goes
-pub deleted_is : (rs new : List Relation) (at : ℕ) (row : Tuple) (o : DeleteOutcome) → DeletesRow rs at row o new
+pub deleted_is : (rs new : List Relation) (at : ℕ) (row : Tuple) (o : DeleteOutcome) → DeletesRowAt rs at row o new
     → has_row (rows_at rs at) row ≡ true → copies_among (counted_at rs at) row ≡ 1
     → new ≡ with_rows_at rs at (without_copies (counted_at rs at) row)
 deleted_is rs new at row Last h e one = h.2
@@ -128,7 +128,7 @@ deleted_is rs new at row (Left n) h e one = absurd (omega (arith, h.1, h.2, one)
 deleted_is rs new at row Absent h e one = absurd (false≢true (sym h.0 ∙ e))
 
 module _ (c d : Catalog) (at : ℕ) (low : at < length c.relations) (cells : List ℕ) (row : Tuple)
-    (new : IsNew c at cells row) (ic : IsCatalog c) (id : IsCatalog d) (texts : d.texts ≡ c.texts)
+    (new : IsNewRow c at cells row) (ic : IsCatalog c) (id : IsCatalog d) (texts : d.texts ≡ c.texts)
     (is : d.relations ≡ with_rows_at c.relations at (with_row (counted_at c.relations at) row)) where
   pub came : AddedCame → Came c d at cells row
   came law = law c d at cells row id low new.stand texts is
@@ -173,12 +173,13 @@ module _ (c d : Catalog) (at : ℕ) (low : at < length c.relations) (cells : Lis
   went_back law = law d c at cells row ic low_now stand_now (sym texts) (sym back_is)
 
   -- the catalog once the row has gone again
-  pub catalog_back : (e : Catalog) (o : DeleteOutcome) → DeletesRow d.relations at row o e.relations → e.texts ≡ d.texts
+  pub catalog_back : (e : Catalog) (o : DeleteOutcome) → DeletesRowAt d.relations at row o e.relations
+      → e.texts ≡ d.texts
       → e ≡ c
   catalog_back e o h f = catalog_same c e (deleted_is d.relations e.relations at row o h has_now one_now ∙ back_is)
       (f ∙ texts)
 
-  module _ (gs : List (Option Live)) (order : List ℕ) (readers : List (List ℕ)) (s : IsSound c gs order readers)
+  module _ (gs : List (Option Live)) (order : List ℕ) (readers : List (List ℕ)) (s : QueriesAreSound c gs order readers)
       (places : List ℕ) (read : places ≡ readers_at readers at) where
     pub places_once : AreOnce places
     places_once = subst AreOnce (sym read) (readers_once c gs order readers s at low)
@@ -210,7 +211,7 @@ module _ (c d : Catalog) (at : ℕ) (low : at < length c.relations) (cells : Lis
 
 -- nothing was added
 pub unput_carries : (c e : Catalog) (gs : List (Option Live)) (order : List ℕ) (readers : List (List ℕ)) (at : ℕ)
-    → IsSound c gs order readers → e ≡ c → Carries (readers_at readers at) c gs e gs
+    → QueriesAreSound c gs order readers → e ≡ c → Carries (readers_at readers at) c gs e gs
 unput_carries c e gs order readers at s same =
     subst (λ (x : Catalog). Carries (readers_at readers at) c gs x gs) (sym same)
     (idle_carries c c gs (readers_at readers at) (λ i l f. stays_itself c l (s.live i l f)))
@@ -221,7 +222,7 @@ module _ (c d : Catalog) (at : ℕ) (low : at < length c.relations) (cells : Lis
     (old : IsOld c at cells row) (id : IsCatalog d) (texts : d.texts ≡ c.texts)
     (is : d.relations ≡ with_rows_at c.relations at (without_copies (counted_at c.relations at) row))
     (law : DeletedWent)
-    (gs : List (Option Live)) (order : List ℕ) (readers : List (List ℕ)) (s : IsSound c gs order readers)
+    (gs : List (Option Live)) (order : List ℕ) (readers : List (List ℕ)) (s : QueriesAreSound c gs order readers)
     (places : List ℕ) (read : places ≡ readers_at readers at) where
   pub went : Went c d at cells row
   went = law c d at cells row id low old.stand texts is
@@ -250,7 +251,7 @@ module _ (c d : Catalog) (at : ℕ) (low : at < length c.relations) (cells : Lis
 pub puts_row : (at : ℕ) (row : Tuple) (old new : Parts) (c1 : Catalog) → c1.relations ≡ (old.catalog).relations
     → c1.texts ≡ all_learned (old.catalog).texts (texts_in row) → length c1.texts ≤ TEXTS
     → ((i : ℕ) (l : Live) → place_at old.queries.items i ≡ Some l → StaysOver old.catalog c1 l)
-    → Puts at row (record old { catalog = c1 }) new → PutsRow at row old new
+    → PutsKnownRow at row (record old { catalog = c1 }) new → PutsRow at row old new
 puts_row at row old new c1 rel learn many stay p = record {
   learns = (p.texts ∙ learn, subst (λ (ts : List Bytes). length ts ≤ TEXTS) (sym p.texts) many);
   has = record {
@@ -291,7 +292,7 @@ same_stand c d at cells row e of have are = record {
 -- ---- a row with other copies
 
 pub has_copies : CopiesKeepRows → LiveStays → (old new : Parts) (at : ℕ) (row : Tuple) (n : ℕ)
-    → IsSound old.catalog old.queries.items old.order old.readers.items
+    → QueriesAreSound old.catalog old.queries.items old.order old.readers.items
     → IsCatalog new.catalog → at < length (old.catalog).relations → (new.catalog).texts ≡ (old.catalog).texts
     → (new.catalog).relations
     ≡ with_rows_at (old.catalog).relations at (with_copies (counted_at (old.catalog).relations at) row n)
@@ -353,7 +354,7 @@ module _ (old new : Parts) (c1 : Catalog) (at : ℕ) (row : Tuple) (ic : IsCatal
   pub adds_to : (r : Result AddOutcome AddRefusal) → AddsCells at row (record old { catalog = c1 }) r new
       → AddsTo at row old r new
   adds_to (Ok First) h = (sym has_is ∙ h.0, puts_row at row old new c1 rel learn many stay h.1)
-  adds_to (Ok (More n)) h = subst (λ (x : Catalog). HasMore at row n (record old { catalog = x }) new)
+  adds_to (Ok (More n)) h = subst (λ (x : Catalog). HasCopyMore at row n (record old { catalog = x }) new)
       (same_catalog (sym has_is ∙ h.there)) h
   adds_to (Err RowFull) h = record {
     why = no_place h.0 h.1;

@@ -20,10 +20,10 @@ use Rattle.djq_machine.specs.Store.{with_rows}
 use Rattle.djq_machine.specs.Batch.{suit_refusal, is_there, with_held, with_all}
 use Rattle.djq_rows.specs.Laws.{NamesTell}
 use Rattle.djq_rows.specs.Catalog.{Catalog, IsCatalog, relation_at, counted_at, rows_at, with_rows_at}
-use Rattle.djq_rows.specs.Changes.{DeletesRow}
-use Rattle.djq_engine.specs.Judging.{bare, Suits}
+use Rattle.djq_rows.specs.Changes.{DeletesRowAt}
+use Rattle.djq_engine.specs.Judging.{bare_store, RowSuits}
 use Rattle.djq_engine.proofs.Judged.{suits_here}
-use Rattle.djq_engine.specs.Putting.{AreCounted, WentIn, WentInAll}
+use Rattle.djq_engine.specs.Putting.{CopiesAreCounted, WentIn, WentInAll}
 use Rattle.djq_engine.proofs.HeldRows.{all_more, suits_all, suits_held}
 use Rattle.djq_engine.proofs.Carrying.{without_last, last_there}
 
@@ -82,7 +82,7 @@ copies_back (c ∷ rows) row n h = by (tuple_eq c.row row) refl h (copies_back r
         (c ∷ with_copies (with_copies rows row n) row (copies_among rows row))) e
         ∙ ap (λ (qs : List CountedRow). c ∷ qs) (more k)
 
-counted_rows : (rs : List Relation) (name : Bytes) → AreCounted rs
+counted_rows : (rs : List Relation) (name : Bytes) → CopiesAreCounted rs
     → All (λ (c : CountedRow). 1 ≤ c.copies) (counted_of rs name)
 counted_rows [] name h = All-nil (λ (c : CountedRow). 1 ≤ c.copies)
 counted_rows (r ∷ rs) name h = by (bytes_eq r.name name)
@@ -94,15 +94,15 @@ counted_rows (r ∷ rs) name h = by (bytes_eq r.name name)
     by false k = k
 
 counted_with : (rs : List Relation) (name : Bytes) (rows : List CountedRow)
-    → All (λ (c : CountedRow). 1 ≤ c.copies) rows → AreCounted rs → AreCounted (with_rows rs name rows)
+    → All (λ (c : CountedRow). 1 ≤ c.copies) rows → CopiesAreCounted rs → CopiesAreCounted (with_rows rs name rows)
 counted_with [] name rows k h = h
 counted_with (r ∷ rs) name rows k h =
     by (bytes_eq r.name name)
     (counted_with rs name rows k
     (All-tail (λ (r : Relation). All (λ (c : CountedRow). 1 ≤ c.copies) r.rows) r rs h))
   where
-    by : (b : Bool) → AreCounted (with_rows rs name rows)
-        → AreCounted (cond b (record r { rows = rows } ∷ rs) (r ∷ with_rows rs name rows))
+    by : (b : Bool) → CopiesAreCounted (with_rows rs name rows)
+        → CopiesAreCounted (cond b (record r { rows = rows } ∷ rs) (r ∷ with_rows rs name rows))
     by true more = All-cons (λ (r : Relation). All (λ (c : CountedRow). 1 ≤ c.copies) r.rows) (record r { rows = rows })
         rs k (All-tail (λ (r : Relation). All (λ (c : CountedRow). 1 ≤ c.copies) r.rows) r rs h)
     by false more = All-cons (λ (r : Relation). All (λ (c : CountedRow). 1 ≤ c.copies) r.rows) r
@@ -122,10 +122,11 @@ copies_with (c ∷ rows) row n l h =
     by false more = All-cons (λ (c : CountedRow). 1 ≤ c.copies) c (with_copies rows row n)
         (All-head (λ (c : CountedRow). 1 ≤ c.copies) c rows h) more
 
-pub counted_held : (st : Store) (h : HeldRow) → AreCounted st.relations → AreCounted (with_held st h).relations
+pub counted_held : (st : Store) (h : HeldRow) → CopiesAreCounted st.relations
+    → CopiesAreCounted (with_held st h).relations
 counted_held st h k = by (is_there st h)
   where
-    by : (b : Bool) → AreCounted
+    by : (b : Bool) → CopiesAreCounted
         (let x : Store = cond b
         (record st {
           relations = with_rows st.relations h.relation
@@ -150,7 +151,8 @@ counted_held st h k = by (is_there st h)
         (All-cons (λ (c : CountedRow). 1 ≤ c.copies) (record { row = h.row; copies = 1 }) [] (omega arith)
         (All-nil (λ (c : CountedRow). 1 ≤ c.copies)))) k
 
-pub counted_all : (st : Store) (xs : List HeldRow) → AreCounted st.relations → AreCounted (with_all st xs).relations
+pub counted_all : (st : Store) (xs : List HeldRow) → CopiesAreCounted st.relations
+    → CopiesAreCounted (with_all st xs).relations
 counted_all st [] k = k
 counted_all st (x ∷ xs) k = counted_all (with_held st x) xs (counted_held st x k)
 
@@ -174,7 +176,7 @@ module _ (rs : List Relation) (name : Bytes) (row : Tuple) (at : ℕ) (now new :
       ∙ rows_twice rs name xs ys
 
   pub new_back : (o : DeleteOutcome) → now ≡ with_rows rs name (with_row (counted_of rs name) row)
-      → has_row (rows_of rs name) row ≡ false → DeletesRow now at row o new → new ≡ rs
+      → has_row (rows_of rs name) row ≡ false → DeletesRowAt now at row o new → new ≡ rs
   new_back o e absent d = by o d
     where
       counted : counted_at now at ≡ with_row (counted_of rs name) row
@@ -188,7 +190,7 @@ module _ (rs : List Relation) (name : Bytes) (row : Tuple) (at : ℕ) (now new :
           ∙ ap (λ (ts : List Tuple). has_row ts row) (tuples_with_row (counted_of rs name) row)
           ∙ last_there (plain_of (counted_of rs name)) row
 
-      by : (o : DeleteOutcome) → DeletesRow now at row o new → new ≡ rs
+      by : (o : DeleteOutcome) → DeletesRowAt now at row o new → new ≡ rs
       by Last h =
           h.2 ∙ other_rows (with_row (counted_of rs name) row) (without_copies (counted_at now at) row) e
           ∙ ap (with_rows rs name)
@@ -200,8 +202,8 @@ module _ (rs : List Relation) (name : Bytes) (row : Tuple) (at : ℕ) (now new :
 
   pub more_back : (o : DeleteOutcome) → now
       ≡ with_rows rs name (with_copies (counted_of rs name) row (copies_among (counted_of rs name) row + 1))
-      → has_row (rows_of rs name) row ≡ true → AreCounted rs
-      → DeletesRow now at row o new → new ≡ rs
+      → has_row (rows_of rs name) row ≡ true → CopiesAreCounted rs
+      → DeletesRowAt now at row o new → new ≡ rs
   more_back o e has k d = by o d
     where
       counted : counted_at now at ≡ with_copies (counted_of rs name) row (copies_among (counted_of rs name) row + 1)
@@ -219,7 +221,7 @@ module _ (rs : List Relation) (name : Bytes) (row : Tuple) (at : ℕ) (now new :
           ∙ ap (λ (ts : List Tuple). has_row ts row)
           (tuples_with_copies (counted_of rs name) row (copies_among (counted_of rs name) row + 1)) ∙ has
 
-      by : (o : DeleteOutcome) → DeletesRow now at row o new → new ≡ rs
+      by : (o : DeleteOutcome) → DeletesRowAt now at row o new → new ≡ rs
       by Last h = absurd (omega (arith, h.1, many, some))
       by (Left n) h =
           let same : n ≡ copies_among (counted_of rs name) row = omega (arith, h.1, many) in
@@ -234,7 +236,7 @@ module _ (rs : List Relation) (name : Bytes) (row : Tuple) (at : ℕ) (now new :
 pub held_back : (st : Store) (h : HeldRow) (at : ℕ) (now new : List Relation) (o : DeleteOutcome) → NamesTell
     → AllPairs (λ r s. r.name ≢ s.name) now → IsSome (relation_of st.relations h.relation)
     → at < length now → (relation_at now at).name ≡ h.relation → relation_of now h.relation ≡ Some (relation_at now at)
-    → AreCounted st.relations → now ≡ (with_held st h).relations → DeletesRow now at h.row o new
+    → CopiesAreCounted st.relations → now ≡ (with_held st h).relations → DeletesRowAt now at h.row o new
     → new ≡ st.relations
 held_back st h at now new o law differ there low named found k e d = by (is_there st h) refl e
   where
@@ -307,17 +309,17 @@ row_there st h at now w there found = by (is_there st h) refl w.are
 
 -- it suits its relation still
 pub suits_last : (st : Store) (h : HeldRow) (now : List Relation) (n : ℕ) → WentIn st h now
-    → suit_refusal (bare now n) h.relation h.row ≡ None
-suits_last st h now n w = ap (λ (rs : List Relation). suit_refusal (bare rs n) h.relation h.row) w.are
+    → suit_refusal (bare_store now n) h.relation h.row ≡ None
+suits_last st h now n w = ap (λ (rs : List Relation). suit_refusal (bare_store rs n) h.relation h.row) w.are
     ∙ suits_held st h h.relation h.row ∙ w.suits
 
 -- it suits its relation in its place
 pub last_suits : (st : Store) (h : HeldRow) (now : List Relation) (at : ℕ) → WentIn st h now → at < length now
     → (relation_at now at).name ≡ h.relation → relation_of now h.relation ≡ Some (relation_at now at)
-    → Suits now h.relation h.row at
+    → RowSuits now h.relation h.row at
 last_suits st h now at w low named found = suits_here now 0 h.relation h.row at (suits_last st h now 0 w) low named
     found
 
 -- each relation of a catalog is counted
-pub catalog_counted : (c : Catalog) → IsCatalog c → AreCounted c.relations
+pub catalog_counted : (c : Catalog) → IsCatalog c → CopiesAreCounted c.relations
 catalog_counted c ic = λ k d low. λ j x l. (((ic.kept k d low).counted j x l).0)

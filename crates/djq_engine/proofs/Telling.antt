@@ -19,16 +19,16 @@ use Rattle.djq_live.specs.Cursors.{Progress, slot_at}
 use Rattle.djq_live.specs.Live.{Live, IsKeptSomewhere, position_of}
 use Rattle.djq_live.specs.Shown.{AnswersAreShown}
 use Rattle.djq_engine.specs.declared.cursor.CursorId.{CursorId}
-use Rattle.djq_engine.specs.Kept.{ExplainGives, Explains, HasTree}
+use Rattle.djq_engine.specs.Kept.{QueryExplainGives, TreeExplains, HasTree}
 use Rattle.djq_engine.specs.declared.cursor.QueryId.{QueryId}
 use Rattle.djq_engine.specs.declared.parts.Parts.{Parts}
 use Rattle.djq_engine.specs.Lending.{LendsQuery}
-use Rattle.djq_engine.specs.Whole.{kept_in, IsWhole}
+use Rattle.djq_engine.specs.Whole.{kept_in, EngineIsWhole}
 use Rattle.djq_engine.proofs.Enlisted.{registered_gives}
 use Rattle.djq_engine.proofs.Holding.{held_is}
 use Rattle.djq_reach.specs.Places.{place_at}
-use Rattle.djq_engine.specs.Places.{queries_in, query_in, store_of, held_as, held_of, is_query}
-use Rattle.djq_engine.specs.Sound.{IsSound}
+use Rattle.djq_engine.specs.Places.{queries_in, query_in, store_of, held_query_cursor, query_cursor_of, is_query}
+use Rattle.djq_engine.specs.Sound.{QueriesAreSound}
 use Rattle.djq_engine.proofs.Conditions.{answers_refused, answers_done, answers_lacking}
 use Rattle.djq_engine.proofs.Naming.{Named, query_named, no_query_of}
 use Rattle.djq_reach.proofs.Reaching.{place_below, below_some, place_read}
@@ -50,7 +50,7 @@ named_there gs name at n p is none =
     differ x o e f = cc
 
 module _ (c : Catalog) (gs : List (Option Live)) (order : List ℕ) (readers : List (List ℕ)) (seq : ℕ)
-    (s : IsSound c gs order readers) (name : Bytes) (tuple : Tuple) where
+    (s : QueriesAreSound c gs order readers) (name : Bytes) (tuple : Tuple) where
   pub tells_none : None ≡ position (is_query name) gs → TellsWhether (store_of c gs order seq) name tuple (Err NoQuery)
   tells_none e = record {
     answer = answers_refused (has_refusal (store_of c gs order seq) name tuple) NoQuery _ _
@@ -96,7 +96,7 @@ module _ (c : Catalog) (gs : List (Option Live)) (order : List ℕ) (readers : L
   missing e = ap (λ (o : Option Listed). first_refusal ((is_none o, NoQuery) ∷ [])) (no_query_of c gs order readers s
       name e)
 
-  pub explain_none : None ≡ position (is_query name) gs → ExplainGives (store_of c gs order seq) name (Err NoQuery)
+  pub explain_none : None ≡ position (is_query name) gs → QueryExplainGives (store_of c gs order seq) name (Err NoQuery)
   explain_none e = record {
     answer = answers_refused (first_refusal ((is_none (listed_of (queries_in gs order) name), NoQuery) ∷ [])) NoQuery
         _ _
@@ -117,21 +117,21 @@ module _ (c : Catalog) (gs : List (Option Live)) (order : List ℕ) (readers : L
     pub query_kept : IsKeptSomewhere l
     query_kept = (c, (s.live at l there).kept)
 
-    pub explain_lacks : ExplainGives (store_of c gs order seq) name (Err NoMemory)
+    pub explain_lacks : QueryExplainGives (store_of c gs order seq) name (Err NoMemory)
     explain_lacks = record {
       answer = answers_lacking (first_refusal ((is_none (listed_of (queries_in gs order) name), NoQuery) ∷ []))
-          (λ lines. IsSomeAnd (listed_of (queries_in gs order) name) (λ q. Explains q lines)) _ passes
+          (λ lines. IsSomeAnd (listed_of (queries_in gs order) name) (λ q. TreeExplains q lines)) _ passes
           (subst (λ (o : Option Listed). IsSomeAnd o HasTree) (sym (found at n l there))
           (l.reducts.tree, (s.live at l there).kept.named));
     }
 
     pub explain_done : (lines : List ℕ) → lines
         ≡ explain_of (map (λ a. a.relation) l.query.atoms) (variable_names l.query) l.reducts.tree
-        → ExplainGives (store_of c gs order seq) name (Ok lines)
+        → QueryExplainGives (store_of c gs order seq) name (Ok lines)
     explain_done lines e = record {
       answer = answers_done (first_refusal ((is_none (listed_of (queries_in gs order) name), NoQuery) ∷ [])) lines
-          (λ lines. IsSomeAnd (listed_of (queries_in gs order) name) (λ q. Explains q lines)) _ passes
-          (subst (λ (o : Option Listed). IsSomeAnd o (λ q. Explains q lines)) (sym (found at n l there))
+          (λ lines. IsSomeAnd (listed_of (queries_in gs order) name) (λ q. TreeExplains q lines)) _ passes
+          (subst (λ (o : Option Listed). IsSomeAnd o (λ q. TreeExplains q lines)) (sym (found at n l there))
           (record { tree = l.reducts.tree; named = (s.live at l there).kept.named; are = e }));
     }
 
@@ -152,11 +152,11 @@ answer_read gs at p l P h is some =
 
 -- a registered query is lent
 position_is : (texts : List Bytes) (l : Live) (id : CursorId) (o : Option Progress)
-    → option_map (λ h. h.position) (option_map (held_as texts l id) o) ≡ option_map (position_of texts l) o
+    → option_map (λ h. h.position) (option_map (held_query_cursor texts l id) o) ≡ option_map (position_of texts l) o
 position_is texts l id None = refl
 position_is texts l id (Some p) = refl
 
-pub lends : (p : Parts) → IsWhole p → (id : QueryId) (l : Live) → place_at p.queries.items id.at ≡ Some l
+pub lends : (p : Parts) → EngineIsWhole p → (id : QueryId) (l : Live) → place_at p.queries.items id.at ≡ Some l
     → AnswersAreShown
     → LendsQuery (kept_in p) id l
 lends p s id l there law =
@@ -174,6 +174,6 @@ lends p s id l there law =
       answers = λ t. law c l.query l.numbered l.patterns l.reducts kept.over t;
       cursors = λ slot.
           let at : CursorId = record { query = id; cursor = slot } in
-          ap (option_map (λ h. h.position)) (held_is c.texts p.queries.items at ∙ ap (held_of c.texts at) there)
+          ap (option_map (λ h. h.position)) (held_is c.texts p.queries.items at ∙ ap (query_cursor_of c.texts at) there)
           ∙ position_is c.texts l at (slot_at l.cursors slot);
     }

@@ -16,9 +16,9 @@ use Rattle.djq_live.specs.Shown.{shown, AreShownAs}
 use Rattle.djq_live.specs.Live.{Live, IsKept, IsShowable, ShowableStays}
 use Rattle.djq_live.specs.Updating.{change_of}
 use Rattle.djq_reach.specs.Places.{place_at, is_reader, readers_at, log_at, no_log, watched_at}
-use Rattle.djq_engine.specs.Sound.{IsSound}
+use Rattle.djq_engine.specs.Sound.{QueriesAreSound}
 use Rattle.djq_reach.specs.Reaching.{AllAt}
-use Rattle.djq_reach.specs.Tending.{Tells, TellsWhere, TellsAt, Shows, AreShown, TendedAt, Tends}
+use Rattle.djq_reach.specs.Tending.{LogTellsOver, TellsWhere, LogTellsAt, LogShows, LogsCanBeShown, TendedAt, Tends}
 use Rattle.djq_reach.specs.Tending.{Empties, cost_at, Costs}
 use Rattle.djq_engine.specs.Placing.{SameLogs}
 use Rattle.djq_engine.specs.Changing.{IsDeltaWith}
@@ -41,7 +41,7 @@ showable_alike texts u l m a s = record {
 }
 
 pub shown_alike : (texts : List Bytes) (gs hs : List (Option Live)) (logs : List Log) → AreAlike gs hs
-    → AreShown texts gs logs → AreShown texts hs logs
+    → LogsCanBeShown texts gs logs → LogsCanBeShown texts hs logs
 shown_alike texts gs hs logs a h i m there kept =
     by_place (place_at gs i) refl (subst (λ (o : Option Live). AlikeAt (place_at gs i) o) there (a i))
   where
@@ -51,19 +51,19 @@ shown_alike texts gs hs logs a h i m there kept =
     by_place (Some l) e b = λ k d low. showable_alike texts _ l m b (h i l e kept k d low)
 
 pub shown_more : ShowableStays → (texts more now : List Bytes) → now ≡ texts ++ more
-    → (gs : List (Option Live)) (logs : List Log) → AreShown texts gs logs → AreShown now gs logs
+    → (gs : List (Option Live)) (logs : List Log) → LogsCanBeShown texts gs logs → LogsCanBeShown now gs logs
 shown_more law texts more now e gs logs h i l there kept k d low =
     subst (λ (ts : List Bytes). IsShowable ts l (get_or (log_at logs i).lines k d).answer) (sym e)
     (law texts more l l (get_or (log_at logs i).lines k d).answer refl refl (h i l there kept k d low)).0
 
 pub shown_same : (texts : List Bytes) (gs : List (Option Live)) (old new : List Log) → SameLogs gs old new
-    → AreShown texts gs old → AreShown texts gs new
+    → LogsCanBeShown texts gs old → LogsCanBeShown texts gs new
 shown_same texts gs old new same h i l there kept =
     subst (λ (x : Log). All (λ k. IsShowable texts l k.answer) x.lines) (sym (same i l there))
     (h i l there (ap (λ (x : Log). x.lost) (sym (same i l there)) ∙ kept))
 
 pub shown_emptied : (texts : List Bytes) (gs : List (Option Live)) (places : List ℕ) (old new : List Log)
-    → Empties places old new → AreShown texts gs old → AreShown texts gs new
+    → Empties places old new → LogsCanBeShown texts gs old → LogsCanBeShown texts gs new
 shown_emptied texts gs places old new a h i l there kept = by_reader (is_reader places i) refl
   where
     by_reader : (b : Bool) → is_reader places i ≡ b → All (λ k. IsShowable texts l k.answer) (log_at new i).lines
@@ -73,7 +73,7 @@ shown_emptied texts gs places old new a h i l there kept = by_reader (is_reader 
 
 -- a query less
 pub shown_dropped : (texts : List Bytes) (gs : List (Option Live)) (logs : List Log) (at : ℕ) (x : Log) → at < length gs
-    → x.lines ≡ [] → AreShown texts gs logs → AreShown texts (set gs at None) (set logs at x)
+    → x.lines ≡ [] → LogsCanBeShown texts gs logs → LogsCanBeShown texts (set gs at None) (set logs at x)
 shown_dropped texts gs logs at x low none h i l there kept =
     everywhere (λ i. (l : Live) → place_at (set gs at None) i ≡ Some l → (log_at (set logs at x) i).lost ≡ false
     → All (λ k. IsShowable texts l k.answer) (log_at (set logs at x) i).lines) at
@@ -89,7 +89,7 @@ shown_dropped texts gs logs at x low none h i l there kept =
 -- a query more
 pub shown_enrolled : (texts : List Bytes) (gs hs : List (Option Live)) (old new : List Log) (place : ℕ)
     → ((i : ℕ) → i ≢ place → place_at hs i ≡ place_at gs i) → (log_at new place).lines ≡ []
-    → SameLogs gs old new → AreShown texts gs old → AreShown texts hs new
+    → SameLogs gs old new → LogsCanBeShown texts gs old → LogsCanBeShown texts hs new
 shown_enrolled texts gs hs old new place others none same h i l there kept =
     everywhere (λ i. (l : Live) → place_at hs i ≡ Some l → (log_at new i).lost ≡ false
     → All (λ k. IsShowable texts l k.answer) (log_at new i).lines) place
@@ -97,24 +97,25 @@ shown_enrolled texts gs hs old new place others none same h i l there kept =
     (λ i d l there kept. shown_same texts gs old new same h i l (sym (others i d) ∙ there) kept) i l there kept
 
 pub shown_places : (texts : List Bytes) (gs hs : List (Option Live)) (old new : List Log)
-    → ((i : ℕ) → place_at hs i ≡ place_at gs i) → SameLogs gs old new → AreShown texts gs old → AreShown texts hs new
+    → ((i : ℕ) → place_at hs i ≡ place_at gs i) → SameLogs gs old new → LogsCanBeShown texts gs old
+    → LogsCanBeShown texts hs new
 shown_places texts gs hs old new places same h i l there kept = shown_same texts gs old new same h i l
     (sym (places i) ∙ there) kept
 
 pub shown_tended : (Changed : Catalog → Catalog → Tuple → Type 0) (c d : Catalog) (gs : List (Option Live))
     (ps : List ℕ) (old new : List Log) (row : Tuple) → AllAt ps gs (λ l. IsKept c l) → Changed c d row → d.texts
     ≡ c.texts
-    → Tends ps (Shows Changed) gs old new → AreShown c.texts gs old → AreShown c.texts gs new
+    → Tends ps (LogShows Changed) gs old new → LogsCanBeShown c.texts gs old → LogsCanBeShown c.texts gs new
 shown_tended Changed c d gs ps old new row kept ch texts t h i l there unlost =
     by_reader (is_reader ps i) refl
-    (subst (λ (o : Option Live). TendedAt (Shows Changed i) (is_reader ps i) o (log_at old i) (log_at new i)) there
+    (subst (λ (o : Option Live). TendedAt (LogShows Changed i) (is_reader ps i) o (log_at old i) (log_at new i)) there
     (t.each i))
   where
     stays : log_at new i ≡ log_at old i → All (λ k. IsShowable c.texts l k.answer) (log_at new i).lines
     stays e = subst (λ (x : Log). All (λ k. IsShowable c.texts l k.answer) x.lines) (sym e)
         (h i l there (ap (λ (x : Log). x.lost) (sym e) ∙ unlost))
 
-    by_reader : (b : Bool) → is_reader ps i ≡ b → TendedAt (Shows Changed i) b (Some l) (log_at old i) (log_at new i)
+    by_reader : (b : Bool) → is_reader ps i ≡ b → TendedAt (LogShows Changed i) b (Some l) (log_at old i) (log_at new i)
         → All (λ k. IsShowable c.texts l k.answer) (log_at new i).lines
     by_reader false e s = stays s
     by_reader true e (inl s) = stays s
@@ -125,19 +126,19 @@ shown_tended Changed c d gs ps old new row kept ch texts t h i l there unlost =
 -- ---- the readers of a relation
 
 module _ (Changed : Catalog → Catalog → Tuple → Type 0) (c d : Catalog) (gs : List (Option Live)) (order : List ℕ)
-    (readers : List (List ℕ)) (s : IsSound c gs order readers) (at : ℕ) (low : at < length c.relations)
+    (readers : List (List ℕ)) (s : QueriesAreSound c gs order readers) (at : ℕ) (low : at < length c.relations)
     (ws places : List ℕ) (are : places ≡ readers_at readers at) (row : Tuple) (changed : Changed c d row)
     (rows : List CountedRow) (rel : d.relations ≡ with_rows_at c.relations at rows) where
-  pub tells_rows : (old new : List Log) → Tends places (TellsAt ws Changed) gs old new → (i : ℕ) (l : Live)
+  pub tells_rows : (old new : List Log) → Tends places (LogTellsAt ws Changed) gs old new → (i : ℕ) (l : Live)
       → is_reader (readers_at readers at) i ≡ true → watched_at ws i ≡ true
       → place_at gs i ≡ Some l → (log_at new i).lost ≡ false
       → IsDeltaWith at rows c.relations l (map (change_of d.texts l) (log_at new i).lines)
   tells_rows old new t i l reads watched there kept =
-      let a = subst (λ (b : Bool). TendedAt (TellsAt ws Changed i) b (place_at gs i) (log_at old i) (log_at new i))
+      let a = subst (λ (b : Bool). TendedAt (LogTellsAt ws Changed i) b (place_at gs i) (log_at old i) (log_at new i))
       (ap (λ (ps : List ℕ). is_reader ps i) are ∙ reads) (t.each i) in
       let b : TellsWhere (watched_at ws i) Changed l (log_at old i) (log_at new i) = subst
-      (λ (o : Option Live). TendedAt (TellsAt ws Changed i) true o (log_at old i) (log_at new i)) there a in
-      let x : Tells Changed l (log_at new i) = subst
+      (λ (o : Option Live). TendedAt (LogTellsAt ws Changed i) true o (log_at old i) (log_at new i)) there a in
+      let x : LogTellsOver Changed l (log_at new i) = subst
       (λ (w : Bool). TellsWhere w Changed l (log_at old i) (log_at new i)) watched b in
       subst (λ (rs : List Relation). IsDelta (IsAnswer c.relations l.query) (IsAnswer rs l.query)
       (map (change_of d.texts l) (log_at new i).lines)) rel

@@ -11,10 +11,10 @@ use Rattle.djq_reach.specs.Reaching.{Reach, Renews}
 use Rattle.djq_engine.specs.declared.cursor.CursorId.{CursorId}
 use Rattle.djq_engine.specs.declared.parts.Parts.{Parts}
 use Rattle.djq_engine.specs.Kept.{held_at, outdated_held}
-use Rattle.djq_engine.specs.Places.{query_in, queries_in, registered_in, held_from}
-use Rattle.djq_engine.specs.Sound.{IsSound}
+use Rattle.djq_engine.specs.Places.{query_in, queries_in, registered_in, query_cursors_from}
+use Rattle.djq_engine.specs.Sound.{QueriesAreSound}
 use Rattle.djq_engine.specs.Outdating.{AgesAll}
-use Rattle.djq_engine.specs.Whole.{kept_in, IsWhole}
+use Rattle.djq_engine.specs.Whole.{kept_in, EngineIsWhole}
 use Rattle.djq_engine.proofs.Aging.{SameNames}
 use Rattle.djq_engine.proofs.Enlisted.{registered_same}
 use Rattle.djq_engine.proofs.Renewing.{TurnsAt, turned_all, turned_alike, outdated_sound}
@@ -35,7 +35,7 @@ pub record Turned (outdater : Listed → Option Bytes) (places : List ℕ) (old 
   pub order : new.order ≡ old.order
   pub watchers : new.watchers.items ≡ old.watchers.items
 
-module _ (outdater : Listed → Option Bytes) (places : List ℕ) (old mid new : Parts) (s : IsWhole old)
+module _ (outdater : Listed → Option Bytes) (places : List ℕ) (old mid new : Parts) (s : EngineIsWhole old)
     (b : Turned outdater places old mid new) where
   turns : (i : ℕ) → TurnsAt old.catalog mid.catalog outdater new.seq (place_at old.queries.items i)
       (place_at new.queries.items i)
@@ -49,11 +49,11 @@ module _ (outdater : Listed → Option Bytes) (places : List ℕ) (old mid new :
   alike_then = turned_alike old.catalog mid.catalog outdater new.seq places old.queries.items mid.queries.items
       new.queries.items b.reach b.stay b.within b.ages
 
-  pub whole_then : IsWhole new
+  pub whole_then : EngineIsWhole new
   whole_then =
-      subst (λ (x : Catalog). IsSound x new.queries.items new.order new.readers.items) (sym b.catalog)
-      (subst (λ (o : List ℕ). IsSound mid.catalog new.queries.items o new.readers.items) (sym b.order)
-      (subst (λ (rs : List (List ℕ)). IsSound mid.catalog new.queries.items old.order rs) (sym b.readers)
+      subst (λ (x : Catalog). QueriesAreSound x new.queries.items new.order new.readers.items) (sym b.catalog)
+      (subst (λ (o : List ℕ). QueriesAreSound mid.catalog new.queries.items o new.readers.items) (sym b.order)
+      (subst (λ (rs : List (List ℕ)). QueriesAreSound mid.catalog new.queries.items old.order rs) (sym b.readers)
       (outdated_sound old.catalog mid.catalog old.queries.items new.queries.items old.order old.readers.items s outdater
       new.seq turns many b.names)))
 
@@ -65,7 +65,7 @@ module _ (outdater : Listed → Option Bytes) (places : List ℕ) (old mid new :
   pub cursors_then : (id : CursorId) → held_at (kept_in new).cursors id
       ≡ held_at (map (outdated_held (queries_in old.queries.items old.order) outdater new.seq) (kept_in old).cursors) id
   cursors_then id =
-      ap (λ (x : Catalog). held_at (held_from x.texts zero new.queries.items) id) b.catalog
+      ap (λ (x : Catalog). held_at (query_cursors_from x.texts zero new.queries.items) id) b.catalog
       ∙ outdated_cursors old.catalog mid.catalog old.queries.items new.queries.items old.order old.readers.items s
       outdater new.seq turns many b.names id
 

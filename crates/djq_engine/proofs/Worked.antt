@@ -19,15 +19,15 @@ use Rattle.djq_live.specs.Updating.{LeavesAreSmall, atoms_over, update_bound}
 use Rattle.djq_reach.specs.declared.group.Group.{Group}
 use Rattle.djq_reach.specs.Places.{place_at, is_reader, readers_at, AreOnce}
 use Rattle.djq_reach.specs.Tending.{work_of, work_at}
-use Rattle.djq_reach.specs.Grouping.{WorksBy, atoms_over_any, reached, relations_of, rows_in}
+use Rattle.djq_reach.specs.Grouping.{WorksBy, atoms_over_any, reached, group_relations, rows_of_groups}
 use Rattle.djq_reach.proofs.Costing.{sums_within}
 use Rattle.djq_reach.proofs.Summing.{sums_all}
 use Rattle.djq_reach.proofs.Working.{sums_both}
 use Rattle.djq_engine.specs.declared.parts.Parts.{Parts}
 use Rattle.djq_engine.specs.Kept.{Registered, readers_of}
-use Rattle.djq_engine.specs.Places.{is_live, query_in, id_at, registered_as}
+use Rattle.djq_engine.specs.Places.{is_live, query_in, id_at, query_registered_as}
 use Rattle.djq_engine.specs.Watching.{AreBounded, update_steps}
-use Rattle.djq_engine.specs.Whole.{kept_in, IsWhole}
+use Rattle.djq_engine.specs.Whole.{kept_in, EngineIsWhole}
 use Rattle.djq_engine.proofs.Affecting.{outdated_places, outdated_are, place_is}
 use Rattle.djq_engine.proofs.Enlisted.{registered_is}
 use Rattle.djq_engine.proofs.Filled.{Filled, reaches, reached_there}
@@ -100,10 +100,10 @@ atoms_front ats at (m ∷ ms) out = step (m.relation == at) (at == m.relation) (
     step false false false e f h more = more
 
 -- each group so many times at most
-work_in : (times n : ℕ) (t : Group → ℕ) (l : Live) (groups : List Group) → AreOnce (relations_of groups)
+work_in : (times n : ℕ) (t : Group → ℕ) (l : Live) (groups : List Group) → AreOnce (group_relations groups)
     → All (λ g. t g ≤ times) groups
     → sum_by (λ g. work_of g.relation.at (t g) n false (Some l)) groups ≤ times *
-    (atoms_over_any l (relations_of groups) * update_bound l n)
+    (atoms_over_any l (group_relations groups) * update_bound l n)
 work_in times n t l [] once few = omega arith
 work_in times n t l (g ∷ groups) once few =
     let b = update_bound l n in
@@ -112,13 +112,15 @@ work_in times n t l (g ∷ groups) once few =
     (atoms_over l g.relation.at * update_bound l n)
     = mul-le (t g) (atoms_over l g.relation.at * update_bound l n) times (atoms_over l g.relation.at * update_bound l n)
     (few zero g (omega arith)) (omega arith) in
-    let atoms = atoms_front (relations_of groups) g.relation.at (l.numbered).atoms once.0 in
-    let all : times * ((atoms_over l g.relation.at + atoms_over_any l (relations_of groups)) * update_bound l n) ≤ times
-    * (atoms_over_any l (relations_of (g ∷ groups)) * update_bound l n)
+    let atoms = atoms_front (group_relations groups) g.relation.at (l.numbered).atoms once.0 in
+    let all : times *
+    ((atoms_over l g.relation.at + atoms_over_any l (group_relations groups)) * update_bound l n) ≤ times
+    * (atoms_over_any l (group_relations (g ∷ groups)) * update_bound l n)
     = mul-le-mul_left times
-    (mul-le (atoms_over l g.relation.at + atoms_over_any l (relations_of groups)) (update_bound l n)
-    (atoms_over_any l (relations_of (g ∷ groups))) (update_bound l n) atoms (omega arith)) in
-    let both = parts times (atoms_over l g.relation.at) (atoms_over_any l (relations_of groups)) (update_bound l n) in
+    (mul-le (atoms_over l g.relation.at + atoms_over_any l (group_relations groups)) (update_bound l n)
+    (atoms_over_any l (group_relations (g ∷ groups))) (update_bound l n) atoms (omega arith)) in
+    let both = parts times (atoms_over l g.relation.at) (atoms_over_any l (group_relations groups))
+    (update_bound l n) in
     omega (
       arith,
       rest,
@@ -144,9 +146,10 @@ came_few st (h ∷ held) = by (is_there st h) (came_few (with_held st h) held)
     by true e = omega (arith, e)
     by false e = omega (arith, e)
 
-module _ (old : Parts) (s : IsWhole old) (held : List HeldRow) (before now : Catalog) (groups : List Group) (count : ℕ)
+module _ (old : Parts) (s : EngineIsWhole old) (held : List HeldRow) (before now : Catalog)
+    (groups : List Group) (count : ℕ)
     (k : Filled old held before now groups count) (law : LeavesAreSmall)
-    (fits : rows_in groups ≤ length held) where
+    (fits : rows_of_groups groups ≤ length held) where
   abbrev change : RowsChange
   change = rows_held (kept_in old).store held
 
@@ -183,8 +186,8 @@ module _ (old : Parts) (s : IsWhole old) (held : List HeldRow) (before now : Cat
       let t = y.0 in
       let registered = registered_is old.catalog old.queries.items old.order old.readers.items old.watchers.items s
       (id_at i)
-      ∙ ap (λ b. cond b (Some (registered_as old.queries.items old.watchers.items i)) None) (ap is_some t.is) in
-      let bound = few (id_at i) (registered_as old.queries.items old.watchers.items i) registered y.1 in
+      ∙ ap (λ b. cond b (Some (query_registered_as old.queries.items old.watchers.items i)) None) (ap is_some t.is) in
+      let bound = few (id_at i) (query_registered_as old.queries.items old.watchers.items i) registered y.1 in
       subst (λ (o : Option Live). IsSomeAnd o (λ l. HasAtMost l.reducts n)) (sym t.is)
       (law old.catalog t.query n (s.live i t.query t.is).kept (record {
         each = λ a has.
@@ -197,7 +200,7 @@ module _ (old : Parts) (s : IsWhole old) (held : List HeldRow) (before now : Cat
   counts_one : (times n : ℕ) (t : Group → ℕ) → All (λ g. t g ≤ times) groups → (i : ℕ)
       → is_reader (outdated_places old.queries.items old.order (rows_held (kept_in old).store held)) i ≡ true
       → sum_at old.readers.items
-      (λ g j. work_at old.queries.items g.relation.at (t g) (n + rows_in groups) (λ j. false) j) groups i
+      (λ g j. work_at old.queries.items g.relation.at (t g) (n + rows_of_groups groups) (λ j. false) j) groups i
       ≤ times * update_steps (rows_held (kept_in old).store held) (n + length held)
       (query_in (place_at old.queries.items i))
   unfolding sum_at
@@ -206,23 +209,24 @@ module _ (old : Parts) (s : IsWhole old) (held : List HeldRow) (before now : Cat
       let l = y.query in
       let kept = (s.live i l y.is).kept in
       let some = sums_all (λ (g : Group). cond (is_reader (readers_at old.readers.items g.relation.at) i)
-      (work_at old.queries.items g.relation.at (t g) (n + rows_in groups) (λ j. false) i) 0)
-      (λ (g : Group). work_of g.relation.at (t g) (n + rows_in groups) false (place_at old.queries.items i)) groups
+      (work_at old.queries.items g.relation.at (t g) (n + rows_of_groups groups) (λ j. false) i) 0)
+      (λ (g : Group). work_of g.relation.at (t g) (n + rows_of_groups groups) false
+      (place_at old.queries.items i)) groups
       (λ g. passes (is_reader (readers_at old.readers.items g.relation.at) i)
-      (work_of g.relation.at (t g) (n + rows_in groups) false (place_at old.queries.items i))) in
+      (work_of g.relation.at (t g) (n + rows_of_groups groups) false (place_at old.queries.items i))) in
       let whole = subst (λ (o : Option Live). sum_by
-      (λ (g : Group). work_of g.relation.at (t g) (n + rows_in groups) false o) groups ≤ times *
-      (atoms_over_any l (relations_of groups) * update_bound l (n + rows_in groups))) (sym y.is)
-      (work_in times (n + rows_in groups) t l groups (k.puts).grouped.differ few) in
+      (λ (g : Group). work_of g.relation.at (t g) (n + rows_of_groups groups) false o) groups ≤ times *
+      (atoms_over_any l (group_relations groups) * update_bound l (n + rows_of_groups groups))) (sym y.is)
+      (work_in times (n + rows_of_groups groups) t l groups (k.puts).grouped.differ few) in
       let fewer = atoms_touched (kept_in old).store held k.found old.readers.items old.queries.items
       (sound_readers old.catalog old.queries.items old.order old.readers.items s) groups (k.puts).grouped.within
       (k.puts).come
       old.catalog (λ r. refl) (l.numbered).variables (l.query).atoms (l.numbered).atoms kept.over.asked.atoms in
       let text = subst (λ (o : Option Live). times *
-      (atoms_over_any l (relations_of groups) * update_bound l (n + rows_in groups)) ≤ times * update_steps
+      (atoms_over_any l (group_relations groups) * update_bound l (n + rows_of_groups groups)) ≤ times * update_steps
       (rows_held (kept_in old).store held) (n + length held) (query_in o)) (sym y.is)
       (mul-le-mul_left times
-      (mul-le (atoms_over_any l (relations_of groups)) (update_bound l (n + rows_in groups))
+      (mul-le (atoms_over_any l (group_relations groups)) (update_bound l (n + rows_of_groups groups))
       (length (filter (λ a. has_come (kept_in old).store held a.relation) (l.query).atoms))
       (16 * (text_size l.query * (n + length held + 1))) fewer (wider l kept n))) in
       omega (arith, some, whole, text)
@@ -232,15 +236,15 @@ module _ (old : Parts) (s : IsWhole old) (held : List HeldRow) (before now : Cat
       passes false x = omega arith
 
       wider : (l : Live) → IsKept old.catalog l → (n : ℕ)
-          → update_bound l (n + rows_in groups) ≤ 16 * (text_size l.query * (n + length held + 1))
+          → update_bound l (n + rows_of_groups groups) ≤ 16 * (text_size l.query * (n + length held + 1))
       wider l kept n =
           let size = size_of_text old.catalog l kept in
           mul-le-mul_left 16 (mul-le (length (l.numbered).atoms + length (l.numbered).variables)
-          (n + rows_in groups + 1) (text_size l.query) (n + length held + 1) (omega (arith, size))
+          (n + rows_of_groups groups + 1) (text_size l.query) (n + length held + 1) (omega (arith, size))
           (omega (arith, fits)))
 
   pub counts_all : (times : ℕ) (t : Group → ℕ) → All (λ g. t g ≤ times) groups → (from to : ℕ)
-      → WorksBy old.readers.items groups old.queries.items (rows_in groups) t from to
+      → WorksBy old.readers.items groups old.queries.items (rows_of_groups groups) t from to
       → (n : ℕ) → AreBounded (kept_in old) (rows_held (kept_in old).store held) n (λ q. false)
       → to ≤ from + sum_by (λ r. times * update_steps (rows_held (kept_in old).store held) (n + length held) r.query)
       (readers_of (kept_in old).registered (rows_held (kept_in old).store held))
@@ -249,22 +253,22 @@ module _ (old : Parts) (s : IsWhole old) (held : List HeldRow) (before now : Cat
       → ℕ = λ r. times * update_steps (rows_held (kept_in old).store held) (n + length held) r.query in
       let a = works n (small n bounds) in
       let b = swapped old.readers.items
-      (λ g j. work_at old.queries.items g.relation.at (t g) (n + rows_in groups) (λ j. false) j) groups places
+      (λ g j. work_at old.queries.items g.relation.at (t g) (n + rows_of_groups groups) (λ j. false) j) groups places
       (sound_readers old.catalog old.queries.items old.order old.readers.items s).once reached_outdated in
       let c = sums_le (sum_at old.readers.items
-      (λ g j. work_at old.queries.items g.relation.at (t g) (n + rows_in groups) (λ j. false) j) groups) steps
-      (registered_as old.queries.items old.watchers.items) places
+      (λ g j. work_at old.queries.items g.relation.at (t g) (n + rows_of_groups groups) (λ j. false) j) groups) steps
+      (query_registered_as old.queries.items old.watchers.items) places
       (counts_one times n t few) in
       let d = subst (λ (rs : List Registered). sum_by
       (sum_at old.readers.items
-      (λ g j. work_at old.queries.items g.relation.at (t g) (n + rows_in groups) (λ j. false) j) groups) places ≤
+      (λ g j. work_at old.queries.items g.relation.at (t g) (n + rows_of_groups groups) (λ j. false) j) groups) places ≤
       sum_by steps rs)
       (sym (outdated_are old.catalog old.queries.items old.order old.readers.items s old.watchers.items change places
       refl)) c in
       omega (arith, a, b, d)
 
 -- each group's rows are among all
-pub rows_each : (groups : List Group) (most : ℕ) → rows_in groups ≤ most
+pub rows_each : (groups : List Group) (most : ℕ) → rows_of_groups groups ≤ most
     → All (λ g. length g.rows + 2 ≤ most + 2) groups
 rows_each [] most e k d low = absurd (omega (arith, low))
 rows_each (g ∷ groups) most e zero d low = let parts = sum_by-cons (λ (h : Group). length h.rows) g groups in omega

@@ -22,11 +22,11 @@ use Rattle.djq_live.specs.Updating.{LeavesAreSmall, atoms_over, flat_bound, upda
 use Rattle.djq_engine.specs.declared.parts.Parts.{Parts}
 use Rattle.djq_engine.specs.Kept.{Registered, registered_at, readers_of}
 use Rattle.djq_reach.specs.Places.{place_at, is_reader, readers_at}
-use Rattle.djq_engine.specs.Places.{is_live, query_in, id_at, registered_as}
+use Rattle.djq_engine.specs.Places.{is_live, query_in, id_at, query_registered_as}
 use Rattle.djq_reach.specs.Tending.{IsBounded, work_of, work_at}
 use Rattle.djq_engine.specs.Changing.{WorksRows}
 use Rattle.djq_engine.specs.Watching.{AreBounded, CountsUpdates, IsBoundedBy, bounded_steps}
-use Rattle.djq_engine.specs.Whole.{kept_in, IsWhole}
+use Rattle.djq_engine.specs.Whole.{kept_in, EngineIsWhole}
 use Rattle.djq_engine.proofs.Carrying.{reader_is, reader_reads}
 use Rattle.djq_engine.proofs.Enlisted.{outdated_reads, readers_are, registered_is}
 use Rattle.djq_engine.proofs.Listing.{here, behind}
@@ -63,7 +63,7 @@ bounds {x} {y} f e = subst (λ (z : ℕ). f x ≤ f z) e (omega arith)
 
 -- ---- as contracts see it
 
-module _ (old : Parts) (s : IsWhole old) (at : ℕ) (low : at < length (old.catalog).relations)
+module _ (old : Parts) (s : EngineIsWhole old) (at : ℕ) (low : at < length (old.catalog).relations)
     (name : Bytes) (named : (relation_at (old.catalog).relations at).name ≡ name)
     (after : List Relation) (law : LeavesAreSmall) where
   reads_there : (i : ℕ) → is_reader (readers_at old.readers.items at) i ≡ true
@@ -86,11 +86,11 @@ module _ (old : Parts) (s : IsWhole old) (at : ℕ) (low : at < length (old.cata
 
   registered_here : (i : ℕ) → is_reader (readers_at old.readers.items at) i ≡ true
       → registered_at (kept_in old).registered (id_at i)
-      ≡ Some (registered_as old.queries.items old.watchers.items i)
+      ≡ Some (query_registered_as old.queries.items old.watchers.items i)
   registered_here i e =
       registered_is old.catalog old.queries.items old.order old.readers.items old.watchers.items s
       (id_at i)
-      ∙ ap (λ b. cond b (Some (registered_as old.queries.items old.watchers.items i)) None)
+      ∙ ap (λ b. cond b (Some (query_registered_as old.queries.items old.watchers.items i)) None)
       (ap is_some (reads_there i e).is)
 
   -- what is registered in a place
@@ -103,7 +103,7 @@ module _ (old : Parts) (s : IsWhole old) (at : ℕ) (low : at < length (old.cata
   bounded n as_flat few i e =
       let t = reads_there i e in
       subst (λ (o : Option Live). IsSomeAnd o (IsBounded n (as_flat (seen i)))) (sym t.is)
-      (chosen (as_flat (seen i)) (few (id_at i) (registered_as old.queries.items old.watchers.items i)
+      (chosen (as_flat (seen i)) (few (id_at i) (query_registered_as old.queries.items old.watchers.items i)
       (registered_here i e) (reads_name i e)))
     where
       chosen : (b : Bool) → IsBoundedBy (old.catalog).relations n b (seen i) → IsBounded n b (reads_there i e).query
@@ -159,7 +159,7 @@ module _ (old : Parts) (s : IsWhole old) (at : ℕ) (low : at < length (old.cata
         bounded_steps (one_change name after) times n (as_flat r.query) r.query in
         let a = works n chosen (bounded n as_flat few) in
         let b = sums_le (work_at old.queries.items at times n chosen) steps
-        (registered_as old.queries.items old.watchers.items) (readers_at old.readers.items at)
+        (query_registered_as old.queries.items old.watchers.items) (readers_at old.readers.items at)
         (steps_of times n as_flat) in
         let same = ap (λ (x : Bytes). readers_of (kept_in old).registered (one_change x after)) (sym named)
         ∙ readers_are old.catalog old.queries.items old.order old.readers.items

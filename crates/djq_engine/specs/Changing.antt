@@ -32,7 +32,7 @@ abbrev pub HasRow : Catalog → ℕ → List ℕ → Type 0
 HasRow c at cells = (row : Tuple) × StandForRow c at cells row
 
 -- The cells stand for a row that isn't there, and there is room for it.
-pub record IsNew (c : Catalog) (at : ℕ) (cells : List ℕ) (row : Tuple) : Type 0 where
+pub record IsNewRow (c : Catalog) (at : ℕ) (cells : List ℕ) (row : Tuple) : Type 0 where
   pub stand : StandForRow c at cells row
   pub absent : has_row (rows_at c.relations at) row ≡ false
   pub room : length (rows_at c.relations at) < ROWS
@@ -71,7 +71,7 @@ pub record HasRows (at : ℕ) (rows : List CountedRow) (old new : Parts) : Type 
   pub carries : CarriesReaders at old new
 
 -- A row came, whose texts were known.
-pub record Puts (at : ℕ) (row : Tuple) (old new : Parts) : Type 0 where
+pub record PutsKnownRow (at : ℕ) (row : Tuple) (old new : Parts) : Type 0 where
   pub texts : (new.catalog).texts ≡ (old.catalog).texts
   pub has : HasRows at (with_row (counted_at (old.catalog).relations at) row) old new
 
@@ -81,7 +81,7 @@ pub record Waits (at : ℕ) (old new : Parts) : Type 0 where
   pub carries : CarriesReaders at old new
 
 -- A row went.
-pub record Drops (at : ℕ) (row : Tuple) (old new : Parts) : Type 0 where
+pub record DropsRow (at : ℕ) (row : Tuple) (old new : Parts) : Type 0 where
   pub texts : (new.catalog).texts ≡ (old.catalog).texts
   pub has : HasRows at (without_copies (counted_at (old.catalog).relations at) row) old new
 
@@ -106,7 +106,7 @@ pub data NoPlace (at : ℕ) (row : Tuple) (old new : Parts) : Type 0 where
       → FindsNoPlace (old.catalog).texts (texts_in row) (new.catalog).texts → NoPlace at row old new
 
 -- The relations, the queries and the logs are as before.
-pub record LacksPlace (at : ℕ) (row : Tuple) (old new : Parts) : Type 0 where
+pub record RowLacksPlace (at : ℕ) (row : Tuple) (old new : Parts) : Type 0 where
   pub why : NoPlace at row old new
   pub rests : RestsOver old new
   pub logs : new.logs.items ≡ old.logs.items
@@ -122,7 +122,7 @@ pub record HasCopies (at : ℕ) (row : Tuple) (n : ℕ) (old new : Parts) : Type
       → StaysOver old.catalog new.catalog l
 
 -- A row that is there has a copy more.
-pub record HasMore (at : ℕ) (row : Tuple) (n : ℕ) (old new : Parts) : Type 0 where
+pub record HasCopyMore (at : ℕ) (row : Tuple) (n : ℕ) (old new : Parts) : Type 0 where
   pub there : has_row (rows_at (old.catalog).relations at) row ≡ true
   pub more : n ≡ copies_among (counted_at (old.catalog).relations at) row + 1
   pub few : n ≤ COPIES
@@ -136,8 +136,8 @@ for_text NoMemForText = NoMem
 -- What became of a row that was to be added by its cells, all of whose texts were known.
 abbrev pub AddsCells : ℕ → Tuple → Parts → Result AddOutcome AddRefusal → Parts → Type 0
 AddsCells at row old (Ok First) new =
-    (has_row (rows_at (old.catalog).relations at) row ≡ false) × Puts at row old new
-AddsCells at row old (Ok (More n)) new = HasMore at row n old new
+    (has_row (rows_at (old.catalog).relations at) row ≡ false) × PutsKnownRow at row old new
+AddsCells at row old (Ok (More n)) new = HasCopyMore at row n old new
 AddsCells at row old (Err Full) new = HasNoPlace (old.catalog).relations at row
     × (new.catalog ≡ old.catalog) × (new.queries.items ≡ old.queries.items)
     × (new.logs.items ≡ old.logs.items)
@@ -148,8 +148,8 @@ AddsCells at row old (Err NoMem) new =
 abbrev pub AddsTo : ℕ → Tuple → Parts → Result AddOutcome AddRefusal → Parts → Type 0
 AddsTo at row old (Ok First) new =
     (has_row (rows_at (old.catalog).relations at) row ≡ false) × PutsRow at row old new
-AddsTo at row old (Ok (More n)) new = HasMore at row n old new
-AddsTo at row old (Err Full) new = LacksPlace at row old new
+AddsTo at row old (Ok (More n)) new = HasCopyMore at row n old new
+AddsTo at row old (Err Full) new = RowLacksPlace at row old new
 AddsTo at row old (Err NoMem) new =
     (has_row (rows_at (old.catalog).relations at) row ≡ false) × LacksMemory at row old new
 
@@ -157,7 +157,7 @@ AddsTo at row old (Err NoMem) new =
 abbrev pub DeletesFrom : ℕ → Tuple → Parts → DeleteOutcome → Parts → Type 0
 DeletesFrom at row old Last new =
     (has_row (rows_at (old.catalog).relations at) row ≡ true)
-    × (copies_among (counted_at (old.catalog).relations at) row ≡ 1) × Drops at row old new
+    × (copies_among (counted_at (old.catalog).relations at) row ≡ 1) × DropsRow at row old new
 DeletesFrom at row old (Left n) new =
     (has_row (rows_at (old.catalog).relations at) row ≡ true)
     × (copies_among (counted_at (old.catalog).relations at) row ≡ n + 1)

@@ -13,11 +13,11 @@ use Rattle.djq_rows.specs.Catalog.{Catalog, relation_at, counted_at, rows_at}
 use Rattle.djq_rows.specs.declared.relation_id.RelationId.{RelationId}
 
 -- a store, as far as a row's conditions read it
-abbrev pub bare : List Relation → ℕ → Store
-bare relations seq = record { relations = relations; texts = []; queries = []; seq = seq }
+abbrev pub bare_store : List Relation → ℕ → Store
+bare_store relations seq = record { relations = relations; texts = []; queries = []; seq = seq }
 
 -- The relation of a name stands at this place, and a row suits it.
-pub record Suits (relations : List Relation) (name : Bytes) (row : Tuple) (at : ℕ) : Type 0 where
+pub record RowSuits (relations : List Relation) (name : Bytes) (row : Tuple) (at : ℕ) : Type 0 where
   pub below : at < length relations
   pub named : (relation_at relations at).name ≡ name
   pub found : relation_of relations name ≡ Some (relation_at relations at)
@@ -26,14 +26,14 @@ pub record Suits (relations : List Relation) (name : Bytes) (row : Tuple) (at : 
 -- It may be added, unless it has as many copies as there may be.
 pub record MayCome (relations : List Relation) (name : Bytes) (row : Tuple) (seq : ℕ) (at : ℕ) :
     Type 0 where
-  pub relation : Suits relations name row at
+  pub relation : RowSuits relations name row at
   pub room : has_row (rows_at relations at) row ≡ false → length (rows_at relations at) < ROWS
   pub more : has_row (rows_at relations at) row ≡ false → seq < LAST_SEQ
 
 -- A held row suits the relation at this place, and has its place there.
 pub record MayStand (relations : List Relation) (h : HeldRow) (seq : ℕ) (at : ℕ) : Type 0 where
-  pub relation : Suits relations h.relation h.row at
-  pub passes : place_refusal (bare relations seq) h ≡ None
+  pub relation : RowSuits relations h.relation h.row at
+  pub passes : place_refusal (bare_store relations seq) h ≡ None
 
 -- a row of which a copy may be deleted, by its cells
 pub record Deletion : Type 0 where
@@ -43,8 +43,8 @@ pub record Deletion : Type 0 where
 -- A copy of it may be deleted, and it has these cells.
 pub record MayGo (c : Catalog) (name : Bytes) (row : Tuple) (seq : ℕ) (found : Deletion) : Type 0
   where
-    pub relation : Suits c.relations name row found.relation.at
-    pub passes : delete_refusal (bare c.relations seq) name row ≡ None
+    pub relation : RowSuits c.relations name row found.relation.at
+    pub passes : delete_refusal (bare_store c.relations seq) name row ≡ None
     pub have : HaveCells c.texts row
     pub cells : found.cells ≡ cells_of c.texts row
     pub last : copies_among (counted_at c.relations found.relation.at) row ≡ 1 → seq < LAST_SEQ
@@ -52,7 +52,7 @@ pub record MayGo (c : Catalog) (name : Bytes) (row : Tuple) (seq : ℕ) (found :
 -- Its texts aren't all known, so that it isn't there; or it may go.
 abbrev pub JudgesDelete : Catalog → Bytes → Tuple → ℕ → List ℕ → Option RelationId → Type 0
 JudgesDelete c name row seq cells None =
-    (delete_refusal (bare c.relations seq) name row ≡ None)
+    (delete_refusal (bare_store c.relations seq) name row ≡ None)
     × (has_row (rows_of c.relations name) row ≡ false)
 JudgesDelete c name row seq cells (Some relation) =
     MayGo c name row seq (record { relation = relation; cells = cells })

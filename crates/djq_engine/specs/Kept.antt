@@ -107,8 +107,8 @@ abbrev pub SameCursors : List HeldCursor → List HeldCursor → Type 0
 SameCursors old new = (id : CursorId) → held_at new id ≡ held_at old id
 
 -- All other cursors are as before.
-abbrev pub OthersStay : List HeldCursor → CursorId → List HeldCursor → Type 0
-OthersStay old id new = (other : CursorId) → same_id other id ≡ false
+abbrev pub OtherCursorsStay : List HeldCursor → CursorId → List HeldCursor → Type 0
+OtherCursorsStay old id new = (other : CursorId) → same_id other id ≡ false
     → held_at new other ≡ held_at old other
 
 -- a cursor after a change of this number
@@ -134,7 +134,7 @@ pub record SameTellings (old new : Kept) : Type 0 where
   pub told : new.told ≡ old.told
 
 -- This is told of one query, and of the others what was told before.
-pub record TellsOf (old : Kept) (id : QueryId) (told : Option (List Change)) (new : Kept) : Type 0
+pub record TellsOfQuery (old : Kept) (id : QueryId) (told : Option (List Change)) (new : Kept) : Type 0
   where
     pub here : told_at new id ≡ told
     pub others : (other : QueryId) → same_query other id ≡ false → told_at new other ≡ told_at old other
@@ -144,13 +144,13 @@ pub record OpensCursor (old : Kept) (query : Bytes) (id : CursorId) (new : Kept)
   pub fresh : held_at old.cursors id ≡ None
   pub there : held_at new.cursors id
       ≡ Some (record { id = id; query = query; position = open_at [] false })
-  pub others : OthersStay old.cursors id new.cursors
+  pub others : OtherCursorsStay old.cursors id new.cursors
   pub store : new.store ≡ old.store
   pub registered : new.registered ≡ old.registered
   pub tellings : SameTellings old new
 
 -- What `open` answers.
-pub record OpenGives (old : Kept) (query : Bytes) (result : Result CursorId Refusal) (new : Kept) :
+pub record CursorOpenGives (old : Kept) (query : Bytes) (result : Result CursorId Refusal) (new : Kept) :
     Type 0 where
   pub answer : Answers (first_refusal ((is_none (listed_of (old.store).queries query), NoQuery) ∷ []))
       result (λ id. OpensCursor old query id new) (OutOfMemoryWhere ⊤)
@@ -159,7 +159,7 @@ pub record OpenGives (old : Kept) (query : Bytes) (result : Result CursorId Refu
 -- A cursor is moved, and nothing else.
 pub record MovesCursor (old : Kept) (h : HeldCursor) (position : Position) (new : Kept) : Type 0 where
   pub there : held_at new.cursors h.id ≡ Some (record h { position = position })
-  pub others : OthersStay old.cursors h.id new.cursors
+  pub others : OtherCursorsStay old.cursors h.id new.cursors
   pub store : new.store ≡ old.store
   pub registered : new.registered ≡ old.registered
   pub tellings : SameTellings old new
@@ -187,17 +187,17 @@ AnswerIs k id answer t = AtQuery k id (λ l. t ≡ values_of k.store.texts l ans
 
 -- What a read of a cursor gives: one answer that is left; the end exactly where none is; or what
 -- made it stale.
-abbrev pub NextGivesAt : Kept → HeldCursor → Listed → Position → Next → List ℕ → Kept → Type 0
-NextGivesAt old h q (open_at given ended) Given answer new =
+abbrev pub EngineNextGivesAt : Kept → HeldCursor → Listed → Position → Next → List ℕ → Kept → Type 0
+EngineNextGivesAt old h q (open_at given ended) Given answer new =
     (t : Tuple) × IsLeft (AnswersOf (old.store).relations q) given t
     × IsThere new h.id answer × AnswerIs new h.id answer t
     × MovesCursor old h (open_at (given ++ t ∷ []) false) new
-NextGivesAt old h q (open_at given ended) End answer new =
+EngineNextGivesAt old h q (open_at given ended) End answer new =
     AreAll (AnswersOf (old.store).relations q) given × MovesCursor old h (open_at given true) new
-NextGivesAt old h q (open_at given ended) (Stale relation n) answer new = ⊥
-NextGivesAt old h q (stale r m) (Stale relation n) answer new =
+EngineNextGivesAt old h q (open_at given ended) (Stale relation n) answer new = ⊥
+EngineNextGivesAt old h q (stale r m) (Stale relation n) answer new =
     (relation ≡ r) × (n ≡ m) × (new ≡ old)
-NextGivesAt old h q (stale r m) _ answer new = ⊥
+EngineNextGivesAt old h q (stale r m) _ answer new = ⊥
 
 -- what a read counts at most: a stale cursor costs nothing
 abbrev pub read_steps : Next → Listed → ℕ
@@ -205,10 +205,10 @@ read_steps (Stale relation n) q = 0
 read_steps _ q = answer_steps q
 
 -- A read of a cursor, and what it counts at most.
-pub record NextGives (old : Kept) (id : CursorId) (result : Next) (answer : List ℕ) (new : Kept)
+pub record EngineNextGives (old : Kept) (id : CursorId) (result : Next) (answer : List ℕ) (new : Kept)
     (before now : ℕ) : Type 0 where
   pub gives : IsSomeAnd (held_at old.cursors id) (λ h. IsSomeAnd
-      (listed_of (old.store).queries h.query) (λ q. NextGivesAt old h q h.position result answer new
+      (listed_of (old.store).queries h.query) (λ q. EngineNextGivesAt old h q h.position result answer new
       × (now ≤ before + read_steps result q)))
 
 -- Whether a further answer is left is known of a cursor that isn't stale; where none is, it stands
@@ -244,7 +244,7 @@ IsFresh k id = IsSomeAnd (held_at k.cursors id) (λ h. IsOpenAt h.position)
 -- A cursor is gone, and nothing else.
 pub record ClosesCursor (old : Kept) (id : CursorId) (new : Kept) : Type 0 where
   pub gone : held_at new.cursors id ≡ None
-  pub others : OthersStay old.cursors id new.cursors
+  pub others : OtherCursorsStay old.cursors id new.cursors
   pub store : new.store ≡ old.store
   pub registered : new.registered ≡ old.registered
   pub tellings : SameTellings old new
@@ -269,7 +269,7 @@ DropsRegistered old query (Err r) new = new ≡ old
 -- changed of what is told.
 abbrev pub DropsTelling : Kept → Bytes → Result ⊤ Refusal → Kept → Type 0
 DropsTelling old query (Ok done) new = IsSomeAnd (registered_of old.registered query)
-    (λ r. TellsOf old r.id None new
+    (λ r. TellsOfQuery old r.id None new
     × (new.affected ≡ filter (λ id. not (same_query id r.id)) old.affected))
 DropsTelling old query (Err r) new = SameTellings old new
 
@@ -290,9 +290,9 @@ pub record ExplainsTree (q : Query) (lines : List ℕ) : Type 0 where
   pub are : lines ≡ explain_of (map (λ a. a.relation) q.atoms) (variable_names q) tree
 
 -- They explain what is registered: a query is explained by its tree, and of a union nothing is said here.
-abbrev pub Explains : Listed → List ℕ → Type 0
-Explains (a_query q) lines = ExplainsTree q lines
-Explains (a_union name qs) lines = ⊤
+abbrev pub TreeExplains : Listed → List ℕ → Type 0
+TreeExplains (a_query q) lines = ExplainsTree q lines
+TreeExplains (a_union name qs) lines = ⊤
 
 -- The choice rule names a tree of a query.
 abbrev pub HasTree : Listed → Type 0
@@ -300,10 +300,10 @@ HasTree (a_query q) = (t : Tree) × IsTreeOf (edges_of q) (head_of q) t
 HasTree (a_union name qs) = ⊤
 
 -- What `explain` answers. A query whose lines find no memory has a tree too.
-pub record ExplainGives (st : Store) (query : Bytes) (result : Result (List ℕ) Refusal) :
+pub record QueryExplainGives (st : Store) (query : Bytes) (result : Result (List ℕ) Refusal) :
     Type 0 where
   pub answer : Answers (first_refusal ((is_none (listed_of st.queries query), NoQuery) ∷ []))
-      result (λ lines. IsSomeAnd (listed_of st.queries query) (λ q. Explains q lines))
+      result (λ lines. IsSomeAnd (listed_of st.queries query) (λ q. TreeExplains q lines))
       (OutOfMemoryWhere (IsSomeAnd (listed_of st.queries query) HasTree))
 
 -- Two queries in a place, before and behind a call, are the same query with the same tree.
@@ -313,7 +313,7 @@ pub record SameShape (l m : Live) : Type 0 where
   pub tree : (m.reducts).tree ≡ (l.reducts).tree
 
 -- They have the same tables, so what is an answer is one, and a cursor can go on.
-pub record SameTables (l m : Live) : Type 0 where
+pub record SameLiveTables (l m : Live) : Type 0 where
   pub query : m.query ≡ l.query
   pub numbered : m.numbered ≡ l.numbered
   pub reducts : m.reducts ≡ l.reducts
@@ -321,7 +321,7 @@ pub record SameTables (l m : Live) : Type 0 where
 -- A query stays the one that it is; unless it is reached, its tables do too.
 pub record KeepsQuery (reached : Listed → Bool) (l m : Live) : Type 0 where
   pub shape : SameShape l m
-  pub tables : reached (a_query l.query) ≡ false → SameTables l m
+  pub tables : reached (a_query l.query) ≡ false → SameLiveTables l m
 
 -- So it is in each place that has a query.
 abbrev pub KeepsPlaces : (Listed → Bool) → Kept → Kept → Type 0
@@ -344,24 +344,24 @@ DropsPlace old query (Ok done) new = IsSomeAnd (registered_of old.registered que
 DropsPlace old query (Err r) new = new.places ≡ old.places
 
 -- The queries in their places are kept over a catalog with the relations and the texts of the store.
-pub record IsOver (k : Kept) : Type 0 where
+pub record PlacesAreKept (k : Kept) : Type 0 where
   pub catalog : Catalog
   pub relations : catalog.relations ≡ k.store.relations
   pub texts : catalog.texts ≡ k.store.texts
   pub live : (i : ℕ) (l : Live) → place_at k.places i ≡ Some l → IsLive catalog l
 
 -- A registered query stands in the place of its id.
-abbrev pub ArePlaced : Kept → Type 0
-ArePlaced k = All (λ r. AtPlace k r.id (λ l. r.query ≡ a_query l.query)) k.registered
+abbrev pub IdsArePlaced : Kept → Type 0
+IdsArePlaced k = All (λ r. AtPlace k r.id (λ l. r.query ≡ a_query l.query)) k.registered
 
 -- A query in a place is registered.
-abbrev pub AreListed : Kept → Type 0
-AreListed k = (i : ℕ) (l : Live) → place_at k.places i ≡ Some l
+abbrev pub PlacesAreRegistered : Kept → Type 0
+PlacesAreRegistered k = (i : ℕ) (l : Live) → place_at k.places i ≡ Some l
     → IsSomeAnd (registered_at k.registered (record { at = i })) (λ r. r.query ≡ a_query l.query)
 
 -- A cursor is over a registered query.
-abbrev pub AreHeld : Kept → Type 0
-AreHeld k = (id : CursorId) (h : HeldCursor) → held_at k.cursors id ≡ Some h
+abbrev pub CursorsAreRegistered : Kept → Type 0
+CursorsAreRegistered k = (id : CursorId) (h : HeldCursor) → held_at k.cursors id ≡ Some h
     → (h.id ≡ id)
     × IsSomeAnd (registered_at k.registered id.query) (λ r. h.query ≡ listed_name r.query)
 
@@ -370,11 +370,11 @@ abbrev pub CellsAre : Kept → Live → List ℕ → Change → Type 0
 CellsAre k l cells c = StandFor k.store.texts (head_types l) cells c.answer
 
 -- What is told of a query has cells in its head's order.
-abbrev pub AreTold : Kept → Type 0
-AreTold k = (id : QueryId) (changes : List Change) → told_at k id ≡ Some changes
+abbrev pub ToldCellsFit : Kept → Type 0
+ToldCellsFit k = (id : QueryId) (changes : List Change) → told_at k id ≡ Some changes
     → AtPlace k id (λ l. All (λ c. (cells : List ℕ) × CellsAre k l cells c) changes)
 
 -- One change that is told of a query, by its sign and the cells of its answer.
-abbrev pub TellsCells : Kept → QueryId → ℕ → Sign → List ℕ → Type 0
-TellsCells k id nth sign cells = AtPlace k id (λ l. IsSomeAnd (told_at k id)
+abbrev pub TellsChangeCells : Kept → QueryId → ℕ → Sign → List ℕ → Type 0
+TellsChangeCells k id nth sign cells = AtPlace k id (λ l. IsSomeAnd (told_at k id)
     (λ changes. IsSomeAnd (slice_get changes nth) (λ c. (sign ≡ c.sign) × CellsAre k l cells c)))

@@ -4,8 +4,8 @@ use Rattle.djq_machine.specs.Store.{most_steps}
 use Rattle.djq_rows.specs.Catalog.{Catalog}
 use Rattle.djq_live.specs.declared.listing.Next.{Next}
 use Rattle.djq_live.specs.Cursors.{slot_at}
-use Rattle.djq_live.specs.Live.{Live, IsLive, FitsIn}
-use Rattle.djq_live.specs.Reading.{NextGives, MoreGives, OpensIn, next_steps, IsFreshIn}
+use Rattle.djq_live.specs.Live.{Live, IsLive, FitsAt}
+use Rattle.djq_live.specs.Reading.{QueryNextGives, QueryMoreGives, QueryOpensIn, next_steps, IsFreshIn}
 use Rattle.djq_reach.specs.Places.{place_at}
 
 -- The query in a place becomes another, and nothing else changes.
@@ -18,18 +18,18 @@ pub record Moves (Does : Live → Live → Type 0) (at : ℕ) (gs hs : List (Opt
     pub is : hs ≡ slice_set gs at (Some new)
 
 -- It can be read through the cursor in a slot.
-pub record IsReadable (slot : ℕ) (l : Live) : Type 0 where
+pub record IsReadableInSlot (slot : ℕ) (l : Live) : Type 0 where
   pub there : IsSome (slot_at l.cursors slot)
-  pub fits : FitsIn l slot
+  pub fits : FitsAt l slot
 
 -- The same, and the cursor isn't stale.
-pub record IsFreshly (slot : ℕ) (l : Live) : Type 0 where
+pub record IsFreshInSlot (slot : ℕ) (l : Live) : Type 0 where
   pub fresh : IsFreshIn l slot
-  pub fits : FitsIn l slot
+  pub fits : FitsAt l slot
 
 -- A cursor is opened in a slot.
 pub record OpensAt (slot : ℕ) (l m : Live) : Type 0 where
-  pub opens : OpensIn l slot m
+  pub opens : QueryOpensIn l slot m
   pub live : (c : Catalog) → IsLive c l → IsLive c m
 
 -- A cursor goes out of a slot.
@@ -40,10 +40,10 @@ pub record ClosesAt (slot : ℕ) (l m : Live) : Type 0 where
 -- A cursor is read.
 pub record ReadsAt (slot : ℕ) (result : Next) (answer : List ℕ) (before now : ℕ) (l m : Live) :
     Type 0 where
-  pub gives : (c : Catalog) → IsLive c l → NextGives c l slot result answer m
+  pub gives : (c : Catalog) → IsLive c l → QueryNextGives c l slot result answer m
   pub counted : (c : Catalog) → IsLive c l → now ≤ before + next_steps result (length l.query.head)
 
 -- Whether an answer is left is told.
-pub record TellsAt (slot : ℕ) (result : Bool) (before now : ℕ) (l m : Live) : Type 0 where
-  pub gives : (c : Catalog) → IsLive c l → MoreGives c l slot result m
+pub record TellsMore (slot : ℕ) (result : Bool) (before now : ℕ) (l m : Live) : Type 0 where
+  pub gives : (c : Catalog) → IsLive c l → QueryMoreGives c l slot result m
   pub counted : (c : Catalog) → IsLive c l → now ≤ before + most_steps (length l.query.head)

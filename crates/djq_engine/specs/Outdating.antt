@@ -12,7 +12,7 @@ use Rattle.djq_rows.specs.Catalog.{relation_at}
 use Rattle.djq_live.specs.Live.{Live}
 use Rattle.djq_live.specs.Updating.{IsEmpty}
 use Rattle.djq_reach.specs.declared.group.Group.{Group}
-use Rattle.djq_reach.specs.Grouping.{relations_of}
+use Rattle.djq_reach.specs.Grouping.{group_relations}
 use Rattle.djq_reach.specs.Places.{place_at, reads_place, is_reader, readers_at, log_at, AreOnce}
 use Rattle.djq_reach.specs.Reaching.{Ages}
 use Rattle.djq_engine.specs.declared.parts.Parts.{Parts}
@@ -46,7 +46,7 @@ pub record AgesAll (outdater : Listed → Option Bytes) (n : ℕ) (gs hs : List 
 -- A test passes the relations of these groups, and no others.
 abbrev pub AreTested : List Relation → List Group → (Bytes → Bool) → Type 0
 AreTested relations groups test = (r : ℕ) → r < length relations
-    → test (relation_at relations r).name ≡ is_reader (relations_of groups) r
+    → test (relation_at relations r).name ≡ is_reader (group_relations groups) r
 
 -- the relation outdates the queries that read it, where it passes the test
 abbrev pub by_tested : (Bytes → Bool) → Bytes → Listed → Option Bytes
@@ -64,7 +64,7 @@ pub record ClearsLogs (passes : ℕ → Bool) (old new : List Log) : Type 0 wher
 
 -- Out of memory: the logs of all queries that read the relation of one of these rows are emptied, and
 -- their open cursors become stale by the first of these relations that a query reads.
-pub record GivesUp (held : List HeldRow) (old new : Parts) : Type 0 where
+pub record BatchGivesUp (held : List HeldRow) (old new : Parts) : Type 0 where
   pub logs : ClearsLogs (λ i. reads_held held (place_at old.queries.items i)) old.logs.items new.logs.items
   pub queries : AgesAll (first_read held (λ name. true)) old.seq old.queries.items new.queries.items
   pub catalog : new.catalog ≡ old.catalog

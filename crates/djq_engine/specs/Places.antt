@@ -40,32 +40,32 @@ is_query name None = false
 is_query name (Some l) = bytes_eq l.query.name name
 
 -- the places without one
-abbrev pub left : ℕ → List ℕ → List ℕ
-left at places = filter (λ i. not (i == at)) places
+abbrev pub places_without : ℕ → List ℕ → List ℕ
+places_without at places = filter (λ i. not (i == at)) places
 
 -- a cursor of a query, as contracts see it
-abbrev pub held_as : List Bytes → Live → CursorId → Progress → HeldCursor
-held_as texts l id p = record { id = id; query = l.query.name; position = position_of texts l p }
+abbrev pub held_query_cursor : List Bytes → Live → CursorId → Progress → HeldCursor
+held_query_cursor texts l id p = record { id = id; query = l.query.name; position = position_of texts l p }
 
 -- the cursors in slots from this one on, of the query at a place
-abbrev pub held_in : List Bytes → Live → ℕ → ℕ → List (Option Progress) → List HeldCursor
-held_in texts l at k [] = []
-held_in texts l at k (None ∷ slots) = held_in texts l at (suc k) slots
-held_in texts l at k (Some p ∷ slots) =
-    held_as texts l (record { query = record { at = at }; cursor = k }) p
-    ∷ held_in texts l at (suc k) slots
+abbrev pub query_cursors_in : List Bytes → Live → ℕ → ℕ → List (Option Progress) → List HeldCursor
+query_cursors_in texts l at k [] = []
+query_cursors_in texts l at k (None ∷ slots) = query_cursors_in texts l at (suc k) slots
+query_cursors_in texts l at k (Some p ∷ slots) =
+    held_query_cursor texts l (record { query = record { at = at }; cursor = k }) p
+    ∷ query_cursors_in texts l at (suc k) slots
 
 -- the cursors of all queries from this place on
-abbrev pub held_from : List Bytes → ℕ → List (Option Live) → List HeldCursor
-held_from texts at [] = []
-held_from texts at (None ∷ gs) = held_from texts (suc at) gs
-held_from texts at (Some l ∷ gs) =
-    held_in texts l at zero l.cursors ++ held_from texts (suc at) gs
+abbrev pub query_cursors_from : List Bytes → ℕ → List (Option Live) → List HeldCursor
+query_cursors_from texts at [] = []
+query_cursors_from texts at (None ∷ gs) = query_cursors_from texts (suc at) gs
+query_cursors_from texts at (Some l ∷ gs) =
+    query_cursors_in texts l at zero l.cursors ++ query_cursors_from texts (suc at) gs
 
 -- the cursor of an id over the query in its place
-abbrev pub held_of : List Bytes → CursorId → Option Live → Option HeldCursor
-held_of texts id None = None
-held_of texts id (Some l) = option_map (held_as texts l id) (slot_at l.cursors id.cursor)
+abbrev pub query_cursor_of : List Bytes → CursorId → Option Live → Option HeldCursor
+query_cursor_of texts id None = None
+query_cursor_of texts id (Some l) = option_map (held_query_cursor texts l id) (slot_at l.cursors id.cursor)
 
 -- the store, with the queries in the order of registration
 abbrev pub store_of : Catalog → List (Option Live) → List ℕ → ℕ → Store
@@ -81,8 +81,8 @@ abbrev pub id_at : ℕ → QueryId
 id_at i = record { at = i }
 
 -- the query in a place, as contracts see it
-abbrev pub registered_as : List (Option Live) → List ℕ → ℕ → Registered
-registered_as gs watchers i = record {
+abbrev pub query_registered_as : List (Option Live) → List ℕ → ℕ → Registered
+query_registered_as gs watchers i = record {
   id = id_at i;
   query = query_in (place_at gs i);
   watchers = watchers_at watchers i;
@@ -90,7 +90,7 @@ registered_as gs watchers i = record {
 
 -- the registered queries, in order
 abbrev pub registered_in : List (Option Live) → List ℕ → List ℕ → List Registered
-registered_in gs watchers order = map (registered_as gs watchers) order
+registered_in gs watchers order = map (query_registered_as gs watchers) order
 
 -- what a log tells of the answers of a query
 abbrev pub told_of : List Bytes → Option Live → Log → Option (List Change)
@@ -115,7 +115,7 @@ pub record Watches : Type 0 where
 abbrev pub kept_of : Catalog → List (Option Live) → List ℕ → ℕ → Watches → Kept
 kept_of c gs order seq w = record {
   store = store_of c gs order seq;
-  cursors = held_from c.texts zero gs;
+  cursors = query_cursors_from c.texts zero gs;
   registered = registered_in gs w.watchers order;
   affected = map id_at w.affected;
   told = told_from c.texts gs w.logs;

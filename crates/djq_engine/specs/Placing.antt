@@ -8,7 +8,7 @@ use Rattle.djq_rows.specs.Catalog.{relation_at}
 use Rattle.djq_live.specs.Live.{Live}
 use Rattle.djq_cursor.specs.Log.{Log}
 use Rattle.djq_reach.specs.Places.{place_at, readers_at, watchers_at, log_at, AreOnce}
-use Rattle.djq_engine.specs.Places.{left}
+use Rattle.djq_engine.specs.Places.{places_without}
 
 -- What stands in each place is as before.
 abbrev pub SamePlaces : List (Option Live) → List (Option Live) → Type 0
@@ -40,7 +40,7 @@ pub record SameLists (old new : List (List ℕ)) : Type 0 where
 -- A place goes out of all lists.
 pub record LeavesAll (at : ℕ) (old new : List (List ℕ)) : Type 0 where
   pub long : length new ≡ length old
-  pub each : (r : ℕ) → readers_at new r ≡ left at (readers_at old r)
+  pub each : (r : ℕ) → readers_at new r ≡ places_without at (readers_at old r)
 
 -- A place comes last among the readers of each relation that the query reads.
 pub record JoinsReaders (relations : List Relation) (q : Query) (at : ℕ)

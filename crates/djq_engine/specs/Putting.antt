@@ -8,7 +8,7 @@ use Rattle.djq_lines.specs.declared.answer.Refusal.{Refusal}
 use Rattle.djq_lines.specs.declared.held.HeldRow.{HeldRow}
 use Rattle.djq_machine.specs.State.{Store}
 use Rattle.djq_machine.specs.Store.{LearnsAll}
-use Rattle.djq_machine.specs.Batch.{suit_refusal, SuitAll, HavePlaces, StopsAt, with_held, with_all}
+use Rattle.djq_machine.specs.Batch.{suit_refusal, SuitAll, HavePlaces, BatchStopsAt, with_held, with_all}
 use Rattle.djq_machine.specs.Batch.{count_came, has_come}
 use Rattle.djq_rows.specs.Cells.{HaveCells, cells_of}
 use Rattle.djq_rows.specs.Catalog.{Catalog, relation_at, counted_at, rows_at, with_rows_at}
@@ -16,7 +16,7 @@ use Rattle.djq_rows.specs.declared.relation_id.RelationId.{RelationId}
 use Rattle.djq_live.specs.Changes.{StandForRows}
 use Rattle.djq_reach.specs.declared.group.Group.{Group}
 use Rattle.djq_reach.specs.Places.{is_reader, AreOnce}
-use Rattle.djq_reach.specs.Grouping.{relations_of, rows_in}
+use Rattle.djq_reach.specs.Grouping.{group_relations, rows_of_groups}
 use Rattle.djq_engine.specs.Judging.{MayStand}
 
 -- the store of these relations and texts, as far as rows are concerned
@@ -59,9 +59,9 @@ pub record PutsMore (c : Catalog) (h : HeldRow) (seq : ℕ) (d : Catalog) : Type
       (with_copies (counted_at c.relations at) h.row (copies_among (counted_at c.relations at) h.row + 1))
 
 -- What became of a held row.
-abbrev pub PutsRow : Catalog → HeldRow → ℕ → Option Placed → Catalog → Type 0
-PutsRow c h seq (Some p) d = PutsNew c h seq p d
-PutsRow c h seq None d = PutsMore c h seq d
+abbrev pub PutsHeldRow : Catalog → HeldRow → ℕ → Option Placed → Catalog → Type 0
+PutsHeldRow c h seq (Some p) d = PutsNew c h seq p d
+PutsHeldRow c h seq None d = PutsMore c h seq d
 
 -- The rows of a relation, in cells, among groups.
 abbrev pub rows_for : List Group → ℕ → List (List ℕ)
@@ -70,12 +70,12 @@ rows_for (g ∷ groups) at = if g.relation.at == at then g.rows else rows_for gr
 
 -- A row of a relation joins its group, which is made where there is none.
 pub record JoinsGroup (at : ℕ) (cells : List ℕ) (old new : List Group) : Type 0 where
-  pub differ : AreOnce (relations_of old) → AreOnce (relations_of new)
-  pub there : (r : ℕ) → is_reader (relations_of new) r ≡ (is_reader (relations_of old) r || at == r)
+  pub differ : AreOnce (group_relations old) → AreOnce (group_relations new)
+  pub there : (r : ℕ) → is_reader (group_relations new) r ≡ (is_reader (group_relations old) r || at == r)
   pub rows : (r : ℕ) → rows_for new r
       ≡ (if at == r then rows_for old r ++ cells ∷ [] else rows_for old r)
-  pub more : rows_in new ≡ rows_in old + 1
-  pub same : length new ≡ length old → is_reader (relations_of old) at ≡ true
+  pub more : rows_of_groups new ≡ rows_of_groups old + 1
+  pub same : length new ≡ length old → is_reader (group_relations old) at ≡ true
 
 -- A held row went in, and is in its group where it came. This many came.
 abbrev pub PutsOne : Catalog → List Group → HeldRow → ℕ → ℕ → Catalog → List Group → Type 0
@@ -86,8 +86,8 @@ PutsOne c groups h seq (suc (suc n)) d after = ⊥
 
 -- Rows came behind the old ones of each relation, in these groups.
 pub record AreGrouped (old : List Relation) (c : Catalog) (groups : List Group) : Type 0 where
-  pub differ : AreOnce (relations_of groups)
-  pub within : (r : ℕ) → is_reader (relations_of groups) r ≡ true → r < length old
+  pub differ : AreOnce (group_relations groups)
+  pub within : (r : ℕ) → is_reader (group_relations groups) r ≡ true → r < length old
   pub long : length c.relations ≡ length old
   pub names : (r : ℕ) → (relation_at c.relations r).name ≡ (relation_at old r).name
   pub types : (r : ℕ) → (relation_at c.relations r).types ≡ (relation_at old r).types
@@ -101,10 +101,10 @@ pub record PutsAll (st : Store) (held : List HeldRow) (c : Catalog) (n : ℕ) (g
   pub relations : c.relations ≡ (with_all st held).relations
   pub texts : c.texts ≡ (with_all st held).texts
   pub count : n ≡ count_came st held
-  pub size : rows_in groups ≡ n
+  pub size : rows_of_groups groups ≡ n
   pub grouped : AreGrouped st.relations c groups
   pub come : (r : ℕ) → r < length st.relations
-      → is_reader (relations_of groups) r ≡ has_come st held (relation_at st.relations r).name
+      → is_reader (group_relations groups) r ≡ has_come st held (relation_at st.relations r).name
 
 -- Of each relation of which a row comes, one comes among this many in front.
 abbrev pub ComeFirst : Store → List HeldRow → ℕ → Type 0
@@ -118,20 +118,20 @@ pub record RefusesAll (st : Store) (held : List HeldRow) (texts : List Bytes) (r
     pub rest : List HeldRow
     pub parts : held ≡ front ++ at ∷ rest
     pub places : HavePlaces st front
-    pub stops : StopsAt (with_all st front) at texts r
+    pub stops : BatchStopsAt (with_all st front) at texts r
 
 -- each row of each relation has a copy at least
-abbrev pub AreCounted : List Relation → Type 0
-AreCounted relations = All (λ r. All (λ c. 1 ≤ c.copies) r.rows) relations
+abbrev pub CopiesAreCounted : List Relation → Type 0
+CopiesAreCounted relations = All (λ r. All (λ c. 1 ≤ c.copies) r.rows) relations
 
 -- A held row went in last over these relations.
 pub record WentIn (st : Store) (h : HeldRow) (relations : List Relation) : Type 0 where
   pub suits : suit_refusal st h.relation h.row ≡ None
-  pub counted : AreCounted st.relations
+  pub counted : CopiesAreCounted st.relations
   pub are : relations ≡ (with_held st h).relations
 
 -- Held rows went in over these relations, one after another.
 pub record WentInAll (st : Store) (held : List HeldRow) (relations : List Relation) : Type 0 where
   pub suits : SuitAll st held
-  pub counted : AreCounted st.relations
+  pub counted : CopiesAreCounted st.relations
   pub are : relations ≡ (with_all st held).relations

@@ -9,7 +9,7 @@ use Rattle.djq_engine.specs.Places.{is_live}
 -- Each registered query is kept over the catalog and its cursors can go on, and names differ. The
 -- order has each place where a query is registered once, and no more than there may be, nor are there
 -- more places. The readers of a relation are the queries that read it, in that order.
-pub record IsSound (c : Catalog) (gs : List (Option Live)) (order : List ℕ)
+pub record QueriesAreSound (c : Catalog) (gs : List (Option Live)) (order : List ℕ)
     (readers : List (List ℕ)) : Type 0 where
   pub live : (i : ℕ) (l : Live) → place_at gs i ≡ Some l → IsLive c l
   pub named : (i j : ℕ) (l m : Live) → place_at gs i ≡ Some l → place_at gs j ≡ Some m

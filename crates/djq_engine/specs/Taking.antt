@@ -4,8 +4,8 @@ use Rattle.djq_rows.specs.Catalog.{Catalog}
 use Rattle.djq_live.specs.Live.{IsKept}
 use Rattle.djq_reach.specs.declared.group.Group.{Group}
 use Rattle.djq_reach.specs.Reaching.{AllAt, Reach, Renews}
-use Rattle.djq_reach.specs.Tending.{TellsAt, Tends, Empties}
-use Rattle.djq_reach.specs.Grouping.{Leads, reached}
+use Rattle.djq_reach.specs.Tending.{LogTellsAt, Tends, Empties}
+use Rattle.djq_reach.specs.Grouping.{GroupsLead, reached}
 use Rattle.djq_engine.specs.declared.parts.Parts.{Parts}
 
 -- the places of the queries that read a relation of the groups
@@ -14,7 +14,7 @@ reached_in p groups = reached p.readers.items groups
 
 -- the groups lead from a catalog to that of the engine, over which these queries were kept
 pub record LeadsHere (p : Parts) (groups : List Group) (c : Catalog) : Type 0 where
-  pub leads : Leads p.readers.items groups p.queries.items c p.catalog
+  pub leads : GroupsLead p.readers.items groups p.queries.items c p.catalog
   pub kept : AllAt (reached p.readers.items groups) p.queries.items (λ l. IsKept c l)
 
 -- They took the rows in, and the logs of the watched ones tell.
@@ -22,8 +22,8 @@ pub record TakesGroups (groups : List Group) (old new : Parts) : Type 0 where
   pub reach : (c : Catalog) → LeadsHere old groups c
       → Reach (reached_in old groups) (Renews old.catalog) old.queries.items new.queries.items
   pub tends : Tends (reached_in old groups)
-      (TellsAt old.watchers.items (λ c d (what : ⊤).
-      Leads old.readers.items groups old.queries.items c d))
+      (LogTellsAt old.watchers.items (λ c d (what : ⊤).
+      GroupsLead old.readers.items groups old.queries.items c d))
       old.queries.items old.logs.items new.logs.items
 
 -- Out of memory: they are as they were, but for their logs, which are empty.

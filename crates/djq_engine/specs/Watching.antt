@@ -23,7 +23,7 @@ use Rattle.djq_machine.specs.Batch.{rows_held}
 use Rattle.djq_machine.specs.Store.{IsShapeOf}
 use Rattle.djq_machine.specs.Watch.{Delta, ListsDeltas, deltas_steps}
 use Rattle.djq_engine.specs.declared.cursor.QueryId.{QueryId}
-use Rattle.djq_engine.specs.Kept.{Kept, Registered, registered_at, registered_of, TellsOf}
+use Rattle.djq_engine.specs.Kept.{Kept, Registered, registered_at, registered_of, TellsOfQuery}
 use Rattle.djq_engine.specs.Kept.{is_watched, readers_of, affected_of, told_at}
 
 -- The log of a query tells a delta, or was lost.
@@ -67,7 +67,7 @@ Affects (out_of_memory change) old new = new.affected ≡ old.affected
 Affects unchanged old new = new.affected ≡ old.affected
 
 -- What a change of rows, made or tried, makes known of the watched queries that it outdates.
-pub record TellsChange (old : Kept) (outcome : RowsOutcome) (new : Kept) (before now : ℕ) : Type 0
+pub record EngineTellsChange (old : Kept) (outcome : RowsOutcome) (new : Kept) (before now : ℕ) : Type 0
   where
     pub deltas : List Delta
     pub listed : ListsDeltas (old.store).relations (queries_affected old) (tried outcome) deltas
@@ -94,7 +94,7 @@ Enrols old q _ new = new ≡ old
 -- so are the affected queries.
 abbrev pub EnrolsTelling : Kept → Query → Result QueryOutcome Refusal → Kept → Type 0
 EnrolsTelling old q (Ok (HasRegistered most)) new = (new.affected ≡ old.affected)
-    × IsSomeAnd (registered_of new.registered q.name) (λ r. TellsOf old r.id (Some []) new)
+    × IsSomeAnd (registered_of new.registered q.name) (λ r. TellsOfQuery old r.id (Some []) new)
 EnrolsTelling old q _ new =
     (new.affected ≡ old.affected) × ((id : QueryId) → told_at new id ≡ told_at old id)
 

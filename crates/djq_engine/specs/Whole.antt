@@ -3,8 +3,8 @@ use Rattle.std.specs.Prelude.{◌≡◌, ◌≤◌, length, vec_capacity}
 use Rattle.djq_engine.specs.declared.parts.Parts.{Parts}
 use Rattle.djq_engine.specs.Kept.{Kept}
 use Rattle.djq_engine.specs.Places.{Watches, kept_of}
-use Rattle.djq_engine.specs.Sound.{IsSound}
-use Rattle.djq_reach.specs.Tending.{AreShown}
+use Rattle.djq_engine.specs.Sound.{QueriesAreSound}
+use Rattle.djq_reach.specs.Tending.{LogsCanBeShown}
 
 -- what is kept for watching
 abbrev pub watches_in : Parts → Watches
@@ -20,13 +20,13 @@ abbrev pub kept_in : Parts → Kept
 kept_in p = kept_of p.catalog p.queries.items p.order p.seq (watches_in p)
 
 -- what holds between any two calls
-abbrev pub IsWhole : Parts → Type 0
-IsWhole p = IsSound p.catalog p.queries.items p.order p.readers.items
+abbrev pub EngineIsWhole : Parts → Type 0
+EngineIsWhole p = QueriesAreSound p.catalog p.queries.items p.order p.readers.items
 
 -- Each place has its number of watchers, and its log, which can be shown. There is room for all queries
 -- to be affected.
 pub record IsTended (p : Parts) : Type 0 where
   pub watched : length p.watchers.items ≡ length p.queries.items
   pub logged : length p.logs.items ≡ length p.queries.items
-  pub shown : AreShown (p.catalog).texts p.queries.items p.logs.items
+  pub shown : LogsCanBeShown (p.catalog).texts p.queries.items p.logs.items
   pub room : length p.order ≤ vec_capacity p.affected

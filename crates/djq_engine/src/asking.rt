@@ -2,7 +2,7 @@
 ghost use Rattle.std.specs.Prelude.{◌+◌, ◌≤◌};
 ghost use Rattle.djq_model.specs.Listed.{listed_of};
 ghost use Rattle.djq_machine.specs.Store.{TellsShape, TellsWhether, has_steps};
-ghost use Rattle.djq_engine.specs.Kept.{ExplainGives, IsRegistered, IsShown, AnswerIs};
+ghost use Rattle.djq_engine.specs.Kept.{QueryExplainGives, IsRegistered, IsShown, AnswerIs};
 ghost use Rattle.djq_engine.specs.Lending.{LendsQuery};
 
 use crate::cursor::{CursorId, QueryId};
@@ -65,7 +65,7 @@ impl Engine {
     ///
     /// `NoQuery` where none has the name; `NoMemory` out of memory.
     pub fn explain(&self, query: &Name) -> Result<Lines, Refusal>
-        ensures { ExplainGives self.now.store query.now result }
+        ensures { QueryExplainGives self.now.store query.now result }
     {
         let Some(at) = find_query(self.parts.queries.as_slice(), query) else {
             return Err(Refusal::NoQuery);

@@ -6,11 +6,11 @@ ghost use Rattle.djq_machine.specs.Batch.{TellsSuits, SuitAll, AddsBatch, batch_
 ghost use Rattle.djq_rows.specs.Catalog.{Catalog as CatalogModel};
 ghost use Rattle.djq_reach.specs.Places.{readers_at, AreOnce};
 ghost use Rattle.djq_reach.specs.Tending.{AreUnwatched};
-ghost use Rattle.djq_reach.specs.Grouping.{CostsBy, WorksBy, relations_of, rows_in, times_back};
+ghost use Rattle.djq_reach.specs.Grouping.{CostsBy, WorksBy, group_relations, rows_of_groups, times_back};
 ghost use Rattle.djq_engine.specs.Changing.{KeepsRest};
 ghost use Rattle.djq_engine.specs.Kept.{IsUnwatched, Outdates, KeepsPlaces, is_tried};
 ghost use Rattle.djq_engine.specs.Taking.{reached_in, LeadsHere, TakesGroups, LacksGroups};
-ghost use Rattle.djq_engine.specs.Watching.{CountsBatch, TellsChange, batch_times};
+ghost use Rattle.djq_engine.specs.Watching.{CountsBatch, EngineTellsChange, batch_times};
 
 use crate::engine::Engine;
 use crate::judge::relation_for_row;
@@ -36,7 +36,7 @@ fn take_groups<L: Ledgers>(
     steps: &mut Steps<L>,
 ) -> Result<(), NoMem>
     requires once { (r : ℕ) → AreOnce (readers_at parts.old.readers.items r) }
-    requires differ { AreOnce (relations_of groups.now) }
+    requires differ { AreOnce (group_relations groups.now) }
     requires can { (c : CatalogModel) × LeadsHere parts.old groups.now c }
     requires watched { length parts.old.watchers.items ≡ length parts.old.queries.items }
     requires logged { length parts.old.logs.items ≡ length parts.old.queries.items }
@@ -47,10 +47,10 @@ fn take_groups<L: Ledgers>(
     ensures unlisted { AreUnwatched parts.old.watchers.items (reached_in parts.old groups.now)
         → steps.new.listing ≡ steps.old.listing }
     ensures updates { OnOk result (WorksBy parts.old.readers.items groups.now
-        parts.old.queries.items (rows_in groups.now) (λ g. 1)
+        parts.old.queries.items (rows_of_groups groups.now) (λ g. 1)
         steps.old.update steps.new.update) }
     ensures refusal { OnErr result (WorksBy parts.old.readers.items groups.now
-        parts.old.queries.items (rows_in groups.now) times_back
+        parts.old.queries.items (rows_of_groups groups.now) times_back
         steps.old.update steps.new.update) }
     ensures rest { KeepsRest parts.old parts.new }
     ensures catalog { parts.new.catalog ≡ parts.old.catalog }
@@ -108,7 +108,7 @@ impl Engine {
         ensures outdates { Outdates self.old (tried (batch_outcome self.old.store held.now result))
             self.new }
         ensures watches { self.new.registered ≡ self.old.registered }
-        ensures tells { TellsChange self.old (batch_outcome self.old.store held.now result) self.new
+        ensures tells { EngineTellsChange self.old (batch_outcome self.old.store held.now result) self.new
             steps.old.listing steps.new.listing }
         ensures unlisted { IsUnwatched self.old → steps.new.listing ≡ steps.old.listing }
         ensures updates { CountsBatch (batch_times held.now result) self.old held.now

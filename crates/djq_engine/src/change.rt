@@ -10,8 +10,8 @@ ghost use Rattle.djq_engine.specs.Changing.{IfCame, IfLacking, IfStill, IfWent, 
 ghost use Rattle.djq_engine.specs.Changing.{TellsRows, CountsRows};
 ghost use Rattle.djq_engine.specs.Changing.{KeepsLogs, WorksRows, reads_at, tells_at};
 ghost use Rattle.djq_reach.specs.Places.{readers_at};
-ghost use Rattle.djq_reach.specs.Tending.{AreShown, AreUnwatched};
-ghost use Rattle.djq_engine.specs.Whole.{IsWhole, IsTended};
+ghost use Rattle.djq_reach.specs.Tending.{LogsCanBeShown, AreUnwatched};
+ghost use Rattle.djq_engine.specs.Whole.{EngineIsWhole, IsTended};
 
 use crate::parts::Parts;
 use djq_dict::InternRefusal;
@@ -57,7 +57,7 @@ fn put_cells<L: Ledgers>(
     cells: &[u64],
     steps: &mut Steps<L>,
 ) -> Result<AddOutcome, AddRefusal>
-    requires whole { IsWhole parts.old }
+    requires whole { EngineIsWhole parts.old }
     requires tended { IsTended parts.old }
     requires there { id.at < length parts.old.catalog.relations }
     requires row { HasRow parts.old.catalog id.at cells.now }
@@ -66,7 +66,7 @@ fn put_cells<L: Ledgers>(
     ensures rest { KeepsRest parts.old parts.new }
     ensures quiet { IfCame result (KeepsLogs (tells_at parts.old id.at) parts.old parts.new) }
     ensures apart { IfLacking result (KeepsLogs (reads_at parts.old id.at) parts.old parts.new) }
-    ensures shown { AreShown parts.new.catalog.texts parts.old.queries.items parts.new.logs.items }
+    ensures shown { LogsCanBeShown parts.new.catalog.texts parts.old.queries.items parts.new.logs.items }
     ensures tells { IfCame result ((row : Tuple) → StandForRow parts.old.catalog id.at cells.now row
         → TellsRows id.at (with_row (counted_at parts.old.catalog.relations id.at) row) parts.old
         parts.new) }
@@ -136,7 +136,7 @@ pub fn put_row<L: Ledgers>(
     row: &[Value],
     steps: &mut Steps<L>,
 ) -> Result<AddOutcome, AddRefusal>
-    requires whole { IsWhole parts.old }
+    requires whole { EngineIsWhole parts.old }
     requires tended { IsTended parts.old }
     requires there { id.at < length parts.old.catalog.relations }
     requires suits { fits (relation_at parts.old.catalog.relations id.at).types row.now ≡ true }
@@ -146,7 +146,7 @@ pub fn put_row<L: Ledgers>(
     ensures rest { KeepsRest parts.old parts.new }
     ensures quiet { IfCame result (KeepsLogs (tells_at parts.old id.at) parts.old parts.new) }
     ensures apart { IfLacking result (KeepsLogs (reads_at parts.old id.at) parts.old parts.new) }
-    ensures shown { AreShown parts.new.catalog.texts parts.old.queries.items parts.new.logs.items }
+    ensures shown { LogsCanBeShown parts.new.catalog.texts parts.old.queries.items parts.new.logs.items }
     ensures tells { IfCame result (TellsRows id.at
         (with_row (counted_at parts.old.catalog.relations id.at) row.now) parts.old parts.new) }
     ensures counted { IfCame result (CountsRows id.at
@@ -188,7 +188,7 @@ pub fn drop_cells<L: Ledgers>(
     cells: &[u64],
     steps: &mut Steps<L>,
 ) -> DeleteOutcome
-    requires whole { IsWhole parts.old }
+    requires whole { EngineIsWhole parts.old }
     requires tended { IsTended parts.old }
     requires there { id.at < length parts.old.catalog.relations }
     requires row { HasRow parts.old.catalog id.at cells.now }
@@ -196,7 +196,7 @@ pub fn drop_cells<L: Ledgers>(
         → DeletesFrom id.at row parts.old result parts.new }
     ensures rest { KeepsRest parts.old parts.new }
     ensures quiet { IfWent result (KeepsLogs (tells_at parts.old id.at) parts.old parts.new) }
-    ensures shown { AreShown parts.new.catalog.texts parts.old.queries.items parts.new.logs.items }
+    ensures shown { LogsCanBeShown parts.new.catalog.texts parts.old.queries.items parts.new.logs.items }
     ensures tells { IfWent result ((row : Tuple)
         → StandForRow parts.old.catalog id.at cells.now row
         → TellsRows id.at (without_copies (counted_at parts.old.catalog.relations id.at) row)

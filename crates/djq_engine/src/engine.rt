@@ -21,11 +21,11 @@ impl Model for Engine {
 
     ghost Value = { Kept };
 
-    ghost use Rattle.djq_engine.specs.Whole.{kept_in, IsWhole, IsTended};
+    ghost use Rattle.djq_engine.specs.Whole.{kept_in, EngineIsWhole, IsTended};
 
     ghost view = { λ e. kept_in e.parts };
 
-    ghost invariant = { λ e. IsWhole e.parts × IsTended e.parts };
+    ghost invariant = { λ e. EngineIsWhole e.parts × IsTended e.parts };
 }
 
 impl Engine {

@@ -6,7 +6,7 @@ ghost use Rattle.djq_machine.specs.Conditions.{first_refusal};
 ghost use Rattle.djq_machine.specs.Store.{row_refusals, add_refusal, delete_refusal};
 ghost use Rattle.djq_machine.specs.Batch.{suit_refusal, place_refusal};
 ghost use Rattle.djq_rows.specs.Catalog.{relation_at, rows_at};
-ghost use Rattle.djq_engine.specs.Judging.{bare, Suits, MayCome, JudgesDelete};
+ghost use Rattle.djq_engine.specs.Judging.{bare_store, RowSuits, MayCome, JudgesDelete};
 
 use djq_index::Cells;
 use djq_lines::limits::{LAST_SEQ, ROWS};
@@ -26,9 +26,9 @@ pub fn relation_for_row(
     name: &Name,
     row: &[Value],
 ) -> Result<RelationId, Refusal>
-    ensures ok { IfOk result (λ id. Suits catalog.now.relations name.now row.now id.at) }
+    ensures ok { IfOk result (λ id. RowSuits catalog.now.relations name.now row.now id.at) }
     ensures err { IfErr result (λ r.
-        first_refusal (row_refusals (bare catalog.now.relations 0) name.now row.now) ≡ Some r) }
+        first_refusal (row_refusals (bare_store catalog.now.relations 0) name.now row.now) ≡ Some r) }
 {
     let Some(id) = catalog.id(name) else {
         return Err(Refusal::NoRelation);
@@ -75,7 +75,7 @@ pub fn check_add<L: Ledger>(
 ) -> Result<RelationId, Refusal>
     ensures ok { IfOk result (λ id. MayCome catalog.now.relations name.now row.now seq id.at) }
     ensures err { IfErr result (λ r.
-        add_refusal (bare catalog.now.relations seq) name.now row.now ≡ Some r) }
+        add_refusal (bare_store catalog.now.relations seq) name.now row.now ≡ Some r) }
 {
     let id = relation_for_row(catalog, name, row)?;
     if catalog.row_count(id) < ROWS && seq != LAST_SEQ {
@@ -99,11 +99,11 @@ pub fn check_held<L: Ledger>(
     seq: u64,
     tally: &mut Tally<L>,
 ) -> Result<RelationId, Refusal>
-    requires { suit_refusal (bare catalog.now.relations seq) held.now.relation held.now.row ≡ None }
+    requires { suit_refusal (bare_store catalog.now.relations seq) held.now.relation held.now.row ≡ None }
     ensures ok { IfOk result (λ id. MayCome catalog.now.relations held.now.relation held.now.row seq
         id.at) }
     ensures err { IfErr result (λ r.
-        place_refusal (bare catalog.now.relations seq) held.now ≡ Some r) }
+        place_refusal (bare_store catalog.now.relations seq) held.now ≡ Some r) }
 {
     let row = held.row.as_slice();
     let Some(id) = catalog.id(&held.relation) else {
@@ -134,7 +134,7 @@ pub fn check_delete<L: Ledger>(
 ) -> Result<Option<RelationId>, Refusal>
     ensures ok { IfOk result (JudgesDelete catalog.now name.now row.now seq cells.new) }
     ensures err { IfErr result (λ r.
-        delete_refusal (bare catalog.now.relations seq) name.now row.now ≡ Some r) }
+        delete_refusal (bare_store catalog.now.relations seq) name.now row.now ≡ Some r) }
 {
     let relation = relation_for_row(catalog, name, row)?;
     catalog.laws();

@@ -9,7 +9,7 @@ ghost use Rattle.djq_machine.specs.Batch.{first_read};
 ghost use Rattle.djq_live.specs.Live.{Live};
 ghost use Rattle.djq_reach.specs.Places.{place_at, reads_place, is_reader, readers_at};
 ghost use Rattle.djq_reach.specs.Grouping.{reached};
-ghost use Rattle.djq_engine.specs.Outdating.{AreReaders, AgesAll, ClearsLogs, GivesUp, reads_held};
+ghost use Rattle.djq_engine.specs.Outdating.{AreReaders, AgesAll, ClearsLogs, BatchGivesUp, reads_held};
 ghost use Rattle.djq_engine.specs.Outdating.{AreTested, by_tested};
 
 use crate::parts::Parts;
@@ -201,7 +201,7 @@ pub fn give_up(parts: &mut Parts, held: &[HeldRow])
         → i < length parts.old.logs.items }
     requires found { All (λ h. IsSome (relation_of parts.old.catalog.relations h.relation))
         held.now }
-    ensures { GivesUp held.now parts.old parts.new }
+    ensures { BatchGivesUp held.now parts.old parts.new }
 {
     empty_held(&mut parts.logs, &parts.readers, &parts.catalog, held);
     let seq = parts.seq;

@@ -1,7 +1,7 @@
 //! The places of the registered queries.
 ghost use Rattle.std.specs.Prelude.{◌≡◌, ◌==◌, ◌<◌, None, not, filter, position, length, vec_capacity, IfOk};
 ghost use Rattle.djq_reach.specs.Places.{place_at, AreOnce};
-ghost use Rattle.djq_engine.specs.Places.{is_query, left};
+ghost use Rattle.djq_engine.specs.Places.{is_query, places_without};
 ghost use Rattle.djq_engine.specs.Placing.{GrowsFull, SamePlaces, SameWatchers, SameLogs, AllOnce, LeavesAll};
 
 use djq_cursor::DeltaLog;
@@ -72,7 +72,7 @@ fn find_place(places: &[usize], at: usize) -> Option<usize>
 /// Takes a place out of a list of different places.
 pub fn leave_out(places: &mut Sequence<usize>, at: usize)
     requires { AreOnce places.old }
-    ensures { places.new ≡ left at places.old }
+    ensures { places.new ≡ places_without at places.old }
 {
     if let Some(place) = find_place(places.as_slice(), at) {
         let _ = places.remove(place);
@@ -81,7 +81,7 @@ pub fn leave_out(places: &mut Sequence<usize>, at: usize)
 
 /// Takes a place out of a list of affected ones.
 pub fn unaffect(places: &mut Vec<usize>, at: usize)
-    ensures items { places.new.items ≡ left at places.old.items }
+    ensures items { places.new.items ≡ places_without at places.old.items }
     ensures room { vec_capacity places.new ≡ vec_capacity places.old }
 {
     places.retain(|place| *place != at);

@@ -4,9 +4,9 @@ ghost use Rattle.std.specs.Prelude.{IfOk, IfErr, OnOk, OnErr, position, ◌==◌
 ghost use Rattle.djq_model.specs.Data.{Bytes};
 ghost use Rattle.djq_lines.specs.declared.limits.TheConstants.{HELD};
 ghost use Rattle.djq_machine.specs.State.{Store};
-ghost use Rattle.djq_machine.specs.Batch.{suit_refusal, SuitAll, StopsAt};
-ghost use Rattle.djq_engine.specs.Judging.{bare};
-ghost use Rattle.djq_engine.specs.Putting.{bare_of, placed, IsStoreOf, PutsRow, PutsOne, JoinsGroup, PutsAll};
+ghost use Rattle.djq_machine.specs.Batch.{suit_refusal, SuitAll, BatchStopsAt};
+ghost use Rattle.djq_engine.specs.Judging.{bare_store};
+ghost use Rattle.djq_engine.specs.Putting.{bare_of, placed, IsStoreOf, PutsHeldRow, PutsOne, JoinsGroup, PutsAll};
 ghost use Rattle.djq_engine.specs.Putting.{ComeFirst, RefusesAll, WentIn, WentInAll};
 
 use crate::judge::check_held;
@@ -41,10 +41,10 @@ fn put_row<L: Ledger>(
     seq: u64,
     tally: &mut Tally<L>,
 ) -> Result<Option<RelationId>, Refusal>
-    requires { suit_refusal (bare catalog.old.relations seq) held.now.relation held.now.row ≡ None }
-    ensures ok { IfOk result (λ o. PutsRow catalog.old held.now seq (placed o cells.new) catalog.new) }
+    requires { suit_refusal (bare_store catalog.old.relations seq) held.now.relation held.now.row ≡ None }
+    ensures ok { IfOk result (λ o. PutsHeldRow catalog.old held.now seq (placed o cells.new) catalog.new) }
     ensures err { IfErr result (λ r.
-        StopsAt (bare_of catalog.old seq) held.now catalog.new.texts r) }
+        BatchStopsAt (bare_of catalog.old seq) held.now catalog.new.texts r) }
     ensures stays { OnErr result (catalog.new.relations ≡ catalog.old.relations) }
 {
     catalog.laws();
@@ -147,11 +147,11 @@ fn put_one<L: Ledger>(
     seq: u64,
     tally: &mut Tally<L>,
 ) -> Result<usize, Refusal>
-    requires { suit_refusal (bare catalog.old.relations seq) held.now.relation held.now.row ≡ None }
+    requires { suit_refusal (bare_store catalog.old.relations seq) held.now.relation held.now.row ≡ None }
     ensures ok { IfOk result (λ n. PutsOne catalog.old groups.old.items held.now seq n
         catalog.new groups.new.items) }
     ensures err { IfErr result (λ r.
-        StopsAt (bare_of catalog.old seq) held.now catalog.new.texts r) }
+        BatchStopsAt (bare_of catalog.old seq) held.now catalog.new.texts r) }
     ensures stays { OnErr result (catalog.new.relations ≡ catalog.old.relations) }
 {
     rows_by_name_or_place();
@@ -196,7 +196,7 @@ pub fn put_all<L: Ledger>(
     seq: u64,
     tally: &mut Tally<L>,
 ) -> Result<Came, Refusal>
-    requires suit { SuitAll (bare catalog.old.relations seq) held.now }
+    requires suit { SuitAll (bare_store catalog.old.relations seq) held.now }
     requires few { length held.now ≤ HELD }
     ensures put { IfOk result (λ came. (st : Store) → IsStoreOf catalog.old seq st
         → PutsAll st held.now catalog.new came.count came.groups.items) }

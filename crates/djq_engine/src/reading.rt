@@ -1,8 +1,10 @@
 //! Cursors: opening, reading and closing them.
 ghost use Rattle.std.specs.Prelude.{◌≡◌, ⊤, IsSomeAnd, IfOk, OnErr};
 ghost use Rattle.djq_reach.specs.Places.{place_at};
-ghost use Rattle.djq_engine.specs.Kept.{IsHeld, IsFresh, OpenGives, NextGives, MoreGives, ClosesCursor, KeepsTables};
-ghost use Rattle.djq_engine.specs.Moving.{Moves, IsReadable, IsFreshly, OpensAt, ClosesAt, ReadsAt, TellsAt};
+ghost use Rattle.djq_engine.specs.Kept.{IsHeld, IsFresh, CursorOpenGives, EngineNextGives, MoreGives, ClosesCursor};
+ghost use Rattle.djq_engine.specs.Kept.{KeepsTables};
+ghost use Rattle.djq_engine.specs.Moving.{Moves, IsReadableInSlot, IsFreshInSlot, OpensAt, ClosesAt, ReadsAt};
+ghost use Rattle.djq_engine.specs.Moving.{TellsMore};
 
 use crate::cursor::{CursorId, QueryId};
 use crate::engine::Engine;
@@ -27,7 +29,7 @@ fn open_at(queries: &mut Vec<Option<LiveQuery>>, at: usize) -> Result<usize, NoM
 
 /// Closes one.
 fn close_at(queries: &mut Vec<Option<LiveQuery>>, at: usize, slot: usize)
-    requires { IsSomeAnd (place_at queries.old.items at) (IsReadable slot) }
+    requires { IsSomeAnd (place_at queries.old.items at) (IsReadableInSlot slot) }
     ensures { Moves (ClosesAt slot) at queries.old.items queries.new.items }
 {
     match &mut queries[at] {
@@ -44,7 +46,7 @@ fn next_at<L: Ledgers>(
     answer: &mut Answer,
     listing: &mut Tally<Listing<L>>,
 ) -> Next
-    requires { IsSomeAnd (place_at queries.old.items at) (IsReadable slot) }
+    requires { IsSomeAnd (place_at queries.old.items at) (IsReadableInSlot slot) }
     ensures { Moves (ReadsAt slot result answer.new listing.old listing.new) at
         queries.old.items queries.new.items }
 {
@@ -61,8 +63,8 @@ fn more_at<L: Ledgers>(
     slot: usize,
     listing: &mut Tally<Listing<L>>,
 ) -> bool
-    requires { IsSomeAnd (place_at queries.old.items at) (IsFreshly slot) }
-    ensures { Moves (TellsAt slot result listing.old listing.new) at
+    requires { IsSomeAnd (place_at queries.old.items at) (IsFreshInSlot slot) }
+    ensures { Moves (TellsMore slot result listing.old listing.new) at
         queries.old.items queries.new.items }
 {
     match &mut queries[at] {
@@ -78,7 +80,7 @@ impl Engine {
     ///
     /// `NoQuery` where none has the name; `NoMemory` out of memory. Nothing has changed.
     pub fn open(&mut self, query: &Name) -> Result<CursorId, Refusal>
-        ensures gives { OpenGives self.old query.now result self.new }
+        ensures gives { CursorOpenGives self.old query.now result self.new }
         ensures places { KeepsTables self.old self.new }
     {
         let Some(at) = find_query(self.parts.queries.as_slice(), query) else {
@@ -111,7 +113,7 @@ impl Engine {
         listing: &mut Tally<Listing<L>>,
     ) -> Next
         requires { IsHeld self.old id }
-        ensures gives { NextGives self.old id result answer.new self.new listing.old listing.new }
+        ensures gives { EngineNextGives self.old id result answer.new self.new listing.old listing.new }
         ensures places { KeepsTables self.old self.new }
     {
         next_at(

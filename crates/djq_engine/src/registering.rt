@@ -9,7 +9,7 @@ ghost use Rattle.djq_reach.specs.Places.{place_at};
 ghost use Rattle.djq_engine.specs.Placing.{JoinsReaders, JoinsSome};
 ghost use Rattle.djq_engine.specs.Registering.{Registers, SameParts};
 ghost use Rattle.djq_engine.specs.Watching.{Enrols, EnrolsTelling};
-ghost use Rattle.djq_engine.specs.Whole.{kept_in, IsWhole, IsTended};
+ghost use Rattle.djq_engine.specs.Whole.{kept_in, EngineIsWhole, IsTended};
 
 use crate::engine::Engine;
 use crate::parts::Parts;
@@ -72,7 +72,7 @@ fn join_readers(
 /// Puts a query in a vacant place, behind the others in order and behind the readers of its
 /// relations; or changes nothing that is seen, out of memory.
 fn register(parts: &mut Parts, query: LiveQuery) -> Result<(), NoMem>
-    requires whole { IsWhole parts.old }
+    requires whole { EngineIsWhole parts.old }
     requires tended { IsTended parts.old }
     requires room { length parts.old.order < QUERIES }
     ensures ok { OnOk result (Registers query parts.old parts.new) }
@@ -106,7 +106,7 @@ fn register(parts: &mut Parts, query: LiveQuery) -> Result<(), NoMem>
 
 /// Why a query isn't registered, whatever its hypergraph is.
 fn judge_query(parts: &Parts, query: &Query) -> Option<Refusal>
-    requires { IsWhole parts.now }
+    requires { EngineIsWhole parts.now }
     ensures { result ≡ query_refusal (kept_in parts.now).store query.now }
 {
     if find_query(parts.queries.as_slice(), &query.name).is_some() {

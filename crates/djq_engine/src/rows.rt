@@ -8,7 +8,7 @@ ghost use Rattle.djq_reach.specs.Places.{place_at, readers_at, AreOnce};
 ghost use Rattle.djq_reach.specs.Reaching.{AllAt};
 ghost use Rattle.djq_engine.specs.Changing.{AgesReaders};
 ghost use Rattle.djq_engine.specs.Cursors.{has_cursor};
-ghost use Rattle.djq_engine.specs.Watching.{TellsChange, CountsUpdates, add_times, delete_times};
+ghost use Rattle.djq_engine.specs.Watching.{EngineTellsChange, CountsUpdates, add_times, delete_times};
 
 use crate::change::{AddRefusal, drop_cells, put_row};
 use crate::engine::Engine;
@@ -146,7 +146,7 @@ impl Engine {
             (tried (add_outcome (row_in self.old.store.relations name.now row.now) result))
             self.new }
         ensures watches { self.new.registered ≡ self.old.registered }
-        ensures tells { TellsChange self.old
+        ensures tells { EngineTellsChange self.old
             (add_outcome (row_in self.old.store.relations name.now row.now) result) self.new
             steps.old.listing steps.new.listing }
         ensures unlisted { IsUnwatched self.old → steps.new.listing ≡ steps.old.listing }
@@ -207,7 +207,7 @@ impl Engine {
             (tried (delete_outcome (row_out self.old.store.relations name.now row.now) result))
             self.new }
         ensures watches { self.new.registered ≡ self.old.registered }
-        ensures tells { TellsChange self.old
+        ensures tells { EngineTellsChange self.old
             (delete_outcome (row_out self.old.store.relations name.now row.now) result) self.new
             steps.old.listing steps.new.listing }
         ensures unlisted { IsUnwatched self.old → steps.new.listing ≡ steps.old.listing }

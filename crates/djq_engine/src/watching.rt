@@ -5,7 +5,8 @@ ghost use Rattle.djq_model.specs.Data.{bytes_eq};
 ghost use Rattle.djq_model.specs.Listed.{listed_name};
 ghost use Rattle.djq_lines.specs.declared.limits.TheConstants.{QUERIES};
 ghost use Rattle.djq_engine.specs.Kept.{registered_of, registered_at, same_query, IsRegistered, with_watchers};
-ghost use Rattle.djq_engine.specs.Kept.{told_at, IsOver, ArePlaced, AreListed, AreHeld, AreTold, TellsCells};
+ghost use Rattle.djq_engine.specs.Kept.{told_at, PlacesAreKept, IdsArePlaced, PlacesAreRegistered};
+ghost use Rattle.djq_engine.specs.Kept.{CursorsAreRegistered, ToldCellsFit, TellsChangeCells};
 ghost use Rattle.djq_engine.specs.Lending.{sign_of};
 
 use crate::cursor::QueryId;
@@ -66,11 +67,11 @@ impl Engine {
             self.now.registered }
         ensures few { length self.now.places ≤ QUERIES }
         ensures long { length self.now.told ≡ length self.now.places }
-        ensures over { IsOver self.now }
-        ensures placed { ArePlaced self.now }
-        ensures listed { AreListed self.now }
-        ensures held { AreHeld self.now }
-        ensures shown { AreTold self.now }
+        ensures over { PlacesAreKept self.now }
+        ensures placed { IdsArePlaced self.now }
+        ensures listed { PlacesAreRegistered self.now }
+        ensures held { CursorsAreRegistered self.now }
+        ensures shown { ToldCellsFit self.now }
     {
         let _parts = &self.parts;
         showable_cells_stand();
@@ -159,7 +160,7 @@ impl Engine {
     pub fn delta_cells(&self, id: QueryId, nth: usize, cells: &mut Cells) -> bool
         requires registered { IsRegistered self.now id }
         requires within { IsSomeAnd (told_at self.now id) (λ changes. nth < length changes) }
-        ensures { TellsCells self.now id nth (sign_of result) cells.new }
+        ensures { TellsChangeCells self.now id nth (sign_of result) cells.new }
     {
         showable_cells_stand();
         let line = line_at(&self.parts.logs[id.at], nth);

@@ -1,6 +1,6 @@
 ghost use Rattle.std.specs.Prelude.{◌≡◌, ◌+◌, ◌<◌, ◌≤◌, length, None, IfOk};
-ghost use Rattle.djq_disk.specs.History.{Fits};
-ghost use Rattle.djq_disk.specs.DiskFaults.{CountsOpen, CountsLen, CountsRead, CountsDid};
+ghost use Rattle.djq_disk.specs.History.{FitsRead};
+ghost use Rattle.djq_disk.specs.DiskFaults.{CountsOpen, CountsLen, CountsDiskRead, CountsDid};
 
 use djq_disk::{Disk, DiskDid, DiskLen, DiskOpen, DiskRead};
 use std::fs::{self, Files, OpenOptions, TryLockError};
@@ -161,8 +161,8 @@ impl<R: Files<File = fs::File> + Drop> Disk for FileDisk<R> {
 
     fn read(&mut self, at: u64, buf: &mut [u8]) -> DiskRead
         requires { 0 < length buf.old }
-        ensures fits { Fits result at buf.new }
-        ensures faults { CountsRead result self.old self.new }
+        ensures fits { FitsRead result at buf.new }
+        ensures faults { CountsDiskRead result self.old self.new }
     {
         match read_some(&self.file, at, buf) {
             Ok(0) => DiskRead::End,

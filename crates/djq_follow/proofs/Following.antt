@@ -9,15 +9,15 @@ use Rattle.std.proofs.lemmas.List.Elements.{All-append, All-cons}
 use Rattle.memchr.specs.Find.{IsFirstByte, is_byte}
 use Rattle.djq_model.specs.Data.{Bytes}
 use Rattle.djq_lines.specs.Reply.{line}
-use Rattle.djq_io.specs.Source.{Reading}
+use Rattle.djq_io.specs.Source.{SourceReading}
 use Rattle.djq_mirror.specs.declared.mode.TheConstants.{REPLY_LINE_BYTES}
 use Rattle.djq_mirror.specs.Mirror.{Held, at_first, IsOutside}
-use Rattle.djq_mirror.specs.Inputs.{lines_text, HasNoLf, FollowsAll, Stops, IsRefused}
+use Rattle.djq_mirror.specs.Inputs.{lines_text, HasNoLf, FollowsAll, StopsMirror, FirstIsRefused}
 use Rattle.djq_follow.specs.declared.follower.Halt.{Halt}
 use Rattle.djq_follow.specs.declared.follower.Halt.TheVariants.{Outside, TooMany, NoMem}
 use Rattle.djq_follow.specs.declared.reading.Followed.TheVariants.{Halted}
-use Rattle.djq_follow.specs.Follow.{Following, most_lines, Stopping, Takes, Halts, CountsOut}
-use Rattle.djq_follow.specs.Follow.{TakesPiece, TakesLine, KeepsFront, EndsInput, HasGivenAll}
+use Rattle.djq_follow.specs.Follow.{Following, most_lines, Stopping, TakesLines, Halts, CountsOut}
+use Rattle.djq_follow.specs.Follow.{TakesPiece, TakesLine, KeepsFront, HaltsAtEnd, HasGivenAll}
 use Rattle.djq_follow.specs.Follow.{AreFollowed, FollowedAs}
 
 -- lines behind lines
@@ -88,7 +88,7 @@ at_no_lf xs h k d low is = h k (omega arith) low (ap (λ (b : ℕ). b == 10) (sy
 
 -- ---- pieces
 
-pub takes_none : (f : Following) → HasNoLf f.begun → Takes f [] f
+pub takes_none : (f : Following) → HasNoLf f.begun → TakesLines f [] f
 takes_none f own = record {
   lines = [];
   is = append-nil f.begun;
@@ -98,7 +98,7 @@ takes_none f own = record {
   name = refl;
 }
 
-pub takes_more : (a b c : Following) (x y : Bytes) → Takes a x b → Takes b y c → Takes a (x ++ y) c
+pub takes_more : (a b c : Following) (x y : Bytes) → TakesLines a x b → TakesLines b y c → TakesLines a (x ++ y) c
 takes_more a b c x y first second =
     let named = subst (λ (name : Bytes). FollowsAll name b.held second.lines c.held) first.name second.follows in
     record {
@@ -111,7 +111,7 @@ takes_more a b c x y first second =
     }
 
 -- a line that can't be followed behind pieces that were taken
-pub halts_behind : (a b : Following) (x y : Bytes) (n : ℕ) → Takes a x b → Halts b y n → Halts a (x ++ y) n
+pub halts_behind : (a b : Following) (x y : Bytes) (n : ℕ) → TakesLines a x b → Halts b y n → Halts a (x ++ y) n
 halts_behind a b x y n first h =
     let named = subst (λ (name : Bytes). FollowsAll name b.held h.lines h.held) first.name h.follows in
     let where_it_stops = subst (λ (name : Bytes). Stopping name h.held h.bad h.behind) first.name h.stops in
@@ -128,7 +128,7 @@ halts_behind a b x y n first h =
     }
 
 -- so many lines that no more can be counted
-pub counts_out_behind : (a b : Following) (x y : Bytes) → Takes a x b → CountsOut b y → CountsOut a (x ++ y)
+pub counts_out_behind : (a b : Following) (x y : Bytes) → TakesLines a x b → CountsOut b y → CountsOut a (x ++ y)
 counts_out_behind a b x y first h = record {
   mid = h.mid;
   front = x ++ h.front;
@@ -146,7 +146,7 @@ ended begun last = sym (append_assoc begun last (10 ∷ []))
     ∙ ap (λ (xs : Bytes). xs ++ []) (sym (append-nil (line (begun ++ last))))
 
 pub takes_line : (old new : Following) (last : Bytes) → HasNoLf old.begun → HasNoLf last → TakesLine old last None new
-    → Takes old (last ++ 10 ∷ []) new
+    → TakesLines old (last ++ 10 ∷ []) new
 takes_line old new last own after h = record {
   lines = (old.begun ++ last) ∷ [];
   is = ended old.begun last ∙ ap (λ (xs : Bytes). lines_text ((old.begun ++ last) ∷ []) ++ xs) (sym h.1);
@@ -174,8 +174,8 @@ line_halts old last tail n new own after h = record {
 
 pub takes_front : (old new : Following) (front : Bytes) → HasNoLf old.begun → HasNoLf front
     → KeepsFront old front None new
-    → Takes old front new
-takes_front old new front own after h = subst (λ (f : Following). Takes old front f) (sym h) (record {
+    → TakesLines old front new
+takes_front old new front own after h = subst (λ (f : Following). TakesLines old front f) (sym h) (record {
   lines = [];
   is = refl;
   own = no_lf_more old.begun front own after;
@@ -211,9 +211,9 @@ counts_out_here old bytes own full = record {
 
 -- what becomes of a piece, by what becomes of the rest of it
 pub takes_rest : (old mid new : Following) (piece front rest : Bytes) (halt : Option Halt) → piece ≡ front ++ rest
-    → Takes old front mid → TakesPiece mid rest halt new → TakesPiece old piece halt new
+    → TakesLines old front mid → TakesPiece mid rest halt new → TakesPiece old piece halt new
 takes_rest old mid new piece front rest None is first h =
-    subst (λ (p : Bytes). Takes old p new) (sym is) (takes_more old mid new front rest first h)
+    subst (λ (p : Bytes). TakesLines old p new) (sym is) (takes_more old mid new front rest first h)
 takes_rest old mid new piece front rest (Some (Outside n)) is first h =
     subst (λ (p : Bytes). Halts old p n) (sym is) (halts_behind old mid front rest n first h)
 takes_rest old mid new piece front rest (Some TooMany) is first h =
@@ -251,7 +251,7 @@ from_first : (f : Following) (ls : List Bytes) (held : Held) → IsFirst f → F
     → FollowsAll f.name at_first ls held
 from_first f ls held first h = subst (λ (old : Held). FollowsAll f.name old ls held) first.held h
 
-pub are_followed : (f new : Following) (bytes : Bytes) → IsFirst f → Takes f bytes new → AreFollowed f.name bytes
+pub are_followed : (f new : Following) (bytes : Bytes) → IsFirst f → TakesLines f bytes new → AreFollowed f.name bytes
 are_followed f new bytes first h = record {
   lines = h.lines;
   held = new.held;
@@ -262,8 +262,8 @@ are_followed f new bytes first h = record {
 }
 
 -- the last line lacks its LF
-pub is_unfinished : (f new : Following) (bytes : Bytes) (n : ℕ) → IsFirst f → Takes f bytes new → new.begun ≢ []
-    → n ≡ new.count + 1 → IsRefused f.name bytes n
+pub is_unfinished : (f new : Following) (bytes : Bytes) (n : ℕ) → IsFirst f → TakesLines f bytes new → new.begun ≢ []
+    → n ≡ new.count + 1 → FirstIsRefused f.name bytes n
 is_unfinished f new bytes n first h some number = record {
   lines = h.lines;
   held = new.held;
@@ -298,7 +298,7 @@ some_left bad long none = absurd (omega (arith, long, ap (λ (xs : Bytes). lengt
 
 -- Whatever comes behind, the line is the first that can't be followed.
 pub is_refused : (f : Following) (bytes : Bytes) (n : ℕ) (more : Bytes) → IsFirst f → Halts f bytes n
-    → IsRefused f.name (bytes ++ more) n
+    → FirstIsRefused f.name (bytes ++ more) n
 is_refused f bytes n more first h = elim h.stops [
   | inl (tail, is, outside) ↦ record {
     lines = h.lines;
@@ -323,16 +323,17 @@ is_refused f bytes n more first h = elim h.stops [
 
     stops_there : (front rest : Bytes) → REPLY_LINE_BYTES < length h.bad
         → (rest ≡ []) ⊎ ((tail : Bytes) × (rest ≡ 10 ∷ tail))
-        → Stops f.name h.held (h.bad ++ front) rest
-    stops_there front rest long (inl none) = subst (λ (xs : Bytes). Stops f.name h.held (h.bad ++ front) xs) (sym none)
+        → StopsMirror f.name h.held (h.bad ++ front) rest
+    stops_there front rest long (inl none) =
+        subst (λ (xs : Bytes). StopsMirror f.name h.held (h.bad ++ front) xs) (sym none)
         (some_left (h.bad ++ front) (omega (arith, long, length-append h.bad front)))
-    stops_there front rest long (inr (tail, is)) = subst (λ (xs : Bytes). Stops f.name h.held (h.bad ++ front) xs)
+    stops_there front rest long (inr (tail, is)) = subst (λ (xs : Bytes). StopsMirror f.name h.held (h.bad ++ front) xs)
         (sym is)
         (refl, too_long f.name h.held h.bad front long)
 
     long_line : h.behind ≡ [] → REPLY_LINE_BYTES < length h.bad
         → (front : Bytes) × (rest : Bytes) × (more ≡ front ++ rest) × HasNoLf front
-        × ((rest ≡ []) ⊎ ((tail : Bytes) × (rest ≡ 10 ∷ tail))) → IsRefused f.name (bytes ++ more) n
+        × ((rest ≡ []) ⊎ ((tail : Bytes) × (rest ≡ 10 ∷ tail))) → FirstIsRefused f.name (bytes ++ more) n
     long_line none long (front, rest, is, own, ends) = record {
       lines = h.lines;
       held = h.held;
@@ -367,7 +368,7 @@ counted_bytes f bytes first h =
       length-append h.front h.rest,
     )
 
-pub unfinished_bytes : (f new : Following) (bytes : Bytes) → IsFirst f → Takes f bytes new → new.count ≡ most_lines
+pub unfinished_bytes : (f new : Following) (bytes : Bytes) → IsFirst f → TakesLines f bytes new → new.count ≡ most_lines
     → most_lines ≤ length bytes
 unfinished_bytes f new bytes first h full = counted_bytes f bytes first (record {
   mid = new;
@@ -379,9 +380,9 @@ unfinished_bytes f new bytes first h full = counted_bytes f bytes first (record 
 })
 
 -- what a piece that goes no further comes to
-pub halted_as : (f mid : Following) (bytes piece : Bytes) (halt : Halt) (new : Following) (now : Option Reading)
+pub halted_as : (f mid : Following) (bytes piece : Bytes) (halt : Halt) (new : Following) (now : Option SourceReading)
     (held : Held)
-    → IsFirst f → Takes f bytes mid → TakesPiece mid piece (Some halt) new
+    → IsFirst f → TakesLines f bytes mid → TakesPiece mid piece (Some halt) new
     → FollowedAs (Halted halt) f.name (bytes ++ piece) now held
 halted_as f mid bytes piece (Outside n) new now held first h k =
     inl (λ more. is_refused f (bytes ++ piece) n more first (halts_behind f mid bytes piece n h k))
@@ -390,9 +391,9 @@ halted_as f mid bytes piece TooMany new now held first h k =
 halted_as f mid bytes piece NoMem new now held first h k = tt
 
 -- what the end of the input comes to behind a line that has begun
-pub ended_as : (f new : Following) (bytes : Bytes) (halt : Halt) (now : Option Reading) (held : Held) → IsFirst f
-    → Takes f bytes new
-    → HasGivenAll now → EndsInput new (Some halt) → FollowedAs (Halted halt) f.name bytes now held
+pub ended_as : (f new : Following) (bytes : Bytes) (halt : Halt) (now : Option SourceReading) (held : Held) → IsFirst f
+    → TakesLines f bytes new
+    → HasGivenAll now → HaltsAtEnd new (Some halt) → FollowedAs (Halted halt) f.name bytes now held
 ended_as f new bytes (Outside n) now held first h end (some, number) =
     inr (end, is_unfinished f new bytes n first h some number)
 ended_as f new bytes TooMany now held first h end (some, full) =
@@ -400,5 +401,5 @@ ended_as f new bytes TooMany now held first h end (some, full) =
 ended_as f new bytes NoMem now held first h end (some, none) = absurd none
 
 -- a source that is at its end has given all
-pub given_all : (old new : Option Reading) → HasGivenAll old → new ≡ old → HasGivenAll new
+pub given_all : (old new : Option SourceReading) → HasGivenAll old → new ≡ old → HasGivenAll new
 given_all old new h same = subst HasGivenAll (sym same) h

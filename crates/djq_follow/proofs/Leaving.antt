@@ -1,7 +1,7 @@
 -- What is to be written of what was read, by how reading ended.
 use Rattle.std.specs.Prelude.{ℕ, ◌≡◌, Option}
 use Rattle.std.proofs.Common.{sym, subst}
-use Rattle.djq_io.specs.Source.{Reading}
+use Rattle.djq_io.specs.Source.{SourceReading}
 use Rattle.djq_model.specs.Data.{Bytes}
 use Rattle.djq_mirror.specs.Mirror.{Held, written}
 use Rattle.djq_follow.specs.declared.follower.Halt.{Halt}
@@ -11,12 +11,12 @@ use Rattle.djq_follow.specs.declared.reading.Followed.TheVariants.{Whole, Halted
 use Rattle.djq_follow.specs.declared.command.Mirrored.{Mirrored}
 use Rattle.djq_follow.specs.declared.command.Mirrored.TheVariants.{Done, ReadFault, NoMemory}
 use Rattle.djq_follow.specs.Follow.{FollowEnds}
-use Rattle.djq_follow.specs.Ends.{IsTold, IsUntold, ComesTo, StopsFor, Leaves, LeavesNone}
+use Rattle.djq_follow.specs.Ends.{HaltIsTold, IsUntold, ComesTo, StopsFor, MirrorLeaves, LeavesNone}
 
-module _ (name : Bytes) (before now : Option Reading) (faults faults' : ℕ) where
+module _ (name : Bytes) (before now : Option SourceReading) (faults faults' : ℕ) where
   pub leaves_whole : (held : Held) (text : Bytes) (answer : Mirrored)
       → FollowEnds Whole name before now faults faults' held
-      → text ≡ written held → answer ≡ Done → Leaves answer text name before now faults faults'
+      → text ≡ written held → answer ≡ Done → MirrorLeaves answer text name before now faults faults'
   leaves_whole held text answer e is done = record {
     bytes = e.bytes;
     gave = e.gave;
@@ -25,8 +25,8 @@ module _ (name : Bytes) (before now : Option Reading) (faults faults' : ℕ) whe
   }
 
   pub leaves_halted : (held : Held) (halt : Halt) (text : Bytes) (answer : Mirrored)
-      → FollowEnds (Halted halt) name before now faults faults' held → IsTold halt text answer
-      → Leaves answer text name before now faults faults'
+      → FollowEnds (Halted halt) name before now faults faults' held → HaltIsTold halt text answer
+      → MirrorLeaves answer text name before now faults faults'
   leaves_halted held (HaltsOutside n) text answer e (is, outside) = record {
     bytes = e.bytes;
     gave = e.gave;

@@ -2,7 +2,7 @@
 use Rattle.std.specs.Prelude.{ℕ, List, [], ◌∷◌, ◌++◌, ◌≡◌, ◌≢◌, ◌+◌, ◌<◌, ◌≤◌, ◌⊎◌, Option, None}
 use Rattle.std.specs.Prelude.{Some, IfSome, Result, Ok, Err, length}
 use Rattle.djq_io.specs.Faults.{Counted}
-use Rattle.djq_io.specs.Source.{Reading}
+use Rattle.djq_io.specs.Source.{SourceReading}
 use Rattle.djq_io.specs.Given.{Gave}
 use Rattle.djq_model.specs.Data.{Bytes}
 use Rattle.djq_laws.specs.declared.limits.TheConstants.{MOST_READS}
@@ -10,7 +10,7 @@ use Rattle.djq_mirror.specs.declared.mode.TheConstants.{REPLY_LINE_BYTES}
 use Rattle.djq_mirror.specs.declared.mirror.MirrorRefusal.{MirrorRefusal}
 use Rattle.djq_mirror.specs.declared.mirror.MirrorRefusal.TheVariants.{Outside as IsOutsideHere, NoMem as NoMemHere}
 use Rattle.djq_mirror.specs.Mirror.{Held, at_first, Follows, IsOutside}
-use Rattle.djq_mirror.specs.Inputs.{lines_text, HasNoLf, FollowsAll, IsHeld, IsRefused}
+use Rattle.djq_mirror.specs.Inputs.{lines_text, HasNoLf, FollowsAll, HoldsAtEnd, FirstIsRefused}
 use Rattle.djq_follow.specs.declared.follower.Halt.{Halt}
 use Rattle.djq_follow.specs.declared.follower.Halt.TheVariants.{Outside, TooMany, NoMem}
 use Rattle.djq_follow.specs.declared.reading.Followed.{Followed}
@@ -29,7 +29,7 @@ abbrev pub most_lines : ℕ
 most_lines = 18446744073709551615
 
 -- Bytes end lines that are followed, one after another, and begin one.
-pub record Takes (old : Following) (bytes : Bytes) (new : Following) : Type 0 where
+pub record TakesLines (old : Following) (bytes : Bytes) (new : Following) : Type 0 where
   pub lines : List Bytes
   pub is : old.begun ++ bytes ≡ lines_text lines ++ new.begun
   pub own : HasNoLf new.begun
@@ -61,12 +61,12 @@ pub record CountsOut (old : Following) (bytes : Bytes) : Type 0 where
   pub front : Bytes
   pub rest : Bytes
   pub is : bytes ≡ front ++ rest
-  pub takes : Takes old front mid
+  pub takes : TakesLines old front mid
   pub full : mid.count ≡ most_lines
 
 -- What becomes of a piece, by why it isn't taken to its end, if it isn't.
 abbrev pub TakesPiece : Following → Bytes → Option Halt → Following → Type 0
-TakesPiece old piece None new = Takes old piece new
+TakesPiece old piece None new = TakesLines old piece new
 TakesPiece old piece (Some (Outside n)) new = Halts old piece n
 TakesPiece old piece (Some TooMany) new = CountsOut old piece
 TakesPiece old piece (Some NoMem) new = Unit {0}
@@ -96,18 +96,18 @@ KeepsFront old front (Some TooMany) new = old.count ≡ most_lines
 KeepsFront old front (Some NoMem) new = Unit {0}
 
 -- the line behind so many, as the first that can't be followed
-abbrev pub IsNextLine : ℕ → Halt → Type 0
-IsNextLine count (Outside n) = n ≡ count + 1
-IsNextLine count TooMany = count ≡ most_lines
-IsNextLine count NoMem = ⊥
+abbrev pub IsHaltLine : ℕ → Halt → Type 0
+IsHaltLine count (Outside n) = n ≡ count + 1
+IsHaltLine count TooMany = count ≡ most_lines
+IsHaltLine count NoMem = ⊥
 
 -- At the end of the input a line that has begun can't be followed.
-abbrev pub EndsInput : Following → Option Halt → Type 0
-EndsInput f None = f.begun ≡ []
-EndsInput f (Some halt) = (f.begun ≢ []) × IsNextLine f.count halt
+abbrev pub HaltsAtEnd : Following → Option Halt → Type 0
+HaltsAtEnd f None = f.begun ≡ []
+HaltsAtEnd f (Some halt) = (f.begun ≢ []) × IsHaltLine f.count halt
 
 -- It has nothing left, where it tells.
-abbrev pub HasGivenAll : Option Reading → Type 0
+abbrev pub HasGivenAll : Option SourceReading → Type 0
 HasGivenAll reading = IfSome reading (λ r. r.left ≡ [])
 
 -- Each whole line of these bytes is followed.
@@ -121,13 +121,13 @@ pub record AreFollowed (name bytes : Bytes) : Type 0 where
 
 -- Whatever comes behind these bytes, the line of this number is the first that can't be followed; or
 -- so it is where nothing comes, and nothing does.
-abbrev pub StopsAt : Bytes → Bytes → Option Reading → ℕ → Type 0
-StopsAt name bytes now n = ((more : Bytes) → IsRefused name (bytes ++ more) n)
-    ⊎ (HasGivenAll now × IsRefused name bytes n)
+abbrev pub StopsAt : Bytes → Bytes → Option SourceReading → ℕ → Type 0
+StopsAt name bytes now n = ((more : Bytes) → FirstIsRefused name (bytes ++ more) n)
+    ⊎ (HasGivenAll now × FirstIsRefused name bytes n)
 
 -- What the bytes that were read come to.
-abbrev pub FollowedAs : Followed → Bytes → Bytes → Option Reading → Held → Type 0
-FollowedAs Whole name bytes now held = HasGivenAll now × IsHeld name bytes held
+abbrev pub FollowedAs : Followed → Bytes → Bytes → Option SourceReading → Held → Type 0
+FollowedAs Whole name bytes now held = HasGivenAll now × HoldsAtEnd name bytes held
 FollowedAs (Halted (Outside n)) name bytes now held = StopsAt name bytes now n
 FollowedAs (Halted TooMany) name bytes now held = MOST_READS ≤ length bytes
 FollowedAs (Halted NoMem) name bytes now held = Unit {0}
@@ -139,7 +139,7 @@ FaultsAs ReadFault faults faults' = Counted faults faults'
 FaultsAs _ faults faults' = faults' ≡ faults
 
 -- How reading ends, from a mirror of a name that holds nothing yet to what it holds then.
-pub record FollowEnds (answer : Followed) (name : Bytes) (before now : Option Reading)
+pub record FollowEnds (answer : Followed) (name : Bytes) (before now : Option SourceReading)
     (faults faults' : ℕ) (held : Held) : Type 0 where
   pub bytes : Bytes
   pub gave : Gave before now bytes

@@ -1,7 +1,7 @@
 //! What a mirror leaves of what a session was sent, written to a sink.
 ghost use Rattle.std.specs.Prelude.{◌≡◌, IfOk, MatchResult};
 ghost use Rattle.djq_mirror.specs.Mirror.{written};
-ghost use Rattle.djq_follow.specs.Ends.{IsTold, IsUntold, Leaves, LeavesNone, MirrorEnds, outside_line};
+ghost use Rattle.djq_follow.specs.Ends.{HaltIsTold, IsUntold, MirrorLeaves, LeavesNone, MirrorEnds, unfollowed_line};
 
 use crate::follower::{Follower, Halt};
 use crate::reading::{Followed, follow};
@@ -61,7 +61,7 @@ fn leave<S: Source>(
     source: &mut S,
 ) -> Result<(BytesMut, Mirrored), Mirrored>
     ensures { MatchResult result
-        (λ made. Leaves made.1 made.0.items query (S.told source.old) (S.told source.new)
+        (λ made. MirrorLeaves made.1 made.0.items query (S.told source.old) (S.told source.new)
         (S.faults source.old) (S.faults source.new))
         (λ answer. LeavesNone answer query (S.told source.old) (S.told source.new)
         (S.faults source.old) (S.faults source.new)) }
@@ -92,7 +92,7 @@ fn written(alloc: Global, mirror: &Mirror) -> Result<(BytesMut, Mirrored), Mirro
 
 /// What is written where the mirror can't follow any further.
 fn tell_halt(alloc: Global, halt: Halt) -> Result<(BytesMut, Mirrored), Mirrored>
-    ensures { MatchResult result (λ made. IsTold halt made.0.items made.1) (IsUntold halt) }
+    ensures { MatchResult result (λ made. HaltIsTold halt made.0.items made.1) (IsUntold halt) }
 {
     match halt {
         Halt::Outside(number) => tell_outside(alloc, number),
@@ -104,7 +104,7 @@ fn tell_halt(alloc: Global, halt: Halt) -> Result<(BytesMut, Mirrored), Mirrored
 /// The line that says which line can't be followed.
 fn tell_outside(alloc: Global, number: u64) -> Result<(BytesMut, Mirrored), Mirrored>
     ensures { MatchResult result
-        (λ made. (made.0.items ≡ outside_line number) × (made.1 ≡ Mirrored.Outside number))
+        (λ made. (made.0.items ≡ unfollowed_line number) × (made.1 ≡ Mirrored.Outside number))
         (λ answer. answer ≡ Mirrored.NoMemory) }
 {
     match outside_text(alloc, number) {
@@ -115,7 +115,7 @@ fn tell_outside(alloc: Global, number: u64) -> Result<(BytesMut, Mirrored), Mirr
 
 /// The same without the answer.
 fn outside_text(alloc: Global, number: u64) -> Result<BytesMut, NoMem>
-    ensures { IfOk result (λ text. text.items ≡ outside_line number) }
+    ensures { IfOk result (λ text. text.items ≡ unfollowed_line number) }
 {
     let mut text = BytesMut::new(alloc);
     put(&mut text, b"mirror ")?;

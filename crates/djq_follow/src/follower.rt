@@ -1,7 +1,7 @@
 //! Pieces of what a session was sent, followed line by line.
 ghost use Rattle.std.specs.Prelude.{◌≡◌, []};
 ghost use Rattle.djq_mirror.specs.Inputs.{HasNoLf};
-ghost use Rattle.djq_follow.specs.Follow.{TakesPiece, TakesLine, FollowsLine, KeepsFront, EndsInput, IsNextLine};
+ghost use Rattle.djq_follow.specs.Follow.{TakesPiece, TakesLine, FollowsLine, KeepsFront, HaltsAtEnd, IsHaltLine};
 
 use djq_mirror::{Mirror, MirrorRefusal, REPLY_LINE_BYTES};
 use memchr::memchr;
@@ -87,7 +87,7 @@ impl Follower {
     /// The number of the line that has begun and wasn't ended, where there is one: why it goes no
     /// further at the end of the input.
     pub(crate) fn end(&self) -> Option<Halt>
-        ensures { EndsInput self.now result }
+        ensures { HaltsAtEnd self.now result }
     {
         if self.begun.is_empty() {
             return None;
@@ -146,7 +146,7 @@ impl Follower {
 
 /// The number behind this one, as that of a line that can't be followed.
 fn next_line(count: u64) -> Halt
-    ensures { IsNextLine count result }
+    ensures { IsHaltLine count result }
 {
     match count.checked_add(1) {
         Some(number) => Halt::Outside(number),

@@ -33,7 +33,7 @@ use Rattle.std.proofs.lemmas.List.Kept.{AllPairs-filter}
 use Rattle.djq_engine.specs.Kept.{Kept}
 use Rattle.djq_union.proofs.Lists.{head_or_tail}
 use Rattle.djq_gains.specs.Gains.{count_in}
-use Rattle.djq_gains.specs.Gathering.{is_among, count_of}
+use Rattle.djq_gains.specs.Gathering.{is_among, gain_count}
 use Rattle.djq_gains.proofs.Lists.{kept_from}
 
 -- a place is among those that are there
@@ -112,7 +112,7 @@ sum_within f (x ∷ xs) ys different within =
 
 -- what is told of the members that were touched is no more than what is told of all that were
 pub count_within : (k : Kept) (members touched : List ℕ) → AllPairs (λ i j. i ≡ j → ⊥) members
-    → count_of k members touched ≤ sum_by (count_in k) touched
+    → gain_count k members touched ≤ sum_by (count_in k) touched
 count_within k members touched different =
     sum_within (count_in k) (filter (is_among touched) members) touched
     (AllPairs-filter (λ i j. i ≡ j → ⊥) (is_among touched) members different)

@@ -32,9 +32,9 @@ use Rattle.std.proofs.lemmas.List.{append-nil, take_more, take_all}
 use Rattle.std.proofs.lemmas.List.Elements.{Contains-push_cases, filter_more}
 use Rattle.std.proofs.lemmas.List.Sums.{sum_by_push}
 use Rattle.djq_engine.specs.Kept.{Kept}
-use Rattle.djq_gains.specs.Gains.{told_in, count_in}
+use Rattle.djq_gains.specs.Gains.{told_of_member, count_in}
 use Rattle.djq_gains.specs.Gathered.{Gain, Stand}
-use Rattle.djq_gains.specs.Gathering.{is_among, cells_told, IsOfMember, Gathers}
+use Rattle.djq_gains.specs.Gathering.{is_among, cells_told, IsOfMember, GathersGains}
 use Rattle.djq_gains.proofs.Taking.{TakesIn}
 
 -- what is told of the first n members is gathered
@@ -42,7 +42,7 @@ pub record Collects (k : Kept) (members touched : List ℕ) (n : ℕ) (gains : L
   pub stand : (m : ℕ) (t : List ℕ) → Stand gains m t
       ↔ ((m < n) × IsOfMember k members touched m t)
   pub told : (i : ℕ) → Contains (take n members) i → is_among touched i ≡ true
-      → told_in k i ≡ None → ⊥
+      → told_of_member k i ≡ None → ⊥
   pub few : length gains ≤ sum_by (count_in k) (filter (is_among touched) (take n members))
 
 pub collects_none : (k : Kept) (members touched : List ℕ) → Collects k members touched 0 []
@@ -70,15 +70,15 @@ more_kept members touched n k low false is =
     omega (arith, same)
 
 told_more : (k : Kept) (members touched : List ℕ) (n : ℕ) → n < length members
-    → ((i : ℕ) → Contains (take n members) i → is_among touched i ≡ true → told_in k i ≡ None → ⊥)
+    → ((i : ℕ) → Contains (take n members) i → is_among touched i ≡ true → told_of_member k i ≡ None → ⊥)
     → (is_among touched (slice_index_or members n 0) ≡ true
-    → told_in k (slice_index_or members n 0) ≡ None → ⊥)
-    → (i : ℕ) → Contains (take (n + 1) members) i → is_among touched i ≡ true → told_in k i ≡ None → ⊥
+    → told_of_member k (slice_index_or members n 0) ≡ None → ⊥)
+    → (i : ℕ) → Contains (take (n + 1) members) i → is_among touched i ≡ true → told_of_member k i ≡ None → ⊥
 told_more k members touched n low before here i there among none =
     elim (Contains-push_cases (take n members) (slice_index_or members n 0) i
     (subst (λ (xs : List ℕ). Contains xs i) (take_more members n 0 low) there)) [
       | inl h ↦ before i h among none
-      | inr e ↦ here (ap (is_among touched) e ∙ among) (ap (told_in k) e ∙ none)
+      | inr e ↦ here (ap (is_among touched) e ∙ among) (ap (told_of_member k) e ∙ none)
     ]
 
 place_is : (members : List ℕ) (n m place : ℕ) → n < length members → m ≡ n
@@ -97,7 +97,7 @@ pub collects_touched : (k : Kept) (members touched : List ℕ) (n : ℕ) (old ne
     → Collects k members touched n old → n < length members
     → is_among touched (slice_index_or members n 0) ≡ true
     → TakesIn old new n (cells_told k (slice_index_or members n 0))
-    → (told_in k (slice_index_or members n 0) ≡ None → ⊥)
+    → (told_of_member k (slice_index_or members n 0) ≡ None → ⊥)
     → length new ≤ length old + count_in k (slice_index_or members n 0)
     → Collects k members touched (n + 1) new
 collects_touched k members touched n old new before low among takes told few = record {
@@ -164,7 +164,7 @@ collects_other k members touched n gains before low other = record {
             ∙ ap (is_among touched) (place_is members n m h.1.place low same h.1.member) ∙ h.1.touched_it))
 
 pub collects_all : (k : Kept) (members touched : List ℕ) (n : ℕ) (gains : List Gain)
-    → Collects k members touched n gains → length members ≤ n → Gathers k members touched gains
+    → Collects k members touched n gains → length members ≤ n → GathersGains k members touched gains
 collects_all k members touched n gains all last =
     let whole = take_all n members last in
     record {

@@ -67,9 +67,9 @@ use Rattle.djq_live.proofs.Listings.{in_image, image_of}
 use Rattle.djq_engine.specs.Lending.{sign_of}
 use Rattle.djq_engine.specs.Kept.{Kept}
 use Rattle.djq_gains.specs.Told.{GoOneWay, StandsIn, IsTold, AreTold}
-use Rattle.djq_gains.specs.Gains.{HaveChanged, TellUnion, members_at, told_in}
-use Rattle.djq_gains.specs.Gathered.{Gain, Stand, AreApart, is_by}
-use Rattle.djq_gains.specs.Gathering.{is_among, is_told, line_of, lines_of, asks_of}
+use Rattle.djq_gains.specs.Gains.{HaveChanged, TellUnion, members_at, told_of_member}
+use Rattle.djq_gains.specs.Gathered.{Gain, Stand, GainsDiffer, is_by}
+use Rattle.djq_gains.specs.Gathering.{is_among, is_told, line_of, gain_lines, asks_of}
 use Rattle.djq_gains.proofs.Lists.{kept_from}
 use Rattle.djq_gains.proofs.Among.{among_there, there_among}
 use Rattle.djq_gains.proofs.Taking.{some_at}
@@ -116,7 +116,7 @@ twice_mapped g f [] = refl
 twice_mapped {C = C} g f (x ∷ xs) = ap (λ (ys : List C). g (f x) ∷ ys) (twice_mapped g f xs)
 
 -- different tuples show different values
-apart_gains : (gains : List Gain) → AreApart gains
+apart_gains : (gains : List Gain) → GainsDiffer gains
     → AllPairs (λ (g h : Gain). g.cells ≡ h.cells → ⊥) gains
 apart_gains gains apart i j d less low same =
     let long = length-map gains (λ (x : Gain). x.cells) in
@@ -376,13 +376,13 @@ turns k members touched gains first came before s changed i there =
     Delta : List Change → Type 0
     Delta = IsDelta (IsAnswer before (a.live).query) (IsAnswer now (a.live).query)
 
-    told : (o : Option (List Change)) → told_in k i ≡ o → is_among touched i ≡ true
+    told : (o : Option (List Change)) → told_of_member k i ≡ o → is_among touched i ≡ true
         → Delta (unwrap_or o [])
     told None eq among = absurd (s.gathers.told i there among eq)
     told (Some cs) eq among = changed.told i a.live cs (among_there touched i among) a.at eq
 
     delta : (b : Bool) → is_among touched i ≡ b → Delta (delta_at k touched i)
-    delta true among = subst Delta (sym (delta_yes k touched i among)) (told (told_in k i) refl among)
+    delta true among = subst Delta (sym (delta_yes k touched i among)) (told (told_of_member k i) refl among)
     delta false out = subst Delta (sym (delta_no k touched i out))
         (none_changed (IsAnswer before (a.live).query) (IsAnswer now (a.live).query)
         (changed.others i a.live there
@@ -447,14 +447,14 @@ same_delta Before After Old New cs old new delta = record {
 -- The lines of what is told tell the delta of the members' union.
 pub tells_union : (k : Kept) (members touched : List ℕ) (gains : List Gain) (first : Live)
     (came : Bool) → Setting k members touched gains first
-    → TellUnion k members touched came (lines_of came (queries_at k.places members) first gains) first
+    → TellUnion k members touched came (gain_lines came (queries_at k.places members) first gains) first
 tells_union k members touched gains first came s = record {
   delta = λ before changed name.
       same_delta (λ t. Any (λ i. AnswerAt k before i t) members)
       (λ t. Any (λ i. AnswerAt k now i t) members)
       (AnswersOf before (a_union name (members_at k members)))
       (AnswersOf now (a_union name (members_at k members)))
-      (map (change_of (k.store).texts first) (lines_of came ls first gains))
+      (map (change_of (k.store).texts first) (gain_lines came ls first gains))
       (of_some k members touched gains first s before) (of_some k members touched gains first s now)
       (subst (λ (cs : List Change). IsDelta (λ t. Any (λ i. AnswerAt k before i t) members)
       (λ t. Any (λ i. AnswerAt k now i t) members) cs)

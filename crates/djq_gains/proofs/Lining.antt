@@ -34,14 +34,14 @@ use Rattle.djq_cursor.specs.declared.log.Line.{Line}
 use Rattle.djq_arena.specs.Chains.{first_of}
 use Rattle.djq_live.specs.Live.{Live}
 use Rattle.djq_gains.specs.Gathered.{Gain, IsIn, AtSlot, slots_in}
-use Rattle.djq_gains.specs.Gathering.{is_told, line_of, lines_of, IsFirst}
+use Rattle.djq_gains.specs.Gathering.{is_told, line_of, gain_lines, AtFirstQuery}
 
 -- the first j tuples are told; the next lies in this slot
 pub record Telling (came : Bool) (ls : List Live) (gains : List Gain) (next : Option ℕ) (j : ℕ)
     (lines : List Line) (lost : Bool) : Type 0 where
   pub at : next ≡ first_of (slots_in (drop j gains))
   pub room : j ≤ length gains
-  pub told : lost ≡ false → IsFirst ls (λ l. lines ≡ lines_of came ls l (take j gains))
+  pub told : lost ≡ false → AtFirstQuery ls (λ l. lines ≡ gain_lines came ls l (take j gains))
 
 -- the tuples, cut at the next
 pub record Cut (gains : List Gain) (j slot : ℕ) : Type 0 where
@@ -76,7 +76,7 @@ lies_at gains j slot c =
     record { front = take j gains; gain = c.gain; back = drop (j + 1) gains; is = c.is; at = c.slot_is }
 
 lines-append : (came : Bool) (ls : List Live) (l : Live) (xs ys : List Gain)
-    → lines_of came ls l (xs ++ ys) ≡ lines_of came ls l xs ++ lines_of came ls l ys
+    → gain_lines came ls l (xs ++ ys) ≡ gain_lines came ls l xs ++ gain_lines came ls l ys
 lines-append came ls l xs ys =
     ap (map (line_of came l)) (filter-append (is_told ls) xs ys)
     ∙ map-append (line_of came l) (filter (is_told ls) xs) (filter (is_told ls) ys)
@@ -88,7 +88,7 @@ stays_kept false new h kept = refl
 pub tells_more : (came : Bool) (ls : List Live) (gains : List Gain) (j slot : ℕ) (old new : List Line)
     (was is : Bool) (next : Option ℕ) → Telling came ls gains (Some slot) j old was
     → (was ≡ true → is ≡ true)
-    → (is ≡ false → IsFirst ls (λ l. AtSlot gains slot (λ g. new ≡ old ++ lines_of came ls l (g ∷ []))))
+    → (is ≡ false → AtFirstQuery ls (λ l. AtSlot gains slot (λ g. new ≡ old ++ gain_lines came ls l (g ∷ []))))
     → ((xs : List Gain) (g : Gain) (ys : List Gain) → gains ≡ xs ++ g ∷ ys → g.slot ≡ slot
     → next ≡ first_of (slots_in ys)) → Telling came ls gains next (j + 1) new is
 tells_more came ls gains j slot old new was is next before lost one follows =
@@ -98,14 +98,14 @@ tells_more came ls gains j slot old new was is next before lost one follows =
       room = let low = c.within in omega arith;
       told = λ kept l first.
           one kept l first (take j gains) c.gain (drop (j + 1) gains) c.is c.slot_is
-          ∙ ap (λ (ks : List Line). ks ++ lines_of came ls l (c.gain ∷ []))
+          ∙ ap (λ (ks : List Line). ks ++ gain_lines came ls l (c.gain ∷ []))
           (before.told (stays_kept was is lost kept) l first)
           ∙ sym (lines-append came ls l (take j gains) (c.gain ∷ []))
-          ∙ ap (lines_of came ls l) (sym c.takes);
+          ∙ ap (gain_lines came ls l) (sym c.takes);
     }
 
 pub tells_all : (came : Bool) (ls : List Live) (gains : List Gain) (at : Option ℕ) (j : ℕ)
     (lines : List Line) (lost : Bool) → Telling came ls gains at j lines lost → length gains ≤ j
-    → lost ≡ false → IsFirst ls (λ l. lines ≡ lines_of came ls l gains)
+    → lost ≡ false → AtFirstQuery ls (λ l. lines ≡ gain_lines came ls l gains)
 tells_all came ls gains at j lines lost all last kept l first =
-    all.told kept l first ∙ ap (lines_of came ls l) (take_all j gains last)
+    all.told kept l first ∙ ap (gain_lines came ls l) (take_all j gains last)

@@ -46,12 +46,12 @@ use Rattle.djq_live.specs.Member.{
 }
 use Rattle.djq_live.proofs.AtPlaces.{as_many}
 use Rattle.djq_live.proofs.Listings.{in_image, image_of}
-use Rattle.djq_engine.specs.Kept.{Kept, IsOver, CellsAre}
-use Rattle.djq_engine.specs.Kept.{AreTold as AreShown}
+use Rattle.djq_engine.specs.Kept.{Kept, PlacesAreKept, CellsAre}
+use Rattle.djq_engine.specs.Kept.{ToldCellsFit as AreShown}
 use Rattle.djq_gains.specs.Told.{StandsIn}
-use Rattle.djq_gains.specs.Gains.{told_in, changes_in}
-use Rattle.djq_gains.specs.Gathered.{Gain, Stand, AreApart, StandSomewhere, cells_in}
-use Rattle.djq_gains.specs.Gathering.{is_among, cells_told, Gathers}
+use Rattle.djq_gains.specs.Gains.{told_of_member, changes_in}
+use Rattle.djq_gains.specs.Gathered.{Gain, Stand, GainsDiffer, StandSomewhere, cells_in}
+use Rattle.djq_gains.specs.Gathering.{is_among, cells_told, GathersGains}
 use Rattle.djq_gains.proofs.Taking.{some_at}
 use Rattle.djq_gains.proofs.Members.{member_at, got}
 
@@ -61,10 +61,10 @@ pub record Setting (k : Kept) (members touched : List ℕ) (gains : List Gain) (
     pub have : HaveQueries k.places members
     pub alike : AreAlike (queries_at k.places members)
     pub is_first : slice_get (queries_at k.places members) 0 ≡ Some first
-    pub over : IsOver k
+    pub over : PlacesAreKept k
     pub shown : AreShown k
-    pub gathers : Gathers k members touched gains
-    pub apart : AreApart gains
+    pub gathers : GathersGains k members touched gains
+    pub apart : GainsDiffer gains
     pub somewhere : StandSomewhere gains
     pub types : HeadTypesAre
     pub shows : CellsInTreeStand
@@ -90,7 +90,7 @@ pub nth_of : (members : List ℕ) (place : ℕ) (n : ℕ) → n < length members
     → slice_index_or members n place ≡ place → slice_get members n ≡ Some place
 nth_of members place n low is = slice_get-get_or members n place low ∙ ap Some is
 
-pub kept_at : (k : Kept) (over : IsOver k) (i : ℕ) (l : Live) → query_at k.places i ≡ Some l
+pub kept_at : (k : Kept) (over : PlacesAreKept k) (i : ℕ) (l : Live) → query_at k.places i ≡ Some l
     → IsKept over.catalog l
 kept_at k over i l is = (over.live i l is).kept
 
@@ -98,12 +98,12 @@ kept_at k over i l is = (over.live i l is).kept
 told_stands : (k : Kept) (i : ℕ) (l : Live) (c : Change) → AreShown k → query_at k.places i ≡ Some l
     → Contains (changes_in k i) c
     → StandFor (k.store).texts (head_types l) (cells_of (k.store).texts c.answer) c.answer
-told_stands k i l c shown is there = by (told_in k i) refl there
+told_stands k i l c shown is there = by (told_of_member k i) refl there
   where
     texts : List Bytes
     texts = (k.store).texts
 
-    by : (o : Option (List Change)) → told_in k i ≡ o → Contains (unwrap_or o []) c
+    by : (o : Option (List Change)) → told_of_member k i ≡ o → Contains (unwrap_or o []) c
         → StandFor texts (head_types l) (cells_of texts c.answer) c.answer
     by None eq h = absurd (let low = h.1 in omega arith)
     by (Some cs) eq h =
@@ -114,7 +114,7 @@ told_stands k i l c shown is there = by (told_in k i) refl there
         subst (λ (u : List ℕ). StandFor texts (head_types l) u c.answer) (s.1).are s.1
 
 -- a query has cells that stand for a tuple exactly where the tuple is an answer
-pub has_is : (k : Kept) (over : IsOver k) (l : Live) → AnswersAreHad → HeadTypesAre → IsKept over.catalog l
+pub has_is : (k : Kept) (over : PlacesAreKept k) (l : Live) → AnswersAreHad → HeadTypesAre → IsKept over.catalog l
     → (u : List ℕ) (v : Tuple) → StandFor (k.store).texts (head_types l) u v
     → (has_cells l u ≡ true) ↔ IsAnswer (k.store).relations l.query v
 has_is k over l had types kept u v stand =
@@ -124,7 +124,7 @@ has_is k over l had types kept u v stand =
     (subst (λ (ts : List Bytes). StandFor ts (head_types l) u v) (sym over.texts) stand)))
 
 -- cells that stand for a tuple show it
-shows_it : (k : Kept) (over : IsOver k) (l : Live) → CellsInTreeStand → IsKept over.catalog l
+shows_it : (k : Kept) (over : PlacesAreKept k) (l : Live) → CellsInTreeStand → IsKept over.catalog l
     → (u : List ℕ) (v : Tuple) → StandFor (k.store).texts (head_types l) u v
     → IsShownInTree (k.store).texts l u v
 shows_it k over l law kept u v stand =
@@ -133,7 +133,7 @@ shows_it k over l law kept u v stand =
     (subst (λ (ts : List Bytes). StandFor ts (head_types l) u v) (sym over.texts) stand))
 
 -- they stand for one tuple
-pub one_value : (k : Kept) (over : IsOver k) (l : Live) → CellsTellValues → HeadTypesAre
+pub one_value : (k : Kept) (over : PlacesAreKept k) (l : Live) → CellsTellValues → HeadTypesAre
     → IsKept over.catalog l → (u : List ℕ) (v w : Tuple)
     → StandFor (k.store).texts (head_types l) u v → StandFor (k.store).texts (head_types l) u w → v ≡ w
 one_value k over l tell types kept u v w a b =
@@ -234,7 +234,7 @@ is_gathered k members touched gains first s m i t is stands = by (is_among touch
         }
 
 -- equal cells are of one tuple
-pub same_gain : (gains : List Gain) → AreApart gains → (g h : Gain) → Contains gains g → Contains gains h
+pub same_gain : (gains : List Gain) → GainsDiffer gains → (g h : Gain) → Contains gains g → Contains gains h
     → g.cells ≡ h.cells → g ≡ h
 same_gain gains apart g h at_g at_h same = elim (cases_order at_g.0 at_h.0) [
   | inl here ↦ sym at_g.2 ∙ index at_g.0 at_h.0 here at_g.1 ∙ at_h.2

@@ -15,8 +15,8 @@ use Rattle.djq_live.specs.Member.{
   AreAlike,
 }
 use Rattle.djq_live.proofs.AtPlaces.{nth_is, nth_has, are_kept}
-use Rattle.djq_engine.specs.Kept.{Kept, IsOver}
-use Rattle.djq_gains.specs.Gains.{AtFirst}
+use Rattle.djq_engine.specs.Kept.{Kept, PlacesAreKept}
+use Rattle.djq_gains.specs.Gains.{AtFirstMember}
 use Rattle.djq_gains.proofs.Taking.{some_with}
 
 pub and_so : {A : Type 0} (o : Option A) (P : A → Type 0) (a : A) → o ≡ Some a → P a → IsSomeAnd o P
@@ -31,7 +31,7 @@ all_got P xs i x all is =
     subst P (get_or_from_slice_get xs i x x is) (all i x (slice_get_within xs i x is))
 
 -- they are kept
-pub all_kept : (k : Kept) → IsOver k → (members : List ℕ) → All IsKeptSomewhere (queries_at k.places members)
+pub all_kept : (k : Kept) → PlacesAreKept k → (members : List ℕ) → All IsKeptSomewhere (queries_at k.places members)
 all_kept k over members =
     are_kept k.places (λ i l is. (over.catalog, (over.live i l is).kept)) members
 
@@ -55,9 +55,9 @@ member_at k members n have low =
     record { live = q.value; at = q.is; nth = nth_is k.places members n have.each low ∙ q.is }
 
 -- each has heads as wide as the first
-pub wide_member : (k : Kept) (members : List ℕ) (n width : ℕ) → HeadTypesAre → IsOver k
+pub wide_member : (k : Kept) (members : List ℕ) (n width : ℕ) → HeadTypesAre → PlacesAreKept k
     → HaveQueries k.places members → AreAlike (queries_at k.places members)
-    → AtFirst k members (λ f. width ≡ length f.query.head) → n < length members
+    → AtFirstMember k members (λ f. width ≡ length f.query.head) → n < length members
     → IsSomeAnd (query_at k.places (slice_index_or members n 0)) (λ l. length (head_types l) ≡ width)
 wide_member k members n width types over have alike wide low =
     let m = member_at k members n have low in

@@ -35,8 +35,8 @@ use Rattle.std.proofs.lemmas.Bool.{cases_eq, cases_lt, ne_eqb, false≢true}
 use Rattle.std.proofs.lemmas.List.{map-append, get_or-replicate, get_or_past}
 use Rattle.std.proofs.lemmas.List.Elements.{Contains-append_left, Contains-append_cases, Contains-push_cases}
 use Rattle.std.proofs.lemmas.List.Quantifiers.{all_pairs_push}
-use Rattle.djq_arena.specs.Chains.{IsOut, AreDifferent, AreBelow}
-use Rattle.djq_arena.specs.Rows.{Row, SlotRows, AreRows, AreWideRows, IsAbsent, IsRow, IsHeld, slots}
+use Rattle.djq_arena.specs.Chains.{IsOut, AreDistinctSlots, AreBelow}
+use Rattle.djq_arena.specs.Rows.{Row, SlotRows, AreRows, AreWideRows, IsAbsent, IsRow, IsRowHeld, slots}
 use Rattle.djq_arena.proofs.Lists.{different_here, out_front, out_back, below_here}
 use Rattle.djq_arena.proofs.RowLemmas.{slots-append}
 use Rattle.djq_union.proofs.Lists.{head_or_tail}
@@ -44,11 +44,11 @@ use Rattle.djq_live.proofs.Listings.{in_image, image_of}
 use Rattle.djq_gains.specs.Gathered.{
   Gain,
   Stand,
-  AreApart,
+  GainsDiffer,
   StandSomewhere,
   IsIn,
   marks_at,
-  unmarked,
+  in_no_member,
   gain_of,
   gains_in,
   slots_in,
@@ -110,15 +110,15 @@ slots_push rows r = map-append (λ (q : Row). q.slot) rows (r ∷ [])
 pub laid_rows : (marks more : List (List Bool)) (a : SlotRows) (rows : List Row) (slot : ℕ)
     (cells : List ℕ) → AreRows a
     → a.rows ≡ rows ++ record { slot = slot; cells = cells } ∷ []
-    → marks_at more slot ≡ unmarked
+    → marks_at more slot ≡ in_no_member
     → ((k : ℕ) → (k ≡ slot → ⊥) → marks_at more k ≡ marks_at marks k)
     → gains_in more a.rows
-    ≡ gains_in marks rows ++ record { slot = slot; cells = cells; by = unmarked } ∷ []
+    ≡ gains_in marks rows ++ record { slot = slot; cells = cells; by = in_no_member } ∷ []
 laid_rows marks more a rows slot cells are is none same =
     let row : Row = record { slot = slot; cells = cells } in
     let slots_are = ap slots is ∙ slots_push rows row in
     let out = out_front slot (slots rows) []
-    (different_here (slots rows) slot [] (subst AreDifferent slots_are are.different)) in
+    (different_here (slots rows) slot [] (subst AreDistinctSlots slots_are are.different)) in
     ap (gains_in more) is
     ∙ map-append (gain_of more) rows (row ∷ [])
     ∙ ap₂ (λ (gs : List Gain) (by : List Bool).
@@ -144,11 +144,11 @@ slots_middle : (front : List Row) (r : Row) (back : List Row)
 slots_middle front r back =
     slots-append front (r ∷ back) ∙ ap (λ (ns : List ℕ). slots front ++ ns) (slots_cons r back)
 
-only_row : (front : List Row) (r : Row) (back : List Row) → AreDifferent (slots (front ++ r ∷ back))
+only_row : (front : List Row) (r : Row) (back : List Row) → AreDistinctSlots (slots (front ++ r ∷ back))
     → (q : Row) → Contains (front ++ r ∷ back) q → q.slot ≡ r.slot → q.cells ≡ r.cells
 only_row front r back different q there at =
     let out = different_here (slots front) r.slot (slots back)
-    (subst AreDifferent (slots_middle front r back) different) in
+    (subst AreDistinctSlots (slots_middle front r back) different) in
     elim (Contains-append_cases front (r ∷ back) q there) [
       | inl before ↦ absurd (out_of r.slot front q
           (out_front r.slot (slots front) (slots back) out) before at)
@@ -164,10 +164,10 @@ abbrev pub OnlyHas : List Gain → ℕ → List ℕ → Type 0
 OnlyHas gains slot cells = (g : Gain) → Contains gains g → g.slot ≡ slot → g.cells ≡ cells
 
 pub only_gain : (marks : List (List Bool)) (rows : List Row) (slot : ℕ) (cells : List ℕ)
-    → AreDifferent (slots rows) → IsRow rows slot cells → OnlyHas (gains_in marks rows) slot cells
+    → AreDistinctSlots (slots rows) → IsRow rows slot cells → OnlyHas (gains_in marks rows) slot cells
 only_gain marks rows slot cells different row g there at =
     let from = image_of (gain_of marks) rows g there in
-    let d = subst (λ (rs : List Row). AreDifferent (slots rs)) row.is different in
+    let d = subst (λ (rs : List Row). AreDistinctSlots (slots rs)) row.is different in
     let t = subst (λ (rs : List Row). Contains rs from.of) row.is from.there in
     ap (λ (x : Gain). x.cells) from.is
     ∙ only_row row.front (record { slot = slot; cells = cells }) row.back d from.of t
@@ -288,7 +288,7 @@ marked_cells slot nth [] = refl
 marked_cells slot nth (g ∷ gains) = ap₂ (λ (t : List ℕ) (ts : List (List ℕ)). t ∷ ts)
     (mark_keeps_cells slot nth g) (marked_cells slot nth gains)
 
-pub marked_apart : (slot nth : ℕ) (gains : List Gain) → AreApart gains → AreApart (marked_in slot nth gains)
+pub marked_apart : (slot nth : ℕ) (gains : List Gain) → GainsDiffer gains → GainsDiffer (marked_in slot nth gains)
 marked_apart slot nth gains apart =
     subst (λ (ts : List (List ℕ)). AllPairs (λ t u. t ≡ u → ⊥) ts) (sym (marked_cells slot nth gains)) apart
 
@@ -308,12 +308,12 @@ marked_some slot nth gains each g there =
 
 -- a tuple that lies in a new slot stands nowhere yet
 abbrev pub fresh : ℕ → List ℕ → Gain
-fresh slot cells = record { slot = slot; cells = cells; by = unmarked }
+fresh slot cells = record { slot = slot; cells = cells; by = in_no_member }
 
-nowhere : (k : ℕ) → slice_index_or unmarked k false ≡ true → ⊥
+nowhere : (k : ℕ) → slice_index_or in_no_member k false ≡ true → ⊥
 nowhere k h = elim (cases_lt k 8) [
   | inl low ↦ false≢true (sym (get_or-replicate 8 k false false low) ∙ h)
-  | inr high ↦ false≢true (sym (get_or_past unmarked k false high) ∙ h)
+  | inr high ↦ false≢true (sym (get_or_past in_no_member k false high) ∙ h)
 ]
 
 pub fresh_stand : (gains : List Gain) (slot : ℕ) (cells : List ℕ) (k : ℕ) (t : List ℕ)
@@ -341,8 +341,8 @@ absent_at marks (r ∷ rows) u absent (suc k) d low is =
     absent_at marks rows u absent.1 k d (omega arith) is
 
 pub fresh_apart : (marks : List (List Bool)) (rows : List Row) (slot : ℕ) (cells : List ℕ)
-    → IsAbsent rows cells → AreApart (gains_in marks rows)
-    → AreApart (gains_in marks rows ++ fresh slot cells ∷ [])
+    → IsAbsent rows cells → GainsDiffer (gains_in marks rows)
+    → GainsDiffer (gains_in marks rows ++ fresh slot cells ∷ [])
 fresh_apart marks rows slot cells absent apart =
     subst (λ (ts : List (List ℕ)). AllPairs (λ t u. t ≡ u → ⊥) ts)
     (sym (map-append (λ (g : Gain). g.cells) (gains_in marks rows) (fresh slot cells ∷ [])))
@@ -351,18 +351,18 @@ fresh_apart marks rows slot cells absent apart =
 
 -- A tuple that has a slot, behind a mark for it.
 pub record IsNoted (old : List Gain) (nth : ℕ) (cells : List ℕ) (new : List Gain) : Type 0 where
-  pub apart : AreApart new
+  pub apart : GainsDiffer new
   pub some : StandSomewhere new
   pub stand : (k : ℕ) (t : List ℕ) → Stand new k t ↔ (Stand old k t ⊎ ((k ≡ nth) × (t ≡ cells)))
 
 pub noted : (before now : List (List Bool)) (old rows : List Row) (slot nth : ℕ) (cells : List ℕ)
-    → AreDifferent (slots rows) → IsRow rows slot cells → nth < length (marks_at now slot)
-    → AreApart (gains_in before old) → StandSomewhere (gains_in before old)
+    → AreDistinctSlots (slots rows) → IsRow rows slot cells → nth < length (marks_at now slot)
+    → GainsDiffer (gains_in before old) → StandSomewhere (gains_in before old)
     → Seats old (gains_in before old) slot cells (gains_in now rows)
     → IsNoted (gains_in before old) nth cells (marked_in slot nth (gains_in now rows))
 noted before now old rows slot nth cells different row low apart some (inl same) = record {
   apart = marked_apart slot nth (gains_in now rows)
-      (subst AreApart (sym same) apart);
+      (subst GainsDiffer (sym same) apart);
   some = marked_some slot nth (gains_in now rows)
       (λ g there. inl (some g (subst (λ (gs : List Gain). Contains gs g) same there)));
   stand = λ k t. subst (λ (gs : List Gain). Stand (marked_in slot nth (gains_in now rows)) k t
@@ -372,7 +372,7 @@ noted before now old rows slot nth cells different row low apart some (inl same)
 }
 noted before now old rows slot nth cells different row low apart some (inr laid) = record {
   apart = marked_apart slot nth (gains_in now rows)
-      (subst AreApart (sym laid.1) (fresh_apart before old slot cells laid.0 apart));
+      (subst GainsDiffer (sym laid.1) (fresh_apart before old slot cells laid.0 apart));
   some = marked_some slot nth (gains_in now rows) each;
   stand = λ k t.
       let marks = marked_stand (gains_in now rows) slot nth cells (marks_at now slot)
@@ -432,7 +432,7 @@ cut_rows marks (r ∷ rows) (f ∷ front) g back is =
     }
 
 pub held_by : (marks : List (List Bool)) (rows : List Row) (slot : ℕ) → IsIn (gains_in marks rows) slot
-    → IsHeld rows slot
+    → IsRowHeld rows slot
 held_by marks rows slot lies =
     let c = cut_rows marks rows lies.front lies.gain lies.back lies.is in
     let at = ap (λ (g : Gain). g.slot) c.gain ∙ lies.at in

@@ -45,8 +45,8 @@ use Rattle.djq_machine.specs.Delta.{Change}
 use Rattle.djq_rows.specs.Cells.{cell_for, cells_of, StandFor}
 use Rattle.djq_live.specs.Member.{head_types, query_at}
 use Rattle.djq_live.proofs.Rowing.{fits_long}
-use Rattle.djq_engine.specs.Kept.{Kept, TellsCells, CellsAre}
-use Rattle.djq_gains.specs.Gains.{told_in, changes_in, count_in}
+use Rattle.djq_engine.specs.Kept.{Kept, TellsChangeCells, CellsAre}
+use Rattle.djq_gains.specs.Gains.{told_of_member, changes_in, count_in}
 use Rattle.djq_gains.specs.Gathered.{Gain, Stand}
 use Rattle.djq_gains.specs.Gathering.{cells_told}
 
@@ -90,8 +90,8 @@ pub record IsLine (k : Kept) (place n width : ℕ) (cells : List ℕ) : Type 0 w
 
 pub told_line : (k : Kept) (place n width : ℕ) (sign : Sign) (cells : List ℕ) (changes : List Change)
     → IsSomeAnd (query_at k.places place) (λ l. length (head_types l) ≡ width)
-    → told_in k place ≡ Some changes → n < length changes
-    → TellsCells k (record { at = place }) n sign cells → IsLine k place n width cells
+    → told_of_member k place ≡ Some changes → n < length changes
+    → TellsChangeCells k (record { at = place }) n sign cells → IsLine k place n width cells
 told_line k place n width sign cells changes query told low tells =
     let none : Change = record { sign = Came; answer = [] } in
     let q = some_with (query_at k.places place) (λ l. length (head_types l) ≡ width) query in
@@ -99,9 +99,9 @@ told_line k place n width sign cells changes query told low tells =
     let line = slice_index_or changes n none in
     let of_changes = λ (cs : List Change). IsSomeAnd (slice_get cs n)
     (λ c. (sign ≡ c.sign) × CellsAre k l cells c) in
-    let at_place = some_at (query_at k.places place) (λ m. IsSomeAnd (told_in k place)
+    let at_place = some_at (query_at k.places place) (λ m. IsSomeAnd (told_of_member k place)
     (λ cs. IsSomeAnd (slice_get cs n) (λ c. (sign ≡ c.sign) × CellsAre k m cells c))) l q.is tells in
-    let here = some_at (told_in k place) of_changes changes told at_place in
+    let here = some_at (told_of_member k place) of_changes changes told at_place in
     let stand = some_at (slice_get changes n) (λ c. (sign ≡ c.sign) × CellsAre k l cells c) line
     (slice_get-get_or changes n none low) here in
     let texts = (k.store).texts in
@@ -171,22 +171,22 @@ takes_more old mid new nth tuples n cells before one low is k t = (to, from)
         (subst (λ (ts : List (List ℕ)). Contains ts t) more both.1))
 
 -- the cells that are told, one for each change
-pub told_long : (k : Kept) (place : ℕ) (changes : List Change) → told_in k place ≡ Some changes
+pub told_long : (k : Kept) (place : ℕ) (changes : List Change) → told_of_member k place ≡ Some changes
     → length (cells_told k place) ≡ length changes
 told_long k place changes told =
     length-map (changes_in k place) (λ (c : Change). cells_of (k.store).texts c.answer)
     ∙ ap (λ (o : Option (List Change)). length (unwrap_or o [])) told
 
-pub all_counted : (k : Kept) (place : ℕ) (changes : List Change) → told_in k place ≡ Some changes
+pub all_counted : (k : Kept) (place : ℕ) (changes : List Change) → told_of_member k place ≡ Some changes
     → count_in k place ≡ length changes
 all_counted k place changes told = ap (λ (o : Option (List Change)). length (unwrap_or o [])) told
 
 -- the line at a number that is below what is told
 pub line_below : (k : Kept) (place n width len : ℕ) (sign : Sign) (cells : List ℕ)
     → IsSomeAnd (query_at k.places place) (λ l. length (head_types l) ≡ width)
-    → Some len ≡ option_map (λ cs. length cs) (told_in k place) → n < len
-    → TellsCells k (record { at = place }) n sign cells → IsLine k place n width cells
+    → Some len ≡ option_map (λ cs. length cs) (told_of_member k place) → n < len
+    → TellsChangeCells k (record { at = place }) n sign cells → IsLine k place n width cells
 line_below k place n width len sign cells query are low tells =
-    let told = counted (told_in k place) len are in
+    let told = counted (told_of_member k place) len are in
     let long = told.long in
     told_line k place n width sign cells told.changes query told.is (omega arith) tells

@@ -34,16 +34,16 @@ abbrev pub members_at : Kept → List ℕ → List Query
 members_at k members = map (λ l. l.query) (queries_at k.places members)
 
 -- what holds of the first of them
-abbrev pub AtFirst : Kept → List ℕ → (Live → Type 0) → Type 0
-AtFirst k members P = IsSomeAnd (slice_get (queries_at k.places members) 0) P
+abbrev pub AtFirstMember : Kept → List ℕ → (Live → Type 0) → Type 0
+AtFirstMember k members P = IsSomeAnd (slice_get (queries_at k.places members) 0) P
 
 -- what is told of the query in a place, if that wasn't lost
-abbrev pub told_in : Kept → ℕ → Option (List Change)
-told_in k i = told_at k (record { at = i })
+abbrev pub told_of_member : Kept → ℕ → Option (List Change)
+told_of_member k i = told_at k (record { at = i })
 
 -- the answers that are told of the query in a place, with their signs
 abbrev pub changes_in : Kept → ℕ → List Change
-changes_in k i = unwrap_or (told_in k i) []
+changes_in k i = unwrap_or (told_of_member k i) []
 
 -- how many answers are told of the query in a place
 abbrev pub count_in : Kept → ℕ → ℕ
@@ -56,7 +56,7 @@ pub record HaveChanged (before : List Relation) (k : Kept) (members touched : Li
   pub one_way : (i : ℕ) (l : Live) → Contains members i → query_at k.places i ≡ Some l
       → GoOneWay came (IsAnswer before l.query) (IsAnswer (k.store).relations l.query)
   pub told : (i : ℕ) (l : Live) (changes : List Change) → Contains touched i
-      → query_at k.places i ≡ Some l → told_in k i ≡ Some changes
+      → query_at k.places i ≡ Some l → told_of_member k i ≡ Some changes
       → IsDelta (IsAnswer before l.query) (IsAnswer (k.store).relations l.query) changes
   pub others : (i : ℕ) (l : Live) → Contains members i → (Contains touched i → ⊥)
       → query_at k.places i ≡ Some l

@@ -37,8 +37,8 @@ abbrev pub marks_at : List (List Bool) → ℕ → List Bool
 marks_at marks slot = slice_index_or marks slot []
 
 -- in none
-abbrev pub unmarked : List Bool
-unmarked = replicate 8 false
+abbrev pub in_no_member : List Bool
+in_no_member = replicate 8 false
 
 -- the rows of an arena, with what is kept of their slots
 abbrev pub gain_of : List (List Bool) → Row → Gain
@@ -68,8 +68,8 @@ pub record Stand (gains : List Gain) (nth : ℕ) (cells : List ℕ) : Type 0 whe
   pub marked : is_by gain nth ≡ true
 
 -- No two tuples are the same.
-abbrev pub AreApart : List Gain → Type 0
-AreApart gains = AllPairs (λ t u. t ≡ u → ⊥) (cells_in gains)
+abbrev pub GainsDiffer : List Gain → Type 0
+GainsDiffer gains = AllPairs (λ t u. t ≡ u → ⊥) (cells_in gains)
 
 -- Each stands in some delta.
 abbrev pub StandSomewhere : List Gain → Type 0
@@ -99,4 +99,4 @@ marked_in slot nth gains = map (with_mark slot nth) gains
 -- A tuple has a slot: it lay there, or it was laid there, and stands in no delta yet.
 abbrev pub Seats : List Row → List Gain → ℕ → List ℕ → List Gain → Type 0
 Seats rows old slot cells new = (new ≡ old)
-    ⊎ (IsAbsent rows cells × (new ≡ old ++ record { slot = slot; cells = cells; by = unmarked } ∷ []))
+    ⊎ (IsAbsent rows cells × (new ≡ old ++ record { slot = slot; cells = cells; by = in_no_member } ∷ []))

@@ -28,7 +28,7 @@ use Rattle.djq_rows.specs.Cells.{cells_of}
 use Rattle.djq_live.specs.Live.{Live}
 use Rattle.djq_live.specs.Member.{has_cells, in_tree}
 use Rattle.djq_engine.specs.Kept.{Kept}
-use Rattle.djq_gains.specs.Gains.{told_in, changes_in, count_in}
+use Rattle.djq_gains.specs.Gains.{told_of_member, changes_in, count_in}
 use Rattle.djq_gains.specs.Gathered.{Gain, Stand}
 
 -- whether a place is among these
@@ -36,8 +36,8 @@ abbrev pub is_among : List ℕ → ℕ → Bool
 is_among places i = list_any (λ j. j == i) places
 
 -- how many answers are told of those members that were touched
-abbrev pub count_of : Kept → List ℕ → List ℕ → ℕ
-count_of k members touched = sum_by (count_in k) (filter (is_among touched) members)
+abbrev pub gain_count : Kept → List ℕ → List ℕ → ℕ
+gain_count k members touched = sum_by (count_in k) (filter (is_among touched) members)
 
 -- the cells of the answers that are told of the query in a place
 abbrev pub cells_told : Kept → ℕ → List (List ℕ)
@@ -51,10 +51,10 @@ pub record IsOfMember (k : Kept) (members touched : List ℕ) (m : ℕ) (cells :
   pub told : Contains (cells_told k place) cells
 
 -- All answers that are told of the members that were touched are gathered; none of these is lost.
-pub record Gathers (k : Kept) (members touched : List ℕ) (gains : List Gain) : Type 0 where
+pub record GathersGains (k : Kept) (members touched : List ℕ) (gains : List Gain) : Type 0 where
   pub stand : (m : ℕ) (cells : List ℕ) → Stand gains m cells ↔ IsOfMember k members touched m cells
-  pub told : (i : ℕ) → Contains members i → is_among touched i ≡ true → told_in k i ≡ None → ⊥
-  pub few : length gains ≤ count_of k members touched
+  pub told : (i : ℕ) → Contains members i → is_among touched i ≡ true → told_of_member k i ≡ None → ⊥
+  pub few : length gains ≤ gain_count k members touched
 
 -- whether each of these queries has a tuple in its delta, or doesn't have it now
 abbrev pub is_alone : List Live → List Bool → List ℕ → Bool
@@ -71,12 +71,12 @@ abbrev pub line_of : Bool → Live → Gain → Line
 line_of came first g = record { came = came; answer = in_tree first g.cells }
 
 -- the lines that tell of all that is to be told
-abbrev pub lines_of : Bool → List Live → Live → List Gain → List Line
-lines_of came ls first gains = map (line_of came first) (filter (is_told ls) gains)
+abbrev pub gain_lines : Bool → List Live → Live → List Gain → List Line
+gain_lines came ls first gains = map (line_of came first) (filter (is_told ls) gains)
 
 -- what holds of the first of some queries
-abbrev pub IsFirst : List Live → (Live → Type 0) → Type 0
-IsFirst ls P = (l : Live) → slice_get ls 0 ≡ Some l → P l
+abbrev pub AtFirstQuery : List Live → (Live → Type 0) → Type 0
+AtFirstQuery ls P = (l : Live) → slice_get ls 0 ≡ Some l → P l
 
 -- what a test of a query with a tuple counts at most
 abbrev pub asks_of : Live → ℕ

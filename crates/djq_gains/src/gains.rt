@@ -24,10 +24,10 @@ ghost use Rattle.djq_arena.specs.Rows.{Row, AreRows, IsAbsent, IsRow, slots};
 ghost use Rattle.djq_gains.specs.Gathered.{
   Gain,
   Stand,
-  AreApart,
+  GainsDiffer,
   StandSomewhere,
   marks_at,
-  unmarked,
+  in_no_member,
   gains_in,
   slots_in,
   is_by,
@@ -56,12 +56,12 @@ impl Model for Gains {
     ghost Value = { Gathered };
 
     ghost use Rattle.std.specs.Prelude.{◌≤◌, length};
-    ghost use Rattle.djq_gains.specs.Gathered.{gains_in, AreApart, StandSomewhere};
+    ghost use Rattle.djq_gains.specs.Gathered.{gains_in, GainsDiffer, StandSomewhere};
 
     ghost view = { λ g. record { width = g.tuples.width; gains = gains_in g.marks.items g.tuples.rows } };
 
     ghost invariant = { λ g. (g.tuples.room ≤ length g.marks.items)
-        × AreApart (gains_in g.marks.items g.tuples.rows)
+        × GainsDiffer (gains_in g.marks.items g.tuples.rows)
         × StandSomewhere (gains_in g.marks.items g.tuples.rows) };
 }
 
@@ -69,7 +69,7 @@ impl Model for Gains {
 fn unmark(marks: &mut Vec<[bool; 8]>, slot: u32)
     requires slot { slot ≤ length marks.old.items }
     requires room { slot < length marks.old.items ⊎ vec_len marks.old < vec_capacity marks.old }
-    ensures none { marks_at marks.new.items slot ≡ unmarked }
+    ensures none { marks_at marks.new.items slot ≡ in_no_member }
     ensures covered { slot < length marks.new.items }
     ensures longer { length marks.old.items ≤ length marks.new.items }
     ensures others { (k : ℕ) → (k ≡ slot → ⊥) → marks_at marks.new.items k ≡ marks_at marks.old.items k }
@@ -91,7 +91,7 @@ fn lay(tuples: &mut Arena, marks: &mut Vec<[bool; 8]>, cells: &[u64]) -> Result<
         ≡ tuples.old.rows ++ record { slot = slot; cells = cells.now } ∷ []) }
     ensures gained { IfOk result (λ slot. gains_in marks.new.items tuples.new.rows
         ≡ gains_in marks.old.items tuples.old.rows
-        ++ record { slot = slot; cells = cells.now; by = unmarked } ∷ []) }
+        ++ record { slot = slot; cells = cells.now; by = in_no_member } ∷ []) }
     ensures refused { OnErr result (gains_in marks.new.items tuples.new.rows
         ≡ gains_in marks.old.items tuples.old.rows) }
 {
@@ -150,7 +150,7 @@ impl Gains {
 
     /// What holds of all that is gathered. It does nothing.
     pub fn laws(&self)
-        ensures apart { AreApart self.now.gains }
+        ensures apart { GainsDiffer self.now.gains }
         ensures some { StandSomewhere self.now.gains }
         ensures wide { (g : Gain) → Contains self.now.gains g → length g.cells ≡ self.now.width }
     {

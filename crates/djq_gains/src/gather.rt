@@ -15,9 +15,9 @@ ghost use Rattle.std.specs.Prelude.{
   slice_get,
 };
 ghost use Rattle.djq_live.specs.Member.{head_types, query_at, queries_at, HaveQueries, AreAlike};
-ghost use Rattle.djq_gains.specs.Gains.{AtFirst, told_in, count_in};
+ghost use Rattle.djq_gains.specs.Gains.{AtFirstMember, told_of_member, count_in};
 ghost use Rattle.djq_gains.specs.Gathered.{Stand};
-ghost use Rattle.djq_gains.specs.Gathering.{cells_told, is_among, Gathers};
+ghost use Rattle.djq_gains.specs.Gathering.{cells_told, is_among, GathersGains};
 ghost use Rattle.djq_index.specs.declared.cells.TheConstants.{CELLS};
 
 use crate::gains::Gains;
@@ -45,7 +45,7 @@ fn gather_from(
     requires query { IsSomeAnd (query_at engine.now.places place)
         (λ l. length (head_types l) ≡ gains.old.width) }
     ensures width { gains.new.width ≡ gains.old.width }
-    ensures told { IfOk result (λ _. told_in engine.now place ≡ None → ⊥) }
+    ensures told { IfOk result (λ _. told_of_member engine.now place ≡ None → ⊥) }
     ensures gathered { IfOk result (λ _. (k : ℕ) (t : List ℕ) → Stand gains.new.gains k t
         ↔ (Stand gains.old.gains k t
         ⊎ ((k ≡ nth) × Contains (cells_told engine.now place) t))) }
@@ -76,10 +76,10 @@ pub fn gather(
     requires queries { HaveQueries engine.now.places members.now }
     requires some { 0 < length members.now }
     requires alike { AreAlike (queries_at engine.now.places members.now) }
-    ensures width { IfOk result (λ g. AtFirst engine.now members.now
+    ensures width { IfOk result (λ g. AtFirstMember engine.now members.now
         (λ l. g.width ≡ length l.query.head)) }
     ensures narrow { IfOk result (λ g. g.width ≤ CELLS) }
-    ensures gathers { IfOk result (λ g. Gathers engine.now members.now touched.now g.gains) }
+    ensures gathers { IfOk result (λ g. GathersGains engine.now members.now touched.now g.gains) }
 {
     head_types_are();
     engine.laws();

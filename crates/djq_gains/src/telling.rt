@@ -20,9 +20,9 @@ ghost use Rattle.std.specs.Prelude.{
 ghost use Rattle.djq_machine.specs.Store.{atoms_of};
 ghost use Rattle.djq_live.specs.Live.{IsKeptSomewhere};
 ghost use Rattle.djq_live.specs.Member.{queries_at, HaveQueries, AreAlike};
-ghost use Rattle.djq_gains.specs.Gains.{AtFirst, TellUnion, members_at, told_in, count_in};
+ghost use Rattle.djq_gains.specs.Gains.{AtFirstMember, TellUnion, members_at, told_of_member, count_in};
 ghost use Rattle.djq_gains.specs.Gathered.{IsIn, AtSlot};
-ghost use Rattle.djq_gains.specs.Gathering.{is_told, lines_of, asks_of, IsFirst};
+ghost use Rattle.djq_gains.specs.Gathering.{is_told, gain_lines, asks_of, AtFirstQuery};
 ghost use Rattle.djq_index.specs.declared.cells.TheConstants.{CELLS};
 
 use crate::gains::Gains;
@@ -75,14 +75,14 @@ fn tell_one<L: Ledger>(
     requires queries { HaveQueries group.now.queries.now group.now.places.now }
     requires some { 0 < length group.now.places.now }
     requires ready { All IsKeptSomewhere (queries_at group.now.queries.now group.now.places.now) }
-    requires wide { IsFirst (queries_at group.now.queries.now group.now.places.now)
+    requires wide { AtFirstQuery (queries_at group.now.queries.now group.now.places.now)
         (λ l. length l.query.head ≡ gains.now.width) }
     requires narrow { gains.now.width ≤ CELLS }
     requires lies { IsIn gains.now.gains slot }
     ensures told { log.new.lost ≡ false
-        → IsFirst (queries_at group.now.queries.now group.now.places.now) (λ l.
+        → AtFirstQuery (queries_at group.now.queries.now group.now.places.now) (λ l.
         AtSlot gains.now.gains slot (λ g. log.new.lines ≡ log.old.lines
-        ++ lines_of came (queries_at group.now.queries.now group.now.places.now) l (g ∷ []))) }
+        ++ gain_lines came (queries_at group.now.queries.now group.now.places.now) l (g ∷ []))) }
     ensures lost { log.old.lost ≡ true → log.new.lost ≡ true }
     ensures counted { listing.new ≤ listing.old
         + sum_by asks_of (queries_at group.now.queries.now group.now.places.now) }
@@ -107,13 +107,13 @@ fn tell<L: Ledger>(
     requires queries { HaveQueries group.now.queries.now group.now.places.now }
     requires some { 0 < length group.now.places.now }
     requires ready { All IsKeptSomewhere (queries_at group.now.queries.now group.now.places.now) }
-    requires wide { IsFirst (queries_at group.now.queries.now group.now.places.now)
+    requires wide { AtFirstQuery (queries_at group.now.queries.now group.now.places.now)
         (λ l. length l.query.head ≡ gains.now.width) }
     requires narrow { gains.now.width ≤ CELLS }
     requires clear { log.old.lines ≡ [] }
     ensures told { log.new.lost ≡ false
-        → IsFirst (queries_at group.now.queries.now group.now.places.now) (λ l. log.new.lines
-        ≡ lines_of came (queries_at group.now.queries.now group.now.places.now) l gains.now.gains) }
+        → AtFirstQuery (queries_at group.now.queries.now group.now.places.now) (λ l. log.new.lines
+        ≡ gain_lines came (queries_at group.now.queries.now group.now.places.now) l gains.now.gains) }
     ensures counted { listing.new ≤ listing.old + length gains.now.gains
         * sum_by asks_of (queries_at group.now.queries.now group.now.places.now) }
 {
@@ -149,9 +149,9 @@ pub fn tell_gains<L: Ledger>(
     requires differ { AllPairs (λ j k. j ≡ k → ⊥) members.now }
     requires alike { AreAlike (queries_at engine.now.places members.now) }
     requires among { All (Contains members.now) touched.now }
-    ensures tells { log.new.lost ≡ false → AtFirst engine.now members.now
+    ensures tells { log.new.lost ≡ false → AtFirstMember engine.now members.now
         (TellUnion engine.now members.now touched.now came log.new.lines) }
-    ensures lost { (i : ℕ) → Contains touched.now i → told_in engine.now i ≡ None
+    ensures lost { (i : ℕ) → Contains touched.now i → told_of_member engine.now i ≡ None
         → log.new.lost ≡ true }
     ensures counted { listing.new ≤ listing.old + sum_by (count_in engine.now) touched.now
         * atoms_of (members_at engine.now members.now) }

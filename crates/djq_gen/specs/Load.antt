@@ -4,12 +4,12 @@ use Rattle.std.specs.Prelude.{decimal, if◌then◌else◌}
 use Rattle.djq_gen.specs.Draws.{next, drawn}
 
 -- two relations, and the query that joins them
-abbrev pub opening : List (List ℕ)
-opening = codes "rel r int int\n" ∷ codes "rel s int int\n" ∷ codes "query q(x,y,z) <- r(x,y), s(y,z)\n" ∷ []
+abbrev pub opening_lines : List (List ℕ)
+opening_lines = codes "rel r int int\n" ∷ codes "rel s int int\n" ∷ codes "query q(x,y,z) <- r(x,y), s(y,z)\n" ∷ []
 
 -- a cursor is opened, read and closed
-abbrev pub reading : List (List ℕ)
-reading = codes "open c q\n" ∷ codes "next c 10\n" ∷ codes "close c\n" ∷ []
+abbrev pub reading_lines : List (List ℕ)
+reading_lines = codes "open c q\n" ∷ codes "next c 10\n" ∷ codes "close c\n" ∷ []
 
 -- a change takes a row out where half of its first draw is a multiple of four, and else puts one in
 abbrev pub verb : ℕ → List ℕ
@@ -25,7 +25,7 @@ change values a b c = verb a ++ relation a ++ decimal (b % values) ++ codes " " 
 
 -- after each hundredth change a cursor is read
 abbrev pub pause : ℕ → List (List ℕ)
-pause number = if number % 100 == 0 then reading else []
+pause number = if number % 100 == 0 then reading_lines else []
 
 -- the lines of so many further changes, where so many are done and the draws have left a state
 abbrev pub changes : ℕ → ℕ → ℕ → ℕ → List (List ℕ)
@@ -35,9 +35,9 @@ changes values state done (suc left) =
     ∷ (pause (done + 1) ++ changes values (next (next (next state))) (done + 1) left)
 
 -- how many different values a load of n changes uses
-abbrev pub values_of : ℕ → ℕ
-values_of n = min 32768 (2 + n / 16)
+abbrev pub value_count : ℕ → ℕ
+value_count n = min 32768 (2 + n / 16)
 
 -- the load of n changes with a seed
 abbrev pub load : ℕ → ℕ → List (List ℕ)
-load n seed = opening ++ changes (values_of n) seed 0 n
+load n seed = opening_lines ++ changes (value_count n) seed 0 n

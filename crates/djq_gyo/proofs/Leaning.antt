@@ -7,7 +7,7 @@ use Rattle.djq_hyper.specs.declared.step.Step.{Step}
 use Rattle.djq_hyper.specs.declared.step.Step.TheVariants.{Vertex, Edge}
 use Rattle.djq_hyper.specs.Hypergraph.{member, subset, degree, difference, edge_at}
 use Rattle.djq_hyper.specs.Gyo.{IsStep, reduced, Leads, IsRest, IsLean}
-use Rattle.djq_hyper.proofs.Members.{has, has_difference, from_true, subset_from}
+use Rattle.djq_hyper.proofs.Members.{has_bit, has_difference, from_true, subset_from}
 use Rattle.djq_hyper.proofs.Counting.{degree_same}
 use Rattle.djq_hyper.proofs.Owning.{edge_with}
 use Rattle.djq_gyo.proofs.Places.{at_place, set_place}
@@ -29,11 +29,12 @@ steps_fall E (s ∷ S) R x h =
     let b = steps_fall (reduced E s) S R x h.1 in
     omega arith
 
-edge_low : (R : List (List ℕ)) (p x : ℕ) → 0 < has x (edge_at R p) → p < length R
+edge_low : (R : List (List ℕ)) (p x : ℕ) → 0 < has_bit x (edge_at R p) → p < length R
 edge_low R p x h =
     elim (cases_lt p (length R)) [
       | inl low ↦ low
-      | inr high ↦ absurd (let e : has x (edge_at R p) ≡ has x [] = ap (has x) (get_or_past R p [] high) in omega arith)
+      | inr high ↦ absurd
+          (let e : has_bit x (edge_at R p) ≡ has_bit x [] = ap (has_bit x) (get_or_past R p [] high) in omega arith)
     ]
 
 no_empty_edge : (E R : List (List ℕ)) → IsRest E R → (i : ℕ) → i < length R → edge_at R i ≢ []
@@ -41,9 +42,9 @@ no_empty_edge E R r i low none =
     let w = edge_with R r.variable r.lies in
     let has_it = from_true (member r.variable (edge_at R w.0)) w.1 in
     let apart : i ≢ w.0 = λ same.
-    (let e : has r.variable (edge_at R w.0)
-    ≡ has r.variable [] = ap (λ (k : ℕ). has r.variable (edge_at R k)) (sym same)
-    ∙ ap (has r.variable) none in omega arith) in
+    (let e : has_bit r.variable (edge_at R w.0)
+    ≡ has_bit r.variable [] = ap (λ (k : ℕ). has_bit r.variable (edge_at R k)) (sym same)
+    ∙ ap (has_bit r.variable) none in omega arith) in
     r.irreducible (Edge i w.0)
     (low, edge_low R w.0 r.variable has_it, apart, ap (λ (l : List ℕ). subset l (edge_at R w.0)) none)
 
@@ -58,7 +59,7 @@ no_equal_edges E R r i j low low2 same =
             low2,
             apart,
             subset_from (edge_at R i) (edge_at R j)
-                (λ x. let e : has x (edge_at R i) ≡ has x (edge_at R j) = ap (has x) same in omega arith),
+                (λ x. let e : has_bit x (edge_at R i) ≡ has_bit x (edge_at R j) = ap (has_bit x) same in omega arith),
           ))
     ]
 

@@ -6,9 +6,9 @@ use Rattle.std.proofs.lemmas.Bool.{cases_lt, cases_eq}
 use Rattle.djq_hyper.specs.declared.step.Step.{Step}
 use Rattle.djq_hyper.specs.declared.step.Step.TheVariants.{Vertex, Edge}
 use Rattle.djq_hyper.specs.Hypergraph.{member, degree, difference, edge_at, subset}
-use Rattle.djq_hyper.specs.Gyo.{IsStep, reduced, Leads, IsIrreducible, IsBare}
+use Rattle.djq_hyper.specs.Gyo.{IsStep, reduced, Leads, IsIrreducible, HasNoVariables}
 use Rattle.djq_hyper.specs.JoinTree.{HasJoinTree}
-use Rattle.djq_hyper.proofs.Members.{has, Sub, one_le, one_true, from_true, from_false, subset_says}
+use Rattle.djq_hyper.proofs.Members.{has_bit, Sub, one_le, one_true, from_true, from_false, subset_says}
 use Rattle.djq_hyper.proofs.Members.{subset_from, has_one, has_here, has_other}
 use Rattle.djq_hyper.proofs.Bags.{labels, out_of, out_same, total, total_same}
 use Rattle.djq_hyper.proofs.Counting.{count, count_self, Same, degree_same, degree_in}
@@ -21,7 +21,7 @@ flip L M h a = sym (h a)
 
 -- a variable of its own lies in no other edge
 own_of : (E : List (List ℕ)) (i x : ℕ) → i < length E → member x (edge_at E i) ≡ true → degree x E ≡ 1 → (y : ℕ)
-    → 0 < has y (x ∷ []) → degree y ([] ∷ remove E i) ≡ 0
+    → 0 < has_bit y (x ∷ []) → degree y ([] ∷ remove E i) ≡ 0
 own_of E i x within lies alone y is =
     let same : y ≡ x = has_one y x is in
     let all = degree_same x E (edge_at E i ∷ remove E i) (at_place E i within) in
@@ -68,16 +68,16 @@ leads_more E (t ∷ S) R s h step = (h.0, leads_more (reduced E t) S R s h.1 ste
 -- ---- the end
 
 -- edges without a variable are a tree
-pub bare_rooted : (R : List (List ℕ)) → IsBare R → Rooted [] R
+pub bare_rooted : (R : List (List ℕ)) → HasNoVariables R → Rooted [] R
 bare_rooted R bare =
     all_plugged [] R (λ a stands x.
-    elim (cases_lt 0 (has x a)) [
+    elim (cases_lt 0 (has_bit x a)) [
       | inl within ↦ absurd (omega (arith, degree_in x a R stands within, bare x))
       | inr none ↦ omega arith
     ])
 
 -- a label with a variable of its own, and one that lies within another, are steps where they stand
-own_step : (R : List (List ℕ)) (a : List ℕ) (rest : List (List ℕ)) (x : ℕ) → Same R (a ∷ rest) → 0 < has x a
+own_step : (R : List (List ℕ)) (a : List ℕ) (rest : List (List ℕ)) (x : ℕ) → Same R (a ∷ rest) → 0 < has_bit x a
     → degree x ([] ∷ rest) ≡ 0 → At R a → (s : Step) × IsStep R s
 own_step R a rest x here within alone p =
     let lies : member x (edge_at R p.place) ≡ true = ap (λ (e : List ℕ). member x e) p.is
@@ -196,10 +196,12 @@ turn_falls R D s R' is step next = subst (λ (L : List (List ℕ)). size L < siz
 
 -- ---- what the end says of the beginning
 
-pub ended_bare : (E : List (List ℕ)) (S : List Step) (R D rest : List (List ℕ)) → Leads E S R → D ≡ R → IsBare D → rest
+pub ended_bare : (E : List (List ℕ)) (S : List Step) (R D rest : List (List ℕ)) → Leads E S R → D ≡ R
+    → HasNoVariables D → rest
     ≡ [] → (rest ≡ []) ↔ HasJoinTree E
 ended_bare E S R D rest leads is bare none = (
-  λ _. join_tree_from E (leads_back E S R leads (bare_rooted R (subst (λ (L : List (List ℕ)). IsBare L) is bare))),
+  λ _. join_tree_from E
+      (leads_back E S R leads (bare_rooted R (subst (λ (L : List (List ℕ)). HasNoVariables L) is bare))),
   λ
       _. none,
 )

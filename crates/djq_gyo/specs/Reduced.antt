@@ -1,8 +1,8 @@
 -- What a reduction of acyclic edges comes to.
 use Rattle.std.specs.Prelude.{ℕ, List}
 use Rattle.djq_hyper.specs.declared.step.Step.{Step}
-use Rattle.djq_hyper.specs.Gyo.{Leads, IsBare}
+use Rattle.djq_hyper.specs.Gyo.{Leads, HasNoVariables}
 
 -- the steps lead from the edges to edges without a variable
 abbrev pub LeadsToBare : List (List ℕ) → List Step → Type 0
-LeadsToBare E S = (R : List (List ℕ)) × Leads E S R × IsBare R
+LeadsToBare E S = (R : List (List ℕ)) × Leads E S R × HasNoVariables R

@@ -1,6 +1,6 @@
 ghost use Rattle.std.specs.Prelude.{ℕ, ◌<◌, length, IfSome, IfNone};
 ghost use Rattle.djq_hyper.specs.Hypergraph.{degree};
-ghost use Rattle.djq_hyper.specs.Gyo.{IsStep, IsIrreducible, IsBare};
+ghost use Rattle.djq_hyper.specs.Gyo.{IsStep, IsIrreducible, HasNoVariables};
 ghost use Rattle.djq_gyo.specs.Search.{HasNoOwn};
 
 use djq_hyper::{Step, VarSet, own_variables};
@@ -61,7 +61,7 @@ pub fn find_step(sets: &[VarSet]) -> Option<Step>
 
 /// A variable that lies in an edge, if there is one.
 pub fn find_variable(sets: &[VarSet]) -> Option<usize>
-    ensures none { IfNone result (IsBare sets.now) }
+    ensures none { IfNone result (HasNoVariables sets.now) }
     ensures some { IfSome result (λ x. 0 < degree x sets.now) }
 {
     'sets: for i in 0..sets.len() {

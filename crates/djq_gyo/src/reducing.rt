@@ -1,5 +1,5 @@
 ghost use Rattle.std.specs.Prelude.{◌≡◌, ◌≢◌, ◌↔◌, [], ◌∷◌, IfOk};
-ghost use Rattle.djq_hyper.specs.Gyo.{Leads, IsBare, IsRest, IsLean};
+ghost use Rattle.djq_hyper.specs.Gyo.{Leads, HasNoVariables, IsRest, IsLean};
 ghost use Rattle.djq_hyper.specs.JoinTree.{HasJoinTree, HasJoinTreeFrom};
 ghost use Rattle.djq_gyo.specs.Reduced.{LeadsToBare};
 

@@ -9,9 +9,9 @@ use Rattle.std.specs.List.{list_any}
 use Rattle.std.proofs.Common.{take-append-drop}
 use Rattle.djq_hyper.specs.declared.join_tree.Link.{Link}
 use Rattle.djq_hyper.specs.Hypergraph.{member, one, degree, edge_at, subset, intersection}
-use Rattle.djq_hyper.specs.JoinTree.{places, parent_edge, IsUnder, IsOrder, IsJoinTree, edges_of}
-use Rattle.djq_hyper.specs.Checking.{Fits}
-use Rattle.djq_hyper.proofs.Members.{has, one_le, one_true, from_true, subset_from, subset_says, has_intersection}
+use Rattle.djq_hyper.specs.JoinTree.{places, parent_edge, IsUnder, IsOrder, IsJoinTree, link_edges}
+use Rattle.djq_hyper.specs.Checking.{FitsTree}
+use Rattle.djq_hyper.proofs.Members.{has_bit, one_le, one_true, from_true, subset_from, subset_says, has_intersection}
 use Rattle.djq_hyper.proofs.Bags.{numbers, times, Bag, full, length_same}
 use Rattle.djq_hyper.proofs.Hanging.{Keeps, spots, upto, times_spots, times_upto, keeps_of, join_tree_of}
 
@@ -21,8 +21,8 @@ places_append : (p : ℕ) (P Q : List Link) → places p (P ++ Q) ≡ places p P
 places_append p [] Q = omega arith
 places_append p (k ∷ P) Q = omega (arith, places_append p P Q)
 
-below_append : (x : ℕ) (E : List (List ℕ)) (P Q : List Link) → degree x (edges_of E (P ++ Q))
-    ≡ degree x (edges_of E P) + degree x (edges_of E Q)
+below_append : (x : ℕ) (E : List (List ℕ)) (P Q : List Link) → degree x (link_edges E (P ++ Q))
+    ≡ degree x (link_edges E P) + degree x (link_edges E Q)
 below_append x E [] Q = omega arith
 below_append x E (k ∷ P) Q = omega (arith, below_append x E P Q)
 
@@ -34,10 +34,10 @@ places_reverse p [] = refl
 places_reverse p (k ∷ P) = ap (λ (Q : List Link). places p Q) (reverse_head k P)
     ∙ omega (arith, places_append p (reverse P) (k ∷ []), places_reverse p P)
 
-pub below_reverse : (x : ℕ) (E : List (List ℕ)) (P : List Link) → degree x (edges_of E (reverse P))
-    ≡ degree x (edges_of E P)
+pub below_reverse : (x : ℕ) (E : List (List ℕ)) (P : List Link) → degree x (link_edges E (reverse P))
+    ≡ degree x (link_edges E P)
 below_reverse x E [] = refl
-below_reverse x E (k ∷ P) = ap (λ (Q : List Link). degree x (edges_of E Q)) (reverse_head k P)
+below_reverse x E (k ∷ P) = ap (λ (Q : List Link). degree x (link_edges E Q)) (reverse_head k P)
     ∙ omega (arith, below_append x E (reverse P) (k ∷ []), below_reverse x E P)
 
 pub reverse_last : (P : List Link) (k : Link) → reverse (P ++ k ∷ []) ≡ k ∷ reverse P
@@ -62,12 +62,12 @@ over_of : (E : List (List ℕ)) (k : Link) (R : List Link) → 0 < length R → 
 over_of E k [] some = absurd (omega arith)
 over_of E k (j ∷ R) some = refl
 
-below_some : (x : ℕ) (E : List (List ℕ)) (R : List Link) → 0 < degree x (edges_of E R) → 0 < length R
+below_some : (x : ℕ) (E : List (List ℕ)) (R : List Link) → 0 < degree x (link_edges E R) → 0 < length R
 below_some x E [] h = absurd (omega arith)
 below_some x E (k ∷ R) h = omega arith
 
 -- a link that fits is put behind them
-pub so_far_more : (E : List (List ℕ)) (P : List Link) (k : Link) → SoFar E P → Fits E P k → SoFar E (P ++ k ∷ [])
+pub so_far_more : (E : List (List ℕ)) (P : List Link) (k : Link) → SoFar E P → FitsTree E P k → SoFar E (P ++ k ∷ [])
 so_far_more E P k s f =
     let n = length-reverse P in
     let turned : k ∷ reverse P ≡ reverse (P ++ k ∷ []) = sym (reverse_last P k) in
@@ -82,8 +82,8 @@ so_far_more E P k s f =
           let w = below_reverse x E P in
           let some = below_some x E (reverse P) below in
           let q = f.keeps (omega arith) x within (omega arith) in
-          let o : has x (parent_edge E k (reverse P))
-          ≡ has x (edge_at E k.parent) = ap (λ (z : List ℕ). has x z) (over_of E k (reverse P) some) in
+          let o : has_bit x (parent_edge E k (reverse P))
+          ≡ has_bit x (edge_at E k.parent) = ap (λ (z : List ℕ). has_bit x z) (over_of E k (reverse P) some) in
           omega arith,
       s.keeps,
     ) in
@@ -174,7 +174,7 @@ split_at B i d within =
     )
 
 pub all_fit : (E : List (List ℕ)) (B : List Link) (i : ℕ) (d : Link) → i < length B → IsJoinTree E (reverse B)
-    → Fits E (take i B) (slice_index_or B i d)
+    → FitsTree E (take i B) (slice_index_or B i d)
 all_fit E B i d within t =
     let s = split_at B i d within in
     let k = slice_index_or B i d in
@@ -198,8 +198,8 @@ all_fit E B i d within t =
       keeps = λ some x within below.
           let w = below_reverse x E P in
           let q = keeps.0 x within (omega arith) in
-          let o : has x (parent_edge E k (reverse P))
-          ≡ has x (edge_at E k.parent) = ap (λ (z : List ℕ). has x z) (over_of E k (reverse P) (omega arith)) in
+          let o : has_bit x (parent_edge E k (reverse P))
+          ≡ has_bit x (edge_at E k.parent) = ap (λ (z : List ℕ). has_bit x z) (over_of E k (reverse P) (omega arith)) in
           omega arith;
     }
 
@@ -222,15 +222,16 @@ pub any_none : (p : ℕ) (P : List Link) → list_any (λ k. p == k.edge) P ≡ 
 any_none p P h = let q = ltb-false 0 (places p P) (sym (any_places p P) ∙ h) in omega arith
 
 -- the variables seen are those of the links before
-has_seen : (x n : ℕ) (seen : List ℕ) → member x seen ≡ nat_lt 0 n → (0 < has x seen → 0 < n) × (0 < n → 0 < has x seen)
+has_seen : (x n : ℕ) (seen : List ℕ) → member x seen ≡ nat_lt 0 n → (0 < has_bit x seen → 0 < n)
+    × (0 < n → 0 < has_bit x seen)
 has_seen x n seen h =
     (λ m. ltb-true 0 n (sym h ∙ one_true (member x seen) m), λ m. from_true (member x seen) (h ∙ lt-ltb 0 n m))
 
 -- the last test: what the edge shares with those before lies in its parent
 pub last_test : (E : List (List ℕ)) (P : List Link) (k : Link) (seen : List ℕ) (test : Bool)
-    → ((x : ℕ) → member x seen ≡ nat_lt 0 (degree x (edges_of E P)))
+    → ((x : ℕ) → member x seen ≡ nat_lt 0 (degree x (link_edges E P)))
     → k.edge < length E → places k.edge P ≡ 0 → 0 < length P → 0 < places k.parent P → test
-    ≡ subset (intersection (edge_at E k.edge) seen) (edge_at E k.parent) → IsTrue test ↔ Fits E P k
+    ≡ subset (intersection (edge_at E k.edge) seen) (edge_at E k.parent) → IsTrue test ↔ FitsTree E P k
 last_test E P k seen test saw below fresh some under is = (
   λ holds. record {
     below = below;
@@ -239,14 +240,14 @@ last_test E P k seen test saw below fresh some under is = (
     keeps = λ _ x within lies.
         let q = subset_says (intersection (edge_at E k.edge) seen) (edge_at E k.parent) (sym is ∙ holds) x in
         let w = has_intersection x (edge_at E k.edge) seen in
-        let s = (has_seen x (degree x (edges_of E P)) seen (saw x)).1 lies in
+        let s = (has_seen x (degree x (link_edges E P)) seen (saw x)).1 lies in
         omega arith;
   },
   λ f. is ∙ subset_from (intersection (edge_at E k.edge) seen) (edge_at E k.parent) (λ x.
       let w = has_intersection x (edge_at E k.edge) seen in
-      let s = has_seen x (degree x (edges_of E P)) seen (saw x) in
+      let s = has_seen x (degree x (link_edges E P)) seen (saw x) in
       let low = one_le (member x (edge_at E k.edge)) in
-      elim (cases_lt 0 (min (has x (edge_at E k.edge)) (has x seen))) [
+      elim (cases_lt 0 (min (has_bit x (edge_at E k.edge)) (has_bit x seen))) [
         | inl m ↦ let q = f.keeps some x (omega arith) (s.0 (omega arith)) in omega arith
         | inr none ↦ omega arith
       ]),
@@ -261,14 +262,15 @@ read_at E p e within is = get_or_read_under E p (length E) e [] is within refl
 
 -- the variables of the links so far and of one more
 pub seen_more : (E : List (List ℕ)) (P Q : List Link) (k : Link) (old new : List ℕ) → Q ≡ P ++ k ∷ []
-    → ((x : ℕ) → member x old ≡ nat_lt 0 (degree x (edges_of E P)))
+    → ((x : ℕ) → member x old ≡ nat_lt 0 (degree x (link_edges E P)))
     → ((x : ℕ) → member x new ≡ (member x old || member x (edge_at E k.edge))) → (x : ℕ) → member x new
-    ≡ nat_lt 0 (degree x (edges_of E Q))
+    ≡ nat_lt 0 (degree x (link_edges E Q))
 seen_more E P Q k old new is saw union x =
-    let more : degree x (edges_of E Q)
-    ≡ degree x (edges_of E P) + has x (edge_at E k.edge) = ap (λ (R : List Link). degree x (edges_of E R)) is
+    let more : degree x (link_edges E Q)
+    ≡ degree x (link_edges E P) + has_bit x (edge_at E k.edge) = ap (λ (R : List Link). degree x (link_edges E R)) is
     ∙ omega (arith, below_append x E P (k ∷ [])) in
-    union x ∙ or_more (member x old) (member x (edge_at E k.edge)) (degree x (edges_of E P)) (degree x (edges_of E Q))
+    union x ∙ or_more (member x old) (member x (edge_at E k.edge)) (degree x (link_edges E P))
+    (degree x (link_edges E Q))
     (saw x) more
   where
     or_more : (a b : Bool) (m n : ℕ) → a ≡ nat_lt 0 m → n ≡ m + one b → (a || b) ≡ nat_lt 0 n

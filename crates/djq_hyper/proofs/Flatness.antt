@@ -6,19 +6,19 @@ use Rattle.std.proofs.lemmas.Bool.{cases_lt, and_parts}
 use Rattle.std.proofs.lemmas.List.{take_all}
 use Rattle.std.proofs.lemmas.List.Folds.{list_all_more}
 use Rattle.djq_hyper.specs.Hypergraph.{member, subset, intersection, one, degree, edge_at}
-use Rattle.djq_hyper.specs.Flat.{is_within, is_apart, IsFlatAt}
-use Rattle.djq_hyper.proofs.Members.{has, one_true, one_false, one_and, one_or, same_one}
+use Rattle.djq_hyper.specs.Flat.{edges_are_within, is_apart, IsFlatAt}
+use Rattle.djq_hyper.proofs.Members.{has_bit, one_true, one_false, one_and, one_or, same_one}
 use Rattle.djq_hyper.proofs.Members.{from_true, has_intersection, subset_from, subset_says}
 
 -- what the edges L say of the variable x and any other: which are in each edge with x, in some edge with x, and in
 -- some edge without x
 pub record Compares (L : List (List ℕ)) (all : List ℕ) (x : ℕ) (common joined others : List ℕ) : Type 0 where
-  pub shared : (y : ℕ) → member y common ≡ (member y all && is_within L x y)
+  pub shared : (y : ℕ) → member y common ≡ (member y all && edges_are_within L x y)
   pub near : (y : ℕ) → member y joined ≡ not (is_apart L x y)
-  pub far : (y : ℕ) → member y others ≡ not (is_within L y x)
+  pub far : (y : ℕ) → member y others ≡ not (edges_are_within L y x)
 
-within_more : (H : List (List ℕ)) (i x y : ℕ) → i < length H → is_within (take (i + 1) H) x y
-    ≡ (is_within (take i H) x y && (not (member x (edge_at H i)) || member y (edge_at H i)))
+within_more : (H : List (List ℕ)) (i x y : ℕ) → i < length H → edges_are_within (take (i + 1) H) x y
+    ≡ (edges_are_within (take i H) x y && (not (member x (edge_at H i)) || member y (edge_at H i)))
 within_more H i x y low = list_all_more (λ (e : List ℕ). not (member x e) || member y e) H i [] low
 
 apart_more : (H : List (List ℕ)) (i x y : ℕ) → i < length H → is_apart (take (i + 1) H) x y
@@ -69,13 +69,14 @@ pub compares_with : (H : List (List ℕ)) (i : ℕ) (e all : List ℕ) (x : ℕ)
     → e ≡ edge_at H i → member x e ≡ true
     → Compares (take i H) all x shared near far → ((y : ℕ) → member y wide ≡ (member y near || member y e))
     → Compares (take (i + 1) H) all x (intersection shared e) wide far
-compares_with H i e all x shared near far wide low is has c joined =
-    let here : member x (edge_at H i) ≡ true = ap (λ (l : List ℕ). member x l) (sym is) ∙ has in
+compares_with H i e all x shared near far wide low is has_bit c joined =
+    let here : member x (edge_at H i) ≡ true = ap (λ (l : List ℕ). member x l) (sym is) ∙ has_bit in
     let at : (y : ℕ) → member y e ≡ member y (edge_at H i) = λ y. ap (λ (l : List ℕ). member y l) is in
     record {
       shared = λ y.
           both y shared e ∙ ap (λ (b : Bool). member y shared && b) (at y)
-          ∙ shared_with (member y all) (is_within (take i H) x y) (member y (edge_at H i)) (member x (edge_at H i))
+          ∙ shared_with (member y all) (edges_are_within (take i H) x y) (member y (edge_at H i))
+          (member x (edge_at H i))
           (member y shared) here (c.shared y)
           ∙ ap (λ (b : Bool). member y all && b) (sym (within_more H i x y low));
       near = λ y.
@@ -84,7 +85,8 @@ compares_with H i e all x shared near far wide low is has c joined =
           (c.near y)
           ∙ ap not (sym (apart_more H i x y low));
       far = λ y.
-          far_with (is_within (take i H) y x) (member y (edge_at H i)) (member x (edge_at H i)) (member y far) here
+          far_with (edges_are_within (take i H) y x) (member y (edge_at H i)) (member x (edge_at H i))
+          (member y far) here
           (c.far y)
           ∙ ap not (sym (within_more H i y x low));
     }
@@ -98,7 +100,8 @@ compares_without H i e all x shared near far wide low is lacks c joined =
     let at : (y : ℕ) → member y e ≡ member y (edge_at H i) = λ y. ap (λ (l : List ℕ). member y l) is in
     record {
       shared = λ y.
-          shared_without (member y all) (is_within (take i H) x y) (member y (edge_at H i)) (member x (edge_at H i))
+          shared_without (member y all) (edges_are_within (take i H) x y) (member y (edge_at H i))
+          (member x (edge_at H i))
           (member y shared) here (c.shared y)
           ∙ ap (λ (b : Bool). member y all && b) (sym (within_more H i x y low));
       near = λ y.
@@ -107,7 +110,8 @@ compares_without H i e all x shared near far wide low is lacks c joined =
           ∙ ap not (sym (apart_more H i x y low));
       far = λ y.
           joined y ∙ ap (λ (b : Bool). member y far || b) (at y)
-          ∙ far_without (is_within (take i H) y x) (member y (edge_at H i)) (member x (edge_at H i)) (member y far) here
+          ∙ far_without (edges_are_within (take i H) y x) (member y (edge_at H i)) (member x (edge_at H i))
+          (member y far) here
           (c.far y)
           ∙ ap not (sym (within_more H i y x low));
     }
@@ -130,7 +134,7 @@ compares_same L all x shared near far common joined others p q r c =
     }
 
 -- a variable that lies in no edge
-within_none : (H : List (List ℕ)) (x y : ℕ) → degree x H ≡ 0 → is_within H x y ≡ true
+within_none : (H : List (List ℕ)) (x y : ℕ) → degree x H ≡ 0 → edges_are_within H x y ≡ true
 within_none [] x y none = refl
 within_none (e ∷ H) x y none = rw (one_false (member x e) (omega arith), within_none H x y (omega arith)) refl
 
@@ -147,7 +151,7 @@ near_lies : (H : List (List ℕ)) (x y : ℕ) → is_apart H x y ≡ false → 0
 near_lies H x y met = elim (cases_lt 0 (degree y H))
     [ inl some ↦ some | inr none ↦ absurd (let t = apart_none H x y (omega arith) in cc) ]
 
-far_lies : (H : List (List ℕ)) (x y : ℕ) → is_within H y x ≡ false → 0 < degree y H
+far_lies : (H : List (List ℕ)) (x y : ℕ) → edges_are_within H y x ≡ false → 0 < degree y H
 far_lies H x y parted = elim (cases_lt 0 (degree y H))
     [ inl some ↦ some | inr none ↦ absurd (let t = within_none H y x (omega arith) in cc) ]
 
@@ -194,35 +198,36 @@ not_true a false is h = refl
 module _ (H : List (List ℕ)) (F all : List ℕ) (x : ℕ) (shared near far : List ℕ) (c : Compares H all x shared near far)
     (lie : (y : ℕ) → member y all ≡ nat_lt 0 (degree y H)) where
   nested_says : subset (intersection near far) shared ≡ true → (y : ℕ)
-      → (is_within H x y || is_within H y x || is_apart H x y) ≡ true
+      → (edges_are_within H x y || edges_are_within H y x || is_apart H x y) ≡ true
   nested_says h y =
-      or_three (is_within H x y) (is_within H y x) (is_apart H x y)
-      (λ parted met. (and_parts (member y all) (is_within H x y)
+      or_three (edges_are_within H x y) (edges_are_within H y x) (is_apart H x y)
+      (λ parted met. (and_parts (member y all) (edges_are_within H x y)
       (sym (c.shared y) ∙ meet_says near far shared h y (c.near y ∙ ap not met) (c.far y ∙ ap not parted))).1)
 
-  nested_from : ((y : ℕ) → (is_within H x y || is_within H y x || is_apart H x y) ≡ true)
+  nested_from : ((y : ℕ) → (edges_are_within H x y || edges_are_within H y x || is_apart H x y) ≡ true)
       → subset (intersection near far) shared ≡ true
   nested_from h =
       meet_from near far shared (λ y here there.
       let met = not_true (member y near) (is_apart H x y) (c.near y) here in
-      let parted = not_true (member y far) (is_within H y x) (c.far y) there in
+      let parted = not_true (member y far) (edges_are_within H y x) (c.far y) there in
       let a : member y all ≡ true = lie y ∙ lt-ltb 0 (degree y H) (near_lies H x y met) in
-      let w = only_first (is_within H x y) (is_within H y x) (is_apart H x y) (h y) parted met in
+      let w = only_first (edges_are_within H x y) (edges_are_within H y x) (is_apart H x y) (h y) parted met in
       c.shared y ∙ rw (a, w) refl)
 
-  headed_says : subset (intersection shared far) F ≡ true → (y : ℕ) → is_within H x y ≡ true → is_within H y x ≡ false
+  headed_says : subset (intersection shared far) F ≡ true → (y : ℕ) → edges_are_within H x y ≡ true
+      → edges_are_within H y x ≡ false
       → member y F ≡ true
   headed_says h y w parted =
       let a : member y all ≡ true = lie y ∙ lt-ltb 0 (degree y H) (far_lies H x y parted) in
       let here : member y shared ≡ true = c.shared y ∙ rw (a, w) refl in
       meet_says shared far F h y here (c.far y ∙ ap not parted)
 
-  headed_from : ((y : ℕ) → is_within H x y ≡ true → is_within H y x ≡ false → member y F ≡ true)
+  headed_from : ((y : ℕ) → edges_are_within H x y ≡ true → edges_are_within H y x ≡ false → member y F ≡ true)
       → subset (intersection shared far) F ≡ true
   headed_from h =
       meet_from shared far F (λ y here there.
-      h y (and_parts (member y all) (is_within H x y) (sym (c.shared y) ∙ here)).1
-      (not_true (member y far) (is_within H y x) (c.far y) there))
+      h y (and_parts (member y all) (edges_are_within H x y) (sym (c.shared y) ∙ here)).1
+      (not_true (member y far) (edges_are_within H y x) (c.far y) there))
 
   pub not_nested : (meet : List ℕ) (r : Bool) → meet ≡ intersection near far → r ≡ subset meet shared → r ≡ false
       → IsFlatAt H F x → ⊥
@@ -252,9 +257,9 @@ module _ (H : List (List ℕ)) (F all : List ℕ) (x : ℕ) (shared near far : L
 
 -- a variable of no edge that isn't in the head is as in a flat query
 pub flat_outside : (H : List (List ℕ)) (F all rest : List ℕ) (x : ℕ) → member x all ≡ nat_lt 0 (degree x H)
-    → member x rest ≡ (member x all || member x F) → has x rest ≡ 0 → IsFlatAt H F x
+    → member x rest ≡ (member x all || member x F) → has_bit x rest ≡ 0 → IsFlatAt H F x
 flat_outside H F all rest x lies joined out =
-    let neither : max (has x all) (has x F) ≡ 0 = sym (one_or (member x all) (member x F)) ∙ ap one (sym joined)
+    let neither : max (has_bit x all) (has_bit x F) ≡ 0 = sym (one_or (member x all) (member x F)) ∙ ap one (sym joined)
     ∙ out in
     let none : degree x H
     ≡ 0 = elim (cases_lt 0 (degree x H)) [
@@ -264,6 +269,7 @@ flat_outside H F all rest x lies joined out =
     ] in
     let absent : member x F ≡ false = one_false (member x F) (omega arith) in
     record {
-      nested = λ y. or_three (is_within H x y) (is_within H y x) (is_apart H x y) (λ f g. within_none H x y none);
+      nested = λ y. or_three (edges_are_within H x y) (edges_are_within H y x) (is_apart H x y)
+          (λ f g. within_none H x y none);
       headed = λ y in_head w parted. absurd cc;
     }

@@ -6,16 +6,17 @@ use Rattle.std.proofs.lemmas.Bool.{cases_lt, cases_eq, eq-eqb, ne_eqb}
 use Rattle.std.proofs.lemmas.List.{take_more}
 use Rattle.djq_hyper.specs.declared.join_tree.Link.{Link}
 use Rattle.djq_hyper.specs.Hypergraph.{member, one, degree, edge_at}
-pub use Rattle.djq_hyper.specs.JoinTree.{edges_of}
+pub use Rattle.djq_hyper.specs.JoinTree.{link_edges}
 use Rattle.djq_hyper.specs.JoinTree.{places, parent_edge, IsUnder, IsOrder, tops, IsJoinTree}
-use Rattle.djq_hyper.proofs.Members.{has, one_le}
+use Rattle.djq_hyper.proofs.Members.{has_bit, one_le}
 use Rattle.djq_hyper.proofs.Bags.{labels, numbers, times, times_append, Bag, map_same}
 use Rattle.djq_hyper.proofs.Counting.{count, Same, count_self, degree_same}
 
 -- the leaf form, for all links
 abbrev pub Keeps : List (List ℕ) → List Link → Type 0
 Keeps E [] = Unit {0}
-Keeps E (k ∷ R) = ((x : ℕ) → 0 < has x (edge_at E k.edge) → 0 < degree x (edges_of E R) → 0 < has x (parent_edge E k R))
+Keeps E (k ∷ R) =
+    ((x : ℕ) → 0 < has_bit x (edge_at E k.edge) → 0 < degree x (link_edges E R) → 0 < has_bit x (parent_edge E k R))
     × Keeps E R
 
 top_one : (a b : Bool) → one (a && not b) ≡ one a - one b
@@ -25,54 +26,55 @@ top_one false true = refl
 top_one false false = refl
 
 pub tops_step : (x : ℕ) (E : List (List ℕ)) (k : Link) (R : List Link) → tops x E (k ∷ R)
-    ≡ (has x (edge_at E k.edge) - has x (parent_edge E k R)) + tops x E R
+    ≡ (has_bit x (edge_at E k.edge) - has_bit x (parent_edge E k R)) + tops x E R
 tops_step x E k R = ap (λ n. n + tops x E R) (top_one (member x (edge_at E k.edge)) (member x (parent_edge E k R)))
 
-pub place_below : (p x : ℕ) (E : List (List ℕ)) (R : List Link) → 0 < places p R → 0 < has x (edge_at E p)
-    → 0 < degree x (edges_of E R)
+pub place_below : (p x : ℕ) (E : List (List ℕ)) (R : List Link) → 0 < places p R → 0 < has_bit x (edge_at E p)
+    → 0 < degree x (link_edges E R)
 place_below p x E [] stands within = absurd (omega arith)
 place_below p x E (k ∷ R) stands within =
     elim (cases_eq p k.edge) [
-      | inl same ↦ let s : has x (edge_at E p)
-          ≡ has x (edge_at E k.edge) = ap (λ (q : ℕ). has x (edge_at E q)) same in omega arith
+      | inl same ↦ let s : has_bit x (edge_at E p)
+          ≡ has_bit x (edge_at E k.edge) = ap (λ (q : ℕ). has_bit x (edge_at E q)) same in omega arith
       | inr apart ↦
           let here : one (p == k.edge) ≡ 0 = rw (ne_eqb p k.edge apart) refl in
           omega (arith, place_below p x E R (omega arith) within)
     ]
 
-pub place_counts : (p : ℕ) (E : List (List ℕ)) (R : List Link) → 0 < places p R → 0 < count (edge_at E p) (edges_of E R)
+pub place_counts : (p : ℕ) (E : List (List ℕ)) (R : List Link) → 0 < places p R
+    → 0 < count (edge_at E p) (link_edges E R)
 place_counts p E [] stands = absurd (omega arith)
 place_counts p E (k ∷ R) stands =
     elim (cases_eq p k.edge) [
       | inl same ↦
           let s : edge_at E k.edge ≡ edge_at E p = ap (λ (q : ℕ). edge_at E q) (sym same) in
-          subst (λ (l : List ℕ). 0 < count l (edge_at E k.edge ∷ edges_of E R)) s
-          (count_self (edge_at E k.edge) (edges_of E R))
+          subst (λ (l : List ℕ). 0 < count l (edge_at E k.edge ∷ link_edges E R)) s
+          (count_self (edge_at E k.edge) (link_edges E R))
       | inr apart ↦
           let here : one (p == k.edge) ≡ 0 = rw (ne_eqb p k.edge apart) refl in
           omega (arith, place_counts p E R (omega arith))
     ]
 
-over_below : (x : ℕ) (E : List (List ℕ)) (k : Link) (R : List Link) → IsUnder k R → 0 < has x (parent_edge E k R)
-    → 0 < degree x (edges_of E R)
+over_below : (x : ℕ) (E : List (List ℕ)) (k : Link) (R : List Link) → IsUnder k R → 0 < has_bit x (parent_edge E k R)
+    → 0 < degree x (link_edges E R)
 over_below x E k [] under within = absurd (omega arith)
 over_below x E k (j ∷ R) under within = place_below k.parent x E (j ∷ R) under within
 
 -- a variable that lies in an edge has a topmost one
-pub some_top : (x : ℕ) (E : List (List ℕ)) (R : List Link) → IsOrder R → 0 < degree x (edges_of E R) → 1 ≤ tops x E R
+pub some_top : (x : ℕ) (E : List (List ℕ)) (R : List Link) → IsOrder R → 0 < degree x (link_edges E R) → 1 ≤ tops x E R
 some_top x E [] ordered lies = absurd (omega arith)
 some_top x E (k ∷ R) ordered lies =
     let step = tops_step x E k R in
-    elim (cases_lt 0 (degree x (edges_of E R))) [
+    elim (cases_lt 0 (degree x (link_edges E R))) [
       | inl c ↦ omega (arith, some_top x E R ordered.2 c)
       | inr c ↦
-          elim (cases_lt 0 (has x (parent_edge E k R))) [
+          elim (cases_lt 0 (has_bit x (parent_edge E k R))) [
             | inl d ↦ absurd (let q = over_below x E k R ordered.1 d in omega arith)
             | inr d ↦ omega arith
           ]
     ]
 
-pub no_top : (x : ℕ) (E : List (List ℕ)) (R : List Link) → degree x (edges_of E R) ≡ 0 → tops x E R ≡ 0
+pub no_top : (x : ℕ) (E : List (List ℕ)) (R : List Link) → degree x (link_edges E R) ≡ 0 → tops x E R ≡ 0
 no_top x E [] none = refl
 no_top x E (k ∷ R) none = omega (arith, tops_step x E k R, no_top x E R (omega arith))
 
@@ -89,7 +91,7 @@ tops_from E [] ordered h x = omega arith
 tops_from E (k ∷ R) ordered h x =
     let step = tops_step x E k R in
     let most = one_le (member x (edge_at E k.edge)) in
-    elim (cases_lt 0 (degree x (edges_of E R))) [
+    elim (cases_lt 0 (degree x (link_edges E R))) [
       | inl c ↦ grind (arith, tops_from E R ordered.2 h.1 x, h.0 x)
       | inr c ↦ let none = no_top x E R (omega arith) in omega arith
     ]
@@ -132,7 +134,7 @@ times_upto p (suc n) =
           ]
     ]
 
-pub edges_map : (E : List (List ℕ)) (R : List Link) → edges_of E R ≡ map (λ p. edge_at E p) (spots R)
+pub edges_map : (E : List (List ℕ)) (R : List Link) → link_edges E R ≡ map (λ p. edge_at E p) (spots R)
 edges_map E [] = refl
 edges_map E (k ∷ R) = ap (λ (L : List (List ℕ)). edge_at E k.edge ∷ L) (edges_map E R)
 
@@ -153,7 +155,7 @@ upto_same E a = upto_take E (length E) (omega arith) a
     ∙ ap (λ (L : List (List ℕ)). count a L) (take_all (length E) E (omega arith))
 
 pub edges_same : (E : List (List ℕ)) (R : List Link) → ((p : ℕ) → places p R ≡ one (nat_lt p (length E)))
-    → Same (edges_of E R) E
+    → Same (link_edges E R) E
 edges_same E R covers a =
     let spots_same : Bag numbers (spots R) (upto (length E)) = λ p. times_spots p R ∙ covers p
     ∙ sym (times_upto p (length E)) in
@@ -166,7 +168,7 @@ edges_same E R covers a =
 pub keeps_of : (E : List (List ℕ)) (R : List Link) → IsJoinTree E R → Keeps E R
 keeps_of E R t =
     keeps_from E R t.ordered (λ x.
-    let same = degree_same x (edges_of E R) E (edges_same E R t.covers) in
+    let same = degree_same x (link_edges E R) E (edges_same E R t.covers) in
     elim (cases_lt 0 (degree x E)) [
       | inl c ↦ let q = t.one_top x c in omega arith
       | inr c ↦ let q = no_top x E R (omega arith) in omega arith
@@ -179,7 +181,7 @@ join_tree_of E R covers ordered keeps =
       covers = covers;
       ordered = ordered;
       one_top = λ x lies.
-          let same = degree_same x (edges_of E R) E (edges_same E R covers) in
+          let same = degree_same x (link_edges E R) E (edges_same E R covers) in
           let low = some_top x E R ordered (omega arith) in
           let high = tops_from E R ordered keeps x in
           omega arith;

@@ -6,23 +6,23 @@ use Rattle.djq_hyper.specs.declared.join_tree.Link.{Link}
 use Rattle.djq_hyper.specs.Hypergraph.{one, degree, edge_at}
 use Rattle.djq_hyper.specs.JoinTree.{places, parent_edge, IsUnder, IsOrder, IsJoinTree, IsRootedAt}
 use Rattle.djq_hyper.specs.JoinTree.{HasJoinTree, HasJoinTreeFrom, IsFreeConnex}
-use Rattle.djq_hyper.proofs.Members.{has, one_le}
+use Rattle.djq_hyper.proofs.Members.{has_bit, one_le}
 use Rattle.djq_hyper.proofs.Bags.{labels, numbers, times, times_append, times_itself, same_item, Bag, from_map, drawn}
 use Rattle.djq_hyper.proofs.Counting.{count, count_self}
 use Rattle.djq_hyper.proofs.Rooting.{Tree, Rooted}
 use Rattle.djq_hyper.proofs.Rerooting.{rerooted}
-use Rattle.djq_hyper.proofs.Hanging.{edges_of, Keeps, place_counts, spots, times_spots, edges_map}
+use Rattle.djq_hyper.proofs.Hanging.{link_edges, Keeps, place_counts, spots, times_spots, edges_map}
 use Rattle.djq_hyper.proofs.Hanging.{upto, times_upto, upto_same, edges_same, keeps_of}
 use Rattle.djq_hyper.proofs.Hanging.{join_tree_of}
 
 -- ---- from links to labels
 
 over_counts : (E : List (List ℕ)) (k : Link) (R : List Link) → IsUnder k R
-    → 0 < count (parent_edge E k R) ([] ∷ edges_of E R)
+    → 0 < count (parent_edge E k R) ([] ∷ link_edges E R)
 over_counts E k [] under = count_self [] []
 over_counts E k (j ∷ R) under = omega (arith, place_counts k.parent E (j ∷ R) under)
 
-tree_of : (E : List (List ℕ)) (R : List Link) → IsOrder R → Keeps E R → Tree [] (edges_of E R)
+tree_of : (E : List (List ℕ)) (R : List Link) → IsOrder R → Keeps E R → Tree [] (link_edges E R)
 tree_of E [] ordered keeps = tt
 tree_of E (k ∷ R) ordered keeps = (
   parent_edge E k R,
@@ -34,7 +34,7 @@ tree_of E (k ∷ R) ordered keeps = (
 
 pub rooted_of : (E : List (List ℕ)) (R : List Link) → IsJoinTree E R → Rooted [] E
 rooted_of E R t = record
-    { order = edges_of E R; those = edges_same E R t.covers; tree = tree_of E R t.ordered (keeps_of E R t) }
+    { order = link_edges E R; those = edges_same E R t.covers; tree = tree_of E R t.ordered (keeps_of E R t) }
 
 -- an edge followed by the others with any join tree roots the others
 pub rooted_at : (F : List ℕ) (E : List (List ℕ)) → HasJoinTree (F ∷ E) → Rooted F E
@@ -52,7 +52,7 @@ pub record Linked (E : List (List ℕ)) (qs : List ℕ) : Type 0 where
 linked_places : (E : List (List ℕ)) (qs : List ℕ) (r : Linked E qs) (p : ℕ) → places p r.links ≡ times numbers p qs
 linked_places E qs r p = sym (times_spots p r.links) ∙ ap (λ (l : List ℕ). times numbers p l) r.stand
 
-linked_degrees : (E : List (List ℕ)) (qs : List ℕ) (r : Linked E qs) (x : ℕ) → degree x (edges_of E r.links)
+linked_degrees : (E : List (List ℕ)) (qs : List ℕ) (r : Linked E qs) (x : ℕ) → degree x (link_edges E r.links)
     ≡ degree x (map (λ p. edge_at E p) qs)
 linked_degrees E qs r x = ap (λ (L : List (List ℕ)). degree x L)
     (edges_map E r.links ∙ ap (λ (l : List ℕ). map (λ p. edge_at E p) l) r.stand)
@@ -77,8 +77,8 @@ any_place (k ∷ R) = (
 
 link_on : (E : List (List ℕ)) (k : Link) (qs : List ℕ) (r : Linked E qs) → times numbers k.edge qs ≡ 0
     → IsUnder k r.links
-    → ((x : ℕ) → 0 < has x (edge_at E k.edge) → 0 < degree x (map (λ p. edge_at E p) qs)
-    → 0 < has x (parent_edge E k r.links)) → Linked E (k.edge ∷ qs)
+    → ((x : ℕ) → 0 < has_bit x (edge_at E k.edge) → 0 < degree x (map (λ p. edge_at E p) qs)
+    → 0 < has_bit x (parent_edge E k r.links)) → Linked E (k.edge ∷ qs)
 link_on E k qs r fresh under keep =
     record {
       links = k ∷ r.links;
@@ -90,12 +90,14 @@ link_on E k qs r fresh under keep =
 -- the link on a position that has the label f
 link_to : (E : List (List ℕ)) (p q : ℕ) (qs : List ℕ) (r : Linked E qs) (f : List ℕ) → times numbers p qs ≡ 0
     → 0 < times numbers q qs → f ≡ edge_at E q
-    → ((x : ℕ) → 0 < has x (edge_at E p) → 0 < degree x (map (λ p. edge_at E p) qs) → 0 < has x f) → Linked E (p ∷ qs)
+    → ((x : ℕ) → 0 < has_bit x (edge_at E p) → 0 < degree x (map (λ p. edge_at E p) qs) → 0 < has_bit x f)
+    → Linked E (p ∷ qs)
 link_to E p q qs r f fresh stands is keep =
     let k : Link = record { edge = p; parent = q } in
     let s : 0 < places q r.links = let w = linked_places E qs r q in omega arith in
     link_on E k qs r fresh (under_from k r.links (inr s)) (λ x within below.
-    let w : has x f ≡ has x (parent_edge E k r.links) = ap (λ (z : List ℕ). has x z) (is ∙ sym (over_is E k r.links s))
+    let w : has_bit x f
+    ≡ has_bit x (parent_edge E k r.links) = ap (λ (z : List ℕ). has_bit x z) (is ∙ sym (over_is E k r.links s))
     in
     let m = keep x within below in
     omega arith)
@@ -116,7 +118,7 @@ link_up E (p ∷ ps) once t =
           let a = any_place r.links in
           let k : Link = record { edge = p; parent = a.0 } in
           link_on E k ps r fresh (under_from k r.links a.1) (λ x within below.
-          let s : has x t.0 ≡ 0 = ap (λ (z : List ℕ). has x z) none in
+          let s : has_bit x t.0 ≡ 0 = ap (λ (z : List ℕ). has_bit x z) none in
           let m = t.1.keeps x within (omega arith) in
           absurd (omega arith))
     ]

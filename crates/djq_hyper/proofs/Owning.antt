@@ -10,7 +10,7 @@ use Rattle.std.proofs.lemmas.List.Elements.{All-filter}
 use Rattle.djq_hyper.specs.Hypergraph.{member, subset, one, degree, difference, intersection, edge_at}
 use Rattle.djq_hyper.specs.Variables.{AreCovered, AreNamed, IsVariableSet, AreVariableSets}
 use Rattle.djq_hyper.specs.declared.var_set.TheConstants.{VARIABLES}
-use Rattle.djq_hyper.proofs.Members.{has, has_here, has_tail, one_le, one_true}
+use Rattle.djq_hyper.proofs.Members.{has_bit, has_here, has_tail, one_le, one_true}
 use Rattle.djq_hyper.proofs.Members.{from_true, same_one, one_and, has_difference, has_intersection}
 use Rattle.djq_hyper.proofs.Members.{subset_says, subset_from}
 use Rattle.djq_hyper.proofs.Counting.{degree_append}
@@ -40,7 +40,7 @@ own_test false false r n d e f =
     same_one r (n == 1) (rw (ne_eqb n 1 other) (omega arith))
 
 pub degree_more : (x : ℕ) (E : List (List ℕ)) (i : ℕ) → i < length E → degree x (take (i + 1) E)
-    ≡ degree x (take i E) + has x (edge_at E i)
+    ≡ degree x (take i E) + has_bit x (edge_at E i)
 degree_more x E i within = ap (λ (L : List (List ℕ)). degree x L) (take_more E i [] within)
     ∙ omega (arith, degree_append x (take i E) (edge_at E i ∷ []))
 
@@ -50,7 +50,7 @@ pub once_more : (E : List (List ℕ)) (i : ℕ) (e old new : List ℕ) → i < l
     → ((x : ℕ) → member x new ≡ (member x old || member x e)) → (x : ℕ) → member x new
     ≡ nat_lt 0 (degree x (take (i + 1) E))
 once_more E i e old new within is saw union x =
-    let here : has x e ≡ has x (edge_at E i) = ap (λ (l : List ℕ). has x l) is in
+    let here : has_bit x e ≡ has_bit x (edge_at E i) = ap (λ (l : List ℕ). has_bit x l) is in
     union x ∙ once_step (member x old) (member x e) (degree x (take i E)) (degree x (take (i + 1) E)) (saw x)
     (omega (arith, degree_more x E i within))
 
@@ -60,7 +60,7 @@ pub twice_more : (E : List (List ℕ)) (i : ℕ) (e once both old new : List ℕ
     → ((x : ℕ) → member x new ≡ (member x old || member x both)) → (x : ℕ) → member x new
     ≡ nat_lt 1 (degree x (take (i + 1) E))
 twice_more E i e once both old new within is saw saw_twice shared union x =
-    let here : has x e ≡ has x (edge_at E i) = ap (λ (l : List ℕ). has x l) is in
+    let here : has_bit x e ≡ has_bit x (edge_at E i) = ap (λ (l : List ℕ). has_bit x l) is in
     let in_both : member x both ≡ (member x once && member x e) =
     ap (λ (l : List ℕ). member x l) shared
     ∙ same_one (member x (intersection once e)) (member x once && member x e)
@@ -75,14 +75,14 @@ pub own_variables_of : (E : List (List ℕ)) (i : ℕ) (once twice own : List �
     → own ≡ difference once twice → (x : ℕ) → member x own ≡ (degree x E == 1)
 own_variables_of E i once twice own all saw saw_twice is x =
     let whole : degree x (take i E) ≡ degree x E = ap (λ (L : List (List ℕ)). degree x L) (take_all i E all) in
-    let r : has x own ≡ min (has x once) (1 - has x twice) = ap (λ (l : List ℕ). has x l) is
+    let r : has_bit x own ≡ min (has_bit x once) (1 - has_bit x twice) = ap (λ (l : List ℕ). has_bit x l) is
     ∙ has_difference x once twice in
     own_test (member x once) (member x twice) (member x own) (degree x (take i E)) (saw x) (saw_twice x) r
     ∙ ap (λ (n : ℕ). n == 1) whole
 
 -- ---- the variables that lie in an edge
 
-pub edge_in : (E : List (List ℕ)) (p x : ℕ) → has x (edge_at E p) ≤ degree x E
+pub edge_in : (E : List (List ℕ)) (p x : ℕ) → has_bit x (edge_at E p) ≤ degree x E
 edge_in [] zero x = omega arith
 edge_in [] (suc p) x = omega arith
 edge_in (e ∷ E) zero x = omega arith
@@ -91,7 +91,7 @@ edge_in (e ∷ E) (suc p) x = let r = edge_in E p x in omega arith
 pub edge_with : (E : List (List ℕ)) (x : ℕ) → 0 < degree x E → (p : ℕ) × (member x (edge_at E p) ≡ true)
 edge_with [] x h = absurd (omega arith)
 edge_with (e ∷ E) x h =
-    elim (cases_lt 0 (has x e)) [
+    elim (cases_lt 0 (has_bit x e)) [
       | inl here ↦ (0, one_true (member x e) here)
       | inr other ↦ let r = edge_with E x (omega arith) in (suc r.0, r.1)
     ]
@@ -103,37 +103,38 @@ covered E F V r all is = (
       let s = subset_says F V (sym is ∙ holds) x in
       let f = from_true (member x F) h in
       ltb-true 0 (degree x E) (sym (all x) ∙ one_true (member x V) (omega arith)),
-  λ each. is ∙ subset_from F V (λ x. in_all x (cases_lt 0 (has x F)) (each x)),
+  λ each. is ∙ subset_from F V (λ x. in_all x (cases_lt 0 (has_bit x F)) (each x)),
 )
   where
-    in_all : (x : ℕ) → (0 < has x F) ⊎ (has x F ≤ 0) → (member x F ≡ true → 0 < degree x E) → has x F ≤ has x V
+    in_all : (x : ℕ) → (0 < has_bit x F) ⊎ (has_bit x F ≤ 0) → (member x F ≡ true → 0 < degree x E)
+        → has_bit x F ≤ has_bit x V
     in_all x (inl some) h = let d = h (one_true (member x F) some) in let o = one_le (member x F) in let t = from_true
         (member x V) (all x ∙ lt-ltb 0 (degree x E) d) in omega arith
     in_all x (inr none) h = omega arith
 
 -- what the names' test has found so far: a variable of the edges has a name or is left
 pub record Naming (names E : List (List ℕ)) (rest : List ℕ) : Type 0 where
-  pub named : (x : ℕ) → 0 < degree x E → (x < length names) ⊎ (0 < has x rest)
-  pub within : (x : ℕ) → 0 < has x rest → 0 < degree x E
+  pub named : (x : ℕ) → 0 < degree x E → (x < length names) ⊎ (0 < has_bit x rest)
+  pub within : (x : ℕ) → 0 < has_bit x rest → 0 < degree x E
 
 pub naming_done : (names E : List (List ℕ)) (rest : List ℕ) → Naming names E rest → rest ≡ [] → AreNamed names E
 naming_done names E rest n none p x h =
     let d = edge_in E p x in
     let f = from_true (member x (edge_at E p)) h in
     elim (n.named x (omega arith))
-    [ inl has_name ↦ has_name | inr left ↦ absurd (let e : has x rest ≡ 0 = ap (has x) none in omega arith) ]
+    [ inl has_name ↦ has_name | inr left ↦ absurd (let e : has_bit x rest ≡ 0 = ap (has_bit x) none in omega arith) ]
 
 pub unnamed : (names E : List (List ℕ)) (old new : List ℕ) (v : ℕ) → Naming names E old → old ≡ v ∷ new
     → length names ≤ v → AreNamed names E → ⊥
 unnamed names E old new v n is high all =
-    let e : has v old ≡ has v (v ∷ new) = ap (has v) is in
+    let e : has_bit v old ≡ has_bit v (v ∷ new) = ap (has_bit v) is in
     let h = has_here v v new refl in
     let p = edge_with E v (n.within v (omega arith)) in
     let q = all p.0 v p.1 in
     omega arith
 
 -- a set without a variable that isn't in it
-pub absent_stays : (v : ℕ) (l : List ℕ) → has v l ≡ 0 → l ≡ difference l (v ∷ [])
+pub absent_stays : (v : ℕ) (l : List ℕ) → has_bit v l ≡ 0 → l ≡ difference l (v ∷ [])
 absent_stays v [] h = refl
 absent_stays v (x ∷ l) h =
     elim (cases_eq x v) [

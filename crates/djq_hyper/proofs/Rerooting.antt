@@ -3,13 +3,13 @@ use Rattle.std.specs.Prelude.{◌≡◌, ℕ, ◌<◌, List, [], ◌∷◌, ◌+
 use Rattle.std.proofs.Common.{ap, arith, inl, inr}
 use Rattle.std.proofs.lemmas.Bool.{cases_lt}
 use Rattle.djq_hyper.specs.Hypergraph.{degree}
-use Rattle.djq_hyper.proofs.Members.{has}
+use Rattle.djq_hyper.proofs.Members.{has_bit}
 use Rattle.djq_hyper.proofs.Bags.{labels, two_heads, same_item, out_of, out_same, times_append}
 use Rattle.djq_hyper.proofs.Counting.{count, Same, count_self, degree_same, degree_append}
 use Rattle.djq_hyper.proofs.Rooting.{Tree, Rooted, hung_on}
 
 -- a tree below the empty root, below a root that shares no variable with it
-pub hang : (F : List ℕ) (L : List (List ℕ)) → Tree [] L → ((x : ℕ) → 0 < has x F → degree x L ≡ 0) → Tree F L
+pub hang : (F : List ℕ) (L : List (List ℕ)) → Tree [] L → ((x : ℕ) → 0 < has_bit x F → degree x L ≡ 0) → Tree F L
 hang F [] t apart = tt
 hang F (e ∷ L) t apart =
     let rest : Tree F L = hang F L t.2 (λ x within. let q = apart x within in omega arith) in
@@ -26,7 +26,7 @@ hang F (e ∷ L) t apart =
             record {
               stands = count_self F L;
               keeps = λ x within below.
-                  let s : has x t.0 ≡ 0 = ap (λ (z : List ℕ). has x z) none in
+                  let s : has_bit x t.0 ≡ 0 = ap (λ (z : List ℕ). has_bit x z) none in
                   grind (arith, apart x, t.1.keeps x);
             },
             rest,
@@ -35,7 +35,7 @@ hang F (e ∷ L) t apart =
 
 -- the root becomes a label below a new one
 pub appended : (F f : List ℕ) (L : List (List ℕ)) → Tree f L
-    → ((x : ℕ) → 0 < has x F → 0 < degree x (f ∷ L) → 0 < has x f) → Tree F (L ++ f ∷ [])
+    → ((x : ℕ) → 0 < has_bit x F → 0 < degree x (f ∷ L) → 0 < has_bit x f) → Tree F (L ++ f ∷ [])
 appended F f [] t shared = (F, record { stands = count_self F []; keeps = λ x within below. omega arith }, tt)
 appended F f (e ∷ L) t shared =
     let rest : Tree F (L ++ f ∷ []) = appended F f L t.2 (λ x within below. shared x within (omega arith)) in (
@@ -55,7 +55,7 @@ reroot (g ∷ L) F E t h =
     elim (two_heads labels g F L E h) [
       | inl p ↦
           let those : Same L E = p.1 in
-          let g_F = λ (x : ℕ). ap (λ (z : List ℕ). has x z) p.0 in
+          let g_F = λ (x : ℕ). ap (λ (z : List ℕ). has_bit x z) p.0 in
           elim (cases_lt 0 (count t.0 L)) [
             | inl c ↦
                 let out = out_same labels t.0 L c in
@@ -81,7 +81,7 @@ reroot (g ∷ L) F E t h =
                   order = L;
                   those = those;
                   tree = hang F L t.2 (λ x within.
-                      let s : has x t.0 ≡ 0 = ap (λ (z : List ℕ). has x z) none in
+                      let s : has_bit x t.0 ≡ 0 = ap (λ (z : List ℕ). has_bit x z) none in
                       let p3 = g_F x in
                       grind (arith, t.1.keeps x));
                 }
@@ -98,7 +98,7 @@ reroot (g ∷ L) F E t h =
                 let none : t.0 ≡ [] = same_item labels t.0 [] (omega arith) in
                 hung_on F g F E n.rest r n.right (count_self F n.rest)
                 (λ x within below.
-                let s : has x t.0 ≡ 0 = ap (λ (z : List ℕ). has x z) none in
+                let s : has_bit x t.0 ≡ 0 = ap (λ (z : List ℕ). has_bit x z) none in
                 let j = lies x in
                 let m = t.1.keeps x within (omega arith) in
                 omega arith)

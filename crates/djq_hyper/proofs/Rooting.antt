@@ -4,14 +4,14 @@ use Rattle.std.specs.Prelude.{◌≡◌, ◌⊎◌, ℕ, ◌<◌, true, List, []
 use Rattle.std.proofs.Common.{sym, ap, ◌∙◌, arith, inl, inr}
 use Rattle.std.proofs.lemmas.Bool.{cases_Bool, cases_lt}
 use Rattle.djq_hyper.specs.Hypergraph.{member, subset, difference, degree}
-use Rattle.djq_hyper.proofs.Members.{has, Sub, one_le, subset_says, has_difference}
+use Rattle.djq_hyper.proofs.Members.{has_bit, Sub, one_le, subset_says, has_difference}
 use Rattle.djq_hyper.proofs.Bags.{labels, two_heads, same_item}
 use Rattle.djq_hyper.proofs.Counting.{count, Same, count_self, degree_same, outside}
 
 -- e may hang on f: f is the root or among the labels, and has what e shares with them
 pub record Hangs (F : List ℕ) (L : List (List ℕ)) (e f : List ℕ) : Type 0 where
   pub stands : 0 < count f (F ∷ L)
-  pub keeps : (x : ℕ) → 0 < has x e → 0 < degree x (F ∷ L) → 0 < has x f
+  pub keeps : (x : ℕ) → 0 < has_bit x e → 0 < degree x (F ∷ L) → 0 < has_bit x f
 
 -- each label hangs on the root or on one behind it
 abbrev pub Tree : List ℕ → List (List ℕ) → Type 0
@@ -30,7 +30,7 @@ rooted_same F E D h r = record
 
 -- one more label is hung on
 pub hung_on : (F g f : List ℕ) (E N : List (List ℕ)) → Rooted F N → Same E (g ∷ N) → 0 < count f (F ∷ N)
-    → ((x : ℕ) → 0 < has x g → 0 < degree x (F ∷ N) → 0 < has x f) → Rooted F E
+    → ((x : ℕ) → 0 < has_bit x g → 0 < degree x (F ∷ N) → 0 < has_bit x f) → Rooted F E
 hung_on F g f E N r here stands keep =
     record {
       order = g ∷ r.order;
@@ -54,7 +54,7 @@ all_plugged F (e ∷ L) h =
 
 -- a label gives way to one with the same of the others' variables
 pub replaced : (F : List ℕ) (L : List (List ℕ)) (e : List ℕ) (E : List (List ℕ)) (g : List ℕ) → Tree F L
-    → Same L (e ∷ E) → ((x : ℕ) → 0 < degree x (F ∷ E) → has x e ≡ has x g) → Rooted F (g ∷ E)
+    → Same L (e ∷ E) → ((x : ℕ) → 0 < degree x (F ∷ E) → has_bit x e ≡ has_bit x g) → Rooted F (g ∷ E)
 replaced F [] e E g t h agree = absurd (omega (arith, h e, count_self e E))
 replaced F (a ∷ L) e E g t h agree =
     elim (two_heads labels a e L E h) [
@@ -64,7 +64,7 @@ replaced F (a ∷ L) e E g t h agree =
           hung_on F g t.0 (g ∷ E) E rest (λ d. refl) (let s = those t.0 in let w = t.1.stands in omega arith)
           (λ x within below.
           let q = agree x below in
-          let w : has x a ≡ has x e = ap (λ (z : List ℕ). has x z) p.0 in
+          let w : has_bit x a ≡ has_bit x e = ap (λ (z : List ℕ). has_bit x z) p.0 in
           let j = degree_same x L E those in
           t.1.keeps x (omega arith) (omega arith))
       | inr n ↦
@@ -90,7 +90,7 @@ replaced F (a ∷ L) e E g t h agree =
                 let j = lies x in
                 let k = lies_left x in
                 let q = agree x (omega arith) in
-                let s : has x t.0 ≡ has x e = ap (λ (z : List ℕ). has x z) same in
+                let s : has_bit x t.0 ≡ has_bit x e = ap (λ (z : List ℕ). has_bit x z) same in
                 let m = t.1.keeps x within (omega arith) in
                 omega arith)
           ]
@@ -118,7 +118,7 @@ deleted F (a ∷ L) e E g t h inside there =
                       hung_on F a g E n.rest r n.right c
                       (λ x within below.
                       let j = lies x in
-                      let s : has x t.0 ≡ has x e = ap (λ (z : List ℕ). has x z) same in
+                      let s : has_bit x t.0 ≡ has_bit x e = ap (λ (z : List ℕ). has_bit x z) same in
                       let m = t.1.keeps x within (omega arith) in
                       let i = inside x in
                       omega arith)
@@ -129,7 +129,7 @@ deleted F (a ∷ L) e E g t h inside there =
                 let e_f : Sub e t.0 =
                 λ x.
                 let k = lies x in
-                let s : has x g ≡ has x a = ap (λ (z : List ℕ). has x z) g_a in
+                let s : has_bit x g ≡ has_bit x a = ap (λ (z : List ℕ). has_bit x z) g_a in
                 let i = inside x in
                 grind (arith, t.1.keeps x, one_le (member x e)) in
                 elim (cases_lt 0 (count t.0 (F ∷ n.rest))) [
@@ -144,8 +144,8 @@ deleted F (a ∷ L) e E g t h inside there =
                       (replaced F L e n.rest a t.2 n.left
                       (λ x below.
                       let k = lies x in
-                      let s : has x t.0 ≡ has x e = ap (λ (z : List ℕ). has x z) same in
-                      let s' : has x g ≡ has x a = ap (λ (z : List ℕ). has x z) g_a in
+                      let s : has_bit x t.0 ≡ has_bit x e = ap (λ (z : List ℕ). has_bit x z) same in
+                      let s' : has_bit x g ≡ has_bit x a = ap (λ (z : List ℕ). has_bit x z) g_a in
                       let i = inside x in
                       grind (arith, t.1.keeps x, one_le (member x a), one_le (member x e))))
                 ]
@@ -158,7 +158,7 @@ pub record Own (F : List ℕ) (E : List (List ℕ)) : Type 0 where
   pub rest : List (List ℕ)
   pub var : ℕ
   pub here : Same E (label ∷ rest)
-  pub within : 0 < has var label
+  pub within : 0 < has_bit var label
   pub alone : degree var (F ∷ rest) ≡ 0
 
 -- a label lies within another one
@@ -184,7 +184,8 @@ progress F (e ∷ L) t =
                   | inl c ↦ all a c
                   | inr c ↦
                       let same : a ≡ e = same_item labels a e (omega arith) in
-                      λ x. let s : has x a ≡ has x e = ap (λ (z : List ℕ). has x z) same in let q = e_F x in omega arith
+                      λ x. let s : has_bit x a
+                      ≡ has_bit x e = ap (λ (z : List ℕ). has_bit x z) same in let q = e_F x in omega arith
                 ])
             | inr step ↦
                 elim step [
@@ -244,13 +245,14 @@ progress F (e ∷ L) t =
 
 -- ---- the steps, both ways
 
-pub trimmed : (F e X : List ℕ) (N : List (List ℕ)) → ((x : ℕ) → 0 < has x X → degree x (F ∷ N) ≡ 0) → Rooted F (e ∷ N)
+pub trimmed : (F e X : List ℕ) (N : List (List ℕ)) → ((x : ℕ) → 0 < has_bit x X → degree x (F ∷ N) ≡ 0)
+    → Rooted F (e ∷ N)
     → Rooted F (difference e X ∷ N)
 trimmed F e X N own r =
     replaced F r.order e N (difference e X) r.tree r.those
     (λ x below. let w = has_difference x e X in grind (arith, own x, one_le (member x e)))
 
-pub untrimmed : (F e X : List ℕ) (N : List (List ℕ)) → ((x : ℕ) → 0 < has x X → degree x (F ∷ N) ≡ 0)
+pub untrimmed : (F e X : List ℕ) (N : List (List ℕ)) → ((x : ℕ) → 0 < has_bit x X → degree x (F ∷ N) ≡ 0)
     → Rooted F (difference e X ∷ N) → Rooted F (e ∷ N)
 untrimmed F e X N own r =
     replaced F r.order (difference e X) N e r.tree r.those

@@ -19,20 +19,20 @@ use Rattle.std.proofs.lemmas.Nat.Bits.{bit_at-trailing_zeros, bit_at_set_same, b
 use Rattle.std.proofs.lemmas.Nat.Bits.{bit_at_clear_same, bit_at_clear_other}
 use Rattle.djq_hyper.specs.Hypergraph.{member, subset, difference, intersection, one}
 use Rattle.djq_hyper.specs.declared.var_set.TheConstants.{VARIABLES}
-use Rattle.djq_hyper.specs.Masks.{variables_of, has_variables, has}
+use Rattle.djq_hyper.specs.Masks.{mask_variables, has_variables, has_bit}
 use Rattle.djq_hyper.proofs.Members.{same_one, one_false, subset_from, subset_says, has_here, has_other}
 
 -- ---- no variable
 
-pub none_of : (n : ℕ) → n ≡ 0 → variables_of n ≡ []
-unfolding variables_of
+pub none_of : (n : ℕ) → n ≡ 0 → mask_variables n ≡ []
+unfolding mask_variables
 none_of n e = rw e refl
 
-length_none : (l : List ℕ) → length l ≡ 0 → (x : ℕ) → has x l ≡ 0
+length_none : (l : List ℕ) → length l ≡ 0 → (x : ℕ) → has_bit x l ≡ 0
 length_none [] h x = refl
 length_none (y ∷ l) h x = absurd (omega arith)
 
-pub word_empty : (n : ℕ) (l : List ℕ) → variables_of n ≡ l → n < 2 ^ VARIABLES → nat_eq n 0 ≡ (length l == 0)
+pub word_empty : (n : ℕ) (l : List ℕ) → mask_variables n ≡ l → n < 2 ^ VARIABLES → nat_eq n 0 ≡ (length l == 0)
 word_empty n l e fits =
     elim (cases_eq n 0) [
       | inl z ↦ rw (eq-eqb n 0 z, ← e, none_of n z) refl
@@ -40,7 +40,7 @@ word_empty n l e fits =
           elim (cases_eq (length l) 0) [
             | inl none ↦
                 absurd (some (same_from_bits n 0
-                (λ x. sym (has_variables x n fits) ∙ ap (λ k. has x k) e ∙ length_none l none x
+                (λ x. sym (has_variables x n fits) ∙ ap (λ k. has_bit x k) e ∙ length_none l none x
                 ∙ sym (bit_at-zero x))))
             | inr more ↦ rw (ne_eqb n 0 some, ne_eqb (length l) 0 more) refl
           ]
@@ -52,25 +52,25 @@ bit_test : (d : ℕ) (b : Bool) → one b ≡ d → (d == 1) ≡ b
 bit_test d true e = rw (← e) refl
 bit_test d false e = rw (← e) refl
 
-pub word_member : (n x : ℕ) (l : List ℕ) → variables_of n ≡ l → n < 2 ^ VARIABLES → nat_eq (bit_and (n / 2 ^ x) 1) 1
+pub word_member : (n x : ℕ) (l : List ℕ) → mask_variables n ≡ l → n < 2 ^ VARIABLES → nat_eq (bit_and (n / 2 ^ x) 1) 1
     ≡ member x l
 word_member n x l e fits =
-    let h : one (member x l) ≡ bit_at n x = ap (λ k. has x k) (sym e) ∙ has_variables x n fits in
+    let h : one (member x l) ≡ bit_at n x = ap (λ k. has_bit x k) (sym e) ∙ has_variables x n fits in
     rw (shr_and_one n x) (bit_test (bit_at n x) (member x l) h)
 
-pub word_above : (n x : ℕ) (l : List ℕ) → variables_of n ≡ l → n < 2 ^ VARIABLES → VARIABLES ≤ x → nat_lt x VARIABLES
+pub word_above : (n x : ℕ) (l : List ℕ) → mask_variables n ≡ l → n < 2 ^ VARIABLES → VARIABLES ≤ x → nat_lt x VARIABLES
     ≡ member x l
 word_above n x l e fits above =
-    let h : one (member x l) ≡ bit_at n x = ap (λ k. has x k) (sym e) ∙ has_variables x n fits in
+    let h : one (member x l) ≡ bit_at n x = ap (λ k. has_bit x k) (sym e) ∙ has_variables x n fits in
     rw (le-ltb x VARIABLES above) (sym (one_false (member x l) (h ∙ bit_at_above n VARIABLES x fits above)))
 
 -- ---- containment
 
-pub word_subset : (m n : ℕ) (a b : List ℕ) → variables_of m ≡ a → variables_of n ≡ b → m < 2 ^ VARIABLES
+pub word_subset : (m n : ℕ) (a b : List ℕ) → mask_variables m ≡ a → mask_variables n ≡ b → m < 2 ^ VARIABLES
     → n < 2 ^ VARIABLES → nat_eq (bit_and m n) m ≡ subset a b
 word_subset m n a b e f fits_m fits_n =
-    let of_a = λ (x : ℕ). sym (ap (λ k. has x k) e) ∙ has_variables x m fits_m in
-    let of_b = λ (x : ℕ). sym (ap (λ k. has x k) f) ∙ has_variables x n fits_n in
+    let of_a = λ (x : ℕ). sym (ap (λ k. has_bit x k) e) ∙ has_variables x m fits_m in
+    let of_b = λ (x : ℕ). sym (ap (λ k. has_bit x k) f) ∙ has_variables x n fits_n in
     elim (cases_eq (bit_and m n) m) [
       | inl same ↦
           let s : subset a b ≡ true = subset_from a b
@@ -111,23 +111,24 @@ intersection_bit (suc zero) c d false low f g = let k : d ≡ 0 = omega arith in
 intersection_bit (suc (suc b)) c d e low f g = absurd (omega arith)
 
 -- k is m without the variables of b
-difference_word : (k m : ℕ) (b : List ℕ) → ((x : ℕ) → x < VARIABLES → bit_at k x ≡ min (bit_at m x) (1 - has x b))
-    → variables_of k ≡ difference (variables_of m) b
-unfolding variables_of
+difference_word : (k m : ℕ) (b : List ℕ) → ((x : ℕ) → x < VARIABLES → bit_at k x ≡ min (bit_at m x) (1 - has_bit x b))
+    → mask_variables k ≡ difference (mask_variables m) b
+unfolding mask_variables
 difference_word k m b h =
     filter_twice (λ x. not (member x b)) (λ x. bit_at m x == 1) (λ x. bit_at k x == 1) 0 VARIABLES
-    (λ x low. difference_bit (bit_at m x) (has x b) (bit_at k x) (member x b) (bit_at-lt m x) refl (h x (omega arith)))
-
-intersection_word : (k m : ℕ) (b : List ℕ) → ((x : ℕ) → x < VARIABLES → bit_at k x ≡ min (bit_at m x) (has x b))
-    → variables_of k ≡ intersection (variables_of m) b
-unfolding variables_of
-intersection_word k m b h =
-    filter_twice (λ x. member x b) (λ x. bit_at m x == 1) (λ x. bit_at k x == 1) 0 VARIABLES
-    (λ x low. intersection_bit (bit_at m x) (has x b) (bit_at k x) (member x b) (bit_at-lt m x) refl
+    (λ x low. difference_bit (bit_at m x) (has_bit x b) (bit_at k x) (member x b) (bit_at-lt m x) refl
     (h x (omega arith)))
 
-pub word_difference : (m n : ℕ) (a b : List ℕ) → variables_of m ≡ a → variables_of n ≡ b → m < 2 ^ VARIABLES
-    → n < 2 ^ VARIABLES → variables_of (bit_and m (2 ^ VARIABLES - 1 - n)) ≡ difference a b
+intersection_word : (k m : ℕ) (b : List ℕ) → ((x : ℕ) → x < VARIABLES → bit_at k x ≡ min (bit_at m x) (has_bit x b))
+    → mask_variables k ≡ intersection (mask_variables m) b
+unfolding mask_variables
+intersection_word k m b h =
+    filter_twice (λ x. member x b) (λ x. bit_at m x == 1) (λ x. bit_at k x == 1) 0 VARIABLES
+    (λ x low. intersection_bit (bit_at m x) (has_bit x b) (bit_at k x) (member x b) (bit_at-lt m x) refl
+    (h x (omega arith)))
+
+pub word_difference : (m n : ℕ) (a b : List ℕ) → mask_variables m ≡ a → mask_variables n ≡ b → m < 2 ^ VARIABLES
+    → n < 2 ^ VARIABLES → mask_variables (bit_and m (2 ^ VARIABLES - 1 - n)) ≡ difference a b
 word_difference m n a b e f fits_m fits_n =
     rw (← e) (difference_word (bit_and m (2 ^ VARIABLES - 1 - n)) m b
     (λ x low. omega (
@@ -135,17 +136,17 @@ word_difference m n a b e f fits_m fits_n =
       bit_at_and m (2 ^ VARIABLES - 1 - n) x,
       bit_at_not word n x fits_n low,
       sym
-          (ap (λ k. has x k) f) ∙ has_variables x n fits_n,
+          (ap (λ k. has_bit x k) f) ∙ has_variables x n fits_n,
     )))
 
-pub word_intersection : (m n : ℕ) (a b : List ℕ) → variables_of m ≡ a → variables_of n ≡ b → m < 2 ^ VARIABLES
-    → n < 2 ^ VARIABLES → variables_of (bit_and m n) ≡ intersection a b
+pub word_intersection : (m n : ℕ) (a b : List ℕ) → mask_variables m ≡ a → mask_variables n ≡ b → m < 2 ^ VARIABLES
+    → n < 2 ^ VARIABLES → mask_variables (bit_and m n) ≡ intersection a b
 word_intersection m n a b e f fits_m fits_n =
     rw (← e) (intersection_word (bit_and m n) m b
-    (λ x low. omega (arith, bit_at_and m n x, sym (ap (λ k. has x k) f) ∙ has_variables x n fits_n)))
+    (λ x low. omega (arith, bit_at_and m n x, sym (ap (λ k. has_bit x k) f) ∙ has_variables x n fits_n)))
 
-pub word_without : (m v : ℕ) (a : List ℕ) → variables_of m ≡ a → m < 2 ^ VARIABLES → v < VARIABLES
-    → variables_of (bit_and m (2 ^ VARIABLES - 1 - 1 * 2 ^ v % 2 ^ VARIABLES)) ≡ difference a (v ∷ [])
+pub word_without : (m v : ℕ) (a : List ℕ) → mask_variables m ≡ a → m < 2 ^ VARIABLES → v < VARIABLES
+    → mask_variables (bit_and m (2 ^ VARIABLES - 1 - 1 * 2 ^ v % 2 ^ VARIABLES)) ≡ difference a (v ∷ [])
 word_without m v a e fits within =
     rw (← e) (difference_word (bit_and m (2 ^ VARIABLES - 1 - 1 * 2 ^ v % 2 ^ VARIABLES)) m (v ∷ [])
     (λ x low.
@@ -168,26 +169,26 @@ or_test true false c h = same_one c true h
 or_test false true c h = same_one c true h
 or_test false false c h = same_one c false h
 
-pub word_union : (m n : ℕ) (a b : List ℕ) → variables_of m ≡ a → variables_of n ≡ b → m < 2 ^ VARIABLES
-    → n < 2 ^ VARIABLES → (x : ℕ) → member x (variables_of (bit_or m n)) ≡ (member x a || member x b)
+pub word_union : (m n : ℕ) (a b : List ℕ) → mask_variables m ≡ a → mask_variables n ≡ b → m < 2 ^ VARIABLES
+    → n < 2 ^ VARIABLES → (x : ℕ) → member x (mask_variables (bit_or m n)) ≡ (member x a || member x b)
 word_union m n a b e f fits_m fits_n x =
-    or_test (member x a) (member x b) (member x (variables_of (bit_or m n)))
+    or_test (member x a) (member x b) (member x (mask_variables (bit_or m n)))
     (omega (
       arith,
       has_variables x (bit_or m n) (word_fits m n fits_m fits_n),
       bit_at_or m n x,
       sym
-          (ap (λ k. has x k) e) ∙ has_variables x m fits_m,
-      sym (ap (λ k. has x k) f) ∙ has_variables x n fits_n,
+          (ap (λ k. has_bit x k) e) ∙ has_variables x m fits_m,
+      sym (ap (λ k. has_bit x k) f) ∙ has_variables x n fits_n,
     ))
 
-pub word_insert : (m v : ℕ) (a : List ℕ) → variables_of m ≡ a → m < 2 ^ VARIABLES → v < VARIABLES → (x : ℕ)
-    → member x (variables_of (bit_or m (1 * 2 ^ v % 2 ^ VARIABLES))) ≡ ((x == v) || member x a)
+pub word_insert : (m v : ℕ) (a : List ℕ) → mask_variables m ≡ a → m < 2 ^ VARIABLES → v < VARIABLES → (x : ℕ)
+    → member x (mask_variables (bit_or m (1 * 2 ^ v % 2 ^ VARIABLES))) ≡ ((x == v) || member x a)
 word_insert m v a e fits within x =
     let k = bit_or m (1 * 2 ^ v % 2 ^ VARIABLES) in
-    let of_k : has x (variables_of k) ≡ bit_at k x = has_variables x k (word_insert_fits m v fits) in
-    let of_a : has x a ≡ bit_at m x = sym (ap (λ l. has x l) e) ∙ has_variables x m fits in
-    same_one (member x (variables_of k)) (member x (v ∷ a))
+    let of_k : has_bit x (mask_variables k) ≡ bit_at k x = has_variables x k (word_insert_fits m v fits) in
+    let of_a : has_bit x a ≡ bit_at m x = sym (ap (λ l. has_bit x l) e) ∙ has_variables x m fits in
+    same_one (member x (mask_variables k)) (member x (v ∷ a))
     (elim (cases_eq x v) [
       | inl same ↦
           let b : bit_at k x ≡ 1 = rw same (bit_at_set_same word m v within) in
@@ -219,8 +220,8 @@ count_from (suc d) a m n e fits =
           (bit_at-lt n a),
     )
 
-pub word_length : (n : ℕ) (l : List ℕ) → variables_of n ≡ l → n < 2 ^ VARIABLES → ones n ≡ length l
-unfolding variables_of
+pub word_length : (n : ℕ) (l : List ℕ) → mask_variables n ≡ l → n < 2 ^ VARIABLES → ones n ≡ length l
+unfolding mask_variables
 word_length n l e fits = count_from VARIABLES 0 n n (sym (div-one n)) fits ∙ ap length e
 
 -- a filter of a range that begins with k numbers that don't pass
@@ -244,8 +245,8 @@ filter_alike p q a (suc n) h = rw (h a (omega arith), filter_alike p q (a + 1) n
 -- the lowest variable t, and the word k without it
 split_at_lowest : (n k t : ℕ) → t < VARIABLES → bit_at n t ≡ 1 → ((x : ℕ) → x < t → bit_at n x ≡ 0) → bit_at k t ≡ 0
     → ((x : ℕ) → x < VARIABLES → x ≢ t → bit_at k x ≡ bit_at n x) → n < 2 ^ VARIABLES → k < 2 ^ VARIABLES
-    → variables_of n ≡ t ∷ variables_of k
-unfolding variables_of
+    → mask_variables n ≡ t ∷ mask_variables k
+unfolding mask_variables
 split_at_lowest n k t within here below gone others fits_n fits_k =
     let p : ℕ → Bool = λ x. bit_at n x == 1 in
     let q : ℕ → Bool = λ x. bit_at k x == 1 in
@@ -281,8 +282,9 @@ split_at_lowest n k t within here below gone others fits_n fits_k =
         (filter_alike (λ x. bit_at n x == 1) (λ x. bit_at k x == 1) (t + 1) (VARIABLES - 1 - t)
         (λ x i. ap (λ (d : ℕ). d == 1) (bits_same x i))))
 
-pub word_split : (n t : ℕ) (l : List ℕ) → variables_of n ≡ l → n < 2 ^ VARIABLES → 0 < n → t ≡ trailing_zeros word n → l
-    ≡ t ∷ variables_of (bit_and n (2 ^ VARIABLES - 1 - 1 * 2 ^ t % 2 ^ VARIABLES))
+pub word_split : (n t : ℕ) (l : List ℕ) → mask_variables n ≡ l → n < 2 ^ VARIABLES → 0 < n
+    → t ≡ trailing_zeros word n → l
+    ≡ t ∷ mask_variables (bit_and n (2 ^ VARIABLES - 1 - 1 * 2 ^ t % 2 ^ VARIABLES))
 word_split n t l e fits some is =
     let lowest = bit_at-trailing_zeros word n some fits in
     let within : t < VARIABLES = rw is lowest.0 in
@@ -291,11 +293,11 @@ word_split n t l e fits some is =
     (bit_at_clear_same word n t within) (bit_at_clear_other word n t within) fits
     (lt_of_le_of_lt (and_le_l n (2 ^ VARIABLES - 1 - 1 * 2 ^ t % 2 ^ VARIABLES)) fits)
 
-pub word_first : (n t : ℕ) (l : List ℕ) → variables_of n ≡ l → n < 2 ^ VARIABLES → 0 < n → t ≡ trailing_zeros word n
+pub word_first : (n t : ℕ) (l : List ℕ) → mask_variables n ≡ l → n < 2 ^ VARIABLES → 0 < n → t ≡ trailing_zeros word n
     → Some t ≡ slice_get l 0
 word_first n t l e fits some is = rw (word_split n t l e fits some is) refl
 
-pub word_none : (n : ℕ) (l : List ℕ) → variables_of n ≡ l → n ≡ 0 → l ≡ []
+pub word_none : (n : ℕ) (l : List ℕ) → mask_variables n ≡ l → n ≡ 0 → l ≡ []
 word_none n l e none = sym e ∙ none_of n none
 
 -- ---- rising order
@@ -310,13 +312,13 @@ range_below a n b low k d within =
     let l = length-range_with_len a n in
     omega (arith, get_or-range_with_len a n k d (omega arith))
 
-pub word_rises : (n : ℕ) (l : List ℕ) → variables_of n ≡ l → IsStrictlyIncreasing l
-unfolding variables_of
+pub word_rises : (n : ℕ) (l : List ℕ) → mask_variables n ≡ l → IsStrictlyIncreasing l
+unfolding mask_variables
 word_rises n l e = rw (← e)
     (IsStrictlyIncreasing-filter (λ x. bit_at n x == 1) (range_with_len 0 VARIABLES) (range_rises 0 VARIABLES))
 
-pub word_below : (n : ℕ) (l : List ℕ) → variables_of n ≡ l → All (λ x. x < VARIABLES) l
-unfolding variables_of
+pub word_below : (n : ℕ) (l : List ℕ) → mask_variables n ≡ l → All (λ x. x < VARIABLES) l
+unfolding mask_variables
 word_below n l e = rw (← e)
     (All-filter (λ x. bit_at n x == 1) (λ x. x < VARIABLES) (range_with_len 0 VARIABLES)
     (range_below 0 VARIABLES VARIABLES (omega arith)))

@@ -2,12 +2,12 @@
 use Rattle.std.specs.Prelude.{◌≡◌, ℕ, ◌<◌, List, length}
 use Rattle.djq_hyper.specs.declared.join_tree.Link.{Link}
 use Rattle.djq_hyper.specs.Hypergraph.{member, one, degree, edge_at}
-use Rattle.djq_hyper.specs.JoinTree.{places, edges_of}
+use Rattle.djq_hyper.specs.JoinTree.{places, link_edges}
 
 -- the link's edge is a new one, its parent stands before it, and has what the edge shares with those before
-pub record Fits (E : List (List ℕ)) (before : List Link) (k : Link) : Type 0 where
+pub record FitsTree (E : List (List ℕ)) (before : List Link) (k : Link) : Type 0 where
   pub below : k.edge < length E
   pub fresh : places k.edge before ≡ 0
   pub under : 0 < length before → 0 < places k.parent before
-  pub keeps : 0 < length before → (x : ℕ) → 0 < one (member x (edge_at E k.edge)) → 0 < degree x (edges_of E before)
+  pub keeps : 0 < length before → (x : ℕ) → 0 < one (member x (edge_at E k.edge)) → 0 < degree x (link_edges E before)
       → 0 < one (member x (edge_at E k.parent))

@@ -24,8 +24,8 @@ abbrev pub IsIrreducible : List (List ℕ) → Type 0
 IsIrreducible E = (s : Step) → IsStep E s → ⊥
 
 -- no edge has a variable
-abbrev pub IsBare : List (List ℕ) → Type 0
-IsBare E = (x : ℕ) → degree x E ≡ 0
+abbrev pub HasNoVariables : List (List ℕ) → Type 0
+HasNoVariables E = (x : ℕ) → degree x E ≡ 0
 
 -- R has no empty edge, no two equal ones, and no variable that lies in no edge of E
 pub record IsLean (E R : List (List ℕ)) : Type 0 where

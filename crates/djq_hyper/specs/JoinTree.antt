@@ -11,9 +11,9 @@ places p [] = 0
 places p (k ∷ R) = one (p == k.edge) + places p R
 
 -- the edges that the links stand for
-abbrev pub edges_of : List (List ℕ) → List Link → List (List ℕ)
-edges_of E [] = []
-edges_of E (k ∷ R) = edge_at E k.edge ∷ edges_of E R
+abbrev pub link_edges : List (List ℕ) → List Link → List (List ℕ)
+link_edges E [] = []
+link_edges E (k ∷ R) = edge_at E k.edge ∷ link_edges E R
 
 -- the edge that a link hangs on: none for the root, which has no links behind it
 abbrev pub parent_edge : List (List ℕ) → Link → List Link → List ℕ

@@ -1,8 +1,8 @@
 ghost use Rattle.std.specs.Prelude.{◌≡◌, ◌↔◌, ℕ, ◌<◌, ◌==◌, IsTrue, nat_lt, length, reverse};
 ghost use Rattle.std.specs.List.{list_any};
 ghost use Rattle.djq_hyper.specs.Hypergraph.{member, degree};
-ghost use Rattle.djq_hyper.specs.JoinTree.{places, edges_of, IsJoinTree};
-ghost use Rattle.djq_hyper.specs.Checking.{Fits};
+ghost use Rattle.djq_hyper.specs.JoinTree.{places, link_edges, IsJoinTree};
+ghost use Rattle.djq_hyper.specs.Checking.{FitsTree};
 
 use crate::edges::Edges;
 use crate::join_tree::{JoinTree, Link};
@@ -18,8 +18,8 @@ fn stands(links: &[Link], position: usize) -> bool
 /// Whether the link may be put behind the links before it, whose edges have the variables `seen`.
 fn link_fits(edges: &[VarSet], before: &[Link], seen: VarSet, link: Link) -> bool
     requires below { (p : ℕ) → 0 < places p before.now → p < length edges.now }
-    requires seen { (x : ℕ) → member x seen ≡ nat_lt 0 (degree x (edges_of edges.now before.now)) }
-    ensures { IsTrue result ↔ Fits edges.now before.now link }
+    requires seen { (x : ℕ) → member x seen ≡ nat_lt 0 (degree x (link_edges edges.now before.now)) }
+    ensures { IsTrue result ↔ FitsTree edges.now before.now link }
 {
     if link.edge >= edges.len() {
         return false;

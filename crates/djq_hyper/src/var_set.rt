@@ -21,11 +21,11 @@ impl Model for VarSet {
     ghost Value = { List ℕ };
 
     ghost use Rattle.std.specs.Prelude.{◌<◌, ◌^◌};
-    ghost use Rattle.djq_hyper.specs.Masks.{variables_of};
+    ghost use Rattle.djq_hyper.specs.Masks.{mask_variables};
     ghost use Rattle.djq_hyper.specs.Insides.{set_of, set_back};
     ghost use Rattle.djq_hyper.specs.declared.var_set.TheConstants.{VARIABLES};
 
-    ghost view = { λ s. variables_of s.mask };
+    ghost view = { λ s. mask_variables s.mask };
 
     ghost invariant = { λ s. s.mask < 2 ^ VARIABLES };
 

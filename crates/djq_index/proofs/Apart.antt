@@ -1,9 +1,9 @@
 -- Lists in which no tuple stands twice.
 use Rattle.std.proofs.Common.{◌≡◌, ℕ, zero, suc, ◌+◌, ◌≤◌, ◌<◌, true, false, cond, List, [], ◌∷◌}
 use Rattle.std.proofs.Common.{◌++◌, refl, ap, subst, sym, ◌∙◌, arith, inl, inr}
-use Rattle.djq_index.specs.Tuple.{same, one}
+use Rattle.djq_index.specs.Tuple.{same, one_if}
 use Rattle.djq_index.specs.Entries.{Entry, supports_of, count_of}
-use Rattle.djq_index.specs.Table.{AreApart, AreSupported}
+use Rattle.djq_index.specs.Table.{TuplesDiffer, AreSupported}
 use Rattle.djq_index.proofs.Tuples.{is_same, same_refl, same_cases, same_sym, one_le, one_same, one_other, one_true}
 use Rattle.djq_index.proofs.Counts.{cnt_cons, cnt_middle, supp_middle}
 
@@ -32,8 +32,8 @@ stands (e ∷ es) u h =
     ]
 
 -- each tuple stands once at most
-pub cnt_once : (es : List Entry) (u : List ℕ) → AreApart es → count_of es u ≤ 1
-unfolding AreApart count_of
+pub cnt_once : (es : List Entry) (u : List ℕ) → TuplesDiffer es → count_of es u ≤ 1
+unfolding TuplesDiffer count_of
 cnt_once [] u h = omega arith
 cnt_once (e ∷ es) u h =
     elim (same_cases e.tuple u) [
@@ -46,36 +46,37 @@ cnt_once (e ∷ es) u h =
 flipped : (u v : List ℕ) → same u v ≡ false → same v u ≡ false
 flipped u v h = sym (same_sym u v) ∙ h
 
-unlike : (u v : List ℕ) (n : ℕ) → one (same u v) + n ≡ 0 → same u v ≡ false
+unlike : (u v : List ℕ) (n : ℕ) → one_if (same u v) + n ≡ 0 → same u v ≡ false
 unlike u v n h = elim (same_cases u v)
     [ inl here ↦ absurd (omega (arith, h, one_true (same u v) (is_same u v here))) | inr other ↦ other ]
 
-pub apart_in : (xs : List Entry) (e : Entry) (ys : List Entry) → AreApart (xs ++ ys) → count_of (xs ++ ys) e.tuple ≡ 0
-    → AreApart (xs ++ e ∷ ys)
-unfolding AreApart
+pub apart_in : (xs : List Entry) (e : Entry) (ys : List Entry) → TuplesDiffer (xs ++ ys)
+    → count_of (xs ++ ys) e.tuple ≡ 0
+    → TuplesDiffer (xs ++ e ∷ ys)
+unfolding TuplesDiffer
 apart_in [] e ys h none = (none, h)
 apart_in (x ∷ xs) e ys h none =
     let apart : same x.tuple e.tuple
     ≡ false = unlike x.tuple e.tuple (count_of (xs ++ ys) e.tuple) (sym (cnt_cons x (xs ++ ys) e.tuple) ∙ none) in
-    let swapped : one (same e.tuple x.tuple) ≡ 0 = one_other e.tuple x.tuple (flipped x.tuple e.tuple apart) in (
+    let swapped : one_if (same e.tuple x.tuple) ≡ 0 = one_other e.tuple x.tuple (flipped x.tuple e.tuple apart) in (
       omega (arith, cnt_middle xs e ys x.tuple, h.0, swapped),
       apart_in xs e ys h.1
           (omega (arith, none, cnt_cons x (xs ++ ys) e.tuple)),
     )
 
-pub apart_out : (xs : List Entry) (e : Entry) (ys : List Entry) → AreApart (xs ++ e ∷ ys) → AreApart (xs ++ ys)
-unfolding AreApart
+pub apart_out : (xs : List Entry) (e : Entry) (ys : List Entry) → TuplesDiffer (xs ++ e ∷ ys) → TuplesDiffer (xs ++ ys)
+unfolding TuplesDiffer
 apart_out [] e ys h = h.1
 apart_out (x ∷ xs) e ys h = (omega (arith, h.0, cnt_middle xs e ys x.tuple), apart_out xs e ys h.1)
 
 -- apart from an entry its tuple is absent
-pub apart_here : (xs : List Entry) (e : Entry) (ys : List Entry) → AreApart (xs ++ e ∷ ys)
+pub apart_here : (xs : List Entry) (e : Entry) (ys : List Entry) → TuplesDiffer (xs ++ e ∷ ys)
     → count_of (xs ++ ys) e.tuple ≡ 0
 apart_here xs e ys h = omega (arith, cnt_once (xs ++ e ∷ ys) e.tuple h, cnt_middle xs e ys e.tuple, one_same e.tuple)
 
 -- only the tuples matter
-pub apart_same : (xs : List Entry) (d e : Entry) (ys : List Entry) → e.tuple ≡ d.tuple → AreApart (xs ++ d ∷ ys)
-    → AreApart (xs ++ e ∷ ys)
+pub apart_same : (xs : List Entry) (d e : Entry) (ys : List Entry) → e.tuple ≡ d.tuple → TuplesDiffer (xs ++ d ∷ ys)
+    → TuplesDiffer (xs ++ e ∷ ys)
 apart_same xs d e ys h apart = apart_in xs e ys (apart_out xs d ys apart)
     (subst (λ u. count_of (xs ++ ys) u ≡ 0) (sym h) (apart_here xs d ys apart))
 
@@ -90,14 +91,14 @@ supp_none (e ∷ es) u h =
       | inr other ↦ rw other (omega (arith, supp_none es u (omega (arith, h))))
     ]
 
-pub supp_here : (xs : List Entry) (e : Entry) (ys : List Entry) → AreApart (xs ++ e ∷ ys)
+pub supp_here : (xs : List Entry) (e : Entry) (ys : List Entry) → TuplesDiffer (xs ++ e ∷ ys)
     → supports_of (xs ++ e ∷ ys) e.tuple
     ≡ e.supports
 supp_here xs e ys h = rw (supp_middle, same_refl) (omega (arith, supp_none (xs ++ ys) e.tuple (apart_here xs e ys h)))
 
-pub supp_at : (es : List Entry) (xs : List Entry) (e : Entry) (ys : List Entry) (u : List ℕ) → AreApart es → es
+pub supp_at : (es : List Entry) (xs : List Entry) (e : Entry) (ys : List Entry) (u : List ℕ) → TuplesDiffer es → es
     ≡ xs ++ e ∷ ys → e.tuple ≡ u → supports_of es u ≡ e.supports
-supp_at es xs e ys u apart is here = rw (is, ← here) (supp_here xs e ys (subst AreApart is apart))
+supp_at es xs e ys u apart is here = rw (is, ← here) (supp_here xs e ys (subst TuplesDiffer is apart))
 
 pub cnt_here : (xs : List Entry) (e : Entry) (ys : List Entry) → 0 < count_of (xs ++ e ∷ ys) e.tuple
 cnt_here xs e ys = omega (arith, cnt_middle xs e ys e.tuple, one_same e.tuple)

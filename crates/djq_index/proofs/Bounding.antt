@@ -3,7 +3,7 @@ use Rattle.std.proofs.Common.{◌≡◌, ℕ, zero, suc, ◌≤◌, List, [], �
 use Rattle.std.proofs.Common.{◌⊎◌, inl, inr, length-append}
 use Rattle.std.proofs.lemmas.Bool.{cases_eq}
 use Rattle.std.proofs.lemmas.List.{length-map}
-use Rattle.djq_arena.specs.Chains.{IsOut, AreDifferent, AreBelow}
+use Rattle.djq_arena.specs.Chains.{IsOut, AreDistinctSlots, AreBelow}
 use Rattle.djq_arena.specs.Rows.{Row, slots}
 use Rattle.djq_arena.proofs.Lists.{different_out, different_here}
 use Rattle.djq_index.specs.Raw.{IsRaw, entries_of}
@@ -44,13 +44,13 @@ none_below [] h = omega arith
 none_below (x ∷ xs) h = absurd (let low = h.0 in omega arith)
 
 -- different numbers below n are n at most
-length_below : (n : ℕ) (xs : List ℕ) → AreDifferent xs → AreBelow n xs → length xs ≤ n
+length_below : (n : ℕ) (xs : List ℕ) → AreDistinctSlots xs → AreBelow n xs → length xs ≤ n
 length_below zero xs d b = none_below xs b
 length_below (suc n) xs d b =
     elim (split_at n xs) [
       | inl out ↦ (let h = length_below n xs d (below_less n xs b out) in omega arith)
       | inr s ↦ (
-          let d2 : AreDifferent (s.front ++ n ∷ s.back) = subst AreDifferent s.is d in
+          let d2 : AreDistinctSlots (s.front ++ n ∷ s.back) = subst AreDistinctSlots s.is d in
           let b2 : AreBelow (suc n) (s.front ++ n ∷ s.back) = subst (λ (l : List ℕ). AreBelow (suc n) l) s.is b in
           let h = length_below n (s.front ++ s.back) (different_out s.front n s.back d2)
           (below_less n (s.front ++ s.back) (below_out (suc n) s.front n s.back b2)

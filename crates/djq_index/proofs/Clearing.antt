@@ -5,14 +5,14 @@ use Rattle.std.proofs.Common.{arith, append_assoc, Bool, false, inl, inr, length
 use Rattle.std.proofs.Common.{get_or-set_same, get_or-set_other}
 use Rattle.std.proofs.lemmas.List.{append-nil, map-append, take_all}
 use Rattle.std.proofs.lemmas.Bool.{cases_Bool, cases_eq, false≢true}
-use Rattle.djq_arena.specs.Rows.{Row, SlotRows, AreRows, IsHeld, slots}
-use Rattle.djq_arena.specs.Chains.{first_of, AreDifferent}
+use Rattle.djq_arena.specs.Rows.{Row, SlotRows, AreRows, IsRowHeld, slots}
+use Rattle.djq_arena.specs.Chains.{first_of, AreDistinctSlots}
 use Rattle.djq_index.specs.declared.place.Place.{Place}
 use Rattle.djq_index.specs.declared.raw.Note.{Note}
 use Rattle.djq_index.specs.declared.raw.Raw.{Raw}
 use Rattle.djq_index.specs.Entries.{Entry, marks, plain, bare, unmarked}
 use Rattle.djq_index.specs.Raw.{note_at, entry_of, entries_in, entries_of, slots_at, AreTrailing}
-use Rattle.djq_index.specs.Raw.{IsRaw, IsBare, AreHeads, without_mark}
+use Rattle.djq_index.specs.Raw.{IsRaw, HoldsTuples, AreHeads, without_mark}
 use Rattle.djq_index.proofs.Marks.{marks_yes, marks_no, plain_yes, plain_no, unmarked_cons, unmarked_marks}
 use Rattle.djq_index.proofs.Parts.{slots_are, cut_entries, slots_nil, trailing_split, entry_at, row_below}
 use Rattle.djq_index.proofs.Keeping.{entries_set, groups_like, groups_alike, alike_notes}
@@ -216,7 +216,7 @@ module _ (old now : List Note) (rows : SlotRows) (i j : ℕ) (law : AreRows rows
   row : StepRow now rows.rows i (ps ++ unmarked (take j ms)) here.entry (drop (j + 1) ms)
   row = step_row now rows.rows i (ps ++ unmarked (take j ms)) here.entry (drop (j + 1) ms) now_is here.slot
 
-  pub step_held : IsHeld rows.rows i
+  pub step_held : IsRowHeld rows.rows i
   step_held = record {
     cells = row.r.cells;
     row = record {
@@ -238,7 +238,7 @@ module _ (old now : List Note) (rows : SlotRows) (i j : ℕ) (law : AreRows rows
     is = ap (λ (ns : List Note). entries_in ns rows.rows) is
         ∙ ap (entries_in (slice_set now i (without_mark (note_at now i)))) row.is
         ∙ entries_set now i (without_mark (note_at now i)) row.rs row.r row.ss row.slot step_within
-        (subst (λ rs. AreDifferent (slots rs)) row.is law.different)
+        (subst (λ rs. AreDistinctSlots (slots rs)) row.is law.different)
         ∙ ap₂ (λ (f g : List Entry). f ++ record {
           at = record { slot = i };
           tuple = row.r.cells;
@@ -275,8 +275,9 @@ notes_alike : (a b : Raw) → b.rows ≡ a.rows → AreAlike (entries_of a) (ent
 notes_alike a b rows = subst (λ rs. AreAlike (entries_of a) (entries_in b.notes.items rs.rows)) (sym rows)
     (alike_notes a.notes.items b.notes.items a.rows.rows)
 
-pub cleared_bare : (a b : Raw) → IsBare a → b.kind ≡ a.kind → b.key.items ≡ a.key.items → b.rows ≡ a.rows
-    → length b.notes.items ≡ length a.notes.items → b.marked ≡ None → entries_of b ≡ unmarked (entries_of a) → IsBare b
+pub cleared_bare : (a b : Raw) → HoldsTuples a → b.kind ≡ a.kind → b.key.items ≡ a.key.items → b.rows ≡ a.rows
+    → length b.notes.items ≡ length a.notes.items → b.marked ≡ None → entries_of b ≡ unmarked (entries_of a)
+    → HoldsTuples b
 cleared_bare a b raw kind key rows long marked is = record {
   rows = rw rows raw.rows;
   columns = rw (key, rows) raw.columns;

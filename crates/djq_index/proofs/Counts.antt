@@ -1,6 +1,6 @@
 -- The numbers of a list of entries, as sums.
 use Rattle.std.proofs.Common.{◌≡◌, ℕ, ◌+◌, ◌≤◌, Bool, true, false, cond, List, [], ◌∷◌, ◌++◌, length, refl, arith}
-use Rattle.djq_index.specs.Tuple.{same, pick, one}
+use Rattle.djq_index.specs.Tuple.{same, pick, one_if}
 use Rattle.djq_index.specs.Entries.{Entry, supports_of, count_of, group_size, marks, plain, group_of}
 use Rattle.djq_index.proofs.Tuples.{one_le}
 
@@ -21,7 +21,8 @@ unfolding group_size
 group_size-append key [] ys w = omega arith
 group_size-append key (e ∷ xs) ys w = omega (arith, group_size-append key xs ys w)
 
-pub cnt_cons : (e : Entry) (es : List Entry) (u : List ℕ) → count_of (e ∷ es) u ≡ one (same e.tuple u) + count_of es u
+pub cnt_cons : (e : Entry) (es : List Entry) (u : List ℕ)
+    → count_of (e ∷ es) u ≡ one_if (same e.tuple u) + count_of es u
 unfolding count_of
 cnt_cons e es u = refl
 
@@ -31,13 +32,13 @@ unfolding supports_of
 supp_cons e es u = refl
 
 pub many_cons : (key : List ℕ) (e : Entry) (es : List Entry) (w : List ℕ) → group_size key (e ∷ es) w
-    ≡ one (same (pick key e.tuple) w) + group_size key es w
+    ≡ one_if (same (pick key e.tuple) w) + group_size key es w
 unfolding group_size
 many_cons key e es w = refl
 
 -- an entry in the middle is one summand
 pub cnt_middle : (xs : List Entry) (e : Entry) (ys : List Entry) (u : List ℕ) → count_of (xs ++ e ∷ ys) u
-    ≡ one (same e.tuple u) + count_of (xs ++ ys) u
+    ≡ one_if (same e.tuple u) + count_of (xs ++ ys) u
 cnt_middle xs e ys u = omega (arith, count_of-append xs (e ∷ ys) u, count_of-append xs ys u, cnt_cons e ys u)
 
 pub supp_middle : (xs : List Entry) (e : Entry) (ys : List Entry) (u : List ℕ) → supports_of (xs ++ e ∷ ys) u
@@ -45,7 +46,7 @@ pub supp_middle : (xs : List Entry) (e : Entry) (ys : List Entry) (u : List ℕ)
 supp_middle xs e ys u = omega (arith, supports_of-append xs (e ∷ ys) u, supports_of-append xs ys u, supp_cons e ys u)
 
 pub many_middle : (key : List ℕ) (xs : List Entry) (e : Entry) (ys : List Entry) (w : List ℕ)
-    → group_size key (xs ++ e ∷ ys) w ≡ one (same (pick key e.tuple) w) + group_size key (xs ++ ys) w
+    → group_size key (xs ++ e ∷ ys) w ≡ one_if (same (pick key e.tuple) w) + group_size key (xs ++ ys) w
 many_middle key xs e ys w = omega (
   arith,
   group_size-append key xs (e ∷ ys) w,
@@ -63,18 +64,20 @@ by_mark false f e es n h k = omega (arith, h (plain es), k)
 pub cnt_split : (es : List Entry) (u : List ℕ) → count_of es u ≡ count_of (plain es) u + count_of (marks es) u
 unfolding count_of plain marks
 cnt_split [] u = omega arith
-cnt_split (e ∷ es) u = by_mark e.marked (λ xs. count_of xs u) e es (one (same e.tuple u)) (λ xs. refl) (cnt_split es u)
+cnt_split (e ∷ es) u =
+    by_mark e.marked (λ xs. count_of xs u) e es (one_if (same e.tuple u)) (λ xs. refl) (cnt_split es u)
 
 pub many_split : (key : List ℕ) (es : List Entry) (w : List ℕ) → group_size key es w
     ≡ group_size key (plain es) w + group_size key (marks es) w
 unfolding group_size plain marks
 many_split key [] w = omega arith
-many_split key (e ∷ es) w = by_mark e.marked (λ xs. group_size key xs w) e es (one (same (pick key e.tuple) w))
+many_split key (e ∷ es) w = by_mark e.marked (λ xs. group_size key xs w) e es (one_if (same (pick key e.tuple) w))
     (λ xs. refl)
     (many_split key es w)
 
-length_one : (b : Bool) (e : Entry) (es : List Entry) (n : ℕ) → length es ≡ n → length (cond b (e ∷ es) es) ≡ one b + n
-unfolding one
+length_one : (b : Bool) (e : Entry) (es : List Entry) (n : ℕ) → length es ≡ n
+    → length (cond b (e ∷ es) es) ≡ one_if b + n
+unfolding one_if
 length_one true e es n h = omega arith
 length_one false e es n h = omega arith
 

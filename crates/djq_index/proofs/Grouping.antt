@@ -7,8 +7,8 @@ use Rattle.std.proofs.lemmas.Bool.{cases_Bool, cases_eq}
 use Rattle.djq_arena.specs.declared.chain.Pair.{Pair}
 use Rattle.djq_arena.specs.declared.chain.Ends.{Ends}
 use Rattle.djq_arena.specs.Rows.{Row, IsAbsent, slots}
-use Rattle.djq_arena.specs.Chains.{Linked, first_of, last_of, AreDifferent, AreBelow, IsOut, AreOut}
-use Rattle.djq_arena.specs.Chains.{Avoids, pair_at, entered, left}
+use Rattle.djq_arena.specs.Chains.{Linked, first_of, last_of, AreDistinctSlots, AreBelow, IsOut, AreOut}
+use Rattle.djq_arena.specs.Chains.{Avoids, pair_at, entered, chain_without}
 use Rattle.djq_arena.specs.Store.{ends_of, extended, shrunk}
 use Rattle.djq_arena.proofs.Lists.{different_front, different_back, different_append}
 use Rattle.djq_arena.proofs.Lists.{different_here, outs_swap, last_avoids, first_avoids, avoids_none}
@@ -17,7 +17,7 @@ use Rattle.djq_arena.proofs.Chaining.{left_agree, prev_here, next_here}
 use Rattle.djq_arena.proofs.Storing.{extended_is, shrunk_is}
 use Rattle.djq_arena.proofs.RowLemmas.{slots-append}
 use Rattle.djq_index.specs.declared.raw.Note.{Note}
-use Rattle.djq_index.specs.Tuple.{same, pick, one}
+use Rattle.djq_index.specs.Tuple.{same, pick, one_if}
 use Rattle.djq_index.specs.Entries.{Entry, group_size, group_of}
 use Rattle.djq_index.specs.Raw.{note_at, slots_at, row_at, AreSeated, ends_at, AreGroups}
 use Rattle.djq_index.proofs.Tuples.{is_same, same_cases, same_other, one_true, one_false, other_same}
@@ -55,23 +55,23 @@ group_out i key (e ∷ es) w h =
       | inr other ↦ rw (grp_no key e es w other) (group_out i key es w k.1)
     ]
 
-different_first : (x : ℕ) (xs : List ℕ) → AreDifferent (x ∷ xs) → IsOut x xs × AreDifferent xs
-unfolding AreDifferent
+different_first : (x : ℕ) (xs : List ℕ) → AreDistinctSlots (x ∷ xs) → IsOut x xs × AreDistinctSlots xs
+unfolding AreDistinctSlots
 different_first x xs h = h
 
-different_more : (x : ℕ) (xs : List ℕ) → IsOut x xs → AreDifferent xs → AreDifferent (x ∷ xs)
-unfolding AreDifferent
+different_more : (x : ℕ) (xs : List ℕ) → IsOut x xs → AreDistinctSlots xs → AreDistinctSlots (x ∷ xs)
+unfolding AreDistinctSlots
 different_more x xs h k = (h, k)
 
-different_nil : AreDifferent []
-unfolding AreDifferent
+different_nil : AreDistinctSlots []
+unfolding AreDistinctSlots
 different_nil = tt
 
-pub group_different : (key : List ℕ) (es : List Entry) (w : List ℕ) → AreDifferent (slots_at es)
-    → AreDifferent (slots_at (group_of key es w))
+pub group_different : (key : List ℕ) (es : List Entry) (w : List ℕ) → AreDistinctSlots (slots_at es)
+    → AreDistinctSlots (slots_at (group_of key es w))
 group_different key [] w h = rw (grp_nil key w, slots_nil) different_nil
 group_different key (e ∷ es) w h =
-    let k = different_first e.at.slot (slots_at es) (subst AreDifferent (slots_at_cons e es) h) in
+    let k = different_first e.at.slot (slots_at es) (subst AreDistinctSlots (slots_at_cons e es) h) in
     elim (cases_Bool (same (pick key e.tuple) w)) [
       | inl here ↦ rw (grp_yes key e es w here, slots_at_cons)
           (different_more e.at.slot (slots_at (group_of key es w)) (group_out e.at.slot key es w k.0)
@@ -111,11 +111,11 @@ outs_more : (x : ℕ) (xs ys : List ℕ) → IsOut x ys → AreOut xs ys → Are
 unfolding AreOut
 outs_more x xs ys h k = (h, k)
 
-pub groups_apart : (key : List ℕ) (es : List Entry) (v w : List ℕ) → (v ≡ w → ⊥) → AreDifferent (slots_at es)
+pub groups_apart : (key : List ℕ) (es : List Entry) (v w : List ℕ) → (v ≡ w → ⊥) → AreDistinctSlots (slots_at es)
     → AreOut (slots_at (group_of key es v)) (slots_at (group_of key es w))
 groups_apart key [] v w other h = rw (grp_nil key v, slots_nil) (outs_nil (slots_at (group_of key [] w)))
 groups_apart key (e ∷ es) v w other h =
-    let k = different_first e.at.slot (slots_at es) (subst AreDifferent (slots_at_cons e es) h) in
+    let k = different_first e.at.slot (slots_at es) (subst AreDistinctSlots (slots_at_cons e es) h) in
     let rest = groups_apart key es v w other k.1 in
     elim (same_cases (pick key e.tuple) v) [
       | inl here ↦ rw (
@@ -198,7 +198,7 @@ group_else key es e v h = group_of-append key es (e ∷ []) v
     ∙ append-nil (group_of key es v)
 
 many_push : (key : List ℕ) (es : List Entry) (e : Entry) (v : List ℕ) → group_size key (es ++ e ∷ []) v
-    ≡ group_size key es v + one (same (pick key e.tuple) v)
+    ≡ group_size key es v + one_if (same (pick key e.tuple) v)
 many_push key es e v = omega (
   arith,
   many_middle key es e [] v,
@@ -209,10 +209,10 @@ many_push key es e v = omega (
 slots_push : (g : List Entry) (e : Entry) (i : ℕ) → e.at.slot ≡ i → slots_at (g ++ e ∷ []) ≡ slots_at g ++ i ∷ []
 slots_push g e i h = slots_at_middle g e [] ∙ ap₂ (λ (j : ℕ) (zs : List ℕ). slots_at g ++ j ∷ zs) h slots_nil
 
-avoid_last : (xs zs : List ℕ) → AreDifferent xs → AreDifferent zs → AreOut xs zs → Avoids (last_of xs) zs
+avoid_last : (xs zs : List ℕ) → AreDistinctSlots xs → AreDistinctSlots zs → AreOut xs zs → Avoids (last_of xs) zs
 avoid_last xs zs d e o = last_avoids None xs zs (avoids_none zs) (different_append xs zs d e o)
 
-avoid_first : (xs zs : List ℕ) → AreDifferent xs → AreDifferent zs → AreOut xs zs → Avoids (first_of xs) zs
+avoid_first : (xs zs : List ℕ) → AreDistinctSlots xs → AreDistinctSlots zs → AreOut xs zs → Avoids (first_of xs) zs
 avoid_first xs zs d e o = first_avoids xs zs (different_append xs zs d e o)
 
 absent_first : (r : Row) (rs : List Row) (u : List ℕ) → IsAbsent (r ∷ rs) u → (r.cells ≡ u → ⊥) × IsAbsent rs u
@@ -234,7 +234,7 @@ present keys h w v r same_one absent =
 module _ (key : List ℕ) (notes more : List Note) (links : List Pair) (keys : List Row) (ends : List Ends)
     (es : List Entry) (w : List ℕ) (h : ℕ) (e : Entry) (i : ℕ)
     (g : AreGroupsBut key notes links keys ends es w h) (its : pick key e.tuple ≡ w) (at : e.at.slot ≡ i)
-    (out : IsOut i (slots_at es)) (d : AreDifferent (slots_at es)) (b : AreBelow (length links) (slots_at es))
+    (out : IsOut i (slots_at es)) (d : AreDistinctSlots (slots_at es)) (b : AreBelow (length links) (slots_at es))
     (within : i < length links) (inside : h < length ends)
     (seats : AreSeated key more keys es) (seat : (note_at more i).head ≡ h) where
   joined : List Pair
@@ -317,8 +317,8 @@ unfolding AreOut
 outs_back [] i ys zs h = h.1
 outs_back (x ∷ xs) i ys zs h = outs_back xs i ys zs h.1
 
-different_rest : (x : ℕ) (xs : List ℕ) → AreDifferent (x ∷ xs) → AreDifferent xs
-unfolding AreDifferent
+different_rest : (x : ℕ) (xs : List ℕ) → AreDistinctSlots (x ∷ xs) → AreDistinctSlots xs
+unfolding AreDistinctSlots
 different_rest x xs h = h.1
 
 no_slots : (es : List Entry) → first_of (slots_at es) ≡ None → es ≡ []
@@ -345,13 +345,13 @@ slots_cut f e g i h = slots_at_middle f e g ∙ ap (λ (j : ℕ). slots_at f ++ 
 module _ (key : List ℕ) (notes : List Note) (links : List Pair) (keys : List Row) (ends : List Ends) (xs : List Entry)
     (e : Entry) (ys : List Entry) (h i : ℕ)
     (g : AreGroups key notes links keys ends (xs ++ e ∷ ys)) (at : e.at.slot ≡ i) (seat : (note_at notes i).head ≡ h)
-    (d : AreDifferent (slots_at (xs ++ e ∷ ys))) (b : AreBelow (length links) (slots_at (xs ++ e ∷ ys)))
+    (d : AreDistinctSlots (slots_at (xs ++ e ∷ ys))) (b : AreBelow (length links) (slots_at (xs ++ e ∷ ys)))
     (inside : h < length ends) where
   its_key : List ℕ
   its_key = pick key e.tuple
 
   parted : List Pair
-  parted = left (pair_at links i) links
+  parted = chain_without (pair_at links i) links
 
   its_head : row_at keys h ≡ Some its_key
   unfolding its_key
@@ -386,7 +386,7 @@ module _ (key : List ℕ) (notes : List Note) (links : List Pair) (keys : List R
   unfolding parted
   part_mine = rw rest_slots (left_linked links (slots_at (group_of key xs its_key)) i
       (slots_at (group_of key ys its_key))
-      (subst AreDifferent its_slots (group_different key (xs ++ e ∷ ys) its_key d))
+      (subst AreDistinctSlots its_slots (group_different key (xs ++ e ∷ ys) its_key d))
       (subst (AreBelow (length links)) its_slots (group_below (length links) key (xs ++ e ∷ ys) its_key b)) its_chain)
 
   mine_out : (v : List ℕ) → (v ≡ its_key → ⊥)
@@ -398,19 +398,19 @@ module _ (key : List ℕ) (notes : List Note) (links : List Pair) (keys : List R
   part_other : (v : List ℕ) → (v ≡ its_key → ⊥) → Linked parted None (slots_at (group_of key (xs ++ ys) v)) None
   unfolding parted its_key
   part_other v other = rw (← (group_past key xs e ys v (λ k. other (sym k))))
-      (linked_same links (left (pair_at links i) links) None (slots_at (group_of key (xs ++ e ∷ ys) v)) None
+      (linked_same links (chain_without (pair_at links i) links) None (slots_at (group_of key (xs ++ e ∷ ys) v)) None
       (left_agree links (pair_at links i) (slots_at (group_of key (xs ++ e ∷ ys) v))
       (rw its_prev (avoid_last (slots_at (group_of key xs its_key)) (slots_at (group_of key (xs ++ e ∷ ys) v))
       (group_different key xs its_key
-      (different_front (slots_at xs) (slots_at (e ∷ ys)) (subst AreDifferent (slots_at-append xs (e ∷ ys)) d)))
+      (different_front (slots_at xs) (slots_at (e ∷ ys)) (subst AreDistinctSlots (slots_at-append xs (e ∷ ys)) d)))
       (group_different key (xs ++ e ∷ ys) v d)
       (outs_front (slots_at (group_of key xs its_key)) (i ∷ slots_at (group_of key ys its_key))
       (slots_at (group_of key (xs ++ e ∷ ys) v)) (mine_out v other))))
       (rw its_next (avoid_first (slots_at (group_of key ys its_key)) (slots_at (group_of key (xs ++ e ∷ ys) v))
       (group_different key ys its_key
       (different_rest e.at.slot (slots_at ys)
-      (subst AreDifferent (slots_at_cons e ys)
-      (different_back (slots_at xs) (slots_at (e ∷ ys)) (subst AreDifferent (slots_at-append xs (e ∷ ys)) d)))))
+      (subst AreDistinctSlots (slots_at_cons e ys)
+      (different_back (slots_at xs) (slots_at (e ∷ ys)) (subst AreDistinctSlots (slots_at-append xs (e ∷ ys)) d)))))
       (group_different key (xs ++ e ∷ ys) v d)
       (outs_back (slots_at (group_of key xs its_key)) i (slots_at (group_of key ys its_key))
       (slots_at (group_of key (xs ++ e ∷ ys) v))
@@ -444,7 +444,7 @@ module _ (key : List ℕ) (notes : List Note) (links : List Pair) (keys : List R
         other ∙ g.headed k v r)
   ]
 
-  pub part_groups : AreGroupsBut key notes (left (pair_at links i) links) keys
+  pub part_groups : AreGroupsBut key notes (chain_without (pair_at links i) links) keys
       (slice_set ends h (shrunk (pair_at links i) (ends_at ends h))) (xs ++ ys) (pick key e.tuple) h
   unfolding its_key parted
   part_groups = record {
@@ -484,11 +484,11 @@ no_row [] k h = row_at_nil k
 no_row (r ∷ rs) k h = let o = out_first k r.slot (slots rs) (subst (IsOut k) (slots_first r rs) h) in row_at_other r rs
     k o.0 ∙ no_row rs k o.1
 
-out_of_rest : (ks : List Row) (r : Row) (ls : List Row) → AreDifferent (slots (ks ++ r ∷ ls))
+out_of_rest : (ks : List Row) (r : Row) (ls : List Row) → AreDistinctSlots (slots (ks ++ r ∷ ls))
     → IsOut r.slot (slots (ks ++ ls))
 out_of_rest ks r ls d = subst (IsOut r.slot) (sym (slots-append ks ls))
     (different_here (slots ks) r.slot (slots ls)
-    (subst AreDifferent (slots-append ks (r ∷ ls) ∙ ap (λ (zs : List ℕ). slots ks ++ zs) (slots_first r ls)) d))
+    (subst AreDistinctSlots (slots-append ks (r ∷ ls) ∙ ap (λ (zs : List ℕ). slots ks ++ zs) (slots_first r ls)) d))
 
 absent_in : (ks : List Row) (r : Row) (ls : List Row) (v : List ℕ) → (r.cells ≡ v → ⊥) → IsAbsent (ks ++ ls) v
     → IsAbsent (ks ++ r ∷ ls) v
@@ -543,7 +543,7 @@ seated_gone key notes ks r ls (e ∷ es) mine none h =
 
 pub pruned : (key : List ℕ) (notes : List Note) (links : List Pair) (ks : List Row) (r : Row) (ls : List Row)
     (ends : List Ends) (es : List Entry) (w : List ℕ) (h : ℕ)
-    → AreGroupsBut key notes links (ks ++ r ∷ ls) ends es w h → r.slot ≡ h → AreDifferent (slots (ks ++ r ∷ ls))
+    → AreGroupsBut key notes links (ks ++ r ∷ ls) ends es w h → r.slot ≡ h → AreDistinctSlots (slots (ks ++ r ∷ ls))
     → group_size key es w ≡ 0 → AreGroups key notes links (ks ++ ls) ends es
 pruned key notes links ks r ls ends es w h g at d empty = record {
   chained = g.chained;
@@ -631,7 +631,7 @@ absent_push (q ∷ keys) r v h = (h.0, absent_push keys r v h.1)
 pub founded : (key : List ℕ) (notes : List Note) (links : List Pair) (keys : List Row) (h : ℕ) (w : List ℕ)
     (ends more : List Ends) (es : List Entry)
     → AreGroups key notes links keys ends es → IsAbsent keys w
-    → AreDifferent (slots (keys ++ record { slot = h; cells = w } ∷ []))
+    → AreDistinctSlots (slots (keys ++ record { slot = h; cells = w } ∷ []))
     → ends_at more h ≡ record { first = None; last = None } → ((k : ℕ) → k ≢ h → ends_at more k ≡ ends_at ends k)
     → AreGroupsBut key notes links (keys ++ record { slot = h; cells = w } ∷ []) more es w h
 founded key notes links keys h w ends more es g absent d blank others = record {

@@ -2,7 +2,7 @@
 use Rattle.std.proofs.Common.{◌≡◌, ℕ, suc, ◌+◌, ◌<◌, ◌≤◌, List, [], ◌∷◌, length, Some, refl, ap}
 use Rattle.std.proofs.Common.{subst, sym, ◌∙◌, arith, ◌⊎◌, inl, inr}
 use Rattle.std.proofs.lemmas.Bool.{cases_eq}
-use Rattle.djq_arena.specs.Chains.{IsOut, AreDifferent}
+use Rattle.djq_arena.specs.Chains.{IsOut, AreDistinctSlots}
 use Rattle.djq_arena.specs.Rows.{Row, slots}
 use Rattle.djq_index.specs.declared.raw.Note.{Note}
 use Rattle.djq_index.specs.declared.raw.Raw.{Raw}
@@ -53,8 +53,8 @@ out_in x (y ∷ ys) o (inl same) = o.0 same
 out_in x (y ∷ ys) o (inr h) = out_in x ys o.1 h
 
 -- different numbers that are all in a list are at most as many as its items
-fewer : (xs ys : List ℕ) → AreDifferent xs → ((z : ℕ) → IsIn z xs → IsIn z ys) → length xs ≤ length ys
-unfolding AreDifferent
+fewer : (xs ys : List ℕ) → AreDistinctSlots xs → ((z : ℕ) → IsIn z xs → IsIn z ys) → length xs ≤ length ys
+unfolding AreDistinctSlots
 fewer [] ys d h = omega arith
 fewer (x ∷ xs) ys d h =
     let w = without x ys (h x (inl refl)) in

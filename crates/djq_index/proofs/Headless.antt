@@ -31,10 +31,10 @@ use Rattle.djq_arena.specs.Chains.{first_of, last_of}
 use Rattle.djq_index.specs.declared.kind.Kind.TheVariants.{One, Each}
 use Rattle.djq_index.specs.declared.place.Place.{Place}
 use Rattle.djq_index.specs.declared.raw.Raw.{Raw}
-use Rattle.djq_index.specs.Tuple.{same, pick, one}
+use Rattle.djq_index.specs.Tuple.{same, pick, one_if}
 use Rattle.djq_index.specs.Entries.{Entry, count_of, group_size, group_of, head_at, last_at}
 use Rattle.djq_index.specs.Table.{AreWide}
-use Rattle.djq_index.specs.Raw.{entries_of, slots_at, place_of, IsBare, IsWhole, IsKind}
+use Rattle.djq_index.specs.Raw.{entries_of, slots_at, place_of, HoldsTuples, KeyIsWhole, IsKind}
 use Rattle.djq_index.proofs.Tuples.{is_same, same_other}
 use Rattle.djq_index.proofs.Columns.{pick_nil, length_pick}
 use Rattle.djq_index.proofs.Counts.{length_grp}
@@ -64,10 +64,10 @@ nil_not [] e ys h = cc
 nil_not (x ∷ xs) e ys h = cc
 
 -- what the kind says of the key
-pub key_none : (r : Raw) → IsBare r → r.kind ≡ One → r.key.items ≡ []
+pub key_none : (r : Raw) → HoldsTuples r → r.kind ≡ One → r.key.items ≡ []
 key_none r raw k = subst (λ c. IsKind c r.rows.width r.key.items) k raw.kind
 
-pub key_whole : (r : Raw) → IsBare r → r.kind ≡ Each → IsWhole r.rows.width r.key.items
+pub key_whole : (r : Raw) → HoldsTuples r → r.kind ≡ Each → KeyIsWhole r.rows.width r.key.items
 key_whole r raw k = subst (λ c. IsKind c r.rows.width r.key.items) k raw.kind
 
 -- with an empty key all are one group
@@ -132,7 +132,7 @@ pick_at : (key u : List ℕ) (i : ℕ) → i < length key
 unfolding pick
 pick_at key u i h = get_or-map (λ (c : ℕ). slice_index_or u c 0) key i 0 0 h
 
-pick_whole : (key u : List ℕ) → IsWhole (length u) key → pick key u ≡ u
+pick_whole : (key u : List ℕ) → KeyIsWhole (length u) key → pick key u ≡ u
 pick_whole key u h =
     ext_get_or 0 (pick key u) u (length_pick key u ∙ h.long)
     (λ i below. let inside : i < length key = omega
@@ -140,14 +140,14 @@ pick_whole key u h =
     (arith, inside, h.long) in
     pick_at key u i inside ∙ ap (λ (c : ℕ). slice_index_or u c 0) (h.each i fits))
 
-wide_pick : (width : ℕ) (key u : List ℕ) → IsWhole width key → length u ≡ width → pick key u ≡ u
-wide_pick width key u h wide = pick_whole key u (subst (λ n. IsWhole n key) (sym wide) h)
+wide_pick : (width : ℕ) (key u : List ℕ) → KeyIsWhole width key → length u ≡ width → pick key u ≡ u
+wide_pick width key u h wide = pick_whole key u (subst (λ n. KeyIsWhole n key) (sym wide) h)
 
-each_many : (width : ℕ) (key : List ℕ) (es : List Entry) (w : List ℕ) → IsWhole width key
+each_many : (width : ℕ) (key : List ℕ) (es : List Entry) (w : List ℕ) → KeyIsWhole width key
     → AreWide width es → group_size key es w ≡ count_of es w
 unfolding AreWide group_size count_of
 each_many width key [] w h wide = refl
-each_many width key (e ∷ es) w h wide = ap₂ (λ (u : List ℕ) (n : ℕ). one (same u w) + n)
+each_many width key (e ∷ es) w h wide = ap₂ (λ (u : List ℕ) (n : ℕ). one_if (same u w) + n)
     (wide_pick width key e.tuple h wide.0) (each_many width key es w h wide.1)
 
 wide_middle : (width : ℕ) (xs : List Entry) (e : Entry) (ys : List Entry)
@@ -170,7 +170,7 @@ last_nil : last_at [] ≡ None
 unfolding last_at head_at
 last_nil = refl
 
-module _ (r : Raw) (raw : IsBare r) (whole : IsWhole r.rows.width r.key.items) where
+module _ (r : Raw) (raw : HoldsTuples r) (whole : KeyIsWhole r.rows.width r.key.items) where
   all_wide : AreWide r.rows.width (entries_of r)
   all_wide = wide_from r.rows.width r.notes.items r.rows.rows raw.rows.wide
 

@@ -6,7 +6,7 @@ use Rattle.std.proofs.lemmas.List.{append-nil}
 use Rattle.djq_arena.specs.declared.chain.Pair.{Pair}
 use Rattle.djq_arena.specs.declared.chain.Ends.{Ends}
 use Rattle.djq_arena.specs.Rows.{Row, SlotRows, AreRows, IsRow, slots}
-use Rattle.djq_arena.specs.Chains.{first_of, AreDifferent, AreBelow, IsOut, IsWithin, pair_at, entered}
+use Rattle.djq_arena.specs.Chains.{first_of, AreDistinctSlots, AreBelow, IsOut, IsSlotBelow, pair_at, entered}
 use Rattle.djq_arena.specs.Store.{extended, beside}
 use Rattle.djq_arena.proofs.Lists.{different_here, different_front, below_here, below_front, last_within, below_more}
 use Rattle.djq_arena.proofs.Chaining.{length-entered}
@@ -14,10 +14,10 @@ use Rattle.djq_index.specs.declared.raw.Note.{Note}
 use Rattle.djq_index.specs.declared.raw.Raw.{Raw}
 use Rattle.djq_index.specs.Tuple.{pick}
 use Rattle.djq_index.specs.Entries.{Entry, count_of, group_size, group_of, marks}
-use Rattle.djq_index.specs.Table.{AreApart, IsAt}
+use Rattle.djq_index.specs.Table.{TuplesDiffer, IsAt}
 use Rattle.djq_index.specs.Changes.{InsertedAs}
 use Rattle.djq_index.specs.Raw.{note_at, entries_in, entries_of, slots_at, ends_at, AreGroups}
-use Rattle.djq_index.specs.Raw.{IsBare, AreHeads, IsSeat, IsLaid, IsUnlaid, IsReady, IsNoted, IsSettled}
+use Rattle.djq_index.specs.Raw.{HoldsTuples, AreHeads, IsSeat, IsLaid, IsUnlaid, IsLaidInto, IsNoted, IsLastOfGroup}
 use Rattle.djq_index.proofs.Apart.{apart_in}
 use Rattle.djq_index.proofs.Parts.{slots_are, row_at_row, row_below, entries_nil}
 use Rattle.djq_index.proofs.Grouping.{AreGroupsBut, but, join_groups, founded, group_below}
@@ -38,8 +38,8 @@ module _ (a : Raw) (rows : SlotRows) (notes : List Note) (i : ℕ) (u : List ℕ
   laid_slots = ap slots r.laid ∙ slots_row a.rows.rows (record { slot = i; cells = u }) []
       ∙ ap₂ (λ (xs ys : List ℕ). xs ++ i ∷ ys) (sym (slots_are a.notes.items a.rows.rows)) slots_none
 
-  laid_different : AreDifferent (slots_at (entries_of a) ++ i ∷ [])
-  laid_different = subst AreDifferent laid_slots r.rows_law.different
+  laid_different : AreDistinctSlots (slots_at (entries_of a) ++ i ∷ [])
+  laid_different = subst AreDistinctSlots laid_slots r.rows_law.different
 
   laid_out : IsOut i (slots_at (entries_of a))
   laid_out = subst (IsOut i) (append-nil (slots_at (entries_of a)))
@@ -58,7 +58,7 @@ module _ (a : Raw) (rows : SlotRows) (notes : List Note) (i : ℕ) (u : List ℕ
   slot_number = omega (arith, laid_room, r.rows_law.numbers)
 
 -- the tuple is there
-module _ (m : Bool) (a b : Raw) (rows : SlotRows) (notes : List Note) (i h : ℕ) (u : List ℕ) (raw : IsBare a)
+module _ (m : Bool) (a b : Raw) (rows : SlotRows) (notes : List Note) (i h : ℕ) (u : List ℕ) (raw : HoldsTuples a)
     (plain : m ≡ false → marks (entries_of a) ≡ []) (absent : count_of (entries_of a) u ≡ 0)
     (r : IsLaid a.rows rows a.notes.items notes i u)
     (f : IsNoted m a b rows notes i h) where
@@ -68,11 +68,11 @@ module _ (m : Bool) (a b : Raw) (rows : SlotRows) (notes : List Note) (i h : ℕ
       ap₂ (λ (ns : List Note) (rs : SlotRows). entries_in ns rs.rows) f.notes_are f.rows_are
       ∙ ap (λ (rs : List Row). entries_in (slice_set notes i (record { supports = 1; head = h; marked = m })) rs) r.laid
       ∙ entries_set notes i (record { supports = 1; head = h; marked = m }) a.rows.rows (record { slot = i; cells = u })
-      [] refl (slot_notes a rows notes i u r) (subst (λ rs. AreDifferent (slots rs)) r.laid r.rows_law.different)
+      [] refl (slot_notes a rows notes i u r) (subst (λ rs. AreDistinctSlots (slots rs)) r.laid r.rows_law.different)
       ∙ ap₂ (λ (xs ys : List Entry). xs ++ record { at = record { slot = i }; tuple = u; supports = 1; marked = m } ∷
       ys) (entries_like a.notes.items notes a.rows.rows r.same_notes) (entries_nil notes)
 
-  pub came_bare : IsBare b
+  pub came_bare : HoldsTuples b
   came_bare = record {
     rows = rw f.rows_are r.rows_law;
     columns = rw (f.rows_are, f.key, r.width) raw.columns;
@@ -81,7 +81,7 @@ module _ (m : Bool) (a b : Raw) (rows : SlotRows) (notes : List Note) (i h : ℕ
     notes = rw (f.rows_are, f.notes_are, length-set) r.room_notes;
     apart = rw came_entries
         (apart_in (entries_of a) (record { at = record { slot = i }; tuple = u; supports = 1; marked = m }) []
-        (subst AreApart (sym (append-nil (entries_of a))) raw.apart)
+        (subst TuplesDiffer (sym (append-nil (entries_of a))) raw.apart)
         (subst (λ es. count_of es u ≡ 0) (sym (append-nil (entries_of a))) absent));
     trailing = rw came_entries
         (trailing_put (entries_of a) (record { at = record { slot = i }; tuple = u; supports = 1; marked = m })
@@ -119,7 +119,7 @@ module _ (m : Bool) (a b : Raw) (rows : SlotRows) (notes : List Note) (i h : ℕ
 -- and its head
 module _ (a : Raw) (rows : SlotRows) (notes : List Note) (links : List Pair) (keys : SlotRows) (ends : List Ends)
     (i h : ℕ)
-    (u : List ℕ) (hs : AreHeads a) (r : IsReady a rows notes links keys ends i h u) where
+    (u : List ℕ) (hs : AreHeads a) (r : IsLaidInto a rows notes links keys ends i h u) where
   pub slot_links : i < length links
   slot_links = omega (arith, laid_room a rows notes i u r.laid, r.room_links)
 
@@ -154,10 +154,10 @@ module _ (a : Raw) (rows : SlotRows) (notes : List Note) (links : List Pair) (ke
       of_seat (inr s) = subst (λ rs. AreGroupsBut a.key.items notes links rs ends (entries_of a) (pick a.key.items u) h)
           (sym s.1)
           (founded a.key.items notes links a.keys.rows h (pick a.key.items u) a.ends.items ends (entries_of a) like s.0
-          (subst (λ rs. AreDifferent (slots rs)) s.1 r.keys_law.different) s.2 s.3)
+          (subst (λ rs. AreDistinctSlots (slots rs)) s.1 r.keys_law.different) s.2 s.3)
 
-  pub last_links : IsWithin (length links) (ends_at ends h).last
-  last_links = subst (IsWithin (length links))
+  pub last_links : IsSlotBelow (length links) (ends_at ends h).last
+  last_links = subst (IsSlotBelow (length links))
       (sym (ap (λ (v : Ends). v.last) (ready_but.headed h (pick a.key.items u) ready_but.mine)))
       (last_within (length links) None (slots_at (group_of a.key.items (entries_of a) (pick a.key.items u))) tt
       (group_below (length links) a.key.items (entries_of a) (pick a.key.items u) old_below))
@@ -165,9 +165,9 @@ module _ (a : Raw) (rows : SlotRows) (notes : List Note) (links : List Pair) (ke
 module _ (m : Bool) (a b : Raw) (rows : SlotRows) (notes : List Note) (links : List Pair) (keys : SlotRows)
     (ends : List Ends)
     (i h : ℕ) (u : List ℕ)
-    (raw : IsBare a) (plain : m ≡ false → marks (entries_of a) ≡ []) (hs : AreHeads a)
-    (absent : count_of (entries_of a) u ≡ 0) (r : IsReady a rows notes links keys ends i h u)
-    (f : IsSettled m a b rows notes links keys ends i h) where
+    (raw : HoldsTuples a) (plain : m ≡ false → marks (entries_of a) ≡ []) (hs : AreHeads a)
+    (absent : count_of (entries_of a) u ≡ 0) (r : IsLaidInto a rows notes links keys ends i h u)
+    (f : IsLastOfGroup m a b rows notes links keys ends i h) where
   came_groups : AreGroups a.key.items (slice_set notes i (record { supports = 1; head = h; marked = m }))
       (entered (ends_at ends h).last i links) keys.rows (slice_set ends h (extended i (ends_at ends h)))
       (entries_of a ++ (record { at = record { slot = i }; tuple = u; supports = 1; marked = m }) ∷ [])
@@ -238,7 +238,7 @@ pub refused_entries : (a b : Raw) → Refuses a b → entries_of b ≡ entries_o
 refused_entries a b r = ap (entries_in b.notes.items) r.rows
     ∙ entries_like a.notes.items b.notes.items a.rows.rows r.same_notes
 
-pub refused_bare : (a b : Raw) → IsBare a → Refuses a b → IsBare b
+pub refused_bare : (a b : Raw) → HoldsTuples a → Refuses a b → HoldsTuples b
 refused_bare a b raw r = record {
   rows = r.rows_law;
   columns = rw (r.key, r.width) raw.columns;

@@ -6,7 +6,7 @@ use Rattle.std.proofs.lemmas.Bool.{cases_Bool, false≢true, cases_eq, ne_eqb}
 use Rattle.djq_arena.specs.declared.chain.Pair.{Pair}
 use Rattle.djq_arena.specs.declared.chain.Ends.{Ends}
 use Rattle.djq_arena.specs.Rows.{Row, slots}
-use Rattle.djq_arena.specs.Chains.{Linked, first_of, AreDifferent, IsOut, Agree, Differs, pair_at}
+use Rattle.djq_arena.specs.Chains.{Linked, first_of, AreDistinctSlots, IsOut, Agree, Differs, pair_at}
 use Rattle.djq_arena.specs.Store.{ends_of, beside}
 use Rattle.djq_arena.proofs.Lists.{different_here, out_front, out_back, first_differs}
 use Rattle.djq_arena.proofs.Chaining.{linked_same}
@@ -14,9 +14,9 @@ use Rattle.djq_arena.proofs.RowLemmas.{slots-append}
 use Rattle.djq_index.specs.declared.place.Place.{Place}
 use Rattle.djq_index.specs.declared.kind.Kind.{Kind}
 use Rattle.djq_index.specs.declared.raw.Note.{Note}
-use Rattle.djq_index.specs.Tuple.{same, pick, one}
+use Rattle.djq_index.specs.Tuple.{same, pick, one_if}
 use Rattle.djq_index.specs.Entries.{Entry, count_of, group_size, group_of, marks, plain}
-use Rattle.djq_index.specs.Table.{AreApart, AreLast}
+use Rattle.djq_index.specs.Table.{TuplesDiffer, AreLast}
 use Rattle.djq_index.specs.Raw.{note_at, entry_of, entries_in, slots_at, row_at, AreSeated, ends_at}
 use Rattle.djq_index.specs.Raw.{AreGroups, AreAllMarked, AreTrailing, passed, IsKind}
 use Rattle.djq_index.proofs.Marks.{marks_yes, marks_no, marks-append}
@@ -105,15 +105,16 @@ noted notes r n h = ap
 pub slots_row : (rs : List Row) (r : Row) (ss : List Row) → slots (rs ++ r ∷ ss) ≡ slots rs ++ r.slot ∷ slots ss
 slots_row rs r ss = slots-append rs (r ∷ ss) ∙ ap (λ (zs : List ℕ). slots rs ++ zs) (slots_first r ss)
 
-pub rows_apart : (rs : List Row) (r : Row) (ss : List Row) (i : ℕ) → r.slot ≡ i → AreDifferent (slots (rs ++ r ∷ ss))
+pub rows_apart : (rs : List Row) (r : Row) (ss : List Row) (i : ℕ) → r.slot ≡ i
+    → AreDistinctSlots (slots (rs ++ r ∷ ss))
     → IsOut i (slots rs) × IsOut i (slots ss)
 rows_apart rs r ss i at d =
     let o = subst (λ j. IsOut j (slots rs ++ slots ss)) at
-    (different_here (slots rs) r.slot (slots ss) (subst AreDifferent (slots_row rs r ss) d)) in
+    (different_here (slots rs) r.slot (slots ss) (subst AreDistinctSlots (slots_row rs r ss) d)) in
     (out_front i (slots rs) (slots ss) o, out_back i (slots rs) (slots ss) o)
 
 pub entries_set : (notes : List Note) (i : ℕ) (n : Note) (rs : List Row) (r : Row) (ss : List Row) → r.slot ≡ i
-    → i < length notes → AreDifferent (slots (rs ++ r ∷ ss))
+    → i < length notes → AreDistinctSlots (slots (rs ++ r ∷ ss))
     → entries_in (slice_set notes i n) (rs ++ r ∷ ss)
     ≡ entries_in notes rs ++ record
     { at = record { slot = i }; tuple = r.cells; supports = n.supports; marked = n.marked } ∷ entries_in notes ss
@@ -301,7 +302,7 @@ alike_many : (key : List ℕ) (ds es : List Entry) (w : List ℕ) → AreAlike d
     es w
 unfolding AreAlike group_size
 alike_many key [] [] w h = refl
-alike_many key (d ∷ ds) (e ∷ es) w h = ap₂ (λ (u : List ℕ) (n : ℕ). one (same (pick key u) w) + n) (sym h.1)
+alike_many key (d ∷ ds) (e ∷ es) w h = ap₂ (λ (u : List ℕ) (n : ℕ). one_if (same (pick key u) w) + n) (sym h.1)
     (alike_many key ds es w h.2)
 alike_many key [] (e ∷ es) w h = absurd h
 alike_many key (d ∷ ds) [] w h = absurd h
@@ -309,12 +310,12 @@ alike_many key (d ∷ ds) [] w h = absurd h
 alike_cnt : (ds es : List Entry) (u : List ℕ) → AreAlike ds es → count_of ds u ≡ count_of es u
 unfolding AreAlike count_of
 alike_cnt [] [] u h = refl
-alike_cnt (d ∷ ds) (e ∷ es) u h = ap₂ (λ (v : List ℕ) (n : ℕ). one (same v u) + n) (sym h.1) (alike_cnt ds es u h.2)
+alike_cnt (d ∷ ds) (e ∷ es) u h = ap₂ (λ (v : List ℕ) (n : ℕ). one_if (same v u) + n) (sym h.1) (alike_cnt ds es u h.2)
 alike_cnt [] (e ∷ es) u h = absurd h
 alike_cnt (d ∷ ds) [] u h = absurd h
 
-pub alike_apart : (ds es : List Entry) → AreAlike ds es → AreApart ds → AreApart es
-unfolding AreAlike AreApart
+pub alike_apart : (ds es : List Entry) → AreAlike ds es → TuplesDiffer ds → TuplesDiffer es
+unfolding AreAlike TuplesDiffer
 alike_apart [] [] h a = a
 alike_apart (d ∷ ds) (e ∷ es) h a =
     (ap (λ (u : List ℕ). count_of es u) h.1 ∙ sym (alike_cnt ds es d.tuple h.2) ∙ a.0, alike_apart ds es h.2 a.1)
@@ -371,8 +372,8 @@ trailing_first : (e : Entry) (es : List Entry) → AreTrailing (e ∷ es) → (e
 unfolding AreTrailing
 trailing_first e es h = h
 
-different_cons : (x : ℕ) (xs : List ℕ) → AreDifferent (x ∷ xs) → IsOut x xs × AreDifferent xs
-unfolding AreDifferent
+different_cons : (x : ℕ) (xs : List ℕ) → AreDistinctSlots (x ∷ xs) → IsOut x xs × AreDistinctSlots xs
+unfolding AreDistinctSlots
 different_cons x xs h = h
 
 out_of_middle : (x : ℕ) (xs : List ℕ) (i : ℕ) (ys : List ℕ) → IsOut x (xs ++ i ∷ ys) → x ≡ i → ⊥
@@ -381,12 +382,12 @@ out_of_middle x [] i ys h same_one = h.0 (sym same_one)
 out_of_middle x (z ∷ xs) i ys h same_one = out_of_middle x xs i ys h.1 same_one
 
 pub mark_out : (xs : List Entry) (e : Entry) (ys : List Entry) (i : ℕ) → AreTrailing (xs ++ e ∷ ys)
-    → AreDifferent (slots_at (xs ++ e ∷ ys)) → e.at.slot ≡ i
+    → AreDistinctSlots (slots_at (xs ++ e ∷ ys)) → e.at.slot ≡ i
     → passed (first_of (slots_at (marks (xs ++ e ∷ ys)))) i (first_of (slots_at ys))
     ≡ first_of (slots_at (marks (xs ++ ys)))
 mark_out [] e ys i t d at =
     let out = subst (λ j. IsOut j (slots_at ys)) at
-    (different_cons e.at.slot (slots_at ys) (subst AreDifferent (slots_at_cons e ys) d)).0 in
+    (different_cons e.at.slot (slots_at ys) (subst AreDistinctSlots (slots_at_cons e ys) d)).0 in
     elim (cases_Bool e.marked) [
       | inl here ↦ (let all = all_marks ys ((trailing_first e ys t).0 here) in
           ap (λ (ms : List Entry). passed (first_of (slots_at ms)) i (first_of (slots_at ys))) (marks_yes e ys here)
@@ -399,7 +400,8 @@ mark_out [] e ys i t d at =
           (first_differs_of (slots_at (marks ys)) i (marks_out i ys out))
     ]
 mark_out (x ∷ xs) e ys i t d at =
-    let k = different_cons x.at.slot (slots_at (xs ++ e ∷ ys)) (subst AreDifferent (slots_at_cons x (xs ++ e ∷ ys)) d)
+    let k = different_cons x.at.slot (slots_at (xs ++ e ∷ ys))
+    (subst AreDistinctSlots (slots_at_cons x (xs ++ e ∷ ys)) d)
     in
     let apart = out_of_middle x.at.slot (slots_at xs) e.at.slot (slots_at ys)
     (subst (IsOut x.at.slot) (slots_at_middle xs e ys) k.0) in

@@ -6,8 +6,9 @@ use Rattle.std.proofs.lemmas.List.{append-nil}
 use Rattle.std.proofs.lemmas.Bool.{cases_Bool}
 use Rattle.djq_arena.specs.declared.chain.Pair.{Pair}
 use Rattle.djq_arena.specs.declared.chain.Ends.{Ends}
-use Rattle.djq_arena.specs.Rows.{Row, SlotRows, AreRows, IsRow, IsHeld, slots}
-use Rattle.djq_arena.specs.Chains.{Linked, first_of, AreDifferent, AreBelow, IsOut, IsWithin, pair_at, entered, left}
+use Rattle.djq_arena.specs.Rows.{Row, SlotRows, AreRows, IsRow, IsRowHeld, slots}
+use Rattle.djq_arena.specs.Chains.{Linked, first_of, AreDistinctSlots, AreBelow, IsOut, IsSlotBelow, pair_at, entered}
+use Rattle.djq_arena.specs.Chains.{chain_without}
 use Rattle.djq_arena.specs.Store.{extended, shrunk, beside}
 use Rattle.djq_arena.proofs.Lists.{different_here, different_out, below_front, below_back}
 use Rattle.djq_arena.proofs.Lists.{below_out, last_within, first_within, below_more}
@@ -18,10 +19,10 @@ use Rattle.djq_index.specs.declared.raw.Note.{Note}
 use Rattle.djq_index.specs.declared.raw.Raw.{Raw}
 use Rattle.djq_index.specs.Tuple.{pick}
 use Rattle.djq_index.specs.Entries.{Entry, count_of, group_size, group_of, marks, is_marked}
-use Rattle.djq_index.specs.Table.{AreApart, IsAt}
+use Rattle.djq_index.specs.Table.{TuplesDiffer, IsAt}
 use Rattle.djq_index.specs.Changes.{Removed, Touched, Supported}
 use Rattle.djq_index.specs.Raw.{note_at, entry_of, entries_in, entries_of, slots_at, row_at}
-use Rattle.djq_index.specs.Raw.{ends_at, AreGroups, AreTrailing, IsBare, AreHeads, IsRaw, IsMarked}
+use Rattle.djq_index.specs.Raw.{ends_at, AreGroups, AreTrailing, HoldsTuples, AreHeads, IsRaw, IsMarked}
 use Rattle.djq_index.specs.Raw.{passed}
 use Rattle.djq_index.proofs.Apart.{apart_out, apart_in, apart_here}
 use Rattle.djq_index.proofs.Marks.{marks_middle, marks-append, marks_yes}
@@ -48,7 +49,7 @@ pub find_row : (a : Raw) (p : Place) (u : List ℕ) → IsAt (entries_of a) p u 
 find_row a p u h = let c = cut_at a.notes.items a.rows.rows p u h in record
     { front = c.front; back = c.back; rows = c.is }
 
-module _ (a : Raw) (p : Place) (u : List ℕ) (raw : IsBare a) (f : Found a p u) where
+module _ (a : Raw) (p : Place) (u : List ℕ) (raw : HoldsTuples a) (f : Found a p u) where
   xs : List Entry
   xs = entries_in a.notes.items f.front
 
@@ -73,15 +74,15 @@ module _ (a : Raw) (p : Place) (u : List ℕ) (raw : IsBare a) (f : Found a p u)
   unfolding e its_entry
   e_slot = ap (λ (q : Place). q.slot) (entry_at a.notes.items (record { slot = p.slot; cells = u }))
 
-  all_different : AreDifferent (slots_at (xs ++ e ∷ ys))
-  all_different = subst (λ es. AreDifferent (slots_at es)) cut_is
-      (subst AreDifferent (sym (slots_are a.notes.items a.rows.rows)) raw.rows.different)
+  all_different : AreDistinctSlots (slots_at (xs ++ e ∷ ys))
+  all_different = subst (λ es. AreDistinctSlots (slots_at es)) cut_is
+      (subst AreDistinctSlots (sym (slots_are a.notes.items a.rows.rows)) raw.rows.different)
 
   all_below : AreBelow a.rows.room (slots_at (xs ++ e ∷ ys))
   all_below = subst (λ es. AreBelow a.rows.room (slots_at es)) cut_is
       (subst (AreBelow a.rows.room) (sym (slots_are a.notes.items a.rows.rows)) raw.rows.below)
 
-  pub its_held : IsHeld a.rows.rows p.slot
+  pub its_held : IsRowHeld a.rows.rows p.slot
   its_held = record { cells = u; row = record { front = f.front; back = f.back; is = f.rows } }
 
   pub its_room : p.slot < a.rows.room
@@ -89,7 +90,7 @@ module _ (a : Raw) (p : Place) (u : List ℕ) (raw : IsBare a) (f : Found a p u)
       (record { front = f.front; back = f.back; is = f.rows })
 
 -- and its head
-module _ (a : Raw) (p : Place) (u : List ℕ) (raw : IsBare a) (hs : AreHeads a) (f : Found a p u) where
+module _ (a : Raw) (p : Place) (u : List ℕ) (raw : HoldsTuples a) (hs : AreHeads a) (f : Found a p u) where
   links_below : AreBelow (length a.links.items) (slots_at ((xs a p u raw f) ++ (e a p u raw f) ∷ (ys a p u raw f)))
   links_below = below_more a.rows.room (length a.links.items)
       (slots_at ((xs a p u raw f) ++ (e a p u raw f) ∷ (ys a p u raw f))) hs.links (all_below a p u raw f)
@@ -112,7 +113,7 @@ module _ (a : Raw) (p : Place) (u : List ℕ) (raw : IsBare a) (hs : AreHeads a)
   unfolding head
   its_head_row = row_from_at a.keys.rows head (pick a.key.items u) its_seat
 
-  pub its_head_held : IsHeld a.keys.rows (note_at a.notes.items p.slot).head
+  pub its_head_held : IsRowHeld a.keys.rows (note_at a.notes.items p.slot).head
   its_head_held = record { cells = pick a.key.items u; row = its_head_row }
 
   pub its_head_room : (note_at a.notes.items p.slot).head < length a.ends.items
@@ -123,11 +124,13 @@ module _ (a : Raw) (p : Place) (u : List ℕ) (raw : IsBare a) (hs : AreHeads a)
     hs.ends,
   )
 
-  its_parted : AreGroupsBut a.key.items a.notes.items (left (pair_at a.links.items p.slot) a.links.items) a.keys.rows
+  its_parted : AreGroupsBut a.key.items a.notes.items
+      (chain_without (pair_at a.links.items p.slot) a.links.items) a.keys.rows
       (slice_set a.ends.items (note_at a.notes.items p.slot).head
       (shrunk (pair_at a.links.items p.slot) (ends_at a.ends.items (note_at a.notes.items p.slot).head)))
       ((xs a p u raw f) ++ (ys a p u raw f)) (pick a.key.items u) (note_at a.notes.items p.slot).head
-  its_parted = subst (λ v. AreGroupsBut a.key.items a.notes.items (left (pair_at a.links.items p.slot) a.links.items)
+  its_parted =
+      subst (λ v. AreGroupsBut a.key.items a.notes.items (chain_without (pair_at a.links.items p.slot) a.links.items)
       a.keys.rows
       (slice_set a.ends.items (note_at a.notes.items p.slot).head
       (shrunk (pair_at a.links.items p.slot) (ends_at a.ends.items (note_at a.notes.items p.slot).head)))
@@ -163,7 +166,7 @@ module _ (a : Raw) (p : Place) (u : List ℕ) (raw : IsBare a) (hs : AreHeads a)
       (group_below (length a.links.items) a.key.items ((xs a p u raw f) ++ (e a p u raw f) ∷ (ys a p u raw f))
       (pick a.key.items u) links_below)
 
-  pub its_prev_within : IsWithin (length a.links.items) (pair_at a.links.items p.slot).prev
+  pub its_prev_within : IsSlotBelow (length a.links.items) (pair_at a.links.items p.slot).prev
   its_prev_within = rw (prev_here a.links.items (slots_at (group_of a.key.items (xs a p u raw f) (pick a.key.items u)))
       p.slot (slots_at (group_of a.key.items (ys a p u raw f) (pick a.key.items u))) group_chain)
       (last_within (length a.links.items) None (slots_at (group_of a.key.items (xs a p u raw f) (pick a.key.items u)))
@@ -171,7 +174,7 @@ module _ (a : Raw) (p : Place) (u : List ℕ) (raw : IsBare a) (hs : AreHeads a)
       (below_front (length a.links.items) (slots_at (group_of a.key.items (xs a p u raw f) (pick a.key.items u)))
       (p.slot ∷ slots_at (group_of a.key.items (ys a p u raw f) (pick a.key.items u))) chain_below))
 
-  pub its_next_within : IsWithin (length a.links.items) (pair_at a.links.items p.slot).next
+  pub its_next_within : IsSlotBelow (length a.links.items) (pair_at a.links.items p.slot).next
   its_next_within = rw (next_here a.links.items (slots_at (group_of a.key.items (xs a p u raw f) (pick a.key.items u)))
       p.slot (slots_at (group_of a.key.items (ys a p u raw f) (pick a.key.items u))) group_chain)
       (first_within (length a.links.items) (slots_at (group_of a.key.items (ys a p u raw f) (pick a.key.items u)))
@@ -197,7 +200,7 @@ pub record Leaves (a b : Raw) (i : ℕ) (follower : Option ℕ) : Type 0 where
 -- and to the heads
 pub record Goes (a b : Raw) (i : ℕ) (follower : Option ℕ) : Type 0 where
   pub leaves : Leaves a b i follower
-  pub links : b.links.items ≡ left (pair_at a.links.items i) a.links.items
+  pub links : b.links.items ≡ chain_without (pair_at a.links.items i) a.links.items
   pub ends : b.ends.items
       ≡ slice_set a.ends.items (note_at a.notes.items i).head
       (shrunk (pair_at a.links.items i) (ends_at a.ends.items (note_at a.notes.items i).head))
@@ -213,7 +216,7 @@ none_or_some : (o : Option ℕ) → (o ≡ None) ⊎ (o ≡ None → ⊥)
 none_or_some None = inl refl
 none_or_some (Some x) = inr (λ h. cc)
 
-module _ (a b : Raw) (p : Place) (u : List ℕ) (n : Option ℕ) (raw : IsBare a) (f : Found a p u)
+module _ (a b : Raw) (p : Place) (u : List ℕ) (n : Option ℕ) (raw : HoldsTuples a) (f : Found a p u)
     (g : Leaves a b p.slot n) where
   rest : List Entry
   rest = entries_in a.notes.items f.front ++ entries_in a.notes.items f.back
@@ -223,7 +226,7 @@ module _ (a b : Raw) (p : Place) (u : List ℕ) (n : Option ℕ) (raw : IsBare a
       (g.removed f.front (record { slot = p.slot; cells = u }) f.back f.rows refl)
       ∙ entries_in-append a.notes.items f.front f.back
 
-  pub gone_bare : IsBare b
+  pub gone_bare : HoldsTuples b
   unfolding rest xs ys e
   gone_bare = record {
     rows = g.rows_law;
@@ -231,7 +234,7 @@ module _ (a b : Raw) (p : Place) (u : List ℕ) (n : Option ℕ) (raw : IsBare a
     kind = kind_kept a.kind b.kind a.rows.width b.rows.width a.key.items b.key.items g.kind g.width g.key raw.kind;
     notes = rw (g.room, g.notes) raw.notes;
     apart = rw rest_is (apart_out (xs a p u raw f) (e a p u raw f) (ys a p u raw f)
-        (subst AreApart (cut_is a p u raw f) raw.apart));
+        (subst TuplesDiffer (cut_is a p u raw f) raw.apart));
     trailing = rw rest_is
         (trailing_out (xs a p u raw f) (e a p u raw f) (ys a p u raw f)
         (subst AreTrailing (cut_is a p u raw f) raw.trailing));
@@ -255,7 +258,7 @@ module _ (a b : Raw) (p : Place) (u : List ℕ) (n : Option ℕ) (raw : IsBare a
     tuple = e_tuple a p u raw f;
   }
 
-module _ (a b : Raw) (p : Place) (u : List ℕ) (n : Option ℕ) (raw : IsBare a) (hs : AreHeads a) (f : Found a p u)
+module _ (a b : Raw) (p : Place) (u : List ℕ) (n : Option ℕ) (raw : HoldsTuples a) (hs : AreHeads a) (f : Found a p u)
     (g : Goes a b p.slot n) where
   gone_but : AreGroupsBut a.key.items a.notes.items b.links.items a.keys.rows b.ends.items
       (rest a b p u n raw f g.leaves) (pick a.key.items u) (note_at a.notes.items p.slot).head
@@ -273,7 +276,7 @@ module _ (a b : Raw) (p : Place) (u : List ℕ) (n : Option ℕ) (raw : IsBare a
         row.back b.ends.items (rest a b p u n raw f g.leaves) (pick a.key.items u) h
         (subst (λ ks. AreGroupsBut a.key.items a.notes.items b.links.items ks b.ends.items
         (rest a b p u n raw f g.leaves) (pick a.key.items u) h) row.is gone_but) refl
-        (subst (λ ks. AreDifferent (slots ks)) row.is hs.keys.different)
+        (subst (λ ks. AreDistinctSlots (slots ks)) row.is hs.keys.different)
         (emptied a.key.items (rest a b p u n raw f g.leaves) (pick a.key.items u) (ends_at b.ends.items h).first
         (ap (λ (v : Ends). v.first) (gone_but.headed h (pick a.key.items u) gone_but.mine)) none)))
     | inr some ↦ subst (λ rs. AreGroups a.key.items a.notes.items b.links.items rs b.ends.items
@@ -314,7 +317,7 @@ leaves_from a b i j follower ji kind key law width room removed notes marked nex
 
 pub goes_from : (a b : Raw) (i j h : ℕ) (follower : Option ℕ) → j ≡ i → h ≡ (note_at a.notes.items i).head
     → Leaves a b i follower
-    → b.links.items ≡ left (pair_at a.links.items j) a.links.items
+    → b.links.items ≡ chain_without (pair_at a.links.items j) a.links.items
     → b.ends.items ≡ slice_set a.ends.items h (shrunk (pair_at a.links.items j) (ends_at a.ends.items h))
     → AreRows b.keys → b.keys.width ≡ a.keys.width → b.keys.room ≡ a.keys.room
     → ((ends_at b.ends.items h).first ≡ None → (ks : List Row) (r : Row) (ls : List Row) → a.keys.rows ≡ ks ++ r ∷ ls
@@ -323,7 +326,7 @@ pub goes_from : (a b : Raw) (i j h : ℕ) (follower : Option ℕ) → j ≡ i �
     → Goes a b i follower
 goes_from a b i j h follower ji hi leaves links ends klaw kwidth kroom emptied_one kept_one = record {
   leaves = leaves;
-  links = links ∙ ap (λ (k : ℕ). left (pair_at a.links.items k) a.links.items) ji;
+  links = links ∙ ap (λ (k : ℕ). chain_without (pair_at a.links.items k) a.links.items) ji;
   ends = ends ∙ ap₂ (λ (k m : ℕ). slice_set a.ends.items k (shrunk (pair_at a.links.items m) (ends_at a.ends.items k)))
       hi ji;
   keys_law = klaw;
@@ -377,7 +380,7 @@ supports_changed a b i j m note same was at head mark set = record {
   mark = mark ∙ ap (λ (n : Note). n.marked) was ∙ ap (λ (k : ℕ). (note_at a.notes.items k).marked) at;
 }
 
-module _ (a b : Raw) (p : Place) (u : List ℕ) (note : Note) (raw : IsBare a) (f : Found a p u)
+module _ (a b : Raw) (p : Place) (u : List ℕ) (note : Note) (raw : HoldsTuples a) (f : Found a p u)
     (r : Renotes a b p.slot note) where
   after : Entry
   after = record { at = record { slot = p.slot }; tuple = u; supports = note.supports; marked = note.marked }
@@ -390,7 +393,7 @@ module _ (a b : Raw) (p : Place) (u : List ℕ) (note : Note) (raw : IsBare a) (
   renoted_is = ap₂ (λ (ns : List Note) (rs : SlotRows). entries_in ns rs.rows) r.notes r.rows
       ∙ ap (entries_in (slice_set a.notes.items p.slot note)) f.rows
       ∙ entries_set a.notes.items p.slot note f.front (record { slot = p.slot; cells = u }) f.back refl note_within
-      (subst (λ rs. AreDifferent (slots rs)) f.rows raw.rows.different)
+      (subst (λ rs. AreDistinctSlots (slots rs)) f.rows raw.rows.different)
 
   renoted_alike : AreAlike (entries_of a) (entries_of b)
   renoted_alike = subst (λ rs. AreAlike (entries_of a) (entries_in b.notes.items rs.rows)) (sym r.rows)
@@ -408,7 +411,7 @@ module _ (a b : Raw) (p : Place) (u : List ℕ) (note : Note) (raw : IsBare a) (
   unfolding after
   after_slot = sym (e_slot a p u raw f)
 
-  pub renoted_bare : IsBare b
+  pub renoted_bare : HoldsTuples b
   renoted_bare = record {
     rows = rw r.rows raw.rows;
     columns = rw (r.key, r.rows) raw.columns;
@@ -479,7 +482,8 @@ pub record Touches (a b : Raw) (i : ℕ) : Type 0 where
   pub known_is : known ≡ slice_set a.ends.items (note_at a.notes.items i).head
       (shrunk (pair_at a.links.items i) (ends_at a.ends.items (note_at a.notes.items i).head))
   pub links : b.links.items
-      ≡ entered (ends_at known (note_at a.notes.items i).head).last i (left (pair_at a.links.items i) a.links.items)
+      ≡ entered (ends_at known (note_at a.notes.items i).head).last i
+      (chain_without (pair_at a.links.items i) a.links.items)
   pub ends : b.ends.items
       ≡ slice_set known (note_at a.notes.items i).head (extended i (ends_at known (note_at a.notes.items i).head))
   pub keys : b.keys ≡ a.keys
@@ -489,25 +493,25 @@ unfolding group_size
 many_none key w = refl
 
 -- what is asked for joining again
-module _ (a : Raw) (p : Place) (u : List ℕ) (raw : IsBare a) (f : Found a p u) where
-  rest_different : AreDifferent (slots_at (xs a p u raw f ++ ys a p u raw f))
-  rest_different = subst AreDifferent (sym (slots_at-append (xs a p u raw f) (ys a p u raw f)))
+module _ (a : Raw) (p : Place) (u : List ℕ) (raw : HoldsTuples a) (f : Found a p u) where
+  rest_different : AreDistinctSlots (slots_at (xs a p u raw f ++ ys a p u raw f))
+  rest_different = subst AreDistinctSlots (sym (slots_at-append (xs a p u raw f) (ys a p u raw f)))
       (different_out (slots_at (xs a p u raw f)) (e a p u raw f).at.slot (slots_at (ys a p u raw f))
-      (subst AreDifferent (slots_at_middle (xs a p u raw f) (e a p u raw f) (ys a p u raw f))
+      (subst AreDistinctSlots (slots_at_middle (xs a p u raw f) (e a p u raw f) (ys a p u raw f))
       (all_different a p u raw f)))
 
   rest_out : IsOut p.slot (slots_at (xs a p u raw f ++ ys a p u raw f))
   rest_out = subst (λ i. IsOut i (slots_at (xs a p u raw f ++ ys a p u raw f))) (e_slot a p u raw f)
       (subst (IsOut (e a p u raw f).at.slot) (sym (slots_at-append (xs a p u raw f) (ys a p u raw f)))
       (different_here (slots_at (xs a p u raw f)) (e a p u raw f).at.slot (slots_at (ys a p u raw f))
-      (subst AreDifferent (slots_at_middle (xs a p u raw f) (e a p u raw f) (ys a p u raw f))
+      (subst AreDistinctSlots (slots_at_middle (xs a p u raw f) (e a p u raw f) (ys a p u raw f))
       (all_different a p u raw f))))
 
   pub its_number : p.slot < 4294967295
   its_number = omega (arith, its_room a p u raw f, raw.rows.numbers)
 
-module _ (a : Raw) (p : Place) (u : List ℕ) (raw : IsBare a) (hs : AreHeads a) (f : Found a p u) where
-  rest_below : AreBelow (length (left (pair_at a.links.items p.slot) a.links.items))
+module _ (a : Raw) (p : Place) (u : List ℕ) (raw : HoldsTuples a) (hs : AreHeads a) (f : Found a p u) where
+  rest_below : AreBelow (length (chain_without (pair_at a.links.items p.slot) a.links.items))
       (slots_at (xs a p u raw f ++ ys a p u raw f))
   rest_below = rw length-left
       (subst (AreBelow (length a.links.items)) (sym (slots_at-append (xs a p u raw f) (ys a p u raw f)))
@@ -517,22 +521,22 @@ module _ (a : Raw) (p : Place) (u : List ℕ) (raw : IsBare a) (hs : AreHeads a)
 
   pub its_last_within : (h : ℕ) (known : List Ends) → h ≡ (note_at a.notes.items p.slot).head → known
       ≡ slice_set a.ends.items h (shrunk (pair_at a.links.items p.slot) (ends_at a.ends.items h))
-      → IsWithin (length (left (pair_at a.links.items p.slot) a.links.items)) (ends_at known h).last
+      → IsSlotBelow (length (chain_without (pair_at a.links.items p.slot) a.links.items)) (ends_at known h).last
   its_last_within h known hi is =
       let head = (note_at a.notes.items p.slot).head in
       let g = its_parted a p u raw hs f in
       let all : known ≡ slice_set a.ends.items head (shrunk (pair_at a.links.items p.slot) (ends_at a.ends.items head))
       = is ∙ ap (λ (k : ℕ). slice_set a.ends.items k
       (shrunk (pair_at a.links.items p.slot) (ends_at a.ends.items k))) hi in
-      subst (IsWithin (length (left (pair_at a.links.items p.slot) a.links.items)))
+      subst (IsSlotBelow (length (chain_without (pair_at a.links.items p.slot) a.links.items)))
       (sym (ap₂ (λ (ks : List Ends) (k : ℕ). (ends_at ks k).last) all hi
       ∙ ap (λ (v : Ends). v.last) (g.headed head (pick a.key.items u) g.mine)))
-      (last_within (length (left (pair_at a.links.items p.slot) a.links.items)) None
+      (last_within (length (chain_without (pair_at a.links.items p.slot) a.links.items)) None
       (slots_at (group_of a.key.items (xs a p u raw f ++ ys a p u raw f) (pick a.key.items u))) tt
-      (group_below (length (left (pair_at a.links.items p.slot) a.links.items)) a.key.items
+      (group_below (length (chain_without (pair_at a.links.items p.slot) a.links.items)) a.key.items
       (xs a p u raw f ++ ys a p u raw f) (pick a.key.items u) rest_below))
 
-module _ (a b : Raw) (p : Place) (u : List ℕ) (raw : IsBare a) (f : Found a p u)
+module _ (a b : Raw) (p : Place) (u : List ℕ) (raw : HoldsTuples a) (f : Found a p u)
     (plain_one : is_marked (entries_of a) u ≡ false) (at : IsAt (entries_of a) p u) (t : Renews a b p.slot) where
   new_note : Note
   new_note = record {
@@ -571,7 +575,7 @@ module _ (a b : Raw) (p : Place) (u : List ℕ) (raw : IsBare a) (f : Found a p 
         head = (note_at a.notes.items p.slot).head;
         marked = true;
       }) (f.front ++ f.back) (record { slot = p.slot; cells = u }) [] refl notes_within
-      (subst (λ rs. AreDifferent (slots rs)) rows_are t.rows_law.different)
+      (subst (λ rs. AreDistinctSlots (slots rs)) rows_are t.rows_law.different)
       ∙ ap₂ (λ (ds es : List Entry). ds ++ record {
         at = record { slot = p.slot };
         tuple = u;
@@ -583,7 +587,7 @@ module _ (a b : Raw) (p : Place) (u : List ℕ) (raw : IsBare a) (f : Found a p 
   unfolding e its_entry
   e_plain = entry_marked a.notes.items (record { slot = p.slot; cells = u }) ∙ note_marked a p u raw at ∙ plain_one
 
-  pub touched_bare : IsBare b
+  pub touched_bare : HoldsTuples b
   unfolding new_entry
   touched_bare = record {
     rows = t.rows_law;
@@ -605,8 +609,8 @@ module _ (a b : Raw) (p : Place) (u : List ℕ) (raw : IsBare a) (f : Found a p 
         ∙ ap (λ (es : List Entry). first_of (slots_at (marks es))) (sym touched_is);
   }
     where
-      was_apart : AreApart (xs a p u raw f ++ e a p u raw f ∷ ys a p u raw f)
-      was_apart = subst AreApart (cut_is a p u raw f) raw.apart
+      was_apart : TuplesDiffer (xs a p u raw f ++ e a p u raw f ∷ ys a p u raw f)
+      was_apart = subst TuplesDiffer (cut_is a p u raw f) raw.apart
 
       absent : count_of (xs a p u raw f ++ ys a p u raw f) u ≡ 0
       absent = subst (λ v. count_of (xs a p u raw f ++ ys a p u raw f) v ≡ 0) (e_tuple a p u raw f)
@@ -633,7 +637,7 @@ module _ (a b : Raw) (p : Place) (u : List ℕ) (raw : IsBare a) (f : Found a p 
     last = many_none a.key.items (pick a.key.items u);
   }
 
-module _ (a b : Raw) (p : Place) (u : List ℕ) (raw : IsBare a) (hs : AreHeads a) (f : Found a p u)
+module _ (a b : Raw) (p : Place) (u : List ℕ) (raw : HoldsTuples a) (hs : AreHeads a) (f : Found a p u)
     (plain_one : is_marked (entries_of a) u ≡ false) (at : IsAt (entries_of a) p u) (t : Touches a b p.slot) where
   touched_groups : AreGroups a.key.items b.notes.items b.links.items a.keys.rows b.ends.items
       ((xs a p u raw f ++ ys a p u raw f) ++ (new_entry a b p u raw f plain_one at t.renews) ∷ [])
@@ -646,7 +650,8 @@ module _ (a b : Raw) (p : Place) (u : List ℕ) (raw : IsBare a) (hs : AreHeads 
         head = (note_at a.notes.items p.slot).head;
         marked = true;
       }))
-      (left (pair_at a.links.items p.slot) a.links.items) a.keys.rows t.known (xs a p u raw f ++ ys a p u raw f)
+      (chain_without (pair_at a.links.items p.slot) a.links.items) a.keys.rows t.known
+      (xs a p u raw f ++ ys a p u raw f)
       (pick a.key.items u) (note_at a.notes.items p.slot).head
       (record {
         at = record { slot = p.slot };
@@ -671,9 +676,11 @@ module _ (a b : Raw) (p : Place) (u : List ℕ) (raw : IsBare a) (hs : AreHeads 
         marked = true;
       }) (notes_within a b p u raw f plain_one at t.renews)))
     where
-      parted : AreGroupsBut a.key.items a.notes.items (left (pair_at a.links.items p.slot) a.links.items) a.keys.rows
+      parted : AreGroupsBut a.key.items a.notes.items
+          (chain_without (pair_at a.links.items p.slot) a.links.items) a.keys.rows
           t.known (xs a p u raw f ++ ys a p u raw f) (pick a.key.items u) (note_at a.notes.items p.slot).head
-      parted = subst (λ ks. AreGroupsBut a.key.items a.notes.items (left (pair_at a.links.items p.slot) a.links.items)
+      parted = subst
+          (λ ks. AreGroupsBut a.key.items a.notes.items (chain_without (pair_at a.links.items p.slot) a.links.items)
           a.keys.rows ks (xs a p u raw f ++ ys a p u raw f) (pick a.key.items u) (note_at a.notes.items p.slot).head)
           (sym t.known_is) (its_parted a p u raw hs f)
 
@@ -715,7 +722,7 @@ pub touches_from : (a m b : Raw) (i j : ℕ) (note : Note) → j ≡ i → note 
     → IsMarked m b j
     → (known : List Ends) → known
     ≡ slice_set a.ends.items note.head (shrunk (pair_at a.links.items j) (ends_at a.ends.items note.head))
-    → (links : List Pair) → links ≡ left (pair_at a.links.items j) a.links.items
+    → (links : List Pair) → links ≡ chain_without (pair_at a.links.items j) a.links.items
     → m.links.items ≡ entered (ends_at known note.head).last j links
     → m.ends.items ≡ slice_set known note.head (extended j (ends_at known note.head))
     → m.keys ≡ a.keys → Touches a b i
@@ -727,11 +734,12 @@ touches_from a m b i j note ji ni renews k known known_is links links_is more en
       (shrunk (pair_at a.links.items k) (ends_at a.ends.items n.head))) ji ni;
   links = k.links ∙ more ∙ ap₂ (λ (k : ℕ) (n : Note). entered (ends_at known n.head).last k links) ji ni
       ∙ ap (λ (ls : List Pair). entered (ends_at known (note_at a.notes.items i).head).last i ls)
-      (links_is ∙ ap (λ (k : ℕ). left (pair_at a.links.items k) a.links.items) ji);
+      (links_is ∙ ap (λ (k : ℕ). chain_without (pair_at a.links.items k) a.links.items) ji);
   ends = k.ends ∙ ends ∙ ap₂ (λ (k : ℕ) (n : Note). slice_set known n.head (extended k (ends_at known n.head))) ji ni;
   keys = k.keys ∙ keys;
 }
 
-pub same_tuple_at : (a : Raw) (p : Place) (u v : List ℕ) → IsBare a → IsAt (entries_of a) p u → IsAt (entries_of a) p v
+pub same_tuple_at : (a : Raw) (p : Place) (u v : List ℕ) → HoldsTuples a → IsAt (entries_of a) p u
+    → IsAt (entries_of a) p v
     → is_marked (entries_of a) v ≡ false → is_marked (entries_of a) u ≡ false
 same_tuple_at a p u v raw at other none = sym (note_marked a p u raw at) ∙ note_marked a p v raw other ∙ none

@@ -2,10 +2,10 @@
 use Rattle.std.proofs.Common.{◌≡◌, ℕ, suc, ◌+◌, ◌<◌, Bool, true, false, cond, List, [], ◌∷◌}
 use Rattle.std.proofs.Common.{◌++◌, length, refl, ap, subst, sym, ◌∙◌, arith, inl, inr}
 use Rattle.std.proofs.lemmas.Bool.{cases_Bool, false≢true}
-use Rattle.djq_index.specs.Tuple.{same, pick, one}
+use Rattle.djq_index.specs.Tuple.{same, pick, one_if}
 use Rattle.djq_index.specs.Entries.{Entry, supports_of, count_of, group_size, group_of, marks, plain, is_marked, bare}
 use Rattle.djq_index.specs.Entries.{unmarked}
-use Rattle.djq_index.specs.Table.{AreApart, AreLast}
+use Rattle.djq_index.specs.Table.{TuplesDiffer, AreLast}
 use Rattle.djq_index.proofs.Tuples.{same_is, is_same, same_cases, one_other, one_true, one_false}
 use Rattle.djq_index.proofs.Counts.{cnt_cons, many_cons, cnt_split, many_split}
 use Rattle.djq_index.proofs.Groups.{grp_yes, grp_no}
@@ -135,28 +135,28 @@ unfolding is_marked
 is_marked_else e es u h = rw h refl
 
 marks_cons : (e : Entry) (es : List Entry) (u : List ℕ) → count_of (marks (e ∷ es)) u
-    ≡ cond e.marked (one (same e.tuple u)) 0 + count_of (marks es) u
+    ≡ cond e.marked (one_if (same e.tuple u)) 0 + count_of (marks es) u
 unfolding count_of
 marks_cons e es u = elim (cases_Bool e.marked) [
   | inl marked ↦ rw (marks_yes e es marked, marked) (cnt_cons e (marks es) u)
   | inr other ↦ rw (marks_no e es other, other) (omega arith)
 ]
 
-unmarked_none : (u : List ℕ) → count_of (marks []) u ≡ one (is_marked [] u)
-unfolding count_of marks one is_marked
+unmarked_none : (u : List ℕ) → count_of (marks []) u ≡ one_if (is_marked [] u)
+unfolding count_of marks one_if is_marked
 unmarked_none u = refl
 
 by_test : (b : Bool) (n : ℕ) → n ≡ 0 → cond b n 0 ≡ 0
 by_test true n h = h
 by_test false n h = refl
 
-cond_one : (b : Bool) (n : ℕ) → n ≡ 1 → cond b n 0 ≡ one b
-unfolding one
+cond_one : (b : Bool) (n : ℕ) → n ≡ 1 → cond b n 0 ≡ one_if b
+unfolding one_if
 cond_one true n h = h
 cond_one false n h = refl
 
-pub marked_cnt : (es : List Entry) (u : List ℕ) → AreApart es → count_of (marks es) u ≡ one (is_marked es u)
-unfolding AreApart
+pub marked_cnt : (es : List Entry) (u : List ℕ) → TuplesDiffer es → count_of (marks es) u ≡ one_if (is_marked es u)
+unfolding TuplesDiffer
 marked_cnt [] u h = unmarked_none u
 marked_cnt (e ∷ es) u h =
     elim (same_cases e.tuple u) [
@@ -168,7 +168,7 @@ marked_cnt (e ∷ es) u h =
             marks_cons e es u,
             cnt_split es u,
             absent,
-            cond_one e.marked (one (same e.tuple u))
+            cond_one e.marked (one_if (same e.tuple u))
                 (one_true (same e.tuple u) test),
           )))
       | inr other ↦ rw (is_marked_else e es u other)
@@ -176,7 +176,7 @@ marked_cnt (e ∷ es) u h =
             arith,
             marks_cons e es u,
             marked_cnt es u h.1,
-            by_test e.marked (one (same e.tuple u))
+            by_test e.marked (one_if (same e.tuple u))
                 (one_other e.tuple u other),
           ))
     ]

@@ -4,8 +4,8 @@ use Rattle.std.proofs.Common.{ap, ap₂, subst, sym, ◌∙◌, arith, append_as
 use Rattle.std.proofs.lemmas.List.{map-append, reverse-append}
 use Rattle.std.proofs.lemmas.Bool.{cases_Bool, ne_eqb, cases_eq}
 use Rattle.djq_arena.specs.declared.chain.Pair.{Pair}
-use Rattle.djq_arena.specs.Rows.{Row, IsAbsent, IsRow, IsHeld, slots}
-use Rattle.djq_arena.specs.Chains.{Linked, first_of, last_of, AreDifferent, AreBelow, IsOut, pair_at}
+use Rattle.djq_arena.specs.Rows.{Row, IsAbsent, IsRow, IsRowHeld, slots}
+use Rattle.djq_arena.specs.Chains.{Linked, first_of, last_of, AreDistinctSlots, AreBelow, IsOut, pair_at}
 use Rattle.djq_arena.specs.Store.{ends_of}
 use Rattle.djq_arena.proofs.Lists.{last_append, below_here}
 use Rattle.djq_arena.proofs.Chaining.{prev_here, next_here}
@@ -16,9 +16,9 @@ use Rattle.djq_index.specs.declared.raw.Raw.{Raw}
 use Rattle.djq_index.specs.Tuple.{same}
 use Rattle.djq_index.specs.Entries.{Entry, supports_of, count_of, group_size, group_of, marks, plain, is_marked}
 use Rattle.djq_index.specs.Entries.{head_at, last_at}
-use Rattle.djq_index.specs.Table.{AreApart, IsAt, IsLive}
+use Rattle.djq_index.specs.Table.{TuplesDiffer, IsAt, IsOccupied}
 use Rattle.djq_index.specs.Raw.{note_at, entry_of, entries_in, entries_of, slots_at, row_at}
-use Rattle.djq_index.specs.Raw.{AreAllMarked, AreTrailing, IsBare, place_of}
+use Rattle.djq_index.specs.Raw.{AreAllMarked, AreTrailing, HoldsTuples, place_of}
 use Rattle.djq_index.proofs.Tuples.{same_other, one_false, is_same}
 use Rattle.djq_index.proofs.Counts.{length_grp}
 use Rattle.djq_index.proofs.Apart.{supp_at, there}
@@ -139,8 +139,8 @@ pub at_row : (notes : List Note) (rows : List Row) (p : Place) (u : List ℕ) �
     → IsRow rows p.slot u
 at_row notes rows p u a = let c = cut_at notes rows p u a in record { front = c.front; back = c.back; is = c.is }
 
-pub live_held : (notes : List Note) (rows : List Row) (p : Place) → IsLive (entries_in notes rows) p
-    → IsHeld rows p.slot
+pub live_held : (notes : List Note) (rows : List Row) (p : Place) → IsOccupied (entries_in notes rows) p
+    → IsRowHeld rows p.slot
 live_held notes rows p l = record { cells = l.tuple; row = at_row notes rows p l.tuple l.is_at }
 
 -- slots
@@ -229,8 +229,8 @@ pub row_at_nil : (i : ℕ) → row_at [] i ≡ None
 unfolding row_at
 row_at_nil i = refl
 
-different_head : (x : ℕ) (xs : List ℕ) → AreDifferent (x ∷ xs) → IsOut x xs × AreDifferent xs
-unfolding AreDifferent
+different_head : (x : ℕ) (xs : List ℕ) → AreDistinctSlots (x ∷ xs) → IsOut x xs × AreDistinctSlots xs
+unfolding AreDistinctSlots
 different_head x xs h = h
 
 out_middle : (x : ℕ) (xs : List ℕ) (i : ℕ) (ys : List ℕ) → IsOut x (xs ++ i ∷ ys) → i ≡ x → ⊥
@@ -239,29 +239,29 @@ out_middle x [] i ys h same = h.0 same
 out_middle x (z ∷ xs) i ys h same = out_middle x xs i ys h.1 same
 
 not_first : (r : Row) (rs : List Row) (i : ℕ) (u : List ℕ) (ss : List Row)
-    → AreDifferent (slots (r ∷ (rs ++ record { slot = i; cells = u } ∷ ss))) → r.slot ≡ i → ⊥
+    → AreDistinctSlots (slots (r ∷ (rs ++ record { slot = i; cells = u } ∷ ss))) → r.slot ≡ i → ⊥
 not_first r rs i u ss d same =
     let h = (different_head r.slot (slots (rs ++ record { slot = i; cells = u } ∷ ss))
-    (subst AreDifferent (slot_first r (rs ++ record { slot = i; cells = u } ∷ ss)) d)).0 in
+    (subst AreDistinctSlots (slot_first r (rs ++ record { slot = i; cells = u } ∷ ss)) d)).0 in
     out_middle r.slot (slots rs) i (slots ss)
     (subst (IsOut r.slot)
     (slots-append rs (record { slot = i; cells = u } ∷ ss)
     ∙ ap (λ (zs : List ℕ). slots rs ++ zs) (slot_first (record { slot = i; cells = u }) ss)) h) (sym same)
 
 pub row_at_middle : (rs : List Row) (i : ℕ) (u : List ℕ) (ss : List Row)
-    → AreDifferent (slots (rs ++ record { slot = i; cells = u } ∷ ss))
+    → AreDistinctSlots (slots (rs ++ record { slot = i; cells = u } ∷ ss))
     → row_at (rs ++ record { slot = i; cells = u } ∷ ss) i ≡ Some u
 row_at_middle [] i u ss d = row_at_first (record { slot = i; cells = u }) ss i refl
 row_at_middle (r ∷ rs) i u ss d =
     row_at_other r (rs ++ record { slot = i; cells = u } ∷ ss) i (not_first r rs i u ss d)
     ∙ row_at_middle rs i u ss
     (different_head r.slot (slots (rs ++ record { slot = i; cells = u } ∷ ss))
-    (subst AreDifferent (slot_first r (rs ++ record { slot = i; cells = u } ∷ ss)) d)).1
+    (subst AreDistinctSlots (slot_first r (rs ++ record { slot = i; cells = u } ∷ ss)) d)).1
 
-pub row_at_row : (rows : List Row) (i : ℕ) (u : List ℕ) → AreDifferent (slots rows) → IsRow rows i u → row_at rows i
+pub row_at_row : (rows : List Row) (i : ℕ) (u : List ℕ) → AreDistinctSlots (slots rows) → IsRow rows i u → row_at rows i
     ≡ Some u
 row_at_row rows i u d h = ap (λ (rs : List Row). row_at rs i) h.is
-    ∙ row_at_middle h.front i u h.back (subst (λ rs. AreDifferent (slots rs)) h.is d)
+    ∙ row_at_middle h.front i u h.back (subst (λ rs. AreDistinctSlots (slots rs)) h.is d)
 
 more_row : (r : Row) (rs : List Row) (i : ℕ) (u : List ℕ) → IsRow rs i u → IsRow (r ∷ rs) i u
 more_row r rs i u h = record { front = r ∷ h.front; back = h.back; is = ap (λ (qs : List Row). r ∷ qs) h.is }
@@ -288,7 +288,7 @@ row_below n rows i u b h =
     (subst (AreBelow n) (ap slots h.is ∙ slots-append h.front (record { slot = i; cells = u } ∷ h.back)
     ∙ ap (λ (zs : List ℕ). slots h.front ++ zs) (slot_first (record { slot = i; cells = u }) h.back)) b)
 
-pub live_below : (r : Raw) (p : Place) → IsBare r → IsLive (entries_of r) p → p.slot < r.rows.room
+pub live_below : (r : Raw) (p : Place) → HoldsTuples r → IsOccupied (entries_of r) p → p.slot < r.rows.room
 live_below r p h l = row_below r.rows.room r.rows.rows p.slot l.tuple h.rows.below
     (at_row r.notes.items r.rows.rows p l.tuple l.is_at)
 
@@ -334,15 +334,15 @@ trailing_split (e ∷ es) h =
           (ap (λ (ds : List Entry). e ∷ ds) (trailing_split es h.1))
     ]
 
-apart_first : (x : Entry) (es : List Entry) → AreApart (x ∷ es) → (count_of es x.tuple ≡ 0) × AreApart es
-unfolding AreApart
+apart_first : (x : Entry) (es : List Entry) → TuplesDiffer (x ∷ es) → (count_of es x.tuple ≡ 0) × TuplesDiffer es
+unfolding TuplesDiffer
 apart_first x es h = h
 
 not_there : (xs : List Entry) (e : Entry) (ys : List Entry) (t : List ℕ) → e.tuple ≡ t → count_of (xs ++ e ∷ ys) t ≡ 0
     → ⊥
 not_there xs e ys t same_one none = let some = there (xs ++ e ∷ ys) xs e ys t refl same_one in omega (arith, some, none)
 
-marked_middle : (xs : List Entry) (e : Entry) (ys : List Entry) (u : List ℕ) → AreApart (xs ++ e ∷ ys) → e.tuple ≡ u
+marked_middle : (xs : List Entry) (e : Entry) (ys : List Entry) (u : List ℕ) → TuplesDiffer (xs ++ e ∷ ys) → e.tuple ≡ u
     → is_marked (xs ++ e ∷ ys) u ≡ e.marked
 marked_middle [] e ys u apart here = is_marked_here e ys u (is_same e.tuple u here)
 marked_middle (x ∷ xs) e ys u apart here =
@@ -351,10 +351,10 @@ marked_middle (x ∷ xs) e ys u apart here =
     (same_other x.tuple u (λ same_one. not_there xs e ys x.tuple (here ∙ sym same_one) h.0))
     ∙ marked_middle xs e ys u h.1 here
 
-pub marked_at : (es xs : List Entry) (e : Entry) (ys : List Entry) (u : List ℕ) → AreApart es → es ≡ xs ++ e ∷ ys
+pub marked_at : (es xs : List Entry) (e : Entry) (ys : List Entry) (u : List ℕ) → TuplesDiffer es → es ≡ xs ++ e ∷ ys
     → e.tuple ≡ u → is_marked es u ≡ e.marked
 marked_at es xs e ys u apart is here = ap (λ (ds : List Entry). is_marked ds u) is
-    ∙ marked_middle xs e ys u (subst AreApart is apart) here
+    ∙ marked_middle xs e ys u (subst TuplesDiffer is apart) here
 
 pub entry_of_row : (notes : List Note) (e : Entry) (r : Row) (p : Place) → e ≡ entry_of notes r → e.at ≡ p → r.slot
     ≡ p.slot
@@ -362,7 +362,7 @@ entry_of_row notes e r p h at = ap (λ (q : Place). q.slot)
     (sym (entry_at notes r) ∙ ap (λ (d : Entry). d.at) (sym h) ∙ at)
 
 -- what a note says of its tuple
-pub note_supports : (r : Raw) (p : Place) (u : List ℕ) → IsBare r → IsAt (entries_of r) p u
+pub note_supports : (r : Raw) (p : Place) (u : List ℕ) → HoldsTuples r → IsAt (entries_of r) p u
     → (note_at r.notes.items p.slot).supports ≡ supports_of (entries_of r) u
 note_supports r p u h a =
     let c = cut_entries r.notes.items r.rows.rows a.front a.entry a.back a.is in
@@ -370,7 +370,7 @@ note_supports r p u h a =
     ∙ sym (entry_supports r.notes.items c.row) ∙ ap (λ (d : Entry). d.supports) (sym c.e_is)
     ∙ sym (supp_at (entries_of r) a.front a.entry a.back u h.apart a.is a.tuple)
 
-pub note_marked : (r : Raw) (p : Place) (u : List ℕ) → IsBare r → IsAt (entries_of r) p u
+pub note_marked : (r : Raw) (p : Place) (u : List ℕ) → HoldsTuples r → IsAt (entries_of r) p u
     → (note_at r.notes.items p.slot).marked ≡ is_marked (entries_of r) u
 note_marked r p u h a =
     let c = cut_entries r.notes.items r.rows.rows a.front a.entry a.back a.is in

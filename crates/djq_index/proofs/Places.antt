@@ -2,7 +2,7 @@
 use Rattle.std.proofs.Common.{◌≡◌, ℕ, List, [], ◌∷◌, ◌++◌, refl, ap, subst, sym, ◌∙◌}
 use Rattle.djq_index.specs.declared.place.Place.{Place}
 use Rattle.djq_index.specs.Entries.{Entry}
-use Rattle.djq_index.specs.Table.{IsElsewhere, ArePlaced, IsAt, IsLive}
+use Rattle.djq_index.specs.Table.{IsElsewhere, ArePlaced, IsAt, IsOccupied}
 
 pub elsewhere_middle : (p : Place) (xs : List Entry) (e : Entry) (ys : List Entry) → IsElsewhere p (xs ++ e ∷ ys) → e.at
     ≡ p → ⊥
@@ -62,7 +62,7 @@ placed_in (x ∷ xs) e ys h k = (
       (elsewhere_rest x e.at (xs ++ ys) k),
 )
 
-pub live : (es : List Entry) (p : Place) (u : List ℕ) → IsAt es p u → IsLive es p
+pub live : (es : List Entry) (p : Place) (u : List ℕ) → IsAt es p u → IsOccupied es p
 live es p u a = record { tuple = u; is_at = a }
 
 -- a tuple that stands in the middle lies at its place

@@ -3,14 +3,14 @@ use Rattle.std.proofs.Common.{◌≡◌, ℕ, suc, List, [], ◌∷◌, length, 
 use Rattle.djq_arena.specs.declared.chain.Pair.{Pair}
 use Rattle.djq_arena.specs.declared.chain.Ends.{Ends}
 use Rattle.djq_arena.specs.Rows.{Row, SlotRows, AreRows, slots, AreWideRows}
-use Rattle.djq_arena.specs.Chains.{Linked, first_of, AreDifferent, IsOut}
+use Rattle.djq_arena.specs.Chains.{Linked, first_of, AreDistinctSlots, IsOut}
 use Rattle.djq_index.specs.declared.place.Place.{Place}
 use Rattle.djq_index.specs.declared.raw.Note.{Note}
 use Rattle.djq_index.specs.declared.raw.Raw.{Raw}
 use Rattle.djq_index.specs.Entries.{Entry, group_of, group_size, marks}
-use Rattle.djq_index.specs.Table.{Table, AreApart, ArePlaced, IsElsewhere, AreWide, AreColumns, IsTable}
+use Rattle.djq_index.specs.Table.{Table, TuplesDiffer, ArePlaced, IsElsewhere, AreWide, AreColumns, IsTable}
 use Rattle.djq_index.specs.Raw.{entry_of, entries_in, entries_of, slots_at, row_at, AreSeated}
-use Rattle.djq_index.specs.Raw.{AreGroups, AreTrailing, IsRaw, IsBare, AreHeads, IsKind}
+use Rattle.djq_index.specs.Raw.{AreGroups, AreTrailing, IsRaw, HoldsTuples, AreHeads, IsKind}
 use Rattle.djq_index.proofs.Parts.{entries_nil}
 use Rattle.djq_index.proofs.Keeping.{trailing_last, kind_kept}
 
@@ -20,8 +20,8 @@ unfolding IsOut slots IsElsewhere entries_in entry_of
 elsewhere_from i notes [] h = tt
 elsewhere_from i notes (r ∷ rs) h = ((λ k. h.0 (ap (λ (p : Place). p.slot) k)), elsewhere_from i notes rs h.1)
 
-placed_from : (notes : List Note) (rows : List Row) → AreDifferent (slots rows) → ArePlaced (entries_in notes rows)
-unfolding AreDifferent slots ArePlaced entries_in entry_of
+placed_from : (notes : List Note) (rows : List Row) → AreDistinctSlots (slots rows) → ArePlaced (entries_in notes rows)
+unfolding AreDistinctSlots slots ArePlaced entries_in entry_of
 placed_from notes [] h = tt
 placed_from notes (r ∷ rs) h = (elsewhere_from r.slot notes rs h.0, placed_from notes rs h.1)
 
@@ -74,8 +74,8 @@ no_groups key notes links ends = record {
   seated = no_seats key notes;
 }
 
-no_apart : AreApart []
-unfolding AreApart
+no_apart : TuplesDiffer []
+unfolding TuplesDiffer
 no_apart = tt
 
 no_trail : AreTrailing []
@@ -91,7 +91,7 @@ empty_entries b h = ap (entries_in b.notes.items) h ∙ entries_nil b.notes.item
 
 pub empty_bare : (b : Raw) (width : ℕ) (key : List ℕ) → b.key.items ≡ key → b.rows
     ≡ record { width = width; room = 0; rows = [] } → AreRows b.rows → AreColumns width key → IsKind b.kind width key
-    → b.marked ≡ None → IsBare b
+    → b.marked ≡ None → HoldsTuples b
 empty_bare b width key key_is rows law columns kind marked = record {
   rows = law;
   columns = rw (key_is, rows) columns;

@@ -2,7 +2,7 @@
 use Rattle.std.proofs.Common.{◌≡◌, ℕ, ◌≤◌, ◌<◌, Bool, true, false, List, refl, sym, ◌∙◌, arith, ◌⊎◌, inl, inr}
 use Rattle.std.proofs.lemmas.Bool.{cases_Bool, false≢true, false_from_ne_true}
 use Rattle.std.proofs.lemmas.Slice.Eq.{bytes_eq-Decides}
-use Rattle.djq_index.specs.Tuple.{same, one}
+use Rattle.djq_index.specs.Tuple.{same, one_if}
 
 -- a test that holds is an equation, and the other way
 pub same_is : (u v : List ℕ) → same u v ≡ true → u ≡ v
@@ -35,26 +35,26 @@ pub same_sym : (u v : List ℕ) → same u v ≡ same v u
 same_sym u v = flip u v (same u v) (same v u) refl refl
 
 -- a test counts one or nothing
-pub one_true : (b : Bool) → b ≡ true → one b ≡ 1
-unfolding one
+pub one_true : (b : Bool) → b ≡ true → one_if b ≡ 1
+unfolding one_if
 one_true b h = rw h refl
 
-pub one_false : (b : Bool) → b ≡ false → one b ≡ 0
-unfolding one
+pub one_false : (b : Bool) → b ≡ false → one_if b ≡ 0
+unfolding one_if
 one_false b h = rw h refl
 
-pub one_le : (b : Bool) → one b ≤ 1
-unfolding one
+pub one_le : (b : Bool) → one_if b ≤ 1
+unfolding one_if
 one_le true = omega arith
 one_le false = omega arith
 
-pub one_same : (u : List ℕ) → one (same u u) ≡ 1
+pub one_same : (u : List ℕ) → one_if (same u u) ≡ 1
 one_same u = one_true (same u u) (same_refl u)
 
-pub one_other : (u v : List ℕ) → same u v ≡ false → one (same u v) ≡ 0
+pub one_other : (u v : List ℕ) → same u v ≡ false → one_if (same u v) ≡ 0
 one_other u v h = one_false (same u v) h
 
-pub true_from_one : (b : Bool) → 0 < one b → b ≡ true
-unfolding one
+pub true_from_one : (b : Bool) → 0 < one_if b → b ≡ true
+unfolding one_if
 true_from_one true h = refl
 true_from_one false h = absurd (omega arith)

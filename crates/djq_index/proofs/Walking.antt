@@ -6,11 +6,11 @@ use Rattle.std.proofs.lemmas.Bool.{cases_Bool}
 use Rattle.djq_index.specs.declared.place.Place.{Place}
 use Rattle.djq_index.specs.Tuple.{same, pick}
 use Rattle.djq_index.specs.Entries.{Entry, group_of, marks, head_at, last_at}
-use Rattle.djq_index.specs.Table.{IsLive}
+use Rattle.djq_index.specs.Table.{IsOccupied}
 use Rattle.djq_index.proofs.Groups.{grp_yes, grp_no}
 use Rattle.djq_index.proofs.Marks.{marks_yes, marks_no}
 
-more_live : (x : Entry) (es : List Entry) (p : Place) → IsLive es p → IsLive (x ∷ es) p
+more_live : (x : Entry) (es : List Entry) (p : Place) → IsOccupied es p → IsOccupied (x ∷ es) p
 more_live x es p l = record {
   tuple = l.tuple;
   is_at = record {
@@ -25,7 +25,7 @@ more_live x es p l = record {
 }
 
 first_live : (x : Entry) (es zs : List Entry) (xs : List Entry) (e : Entry) (ys : List Entry)
-    → ((fs : List Entry) → zs ≡ fs ++ e ∷ ys → IsLive es e.at) → x ∷ zs ≡ xs ++ e ∷ ys → IsLive (x ∷ es) e.at
+    → ((fs : List Entry) → zs ≡ fs ++ e ∷ ys → IsOccupied es e.at) → x ∷ zs ≡ xs ++ e ∷ ys → IsOccupied (x ∷ es) e.at
 first_live x es zs [] e ys rest h =
     let first : e ≡ x = cc in
     record {
@@ -43,7 +43,7 @@ no_group key w (x ∷ xs) e ys h = cc
 
 -- each entry of a group is live
 pub group_live : (key : List ℕ) (es : List Entry) (w : List ℕ) (xs : List Entry) (e : Entry) (ys : List Entry)
-    → group_of key es w ≡ xs ++ e ∷ ys → IsLive es e.at
+    → group_of key es w ≡ xs ++ e ∷ ys → IsOccupied es e.at
 group_live key [] w xs e ys h = absurd (no_group key w xs e ys h)
 group_live key (x ∷ es) w xs e ys h =
     elim (cases_Bool (same (pick key x.tuple) w)) [
@@ -59,7 +59,7 @@ no_marks (x ∷ xs) e ys h = cc
 
 -- each marked entry is live
 pub marks_live : (es : List Entry) (xs : List Entry) (e : Entry) (ys : List Entry) → marks es ≡ xs ++ e ∷ ys
-    → IsLive es e.at
+    → IsOccupied es e.at
 marks_live [] xs e ys h = absurd (no_marks xs e ys h)
 marks_live (x ∷ es) xs e ys h =
     elim (cases_Bool x.marked) [

@@ -2,7 +2,7 @@
 -- the list, so a change of one entry changes it by one summand.
 use Rattle.std.specs.Prelude.{ℕ, ◌+◌, Bool, false, cond, List, [], ◌∷◌, map, reverse, Option, Some, None}
 use Rattle.djq_index.specs.declared.place.Place.{Place}
-use Rattle.djq_index.specs.Tuple.{same, pick, one}
+use Rattle.djq_index.specs.Tuple.{same, pick, one_if}
 
 -- a tuple that a table holds: where it lies, how many supports it has, and whether it is marked
 pub record Entry : Type 0 where
@@ -19,12 +19,12 @@ supports_of (e ∷ es) u = cond (same e.tuple u) e.supports 0 + supports_of es u
 -- how many entries have the tuple u
 unfoldable pub count_of : List Entry → List ℕ → ℕ
 count_of [] u = 0
-count_of (e ∷ es) u = one (same e.tuple u) + count_of es u
+count_of (e ∷ es) u = one_if (same e.tuple u) + count_of es u
 
 -- how many entries have the cells w at these columns: the length of their group
 unfoldable pub group_size : List ℕ → List Entry → List ℕ → ℕ
 group_size key [] w = 0
-group_size key (e ∷ es) w = one (same (pick key e.tuple) w) + group_size key es w
+group_size key (e ∷ es) w = one_if (same (pick key e.tuple) w) + group_size key es w
 
 -- the group of the entries that have the cells w at these columns, the oldest first
 unfoldable pub group_of : List ℕ → List Entry → List ℕ → List Entry

@@ -14,7 +14,7 @@ use Rattle.djq_index.specs.declared.raw.Note.{Note}
 use Rattle.djq_index.specs.declared.raw.Raw.{Raw}
 use Rattle.djq_index.specs.Tuple.{pick}
 use Rattle.djq_index.specs.Entries.{Entry, group_size, group_of, marks}
-use Rattle.djq_index.specs.Table.{AreApart, AreColumns}
+use Rattle.djq_index.specs.Table.{TuplesDiffer, AreColumns}
 use Rattle.djq_arena.specs.declared.link.TheConstants.{SLOTS}
 
 -- the note of a slot
@@ -79,7 +79,7 @@ AreTrailing [] = ⊤
 AreTrailing (e ∷ es) = (e.marked ≡ true → AreAllMarked es) × AreTrailing es
 
 -- the columns of a key are all columns, in their order
-pub record IsWhole (width : ℕ) (key : List ℕ) : Type 0 where
+pub record KeyIsWhole (width : ℕ) (key : List ℕ) : Type 0 where
   pub long : length key ≡ width
   pub each : (i : ℕ) → i < width → slice_index key i ≡ i
 
@@ -87,15 +87,15 @@ pub record IsWhole (width : ℕ) (key : List ℕ) : Type 0 where
 abbrev pub IsKind : Kind → ℕ → List ℕ → Type 0
 IsKind One width key = key ≡ []
 IsKind Keyed width key = ⊤
-IsKind Each width key = IsWhole width key
+IsKind Each width key = KeyIsWhole width key
 
 -- what holds of a table's tuples, whatever their groups
-pub record IsBare (r : Raw) : Type 0 where
+pub record HoldsTuples (r : Raw) : Type 0 where
   pub rows : AreRows r.rows
   pub columns : AreColumns r.rows.width r.key.items
   pub kind : IsKind r.kind r.rows.width r.key.items
   pub notes : r.rows.room ≤ length r.notes.items
-  pub apart : AreApart (entries_of r)
+  pub apart : TuplesDiffer (entries_of r)
   pub trailing : AreTrailing (entries_of r)
   pub marked : r.marked ≡ first_of (slots_at (marks (entries_of r)))
 
@@ -109,7 +109,7 @@ pub record AreHeads (r : Raw) : Type 0 where
 
 -- what holds of a table's parts
 pub record IsRaw (r : Raw) : Type 0 where
-  pub bare : IsBare r
+  pub bare : HoldsTuples r
   pub heads : r.kind ≡ Keyed → AreHeads r
 
 -- no slot is free for a head, or the buffer is too short for its cells
@@ -134,7 +134,7 @@ passed None i next = None
 passed (Some m) i next = cond (m == i) next (Some m)
 
 -- rows, with the notes beside them, take the tuple u
-pub record CanTake (rows : SlotRows) (notes : List Note) (u : List ℕ) : Type 0 where
+pub record RowsCanTake (rows : SlotRows) (notes : List Note) (u : List ℕ) : Type 0 where
   pub rows_law : AreRows rows
   pub wide : length u ≡ rows.width
   pub few : length rows.rows < SLOTS
@@ -165,7 +165,7 @@ pub record IsUnlaid (old rows : SlotRows) (before notes : List Note) : Type 0 wh
   pub full : IsFull old
 
 -- the tuple u is laid into the slot i, beside room for its neighbours, and h is the head of its group
-pub record IsReady (a : Raw) (rows : SlotRows) (notes : List Note) (links : List Pair) (keys : SlotRows)
+pub record IsLaidInto (a : Raw) (rows : SlotRows) (notes : List Note) (links : List Pair) (keys : SlotRows)
     (ends : List Ends)
     (i h : ℕ) (u : List ℕ) : Type 0 where
   pub laid : IsLaid a.rows rows a.notes.items notes i u
@@ -186,7 +186,7 @@ pub record IsNoted (mark : Bool) (a b : Raw) (rows : SlotRows) (notes : List Not
   pub marked : b.marked ≡ cond mark (beside a.marked (Some i) a.marked) a.marked
 
 -- the tuple in slot i is there, as the last of the group of head h
-pub record IsSettled (mark : Bool) (a b : Raw) (rows : SlotRows) (notes : List Note) (links : List Pair)
+pub record IsLastOfGroup (mark : Bool) (a b : Raw) (rows : SlotRows) (notes : List Note) (links : List Pair)
     (keys : SlotRows)
     (ends : List Ends) (i h : ℕ) : Type 0 where
   pub noted : IsNoted mark a b rows notes i h

@@ -12,9 +12,9 @@ pub record Table : Type 0 where
   pub entries : List Entry
 
 -- no tuple stands twice
-unfoldable pub AreApart : List Entry → Type 0
-AreApart [] = ⊤
-AreApart (e ∷ es) = (count_of es e.tuple ≡ 0) × AreApart es
+unfoldable pub TuplesDiffer : List Entry → Type 0
+TuplesDiffer [] = ⊤
+TuplesDiffer (e ∷ es) = (count_of es e.tuple ≡ 0) × TuplesDiffer es
 
 -- an entry that lies at p isn't among these
 unfoldable pub IsElsewhere : Place → List Entry → Type 0
@@ -48,7 +48,7 @@ AreSupported (e ∷ es) = (0 < e.supports) × AreSupported es
 
 -- what holds of every table
 pub record IsTable (t : Table) : Type 0 where
-  pub apart : AreApart t.entries
+  pub apart : TuplesDiffer t.entries
   pub placed : ArePlaced t.entries
   pub last : AreLast t.key t.entries
   pub wide : AreWide t.width t.entries
@@ -64,7 +64,7 @@ pub record IsAt (es : List Entry) (p : Place) (u : List ℕ) : Type 0 where
   pub at : entry.at ≡ p
 
 -- a tuple lies at p
-pub record IsLive (es : List Entry) (p : Place) : Type 0 where
+pub record IsOccupied (es : List Entry) (p : Place) : Type 0 where
   pub tuple : List ℕ
   pub is_at : IsAt es p tuple
 

@@ -3,8 +3,8 @@ use Rattle.std.specs.Prelude.{ℕ, Bool, cond, List, map, slice_index}
 use Rattle.std.specs.Str.{bytes_eq}
 
 -- a tuple: one number for each column
-abbrev pub Tuple : Type 0
-Tuple = List ℕ
+abbrev pub CellTuple : Type 0
+CellTuple = List ℕ
 
 -- whether two tuples are the same
 unfoldable pub same : List ℕ → List ℕ → Bool
@@ -15,5 +15,5 @@ unfoldable pub pick : List ℕ → List ℕ → List ℕ
 pick columns u = map (λ c. slice_index u c) columns
 
 -- one where it is true, else nothing
-unfoldable pub one : Bool → ℕ
-one b = cond b 1 0
+unfoldable pub one_if : Bool → ℕ
+one_if b = cond b 1 0

@@ -3,7 +3,7 @@ ghost use Rattle.std.specs.Prelude.{◌≡◌, ℕ, ◌-◌, ◌<◌, ◌≤◌,
 ghost use Rattle.std.specs.Prelude.{vec_capacity, IfOk, OnErr};
 ghost use Rattle.djq_arena.specs.Chains.{pair_at};
 ghost use Rattle.djq_arena.specs.Rows.{IsFull};
-ghost use Rattle.djq_index.specs.Raw.{CanTake, IsLaid, IsSlotFor, IsUnlaid};
+ghost use Rattle.djq_index.specs.Raw.{RowsCanTake, IsLaid, IsSlotFor, IsUnlaid};
 
 use crate::raw::Note;
 use djq_arena::{Arena, Link, Pair};
@@ -27,7 +27,7 @@ fn append_row_ready(
     notes: &mut Vec<Note>,
     tuple: &[u64],
 ) -> Result<u32, AllocError>
-    requires ready { CanTake rows.old notes.old.items tuple.now }
+    requires ready { RowsCanTake rows.old notes.old.items tuple.now }
     requires room { IsFull rows.old → vec_len notes.old < vec_capacity notes.old }
     ensures laid { IfOk result (λ slot. IsLaid rows.old rows.new notes.old.items notes.new.items slot tuple.now) }
     ensures slot { IfOk result (λ slot. IsSlotFor rows.old rows.new slot) }
@@ -54,7 +54,7 @@ fn append_row_growing(
     tuple: &[u64],
 ) -> Result<u32, AllocError>
     requires full { IsFull rows.old }
-    requires ready { CanTake rows.old notes.old.items tuple.now }
+    requires ready { RowsCanTake rows.old notes.old.items tuple.now }
     ensures laid { IfOk result (λ slot. IsLaid rows.old rows.new notes.old.items notes.new.items slot tuple.now) }
     ensures slot { IfOk result (λ slot. IsSlotFor rows.old rows.new slot) }
     ensures refused { OnErr result (IsUnlaid rows.old rows.new notes.old.items notes.new.items) }
@@ -65,7 +65,7 @@ fn append_row_growing(
 
 /// Lays a tuple into a slot, behind all others. Where there is no memory, the rows stay as they were.
 pub fn append_row(rows: &mut Arena, notes: &mut Vec<Note>, tuple: &[u64]) -> Result<u32, AllocError>
-    requires ready { CanTake rows.old notes.old.items tuple.now }
+    requires ready { RowsCanTake rows.old notes.old.items tuple.now }
     ensures laid { IfOk result (λ slot. IsLaid rows.old rows.new notes.old.items notes.new.items slot tuple.now) }
     ensures slot { IfOk result (λ slot. IsSlotFor rows.old rows.new slot) }
     ensures refused { OnErr result (IsUnlaid rows.old rows.new notes.old.items notes.new.items) }
@@ -84,7 +84,7 @@ pub fn append_linked_row(
     links: &mut Vec<Pair>,
     tuple: &[u64],
 ) -> Result<u32, AllocError>
-    requires ready { CanTake rows.old notes.old.items tuple.now }
+    requires ready { RowsCanTake rows.old notes.old.items tuple.now }
     requires links { rows.old.room ≤ length links.old.items }
     ensures laid { IfOk result (λ slot. IsLaid rows.old rows.new notes.old.items notes.new.items slot tuple.now) }
     ensures refused { OnErr result (IsUnlaid rows.old rows.new notes.old.items notes.new.items) }

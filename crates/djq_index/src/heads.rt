@@ -1,9 +1,9 @@
 ghost use Rattle.std.specs.Prelude.{◌≡◌, ◌≢◌, ℕ, ◌+◌, ◌<◌, ◌≤◌, List, [], ◌∷◌, ◌++◌, length};
 ghost use Rattle.std.specs.Prelude.{slice_set, slice_index, vec_len, vec_capacity, IfOk, OnErr};
 ghost use Rattle.std.specs.Prelude.{Some, None};
-ghost use Rattle.djq_arena.specs.Chains.{pair_at, entered, left, IsWithin};
+ghost use Rattle.djq_arena.specs.Chains.{pair_at, entered, chain_without, IsSlotBelow};
 ghost use Rattle.djq_arena.specs.Store.{extended, hash, shrunk};
-ghost use Rattle.djq_arena.specs.Rows.{Row, AreRows, IsHeld, IsFull};
+ghost use Rattle.djq_arena.specs.Rows.{Row, AreRows, IsRowHeld, IsFull};
 ghost use Rattle.djq_index.specs.Tuple.{pick};
 ghost use Rattle.djq_index.specs.Table.{AreColumns};
 ghost use Rattle.djq_index.specs.Raw.{ends_at};
@@ -25,7 +25,7 @@ pub fn join(links: &mut Vec<Pair>, ends: &mut Vec<Ends>, slot: u32, head: u32)
     requires slot { slot < length links.old.items }
     requires number { slot < SLOTS }
     requires head { head < length ends.old.items }
-    requires last { IsWithin (length links.old.items) (ends_at ends.old.items head).last }
+    requires last { IsSlotBelow (length links.old.items) (ends_at ends.old.items head).last }
     ensures links { links.new.items ≡ entered (ends_at ends.old.items head).last slot links.old.items }
     ensures ends { ends.new.items ≡ slice_set ends.old.items head (extended slot (ends_at ends.old.items head)) }
 {
@@ -38,9 +38,9 @@ pub fn join(links: &mut Vec<Pair>, ends: &mut Vec<Ends>, slot: u32, head: u32)
 pub fn unlink(links: &mut Vec<Pair>, ends: &mut Vec<Ends>, slot: u32, head: u32)
     requires slot { slot < length links.old.items }
     requires head { head < length ends.old.items }
-    requires prev { IsWithin (length links.old.items) (pair_at links.old.items slot).prev }
-    requires next { IsWithin (length links.old.items) (pair_at links.old.items slot).next }
-    ensures links { links.new.items ≡ left (pair_at links.old.items slot) links.old.items }
+    requires prev { IsSlotBelow (length links.old.items) (pair_at links.old.items slot).prev }
+    requires next { IsSlotBelow (length links.old.items) (pair_at links.old.items slot).next }
+    ensures links { links.new.items ≡ chain_without (pair_at links.old.items slot) links.old.items }
     ensures ends { ends.new.items ≡ slice_set ends.old.items head
         (shrunk (pair_at links.old.items slot) (ends_at ends.old.items head)) }
 {
@@ -50,7 +50,7 @@ pub fn unlink(links: &mut Vec<Pair>, ends: &mut Vec<Ends>, slot: u32, head: u32)
 
 /// Takes a head out where its group is empty.
 pub fn prune(keys: &mut Arena, ends: &Vec<Ends>, head: u32)
-    requires held { IsHeld keys.old.rows head }
+    requires held { IsRowHeld keys.old.rows head }
     requires head { head < length ends.now.items }
     requires rows { AreRows keys.old }
     ensures rows { AreRows keys.new }

@@ -6,7 +6,7 @@ ghost use Rattle.djq_index.specs.Tuple.{pick};
 ghost use Rattle.djq_index.specs.Entries.{count_of, marks};
 ghost use Rattle.djq_index.specs.Table.{IsAt, AreColumns};
 ghost use Rattle.djq_index.specs.Changes.{InsertedAs};
-ghost use Rattle.djq_index.specs.Raw.{IsBare, AreHeads, IsNoted, entries_of, ends_at, IsSeat, HasNoRoomForHead};
+ghost use Rattle.djq_index.specs.Raw.{HoldsTuples, AreHeads, IsNoted, entries_of, ends_at, IsSeat, HasNoRoomForHead};
 ghost use Rattle.djq_arena.specs.declared.link.TheConstants.{SLOTS};
 
 use crate::appending::{append_linked_row, append_row};
@@ -113,13 +113,13 @@ fn init_note(raw: &mut Raw, slot: u32, head: u32, marked: bool)
 
 /// Puts a tuple that isn't there behind the group of its head.
 pub fn insert_keyed(raw: &mut Raw, tuple: &[u64], marked: bool) -> Result<Place, AllocError>
-    requires raw { IsBare raw.old }
+    requires raw { HoldsTuples raw.old }
     requires heads { AreHeads raw.old }
     requires absent { count_of (entries_of raw.old) tuple.now ≡ 0 }
     requires wide { length tuple.now ≡ raw.old.rows.width }
     requires few { length (entries_of raw.old) < SLOTS }
     requires plain { marked ≡ false → marks (entries_of raw.old) ≡ [] }
-    ensures raw { IsBare raw.new }
+    ensures raw { HoldsTuples raw.new }
     ensures heads { AreHeads raw.new }
     ensures inserted { IfOk result (λ p. InsertedAs marked raw.old.key.items (entries_of raw.old)
         (entries_of raw.new) tuple.now) }
@@ -153,12 +153,12 @@ pub fn insert_keyed(raw: &mut Raw, tuple: &[u64], marked: bool) -> Result<Place,
 
 /// Puts a tuple that isn't there behind all others: its group needs nothing.
 pub fn insert_bare(raw: &mut Raw, tuple: &[u64], marked: bool) -> Result<Place, AllocError>
-    requires raw { IsBare raw.old }
+    requires raw { HoldsTuples raw.old }
     requires absent { count_of (entries_of raw.old) tuple.now ≡ 0 }
     requires wide { length tuple.now ≡ raw.old.rows.width }
     requires few { length (entries_of raw.old) < SLOTS }
     requires plain { marked ≡ false → marks (entries_of raw.old) ≡ [] }
-    ensures raw { IsBare raw.new }
+    ensures raw { HoldsTuples raw.new }
     ensures inserted { IfOk result (λ p. InsertedAs marked raw.old.key.items (entries_of raw.old)
         (entries_of raw.new) tuple.now) }
     ensures at { IfOk result (λ p. IsAt (entries_of raw.new) p tuple.now) }

@@ -1,5 +1,5 @@
 ghost use Rattle.std.specs.Prelude.{◌≡◌, ◌↔◌, IsTrue, length};
-ghost use Rattle.djq_index.specs.Raw.{IsKind, IsWhole};
+ghost use Rattle.djq_index.specs.Raw.{IsKind, KeyIsWhole};
 
 /// How a table's groups are found.
 #[derive(Clone, Copy)]
@@ -14,7 +14,7 @@ pub enum Kind {
 
 /// Whether a key is all columns, in their order.
 fn is_whole(width: usize, key: &[usize]) -> bool
-    ensures { IsTrue result → IsWhole width key.now }
+    ensures { IsTrue result → KeyIsWhole width key.now }
 {
     if key.len() != width {
         return false;

@@ -6,7 +6,7 @@ ghost use Rattle.djq_arena.specs.Rows.{AreRows};
 ghost use Rattle.djq_index.specs.Entries.{marks, unmarked};
 ghost use Rattle.djq_index.specs.Table.{IsAt, IsUnmarked};
 ghost use Rattle.djq_index.specs.Changes.{Touched};
-ghost use Rattle.djq_index.specs.Raw.{IsBare, AreHeads, IsMarked, entries_of, slots_at, note_at};
+ghost use Rattle.djq_index.specs.Raw.{HoldsTuples, AreHeads, IsMarked, entries_of, slots_at, note_at};
 ghost use Rattle.djq_index.specs.Raw.{entries_in, AreTrailing, without_mark};
 ghost use Rattle.djq_arena.specs.Store.{beside};
 
@@ -44,10 +44,10 @@ fn mark(raw: &mut Raw, slot: u32)
 
 /// Marks the tuple at a place, and puts it behind the group of its head.
 pub fn touch_keyed(raw: &mut Raw, place: Place)
-    requires raw { IsBare raw.old }
+    requires raw { HoldsTuples raw.old }
     requires heads { AreHeads raw.old }
     requires unmarked { IsUnmarked (entries_of raw.old) place }
-    ensures raw { IsBare raw.new }
+    ensures raw { HoldsTuples raw.new }
     ensures heads { AreHeads raw.new }
     ensures touched { (u : List ℕ) → IsAt (entries_of raw.old) place u → Touched raw.old.key.items
         (entries_of raw.old) (entries_of raw.new) u }
@@ -66,9 +66,9 @@ pub fn touch_keyed(raw: &mut Raw, place: Place)
 
 /// Marks the tuple at a place, and puts it behind all others.
 pub fn touch_bare(raw: &mut Raw, place: Place)
-    requires raw { IsBare raw.old }
+    requires raw { HoldsTuples raw.old }
     requires unmarked { IsUnmarked (entries_of raw.old) place }
-    ensures raw { IsBare raw.new }
+    ensures raw { HoldsTuples raw.new }
     ensures touched { (u : List ℕ) → IsAt (entries_of raw.old) place u → Touched raw.old.key.items
         (entries_of raw.old) (entries_of raw.new) u }
     ensures kind { raw.new.kind ≡ raw.old.kind }

@@ -1,8 +1,8 @@
 //! A tuple is taken out, and its group's head with the last of the group.
 ghost use Rattle.std.specs.Prelude.{◌≡◌, ℕ, ◌+◌, ◌-◌, ◌<◌, List, Some, None};
-ghost use Rattle.djq_index.specs.Table.{IsAt, IsLive};
+ghost use Rattle.djq_index.specs.Table.{IsAt, IsOccupied};
 ghost use Rattle.djq_index.specs.Changes.{Removed};
-ghost use Rattle.djq_index.specs.Raw.{IsBare, AreHeads, entries_of, passed};
+ghost use Rattle.djq_index.specs.Raw.{HoldsTuples, AreHeads, entries_of, passed};
 
 use crate::heads::{prune, unlink};
 use crate::place::Place;
@@ -20,10 +20,10 @@ fn first_mark_without(marked: Option<u32>, slot: u32, next: Option<u32>) -> Opti
 
 /// Takes the tuple at a place out, and its group's head with the last of the group.
 pub fn remove_keyed(raw: &mut Raw, place: Place)
-    requires raw { IsBare raw.old }
+    requires raw { HoldsTuples raw.old }
     requires heads { AreHeads raw.old }
-    requires live { IsLive (entries_of raw.old) place }
-    ensures raw { IsBare raw.new }
+    requires live { IsOccupied (entries_of raw.old) place }
+    ensures raw { HoldsTuples raw.new }
     ensures heads { AreHeads raw.new }
     ensures removed { (u : List ℕ) → IsAt (entries_of raw.old) place u
         → Removed (entries_of raw.old) (entries_of raw.new) u }
@@ -42,9 +42,9 @@ pub fn remove_keyed(raw: &mut Raw, place: Place)
 
 /// Takes the tuple at a place out, whose group needs nothing.
 pub fn remove_bare(raw: &mut Raw, place: Place)
-    requires raw { IsBare raw.old }
-    requires live { IsLive (entries_of raw.old) place }
-    ensures raw { IsBare raw.new }
+    requires raw { HoldsTuples raw.old }
+    requires live { IsOccupied (entries_of raw.old) place }
+    ensures raw { HoldsTuples raw.new }
     ensures removed { (u : List ℕ) → IsAt (entries_of raw.old) place u
         → Removed (entries_of raw.old) (entries_of raw.new) u }
     ensures kind { raw.new.kind ≡ raw.old.kind }

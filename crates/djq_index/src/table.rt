@@ -2,7 +2,7 @@ ghost use Rattle.std.specs.Prelude.{◌≡◌, ℕ, ◌+◌, ◌-◌, ◌<◌, �
 ghost use Rattle.std.specs.Prelude.{length, IfOk, OnErr, MatchOption};
 ghost use Rattle.djq_index.specs.Entries.{Entry, supports_of, count_of, group_of, marks, is_marked};
 ghost use Rattle.djq_index.specs.Entries.{unmarked, head_at, last_at};
-ghost use Rattle.djq_index.specs.Table.{IsTable, IsAt, IsLive, IsUnmarked, IsRaisable, IsLowerable, AreColumns};
+ghost use Rattle.djq_index.specs.Table.{IsTable, IsAt, IsOccupied, IsUnmarked, IsRaisable, IsLowerable, AreColumns};
 ghost use Rattle.djq_index.specs.Changes.{Inserted, InsertedAs, Removed, Touched, Supported};
 
 use crate::insertion::{insert_bare, insert_keyed};
@@ -157,7 +157,7 @@ impl Table {
 
     /// The next one of its group; none exactly at the group's end. It counts one link, as `prev` does.
     pub fn next<L: Ledger>(&self, place: Place, tally: &mut Tally<L>) -> Option<Place>
-        requires { IsLive self.now.entries place }
+        requires { IsOccupied self.now.entries place }
         ensures found { (w : List ℕ) (xs : List Entry) (e : Entry) (ys : List Entry)
             → group_of self.now.key self.now.entries w ≡ xs ++ e ∷ ys → e.at ≡ place
             → result ≡ head_at ys }
@@ -174,7 +174,7 @@ impl Table {
 
     /// The one before it in its group; none exactly at the group's start.
     pub fn prev<L: Ledger>(&self, place: Place, tally: &mut Tally<L>) -> Option<Place>
-        requires { IsLive self.now.entries place }
+        requires { IsOccupied self.now.entries place }
         ensures found { (w : List ℕ) (xs : List Entry) (e : Entry) (ys : List Entry)
             → group_of self.now.key self.now.entries w ≡ xs ++ e ∷ ys → e.at ≡ place
             → result ≡ last_at xs }
@@ -201,7 +201,7 @@ impl Table {
 
     /// The next marked tuple after a marked one; none exactly behind the last.
     pub fn next_marked<L: Ledger>(&self, place: Place, tally: &mut Tally<L>) -> Option<Place>
-        requires { IsLive self.now.entries place }
+        requires { IsOccupied self.now.entries place }
         ensures found { (xs : List Entry) (e : Entry) (ys : List Entry) → marks self.now.entries
             ≡ xs ++ e ∷ ys → e.at ≡ place → result ≡ head_at ys }
         ensures counted { tally.new ≡ tally.old + 1 }
@@ -212,7 +212,7 @@ impl Table {
 
     /// The tuple at a place.
     pub fn tuple(&self, place: Place) -> &[u64]
-        requires { IsLive self.now.entries place }
+        requires { IsOccupied self.now.entries place }
         ensures { (u : List ℕ) → IsAt self.now.entries place u → result.now ≡ u }
     {
         self.raw.rows.cells(place.slot())
@@ -220,7 +220,7 @@ impl Table {
 
     /// How many supports the tuple at a place has.
     pub fn supports(&self, place: Place) -> u32
-        requires { IsLive self.now.entries place }
+        requires { IsOccupied self.now.entries place }
         ensures { (u : List ℕ) → IsAt self.now.entries place u → result ≡ supports_of self.now.entries u }
     {
         note_of(&self.raw.notes, place.slot()).supports
@@ -228,7 +228,7 @@ impl Table {
 
     /// Whether the tuple at a place is marked.
     pub fn marked(&self, place: Place) -> bool
-        requires { IsLive self.now.entries place }
+        requires { IsOccupied self.now.entries place }
         ensures { (u : List ℕ) → IsAt self.now.entries place u → result ≡ is_marked self.now.entries u }
     {
         note_of(&self.raw.notes, place.slot()).marked
@@ -285,7 +285,7 @@ impl Table {
 
     /// Takes the tuple at a place out. Other places stay valid.
     pub fn remove<L: Ledger>(&mut self, place: Place, tally: &mut Tally<L>)
-        requires { IsLive self.old.entries place }
+        requires { IsOccupied self.old.entries place }
         ensures removed { (u : List ℕ) → IsAt self.old.entries place u → Removed self.old.entries self.new.entries u }
         ensures key { self.new.key ≡ self.old.key }
         ensures width { self.new.width ≡ self.old.width }

@@ -3,7 +3,7 @@ ghost use Rattle.djq_arena.specs.Chains.{first_of, last_of};
 ghost use Rattle.djq_arena.specs.Rows.{slots};
 ghost use Rattle.djq_arena.specs.Store.{ends_of};
 ghost use Rattle.djq_index.specs.Entries.{group_of};
-ghost use Rattle.djq_index.specs.Raw.{IsBare, AreHeads, entries_of, slots_at};
+ghost use Rattle.djq_index.specs.Raw.{HoldsTuples, AreHeads, entries_of, slots_at};
 
 use crate::heads::{known_ends, none};
 use crate::raw::Raw;
@@ -11,7 +11,7 @@ use djq_arena::{Arena, Ends};
 
 /// The ends of the group with these cells, as its head knows them.
 pub fn ends_in(raw: &Raw, cells: &[u64]) -> Ends
-    requires raw { IsBare raw.now }
+    requires raw { HoldsTuples raw.now }
     requires heads { AreHeads raw.now }
     ensures { result ≡ ends_of (slots_at (group_of raw.now.key.items (entries_of raw.now) cells.now)) }
 {

@@ -4,7 +4,7 @@ use Rattle.std.proofs.Common.{[], ◌∷◌, refl, sym, arith}
 use Rattle.std.specs.List.{count_by}
 use Rattle.std.proofs.lemmas.List.Sums.{sum_by-cons}
 use Rattle.std.proofs.lemmas.Bool.Decides.{nat_tests}
-use Rattle.djq_io.specs.Failing.{is_due, after_call, failed_count, CountsDown}
+use Rattle.djq_io.specs.Failing.{is_failing, after_call, failed_count, CountsDown}
 
 -- how many of the calls are the next one
 abbrev due_count : List ℕ → ℕ
@@ -28,28 +28,30 @@ counts_all (call ∷ calls) = omega (
   counts_all calls,
 )
 
-due_some : (calls : List ℕ) → is_due calls ≡ true → 0 < due_count calls
+due_some : (calls : List ℕ) → is_failing calls ≡ true → 0 < due_count calls
 due_some [] due = cc
 due_some (call ∷ calls) due = some_at (nat_eq call 1) calls due (due_some calls)
     (count_step (λ c. nat_eq c 1) call calls)
   where
-    some_at : (b : Bool) (calls : List ℕ) → (b || is_due calls) ≡ true → (is_due calls ≡ true → 0 < due_count calls)
+    some_at : (b : Bool) (calls : List ℕ) → (b || is_failing calls) ≡ true
+        → (is_failing calls ≡ true → 0 < due_count calls)
         → due_count (call ∷ calls) ≡ cond b 1 0 + due_count calls → 0 < due_count (call ∷ calls)
     some_at true calls due more step = omega (arith, step)
     some_at false calls due more step = omega (arith, step, more due)
 
-due_none : (calls : List ℕ) → is_due calls ≡ false → due_count calls ≡ 0
+due_none : (calls : List ℕ) → is_failing calls ≡ false → due_count calls ≡ 0
 due_none [] due = refl
 due_none (call ∷ calls) due = none_at (nat_eq call 1) calls due (due_none calls)
     (count_step (λ c. nat_eq c 1) call calls)
   where
-    none_at : (b : Bool) (calls : List ℕ) → (b || is_due calls) ≡ false → (is_due calls ≡ false → due_count calls ≡ 0)
+    none_at : (b : Bool) (calls : List ℕ) → (b || is_failing calls) ≡ false
+        → (is_failing calls ≡ false → due_count calls ≡ 0)
         → due_count (call ∷ calls) ≡ cond b 1 0 + due_count calls → due_count (call ∷ calls) ≡ 0
     none_at true calls due more step = cc
     none_at false calls due more step = omega (arith, step, more due)
 
 -- A call that was to fail has failed, and no other.
-pub counts_down : (fails : Bool) (old new : List ℕ) → fails ≡ is_due old → new ≡ after_call old
+pub counts_down : (fails : Bool) (old new : List ℕ) → fails ≡ is_failing old → new ≡ after_call old
     → CountsDown fails old new
 counts_down true old new is counted = rw counted (omega (arith, counts_all old, due_some old (sym is)))
 counts_down false old new is counted = rw counted (omega (arith, counts_all old, due_none old (sym is)))

@@ -12,7 +12,7 @@ use Rattle.djq_io.specs.Faults.{Counted, one_more}
 use Rattle.djq_io.specs.Hub.{Ids}
 use Rattle.djq_io.specs.HubFaults.{SameCounts, SameCountsBut}
 use Rattle.djq_io.specs.Sessions.{Count, faults_of}
-use Rattle.djq_io.specs.SessionsInside.{open_in, ended_in, counts_in, after_end, after_fault}
+use Rattle.djq_io.specs.SessionsInside.{open_ids_in, ended_in, counts_in, after_end, after_fault}
 use Rattle.djq_io.proofs.Membership.{is_member, open_test}
 
 -- how many faults the session with this id has met
@@ -54,9 +54,9 @@ open_after_push id new (x ∷ xs) found =
     at_head false found more = more found
 
 pub faults_after_push : (new : Session) (sessions : List Session)
-    → SameCounts (open_in sessions) (faults_in sessions) (faults_in (sessions ++ new ∷ []))
+    → SameCounts (open_ids_in sessions) (faults_in sessions) (faults_in (sessions ++ new ∷ []))
 faults_after_push new sessions id is_open = open_after_push id new sessions
-    (open_test sessions id ∙ (is_member (open_in sessions) id).1 is_open)
+    (open_test sessions id ∙ (is_member (open_ids_in sessions) id).1 is_open)
 
 not_both : (x id other : ℕ) → other ≢ id → nat_eq x id ≡ true → nat_eq x other ≡ false
 not_both x id other differ is = grind (arith, nat_tests)
@@ -130,11 +130,11 @@ bounded_in id (x ∷ xs) bounded = rw (faults_step x xs id)
     at_head false own others = others
 
 -- A fault counts for its session alone.
-pub fault_counts : (id : ℕ) (sessions : List Session) → All IsBounded sessions → Contains (open_in sessions) id
+pub fault_counts : (id : ℕ) (sessions : List Session) → All IsBounded sessions → Contains (open_ids_in sessions) id
     → Counted (faults_in sessions id) (faults_in (map (after_fault id) sessions) id)
 fault_counts id sessions bounded is_open =
     let bound = bounded_in id sessions bounded in
-    let is = own_after_fault id sessions (open_test sessions id ∙ (is_member (open_in sessions) id).1 is_open) in
+    let is = own_after_fault id sessions (open_test sessions id ∙ (is_member (open_ids_in sessions) id).1 is_open) in
     rw is (counted (faults_in sessions id) bound)
   where
     counted : (n : ℕ) → n ≤ 18446744073709551615 → Counted n (one_more n)
@@ -164,10 +164,11 @@ same_end id x = at_head (nat_eq x.id id)
 
 -- the ids of these sessions, the newest of which is this one
 abbrev ids_in : Option ℕ → List Session → Ids
-ids_in newest sessions = record { newest = newest; open_ids = open_in sessions; ended_ids = ended_in sessions }
+ids_in newest sessions = record { newest = newest; open_ids = open_ids_in sessions; ended_ids = ended_in sessions }
 
 -- a fault changes no id
-pub open_after_fault : (id : ℕ) (sessions : List Session) → open_in (map (after_fault id) sessions) ≡ open_in sessions
+pub open_after_fault : (id : ℕ) (sessions : List Session)
+    → open_ids_in (map (after_fault id) sessions) ≡ open_ids_in sessions
 open_after_fault id [] = refl
 open_after_fault id (x ∷ xs) = ap₂ (λ i ids. i ∷ ids) (same_id id x) (open_after_fault id xs)
 
@@ -231,16 +232,17 @@ none_kept id (x ∷ xs) = at_head (nat_eq x.id id) refl (none_kept id xs)
     at_head false is more = ap (λ b. b || list_any (λ y. nat_eq y.id id) (filter (λ y. not (nat_eq y.id id)) xs)) is
         ∙ more
 
-not_kept : (id : ℕ) (sessions : List Session) → Contains (open_in (filter (λ x. not (nat_eq x.id id)) sessions)) id → ⊥
+not_kept : (id : ℕ) (sessions : List Session)
+    → Contains (open_ids_in (filter (λ x. not (nat_eq x.id id)) sessions)) id → ⊥
 not_kept id sessions is_open =
     let kept = filter (λ (x : Session). not (nat_eq x.id id)) sessions in
-    let found = open_test kept id ∙ (is_member (open_in kept) id).1 is_open in
+    let found = open_test kept id ∙ (is_member (open_ids_in kept) id).1 is_open in
     cc (none_kept id sessions)
 
 -- the counts of the sessions that stay
 pub close_spares : (id : ℕ) (sessions : List Session)
-    → SameCounts (open_in (filter (λ x. not (nat_eq x.id id)) sessions)) (faults_of (counts_in sessions))
+    → SameCounts (open_ids_in (filter (λ x. not (nat_eq x.id id)) sessions)) (faults_of (counts_in sessions))
     (faults_of (counts_in (filter (λ x. not (nat_eq x.id id)) sessions)))
 close_spares id sessions other is_open = faults_after_close id other sessions
     (λ same. not_kept id sessions
-    (subst (λ i. Contains (open_in (filter (λ x. not (nat_eq x.id id)) sessions)) i) same is_open))
+    (subst (λ i. Contains (open_ids_in (filter (λ x. not (nat_eq x.id id)) sessions)) i) same is_open))

@@ -15,7 +15,7 @@ use Rattle.djq_io.specs.declared.failing.FailingSend.{FailingSend}
 use Rattle.djq_io.specs.Sink.{Gains}
 use Rattle.djq_io.specs.FailingSends.{is_send_due, failed_sends, CountsSends}
 use Rattle.djq_io.specs.HubFaults.{CountsSend}
-use Rattle.djq_io.specs.Script.{Script, WhereTold, Passes, Cuts, Sends}
+use Rattle.djq_io.specs.Script.{Script, WhereTold, ScriptPasses, Cuts, Sends}
 use Rattle.djq_io.specs.MemHub.{Recorded, send_of}
 use Rattle.djq_io.proofs.Membership.{is_member}
 
@@ -70,7 +70,8 @@ counts_by hub id piece sent ids fails new is due counts =
     at_head false false false same counts = λ other is_open. stays counts.0 counts.1 other
 
 -- The rest of a piece that is longer than the buffer is put back.
-pub cuts_piece : (id n room : ℕ) (piece part : List ℕ) (old popped new : Script) → Passes old (Brings id piece) popped
+pub cuts_piece : (id n room : ℕ) (piece part : List ℕ) (old popped new : Script)
+    → ScriptPasses old (Brings id piece) popped
     → new ≡ record popped
     { turns = record { turn = Brings id (drop n piece); blocked = popped.blocked } ∷ popped.turns }
     → n ≡ min (length piece) room → n < length piece → part ≡ take n piece → (n ≡ room) × Cuts old id part new
@@ -83,8 +84,8 @@ cuts_piece id n room piece part old popped new passes put is longer copied =
 
 -- A piece that fits is given whole.
 pub gives_piece_whole : (id n room : ℕ) (piece part : List ℕ) (old popped : Script)
-    → Passes old (Brings id piece) popped
-    → n ≡ min (length piece) room → length piece ≤ n → part ≡ take n piece → Passes old (Brings id part) popped
+    → ScriptPasses old (Brings id piece) popped
+    → n ≡ min (length piece) room → length piece ≤ n → part ≡ take n piece → ScriptPasses old (Brings id part) popped
 gives_piece_whole id n room piece part old popped passes is fits copied = rw (copied ∙ take_all n piece fits) passes
 
 -- a test that passed

@@ -2,28 +2,29 @@
 use Rattle.std.proofs.Common.{◌≡◌, ℕ, List, [], ◌∷◌, ◌++◌, refl, sym, ap, ◌∙◌, subst, append_assoc, append-nil}
 use Rattle.std.specs.Prelude.{Option, Some, None}
 use Rattle.std.specs.List.{concat}
-use Rattle.djq_io.specs.Source.{Reading, GivesPiece, Gives}
+use Rattle.djq_io.specs.Source.{SourceReading, GivesPiece, SourceGives}
 use Rattle.djq_io.specs.Given.{Gave}
 use Rattle.std.proofs.lemmas.List.Folds.{concat-append}
 
 -- a call that reads nothing
-pub gives_none : (o : Option Reading) → Gives o o []
+pub gives_none : (o : Option SourceReading) → SourceGives o o []
 gives_none None = tt
 gives_none (Some o) = (sym (append-nil o.given), refl)
 
 -- one read
-pub gives_piece : (o n : Option Reading) (piece : List ℕ) → GivesPiece o n piece → Gives o n (piece ∷ [])
+pub gives_piece : (o n : Option SourceReading) (piece : List ℕ) → GivesPiece o n piece → SourceGives o n (piece ∷ [])
 gives_piece o None piece p = tt
 gives_piece None (Some n) piece p = cc
 gives_piece (Some o) (Some n) piece p = (
-  ap (λ (r : Reading). r.given) p.2,
+  ap (λ (r : SourceReading). r.given) p.2,
   p.1
-      ∙ sym (ap (λ (r : Reading). (piece ++ []) ++ r.left) p.2 ∙ ap (λ bytes. bytes ++ p.0) (append-nil piece)),
+      ∙ sym (ap (λ (r : SourceReading). (piece ++ []) ++ r.left) p.2 ∙ ap (λ bytes. bytes ++ p.0) (append-nil piece)),
 )
 
 -- some reads after others
-pub gives_more : (o m n : Option Reading) (given more : List (List ℕ)) → Gives o m given → Gives m n more
-    → Gives o n (given ++ more)
+pub gives_more : (o m n : Option SourceReading) (given more : List (List ℕ)) → SourceGives o m given
+    → SourceGives m n more
+    → SourceGives o n (given ++ more)
 gives_more o m None given more p q = tt
 gives_more o None (Some n) given more p q = absurd q
 gives_more None (Some m) (Some n) given more p q = absurd p
@@ -37,11 +38,11 @@ gives_more (Some o) (Some m) (Some n) given more p q = (
 -- ---- the bytes of the pieces
 
 -- nothing was read
-pub gave_none : (o : Option Reading) → Gave o o []
+pub gave_none : (o : Option SourceReading) → Gave o o []
 gave_none o = record { pieces = []; told = gives_none o; all = refl }
 
 -- a piece more was read
-pub gave_more : (o m n : Option Reading) (bytes piece : List ℕ) → Gave o m bytes → GivesPiece m n piece
+pub gave_more : (o m n : Option SourceReading) (bytes piece : List ℕ) → Gave o m bytes → GivesPiece m n piece
     → Gave o n (bytes ++ piece)
 gave_more o m n bytes piece g p = record {
   pieces = g.pieces ++ piece ∷ [];
@@ -51,5 +52,5 @@ gave_more o m n bytes piece g p = record {
 }
 
 -- nothing more was read
-pub gave_same : (o m n : Option Reading) (bytes : List ℕ) → Gave o m bytes → n ≡ m → Gave o n bytes
-gave_same o m n bytes g same = subst (λ (k : Option Reading). Gave o k bytes) (sym same) g
+pub gave_same : (o m n : Option SourceReading) (bytes : List ℕ) → Gave o m bytes → n ≡ m → Gave o n bytes
+gave_same o m n bytes g same = subst (λ (k : Option SourceReading). Gave o k bytes) (sym same) g

@@ -9,11 +9,12 @@ use Rattle.std.proofs.lemmas.List.Filters.{length-filter_both}
 use Rattle.std.proofs.Math.Bool.{or-false, or-true, and_self}
 use Rattle.djq_io.specs.declared.sessions.Session.{Session}
 use Rattle.djq_io.specs.Hub.{Ids, EndsInput, without}
-use Rattle.djq_io.specs.SessionsInside.{open_in, ended_in, after_end}
+use Rattle.djq_io.specs.SessionsInside.{open_ids_in, ended_in, after_end}
 use Rattle.djq_io.proofs.Membership.{is_member, open_test, ended_test}
 
 -- the same sessions are open
-pub open_after_end : (id : ℕ) (sessions : List Session) → open_in (map (after_end id) sessions) ≡ open_in sessions
+pub open_after_end : (id : ℕ) (sessions : List Session)
+    → open_ids_in (map (after_end id) sessions) ≡ open_ids_in sessions
 open_after_end id [] = refl
 open_after_end id (x ∷ xs) = ap (λ ids. x.id ∷ ids) (open_after_end id xs)
 
@@ -52,14 +53,14 @@ both_none other id (x ∷ xs) differ = ap (λ b. b || both other id xs) (one_of_
     ∙ both_none other id xs differ
 
 -- the ids of the sessions whose input has ended
-ended_after_end : (id other : ℕ) (sessions : List Session) → Contains (open_in sessions) id
+ended_after_end : (id other : ℕ) (sessions : List Session) → Contains (open_ids_in sessions) id
     → Contains (ended_in (map (after_end id) sessions)) other ↔ ((other ≡ id) ⊎ Contains (ended_in sessions) other)
 ended_after_end id other sessions is_open =
     let new = map (after_end id) sessions in
     let test = λ (xs : List Session). list_any (λ x. nat_eq x.id other && x.ended) xs in
     let at_new = is_member (ended_in new) other in
     let at_old = is_member (ended_in sessions) other in
-    let opens = open_test sessions id ∙ (is_member (open_in sessions) id).1 is_open in
+    let opens = open_test sessions id ∙ (is_member (open_ids_in sessions) id).1 is_open in
     let all = sym (ended_test new other) ∙ ended_or_both other id sessions in
     let to : Contains (ended_in new) other → (other ≡ id) ⊎ Contains (ended_in sessions) other =
     λ ended. elim (eqb_tells other id) [
@@ -80,8 +81,8 @@ ended_after_end id other sessions is_open =
 
 -- The input of a session ends.
 pub ends_marked : (id : ℕ) (old new : Ids) (sessions : List Session) → Contains old.open_ids id → old.open_ids
-    ≡ open_in sessions → old.ended_ids ≡ ended_in sessions
-    → new.newest ≡ old.newest → new.open_ids ≡ open_in (map (after_end id) sessions) → new.ended_ids
+    ≡ open_ids_in sessions → old.ended_ids ≡ ended_in sessions
+    → new.newest ≡ old.newest → new.open_ids ≡ open_ids_in (map (after_end id) sessions) → new.ended_ids
     ≡ ended_in (map (after_end id) sessions) → EndsInput id old new
 ends_marked id old new sessions is_open opens ends newest opens' ends' = (
   newest,
@@ -90,16 +91,16 @@ ends_marked id old new sessions is_open opens ends newest opens' ends' = (
 )
 
 -- the ids without one of them
-filter_map_id : (id : ℕ) (sessions : List Session) → open_in (filter (λ x. not (nat_eq x.id id)) sessions)
-    ≡ filter (λ y. not (nat_eq y id)) (open_in sessions)
+filter_map_id : (id : ℕ) (sessions : List Session) → open_ids_in (filter (λ x. not (nat_eq x.id id)) sessions)
+    ≡ filter (λ y. not (nat_eq y id)) (open_ids_in sessions)
 filter_map_id id [] = refl
 filter_map_id id (x ∷ xs) = at_head (nat_eq x.id id) (filter_map_id id xs)
   where
-    at_head : (b : Bool) → open_in (filter (λ y. not (nat_eq y.id id)) xs)
-        ≡ filter (λ y. not (nat_eq y id)) (open_in xs)
-        → open_in (cond (not b) (x ∷ filter (λ y. not (nat_eq y.id id)) xs) (filter (λ y. not (nat_eq y.id id)) xs))
-        ≡ cond (not b) (x.id ∷ filter (λ y. not (nat_eq y id)) (open_in xs))
-        (filter (λ y. not (nat_eq y id)) (open_in xs))
+    at_head : (b : Bool) → open_ids_in (filter (λ y. not (nat_eq y.id id)) xs)
+        ≡ filter (λ y. not (nat_eq y id)) (open_ids_in xs)
+        → open_ids_in (cond (not b) (x ∷ filter (λ y. not (nat_eq y.id id)) xs) (filter (λ y. not (nat_eq y.id id)) xs))
+        ≡ cond (not b) (x.id ∷ filter (λ y. not (nat_eq y id)) (open_ids_in xs))
+        (filter (λ y. not (nat_eq y id)) (open_ids_in xs))
     at_head true more = more
     at_head false more = ap (λ ids. x.id ∷ ids) more
 
@@ -128,11 +129,11 @@ filter_swaps {X = X} p q (x ∷ xs) = at_head (p x) (q x) refl refl (filter_swap
         ∙ ap (filter q) (sym (filter_failing p x xs a))
 
 -- A session is closed.
-pub closes : (id : ℕ) (old new : Ids) (sessions : List Session) → old.open_ids ≡ open_in sessions → old.ended_ids
+pub closes : (id : ℕ) (old new : Ids) (sessions : List Session) → old.open_ids ≡ open_ids_in sessions → old.ended_ids
     ≡ ended_in sessions
     → new ≡ record {
       newest = old.newest;
-      open_ids = open_in (filter (λ x. not (nat_eq x.id id)) sessions);
+      open_ids = open_ids_in (filter (λ x. not (nat_eq x.id id)) sessions);
       ended_ids =
           ended_in (filter (λ x. not (nat_eq x.id id)) sessions);
     }
@@ -154,9 +155,9 @@ some_left {X = X} q (x ∷ xs) passes = at_head (q x) passes (some_left q xs)
     at_head false passes more = more passes
 
 -- fewer sessions are open
-pub fewer_at : (id : ℕ) (sessions : List Session) → Contains (open_in sessions) id
+pub fewer_at : (id : ℕ) (sessions : List Session) → Contains (open_ids_in sessions) id
     → length (filter (λ x. not (nat_eq x.id id)) sessions) < length sessions
 fewer_at id sessions is_open =
     let some = some_left (λ x. nat_eq x.id id) sessions
-    (open_test sessions id ∙ (is_member (open_in sessions) id).1 is_open) in
+    (open_test sessions id ∙ (is_member (open_ids_in sessions) id).1 is_open) in
     omega (arith, some, length-filter_both (λ x. nat_eq x.id id) (λ x. not (nat_eq x.id id)) (λ x. refl) sessions)

@@ -7,7 +7,7 @@ use Rattle.std.proofs.lemmas.List.Elements.{Decides-contains}
 use Rattle.std.proofs.lemmas.Bool.Decides.{Decides-by_or, Decides-eqb, Decides-at, Decides-and, Decides-not}
 use Rattle.djq_io.specs.declared.sessions.Session.{Session}
 use Rattle.djq_io.specs.Hub.{Ids, IsRunning}
-use Rattle.djq_io.specs.SessionsInside.{open_in, ended_in}
+use Rattle.djq_io.specs.SessionsInside.{open_ids_in, ended_in}
 
 -- the test and the fact
 pub is_member : (xs : List ℕ) (x : ℕ) → Decides (list_any (λ y. nat_eq y x) xs) (Contains xs x)
@@ -21,7 +21,7 @@ iff_true false d = (λ t. search rules, λ p. cc (d.1 p))
 
 -- a session with this id is open
 pub open_test : (sessions : List Session) (id : ℕ) → list_any (λ x. nat_eq x.id id) sessions
-    ≡ list_any (λ y. nat_eq y id) (open_in sessions)
+    ≡ list_any (λ y. nat_eq y id) (open_ids_in sessions)
 open_test [] id = refl
 open_test (x ∷ xs) id = ap (λ b. nat_eq x.id id || b) (open_test xs id)
 
@@ -48,7 +48,7 @@ ended_test (x ∷ xs) id = at_head x.ended (ended_test xs id)
 
 -- both tests tell whether it is running
 pub running_by : (ids : Ids) (sessions : List Session) (id : ℕ) (is_open has_ended : Bool) → ids.open_ids
-    ≡ open_in sessions → ids.ended_ids ≡ ended_in sessions
+    ≡ open_ids_in sessions → ids.ended_ids ≡ ended_in sessions
     → is_open ≡ list_any (λ x. nat_eq x.id id) sessions → has_ended ≡ list_any (λ x. nat_eq x.id id && x.ended) sessions
     → IsTrue (is_open && not has_ended) ↔ IsRunning ids id
 running_by ids sessions id is_open has_ended opens ends open_is ended_is =

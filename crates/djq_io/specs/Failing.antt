@@ -3,8 +3,8 @@ use Rattle.std.specs.List.{list_any}
 
 -- Calls that are to fail, each by how many calls it is away: 1 is the next call, and 0 is one that
 -- has failed. The next call is among them:
-abbrev pub is_due : List ℕ → Bool
-is_due calls = list_any (λ call. call == 1) calls
+abbrev pub is_failing : List ℕ → Bool
+is_failing calls = list_any (λ call. call == 1) calls
 
 -- the same calls, one call later
 abbrev pub after_call : List ℕ → List ℕ

@@ -51,13 +51,13 @@ Turns Over room old new = new ≡ old
 Turns Failed room old new = new ≡ old
 
 -- a turn brings at most so many bytes
-abbrev pub Fits : Turn → ℕ → Type 0
-Fits (Bytes id n) room = n ≤ room
-Fits (Opened id) room = Unit {0}
-Fits (Ended id) room = Unit {0}
-Fits Idle room = Unit {0}
-Fits Over room = Unit {0}
-Fits Failed room = Unit {0}
+abbrev pub FitsTurn : Turn → ℕ → Type 0
+FitsTurn (Bytes id n) room = n ≤ room
+FitsTurn (Opened id) room = Unit {0}
+FitsTurn (Ended id) room = Unit {0}
+FitsTurn Idle room = Unit {0}
+FitsTurn Over room = Unit {0}
+FitsTurn Failed room = Unit {0}
 
 -- the bytes that a turn brought into a buffer
 abbrev pub brought : Turn → List ℕ → List ℕ

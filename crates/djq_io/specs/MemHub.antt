@@ -3,7 +3,7 @@ use Rattle.std.specs.List.{list_any}
 use Rattle.std.specs.Option.{option_map}
 use Rattle.djq_io.specs.Hub.{Ids}
 use Rattle.djq_io.specs.Script.{Script}
-use Rattle.djq_io.specs.Failing.{is_due, failed_count}
+use Rattle.djq_io.specs.Failing.{is_failing, failed_count}
 use Rattle.djq_io.specs.declared.hub.Told.{Told}
 use Rattle.djq_io.specs.declared.hub.Coming.{Coming}
 use Rattle.djq_io.specs.declared.hub.Listened.{Listened}
@@ -31,7 +31,7 @@ script_of hub = option_map (λ _. hub.script) hub.past
 
 -- what a listen answers
 abbrev pub listen_of : Recorded → Listened
-listen_of hub = if is_due hub.failing_listens then Failed else Ready
+listen_of hub = if is_failing hub.failing_listens then Failed else Ready
 
 -- what a send answers: it takes the whole piece, unless it is to fail or the session is blocked
 abbrev pub send_of : Recorded → ℕ → List ℕ → Sent
@@ -39,10 +39,10 @@ send_of hub id piece = if is_send_due id hub.failing_sends then Gone
     else (if list_any (λ other. other == id) hub.script.blocked then Again else Took (length piece))
 
 -- as which of its kind a call is to fail
-abbrev pub number_of : HubCall → ℕ
-number_of (Listen call) = call
-number_of (Turn call) = call
-number_of (Send id call) = call
+abbrev pub call_number : HubCall → ℕ
+call_number (Listen call) = call
+call_number (Turn call) = call
+call_number (Send id call) = call
 
 -- a hub after this call was put to those that are to fail
 abbrev pub with_failing : Recorded → HubCall → Recorded

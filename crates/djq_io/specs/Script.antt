@@ -18,8 +18,8 @@ abbrev pub WhereTold : Option Script → Option Script → (Script → Script �
 WhereTold old new P = IfSome new (λ n. IsSomeAnd old (λ o. P o n))
 
 -- this was the next turn of the old script, and the new one is what follows it
-abbrev pub Passes : Script → Incoming → Script → Type 0
-Passes old next new = old.turns ≡ record { turn = next; blocked = new.blocked } ∷ new.turns
+abbrev pub ScriptPasses : Script → Incoming → Script → Type 0
+ScriptPasses old next new = old.turns ≡ record { turn = next; blocked = new.blocked } ∷ new.turns
 
 -- The next turn of the old script brings these bytes to a session and then a rest, which isn't
 -- empty; the next turn of the new one brings the rest, and what follows is the same.
@@ -30,23 +30,24 @@ Cuts old id part new = (rest : List ℕ) × (after : List Coming) × (rest ≢ [
 
 -- A turn of a script that brings nothing: it has nothing, or it isn't one that can come. No id
 -- opens that isn't new, and none that was closed or has ended brings bytes or ends.
-abbrev pub IsIdle : Ids → Incoming → Type 0
-IsIdle ids (Opens id) = IsNewId ids id → ⊥
-IsIdle ids (Brings id piece) = IsRunning ids id → piece ≡ []
-IsIdle ids (Ends id) = IsRunning ids id → ⊥
-IsIdle ids Nothing = Unit {0}
+abbrev pub BringsNothing : Ids → Incoming → Type 0
+BringsNothing ids (Opens id) = IsNewId ids id → ⊥
+BringsNothing ids (Brings id piece) = IsRunning ids id → piece ≡ []
+BringsNothing ids (Ends id) = IsRunning ids id → ⊥
+BringsNothing ids Nothing = Unit {0}
 
 -- What a turn answers by a script, over these ids, with the buffer that it leaves: the next turn,
 -- of whose piece only as much as fits is given; `Idle` where it brings nothing; `Over` where there
 -- is none; or a failure, after which the script is as it was.
-abbrev pub Follows : Ids → Turn → List ℕ → Script → Script → Type 0
-Follows ids (Opened id) buf old new = IsNewId ids id × Passes old (Opens id) new
-Follows ids (Bytes id n) buf old new =
-    IsRunning ids id × (Passes old (Brings id (take n buf)) new ⊎ ((n ≡ length buf) × Cuts old id (take n buf) new))
-Follows ids (Ended id) buf old new = IsRunning ids id × Passes old (Ends id) new
-Follows ids Idle buf old new = (next : Incoming) × IsIdle ids next × Passes old next new
-Follows ids Over buf old new = (old.turns ≡ []) × (new ≡ old)
-Follows ids Failed buf old new = new ≡ old
+abbrev pub AnswersByScript : Ids → Turn → List ℕ → Script → Script → Type 0
+AnswersByScript ids (Opened id) buf old new = IsNewId ids id × ScriptPasses old (Opens id) new
+AnswersByScript ids (Bytes id n) buf old new =
+    IsRunning ids id
+    × (ScriptPasses old (Brings id (take n buf)) new ⊎ ((n ≡ length buf) × Cuts old id (take n buf) new))
+AnswersByScript ids (Ended id) buf old new = IsRunning ids id × ScriptPasses old (Ends id) new
+AnswersByScript ids Idle buf old new = (next : Incoming) × BringsNothing ids next × ScriptPasses old next new
+AnswersByScript ids Over buf old new = (old.turns ≡ []) × (new ≡ old)
+AnswersByScript ids Failed buf old new = new ≡ old
 
 -- What a send of so many bytes answers by a script, which stays: `Again` exactly where the session
 -- is blocked, and else that all of them were taken, unless the session is gone.

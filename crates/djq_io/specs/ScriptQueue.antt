@@ -11,6 +11,7 @@ pub record Queue : Type 0 where
   pub has_rest : Bool
 
 -- the turns to come, the rest of a piece first
-abbrev pub turns_of : Option Rest → List ℕ → List Coming → List Coming
-turns_of rest blocked turns = option_map_or (λ r. record { turn = Brings r.id r.piece; blocked = blocked } ∷ turns) rest
+abbrev pub turns_to_come : Option Rest → List ℕ → List Coming → List Coming
+turns_to_come rest blocked turns =
+    option_map_or (λ r. record { turn = Brings r.id r.piece; blocked = blocked } ∷ turns) rest
     turns

@@ -4,8 +4,8 @@ use Rattle.djq_io.specs.Sessions.{Count}
 use Rattle.djq_io.specs.declared.sessions.Session.{Session}
 
 -- the ids of these sessions
-abbrev pub open_in : List Session → List ℕ
-open_in sessions = map (λ x. x.id) sessions
+abbrev pub open_ids_in : List Session → List ℕ
+open_ids_in sessions = map (λ x. x.id) sessions
 
 -- the ids of those of them whose input has ended
 abbrev pub ended_in : List Session → List ℕ

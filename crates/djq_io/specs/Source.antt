@@ -6,14 +6,14 @@ use Rattle.djq_io.specs.declared.source.Read.{Read}
 use Rattle.djq_io.specs.declared.source.Read.TheVariants.{Got, End, Failed}
 
 -- What a source tells: the bytes that are left, and the pieces that it gave so far, in order.
-pub record Reading : Type 0 where
+pub record SourceReading : Type 0 where
   pub left : List ℕ
   pub given : List (List ℕ)
 
 -- A read gives this piece: what was left begins with it, and a source that tells still has the
 -- rest left and the piece behind those given before. A source may lose its count of the pieces,
 -- and tells nothing from then on; one that doesn't tell never does.
-abbrev pub GivesPiece : Option Reading → Option Reading → List ℕ → Type 0
+abbrev pub GivesPiece : Option SourceReading → Option SourceReading → List ℕ → Type 0
 GivesPiece old new piece = MatchOption old (new ≡ None) (λ o.
     (rest : List ℕ) × (o.left ≡ piece ++ rest)
     × IfSome new (λ n. n ≡ record { left = rest; given = o.given ++ piece ∷ [] }))
@@ -21,17 +21,17 @@ GivesPiece old new piece = MatchOption old (new ≡ None) (λ o.
 -- From one state of a source to a later one it gave these pieces, one a read, where it tells as
 -- the later state comes: they come behind those given before, and what was left is their bytes
 -- and then what is left still.
-abbrev pub Gives : Option Reading → Option Reading → List (List ℕ) → Type 0
-Gives old new pieces = IfSome new (λ n. IsSomeAnd old (λ o.
+abbrev pub SourceGives : Option SourceReading → Option SourceReading → List (List ℕ) → Type 0
+SourceGives old new pieces = IfSome new (λ n. IsSomeAnd old (λ o.
     (n.given ≡ o.given ++ pieces) × (o.left ≡ concat pieces ++ n.left)))
 
 -- What a read answers, from what the source tells before to what it tells after it, with the
 -- buffer that it leaves: a piece of at least one byte and at most as many as fit; the end, exactly
 -- where no bytes are left; or a failure. The last two give nothing.
-abbrev pub Reads : Read → Option Reading → Option Reading → List ℕ → Type 0
-Reads (Got n) old new buf = (1 ≤ n) × (n ≤ length buf) × GivesPiece old new (take n buf)
-Reads End old new buf = IfSome old (λ o. o.left ≡ []) × (new ≡ old)
-Reads Failed old new buf = new ≡ old
+abbrev pub SourceReads : Read → Option SourceReading → Option SourceReading → List ℕ → Type 0
+SourceReads (Got n) old new buf = (1 ≤ n) × (n ≤ length buf) × GivesPiece old new (take n buf)
+SourceReads End old new buf = IfSome old (λ o. o.left ≡ []) × (new ≡ old)
+SourceReads Failed old new buf = new ≡ old
 
 -- The count of a source's faults rises at a failed read, and stays at every other.
 abbrev pub CountsRead : Read → ℕ → ℕ → Type 0

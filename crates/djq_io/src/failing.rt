@@ -1,5 +1,5 @@
 ghost use Rattle.std.specs.Prelude.{◌≡◌, ◌<◌, [], ◌∷◌, ◌++◌, OnOk, OnErr};
-ghost use Rattle.djq_io.specs.Failing.{is_due, after_call, CountsDown};
+ghost use Rattle.djq_io.specs.Failing.{is_failing, after_call, CountsDown};
 ghost use Rattle.djq_io.specs.FailingSends.{is_send_due, one_after_send, after_send, CountsSends};
 
 use std::alloc::{AllocError, Global};
@@ -44,7 +44,7 @@ impl Failing {
 
     /// Counts a call. Says whether it is to fail.
     pub fn count_down(&mut self) -> bool
-        ensures due { result ≡ is_due self.old }
+        ensures due { result ≡ is_failing self.old }
         ensures counted { self.new ≡ after_call self.old }
         ensures faults { CountsDown result self.old self.new }
     {

@@ -75,7 +75,7 @@ pub trait Hub {
     ghost use Rattle.djq_io.specs.Sink.{Gains};
     ghost use Rattle.djq_io.specs.Hub.{Ids, Turns, Takes, brought, taken_by, without};
     ghost use Rattle.djq_io.specs.HubFaults.{CountsListen, CountsTurn, SameCounts, CountsInTurn, CountsSend};
-    ghost use Rattle.djq_io.specs.Script.{Script, WhereTold, Follows, Sends};
+    ghost use Rattle.djq_io.specs.Script.{Script, WhereTold, AnswersByScript, Sends};
     ghost use Rattle.djq_io.specs.declared.hub.Told.{Told};
 
     // The turns to come and who is blocked, where the hub tells them.
@@ -105,7 +105,7 @@ pub trait Hub {
     fn turn(&mut self, buf: &mut [u8]) -> Turn
         requires { 0 < length buf.old }
         ensures past { Gains (past self.old) (past self.new) (Told.Turning result (brought result buf.new) ∷ []) }
-        ensures script { WhereTold (script self.old) (script self.new) (Follows (ids self.old) result buf.new) }
+        ensures script { WhereTold (script self.old) (script self.new) (AnswersByScript (ids self.old) result buf.new) }
         ensures ids { Turns result (length buf.new) (ids self.old) (ids self.new) }
         ensures faults { CountsTurn result (faults self.old) (faults self.new) }
         ensures sessions { CountsInTurn result (ids self.old).open_ids (session_faults self.old)

@@ -1,12 +1,13 @@
 ghost use Rattle.std.specs.Prelude.{◌≡◌, ◌↔◌, ℕ, ◌<◌, ◌+◌, [], ◌∷◌, length, Contains, IsTrue, Some, OnOk, OnErr};
 ghost use Rattle.std.specs.Option.{option_copied};
 ghost use Rattle.djq_io.specs.Sink.{Gains};
-ghost use Rattle.djq_io.specs.Failing.{is_due, after_call, failed_count};
+ghost use Rattle.djq_io.specs.Failing.{is_failing, after_call, failed_count};
 ghost use Rattle.djq_io.specs.FailingSends.{after_send, failed_sends};
-ghost use Rattle.djq_io.specs.Hub.{no_ids, Turns, Takes, Fits, brought, taken_by, without};
+ghost use Rattle.djq_io.specs.Hub.{no_ids, Turns, Takes, FitsTurn, brought, taken_by, without};
 ghost use Rattle.djq_io.specs.HubFaults.{CountsListen, CountsTurn, SameCounts, CountsInTurn, CountsSend};
-ghost use Rattle.djq_io.specs.Script.{WhereTold, Follows, Sends};
-ghost use Rattle.djq_io.specs.MemHub.{script_of, listen_of, send_of, number_of, with_failing, hub_faults, with_coming};
+ghost use Rattle.djq_io.specs.Script.{WhereTold, AnswersByScript, Sends};
+ghost use Rattle.djq_io.specs.MemHub.{script_of, listen_of, send_of, call_number, with_failing, hub_faults};
+ghost use Rattle.djq_io.specs.MemHub.{with_coming};
 
 use crate::failing::{Failing, FailingSend, FailingSends};
 use crate::hub::{Coming, Hub, Incoming, Listened, Sent, Told, Turn};
@@ -94,7 +95,7 @@ impl MemHub {
 
     /// Lets a call fail.
     pub fn fail(&mut self, call: HubCall) -> Result<(), AllocError>
-        requires { 0 < number_of call }
+        requires { 0 < call_number call }
         ensures ok { OnOk result (self.new ≡ with_failing self.old call) }
         ensures err { OnErr result (self.new ≡ self.old) }
     {
@@ -115,7 +116,7 @@ impl MemHub {
     /// Takes the next turn of the script.
     fn follow(&mut self, buf: &mut [u8]) -> Turn
         requires { 0 < length buf.old }
-        ensures script { Follows self.old.ids result buf.new self.old.script self.new.script }
+        ensures script { AnswersByScript self.old.ids result buf.new self.old.script self.new.script }
         ensures ids { Turns result (length buf.new) self.old.ids self.new.ids }
         ensures others { self.new ≡ record self.old { script = self.new.script; ids = self.new.ids } }
         ensures works { result ≡ Turn.Failed → ⊥ }
@@ -183,13 +184,13 @@ impl Hub for MemHub {
 
     fn turn(&mut self, buf: &mut [u8]) -> Turn
         requires { 0 < length buf.old }
-        ensures fails { (result ≡ Turn.Failed) ↔ IsTrue (is_due self.old.failing_turns) }
+        ensures fails { (result ≡ Turn.Failed) ↔ IsTrue (is_failing self.old.failing_turns) }
         ensures turns { self.new.failing_turns ≡ after_call self.old.failing_turns }
         ensures listens { self.new.failing_listens ≡ self.old.failing_listens }
         ensures sends { self.new.failing_sends ≡ self.old.failing_sends }
         ensures past { Gains self.old.past self.new.past (Told.Turning result (brought result buf.new) ∷ []) }
-        ensures follows { Follows self.old.ids result buf.new self.old.script self.new.script }
-        ensures script { WhereTold (script_of self.old) (script_of self.new) (Follows self.old.ids result buf.new) }
+        ensures follows { AnswersByScript self.old.ids result buf.new self.old.script self.new.script }
+        ensures script { WhereTold (script_of self.old) (script_of self.new) (AnswersByScript self.old.ids result buf.new) }
         ensures ids { Turns result (length buf.new) self.old.ids self.new.ids }
         ensures faults { CountsTurn result (hub_faults self.old) (hub_faults self.new) }
         ensures sessions { CountsInTurn result self.old.ids.open_ids
@@ -250,7 +251,7 @@ impl Hub for MemHub {
 
 /// The bytes that a turn brought into a buffer.
 fn brought_by(turn: Turn, buf: &[u8]) -> &[u8]
-    requires { Fits turn (length buf.now) }
+    requires { FitsTurn turn (length buf.now) }
     ensures { result.now ≡ brought turn buf.now }
 {
     match turn {

@@ -25,9 +25,9 @@ pub struct MemSink {
 
 impl Model for MemSink {
     ghost use Rattle.std.specs.Prelude.{◌≡◌, IfSome};
-    ghost use Rattle.djq_io.specs.MemSink.{Kept};
+    ghost use Rattle.djq_io.specs.MemSink.{MemSinkInside};
 
-    ghost Value = { Kept };
+    ghost Value = { MemSinkInside };
 
     ghost use Rattle.djq_io.specs.Sink.{bytes_of};
 

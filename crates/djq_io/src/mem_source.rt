@@ -1,7 +1,7 @@
 ghost use Rattle.std.specs.Prelude.{◌≡◌, ◌<◌, [], ◌∷◌, ◌++◌, length, drop, Some, OnOk, OnErr};
 ghost use Rattle.djq_io.specs.Failing.{after_call, failed_count};
-ghost use Rattle.djq_io.specs.Source.{Reads, CountsRead};
-ghost use Rattle.djq_io.specs.MemSource.{reading_of, read_of, count_of};
+ghost use Rattle.djq_io.specs.Source.{SourceReads, CountsRead};
+ghost use Rattle.djq_io.specs.MemSource.{source_reading, read_of, bytes_read};
 
 use crate::failing::Failing;
 use crate::recording::Recording;
@@ -34,9 +34,9 @@ pub struct MemSource {
 impl Model for MemSource {
     ghost use Rattle.std.specs.Prelude.{ℕ, ◌<◌, ◌≤◌, length, drop, map, slice_range};
     ghost use Rattle.std.specs.Option.{option_map};
-    ghost use Rattle.djq_io.specs.MemSource.{Held};
+    ghost use Rattle.djq_io.specs.MemSource.{MemSourceInside};
 
-    ghost Value = { Held };
+    ghost Value = { MemSourceInside };
 
     ghost view = { λ s. record {
       left = drop s.at s.bytes.items;
@@ -75,15 +75,15 @@ impl MemSource {
 }
 
 impl Source for MemSource {
-    ghost told = { λ s. reading_of s };
+    ghost told = { λ s. source_reading s };
 
     ghost faults = { λ s. failed_count s.to_fail };
 
     fn read(&mut self, buf: &mut [u8]) -> Read
         requires { 0 < length buf.old }
         ensures exact { result ≡ read_of self.old (length buf.old) }
-        ensures reads { Reads result (reading_of self.old) (reading_of self.new) buf.new }
-        ensures left { self.new.left ≡ drop (count_of result) self.old.left }
+        ensures reads { SourceReads result (source_reading self.old) (source_reading self.new) buf.new }
+        ensures left { self.new.left ≡ drop (bytes_read result) self.old.left }
         ensures most { self.new.most ≡ self.old.most }
         ensures to_fail { self.new.to_fail ≡ after_call self.old.to_fail }
         ensures faults { CountsRead result (failed_count self.old.to_fail) (failed_count self.new.to_fail) }

@@ -1,6 +1,6 @@
 ghost use Rattle.std.specs.Prelude.{◌≡◌, ◌≢◌, ◌+◌, ◌<◌, [], ◌∷◌, ◌++◌, ◌==◌, length, false, MatchOption, OnOk, OnErr};
 ghost use Rattle.std.specs.List.{list_any};
-ghost use Rattle.djq_io.specs.Script.{Passes};
+ghost use Rattle.djq_io.specs.Script.{ScriptPasses};
 
 use crate::hub::{Coming, Incoming};
 use crate::id_list::IdList;
@@ -29,12 +29,12 @@ pub(crate) struct ScriptQueue {
 
 impl Model for ScriptQueue {
     ghost use Rattle.std.specs.Prelude.{is_some};
-    ghost use Rattle.djq_io.specs.ScriptQueue.{Queue, turns_of};
+    ghost use Rattle.djq_io.specs.ScriptQueue.{Queue, turns_to_come};
 
     ghost Value = { Queue };
 
     ghost view = { λ q. record {
-      script = record { blocked = q.blocked; turns = turns_of q.rest q.blocked q.turns.items };
+      script = record { blocked = q.blocked; turns = turns_to_come q.rest q.blocked q.turns.items };
       has_rest = is_some q.rest;
     } };
 }
@@ -78,7 +78,7 @@ impl ScriptQueue {
     /// Takes the next turn.
     pub(crate) fn pop(&mut self) -> Option<Incoming>
         ensures next { MatchOption result ((self.old.script.turns ≡ [])
-            × (self.new.script ≡ self.old.script)) (λ next. Passes self.old.script next
+            × (self.new.script ≡ self.old.script)) (λ next. ScriptPasses self.old.script next
             self.new.script) }
         ensures whole { self.new.has_rest ≡ false }
     {

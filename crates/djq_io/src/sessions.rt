@@ -54,14 +54,14 @@ pub struct Sessions {
 impl Model for Sessions {
     ghost use Rattle.std.specs.Prelude.{◌-◌, ◌≤◌, All, vec_len, vec_capacity};
     ghost use Rattle.djq_io.specs.Sessions.{Places};
-    ghost use Rattle.djq_io.specs.SessionsInside.{open_in, ended_in, counts_in};
+    ghost use Rattle.djq_io.specs.SessionsInside.{open_ids_in, ended_in, counts_in};
 
     ghost Value = { Places };
 
     ghost view = { λ s. record {
       ids = record {
         newest = s.newest;
-        open_ids = open_in s.places.items;
+        open_ids = open_ids_in s.places.items;
         ended_ids = ended_in s.places.items;
       };
       room = vec_capacity s.places - vec_len s.places;

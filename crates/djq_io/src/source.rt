@@ -12,10 +12,10 @@ pub enum Read {
 /// Where bytes come from.
 pub trait Source {
     ghost use Rattle.std.specs.Prelude.{◌≡◌, ℕ, ◌<◌, ◌≤◌, List, length, Option};
-    ghost use Rattle.djq_io.specs.Source.{Reading, Reads, CountsRead};
+    ghost use Rattle.djq_io.specs.Source.{SourceReading, SourceReads, CountsRead};
 
     // The bytes that are left and the pieces that were given, where the source tells them.
-    ghost told: { Self → Option Reading };
+    ghost told: { Self → Option SourceReading };
 
     // How many faults it has met.
     ghost faults: { Self → ℕ };
@@ -23,6 +23,6 @@ pub trait Source {
     /// Reads some bytes into the start of the buffer. Past them the buffer may change too.
     fn read(&mut self, buf: &mut [u8]) -> Read
         requires { 0 < length buf.old }
-        ensures reads { Reads result (told self.old) (told self.new) buf.new }
+        ensures reads { SourceReads result (told self.old) (told self.new) buf.new }
         ensures faults { CountsRead result (faults self.old) (faults self.new) };
 }

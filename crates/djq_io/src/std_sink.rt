@@ -1,6 +1,6 @@
 ghost use Rattle.std.specs.Prelude.{◌≡◌, ◌<◌, [], ◌∷◌, length, None};
 ghost use Rattle.djq_io.specs.Sink.{Gains, TakesPart, CountsWrite};
-ghost use Rattle.djq_io.specs.StdSink.{CountsOne};
+ghost use Rattle.djq_io.specs.StdSink.{CountsOneWrite};
 ghost use Rattle.djq_io.specs.declared.sink.Write.{Write};
 
 use crate::sink::{Sink, Wrote};
@@ -46,7 +46,7 @@ impl<W: io::Write + Drop> Sink for StdSink<W> {
         ensures takes { TakesPart result piece.now }
         ensures told { Gains {A = Write} None None (record { piece = piece.now; answer = result } ∷ []) }
         ensures faults { CountsWrite result self.old self.new }
-        ensures one { CountsOne result self.old self.new }
+        ensures one { CountsOneWrite result self.old self.new }
     {
         match self.writer.write(piece) {
             Ok(n) if 0 < n && self.writer.flush().is_ok() => Wrote::Took(n),

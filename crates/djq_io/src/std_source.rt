@@ -1,6 +1,6 @@
 ghost use Rattle.std.specs.Prelude.{◌≡◌, ◌<◌, length, None};
-ghost use Rattle.djq_io.specs.Source.{Reads, CountsRead};
-ghost use Rattle.djq_io.specs.StdSource.{CountsOne};
+ghost use Rattle.djq_io.specs.Source.{SourceReads, CountsRead};
+ghost use Rattle.djq_io.specs.StdSource.{CountsOneRead};
 
 use crate::source::{Read, Source};
 use std::io;
@@ -42,9 +42,9 @@ impl<R: io::Read + Drop> Source for StdSource<R> {
 
     fn read(&mut self, buf: &mut [u8]) -> Read
         requires { 0 < length buf.old }
-        ensures reads { Reads result None None buf.new }
+        ensures reads { SourceReads result None None buf.new }
         ensures faults { CountsRead result self.old self.new }
-        ensures one { CountsOne result self.old self.new }
+        ensures one { CountsOneRead result self.old self.new }
     {
         match self.reader.read(buf) {
             Ok(0) => Read::End,

@@ -5,8 +5,8 @@ use Rattle.std.specs.List.{AllByRecursion}
 use Rattle.std.proofs.Math.Seq.{drop-append_seam}
 use Rattle.djq_disk.specs.File.{File}
 use Rattle.djq_disk.specs.History.{History}
-use Rattle.djq_journal.specs.Format.{IsLine, record_of, front, IsEnd, IsRecord}
-use Rattle.djq_journal.specs.Standing.{IsAt, IsIdle}
+use Rattle.djq_journal.specs.Format.{IsJournalLine, record_of, front, IsEnd, IsRecord}
+use Rattle.djq_journal.specs.Standing.{IsAtGate, IsIdle}
 use Rattle.djq_journal.specs.Calls.{OpensExactly, ReadsExactly}
 use Rattle.djq_journal.specs.declared.journal.Opened.TheVariants.{Ready, BadLog, Failed as Unopened}
 use Rattle.djq_journal.specs.declared.line.Line.TheVariants.{Got, End, BadLog as BadLine, Failed as Unread}
@@ -20,13 +20,14 @@ opens_exactly (Ready gate) old new opens failed =
 opens_exactly (BadLog at) old new opens failed = ((λ starts. absurd (opens.2 starts.0 starts.1)), (λ wrong. cc))
 opens_exactly Unopened old new opens failed = absurd (failed refl)
 
-last_of : (lines : List (List ℕ)) (line : List ℕ) → AllByRecursion IsLine (lines ++ line ∷ []) → IsLine line
+last_of : (lines : List (List ℕ)) (line : List ℕ) → AllByRecursion IsJournalLine (lines ++ line ∷ [])
+    → IsJournalLine line
 last_of [] line all = all.0
 last_of (l ∷ ls) line all = last_of ls line all.1
 
 -- behind a line that was read its record stands
-record_there : (lines : List (List ℕ)) (line : List ℕ) (gate gate' : ℕ) (file : File) → IsAt lines gate file
-    → IsAt (lines ++ line ∷ []) gate' file
+record_there : (lines : List (List ℕ)) (line : List ℕ) (gate gate' : ℕ) (file : File) → IsAtGate lines gate file
+    → IsAtGate (lines ++ line ∷ []) gate' file
     → IsRecord line (drop gate file.bytes)
 record_there lines line gate gate' file at behind = record {
   is_line = last_of lines line behind.are_lines;

@@ -5,10 +5,10 @@ use Rattle.std.proofs.Common.{length-take}
 use Rattle.std.specs.List.{AllByRecursion}
 use Rattle.std.proofs.Math.Seq.{take-append-add}
 use Rattle.std.proofs.lemmas.List.{take-append-drop}
-use Rattle.djq_disk.specs.File.{Span, File, IsImage, IsOutside, IsSettled, settled, with_written, Keeps}
+use Rattle.djq_disk.specs.File.{Span, File, IsImage, IsOutsideSpan, IsSettled, settled, with_written, KeepsOutside}
 use Rattle.djq_disk.specs.Leaving.{LeavesOnly}
 use Rattle.djq_disk.proofs.Keeping.{all_append, all_so}
-use Rattle.djq_journal.specs.Format.{front, OpensTo}
+use Rattle.djq_journal.specs.Format.{front, FileOpensTo}
 use Rattle.djq_journal.specs.Staging.{IsFirm}
 use Rattle.djq_journal.proofs.Fronts.{same_start}
 
@@ -28,7 +28,7 @@ firm_settled n file is long = record {
 
 -- a write behind the firm part leaves it
 pub firm_written : (n : ℕ) (bytes after : List ℕ) (span : Span) (file : File) → IsFirm n bytes file → n ≤ span.at
-    → Keeps span file.bytes after
+    → KeepsOutside span file.bytes after
     → IsFirm n bytes (with_written span after file)
 firm_written n bytes after span file firm behind keeps =
     let long = firm_long n bytes file firm in
@@ -51,13 +51,13 @@ pub firm_left : (n : ℕ) (bytes : List ℕ) (file : File) (image : List ℕ) �
 firm_left n bytes file image firm is =
     same_start n image file.bytes (omega (arith, firm.synced, is.long)) (firm_long n bytes file firm)
     (λ i low. is.kept i (omega (arith, firm.synced))
-    (all_so (λ (s : Span). n ≤ s.at) (IsOutside i) file.written (λ s behind. inl (omega arith)) firm.behind))
+    (all_so (λ (s : Span). n ≤ s.at) (IsOutsideSpan i) file.written (λ s behind. inl (omega arith)) firm.behind))
     ∙ firm.same
 
 -- What begins as a file that opens, up to its gate, opens to the same lines.
-pub opens_alike : (lines : List (List ℕ)) (gate : ℕ) (bytes image : List ℕ) → OpensTo lines bytes → gate
+pub opens_alike : (lines : List (List ℕ)) (gate : ℕ) (bytes image : List ℕ) → FileOpensTo lines bytes → gate
     ≡ length (front lines)
-    → take (suc gate) image ≡ take (suc gate) bytes → OpensTo lines image
+    → take (suc gate) image ≡ take (suc gate) bytes → FileOpensTo lines image
 opens_alike lines gate bytes image opens place same = record {
   are_lines = opens.are_lines;
   gate = opens.gate;
@@ -76,14 +76,14 @@ opens_alike lines gate bytes image opens place same = record {
         ∙ take-append-add (front lines) (opens.gate ∷ opens.behind) 1
 
 -- where a file opens, its gate stands in it
-pub gate_within : (lines : List (List ℕ)) (gate : ℕ) (bytes : List ℕ) → OpensTo lines bytes → gate
+pub gate_within : (lines : List (List ℕ)) (gate : ℕ) (bytes : List ℕ) → FileOpensTo lines bytes → gate
     ≡ length (front lines) → suc gate ≤ length bytes
 gate_within lines gate bytes opens place = omega
     (arith, place, ap length opens.is, length-append (front lines) (opens.gate ∷ opens.behind))
 
 -- so what a stop leaves of a file that is firm up to its gate opens to the same lines
-pub firm_leaves : (lines : List (List ℕ)) (gate : ℕ) (bytes : List ℕ) (file : File) → OpensTo lines bytes → gate
+pub firm_leaves : (lines : List (List ℕ)) (gate : ℕ) (bytes : List ℕ) (file : File) → FileOpensTo lines bytes → gate
     ≡ length (front lines)
-    → IsFirm (suc gate) bytes file → LeavesOnly (OpensTo lines) file
+    → IsFirm (suc gate) bytes file → LeavesOnly (FileOpensTo lines) file
 firm_leaves lines gate bytes file opens place firm image is = opens_alike lines gate bytes image opens place
     (firm_left (suc gate) bytes file image firm is)

@@ -4,24 +4,24 @@ use Rattle.std.proofs.Common.{refl, sym, ap, ap₂, subst, ◌∙◌, arith, app
 use Rattle.std.proofs.Common.{length-append}
 use Rattle.std.proofs.Math.Seq.{drop-append_seam, drop-drop}
 use Rattle.std.proofs.lemmas.List.{take-append-drop}
-use Rattle.djq_disk.specs.File.{File, IsSettled, settled, put}
+use Rattle.djq_disk.specs.File.{File, IsSettled, settled, piece_put}
 use Rattle.djq_disk.specs.History.{History, moved_to, Syncs}
-use Rattle.djq_disk.specs.Filling.{Fills}
+use Rattle.djq_disk.specs.Filling.{FillsBuffer}
 use Rattle.djq_disk.specs.WritingDown.{WritesDown}
 use Rattle.djq_disk.specs.declared.disk.DiskDid.TheVariants.{Done}
 use Rattle.djq_disk.specs.declared.filling.Filled.TheVariants.{Whole}
 use Rattle.djq_disk.proofs.Keeping.{all_append}
-use Rattle.djq_journal.specs.Format.{header, IsLine, record_of, front}
-use Rattle.djq_journal.specs.Standing.{IsAt}
-use Rattle.djq_journal.specs.Calls.{Makes, Opens}
+use Rattle.djq_journal.specs.Format.{header, IsJournalLine, record_of, front}
+use Rattle.djq_journal.specs.Standing.{IsAtGate}
+use Rattle.djq_journal.specs.Calls.{MakesJournal, JournalOpens}
 use Rattle.djq_journal.specs.declared.journal.Made.TheVariants.{Done as Made}
 use Rattle.djq_journal.specs.declared.journal.Opened.TheVariants.{Ready}
 use Rattle.djq_journal.proofs.Fronts.{put_there, front_more}
 
 -- the header and a closed gate were written and synced
-pub made : (old new : History) → WritesDown Done 0 (header ++ 0 ∷ []) old new → Makes Made old new
+pub made : (old new : History) → WritesDown Done 0 (header ++ 0 ∷ []) old new → MakesJournal Made old new
 made old new writes =
-    let is : new.file ≡ settled (put 0 (header ++ 0 ∷ []) old.file.bytes) = writes.done refl in (
+    let is : new.file ≡ settled (piece_put 0 (header ++ 0 ∷ []) old.file.bytes) = writes.done refl in (
       writes.paths,
       record {
         opens = record {
@@ -38,7 +38,7 @@ made old new writes =
 
 -- behind a sync the header is read
 pub opened_ready : (buf : List ℕ) (old mid new : History) → buf ≡ header → Syncs Done old mid
-    → Fills Whole 0 buf mid new → Opens (Ready 8) old new
+    → FillsBuffer Whole 0 buf mid new → JournalOpens (Ready 8) old new
 opened_ready buf old mid new is syncs fills =
     let same : new ≡ moved_to (settled old.file.bytes) old = fills.1 ∙ syncs in
     let bytes : mid.file.bytes ≡ old.file.bytes = ap (λ (h : History). h.file.bytes) syncs in
@@ -56,11 +56,11 @@ opened_ready buf old mid new is syncs fills =
     )
 
 -- behind a head the line is read
-pub line_read : (lines : List (List ℕ)) (gate n : ℕ) (got : List ℕ) (file : File) → IsAt lines gate file
+pub line_read : (lines : List (List ℕ)) (gate n : ℕ) (got : List ℕ) (file : File) → IsAtGate lines gate file
     → drop gate file.bytes ≡ 1 ∷ n / 256 ∷ n % 256 ∷ drop 3 (drop gate file.bytes) → 1 ≤ n → n ≤ 4096 → length got ≡ n
-    → got ≡ take (length got) (drop (gate + 3) file.bytes) → IsAt (lines ++ got ∷ []) (gate + (3 + n)) file
+    → got ≡ take (length got) (drop (gate + 3) file.bytes) → IsAtGate (lines ++ got ∷ []) (gate + (3 + n)) file
 line_read lines gate n got file at head some short size is = record {
-  are_lines = all_append IsLine lines (got ∷ []) at.are_lines ((omega arith, omega arith), tt);
+  are_lines = all_append IsJournalLine lines (got ∷ []) at.are_lines ((omega arith, omega arith), tt);
   rest = later;
   is = at.is ∙ ap (λ (xs : List ℕ). front lines ++ xs) (sym there ∙ record_there)
       ∙ sym (append_assoc (front lines) (record_of got) later)

@@ -6,7 +6,7 @@ use Rattle.std.specs.List.{flat_map}
 use Rattle.std.proofs.Math.Seq.{take-append_seam, drop-append-add, drop-cons, drop-drop}
 use Rattle.std.proofs.lemmas.List.{ext_get_or, take-append-drop, drop-append-le, get_or-take, get_or-drop}
 use Rattle.std.proofs.lemmas.Grind.{flat_map-append}
-use Rattle.djq_disk.specs.File.{Keeps, put}
+use Rattle.djq_disk.specs.File.{KeepsOutside, piece_put}
 use Rattle.djq_journal.specs.Format.{header, body_of, record_of, front}
 use Rattle.djq_journal.specs.Staging.{behind_gate}
 
@@ -19,7 +19,8 @@ same_start n a b in_a in_b same =
     ∙ sym (get_or-take n b i 0 low))
 
 -- A piece that is put behind the bytes before it.
-pub put_there : (xs piece rest : List ℕ) → put (length xs) piece (xs ++ rest) ≡ xs ++ piece ++ drop (length piece) rest
+pub put_there : (xs piece rest : List ℕ)
+    → piece_put (length xs) piece (xs ++ rest) ≡ xs ++ piece ++ drop (length piece) rest
 put_there xs piece rest =
     let none : length xs - length (xs ++ rest) ≡ 0 = omega (arith, length-append xs rest) in
     let before : take (length xs) (xs ++ rest) ++ replicate (length xs - length (xs ++ rest)) 0 ≡ xs =
@@ -27,11 +28,12 @@ put_there xs piece rest =
     ap₂ (λ (ys zs : List ℕ). ys ++ piece ++ zs) before (drop-append-add xs rest (length piece))
 
 -- one byte in place of another
-pub put_one : (xs : List ℕ) (old new : ℕ) (ys : List ℕ) → put (length xs) (new ∷ []) (xs ++ old ∷ ys) ≡ xs ++ new ∷ ys
+pub put_one : (xs : List ℕ) (old new : ℕ) (ys : List ℕ)
+    → piece_put (length xs) (new ∷ []) (xs ++ old ∷ ys) ≡ xs ++ new ∷ ys
 put_one xs old new ys = put_there xs (new ∷ []) (old ∷ ys) ∙ append_assoc xs (new ∷ []) ys
 
 -- What is kept around one byte: what stands before it, and behind it all that stood there.
-pub kept_around : (at : ℕ) (old new : List ℕ) → at < length old → Keeps (record { at = at; size = 1 }) old new
+pub kept_around : (at : ℕ) (old new : List ℕ) → at < length old → KeepsOutside (record { at = at; size = 1 }) old new
     → new ≡ take at old ++ (get_or new at 0 ∷ (drop (suc at) old ++ drop (length old) new))
 kept_around at old new within keeps =
     sym (take-append-drop at new)

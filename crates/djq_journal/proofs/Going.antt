@@ -6,7 +6,7 @@ use Rattle.djq_disk.specs.File.{File}
 use Rattle.djq_disk.specs.History.{History}
 use Rattle.djq_disk.specs.Leaving.{LeavesOnly, LeavesSince}
 use Rattle.djq_disk.proofs.Keeping.{leaves_none, leaves_more, leaves_so}
-use Rattle.djq_journal.specs.Format.{OpensTo}
+use Rattle.djq_journal.specs.Format.{FileOpensTo}
 use Rattle.djq_journal.specs.Standing.{IsIdle}
 use Rattle.djq_journal.specs.Appending.{IsBeforeOrAfter}
 use Rattle.djq_journal.specs.Keeping.{whole_lines, OpensWithin, IsKeeping, KeepsOn}
@@ -23,7 +23,7 @@ lines_more found groups group =
 
 -- the lines of all groups
 opens_all : (found : List (List ℕ)) (groups : List (List (List ℕ))) (file : List ℕ)
-    → OpensTo (found ++ whole_lines groups) file → OpensWithin found groups (length groups) file
+    → FileOpensTo (found ++ whole_lines groups) file → OpensWithin found groups (length groups) file
 opens_all found groups file opens = record
     { whole = groups; later = []; cut = sym (append-nil groups); acknowledged = omega arith; opens = opens }
 
@@ -49,7 +49,7 @@ before_or_after found groups group least file few (inr after) = record {
   later = [];
   cut = sym (append-nil (groups ++ group ∷ []));
   acknowledged = omega (arith, few, length-append groups (group ∷ []));
-  opens = subst (λ (ls : List (List ℕ)). OpensTo ls file) (lines_more found groups group) after;
+  opens = subst (λ (ls : List (List ℕ)). FileOpensTo ls file) (lines_more found groups group) after;
 }
 
 keeping_now : (found : List (List ℕ)) (groups : List (List (List ℕ))) (gate : ℕ) (file : File)

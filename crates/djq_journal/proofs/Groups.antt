@@ -8,16 +8,16 @@ use Rattle.std.proofs.Math.Seq.{take-suc}
 use Rattle.std.proofs.lemmas.List.{take-append-drop, drop_more}
 use Rattle.std.proofs.lemmas.Option.{slice_get_within, get_or_from_slice_get}
 use Rattle.std.proofs.lemmas.Grind.{flat_map-append}
-use Rattle.djq_journal.specs.Format.{IsLine, body_of, record_of}
+use Rattle.djq_journal.specs.Format.{IsJournalLine, body_of, record_of}
 use Rattle.djq_journal.specs.Appending.{gate_after}
-use Rattle.djq_journal.specs.Staging.{gate_before, behind_gate, Gathers}
+use Rattle.djq_journal.specs.Staging.{gate_before, behind_gate, StagesLines}
 use Rattle.djq_journal.proofs.Fronts.{behind_more, length_behind}
 
 -- a line of the group is one
-pub line_at : (lines : List (List ℕ)) (i : ℕ) (line : List ℕ) → AllByRecursion IsLine lines → Some line
-    ≡ slice_get lines i → IsLine line
+pub line_at : (lines : List (List ℕ)) (i : ℕ) (line : List ℕ) → AllByRecursion IsJournalLine lines → Some line
+    ≡ slice_get lines i → IsJournalLine line
 line_at [] i line all is = cc
-line_at (l ∷ ls) zero line all is = subst IsLine (some_same (sym is)) all.0
+line_at (l ∷ ls) zero line all is = subst IsJournalLine (some_same (sym is)) all.0
   where
     some_same : Some l ≡ Some line → l ≡ line
     some_same e = cc
@@ -72,12 +72,12 @@ pub piece_within : (n at most : ℕ) (buf : List ℕ) → at + length buf ≤ mo
 piece_within n at most buf within = omega (arith, length-take n buf)
 
 -- nothing is laid out yet
-pub gathers_none : (group : List (List ℕ)) (gate at : ℕ) → at ≡ suc gate → Gathers group 0 gate at [] []
+pub gathers_none : (group : List (List ℕ)) (gate at : ℕ) → at ≡ suc gate → StagesLines group 0 gate at [] []
 gathers_none group gate at is = record { place = omega (arith, is); are = refl }
 
 -- what is written ends no further than all will
 pub gathers_end : (group : List (List ℕ)) (i gate at : ℕ) (written gathered : List ℕ)
-    → Gathers group i gate at written gathered
+    → StagesLines group i gate at written gathered
     → at ≤ suc (gate_after gate group)
 gathers_end group i gate at written gathered g =
     omega (
@@ -93,8 +93,8 @@ gathers_end group i gate at written gathered g =
 -- What is gathered is written.
 pub gathers_written : (group : List (List ℕ)) (i gate at at' filled filled' : ℕ) (written buf : List ℕ) → at'
     ≡ at + filled → filled' ≡ 0 → filled ≤ length buf
-    → Gathers group i gate at written (take filled buf)
-    → Gathers group i gate at' (written ++ take filled buf) (take filled' buf)
+    → StagesLines group i gate at written (take filled buf)
+    → StagesLines group i gate at' (written ++ take filled buf) (take filled' buf)
 gathers_written group i gate at at' filled filled' written buf place none within g =
     let all = written ++ take filled buf in
     record {
@@ -105,14 +105,15 @@ gathers_written group i gate at at' filled filled' written buf place none within
 -- Nothing of it is.
 pub gathers_still : (group : List (List ℕ)) (i gate at at' filled filled' : ℕ) (written buf : List ℕ) → at' ≡ at
     → filled' ≡ filled
-    → Gathers group i gate at written (take filled buf) → Gathers group i gate at' written (take filled' buf)
+    → StagesLines group i gate at written (take filled buf) → StagesLines group i gate at' written (take filled' buf)
 gathers_still group i gate at at' filled filled' written buf place same g =
     record { place = place ∙ g.place; are = g.are ∙ ap (λ n. written ++ take n buf) (sym same) }
 
 -- The line with this number is gathered behind those before it.
 pub gathers_line : (group : List (List ℕ)) (i : ℕ) (line : List ℕ) (next gate at : ℕ) (written gathered : List ℕ)
-    → Some line ≡ slice_get group i → next ≡ gate_before (drop (i + 1) group) → Gathers group i gate at written gathered
-    → Gathers group (i + 1) gate at written (gathered ++ (body_of line ++ next ∷ []))
+    → Some line ≡ slice_get group i → next ≡ gate_before (drop (i + 1) group)
+    → StagesLines group i gate at written gathered
+    → StagesLines group (i + 1) gate at written (gathered ++ (body_of line ++ next ∷ []))
 gathers_line group i line next gate at written gathered is is_next g =
     let piece : List ℕ = body_of line ++ next ∷ [] in
     let so_far : behind_gate (take i group) 1 ≡ written ++ gathered =
@@ -126,7 +127,7 @@ gathers_line group i line next gate at written gathered is is_next g =
 
 -- Behind the last line the whole of the group is laid out.
 pub gathers_all : (group : List (List ℕ)) (i gate at : ℕ) (written gathered : List ℕ) → None ≡ slice_get group i
-    → Gathers group i gate at written gathered → behind_gate group 0 ≡ written ++ gathered
+    → StagesLines group i gate at written gathered → behind_gate group 0 ≡ written ++ gathered
 gathers_all group i gate at written gathered past g =
     let all = past_lines group i past in
     sym (ap₂ (λ (part : List (List ℕ)) (n : ℕ). behind_gate part n) all.0 all.1) ∙ g.are

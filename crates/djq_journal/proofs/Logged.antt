@@ -1,7 +1,7 @@
 -- Lines that a log keeps.
 use Rattle.std.proofs.Common.{◌≡◌, ℕ, ◌≤◌, List, [], ◌∷◌, ◌++◌, length, refl, sym, subst, arith}
 use Rattle.std.specs.Prelude.{Option, None, Some, slice_get}
-use Rattle.djq_disk.specs.History.{History, WhereTold}
+use Rattle.djq_disk.specs.History.{History, WhereHistoryTold}
 use Rattle.djq_journal.specs.Standing.{IsIdle}
 use Rattle.djq_journal.specs.Appending.{Appends}
 use Rattle.djq_journal.specs.Keeping.{whole_lines, IsKeeping}
@@ -20,8 +20,8 @@ group_one (line ∷ lines) some = refl
 
 -- what is told of each is told of all
 pub told_all : {X : Type 0} (x : X) (old new : Option History) (P : X → History → History → Type 0)
-    → ((y : X) → WhereTold old new (P y))
-    → WhereTold old new (λ o n. (y : X) → P y o n)
+    → ((y : X) → WhereHistoryTold old new (P y))
+    → WhereHistoryTold old new (λ o n. (y : X) → P y o n)
 told_all x old None P each = tt
 told_all x None (Some n) P each = absurd (each x)
 told_all x (Some o) (Some n) P each = each

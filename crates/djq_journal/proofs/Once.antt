@@ -6,7 +6,7 @@ use Rattle.std.specs.List.{flat_map}
 use Rattle.std.proofs.Math.Nat.{div-add-mod}
 use Rattle.std.proofs.Math.Seq.{take-append_seam}
 use Rattle.std.proofs.lemmas.List.{append_cancel_left}
-use Rattle.djq_journal.specs.Format.{IsLine, body_of, record_of, OpensTo, IsEnd, IsBad, OneOfThree}
+use Rattle.djq_journal.specs.Format.{IsJournalLine, body_of, record_of, FileOpensTo, IsEnd, IsBad, OneOfThree}
 
 head_same : (a b : ℕ) (xs ys : List ℕ) → a ∷ xs ≡ b ∷ ys → a ≡ b
 head_same a b xs ys e = ap (λ (zs : List ℕ). get_or zs 0 0) e
@@ -59,7 +59,8 @@ records_once (l ∷ ls) (o ∷ os) gate gate' rest rest' shut shut' e = ap₂ (�
     later : more ≡ more'
     later = append_cancel_left (record_of l) more more' (flat ∙ ap (λ (x : List ℕ). record_of x ++ more') (sym first))
 
-pub opens_once : (lines others : List (List ℕ)) (file : List ℕ) → OpensTo lines file → OpensTo others file → lines
+pub opens_once : (lines others : List (List ℕ)) (file : List ℕ) → FileOpensTo lines file
+    → FileOpensTo others file → lines
     ≡ others
 opens_once lines others file a b =
     records_once lines others a.gate b.gate a.behind b.behind a.shut b.shut
@@ -71,7 +72,7 @@ not_both (gate ∷ []) bad end = end bad
 not_both (gate ∷ high ∷ []) bad end = end bad
 not_both (gate ∷ high ∷ low ∷ rest) bad end = end bad.0
 
-not_bad : (line behind : List ℕ) → IsLine line → IsBad (record_of line ++ behind) → ⊥
+not_bad : (line behind : List ℕ) → IsJournalLine line → IsBad (record_of line ++ behind) → ⊥
 not_bad line behind is bad =
     let n = length line in
     let whole : 256 * (n / 256) + n % 256 ≡ n = div-add-mod n 256 in

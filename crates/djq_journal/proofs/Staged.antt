@@ -5,14 +5,14 @@ use Rattle.std.proofs.Common.{append_assoc, length-append, length-take}
 use Rattle.std.specs.List.{flat_map, AllByRecursion}
 use Rattle.std.proofs.Math.Seq.{take-append_seam, drop-append_seam}
 use Rattle.std.proofs.lemmas.List.{take-append-drop}
-use Rattle.djq_disk.specs.File.{Span, File, IsSettled, settled, with_written, put, Keeps}
-use Rattle.djq_disk.specs.History.{History, moved_to, Writes, Syncs}
+use Rattle.djq_disk.specs.File.{Span, File, IsSettled, settled, with_written, piece_put, KeepsOutside}
+use Rattle.djq_disk.specs.History.{History, moved_to, DiskWrites, Syncs}
 use Rattle.djq_disk.specs.Leaving.{LeavesSince}
 use Rattle.djq_disk.specs.WritingDown.{WritesDown}
 use Rattle.djq_disk.specs.declared.disk.DiskDid.{DiskDid}
 use Rattle.djq_disk.specs.declared.disk.DiskDid.TheVariants.{Done, Failed}
 use Rattle.djq_disk.proofs.Keeping.{all_append, leaves_none, leaves_move, leaves_more, leaves_so, write_keeps}
-use Rattle.djq_journal.specs.Format.{IsLine, record_of, front, OpensTo}
+use Rattle.djq_journal.specs.Format.{IsJournalLine, record_of, front, FileOpensTo}
 use Rattle.djq_journal.specs.Standing.{IsIdle}
 use Rattle.djq_journal.specs.Appending.{gate_after, IsBeforeOrAfter}
 use Rattle.djq_journal.specs.Staging.{IsFirm, behind_gate, Stages, IsStaged, AppendsAt}
@@ -27,30 +27,32 @@ staged_none lines gate h idle =
       firm = firm;
       rest = drop (suc gate) h.file.bytes;
       is = refl;
-      leaves = leaves_none (OpensTo lines) h (firm_leaves lines gate h.file.bytes h.file idle.opens idle.place firm);
+      leaves = leaves_none (FileOpensTo lines) h
+          (firm_leaves lines gate h.file.bytes h.file idle.opens idle.place firm);
     }
 
 -- A write behind the gate, whatever it answers.
 pub staged_write : (did : DiskDid) (at : ℕ) (piece : List ℕ) (lines : List (List ℕ)) (gate : ℕ) (laid : List ℕ)
     (old mid new : History)
-    → IsIdle lines gate old.file → Stages lines gate laid old mid → suc gate ≤ at → Writes did at piece mid new
-    → IsFirm (suc gate) old.file.bytes new.file × LeavesSince (OpensTo lines) old new
+    → IsIdle lines gate old.file → Stages lines gate laid old mid → suc gate ≤ at → DiskWrites did at piece mid new
+    → IsFirm (suc gate) old.file.bytes new.file × LeavesSince (FileOpensTo lines) old new
 staged_write did at piece lines gate laid old mid new idle stages behind writes =
     let kept = write_keeps did at piece mid new writes in
     let span : Span = record { at = at; size = length piece } in
     let file : File = with_written span kept.0 mid.file in
     let firm : IsFirm (suc gate) old.file.bytes file = firm_written (suc gate) old.file.bytes kept.0 span mid.file
     stages.firm behind kept.1 in
-    let leaves : LeavesSince (OpensTo lines) old (moved_to file mid) =
-    leaves_move (OpensTo lines) old mid file stages.leaves
+    let leaves : LeavesSince (FileOpensTo lines) old (moved_to file mid) =
+    leaves_move (FileOpensTo lines) old mid file stages.leaves
     (firm_leaves lines gate old.file.bytes file idle.opens idle.place firm) in
-    subst (λ (h : History). IsFirm (suc gate) old.file.bytes h.file × LeavesSince (OpensTo lines) old h) (sym kept.2)
+    subst (λ (h : History). IsFirm (suc gate) old.file.bytes h.file
+    × LeavesSince (FileOpensTo lines) old h) (sym kept.2)
     (firm, leaves)
 
 -- A piece more is written behind what was.
 pub staged_more : (at : ℕ) (piece : List ℕ) (lines : List (List ℕ)) (gate : ℕ) (laid : List ℕ) (old mid new : History)
     → IsIdle lines gate old.file → Stages lines gate laid old mid → at ≡ suc (gate + length laid)
-    → Writes Done at piece mid new
+    → DiskWrites Done at piece mid new
     → Stages lines gate (laid ++ piece) old new
 staged_more at piece lines gate laid old mid new idle stages place writes =
     let wrote = staged_write Done at piece lines gate laid old mid new idle stages (omega (arith, place)) writes in
@@ -83,13 +85,14 @@ staged_more at piece lines gate laid old mid new idle stages place writes =
     behind : at ≡ length (kept ++ laid)
     behind = omega (arith, place, size, length-append kept laid)
 
-    written : put at piece mid.file.bytes ≡ (kept ++ laid) ++ piece ++ later
-    written = ap₂ (λ (n : ℕ) (xs : List ℕ). put n piece xs) behind whole ∙ put_there (kept ++ laid) piece stages.rest
+    written : piece_put at piece mid.file.bytes ≡ (kept ++ laid) ++ piece ++ later
+    written = ap₂ (λ (n : ℕ) (xs : List ℕ). piece_put n piece xs) behind whole
+        ∙ put_there (kept ++ laid) piece stages.rest
 
     flat : (kept ++ laid) ++ piece ++ later ≡ kept ++ (laid ++ piece ++ later)
     flat = ap (λ (xs : List ℕ). xs ++ later) (append_assoc kept laid piece) ∙ append_assoc kept (laid ++ piece) later
 
-    there : drop (suc gate) (put at piece mid.file.bytes) ≡ laid ++ piece ++ later
+    there : drop (suc gate) (piece_put at piece mid.file.bytes) ≡ laid ++ piece ++ later
     there = ap₂ (λ (n : ℕ) (xs : List ℕ). drop n xs) (sym size) (written ∙ flat)
         ∙ drop-append_seam kept (laid ++ piece ++ later)
 
@@ -98,7 +101,7 @@ pub staged_all : (did : DiskDid) (at : ℕ) (piece : List ℕ) (lines group : Li
     (old mid new : History)
     → IsIdle lines gate old.file → Stages lines gate laid old mid → at ≡ suc (gate + length laid) → behind_gate group 0
     ≡ laid ++ piece
-    → Writes did at piece mid new → IsStaged did lines gate group old new
+    → DiskWrites did at piece mid new → IsStaged did lines gate group old new
 staged_all Done at piece lines group gate laid old mid new idle stages place all writes =
     subst (λ (bytes : List ℕ). Stages lines gate bytes old new) (sym all)
     (staged_more at piece lines gate laid old mid new idle stages place writes)
@@ -122,11 +125,11 @@ staged_bytes lines group gate old new idle stages =
         ∙ take-append_seam (front lines ++ idle.opens.gate ∷ []) idle.opens.behind
 
 -- Behind an open gate stand the lines and the group.
-pub opened_all : (lines group : List (List ℕ)) (rest bytes : List ℕ) → AllByRecursion IsLine lines
-    → AllByRecursion IsLine group → 1 ≤ length group
-    → bytes ≡ front lines ++ 1 ∷ (behind_gate group 0 ++ rest) → OpensTo (lines ++ group) bytes
+pub opened_all : (lines group : List (List ℕ)) (rest bytes : List ℕ) → AllByRecursion IsJournalLine lines
+    → AllByRecursion IsJournalLine group → 1 ≤ length group
+    → bytes ≡ front lines ++ 1 ∷ (behind_gate group 0 ++ rest) → FileOpensTo (lines ++ group) bytes
 opened_all lines group rest bytes are_lines are_group some is = record {
-  are_lines = all_append IsLine lines group are_lines are_group;
+  are_lines = all_append IsJournalLine lines group are_lines are_group;
   gate = 0;
   behind = rest;
   is = is ∙ ap (λ (xs : List ℕ). front lines ++ xs) (opened_gate group rest some)
@@ -137,9 +140,9 @@ opened_all lines group rest bytes are_lines are_group some is = record {
 
 -- The gate alone was written: the file opens to the lines before, or to those and the whole group.
 pub opened_torn : (lines group : List (List ℕ)) (gate shut : ℕ) (rest bytes image : List ℕ)
-    → AllByRecursion IsLine lines → AllByRecursion IsLine group → 1 ≤ length group
+    → AllByRecursion IsJournalLine lines → AllByRecursion IsJournalLine group → 1 ≤ length group
     → gate ≡ length (front lines) → bytes ≡ front lines ++ shut ∷ (behind_gate group 0 ++ rest)
-    → Keeps (record { at = gate; size = 1 }) bytes image → IsBeforeOrAfter lines group image
+    → KeepsOutside (record { at = gate; size = 1 }) bytes image → IsBeforeOrAfter lines group image
 opened_torn lines group gate shut rest bytes image are_lines are_group some place is keeps = by_gate
     (get_or image gate 0) around
   where
@@ -184,11 +187,11 @@ pub unsynced : (lines group : List (List ℕ)) (gate : ℕ) (old mid new : Histo
     → Syncs Failed mid new → AppendsAt Failed lines gate group old new
 unsynced lines group gate old mid new stages syncs =
     subst (λ (h : History). LeavesSince (IsBeforeOrAfter lines group) old h) (sym syncs)
-    (leaves_so (OpensTo lines) (IsBeforeOrAfter lines group) old mid (λ image opens. inl opens) stages.leaves)
+    (leaves_so (FileOpensTo lines) (IsBeforeOrAfter lines group) old mid (λ image opens. inl opens) stages.leaves)
 
 -- All was staged and synced, and the gate was written: done or failed.
 pub gate_opened : (did : DiskDid) (lines group : List (List ℕ)) (gate : ℕ) (old mid synced new : History)
-    → AllByRecursion IsLine group → 1 ≤ length group → IsIdle lines gate old.file
+    → AllByRecursion IsJournalLine group → 1 ≤ length group → IsIdle lines gate old.file
     → IsStaged Done lines gate group old mid
     → Syncs Done mid synced → WritesDown did gate (1 ∷ []) synced new → AppendsAt did lines gate group old new
 gate_opened did lines group gate old mid synced new are_group some idle stages syncs writes = by_answer did writes
@@ -204,15 +207,16 @@ gate_opened did lines group gate old mid synced new are_group some idle stages s
 
     before : LeavesSince (IsBeforeOrAfter lines group) old synced
     before = subst (λ (h : History). LeavesSince (IsBeforeOrAfter lines group) old h) (sym is_synced)
-        (leaves_so (OpensTo lines) (IsBeforeOrAfter lines group) old (moved_to (settled mid.file.bytes) mid)
+        (leaves_so (FileOpensTo lines) (IsBeforeOrAfter lines group) old (moved_to (settled mid.file.bytes) mid)
         (λ image opens. inl opens)
-        (leaves_move (OpensTo lines) old mid (settled mid.file.bytes) stages.leaves
+        (leaves_move (FileOpensTo lines) old mid (settled mid.file.bytes) stages.leaves
         (firm_leaves lines gate old.file.bytes (settled mid.file.bytes) idle.opens idle.place
         (firm_synced (suc gate) old.file.bytes mid.file stages.firm))))
 
     leaves : (d : DiskDid) → WritesDown d gate (1 ∷ []) synced new → LeavesSince (IsBeforeOrAfter lines group) old new
     leaves d w = leaves_more (IsBeforeOrAfter lines group) old synced new before
-        (leaves_so (Keeps (record { at = gate; size = 1 }) synced.file.bytes) (IsBeforeOrAfter lines group) synced new
+        (leaves_so (KeepsOutside (record { at = gate; size = 1 }) synced.file.bytes)
+        (IsBeforeOrAfter lines group) synced new
         (λ image keeps. opened_torn lines group gate idle.opens.gate stages.rest synced.file.bytes image
         idle.opens.are_lines are_group some idle.place bytes keeps)
         (w.leaves still))
@@ -220,9 +224,10 @@ gate_opened did lines group gate old mid synced new are_group some idle stages s
     by_answer : (d : DiskDid) → WritesDown d gate (1 ∷ []) synced new → AppendsAt d lines gate group old new
     by_answer Failed w = leaves Failed w
     by_answer Done w =
-        let file : new.file ≡ settled (put gate (1 ∷ []) synced.file.bytes) = w.done refl in
-        let after : put gate (1 ∷ []) synced.file.bytes ≡ front lines ++ 1 ∷ (behind_gate group 0 ++ stages.rest) =
-        ap₂ (λ (n : ℕ) (xs : List ℕ). put n (1 ∷ []) xs) idle.place bytes
+        let file : new.file ≡ settled (piece_put gate (1 ∷ []) synced.file.bytes) = w.done refl in
+        let after : piece_put gate (1 ∷ []) synced.file.bytes ≡ front lines ++ 1
+        ∷ (behind_gate group 0 ++ stages.rest) =
+        ap₂ (λ (n : ℕ) (xs : List ℕ). piece_put n (1 ∷ []) xs) idle.place bytes
         ∙ put_one (front lines) idle.opens.gate 1 (behind_gate group 0 ++ stages.rest) in (
           record {
             opens = opened_all lines group stages.rest new.file.bytes idle.opens.are_lines are_group some

@@ -4,7 +4,7 @@ use Rattle.std.specs.List.{flat_map}
 use Rattle.djq_io.specs.Faults.{Counted}
 use Rattle.djq_disk.specs.History.{History}
 use Rattle.djq_disk.specs.Leaving.{LeavesSince}
-use Rattle.djq_journal.specs.Format.{record_of, OpensTo}
+use Rattle.djq_journal.specs.Format.{record_of, FileOpensTo}
 use Rattle.djq_journal.specs.Standing.{IsIdle}
 use Rattle.djq_journal.specs.declared.journal.Appended.{Appended}
 use Rattle.djq_journal.specs.declared.journal.Appended.TheVariants.{Done, Failed, Full}
@@ -16,7 +16,7 @@ gate_after gate group = gate + length (flat_map record_of group)
 
 -- A file opens to the lines before an append or to those and the whole group.
 abbrev pub IsBeforeOrAfter : List (List ℕ) → List (List ℕ) → List ℕ → Type 0
-IsBeforeOrAfter lines group file = OpensTo lines file ⊎ OpensTo (lines ++ group) file
+IsBeforeOrAfter lines group file = FileOpensTo lines file ⊎ FileOpensTo (lines ++ group) file
 
 -- What an append of a group makes of an idle journal: idle again, with the group; at each moment a
 -- stop leaves the lines before, or those and the whole group; and where it is full, nothing changes.
@@ -27,10 +27,10 @@ Appends Failed lines group old new = LeavesSince (IsBeforeOrAfter lines group) o
 Appends Full lines group old new = new ≡ old
 
 -- A journal is full exactly where the gate behind the group would stand past the last place.
-abbrev pub HasRoom : Appended → ℕ → List (List ℕ) → Type 0
-HasRoom (Done gate') gate group = (gate' ≡ gate_after gate group) × (gate_after gate group ≤ LAST_GATE)
-HasRoom Failed gate group = gate_after gate group ≤ LAST_GATE
-HasRoom Full gate group = LAST_GATE < gate_after gate group
+abbrev pub HasGroupRoom : Appended → ℕ → List (List ℕ) → Type 0
+HasGroupRoom (Done gate') gate group = (gate' ≡ gate_after gate group) × (gate_after gate group ≤ LAST_GATE)
+HasGroupRoom Failed gate group = gate_after gate group ≤ LAST_GATE
+HasGroupRoom Full gate group = LAST_GATE < gate_after gate group
 
 -- The disk's count of faults rises where an append fails, and stays elsewhere.
 abbrev pub CountsAppended : Appended → ℕ → ℕ → Type 0

@@ -9,8 +9,8 @@ abbrev pub header : List ℕ
 header = 68 ∷ 74 ∷ 81 ∷ 76 ∷ 79 ∷ 71 ∷ 49 ∷ 10 ∷ []
 
 -- what a journal keeps as a line
-abbrev pub IsLine : List ℕ → Type 0
-IsLine line = (1 ≤ length line) × (length line ≤ LINE_BYTES)
+abbrev pub IsJournalLine : List ℕ → Type 0
+IsJournalLine line = (1 ≤ length line) × (length line ≤ LINE_BYTES)
 
 -- a line behind its length
 abbrev pub body_of : List ℕ → List ℕ
@@ -26,8 +26,8 @@ front lines = header ++ flat_map record_of lines
 
 -- A file opens to these lines: it is the header, their records, a gate that isn't open, and
 -- anything behind that.
-pub record OpensTo (lines : List (List ℕ)) (file : List ℕ) : Type 0 where
-  pub are_lines : AllByRecursion IsLine lines
+pub record FileOpensTo (lines : List (List ℕ)) (file : List ℕ) : Type 0 where
+  pub are_lines : AllByRecursion IsJournalLine lines
   pub gate : ℕ
   pub behind : List ℕ
   pub is : file ≡ front lines ++ gate ∷ behind
@@ -40,7 +40,7 @@ IsEnd (gate ∷ behind) = gate ≢ 1
 
 -- A record stands there.
 pub record IsRecord (line : List ℕ) (rest : List ℕ) : Type 0 where
-  pub is_line : IsLine line
+  pub is_line : IsJournalLine line
   pub behind : List ℕ
   pub is : rest ≡ record_of line ++ behind
 
@@ -54,8 +54,9 @@ IsBad (gate ∷ high ∷ low ∷ rest) =
     (gate ≡ 1) × ((high * 256 + low < 1) ⊎ (LINE_BYTES < high * 256 + low) ⊎ (length rest < high * 256 + low))
 
 -- A file opens to one list of lines.
-abbrev pub OpensOnce : Type 0
-OpensOnce = (lines others : List (List ℕ)) (file : List ℕ) → OpensTo lines file → OpensTo others file → lines ≡ others
+abbrev pub FileOpensOnce : Type 0
+FileOpensOnce = (lines others : List (List ℕ)) (file : List ℕ) → FileOpensTo lines file → FileOpensTo others file
+    → lines ≡ others
 
 -- A place is one of these alone.
 pub record OneOfThree (rest : List ℕ) : Type 0 where

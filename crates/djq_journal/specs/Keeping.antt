@@ -3,7 +3,7 @@ use Rattle.std.specs.Prelude.{◌≡◌, ℕ, ◌≤◌, List, [], ◌∷◌, �
 use Rattle.std.specs.List.{flat_map}
 use Rattle.djq_disk.specs.History.{History}
 use Rattle.djq_disk.specs.Leaving.{LeavesOnly, LeavesSince}
-use Rattle.djq_journal.specs.Format.{OpensTo}
+use Rattle.djq_journal.specs.Format.{FileOpensTo}
 use Rattle.djq_journal.specs.Standing.{IsIdle}
 use Rattle.djq_journal.specs.Appending.{Appends}
 use Rattle.djq_journal.specs.declared.journal.Appended.TheVariants.{Done, Failed, Full}
@@ -20,7 +20,7 @@ pub record OpensWithin (found : List (List ℕ)) (groups : List (List (List ℕ)
     pub later : List (List (List ℕ))
     pub cut : groups ≡ whole ++ later
     pub acknowledged : least ≤ length whole
-    pub opens : OpensTo (found ++ whole_lines whole) file
+    pub opens : FileOpensTo (found ++ whole_lines whole) file
 
 -- All these groups are kept: the journal is idle with them, and at each moment since a stop leaves
 -- whole groups, the first ones.

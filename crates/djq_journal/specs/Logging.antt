@@ -14,25 +14,25 @@ grouped [] = []
 grouped (line ∷ lines) = (line ∷ lines) ∷ []
 
 -- Since this history all these groups are kept; or no disk was asked, where lines are kept nowhere.
-abbrev pub HasKept : Option ℕ → List (List ℕ) → List (List (List ℕ)) → History → History → Type 0
-HasKept None found groups old new = new ≡ old
-HasKept (Some gate) found groups old new = IsKeeping found groups gate old new
+abbrev pub HasKeptGroups : Option ℕ → List (List ℕ) → List (List (List ℕ)) → History → History → Type 0
+HasKeptGroups None found groups old new = new ≡ old
+HasKeptGroups (Some gate) found groups old new = IsKeeping found groups gate old new
 
 -- Since this history all these groups were kept, and then one more may be.
-abbrev pub HasLost : Option ℕ → List (List ℕ) → List (List (List ℕ)) → List (List ℕ) → History → History → Type 0
-HasLost None found groups last old new = ⊥
-HasLost (Some gate) found groups last old new = WasKeeping found groups last old new
+abbrev pub MayHaveKept : Option ℕ → List (List ℕ) → List (List (List ℕ)) → List (List ℕ) → History → History → Type 0
+MayHaveKept None found groups last old new = ⊥
+MayHaveKept (Some gate) found groups last old new = WasKeeping found groups last old new
 
 -- What keeping these lines does, whatever was kept before, and since whenever: they are kept as a
 -- group; or there are some, of which a stop leaves all or none; or nothing changes, since there is
 -- no room.
 abbrev pub Keeps : Kept → Option ℕ → Option ℕ → List (List ℕ) → History → History → Type 0
 Keeps All gate gate' lines old new = (found : List (List ℕ)) (groups : List (List (List ℕ))) (start : History)
-    → HasKept gate found groups start old → HasKept gate' found (groups ++ grouped lines) start new
+    → HasKeptGroups gate found groups start old → HasKeptGroups gate' found (groups ++ grouped lines) start new
 Keeps Failed gate gate' lines old new = (found : List (List ℕ)) (groups : List (List (List ℕ))) (start : History)
-    → HasKept gate found groups start old → HasLost gate found groups lines start new
+    → HasKeptGroups gate found groups start old → MayHaveKept gate found groups lines start new
 Keeps Full gate gate' lines old new = (found : List (List ℕ)) (groups : List (List (List ℕ))) (start : History)
-    → HasKept gate found groups start old → HasKept gate found groups start new
+    → HasKeptGroups gate found groups start old → HasKeptGroups gate found groups start new
 
 -- the journal's gate behind these lines would stand past the last place
 abbrev pub Overfull : Option ℕ → List (List ℕ) → Type 0

@@ -6,7 +6,7 @@ use Rattle.djq_disk.specs.History.{History}
 use Rattle.djq_disk.specs.Leaving.{LeavesSince}
 use Rattle.djq_disk.specs.declared.disk.DiskDid.{DiskDid}
 use Rattle.djq_disk.specs.declared.disk.DiskDid.TheVariants.{Done, Failed}
-use Rattle.djq_journal.specs.Format.{record_of, OpensTo}
+use Rattle.djq_journal.specs.Format.{record_of, FileOpensTo}
 use Rattle.djq_journal.specs.Standing.{IsIdle}
 use Rattle.djq_journal.specs.Appending.{gate_after, IsBeforeOrAfter}
 
@@ -32,16 +32,16 @@ pub record Stages (lines : List (List ℕ)) (gate : ℕ) (laid : List ℕ) (old 
   pub firm : IsFirm (suc gate) old.file.bytes new.file
   pub rest : List ℕ
   pub is : drop (suc gate) new.file.bytes ≡ laid ++ rest
-  pub leaves : LeavesSince (OpensTo lines) old new
+  pub leaves : LeavesSince (FileOpensTo lines) old new
 
 -- the whole of the group stands behind the gate where all was written
 abbrev pub IsStaged : DiskDid → List (List ℕ) → ℕ → List (List ℕ) → History → History → Type 0
 IsStaged Done lines gate group old new = Stages lines gate (behind_gate group 0) old new
-IsStaged Failed lines gate group old new = LeavesSince (OpensTo lines) old new
+IsStaged Failed lines gate group old new = LeavesSince (FileOpensTo lines) old new
 
 -- The first lines of a group are laid out, as what stands behind the gate so far: the bytes that were
 -- written, up to this place, and behind them those that are gathered.
-pub record Gathers (group : List (List ℕ)) (i gate at : ℕ) (written gathered : List ℕ) : Type 0 where
+pub record StagesLines (group : List (List ℕ)) (i gate at : ℕ) (written gathered : List ℕ) : Type 0 where
   pub place : at ≡ suc (gate + length written)
   pub are : behind_gate (take i group) (gate_before (drop i group)) ≡ written ++ gathered
 

@@ -1,8 +1,8 @@
 ghost use Rattle.std.specs.Prelude.{◌≡◌, ◌+◌, ◌<◌, ◌≤◌, ℕ, List, length, take, drop, ◌++◌, [], ◌∷◌, IfSome, IfNone};
 ghost use Rattle.std.specs.List.{AllByRecursion};
-ghost use Rattle.djq_disk.specs.History.{WhereTold};
+ghost use Rattle.djq_disk.specs.History.{WhereHistoryTold};
 ghost use Rattle.djq_disk.specs.DiskFaults.{CountsDid};
-ghost use Rattle.djq_journal.specs.Format.{IsLine, body_of};
+ghost use Rattle.djq_journal.specs.Format.{IsJournalLine, body_of};
 ghost use Rattle.djq_journal.specs.Standing.{IsIdle};
 ghost use Rattle.djq_journal.specs.Appending.{gate_after};
 ghost use Rattle.djq_journal.specs.Staging.{gate_before, IsStaged, AppendsAt};
@@ -15,7 +15,7 @@ use djq_disk::{Disk, DiskDid, write_down};
 /// The place of the gate behind a group that is appended at this one, or `None` where that is past
 /// the last place.
 pub(crate) fn end_of<G: Group>(gate: u64, group: &G) -> Option<u64>
-    requires { AllByRecursion IsLine (G.lines group.now) }
+    requires { AllByRecursion IsJournalLine (G.lines group.now) }
     ensures some { IfSome result (λ end. (end ≡ gate_after gate (G.lines group.now)) × (end ≤ LAST_GATE)) }
     ensures none { IfNone result (LAST_GATE < gate_after gate (G.lines group.now)) }
 {
@@ -62,9 +62,9 @@ fn gate_before<G: Group>(group: &G, i: usize) -> u8
 /// Writes the records of a group behind the gate, which stays as it is: they are gathered, and written in
 /// a piece where the next one finds no room, and at the end.
 fn write_records<D: Disk, G: Group>(disk: &mut D, gate: u64, group: &G) -> DiskDid
-    requires lines { AllByRecursion IsLine (G.lines group.now) }
+    requires lines { AllByRecursion IsJournalLine (G.lines group.now) }
     requires room { gate_after gate (G.lines group.now) ≤ LAST_GATE }
-    ensures told { (lines : List (List ℕ)) → WhereTold (D.told disk.old) (D.told disk.new)
+    ensures told { (lines : List (List ℕ)) → WhereHistoryTold (D.told disk.old) (D.told disk.new)
         (λ o n. IsIdle lines gate o.file → IsStaged result lines gate (G.lines group.now) o n) }
     ensures faults { CountsDid result (D.faults disk.old) (D.faults disk.new) }
 {
@@ -93,9 +93,9 @@ fn write_records<D: Disk, G: Group>(disk: &mut D, gate: u64, group: &G) -> DiskD
 /// closed gate, and then the gate is opened and synced.
 pub(crate) fn append_at<D: Disk, G: Group>(disk: &mut D, gate: u64, group: &G) -> DiskDid
     requires some { 1 ≤ length (G.lines group.now) }
-    requires lines { AllByRecursion IsLine (G.lines group.now) }
+    requires lines { AllByRecursion IsJournalLine (G.lines group.now) }
     requires room { gate_after gate (G.lines group.now) ≤ LAST_GATE }
-    ensures told { (lines : List (List ℕ)) → WhereTold (D.told disk.old) (D.told disk.new)
+    ensures told { (lines : List (List ℕ)) → WhereHistoryTold (D.told disk.old) (D.told disk.new)
         (λ o n. IsIdle lines gate o.file → AppendsAt result lines gate (G.lines group.now) o n) }
     ensures faults { CountsDid result (D.faults disk.old) (D.faults disk.new) }
 {

@@ -1,10 +1,11 @@
 ghost use Rattle.std.specs.Prelude.{◌≡◌, ◌+◌, ◌≤◌, ℕ, List, length, [], ◌∷◌};
 ghost use Rattle.std.specs.List.{AllByRecursion};
-ghost use Rattle.djq_disk.specs.History.{WhereTold};
-ghost use Rattle.djq_journal.specs.Format.{IsLine};
-ghost use Rattle.djq_journal.specs.Standing.{IsAt, IsIdle};
-ghost use Rattle.djq_journal.specs.Calls.{Makes, Opens, Reads, LineFits, CountsMade, CountsOpened, CountsLine};
-ghost use Rattle.djq_journal.specs.Appending.{Appends, HasRoom, CountsAppended};
+ghost use Rattle.djq_disk.specs.History.{WhereHistoryTold};
+ghost use Rattle.djq_journal.specs.Format.{IsJournalLine};
+ghost use Rattle.djq_journal.specs.Standing.{IsAtGate, IsIdle};
+ghost use Rattle.djq_journal.specs.Calls.{MakesJournal, JournalOpens, JournalReads, LineFits, CountsMade, CountsOpened};
+ghost use Rattle.djq_journal.specs.Calls.{CountsLine};
+ghost use Rattle.djq_journal.specs.Appending.{Appends, HasGroupRoom, CountsAppended};
 ghost use Rattle.djq_journal.specs.Reading.{place_after, EndsWithin};
 ghost use Rattle.djq_journal.specs.declared.limits.TheConstants.{LINE_BYTES};
 
@@ -61,7 +62,7 @@ impl Model for Journal {
 /// Makes a journal without lines at the start of the file, which has to be empty: bytes that stand
 /// behind it don't count.
 pub fn create<D: Disk>(disk: &mut D) -> Made
-    ensures told { WhereTold (D.told disk.old) (D.told disk.new) (Makes result) }
+    ensures told { WhereHistoryTold (D.told disk.old) (D.told disk.new) (MakesJournal result) }
     ensures faults { CountsMade result (D.faults disk.old) (D.faults disk.new) }
 {
     match write_down(disk, 0, b"DJQLOG1\n\0") {
@@ -73,7 +74,7 @@ pub fn create<D: Disk>(disk: &mut D) -> Made
 impl Journal {
     /// Opens the journal that the file is, behind a sync.
     pub fn open<D: Disk>(disk: &mut D) -> Opened
-        ensures told { WhereTold (D.told disk.old) (D.told disk.new) (Opens result) }
+        ensures told { WhereHistoryTold (D.told disk.old) (D.told disk.new) (JournalOpens result) }
         ensures faults { CountsOpened result (D.faults disk.old) (D.faults disk.new) }
     {
         match disk.sync() {
@@ -102,8 +103,9 @@ impl Journal {
 
     /// Reads the next line into the start of the buffer, and stands behind it then.
     pub fn next_line<D: Disk>(&mut self, disk: &mut D, buf: &mut [u8; 4096]) -> Line
-        ensures told { (lines : List (List ℕ)) → WhereTold (D.told disk.old) (D.told disk.new)
-            (λ o n. (n ≡ o) × (IsAt lines self.old o.file → Reads result lines self.old self.new buf.new o.file)) }
+        ensures told { (lines : List (List ℕ)) → WhereHistoryTold (D.told disk.old) (D.told disk.new)
+            (λ o n. (n ≡ o)
+            × (IsAtGate lines self.old o.file → JournalReads result lines self.old self.new buf.new o.file)) }
         ensures fits { LineFits result }
         ensures place { self.new ≡ place_after self.old result }
         ensures within { EndsWithin result self.old }
@@ -120,9 +122,9 @@ impl Journal {
     /// gave it, and nothing was written since. A caller whose disk tells nothing is bound by the same.
     pub fn append_all<D: Disk, G: Group>(self, disk: &mut D, group: &G) -> Appended
         requires some { 1 ≤ length (G.lines group.now) }
-        requires lines { AllByRecursion IsLine (G.lines group.now) }
-        ensures room { HasRoom result self (G.lines group.now) }
-        ensures told { (lines : List (List ℕ)) → WhereTold (D.told disk.old) (D.told disk.new)
+        requires lines { AllByRecursion IsJournalLine (G.lines group.now) }
+        ensures room { HasGroupRoom result self (G.lines group.now) }
+        ensures told { (lines : List (List ℕ)) → WhereHistoryTold (D.told disk.old) (D.told disk.new)
             (λ o n. IsIdle lines self o.file → Appends result lines (G.lines group.now) o n) }
         ensures faults { CountsAppended result (D.faults disk.old) (D.faults disk.new) }
     {
@@ -139,8 +141,8 @@ impl Journal {
     pub fn append<D: Disk>(self, disk: &mut D, line: &[u8]) -> Appended
         requires some { 1 ≤ length line.now }
         requires short { length line.now ≤ LINE_BYTES }
-        ensures room { HasRoom result self (line.now ∷ []) }
-        ensures told { (lines : List (List ℕ)) → WhereTold (D.told disk.old) (D.told disk.new)
+        ensures room { HasGroupRoom result self (line.now ∷ []) }
+        ensures told { (lines : List (List ℕ)) → WhereHistoryTold (D.told disk.old) (D.told disk.new)
             (λ o n. IsIdle lines self o.file → Appends result lines (line.now ∷ []) o n) }
         ensures faults { CountsAppended result (D.faults disk.old) (D.faults disk.new) }
     {

@@ -43,7 +43,7 @@ mod reading;
 mod tests;
 
 ghost use Rattle.std.specs.Prelude.{ℕ, List};
-ghost use Rattle.djq_journal.specs.Format.{OpensOnce, OneOfThree};
+ghost use Rattle.djq_journal.specs.Format.{FileOpensOnce, OneOfThree};
 ghost use Rattle.djq_journal.specs.Standing.{IdleLasts};
 ghost use Rattle.djq_journal.specs.Calls.{OpensExactly, ReadsExactly};
 ghost use Rattle.djq_journal.specs.Keeping.{KeepsOn};
@@ -56,7 +56,7 @@ pub use log::{Kept, Log};
 
 /// A file opens to one list of lines.
 pub fn a_file_opens_once()
-    ensures { OpensOnce }
+    ensures { FileOpensOnce }
 {}
 
 /// A place in a file isn't two of these: the end of the list, that of a record, and bad.

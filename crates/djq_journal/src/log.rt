@@ -1,7 +1,7 @@
 ghost use Rattle.std.specs.Prelude.{◌≡◌, ◌≤◌, ℕ, List, None, Some, length};
 ghost use Rattle.std.specs.List.{AllByRecursion};
-ghost use Rattle.djq_disk.specs.History.{WhereTold};
-ghost use Rattle.djq_journal.specs.Format.{IsLine};
+ghost use Rattle.djq_disk.specs.History.{WhereHistoryTold};
+ghost use Rattle.djq_journal.specs.Format.{IsJournalLine};
 ghost use Rattle.djq_journal.specs.Logging.{Keeps, FillsLog, CountsKept};
 
 use crate::group::Group;
@@ -56,10 +56,10 @@ impl Log {
     /// Where it isn't kept the journal is gone, and lines are kept nowhere from then on: who wants them
     /// kept doesn't go on.
     pub fn keep<D: Disk, G: Group>(&mut self, disk: &mut D, group: &G) -> Kept
-        requires { AllByRecursion IsLine (G.lines group.now) }
+        requires { AllByRecursion IsJournalLine (G.lines group.now) }
         ensures nowhere { self.old ≡ None → (result ≡ Kept.All) × (self.new ≡ None) }
         ensures room { FillsLog result self.old (G.lines group.now) }
-        ensures told { WhereTold (D.told disk.old) (D.told disk.new) (Keeps result self.old self.new
+        ensures told { WhereHistoryTold (D.told disk.old) (D.told disk.new) (Keeps result self.old self.new
             (G.lines group.now)) }
         ensures faults { CountsKept result (D.faults disk.old) (D.faults disk.new) }
     {

@@ -1,7 +1,7 @@
 ghost use Rattle.std.specs.Prelude.{◌≡◌, ◌+◌, ◌*◌, ◌<◌, ◌≤◌, ℕ, List, ◌++◌, length, drop};
-ghost use Rattle.djq_disk.specs.History.{WhereTold};
-ghost use Rattle.djq_journal.specs.Standing.{IsAt};
-ghost use Rattle.djq_journal.specs.Calls.{Reads, LineFits, CountsLine};
+ghost use Rattle.djq_disk.specs.History.{WhereHistoryTold};
+ghost use Rattle.djq_journal.specs.Standing.{IsAtGate};
+ghost use Rattle.djq_journal.specs.Calls.{JournalReads, LineFits, CountsLine};
 ghost use Rattle.djq_journal.specs.Reading.{IsHead, HeadFits, CountsHead, place_after, EndsWithin};
 
 use crate::limits::LINE_BYTES;
@@ -30,7 +30,7 @@ fn number_of(high: u8, low: u8) -> usize
 
 /// Reads the head of a place.
 pub(crate) fn read_head<D: Disk>(disk: &mut D, at: u64) -> Head
-    ensures told { WhereTold (D.told disk.old) (D.told disk.new)
+    ensures told { WhereHistoryTold (D.told disk.old) (D.told disk.new)
         (λ o n. IsHead result (drop at o.file.bytes) × (n ≡ o)) }
     ensures fits { HeadFits result at }
     ensures faults { CountsHead result (D.faults disk.old) (D.faults disk.new) }
@@ -61,8 +61,9 @@ pub(crate) fn read_head<D: Disk>(disk: &mut D, at: u64) -> Head
 /// Reads the line at a gate's place into the start of the buffer.
 pub(crate) fn read_line<D: Disk>(disk: &mut D, gate: u64, buf: &mut [u8]) -> Line
     requires { length buf.old ≡ LINE_BYTES }
-    ensures told { (lines : List (List ℕ)) → WhereTold (D.told disk.old) (D.told disk.new)
-        (λ o n. (n ≡ o) × (IsAt lines gate o.file → Reads result lines gate (place_after gate result) buf.new o.file)) }
+    ensures told { (lines : List (List ℕ)) → WhereHistoryTold (D.told disk.old) (D.told disk.new)
+        (λ o n. (n ≡ o)
+        × (IsAtGate lines gate o.file → JournalReads result lines gate (place_after gate result) buf.new o.file)) }
     ensures fits { LineFits result }
     ensures within { EndsWithin result gate }
     ensures faults { CountsLine result (D.faults disk.old) (D.faults disk.new) }

@@ -11,12 +11,12 @@ use Rattle.djq_lines.specs.declared.held.HeldRow.{HeldRow}
 use Rattle.djq_machine.specs.State.{Store}
 use Rattle.djq_machine.specs.Store.{with_rows, copies_of, with_copies_of}
 use Rattle.djq_machine.specs.Batch.{is_there, with_held, with_all, count_came, store_behind}
-use Rattle.djq_machine.specs.Batch.{place_refusal, HavePlaces, StopsAt, RefusesBatch}
+use Rattle.djq_machine.specs.Batch.{place_refusal, HavePlaces, BatchStopsAt, RefusesBatch}
 use Rattle.djq_machine.specs.declared.machine.Loaded.{Loaded}
 use Rattle.djq_machine.specs.declared.machine.Loaded.TheVariants.{NoMem as no_memory}
 use Rattle.djq_machine.specs.Loading.{refused_by}
 use Rattle.djq_laws.specs.Sound.{AreApart}
-use Rattle.djq_kept.specs.Kept.{Follows}
+use Rattle.djq_kept.specs.Kept.{StoreFollows}
 use Rattle.djq_kept.proofs.Knowing.{known_refl, as_many, place_too}
 use Rattle.djq_kept.proofs.Sameness.{same_has, same_copies, place_same}
 use Rattle.djq_kept.proofs.Copying.{follows_at, came_follows, recounted_as}
@@ -33,15 +33,15 @@ held_by there st h =
       texts = all_learned st.texts (texts_in h.row);
     })
 
-module _ (a b : Store) (f : Follows a b) (h : HeldRow) where
+module _ (a b : Store) (f : StoreFollows a b) (h : HeldRow) where
   there_same : is_there b h ≡ is_there a h
   there_same = same_has a b h.relation h.row f
 
-  held_follows : Follows (with_held a h) (with_held b h)
+  held_follows : StoreFollows (with_held a h) (with_held b h)
   held_follows =
-      subst (λ (c : Bool). Follows (with_held a h) (held_by c b h)) (sym there_same) (at (is_there a h) refl)
+      subst (λ (c : Bool). StoreFollows (with_held a h) (held_by c b h)) (sym there_same) (at (is_there a h) refl)
     where
-      at : (c : Bool) → is_there a h ≡ c → Follows (held_by c a h) (held_by c b h)
+      at : (c : Bool) → is_there a h ≡ c → StoreFollows (held_by c a h) (held_by c b h)
       at false e = came_follows a b f h.relation h.row e
       at true e =
           recounted_as a b f h.relation h.row (copies_of a h.relation h.row + 1) e (held_by true a h)
@@ -58,17 +58,18 @@ module _ (a b : Store) (f : Follows a b) (h : HeldRow) where
 
 -- ---- all of them
 
-pub all_follow : (a b : Store) → Follows a b → (held : List HeldRow) → Follows (with_all a held) (with_all b held)
+pub all_follow : (a b : Store) → StoreFollows a b → (held : List HeldRow)
+    → StoreFollows (with_all a held) (with_all b held)
 all_follow a b f [] = f
 all_follow a b f (h ∷ hs) = all_follow (with_held a h) (with_held b h) (held_follows a b f h) hs
 
-came_same : (a b : Store) → Follows a b → (held : List HeldRow) → count_came b held ≡ count_came a held
+came_same : (a b : Store) → StoreFollows a b → (held : List HeldRow) → count_came b held ≡ count_came a held
 came_same a b f [] = refl
 came_same a b f (h ∷ hs) =
     ap (λ (c : Bool). cond c 0 1 + count_came (with_held b h) hs) (there_same a b f h)
     ∙ ap (λ (n : ℕ). cond (is_there a h) 0 1 + n) (came_same (with_held a h) (with_held b h) (held_follows a b f h) hs)
 
-pub places_too : (a b : Store) → Follows a b → (held : List HeldRow) → HavePlaces a held → HavePlaces b held
+pub places_too : (a b : Store) → StoreFollows a b → (held : List HeldRow) → HavePlaces a held → HavePlaces b held
 places_too a b f [] p = tt
 places_too a b f (h ∷ hs) p = (
   held_place a b f h ∙ p.0,
@@ -81,13 +82,13 @@ abbrev behind : Store → Store → ℕ → Store
 behind st after zero = after
 behind st after (suc n) = record after { seq = st.seq + 1 }
 
-pub behind_follows : (a b : Store) → Follows a b → (held : List HeldRow)
-    → Follows (store_behind a held) (store_behind b held)
+pub behind_follows : (a b : Store) → StoreFollows a b → (held : List HeldRow)
+    → StoreFollows (store_behind a held) (store_behind b held)
 behind_follows a b f held =
-    subst (λ (n : ℕ). Follows (behind a (with_all a held) (count_came a held)) (behind b (with_all b held) n))
+    subst (λ (n : ℕ). StoreFollows (behind a (with_all a held) (count_came a held)) (behind b (with_all b held) n))
     (sym (came_same a b f held)) (by (count_came a held))
   where
-    by : (n : ℕ) → Follows (behind a (with_all a held) n) (behind b (with_all b held) n)
+    by : (n : ℕ) → StoreFollows (behind a (with_all a held) n) (behind b (with_all b held) n)
     by zero = all_follow a b f held
     by (suc n) =
         follows_at (with_all a held) (with_all b held) (a.seq + 1) (b.seq + 1) (ap (λ (k : ℕ). k + 1) f.same.seq)
@@ -102,7 +103,7 @@ place_at st (g ∷ front) h rest p = place_at (with_held st g) front h rest p.2
 
 -- A row that has its place, and its texts too, is refused out of memory at most.
 stops_never : (st : Store) (h : HeldRow) (known : List Bytes) (r : Refusal) (how : Loaded) → AreApart st.texts
-    → place_refusal st h ≡ None → length (with_held st h).texts ≤ TEXTS → StopsAt st h known r
+    → place_refusal st h ≡ None → length (with_held st h).texts ≤ TEXTS → BatchStopsAt st h known r
     → how ≡ refused_by r → how ≡ no_memory
 stops_never st h known Limit how once free room (inl (full, same)) e = absurd (cc (free, full))
 stops_never st h known Limit how once free room (inr (none, absent, finds)) e =

@@ -38,7 +38,7 @@ use Rattle.djq_laws.proofs.Apart.{rows_more, rows_less, texts_apart}
 use Rattle.djq_kept.proofs.Respecting.{EndsWell, Respects, give, late_of, where_memory, by_texts}
 use Rattle.djq_machine.specs.declared.machine.Loaded.{Loaded}
 use Rattle.djq_machine.specs.Loading.{StoreLoads}
-use Rattle.djq_kept.specs.Kept.{HasRowsOnce, Follows}
+use Rattle.djq_kept.specs.Kept.{HasRowsOnce, StoreFollows}
 use Rattle.djq_kept.proofs.Knowing.{among_all, room_too}
 use Rattle.djq_kept.proofs.Sameness.{
   same_with,
@@ -53,7 +53,8 @@ use Rattle.djq_kept.proofs.Sameness.{
 }
 
 -- another number of changes
-pub follows_at : (a b : Store) (m n : ℕ) → n ≡ m → Follows a b → Follows (record a { seq = m }) (record b { seq = n })
+pub follows_at : (a b : Store) (m n : ℕ) → n ≡ m → StoreFollows a b
+    → StoreFollows (record a { seq = m }) (record b { seq = n })
 follows_at a b m n e f = record {
   same = record { relations = f.same.relations; queries = f.same.queries; seq = e };
   rows = f.rows;
@@ -61,7 +62,7 @@ follows_at a b m n e f = record {
   once = f.once;
 }
 
-module _ (a b : Store) (f : Follows a b) where
+module _ (a b : Store) (f : StoreFollows a b) where
   -- a row that wasn't there, and its texts
   module _ (name : Bytes) (row : Tuple) (absent : has_row (rows_of a.relations name) row ≡ false) where
     abbrev came : Store → Store
@@ -77,7 +78,7 @@ module _ (a b : Store) (f : Follows a b) where
         (rows_more (rows_of b.relations name) row (rows_once b.relations name f.rows)
         (same_has a b name row f ∙ absent))) f.rows
 
-    pub came_follows : Follows (came a) (came b)
+    pub came_follows : StoreFollows (came a) (came b)
     came_follows = record {
       same = record {
         relations = same_with a.relations b.relations name
@@ -117,9 +118,9 @@ module _ (a b : Store) (f : Follows a b) where
     added_absent : has_row (rows_of b.relations name) row ≡ false
     added_absent = same_has a b name row f ∙ added_as.0
 
-    added_follows : Follows to (added b)
+    added_follows : StoreFollows to (added b)
     added_follows =
-        subst (λ (st : Store). Follows st (added b)) (sym added_as.2)
+        subst (λ (st : Store). StoreFollows st (added b)) (sym added_as.2)
         (follows_at (came name row added_as.0 a) (came name row added_as.0 b) (a.seq + 1) (b.seq + 1)
         (ap (λ (n : ℕ). n + 1) f.same.seq) (came_follows name row added_as.0))
 
@@ -144,7 +145,7 @@ module _ (a b : Store) (f : Follows a b) where
         each : (how : Loaded) (n : Store) → StoreLoads b (Add name row) how n → EndsWell how to n
         each how n (Ok First, k, e) =
             let d = done_of (add_refusal b name row) First (AddsAs b name row n) (LateAdd b n) k.answer in
-            inl (e, subst (λ (st : Store). Follows to st) (sym d.2) added_follows)
+            inl (e, subst (λ (st : Store). StoreFollows to st) (sym d.2) added_follows)
         each how n (Ok (More copies), k, e) =
             let d = done_of (add_refusal b name row) (More copies) (AddsAs b name row n) (LateAdd b n) k.answer in
             absurd (false≢true (sym added_absent ∙ d.0))
@@ -163,7 +164,7 @@ module _ (a b : Store) (f : Follows a b) where
         (subst AreDifferent (sym (tuples_with_copies (counted_of b.relations name) row copies))
         (rows_once b.relations name f.rows)) f.rows
 
-    recounted_follows : Follows (recounted a) (recounted b)
+    recounted_follows : StoreFollows (recounted a) (recounted b)
     recounted_follows = record {
       same = record {
         relations = same_with a.relations b.relations name
@@ -182,10 +183,10 @@ module _ (a b : Store) (f : Follows a b) where
 
     -- what is so left, of so many copies, follows what was left
     pub recounted_as : (to n : Store) (others : ℕ) → to ≡ recounted a → others ≡ copies
-        → n ≡ record b { relations = with_copies_of b.relations name row others } → Follows to n
+        → n ≡ record b { relations = with_copies_of b.relations name row others } → StoreFollows to n
     recounted_as to n others is same after =
-        subst (λ (st : Store). Follows st n) (sym is)
-        (subst (λ (st : Store). Follows (recounted a) st)
+        subst (λ (st : Store). StoreFollows st n) (sym is)
+        (subst (λ (st : Store). StoreFollows (recounted a) st)
         (sym (after ∙ ap (λ (k : ℕ). record b { relations = with_copies_of b.relations name row k }) same))
         recounted_follows)
 
@@ -264,8 +265,8 @@ module _ (a b : Store) (f : Follows a b) where
         (subst AreDifferent (sym (tuples_without (counted_of b.relations name) row))
         (rows_less (rows_of b.relations name) row (rows_once b.relations name f.rows))) f.rows
 
-    removed_follows : Follows to (removed b)
-    removed_follows = subst (λ (st : Store). Follows st (removed b)) (sym removed_as.2) (record {
+    removed_follows : StoreFollows to (removed b)
+    removed_follows = subst (λ (st : Store). StoreFollows st (removed b)) (sym removed_as.2) (record {
       same = record {
         relations = same_with a.relations b.relations name
             (without_copies (counted_of a.relations name) row) (without_copies (counted_of b.relations name) row)
@@ -301,7 +302,7 @@ module _ (a b : Store) (f : Follows a b) where
         each : (how : Loaded) (n : Store) → StoreLoads b (Del name row) how n → EndsWell how to n
         each how n (Ok Last, k, e) =
             let d = done_of (delete_refusal b name row) Last (DeletesAs b name row n) (OutOfMemoryWhere ⊥) k.answer in
-            inl (e, subst (λ (st : Store). Follows to st) (sym d.2) removed_follows)
+            inl (e, subst (λ (st : Store). StoreFollows to st) (sym d.2) removed_follows)
         each how n (Ok (Left others), k, e) =
             let d = done_of (delete_refusal b name row) (Left others) (DeletesAs b name row n) (OutOfMemoryWhere ⊥)
             k.answer in

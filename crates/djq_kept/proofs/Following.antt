@@ -12,7 +12,7 @@ use Rattle.djq_machine.specs.Step.{SameRelations}
 use Rattle.djq_machine.specs.declared.machine.Loaded.{Loaded}
 use Rattle.djq_machine.specs.declared.machine.Loaded.TheVariants.{Ran as ran, Refused as refused, NoMem as no_memory}
 use Rattle.djq_machine.specs.Loading.{Loading, loading, CommandLoads, ReadingLoads, LoadStep, Loads}
-use Rattle.djq_kept.specs.Kept.{Follows, LoadingFollows, LoadsOn}
+use Rattle.djq_kept.specs.Kept.{StoreFollows, LoadingFollows, LoadsOn}
 use Rattle.djq_kept.proofs.Sameness.{same_refl, same_sym, same_trans, once_moved}
 use Rattle.djq_kept.proofs.Respecting.{Respects}
 
@@ -22,8 +22,8 @@ use Rattle.djq_kept.proofs.Respecting.{Respects}
 abbrev pub reordered : Loading → List Relation → Loading
 reordered a rs = record a { store = record a.store { relations = rs } }
 
-pub follows_left : (mid n : Store) (rs : List Relation) → SameRelations mid.relations rs → Follows mid n
-    → Follows (record mid { relations = rs }) n
+pub follows_left : (mid n : Store) (rs : List Relation) → SameRelations mid.relations rs → StoreFollows mid n
+    → StoreFollows (record mid { relations = rs }) n
 follows_left mid n rs h f = record {
   same = record {
     relations = same_trans rs mid.relations n.relations (same_sym mid.relations rs h) f.same.relations;
@@ -35,8 +35,8 @@ follows_left mid n rs h f = record {
   once = f.once;
 }
 
-follows_right : (to n : Store) (rs : List Relation) → SameRelations n.relations rs → Follows to n
-    → Follows to (record n { relations = rs })
+follows_right : (to n : Store) (rs : List Relation) → SameRelations n.relations rs → StoreFollows to n
+    → StoreFollows to (record n { relations = rs })
 follows_right to n rs h f = record {
   same = record {
     relations = same_trans to.relations n.relations rs f.same.relations h;
@@ -49,14 +49,14 @@ follows_right to n rs h f = record {
 }
 
 -- where no batch is open
-pub follows_closed : (a b : Store) → Follows a b → LoadingFollows (loading a) (loading b)
+pub follows_closed : (a b : Store) → StoreFollows a b → LoadingFollows (loading a) (loading b)
 follows_closed a b f = record { store = f; batch = refl }
 
 -- a loading whose batch holds these rows
 abbrev pub holding : Store → List HeldRow → Loading
 holding st held = record { store = st; batch = Some held }
 
-pub follows_holding : (a b : Store) (held : List HeldRow) → Follows a b
+pub follows_holding : (a b : Store) (held : List HeldRow) → StoreFollows a b
     → LoadingFollows (holding a held) (holding b held)
 follows_holding a b held f = record { store = f; batch = refl }
 
@@ -90,7 +90,7 @@ closed_respects b to l c r = record {
   each = λ how n k. by how n (r.each how n.store k.0) k.1;
 }
   where
-    by : (how : Loaded) (n : Loading) → ((how ≡ ran) × Follows to n.store) ⊎ (how ≡ no_memory) → n.batch ≡ None
+    by : (how : Loaded) (n : Loading) → ((how ≡ ran) × StoreFollows to n.store) ⊎ (how ≡ no_memory) → n.batch ≡ None
         → EndsFollowing how (loading to) n
     by how n (inl f) e = inl (f.0, record { store = f.1; batch = e })
     by how n (inr m) e = inr m

@@ -21,7 +21,7 @@ use Rattle.djq_machine.specs.Run.{Group}
 use Rattle.djq_machine.specs.declared.machine.Loaded.{Loaded}
 use Rattle.djq_machine.specs.Loading.{Loading, loading, CommandLoads}
 use Rattle.djq_laws.specs.Sound.{AreApart, IsSoundBatch, IsHeldBySaying}
-use Rattle.djq_kept.specs.Kept.{Follows, LoadingFollows, LoadsOn}
+use Rattle.djq_kept.specs.Kept.{StoreFollows, LoadingFollows, LoadsOn}
 use Rattle.djq_kept.proofs.Sameness.{hold_same}
 use Rattle.djq_kept.proofs.Respecting.{Respects, give, late_of, only_memory}
 use Rattle.djq_kept.proofs.Batching.{all_follow, places_too, behind_follows, refused_never}
@@ -32,7 +32,7 @@ use Rattle.djq_kept.proofs.Words.{batch_reads, done_reads}
 
 -- ---- its commands
 
-module _ (a b : Store) (f : Follows a b) (l : Bytes) where
+module _ (a b : Store) (f : StoreFollows a b) (l : Bytes) where
   pub batch_respects : CommandRespects (loading b) l Batch (holding a [])
   batch_respects = record { can = (holding b [], inl (refl, refl), follows_holding a b [] f); each = each }
     where
@@ -89,7 +89,7 @@ module _ (a b : Store) (f : Follows a b) (l : Bytes) where
         each how n (Ok m, k, e, closed) = inl (
           e,
           record {
-            store = subst (λ (st : Store). Follows (store_behind a held) st) (sym k.2) (behind_follows a b f held);
+            store = subst (λ (st : Store). StoreFollows (store_behind a held) st) (sym k.2) (behind_follows a b f held);
             batch = closed;
           },
         )
@@ -108,8 +108,8 @@ module _ (a b : Store) (f : Follows a b) (l : Bytes) where
 -- The lines of a group can be loaded wherever what was there is followed, and further lines behind
 -- them.
 abbrev pub GroupRespects : Store → Group → Store → Type 0
-GroupRespects a group to = (b : Store) → Follows a b → (rest : List Bytes) (last : Loading)
-    → ((n : Store) → Follows to n → LoadsOn (loading n) rest last) → LoadsOn (loading b) (group ++ rest) last
+GroupRespects a group to = (b : Store) → StoreFollows a b → (rest : List Bytes) (last : Loading)
+    → ((n : Store) → StoreFollows to n → LoadsOn (loading n) rest last) → LoadsOn (loading b) (group ++ rest) last
 
 -- the lines of a batch that is done
 abbrev pub batch_lines : List HeldRow → Group
@@ -135,13 +135,13 @@ suits_free a held name row suits few =
 
 -- what follows a loading whose batch is open, by its store
 from_holding : (a : Store) (held : List HeldRow) (lines : List Bytes) (last : Loading)
-    → ((n : Store) → Follows a n → LoadsOn (holding n held) lines last)
+    → ((n : Store) → StoreFollows a n → LoadsOn (holding n held) lines last)
     → (n : Loading) → LoadingFollows (holding a held) n → LoadsOn n lines last
 from_holding a held lines last more n f =
     of_batch (λ (k : Loading). LoadsOn k lines last) n (Some held) f.batch (more n.store f.store)
 
 pub from_closed : (a : Store) (lines : List Bytes) (last : Loading)
-    → ((n : Store) → Follows a n → LoadsOn (loading n) lines last)
+    → ((n : Store) → StoreFollows a n → LoadsOn (loading n) lines last)
     → (n : Loading) → LoadingFollows (loading a) n → LoadsOn n lines last
 from_closed a lines last more n f =
     of_batch (λ (k : Loading). LoadsOn k lines last) n None f.batch (more n.store f.store)
@@ -150,8 +150,8 @@ module _ (a : Store) where
   -- The lines of rows that are held load behind those before them.
   rows_load : (front rest : List HeldRow) → length front + length rest ≤ HELD → SuitAll a rest → All IsHeldBySaying rest
       → (lines : List Bytes) (last : Loading)
-      → ((n : Store) → Follows a n → LoadsOn (holding n (front ++ rest)) lines last)
-      → (b : Store) → Follows a b → LoadsOn (holding b front) (map (λ (h : HeldRow). h.line) rest ++ lines) last
+      → ((n : Store) → StoreFollows a n → LoadsOn (holding n (front ++ rest)) lines last)
+      → (b : Store) → StoreFollows a b → LoadsOn (holding b front) (map (λ (h : HeldRow). h.line) rest ++ lines) last
   rows_load front [] few suit said lines last more b f =
       subst (λ (held : List HeldRow). LoadsOn (holding b held) lines last) (append-nil front) (more b f)
   rows_load front (h ∷ rest) few suit said lines last more b f =
@@ -166,7 +166,7 @@ module _ (a : Store) where
       (rows_load (front ++ h ∷ []) rest (omega (arith, few, one))
       (All-tail (λ (g : HeldRow). suit_refusal a g.relation g.row ≡ None) h rest suit)
       (All-tail IsHeldBySaying h rest said) lines last
-      (subst (λ (held : List HeldRow). (n : Store) → Follows a n → LoadsOn (holding n held) lines last)
+      (subst (λ (held : List HeldRow). (n : Store) → StoreFollows a n → LoadsOn (holding n held) lines last)
       (sym (append_assoc front (h ∷ []) rest)) more)))
 
   -- A batch that was done can be loaded whole.
@@ -182,7 +182,7 @@ module _ (a : Store) where
       (from_holding a [] (lines ++ codes "done" ∷ rest) last
       (rows_load [] held (omega (arith, sound.few)) sound.suit sound.lines (codes "done" ∷ rest) last ends)))
     where
-      ends : (n : Store) → Follows a n → LoadsOn (holding n held) (codes "done" ∷ rest) last
+      ends : (n : Store) → StoreFollows a n → LoadsOn (holding n held) (codes "done" ∷ rest) last
       ends n k =
           one_line (holding n held) (codes "done") rest (loading (store_behind a held)) last
           (line_respects (holding n held) (codes "done") Done (loading (store_behind a held)) done_reads
@@ -191,7 +191,7 @@ module _ (a : Store) where
 
   -- So can a line outside a batch.
   pub line_loads : (l : Bytes) (c : Command) (to : Store) → reading_of l ≡ says_command c
-      → ((b : Store) → Follows a b → Respects b c to)
+      → ((b : Store) → StoreFollows a b → Respects b c to)
       → GroupRespects a (l ∷ []) to
   line_loads l c to is r b f rest last more =
       one_line (loading b) l rest (loading to) last

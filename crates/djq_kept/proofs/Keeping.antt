@@ -62,7 +62,7 @@ use Rattle.djq_machine.specs.Batch.{
   with_all,
   store_behind,
   HavePlaces,
-  StopsAt,
+  BatchStopsAt,
   RefusesBatch,
   AddsBatch,
 }
@@ -96,7 +96,7 @@ use Rattle.djq_machine.specs.Command.{
 use Rattle.djq_laws.proofs.Finding.{some_there}
 use Rattle.djq_laws.proofs.Forms.{done_of}
 use Rattle.djq_laws.proofs.Watching.{change_store}
-use Rattle.djq_kept.specs.Kept.{AreKnown, Follows}
+use Rattle.djq_kept.specs.Kept.{AreKnown, StoreFollows}
 use Rattle.djq_kept.proofs.Knowing.{known_refl, known_trans, all_known, first_known, full_known}
 use Rattle.djq_kept.proofs.Respecting.{Respects, rel_respects, query_respects, union_respects, drop_respects}
 use Rattle.djq_kept.proofs.Copying.{add_respects, more_respects, delete_respects, left_respects}
@@ -111,7 +111,7 @@ pub record Grows (a to : Store) : Type 0 where
 -- The line is kept, and can be loaded; or the session's batch is, of which each row has its place; or
 -- nothing is kept, and the store grows at most.
 pub data Keeps (a : Store) (batch : Option (List HeldRow)) (c : Command) (k : Keeping) (to : Store) : Type 0 where
-  is_kept : k ≡ the_line → ((b : Store) → Follows a b → Respects b c to) → Keeps a batch c k to
+  is_kept : k ≡ the_line → ((b : Store) → StoreFollows a b → Respects b c to) → Keeps a batch c k to
   is_batch : (held : List HeldRow) → batch ≡ Some held → k ≡ the_batch (map (λ h. h.line) held) → HavePlaces a held
       → to ≡ store_behind a held → Keeps a batch c k to
   is_left : k ≡ no_line → Grows a to → Keeps a batch c k to
@@ -206,7 +206,7 @@ all_held_known st (h ∷ hs) =
     known_trans st.texts (with_held st h).texts (with_all (with_held st h) hs).texts (held_known st h)
     (all_held_known (with_held st h) hs)
 
-stopped_known : (st : Store) (h : HeldRow) (known : List Bytes) (r : Refusal) → StopsAt st h known r
+stopped_known : (st : Store) (h : HeldRow) (known : List Bytes) (r : Refusal) → BatchStopsAt st h known r
     → AreKnown st.texts known
 stopped_known st h known Limit (inl s) = subst (λ (k : List Bytes). AreKnown st.texts k) (sym s.1) (known_refl st.texts)
 stopped_known st h known Limit (inr s) = full_known st.texts (texts_in h.row) known s.2

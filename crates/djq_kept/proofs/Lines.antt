@@ -7,7 +7,7 @@ use Rattle.djq_machine.specs.Keeping.{Keeping, no_line, the_line, the_batch}
 use Rattle.djq_machine.specs.Effect.{Effect}
 use Rattle.djq_machine.specs.LineStep.{run}
 use Rattle.djq_machine.specs.Step.{Event, stepped, Acts}
-use Rattle.djq_machine.specs.Run.{Group, groups_in, group_of, groups_of}
+use Rattle.djq_machine.specs.Run.{Group, groups_in, kept_group, groups_of}
 use Rattle.djq_laws.specs.Holding.{IsLine, HoldLines}
 use Rattle.djq_laws.proofs.Holding.{step_hold_lines, kept_lines}
 use Rattle.djq_kept.specs.Kept.{KeptAreLines}
@@ -17,7 +17,7 @@ IsGroup group = (1 ≤ length group) × All IsLine group
 
 step_lines : (old : State) → HoldLines old → (event : Event) (k : Keeping) (e : Effect) → e.kept ≡ k → (mid : State)
     → Acts old event e mid
-    → All IsGroup (group_of event k)
+    → All IsGroup (kept_group event k)
 step_lines old hold (stepped s (run l)) k e is mid h = by k is
   where
     one : (group : Group) → groups_in l e.kept ≡ group ∷ [] → 1 ≤ length group → All IsGroup (group ∷ [])
@@ -34,6 +34,6 @@ step_lines old hold _ k e is mid h = All-nil IsGroup
 pub kept_are_lines : KeptAreLines
 kept_are_lines old [] new w hold = All-nil IsGroup
 kept_are_lines old (d ∷ done) new w hold =
-    All-append IsGroup (group_of d.event d.effect.kept) (groups_of done)
+    All-append IsGroup (kept_group d.event d.effect.kept) (groups_of done)
     (step_lines old hold d.event d.effect.kept d.effect refl (w.1).mid (w.1).acts)
     (kept_are_lines w.0 done new w.2 (step_hold_lines old d.event d.effect w.0 w.1 hold))

@@ -39,7 +39,7 @@ use Rattle.djq_machine.specs.Batch.{hold_refusal}
 use Rattle.djq_machine.specs.Keeping.{Keeping, no_line, the_line, the_batch}
 use Rattle.djq_machine.specs.LineStep.{run}
 use Rattle.djq_machine.specs.Step.{Event, stepped}
-use Rattle.djq_machine.specs.Run.{Did, Run, Group, group_of, groups_of, lines_in}
+use Rattle.djq_machine.specs.Run.{Did, Run, Group, kept_group, groups_of, lines_in}
 use Rattle.djq_machine.specs.declared.machine.Loaded.TheVariants.{Ran as ran}
 use Rattle.djq_machine.specs.Loading.{
   refused_by,
@@ -55,7 +55,7 @@ use Rattle.djq_laws.proofs.Apart.{nothing_apart}
 use Rattle.djq_laws.proofs.Forms.{none_holds}
 use Rattle.djq_kept.specs.Kept.{
   HasRowsOnce,
-  Follows,
+  StoreFollows,
   LoadingFollows,
   LoadsOn,
   LoadsTo,
@@ -88,7 +88,7 @@ not_ran NoMemory e = absurd (cc (e))
 not_ran _ e = absurd (cc (e))
 
 -- A command that was loaded outside a batch can be loaded again.
-command_loaded : (a to : Store) (c : Command) → StoreLoads a c ran to → (b : Store) → Follows a b → Respects b c to
+command_loaded : (a to : Store) (c : Command) → StoreLoads a c ran to → (b : Store) → StoreFollows a b → Respects b c to
 command_loaded a to (Rel name types) (Ok u, m, e) b f = rel_respects a b f name types u to m
 command_loaded a to (Rel name types) (Err r, m, e) b f = absurd (not_ran r e)
 command_loaded a to (Add name row) (Ok First, m, e) b f = add_respects a b f name row to m
@@ -121,7 +121,7 @@ command_loaded a to Quit h b f = let e = h.0 in absurd (cc (e))
 command_loaded a to Stop h b f = let e = h.0 in absurd (cc (e))
 
 closed_loaded : (a : Store) (l : Bytes) (c : Command) (to : Loading) → CommandLoads (loading a) l c ran to
-    → (b : Store) → Follows a b
+    → (b : Store) → StoreFollows a b
     → CommandRespects (loading b) l c to
 closed_loaded a l Batch to (inl h) b f =
     subst (λ (k : Loading). CommandRespects (loading b) l Batch k) (sym h.1) (batch_respects a b f l)
@@ -133,7 +133,7 @@ closed_loaded a l c to h b f =
 -- So can one that was loaded where a batch was open.
 open_loaded : (a : Store) (held : List HeldRow) (l : Bytes) (c : Command) (to : Loading)
     → CommandLoads (holding a held) l c ran to → (b : Store)
-    → Follows a b → CommandRespects (holding b held) l c to
+    → StoreFollows a b → CommandRespects (holding b held) l c to
 open_loaded a held l (Add name row) to (Ok u, k, e, same) b f =
     subst (λ (n : Loading). CommandRespects (holding b held) l (Add name row) n) (sym same)
     (hold_respects a b f l held name row (none_holds (hold_refusal a held name row) u (λ _. ⊤) (OutOfMemoryWhere ⊤) k))
@@ -185,7 +185,7 @@ found_loads from (l ∷ ls) mid w other f rest to more =
     one_line other l (ls ++ rest) w.0 to (line_loaded from l w.0 w.1 other f)
     (λ b k. found_loads w.0 ls mid w.2 b k rest to more)
 
-opening_follows : Follows opening.store opening.store
+opening_follows : StoreFollows opening.store opening.store
 opening_follows = record {
   same = record { relations = tt; queries = refl; seq = refl };
   rows = All-nil HasRowsOnce;
@@ -248,7 +248,7 @@ abandoned_are_loaded found left loads is_open = by left.batch refl is_open
 
 -- ---- stops
 
-group_cases : (event : Event) (k : Keeping) → (group_of event k ≡ []) ⊎ ((g : Group) × (group_of event k ≡ g ∷ []))
+group_cases : (event : Event) (k : Keeping) → (kept_group event k ≡ []) ⊎ ((g : Group) × (kept_group event k ≡ g ∷ []))
 group_cases (stepped s (run l)) the_line = inr (l ∷ [], refl)
 group_cases (stepped s (run l)) no_line = inl refl
 group_cases (stepped s (run l)) (the_batch held) = inr (codes "batch" ∷ held ++ codes "done" ∷ [], refl)
@@ -266,7 +266,7 @@ group_rest g h gs hs e = cc
 
 -- a step in front that kept these groups
 did_more : (old : State) (d : Did) (done : List Did) (new : State) (w : Run old (d ∷ done) new)
-    (first groups : List Group) → group_of d.event d.effect.kept ≡ first
+    (first groups : List Group) → kept_group d.event d.effect.kept ≡ first
     → StoodAt w.0 done new groups → StoodAt old (d ∷ done) new (first ++ groups)
 did_more old d done new w first groups e at = record {
   earlier = d ∷ at.earlier;
@@ -286,7 +286,7 @@ stood_at old (d ∷ done) new w (g ∷ gs) later e =
     by (group_cases d.event d.effect.kept) (λ k. stood_at w.0 done new w.2 (g ∷ gs) later k)
     (λ k. stood_at w.0 done new w.2 gs later k)
   where
-    by : (group_of d.event d.effect.kept ≡ []) ⊎ ((h : Group) × (group_of d.event d.effect.kept ≡ h ∷ []))
+    by : (kept_group d.event d.effect.kept ≡ []) ⊎ ((h : Group) × (kept_group d.event d.effect.kept ≡ h ∷ []))
         → (groups_of done ≡ g ∷ gs ++ later → StoodAt w.0 done new (g ∷ gs))
         → (groups_of done ≡ gs ++ later → StoodAt w.0 done new gs)
         → StoodAt old (d ∷ done) new (g ∷ gs)

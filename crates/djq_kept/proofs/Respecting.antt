@@ -58,17 +58,17 @@ use Rattle.djq_laws.proofs.Apart.{nothing_apart, texts_apart}
 use Rattle.djq_machine.specs.declared.machine.Loaded.{Loaded}
 use Rattle.djq_machine.specs.declared.machine.Loaded.TheVariants.{Ran as ran, NoMem as no_memory}
 use Rattle.djq_machine.specs.Loading.{refused_by, StoreLoads}
-use Rattle.djq_kept.specs.Kept.{HasRowsOnce, Follows}
+use Rattle.djq_kept.specs.Kept.{HasRowsOnce, StoreFollows}
 use Rattle.djq_kept.proofs.Knowing.{among_all, room_too, place_too}
 use Rattle.djq_kept.proofs.Sameness.{same_more, rel_same, query_same, union_same}
 
 -- It is done, and what it leaves follows that store; or memory lacks.
 abbrev pub EndsWell : Loaded → Store → Store → Type 0
-EndsWell how to n = ((how ≡ ran) × Follows to n) ⊎ (how ≡ no_memory)
+EndsWell how to n = ((how ≡ ran) × StoreFollows to n) ⊎ (how ≡ no_memory)
 
 -- It can be done there, and whatever comes of it, it ends well.
 pub record Respects (b : Store) (c : Command) (to : Store) : Type 0 where
-  pub can : (n : Store) × StoreLoads b c ran n × Follows to n
+  pub can : (n : Store) × StoreLoads b c ran n × StoreFollows to n
   pub each : (how : Loaded) (n : Store) → StoreLoads b c how n → EndsWell how to n
 
 -- ---- what answers say
@@ -106,7 +106,7 @@ same_members (q ∷ qs) (p ∷ ps) e =
     let k = same_first q p (map (λ (r : Query). Some (a_query r)) qs) (map (λ (r : Query). Some (a_query r)) ps) e in
     ap₂ (λ (r : Query) (rs : List Query). r ∷ rs) k.0 (same_members qs ps k.1)
 
-module _ (a b : Store) (f : Follows a b) where
+module _ (a b : Store) (f : StoreFollows a b) where
   -- where the texts found a place before
   pub by_texts : (ts : List Bytes) (n : Store) (r : Refusal) (how : Loaded) → length (all_learned a.texts ts) ≤ TEXTS
       → RefusedByTexts b ts n r
@@ -128,8 +128,8 @@ module _ (a b : Store) (f : Follows a b) where
       made_free = rel_same a b name types f.same
           ∙ none_holds (rel_refusal a name types) u (λ _. to ≡ made a) (OutOfMemoryWhere ⊤) m.answer
 
-      made_follows : Follows to (made b)
-      made_follows = subst (λ (st : Store). Follows st (made b)) (sym made_is) (record {
+      made_follows : StoreFollows to (made b)
+      made_follows = subst (λ (st : Store). StoreFollows st (made b)) (sym made_is) (record {
         rows = All-push HasRowsOnce b.relations (record { name = name; types = types; rows = [] }) f.rows
             (nothing_apart (λ (s t : Tuple). s ≡ t → ⊥));
         same = record {
@@ -163,7 +163,7 @@ module _ (a b : Store) (f : Follows a b) where
           each : (how : Loaded) (n : Store) → StoreLoads b (Rel name types) how n → EndsWell how to n
           each how n (Ok v, k, e) =
               let is = done_of (rel_refusal b name types) v (λ _. n ≡ made b) (OutOfMemoryWhere ⊤) k.answer in
-              inl (e, subst (λ (st : Store). Follows to st) (sym is) made_follows)
+              inl (e, subst (λ (st : Store). StoreFollows to st) (sym is) made_follows)
           each how n (Err r, k, e) = inr
               (only_memory ⊤ r how (late_of (rel_refusal b name types) r (λ _. n ≡ made b)
               (OutOfMemoryWhere ⊤) made_free
@@ -185,8 +185,8 @@ module _ (a b : Store) (f : Follows a b) where
     listed_room : length (all_learned a.texts (texts_in (constants_of q))) ≤ TEXTS
     listed_room = subst (λ (ts : List Bytes). length ts ≤ TEXTS) (ap (λ (st : Store). st.texts) listed_as.3) listed_as.2
 
-    listed_follows : Follows to (listed b)
-    listed_follows = subst (λ (st : Store). Follows st (listed b)) (sym listed_as.3) (record {
+    listed_follows : StoreFollows to (listed b)
+    listed_follows = subst (λ (st : Store). StoreFollows st (listed b)) (sym listed_as.3) (record {
       same = record {
         relations = f.same.relations;
         queries = ap (λ (qs : List Listed). qs ++ a_query q ∷ []) f.same.queries;
@@ -228,7 +228,7 @@ module _ (a b : Store) (f : Follows a b) where
         each : (how : Loaded) (n : Store) → StoreLoads b (Register q) how n → EndsWell how to n
         each how n (Ok (Registered k), j, e) =
             let d = done_of (query_refusal b q) (Registered k) (RegistersAs b q n) (RefusedLate b q n) j.answer in
-            inl (e, subst (λ (st : Store). Follows to st) (sym d.3) listed_follows)
+            inl (e, subst (λ (st : Store). StoreFollows to st) (sym d.3) listed_follows)
         each how n (Ok (Cyclic rest), j, e) =
             let d = done_of (query_refusal b q) (Cyclic rest) (RegistersAs b q n) (RefusedLate b q n) j.answer in
             absurd ((d.0.1).no_tree listed_as.0.0)
@@ -260,8 +260,8 @@ module _ (a b : Store) (f : Follows a b) where
     united_under : AreUnder b.queries members united_as.0
     united_under = subst (λ (qs : List Listed). AreUnder qs members united_as.0) (sym f.same.queries) united_as.1
 
-    united_follows : Follows to (united b)
-    united_follows = subst (λ (st : Store). Follows st (united b)) (sym united_as.3) (record {
+    united_follows : StoreFollows to (united b)
+    united_follows = subst (λ (st : Store). StoreFollows st (united b)) (sym united_as.3) (record {
       same = record {
         relations = f.same.relations;
         queries = ap (λ (qs : List Listed). qs ++ a_union name united_as.0 ∷ []) f.same.queries;
@@ -296,7 +296,7 @@ module _ (a b : Store) (f : Follows a b) where
             let same : d.0 ≡ united_as.0 = same_members d.0 united_as.0 (sym d.1 ∙ united_under) in
             let is : n ≡ united b =
             d.3 ∙ ap (λ (qs : List Query). record b { queries = b.queries ++ a_union name qs ∷ [] }) same in
-            inl (e, subst (λ (st : Store). Follows to st) (sym is) united_follows)
+            inl (e, subst (λ (st : Store). StoreFollows to st) (sym is) united_follows)
         each how n (Err r, j, e) =
             let late = late_of (union_refusal b name members) r (United b n) (OutOfMemoryWhere ⊤) united_free j.answer
             in
@@ -323,8 +323,8 @@ module _ (a b : Store) (f : Follows a b) where
         unused false true z h = absurd (cc (h))
         unused false false z h = h
 
-    dropped_follows : Follows to (dropped b)
-    dropped_follows = subst (λ (st : Store). Follows st (dropped b)) (sym dropped_is) (record {
+    dropped_follows : StoreFollows to (dropped b)
+    dropped_follows = subst (λ (st : Store). StoreFollows st (dropped b)) (sym dropped_is) (record {
       same = record {
         relations = f.same.relations;
         queries = ap (λ (qs : List Listed). drop_first (λ (p : Listed). bytes_eq (listed_name p) q) qs) f.same.queries;
@@ -356,7 +356,7 @@ module _ (a b : Store) (f : Follows a b) where
         each : (how : Loaded) (n : Store) → StoreLoads b (Drop q) how n → EndsWell how to n
         each how n (Ok v, k, e) =
             let is = done_of (drop_refusal b false q) v (λ _. n ≡ dropped b) (OutOfMemoryWhere ⊥) k.answer in
-            inl (e, subst (λ (st : Store). Follows to st) (sym is) dropped_follows)
+            inl (e, subst (λ (st : Store). StoreFollows to st) (sym is) dropped_follows)
         each how n (Err r, k, e) = absurd
             (where_memory ⊥ r (late_of (drop_refusal b false q) r (λ _. n ≡ dropped b) (OutOfMemoryWhere ⊥) dropped_free
             k.answer))

@@ -14,7 +14,7 @@ use Rattle.djq_machine.specs.Effect.{Effect, nothing, RefusedStep}
 use Rattle.djq_machine.specs.LineStep.{LineOutcome, long, blank, slow, no_room, run, behind_line, FrontStep}
 use Rattle.djq_machine.specs.Step.{Event, opened, fed, stepped, took, ended, closed, FedStep}
 use Rattle.djq_machine.specs.Step.{TookStep, EndedStep, Acts, Step, SameRelations, with_relations}
-use Rattle.djq_machine.specs.Run.{Did, Run, Group, groups_in, group_of, groups_of, lines_in}
+use Rattle.djq_machine.specs.Run.{Did, Run, Group, groups_in, kept_group, groups_of, lines_in}
 use Rattle.djq_machine.specs.Loading.{loading}
 use Rattle.djq_laws.specs.Sound.{IsSoundBatch, IsSoundSession, IsSoundState}
 use Rattle.djq_laws.proofs.Finding.{some_there}
@@ -23,7 +23,7 @@ use Rattle.djq_laws.proofs.Forms.{Reads, turned_down, carried_out, line_reads}
 use Rattle.djq_laws.proofs.Watching.{queued_store}
 use Rattle.djq_laws.proofs.Sounding.{step_sound}
 use Rattle.djq_laws.proofs.Touching.{fed_store}
-use Rattle.djq_kept.specs.Kept.{Follows, LoadsTo, KeptLinesLoad}
+use Rattle.djq_kept.specs.Kept.{StoreFollows, LoadsTo, KeptLinesLoad}
 use Rattle.djq_kept.proofs.Knowing.{known_trans}
 use Rattle.djq_kept.proofs.Following.{follows_left, follows_closed, no_lines}
 use Rattle.djq_kept.proofs.Holding.{GroupRespects, batch_lines, batch_loads, line_loads}
@@ -31,7 +31,7 @@ use Rattle.djq_kept.proofs.Keeping.{Grows, Keeps, is_kept, is_batch, is_left, gr
 
 -- ---- what follows
 
-follows_grown : (a to b : Store) → Grows a to → Follows a b → Follows to b
+follows_grown : (a to b : Store) → Grows a to → StoreFollows a b → StoreFollows to b
 follows_grown a to b g f = record {
   same = record {
     relations = subst (λ (rs : List Relation). SameRelations rs b.relations) (sym g.relations) f.same.relations;
@@ -47,9 +47,9 @@ follows_grown a to b g f = record {
 
 -- A group of lines is kept that can be loaded; or none is kept, and the store grows at most.
 data ActKeeps (old : State) (event : Event) (e : Effect) (mid : State) : Type 0 where
-  act_group : (group : Group) → group_of event e.kept ≡ group ∷ [] → GroupRespects old.store group mid.store
+  act_group : (group : Group) → kept_group event e.kept ≡ group ∷ [] → GroupRespects old.store group mid.store
       → ActKeeps old event e mid
-  act_none : group_of event e.kept ≡ [] → Grows old.store mid.store → ActKeeps old event e mid
+  act_none : kept_group event e.kept ≡ [] → Grows old.store mid.store → ActKeeps old event e mid
 
 grows : (old mid : State) → mid.store ≡ old.store → Grows old.store mid.store
 grows old mid e = grows_same old.store mid.store e
@@ -61,7 +61,7 @@ module _ (old : State) (s : ℕ) (l rest : Bytes) (y : Session) (sound : IfSome 
 
   refused_keeps : (r : Refusal) → RefusedStep read_from s r e mid → ActKeeps old (stepped s (run l)) e mid
   refused_keeps r h =
-      act_none (ap (λ (f : Effect). group_of (stepped s (run l)) f.kept) h.0)
+      act_none (ap (λ (f : Effect). kept_group (stepped s (run l)) f.kept) h.0)
       (grows old mid (ap (λ (st : State). st.store) h.1))
 
   carried_keeps : (c : Command) → reading_of l ≡ says_command c → Keeps old.store y.batch c e.kept mid.store
@@ -130,9 +130,10 @@ acts_keep old sound (closed s bytes) e mid h = act_none refl (grows old mid (ap 
 
 -- a step more
 step_on : (old : State) → IsSoundState old
-    → (d : Did) (done : List Did) (new : State) (w : Run old (d ∷ done) new) (from : Store) → Follows old.store from
-    → ((b : Store) → Follows w.0.store b → LoadsTo b (lines_in (groups_of done)) new.store)
-    → LoadsTo from (lines_in (group_of d.event d.effect.kept ++ groups_of done)) new.store
+    → (d : Did) (done : List Did) (new : State) (w : Run old (d ∷ done) new) (from : Store)
+    → StoreFollows old.store from
+    → ((b : Store) → StoreFollows w.0.store b → LoadsTo b (lines_in (groups_of done)) new.store)
+    → LoadsTo from (lines_in (kept_group d.event d.effect.kept ++ groups_of done)) new.store
 step_on old sound d done new w from f more = by (acts_keep old sound d.event d.effect mid step.acts)
   where
     step : Step old d.event d.effect w.0
@@ -144,13 +145,13 @@ step_on old sound d done new w from f more = by (acts_keep old sound d.event d.e
     now : w.0.store ≡ record mid.store { relations = step.relations }
     now = ap (λ (st : State). st.store) step.queued ∙ queued_store (with_relations mid step.relations) d.effect.queued
 
-    further : (b : Store) → Follows mid.store b → LoadsTo b (lines_in (groups_of done)) new.store
+    further : (b : Store) → StoreFollows mid.store b → LoadsTo b (lines_in (groups_of done)) new.store
     further b k =
-        more b (subst (λ (st : Store). Follows st b) (sym now)
+        more b (subst (λ (st : Store). StoreFollows st b) (sym now)
         (follows_left mid.store b step.relations step.reordered k))
 
     by : ActKeeps old d.event d.effect mid
-        → LoadsTo from (lines_in (group_of d.event d.effect.kept ++ groups_of done)) new.store
+        → LoadsTo from (lines_in (kept_group d.event d.effect.kept ++ groups_of done)) new.store
     by (act_group group is loads) =
         subst (λ (gs : List Group). LoadsTo from (lines_in (gs ++ groups_of done)) new.store) (sym is)
         (loads from f (lines_in (groups_of done)) (loading new.store) further)
@@ -161,7 +162,7 @@ step_on old sound d done new w from f more = by (acts_keep old sound d.event d.e
 pub kept_lines_load : KeptLinesLoad
 kept_lines_load old [] new w sound from f =
     no_lines (loading from) (loading new.store)
-    (follows_closed new.store from (subst (λ (st : State). Follows st.store from) (sym w) f))
+    (follows_closed new.store from (subst (λ (st : State). StoreFollows st.store from) (sym w) f))
 kept_lines_load old (d ∷ done) new w sound from f =
     step_on old sound d done new w from f
     (λ b k. kept_lines_load w.0 done new w.2 (step_sound old d.event d.effect w.0 w.1 sound) b k)

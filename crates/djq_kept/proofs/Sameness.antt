@@ -129,7 +129,7 @@ use Rattle.djq_model.proofs.Counted.{tuples_moved, has_moved, differ_moved, copi
 use Rattle.djq_laws.proofs.Apart.{nothing_apart}
 use Rattle.djq_laws.proofs.Changing.{all_changed, all_found}
 use Rattle.djq_laws.proofs.Answering.{reordered_counted, reordered_rows}
-use Rattle.djq_kept.specs.Kept.{IsSameStore, HasRowsOnce, Follows, FollowersHaveCopies}
+use Rattle.djq_kept.specs.Kept.{IsSameStore, HasRowsOnce, StoreFollows, FollowersHaveCopies}
 
 -- ---- relations
 
@@ -263,7 +263,7 @@ rel_same a b n types h =
     (same_length a.relations b.relations h.relations)
 
 -- the rows of a relation, and the copies of each
-module _ (a b : Store) (n : Bytes) (row : Tuple) (f : Follows a b) where
+module _ (a b : Store) (n : Bytes) (row : Tuple) (f : StoreFollows a b) where
   pub moved : IsPermutation (counted_of a.relations n) (counted_of b.relations n)
   moved = reordered_counted a.relations b.relations n f.same.relations
 
@@ -292,7 +292,7 @@ row_by none types row more = first_refusal (
     ∷ (not (fits types row), WrongType)
     ∷ more)
 
-row_same : (a b : Store) (n : Bytes) (row : Tuple) (more : List (Bool × Refusal)) → Follows a b
+row_same : (a b : Store) (n : Bytes) (row : Tuple) (more : List (Bool × Refusal)) → StoreFollows a b
     → row_by (is_none (relation_of b.relations n)) (types_of (relation_of b.relations n)) row more
     ≡ row_by (is_none (relation_of a.relations n)) (types_of (relation_of a.relations n)) row more
 row_same a b n row more h =
@@ -308,7 +308,7 @@ add_more copies has long seq =
     ∷ []
 
 -- what else refuses a copy more
-module _ (a b : Store) (n : Bytes) (row : Tuple) (h : Follows a b) where
+module _ (a b : Store) (n : Bytes) (row : Tuple) (h : StoreFollows a b) where
   abbrev more_in : Store → List (Bool × Refusal)
   more_in st = let rows = rows_of st.relations n in
       add_more (copies_of st n row) (has_row rows row) (length rows) st.seq
@@ -342,7 +342,7 @@ module _ (a b : Store) (n : Bytes) (row : Tuple) (h : Follows a b) where
 abbrev delete_more : ℕ → ℕ → List (Bool × Refusal)
 delete_more copies seq = ((copies == 1) && nat_le LAST_SEQ seq, Limit) ∷ []
 
-pub delete_same : (a b : Store) (n : Bytes) (row : Tuple) → Follows a b
+pub delete_same : (a b : Store) (n : Bytes) (row : Tuple) → StoreFollows a b
     → delete_refusal b n row ≡ delete_refusal a n row
 delete_same a b n row h =
     let left = relation_of a.relations n in

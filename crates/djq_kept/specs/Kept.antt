@@ -31,7 +31,7 @@ HasRowsOnce r = AreDifferent (tuples_in r)
 
 -- A store follows another: it has the same data, each row once with its copies, and knows no other
 -- texts, each once.
-pub record Follows (a b : Store) : Type 0 where
+pub record StoreFollows (a b : Store) : Type 0 where
   pub same : IsSameStore a b
   pub rows : All HasRowsOnce b.relations
   pub among : AreKnown b.texts a.texts
@@ -39,13 +39,13 @@ pub record Follows (a b : Store) : Type 0 where
 
 -- So it has as many copies of each row.
 abbrev pub FollowersHaveCopies : Type 0
-FollowersHaveCopies = (a b : Store) → Follows a b → (name : Bytes) (row : Tuple)
+FollowersHaveCopies = (a b : Store) → StoreFollows a b → (name : Bytes) (row : Tuple)
     → copies_of b name row ≡ copies_of a name row
 
 -- So does a loading: where it has come to, the store follows that one, and the same batch is open, or
 -- none.
 pub record LoadingFollows (a b : Loading) : Type 0 where
-  pub store : Follows a.store b.store
+  pub store : StoreFollows a.store b.store
   pub batch : b.batch ≡ a.batch
 
 -- Lines can be loaded from here, and none is refused; and wherever they are loaded to, where memory
@@ -81,7 +81,7 @@ AbandonedAreLoaded = (found : List Bytes) (left : Loading) → Loads (loading op
 -- that follows the one it left: the same rows with the same copies.
 abbrev pub KeptLinesLoad : Type 0
 KeptLinesLoad = (old : State) (done : List Did) (new : State) → Run old done new → IsSoundState old
-    → (from : Store) → Follows old.store from → LoadsTo from (lines_in (groups_of done)) new.store
+    → (from : Store) → StoreFollows old.store from → LoadsTo from (lines_in (groups_of done)) new.store
 
 -- So it is of a run that began with what lines, found at its start, gave: these lines and those that
 -- it kept give what it left.

@@ -54,7 +54,7 @@ use Rattle.djq_laws.specs.Form.{
   DoesTurn,
   is_turned,
   is_refused,
-  Does,
+  FormDoes,
 }
 use Rattle.djq_laws.proofs.Forms.{turned_one, command_does, Reads, turned_down, carried_out, line_reads}
 use Rattle.djq_laws.proofs.Doing.{closing, begun, closing_id, closing_pending, closing_held, closing_cause, rows_do}
@@ -281,7 +281,7 @@ turned_alike old s x t new (is_turned h) =
     alike_with EndsByRun old new s one.change
     (keeps_cause EndsByRun one.change one.id one.pending one.held one.cause) one.state
 
-form_keeps : (f : Form) (old : State) (s : ℕ) (x : Session) (e : Effect) (new : State) → Does f old s x e new
+form_keeps : (f : Form) (old : State) (s : ℕ) (x : Session) (e : Effect) (new : State) → FormDoes f old s x e new
     → Runs old s e new
 form_keeps asking old s x e new h = (replied_alike s old new h.1, alone s e h.0)
 form_keeps storing old s x e new h = (replied_alike s (record old { store = h.1.store }) new h.1.replied, alone s e h.0)

@@ -57,7 +57,7 @@ use Rattle.djq_machine.specs.Batch.{
   store_behind,
   place_refusal,
   HavePlaces,
-  StopsAt,
+  BatchStopsAt,
   RefusesBatch,
   AddsBatch,
   batch_outcome,
@@ -267,7 +267,7 @@ is_behind st held n e = ap (λ (k : ℕ). behind st (with_all st held) k) (sym e
 
 -- A batch that is refused changes no more than which texts are known.
 stops_learned : (old : Store) (front : List HeldRow) (at : HeldRow) (new : Store) (r : Refusal) → HavePlaces old front
-    → StopsAt (with_all old front) at new.texts r → new ≡ record old { texts = new.texts } → LearnsTexts old new
+    → BatchStopsAt (with_all old front) at new.texts r → new ≡ record old { texts = new.texts } → LearnsTexts old new
 stops_learned old front at new Limit places (inl h) stays =
     let g = all_gain old front places in record {
       texts = g.texts;

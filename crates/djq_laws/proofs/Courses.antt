@@ -5,7 +5,7 @@ use Rattle.std.proofs.lemmas.Grind.{flat_map-append}
 use Rattle.std.proofs.lemmas.List.{take-append-le, take_all}
 use Rattle.std.proofs.lemmas.List.Elements.{All-nil, All-cons, All-append}
 use Rattle.std.proofs.lemmas.List.Sums.{sum_by-append}
-use Rattle.djq_io.specs.Source.{Gives}
+use Rattle.djq_io.specs.Source.{SourceGives}
 use Rattle.djq_io.specs.Sink.{Gains, bytes_of, NoneFailed}
 use Rattle.djq_io.specs.declared.sink.Write.{Write}
 use Rattle.djq_io.specs.declared.sink.Wrote.TheVariants.{Took, Failed}
@@ -15,9 +15,9 @@ use Rattle.djq_io.proofs.Writing.{bytes_more, took_well}
 use Rattle.djq_machine.specs.State.{State}
 use Rattle.djq_machine.specs.Effect.{Effect}
 use Rattle.djq_machine.specs.Step.{Event, opened, fed, stepped, took, ended, closed, Step}
-use Rattle.djq_machine.specs.Run.{Did, Walk, all_taken, taken_by, pieces_of, piece_of, pending_of}
-use Rattle.djq_laws.specs.Course.{Outside, Course, RunNext, MayRun, Does, writes_by, last_write}
-use Rattle.djq_laws.specs.Moved.{Takes}
+use Rattle.djq_machine.specs.Run.{Did, Walk, all_taken, taken_from, pieces_of, piece_of, pending_of}
+use Rattle.djq_laws.specs.Course.{Outside, Course, RunNext, MayRun, RunDoes, writes_by, last_write}
+use Rattle.djq_laws.specs.Moved.{SessionTakes}
 use Rattle.djq_laws.proofs.Moving.{took_facts}
 
 -- nothing was done yet
@@ -34,7 +34,7 @@ course_begun o st = record {
 
 -- one thing that may be done, with what it reads, writes and counts
 pub course_one : (o o' : Outside) (old new : State) (d : Did) → RunNext old d new
-    → Gives o.reading o'.reading (piece_of d.event) → Gains o.writing o'.writing (writes_by old d.event)
+    → SourceGives o.reading o'.reading (piece_of d.event) → Gains o.writing o'.writing (writes_by old d.event)
     → o'.counted.listing ≤ o.counted.listing + d.effect.cost
     → Course old o o' new
 course_one o o' old new d next gives gains listing = record {
@@ -42,14 +42,14 @@ course_one o o' old new d next gives gains listing = record {
   writes = writes_by old d.event ++ [];
   does = (new, next, [], refl, (refl, refl));
   failed = false;
-  read = subst (λ pieces. Gives o.reading o'.reading pieces) (sym (append-nil (piece_of d.event))) gives;
+  read = subst (λ pieces. SourceGives o.reading o'.reading pieces) (sym (append-nil (piece_of d.event))) gives;
   written = subst (λ writes. Gains o.writing o'.writing writes)
       (sym (append-nil (writes_by old d.event ++ []) ∙ append-nil (writes_by old d.event))) gains;
   listing = omega (arith, listing);
 }
 
 -- a write that failed, behind which nothing is done
-pub course_failed : (o o' : Outside) (st : State) → Gives o.reading o'.reading []
+pub course_failed : (o o' : Outside) (st : State) → SourceGives o.reading o'.reading []
     → Gains o.writing o'.writing (last_write true st)
     → o'.counted.listing ≤ o.counted.listing → Course st o o' st
 course_failed o o' st gives gains listing = record {
@@ -70,7 +70,7 @@ walk_then {D = D} May old [] mid more new w v = let e : old
 walk_then May old (d ∷ done) mid more new w v = (w.0, w.1, walk_then May w.0 done mid more new w.2 v)
 
 -- what was done is a walk
-pub walk_of : (old : State) (done : List Did) (writes : List Write) (new : State) → Does old done writes new
+pub walk_of : (old : State) (done : List Did) (writes : List Write) (new : State) → RunDoes old done writes new
     → Walk RunNext old done new
 walk_of old [] writes new h = h.0
 walk_of old (d ∷ done) writes new h = (h.0, h.1, walk_of h.0 done h.2 new h.4)
@@ -78,10 +78,10 @@ walk_of old (d ∷ done) writes new h = (h.0, h.1, walk_of h.0 done h.2 new h.4)
 -- some things were done, and then others
 pub does_then : (old : State) (done : List Did) (writes : List Write) (mid : State) (more : List Did)
     (later : List Write) (new : State)
-    → Does old done writes mid → Does mid more later new → Does old (done ++ more) (writes ++ later) new
+    → RunDoes old done writes mid → RunDoes mid more later new → RunDoes old (done ++ more) (writes ++ later) new
 does_then old [] writes mid more later new h k =
-    subst (λ (ws : List Write). Does old more ws new) (sym (ap (λ (ws : List Write). ws ++ later) h.1))
-    (subst (λ (st : State). Does st more later new) h.0 k)
+    subst (λ (ws : List Write). RunDoes old more ws new) (sym (ap (λ (ws : List Write). ws ++ later) h.1))
+    (subst (λ (st : State). RunDoes st more later new) h.0 k)
 does_then old (d ∷ done) writes mid more later new h k = (
   h.0,
   h.1,
@@ -93,7 +93,7 @@ does_then old (d ∷ done) writes mid more later new h k = (
 
 -- the bytes that were written are those that were taken of the session
 event_bytes : (old : State) (event : Event) (e : Effect) (new : State) → MayRun old event → Step old event e new
-    → bytes_of (writes_by old event) ≡ taken_by 1 event
+    → bytes_of (writes_by old event) ≡ taken_from 1 event
 event_bytes old (opened s) e new may h = refl
 event_bytes old (fed s bytes) e new may h = refl
 event_bytes old (stepped s outcome) e new may h = refl
@@ -101,20 +101,21 @@ event_bytes old (ended s) e new may h = refl
 event_bytes old (closed s bytes) e new may h = refl
 event_bytes old (took s bytes) e new may h =
     let own : s ≡ 1 = may.0 in
-    let t : Takes old new 1 bytes = took_facts old 1 bytes e new (subst (λ k. Step old (took k bytes) e new) own h) in
+    let t : SessionTakes old new 1 bytes =
+    took_facts old 1 bytes e new (subst (λ k. Step old (took k bytes) e new) own h) in
     let part : take (length bytes) (pending_of old 1) ≡ bytes =
     ap (λ p. take (length bytes) p) t.pending ∙ take-append-le (length bytes) bytes (pending_of new 1) (omega arith)
     ∙ take_all (length bytes) bytes (omega arith) in
-    subst (λ k. bytes_of (writes_by old (took s bytes)) ≡ taken_by 1 (took k bytes)) (sym own)
+    subst (λ k. bytes_of (writes_by old (took s bytes)) ≡ taken_from 1 (took k bytes)) (sym own)
     (append-nil (take (length bytes) (pending_of old 1)) ∙ part)
 
-pub does_bytes : (old : State) (done : List Did) (writes : List Write) (new : State) → Does old done writes new
+pub does_bytes : (old : State) (done : List Did) (writes : List Write) (new : State) → RunDoes old done writes new
     → bytes_of writes ≡ all_taken 1 done
 does_bytes old [] writes new h = ap (λ (ws : List Write). bytes_of ws) h.1
 does_bytes old (d ∷ done) writes new h =
     ap (λ (ws : List Write). bytes_of ws) h.3 ∙ bytes_more (writes_by old d.event) h.2
     ∙ ap (λ bs. bs ++ bytes_of h.2) (event_bytes old d.event d.effect h.0 h.1.0 h.1.1)
-    ∙ ap (λ bs. taken_by 1 d.event ++ bs) (does_bytes h.0 done h.2 new h.4)
+    ∙ ap (λ bs. taken_from 1 d.event ++ bs) (does_bytes h.0 done h.2 new h.4)
 
 -- none of these writes failed
 event_well : (old : State) (event : Event) → NoneFailed (writes_by old event)
@@ -127,7 +128,7 @@ event_well old (took s bytes) =
     All-cons (λ (w : Write). w.answer ≢ Failed) (record { piece = pending_of old 1; answer = Took (length bytes) }) []
     (took_well (length bytes)) (All-nil (λ (w : Write). w.answer ≢ Failed))
 
-pub does_well : (old : State) (done : List Did) (writes : List Write) (new : State) → Does old done writes new
+pub does_well : (old : State) (done : List Did) (writes : List Write) (new : State) → RunDoes old done writes new
     → NoneFailed writes
 does_well old [] writes new h = subst (λ (ws : List Write). NoneFailed ws) (sym h.1)
     (All-nil (λ (w : Write). w.answer ≢ Failed))
@@ -148,7 +149,7 @@ course_then o o' o'' old mid new c well d =
       writes = c.writes ++ d.writes;
       does = does_then old c.done c.writes mid d.done d.writes new c.does d.does;
       failed = d.failed;
-      read = subst (λ pieces. Gives o.reading o''.reading pieces)
+      read = subst (λ pieces. SourceGives o.reading o''.reading pieces)
           (sym (flat_map-append (λ (x : Did). piece_of x.event) c.done d.done))
           (gives_more o.reading o'.reading o''.reading (pieces_of c.done) (pieces_of d.done) c.read d.read);
       written = subst (λ (ws : List Write). Gains o.writing o''.writing ws)
@@ -160,14 +161,16 @@ course_then o o' o'' old mid new c well d =
 
 -- what was done along them, and whether a write failed
 pub course_one_done : (o o' : Outside) (old new : State) (d : Did) (next : RunNext old d new)
-    (gives : Gives o.reading o'.reading (piece_of d.event)) (gains : Gains o.writing o'.writing (writes_by old d.event))
+    (gives : SourceGives o.reading o'.reading (piece_of d.event))
+    (gains : Gains o.writing o'.writing (writes_by old d.event))
     (listing : o'.counted.listing ≤ o.counted.listing + d.effect.cost)
     → (course_one o o' old new d next gives gains listing).done ≡ d ∷ []
 unfolding course_one
 course_one_done o o' old new d next gives gains listing = refl
 
 pub course_one_well : (o o' : Outside) (old new : State) (d : Did) (next : RunNext old d new)
-    (gives : Gives o.reading o'.reading (piece_of d.event)) (gains : Gains o.writing o'.writing (writes_by old d.event))
+    (gives : SourceGives o.reading o'.reading (piece_of d.event))
+    (gains : Gains o.writing o'.writing (writes_by old d.event))
     (listing : o'.counted.listing ≤ o.counted.listing + d.effect.cost)
     → (course_one o o' old new d next gives gains listing).failed ≡ false
 unfolding course_one
@@ -177,7 +180,7 @@ pub course_begun_well : (o : Outside) (st : State) → (course_begun o st).faile
 unfolding course_begun
 course_begun_well o st = refl
 
-pub course_failed_so : (o o' : Outside) (st : State) (gives : Gives o.reading o'.reading [])
+pub course_failed_so : (o o' : Outside) (st : State) (gives : SourceGives o.reading o'.reading [])
     (gains : Gains o.writing o'.writing (last_write true st))
     (listing : o'.counted.listing ≤ o.counted.listing) → (course_failed o o' st gives gains listing).failed ≡ true
 unfolding course_failed

@@ -15,7 +15,7 @@ use Rattle.djq_machine.specs.Step.{Event, opened, fed, stepped, took, ended, clo
 use Rattle.djq_machine.specs.Step.{TookStep, EndedStep, OpenedStep, Acts, Step}
 use Rattle.djq_machine.specs.Run.{Did, Run, all_fed, fed_by, lines_of, line_by, line_in, CutsInto}
 use Rattle.djq_machine.specs.Call.{cause_of, held_of, cause_in, held_in}
-use Rattle.djq_laws.specs.Moved.{SparesSession, LeavesHeld, CausedBy}
+use Rattle.djq_laws.specs.Moved.{SparesSession, LeavesHeldBytes, CausedBy}
 use Rattle.djq_laws.specs.Lines.{TakesInOrder, LinesInOrder}
 use Rattle.djq_deltas.proofs.Cases.{some_there}
 use Rattle.djq_laws.proofs.Queueing.{stepped_cause, stepped_held}
@@ -173,7 +173,7 @@ fed_holds x y bytes text (is_held running still held none) = holds refl held (λ
 fed_holds x y bytes text (out_of_memory running so held said) = drops refl held (some_of y.cause _ so)
 fed_holds x y bytes text (is_dropped c cause still held none) = drops refl held (some_of y.cause c still)
 
-stepped_holds : (outcome : LineOutcome) (x y : Session) → x.cause ≡ None → LeavesHeld outcome x.held y.held
+stepped_holds : (outcome : LineOutcome) (x y : Session) → x.cause ≡ None → LeavesHeldBytes outcome x.held y.held
     → CausedBy outcome y.cause → HeldStep [] (line_in outcome) x.held y.held x.cause y.cause
 stepped_holds long x y running held cause = drops refl held (some_of y.cause _ cause)
 stepped_holds (blank l) x y running held cause = takes l refl refl held running

@@ -8,7 +8,7 @@ use Rattle.djq_machine.specs.Changes.{RowsOutcome, row_in, row_out, add_outcome,
 use Rattle.djq_machine.specs.Watch.{ChangeStep}
 use Rattle.djq_machine.specs.Batch.{batch_outcome}
 use Rattle.djq_machine.specs.Command.{without_batch}
-use Rattle.djq_laws.specs.Form.{RowCommand, row_comes, row_goes, rows_come, Changed}
+use Rattle.djq_laws.specs.Form.{RowCommand, row_comes, row_goes, rows_come, RowsChanged}
 use Rattle.djq_laws.proofs.Rows.{RowsMade, added, deleted}
 use Rattle.djq_laws.proofs.Batches.{batched}
 
@@ -50,7 +50,7 @@ from_begun : (old : State) (s : ℕ) (o : RowsOutcome) (store : Store) (reply : 
 from_begun old s o store reply e new h =
     subst (λ (st : State). ChangeStep st s o store reply e new) (begun_same old s) h
 
-pub rows_do : (old : State) (s : ℕ) (c : RowCommand) (e : Effect) (new : State) → Changed old s c e new
+pub rows_do : (old : State) (s : ℕ) (c : RowCommand) (e : Effect) (new : State) → RowsChanged old s c e new
     → DoesRows old s c e new
 rows_do old s (row_comes name row) e new h = record {
   outcome = add_outcome (row_in old.store.relations name row) h.result;

@@ -8,7 +8,7 @@ use Rattle.djq_model.specs.Data.{Bytes}
 use Rattle.djq_machine.specs.State.{State, Session, session_of}
 use Rattle.djq_machine.specs.Effect.{Effect}
 use Rattle.djq_machine.specs.Step.{Event, opened, fed, stepped, took, ended, closed, TookStep, Step}
-use Rattle.djq_machine.specs.Run.{Did, Run, out, to_session, all_taken, taken_by, pending_of}
+use Rattle.djq_machine.specs.Run.{Did, Run, out, to_session, all_taken, taken_from, pending_of}
 use Rattle.djq_machine.specs.Call.{state_ids}
 use Rattle.djq_laws.specs.Sent.{dropped_by, all_dropped, opened_by, all_opened, SentInOrder}
 use Rattle.djq_deltas.proofs.Cases.{some_there}
@@ -42,7 +42,7 @@ not_there s t old P same out there =
     both_ways (s == s) (at_found (λ i. (i == s) ≡ false) s old.sessions f.0 found out) (eq-eqb s s refl)
 
 none_by : (s : ℕ) (old : State) (event : Event) (e : Effect) (new : State) → Step old event e new
-    → NotAmong s (state_ids old) → taken_by s event ≡ []
+    → NotAmong s (state_ids old) → taken_from s event ≡ []
 none_by s old (opened t) e new h out = refl
 none_by s old (fed t bytes) e new h out = refl
 none_by s old (stepped t outcome) e new h out = refl
@@ -208,7 +208,7 @@ step_order : (s : ℕ) (event : Event) (old : State) (e : Effect) (mid : State) 
     → Step old event e mid
     → Run mid done new → Later (state_ids old) (opened_by event ++ all_opened done)
     → all_taken s done ++ (all_dropped s done ++ pending_of new s) ≡ pending_of mid s ++ out s done
-    → (taken_by s event ++ all_taken s done) ++ ((dropped_by s event ++ all_dropped s done) ++ pending_of new s)
+    → (taken_from s event ++ all_taken s done) ++ ((dropped_by s event ++ all_dropped s done) ++ pending_of new s)
     ≡ pending_of old s ++ (to_session s e.queued ++ out s done)
 step_order s (opened t) old e mid done new h w l rest =
     in_turn [] (pending_of mid s) (pending_of old s) (to_session s e.queued) (all_taken s done)
@@ -220,7 +220,8 @@ step_order s (stepped t outcome) old e mid done new h w l rest =
     in_turn [] (pending_of mid s) (pending_of old s) (to_session s e.queued) (all_taken s done)
     (all_dropped s done ++ pending_of new s) (out s done) (step_bytes old (stepped t outcome) e mid h s) rest
 step_order s (took t bytes) old e mid done new h w l rest =
-    in_turn (taken_by s (took t bytes)) (pending_of mid s) (pending_of old s) (to_session s e.queued) (all_taken s done)
+    in_turn (taken_from s (took t bytes)) (pending_of mid s) (pending_of old s) (to_session s e.queued)
+    (all_taken s done)
     (all_dropped s done ++ pending_of new s) (out s done) (step_bytes old (took t bytes) e mid h s) rest
 step_order s (ended t) old e mid done new h w l rest =
     in_turn [] (pending_of mid s) (pending_of old s) (to_session s e.queued) (all_taken s done)

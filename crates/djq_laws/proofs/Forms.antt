@@ -185,12 +185,12 @@ use Rattle.djq_laws.specs.Form.{
   drops_query,
   in_use,
   without_cursor,
-  Turned,
+  SessionTurned,
   DoesStore,
   DoesTurn,
   is_turned,
   is_refused,
-  Does,
+  FormDoes,
 }
 use Rattle.djq_deltas.proofs.Cases.{some_there, nothing_of}
 use Rattle.std.proofs.lemmas.Bool.{or_parts}
@@ -485,7 +485,7 @@ hold_does old s x held l name row (Ok u) new is answer after = is_turned (record
 pub add_does : (old : State) (s : ℕ) (x : Session) (l name : Bytes) (row : Tuple) (e : Effect) (new : State)
     (batch : Option (List HeldRow)) → x.batch ≡ batch
     → MatchOption batch (AddStep old s name row e new) (λ held. HoldStep old s held l name row e new)
-    → Does (add_form batch l name row) old s x e new
+    → FormDoes (add_form batch l name row) old s x e new
 add_does old s x l name row e new None is h = h
 add_does old s x l name row e new (Some held) is h = (
   says_alone s (held_reply h.result (length held + 1)) e h.effect,
@@ -493,7 +493,7 @@ add_does old s x l name row e new (Some held) is h = (
 )
 
 pub done_does : (old : State) (s : ℕ) (x : Session) (e : Effect) (new : State) (batch : Option (List HeldRow))
-    → MatchOption batch ⊥ (λ held. DoneStep old s held e new) → Does (done_form batch) old s x e new
+    → MatchOption batch ⊥ (λ held. DoneStep old s held e new) → FormDoes (done_form batch) old s x e new
 done_does old s x e new None h = absurd h
 done_does old s x e new (Some held) h = h
 
@@ -506,7 +506,7 @@ pub record OneSession (old : State) (s : ℕ) (new : State) : Type 0 where
   pub cause : (x : Session) → (change x).cause ≡ x.cause
   pub state : new ≡ with_session old s change
 
-pub turned_one : (old : State) (s : ℕ) (x : Session) (t : Turn) (new : State) → Turned old s x t new
+pub turned_one : (old : State) (s : ℕ) (x : Session) (t : Turn) (new : State) → SessionTurned old s x t new
     → OneSession old s new
 turned_one old s x (opens_cursor c q) new h = record {
   change = with_cursor c q;
@@ -576,7 +576,7 @@ turned_one old s x closes_batch new h = record {
 -- ---- all commands
 
 pub command_does : (old : State) (s : ℕ) (x : Session) (l : Bytes) (c : Command) (e : Effect) (new : State)
-    → reading_of l ≡ says_command c → CommandStep old s x l c e new → Does (form_of x.batch l c) old s x e new
+    → reading_of l ≡ says_command c → CommandStep old s x l c e new → FormDoes (form_of x.batch l c) old s x e new
 command_does old s x l (Rel name types) e new said h =
     stored_whole old s (ok_reply (codes "ok") h.result) _ h.store e new h.effect
     (rel_stored (in_use old) old.store h.store name types h.result h.done) h.state

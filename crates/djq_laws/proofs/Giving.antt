@@ -109,13 +109,13 @@ use Rattle.djq_laws.specs.Form.{
   registers,
   drops_query,
   in_use,
-  MovesCursor,
+  CursorMoves,
   without_cursor,
-  Turned,
+  SessionTurned,
   DoesTurn,
   is_turned,
   is_refused,
-  Does,
+  FormDoes,
 }
 use Rattle.djq_laws.proofs.Forms.{command_does, Reads, turned_down, carried_out, line_reads}
 use Rattle.djq_laws.proofs.Rows.{RowsMade}
@@ -325,7 +325,7 @@ cursors_stay old new s f same after g =
 
 -- What a turn makes of a session.
 moves_give : (old : State) (s : ℕ) (x : Session) (c : Bytes) (new : State) → session_of old s ≡ Some x
-    → MovesCursor old s x c new → CursorsGive old → CursorsGive new
+    → CursorMoves old s x c new → CursorsGive old → CursorsGive new
 moves_give old s x c new at h g =
     let session = all_found (SessionGives old.store.relations old.store.queries)
     (λ (y : Session). y.id == s) old.sessions x g at in
@@ -354,7 +354,7 @@ moves_give old s x c new at h g =
         (subst (λ (r : Option Listed). PositionGives old.store.relations r p) over k)
 
 turned_gives : (old : State) (s : ℕ) (x : Session) (t : Turn) (new : State) → session_of old s ≡ Some x
-    → Turned old s x t new → CursorsGive old → CursorsGive new
+    → SessionTurned old s x t new → CursorsGive old → CursorsGive new
 turned_gives old s x (opens_cursor c q) new at h g =
     session_gives old new s (with_cursor c q) h.2
     (λ y found k. All-push (CursorGives old.store.relations old.store.queries) y.cursors
@@ -392,7 +392,7 @@ turn_gives old s x t new found (is_turned h) g = turned_gives old s x t new foun
 turn_gives old s x t new found (is_refused r) g = replied_gives s old new r g
 
 form_gives : (f : Form) (old : State) (s : ℕ) (x : Session) (e : Effect) (new : State) → session_of old s ≡ Some x
-    → Does f old s x e new → CursorsGive old → CursorsGive new
+    → FormDoes f old s x e new → CursorsGive old → CursorsGive new
 form_gives asking old s x e new found h g = replied_gives s old new h.1 g
 form_gives storing old s x e new found h g =
     replied_gives s (record old { store = h.1.store }) new h.1.replied (stored_gives old h.1.store h.1.stored g)

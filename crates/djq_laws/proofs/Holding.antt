@@ -138,11 +138,11 @@ use Rattle.djq_laws.specs.Form.{
   Replied,
   is_whole,
   is_cut,
-  Turned,
+  SessionTurned,
   DoesTurn,
   is_turned,
   is_refused,
-  Does,
+  FormDoes,
 }
 use Rattle.djq_deltas.proofs.Cases.{some_there}
 use Rattle.djq_laws.proofs.Changing.{all_changed, all_found, all_mapped}
@@ -211,7 +211,7 @@ FormSays (turning t) = TurnSays t
 FormSays _ = ⊤
 
 held_turned : (old : State) (s : ℕ) (x : Session) (t : Turn) (new : State) → session_of old s ≡ Some x → TurnSays t
-    → Turned old s x t new → HoldLines old → HoldLines new
+    → SessionTurned old s x t new → HoldLines old → HoldLines new
 held_turned old s x (opens_cursor c q) new found is h k = held_still old new s _ (λ y. refl) h.2 k
 held_turned old s x (moves_cursor c) new found is h k = held_still old new s _ (λ y. refl) h.state k
 held_turned old s x (closes_cursor c) new found is h k = held_still old new s _ (λ y. refl) h k
@@ -236,7 +236,7 @@ held_turn old s x t new found is (is_turned h) k = held_turned old s x t new fou
 held_turn old s x t new found is (is_refused r) k = held_replied s old new r k
 
 held_form : (f : Form) (old : State) (s : ℕ) (x : Session) (e : Effect) (new : State) → session_of old s ≡ Some x
-    → FormSays f → Does f old s x e new → HoldLines old → HoldLines new
+    → FormSays f → FormDoes f old s x e new → HoldLines old → HoldLines new
 held_form asking old s x e new found is h k = held_replied s old new h.1 k
 held_form storing old s x e new found is h k = held_replied s (record old { store = h.1.store }) new h.1.replied k
 held_form (turning t) old s x e new found is h k = held_turn old s x t new found is h.1 k

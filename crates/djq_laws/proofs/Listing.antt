@@ -140,7 +140,7 @@ use Rattle.djq_laws.specs.Listed.{
   TellGiven,
   position_among,
   position_in,
-  position_of,
+  session_position,
   GivenIsTold,
 }
 use Rattle.djq_laws.specs.Form.{
@@ -165,13 +165,13 @@ use Rattle.djq_laws.specs.Form.{
   Replied,
   is_whole,
   is_cut,
-  MovesCursor,
+  CursorMoves,
   without_cursor,
-  Turned,
+  SessionTurned,
   DoesTurn,
   is_turned,
   is_refused,
-  Does,
+  FormDoes,
 }
 use Rattle.djq_laws.proofs.Finding.{find_changed, find_other, find_dropped}
 use Rattle.djq_deltas.proofs.Cases.{some_there, nothing_of}
@@ -326,15 +326,15 @@ not_misplacing (t ∷ ts) end = refl
 module _ (s : ℕ) (c : Bytes) where
   -- What is open behind a change was so before it.
   abbrev Back : State → State → Type 0
-  Back old new = (given : List Tuple) (finished : Bool) → position_of new s c ≡ Some (open_at given finished)
-      → position_of old s c ≡ Some (open_at given finished)
+  Back old new = (given : List Tuple) (finished : Bool) → session_position new s c ≡ Some (open_at given finished)
+      → session_position old s c ≡ Some (open_at given finished)
 
   abbrev CursorsBack : List Cursor → List Cursor → Type 0
   CursorsBack ks ls = (given : List Tuple) (finished : Bool) → position_among ls c ≡ Some (open_at given finished)
       → position_among ks c ≡ Some (open_at given finished)
 
   back_same : (old new : State) → new ≡ old → Back old new
-  back_same old new e given finished at = ap (λ st. position_of st s c) (sym e) ∙ at
+  back_same old new e given finished at = ap (λ st. session_position st s c) (sym e) ∙ at
 
   back_then : (old mid new : State) → Back old mid → Back mid new → Back old new
   back_then old mid new f g given finished at = f given finished (g given finished at)
@@ -357,8 +357,8 @@ module _ (s : ℕ) (c : Bytes) where
     back_found e (Some x) is given finished h = fine e x is given finished h
 
     back_at : (b : Bool) → (t == s) ≡ b → (given : List Tuple) (finished : Bool)
-        → position_of (with_session old t f) s c ≡ Some (open_at given finished)
-        → position_of old s c ≡ Some (open_at given finished)
+        → session_position (with_session old t f) s c ≡ Some (open_at given finished)
+        → session_position old s c ≡ Some (open_at given finished)
     back_at false e given finished h = ap (λ o. position_in o c) (sym (session_other old t s f keeps e)) ∙ h
     back_at true e given finished h =
         let here : session_of (with_session old t f) s ≡ option_map f (session_of old s) =
@@ -367,7 +367,8 @@ module _ (s : ℕ) (c : Bytes) where
         back_found e (session_of old s) refl given finished (ap (λ o. position_in o c) (sym here) ∙ h)
 
     back_with : Back old new
-    back_with given finished at = back_at (t == s) refl given finished (ap (λ st. position_of st s c) (sym after) ∙ at)
+    back_with given finished at =
+        back_at (t == s) refl given finished (ap (λ st. session_position st s c) (sym after) ∙ at)
 
   back_ends : (old new : State) (t : ℕ) (cause : EndCause) → new ≡ with_session old t (ended_by cause) → Back old new
   back_ends old new t cause after = back_with old new t (ended_by cause) (λ x. refl) after
@@ -432,7 +433,7 @@ module _ (s : ℕ) (c : Bytes) where
       (find_front (λ (k : Cursor). bytes_eq k.name c) x.cursors more (apart e)))
 
   back_moves : (old : State) (t : ℕ) (x : Session) (d : Bytes) (new : State)
-      → ((t == s) ≡ true → bytes_eq d c ≡ false) → MovesCursor old t x d new → Back old new
+      → ((t == s) ≡ true → bytes_eq d c ≡ false) → CursorMoves old t x d new → Back old new
   back_moves old t x d new apart h =
       let to = open_at (h.given ++ h.told) h.end in
       back_with old new t (λ x. record x { cursors = with_position x.cursors d to }) (λ x. refl) h.state
@@ -460,7 +461,7 @@ module _ (s : ℕ) (c : Bytes) where
   is_of _ = false
 
   back_turned : (old : State) (t : ℕ) (x : Session) (turn : Turn) (new : State) → AreKept old
-      → ((t == s) ≡ true → is_of (turning turn) ≡ false) → Turned old t x turn new → Back old new
+      → ((t == s) ≡ true → is_of (turning turn) ≡ false) → SessionTurned old t x turn new → Back old new
   back_turned old t x (opens_cursor d q) new kept apart h = back_opens old t d q new apart h.2
   back_turned old t x (moves_cursor d) new kept apart h = back_moves old t x d new apart h
   back_turned old t x (closes_cursor d) new kept apart h =
@@ -490,7 +491,7 @@ module _ (s : ℕ) (c : Bytes) where
 
   -- the commands
   back_form : (f : Form) (old : State) (t : ℕ) (x : Session) (e : Effect) (new : State) → AreKept old
-      → ((t == s) ≡ true → is_of f ≡ false) → Does f old t x e new → Back old new
+      → ((t == s) ≡ true → is_of f ≡ false) → FormDoes f old t x e new → Back old new
   back_form asking old t x e new kept apart h = back_replied t old new h.1
   back_form storing old t x e new kept apart h =
       back_then old (record old { store = h.1.store }) new (λ given finished at. at)
@@ -525,7 +526,7 @@ module _ (s : ℕ) (c : Bytes) where
   -- ---- what replies tell of the cursor
 
   abbrev Tell : State → List Bytes → Type 0
-  Tell st replies = (given : List Tuple) (finished : Bool) → position_of st s c ≡ Some (open_at given finished)
+  Tell st replies = (given : List Tuple) (finished : Bool) → session_position st s c ≡ Some (open_at given finished)
       → TellGiven replies given finished
 
   tell_back : (old new : State) (replies : List Bytes) → Back old new → Tell old replies → Tell new replies
@@ -542,7 +543,7 @@ module _ (s : ℕ) (c : Bytes) where
       let none' : cursor_of x.cursors c ≡ None = subst (λ m. cursor_of x.cursors m ≡ None) same none in
       let last : cursor_of (x.cursors ++ more ∷ []) c ≡ Some more = find_last (λ (k : Cursor). bytes_eq k.name c)
       x.cursors more none' ((bytes_eq-decides d c).1 same) in
-      let position : position_of new s c ≡ Some (open_at [] false) = ap (λ o. position_in o c) here ∙ ap
+      let position : session_position new s c ≡ Some (open_at [] false) = ap (λ o. position_in o c) here ∙ ap
       (λ o. option_map (λ (k : Cursor). k.position) o) last in
       let e : Some (open_at [] false) ≡ Some (open_at given finished) = sym position ∙ at in
       let g : [] ≡ given = cc in
@@ -579,7 +580,7 @@ module _ (s : ℕ) (c : Bytes) where
       let to = open_at (g ++ told) end in
       let move = λ (y : Session). record y { cursors = with_position y.cursors d to } in
       let there : cursor_of x.cursors c ≡ Some k = subst (λ m. cursor_of x.cursors m ≡ Some k) same is in
-      let before : position_of old s c ≡ Some (open_at g f) = ap (λ o. position_in o c) found ∙ ap
+      let before : session_position old s c ≡ Some (open_at g f) = ap (λ o. position_in o c) found ∙ ap
       (λ o. option_map (λ (z : Cursor). z.position) o) there ∙ ap (λ p. Some p) stands in
       let here : session_of new s ≡ Some (move x) = ap (λ st. session_of st s) after ∙ session_changed old s move
       (λ y. refl) ∙ ap (λ o. option_map move o) found in
@@ -589,7 +590,7 @@ module _ (s : ℕ) (c : Bytes) where
       (cursor_of x.cursors c)) (sym same)
       (find_changed (λ (z : Cursor). bytes_eq z.name c) (λ (z : Cursor). record z { position = to }) (λ z. refl)
       x.cursors) in
-      let position : position_of new s c ≡ Some to =
+      let position : session_position new s c ≡ Some to =
       ap (λ o. position_in o c) here ∙ ap (λ o. option_map (λ (z : Cursor). z.position) o)
       (moved ∙ ap (λ o. option_map (λ (z : Cursor). record z { position = to }) o) there) in
       let e : Some to ≡ Some (open_at given finished) = sym position ∙ at in
@@ -607,15 +608,15 @@ module _ (s : ℕ) (c : Bytes) where
       → Tell new (cond (not (is_misplacing (to_session s e.queued))) (replies ++ to_session s e.queued ∷ []) replies)
   next_at_told old x d k q count (stale r n) e new replies found is stands same h tell given finished at =
       let there : cursor_of x.cursors c ≡ Some k = subst (λ m. cursor_of x.cursors m ≡ Some k) same is in
-      let before : position_of new s c ≡ Some (stale r n) =
-      ap (λ st. position_of st s c) h.1 ∙ ap (λ o. position_in o c) found ∙ ap
+      let before : session_position new s c ≡ Some (stale r n) =
+      ap (λ st. session_position st s c) h.1 ∙ ap (λ o. position_in o c) found ∙ ap
       (λ o. option_map (λ (z : Cursor). z.position) o) there ∙ ap (λ w. Some w) stands in
       absurd (cc (before, at))
   next_at_told old x d k q count (open_at g f) e new replies found is stands same (inr h) tell given finished at =
       let here : session_of new s ≡ Some (ended_by Memory x) =
       ap (λ st. session_of st s) h.state ∙ session_changed old s (ended_by Memory) (λ y. refl) ∙ ap
       (λ o. option_map (ended_by Memory) o) found in
-      let none : position_of new s c ≡ None = ap (λ o. position_in o c) here in
+      let none : session_position new s c ≡ None = ap (λ o. position_in o c) here in
       absurd (cc (none, at))
   next_at_told old x d k q count (open_at g f) e new replies found is stands same (inl h) tell given finished at =
       let text = text_of (listing_lines h.told h.end) in
@@ -638,7 +639,8 @@ module _ (s : ℕ) (c : Bytes) where
       finished at
   next_told old x d count None e new replies true same found kept is h tell given finished at =
       let none : cursor_of x.cursors c ≡ None = subst (λ m. cursor_of x.cursors m ≡ None) (same_name d c same) is in
-      let before : position_of new s c ≡ None = ap (λ st. position_of st s c) h.1 ∙ ap (λ w. position_in w c) found ∙ ap
+      let before : session_position new s c ≡ None = ap (λ st. session_position st s c) h.1
+      ∙ ap (λ w. position_in w c) found ∙ ap
       (λ w. option_map (λ (z : Cursor). z.position) w) none in
       absurd (cc (before, at))
   next_told old x d count (Some k) e new replies true same found kept is h tell given finished at =
@@ -774,7 +776,7 @@ module _ (s : ℕ) (c : Bytes) where
       → ((length old.sessions < SESSIONS) × (mid ≡ record old { sessions = old.sessions ++ fresh t ∷ [] }))
       ⊎ (mid ≡ old) → Back old mid
   back_opened old mid t (inl h) given finished at = fresh_back old.sessions t given finished
-      (ap (λ st. position_of st s c) (sym h.1) ∙ at)
+      (ap (λ st. session_position st s c) (sym h.1) ∙ at)
   back_opened old mid t (inr h) given finished at = back_same old mid h given finished at
 
   back_fed : (old : State) (t : ℕ) (bytes : Bytes) (e : Effect) (mid : State) (o : Option EndCause)
@@ -819,21 +821,21 @@ module _ (s : ℕ) (c : Bytes) where
 
   back_closed : (old mid : State) (t : ℕ)
       → mid ≡ record old { sessions = filter (λ (x : Session). not (x.id == t)) old.sessions } → Back old mid
-  back_closed old mid t after given finished at = by (t == s) refl (ap (λ st. position_of st s c) (sym after) ∙ at)
+  back_closed old mid t after given finished at = by (t == s) refl (ap (λ st. session_position st s c) (sym after) ∙ at)
     where
       left : List Session
       left = filter (λ (x : Session). not (x.id == t)) old.sessions
 
       found : (o : Option Session) → find (λ (x : Session). x.id == s) left ≡ o → (t == s) ≡ false
           → position_in o c ≡ Some (open_at given finished)
-          → position_of old s c ≡ Some (open_at given finished)
+          → session_position old s c ≡ Some (open_at given finished)
       found None is ne h = absurd cc
       found (Some x) is ne h = ap (λ o. position_in o c)
           (find_kept (λ (y : Session). y.id == s) (λ (y : Session). not (y.id == t)) old.sessions x is
           (others_kept t ne)) ∙ h
 
       by : (b : Bool) → (t == s) ≡ b → position_in (find (λ (x : Session). x.id == s) left) c ≡ Some
-          (open_at given finished) → position_of old s c ≡ Some (open_at given finished)
+          (open_at given finished) → session_position old s c ≡ Some (open_at given finished)
       by false e h = found (find (λ (x : Session). x.id == s) left) refl e h
       by true e h =
           let none : find (λ (x : Session). x.id == s) left ≡ None =
@@ -892,10 +894,11 @@ pub given_is_told : GivenIsTold
 given_is_told start h s c done new w given finished at = along_told s c start done new [] w (start_sound start h)
     (λ g f here. absurd (no_cursor g f here)) given finished at
   where
-    no_cursor : (g : List Tuple) (f : Bool) → position_of start s c ≡ Some (open_at g f) → ⊥
+    no_cursor : (g : List Tuple) (f : Bool) → session_position start s c ≡ Some (open_at g f) → ⊥
     no_cursor g f here =
-        let found : position_of (record start { sessions = [] }) s c ≡ Some (open_at g f) =
-        subst (λ (xs : List Session). position_of (record start { sessions = xs }) s c ≡ Some (open_at g f)) h.none here
+        let found : session_position (record start { sessions = [] }) s c ≡ Some (open_at g f) =
+        subst (λ (xs : List Session). session_position (record start { sessions = xs }) s c
+        ≡ Some (open_at g f)) h.none here
         in
         cc found
 
@@ -931,7 +934,7 @@ listed_is_told start begins q s given done new w h =
     let session = all_found (IsSoundSession new.store) (λ (x : Session). x.id == s) new.sessions h.session
     sound.sessions h.is_session in
     let found = by_its_name (h.session).cursors h.cursor session.names h.is_cursor in
-    let at : position_of new s (h.cursor).name ≡ Some (open_at given true) =
+    let at : session_position new s (h.cursor).name ≡ Some (open_at given true) =
     ap (λ o. position_in o (h.cursor).name) h.is_session ∙ ap (λ o. option_map (λ (k : Cursor). k.position) o) found
     ∙ ap (λ p. Some p) h.is_finished in (
       given_is_told start begins s (h.cursor).name done new w given true at,

@@ -100,8 +100,8 @@ use Rattle.djq_lines.specs.Grammar.{
   one_name,
   two_names,
   name_and_count,
-  query_in,
-  nothing,
+  query_of_tokens,
+  at_line_end,
   keyword_of,
   command_behind,
   command_with,
@@ -160,7 +160,7 @@ mapped_has : {A : Type 0} (f : A → Command) → ((a : A) → HasMembers (f a))
 mapped_has f has None = tt
 mapped_has f has (Some a) = has a
 
-nothing_has : (c : Command) → HasMembers c → (ts : List Token) → MayHaveMembers (nothing c ts)
+nothing_has : (c : Command) → HasMembers c → (ts : List Token) → MayHaveMembers (at_line_end c ts)
 nothing_has c has [] = has
 nothing_has c has (t ∷ ts) = tt
 
@@ -182,7 +182,7 @@ behind_has : (k : Keyword) (ts : List Token) → MayHaveMembers (command_behind 
 behind_has RelWord ts = mapped_has (λ (p : Bytes × List ColumnType). Rel p.0 p.1) (λ p. tt) (named_some type_of ts)
 behind_has AddWord ts = mapped_has (λ (p : Bytes × Tuple). Add p.0 p.1) (λ p. tt) (named_some literal_of ts)
 behind_has DelWord ts = mapped_has (λ (p : Bytes × Tuple). Del p.0 p.1) (λ p. tt) (named_some literal_of ts)
-behind_has QueryWord ts = mapped_has (λ q. Register q) (λ q. tt) (query_in ts)
+behind_has QueryWord ts = mapped_has (λ q. Register q) (λ q. tt) (query_of_tokens ts)
 behind_has UnionWord ts = union_has ts
 behind_has DropWord ts = mapped_has (λ q. Drop q) (λ q. tt) (one_name ts)
 behind_has OpenWord ts = mapped_has (λ (p : Bytes × Bytes). Open p.0 p.1) (λ p. tt) (two_names ts)

@@ -10,8 +10,8 @@ use Rattle.djq_machine.specs.LineStep.{LineOutcome, FrontStep}
 use Rattle.djq_machine.specs.Step.{Event, fed, stepped, took, ended, Step, is_dry, FedStep, TookStep, EndedStep}
 use Rattle.djq_machine.specs.Run.{to_session, pending_of, pending_in}
 use Rattle.djq_machine.specs.Call.{IsOpen, cause_of, held_of, cause_in, held_in}
-pub use Rattle.djq_laws.specs.Moved.{Takes, Comes, is_held, out_of_memory, is_dropped, Ends}
-pub use Rattle.djq_laws.specs.Moved.{input_ends, had_ended, StepsLine, CausedBy, LeavesHeld}
+pub use Rattle.djq_laws.specs.Moved.{SessionTakes, InputComes, is_held, out_of_memory, is_dropped, InputIsOver}
+pub use Rattle.djq_laws.specs.Moved.{input_ends, had_ended, StepsLine, CausedBy, LeavesHeldBytes}
 use Rattle.djq_deltas.proofs.Cases.{some_there}
 use Rattle.djq_laws.proofs.Queueing.{stepped_open, stepped_cause, stepped_held, stepped_pending}
 use Rattle.djq_laws.proofs.Touching.{Touches, FedTo, is_held as holds, out_of_memory as runs_out}
@@ -49,7 +49,7 @@ said_pending old new s x y text line found pending same said = pending ∙ ap (�
     ∙ ap (λ p. p ++ line) (same ∙ sym (ap pending_in found))
 
 pub took_facts : (old : State) (s : ℕ) (bytes : Bytes) (e : Effect) (new : State) → Step old (took s bytes) e new
-    → Takes old new s bytes
+    → SessionTakes old new s bytes
 took_facts old s bytes e new h =
     let f = some_there (session_of old s) (λ x. TookStep old s bytes x e h.mid) h.acts in
     let t = is_taken old s bytes f.0 e h.mid f.1 f.2 in
@@ -64,7 +64,7 @@ took_facts old s bytes e new h =
     }
 
 comes : (old new : State) (s : ℕ) (bytes : Bytes) (x y : Session) (text : Bytes) → session_of old s ≡ Some x → y.pending
-    ≡ x.pending → Becomes new s y text → FedTo x y bytes text → Comes old new s bytes
+    ≡ x.pending → Becomes new s y text → FedTo x y bytes text → InputComes old new s bytes
 comes old new s bytes x y text found same b (holds running still held none) =
     is_held b.stays (ap cause_in found ∙ running) (b.cause ∙ still)
     (b.held ∙ held ∙ sym (ap (λ o. held_in o ++ bytes) found))
@@ -77,7 +77,7 @@ comes old new s bytes x y text found same b (drops c cause still held none) =
     (quiet_pending old new s x y text found b.pending same none)
 
 pub fed_facts : (old : State) (s : ℕ) (bytes : Bytes) (e : Effect) (new : State) → Step old (fed s bytes) e new
-    → Comes old new s bytes
+    → InputComes old new s bytes
 fed_facts old s bytes e new h =
     let f = some_there (session_of old s) (λ x. FedStep old s bytes x e h.mid) h.acts in
     let t = is_fed old s bytes f.0 e h.mid f.1 f.2 in
@@ -85,7 +85,7 @@ fed_facts old s bytes e new h =
     (becomes old (fed s bytes) e new h s f.0 t.session t.touches) t.fed
 
 ends : (old new : State) (s : ℕ) (x y : Session) (text : Bytes) → session_of old s ≡ Some x → y.pending ≡ x.pending
-    → y.held ≡ x.held → Becomes new s y text → EndedTo x y text → Ends old new s
+    → y.held ≡ x.held → Becomes new s y text → EndedTo x y text → InputIsOver old new s
 ends old new s x y text found same held b (ends_input running so dry (inl none)) =
     input_ends b.stays (ap cause_in found ∙ running) (b.cause ∙ so) (b.held ∙ held ∙ sym (ap held_in found))
     (ap (λ o. is_dry (held_in o)) found ∙ dry)
@@ -98,7 +98,7 @@ ends old new s x y text found same held b (had c cause still none) =
     had_ended b.stays c (ap cause_in found ∙ cause) (b.cause ∙ still) (b.held ∙ held ∙ sym (ap held_in found))
     (quiet_pending old new s x y text found b.pending same none)
 
-pub ended_facts : (old : State) (s : ℕ) (e : Effect) (new : State) → Step old (ended s) e new → Ends old new s
+pub ended_facts : (old : State) (s : ℕ) (e : Effect) (new : State) → Step old (ended s) e new → InputIsOver old new s
 ended_facts old s e new h =
     let f = some_there (session_of old s) (λ x. EndedStep old s x e h.mid) h.acts in
     let t = is_ended old s f.0 e h.mid f.1 f.2 in
@@ -115,6 +115,6 @@ stepped_facts old s outcome e new h =
       stays = b.stays;
       running = ap cause_in f.1 ∙ f.2.0;
       cause = subst (λ (c : Option EndCause). CausedBy outcome c) (sym b.cause) t.cause;
-      held = subst (λ (bytes : Bytes). LeavesHeld outcome (held_of old s) bytes) (sym b.held)
-          (subst (λ (bytes : Bytes). LeavesHeld outcome bytes (t.session).held) (sym (ap held_in f.1)) t.held);
+      held = subst (λ (bytes : Bytes). LeavesHeldBytes outcome (held_of old s) bytes) (sym b.held)
+          (subst (λ (bytes : Bytes). LeavesHeldBytes outcome bytes (t.session).held) (sym (ap held_in f.1)) t.held);
     }

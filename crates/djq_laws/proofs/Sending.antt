@@ -10,7 +10,7 @@ use Rattle.djq_machine.specs.Effect.{Effect, nothing}
 use Rattle.djq_machine.specs.LineStep.{FrontStep}
 use Rattle.djq_machine.specs.Step.{Event, opened, fed, stepped, took, ended, closed, FedStep}
 use Rattle.djq_machine.specs.Step.{TookStep, EndedStep, Acts, Step}
-use Rattle.djq_machine.specs.Run.{Did, Walk, Run, out, to_session, all_taken, taken_by, pending_of, pending_in}
+use Rattle.djq_machine.specs.Run.{Did, Walk, Run, out, to_session, all_taken, taken_from, pending_of, pending_in}
 use Rattle.djq_machine.specs.Call.{IsOpen}
 use Rattle.djq_machine.proofs.Walks.{walk_as}
 use Rattle.djq_laws.specs.Course.{RunNext, MayRun}
@@ -227,7 +227,7 @@ run_bytes t old (d ∷ done) new w =
     ∙ append_assoc (pending_of old t) queued (out t done)
 
 -- under `run` nothing is closed
-next_taken : (st : State) (event : Event) → MayRun st event → gone_by 1 event ≡ taken_by 1 event
+next_taken : (st : State) (event : Event) → MayRun st event → gone_by 1 event ≡ taken_from 1 event
 next_taken st (opened s) h = refl
 next_taken st (fed s bytes) h = refl
 next_taken st (stepped s outcome) h = refl
@@ -239,7 +239,7 @@ pub gone_taken : (old : State) (done : List Did) (new : State) → Walk RunNext 
     ≡ all_taken 1 done
 gone_taken old [] new w = refl
 gone_taken old (d ∷ done) new w = ap (λ g. g ++ all_gone 1 done) (next_taken old d.event w.1.0)
-    ∙ ap (λ g. taken_by 1 d.event ++ g) (gone_taken w.0 done new w.2)
+    ∙ ap (λ g. taken_from 1 d.event ++ g) (gone_taken w.0 done new w.2)
 
 pub next_runs : (old : State) (done : List Did) (new : State) → Walk RunNext old done new → Run old done new
 next_runs old done new w = walk_as RunNext (λ (o : State) (d : Did) (n : State). Step o d.event d.effect n)

@@ -25,10 +25,10 @@ use Rattle.djq_machine.specs.Step.{Event, opened, fed, stepped, took, ended, clo
 use Rattle.djq_machine.specs.Step.{FedStep, TookStep, EndedStep, Acts, Step}
 use Rattle.djq_machine.specs.Run.{Did, to_session}
 use Rattle.djq_machine.proofs.Walks.{walk_keeps}
-use Rattle.djq_laws.specs.Form.{Form, asking, storing, turning, changing, ending, form_of, SaysAlone, Does}
+use Rattle.djq_laws.specs.Form.{Form, asking, storing, turning, changing, ending, form_of, SaysAlone, FormDoes}
 use Rattle.djq_laws.specs.Sent.{opened_by, all_opened}
 use Rattle.djq_laws.specs.Sound.{IsSoundSession, IsSoundState}
-use Rattle.djq_laws.specs.Silent.{IsOver, OpensNone, OverIsSilent, OverOnce}
+use Rattle.djq_laws.specs.Silent.{SessionIsOver, OpensNone, OverIsSilent, OverOnce}
 use Rattle.djq_deltas.proofs.Cases.{some_there}
 use Rattle.djq_laws.proofs.Queueing.{gaining, session_other, queued_all, stepped as stepped_session}
 use Rattle.djq_laws.proofs.Alike.{CauseKept, AlikeFound}
@@ -50,7 +50,7 @@ Over o = IfSome o (λ x. IsSome x.cause)
 abbrev Deaf : Option Session → Type 0
 Deaf o = IfSome o (λ x. x.watches ≡ [])
 
-to_over : (st : State) (s : ℕ) → IsOver st s → Over (session_of st s)
+to_over : (st : State) (s : ℕ) → SessionIsOver st s → Over (session_of st s)
 to_over st s over = by (session_of st s) over
   where
     by_cause : (c : Option EndCause) → (c ≡ None → ⊥) → IsSome c
@@ -61,7 +61,7 @@ to_over st s over = by (session_of st s) over
     by None h = tt
     by (Some x) h = by_cause x.cause h
 
-from_over : (st : State) (s : ℕ) → Over (session_of st s) → IsOver st s
+from_over : (st : State) (s : ℕ) → Over (session_of st s) → SessionIsOver st s
 from_over st s over goes = by (session_of st s) over goes
   where
     not_none : (c : Option EndCause) → IsSome c → c ≡ None → ⊥
@@ -207,7 +207,7 @@ module _ (s : ℕ) where
   deaf_other old t f id apart deaf = subst (λ (o : Option Session). Deaf o) (sym (session_other old t s f id apart))
       deaf
 
-  form_quiet : (f : Form) (old : State) (t : ℕ) (x : Session) (e : Effect) (new : State) → Does f old t x e new
+  form_quiet : (f : Form) (old : State) (t : ℕ) (x : Session) (e : Effect) (new : State) → FormDoes f old t x e new
       → (t == s) ≡ false → Deaf (session_of old s) → to_session s e.queued ≡ []
   form_quiet asking old t x e new h apart deaf = quiet_alone t e apart h.0
   form_quiet storing old t x e new h apart deaf = quiet_alone t e apart h.0
@@ -418,7 +418,7 @@ over_gained bytes (Some x) h = h
 
 pub step_over : (s : ℕ) (old : State) (event : Event) (e : Effect) (new : State) → Step old event e new
     → IsSoundState old
-    → OpensNone s event → IsOver old s → (to_session s e.queued ≡ []) × IsOver new s
+    → OpensNone s event → SessionIsOver old s → (to_session s e.queued ≡ []) × SessionIsOver new s
 step_over s old event e new h sound none over =
     let was = to_over old s over in
     let k = acts_over s old event e h.mid h.acts none was (to_deaf old s sound was) in (
@@ -429,7 +429,7 @@ step_over s old event e new h sound none over =
 
 -- a session that is closed isn't open
 pub closed_is_over : (old : State) (s : ℕ) (bytes : Bytes) (e : Effect) (new : State) → Step old (closed s bytes) e new
-    → IsOver new s
+    → SessionIsOver new s
 closed_is_over old s bytes e new h =
     from_over new s
     (subst (λ (o : Option Session). Over o)
@@ -439,7 +439,7 @@ closed_is_over old s bytes e new h =
 
 pub over_is_silent : OverIsSilent
 over_is_silent s old sound over [] new w none =
-    record { silent = refl; over = subst (λ (st : State). IsOver st s) (sym w) over }
+    record { silent = refl; over = subst (λ (st : State). SessionIsOver st s) (sym w) over }
 over_is_silent s old sound over (d ∷ done) new w none =
     let first = step_over s old d.event d.effect w.0 w.1 sound (All-head (λ (c : Did). OpensNone s c.event) d done none)
     over in

@@ -122,12 +122,12 @@ use Rattle.djq_laws.specs.Form.{
   drops_query,
   in_use,
   without_cursor,
-  Turned,
-  Changed,
+  SessionTurned,
+  RowsChanged,
   DoesTurn,
   is_turned,
   is_refused,
-  Does,
+  FormDoes,
 }
 use Rattle.djq_deltas.proofs.Cases.{some_there}
 use Rattle.djq_laws.proofs.Forms.{command_does, Reads, turned_down, carried_out, line_reads}
@@ -426,7 +426,7 @@ form_for x batch l c is said = tt
 
 -- What a turn makes of a session.
 turned_kept : (old : State) (s : ℕ) (x : Session) (t : Turn) (new : State) → session_of old s ≡ Some x
-    → x.cause ≡ None → IsFor x (turning t) → Turned old s x t new → AreKept old → AreKept new
+    → x.cause ≡ None → IsFor x (turning t) → SessionTurned old s x t new → AreKept old → AreKept new
 turned_kept old s x (opens_cursor c q) new found runs fits h k =
     let more : Cursor = record { name = c; query = q; position = open_at [] false } in
     session_runs old new s x (with_cursor c q) found h.2 (λ g. record {
@@ -515,7 +515,7 @@ rows_suit store x (rows_come held) fits g =
     (subst (λ (o : Option (List HeldRow)). IfSome o (IsSoundBatch store)) fits g.batch).suit
 
 rows_kept : (old : State) (s : ℕ) (x : Session) (c : RowCommand) (e : Effect) (new : State)
-    → session_of old s ≡ Some x → IsFor x (changing c) → Changed old s c e new → AreKept old → AreKept new
+    → session_of old s ≡ Some x → IsFor x (changing c) → RowsChanged old s c e new → AreKept old → AreKept new
 rows_kept old s x c e new found fits h k =
     let d = rows_do old s c e new h in
     let suit = rows_suit old.store x c fits
@@ -527,7 +527,7 @@ rows_kept old s x c e new found fits h k =
     (session_kept old (begun old s c) s (closing c) refl (λ y here g. closing_kept c old.store y g) k))
 
 form_kept : (f : Form) (old : State) (s : ℕ) (x : Session) (e : Effect) (new : State) → session_of old s ≡ Some x
-    → x.cause ≡ None → IsFor x f → Does f old s x e new → AreKept old → AreKept new
+    → x.cause ≡ None → IsFor x f → FormDoes f old s x e new → AreKept old → AreKept new
 form_kept asking old s x e new found runs fits h k = replied_kept s old new h.1 k
 form_kept storing old s x e new found runs fits h k =
     replied_kept s (record old { store = h.1.store }) new h.1.replied (stored_kept old h.1.store h.1.stored k)

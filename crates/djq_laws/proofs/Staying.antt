@@ -64,11 +64,11 @@ use Rattle.djq_machine.specs.Call.{IsOpen, cause_of, cause_in}
 use Rattle.djq_laws.specs.Moved.{
   EndsByRun,
   SparesSession,
-  Comes,
+  InputComes,
   is_held,
   out_of_memory,
   is_dropped,
-  Ends,
+  InputIsOver,
   input_ends,
   had_ended,
 }
@@ -102,13 +102,13 @@ use Rattle.djq_laws.specs.Form.{
   drops_query,
   in_use,
   without_cursor,
-  Turned,
-  Changed,
+  SessionTurned,
+  RowsChanged,
   DoesStore,
   DoesTurn,
   is_turned,
   is_refused,
-  Does,
+  FormDoes,
 }
 use Rattle.djq_laws.proofs.Finding.{and_some}
 use Rattle.djq_deltas.proofs.Cases.{some_there}
@@ -272,7 +272,7 @@ module _ (q : Listed) (s : ℕ) (old : State) (registered : listed_of old.store.
 
   by_turn : (t : ℕ) (x : Session) (turn : Turn) (new : State)
       → ((t == s) ≡ true → turn ≡ stops_watching (listed_name q) → ⊥)
-      → Turned old t x turn new → Stays q s new
+      → SessionTurned old t x turn new → Stays q s new
   by_turn t x (opens_cursor c p) new not_it h = by_session t (with_cursor c p) new (λ y. refl) (λ b y k. k) h.2
   by_turn t x (moves_cursor c) new not_it h = by_session t _ new (λ y. refl) (λ b y k. k) h.state
   by_turn t x (closes_cursor c) new not_it h = by_session t (without_cursor c) new (λ y. refl) (λ b y k. k) h
@@ -295,7 +295,7 @@ module _ (q : Listed) (s : ℕ) (old : State) (registered : listed_of old.store.
 
 by_rows : (q : Listed) (s : ℕ) (old : State) → listed_of old.store.queries (listed_name q) ≡ Some q
     → Watches (listed_name q) (session_of old s)
-    → (t : ℕ) (c : RowCommand) (e : Effect) (new : State) → Changed old t c e new → Stays q s new
+    → (t : ℕ) (c : RowCommand) (e : Effect) (new : State) → RowsChanged old t c e new → Stays q s new
 by_rows q s old registered watches t c e new h =
     let d = rows_do old t c e new h in
     by_change q s (begun old t c) registered (watches_begun (listed_name q) old t c s watches) t d.outcome d.store
@@ -312,7 +312,7 @@ module _ (q : Listed) (s : ℕ) (old : State) (registered : listed_of old.store.
     (watches : Watches (listed_name q) (session_of old s)) where
   by_form : (f : Form) (t : ℕ) (x : Session) (e : Effect) (new : State) → IsOpen old t
       → ((t == s) ≡ true → f ≡ turning (stops_watching (listed_name q)) → ⊥)
-      → Does f old t x e new → Stays q s new
+      → FormDoes f old t x e new → Stays q s new
   by_form asking t x e new there not_it h = by_reply q s old registered watches t new there h.1
   by_form storing t x e new there not_it h = by_storing q s old registered watches t new there h.1
   by_form (turning turn) t x e new there not_it h =
@@ -494,13 +494,13 @@ other_none : (old : State) (t : ℕ) (x : Session) (e : Effect) (mid : State) (y
 other_none old t x e mid y s apart h none = kept_none (cause_of old s) (cause_of mid s)
     (alike_cause AnyCause (session_of old s) (session_of mid s) (h.others s apart)) none
 
-fed_none : (old new : State) (s : ℕ) (bytes : Bytes) → Comes old new s bytes → cause_of old s
+fed_none : (old new : State) (s : ℕ) (bytes : Bytes) → InputComes old new s bytes → cause_of old s
     ≡ None ⊎ ((c : EndCause) × (cause_of new s ≡ Some c))
 fed_none old new s bytes (is_held there before now held pending) = inl before
 fed_none old new s bytes (out_of_memory there before now held pending) = inl before
 fed_none old new s bytes (is_dropped there c before now held pending) = inr (c, now)
 
-ended_none : (old new : State) (s : ℕ) → Ends old new s → cause_of old s
+ended_none : (old new : State) (s : ℕ) → InputIsOver old new s → cause_of old s
     ≡ None ⊎ ((c : EndCause) × (cause_of new s ≡ Some c))
 ended_none old new s (input_ends there before now held dry pending) = inl before
 ended_none old new s (had_ended there c before now held pending) = inr (c, now)

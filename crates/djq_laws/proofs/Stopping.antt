@@ -33,7 +33,7 @@ use Rattle.djq_machine.specs.Step.{
   with_relations,
 }
 use Rattle.djq_laws.specs.Form.{Form, asking, storing, turning, changing, ending, form_of}
-use Rattle.djq_laws.specs.Form.{Turn, Replied, is_whole, is_cut, DoesTurn, is_turned, is_refused, Does}
+use Rattle.djq_laws.specs.Form.{Turn, Replied, is_whole, is_cut, DoesTurn, is_turned, is_refused, FormDoes}
 use Rattle.djq_laws.specs.Stopping.{KeptSaysNoStop}
 use Rattle.djq_deltas.proofs.Cases.{some_there}
 use Rattle.djq_laws.proofs.Forms.{turned_one, command_does, Reads, turned_down, carried_out, line_reads}
@@ -124,7 +124,7 @@ IsNoEnding ending = ⊥
 IsNoEnding _ = Unit {0}
 
 form_stopped : (f : Form) (old : State) (s : ℕ) (x : Session) (e : Effect) (new : State) → IsNoEnding f
-    → Does f old s x e new → new.stopped ≡ old.stopped
+    → FormDoes f old s x e new → new.stopped ≡ old.stopped
 form_stopped asking old s x e new other h = replied_stopped s old new h.1
 form_stopped storing old s x e new other h =
     replied_stopped s (record old { store = (h.1).store }) new (h.1).replied

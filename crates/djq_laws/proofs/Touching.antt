@@ -29,7 +29,7 @@ use Rattle.djq_machine.specs.Effect.{Effect, nothing, says, EndsWith}
 use Rattle.djq_machine.specs.LineStep.{LineOutcome, long, blank, slow, no_room, run, FrontStep, behind_line}
 use Rattle.djq_machine.specs.Step.{is_dry, FedStep, TookStep, EndedStep}
 use Rattle.djq_machine.specs.Run.{to_session}
-use Rattle.djq_laws.specs.Moved.{EndsByRun, CausedBy, LeavesHeld}
+use Rattle.djq_laws.specs.Moved.{EndsByRun, CausedBy, LeavesHeldBytes}
 use Rattle.djq_laws.proofs.Queueing.{session_changed, session_other}
 use Rattle.djq_laws.proofs.Alike.{
   ToOpen,
@@ -225,7 +225,7 @@ pub record Stepped (old : State) (s : ℕ) (x : Session) (outcome : LineOutcome)
   pub session : Session
   pub touches : Touches old s x e mid session
   pub pending : session.pending ≡ x.pending
-  pub held : LeavesHeld outcome x.held session.held
+  pub held : LeavesHeldBytes outcome x.held session.held
   pub cause : CausedBy outcome session.cause
 
 weaken : (May : EndCause → Type 0) (o p : Option Session) → AlikeFound May o p → AlikeFound AnyCause o p
@@ -294,7 +294,7 @@ kept_run a (Some c) none (inr h) = h
 -- a session that ends behind its line
 ends_behind : (old : State) (s : ℕ) (x : Session) (outcome : LineOutcome) (rest text : Bytes) (cause : EndCause)
     (e : Effect) (mid : State) → session_of old s ≡ Some x
-    → EndsWith text cause (with_session old s (behind_line rest)) s e mid → LeavesHeld outcome x.held rest
+    → EndsWith text cause (with_session old s (behind_line rest)) s e mid → LeavesHeldBytes outcome x.held rest
     → CausedBy outcome (Some cause) → Stepped old s x outcome e mid
 ends_behind old s x outcome rest text cause e mid found h held caused =
     let between = with_session old s (behind_line rest) in

@@ -16,7 +16,7 @@ use Rattle.djq_machine.specs.Run.{Did, to_session, out}
 use Rattle.djq_deltas.proofs.Lists.{nothing_there, first_or_later, kept_there, mapped_there}
 use Rattle.djq_laws.specs.Added.{added_up}
 use Rattle.djq_laws.specs.Watched.{WatchesAlong, event_changes, number_by, numbers_along, parts_for}
-use Rattle.djq_laws.specs.Watched.{parts_to, AreAmong, Told, told_text, IsTold, WatchersHaveAnswers}
+use Rattle.djq_laws.specs.Watched.{parts_to, AreAmong, Told, told_text, DeltasAreTold, WatchersHaveAnswers}
 use Rattle.djq_laws.proofs.Answering.{SameAnswers}
 use Rattle.djq_laws.proofs.Adding.{deltas_add_up}
 use Rattle.djq_laws.proofs.Watching.{StepTells, is_quiet, is_told, step_tells}
@@ -137,7 +137,7 @@ listing_stays old new q ts same h = record {
 told_more : (q : Listed) (s : ℕ) (old : State) (d : Did) (done : List Did) (new : State)
     (walk : WatchesAlong q s old (d ∷ done) new)
     → StepTells q s old.store walk.0.store d.effect.queued (event_changes q old d.event)
-    → IsTold q s walk.0 done new walk.2 → IsTold q s old (d ∷ done) new walk
+    → DeltasAreTold q s walk.0 done new walk.2 → DeltasAreTold q s old (d ∷ done) new walk
 told_more q s old d done new walk (is_quiet same seq) h = record {
   told = h.told;
   whole = parts_out s (d ∷ done);

@@ -67,11 +67,11 @@ use Rattle.djq_laws.specs.Form.{
   registers,
   drops_query,
   in_use,
-  Changed,
+  RowsChanged,
   DoesTurn,
   is_turned,
   is_refused,
-  Does,
+  FormDoes,
 }
 use Rattle.djq_laws.proofs.Finding.{and_some}
 use Rattle.djq_deltas.proofs.Cases.{some_there}
@@ -196,7 +196,7 @@ module _ (q : Listed) (s : ℕ) (old : State) (registered : listed_of old.store.
 
 module _ (q : Listed) (s : ℕ) (old : State) (registered : listed_of old.store.queries (listed_name q) ≡ Some q)
     (watches : Watches (listed_name q) (session_of old s)) where
-  rows_tell : (c : RowCommand) (t : ℕ) (e : Effect) (new : State) → cause_of new s ≡ None → Changed old t c e new
+  rows_tell : (c : RowCommand) (t : ℕ) (e : Effect) (new : State) → cause_of new s ≡ None → RowsChanged old t c e new
       → StepTells q s old.store new.store e.queued (is_some (outdater_by old.store c q))
   rows_tell c t e new running h =
       let d = rows_do old t c e new h in
@@ -206,7 +206,7 @@ module _ (q : Listed) (s : ℕ) (old : State) (registered : listed_of old.store.
       d.reply e new running d.made d.change)
 
   form_tells : (f : Form) (t : ℕ) (x : Session) (e : Effect) (new : State) → cause_of new s ≡ None
-      → Does f old t x e new → StepTells q s old.store new.store e.queued (is_some (form_outdater old.store f q))
+      → FormDoes f old t x e new → StepTells q s old.store new.store e.queued (is_some (form_outdater old.store f q))
   form_tells asking t x e new running h = same_store q s e.queued false old new (replied_store t old new h.1)
   form_tells storing t x e new running h =
       subst (λ (st : Store). StepTells q s old.store st e.queued false)

@@ -60,7 +60,7 @@ times_held (h ∷ hs) name row =
 
 -- Each row has as many copies more as a batch holds it; where a row of the batch wasn't there, one
 -- change is counted.
-pub record LeavesHeld (old : Store) (held : List HeldRow) (new : Store) : Type 0 where
+pub record LeavesHeldRows (old : Store) (held : List HeldRow) (new : Store) : Type 0 where
   pub each : (name : Bytes) (row : Tuple)
       → copies_of new name row ≡ copies_of old name row + times_held held name row
   pub counted : new.seq ≡ (if list_all (is_there old) held then old.seq else old.seq + 1)
@@ -68,4 +68,4 @@ pub record LeavesHeld (old : Store) (held : List HeldRow) (new : Store) : Type 0
 -- So it is where a `done` is done.
 abbrev pub AddsHeld : Type 0
 AddsHeld = (old : Store) (held : List HeldRow) → SuitAll old held → (n : ℕ) (new : Store)
-    → AddsBatch old held (Ok n) new → LeavesHeld old held new
+    → AddsBatch old held (Ok n) new → LeavesHeldRows old held new

@@ -1,7 +1,7 @@
 -- A course of the program under the words `run`: one session, from a source to a sink.
 use Rattle.std.specs.Prelude.{ℕ, List, [], ◌∷◌, ◌++◌, ◌≡◌, ◌+◌, ◌<◌, ◌≤◌, Bool, true, false, Option}
 use Rattle.std.specs.Prelude.{None, IsSomeAnd, length}
-use Rattle.djq_io.specs.Source.{Reading, Gives}
+use Rattle.djq_io.specs.Source.{SourceReading, SourceGives}
 use Rattle.djq_io.specs.Sink.{Gains}
 use Rattle.djq_io.specs.declared.sink.Write.{Write}
 use Rattle.djq_io.specs.declared.sink.Wrote.TheVariants.{Took, Failed}
@@ -40,10 +40,10 @@ writes_by st (took s bytes) = record { piece = pending_of st 1; answer = Took (l
 writes_by st _ = []
 
 -- From one state to another `run` did these things, one after another, by these writes.
-abbrev pub Does : State → List Did → List Write → State → Type 0
-Does old [] writes new = (new ≡ old) × (writes ≡ [])
-Does old (d ∷ done) writes new = (mid : State) × RunNext old d mid × (later : List Write)
-    × (writes ≡ writes_by old d.event ++ later) × Does mid done later new
+abbrev pub RunDoes : State → List Did → List Write → State → Type 0
+RunDoes old [] writes new = (new ≡ old) × (writes ≡ [])
+RunDoes old (d ∷ done) writes new = (mid : State) × RunNext old d mid × (later : List Write)
+    × (writes ≡ writes_by old d.event ++ later) × RunDoes mid done later new
 
 -- The write that failed behind all that was done, where one did: it was offered all that is pending.
 abbrev pub last_write : Bool → State → List Write
@@ -53,14 +53,14 @@ last_write true st = record { piece = pending_of st 1; answer = Failed } ∷ []
 -- All that the outside of the program shows: the source's bytes and pieces and its faults, the
 -- sink's writes and its faults, and what was counted.
 pub record Outside : Type 0 where
-  pub reading : Option Reading
+  pub reading : Option SourceReading
   pub read_faults : ℕ
   pub writing : Option (List Write)
   pub write_faults : ℕ
   pub counted : Counts
 
 -- the outside, of its parts
-abbrev pub outside : Option Reading → ℕ → Option (List Write) → ℕ → Counts → Outside
+abbrev pub outside : Option SourceReading → ℕ → Option (List Write) → ℕ → Counts → Outside
 outside reading read_faults writing write_faults counted =
     record {
       reading = reading;
@@ -78,9 +78,9 @@ outside reading read_faults writing write_faults counted =
 pub record Course (start : State) (before now : Outside) (state : State) : Type 0 where
   pub done : List Did
   pub writes : List Write
-  pub does : Does start done writes state
+  pub does : RunDoes start done writes state
   -- whether a write failed
   pub failed : Bool
-  pub read : Gives before.reading now.reading (pieces_of done)
+  pub read : SourceGives before.reading now.reading (pieces_of done)
   pub written : Gains before.writing now.writing (writes ++ last_write failed state)
   pub listing : now.counted.listing ≤ before.counted.listing + cost_of done

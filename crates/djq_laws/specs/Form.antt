@@ -191,7 +191,7 @@ abbrev pub in_use : State → Bytes → Bool
 in_use st q = list_any (uses q) st.sessions
 
 -- A cursor of a session has given further answers.
-pub record MovesCursor (old : State) (s : ℕ) (x : Session) (c : Bytes) (new : State) : Type 0 where
+pub record CursorMoves (old : State) (s : ℕ) (x : Session) (c : Bytes) (new : State) : Type 0 where
   pub cursor : Cursor
   pub is : cursor_of x.cursors c ≡ Some cursor
   pub query : Listed
@@ -220,23 +220,23 @@ pub record HoldsRow (old : State) (s : ℕ) (x : Session) (l name : Bytes) (row 
       (with_batch (held ++ record { line = l; relation = name; row = row } ∷ []))
 
 -- What a turn makes of a session.
-abbrev pub Turned : State → ℕ → Session → Turn → State → Type 0
-Turned old s x (opens_cursor c q) new = (cursor_of x.cursors c ≡ None)
+abbrev pub SessionTurned : State → ℕ → Session → Turn → State → Type 0
+SessionTurned old s x (opens_cursor c q) new = (cursor_of x.cursors c ≡ None)
     × IsSome (listed_of old.store.queries q) × (new ≡ with_session old s (with_cursor c q))
-Turned old s x (moves_cursor c) new = MovesCursor old s x c new
-Turned old s x (closes_cursor c) new = new ≡ with_session old s (without_cursor c)
-Turned old s x (starts_watching q) new =
+SessionTurned old s x (moves_cursor c) new = CursorMoves old s x c new
+SessionTurned old s x (closes_cursor c) new = new ≡ with_session old s (without_cursor c)
+SessionTurned old s x (starts_watching q) new =
     IsSome (listed_of old.store.queries q) × (new ≡ with_session old s (with_watch q))
-Turned old s x (stops_watching q) new = new ≡ with_session old s (without_watch q)
-Turned old s x opens_batch new = new ≡ with_session old s (with_batch [])
-Turned old s x (holds_row l name row) new = HoldsRow old s x l name row new
-Turned old s x closes_batch new = new ≡ with_session old s without_batch
+SessionTurned old s x (stops_watching q) new = new ≡ with_session old s (without_watch q)
+SessionTurned old s x opens_batch new = new ≡ with_session old s (with_batch [])
+SessionTurned old s x (holds_row l name row) new = HoldsRow old s x l name row new
+SessionTurned old s x closes_batch new = new ≡ with_session old s without_batch
 
 -- What a command of rows makes of a state.
-abbrev pub Changed : State → ℕ → RowCommand → Effect → State → Type 0
-Changed old s (row_comes name row) e new = AddStep old s name row e new
-Changed old s (row_goes name row) e new = DeleteStep old s name row e new
-Changed old s (rows_come held) e new = DoneStep old s held e new
+abbrev pub RowsChanged : State → ℕ → RowCommand → Effect → State → Type 0
+RowsChanged old s (row_comes name row) e new = AddStep old s name row e new
+RowsChanged old s (row_goes name row) e new = DeleteStep old s name row e new
+RowsChanged old s (rows_come held) e new = DoneStep old s held e new
 
 -- A command of the store is told, once it is done.
 pub record DoesStore (old : State) (s : ℕ) (new : State) : Type 0 where
@@ -246,7 +246,7 @@ pub record DoesStore (old : State) (s : ℕ) (new : State) : Type 0 where
 
 -- A command of a session is done, or nothing changes but that its session may end.
 pub data DoesTurn (old : State) (s : ℕ) (x : Session) (t : Turn) (new : State) : Type 0 where
-  is_turned : Turned old s x t new → DoesTurn old s x t new
+  is_turned : SessionTurned old s x t new → DoesTurn old s x t new
   is_refused : Replied s old new → DoesTurn old s x t new
 
 -- A session ends, and the server stops with it or not.
@@ -257,9 +257,9 @@ pub record DoesEnd (old : State) (s : ℕ) (new : State) : Type 0 where
   pub state : new ≡ with_session (record old { stopped = stopped }) s (ended_by cause)
 
 -- What a command of a form does.
-abbrev pub Does : Form → State → ℕ → Session → Effect → State → Type 0
-Does asking old s x e new = SaysAlone s e × Replied s old new
-Does storing old s x e new = SaysAlone s e × DoesStore old s new
-Does (turning t) old s x e new = SaysAlone s e × DoesTurn old s x t new
-Does (changing c) old s x e new = Changed old s c e new
-Does ending old s x e new = SaysAlone s e × DoesEnd old s new
+abbrev pub FormDoes : Form → State → ℕ → Session → Effect → State → Type 0
+FormDoes asking old s x e new = SaysAlone s e × Replied s old new
+FormDoes storing old s x e new = SaysAlone s e × DoesStore old s new
+FormDoes (turning t) old s x e new = SaysAlone s e × DoesTurn old s x t new
+FormDoes (changing c) old s x e new = RowsChanged old s c e new
+FormDoes ending old s x e new = SaysAlone s e × DoesEnd old s new

@@ -97,14 +97,15 @@ position_in None c = None
 position_in (Some x) c = position_among x.cursors c
 
 -- where a session's cursor of a name stands; none where it has no such cursor
-abbrev pub position_of : State → ℕ → Bytes → Option Position
-position_of st s c = position_in (session_of st s) c
+abbrev pub session_position : State → ℕ → Bytes → Option Position
+session_position st s c = position_in (session_of st s) c
 
 -- What an open cursor has given is what its session was told since it opened it: so it is along
 -- every run from a state to start from.
 abbrev pub GivenIsTold : Type 0
 GivenIsTold = (start : State) → IsStart start → (s : ℕ) (c : Bytes) (done : List Did) (new : State)
-    → Run start done new → (given : List Tuple) (finished : Bool) → position_of new s c ≡ Some (open_at given finished)
+    → Run start done new → (given : List Tuple) (finished : Bool)
+    → session_position new s c ≡ Some (open_at given finished)
     → TellGiven (replies_since s c [] done) given finished
 
 -- A session that has listed a query was told the listing, since it opened the cursor: each answer

@@ -42,13 +42,13 @@ abbrev pub all_opened : List Did → List ℕ
 all_opened done = flat_map (λ d. opened_by d.event) done
 
 -- The ids of the sessions that are open, and then of those that open, rise. So none opens twice.
-abbrev pub OpensOnce : State → List Did → Type 0
-OpensOnce old done = AllPairs (λ s t. s < t) (state_ids old ++ all_opened done)
+abbrev pub SessionsOpenOnce : State → List Did → Type 0
+SessionsOpenOnce old done = AllPairs (λ s t. s < t) (state_ids old ++ all_opened done)
 
 -- Along every run in which no session opens twice, what was taken of a session's bytes, then what
 -- was dropped as it closed, and then what is pending, is what was pending and all that was queued
 -- to it. So what was taken is a first part of that.
 abbrev pub SentInOrder : Type 0
 SentInOrder = (s : ℕ) (old : State) (done : List Did) (new : State) → Run old done new
-    → OpensOnce old done
+    → SessionsOpenOnce old done
     → all_taken s done ++ (all_dropped s done ++ pending_of new s) ≡ pending_of old s ++ out s done

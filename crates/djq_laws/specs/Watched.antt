@@ -111,7 +111,7 @@ all_added_up ts (t ∷ more) = all_added_up (added_up ts t.changes) more
 -- Along a run in which a session watches a query it is told a delta for each accepted change of a
 -- relation that the query reads, by rising number: their lines are parts of all that is queued to
 -- it. They add up from any listing of the answers at the start to a listing of those at the end.
-pub record IsTold (q : Listed) (s : ℕ) (old : State) (done : List Did) (new : State)
+pub record DeltasAreTold (q : Listed) (s : ℕ) (old : State) (done : List Did) (new : State)
     (walk : WatchesAlong q s old done new) : Type 0 where
   pub told : List Told
   pub whole : flat_map (λ part. part) (parts_to s done) ≡ out s done
@@ -124,4 +124,4 @@ pub record IsTold (q : Listed) (s : ℕ) (old : State) (done : List Did) (new : 
 -- So it is from any state on, whatever the other sessions do.
 abbrev pub WatchersHaveAnswers : Type 0
 WatchersHaveAnswers = (q : Listed) (s : ℕ) (old : State) (done : List Did) (new : State)
-    (walk : WatchesAlong q s old done new) → IsTold q s old done new walk
+    (walk : WatchesAlong q s old done new) → DeltasAreTold q s old done new walk

@@ -249,9 +249,9 @@ query_of name (Some head) = option_map (λ body. record {
 }) (body_in head.1)
 
 -- a query to the line's end: its name, its head and its body
-abbrev pub query_in : List Token → Option Query
-query_in (word n ∷ ts) = if is_name n then query_of n (list_in name_of ts) else None
-query_in _ = None
+abbrev pub query_of_tokens : List Token → Option Query
+query_of_tokens (word n ∷ ts) = if is_name n then query_of n (list_in name_of ts) else None
+query_of_tokens _ = None
 
 -- What stands behind a keyword.
 
@@ -286,20 +286,20 @@ abbrev pub is_count : ℕ → Bool
 is_count k = nat_le 1 k && nat_le k NEXT_COUNT
 
 -- a number, where it is a count of answers
-abbrev pub count_of : Option ℕ → Option ℕ
-count_of (Some k) = if is_count k then Some k else None
-count_of None = None
+abbrev pub answer_count : Option ℕ → Option ℕ
+answer_count (Some k) = if is_count k then Some k else None
+answer_count None = None
 
 -- a name and a count
 abbrev pub name_and_count : List Token → Option (Bytes × ℕ)
 name_and_count (word c ∷ word k ∷ []) =
-    if is_name c then option_map (λ n. (c, n)) (count_of (natural_of k)) else None
+    if is_name c then option_map (λ n. (c, n)) (answer_count (natural_of k)) else None
 name_and_count _ = None
 
 -- nothing
-abbrev pub nothing : Command → List Token → Option Command
-nothing command [] = Some command
-nothing command (t ∷ ts) = None
+abbrev pub at_line_end : Command → List Token → Option Command
+at_line_end command [] = Some command
+at_line_end command (t ∷ ts) = None
 
 -- Commands.
 
@@ -332,7 +332,7 @@ abbrev pub command_behind : Keyword → List Token → Option Command
 command_behind RelWord ts = option_map (λ p. Rel p.0 p.1) (named_some type_of ts)
 command_behind AddWord ts = option_map (λ p. Add p.0 p.1) (named_some literal_of ts)
 command_behind DelWord ts = option_map (λ p. Del p.0 p.1) (named_some literal_of ts)
-command_behind QueryWord ts = option_map (λ q. Register q) (query_in ts)
+command_behind QueryWord ts = option_map (λ q. Register q) (query_of_tokens ts)
 command_behind UnionWord ts = option_map (λ p. Union p.0 p.1) (name_and_members ts)
 command_behind DropWord ts = option_map (λ q. Drop q) (one_name ts)
 command_behind OpenWord ts = option_map (λ p. Open p.0 p.1) (two_names ts)
@@ -343,11 +343,11 @@ command_behind WatchWord ts = option_map (λ q. Watch q) (one_name ts)
 command_behind UnwatchWord ts = option_map (λ q. Unwatch q) (one_name ts)
 command_behind ExplainWord ts = option_map (λ q. Explain q) (one_name ts)
 command_behind ShapeWord ts = option_map (λ q. Shape q) (one_name ts)
-command_behind BatchWord ts = nothing Batch ts
-command_behind DoneWord ts = nothing Done ts
-command_behind AbandonWord ts = nothing Abandon ts
-command_behind QuitWord ts = nothing Quit ts
-command_behind StopWord ts = nothing Stop ts
+command_behind BatchWord ts = at_line_end Batch ts
+command_behind DoneWord ts = at_line_end Done ts
+command_behind AbandonWord ts = at_line_end Abandon ts
+command_behind QuitWord ts = at_line_end Quit ts
+command_behind StopWord ts = at_line_end Stop ts
 
 -- the command that a keyword and what stands behind it say; none where there is no keyword
 abbrev pub command_with : Option Keyword → List Token → Option Command

@@ -58,8 +58,8 @@ abbrev pub line : Bytes → Bytes
 line text = text ++ 10 ∷ []
 
 -- words, a number, LF
-abbrev pub numbered : Bytes → ℕ → Bytes
-numbered words n = line (words ++ decimal n)
+abbrev pub numbered_line : Bytes → ℕ → Bytes
+numbered_line words n = line (words ++ decimal n)
 
 -- the line that answers a refusal
 abbrev pub refusal_line : Refusal → Bytes
@@ -135,7 +135,7 @@ text_of lines = flat_map (λ l. l) lines
 -- change
 abbrev pub stale_line : Bytes → Bytes → ℕ → Bytes
 stale_line cursor relation n =
-    numbered (codes "stale " ++ cursor ++ codes " " ++ relation ++ codes " ") n
+    numbered_line (codes "stale " ++ cursor ++ codes " " ++ relation ++ codes " ") n
 
 -- what a command is answered: these words where it was done, else why it was refused
 abbrev pub ok_reply : {A : Type 0} → Bytes → Result A Refusal → Bytes
@@ -156,7 +156,7 @@ add_reply (Err r) n = refusal_line r
 abbrev pub delete_reply : Result DeleteOutcome Refusal → ℕ → Bytes
 delete_reply (Ok Last) n = numbered_twice (codes "ok removed ") n 0
 delete_reply (Ok (Left copies)) n = numbered_twice (codes "ok removed ") n copies
-delete_reply (Ok Absent) n = numbered (codes "ok absent ") n
+delete_reply (Ok Absent) n = numbered_line (codes "ok absent ") n
 delete_reply (Err r) n = refusal_line r
 
 -- edges, each behind a space
@@ -170,14 +170,14 @@ rest_line words rest = line (words ++ edges_text rest.names rest.edges)
 -- what `query` answers: where it registers, the most lookups and links for one of its answers; and
 -- where the query isn't free-connex, a rest that shows it
 abbrev pub query_reply : Result QueryOutcome Refusal → Bytes
-query_reply (Ok (Registered most)) = numbered (codes "ok query ") most
+query_reply (Ok (Registered most)) = numbered_line (codes "ok query ") most
 query_reply (Ok (Cyclic rest)) = rest_line (codes "no cyclic") rest
 query_reply (Ok (NotConnex rest)) = rest_line (codes "no connex") rest
 query_reply (Err r) = refusal_line r
 
 -- what `union` answers where it registers: the most lookups and links for one of its answers
 abbrev pub union_reply : Result ℕ Refusal → Bytes
-union_reply (Ok most) = numbered (codes "ok union ") most
+union_reply (Ok most) = numbered_line (codes "ok union ") most
 union_reply (Err r) = refusal_line r
 
 -- a line that explains a union: one of its members
@@ -199,12 +199,12 @@ shape_reply (Err r) = refusal_line r
 
 -- what `watch` answers, at a number of changes
 abbrev pub watch_reply : {A : Type 0} → Result A Refusal → ℕ → Bytes
-watch_reply (Ok a) n = numbered (codes "ok watch ") n
+watch_reply (Ok a) n = numbered_line (codes "ok watch ") n
 watch_reply (Err r) n = refusal_line r
 
 -- what `add` in a batch answers: how many rows are held then
 abbrev pub held_reply : {A : Type 0} → Result A Refusal → ℕ → Bytes
-held_reply (Ok a) n = numbered (codes "ok held ") n
+held_reply (Ok a) n = numbered_line (codes "ok held ") n
 held_reply (Err r) n = refusal_line r
 
 -- what `done` answers, at a number of changes: it, then how many rows came
@@ -224,4 +224,4 @@ change_line s query t = line (sign_text s ++ query ++ cells_text t)
 
 -- the line behind the answers that came or went: the query, and the number of the change
 abbrev pub at_line : Bytes → ℕ → Bytes
-at_line query n = numbered (codes "at " ++ query ++ codes " ") n
+at_line query n = numbered_line (codes "at " ++ query ++ codes " ") n

@@ -50,7 +50,7 @@ use Rattle.djq_machine.specs.Store.{IsLeft, AreAll}
 use Rattle.djq_reduct.specs.Reducts.{Reducts}
 use Rattle.djq_reduct.specs.Answers.{IsAnswerOf}
 use Rattle.djq_cursor.specs.declared.cursor.Cursor.{Cursor}
-use Rattle.djq_cursor.specs.Listing.{AreSome, IsTupleLeft, IsListing}
+use Rattle.djq_cursor.specs.Listing.{AreSome, IsTupleLeft, ListsTuples}
 use Rattle.djq_cursor.specs.Given.{given, Fits}
 use Rattle.djq_rows.specs.Catalog.{Catalog}
 use Rattle.djq_slots.specs.Slots.{EachIs}
@@ -59,14 +59,14 @@ use Rattle.djq_slots.specs.declared.progress.Progress.TheVariants.{Open, Stale}
 use Rattle.djq_live.specs.declared.listing.Next.{Next}
 use Rattle.djq_live.specs.declared.listing.Next.TheVariants.{Given, End, Stale as IsStale}
 use Rattle.djq_live.specs.Cursors.{Progress, slot_at, OpensSlot, outdated_slots}
-use Rattle.djq_live.specs.Live.{Live, IsKept, IsLive, FitsIn, values_of, given_by, position_of}
-use Rattle.djq_live.specs.Advancing.{FitsOver, Reads, Looks}
+use Rattle.djq_live.specs.Live.{Live, IsKept, IsLive, FitsAt, values_of, given_by, position_of}
+use Rattle.djq_live.specs.Advancing.{ProgressFits, CursorReads, CursorLooks}
 use Rattle.djq_live.specs.Reading.{
-  MovesTo,
-  NextGives,
-  NextGivesAt,
-  MoreGives,
-  MoreGivesAt,
+  QueryCursorMoves,
+  QueryNextGives,
+  QueryNextGivesAt,
+  QueryMoreGives,
+  QueryMoreGivesAt,
   next_steps,
 }
 use Rattle.djq_live.proofs.Members.{in_last}
@@ -118,7 +118,7 @@ left_of c l us u live some =
 
 -- where each answer is listed, each tuple is
 all_given : (c : Catalog) (l : Live) (us : List (List ℕ)) → IsLive c l
-    → IsListing (IsAnswerOf l.reducts) us
+    → ListsTuples (IsAnswerOf l.reducts) us
     → AreAll (IsAnswer c.relations l.query) (map (values_of c.texts l) us)
 all_given c l us live h t is =
     let show : List ℕ → Tuple = values_of c.texts l in
@@ -131,37 +131,37 @@ all_given c l us live h t is =
 -- ---- slots
 
 -- the open cursor in a slot fits
-fits_here : (l : Live) (k : ℕ) (p : Progress) → FitsIn l k → slot_at l.cursors k ≡ Some p
-    → FitsOver l.reducts p
+fits_here : (l : Live) (k : ℕ) (p : Progress) → FitsAt l k → slot_at l.cursors k ≡ Some p
+    → ProgressFits l.reducts p
 fits_here l k (Open cursor ended) h e = h cursor ended e
 fits_here l k (Stale q m) h e = tt
 
-pub slot_fits : (l m : Live) (k : ℕ) (p : Progress) → l ≡ m → FitsIn m k
-    → slot_at l.cursors k ≡ Some p → FitsOver l.reducts p
+pub slot_fits : (l m : Live) (k : ℕ) (p : Progress) → l ≡ m → FitsAt m k
+    → slot_at l.cursors k ≡ Some p → ProgressFits l.reducts p
 slot_fits l m k p e h there =
-    fits_here l k p (subst (λ (o : Live). FitsIn o k) (sym e) h) there
+    fits_here l k p (subst (λ (o : Live). FitsAt o k) (sym e) h) there
 
-each_fits : (c : Catalog) (l : Live) → IsLive c l → EachIs (FitsOver l.reducts) l.cursors
+each_fits : (c : Catalog) (l : Live) → IsLive c l → EachIs (ProgressFits l.reducts) l.cursors
 each_fits c l live = record { each = λ k p e. fits_here l k p (live.fits k) e }
 
 -- a query goes with cursors that fit
 with_cursors : (c : Catalog) (l : Live) (cs : List (Option Progress)) → IsKept c l
-    → EachIs (FitsOver l.reducts) cs → IsLive c (record l { cursors = cs })
+    → EachIs (ProgressFits l.reducts) cs → IsLive c (record l { cursors = cs })
 with_cursors c l cs h fit = record {
   kept = record { over = h.over; named = h.named; bare = h.bare };
   fits = λ k cursor ended e. fit.each k (Open cursor ended) e;
 }
 
 moves : (c : Catalog) (l : Live) (k : ℕ) (p : Progress) (position : Position) → IsLive c l
-    → FitsOver l.reducts p → position_of c.texts l p ≡ position
-    → MovesTo c l k position (record l { cursors = slice_set l.cursors k (Some p) })
+    → ProgressFits l.reducts p → position_of c.texts l p ≡ position
+    → QueryCursorMoves c l k position (record l { cursors = slice_set l.cursors k (Some p) })
 moves c l k p position live fit stands =
     record {
       progress = p;
       moved = refl;
       stands = stands;
       live = with_cursors c l (slice_set l.cursors k (Some p)) live.kept
-          (put_each (FitsOver l.reducts) l.cursors k p (each_fits c l live) fit);
+          (put_each (ProgressFits l.reducts) l.cursors k p (each_fits c l live) fit);
     }
 
 -- ---- a read
@@ -173,8 +173,8 @@ given_more texts l old new u e =
     ap (map (values_of texts l)) e ∙ map-append (values_of texts l) (given l.reducts old) (u ∷ [])
 
 gives_at : (c : Catalog) (l : Live) (k : ℕ) (p q : Progress) (result : Next) (u : List ℕ)
-    → IsLive c l → slot_at l.cursors k ≡ Some p → Reads l.reducts p result u q
-    → NextGivesAt c l k (position_of c.texts l p) result u
+    → IsLive c l → slot_at l.cursors k ≡ Some p → CursorReads l.reducts p result u q
+    → QueryNextGivesAt c l k (position_of c.texts l p) result u
     (record l { cursors = slice_set l.cursors k (Some q) })
 gives_at c l k (Open old ended) (Open new e) Given u live there h =
     let some = subst (AreSome (IsAnswerOf l.reducts)) h.0.gives h.0.some in (
@@ -203,57 +203,57 @@ gives_at c l k (Stale q m) new (IsStale relation n) u live there h = (
 )
 
 next_here : (c : Catalog) (l : Live) (k : ℕ) (p q : Progress) (result : Next) (u : List ℕ)
-    → IsLive c l → slot_at l.cursors k ≡ Some p → Reads l.reducts p result u q
-    → NextGives c l k result u (record l { cursors = slice_set l.cursors k (Some q) })
+    → IsLive c l → slot_at l.cursors k ≡ Some p → CursorReads l.reducts p result u q
+    → QueryNextGives c l k result u (record l { cursors = slice_set l.cursors k (Some q) })
 next_here c l k p q result u live there h =
-    subst (λ (o : Option Progress). IsSomeAnd o (λ p. NextGivesAt c l k
+    subst (λ (o : Option Progress). IsSomeAnd o (λ p. QueryNextGivesAt c l k
     (position_of c.texts l p) result u
     (record l { cursors = slice_set l.cursors k (Some q) }))) (sym there)
     (gives_at c l k p q result u live there h)
 
 -- the same where the query is seen from outside
 pub next_gives : (c : Catalog) (l m : Live) (k : ℕ) (p q : Progress) (result : Next) (u : List ℕ)
-    → l ≡ m → IsLive c m → slot_at l.cursors k ≡ Some p → Reads l.reducts p result u q
-    → NextGives c m k result u (record l { cursors = slice_set l.cursors k (Some q) })
+    → l ≡ m → IsLive c m → slot_at l.cursors k ≡ Some p → CursorReads l.reducts p result u q
+    → QueryNextGives c m k result u (record l { cursors = slice_set l.cursors k (Some q) })
 next_gives c l m k p q result u e live there h =
-    subst (λ (o : Live). NextGives c o k result u
+    subst (λ (o : Live). QueryNextGives c o k result u
     (record l { cursors = slice_set l.cursors k (Some q) })) e
     (next_here c l k p q result u (subst (IsLive c) (sym e) live) there h)
 
 -- ---- a look
 
 looks_at : (c : Catalog) (l : Live) (k : ℕ) (p q : Progress) (left : Bool) → IsLive c l
-    → slot_at l.cursors k ≡ Some p → Looks l.reducts p left q
-    → MoreGivesAt c l k (position_of c.texts l p) left
+    → slot_at l.cursors k ≡ Some p → CursorLooks l.reducts p left q
+    → QueryMoreGivesAt c l k (position_of c.texts l p) left
     (record l { cursors = slice_set l.cursors k (Some q) })
 looks_at c l k (Open old ended) q true live there h = (
   (values_of c.texts l h.2.0, shows_left c l (given l.reducts old) h.2.0 live (h.1).all h.2.1),
   moves c l k q _ live
-      (subst (FitsOver l.reducts) (sym h.0) (live.fits k old ended there))
+      (subst (ProgressFits l.reducts) (sym h.0) (live.fits k old ended there))
       (ap (position_of c.texts l) h.0),
 )
 looks_at c l k (Open old ended) q false live there h = (
   all_given c l (given l.reducts old) live h.1,
-  moves c l k q _ live (subst (FitsOver l.reducts) (sym h.0) (live.fits k old ended there))
+  moves c l k q _ live (subst (ProgressFits l.reducts) (sym h.0) (live.fits k old ended there))
       (ap (position_of c.texts l) h.0),
 )
 looks_at c l k (Stale r m) q true live there h = absurd h
 looks_at c l k (Stale r m) q false live there h = absurd h
 
 more_here : (c : Catalog) (l : Live) (k : ℕ) (p q : Progress) (left : Bool) → IsLive c l
-    → slot_at l.cursors k ≡ Some p → Looks l.reducts p left q
-    → MoreGives c l k left (record l { cursors = slice_set l.cursors k (Some q) })
+    → slot_at l.cursors k ≡ Some p → CursorLooks l.reducts p left q
+    → QueryMoreGives c l k left (record l { cursors = slice_set l.cursors k (Some q) })
 more_here c l k p q left live there h =
-    subst (λ (o : Option Progress). IsSomeAnd o (λ p. MoreGivesAt c l k
+    subst (λ (o : Option Progress). IsSomeAnd o (λ p. QueryMoreGivesAt c l k
     (position_of c.texts l p) left
     (record l { cursors = slice_set l.cursors k (Some q) }))) (sym there)
     (looks_at c l k p q left live there h)
 
 pub more_gives : (c : Catalog) (l m : Live) (k : ℕ) (p q : Progress) (left : Bool) → l ≡ m
-    → IsLive c m → slot_at l.cursors k ≡ Some p → Looks l.reducts p left q
-    → MoreGives c m k left (record l { cursors = slice_set l.cursors k (Some q) })
+    → IsLive c m → slot_at l.cursors k ≡ Some p → CursorLooks l.reducts p left q
+    → QueryMoreGives c m k left (record l { cursors = slice_set l.cursors k (Some q) })
 more_gives c l m k p q left e live there h =
-    subst (λ (o : Live). MoreGives c o k left
+    subst (λ (o : Live). QueryMoreGives c o k left
     (record l { cursors = slice_set l.cursors k (Some q) })) e
     (more_here c l k p q left (subst (IsLive c) (sym e) live) there h)
 
@@ -265,7 +265,7 @@ open_here : (c : Catalog) (l : Live) (cursor : Cursor) (cs : List (Option Progre
     → IsLive c (record l { cursors = cs })
 open_here c l cursor cs (Ok k) live fit opens same =
     with_cursors c l cs live.kept
-    (open_each (FitsOver l.reducts) l.cursors k cursor cs (each_fits c l live) opens fit)
+    (open_each (ProgressFits l.reducts) l.cursors k cursor cs (each_fits c l live) opens fit)
 open_here c l cursor cs (Err e) live fit opens same =
     subst (λ (new : List (Option Progress)). IsLive c (record l { cursors = new })) (sym same) live
 
@@ -281,8 +281,8 @@ pub made_stale : (c : Catalog) (old : Live) (relation : Bytes) (n : ℕ)
     → IsKept c old → IsLive c (record old { cursors = cs })
 made_stale c old relation n cs e h =
     with_cursors c old cs h
-    (subst (EachIs (FitsOver old.reducts)) (sym e)
-    (stale_each (FitsOver old.reducts) (λ r m. tt) relation n old.cursors))
+    (subst (EachIs (ProgressFits old.reducts)) (sym e)
+    (stale_each (ProgressFits old.reducts) (λ r m. tt) relation n old.cursors))
 
 -- ---- counts
 

@@ -53,7 +53,7 @@ use Rattle.std.proofs.lemmas.Bool.{
 use Rattle.std.proofs.lemmas.List.{length-map}
 use Rattle.std.proofs.lemmas.Option.{same_Some, slice_get-map, slice_get-get_or}
 use Rattle.djq_hyper.specs.Hypergraph.{member, one}
-use Rattle.djq_hyper.proofs.Members.{has, one_le}
+use Rattle.djq_hyper.proofs.Members.{has_bit, one_le}
 use Rattle.djq_hyper.proofs.Bags.{numbers, times}
 use Rattle.djq_model.specs.declared.relation.ColumnType.{ColumnType}
 use Rattle.djq_model.specs.declared.value.Value.{Value}
@@ -84,16 +84,16 @@ use Rattle.djq_query.specs.declared.numbered.NumberedTerm.TheVariants.{
 }
 use Rattle.djq_query.specs.declared.numbered.NumberedAtom.{NumberedAtom}
 use Rattle.djq_query.specs.Numbered.{Numbered, labels, number_of, is_number}
-use Rattle.djq_query.specs.Meaning.{AreShown}
+use Rattle.djq_query.specs.Meaning.{TermsAreShown}
 use Rattle.djq_query.specs.Pattern.{Shape}
-use Rattle.djq_rows.specs.Cells.{cells_of, HaveCells, StandsFor}
+use Rattle.djq_rows.specs.Cells.{cells_of, HaveCells, CellStandsFor}
 use Rattle.djq_rows.specs.Parts.{value_of}
 use Rattle.djq_rows.specs.Catalog.{Catalog, IsCatalog, relation_at}
 use Rattle.djq_rows.proofs.Encoding.{value_back, unknown_row}
-use Rattle.djq_live.specs.Asked.{column_of, AreSuited, IsAtomOf, AreAtomsOf}
+use Rattle.djq_live.specs.Asked.{column_of, TermsSuit, IsAtomOf, AreAtomsOf}
 use Rattle.djq_live.specs.Leaves.{IsOver}
 use Rattle.djq_live.specs.Live.{Live, IsLive, IsKeptSomewhere, IsShowable}
-use Rattle.djq_live.specs.Order.{reading, AreCellsOfAnswer}
+use Rattle.djq_live.specs.Order.{cell_of_variable, AreCellsOfAnswer}
 use Rattle.djq_live.specs.Shown.{value_at, shown, AreShownAs}
 use Rattle.djq_reduct.proofs.Readings.{IsSimple, Within, simple_of, cell_there, row_same, reading_row, member_on}
 use Rattle.djq_hyper.proofs.Rising.{member_here}
@@ -130,7 +130,7 @@ unnamed vs x k name e named shown =
 -- the type of the first column where a variable stands is that of its number
 among : (vs : List Variable) (texts : List Bytes) (x : ℕ) (name : Bytes) (ts : List Term)
     (ns : List NumberedTerm) (cs : List ColumnType) (rest : ColumnType) → HasOne vs
-    → AreShown (labels vs) ts ns → AreSuited texts vs ns cs
+    → TermsAreShown (labels vs) ts ns → TermsSuit texts vs ns cs
     → slice_get (labels vs) x ≡ Some (Some name)
     → (list_any (is_number x) ns ≡ false → rest ≡ column_of vs x)
     → unwrap_or (type_among cs ts name) rest ≡ column_of vs x
@@ -176,30 +176,30 @@ type_in : (c : Catalog) (vs : List Variable) (x : ℕ) (name : Bytes) (atoms : L
     → slice_get (labels vs) x ≡ Some (Some name)
     → list_any (λ m. list_any (is_number x) m.terms) ms ≡ true
     → variable_type c.relations atoms name ≡ column_of vs x
-type_in c vs x name [] [] h one are e has = absurd (false≢true has)
-type_in c vs x name [] (m ∷ ms) h one are e has = absurd are
-type_in c vs x name (a ∷ atoms) [] h one are e has = absurd are
-type_in c vs x name (a ∷ atoms) (m ∷ ms) h one are e has =
+type_in c vs x name [] [] h one are e has_bit = absurd (false≢true has_bit)
+type_in c vs x name [] (m ∷ ms) h one are e has_bit = absurd are
+type_in c vs x name (a ∷ atoms) [] h one are e has_bit = absurd are
+type_in c vs x name (a ∷ atoms) (m ∷ ms) h one are e has_bit =
     ap (λ (cs : List ColumnType). unwrap_or (type_among cs a.terms name)
     (variable_type c.relations atoms name)) (types_here c vs a m h are.0)
     ∙ among vs c.texts x name a.terms m.terms (relation_at c.relations m.relation).types
     (variable_type c.relations atoms name) one are.0.shown are.0.suited e
     (λ none. type_in c vs x name atoms ms h one are.1 e
     (in_later (list_any (is_number x) m.terms)
-    (list_any (λ (k : NumberedAtom). list_any (is_number x) k.terms) ms) has none))
+    (list_any (λ (k : NumberedAtom). list_any (is_number x) k.terms) ms) has_bit none))
 
 any_at : (x : ℕ) (ms : List NumberedAtom) (j : ℕ) (m : NumberedAtom) → slice_get ms j ≡ Some m
     → list_any (is_number x) m.terms ≡ true
     → list_any (λ k. list_any (is_number x) k.terms) ms ≡ true
-any_at x [] j m e has = absurd cc
-any_at x (n ∷ ms) zero m e has =
+any_at x [] j m e has_bit = absurd cc
+any_at x (n ∷ ms) zero m e has_bit =
     or_left (list_any (is_number x) n.terms)
     (list_any (λ (k : NumberedAtom). list_any (is_number x) k.terms) ms)
-    (ap (λ (k : NumberedAtom). list_any (is_number x) k.terms) (same_Some n m e) ∙ has)
-any_at x (n ∷ ms) (suc j) m e has =
+    (ap (λ (k : NumberedAtom). list_any (is_number x) k.terms) (same_Some n m e) ∙ has_bit)
+any_at x (n ∷ ms) (suc j) m e has_bit =
     or_right (list_any (is_number x) n.terms)
     (list_any (λ (k : NumberedAtom). list_any (is_number x) k.terms) ms)
-    (any_at x ms j m e has)
+    (any_at x ms j m e has_bit)
 
 -- what is said of each variable of the head and its name makes two lists the same
 heads_same : {A : Type 0} (ls : List Label) (f : ℕ → A) (g : Bytes → A) (xs : List ℕ)
@@ -259,7 +259,7 @@ once x (y ∷ xs) s =
       | inl same ↦
           let none : member x xs ≡ false = ap (λ (z : ℕ). member z xs) same ∙ s.0 in
           let m = has_times x xs in
-          let gone : has x xs ≡ 0 = ap one none in
+          let gone : has_bit x xs ≡ 0 = ap one none in
           let l = one_le (x == y) in
           omega arith
       | inr other ↦
@@ -275,10 +275,10 @@ fewer xs V x s within =
     let o = once x xs s in
     elim (cases_Bool (member x xs)) [
       | inl is ↦
-          let there : has x V ≡ 1 = ap one (within x is) in
+          let there : has_bit x V ≡ 1 = ap one (within x is) in
           omega arith
       | inr isnt ↦
-          let gone : has x xs ≡ 0 = ap one isnt in
+          let gone : has_bit x xs ≡ 0 = ap one isnt in
           omega arith
     ]
 
@@ -374,7 +374,7 @@ suits_long c l t live h =
 -- the cells that show values are the values' cells
 pub shown_have : (texts : List Bytes) (vs : List Variable) (F u xs : List ℕ) (t : Tuple)
     → AreShownAs texts vs F u xs t
-    → HaveCells texts t × (map (reading F u) xs ≡ cells_of texts t)
+    → HaveCells texts t × (map (cell_of_variable F u) xs ≡ cells_of texts t)
 shown_have texts vs F u [] [] h = (tt, refl)
 shown_have texts vs F u [] (v ∷ t) h = absurd h
 shown_have texts vs F u (x ∷ xs) [] h = absurd h
@@ -394,17 +394,17 @@ answer_cells c q n ps r t h is =
     (subst (AreShownAs c.texts n.variables F u n.head) (sym s.is)
     (stand c q n ps r h u s.is_answer)) in
     let cells = cells_of c.texts t in
-    let same : (x : ℕ) → member x n.head ≡ true → reading n.head cells x ≡ reading F u x =
+    let same : (x : ℕ) → member x n.head ≡ true → cell_of_variable n.head cells x ≡ cell_of_variable F u x =
     λ x m. ap (λ (l : List ℕ). slice_index l (column n.head x)) (sym p.1)
-    ∙ cell_there (reading F u) n.head x m in
-    let whole : map (reading n.head cells) F ≡ u =
-    row_same (reading n.head cells) (reading F u) F (λ x m. same x (sym (h.head x) ∙ m))
+    ∙ cell_there (cell_of_variable F u) n.head x m in
+    let whole : map (cell_of_variable n.head cells) F ≡ u =
+    row_same (cell_of_variable n.head cells) (cell_of_variable F u) F (λ x m. same x (sym (h.head x) ∙ m))
     ∙ reading_row F u (simple_of F h.reducts.family.is_tree.head_set.rising)
     s.is_answer.wide in (
       p.0,
       record {
         is_answer = subst (IsAnswerOf r) (sym whole) s.is_answer;
-        are = row_same (reading n.head cells) (reading F u) n.head same ∙ p.1;
+        are = row_same (cell_of_variable n.head cells) (cell_of_variable F u) n.head same ∙ p.1;
       },
     )
 
@@ -436,7 +436,7 @@ pub cells_answer : (c : Catalog) (q : Query) (n : Numbered) (ps : List Shape) (r
     → IsAnswer c.relations q t
 cells_answer c q n ps r t h fit have is =
     let F = r.tree.head in
-    let f : ℕ → ℕ = reading n.head (cells_of c.texts t) in
+    let f : ℕ → ℕ = cell_of_variable n.head (cells_of c.texts t) in
     let same : shown c.texts n F (map f F) ≡ t =
     values_same (value_at c.texts n.variables F (map f F))
     (λ x. value_of c.texts (column_of n.variables x) (f x)) n.head
@@ -494,7 +494,7 @@ pub record ReadsValue (texts : List Bytes) (n : Numbered) (F u : List ℕ) (at p
     (kind : ColumnType) (slice : List ℕ) : Type 0 where
   pub low : place < length slice
   pub value : Value
-  pub stands : StandsFor texts kind (slice_index slice place) value
+  pub stands : CellStandsFor texts kind (slice_index slice place) value
   pub is : slice_get (shown texts n F u) at ≡ Some value
 
 pub reads_value : (texts : List Bytes) (m : Live) (u : List ℕ) (at place : ℕ) (kind : ColumnType)
@@ -517,9 +517,9 @@ reads_value texts m u at place kind slice kept is within kind_is place_is cells 
       low = omega arith;
       value = value_at texts n.variables G u x;
       stands =
-          subst (λ (k : ColumnType). StandsFor texts k (slice_index slice place)
+          subst (λ (k : ColumnType). CellStandsFor texts k (slice_index slice place)
           (value_at texts n.variables G u x)) (sym kind_is)
-          (subst (λ (k : ℕ). StandsFor texts (column_of n.variables x) k
+          (subst (λ (k : ℕ). CellStandsFor texts (column_of n.variables x) k
           (value_at texts n.variables G u x))
           (sym (ap₂ slice_index cells place_is))
           (stands_at texts n.variables G u n.head at is.stands low));

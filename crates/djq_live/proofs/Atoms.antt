@@ -40,11 +40,11 @@ use Rattle.djq_query.specs.declared.numbered.NumberedTerm.TheVariants.{
 }
 use Rattle.djq_query.specs.declared.numbered.NumberedAtom.{NumberedAtom}
 use Rattle.djq_query.specs.Numbered.{labels, is_number}
-use Rattle.djq_query.specs.Meaning.{IsShown, AreShown, Rise, holes_among, holes_in}
-use Rattle.djq_rows.specs.Cells.{cell_for, HasCell, HaveCells, StandsFor, IsCell}
+use Rattle.djq_query.specs.Meaning.{TermIsShown, TermsAreShown, Rise, holes_among, holes_in}
+use Rattle.djq_rows.specs.Cells.{cell_for, HasCell, HaveCells, CellStandsFor, IsCell}
 use Rattle.djq_rows.specs.Catalog.{Catalog, IsCatalog, relation_at, rows_at}
 use Rattle.djq_live.specs.Cells.{IsSatisfied}
-use Rattle.djq_live.specs.Asked.{column_of, Suits, AreSuited, AreAtomsOf}
+use Rattle.djq_live.specs.Asked.{column_of, TermSuits, TermsSuit, AreAtomsOf}
 use Rattle.djq_live.proofs.Rows.{rows_are, row_fits, row_cells}
 use Rattle.djq_live.proofs.Terms.{HasOne, value_by, stand_terms, cell_among}
 use Rattle.djq_live.proofs.Holes.{
@@ -201,9 +201,9 @@ in_unnamed c vs (a ∷ atoms) (n ∷ ms) y are m =
 
 value_here : (texts : List Bytes) (vs : List Variable) (values : Bytes → Value) (x : ℕ)
     (name : Bytes) (t : Term) (n : NumberedTerm) (c : ColumnType) (v : Value)
-    → IsShown (labels vs) t n → Suits texts vs n c → is_of c v ≡ true → HasCell texts v
+    → TermIsShown (labels vs) t n → TermSuits texts vs n c → is_of c v ≡ true → HasCell texts v
     → StandsForValue values t v → is_number x n ≡ true → slice_get (labels vs) x ≡ Some (Some name)
-    → StandsFor texts (column_of vs x) (cell_for texts (values name)) (values name)
+    → CellStandsFor texts (column_of vs x) (cell_for texts (values name)) (values name)
 value_here texts vs values x name t (Fixed u) c v shown suits of has stand m e =
     absurd (false≢true m)
 value_here texts vs values x name Hole (Number y) c v shown suits of has stand m e =
@@ -227,10 +227,10 @@ value_here texts vs values x name (Named other) (Number y) c v shown suits of ha
 
 value_among : (texts : List Bytes) (vs : List Variable) (values : Bytes → Value) (x : ℕ)
     (name : Bytes) (ts : List Term) (ns : List NumberedTerm) (cs : List ColumnType) (row : Tuple)
-    → AreShown (labels vs) ts ns → AreSuited texts vs ns cs → fits cs row ≡ true
+    → TermsAreShown (labels vs) ts ns → TermsSuit texts vs ns cs → fits cs row ≡ true
     → HaveCells texts row → StandForAll values ts row → list_any (is_number x) ns ≡ true
     → slice_get (labels vs) x ≡ Some (Some name)
-    → StandsFor texts (column_of vs x) (cell_for texts (values name)) (values name)
+    → CellStandsFor texts (column_of vs x) (cell_for texts (values name)) (values name)
 value_among texts vs values x name ts [] cs row shown suits f h stand m e = absurd (false≢true m)
 value_among texts vs values x name [] (n ∷ ns) cs row shown suits f h stand m e = absurd shown
 value_among texts vs values x name (t ∷ ts) (n ∷ ns) [] row shown suits f h stand m e = absurd suits
@@ -249,7 +249,7 @@ pub value_in : (c : Catalog) (vs : List Variable) (values : Bytes → Value) (x 
     → IsCatalog c → AreAtomsOf c vs atoms ms → AreRowsFor c values atoms ms rows
     → slice_get ms j ≡ Some m → list_any (is_number x) m.terms ≡ true
     → slice_get (labels vs) x ≡ Some (Some name)
-    → StandsFor c.texts (column_of vs x) (cell_for c.texts (values name)) (values name)
+    → CellStandsFor c.texts (column_of vs x) (cell_for c.texts (values name)) (values name)
 value_in c vs values x name [] [] rows j m h are for e has named = absurd cc
 value_in c vs values x name [] (n ∷ ms) rows j m h are for e has named = absurd are
 value_in c vs values x name (a ∷ atoms) [] rows j m h are for e has named = absurd are

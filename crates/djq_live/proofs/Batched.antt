@@ -42,10 +42,10 @@ use Rattle.djq_propagate.proofs.Measuring.{length_even}
 use Rattle.djq_propagate.proofs.Updating.{times_one}
 use Rattle.djq_query.specs.declared.numbered.NumberedAtom.{NumberedAtom}
 use Rattle.djq_query.specs.Pattern.{Shape}
-use Rattle.djq_live.specs.Changes.{GainsAll, Keeps}
+use Rattle.djq_live.specs.Changes.{GainsAll, KeepsTuples}
 use Rattle.djq_live.specs.Stepping.{HasMore, ChangesAt, ChangesBelow, HoldBelow}
 use Rattle.djq_live.specs.Batching.{AreDistinct, AreTuplesOf, AreTuples, HasFew, CanTake}
-use Rattle.djq_live.specs.Batching.{Adds, Drops, tuples_in, batch_in}
+use Rattle.djq_live.specs.Batching.{GainsTuples, LosesTuples, row_tuples, batch_tuples}
 use Rattle.djq_live.proofs.Below.{IsStable}
 use Rattle.djq_live.proofs.Giving.{gives_once, gives_same, one_as}
 use Rattle.djq_live.proofs.Heads.{has_at}
@@ -281,7 +281,7 @@ batch_all at rows atoms ps k batch e h = record { long = h.long ∙ e; few = h.f
 -- ---- one leaf
 
 pub all_gained : (us : List (List ℕ)) (j : ℕ) (old new : Reducts) → HasGainedAll old new j us
-    → ChangesAt (λ x es fs. Adds x es fs) us j old new
+    → ChangesAt (λ x es fs. GainsTuples x es fs) us j old new
 all_gained us j old new came = record {
   sound = came.sound;
   tree = came.tree;
@@ -291,7 +291,7 @@ all_gained us j old new came = record {
 }
 
 pub all_lost : (us : List (List ℕ)) (j : ℕ) (old new : Reducts) → HasLostAll old new j us
-    → ChangesAt (λ x es fs. Drops x es fs) us j old new
+    → ChangesAt (λ x es fs. LosesTuples x es fs) us j old new
 all_lost us j old new went = record {
   sound = went.sound;
   tree = went.tree;
@@ -300,14 +300,14 @@ all_lost us j old new went = record {
   others = λ i low apart u. went.others i u low apart;
 }
 
-pub adds_stable : IsStable (λ (us : List (List ℕ)) old new. Adds us old new)
+pub adds_stable : IsStable (λ (us : List (List ℕ)) old new. GainsTuples us old new)
 adds_stable us ds es fs gs early g late = λ u.
     let a = early u in
     let b = late u in
     let c = g u in
     omega arith
 
-pub drops_stable : IsStable (λ (us : List (List ℕ)) old new. Drops us old new)
+pub drops_stable : IsStable (λ (us : List (List ℕ)) old new. LosesTuples us old new)
 drops_stable us ds es fs gs early g late = λ u.
     let a = early u in
     let b = late u in
@@ -315,7 +315,7 @@ drops_stable us ds es fs gs early g late = λ u.
     omega arith
 
 pub adds_more : (us : List (List ℕ)) (k : ℕ) (s t : Reducts)
-    → ChangesAt (λ x es fs. Adds x es fs) us k s t → HasMore s t
+    → ChangesAt (λ x es fs. GainsTuples x es fs) us k s t → HasMore s t
 adds_more us k s t step = record {
   tree = step.tree;
   more = λ j u low there.
@@ -329,7 +329,7 @@ adds_more us k s t step = record {
 }
 
 pub drops_more : (us : List (List ℕ)) (k : ℕ) (s t : Reducts)
-    → ChangesAt (λ x es fs. Drops x es fs) us k s t → HasMore t s
+    → ChangesAt (λ x es fs. LosesTuples x es fs) us k s t → HasMore t s
 drops_more us k s t step = record {
   tree = sym step.tree;
   more = λ j u low there.
@@ -345,7 +345,7 @@ drops_more us k s t step = record {
 
 -- ---- leaves that can take tuples still can, and those that have them still have
 
-pub fresh_stays : (w : ℕ) (us : List (List ℕ)) (es fs : List Entry) → Keeps es fs
+pub fresh_stays : (w : ℕ) (us : List (List ℕ)) (es fs : List Entry) → KeepsTuples es fs
     → AreNew w es us → AreNew w fs us
 fresh_stays w us es fs keeps h = record {
   wide = h.wide;
@@ -355,7 +355,7 @@ fresh_stays w us es fs keeps h = record {
 
 pub next_fresh : (at : ℕ) (atoms : List NumberedAtom) (batch : List (List (List ℕ))) (k : ℕ)
     (m : NumberedAtom) (us : List (List ℕ)) (r s : Reducts) → CanTake at atoms batch r
-    → ChangesBelow (λ x es fs. Adds x es fs) at atoms batch k r s → slice_get atoms k ≡ Some m
+    → ChangesBelow (λ x es fs. GainsTuples x es fs) at atoms batch k r s → slice_get atoms k ≡ Some m
     → slice_get batch k ≡ Some us → m.relation ≡ at
     → AreNew (length (label_at s.tree.labels k)) (entries_at s.tables k) us
 next_fresh at atoms batch k m us r s can h e f on =
@@ -366,7 +366,7 @@ next_fresh at atoms batch k m us r s can h e f on =
 
 pub next_room : (at : ℕ) (atoms : List NumberedAtom) (batch : List (List (List ℕ))) (k : ℕ)
     (m : NumberedAtom) (us : List (List ℕ)) (r s : Reducts) → CanTake at atoms batch r
-    → ChangesBelow (λ x es fs. Adds x es fs) at atoms batch k r s → slice_get atoms k ≡ Some m
+    → ChangesBelow (λ x es fs. GainsTuples x es fs) at atoms batch k r s → slice_get atoms k ≡ Some m
     → slice_get batch k ≡ Some us → m.relation ≡ at
     → length (entries_at s.tables k) + length us ≤ 4294967295
 next_room at atoms batch k m us r s can h e f on =
@@ -375,12 +375,12 @@ next_room at atoms batch k m us r s can h e f on =
     let room = can.room k m us e f on in
     omega arith
 
-pub there_stays : (us : List (List ℕ)) (es fs : List Entry) → Keeps es fs → AreThere es us
+pub there_stays : (us : List (List ℕ)) (es fs : List Entry) → KeepsTuples es fs → AreThere es us
     → AreThere fs us
 there_stays us es fs keeps h = record { each = λ v. (let a = keeps v in let b = h.each v in omega arith) }
 
 pub all_there : (at : ℕ) (atoms : List NumberedAtom) (batch : List (List (List ℕ))) (k : ℕ)
-    (r s : Reducts) → ChangesBelow (λ x es fs. Adds x es fs) at atoms batch k r s
+    (r s : Reducts) → ChangesBelow (λ x es fs. GainsTuples x es fs) at atoms batch k r s
     → HoldBelow (λ us es. AreThere es us) at atoms batch k s
 all_there at atoms batch k r s h = record {
   each = λ j m us low e f on. record {
@@ -392,7 +392,7 @@ all_there at atoms batch k r s h = record {
 
 pub all_gains : (at : ℕ) (rows : List (List ℕ)) (atoms : List NumberedAtom) (ps : List Shape)
     (batch : List (List (List ℕ))) (k : ℕ) (r s : Reducts) → AreTuples at rows atoms ps batch
-    → ChangesBelow (λ x es fs. Adds x es fs) at atoms batch k r s
+    → ChangesBelow (λ x es fs. GainsTuples x es fs) at atoms batch k r s
     → ChangesBelow (λ p es fs. GainsAll p rows es fs) at atoms ps k r s
 all_gains at rows atoms ps batch k r s tuples h = record {
   sound = h.sound;
@@ -420,10 +420,10 @@ all_gains at rows atoms ps batch k r s tuples h = record {
 -- the tuples that it has for a leaf, which were made or are the rows
 pub got_in : (rows : List (List ℕ)) (made : List (Option (List (List ℕ)))) (i : ℕ) (x : Option (List (List ℕ)))
     (y : List (List ℕ))
-    → y ≡ tuples_in rows x → i < length (batch_in rows made) → x ≡ slice_index_or made i x
-    → slice_get (batch_in rows made) i ≡ Some y
+    → y ≡ row_tuples rows x → i < length (batch_tuples rows made) → x ≡ slice_index_or made i x
+    → slice_get (batch_tuples rows made) i ≡ Some y
 got_in rows made i x y e low is =
-    slice_get-map (tuples_in rows) made i
-    ∙ ap (option_map (tuples_in rows))
-    (got made i x (subst (λ (n : ℕ). i < n) (length-map made (tuples_in rows)) low) is)
+    slice_get-map (row_tuples rows) made i
+    ∙ ap (option_map (row_tuples rows))
+    (got made i x (subst (λ (n : ℕ). i < n) (length-map made (row_tuples rows)) low) is)
     ∙ ap (λ z. Some z) (sym e)

@@ -25,7 +25,7 @@ use Rattle.djq_live.specs.Changes.{CameAll, StandForRows}
 use Rattle.djq_live.specs.Live.{Live, IsKept}
 use Rattle.djq_live.specs.Updating.{CanAddAll}
 use Rattle.djq_live.specs.Stepping.{ChangesBelow}
-use Rattle.djq_live.specs.Batching.{AreDistinct, AreTuples, FitAll, CanTake, Adds, Drops}
+use Rattle.djq_live.specs.Batching.{AreDistinct, AreTuples, RowsFit, CanTake, GainsTuples, LosesTuples}
 use Rattle.djq_live.proofs.Batched.{times_in}
 use Rattle.djq_live.proofs.Changing.{stands_in}
 use Rattle.djq_live.proofs.Heads.{has_at}
@@ -99,7 +99,7 @@ can_add_all l self at cells e can = subst (λ (x : Live). CanAddAll x at cells) 
 
 pub rows_fit : (l : Live) (at : ℕ) (cells : List (List ℕ)) (j : ℕ) (m : NumberedAtom) (p : Shape)
     → CanAddAll l at cells → slice_get (l.numbered).atoms j ≡ Some m → slice_get l.patterns j ≡ Some p
-    → m.relation ≡ at → FitAll cells p
+    → m.relation ≡ at → RowsFit cells p
 rows_fit l at cells j m p can e f on = λ row is.
     let s = stands_in can.after at cells can.rows row can.came.stand is in
     (leaves_of can.before can.after l.query l.numbered l.patterns l.reducts at row s.row
@@ -142,8 +142,8 @@ leaves_take l at cells batch can tuples = record {
 
 back_leaf : (at : ℕ) (atoms : List NumberedAtom) (batch : List (List (List ℕ))) (k : ℕ)
     (r s t : Reducts) (j : ℕ) (u : List ℕ) → length batch ≡ length atoms → j < length atoms
-    → ChangesBelow (λ x es fs. Adds x es fs) at atoms batch k r s
-    → ChangesBelow (λ x es fs. Drops x es fs) at atoms batch k s t
+    → ChangesBelow (λ x es fs. GainsTuples x es fs) at atoms batch k r s
+    → ChangesBelow (λ x es fs. LosesTuples x es fs) at atoms batch k s t
     → count_of (entries_at t.tables j) u ≡ count_of (entries_at r.tables j) u
 back_leaf at atoms batch k r s t j u long low adds drops =
     let m = has_at atoms j low in
@@ -165,8 +165,8 @@ back_leaf at atoms batch k r s t j u long low adds drops =
 
 pub batch_tables : (at : ℕ) (atoms : List NumberedAtom) (batch : List (List (List ℕ))) (k : ℕ)
     (r s t : Reducts) → IsReducts r → r.tree.leaves ≡ length atoms → length batch ≡ length atoms
-    → ChangesBelow (λ x es fs. Adds x es fs) at atoms batch k r s
-    → ChangesBelow (λ x es fs. Drops x es fs) at atoms batch k s t
+    → ChangesBelow (λ x es fs. GainsTuples x es fs) at atoms batch k r s
+    → ChangesBelow (λ x es fs. LosesTuples x es fs) at atoms batch k s t
     → SameTables r t
 batch_tables at atoms batch k r s t sound leaves long adds drops =
     one_family r t sound drops.sound
@@ -182,7 +182,7 @@ pub record InHand (l : Live) (at : ℕ) (cells : List (List ℕ)) (atoms : List 
     (ps : List Shape) : Type 0 where
   pub long : length ps ≡ length atoms
   pub fit : (j : ℕ) (m : NumberedAtom) (p : Shape) → slice_get atoms j ≡ Some m
-      → slice_get ps j ≡ Some p → m.relation ≡ at → FitAll cells p
+      → slice_get ps j ≡ Some p → m.relation ≡ at → RowsFit cells p
   pub takes : (batch : List (List (List ℕ))) → AreTuples at cells atoms ps batch
       → CanTake at atoms batch l.reducts
 
@@ -208,8 +208,8 @@ tuples_as at rows atoms ps batch tuples e h =
 pub batch_kept : (l self : Live) (s t : Reducts) (at : ℕ) (atoms : List NumberedAtom)
     (batch : List (List (List ℕ))) (k : ℕ) → l ≡ self → IsReducts l.reducts
     → CanTake at atoms batch l.reducts
-    → ChangesBelow (λ x es fs. Adds x es fs) at atoms batch k l.reducts s
-    → ChangesBelow (λ x es fs. Drops x es fs) at atoms batch k s t
+    → ChangesBelow (λ x es fs. GainsTuples x es fs) at atoms batch k l.reducts s
+    → ChangesBelow (λ x es fs. LosesTuples x es fs) at atoms batch k s t
     → (c : Catalog) → IsKept c self → IsKept c (record l { reducts = t })
 batch_kept l self s t at atoms batch k e sound can adds drops c h =
     same_kept c l t drops.sound drops.bare (drops.tree ∙ adds.tree)
@@ -219,8 +219,8 @@ batch_kept l self s t at atoms batch k e sound can adds drops c h =
 pub batch_same : (l self : Live) (s t : Reducts) (at : ℕ) (atoms : List NumberedAtom)
     (batch : List (List (List ℕ))) (k : ℕ) → l ≡ self → IsReducts l.reducts
     → CanTake at atoms batch l.reducts
-    → ChangesBelow (λ x es fs. Adds x es fs) at atoms batch k l.reducts s
-    → ChangesBelow (λ x es fs. Drops x es fs) at atoms batch k s t
+    → ChangesBelow (λ x es fs. GainsTuples x es fs) at atoms batch k l.reducts s
+    → ChangesBelow (λ x es fs. LosesTuples x es fs) at atoms batch k s t
     → SameTables self.reducts t
 batch_same l self s t at atoms batch k e sound can adds drops =
     subst (λ (x : Live). SameTables x.reducts t) e

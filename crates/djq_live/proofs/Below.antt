@@ -28,13 +28,13 @@ use Rattle.djq_reduct.specs.Marks.{IsBare}
 use Rattle.djq_propagate.specs.Updates.{HasKept}
 use Rattle.djq_query.specs.declared.numbered.NumberedAtom.{NumberedAtom}
 use Rattle.djq_query.specs.Pattern.{Shape}
-use Rattle.djq_live.specs.Changes.{GainsAll, Loses, Keeps}
+use Rattle.djq_live.specs.Changes.{GainsAll, Loses, KeepsTuples}
 use Rattle.djq_live.specs.Stepping.{HasMore, ChangesAt, ChangesBelow, HoldBelow}
 
 -- what holds the same before and after may stand in a change's place
 abbrev pub IsStable : {A : Type 0} → (A → List Entry → List Entry → Type 0) → Type 0
-IsStable {A} Changes = (p : A) (ds es fs gs : List Entry) → Keeps ds es → Changes p es fs
-    → Keeps fs gs → Changes p ds gs
+IsStable {A} Changes = (p : A) (ds es fs gs : List Entry) → KeepsTuples ds es → Changes p es fs
+    → KeepsTuples fs gs → Changes p ds gs
 
 pub gains_stable : (rows : List (List ℕ)) → IsStable (λ p old new. GainsAll p rows old new)
 gains_stable rows p ds es fs gs early g late = λ u.
@@ -66,10 +66,10 @@ loses_stable cells p ds es fs gs early g late = λ u.
           omega arith,
     )
 
-keeps_itself : (es : List Entry) → Keeps es es
+keeps_itself : (es : List Entry) → KeepsTuples es es
 keeps_itself es u = refl
 
-pub keeps_both : (es fs gs : List Entry) → Keeps es fs → Keeps fs gs → Keeps es gs
+pub keeps_both : (es fs gs : List Entry) → KeepsTuples es fs → KeepsTuples fs gs → KeepsTuples es gs
 keeps_both es fs gs h k u = k u ∙ h u
 
 pub below_none : {A : Type 0} (Changes : A → List Entry → List Entry → Type 0) (at : ℕ)
@@ -170,7 +170,7 @@ below_kept {A} Changes at atoms ps k r s t stable h kept = record {
 pub leaves_stay : {A : Type 0} (Changes : A → List Entry → List Entry → Type 0)
     (Holds : A → List Entry → Type 0) (at : ℕ) (atoms : List NumberedAtom) (ps : List A)
     (k n : ℕ) (m : NumberedAtom) (p : A) (r s : Reducts)
-    → ((es fs : List Entry) → Keeps es fs → Holds p es → Holds p fs) → k < n
+    → ((es fs : List Entry) → KeepsTuples es fs → Holds p es → Holds p fs) → k < n
     → HoldBelow Holds at atoms ps n r → ChangesBelow Changes at atoms ps k r s
     → slice_get atoms k ≡ Some m → slice_get ps k ≡ Some p → m.relation ≡ at
     → Holds p (entries_at s.tables k)

@@ -31,7 +31,7 @@ use Rattle.djq_query.specs.declared.pattern.Test.{Test}
 use Rattle.djq_query.specs.Numbered.{is_number}
 use Rattle.djq_query.specs.Pattern.{
   Shape,
-  Gives,
+  GivesRow,
   Passes,
   bound,
   filled,
@@ -45,7 +45,7 @@ use Rattle.djq_rows.specs.Cells.{cell_for, cells_of}
 use Rattle.djq_rows.specs.Catalog.{Catalog}
 use Rattle.djq_live.specs.Asked.{constants_in}
 use Rattle.djq_live.specs.Cells.{AreRowOf, cell_under, IsPassed, IsSatisfied}
-use Rattle.djq_live.specs.Leaves.{AreCellsOf, GivesOne, IsPatternOf, IsLeafOf}
+use Rattle.djq_live.specs.Leaves.{AreCellsOfTerms, GivesOne, IsPatternOf, IsLeafOf}
 use Rattle.djq_live.proofs.Members.{in_cons, in_rest}
 
 place_on : (y : ℕ) (l : List ℕ) (x : ℕ) → (y ≡ x → ⊥)
@@ -67,7 +67,7 @@ place_there a (y ∷ l) x m =
 
 -- a row that is put into the atom gives the cells of its terms
 filled_row : (texts : List Bytes) (a : ℕ → ℕ) (l : List ℕ) (ts : List NumberedTerm) (cs : List ℕ)
-    → AreCellsOf texts ts cs
+    → AreCellsOfTerms texts ts cs
     → ((x : ℕ) → list_any (is_number x) ts ≡ true → member x l ≡ true)
     → filled (map a l) (bound l ts cs) ≡ map (cell_under texts a) ts
 unfolding filled bound slot_of cell_of
@@ -162,7 +162,7 @@ passes_tests texts a l (n ∷ ks) h =
 -- the tuple of an assignment that passes gives the cells of the atom's terms
 pub pattern_gives : (c : Catalog) (l : List ℕ) (ks : List NumberedComparison) (m : NumberedAtom)
     (p : Shape) (a : ℕ → ℕ) → IsPatternOf c.texts l ks m p → ArePassedIn c.texts l ks a
-    → Gives p (map a l) (map (cell_under c.texts a) m.terms)
+    → GivesRow p (map a l) (map (cell_under c.texts a) m.terms)
 pattern_gives c l ks m p a h passed = record {
   wide = length-map l a ∙ sym h.width;
   fills = pattern_row c l ks m p a h;

@@ -16,7 +16,7 @@ use Rattle.djq_query.specs.declared.numbered.NumberedTerm.{NumberedTerm}
 use Rattle.djq_query.specs.declared.numbered.NumberedTerm.TheVariants.{Variable as Number, Constant as Fixed}
 use Rattle.djq_query.specs.declared.numbered.NumberedAtom.{NumberedAtom}
 use Rattle.djq_query.specs.Numbered.{labels, is_number}
-use Rattle.djq_query.specs.Meaning.{IsShown, AreShown}
+use Rattle.djq_query.specs.Meaning.{TermIsShown, TermsAreShown}
 use Rattle.djq_rows.specs.Catalog.{Catalog}
 use Rattle.djq_live.specs.Asked.{AreAtomsOf}
 use Rattle.djq_live.specs.Body.{HeadsAreBound}
@@ -61,7 +61,7 @@ label_as : (ls : List Label) (x k : ℕ) (label : Label) (name : Bytes) → x �
 label_as ls x k label name e shown named =
     same_Some label (Some name) (sym shown ∙ ap (slice_get ls) (sym e) ∙ named)
 
-term_is : (ls : List Label) (t : Term) (n : NumberedTerm) (x : ℕ) (name : Bytes) → IsShown ls t n
+term_is : (ls : List Label) (t : Term) (n : NumberedTerm) (x : ℕ) (name : Bytes) → TermIsShown ls t n
     → is_number x n ≡ true → slice_get ls x ≡ Some (Some name) → t ≡ Named name
 term_is ls (Named y) (Number k) x name shown is named =
     ap (λ (z : Bytes). Named z)
@@ -75,7 +75,7 @@ term_is ls Hole (Fixed w) x name shown is named = absurd shown
 term_is ls (Constant v) (Fixed w) x name shown is named = absurd (false≢true is)
 
 term_in : (ls : List Label) (ts : List Term) (ns : List NumberedTerm) (x : ℕ) (name : Bytes)
-    → AreShown ls ts ns → list_any (is_number x) ns ≡ true → slice_get ls x ≡ Some (Some name)
+    → TermsAreShown ls ts ns → list_any (is_number x) ns ≡ true → slice_get ls x ≡ Some (Some name)
     → Contains ts (Named name)
 term_in ls [] [] x name shown has named = absurd (false≢true has)
 term_in ls [] (n ∷ ns) x name shown has named = absurd shown

@@ -57,7 +57,7 @@ use Rattle.djq_live.specs.Changes.{
   Went,
   GainsAll,
   Loses,
-  Keeps,
+  KeepsTuples,
   OverStays,
   OverGains,
   OverLoses,
@@ -101,7 +101,7 @@ row_back c d at cells h l low is there = record {
 -- ---- one relation's rows
 
 same_rows : (c d : Catalog) (at : ℕ) (p : Shape) (es fs : List Entry) → IsCatalog c → IsLater c d
-    → at < length c.relations → rows_at d.relations at ≡ rows_at c.relations at → Keeps es fs
+    → at < length c.relations → rows_at d.relations at ≡ rows_at c.relations at → KeepsTuples es fs
     → Holds c at p es → Holds d at p fs
 same_rows c d at p es fs h l low e keeps holds = record {
   exact = λ u. (

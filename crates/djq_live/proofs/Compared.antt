@@ -36,7 +36,7 @@ use Rattle.djq_query.specs.declared.numbered.NumberedAtom.{NumberedAtom}
 use Rattle.djq_query.specs.declared.numbered.NumberedComparison.{NumberedComparison}
 use Rattle.djq_query.specs.Numbered.{labels, is_number}
 use Rattle.djq_query.specs.Pattern.{passes}
-use Rattle.djq_rows.specs.Cells.{cell_for, HasCell, StandsFor}
+use Rattle.djq_rows.specs.Cells.{cell_for, HasCell, CellStandsFor}
 use Rattle.djq_rows.specs.Parts.{value_of}
 use Rattle.djq_rows.specs.Catalog.{Catalog, IsCatalog}
 use Rattle.djq_rows.proofs.Encoding.{value_back, stands_back}
@@ -107,7 +107,7 @@ passes_as texts GreaterOrEqual TextColumn v w of same order has also = absurd (f
 
 -- a cell that stands for a value passes exactly where the value does
 passes_value : (texts : List Bytes) (o : Operator) (t : ColumnType) (cell : ℕ) (v w : Value)
-    → StandsFor texts t cell v → is_of t w ≡ true → has_order o t ≡ true → HasCell texts w
+    → CellStandsFor texts t cell v → is_of t w ≡ true → has_order o t ≡ true → HasCell texts w
     → passes o cell (cell_for texts w) ≡ compares o v w
 passes_value texts o t cell v w s same order also =
     ap (λ (k : ℕ). passes o k (cell_for texts w)) s.is

@@ -30,7 +30,7 @@ use Rattle.djq_query.specs.declared.numbered.NumberedTerm.TheVariants.{
 }
 use Rattle.djq_query.specs.declared.numbered.NumberedAtom.{NumberedAtom}
 use Rattle.djq_query.specs.Numbered.{Numbered, labels, is_number}
-use Rattle.djq_query.specs.Meaning.{IsShown, AreShown}
+use Rattle.djq_query.specs.Meaning.{TermIsShown, TermsAreShown}
 use Rattle.djq_query.specs.Pattern.{Shape}
 use Rattle.djq_rows.specs.Catalog.{Catalog}
 use Rattle.djq_live.specs.Asked.{IsAsked}
@@ -39,7 +39,7 @@ use Rattle.djq_live.specs.Live.{Live, IsKept, IsKeptSomewhere}
 use Rattle.djq_live.specs.Stepping.{GrowsByOne, CountsLeaves, BoundsLeaf, atoms_below}
 use Rattle.djq_live.specs.Batching.{GrowsBy, CountsMany, CountsGiven}
 use Rattle.djq_live.specs.Updating.{
-  CountsBatch,
+  CountsBatchAt,
   CountsUpdate,
   CountsFlat,
   FlatMeetsAreEqual,
@@ -56,7 +56,7 @@ use Rattle.djq_live.proofs.Sizing.{all_grown}
 
 -- ---- paths are no longer than there are atoms and variables
 
-number_low : (ls : List Label) (t : Term) (n : NumberedTerm) (x : ℕ) → IsShown ls t n
+number_low : (ls : List Label) (t : Term) (n : NumberedTerm) (x : ℕ) → TermIsShown ls t n
     → is_number x n ≡ true → x < length ls
 number_low ls (Named y) (Number k) x shown is =
     let low = slice_get_within ls k (Some y) shown in
@@ -72,7 +72,7 @@ number_low ls Hole (Fixed w) x shown is = absurd shown
 number_low ls (Constant v) (Fixed w) x shown is = absurd (false≢true is)
 
 numbers_low : (ls : List Label) (ts : List Term) (ns : List NumberedTerm) (x : ℕ)
-    → AreShown ls ts ns → list_any (is_number x) ns ≡ true → x < length ls
+    → TermsAreShown ls ts ns → list_any (is_number x) ns ≡ true → x < length ls
 numbers_low ls [] [] x shown has = absurd (false≢true has)
 numbers_low ls [] (n ∷ ns) x shown has = absurd shown
 numbers_low ls (t ∷ ts) [] x shown has = absurd shown
@@ -243,9 +243,9 @@ flat_back l self s at atoms k x y z e a kept tree grows more first second =
 
 pub counts_batch : (l self : Live) (at : ℕ) (atoms : List NumberedAtom) (k more x y : ℕ)
     → l ≡ self → atoms ≡ (l.numbered).atoms → IsKeptSomewhere l
-    → CountsMany more l.reducts (atoms_below at atoms k) x y → CountsBatch more 1 self at x y
+    → CountsMany more l.reducts (atoms_below at atoms k) x y → CountsBatchAt more 1 self at x y
 counts_batch l self at atoms k more x y e a kept counts =
-    subst (λ (z : Live). CountsBatch more 1 z at x y) e
+    subst (λ (z : Live). CountsBatchAt more 1 z at x y) e
     (λ n few. sum_all (atoms_below at atoms k) (atoms_over l at) (update_bound l (n + more)) x y
     (below_over l at atoms k a)
     (counts n (update_bound l (n + more)) few (path_bounds kept.0 l (n + more) kept.1)))
@@ -255,9 +255,9 @@ pub batch_back : (l self : Live) (s : Reducts) (at : ℕ) (atoms : List Numbered
     → s.tree ≡ (l.reducts).tree → GrowsBy more l.reducts s
     → atoms_below at atoms k + 1 ≤ atoms_below at atoms (length atoms)
     → CountsMany more l.reducts (atoms_below at atoms k + 2) x y
-    → CountsGiven s (atoms_below at atoms k) y z → CountsBatch more 2 self at x z
+    → CountsGiven s (atoms_below at atoms k) y z → CountsBatchAt more 2 self at x z
 batch_back l self s at atoms k more x y z e a kept tree grows left first second =
-    subst (λ (v : Live). CountsBatch more 2 v at x z) e
+    subst (λ (v : Live). CountsBatchAt more 2 v at x z) e
     (λ n few.
     let u = update_bound l (n + more) in
     let bounds = path_bounds kept.0 l (n + more) kept.1 in

@@ -13,7 +13,7 @@ use Rattle.djq_propagate.proofs.Measuring.{length_even}
 use Rattle.djq_propagate.proofs.Updating.{inserted_gained_all}
 use Rattle.djq_query.specs.declared.numbered.NumberedAtom.{NumberedAtom}
 use Rattle.djq_live.specs.Stepping.{HasMore, ChangesBelow}
-use Rattle.djq_live.specs.Batching.{HasFew, Adds, GrowsBy, CountsTuples, CountsMany, CountsGiven}
+use Rattle.djq_live.specs.Batching.{HasFew, GainsTuples, GrowsBy, CountsTuples, CountsMany, CountsGiven}
 use Rattle.djq_live.proofs.Sizing.{kept_most, fewer_stay, still_long}
 
 -- ---- one leaf
@@ -93,7 +93,7 @@ grown_none more r = record { each = λ j low. omega arith }
 pub grown_next : (at : ℕ) (atoms : List NumberedAtom) (batch : List (List (List ℕ)))
     (k more : ℕ) (m : NumberedAtom) (us : List (List ℕ)) (r s t : Reducts)
     → slice_get atoms k ≡ Some m → slice_get batch k ≡ Some us → HasFew more batch
-    → ChangesBelow (λ x es fs. Adds x es fs) at atoms batch k r s → GrowsBy more r s
+    → ChangesBelow (λ x es fs. GainsTuples x es fs) at atoms batch k r s → GrowsBy more r s
     → HasGainedAll s t k us → GrowsBy more r t
 grown_next at atoms batch k more m us r s t e f few h grows came = record {
   each = λ j low.
@@ -101,7 +101,7 @@ grown_next at atoms batch k more m us r s t e f few h grows came = record {
         | inl here ↦
             subst (λ (i : ℕ). length (entries_at t.tables i) ≤ length (entries_at r.tables i) + more)
             (sym here)
-            (let a = still_long (λ x es fs. Adds x es fs) at atoms batch k m r s e h in
+            (let a = still_long (λ x es fs. GainsTuples x es fs) at atoms batch k m r s e h in
             let b = longer_leaf k us s t came in
             let c = few.each k us f in
             omega arith)
@@ -151,12 +151,12 @@ sum_next i j b c x y z e first second =
 pub counted_more : (at : ℕ) (atoms : List NumberedAtom) (batch : List (List (List ℕ)))
     (k more : ℕ) (m : NumberedAtom) (us : List (List ℕ)) (r s : Reducts) (c i j x y z : ℕ)
     → slice_get atoms k ≡ Some m → slice_get batch k ≡ Some us → HasFew more batch
-    → k < r.tree.leaves → ChangesBelow (λ v es fs. Adds v es fs) at atoms batch k r s
+    → k < r.tree.leaves → ChangesBelow (λ v es fs. GainsTuples v es fs) at atoms batch k r s
     → GrowsBy more r s → i + c ≡ j → CountsMany more r i x y
     → CountsTuples s k (length us) c y z → CountsMany more r j x z
 counted_more at atoms batch k more m us r s c i j x y z e f few low h grows sums first second =
     λ n b most bounds.
-    let long = still_long (λ v es fs. Adds v es fs) at atoms batch k m r s e h in
+    let long = still_long (λ v es fs. GainsTuples v es fs) at atoms batch k m r s e h in
     let before = most.each k low in
     let size = few.each k us f in
     sum_next i j b c x y z sums (first n b most bounds)

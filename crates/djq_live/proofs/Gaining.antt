@@ -34,7 +34,7 @@ use Rattle.djq_tree.specs.Labels.{label_at}
 use Rattle.djq_reduct.specs.Tables.{entries_at}
 use Rattle.djq_reduct.specs.Reducts.{Reducts, IsReducts}
 use Rattle.djq_reduct.specs.Answers.{on_node, IsAnswerOf}
-use Rattle.djq_cursor.specs.Listing.{IsListing}
+use Rattle.djq_cursor.specs.Listing.{ListsTuples}
 use Rattle.djq_cursor.specs.Changed.{IsGained}
 use Rattle.djq_cursor.proofs.Outs.{out_within}
 use Rattle.djq_live.specs.Stepping.{HasMore}
@@ -128,7 +128,7 @@ answer_or r u h wide =
 
 -- ---- what was gained, step by step
 
-pub gained_none : (r : Reducts) → IsListing (IsGained r r) []
+pub gained_none : (r : Reducts) → ListsTuples (IsGained r r) []
 gained_none r = record {
   different = λ i j d before low. absurd (omega arith);
   all = λ i d low. absurd (omega arith);
@@ -136,8 +136,8 @@ gained_none r = record {
 }
 
 pub gained_both : (r s t : Reducts) (us vs : List (List ℕ)) → IsReducts r → IsReducts s
-    → IsReducts t → HasMore r s → HasMore s t → IsListing (IsGained s r) us
-    → IsListing (IsGained t s) vs → IsListing (IsGained t r) (us ++ vs)
+    → IsReducts t → HasMore r s → HasMore s t → ListsTuples (IsGained s r) us
+    → ListsTuples (IsGained t s) vs → ListsTuples (IsGained t r) (us ++ vs)
 gained_both r s t us vs hr hs ht rs st early late = record {
   different = differ_both us vs early.different late.different
       (λ u m k. (All-contains (IsGained t s) vs u late.all k).was_none
@@ -163,8 +163,8 @@ gained_both r s t us vs hr hs ht rs st early late = record {
 
 -- going down the same way: what the first has and the last hasn't
 pub lost_both : (r s t : Reducts) (us vs : List (List ℕ)) → IsReducts r → IsReducts s
-    → IsReducts t → HasMore s r → HasMore t s → IsListing (IsGained r s) us
-    → IsListing (IsGained s t) vs → IsListing (IsGained r t) (us ++ vs)
+    → IsReducts t → HasMore s r → HasMore t s → ListsTuples (IsGained r s) us
+    → ListsTuples (IsGained s t) vs → ListsTuples (IsGained r t) (us ++ vs)
 lost_both r s t us vs hr hs ht sr ts early late = record {
   different = differ_both us vs early.different late.different
       (λ u m k. (All-contains (IsGained r s) us u early.all m).was_none
@@ -190,7 +190,7 @@ lost_both r s t us vs hr hs ht sr ts early late = record {
 
 -- a listing of one property is one of another that says the same
 pub listing_as : (P Q : List ℕ → Type 0) (us : List (List ℕ)) → ((u : List ℕ) → P u ↔ Q u)
-    → IsListing P us → IsListing Q us
+    → ListsTuples P us → ListsTuples Q us
 listing_as P Q us same h = record {
   different = h.different;
   all = λ i d low. (same _).0 (h.all i d low);

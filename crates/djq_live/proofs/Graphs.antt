@@ -56,7 +56,7 @@ use Rattle.djq_query.specs.Numbered.{
   numbered_terms,
   terms_at,
 }
-use Rattle.djq_query.specs.Meaning.{AreShown, AreAtomsShown}
+use Rattle.djq_query.specs.Meaning.{TermsAreShown, AreAtomsShown}
 use Rattle.djq_query.proofs.Faults.{sound_of}
 use Rattle.djq_query.proofs.Numbers.{not_false, length_labels, labels_columns}
 use Rattle.djq_query.proofs.Showing.{shown_by}
@@ -169,7 +169,7 @@ head_is rs q n e fault h within set has =
 
 name_shown : (ls : List Label) (x : Bytes) (t : Term) (m : NumberedTerm)
     → ((k : ℕ) (y : Bytes) → slice_get ls k ≡ Some (Some y) → number_of ls y ≡ k)
-    → AreShown ls (t ∷ []) (m ∷ []) → is_variable x t ≡ true
+    → TermsAreShown ls (t ∷ []) (m ∷ []) → is_variable x t ≡ true
     → is_number (number_of ls x) m ≡ true
 name_shown ls x (Named y) (Number k) one shown is =
     eq-eqb (number_of ls x) k
@@ -180,7 +180,7 @@ name_shown ls x (Constant v) m one shown is = absurd (false≢true is)
 
 terms_shown : (ls : List Label) (x : Bytes) (ts : List Term) (ms : List NumberedTerm)
     → ((k : ℕ) (y : Bytes) → slice_get ls k ≡ Some (Some y) → number_of ls y ≡ k)
-    → AreShown ls ts ms → list_any (is_variable x) ts ≡ true
+    → TermsAreShown ls ts ms → list_any (is_variable x) ts ≡ true
     → list_any (is_number (number_of ls x)) ms ≡ true
 terms_shown ls x [] ms one shown is = absurd (false≢true is)
 terms_shown ls x (t ∷ ts) [] one shown is = absurd shown

@@ -45,7 +45,7 @@ use Rattle.djq_query.specs.declared.numbered.NumberedTerm.TheVariants.{
   Variable as Number,
   Constant as Fixed,
 }
-use Rattle.djq_query.specs.Meaning.{AreShown, Rise, hole_of, holes_among}
+use Rattle.djq_query.specs.Meaning.{TermsAreShown, Rise, hole_of, holes_among}
 use Rattle.djq_rows.specs.Cells.{cell_for, cells_of}
 use Rattle.djq_live.specs.Cells.{cell_under}
 
@@ -124,7 +124,7 @@ HasNames texts ls values a = (x : ℕ) (name : Bytes) → slice_get ls x ≡ Som
 
 pub cells_terms : (texts : List Bytes) (ls : List Label) (values : Bytes → Value) (a : ℕ → ℕ)
     (from : ℕ) (ts : List Term) (ns : List NumberedTerm) (row : Tuple) → HasNames texts ls values a
-    → AreShown ls ts ns → StandForAll values ts row → Rise from (holes_among ts ns)
+    → TermsAreShown ls ts ns → StandForAll values ts row → Rise from (holes_among ts ns)
     → ((y : ℕ) → member y (holes_among ts ns) ≡ true → a y ≡ hole_cell texts ts ns row y)
     → map (cell_under texts a) ns ≡ cells_of texts row
 unfolding holes_among Rise
@@ -161,7 +161,7 @@ cells_terms texts ls values a from (Constant w ∷ ts) (Number x ∷ ns) (v ∷ 
 
 -- a hole's number has no name
 pub among_unnamed : (ls : List Label) (ts : List Term) (ns : List NumberedTerm) (y : ℕ)
-    → AreShown ls ts ns → member y (holes_among ts ns) ≡ true → slice_get ls y ≡ Some None
+    → TermsAreShown ls ts ns → member y (holes_among ts ns) ≡ true → slice_get ls y ≡ Some None
 unfolding holes_among
 among_unnamed ls [] ns y shown m = absurd (false≢true m)
 among_unnamed ls (t ∷ ts) [] y shown m = absurd (false≢true m)

@@ -43,8 +43,8 @@ use Rattle.djq_reduct.specs.Answers.{IsAnswerOf}
 use Rattle.djq_reduct.proofs.Placing.{column_within}
 use Rattle.djq_reduct.proofs.Readings.{cell_there, row_same, reading_row, simple_of}
 use Rattle.djq_cursor.specs.declared.cursor.Cursor.{Cursor}
-use Rattle.djq_cursor.specs.Listing.{AreSome, IsListing}
-use Rattle.djq_cursor.specs.Menus.{has}
+use Rattle.djq_cursor.specs.Listing.{AreSome, ListsTuples}
+use Rattle.djq_cursor.specs.Menus.{has_tuple}
 use Rattle.djq_cursor.specs.Given.{given, Fits}
 use Rattle.djq_cursor.proofs.Listed.{whole_answers, cursor_answers}
 use Rattle.djq_union.specs.Answers.{
@@ -54,7 +54,7 @@ use Rattle.djq_union.specs.Answers.{
 }
 use Rattle.djq_live.specs.Live.{Live, IsKeptSomewhere}
 use Rattle.djq_live.specs.Member.{in_head, all_answers, has_cells, cells_given, FitsKept}
-use Rattle.djq_live.specs.Order.{reading, AreCellsOfAnswer}
+use Rattle.djq_live.specs.Order.{cell_of_variable, AreCellsOfAnswer}
 use Rattle.djq_live.proofs.Asking.{head_narrow, leaves_long}
 use Rattle.djq_live.proofs.Members.{in_last}
 use Rattle.djq_live.proofs.Picking.{member_at}
@@ -83,36 +83,36 @@ ordered_more f head at low =
 
 -- ---- a list's members, mapped
 
-has_map : (f : List ℕ → List ℕ) (us : List (List ℕ)) (u : List ℕ) → has us u ≡ true
-    → has (map f us) (f u) ≡ true
+has_map : (f : List ℕ → List ℕ) (us : List (List ℕ)) (u : List ℕ) → has_tuple us u ≡ true
+    → has_tuple (map f us) (f u) ≡ true
 has_map f [] u h = absurd (false≢true h)
 has_map f (v ∷ us) u h =
-    elim (or_cases (same v u) (has us u) h) [
-      | inl here ↦ or_left (same (f v) (f u)) (has (map f us) (f u))
+    elim (or_cases (same v u) (has_tuple us u) h) [
+      | inl here ↦ or_left (same (f v) (f u)) (has_tuple (map f us) (f u))
           (is_same (f v) (f u) (ap f (same_is v u here)))
-      | inr there ↦ or_right (same (f v) (f u)) (has (map f us) (f u)) (has_map f us u there)
+      | inr there ↦ or_right (same (f v) (f u)) (has_tuple (map f us) (f u)) (has_map f us u there)
     ]
 
 record Comes (f : List ℕ → List ℕ) (us : List (List ℕ)) (t : List ℕ) : Type 0 where
   pub from : List ℕ
-  pub there : has us from ≡ true
+  pub there : has_tuple us from ≡ true
   pub is : f from ≡ t
 
-map_has : (f : List ℕ → List ℕ) (us : List (List ℕ)) (t : List ℕ) → has (map f us) t ≡ true
+map_has : (f : List ℕ → List ℕ) (us : List (List ℕ)) (t : List ℕ) → has_tuple (map f us) t ≡ true
     → Comes f us t
 map_has f [] t h = absurd (false≢true h)
 map_has f (v ∷ us) t h =
-    elim (or_cases (same (f v) t) (has (map f us) t) h) [
+    elim (or_cases (same (f v) t) (has_tuple (map f us) t) h) [
       | inl here ↦ record {
         from = v;
-        there = or_left (same v v) (has us v) (is_same v v refl);
+        there = or_left (same v v) (has_tuple us v) (is_same v v refl);
         is = same_is (f v) t here;
       }
       | inr there ↦ (
           let c = map_has f us t there in
           record {
             from = c.from;
-            there = or_right (same v c.from) (has us c.from) c.there;
+            there = or_right (same v c.from) (has_tuple us c.from) c.there;
             is = c.is;
           })
     ]
@@ -125,46 +125,46 @@ pub record IsHead (r : Reducts) (head : List ℕ) : Type 0 where
   pub within : (x : ℕ) → member x r.tree.head ≡ member x head
 
 abbrev cells_in : Reducts → List ℕ → List ℕ → List ℕ
-cells_in r head u = map (reading r.tree.head u) head
+cells_in r head u = map (cell_of_variable r.tree.head u) head
 
 -- the answer that cells are of
 cells_back : (r : Reducts) (head u : List ℕ) → IsHead r head → length u ≡ length r.tree.head
-    → map (reading head (cells_in r head u)) r.tree.head ≡ u
+    → map (cell_of_variable head (cells_in r head u)) r.tree.head ≡ u
 cells_back r head u h wide =
     let F = r.tree.head in
-    row_same (reading head (cells_in r head u)) (reading F u) F
-    (λ x m. cell_there (reading F u) head x (sym (h.within x) ∙ m))
+    row_same (cell_of_variable head (cells_in r head u)) (cell_of_variable F u) F
+    (λ x m. cell_there (cell_of_variable F u) head x (sym (h.within x) ∙ m))
     ∙ reading_row F u (simple_of F h.reducts.family.is_tree.head_set.rising) wide
 
 cells_apart : (r : Reducts) (head u v : List ℕ) → IsHead r head → IsAnswerOf r u → IsAnswerOf r v
     → cells_in r head u ≡ cells_in r head v → u ≡ v
 cells_apart r head u v h is other e =
     sym (cells_back r head u h is.wide)
-    ∙ ap (λ (t : List ℕ). map (reading head t) r.tree.head) e
+    ∙ ap (λ (t : List ℕ). map (cell_of_variable head t) r.tree.head) e
     ∙ cells_back r head v h other.wide
 
 answer_had : (r : Reducts) (u : List ℕ) → IsReducts r → IsAnswerOf r u
-    → has (all_answers r) u ≡ true
+    → has_tuple (all_answers r) u ≡ true
 unfolding all_answers
 answer_had r u h is = (whole_answers r h).complete u is
 
-had_answer : (r : Reducts) (u : List ℕ) → IsReducts r → has (all_answers r) u ≡ true
+had_answer : (r : Reducts) (u : List ℕ) → IsReducts r → has_tuple (all_answers r) u ≡ true
     → IsAnswerOf r u
 unfolding all_answers
 had_answer r u h is = (whole_answers r h).answers u is
 
 pub cells_had : (r : Reducts) (head t : List ℕ) → IsHead r head → AreCellsOfAnswer r head t
-    → has (map (cells_in r head) (all_answers r)) t ≡ true
+    → has_tuple (map (cells_in r head) (all_answers r)) t ≡ true
 cells_had r head t h is =
     let F = r.tree.head in
-    let u = map (reading head t) F in
-    subst (λ (s : List ℕ). has (map (cells_in r head) (all_answers r)) s ≡ true)
-    (row_same (reading F u) (reading head t) head
-    (λ x m. cell_there (reading head t) F x (h.within x ∙ m)) ∙ is.are)
+    let u = map (cell_of_variable head t) F in
+    subst (λ (s : List ℕ). has_tuple (map (cells_in r head) (all_answers r)) s ≡ true)
+    (row_same (cell_of_variable F u) (cell_of_variable head t) head
+    (λ x m. cell_there (cell_of_variable head t) F x (h.within x ∙ m)) ∙ is.are)
     (has_map (cells_in r head) (all_answers r) u (answer_had r u h.reducts is.is_answer))
 
 pub had_cells : (r : Reducts) (head t : List ℕ) → IsHead r head
-    → has (map (cells_in r head) (all_answers r)) t ≡ true → AreCellsOfAnswer r head t
+    → has_tuple (map (cells_in r head) (all_answers r)) t ≡ true → AreCellsOfAnswer r head t
 had_cells r head t h had =
     let F = r.tree.head in
     let c = map_has (cells_in r head) (all_answers r) t had in
@@ -173,15 +173,15 @@ had_cells r head t h had =
     subst (AreCellsOfAnswer r head) c.is
     (record {
       is_answer = subst (IsAnswerOf r) (sym (cells_back r head u h is.wide)) is;
-      are = row_same (reading head (cells_in r head u)) (reading F u) head
-          (λ x m. cell_there (reading F u) head x m);
+      are = row_same (cell_of_variable head (cells_in r head u)) (cell_of_variable F u) head
+          (λ x m. cell_there (cell_of_variable F u) head x m);
     })
 
 -- ---- listings
 
 some_cells : (r : Reducts) (head : List ℕ) (us : List (List ℕ)) → IsHead r head
     → AreSome (IsAnswerOf r) us
-    → AreSomeCells (λ t. has (map (cells_in r head) (all_answers r)) t) (map (cells_in r head) us)
+    → AreSomeCells (λ t. has_tuple (map (cells_in r head) (all_answers r)) t) (map (cells_in r head) us)
 some_cells r head us h some =
     let f : List ℕ → List ℕ = cells_in r head in
     let long : length (map f us) ≡ length us = length-map us f in
@@ -191,7 +191,7 @@ some_cells r head us h some =
           (cells_apart r head _ _ h (some.all i [] (omega arith)) (some.all j [] (omega arith))
           (sym (get_or-map f us i [] d (omega arith)) ∙ e ∙ get_or-map f us j [] d (omega arith)));
       answers = λ i d low.
-          subst (λ (t : List ℕ). has (map f (all_answers r)) t ≡ true)
+          subst (λ (t : List ℕ). has_tuple (map f (all_answers r)) t ≡ true)
           (sym (get_or-map f us i [] d (omega arith)))
           (has_map f (all_answers r) _
           (answer_had r _ h.reducts (some.all i [] (omega arith))));
@@ -199,7 +199,7 @@ some_cells r head us h some =
 
 all_cells : (r : Reducts) (head : List ℕ) (us : List (List ℕ)) → IsHead r head
     → ((u : List ℕ) → IsAnswerOf r u → Contains us u)
-    → AreAllCells (λ t. has (map (cells_in r head) (all_answers r)) t) (map (cells_in r head) us)
+    → AreAllCells (λ t. has_tuple (map (cells_in r head) (all_answers r)) t) (map (cells_in r head) us)
 all_cells r head us h complete t had =
     let f : List ℕ → List ℕ = cells_in r head in
     let long : length (map f us) ≡ length us = length-map us f in
@@ -210,7 +210,7 @@ all_cells r head us h complete t had =
 
 cells_all : (r : Reducts) (head : List ℕ) (us : List (List ℕ)) → IsHead r head
     → AreSome (IsAnswerOf r) us
-    → AreAllCells (λ t. has (map (cells_in r head) (all_answers r)) t) (map (cells_in r head) us)
+    → AreAllCells (λ t. has_tuple (map (cells_in r head) (all_answers r)) t) (map (cells_in r head) us)
     → (u : List ℕ) → IsAnswerOf r u → Contains us u
 cells_all r head us h some all u is =
     let f : List ℕ → List ℕ = cells_in r head in
@@ -259,7 +259,7 @@ some_given l s f = some_cells l.reducts l.numbered.head (given l.reducts s) (kep
 
 -- all were given as cells exactly where they were given as answers of the tree
 pub all_given_same : (l : Live) (s : Cursor) → FitsKept l s
-    → IsListing (IsAnswerOf l.reducts) (given l.reducts s)
+    → ListsTuples (IsAnswerOf l.reducts) (given l.reducts s)
     ↔ AreAllCells (λ t. has_cells l t) (cells_given l s)
 all_given_same l s f =
     let h = kept_head l f.0 in
@@ -288,29 +288,29 @@ step_answer l old new one some =
     (in_last new.answer (given l.reducts old)))
 
 pub end_same : (l m : Live) (s : Cursor) (found told : Bool) → l ≡ m → FitsKept m s
-    → told ≡ found → (found ≡ false) ↔ IsListing (IsAnswerOf l.reducts) (given l.reducts s)
+    → told ≡ found → (found ≡ false) ↔ ListsTuples (IsAnswerOf l.reducts) (given l.reducts s)
     → (told ≡ false) ↔ IsListingOfCells (λ t. has_cells m t) (cells_given m s)
 end_same l m s found told e f is h =
     let all = all_given_same m s f in (
       λ none. (
           let listing = subst
-          (λ (o : Live). IsListing (IsAnswerOf o.reducts) (given o.reducts s)) e
+          (λ (o : Live). ListsTuples (IsAnswerOf o.reducts) (given o.reducts s)) e
           (h.0 (sym is ∙ none)) in
           record { some = some_given m s f; all = all.0 listing }),
       λ listing. is ∙ h.1 (subst
-          (λ (o : Live). IsListing (IsAnswerOf o.reducts) (given o.reducts s)) (sym e)
+          (λ (o : Live). ListsTuples (IsAnswerOf o.reducts) (given o.reducts s)) (sym e)
           (all.1 listing.all)),
     )
 
 pub left_same : (l m : Live) (s : Cursor) (left : Bool) → l ≡ m → FitsKept m s
-    → (left ≡ false) ↔ IsListing (IsAnswerOf l.reducts) (given l.reducts s)
+    → (left ≡ false) ↔ ListsTuples (IsAnswerOf l.reducts) (given l.reducts s)
     → (left ≡ false) ↔ AreAllCells (λ t. has_cells m t) (cells_given m s)
 left_same l m s left e f h =
     let all = all_given_same m s f in (
       λ none. all.0 (subst
-          (λ (o : Live). IsListing (IsAnswerOf o.reducts) (given o.reducts s)) e (h.0 none)),
+          (λ (o : Live). ListsTuples (IsAnswerOf o.reducts) (given o.reducts s)) e (h.0 none)),
       λ whole. h.1 (subst
-          (λ (o : Live). IsListing (IsAnswerOf o.reducts) (given o.reducts s)) (sym e)
+          (λ (o : Live). ListsTuples (IsAnswerOf o.reducts) (given o.reducts s)) (sym e)
           (all.1 whole)),
     )
 
@@ -361,7 +361,7 @@ none_had l m head t e kept is other =
       | inl found ↦ (
           let had = had_cells m.reducts m.numbered.head t (kept_head m kept) found in
           absurd (other (sym (ap (λ (ys : List ℕ). length ys) had.are)
-          ∙ length-map m.numbered.head (reading m.numbered.head t)
+          ∙ length-map m.numbered.head (cell_of_variable m.numbered.head t)
           ∙ sym (ap (λ (ys : List ℕ). length ys) (is ∙ ap (λ (o : Live). o.numbered.head) e)))))
       | inr none ↦ sym none
     ]

@@ -48,7 +48,7 @@ use Rattle.djq_rows.proofs.Encoding.{value_back}
 use Rattle.djq_live.specs.Asked.{column_of}
 use Rattle.djq_live.specs.Live.{values_of}
 use Rattle.djq_live.specs.Member.{in_tree, CellsInTreeStand}
-use Rattle.djq_live.specs.Order.{reading}
+use Rattle.djq_live.specs.Order.{cell_of_variable}
 use Rattle.djq_live.specs.Shown.{value_at, AreShownAs}
 use Rattle.djq_live.proofs.Showing.{first_label, rest_labels}
 
@@ -100,7 +100,7 @@ simple_head f (x ∷ xs) (name ∷ names) e h =
 
 -- they are shown, where the head reads them
 shown_as : (texts : List Bytes) (vs : List Variable) (F u xs : List ℕ) (v : Tuple)
-    → map (reading F u) xs ≡ cells_of texts v → fits (map (column_of vs) xs) v ≡ true
+    → map (cell_of_variable F u) xs ≡ cells_of texts v → fits (map (column_of vs) xs) v ≡ true
     → HaveCells texts v → AreShownAs texts vs F u xs v
 shown_as texts vs F u [] [] e f h = tt
 shown_as texts vs F u [] (w ∷ v) e f h = absurd (false≢true f)
@@ -141,10 +141,10 @@ fits_long vs (x ∷ xs) (w ∷ v) f =
 -- cells in the head's order are read off their tuple of the tree
 head_read : (head F t : List ℕ) → IsSimple head → length t ≡ length head
     → ((x : ℕ) → member x F ≡ member x head)
-    → map (reading F (map (reading head t) F)) head ≡ t
+    → map (cell_of_variable F (map (cell_of_variable head t) F)) head ≡ t
 head_read head F t simple long within =
-    row_same (reading F (map (reading head t) F)) (reading head t) head
-    (λ x m. cell_there (reading head t) F x (within x ∙ m))
+    row_same (cell_of_variable F (map (cell_of_variable head t) F)) (cell_of_variable head t) head
+    (λ x m. cell_there (cell_of_variable head t) F x (within x ∙ m))
     ∙ reading_row head t simple long
 
 pub tree_stand : CellsInTreeStand
@@ -163,7 +163,7 @@ tree_stand c l kept t v s =
     let same : values_of c.texts l u ≡ v = values_as c.texts n.variables F u n.head v shows in
     record {
       showable = record {
-        wide = length-map F (reading n.head t);
+        wide = length-map F (cell_of_variable n.head t);
         stands = subst (AreShownAs c.texts n.variables F u n.head) (sym same) shows;
       };
       shows = same;

@@ -22,20 +22,20 @@ use Rattle.djq_rows.specs.Cells.{cells_of, HaveCells}
 use Rattle.djq_rows.specs.Catalog.{Catalog, relation_at}
 use Rattle.djq_rows.proofs.Lawful.{stay}
 use Rattle.djq_live.specs.Asked.{
-  AreSuited,
+  TermsSuit,
   IsAtomOf,
   AreAtomsOf,
   AreComparisonsOf,
   IsAsked,
   constants_in,
 }
-use Rattle.djq_live.specs.Leaves.{AreCellsOf, IsPatternOf}
+use Rattle.djq_live.specs.Leaves.{AreCellsOfTerms, IsPatternOf}
 use Rattle.djq_live.specs.Changes.{IsLater}
 use Rattle.djq_live.proofs.Members.{in_rest}
 use Rattle.djq_rows.proofs.Encoding.{has_more, cell_more}
 
 suited_later : (texts more : List Bytes) (vs : List Variable) (ns : List NumberedTerm)
-    (cs : List ColumnType) → AreSuited texts vs ns cs → AreSuited (texts ++ more) vs ns cs
+    (cs : List ColumnType) → TermsSuit texts vs ns cs → TermsSuit (texts ++ more) vs ns cs
 suited_later texts more vs [] [] h = tt
 suited_later texts more vs [] (c ∷ cs) h = absurd h
 suited_later texts more vs (n ∷ ns) [] h = absurd h
@@ -45,8 +45,8 @@ suited_later texts more vs (Fixed v ∷ ns) (c ∷ cs) h =
     ((h.0.0, has_more texts more v h.0.1), suited_later texts more vs ns cs h.1)
 
 bound_later : (texts more : List Bytes) (vs : List Variable) (ns : List NumberedTerm)
-    (cs : List ColumnType) (ks : List ℕ) → AreSuited texts vs ns cs → AreCellsOf texts ns ks
-    → AreCellsOf (texts ++ more) ns ks
+    (cs : List ColumnType) (ks : List ℕ) → TermsSuit texts vs ns cs → AreCellsOfTerms texts ns ks
+    → AreCellsOfTerms (texts ++ more) ns ks
 bound_later texts more vs [] cs [] h are = tt
 bound_later texts more vs [] cs (k ∷ ks) h are = absurd are
 bound_later texts more vs (n ∷ ns) cs [] h are = absurd are
@@ -62,9 +62,9 @@ atom_later c d vs a m l h = record {
   below = (let low = h.below in let long = l.long in omega arith);
   named = l.named m.relation h.below ∙ h.named;
   shown = h.shown;
-  suited = subst (λ (cs : List ColumnType). AreSuited d.texts vs m.terms cs)
+  suited = subst (λ (cs : List ColumnType). TermsSuit d.texts vs m.terms cs)
       (sym (l.typed m.relation h.below))
-      (subst (λ (texts : List Bytes). AreSuited texts vs m.terms
+      (subst (λ (texts : List Bytes). TermsSuit texts vs m.terms
       (relation_at c.relations m.relation).types) (sym l.texts)
       (suited_later c.texts l.more vs m.terms (relation_at c.relations m.relation).types h.suited));
 }
@@ -157,7 +157,7 @@ pattern_later c d vs l ks a m p later is have h = record {
   variables = h.variables;
   width = h.width;
   cells = h.cells;
-  are = subst (λ (texts : List Bytes). AreCellsOf texts m.terms h.cells) (sym later.texts)
+  are = subst (λ (texts : List Bytes). AreCellsOfTerms texts m.terms h.cells) (sym later.texts)
       (bound_later c.texts later.more vs m.terms (relation_at c.relations m.relation).types h.cells
       is.suited h.are);
   slots = h.slots;

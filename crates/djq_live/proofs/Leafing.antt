@@ -33,11 +33,11 @@ use Rattle.djq_reduct.specs.Tables.{entries_at}
 use Rattle.djq_reduct.specs.Reducts.{Reducts, IsReducts}
 use Rattle.djq_reduct.proofs.Family.{apart_at}
 use Rattle.djq_propagate.specs.Updates.{HasInserted, HasMarked, HasKept, HasGained, HasLost}
-use Rattle.djq_cursor.specs.Listing.{IsListing}
+use Rattle.djq_cursor.specs.Listing.{ListsTuples}
 use Rattle.djq_cursor.specs.Changed.{IsGained}
 use Rattle.djq_cursor.specs.Log.{Log}
-use Rattle.djq_query.specs.Pattern.{Shape, Gives}
-use Rattle.djq_live.specs.Changes.{Gains, Loses}
+use Rattle.djq_query.specs.Pattern.{Shape, GivesRow}
+use Rattle.djq_live.specs.Changes.{GainsTuple, Loses}
 use Rattle.djq_live.specs.Stepping.{ChangesAt, ListsAll, ListsWhere}
 use Rattle.djq_live.proofs.Giving.{one_of, only_one}
 use Rattle.djq_live.proofs.Gaining.{gained_none, gained_same, listing_as, same_more}
@@ -45,16 +45,16 @@ use Rattle.djq_live.proofs.Telling.{tells_none, tells_both, counts_none, counts_
 
 -- the tuple is the one that gives the cells
 abbrev pub IsOnly : Option (List ℕ) → Shape → List ℕ → Type 0
-IsOnly o p cells = (u : List ℕ) → (o ≡ Some u) ↔ Gives p u cells
+IsOnly o p cells = (u : List ℕ) → (o ≡ Some u) ↔ GivesRow p u cells
 
-pub only_lent : (p : Shape) (cells u : List ℕ) → ((v : List ℕ) → (u ≡ v) ↔ Gives p v cells)
+pub only_lent : (p : Shape) (cells u : List ℕ) → ((v : List ℕ) → (u ≡ v) ↔ GivesRow p v cells)
     → IsOnly (Some u) p cells
 only_lent p cells u only v = (
   λ e. (only v).0 (same_Some u v e),
   λ gives. ap (λ (w : List ℕ). Some w) ((only v).1 gives),
 )
 
-pub only_none : (p : Shape) (cells : List ℕ) → ((v : List ℕ) → Gives p v cells → ⊥)
+pub only_none : (p : Shape) (cells : List ℕ) → ((v : List ℕ) → GivesRow p v cells → ⊥)
     → IsOnly None p cells
 only_none p cells none v = (λ e. absurd (none-some v e), λ gives. absurd (none v gives))
 
@@ -62,7 +62,7 @@ only_none p cells none v = (λ e. absurd (none-some v e), λ gives. absurd (none
 
 pub gained_gains : (cells u : List ℕ) (p : Shape) (j : ℕ) (old new : Reducts)
     → IsOnly (Some u) p cells → HasGained old new j u
-    → ChangesAt (λ q es fs. Gains q cells es fs) p j old new
+    → ChangesAt (λ q es fs. GainsTuple q cells es fs) p j old new
 gained_gains cells u p j old new only came = record {
   sound = came.sound;
   tree = came.tree;
@@ -144,7 +144,7 @@ lists_none false came r h calls log n = (refl, refl)
 
 pub lists_both : (wanted came : Bool) (P Q R : List ℕ → Type 0) (h c d : ℕ) (old mid new : Log)
     (x y z : ℕ)
-    → ((us vs : List (List ℕ)) → IsListing P us → IsListing Q vs → IsListing R (us ++ vs))
+    → ((us vs : List (List ℕ)) → ListsTuples P us → ListsTuples Q vs → ListsTuples R (us ++ vs))
     → ListsWhere wanted came P h c old mid x y → ListsWhere wanted came Q h d mid new y z
     → ListsWhere wanted came R h (c + d) old new x z
 lists_both true came P Q R h c d old mid new x y z both l k = record {

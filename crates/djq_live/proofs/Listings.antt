@@ -25,19 +25,19 @@ use Rattle.std.specs.Prelude.{Contains, slice_index_or}
 use Rattle.std.proofs.lemmas.List.Elements.{All-append, Contains-append_right}
 use Rattle.std.proofs.lemmas.List.Kept.{AllPairs-cons}
 use Rattle.djq_union.proofs.Lists.{at_head, none_contained, all_of}
-use Rattle.djq_union.specs.Answers.{AreDifferent}
+use Rattle.djq_union.specs.Answers.{AreDistinctAnswers}
 use Rattle.djq_live.proofs.Members.{in_rest, in_cons}
 
-rest_differ : {A : Type 0} (x : A) (xs : List A) → AreDifferent (x ∷ xs) → AreDifferent xs
+rest_differ : {A : Type 0} (x : A) (xs : List A) → AreDistinctAnswers (x ∷ xs) → AreDistinctAnswers xs
 rest_differ x xs d i j e a b = d (suc i) (suc j) e (omega arith) (omega arith)
 
-first_differs : {A : Type 0} (x y : A) (xs : List A) → AreDifferent (x ∷ xs) → Contains xs y
+first_differs : {A : Type 0} (x y : A) (xs : List A) → AreDistinctAnswers (x ∷ xs) → Contains xs y
     → x ≡ y → ⊥
 first_differs x y xs d c e =
     d zero (suc c.0) y (omega arith) (let low = c.1 in omega arith) (e ∙ sym c.2)
 
 -- what is put behind a list without repeats wasn't in it
-pub late_differs : {A : Type 0} (x : A) (xs ys : List A) → AreDifferent (xs ++ ys) → Contains xs x
+pub late_differs : {A : Type 0} (x : A) (xs ys : List A) → AreDistinctAnswers (xs ++ ys) → Contains xs x
     → Contains ys x → ⊥
 late_differs x [] ys d c k = none_contained x c
 late_differs x (y ∷ xs) ys d c k =
@@ -76,7 +76,7 @@ others_stay (y ∷ ys) (suc k) x z e low c other =
     ]
 
 -- A list without repeats is no longer than one that contains all of it.
-pub few : {A : Type 0} (xs ys : List A) → AreDifferent xs
+pub few : {A : Type 0} (xs ys : List A) → AreDistinctAnswers xs
     → ((x : A) → Contains xs x → Contains ys x) → length xs ≤ length ys
 few [] ys d h = omega arith
 few (x ∷ xs) ys d h =
@@ -92,8 +92,8 @@ few (x ∷ xs) ys d h =
 contains_as : {A : Type 0} (ys : List A) (y x : A) → y ≡ x → Contains ys y → Contains ys x
 contains_as ys y x e m = subst (λ z. Contains ys z) e m
 
-pub differ_both : {A : Type 0} (xs ys : List A) → AreDifferent xs → AreDifferent ys
-    → ((x : A) → Contains xs x → Contains ys x → ⊥) → AreDifferent (xs ++ ys)
+pub differ_both : {A : Type 0} (xs ys : List A) → AreDistinctAnswers xs → AreDistinctAnswers ys
+    → ((x : A) → Contains xs x → Contains ys x → ⊥) → AreDistinctAnswers (xs ++ ys)
 differ_both [] ys d e apart = e
 differ_both (x ∷ xs) ys d e apart =
     AllPairs-cons (λ s t. s ≡ t → ⊥) x (xs ++ ys)
@@ -131,8 +131,8 @@ image_of f (x ∷ xs) y c =
           record { of = r.of; there = in_rest x r.of xs r.there; is = r.is }
     ]
 
-pub images_differ : {A B : Type 0} (f : A → B) (xs : List A) → AreDifferent xs
-    → ((x y : A) → Contains xs x → Contains xs y → f x ≡ f y → x ≡ y) → AreDifferent (map f xs)
+pub images_differ : {A B : Type 0} (f : A → B) (xs : List A) → AreDistinctAnswers xs
+    → ((x y : A) → Contains xs x → Contains xs y → f x ≡ f y → x ≡ y) → AreDistinctAnswers (map f xs)
 images_differ f [] d one = λ i j e a b. absurd (omega arith)
 images_differ f (x ∷ xs) d one =
     AllPairs-cons (λ s t. s ≡ t → ⊥) (f x) (map f xs)

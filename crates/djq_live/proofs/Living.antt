@@ -15,7 +15,7 @@ use Rattle.djq_machine.specs.Delta.{Change}
 use Rattle.djq_machine.specs.Store.{most_steps}
 use Rattle.djq_tree.specs.Tree.{Tree}
 use Rattle.djq_reduct.specs.Reducts.{Reducts, SameTables}
-use Rattle.djq_cursor.specs.Listing.{IsListing}
+use Rattle.djq_cursor.specs.Listing.{ListsTuples}
 use Rattle.djq_cursor.specs.Changed.{IsGained}
 use Rattle.djq_cursor.specs.Log.{Log}
 use Rattle.djq_union.proofs.Lists.{none_contained}
@@ -24,13 +24,13 @@ use Rattle.djq_query.specs.Numbered.{Numbered}
 use Rattle.djq_query.specs.Pattern.{Shape}
 use Rattle.djq_rows.specs.Catalog.{Catalog, IsCatalog, no_relation, rows_at}
 use Rattle.djq_live.specs.Leaves.{IsOver}
-use Rattle.djq_live.specs.Changes.{IsLater, Came, CameAll, Went, Gains, GainsAll, Loses}
+use Rattle.djq_live.specs.Changes.{IsLater, Came, CameAll, Went, GainsTuple, GainsAll, Loses}
 use Rattle.djq_live.specs.Shown.{shown}
 use Rattle.djq_live.specs.Live.{Live, IsKept, SameQuery, values_of}
 use Rattle.djq_live.specs.Updating.{
   CanAdd,
   CanDelete,
-  Follows,
+  KeptAfter,
   IsDeltaOf,
   LogsWhere,
   CountsDelta,
@@ -38,7 +38,7 @@ use Rattle.djq_live.specs.Updating.{
   change_of,
 }
 use Rattle.djq_live.specs.Stepping.{
-  Lacks,
+  LacksCells,
   Has,
   HasMore,
   ChangesBelow,
@@ -46,7 +46,7 @@ use Rattle.djq_live.specs.Stepping.{
   HoldBelow,
   ListsWhere,
   atoms_below,
-  lines_of,
+  answer_lines,
 }
 use Rattle.djq_live.proofs.Giving.{one_of}
 use Rattle.djq_live.proofs.Members.{in_cons, in_rest}
@@ -134,9 +134,9 @@ add_leaves l at cells atoms ps e f can =
 
 pub add_lacks : (l : Live) (at : ℕ) (cells : List ℕ) (atoms : List NumberedAtom)
     (ps : List Shape) → atoms ≡ (l.numbered).atoms → ps ≡ l.patterns → CanAdd l at cells
-    → HoldBelow (λ p es. Lacks cells p es) at atoms ps (length atoms) l.reducts
+    → HoldBelow (λ p es. LacksCells cells p es) at atoms ps (length atoms) l.reducts
 add_lacks l at cells atoms ps e f can =
-    inside (λ a p. HoldBelow (λ x es. Lacks cells x es) at a p (length a) l.reducts) atoms
+    inside (λ a p. HoldBelow (λ x es. LacksCells cells x es) at a p (length a) l.reducts) atoms
     (l.numbered).atoms ps l.patterns e f
     (record {
       each = λ j m p low a b on u gives.
@@ -194,7 +194,7 @@ pub follows_came : (l self : Live) (s : Reducts) (at : ℕ) (cells : List (List 
     (atoms : List NumberedAtom) (ps : List Shape) → l ≡ self → atoms ≡ (l.numbered).atoms
     → ps ≡ l.patterns
     → ChangesBelow (λ p old new. GainsAll p cells old new) at atoms ps (length atoms) l.reducts s
-    → Follows (λ c d. CameAll c d at cells) self (record l { reducts = s })
+    → KeptAfter (λ c d. CameAll c d at cells) self (record l { reducts = s })
 follows_came l self s at cells atoms ps e a p change = λ c d rows h came.
     added_kept c d l s at cells rows (subst (λ (x : Live). IsKept c x) (sym e) h) came
     (outside (λ x y. ChangesBelow (λ q old new. GainsAll q cells old new) at x y (length x)
@@ -205,7 +205,7 @@ pub follows_went : (l self : Live) (s : Reducts) (at : ℕ) (cells : List ℕ)
     (atoms : List NumberedAtom) (ps : List Shape) → l ≡ self → atoms ≡ (l.numbered).atoms
     → ps ≡ l.patterns
     → ChangesBelow (λ p old new. Loses p cells old new) at atoms ps (length atoms) l.reducts s
-    → Follows (λ c d. Went c d at cells) self (record l { reducts = s })
+    → KeptAfter (λ c d. Went c d at cells) self (record l { reducts = s })
 follows_went l self s at cells atoms ps e a p change = λ c d row h went.
     lost_kept c d l s at cells row (subst (λ (x : Live). IsKept c x) (sym e) h) went
     (outside (λ x y. ChangesBelow (λ q old new. Loses q cells old new) at x y (length x) l.reducts
@@ -215,13 +215,13 @@ follows_went l self s at cells atoms ps e a p change = λ c d row h went.
 pub given_back : (l self : Live) (s t : Reducts) (at : ℕ) (cells : List ℕ)
     (atoms : List NumberedAtom) (ps : List Shape) (k : ℕ) → l ≡ self
     → atoms ≡ (l.numbered).atoms → ps ≡ l.patterns → CanAdd l at cells
-    → ChangesBelow (λ p old new. Gains p cells old new) at atoms ps k l.reducts s
+    → ChangesBelow (λ p old new. GainsTuple p cells old new) at atoms ps k l.reducts s
     → ChangesBelow (λ p old new. Loses p cells old new) at atoms ps k s t
     → (c : Catalog) → IsKept c self → IsKept c (record l { reducts = t })
 given_back l self s t at cells atoms ps k e a p can gains loses = λ c h.
     back_kept c l s t at cells k
     (add_lacks l at cells (l.numbered).atoms l.patterns refl refl can)
-    (outside (λ x y. ChangesBelow (λ q old new. Gains q cells old new) at x y k l.reducts s) atoms
+    (outside (λ x y. ChangesBelow (λ q old new. GainsTuple q cells old new) at x y k l.reducts s) atoms
     (l.numbered).atoms ps l.patterns a p gains)
     (outside (λ x y. ChangesBelow (λ q old new. Loses q cells old new) at x y k s t) atoms
     (l.numbered).atoms ps l.patterns a p loses)
@@ -230,14 +230,14 @@ given_back l self s t at cells atoms ps k e a p can gains loses = λ c h.
 pub tables_back : (l self : Live) (s t : Reducts) (at : ℕ) (cells : List ℕ)
     (atoms : List NumberedAtom) (ps : List Shape) (k : ℕ) → l ≡ self
     → atoms ≡ (l.numbered).atoms → ps ≡ l.patterns → CanAdd l at cells
-    → ChangesBelow (λ p old new. Gains p cells old new) at atoms ps k l.reducts s
+    → ChangesBelow (λ p old new. GainsTuple p cells old new) at atoms ps k l.reducts s
     → ChangesBelow (λ p old new. Loses p cells old new) at atoms ps k s t
     → SameTables self.reducts t
 tables_back l self s t at cells atoms ps k e a p can gains loses =
     subst (λ (x : Live). SameTables x.reducts t) e
     (back_tables can.before l s t at cells k
     (add_lacks l at cells (l.numbered).atoms l.patterns refl refl can)
-    (outside (λ x y. ChangesBelow (λ q old new. Gains q cells old new) at x y k l.reducts s) atoms
+    (outside (λ x y. ChangesBelow (λ q old new. GainsTuple q cells old new) at x y k l.reducts s) atoms
     (l.numbered).atoms ps l.patterns a p gains)
     (outside (λ x y. ChangesBelow (λ q old new. Loses q cells old new) at x y k s t) atoms
     (l.numbered).atoms ps l.patterns a p loses)
@@ -297,8 +297,8 @@ gains_log : (l : Live) (s : Reducts) (at : ℕ) (cells : List (List ℕ)) (us : 
     (c d : Catalog) (rows : List Tuple) → HasMore l.reducts s
     → ChangesBelow (λ p old new. GainsAll p cells old new) at (l.numbered).atoms l.patterns
     (length (l.numbered).atoms) l.reducts s
-    → IsListing (IsGained s l.reducts) us → IsKept c l → CameAll c d at cells rows
-    → IsDeltaOf l c d (map (change_of d.texts l) (lines_of true us))
+    → ListsTuples (IsGained s l.reducts) us → IsKept c l → CameAll c d at cells rows
+    → IsDeltaOf l c d (map (change_of d.texts l) (answer_lines true us))
 gains_log l s at cells us c d rows more change listing h came =
     let q = l.query in
     let n = l.numbered in
@@ -318,8 +318,8 @@ loses_log : (l : Live) (s : Reducts) (at : ℕ) (cells : List ℕ) (us : List (L
     (c d : Catalog) (row : Tuple) → HasMore s l.reducts
     → ChangesBelow (λ p old new. Loses p cells old new) at (l.numbered).atoms l.patterns
     (length (l.numbered).atoms) l.reducts s
-    → IsListing (IsGained l.reducts s) us → IsKept c l → Went c d at cells row
-    → IsDeltaOf l c d (map (change_of d.texts l) (lines_of false us))
+    → ListsTuples (IsGained l.reducts s) us → IsKept c l → Went c d at cells row
+    → IsDeltaOf l c d (map (change_of d.texts l) (answer_lines false us))
 loses_log l s at cells us c d row more change listing h went =
     let q = l.query in
     let n = l.numbered in
@@ -342,7 +342,7 @@ came_logged : (wanted : Bool) (l : Live) (s : Reducts) (at : ℕ) (cells : List 
     → ListsWhere wanted true (IsGained s l.reducts) h calls log new x y
     → LogsWhere wanted (λ c d. CameAll c d at cells) l log new
 came_logged true l s at cells h calls log new x y more change k = record {
-  lines = lines_of true k.answers;
+  lines = answer_lines true k.answers;
   behind = k.tells.behind;
   tells = λ whole c d rows kept came. gains_log l s at cells k.answers c d rows more change
       k.listing kept came;
@@ -360,7 +360,7 @@ went_logged : (wanted : Bool) (l : Live) (s : Reducts) (at : ℕ) (cells : List 
     → ListsWhere wanted false (IsGained l.reducts s) h calls log new x y
     → LogsWhere wanted (λ c d. Went c d at cells) l log new
 went_logged true l s at cells h calls log new x y more change k = record {
-  lines = lines_of false k.answers;
+  lines = answer_lines false k.answers;
   behind = k.tells.behind;
   tells = λ whole c d row kept went. loses_log l s at cells k.answers c d row more change
       k.listing kept went;
@@ -491,7 +491,7 @@ counts_went wanted l self s at cells atoms ps log new x y e a p more change list
 -- ---- one row
 
 pub follows_one : (l m : Live) (at : ℕ) (cells : List ℕ)
-    → Follows (λ c d. CameAll c d at (cells ∷ [])) l m → Follows (λ c d. Came c d at cells) l m
+    → KeptAfter (λ c d. CameAll c d at (cells ∷ [])) l m → KeptAfter (λ c d. Came c d at cells) l m
 follows_one l m at cells h = λ c d row kept came. h c d (row ∷ []) kept came
 
 pub logs_one : (wanted : Bool) (l : Live) (at : ℕ) (cells : List ℕ) (log new : Log)

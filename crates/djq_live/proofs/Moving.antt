@@ -12,9 +12,9 @@ use Rattle.djq_cursor.specs.declared.log.Line.{Line}
 use Rattle.djq_cursor.specs.Log.{Log}
 use Rattle.djq_union.proofs.Lists.{at_head}
 use Rattle.djq_rows.specs.Catalog.{Catalog, counted_at, with_rows_at}
-use Rattle.djq_rows.specs.Changes.{AddsRow}
+use Rattle.djq_rows.specs.Changes.{AddsRowAt}
 use Rattle.djq_live.specs.Live.{Live, IsKept, IsShowable}
-use Rattle.djq_live.specs.Updating.{Logs}
+use Rattle.djq_live.specs.Updating.{LogsDelta}
 use Rattle.djq_live.proofs.Members.{in_rest}
 use Rattle.djq_live.proofs.Showable.{stays_showable}
 
@@ -33,20 +33,20 @@ has_contains (r ∷ rows) row h =
     ]
 
 pub row_added : (old : List Relation) (at : ℕ) (row : Tuple) (outcome : AddOutcome)
-    (new : List Relation) → outcome ≡ First → AddsRow old at row (Ok outcome) new
+    (new : List Relation) → outcome ≡ First → AddsRowAt old at row (Ok outcome) new
     → new ≡ with_rows_at old at (with_row (counted_at old at) row)
 row_added old at row outcome new e h =
-    (subst (λ (o : AddOutcome). AddsRow old at row (Ok o) new) e h).2
+    (subst (λ (o : AddOutcome). AddsRowAt old at row (Ok o) new) e h).2
 
 pub copy_added : (old : List Relation) (at : ℕ) (row : Tuple) (outcome : AddOutcome) (n : ℕ)
-    (new : List Relation) → outcome ≡ More n → AddsRow old at row (Ok outcome) new
+    (new : List Relation) → outcome ≡ More n → AddsRowAt old at row (Ok outcome) new
     → new ≡ with_rows_at old at (with_copies (counted_at old at) row n)
 copy_added old at row outcome n new e h =
-    (subst (λ (o : AddOutcome). AddsRow old at row (Ok o) new) e h).3
+    (subst (λ (o : AddOutcome). AddsRowAt old at row (Ok o) new) e h).3
 
 -- the lines of a log that was empty can be shown by the query as it is now
 pub lines_show_now : (Changed : Catalog → Catalog → Tuple → Type 0) (c d : Catalog) (row : Tuple)
-    (l m : Live) (log new : Log) → Logs Changed l log new → log.lines ≡ [] → IsKept c l
+    (l m : Live) (log new : Log) → LogsDelta Changed l log new → log.lines ≡ [] → IsKept c l
     → Changed c d row → m.numbered ≡ l.numbered → (m.reducts).tree ≡ (l.reducts).tree
     → new.lost ≡ false → All (λ (k : Line). IsShowable d.texts m k.answer) new.lines
 lines_show_now Changed c d row l m log new logs none kept change e f whole =

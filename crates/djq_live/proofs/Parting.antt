@@ -33,7 +33,7 @@ use Rattle.djq_reduct.specs.Answers.{IsAnswerOf}
 use Rattle.djq_query.specs.declared.numbered.NumberedAtom.{NumberedAtom}
 use Rattle.djq_query.specs.Numbered.{Numbered, labels}
 use Rattle.djq_query.specs.Pattern.{Shape}
-use Rattle.djq_rows.specs.Cells.{cell_for, StandsFor, IsCell}
+use Rattle.djq_rows.specs.Cells.{cell_for, CellStandsFor, IsCell}
 use Rattle.djq_rows.specs.Catalog.{Catalog, rows_at}
 use Rattle.djq_live.specs.Asked.{IsAsked, column_of}
 use Rattle.djq_live.specs.Cells.{AreRowOf, IsSatisfied}
@@ -196,7 +196,7 @@ part_answer c q n r u h is =
 
 pub part_stands : (c : Catalog) (q : Query) (n : Numbered) (r : Reducts) (u : List ℕ) (x : ℕ)
     → IsPart c q n r → IsAnswerOf r u → member x n.head ≡ true
-    → StandsFor c.texts (column_of n.variables x) (slice_index u (column r.tree.head x))
+    → CellStandsFor c.texts (column_of n.variables x) (slice_index u (column r.tree.head x))
     (value_at c.texts n.variables r.tree.head u x)
 part_stands c q n r u x h is m =
     let s = assigned_of r u h.sound is in

@@ -40,8 +40,8 @@ use Rattle.djq_cursor.specs.Changed.{IsGained}
 use Rattle.djq_cursor.specs.Log.{Log}
 use Rattle.djq_query.specs.declared.numbered.NumberedAtom.{NumberedAtom}
 use Rattle.djq_query.specs.Pattern.{Shape}
-use Rattle.djq_live.specs.Changes.{Keeps}
-use Rattle.djq_live.specs.Stepping.{HasMore, Lacks, Has, ListsWhere, atoms_below}
+use Rattle.djq_live.specs.Changes.{KeepsTuples}
+use Rattle.djq_live.specs.Stepping.{HasMore, LacksCells, Has, ListsWhere, atoms_below}
 use Rattle.djq_live.proofs.Gaining.{
   more_both,
   same_more,
@@ -165,15 +165,15 @@ kept_more r s t h kept = more_both r s t h (same_more s t kept.tree kept.tables.
 
 -- ---- entries that are kept
 
-pub lacks_stay : (cells : List ℕ) (p : Shape) (es fs : List Entry) → Keeps es fs
-    → Lacks cells p es → Lacks cells p fs
+pub lacks_stay : (cells : List ℕ) (p : Shape) (es fs : List Entry) → KeepsTuples es fs
+    → LacksCells cells p es → LacksCells cells p fs
 lacks_stay cells p es fs keeps h u gives = keeps u ∙ h u gives
 
-pub few_stay : (p : Shape) (es fs : List Entry) → Keeps es fs → length es < 4294967295
+pub few_stay : (p : Shape) (es fs : List Entry) → KeepsTuples es fs → length es < 4294967295
     → length fs < 4294967295
 few_stay p es fs keeps few = subst (λ (n : ℕ). n < 4294967295) (sym (length_even fs es keeps)) few
 
-pub has_stay : (cells : List ℕ) (p : Shape) (es fs : List Entry) → Keeps es fs → Has cells p es
+pub has_stay : (cells : List ℕ) (p : Shape) (es fs : List Entry) → KeepsTuples es fs → Has cells p es
     → Has cells p fs
 has_stay cells p es fs keeps h u gives = subst (λ (n : ℕ). 0 < n) (sym (keeps u)) (h u gives)
 

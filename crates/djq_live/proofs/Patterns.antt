@@ -13,7 +13,7 @@ use Rattle.djq_query.specs.Pattern.{Shape, bound}
 use Rattle.djq_rows.specs.Cells.{HasCell, HaveCells}
 use Rattle.djq_live.specs.Asked.{HasConstant, HaveConstants, constants_in}
 use Rattle.djq_live.specs.Building.{ArePatternsOf}
-use Rattle.djq_live.specs.Leaves.{AreCellsOf, IsCellOf, IsPatternOf}
+use Rattle.djq_live.specs.Leaves.{AreCellsOfTerms, IsCellOf, IsPatternOf}
 
 -- ---- a list and one more
 
@@ -49,15 +49,15 @@ compared_at texts (n ∷ ks) zero k h low = h.0
 compared_at texts (n ∷ ks) (suc i) k h low = compared_at texts ks i k h.1 (omega arith)
 
 pub cells_push : (texts : List Bytes) (ts : List NumberedTerm) (cs : List ℕ) (t : NumberedTerm)
-    (c : ℕ) → AreCellsOf texts ts cs → IsCellOf texts t c
-    → AreCellsOf texts (ts ++ t ∷ []) (cs ++ c ∷ [])
+    (c : ℕ) → AreCellsOfTerms texts ts cs → IsCellOf texts t c
+    → AreCellsOfTerms texts (ts ++ t ∷ []) (cs ++ c ∷ [])
 cells_push texts [] [] t c h one = (one, tt)
 cells_push texts [] (d ∷ cs) t c h one = absurd h
 cells_push texts (s ∷ ts) [] t c h one = absurd h
 cells_push texts (s ∷ ts) (d ∷ cs) t c h one = (h.0, cells_push texts ts cs t c h.1 one)
 
 pub cells_long : (texts : List Bytes) (ts : List NumberedTerm) (cs : List ℕ)
-    → AreCellsOf texts ts cs → length cs ≡ length ts
+    → AreCellsOfTerms texts ts cs → length cs ≡ length ts
 cells_long texts [] [] h = refl
 cells_long texts [] (d ∷ cs) h = absurd h
 cells_long texts (s ∷ ts) [] h = absurd h

@@ -45,11 +45,11 @@ use Rattle.djq_query.specs.Numbered.{Numbered}
 use Rattle.djq_query.specs.Pattern.{Shape, bound}
 use Rattle.djq_rows.specs.Catalog.{Catalog, StandForRow, no_relation, relation_at, rows_at}
 use Rattle.djq_rows.proofs.Lawful.{differ as cells_differ}
-use Rattle.djq_live.specs.Asked.{AreSuited}
-use Rattle.djq_live.specs.Leaves.{AreCellsOf, IsLeafOf, IsOver}
-use Rattle.djq_live.specs.Changes.{IsLater, CameAll, Went, Gains, GainsAll, Loses, LeavesChange}
+use Rattle.djq_live.specs.Asked.{TermsSuit}
+use Rattle.djq_live.specs.Leaves.{AreCellsOfTerms, IsLeafOf, IsOver}
+use Rattle.djq_live.specs.Changes.{IsLater, CameAll, Went, GainsTuple, GainsAll, Loses, EachLeafChanges}
 use Rattle.djq_live.specs.Live.{Live, IsKept}
-use Rattle.djq_live.specs.Stepping.{Lacks, LacksAll, Has, ChangesBelow, AreLeaves, HoldBelow}
+use Rattle.djq_live.specs.Stepping.{LacksCells, LacksAll, Has, ChangesBelow, AreLeaves, HoldBelow}
 use Rattle.djq_live.proofs.Heads.{has_at}
 use Rattle.djq_live.proofs.Rows.{row_fits, row_cells}
 use Rattle.djq_live.proofs.Later.{asked_later, atom_at, cells_later}
@@ -70,14 +70,14 @@ fits_long (t ∷ types) (v ∷ row) h =
     ap suc (fits_long types row (and_parts (is_of t v) (fits types row) h).1)
 
 pub suited_long : (texts : List Bytes) (vs : List Variable) (ns : List NumberedTerm)
-    (cs : List ColumnType) → AreSuited texts vs ns cs → length ns ≡ length cs
+    (cs : List ColumnType) → TermsSuit texts vs ns cs → length ns ≡ length cs
 suited_long texts vs [] [] h = refl
 suited_long texts vs [] (c ∷ cs) h = absurd h
 suited_long texts vs (n ∷ ns) [] h = absurd h
 suited_long texts vs (n ∷ ns) (c ∷ cs) h = ap suc (suited_long texts vs ns cs h.1)
 
 bound_long : (texts : List Bytes) (label : List ℕ) (ns : List NumberedTerm) (ks : List ℕ)
-    → AreCellsOf texts ns ks → length (bound label ns ks) ≡ length ns
+    → AreCellsOfTerms texts ns ks → length (bound label ns ks) ≡ length ns
 unfolding bound
 bound_long texts label [] [] h = refl
 bound_long texts label [] (k ∷ ks) h = absurd h
@@ -200,7 +200,7 @@ all_there c d q n ps r at cells row k h there went = record {
 
 -- what was put in is there
 pub put_there : (cells : List ℕ) (at : ℕ) (atoms : List NumberedAtom) (ps : List Shape) (k : ℕ)
-    (r s : Reducts) → ChangesBelow (λ p old new. Gains p cells old new) at atoms ps k r s
+    (r s : Reducts) → ChangesBelow (λ p old new. GainsTuple p cells old new) at atoms ps k r s
     → HoldBelow (λ p es. Has cells p es) at atoms ps k s
 put_there cells at atoms ps k r s h = record {
   each = λ j m p low e f on u gives. (h.over j m p low e f on u).1 (inr (one_of p u cells gives));
@@ -210,7 +210,7 @@ put_there cells at atoms ps k r s h = record {
 
 leaves_change : (Changes : Shape → List Entry → List Entry → Type 0) (at : ℕ) (n : Numbered)
     (ps : List Shape) (r s : Reducts)
-    → ChangesBelow Changes at n.atoms ps (length n.atoms) r s → LeavesChange Changes at n ps r s
+    → ChangesBelow Changes at n.atoms ps (length n.atoms) r s → EachLeafChanges Changes at n ps r s
 leaves_change Changes at n ps r s h = record {
   reducts = h.sound;
   tree = h.tree;
@@ -253,7 +253,7 @@ lost_kept c d l s at cells row h went change = record {
 
 -- a leaf holds what it held once it has lost what it gained and lacked
 back_again : (cells : List ℕ) (p : Shape) (es fs gs : List Entry) (u : List ℕ)
-    → Lacks cells p es → Gains p cells es fs → Loses p cells fs gs
+    → LacksCells cells p es → GainsTuple p cells es fs → Loses p cells fs gs
     → (0 < count_of gs u) ↔ (0 < count_of es u)
 back_again cells p es fs gs u lacks gains loses = (
   λ there.
@@ -268,8 +268,8 @@ back_again cells p es fs gs u lacks gains loses = (
 
 back_leaf : (cells : List ℕ) (at : ℕ) (atoms : List NumberedAtom) (ps : List Shape) (k : ℕ)
     (r s t : Reducts) (j : ℕ) (m : NumberedAtom) (p : Shape) (u : List ℕ)
-    → HoldBelow (λ q es. Lacks cells q es) at atoms ps (length atoms) r
-    → ChangesBelow (λ q old new. Gains q cells old new) at atoms ps k r s
+    → HoldBelow (λ q es. LacksCells cells q es) at atoms ps (length atoms) r
+    → ChangesBelow (λ q old new. GainsTuple q cells old new) at atoms ps k r s
     → ChangesBelow (λ q old new. Loses q cells old new) at atoms ps k s t
     → slice_get atoms j ≡ Some m → slice_get ps j ≡ Some p
     → (0 < count_of (entries_at t.tables j) u) ↔ (0 < count_of (entries_at r.tables j) u)
@@ -294,9 +294,9 @@ back_leaf cells at atoms ps k r s t j m p u lacks gains loses e f =
 
 -- all tables are as before, since the leaves' tuples are
 pub back_tables : (c : Catalog) (l : Live) (s t : Reducts) (at : ℕ) (cells : List ℕ) (k : ℕ)
-    → HoldBelow (λ q es. Lacks cells q es) at (l.numbered).atoms l.patterns
+    → HoldBelow (λ q es. LacksCells cells q es) at (l.numbered).atoms l.patterns
     (length (l.numbered).atoms) l.reducts
-    → ChangesBelow (λ q old new. Gains q cells old new) at (l.numbered).atoms l.patterns k
+    → ChangesBelow (λ q old new. GainsTuple q cells old new) at (l.numbered).atoms l.patterns k
     l.reducts s
     → ChangesBelow (λ q old new. Loses q cells old new) at (l.numbered).atoms l.patterns k s t
     → IsKept c l → SameTables l.reducts t
@@ -367,9 +367,9 @@ same_kept c l t sound bare tree same h = record {
 }
 
 pub back_kept : (c : Catalog) (l : Live) (s t : Reducts) (at : ℕ) (cells : List ℕ) (k : ℕ)
-    → HoldBelow (λ q es. Lacks cells q es) at (l.numbered).atoms l.patterns
+    → HoldBelow (λ q es. LacksCells cells q es) at (l.numbered).atoms l.patterns
     (length (l.numbered).atoms) l.reducts
-    → ChangesBelow (λ q old new. Gains q cells old new) at (l.numbered).atoms l.patterns k
+    → ChangesBelow (λ q old new. GainsTuple q cells old new) at (l.numbered).atoms l.patterns k
     l.reducts s
     → ChangesBelow (λ q old new. Loses q cells old new) at (l.numbered).atoms l.patterns k s t
     → IsKept c l → IsKept c (record l { reducts = t })

@@ -31,7 +31,7 @@ use Rattle.djq_reduct.specs.Answers.{IsAnswerOf}
 use Rattle.djq_cursor.specs.declared.log.Line.{Line}
 use Rattle.djq_query.specs.declared.numbered.Variable.{Variable}
 use Rattle.djq_query.specs.Numbered.{Numbered}
-use Rattle.djq_rows.specs.Cells.{StandsFor}
+use Rattle.djq_rows.specs.Cells.{CellStandsFor}
 use Rattle.djq_rows.specs.Parts.{value_of}
 use Rattle.djq_rows.specs.Catalog.{Catalog}
 use Rattle.djq_rows.proofs.Encoding.{value_back, cell_more, has_more}
@@ -39,7 +39,7 @@ use Rattle.djq_live.specs.Asked.{column_of}
 use Rattle.djq_live.specs.Changes.{IsLater}
 use Rattle.djq_live.specs.Shown.{value_at, shown, AreShownAs}
 use Rattle.djq_live.specs.Live.{Live, IsKept, IsShowable, AnswersAreShowable, ShowableStays}
-use Rattle.djq_live.specs.Stepping.{lines_of}
+use Rattle.djq_live.specs.Stepping.{answer_lines}
 use Rattle.djq_live.proofs.Showing.{stand}
 
 pub answer_showable : AnswersAreShowable
@@ -51,7 +51,7 @@ answer_showable c l h u is = record {
 -- the cell of one variable stands for its value
 pub stands_at : (texts : List Bytes) (vs : List Variable) (F u xs : List ℕ) (at : ℕ)
     → AreShownAs texts vs F u xs (map (value_at texts vs F u) xs) → at < length xs
-    → StandsFor texts (column_of vs (slice_index xs at)) (slice_index u (column F (slice_index xs at)))
+    → CellStandsFor texts (column_of vs (slice_index xs at)) (slice_index u (column F (slice_index xs at)))
     (value_at texts vs F u (slice_index xs at))
 stands_at texts vs F u [] at h low = absurd (omega arith)
 stands_at texts vs F u (x ∷ xs) zero h low = h.0
@@ -60,7 +60,7 @@ stands_at texts vs F u (x ∷ xs) (suc at) h low = stands_at texts vs F u xs at 
 -- ---- once more texts are known
 
 stands_more : (texts more : List Bytes) (t : ColumnType) (cell : ℕ) (v : Value)
-    → StandsFor texts t cell v → StandsFor (texts ++ more) t cell v
+    → CellStandsFor texts t cell v → CellStandsFor (texts ++ more) t cell v
 stands_more texts more t cell v s = record {
   of = s.of;
   has = has_more texts more v s.has;
@@ -68,7 +68,7 @@ stands_more texts more t cell v s = record {
 }
 
 value_more : (texts more : List Bytes) (t : ColumnType) (cell : ℕ) (v : Value)
-    → StandsFor texts t cell v → value_of (texts ++ more) t cell ≡ v
+    → CellStandsFor texts t cell v → value_of (texts ++ more) t cell ≡ v
 value_more texts more t cell v s =
     ap (λ (k : ℕ). value_of (texts ++ more) t k) (s.is ∙ sym (cell_more texts more v s.has))
     ∙ value_back (texts ++ more) t v s.of (has_more texts more v s.has)
@@ -133,7 +133,7 @@ stays_showable texts more l m u e f h =
 
 lines_show : (texts : List Bytes) (l : Live) (came : Bool) (us : List (List ℕ))
     → ((i : ℕ) → i < length us → IsShowable texts l (slice_index_or us i []))
-    → All (λ (k : Line). IsShowable texts l k.answer) (lines_of came us)
+    → All (λ (k : Line). IsShowable texts l k.answer) (answer_lines came us)
 lines_show texts l came us h = λ i d low.
     let line : List ℕ → Line = λ u. record { came = came; answer = u } in
     let long : length (map line us) ≡ length us = length-map us line in
@@ -143,7 +143,7 @@ lines_show texts l came us h = λ i d low.
 -- an answer over a later catalog, of a query with these reducts
 pub new_lines : (d : Catalog) (l : Live) (s : Reducts) (us : List (List ℕ))
     → IsKept d (record l { reducts = s }) → s.tree ≡ (l.reducts).tree → All (IsAnswerOf s) us
-    → All (λ (k : Line). IsShowable d.texts l k.answer) (lines_of true us)
+    → All (λ (k : Line). IsShowable d.texts l k.answer) (answer_lines true us)
 new_lines d l s us h e all = lines_show d.texts l true us (λ i low.
     let m : Live = record l { reducts = s } in
     let is = answer_showable d m h (slice_index_or us i []) (all i [] low) in
@@ -155,10 +155,10 @@ new_lines d l s us h e all = lines_show d.texts l true us (λ i low.
 -- an answer over an earlier catalog
 pub old_lines : (c d : Catalog) (l : Live) (us : List (List ℕ)) → IsKept c l → IsLater c d
     → All (IsAnswerOf l.reducts) us
-    → All (λ (k : Line). IsShowable d.texts l k.answer) (lines_of false us)
+    → All (λ (k : Line). IsShowable d.texts l k.answer) (answer_lines false us)
 old_lines c d l us h later all =
     subst (λ (texts : List Bytes). All (λ (k : Line). IsShowable texts l k.answer)
-    (lines_of false us)) (sym later.texts)
+    (answer_lines false us)) (sym later.texts)
     (lines_show (c.texts ++ later.more) l false us (λ i low.
     (stays_showable c.texts later.more l l (slice_index_or us i []) refl refl
     (answer_showable c l h (slice_index_or us i []) (all i [] low))).0))

@@ -37,7 +37,7 @@ use Rattle.djq_reduct.specs.Answers.{IsAnswerOf}
 use Rattle.djq_query.specs.declared.numbered.Variable.{Variable}
 use Rattle.djq_query.specs.Numbered.{Numbered, labels}
 use Rattle.djq_query.specs.Pattern.{Shape}
-use Rattle.djq_rows.specs.Cells.{cell_for, StandsFor, IsCell}
+use Rattle.djq_rows.specs.Cells.{cell_for, CellStandsFor, IsCell}
 use Rattle.djq_rows.specs.Parts.{value_of}
 use Rattle.djq_rows.specs.Catalog.{Catalog}
 use Rattle.djq_rows.proofs.Encoding.{value_back}
@@ -220,16 +220,16 @@ are_shown c q n ps r h answer = (
 -- the value that an answer shows is the one that its cell stands for
 pub value_stands : (texts : List Bytes) (vs : List Variable) (x cell : ℕ)
     → IsCell texts (column_of vs x) cell
-    → StandsFor texts (column_of vs x) cell (value_of texts (column_of vs x) cell)
+    → CellStandsFor texts (column_of vs x) cell (value_of texts (column_of vs x) cell)
 value_stands texts vs x cell h =
     let back : value_of texts (column_of vs x) cell ≡ h.value =
     ap (λ (k : ℕ). value_of texts (column_of vs x) k) h.stands.is
     ∙ value_back texts (column_of vs x) h.value h.stands.of h.stands.has in
-    subst (λ (v : Value). StandsFor texts (column_of vs x) cell v) (sym back) h.stands
+    subst (λ (v : Value). CellStandsFor texts (column_of vs x) cell v) (sym back) h.stands
 
 pub head_stands : (c : Catalog) (q : Query) (n : Numbered) (ps : List Shape) (r : Reducts)
     (u : List ℕ) (x : ℕ) → IsOver c q n ps r → IsAnswerOf r u → member x n.head ≡ true
-    → StandsFor c.texts (column_of n.variables x) (slice_index u (column r.tree.head x))
+    → CellStandsFor c.texts (column_of n.variables x) (slice_index u (column r.tree.head x))
     (value_at c.texts n.variables r.tree.head u x)
 head_stands c q n ps r u x h is m =
     let s = assigned_of r u h.reducts is in
@@ -244,7 +244,7 @@ head_stands c q n ps r u x h is m =
 
 all_stand : (texts : List Bytes) (vs : List Variable) (F u xs : List ℕ)
     → ((x : ℕ) → member x xs ≡ true
-    → StandsFor texts (column_of vs x) (slice_index u (column F x)) (value_at texts vs F u x))
+    → CellStandsFor texts (column_of vs x) (slice_index u (column F x)) (value_at texts vs F u x))
     → AreShownAs texts vs F u xs (map (value_at texts vs F u) xs)
 all_stand texts vs F u [] h = tt
 all_stand texts vs F u (x ∷ xs) h =

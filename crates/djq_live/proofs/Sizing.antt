@@ -3,7 +3,7 @@ use Rattle.std.proofs.Common.{◌≡◌, ℕ, ◌+◌, ◌*◌, ◌<◌, ◌≤�
 use Rattle.std.specs.Prelude.{◌≢◌, ◌==◌, Some, filter, slice_get, slice_index_or}
 use Rattle.std.proofs.lemmas.Bool.{cases_eq, cases_lt}
 use Rattle.std.proofs.Math.Seq.{take-length}
-use Rattle.djq_index.specs.Tuple.{same, one}
+use Rattle.djq_index.specs.Tuple.{same, one_if}
 use Rattle.djq_index.specs.Entries.{Entry, count_of}
 use Rattle.djq_index.proofs.Counts.{cnt_cons}
 use Rattle.djq_index.proofs.Apart.{cnt_once, stands}
@@ -21,7 +21,7 @@ use Rattle.djq_query.specs.declared.numbered.NumberedAtom.{NumberedAtom}
 use Rattle.djq_live.specs.Stepping.{
   HasMore,
   ChangesBelow,
-  HasRoom,
+  LeavesHaveRoom,
   GrowsAt,
   GrowsByOne,
   CountsLeaf,
@@ -43,8 +43,8 @@ longer_leaf j u old new came =
     length_less es (s.entry ∷ ds)
     (λ v.
     let first = cnt_cons s.entry ds v in
-    let is : one (same s.entry.tuple v) ≡ one (same u v) =
-    ap (λ (w : List ℕ). one (same w v)) s.tuple in
+    let is : one_if (same s.entry.tuple v) ≡ one_if (same u v) =
+    ap (λ (w : List ℕ). one_if (same w v)) s.tuple in
     let leaf = came.leaf v in
     omega arith) in
     omega arith
@@ -80,7 +80,7 @@ sum_removed p n b x y z some bounds first second =
     omega arith
 
 room_after : (j : ℕ) (u : List ℕ) (n : ℕ) (old new : Reducts) → HasGained old new j u
-    → HasRoom old j n → HasAtMost new (n + 1)
+    → LeavesHaveRoom old j n → HasAtMost new (n + 1)
 room_after j u n old new came room = record {
   each = λ i low.
       let lower : i < old.tree.leaves = subst (λ (t : Tree). i < t.leaves) came.tree low in
@@ -237,7 +237,7 @@ still_long Changes at atoms ps k m r s e h =
 room_for : {A : Type 0} (Changes : A → List Entry → List Entry → Type 0) (at : ℕ)
     (atoms : List NumberedAtom) (ps : List A) (k : ℕ) (m : NumberedAtom) (r s : Reducts)
     (n : ℕ) → slice_get atoms k ≡ Some m → k < r.tree.leaves
-    → ChangesBelow Changes at atoms ps k r s → GrowsByOne r s → HasAtMost r n → HasRoom s k n
+    → ChangesBelow Changes at atoms ps k r s → GrowsByOne r s → HasAtMost r n → LeavesHaveRoom s k n
 room_for Changes at atoms ps k m r s n e low h grows few = record {
   leaf = (let a = still_long Changes at atoms ps k m r s e h in
       let b = few.each k low in
@@ -270,8 +270,8 @@ pub counts_next : {A : Type 0} (Changes : A → List Entry → List Entry → Ty
     (i j x y z : ℕ) → slice_get atoms k ≡ Some m → k < r.tree.leaves
     → ChangesBelow Changes at atoms ps k r s → GrowsByOne r s → i + 1 ≡ j
     → CountsLeaves r i x y → CountsLeaf s k 1 y z → CountsLeaves r j x z
-counts_next Changes at atoms ps k m r s i j x y z e low h grows one first second = λ n b few bounds.
-    sum_next i j b x y z one (first n b few bounds)
+counts_next Changes at atoms ps k m r s i j x y z e low h grows one_if first second = λ n b few bounds.
+    sum_next i j b x y z one_if (first n b few bounds)
     (second n b (room_for Changes at atoms ps k m r s n e low h grows few)
     (bounds_as r s n b h.tree bounds))
 

@@ -26,14 +26,14 @@ use Rattle.std.proofs.lemmas.List.Kept.{AllPairs-cons}
 use Rattle.djq_model.specs.Data.{Bytes, Tuple}
 use Rattle.djq_index.specs.Tuple.{same}
 use Rattle.djq_index.specs.Entries.{Entry, count_of}
-use Rattle.djq_index.specs.Table.{AreApart}
+use Rattle.djq_index.specs.Table.{TuplesDiffer}
 use Rattle.djq_index.proofs.Counts.{cnt_cons}
 use Rattle.djq_index.proofs.Tuples.{is_same, one_true}
 use Rattle.djq_tree.specs.Labels.{label_at}
 use Rattle.djq_reduct.specs.Tables.{entries_at}
 use Rattle.djq_reduct.proofs.Family.{apart_at}
 use Rattle.djq_union.proofs.Lists.{none_contained, all_of}
-use Rattle.djq_union.specs.Answers.{AreDifferent}
+use Rattle.djq_union.specs.Answers.{AreDistinctAnswers}
 use Rattle.djq_query.specs.declared.numbered.NumberedTerm.{NumberedTerm}
 use Rattle.djq_query.specs.declared.numbered.NumberedTerm.TheVariants.{
   Variable as Number,
@@ -114,8 +114,8 @@ tuple_there (e ∷ es) u c =
       | inr there ↦ (let r = tuple_there es u there in omega arith)
     ]
 
-tuples_differ : (es : List Entry) → AreApart es → AreDifferent (tuples_of es)
-unfolding AreApart
+tuples_differ : (es : List Entry) → TuplesDiffer es → AreDistinctAnswers (tuples_of es)
+unfolding TuplesDiffer
 tuples_differ [] h = λ i j e a b. absurd (omega arith)
 tuples_differ (e ∷ es) h =
     AllPairs-cons (λ s t. s ≡ t → ⊥) e.tuple (tuples_of es)
@@ -127,7 +127,7 @@ tuples_differ (e ∷ es) h =
     (tuples_differ es h.1)
 
 leaf_small : (c : Catalog) (l : List ℕ) (ks : List NumberedComparison) (m : NumberedAtom)
-    (p : Shape) (es : List Entry) → IsSimple l → AreApart es → IsLeafOf c l ks m p es
+    (p : Shape) (es : List Entry) → IsSimple l → TuplesDiffer es → IsLeafOf c l ks m p es
     → length es ≤ length (rows_at c.relations m.relation)
 leaf_small c l ks m p es simple apart h =
     let fill = λ (u : List ℕ). filled u p.slots in

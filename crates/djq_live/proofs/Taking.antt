@@ -8,7 +8,7 @@ use Rattle.std.proofs.lemmas.Bool.{cases_eq, cases_lt}
 use Rattle.std.proofs.lemmas.List.{get_or_append_left, get_or-map, length-map}
 use Rattle.std.proofs.lemmas.Option.{same_Some}
 use Rattle.djq_model.specs.Data.{Tuple}
-use Rattle.djq_index.specs.Tuple.{same, one}
+use Rattle.djq_index.specs.Tuple.{same, one_if}
 use Rattle.djq_index.specs.Entries.{Entry, count_of}
 use Rattle.djq_index.proofs.Tuples.{same_cases, one_other, one_same}
 use Rattle.djq_tree.specs.Tree.{Tree}
@@ -25,8 +25,8 @@ use Rattle.djq_rows.proofs.Encoding.{cells_long}
 use Rattle.djq_rows.proofs.Lawful.{differ}
 use Rattle.djq_live.specs.Changes.{HoldsThese}
 use Rattle.djq_live.specs.Leaves.{Holds}
-use Rattle.djq_live.specs.Stepping.{Lacks}
-use Rattle.djq_live.specs.Building.{AreFilled, HasTaken, IsFilled, TakesRow, cells_at}
+use Rattle.djq_live.specs.Stepping.{LacksCells}
+use Rattle.djq_live.specs.Building.{AreFilled, LeafHasTaken, IsFilled, TakesRow, relation_cells}
 use Rattle.djq_live.proofs.Giving.{one_is, one_of, only_one}
 use Rattle.djq_live.proofs.Filled.{leaf_empty, leaf_gains, leaf_filled}
 use Rattle.djq_live.proofs.Leafing.{IsOnly}
@@ -50,8 +50,8 @@ took_row p leaf cells u old new came exact = record {
           | inl before ↦ omega arith
           | inr gives ↦
               let is : u ≡ v = same_Some u v ((exact v).1 (only_one p v cells gives)) in
-              let some : one (same u v) ≡ 1 =
-              ap (λ (w : List ℕ). one (same u w)) (sym is) ∙ one_same u in
+              let some : one_if (same u v) ≡ 1 =
+              ap (λ (w : List ℕ). one_if (same u w)) (sym is) ∙ one_same u in
               omega arith
         ],
       );
@@ -99,9 +99,9 @@ rows_differ c at h low i j less late e =
     (kept.cells j [] late) e)
 
 pub start_taken : (c : Catalog) (at : ℕ) (p : Shape) (leaf : ℕ) (left : List (List ℕ))
-    (old : Reducts) → left ≡ cells_at c at
+    (old : Reducts) → left ≡ relation_cells c at
     → ((u : List ℕ) → count_of (entries_at old.tables leaf) u ≡ 0) → IsBare old.tables
-    → HasTaken c at p leaf left old old
+    → LeafHasTaken c at p leaf left old old
 start_taken c at p leaf left old all empty bare = record {
   done = [];
   parts = sym all;
@@ -113,8 +113,8 @@ start_taken c at p leaf left old all empty bare = record {
 }
 
 pub step_taken : (c : Catalog) (at : ℕ) (p : Shape) (leaf : ℕ) (row : List ℕ)
-    (before left : List (List ℕ)) (old mid new : Reducts) → HasTaken c at p leaf before old mid
-    → before ≡ row ∷ left → TakesRow p leaf row mid new → HasTaken c at p leaf left old new
+    (before left : List (List ℕ)) (old mid new : Reducts) → LeafHasTaken c at p leaf before old mid
+    → before ≡ row ∷ left → TakesRow p leaf row mid new → LeafHasTaken c at p leaf left old new
 step_taken c at p leaf row before left old mid new h next takes = record {
   done = h.done ++ row ∷ [];
   parts = h.parts ∙ ap (λ (l : List (List ℕ)). h.done ++ l) next
@@ -131,7 +131,7 @@ step_taken c at p leaf row before left old mid new h next takes = record {
 }
 
 pub end_taken : (c : Catalog) (at : ℕ) (p : Shape) (leaf : ℕ) (left : List (List ℕ))
-    (old new : Reducts) → HasTaken c at p leaf left old new → left ≡ []
+    (old new : Reducts) → LeafHasTaken c at p leaf left old new → left ≡ []
     → IsFilled c at p leaf old new
 end_taken c at p leaf left old new h over = record {
   holds = leaf_filled c at p (entries_at new.tables leaf)
@@ -146,8 +146,8 @@ end_taken c at p leaf left old new h over = record {
 -- the next row's tuple isn't there
 pub absent_row : (c : Catalog) (at : ℕ) (p : Shape) (leaf : ℕ) (row : List ℕ)
     (before left : List (List ℕ)) (old mid : Reducts) → IsCatalog c → at < length c.relations
-    → HasTaken c at p leaf before old mid → before ≡ row ∷ left
-    → Lacks row p (entries_at mid.tables leaf)
+    → LeafHasTaken c at p leaf before old mid → before ≡ row ∷ left
+    → LacksCells row p (entries_at mid.tables leaf)
 absent_row c at p leaf row before left old mid catalog low h next u gives =
     elim (cases_lt 0 (count_of (entries_at mid.tables leaf) u)) [
       | inl there ↦ absurd
@@ -161,7 +161,7 @@ absent_row c at p leaf row before left old mid catalog low h next u gives =
 -- and it is as wide as the relation
 pub wide_row : (c : Catalog) (at : ℕ) (p : Shape) (leaf : ℕ) (row : List ℕ)
     (before left : List (List ℕ)) (old mid : Reducts) → IsCatalog c → at < length c.relations
-    → HasTaken c at p leaf before old mid → before ≡ row ∷ left
+    → LeafHasTaken c at p leaf before old mid → before ≡ row ∷ left
     → length row ≡ length (relation_at c.relations at).types
 wide_row c at p leaf row before left old mid catalog low h next =
     let rows = rows_at c.relations at in
@@ -185,7 +185,7 @@ wide_row c at p leaf row before left old mid catalog low h next =
 -- there is a number left for it, as it is one more row at most than the leaf has tuples
 pub few_row : (c : Catalog) (at : ℕ) (p : Shape) (leaf : ℕ) (row : List ℕ)
     (before left : List (List ℕ)) (old mid : Reducts) → IsCatalog c → at < length c.relations
-    → HasTaken c at p leaf before old mid → before ≡ row ∷ left
+    → LeafHasTaken c at p leaf before old mid → before ≡ row ∷ left
     → length (entries_at mid.tables leaf) < 4294967295
 few_row c at p leaf row before left old mid catalog low h next =
     let rows = rows_at c.relations at in

@@ -28,7 +28,7 @@ use Rattle.std.proofs.lemmas.Bool.{cases_Bool, false≢true}
 use Rattle.std.proofs.lemmas.List.{map-append, append-nil}
 use Rattle.djq_cursor.specs.declared.log.Line.{Line}
 use Rattle.djq_cursor.specs.Log.{Log}
-use Rattle.djq_live.specs.Stepping.{TellsOf, lines_of}
+use Rattle.djq_live.specs.Stepping.{LogTellsOf, answer_lines}
 
 kept_before : (old new : Log) → (old.lost ≡ true → new.lost ≡ true) → new.lost ≡ false
     → old.lost ≡ false
@@ -38,20 +38,20 @@ kept_before old new stays kept =
       | inr is ↦ is
     ]
 
-pub tells_none : (came : Bool) (log : Log) → TellsOf came [] log log
+pub tells_none : (came : Bool) (log : Log) → LogTellsOf came [] log log
 tells_none came log = record {
   behind = λ kept. sym (append-nil log.lines);
   stays = λ lost. lost;
 }
 
 pub tells_both : (came : Bool) (us vs : List (List ℕ)) (old mid new : Log)
-    → TellsOf came us old mid → TellsOf came vs mid new → TellsOf came (us ++ vs) old new
+    → LogTellsOf came us old mid → LogTellsOf came vs mid new → LogTellsOf came (us ++ vs) old new
 tells_both came us vs old mid new h k = record {
   behind = λ kept.
       k.behind kept
-      ∙ ap (λ (l : List Line). l ++ lines_of came vs)
+      ∙ ap (λ (l : List Line). l ++ answer_lines came vs)
       (h.behind (kept_before mid new k.stays kept))
-      ∙ append_assoc old.lines (lines_of came us) (lines_of came vs)
+      ∙ append_assoc old.lines (answer_lines came us) (answer_lines came vs)
       ∙ ap (λ (l : List Line). old.lines ++ l)
       (sym (map-append (λ (u : List ℕ). record { came = came; answer = u }) us vs));
   stays = λ lost. k.stays (h.stays lost);
@@ -59,7 +59,7 @@ tells_both came us vs old mid new h k = record {
 
 pub tells_one : (came : Bool) (u : List ℕ) (old new : Log)
     → (new.lost ≡ false → new.lines ≡ old.lines ++ record { came = came; answer = u } ∷ [])
-    → (old.lost ≡ true → new.lost ≡ true) → TellsOf came (u ∷ []) old new
+    → (old.lost ≡ true → new.lost ≡ true) → LogTellsOf came (u ∷ []) old new
 tells_one came u old new behind stays = record { behind = behind; stays = stays }
 
 -- ---- counts

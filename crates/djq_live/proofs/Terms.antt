@@ -17,12 +17,12 @@ use Rattle.djq_query.specs.declared.numbered.NumberedTerm.TheVariants.{
   Constant as Fixed,
 }
 use Rattle.djq_query.specs.Numbered.{labels, number_of, is_number}
-use Rattle.djq_query.specs.Meaning.{IsShown, AreShown}
+use Rattle.djq_query.specs.Meaning.{TermIsShown, TermsAreShown}
 use Rattle.djq_rows.specs.Cells.{cell_for, cells_of, HasCell, HaveCells, IsCell}
 use Rattle.djq_rows.specs.Parts.{value_of}
 use Rattle.djq_rows.proofs.Encoding.{value_back}
 use Rattle.djq_live.specs.Cells.{cell_under}
-use Rattle.djq_live.specs.Asked.{column_of, Suits, AreSuited}
+use Rattle.djq_live.specs.Asked.{column_of, TermSuits, TermsSuit}
 
 pub heads : (x y : ℕ) (xs ys : List ℕ) → x ∷ xs ≡ y ∷ ys → x ≡ y
 heads x y xs ys e = ap (λ (l : List ℕ). slice_index l 0) e
@@ -52,7 +52,7 @@ value_known texts c d cell v same e of has =
     ap₂ (λ (t : ColumnType) (n : ℕ). value_of texts t n) same e ∙ value_back texts c v of has
 
 stand_term : (texts : List Bytes) (vs : List Variable) (a : ℕ → ℕ) (t : Term) (n : NumberedTerm)
-    (c : ColumnType) (v : Value) → HasOne vs → IsShown (labels vs) t n → Suits texts vs n c
+    (c : ColumnType) (v : Value) → HasOne vs → TermIsShown (labels vs) t n → TermSuits texts vs n c
     → is_of c v ≡ true → HasCell texts v → cell_under texts a n ≡ cell_for texts v
     → StandsForValue (value_by texts vs a) t v
 stand_term texts vs a (Named name) (Number x) c v one shown suits of has e =
@@ -69,7 +69,7 @@ stand_term texts vs a (Constant w) (Number x) c v one shown suits of has e = abs
 -- terms whose cells are a row's stand for the row
 pub stand_terms : (texts : List Bytes) (vs : List Variable) (a : ℕ → ℕ) (ts : List Term)
     (ns : List NumberedTerm) (cs : List ColumnType) (row : Tuple) → HasOne vs
-    → AreShown (labels vs) ts ns → AreSuited texts vs ns cs → fits cs row ≡ true
+    → TermsAreShown (labels vs) ts ns → TermsSuit texts vs ns cs → fits cs row ≡ true
     → HaveCells texts row → map (cell_under texts a) ns ≡ cells_of texts row
     → StandForAll (value_by texts vs a) ts row
 stand_terms texts vs a [] [] [] [] one shown suits f h e = tt
@@ -91,7 +91,7 @@ stand_terms texts vs a (t ∷ ts) (n ∷ ns) (c ∷ cs) (v ∷ row) one shown su
 
 -- the cell of a variable among them stands for a value of the variable's type
 cell_here : (texts : List Bytes) (vs : List Variable) (a : ℕ → ℕ) (x : ℕ) (n : NumberedTerm)
-    (c : ColumnType) (v : Value) → Suits texts vs n c → is_of c v ≡ true → HasCell texts v
+    (c : ColumnType) (v : Value) → TermSuits texts vs n c → is_of c v ≡ true → HasCell texts v
     → cell_under texts a n ≡ cell_for texts v → is_number x n ≡ true
     → IsCell texts (column_of vs x) (a x)
 cell_here texts vs a x (Fixed u) c v suits of has e m = absurd (false≢true m)
@@ -107,7 +107,7 @@ cell_here texts vs a x (Number y) c v suits of has e m =
     }
 
 pub cell_among : (texts : List Bytes) (vs : List Variable) (a : ℕ → ℕ) (x : ℕ)
-    (ns : List NumberedTerm) (cs : List ColumnType) (row : Tuple) → AreSuited texts vs ns cs
+    (ns : List NumberedTerm) (cs : List ColumnType) (row : Tuple) → TermsSuit texts vs ns cs
     → fits cs row ≡ true → HaveCells texts row → map (cell_under texts a) ns ≡ cells_of texts row
     → list_any (is_number x) ns ≡ true → IsCell texts (column_of vs x) (a x)
 cell_among texts vs a x [] cs row suits f h e m = absurd (false≢true m)

@@ -24,13 +24,13 @@ use Rattle.djq_lines.specs.declared.answer.Sign.TheVariants.{Came as HasCome, We
 use Rattle.djq_machine.specs.Delta.{Change, HasChanged, IsDelta}
 use Rattle.djq_reduct.specs.Reducts.{Reducts, IsReducts}
 use Rattle.djq_reduct.specs.Answers.{IsAnswerOf}
-use Rattle.djq_cursor.specs.Listing.{IsListing}
+use Rattle.djq_cursor.specs.Listing.{ListsTuples}
 use Rattle.djq_cursor.specs.Changed.{IsGained}
 use Rattle.djq_union.proofs.Lists.{all_of}
-use Rattle.djq_union.specs.Answers.{AreDifferent}
+use Rattle.djq_union.specs.Answers.{AreDistinctAnswers}
 use Rattle.djq_live.specs.Live.{Live, values_of}
 use Rattle.djq_live.specs.Updating.{change_of}
-use Rattle.djq_live.specs.Stepping.{HasMore, lines_of}
+use Rattle.djq_live.specs.Stepping.{HasMore, answer_lines}
 use Rattle.djq_live.proofs.Gaining.{more_answers}
 use Rattle.djq_live.proofs.Listings.{few, in_image, image_of, images_differ}
 
@@ -99,8 +99,8 @@ answer_of sign show us t u e there =
     (in_image (λ (v : List ℕ). record { sign = sign; answer = show v }) us u there)
 
 images : (P Q : Tuple → Type 0) (big small : Reducts) (show : List ℕ → Tuple)
-    (us : List (List ℕ)) → Shows P big show → IsListing (IsGained big small) us
-    → AreDifferent (map show us)
+    (us : List (List ℕ)) → Shows P big show → ListsTuples (IsGained big small) us
+    → AreDistinctAnswers (map show us)
 images P Q big small show us shows l =
     images_differ show us l.different
     (λ x y m k e. shows.apart x y
@@ -110,7 +110,7 @@ images P Q big small show us shows l =
 came_whole : (Before After : Tuple → Type 0) (big small : Reducts) (show : List ℕ → Tuple)
     (us : List (List ℕ)) → IsReducts big → IsReducts small → HasMore small big
     → Shows After big show → ShowsAll After big show → Shows Before small show
-    → ShowsAll Before small show → IsListing (IsGained big small) us
+    → ShowsAll Before small show → ListsTuples (IsGained big small) us
     → (sign : Sign) (t : Tuple) → HasChanged Before After sign t
     → Contains (changes_by HasCome show us) (record { sign = sign; answer = t })
 came_whole Before After big small show us hb hs more shows all shows_small all_small l HasCome t h =
@@ -125,10 +125,10 @@ came_whole Before After big small show us hb hs more shows all shows_small all_s
 pub came_delta : (Before After : Tuple → Type 0) (big small : Reducts) (show : List ℕ → Tuple)
     (us : List (List ℕ)) → IsReducts big → IsReducts small → HasMore small big
     → Shows After big show → ShowsAll After big show → Shows Before small show
-    → ShowsAll Before small show → IsListing (IsGained big small) us
+    → ShowsAll Before small show → ListsTuples (IsGained big small) us
     → IsDelta Before After (changes_by HasCome show us)
 came_delta Before After big small show us hb hs more shows all shows_small all_small l = record {
-  different = subst (λ (ts : List Tuple). AreDifferent ts) (sym (answers_by HasCome show us))
+  different = subst (λ (ts : List Tuple). AreDistinctAnswers ts) (sym (answers_by HasCome show us))
       (images After Before big small show us shows l);
   changed = all_of (λ (c : Change). HasChanged Before After c.sign c.answer)
       (changes_by HasCome show us)
@@ -143,7 +143,7 @@ came_delta Before After big small show us hb hs more shows all shows_small all_s
 went_whole : (Before After : Tuple → Type 0) (big small : Reducts) (show : List ℕ → Tuple)
     (us : List (List ℕ)) → IsReducts big → IsReducts small → HasMore small big
     → Shows Before big show → ShowsAll Before big show → Shows After small show
-    → ShowsAll After small show → IsListing (IsGained big small) us
+    → ShowsAll After small show → ListsTuples (IsGained big small) us
     → (sign : Sign) (t : Tuple) → HasChanged Before After sign t
     → Contains (changes_by HasGone show us) (record { sign = sign; answer = t })
 went_whole Before After big small show us hb hs more shows all shows_small all_small l HasGone t h =
@@ -158,10 +158,10 @@ went_whole Before After big small show us hb hs more shows all shows_small all_s
 pub went_delta : (Before After : Tuple → Type 0) (big small : Reducts) (show : List ℕ → Tuple)
     (us : List (List ℕ)) → IsReducts big → IsReducts small → HasMore small big
     → Shows Before big show → ShowsAll Before big show → Shows After small show
-    → ShowsAll After small show → IsListing (IsGained big small) us
+    → ShowsAll After small show → ListsTuples (IsGained big small) us
     → IsDelta Before After (changes_by HasGone show us)
 went_delta Before After big small show us hb hs more shows all shows_small all_small l = record {
-  different = subst (λ (ts : List Tuple). AreDifferent ts) (sym (answers_by HasGone show us))
+  different = subst (λ (ts : List Tuple). AreDistinctAnswers ts) (sym (answers_by HasGone show us))
       (images Before After big small show us shows l);
   changed = all_of (λ (c : Change). HasChanged Before After c.sign c.answer)
       (changes_by HasGone show us)
@@ -177,7 +177,7 @@ went_delta Before After big small show us hb hs more shows all shows_small all_s
 pub few_changes : (P Q Before After : Tuple → Type 0) (sign : Sign) (big small : Reducts)
     (show : List ℕ → Tuple) (us : List (List ℕ)) (changes : List Change) → IsReducts big
     → IsReducts small → HasMore small big → Shows P big show → ShowsAll Q small show
-    → IsListing (IsGained big small) us
+    → ListsTuples (IsGained big small) us
     → ((t : Tuple) → P t → (Q t → ⊥) → HasChanged Before After sign t)
     → IsDelta Before After changes → length us ≤ length changes
 few_changes P Q Before After sign big small show us changes hb hs more shows all l turns delta =
@@ -199,14 +199,14 @@ few_changes P Q Before After sign big small show us changes hb hs more shows all
 -- ---- lines
 
 pub lines_came : (texts : List Bytes) (l : Live) (us : List (List ℕ))
-    → map (change_of texts l) (lines_of true us) ≡ changes_by HasCome (values_of texts l) us
+    → map (change_of texts l) (answer_lines true us) ≡ changes_by HasCome (values_of texts l) us
 lines_came texts l [] = refl
 lines_came texts l (u ∷ us) =
     ap (λ (cs : List Change). record { sign = HasCome; answer = values_of texts l u } ∷ cs)
     (lines_came texts l us)
 
 pub lines_went : (texts : List Bytes) (l : Live) (us : List (List ℕ))
-    → map (change_of texts l) (lines_of false us) ≡ changes_by HasGone (values_of texts l) us
+    → map (change_of texts l) (answer_lines false us) ≡ changes_by HasGone (values_of texts l) us
 lines_went texts l [] = refl
 lines_went texts l (u ∷ us) =
     ap (λ (cs : List Change). record { sign = HasGone; answer = values_of texts l u } ∷ cs)

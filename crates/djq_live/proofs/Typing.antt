@@ -98,7 +98,7 @@ use Rattle.djq_query.specs.Numbered.{
   with_places,
   with_columns,
 }
-use Rattle.djq_query.specs.Meaning.{AreShown, AreAtomsShown, AreComparisonsShown}
+use Rattle.djq_query.specs.Meaning.{TermsAreShown, AreAtomsShown, AreComparisonsShown}
 use Rattle.djq_query.proofs.Counting.{or_false}
 use Rattle.djq_query.proofs.Faults.{sound_of, peel}
 use Rattle.djq_query.proofs.Numbers.{not_false, length_labels, labels_with, labels_columns, same_length}
@@ -110,8 +110,8 @@ use Rattle.djq_rows.proofs.Learning.{eq_refl}
 use Rattle.djq_live.specs.Asked.{
   column_in,
   column_of,
-  Suits,
-  AreSuited,
+  TermSuits,
+  TermsSuit,
   IsAtomOf,
   AreAtomsOf,
   AreComparisonsOf,
@@ -267,10 +267,10 @@ typed_name rs all final x k c agree e place =
 suit_term : (rs : List Relation) (all : List Atom) (final : List Variable) (texts : List Bytes)
     (ks : List Variable) (t : Term) (c : ColumnType) → Grows (with_place ks t c) final
     → Agree rs all final
-    → AreShown (labels final) (t ∷ []) (numbered (labels ks) t ∷ [])
+    → TermsAreShown (labels final) (t ∷ []) (numbered (labels ks) t ∷ [])
     → ((p : Term → ColumnType → Bool) → any_place p rs all ≡ false → p t c ≡ false)
     → is_misfit t c ≡ false → HaveConstants texts (numbered (labels ks) t ∷ [])
-    → Suits texts final (numbered (labels ks) t) c
+    → TermSuits texts final (numbered (labels ks) t) c
 unfolding with_place
 suit_term rs all final texts ks (Named x) c grows agree shown place fit have =
     typed_name rs all final x (number_of (labels ks) x) c agree shown.0 place
@@ -285,11 +285,11 @@ suit_term rs all final texts ks (Constant v) c grows agree shown place fit have 
 suited_terms : (rs : List Relation) (all : List Atom) (final : List Variable) (texts : List Bytes)
     (ks : List Variable) (ts : List Term) (cs : List ColumnType)
     → Grows (with_places ks ts cs) final → Agree rs all final
-    → AreShown (labels final) ts (numbered_terms (labels ks) ts)
+    → TermsAreShown (labels final) ts (numbered_terms (labels ks) ts)
     → ((p : Term → ColumnType → Bool) → any_place p rs all ≡ false → any_column p ts cs ≡ false)
     → any_column is_misfit ts cs ≡ false → length ts ≡ length cs
     → HaveConstants texts (numbered_terms (labels ks) ts)
-    → AreSuited texts final (numbered_terms (labels ks) ts) cs
+    → TermsSuit texts final (numbered_terms (labels ks) ts) cs
 unfolding numbered_terms with_places
 suited_terms rs all final texts ks [] [] grows agree shown places fit long have = tt
 suited_terms rs all final texts ks [] (c ∷ cs) grows agree shown places fit long have =
@@ -304,9 +304,9 @@ suited_terms rs all final texts ks (t ∷ ts) (c ∷ cs) grows agree shown place
           (shown.0, tt)
           (λ p none. (or_parts (p t c) (any_column p ts cs) (places p none)).0) fits.0
           (have.0, tt),
-      subst (λ (ls : List Label). AreSuited texts final (numbered_terms ls ts) cs) same
+      subst (λ (ls : List Label). TermsSuit texts final (numbered_terms ls ts) cs) same
           (suited_terms rs all final texts next ts cs grows agree
-          (subst (λ (ls : List Label). AreShown (labels final) ts (numbered_terms ls ts)) (sym same)
+          (subst (λ (ls : List Label). TermsAreShown (labels final) ts (numbered_terms ls ts)) (sym same)
           shown.1)
           (λ p none. (or_parts (p t c) (any_column p ts cs) (places p none)).1) fits.1
           (omega arith)
@@ -342,7 +342,7 @@ found_name (s ∷ rs) name r e =
 atom_of : (c : Catalog) (all : List Atom) (final ks : List Variable) (a : Atom) (m : NumberedAtom)
     → Grows (with_columns c.relations ks a) final → Agree c.relations all final
     → slice_get c.relations m.relation ≡ relation_of c.relations a.relation
-    → AreShown (labels final) a.terms m.terms → m.terms ≡ numbered_terms (labels ks) a.terms
+    → TermsAreShown (labels final) a.terms m.terms → m.terms ≡ numbered_terms (labels ks) a.terms
     → is_none (relation_of c.relations a.relation) ≡ false
     → length a.terms ≡ length (columns_of c.relations a.relation)
     → any_column is_misfit a.terms (columns_of c.relations a.relation) ≡ false
@@ -356,16 +356,16 @@ atom_of c all final ks a m grows agree at shown is known long fit places have =
     let same : relation_at rs m.relation ≡ r.relation =
     get_or_from_slice_get rs m.relation r.relation no_relation here in
     let suited = suited_terms rs all final c.texts ks a.terms (columns_of rs a.relation) grows agree
-    (subst (λ (ns : List NumberedTerm). AreShown
+    (subst (λ (ns : List NumberedTerm). TermsAreShown
     (labels final) a.terms ns) is shown) places fit long
     (subst (λ (ns : List NumberedTerm). HaveConstants c.texts ns) is have) in
     record {
       below = slice_get_within rs m.relation r.relation here;
       named = ap (λ (s : Relation). s.name) same ∙ found_name rs a.relation r.relation r.is;
       shown = shown;
-      suited = subst (λ (cs : List ColumnType). AreSuited c.texts final m.terms cs)
+      suited = subst (λ (cs : List ColumnType). TermsSuit c.texts final m.terms cs)
           (ap types_of r.is ∙ ap (λ (s : Relation). s.types) (sym same))
-          (subst (λ (ns : List NumberedTerm). AreSuited c.texts final ns (columns_of rs a.relation))
+          (subst (λ (ns : List NumberedTerm). TermsSuit c.texts final ns (columns_of rs a.relation))
           (sym is) suited);
     }
 
@@ -416,8 +416,8 @@ atoms_of c all final ks (a ∷ atoms) (m ∷ ms) grows agree shown h known arity
 -- type suits the comparison
 suited_among : (vs : List Variable) (texts : List Bytes) (k : Comparison) (x : ℕ) (ts : List Term)
     (ns : List NumberedTerm) (cs : List ColumnType) → HasOne vs
-    → slice_get (labels vs) x ≡ Some (Some k.variable) → AreShown (labels vs) ts ns
-    → AreSuited texts vs ns cs → list_any (is_variable k.variable) ts ≡ true
+    → slice_get (labels vs) x ≡ Some (Some k.variable) → TermsAreShown (labels vs) ts ns
+    → TermsSuit texts vs ns cs → list_any (is_variable k.variable) ts ≡ true
     → any_column (is_miscompared k) ts cs ≡ false
     → (list_any (is_number x) ns ≡ true)
     × ((is_of (column_of vs x) k.constant && has_order k.operator (column_of vs x)) ≡ true)

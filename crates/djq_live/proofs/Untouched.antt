@@ -22,7 +22,7 @@ use Rattle.djq_cursor.proofs.Listed.{cursor_answers}
 use Rattle.djq_query.specs.declared.numbered.Variable.{Variable}
 use Rattle.djq_query.specs.declared.numbered.NumberedAtom.{NumberedAtom}
 use Rattle.djq_query.specs.Pattern.{Shape}
-use Rattle.djq_rows.specs.Cells.{cell_for, StandsFor, HasCell}
+use Rattle.djq_rows.specs.Cells.{cell_for, CellStandsFor, HasCell}
 use Rattle.djq_rows.specs.Catalog.{Catalog, relation_at}
 use Rattle.djq_rows.proofs.Encoding.{stands_back}
 use Rattle.djq_rows.proofs.Lawful.{stay}
@@ -31,7 +31,7 @@ use Rattle.djq_live.specs.Cursors.{Progress, slot_at}
 use Rattle.djq_live.specs.Asked.{AreAtomsOf, column_of}
 use Rattle.djq_live.specs.Leaves.{IsOver}
 use Rattle.djq_live.specs.Shown.{value_at}
-use Rattle.djq_live.specs.Changes.{IsLater, GainsAll, Loses, LeavesChange}
+use Rattle.djq_live.specs.Changes.{IsLater, GainsAll, Loses, EachLeafChanges}
 use Rattle.djq_live.specs.Live.{Live, IsKept, IsLive, given_by, position_of, values_of}
 use Rattle.djq_live.specs.Staying.{StaysOver, LiveStays, CamePasses, CameAllPasses, WentPasses}
 use Rattle.djq_reduct.proofs.Readings.{member_on}
@@ -43,11 +43,11 @@ use Rattle.djq_live.proofs.Terms.{heads}
 -- ---- values, once more texts are known
 
 pub value_later : (c d : Catalog) (vs : List Variable) (F u : List ℕ) (x : ℕ) → IsLater c d
-    → StandsFor c.texts (column_of vs x) (slice_index u (column F x)) (value_at c.texts vs F u x)
+    → CellStandsFor c.texts (column_of vs x) (slice_index u (column F x)) (value_at c.texts vs F u x)
     → value_at d.texts vs F u x ≡ value_at c.texts vs F u x
 value_later c d vs F u x l s =
     let v : Value = value_at c.texts vs F u x in
-    let s' : StandsFor c.texts (column_of vs x) (slice_index u (column F x)) v = s in
+    let s' : CellStandsFor c.texts (column_of vs x) (slice_index u (column F x)) v = s in
     let kept = stay c.texts l.more (v ∷ []) (s'.has, tt) in
     let there : HasCell d.texts v = subst (λ (t : List Bytes). HasCell t v) (sym l.texts) kept.0.0 in
     let same : cell_for d.texts v ≡ cell_for c.texts v =
@@ -140,7 +140,7 @@ unread c vs (a ∷ atoms) (n ∷ ms) at (suc j) m h none e same =
 
 unchanged : (Changes : Shape → List Entry → List Entry → Type 0) (c : Catalog) (at : ℕ) (l : Live)
     → reads l.query (relation_at c.relations at).name ≡ false → IsLive c l
-    → LeavesChange Changes at l.numbered l.patterns l.reducts l.reducts
+    → EachLeafChanges Changes at l.numbered l.patterns l.reducts l.reducts
 unchanged Changes c at l none live = record {
   reducts = live.kept.over.reducts;
   tree = refl;

@@ -36,7 +36,7 @@ use Rattle.djq_query.specs.declared.numbered.NumberedTerm.TheVariants.{
 use Rattle.djq_query.specs.declared.numbered.NumberedAtom.{NumberedAtom}
 use Rattle.djq_query.specs.declared.numbered.NumberedComparison.{NumberedComparison}
 use Rattle.djq_query.specs.Numbered.{Numbered, IsNumbered, is_number, labels, number_of}
-use Rattle.djq_query.specs.Meaning.{AreShown, IsComparisonShown, Rise, holes_in}
+use Rattle.djq_query.specs.Meaning.{TermsAreShown, IsComparisonShown, Rise, holes_in}
 use Rattle.djq_rows.specs.Cells.{HasCell, HaveCells}
 use Rattle.djq_rows.specs.Catalog.{Catalog, IsCatalog, relation_at}
 
@@ -50,17 +50,17 @@ abbrev pub column_of : List Variable → ℕ → ColumnType
 column_of variables x = column_in (slice_get variables x)
 
 -- A term suits a column of this type where it is of this type; and a constant has a cell.
-abbrev pub Suits : List Bytes → List Variable → NumberedTerm → ColumnType → Type 0
-Suits texts variables (Number x) c = column_of variables x ≡ c
-Suits texts variables (Fixed v) c = (is_of c v ≡ true) × HasCell texts v
+abbrev pub TermSuits : List Bytes → List Variable → NumberedTerm → ColumnType → Type 0
+TermSuits texts variables (Number x) c = column_of variables x ≡ c
+TermSuits texts variables (Fixed v) c = (is_of c v ≡ true) × HasCell texts v
 
 -- terms suit columns, one by one
-abbrev pub AreSuited : List Bytes → List Variable → List NumberedTerm → List ColumnType → Type 0
-AreSuited texts variables [] [] = ⊤
-AreSuited texts variables (t ∷ ts) (c ∷ cs) =
-    Suits texts variables t c × AreSuited texts variables ts cs
-AreSuited texts variables [] (c ∷ cs) = ⊥
-AreSuited texts variables (t ∷ ts) [] = ⊥
+abbrev pub TermsSuit : List Bytes → List Variable → List NumberedTerm → List ColumnType → Type 0
+TermsSuit texts variables [] [] = ⊤
+TermsSuit texts variables (t ∷ ts) (c ∷ cs) =
+    TermSuits texts variables t c × TermsSuit texts variables ts cs
+TermsSuit texts variables [] (c ∷ cs) = ⊥
+TermsSuit texts variables (t ∷ ts) [] = ⊥
 
 -- an atom by number stands for an atom: it is over the same relation, with the same terms, which
 -- suit the relation's columns
@@ -68,8 +68,8 @@ pub record IsAtomOf (c : Catalog) (variables : List Variable) (a : Atom) (m : Nu
     Type 0 where
   pub below : m.relation < length c.relations
   pub named : (relation_at c.relations m.relation).name ≡ a.relation
-  pub shown : AreShown (labels variables) a.terms m.terms
-  pub suited : AreSuited c.texts variables m.terms (relation_at c.relations m.relation).types
+  pub shown : TermsAreShown (labels variables) a.terms m.terms
+  pub suited : TermsSuit c.texts variables m.terms (relation_at c.relations m.relation).types
 
 -- atoms by number stand for atoms, one by one
 abbrev pub AreAtomsOf : Catalog → List Variable → List Atom → List NumberedAtom → Type 0

@@ -38,17 +38,17 @@ pub record AreTuplesOf (rows : List (List ℕ)) (p : Shape) (us : List (List ℕ
   pub few : length us ≤ length rows
 
 -- The tuples that were made of rows; or the rows, where none were, since each is its own.
-abbrev pub tuples_in : List (List ℕ) → Option (List (List ℕ)) → List (List ℕ)
-tuples_in rows (Some us) = us
-tuples_in rows None = rows
+abbrev pub row_tuples : List (List ℕ) → Option (List (List ℕ)) → List (List ℕ)
+row_tuples rows (Some us) = us
+row_tuples rows None = rows
 
 -- the tuples of rows for each atom
-abbrev pub batch_in : List (List ℕ) → List (Option (List (List ℕ))) → List (List (List ℕ))
-batch_in rows made = map (tuples_in rows) made
+abbrev pub batch_tuples : List (List ℕ) → List (Option (List (List ℕ))) → List (List (List ℕ))
+batch_tuples rows made = map (row_tuples rows) made
 
 -- A row has a cell for each slot.
-abbrev pub FitAll : List (List ℕ) → Shape → Type 0
-FitAll rows p = (row : List ℕ) → Contains rows row → length row ≡ length p.slots
+abbrev pub RowsFit : List (List ℕ) → Shape → Type 0
+RowsFit rows p = (row : List ℕ) → Contains rows row → length row ≡ length p.slots
 
 -- A batch has so many tuples at most for each atom.
 pub record HasFew (n : ℕ) (batch : List (List (List ℕ))) : Type 0 where
@@ -76,12 +76,12 @@ pub record CanTake (at : ℕ) (atoms : List NumberedAtom) (batch : List (List (L
       → length (entries_at r.tables j) + length us ≤ TUPLES
 
 -- the entries gained these tuples
-abbrev pub Adds : List (List ℕ) → List Entry → List Entry → Type 0
-Adds us old new = (u : List ℕ) → count_of new u ≡ count_of old u + times us u
+abbrev pub GainsTuples : List (List ℕ) → List Entry → List Entry → Type 0
+GainsTuples us old new = (u : List ℕ) → count_of new u ≡ count_of old u + times us u
 
 -- the entries lost these tuples
-abbrev pub Drops : List (List ℕ) → List Entry → List Entry → Type 0
-Drops us old new = (u : List ℕ) → count_of old u ≡ count_of new u + times us u
+abbrev pub LosesTuples : List (List ℕ) → List Entry → List Entry → Type 0
+LosesTuples us old new = (u : List ℕ) → count_of old u ≡ count_of new u + times us u
 
 -- no leaf has more than so many tuples more
 pub record GrowsBy (more : ℕ) (r s : Reducts) : Type 0 where

@@ -17,7 +17,7 @@ use Rattle.djq_rows.specs.Cells.{HaveCells, cells_of}
 use Rattle.djq_rows.specs.Catalog.{Catalog, relation_at, rows_at}
 use Rattle.djq_live.specs.Asked.{HaveConstants, constants_in}
 use Rattle.djq_live.specs.Leaves.{IsPatternOf, Holds}
-use Rattle.djq_live.specs.Changes.{Gains, Keeps, HoldsThese}
+use Rattle.djq_live.specs.Changes.{GainsTuple, KeepsTuples, HoldsThese}
 use Rattle.djq_index.specs.declared.cells.TheConstants.{CELLS}
 
 -- what is at a place in two lists
@@ -50,29 +50,29 @@ pub record SuitsRelation (c : Catalog) (label : List ℕ) (at : ℕ) (p : Shape)
   pub columns : length p.slots ≡ length (relation_at c.relations at).types
 
 -- the cells of a relation's rows
-abbrev pub cells_at : Catalog → ℕ → List (List ℕ)
-cells_at c at = map (cells_of c.texts) (rows_at c.relations at)
+abbrev pub relation_cells : Catalog → ℕ → List (List ℕ)
+relation_cells c at = map (cells_of c.texts) (rows_at c.relations at)
 
 -- a leaf took a row in, and no other leaf changed what it holds
 pub record TakesRow (p : Shape) (leaf : ℕ) (cells : List ℕ) (old new : Reducts) : Type 0 where
   pub tree : new.tree ≡ old.tree
   pub bare : IsBare new.tables
-  pub gains : Gains p cells (entries_at old.tables leaf) (entries_at new.tables leaf)
+  pub gains : GainsTuple p cells (entries_at old.tables leaf) (entries_at new.tables leaf)
   pub grows : length (entries_at new.tables leaf) ≤ length (entries_at old.tables leaf) + 1
   pub others : (j : ℕ) → j < old.tree.leaves → j ≢ leaf
-      → Keeps (entries_at old.tables j) (entries_at new.tables j)
+      → KeepsTuples (entries_at old.tables j) (entries_at new.tables j)
 
 -- a leaf has taken in the first of a relation's rows, up to those that are left
-pub record HasTaken (c : Catalog) (at : ℕ) (p : Shape) (leaf : ℕ) (left : List (List ℕ))
+pub record LeafHasTaken (c : Catalog) (at : ℕ) (p : Shape) (leaf : ℕ) (left : List (List ℕ))
     (old new : Reducts) : Type 0 where
   pub done : List (List ℕ)
-  pub parts : cells_at c at ≡ done ++ left
+  pub parts : relation_cells c at ≡ done ++ left
   pub holds : HoldsThese done p (entries_at new.tables leaf)
   pub few : length (entries_at new.tables leaf) ≤ length done
   pub tree : new.tree ≡ old.tree
   pub bare : IsBare new.tables
   pub others : (j : ℕ) → j < old.tree.leaves → j ≢ leaf
-      → Keeps (entries_at old.tables j) (entries_at new.tables j)
+      → KeepsTuples (entries_at old.tables j) (entries_at new.tables j)
 
 -- a leaf is filled with a relation's rows, and no other leaf changed what it holds
 pub record IsFilled (c : Catalog) (at : ℕ) (p : Shape) (leaf : ℕ) (old new : Reducts) : Type 0
@@ -81,7 +81,7 @@ pub record IsFilled (c : Catalog) (at : ℕ) (p : Shape) (leaf : ℕ) (old new :
     pub tree : new.tree ≡ old.tree
     pub bare : IsBare new.tables
     pub others : (j : ℕ) → j < old.tree.leaves → j ≢ leaf
-        → Keeps (entries_at old.tables j) (entries_at new.tables j)
+        → KeepsTuples (entries_at old.tables j) (entries_at new.tables j)
 
 -- the leaves below a number are filled, and those from it on are empty
 pub record AreFilled (c : Catalog) (atoms : List NumberedAtom) (ps : List Shape) (upto : ℕ)

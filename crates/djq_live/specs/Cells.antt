@@ -13,8 +13,8 @@ use Rattle.djq_rows.specs.Cells.{cell_for, cells_of}
 use Rattle.djq_rows.specs.Catalog.{Catalog, rows_at}
 
 -- An assignment of cells gives a cell to each variable, by its number.
-abbrev pub Assignment : Type 0
-Assignment = ℕ → ℕ
+abbrev pub CellAssignment : Type 0
+CellAssignment = ℕ → ℕ
 
 -- the cells are those of a row of the relation at a place
 pub record AreRowOf (c : Catalog) (at : ℕ) (cells : List ℕ) : Type 0 where
@@ -23,15 +23,15 @@ pub record AreRowOf (c : Catalog) (at : ℕ) (cells : List ℕ) : Type 0 where
   pub are : cells ≡ cells_of c.texts row
 
 -- the cell that a term stands for
-abbrev pub cell_under : List Bytes → Assignment → NumberedTerm → ℕ
+abbrev pub cell_under : List Bytes → CellAssignment → NumberedTerm → ℕ
 cell_under texts a (Number x) = a x
 cell_under texts a (Fixed v) = cell_for texts v
 
 -- An assignment satisfies an atom where the cells of its terms are those of a row of its relation.
-abbrev pub IsSatisfied : Catalog → Assignment → NumberedAtom → Type 0
+abbrev pub IsSatisfied : Catalog → CellAssignment → NumberedAtom → Type 0
 IsSatisfied c a m = AreRowOf c m.relation (map (cell_under c.texts a) m.terms)
 
 -- An assignment passes a comparison where the cell of its variable stands to that of its constant
 -- as the operator says.
-abbrev pub IsPassed : List Bytes → Assignment → NumberedComparison → Type 0
+abbrev pub IsPassed : List Bytes → CellAssignment → NumberedComparison → Type 0
 IsPassed texts a k = passes k.operator (a k.variable) (cell_for texts k.constant) ≡ true

@@ -25,7 +25,7 @@ use Rattle.djq_reduct.specs.Tables.{entries_at}
 use Rattle.djq_reduct.specs.Reducts.{Reducts, IsReducts}
 use Rattle.djq_query.specs.declared.numbered.NumberedAtom.{NumberedAtom}
 use Rattle.djq_query.specs.Numbered.{Numbered}
-use Rattle.djq_query.specs.Pattern.{Shape, Gives}
+use Rattle.djq_query.specs.Pattern.{Shape, GivesRow}
 use Rattle.djq_rows.specs.Cells.{cells_of}
 use Rattle.djq_rows.specs.Catalog.{
   Catalog,
@@ -89,20 +89,20 @@ GainsAll p rows old new = (u : List ℕ)
     → (0 < count_of new u) ↔ ((0 < count_of old u) ⊎ GivesOne (Contains rows) p u)
 
 -- they gained the tuple that gives these cells, of which there is one at most
-abbrev pub Gains : Shape → List ℕ → List Entry → List Entry → Type 0
-Gains p cells old new = GainsAll p (cells ∷ []) old new
+abbrev pub GainsTuple : Shape → List ℕ → List Entry → List Entry → Type 0
+GainsTuple p cells old new = GainsAll p (cells ∷ []) old new
 
 -- the entries lost the tuple that gives these cells, of which there is one at most
 abbrev pub Loses : Shape → List ℕ → List Entry → List Entry → Type 0
 Loses p cells old new = (u : List ℕ)
-    → (0 < count_of new u) ↔ ((0 < count_of old u) × (Gives p u cells → ⊥))
+    → (0 < count_of new u) ↔ ((0 < count_of old u) × (GivesRow p u cells → ⊥))
 
 -- the entries hold the same tuples
-abbrev pub Keeps : List Entry → List Entry → Type 0
-Keeps old new = (u : List ℕ) → count_of new u ≡ count_of old u
+abbrev pub KeepsTuples : List Entry → List Entry → Type 0
+KeepsTuples old new = (u : List ℕ) → count_of new u ≡ count_of old u
 
 -- the leaves of the atoms over the relation at a place changed so, and the others hold the same
-pub record LeavesChange (Changes : Shape → List Entry → List Entry → Type 0) (at : ℕ)
+pub record EachLeafChanges (Changes : Shape → List Entry → List Entry → Type 0) (at : ℕ)
     (n : Numbered) (ps : List Shape) (r s : Reducts) : Type 0 where
   pub reducts : IsReducts s
   pub tree : s.tree ≡ r.tree
@@ -110,7 +110,7 @@ pub record LeavesChange (Changes : Shape → List Entry → List Entry → Type 
       → slice_get ps j ≡ Some p → m.relation ≡ at
       → Changes p (entries_at r.tables j) (entries_at s.tables j)
   pub others : (j : ℕ) (m : NumberedAtom) → slice_get n.atoms j ≡ Some m → m.relation ≢ at
-      → Keeps (entries_at r.tables j) (entries_at s.tables j)
+      → KeepsTuples (entries_at r.tables j) (entries_at s.tables j)
 
 -- Where no rows change, the reducts stay those of the query.
 abbrev pub OverStays : Type 0
@@ -121,13 +121,13 @@ OverStays = (c d : Catalog) (q : Query) (n : Numbered) (ps : List Shape) (r : Re
 abbrev pub OverGains : Type 0
 OverGains = (c d : Catalog) (q : Query) (n : Numbered) (ps : List Shape) (r s : Reducts) (at : ℕ)
     (cells : List (List ℕ)) (new : List Tuple) → IsOver c q n ps r → CameAll c d at cells new
-    → LeavesChange (λ p old new. GainsAll p cells old new) at n ps r s → IsOver d q n ps s
+    → EachLeafChanges (λ p old new. GainsAll p cells old new) at n ps r s → IsOver d q n ps s
 
 -- Where a row went, they are once the leaves have lost its tuples.
 abbrev pub OverLoses : Type 0
 OverLoses = (c d : Catalog) (q : Query) (n : Numbered) (ps : List Shape) (r s : Reducts) (at : ℕ)
     (cells : List ℕ) (row : Tuple) → IsOver c q n ps r → Went c d at cells row
-    → LeavesChange (λ p old new. Loses p cells old new) at n ps r s → IsOver d q n ps s
+    → EachLeafChanges (λ p old new. Loses p cells old new) at n ps r s → IsOver d q n ps s
 
 -- A row that is added to a catalog, where it wasn't, came; one whose copies are deleted went.
 abbrev pub AddedCame : Type 0

@@ -16,7 +16,7 @@ use Rattle.djq_query.specs.declared.numbered.NumberedTerm.TheVariants.{
 use Rattle.djq_query.specs.declared.numbered.NumberedAtom.{NumberedAtom}
 use Rattle.djq_query.specs.declared.numbered.NumberedComparison.{NumberedComparison}
 use Rattle.djq_query.specs.Numbered.{Numbered, is_number}
-use Rattle.djq_query.specs.Pattern.{Shape, Gives, bound, tests_of}
+use Rattle.djq_query.specs.Pattern.{Shape, GivesRow, bound, tests_of}
 use Rattle.djq_rows.specs.Cells.{cell_for, cells_of}
 use Rattle.djq_rows.specs.Catalog.{Catalog}
 use Rattle.djq_live.specs.Cells.{AreRowOf}
@@ -28,11 +28,11 @@ IsCellOf texts (Number x) cell = ⊤
 IsCellOf texts (Fixed v) cell = cell ≡ cell_for texts v
 
 -- Cells are so for terms, one by one.
-abbrev pub AreCellsOf : List Bytes → List NumberedTerm → List ℕ → Type 0
-AreCellsOf texts [] [] = ⊤
-AreCellsOf texts (t ∷ ts) (c ∷ cs) = IsCellOf texts t c × AreCellsOf texts ts cs
-AreCellsOf texts [] (c ∷ cs) = ⊥
-AreCellsOf texts (t ∷ ts) [] = ⊥
+abbrev pub AreCellsOfTerms : List Bytes → List NumberedTerm → List ℕ → Type 0
+AreCellsOfTerms texts [] [] = ⊤
+AreCellsOfTerms texts (t ∷ ts) (c ∷ cs) = IsCellOf texts t c × AreCellsOfTerms texts ts cs
+AreCellsOfTerms texts [] (c ∷ cs) = ⊥
+AreCellsOfTerms texts (t ∷ ts) [] = ⊥
 
 -- the pattern of an atom, whose variables the label has: its tests are the comparisons of these
 pub record IsPatternOf (texts : List Bytes) (label : List ℕ) (ks : List NumberedComparison)
@@ -40,7 +40,7 @@ pub record IsPatternOf (texts : List Bytes) (label : List ℕ) (ks : List Number
   pub variables : (x : ℕ) → member x label ≡ list_any (is_number x) m.terms
   pub width : p.width ≡ length label
   pub cells : List ℕ
-  pub are : AreCellsOf texts m.terms cells
+  pub are : AreCellsOfTerms texts m.terms cells
   pub slots : p.slots ≡ bound label m.terms cells
   pub tests : p.tests ≡ tests_of label ks (cells_of texts (constants_in ks))
 
@@ -48,7 +48,7 @@ pub record IsPatternOf (texts : List Bytes) (label : List ℕ) (ks : List Number
 pub record GivesOne (IsRow : List ℕ → Type 0) (p : Shape) (u : List ℕ) : Type 0 where
   pub cells : List ℕ
   pub row : IsRow cells
-  pub gives : Gives p u cells
+  pub gives : GivesRow p u cells
 
 -- A leaf's entries hold exactly the tuples that put into the atom give a row of its relation, and
 -- that pass the atom's tests.

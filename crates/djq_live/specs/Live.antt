@@ -38,14 +38,14 @@ abbrev pub IsKeptSomewhere : Live → Type 0
 IsKeptSomewhere l = (c : Catalog) × IsKept c l
 
 -- the open cursor in a slot fits the reducts
-abbrev pub FitsIn : Live → ℕ → Type 0
-FitsIn l k = (cursor : Cursor) (ended : Bool)
+abbrev pub FitsAt : Live → ℕ → Type 0
+FitsAt l k = (cursor : Cursor) (ended : Bool)
     → slot_at l.cursors k ≡ Some (Open cursor ended) → Fits l.reducts cursor
 
 -- Its open cursors fit too, and can go on.
 pub record IsLive (c : Catalog) (l : Live) : Type 0 where
   pub kept : IsKept c l
-  pub fits : (k : ℕ) → FitsIn l k
+  pub fits : (k : ℕ) → FitsAt l k
 
 -- the values that a tuple of the tree shows, in the head's order
 abbrev pub values_of : List Bytes → Live → List ℕ → Tuple

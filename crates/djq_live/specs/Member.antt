@@ -30,7 +30,7 @@ use Rattle.djq_machine.specs.Store.{answer_types}
 use Rattle.djq_reduct.specs.Reducts.{Reducts}
 use Rattle.djq_reduct.specs.Answers.{IsAnswerOf}
 use Rattle.djq_cursor.specs.declared.cursor.Cursor.{Cursor}
-use Rattle.djq_cursor.specs.Menus.{has}
+use Rattle.djq_cursor.specs.Menus.{has_tuple}
 use Rattle.djq_cursor.specs.Levels.{group_at}
 use Rattle.djq_cursor.specs.Walk.{all_given}
 use Rattle.djq_cursor.specs.Given.{has_root, given, Fits}
@@ -38,15 +38,15 @@ use Rattle.djq_rows.specs.Cells.{StandFor}
 use Rattle.djq_rows.specs.Catalog.{Catalog}
 use Rattle.djq_live.specs.Asked.{column_of}
 use Rattle.djq_live.specs.Live.{Live, IsKept, IsKeptSomewhere, IsShowable, values_of}
-use Rattle.djq_live.specs.Order.{reading}
+use Rattle.djq_live.specs.Order.{cell_of_variable}
 
 -- the cells of a tuple of the tree, in the head's order
 abbrev pub in_head : Live → List ℕ → List ℕ
-in_head l u = map (reading (l.reducts).tree.head u) (l.numbered).head
+in_head l u = map (cell_of_variable (l.reducts).tree.head u) (l.numbered).head
 
 -- cells in the head's order, as a tuple of the tree
 abbrev pub in_tree : Live → List ℕ → List ℕ
-in_tree l t = map (reading (l.numbered).head t) (l.reducts).tree.head
+in_tree l t = map (cell_of_variable (l.numbered).head t) (l.reducts).tree.head
 
 -- the types of the cells of its answers, in the head's order
 abbrev pub head_types : Live → List ColumnType
@@ -58,7 +58,7 @@ all_answers r = all_given r (group_at r) (has_root r)
 
 -- whether these are the cells of an answer, in the head's order
 abbrev pub has_cells : Live → List ℕ → Bool
-has_cells l t = has (map (in_head l) (all_answers l.reducts)) t
+has_cells l t = has_tuple (map (in_head l) (all_answers l.reducts)) t
 
 -- the cells of the answers that a cursor has given, in the head's order
 abbrev pub cells_given : Live → Cursor → List (List ℕ)

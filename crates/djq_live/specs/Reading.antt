@@ -16,7 +16,7 @@ use Rattle.djq_live.specs.Cursors.{Progress, slot_at, IsOpenIn, SetsSlot}
 use Rattle.djq_live.specs.Live.{Live, IsLive, position_of, values_of}
 
 -- The cursor in a slot is moved, and nothing else.
-pub record MovesTo (c : Catalog) (old : Live) (k : ℕ) (position : Position) (new : Live) :
+pub record QueryCursorMoves (c : Catalog) (old : Live) (k : ℕ) (position : Position) (new : Live) :
     Type 0 where
   pub progress : Progress
   pub moved : new ≡ record old { cursors = slice_set old.cursors k (Some progress) }
@@ -25,37 +25,37 @@ pub record MovesTo (c : Catalog) (old : Live) (k : ℕ) (position : Position) (n
 
 -- What a read gives at a position: one answer that is left, as a tuple of the tree; the end exactly
 -- where none is; or what made the cursor stale.
-abbrev pub NextGivesAt : Catalog → Live → ℕ → Position → Next → List ℕ → Live → Type 0
-NextGivesAt c old k (open_at given ended) Given u new =
+abbrev pub QueryNextGivesAt : Catalog → Live → ℕ → Position → Next → List ℕ → Live → Type 0
+QueryNextGivesAt c old k (open_at given ended) Given u new =
     IsAnswerOf old.reducts u
     × IsLeft (IsAnswer c.relations old.query) given (values_of c.texts old u)
-    × MovesTo c old k (open_at (given ++ values_of c.texts old u ∷ []) false) new
-NextGivesAt c old k (open_at given ended) End u new =
-    AreAll (IsAnswer c.relations old.query) given × MovesTo c old k (open_at given true) new
-NextGivesAt c old k (open_at given ended) (Stale relation n) u new = ⊥
-NextGivesAt c old k (stale r m) (Stale relation n) u new =
+    × QueryCursorMoves c old k (open_at (given ++ values_of c.texts old u ∷ []) false) new
+QueryNextGivesAt c old k (open_at given ended) End u new =
+    AreAll (IsAnswer c.relations old.query) given × QueryCursorMoves c old k (open_at given true) new
+QueryNextGivesAt c old k (open_at given ended) (Stale relation n) u new = ⊥
+QueryNextGivesAt c old k (stale r m) (Stale relation n) u new =
     (relation ≡ r) × (n ≡ m) × (new ≡ old)
-NextGivesAt c old k (stale r m) _ u new = ⊥
+QueryNextGivesAt c old k (stale r m) _ u new = ⊥
 
 -- A read of the cursor in a slot.
-abbrev pub NextGives : Catalog → Live → ℕ → Next → List ℕ → Live → Type 0
-NextGives c old k result u new = IsSomeAnd (slot_at old.cursors k)
-    (λ p. NextGivesAt c old k (position_of c.texts old p) result u new)
+abbrev pub QueryNextGives : Catalog → Live → ℕ → Next → List ℕ → Live → Type 0
+QueryNextGives c old k result u new = IsSomeAnd (slot_at old.cursors k)
+    (λ p. QueryNextGivesAt c old k (position_of c.texts old p) result u new)
 
 -- What is known at a position of whether an answer is left: a cursor to which none is left stands
 -- at its end.
-abbrev pub MoreGivesAt : Catalog → Live → ℕ → Position → Bool → Live → Type 0
-MoreGivesAt c old k (open_at given ended) true new =
+abbrev pub QueryMoreGivesAt : Catalog → Live → ℕ → Position → Bool → Live → Type 0
+QueryMoreGivesAt c old k (open_at given ended) true new =
     ((t : Tuple) × IsLeft (IsAnswer c.relations old.query) given t)
-    × MovesTo c old k (open_at given false) new
-MoreGivesAt c old k (open_at given ended) false new =
-    AreAll (IsAnswer c.relations old.query) given × MovesTo c old k (open_at given true) new
-MoreGivesAt c old k (stale r m) more new = ⊥
+    × QueryCursorMoves c old k (open_at given false) new
+QueryMoreGivesAt c old k (open_at given ended) false new =
+    AreAll (IsAnswer c.relations old.query) given × QueryCursorMoves c old k (open_at given true) new
+QueryMoreGivesAt c old k (stale r m) more new = ⊥
 
 -- What is known, at the cursor in a slot, of whether an answer is left.
-abbrev pub MoreGives : Catalog → Live → ℕ → Bool → Live → Type 0
-MoreGives c old k result new = IsSomeAnd (slot_at old.cursors k)
-    (λ p. MoreGivesAt c old k (position_of c.texts old p) result new)
+abbrev pub QueryMoreGives : Catalog → Live → ℕ → Bool → Live → Type 0
+QueryMoreGives c old k result new = IsSomeAnd (slot_at old.cursors k)
+    (λ p. QueryMoreGivesAt c old k (position_of c.texts old p) result new)
 
 -- what a read counts at most: a stale cursor costs nothing
 abbrev pub next_steps : Next → ℕ → ℕ
@@ -63,7 +63,7 @@ next_steps (Stale relation n) h = 0
 next_steps _ h = most_steps h
 
 -- A cursor that has given nothing stands in a slot where none was, and nothing else has changed.
-pub record OpensIn (old : Live) (k : ℕ) (new : Live) : Type 0 where
+pub record QueryOpensIn (old : Live) (k : ℕ) (new : Live) : Type 0 where
   pub free : slot_at old.cursors k ≡ None
   pub cursor : Cursor
   pub none : (r : Reducts) → given r cursor ≡ []

@@ -23,7 +23,7 @@ use Rattle.djq_query.specs.Pattern.{Shape}
 use Rattle.djq_reduct.specs.Columns.{column}
 use Rattle.djq_reduct.specs.Reducts.{Reducts}
 use Rattle.djq_reduct.specs.Answers.{IsAnswerOf}
-use Rattle.djq_rows.specs.Cells.{StandsFor}
+use Rattle.djq_rows.specs.Cells.{CellStandsFor}
 use Rattle.djq_rows.specs.Parts.{value_of}
 use Rattle.djq_rows.specs.Catalog.{Catalog}
 use Rattle.djq_live.specs.Asked.{column_of}
@@ -41,7 +41,7 @@ shown texts n F u = map (value_at texts n.variables F u) n.head
 abbrev pub AreShownAs : List Bytes → List Variable → List ℕ → List ℕ → List ℕ → Tuple → Type 0
 AreShownAs texts variables F u [] [] = ⊤
 AreShownAs texts variables F u (x ∷ xs) (v ∷ vs) =
-    StandsFor texts (column_of variables x) (slice_index u (column F x)) v
+    CellStandsFor texts (column_of variables x) (slice_index u (column F x)) v
     × AreShownAs texts variables F u xs vs
 AreShownAs texts variables F u [] (v ∷ vs) = ⊥
 AreShownAs texts variables F u (x ∷ xs) [] = ⊥

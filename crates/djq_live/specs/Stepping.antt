@@ -32,25 +32,25 @@ use Rattle.djq_reduct.specs.Tables.{entries_at}
 use Rattle.djq_reduct.specs.Reducts.{Reducts, IsReducts}
 use Rattle.djq_reduct.specs.Marks.{IsBare}
 use Rattle.djq_propagate.specs.Updates.{HasAtMost, paths}
-use Rattle.djq_cursor.specs.Listing.{IsListing}
+use Rattle.djq_cursor.specs.Listing.{ListsTuples}
 use Rattle.djq_cursor.specs.declared.log.Line.{Line}
 use Rattle.djq_cursor.specs.Log.{Log}
 use Rattle.djq_query.specs.declared.numbered.NumberedAtom.{NumberedAtom}
-use Rattle.djq_query.specs.Pattern.{Shape, Gives}
+use Rattle.djq_query.specs.Pattern.{Shape, GivesRow}
 use Rattle.djq_live.specs.Leaves.{GivesOne}
-use Rattle.djq_live.specs.Changes.{Keeps}
+use Rattle.djq_live.specs.Changes.{KeepsTuples}
 
 -- no entry's tuple gives one of these rows of cells, put into the atom
 abbrev pub LacksAll : List (List ℕ) → Shape → List Entry → Type 0
 LacksAll rows p es = (u : List ℕ) → GivesOne (Contains rows) p u → count_of es u ≡ 0
 
 -- no entry's tuple gives these cells
-abbrev pub Lacks : List ℕ → Shape → List Entry → Type 0
-Lacks cells p es = (u : List ℕ) → Gives p u cells → count_of es u ≡ 0
+abbrev pub LacksCells : List ℕ → Shape → List Entry → Type 0
+LacksCells cells p es = (u : List ℕ) → GivesRow p u cells → count_of es u ≡ 0
 
 -- each tuple that gives these cells is there
 abbrev pub Has : List ℕ → Shape → List Entry → Type 0
-Has cells p es = (u : List ℕ) → Gives p u cells → 0 < count_of es u
+Has cells p es = (u : List ℕ) → GivesRow p u cells → 0 < count_of es u
 
 -- One leaf changed so, each other one holds what it held, and no update is unfinished.
 pub record ChangesAt {A : Type 0} (Changes : A → List Entry → List Entry → Type 0) (p : A) (j : ℕ)
@@ -60,7 +60,7 @@ pub record ChangesAt {A : Type 0} (Changes : A → List Entry → List Entry →
   pub bare : IsBare s.tables
   pub leaf : Changes p (entries_at r.tables j) (entries_at s.tables j)
   pub others : (i : ℕ) → i < r.tree.leaves → i ≢ j
-      → Keeps (entries_at r.tables i) (entries_at s.tables i)
+      → KeepsTuples (entries_at r.tables i) (entries_at s.tables i)
 
 -- So did the leaves below k whose atoms are over the relation at a place, each by what stands at its
 -- place in a list, as its pattern; each other one holds what it held.
@@ -73,7 +73,7 @@ pub record ChangesBelow {A : Type 0} (Changes : A → List Entry → List Entry 
       → slice_get ps j ≡ Some p → m.relation ≡ at
       → Changes p (entries_at r.tables j) (entries_at s.tables j)
   pub others : (j : ℕ) (m : NumberedAtom) → slice_get atoms j ≡ Some m
-      → (j < k → m.relation ≢ at) → Keeps (entries_at r.tables j) (entries_at s.tables j)
+      → (j < k → m.relation ≢ at) → KeepsTuples (entries_at r.tables j) (entries_at s.tables j)
 
 -- the leaves of the one have all tuples that those of the other have
 pub record HasMore (small big : Reducts) : Type 0 where
@@ -103,12 +103,12 @@ abbrev pub atoms_below : ℕ → List NumberedAtom → ℕ → ℕ
 atoms_below at atoms k = length (filter (λ a. a.relation == at) (take k atoms))
 
 -- the lines that tell of answers
-abbrev pub lines_of : Bool → List (List ℕ) → List Line
-lines_of came us = map (λ u. record { came = came; answer = u }) us
+abbrev pub answer_lines : Bool → List (List ℕ) → List Line
+answer_lines came us = map (λ u. record { came = came; answer = u }) us
 
 -- Unless it is lost, the log tells of these answers behind what it told.
-pub record TellsOf (came : Bool) (us : List (List ℕ)) (old new : Log) : Type 0 where
-  pub behind : new.lost ≡ false → new.lines ≡ old.lines ++ lines_of came us
+pub record LogTellsOf (came : Bool) (us : List (List ℕ)) (old new : Log) : Type 0 where
+  pub behind : new.lost ≡ false → new.lines ≡ old.lines ++ answer_lines came us
   pub stays : old.lost ≡ true → new.lost ≡ true
 
 -- The log tells of all tuples that changed; listing them took a call for each, and so many more,
@@ -117,8 +117,8 @@ pub record TellsOf (came : Bool) (us : List (List ℕ)) (old new : Log) : Type 0
 pub record ListsAll (came : Bool) (Changed : List ℕ → Type 0) (h calls : ℕ) (old new : Log)
     (before now : ℕ) : Type 0 where
   pub answers : List (List ℕ)
-  pub listing : IsListing Changed answers
-  pub tells : TellsOf came answers old new
+  pub listing : ListsTuples Changed answers
+  pub tells : LogTellsOf came answers old new
   pub counted : now ≤ before + (length answers + calls) * most_steps h
 
 -- So it is where the delta is wanted; else nothing is listed.
@@ -128,7 +128,7 @@ ListsWhere true came Changed h calls old new before now =
 ListsWhere false came Changed h calls old new before now = (new ≡ old) × (now ≡ before)
 
 -- No leaf has more than n + 1 tuples, with the one counted in that is to come into the leaf j.
-pub record HasRoom (r : Reducts) (j n : ℕ) : Type 0 where
+pub record LeavesHaveRoom (r : Reducts) (j n : ℕ) : Type 0 where
   pub leaf : length (entries_at r.tables j) ≤ n
   pub all : HasAtMost r (n + 1)
 
@@ -150,7 +150,7 @@ BoundsLeaf t n b = (16 * (paths t * (n + 1)) ≤ b) ⊎ (HasEqualMeets t × (16 
 
 -- A tuple that came into the leaf j counts so many times such a bound at most.
 abbrev pub CountsLeaf : Reducts → ℕ → ℕ → ℕ → ℕ → Type 0
-CountsLeaf r j times before now = (n b : ℕ) → HasRoom r j n → BoundsLeaf r.tree n b
+CountsLeaf r j times before now = (n b : ℕ) → LeavesHaveRoom r j n → BoundsLeaf r.tree n b
     → now ≤ before + times * b
 
 -- Updates count so many times such a bound at most, where no leaf has more than n tuples before all

@@ -43,8 +43,8 @@ pub record CanDelete (l : Live) (at : ℕ) (cells : List ℕ) : Type 0 where
   pub went : Went before after at cells row
 
 -- The query is kept over the later catalog, too, whatever changed: a row or some rows.
-abbrev pub Follows : {R : Type 0} → (Catalog → Catalog → R → Type 0) → Live → Live → Type 0
-Follows {R} Changed old new = (c d : Catalog) (what : R) → IsKept c old → Changed c d what
+abbrev pub KeptAfter : {R : Type 0} → (Catalog → Catalog → R → Type 0) → Live → Live → Type 0
+KeptAfter {R} Changed old new = (c d : Catalog) (what : R) → IsKept c old → Changed c d what
     → IsKept d new
 
 -- the change that a line of a log tells
@@ -59,7 +59,7 @@ abbrev pub IsDeltaOf : Live → Catalog → Catalog → List Change → Type 0
 IsDeltaOf l c d = IsDelta (IsAnswer c.relations l.query) (IsAnswer d.relations l.query)
 
 -- Unless the log is lost, it tells the delta behind what it told, in lines that can be shown.
-pub record Logs {R : Type 0} (Changed : Catalog → Catalog → R → Type 0) (old : Live)
+pub record LogsDelta {R : Type 0} (Changed : Catalog → Catalog → R → Type 0) (old : Live)
     (log new : Log) : Type 0 where
   pub lines : List Line
   pub behind : new.lost ≡ false → new.lines ≡ log.lines ++ lines
@@ -72,7 +72,7 @@ pub record Logs {R : Type 0} (Changed : Catalog → Catalog → R → Type 0) (o
 -- What becomes of the log, where the delta is wanted and where it isn't.
 abbrev pub LogsWhere :
     {R : Type 0} → Bool → (Catalog → Catalog → R → Type 0) → Live → Log → Log → Type 0
-LogsWhere {R} true Changed old log new = Logs Changed old log new
+LogsWhere {R} true Changed old log new = LogsDelta Changed old log new
 LogsWhere {R} false Changed old log new = new ≡ log
 
 -- The log tells of no change, and isn't lost.
@@ -110,8 +110,8 @@ CountsUpdate times l at before now = (n : ℕ) → HasAtMost l.reducts n
     → now ≤ before + times * (atoms_over l at * update_bound l n)
 
 -- Where so many rows come at once, it is so many times the bound for the tuples that there may be then.
-abbrev pub CountsBatch : ℕ → ℕ → Live → ℕ → ℕ → ℕ → Type 0
-CountsBatch more times l at before now = (n : ℕ) → HasAtMost l.reducts n
+abbrev pub CountsBatchAt : ℕ → ℕ → Live → ℕ → ℕ → ℕ → Type 0
+CountsBatchAt more times l at before now = (n : ℕ) → HasAtMost l.reducts n
     → now ≤ before + times * (atoms_over l at * update_bound l (n + more))
 
 -- What an update of a flat query counts at most for an atom, whatever the number of tuples.

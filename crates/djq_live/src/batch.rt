@@ -13,17 +13,17 @@ ghost use Rattle.djq_live.specs.Batching.{
   AreDistinct,
   AreTuplesOf,
   AreTuples,
-  FitAll,
+  RowsFit,
   HasFew,
   CanTake,
-  Adds,
-  Drops,
+  GainsTuples,
+  LosesTuples,
   GrowsBy,
   CountsTuples,
   CountsMany,
   CountsGiven,
-  tuples_in,
-  batch_in,
+  row_tuples,
+  batch_tuples,
 };
 ghost use Rattle.djq_index.specs.declared.table.TheConstants.{TUPLES};
 
@@ -53,7 +53,7 @@ fn are_same(cells: &[u64], others: &[u64]) -> bool
 
 /// Whether each of these rows is its own tuple, so that none has to be made.
 fn are_tuples(pattern: &Pattern, rows: &[Cells]) -> bool
-    requires fit { FitAll rows.now pattern.now }
+    requires fit { RowsFit rows.now pattern.now }
     requires distinct { AreDistinct rows.now }
     ensures { result ≡ true → AreTuplesOf rows.now pattern.now rows.now }
 {
@@ -72,7 +72,7 @@ fn are_tuples(pattern: &Pattern, rows: &[Cells]) -> bool
 
 /// The tuples of rows, of each that has one.
 fn tuples_of(alloc: Global, pattern: &Pattern, rows: &[Cells]) -> Result<Sequence<Cells>, NoMem>
-    requires fit { FitAll rows.now pattern.now }
+    requires fit { RowsFit rows.now pattern.now }
     requires distinct { AreDistinct rows.now }
     ensures { IfOk result (λ us. AreTuplesOf rows.now pattern.now us) }
 {
@@ -96,11 +96,11 @@ fn tuples_for(
     relation: usize,
     rows: &[Cells],
 ) -> Result<Option<Sequence<Cells>>, NoMem>
-    requires fit { atom.now.relation ≡ relation → FitAll rows.now pattern.now }
+    requires fit { atom.now.relation ≡ relation → RowsFit rows.now pattern.now }
     requires distinct { AreDistinct rows.now }
     ensures tuples { IfOk result (λ made. atom.now.relation ≡ relation
-        → AreTuplesOf rows.now pattern.now (tuples_in rows.now made)) }
-    ensures few { IfOk result (λ made. length (tuples_in rows.now made) ≤ length rows.now) }
+        → AreTuplesOf rows.now pattern.now (row_tuples rows.now made)) }
+    ensures few { IfOk result (λ made. length (row_tuples rows.now made) ≤ length rows.now) }
 {
     if atom.relation != relation {
         return Ok(Some(Sequence::new(alloc)));
@@ -122,10 +122,10 @@ pub(crate) fn tuples_of_all(
 ) -> Result<Vec<Option<Sequence<Cells>>>, NoMem>
     requires long { length patterns.now ≡ length atoms.now }
     requires fit { (j : ℕ) (m : spec.NumberedAtom) (p : Shape) → slice_get atoms.now j ≡ Some m
-        → slice_get patterns.now j ≡ Some p → m.relation ≡ relation → FitAll rows.now p }
+        → slice_get patterns.now j ≡ Some p → m.relation ≡ relation → RowsFit rows.now p }
     requires distinct { AreDistinct rows.now }
     ensures { IfOk result (λ batch. AreTuples relation rows.now atoms.now patterns.now
-        (batch_in rows.now batch.items)) }
+        (batch_tuples rows.now batch.items)) }
 {
     let mut batch = Vec::new(alloc);
     'atoms: for j in 0..atoms.len() {
@@ -136,7 +136,7 @@ pub(crate) fn tuples_of_all(
 
 /// The tuples that were made of rows, or the rows.
 fn tuples_in<'a>(made: &'a Option<Sequence<Cells>>, rows: &'a [Cells]) -> &'a [Cells]
-    ensures { result.now ≡ tuples_in rows.now made.now }
+    ensures { result.now ≡ row_tuples rows.now made.now }
 {
     match made {
         Some(tuples) => tuples.as_slice(),
@@ -223,23 +223,23 @@ pub(crate) fn add_all_to_leaves<L: Ledgers>(
     log: &mut DeltaLog,
     steps: &mut Steps<L>,
 ) -> usize
-    requires can { CanTake relation atoms.now (batch_in rows.now batch.now) reducts.old }
+    requires can { CanTake relation atoms.now (batch_tuples rows.now batch.now) reducts.old }
     requires bare { IsBare reducts.old.tables }
     ensures done { result ≤ length atoms.now }
-    ensures gained { ChangesBelow (λ us old new. Adds us old new) relation atoms.now
-        (batch_in rows.now batch.now) result reducts.old reducts.new }
+    ensures gained { ChangesBelow (λ us old new. GainsTuples us old new) relation atoms.now
+        (batch_tuples rows.now batch.now) result reducts.old reducts.new }
     ensures more { HasMore reducts.old reducts.new }
     ensures listed { ListsWhere wanted true (IsGained reducts.new reducts.old)
         (length reducts.old.tree.head) (atoms_below relation atoms.now result)
         log.old log.new steps.old.listing steps.new.listing }
-    ensures grows { (more : ℕ) → HasFew more (batch_in rows.now batch.now)
+    ensures grows { (more : ℕ) → HasFew more (batch_tuples rows.now batch.now)
         → GrowsBy more reducts.old reducts.new }
     ensures updates { result ≡ length atoms.now → (more : ℕ)
-        → HasFew more (batch_in rows.now batch.now)
+        → HasFew more (batch_tuples rows.now batch.now)
         → CountsMany more reducts.old (atoms_below relation atoms.now result)
         steps.old.update steps.new.update }
     ensures refusal { result < length atoms.now → (more : ℕ)
-        → HasFew more (batch_in rows.now batch.now)
+        → HasFew more (batch_tuples rows.now batch.now)
         → CountsMany more reducts.old (atoms_below relation atoms.now result + 2)
         steps.old.update steps.new.update }
     ensures left { result < length atoms.now → atoms_below relation atoms.now result + 1
@@ -271,13 +271,13 @@ pub(crate) fn give_all_from_leaves<L: Ledgers>(
     steps: &mut Steps<L>,
 )
     requires leaves { reducts.old.tree.leaves ≡ length atoms.now }
-    requires long { length (batch_in rows.now batch.now) ≡ length atoms.now }
+    requires long { length (batch_tuples rows.now batch.now) ≡ length atoms.now }
     requires end { end ≤ length atoms.now }
     requires there { HoldBelow (λ us es. AreThere es us) relation atoms.now
-        (batch_in rows.now batch.now) end reducts.old }
+        (batch_tuples rows.now batch.now) end reducts.old }
     requires bare { IsBare reducts.old.tables }
-    ensures lost { ChangesBelow (λ us old new. Drops us old new) relation atoms.now
-        (batch_in rows.now batch.now) end reducts.old reducts.new }
+    ensures lost { ChangesBelow (λ us old new. LosesTuples us old new) relation atoms.now
+        (batch_tuples rows.now batch.now) end reducts.old reducts.new }
     ensures listing { steps.new.listing ≡ steps.old.listing }
     ensures updates { CountsGiven reducts.old (atoms_below relation atoms.now end)
         steps.old.update steps.new.update }

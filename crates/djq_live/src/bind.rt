@@ -7,7 +7,7 @@ ghost use Rattle.djq_query.specs.Numbered.{is_number};
 ghost use Rattle.djq_rows.specs.Cells.{cell_for, cells_of, HasCell, HaveCells};
 ghost use Rattle.djq_live.specs.Asked.{HasConstant, HaveConstants, constants_in};
 ghost use Rattle.djq_live.specs.Building.{ArePatternsOf, AreBindable};
-ghost use Rattle.djq_live.specs.Leaves.{AreCellsOf, IsCellOf, IsPatternOf};
+ghost use Rattle.djq_live.specs.Leaves.{AreCellsOfTerms, IsCellOf, IsPatternOf};
 ghost use Rattle.djq_index.specs.declared.cells.TheConstants.{CELLS};
 
 use djq_hyper::VarSet;
@@ -46,7 +46,7 @@ fn constant_cells(
     terms: &[NumberedTerm],
 ) -> Result<Vec<u64>, NoMem>
     requires { HaveConstants catalog.now.texts terms.now }
-    ensures { IfOk result (λ cells. AreCellsOf catalog.now.texts terms.now cells.items) }
+    ensures { IfOk result (λ cells. AreCellsOfTerms catalog.now.texts terms.now cells.items) }
 {
     let mut cells = Vec::new(alloc);
     'terms: for i in 0..terms.len() {

@@ -11,7 +11,7 @@ ghost use Rattle.djq_live.specs.Building.{
   SuitsRelation,
   TakesRow,
 };
-ghost use Rattle.djq_live.specs.Stepping.{Lacks};
+ghost use Rattle.djq_live.specs.Stepping.{LacksCells};
 ghost use Rattle.djq_index.specs.declared.table.TheConstants.{TUPLES};
 
 use djq_model::NoMem;
@@ -33,7 +33,7 @@ fn insert_row<U: Ledger>(
     requires leaf { leaf < reducts.old.tree.leaves }
     requires width { pattern.now.width ≡ length (label_at reducts.old.tree.labels leaf) }
     requires columns { length row.now ≡ length pattern.now.slots }
-    requires absent { Lacks row.now pattern.now (entries_at reducts.old.tables leaf) }
+    requires absent { LacksCells row.now pattern.now (entries_at reducts.old.tables leaf) }
     requires bare { IsBare reducts.old.tables }
     requires few { length (entries_at reducts.old.tables leaf) < TUPLES }
     ensures { IfOk result (λ _. TakesRow pattern.now leaf row.now reducts.old reducts.new) }

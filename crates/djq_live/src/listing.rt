@@ -20,8 +20,8 @@ ghost use Rattle.djq_model.specs.ValueRef.{value_lent};
 ghost use Rattle.djq_machine.specs.Store.{most_steps, Tells, answer_types, misfit};
 ghost use Rattle.djq_rows.specs.Catalog.{Catalog as CatalogModel};
 ghost use Rattle.djq_live.specs.Cursors.{slot_at, are_vacant, HasOpen};
-ghost use Rattle.djq_live.specs.Live.{IsLive, IsKeptSomewhere, IsShowable, FitsIn, values_of};
-ghost use Rattle.djq_live.specs.Reading.{NextGives, MoreGives, next_steps, OpensIn, IsFreshIn};
+ghost use Rattle.djq_live.specs.Live.{IsLive, IsKeptSomewhere, IsShowable, FitsAt, values_of};
+ghost use Rattle.djq_live.specs.Reading.{QueryNextGives, QueryMoreGives, next_steps, QueryOpensIn, IsFreshIn};
 ghost use Rattle.djq_index.specs.declared.cells.TheConstants.{CELLS};
 
 use crate::live::LiveQuery;
@@ -64,7 +64,7 @@ impl LiveQuery {
     ///
     /// `NoMem` out of memory. Nothing has changed.
     pub fn open(&mut self) -> Result<usize, NoMem>
-        ensures ok { IfOk result (λ k. OpensIn self.old k self.new) }
+        ensures ok { IfOk result (λ k. QueryOpensIn self.old k self.new) }
         ensures live { (c : CatalogModel) → IsLive c self.old → IsLive c self.new }
         ensures err { OnErr result (self.new ≡ self.old) }
     {
@@ -100,9 +100,9 @@ impl LiveQuery {
         listing: &mut Tally<Listing<L>>,
     ) -> Next
         requires there { IsSome (slot_at self.old.cursors slot) }
-        requires fits { FitsIn self.old slot }
+        requires fits { FitsAt self.old slot }
         ensures gives { (c : CatalogModel) → IsLive c self.old
-            → NextGives c self.old slot result answer.new self.new }
+            → QueryNextGives c self.old slot result answer.new self.new }
         ensures counted { (c : CatalogModel) → IsLive c self.old → listing.new ≤ listing.old
             + next_steps result (length self.old.query.head) }
     {
@@ -118,9 +118,9 @@ impl LiveQuery {
     /// its end. It takes no memory, and counts no more than [`next`](LiveQuery::next).
     pub fn more<L: Ledgers>(&mut self, slot: usize, listing: &mut Tally<Listing<L>>) -> bool
         requires fresh { IsFreshIn self.old slot }
-        requires fits { FitsIn self.old slot }
+        requires fits { FitsAt self.old slot }
         ensures gives { (c : CatalogModel) → IsLive c self.old
-            → MoreGives c self.old slot result self.new }
+            → QueryMoreGives c self.old slot result self.new }
         ensures counted { (c : CatalogModel) → IsLive c self.old → listing.new ≤ listing.old
             + most_steps (length self.old.query.head) }
     {

@@ -29,7 +29,14 @@ impl Model for LiveQuery {
 
     ghost Value = { Live };
 
-    ghost view = { λ l. record { query = l.query; numbered = l.numbered; patterns = l.patterns.items; reducts = l.reducts; cursors = l.cursors } };
+    ghost view = { λ l. record {
+      query = l.query;
+      numbered = l.numbered;
+      patterns = l.patterns.items;
+      reducts =
+          l.reducts;
+      cursors = l.cursors;
+    } };
 }
 
 impl LiveQuery {

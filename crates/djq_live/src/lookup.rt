@@ -4,7 +4,7 @@ ghost use Rattle.djq_model.specs.Typed.{fits};
 ghost use Rattle.djq_reduct.specs.Columns.{column};
 ghost use Rattle.djq_hyper.specs.Hypergraph.{member};
 ghost use Rattle.djq_live.specs.Asked.{column_of};
-ghost use Rattle.djq_live.specs.Order.{reading, AreCellsOfAnswer};
+ghost use Rattle.djq_live.specs.Order.{cell_of_variable, AreCellsOfAnswer};
 ghost use Rattle.djq_index.specs.declared.cells.TheConstants.{CELLS};
 
 use djq_hyper::VarSet;
@@ -53,7 +53,7 @@ pub(crate) fn rising_cells(set: VarSet, head: &[usize], cells: &Cells) -> Answer
     requires long { length cells.now ≡ length head.now }
     requires few { length set ≤ CELLS }
     requires within { (x : ℕ) → member x set ≡ true → member x head.now ≡ true }
-    ensures { result ≡ map (reading head.now cells.now) set }
+    ensures { result ≡ map (cell_of_variable head.now cells.now) set }
 {
     let mut rest = set;
     let mut answer = Answer::new(0);
@@ -66,7 +66,7 @@ pub(crate) fn rising_cells(set: VarSet, head: &[usize], cells: &Cells) -> Answer
 /// Whether a variable that stands in a head more than once has the same cell each time.
 fn agrees(head: &[usize], cells: &Cells) -> bool
     requires long { length cells.now ≡ length head.now }
-    ensures { result ≡ true ↔ map (reading head.now cells.now) head.now ≡ cells.now }
+    ensures { result ≡ true ↔ map (cell_of_variable head.now cells.now) head.now ≡ cells.now }
 {
     let cells = cells.as_slice();
     for at in 0..head.len() {

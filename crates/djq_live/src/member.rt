@@ -5,7 +5,7 @@ ghost use Rattle.djq_hyper.specs.Hypergraph.{member};
 ghost use Rattle.djq_machine.specs.Union.{same_types};
 ghost use Rattle.djq_live.specs.Asked.{column_of};
 ghost use Rattle.djq_live.specs.Live.{IsKeptSomewhere};
-ghost use Rattle.djq_live.specs.Order.{reading};
+ghost use Rattle.djq_live.specs.Order.{cell_of_variable};
 ghost use Rattle.djq_live.specs.Member.{
   CellsInHeadStand,
   AnswersAreHad,
@@ -38,7 +38,7 @@ fn put_in_order(reducts: &Reducts, head: &[usize], answer: &Answer, cells: &mut 
     requires few { length head.now ≤ CELLS }
     requires wide { length answer.now ≡ length reducts.now.tree.head }
     requires within { (x : ℕ) → member x head.now ≡ true → member x reducts.now.tree.head ≡ true }
-    ensures { cells.new ≡ map (reading reducts.now.tree.head answer.now) head.now }
+    ensures { cells.new ≡ map (cell_of_variable reducts.now.tree.head answer.now) head.now }
 {
     cells.clear();
     for variable in head {

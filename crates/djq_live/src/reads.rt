@@ -3,7 +3,7 @@ ghost use Rattle.std.specs.Prelude.{◌+◌, ◌≤◌, length};
 ghost use Rattle.djq_machine.specs.Store.{most_steps};
 ghost use Rattle.djq_live.specs.Cursors.{IsOpen};
 ghost use Rattle.djq_live.specs.Reading.{next_steps};
-ghost use Rattle.djq_live.specs.Advancing.{FitsOver, Reads, Looks};
+ghost use Rattle.djq_live.specs.Advancing.{ProgressFits, CursorReads, CursorLooks};
 
 use crate::listing::Next;
 use djq_cursor::Cursor;
@@ -19,8 +19,8 @@ pub fn read<L: Ledger>(
     answer: &mut Answer,
     listing: &mut Tally<L>,
 ) -> Next
-    requires { FitsOver reducts.now progress.old }
-    ensures reads { Reads reducts.now progress.old result answer.new progress.new }
+    requires { ProgressFits reducts.now progress.old }
+    ensures reads { CursorReads reducts.now progress.old result answer.new progress.new }
     ensures counted { listing.new ≤ listing.old + next_steps result (length reducts.now.tree.head) }
 {
     match progress {
@@ -41,9 +41,9 @@ pub fn has_more<L: Ledger>(
     reducts: &Reducts,
     listing: &mut Tally<L>,
 ) -> bool
-    requires fits { FitsOver reducts.now progress.old }
+    requires fits { ProgressFits reducts.now progress.old }
     requires fresh { IsOpen progress.old }
-    ensures looks { Looks reducts.now progress.old result progress.new }
+    ensures looks { CursorLooks reducts.now progress.old result progress.new }
     ensures counted { listing.new ≤ listing.old + most_steps (length reducts.now.tree.head) }
 {
     match progress {

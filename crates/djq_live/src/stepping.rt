@@ -7,9 +7,9 @@ ghost use Rattle.djq_reduct.specs.Reducts.{IsReducts};
 ghost use Rattle.djq_reduct.specs.Marks.{AreMarks, IsBare, IsWithout};
 ghost use Rattle.djq_propagate.specs.Updates.{HasKept};
 ghost use Rattle.djq_cursor.specs.Changed.{IsGained};
-ghost use Rattle.djq_live.specs.Changes.{Gains, Loses};
+ghost use Rattle.djq_live.specs.Changes.{GainsTuple, Loses};
 ghost use Rattle.djq_live.specs.Stepping.{
-  Lacks,
+  LacksCells,
   Has,
   HasMore,
   ChangesAt,
@@ -72,10 +72,10 @@ fn add_to_leaf<L: Ledgers>(
     requires leaf { leaf < reducts.old.tree.leaves }
     requires wide { pattern.now.width ≡ length (label_at reducts.old.tree.labels leaf) }
     requires long { length cells.now ≡ length pattern.now.slots }
-    requires absent { Lacks cells.now pattern.now (entries_at reducts.old.tables leaf) }
+    requires absent { LacksCells cells.now pattern.now (entries_at reducts.old.tables leaf) }
     requires few { length (entries_at reducts.old.tables leaf) < TUPLES }
     requires bare { IsBare reducts.old.tables }
-    ensures gained { OnOk result (ChangesAt (λ p old new. Gains p cells.now old new) pattern.now
+    ensures gained { OnOk result (ChangesAt (λ p old new. GainsTuple p cells.now old new) pattern.now
         leaf reducts.old reducts.new) }
     ensures listed { OnOk result (ListsWhere wanted true (IsGained reducts.new reducts.old)
         (length reducts.old.tree.head) 1 log.old log.new steps.old.listing steps.new.listing) }
@@ -155,13 +155,13 @@ pub(crate) fn add_to_leaves<L: Ledgers>(
     steps: &mut Steps<L>,
 ) -> usize
     requires leaves { AreLeaves relation cells.now atoms.now patterns.now reducts.old }
-    requires absent { HoldBelow (λ p es. Lacks cells.now p es) relation atoms.now patterns.now
+    requires absent { HoldBelow (λ p es. LacksCells cells.now p es) relation atoms.now patterns.now
         (length atoms.now) reducts.old }
     requires few { HoldBelow (λ _ es. length es < TUPLES) relation atoms.now patterns.now
         (length atoms.now) reducts.old }
     requires bare { IsBare reducts.old.tables }
     ensures done { result ≤ length atoms.now }
-    ensures gained { ChangesBelow (λ p old new. Gains p cells.now old new) relation atoms.now
+    ensures gained { ChangesBelow (λ p old new. GainsTuple p cells.now old new) relation atoms.now
         patterns.now result reducts.old reducts.new }
     ensures more { HasMore reducts.old reducts.new }
     ensures listed { ListsWhere wanted true (IsGained reducts.new reducts.old)

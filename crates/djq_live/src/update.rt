@@ -12,10 +12,10 @@ ghost use Rattle.djq_live.specs.Updating.{
   CanAdd,
   CanAddAll,
   CanDelete,
-  Follows,
+  KeptAfter,
   LogsWhere,
   IsEmpty,
-  CountsBatch,
+  CountsBatchAt,
   CountsDelta,
   CountsFlat,
   CountsUpdate,
@@ -53,7 +53,7 @@ impl LiveQuery {
         steps: &mut Steps<L>,
     ) -> Result<(), NoMem>
         requires { CanAdd self.old relation.at cells.now }
-        ensures added { OnOk result (Follows (λ c d. Came c d relation.at cells.now)
+        ensures added { OnOk result (KeptAfter (λ c d. Came c d relation.at cells.now)
             self.old self.new) }
         ensures refused { OnErr result ((c : CatalogModel) → IsKept c self.old
             → IsKept c self.new) }
@@ -128,7 +128,7 @@ impl LiveQuery {
         steps: &mut Steps<L>,
     ) -> Result<(), NoMem>
         requires { CanAddAll self.old relation.at rows.now }
-        ensures added { OnOk result (Follows (λ c d. CameAll c d relation.at rows.now)
+        ensures added { OnOk result (KeptAfter (λ c d. CameAll c d relation.at rows.now)
             self.old self.new) }
         ensures refused { OnErr result ((c : CatalogModel) → IsKept c self.old
             → IsKept c self.new) }
@@ -140,9 +140,9 @@ impl LiveQuery {
         ensures counted { CountsDelta wanted (λ c d. CameAll c d relation.at rows.now)
             self.old relation.at steps.old.listing steps.new.listing }
         ensures grows { OnOk result (GrowsBy (length rows.now) self.old.reducts self.new.reducts) }
-        ensures updates { OnOk result (CountsBatch (length rows.now) 1 self.old relation.at
+        ensures updates { OnOk result (CountsBatchAt (length rows.now) 1 self.old relation.at
             steps.old.update steps.new.update) }
-        ensures refusal { OnErr result (CountsBatch (length rows.now) 2 self.old relation.at
+        ensures refusal { OnErr result (CountsBatchAt (length rows.now) 2 self.old relation.at
             steps.old.update steps.new.update) }
         ensures rows { steps.new.rows ≡ steps.old.rows }
     {
@@ -193,7 +193,7 @@ impl LiveQuery {
         steps: &mut Steps<L>,
     )
         requires { CanDelete self.old relation.at cells.now }
-        ensures deleted { Follows (λ c d. Went c d relation.at cells.now) self.old self.new }
+        ensures deleted { KeptAfter (λ c d. Went c d relation.at cells.now) self.old self.new }
         ensures same { SameQuery self.old self.new }
         ensures fewer { HasMore self.new.reducts self.old.reducts }
         ensures log { LogsWhere wanted (λ c d. Went c d relation.at cells.now)
@@ -230,7 +230,7 @@ impl LiveQuery {
         steps: &mut Steps<L>,
     )
         requires { CanDelete self.old relation.at cells.now }
-        ensures deleted { Follows (λ c d. Went c d relation.at cells.now) self.old self.new }
+        ensures deleted { KeptAfter (λ c d. Went c d relation.at cells.now) self.old self.new }
         ensures same { SameQuery self.old self.new }
         ensures fewer { HasMore self.new.reducts self.old.reducts }
         ensures counted { steps.new.listing ≡ steps.old.listing }

@@ -110,7 +110,7 @@ use Rattle.djq_laws.proofs.Queueing.{
 }
 use Rattle.djq_laws.proofs.Touching.{says_to, is_stepped}
 use Rattle.djq_laws.proofs.Cutting.{a_line_in}
-use Rattle.djq_load.specs.Lines.{IsIdle, LineRuns, TakesAll, cursors_in, cursor_at, Stands}
+use Rattle.djq_load.specs.Lines.{SessionIsIdle, LineRuns, TakesAll, session_cursors, cursor_at, CursorStands}
 use Rattle.djq_load.specs.Totals.{HasLeft, open_line, next_line}
 use Rattle.djq_load.proofs.Idle.{is_fed}
 use Rattle.djq_load.proofs.Left.{step_left, some_told}
@@ -120,7 +120,7 @@ abbrev Has : Type 0
 Has = List Cursor × Option (List HeldRow)
 
 abbrev has_in : Option Session → Has
-has_in o = (cursors_in o, batch_in o)
+has_in o = (session_cursors o, batch_in o)
 
 abbrev has_of : State → Has
 has_of st = has_in (session_of st 1)
@@ -147,7 +147,7 @@ changed_has old mid f same keeps after =
 
 -- the cursor stands where they are the same
 stands_by : (given : List Tuple) (ended : Bool) (old new : State) → has_of new ≡ has_of old
-    → Stands old given ended → Stands new given ended
+    → CursorStands old given ended → CursorStands new given ended
 stands_by given ended old new same stands = record {
   cursor = ap (λ (has : Has). cursor_of has.0 (codes "c")) same ∙ stands.cursor;
   batch = ap (λ (has : Has). has.1) same ∙ stands.batch;
@@ -291,7 +291,7 @@ pending_behind mid new event e h z text found none queued =
 pub record Tells (given : List Tuple) (old new : State) : Type 0 where
   pub told : List Tuple
   pub end : Bool
-  pub stands : Stands new (given ++ told) end
+  pub stands : CursorStands new (given ++ told) end
   pub pending : pending_of new 1 ≡ text_of (listing_lines told end)
   pub few : length told ≤ 1000
   pub full : end ≡ false → length told ≡ 1000
@@ -388,14 +388,15 @@ moved given more ended end cursors stands =
     (λ (c : Cursor). record c { position = open_at more end }) (λ c. refl) cursors
     ∙ ap (λ (o : Option Cursor). option_map (λ (c : Cursor). record c { position = open_at more end }) o) stands
 
-next_run : (given : List Tuple) (ended : Bool) (mid new : State) → Stands mid given ended → pending_of mid 1 ≡ []
+next_run : (given : List Tuple) (ended : Bool) (mid new : State) → CursorStands mid given ended → pending_of mid 1 ≡ []
     → cause_of new 1 ≡ None → Runs (codes "next c 1000") mid new → Tells given mid new
 next_run given ended mid new stands pending running r =
     let st = with_session mid 1 (behind_line r.rest) in
     let y = behind_line r.rest r.session in
     let here = behind_found mid r.session r.rest r.found in
     let stays : cursor_of y.cursors (codes "c")
-    ≡ Some (cursor_at given ended) = ap (λ (o : Option Session). cursor_of (cursors_in o) (codes "c")) (sym r.found)
+    ≡ Some (cursor_at given ended) =
+    ap (λ (o : Option Session). cursor_of (session_cursors o) (codes "c")) (sym r.found)
     ∙ stands.cursor in
     let none : y.batch ≡ None = ap batch_in (sym r.found) ∙ stands.batch in
     let reads = subst (λ (k : Reading). ReadStep st 1 y (codes "next c 1000") k r.effect (r.step).mid) next_reads
@@ -407,7 +408,7 @@ next_run given ended mid new stands pending running r =
       end = t.end;
       stands = stands_by (given ++ t.told) t.end (r.step).mid new (stepped_has mid r.event r.effect new r.step)
           (record {
-            cursor = ap (λ (cs : List Cursor). cursor_of cs (codes "c")) (ap cursors_in t.found ∙ t.cursors)
+            cursor = ap (λ (cs : List Cursor). cursor_of cs (codes "c")) (ap session_cursors t.found ∙ t.cursors)
                 ∙ moved given (given ++ t.told) ended t.end y.cursors stays;
             batch = ap batch_in t.found ∙ t.batch ∙ none;
           });
@@ -424,7 +425,7 @@ next_front = refl
 
 -- The line that reads the cursor was run.
 pub next_tells : (given : List Tuple) (ended : Bool) (old : State) (before : Counts) (new : State) (now : Counts)
-    → IsIdle old → Stands old given ended → LineRuns next_line old before new now → Tells given old new
+    → SessionIsIdle old → CursorStands old given ended → LineRuns next_line old before new now → Tells given old new
 next_tells given ended old before new now idle stands h =
     let mid = h.mid in
     let here = is_fed next_line old mid idle h.is_held h.comes in
@@ -501,11 +502,11 @@ opened_by : (L : Refusal → Type 0) (st : State) (y : Session) (e : Effect) (m 
     → session_of st 1 ≡ Some y → y.batch ≡ None → to_session 1 e.queued ≡ codes "ok open\n"
     → Answers (open_refusal st.store y.cursors (codes "c") (codes "q")) result (λ _. ⊤) L → e
     ≡ says 1 (ok_reply (codes "ok open") result) → OpensTo st 1 (codes "c") (codes "q") m result
-    → Stands m [] false
+    → CursorStands m [] false
 opened_by L st y e m (Ok u) found none told answer effect after =
     let now = changed_to st m y (with_cursor (codes "c") (codes "q")) (λ x. refl) found after in
     record {
-      cursor = ap (λ (o : Option Session). cursor_of (cursors_in o) (codes "c")) now
+      cursor = ap (λ (o : Option Session). cursor_of (session_cursors o) (codes "c")) now
           ∙ found_last y.cursors
           (none_found (cursor_of y.cursors (codes "c"))
           (is_new (is_some (cursor_of y.cursors (codes "c"))) _ _ _ u answer));
@@ -521,14 +522,14 @@ open_placed (Some held) e = absurd cc
 
 open_at_once : (st : State) (y : Session) (e : Effect) (m : State) → session_of st 1 ≡ Some y → to_session 1 e.queued
     ≡ codes "ok open\n"
-    → ReadStep st 1 y (codes "open c q") (says_command (Open (codes "c") (codes "q"))) e m → Stands m [] false
+    → ReadStep st 1 y (codes "open c q") (says_command (Open (codes "c") (codes "q"))) e m → CursorStands m [] false
 open_at_once st y e m found told h = by (is_misplaced y.batch opens) refl h
   where
     opens : Command
     opens = Open (codes "c") (codes "q")
 
     by : (misplaced : Bool) → is_misplaced y.batch opens ≡ misplaced
-        → CarriedOut st y (codes "open c q") opens e m misplaced → Stands m [] false
+        → CarriedOut st y (codes "open c q") opens e m misplaced → CursorStands m [] false
     by true is k = absurd (told_refused Misplaced e k.0 told)
     by false is k =
         let done : CommandStep st 1 y (codes "open c q") opens e m =
@@ -536,7 +537,7 @@ open_at_once st y e m found told h = by (is_misplaced y.batch opens) refl h
         opened_by _ st y e m done.result found (open_placed y.batch is) told done.answer done.effect done.state
 
 open_run : (mid new : State) → pending_of mid 1 ≡ [] → pending_of new 1 ≡ codes "ok open\n"
-    → Runs (codes "open c q") mid new → Stands new [] false
+    → Runs (codes "open c q") mid new → CursorStands new [] false
 open_run mid new none told r =
     let st = with_session mid 1 (behind_line r.rest) in
     let y = behind_line r.rest r.session in
@@ -551,9 +552,9 @@ open_front : front_of open_line ≡ a_line (codes "open c q") []
 open_front = refl
 
 -- The line that opens the cursor was run, and answered so.
-pub open_stands : (old : State) (before : Counts) (mid : State) (now : Counts) (new : State) → IsIdle old
+pub open_stands : (old : State) (before : Counts) (mid : State) (now : Counts) (new : State) → SessionIsIdle old
     → LineRuns open_line old before mid now → pending_of mid 1 ≡ codes "ok open\n" → TakesAll mid new
-    → Stands new [] false
+    → CursorStands new [] false
 open_stands old before mid now new idle h told takes =
     let here = is_fed open_line old h.mid idle h.is_held h.comes in
     stands_by [] false mid new (took_has mid new takes)
@@ -561,6 +562,6 @@ open_stands old before mid now new idle h told takes =
     (runs open_line (codes "open c q") h.mid mid before now here.held open_front refl h.ran))
 
 -- Taking what is pending leaves the cursor.
-pub stands_on : (given : List Tuple) (ended : Bool) (old new : State) → TakesAll old new → Stands old given ended
-    → Stands new given ended
+pub stands_on : (given : List Tuple) (ended : Bool) (old new : State) → TakesAll old new → CursorStands old given ended
+    → CursorStands new given ended
 stands_on given ended old new takes stands = stands_by given ended old new (took_has old new takes) stands

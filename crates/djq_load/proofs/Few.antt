@@ -24,9 +24,9 @@ use Rattle.djq_deltas.proofs.Cases.{some_there}
 use Rattle.djq_laws.proofs.Giving.{SessionGives, CursorGives}
 use Rattle.djq_gen.specs.Load.{load}
 use Rattle.djq_load.specs.declared.reading.Reading.{Reading}
-use Rattle.djq_load.specs.Joins.{join, most_answers, IsWithin, IsJoin, GivesFew}
-use Rattle.djq_load.specs.Lines.{Loads, IsIdle, cursors_in, cursor_at, Stands}
-use Rattle.djq_load.specs.Totals.{IsRead, open_line, next_line}
+use Rattle.djq_load.specs.Joins.{join, most_load_answers, RelationIsSmall, IsJoin, GivesFew}
+use Rattle.djq_load.specs.Lines.{FeedsLines, SessionIsIdle, session_cursors, cursor_at, CursorStands}
+use Rattle.djq_load.specs.Totals.{ReadsSoFar, open_line, next_line}
 use Rattle.djq_load.proofs.LoadLines.{load_ones}
 use Rattle.djq_load.proofs.JoinLines.{loads_few, load_fine, opening_fine, reads_fine, reads_one}
 
@@ -37,7 +37,7 @@ record Found (st : State) (given : List Tuple) (ended : Bool) : Type 0 where
   cursor : cursor_of session.cursors (codes "c") ≡ Some (cursor_at given ended)
 
 found_in : (st : State) (given : List Tuple) (ended : Bool) (o : Option Session) → session_of st 1 ≡ o
-    → cursor_of (cursors_in o) (codes "c") ≡ Some (cursor_at given ended) → Found st given ended
+    → cursor_of (session_cursors o) (codes "c") ≡ Some (cursor_at given ended) → Found st given ended
 found_in st given ended None e h = absurd cc
 found_in st given ended (Some x) e h = record { session = x; is = e; cursor = h }
 
@@ -46,7 +46,7 @@ pub record HasGiven (st : State) (given : List Tuple) (ended : Bool) : Type 0 wh
   pub registered : listed_of st.store.queries (codes "q") ≡ Some query
   pub gives : Gives (AnswersOf st.store.relations query) given ended
 
-pub has_given : (st : State) (given : List Tuple) (ended : Bool) → CursorsGive st → Stands st given ended
+pub has_given : (st : State) (given : List Tuple) (ended : Bool) → CursorsGive st → CursorStands st given ended
     → HasGiven st given ended
 has_given st given ended give stands =
     let rs = st.store.relations in
@@ -108,17 +108,17 @@ join_bound x k = at_x (first_or_later (codes "x") (codes "y" ∷ codes "z" ∷ [
     at_x (inl e) = in_body (codes "x") e x_bound
     at_x (inr c) = at_y (first_or_later (codes "y") (codes "z" ∷ []) x c)
 
-rows_within : (rs : List Relation) (name : Bytes) → All IsWithin rs → length (rows_of rs name) ≤ ROWS
+rows_within : (rs : List Relation) (name : Bytes) → All RelationIsSmall rs → length (rows_of rs name) ≤ ROWS
 rows_within rs name h =
     let counted = by (relation_of rs name) refl in
     omega (arith, counted, length-map (counted_of rs name) (λ (c : CountedRow). c.row))
   where
     by : (o : Option Relation) → relation_of rs name ≡ o → length (counted_in o) ≤ ROWS
     by None e = omega arith
-    by (Some r) e = all_found IsWithin (λ (x : Relation). bytes_eq x.name name) rs r h e
+    by (Some r) e = all_found RelationIsSmall (λ (x : Relation). bytes_eq x.name name) rs r h e
 
-pub few_given : (st : State) (given : List Tuple) (ended : Bool) → GivesFew st → Stands st given ended
-    → length given ≤ most_answers
+pub few_given : (st : State) (given : List Tuple) (ended : Bool) → GivesFew st → CursorStands st given ended
+    → length given ≤ most_load_answers
 few_given st given ended few stands =
     let rs = st.store.relations in
     let h = has_given st given ended few.give stands in
@@ -135,23 +135,25 @@ few_given st given ended few stands =
 
 -- Reading goes on only as long as fewer were given.
 abbrev pub reads_left : Reading → ℕ
-reads_left r = cond r.ended 0 (suc (most_answers - r.answers))
+reads_left r = cond r.ended 0 (suc (most_load_answers - r.answers))
 
-small : (n : ℕ) → n ≤ most_answers → n % 2 ^ 64 ≡ n
+small : (n : ℕ) → n ≤ most_load_answers → n % 2 ^ 64 ≡ n
 small n h = omega (arith, h)
 
-pub answers_are : (st : State) (r : Reading) (reads : ℕ) → GivesFew st → (h : IsRead st r reads) → r.answers
+pub answers_are : (st : State) (r : Reading) (reads : ℕ) → GivesFew st → (h : ReadsSoFar st r reads) → r.answers
     ≡ length h.given
 answers_are st r reads few h = ap (λ (x : Reading). x.answers) h.is
     ∙ small (length h.given) (few_given st h.given r.ended few h.stands)
 
 pub fewer_left : (old new : State) (r after : Reading) (k : ℕ) → GivesFew old → GivesFew new → r.ended ≡ false
-    → IsRead old r k → IsRead new after (k + 1) → reads_left after < reads_left r
+    → ReadsSoFar old r k → ReadsSoFar new after (k + 1) → reads_left after < reads_left r
 fewer_left old new r after k few more going h next =
-    subst (λ (n : ℕ). reads_left after < n) (sym (ap (λ (b : Bool). cond b 0 (suc (most_answers - r.answers))) going))
+    subst (λ (n : ℕ). reads_left after < n)
+    (sym (ap (λ (b : Bool). cond b 0 (suc (most_load_answers - r.answers))) going))
     (by after.ended refl)
   where
-    by : (b : Bool) → after.ended ≡ b → cond b 0 (suc (most_answers - after.answers)) < suc (most_answers - r.answers)
+    by : (b : Bool) → after.ended ≡ b
+        → cond b 0 (suc (most_load_answers - after.answers)) < suc (most_load_answers - r.answers)
     by true e = omega arith
     by false e =
         let here = answers_are old r k few h in
@@ -162,29 +164,31 @@ fewer_left old new r after k few more going h next =
         omega (arith, here, there, full, filled, most)
 
 -- From the start on.
-pub opens_few : (start a : State) (counted : Counts) → start ≡ opening → Loads [] start counted a counted → GivesFew a
+pub opens_few : (start a : State) (counted : Counts) → start ≡ opening
+    → FeedsLines [] start counted a counted → GivesFew a
 opens_few start a counted e h =
     loads_few [] start counted a counted tt tt (ap (λ (st : State). held_of st 1) e) h
     (subst GivesFew (sym e)
     (record {
-      store = record { rows = All-nil IsWithin; queries = All-nil IsJoin };
+      store = record { rows = All-nil RelationIsSmall; queries = All-nil IsJoin };
       give = All-nil
           (SessionGives [] []);
     }))
 
 pub points_few : (n seed : ℕ) (a : State) (before : Counts) (b : State) (at_b : Counts) (c : State) (at_c : Counts)
-    → IsIdle a → IsIdle b → Loads (load n seed) a before b at_b → Loads (open_line ∷ []) b at_b c at_c → GivesFew a
+    → SessionIsIdle a → SessionIsIdle b → FeedsLines (load n seed) a before b at_b
+    → FeedsLines (open_line ∷ []) b at_b c at_c → GivesFew a
     → GivesFew c
 points_few n seed a before b at_b c at_c idle then feeds points few =
     loads_few (open_line ∷ []) b at_b c at_c (refl, tt) opening_fine then.held points
     (loads_few (load n seed) a before b at_b (load_ones n seed) (load_fine n seed) idle.held feeds few)
 
-pub read_few : (old : State) (before : Counts) (new : State) (now : Counts) → IsIdle old
-    → Loads (next_line ∷ []) old before new now → GivesFew old → GivesFew new
+pub read_few : (old : State) (before : Counts) (new : State) (now : Counts) → SessionIsIdle old
+    → FeedsLines (next_line ∷ []) old before new now → GivesFew old → GivesFew new
 read_few old before new now idle h few = loads_few (replicate 1 next_line) old before new now (reads_one 1)
     (reads_fine 1) idle.held h few
 
-pub all_few : (k : ℕ) (old : State) (before : Counts) (new : State) (now : Counts) → IsIdle old
-    → Loads (replicate k next_line) old before new now → GivesFew old → GivesFew new
+pub all_few : (k : ℕ) (old : State) (before : Counts) (new : State) (now : Counts) → SessionIsIdle old
+    → FeedsLines (replicate k next_line) old before new now → GivesFew old → GivesFew new
 all_few k old before new now idle h few = loads_few (replicate k next_line) old before new now (reads_one k)
     (reads_fine k) idle.held h few

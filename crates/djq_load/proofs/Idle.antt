@@ -24,12 +24,12 @@ use Rattle.djq_machine.specs.Call.{Counts, cause_of, cause_in, held_of, held_in}
 use Rattle.djq_laws.specs.declared.limits.TheConstants.{READ_BYTES}
 use Rattle.djq_laws.specs.Course.{RunNext, AwaitsInput}
 use Rattle.djq_laws.specs.Sent.{gone_by}
-use Rattle.djq_laws.specs.Moved.{Takes, Comes, is_held, out_of_memory, is_dropped, StepsLine}
+use Rattle.djq_laws.specs.Moved.{SessionTakes, InputComes, is_held, out_of_memory, is_dropped, StepsLine}
 use Rattle.djq_laws.proofs.Courses.{walk_then}
 use Rattle.djq_laws.proofs.Cutting.{line_in_front}
 use Rattle.djq_laws.proofs.Moving.{took_facts, fed_facts, stepped_facts}
 use Rattle.djq_laws.proofs.Sending.{step_bytes}
-use Rattle.djq_load.specs.Lines.{Loads, Feeds, BreaksOff, IsServed, IsIdle, LineRuns, TakesAll}
+use Rattle.djq_load.specs.Lines.{FeedsLines, Feeds, LoadBreaksOff, HadMemory, SessionIsIdle, LineRuns, TakesAll}
 use Rattle.djq_load.proofs.Served.{quiet}
 use Rattle.djq_deltas.proofs.Cases.{none_some}
 
@@ -39,7 +39,8 @@ pub record IsFed (line : Bytes) (mid : State) : Type 0 where
   pub held : held_of mid 1 ≡ line
   pub pending : pending_of mid 1 ≡ []
 
-come : (line : Bytes) (old mid : State) → IsIdle old → cause_of mid 1 ≡ None → Comes old mid 1 line → IsFed line mid
+come : (line : Bytes) (old mid : State) → SessionIsIdle old → cause_of mid 1 ≡ None → InputComes old mid 1 line
+    → IsFed line mid
 come line old mid idle running (is_held stays o n held pending) = record {
   is_open = stays;
   held = held ∙ ap (λ (h : Bytes). h ++ line) idle.held;
@@ -48,11 +49,11 @@ come line old mid idle running (is_held stays o n held pending) = record {
 come line old mid idle running (out_of_memory stays o n held pending) = absurd (none_some _ _ running n)
 come line old mid idle running (is_dropped stays c o n held pending) = absurd (none_some _ _ idle.running o)
 
-pub is_fed : (line : Bytes) (old mid : State) → IsIdle old → cause_of mid 1 ≡ None → Makes old (fed 1 line) mid
+pub is_fed : (line : Bytes) (old mid : State) → SessionIsIdle old → cause_of mid 1 ≡ None → Makes old (fed 1 line) mid
     → IsFed line mid
 is_fed line old mid idle running m = come line old mid idle running (fed_facts old 1 line m.effect mid m.step)
 
-came_open : (line : Bytes) (old mid : State) → Comes old mid 1 line → IsOpen mid 1
+came_open : (line : Bytes) (old mid : State) → InputComes old mid 1 line → IsOpen mid 1
 came_open line old mid (is_held stays o n held pending) = stays
 came_open line old mid (out_of_memory stays o n held pending) = stays
 came_open line old mid (is_dropped stays c o n held pending) = stays
@@ -100,7 +101,7 @@ taken old new there (inl (none, same)) = record {
   pending = ap (λ (st : State). pending_of st 1) same ∙ none;
 }
 taken old new there (inr (some, m)) =
-    let t : Takes old new 1 (pending_of old 1) = took_facts old 1 (pending_of old 1) m.effect new m.step in
+    let t : SessionTakes old new 1 (pending_of old 1) = took_facts old 1 (pending_of old 1) m.effect new m.step in
     record {
       is_open = t.stays;
       held = t.held;
@@ -125,27 +126,28 @@ queued_none old new e h none =
     (sym (append-nil p) ∙ ap (λ (q : Bytes). p ++ q) (sym none) ∙ step_bytes old (took 1 p) e new h 1)
 
 -- Runs that lines make, one after another.
-pub loads_none : (st : State) (counted : Counts) → Loads [] st counted st counted
-loads_none st counted = record { done = []; walk = refl; fed = refl; served = All-nil IsServed; listing = omega arith }
+pub loads_none : (st : State) (counted : Counts) → FeedsLines [] st counted st counted
+loads_none st counted = record { done = []; walk = refl; fed = refl; served = All-nil HadMemory; listing = omega arith }
 
-pub loads_one : (d : Did) (old : State) (before : Counts) (new : State) (now : Counts) → RunNext old d new → IsServed d
-    → now.listing ≤ before.listing + d.effect.cost → Loads (piece_of d.event) old before new now
+pub loads_one : (d : Did) (old : State) (before : Counts) (new : State) (now : Counts) → RunNext old d new → HadMemory d
+    → now.listing ≤ before.listing + d.effect.cost → FeedsLines (piece_of d.event) old before new now
 loads_one d old before new now next served listing = record {
   done = d ∷ [];
   walk = (new, next, refl);
   fed = append-nil (piece_of d.event);
-  served = All-cons IsServed d [] served (All-nil IsServed);
+  served = All-cons HadMemory d [] served (All-nil HadMemory);
   listing = omega (arith, listing);
 }
 
 pub loads_then : (lines more : List Bytes) (old : State) (before : Counts) (mid : State) (between : Counts)
     (new : State) (now : Counts)
-    → Loads lines old before mid between → Loads more mid between new now → Loads (lines ++ more) old before new now
+    → FeedsLines lines old before mid between → FeedsLines more mid between new now
+    → FeedsLines (lines ++ more) old before new now
 loads_then lines more old before mid between new now c d = record {
   done = c.done ++ d.done;
   walk = walk_then RunNext old c.done mid d.done new c.walk d.walk;
   fed = flat_map-append (λ (x : Did). piece_of x.event) c.done d.done ∙ ap₂ (λ (a b : List Bytes). a ++ b) c.fed d.fed;
-  served = All-append IsServed c.done d.done c.served d.served;
+  served = All-append HadMemory c.done d.done c.served d.served;
   listing = omega (arith, c.listing, d.listing, sum_by-append (λ (x : Did). x.effect.cost) c.done d.done);
 }
 
@@ -158,7 +160,7 @@ of_session (Some x) there P f = f x refl
 empty_dry : is_dry [] ≡ true
 empty_dry = refl
 
-awaits : (st : State) → IsIdle st → IsSomeAnd (session_of st 1) AwaitsInput
+awaits : (st : State) → SessionIsIdle st → IsSomeAnd (session_of st 1) AwaitsInput
 awaits st idle = of_session (session_of st 1) idle.is_open AwaitsInput
     (λ x e. record {
       written = sym (ap pending_in e) ∙ idle.pending;
@@ -177,21 +179,21 @@ some_byte (b ∷ line) e = omega arith
 -- the step that runs the line
 ran_one : (old : State) (before : Counts) (outcome : LineOutcome) (new : State) (now : Counts) → IsOpen old 1
     → pending_of old 1 ≡ [] → pending_of new 1 ≢ refusal_line NoMemory
-    → MakesCounted old (stepped 1 outcome) new before now → Loads [] old before new now
+    → MakesCounted old (stepped 1 outcome) new before now → FeedsLines [] old before new now
 ran_one old before outcome new now there pending served m =
     loads_one (record { event = stepped 1 outcome; effect = m.effect }) old before new now
     ((refl, flushed old there pending), m.step)
     (λ e. served (queued_is old (stepped 1 outcome) m.effect new m.step refl pending ∙ e)) m.listing
 
 ran_loads : (old : State) (before : Counts) (new : State) (now : Counts) → IsOpen old 1 → pending_of old 1 ≡ []
-    → pending_of new 1 ≢ refusal_line NoMemory → RanStep old 1 new before now → Loads [] old before new now
+    → pending_of new 1 ≢ refusal_line NoMemory → RanStep old 1 new before now → FeedsLines [] old before new now
 ran_loads old before new now there pending served (l, inl m) = ran_one old before (blank l) new now there pending served
     m
 ran_loads old before new now there pending served (l, inr m) = ran_one old before (run l) new now there pending served m
 
 took_loads : (old : State) (counted : Counts) (new : State) → pending_of new 1 ≡ [] → TakesAll old new
-    → Loads [] old counted new counted
-took_loads old counted new pending (inl (none, same)) = subst (λ (st : State). Loads [] old counted st counted)
+    → FeedsLines [] old counted new counted
+took_loads old counted new pending (inl (none, same)) = subst (λ (st : State). FeedsLines [] old counted st counted)
     (sym same) (loads_none old counted)
 took_loads old counted new pending (inr (some, m)) =
     loads_one (record { event = took 1 (pending_of old 1); effect = m.effect }) old counted new counted
@@ -199,14 +201,15 @@ took_loads old counted new pending (inr (some, m)) =
     (quiet (to_session 1 (m.effect).queued) (queued_none old new m.effect m.step pending)) (omega arith)
 
 -- A line that comes, is run, and whose reply is taken.
-pub line_loads : (line : Bytes) (old : State) (before : Counts) (mid : State) (now : Counts) (new : State) → IsIdle old
+pub line_loads : (line : Bytes) (old : State) (before : Counts) (mid : State) (now : Counts) (new : State)
+    → SessionIsIdle old
     → behind_lf line ≡ Some [] → length line ≤ READ_BYTES
     → LineRuns line old before mid now → pending_of mid 1 ≢ refusal_line NoMemory → TakesAll mid new
-    → Loads (line ∷ []) old before new now
+    → FeedsLines (line ∷ []) old before new now
 line_loads line old before mid now new idle one short runs served takes =
     let m = runs.comes in
     let here = is_fed line old runs.mid idle runs.is_held m in
-    let first : Loads (line ∷ []) old before runs.mid before =
+    let first : FeedsLines (line ∷ []) old before runs.mid before =
     loads_one (record { event = fed 1 line; effect = m.effect }) old before runs.mid before
     ((refl, some_byte line one, short, awaits old idle), m.step)
     (quiet (to_session 1 (m.effect).queued)
@@ -217,9 +220,10 @@ line_loads line old before mid now new idle one short runs served takes =
     (ran_loads runs.mid before mid now here.is_open here.pending served runs.ran)
     (took_loads mid now new t.pending takes))
 
-pub line_idle : (line : Bytes) (old : State) (before : Counts) (mid : State) (now : Counts) (new : State) → IsIdle old
+pub line_idle : (line : Bytes) (old : State) (before : Counts) (mid : State) (now : Counts) (new : State)
+    → SessionIsIdle old
     → behind_lf line ≡ Some []
-    → LineRuns line old before mid now → TakesAll mid new → IsIdle new
+    → LineRuns line old before mid now → TakesAll mid new → SessionIsIdle new
 line_idle line old before mid now new idle one runs takes =
     let here = is_fed line old runs.mid idle runs.is_held runs.comes in
     let t = taken mid new (ran_open runs.mid mid before now runs.ran) takes in
@@ -251,7 +255,7 @@ feeds_then lines more old before mid between new now c d = record {
 }
 
 -- the line comes
-pub comes_feeds : (line : Bytes) (old : State) (counted : Counts) (mid : State) → IsIdle old → 0 < length line
+pub comes_feeds : (line : Bytes) (old : State) (counted : Counts) (mid : State) → SessionIsIdle old → 0 < length line
     → length line ≤ READ_BYTES → Makes old (fed 1 line) mid → Feeds (line ∷ []) old counted mid counted
 comes_feeds line old counted mid idle some short m =
     feeds_one (record { event = fed 1 line; effect = m.effect }) old counted mid counted
@@ -300,7 +304,7 @@ stepped_by line old before mid (HadEnded c) new now kept here running comes h =
 
 -- and is run or isn't
 pub stepped_feeds : (line : Bytes) (old : State) (before : Counts) (mid : State) (r : Stepped) (new : State)
-    (now : Counts) (kept : List Bytes) → IsIdle old → 0 < length line → length line ≤ READ_BYTES
+    (now : Counts) (kept : List Bytes) → SessionIsIdle old → 0 < length line → length line ≤ READ_BYTES
     → Makes old (fed 1 line) mid → cause_of mid 1 ≡ None → StepGives mid 1 r new before now kept
     → Feeds (line ∷ []) old before new now
 stepped_feeds line old before mid r new now kept idle some short m running h =
@@ -308,7 +312,7 @@ stepped_feeds line old before mid r new now kept idle some short m running h =
     (comes_feeds line old before mid idle some short m) h
 
 -- and was run
-pub line_feeds : (line : Bytes) (old : State) (before : Counts) (new : State) (now : Counts) → IsIdle old
+pub line_feeds : (line : Bytes) (old : State) (before : Counts) (new : State) (now : Counts) → SessionIsIdle old
     → 0 < length line → length line ≤ READ_BYTES
     → LineRuns line old before new now → Feeds (line ∷ []) old before new now
 line_feeds line old before new now idle some short runs =
@@ -318,8 +322,9 @@ line_feeds line old before new now idle some short runs =
 -- At one of some lines memory is wanting.
 pub breaks_at : (earlier : List Bytes) (line : Bytes) (later lines : List Bytes) (old : State) (before : Counts)
     (mid : State) (between : Counts) (new : State) (now : Counts)
-    → earlier ++ line ∷ later ≡ lines → Loads earlier old before mid between → Feeds (line ∷ []) mid between new now
-    → BreaksOff lines old before new now
+    → earlier ++ line ∷ later ≡ lines → FeedsLines earlier old before mid between
+    → Feeds (line ∷ []) mid between new now
+    → LoadBreaksOff lines old before new now
 breaks_at earlier line later lines old before mid between new now are loads feeds = record {
   earlier = earlier;
   line = line;
@@ -334,15 +339,15 @@ breaks_at earlier line later lines old before mid between new now are loads feed
 -- and there are lines before them, or behind them
 pub breaks_behind : (lines more : List Bytes) (old : State) (before : Counts) (mid : State) (between : Counts)
     (new : State) (now : Counts)
-    → Loads lines old before mid between → BreaksOff more mid between new now
-    → BreaksOff (lines ++ more) old before new now
+    → FeedsLines lines old before mid between → LoadBreaksOff more mid between new now
+    → LoadBreaksOff (lines ++ more) old before new now
 breaks_behind lines more old before mid between new now loads b =
     breaks_at (lines ++ b.earlier) b.line b.later (lines ++ more) old before b.mid b.between new now
     (append_assoc lines b.earlier (b.line ∷ b.later) ∙ ap (λ (xs : List Bytes). lines ++ xs) b.are)
     (loads_then lines b.earlier old before mid between b.mid b.between loads b.loads) b.feeds
 
 pub breaks_before : (lines more : List Bytes) (old : State) (before : Counts) (new : State) (now : Counts)
-    → BreaksOff lines old before new now → BreaksOff (lines ++ more) old before new now
+    → LoadBreaksOff lines old before new now → LoadBreaksOff (lines ++ more) old before new now
 breaks_before lines more old before new now b =
     breaks_at b.earlier b.line (b.later ++ more) (lines ++ more) old before b.mid b.between new now
     (sym (append_assoc b.earlier (b.line ∷ b.later) more) ∙ ap (λ (xs : List Bytes). xs ++ more) b.are) b.loads b.feeds
@@ -350,8 +355,8 @@ breaks_before lines more old before new now b =
 -- the same line again
 pub loads_again : (line : Bytes) (k : ℕ) (old : State) (before : Counts) (mid : State) (between : Counts) (new : State)
     (now : Counts)
-    → Loads (replicate k line) old before mid between → Loads (line ∷ []) mid between new now
-    → Loads (replicate (k + 1) line) old before new now
+    → FeedsLines (replicate k line) old before mid between → FeedsLines (line ∷ []) mid between new now
+    → FeedsLines (replicate (k + 1) line) old before new now
 loads_again line k old before mid between new now c d =
-    subst (λ (lines : List Bytes). Loads lines old before new now) (replicate_more k line)
+    subst (λ (lines : List Bytes). FeedsLines lines old before new now) (replicate_more k line)
     (loads_then (replicate k line) (line ∷ []) old before mid between new now c d)

@@ -23,9 +23,9 @@ use Rattle.djq_laws.proofs.Cutting.{in_order, line_in_front}
 use Rattle.djq_laws.proofs.Giving.{step_gives}
 use Rattle.djq_laws.proofs.Sending.{next_runs}
 use Rattle.djq_gen.specs.Draws.{next, drawn}
-use Rattle.djq_gen.specs.Load.{reading, relation, change, pause, changes, values_of, load}
+use Rattle.djq_gen.specs.Load.{reading_lines, relation, change, pause, changes, value_count, load}
 use Rattle.djq_load.specs.Joins.{join, GivesFew}
-use Rattle.djq_load.specs.Lines.{Loads}
+use Rattle.djq_load.specs.Lines.{FeedsLines}
 use Rattle.djq_load.specs.Totals.{open_line, next_line}
 use Rattle.djq_load.proofs.Joining.{IsHarmless, LeavesJoin, IsFine, step_joins}
 use Rattle.djq_load.proofs.LoadLines.{AreOnes}
@@ -142,7 +142,7 @@ query_fine = leaves_by (codes "query q(x,y,z) <- r(x,y), s(y,z)") (Register join
 pause_fine : (number : ℕ) (more : List Bytes) → AreHarmless more → AreHarmless (pause number ++ more)
 pause_fine number more h = by (number % 100 == 0)
   where
-    by : (is : Bool) → AreHarmless (cond is reading [] ++ more)
+    by : (is : Bool) → AreHarmless (cond is reading_lines [] ++ more)
     by true = (open_fine, (ten_fine, (close_fine, h)))
     by false = h
 
@@ -155,7 +155,7 @@ changes_fine values state done (suc left) = (
 )
 
 pub load_fine : (n seed : ℕ) → AreHarmless (load n seed)
-load_fine n seed = (r_fine, (s_fine, (query_fine, changes_fine (values_of n) seed 0 n)))
+load_fine n seed = (r_fine, (s_fine, (query_fine, changes_fine (value_count n) seed 0 n)))
 
 pub opening_fine : AreHarmless (open_line ∷ [])
 opening_fine = (open_fine, tt)
@@ -265,7 +265,7 @@ walk_few old (d ∷ done) new w k g =
 -- **Lines that register no other query leave few answers to be given.**
 pub loads_few : (lines : List Bytes) (old : State) (before : Counts) (new : State) (now : Counts) → AreOnes lines
     → AreHarmless lines → held_of old 1 ≡ []
-    → Loads lines old before new now → GivesFew old → GivesFew new
+    → FeedsLines lines old before new now → GivesFew old → GivesFew new
 loads_few lines old before new now ones fine none h g =
     let t = in_order 1 old h.done new (next_runs old h.done new h.walk) (walk_spares old h.done new h.walk) in
     let all : held_of old 1 ++ all_fed 1 h.done ≡ joined lines =

@@ -147,7 +147,7 @@ use Rattle.djq_laws.specs.Form.{
   DoesTurn,
   is_turned,
   is_refused,
-  Does,
+  FormDoes,
   Turn,
 }
 use Rattle.djq_laws.proofs.Changing.{all_changed, all_dropped, less_dropped}
@@ -167,7 +167,7 @@ use Rattle.djq_laws.proofs.Forms.{
 }
 use Rattle.djq_laws.proofs.Watching.{change_store, queued_store, replied_store}
 use Rattle.djq_laws.proofs.Touching.{fed_store}
-use Rattle.djq_load.specs.Joins.{join, IsWithin, IsJoin, Joins}
+use Rattle.djq_load.specs.Joins.{join, RelationIsSmall, IsJoin, Joins}
 
 -- Another store.
 same_joins : (old new : Store) → new ≡ old → Joins old → Joins new
@@ -204,10 +204,10 @@ has_place old name row none absent =
 
 -- other rows of one relation
 rows_joins : (old : Store) (name : Bytes) (rows : List CountedRow)
-    → (length (counted_of old.relations name) ≤ ROWS → length rows ≤ ROWS) → All IsWithin old.relations
-    → All IsWithin (with_rows old.relations name rows)
+    → (length (counted_of old.relations name) ≤ ROWS → length rows ≤ ROWS) → All RelationIsSmall old.relations
+    → All RelationIsSmall (with_rows old.relations name rows)
 rows_joins old name rows within all =
-    all_changed IsWithin (λ (x : Relation). bytes_eq x.name name) (λ (x : Relation). record x { rows = rows })
+    all_changed RelationIsSmall (λ (x : Relation). bytes_eq x.name name) (λ (x : Relation). record x { rows = rows })
     old.relations all
     (λ x found k. within (subst (λ (o : Option Relation). length (counted_in o) ≤ ROWS) (sym found) k))
 
@@ -277,7 +277,7 @@ rel_joins old name types (Ok u) new h j =
     let made : Relation = record { name = name; types = types; rows = [] } in
     subst Joins (sym (done_of (rel_refusal old name types) u
     (λ _. new ≡ record old { relations = old.relations ++ made ∷ [] }) (OutOfMemoryWhere ⊤) h.answer))
-    (record { rows = All-push IsWithin old.relations made j.rows (omega arith); queries = j.queries })
+    (record { rows = All-push RelationIsSmall old.relations made j.rows (omega arith); queries = j.queries })
 rel_joins old name types (Err r) new h j = same_joins old new h.stays j
 
 query_joins : (old : Store) (q : Query) (r : Result QueryOutcome Refusal) (new : Store) → q ≡ join
@@ -330,7 +330,7 @@ is_apart (changing c) = false
 is_apart ending = true
 
 form_same : (f : Form) (old : State) (s : ℕ) (x : Session) (e : Effect) (new : State) → is_apart f ≡ true
-    → Does f old s x e new → new.store ≡ old.store
+    → FormDoes f old s x e new → new.store ≡ old.store
 unfolding is_apart
 form_same asking old s x e new apart h = replied_store s old new h.1
 form_same storing old s x e new apart h = absurd cc
@@ -466,12 +466,12 @@ acts_joins old (ended s) e mid fine h j =
 acts_joins old (closed s bytes) e mid fine h j = same_joins old.store mid.store (ap (λ (st : State). st.store) h.2) j
 
 -- The rows in another order.
-moved_within : (rs ms : List Relation) → SameRelations rs ms → All IsWithin rs → All IsWithin ms
+moved_within : (rs ms : List Relation) → SameRelations rs ms → All RelationIsSmall rs → All RelationIsSmall ms
 moved_within [] [] h k = k
 moved_within (r ∷ rs) (m ∷ ms) h k =
-    let here = All-head IsWithin r rs k in
+    let here = All-head RelationIsSmall r rs k in
     let same = length_permutation r.rows m.rows h.2 in
-    All-cons IsWithin m ms (omega (arith, here, same)) (moved_within rs ms h.3 (All-tail IsWithin r rs k))
+    All-cons RelationIsSmall m ms (omega (arith, here, same)) (moved_within rs ms h.3 (All-tail RelationIsSmall r rs k))
 moved_within [] (m ∷ ms) h k = absurd h
 moved_within (r ∷ rs) [] h k = absurd h
 

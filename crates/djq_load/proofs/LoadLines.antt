@@ -9,7 +9,7 @@ use Rattle.djq_model.specs.Data.{Bytes}
 use Rattle.djq_value.specs.Literal.{is_digit}
 use Rattle.djq_lines.specs.Line.{behind_lf}
 use Rattle.djq_gen.specs.Draws.{next, drawn}
-use Rattle.djq_gen.specs.Load.{reading, verb, relation, change, pause, changes, values_of, load}
+use Rattle.djq_gen.specs.Load.{reading_lines, verb, relation, change, pause, changes, value_count, load}
 use Rattle.djq_load.proofs.Listing.{decimal_digits}
 use Rattle.djq_value.proofs.Literals.{digit_bounds}
 
@@ -73,7 +73,7 @@ change_one values a b c =
 pause_ones : (number : ℕ) (more : List Bytes) → AreOnes more → AreOnes (pause number ++ more)
 pause_ones number more h = by_is (number % 100 == 0)
   where
-    by_is : (is : Bool) → AreOnes (cond is reading [] ++ more)
+    by_is : (is : Bool) → AreOnes (cond is reading_lines [] ++ more)
     by_is true = (refl, (refl, (refl, h)))
     by_is false = h
 
@@ -86,4 +86,4 @@ changes_ones values state done (suc left) = (
 )
 
 pub load_ones : (n seed : ℕ) → AreOnes (load n seed)
-load_ones n seed = (refl, (refl, (refl, changes_ones (values_of n) seed 0 n)))
+load_ones n seed = (refl, (refl, (refl, changes_ones (value_count n) seed 0 n)))

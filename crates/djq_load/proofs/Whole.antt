@@ -20,9 +20,9 @@ use Rattle.djq_gen.specs.Load.{load}
 use Rattle.djq_load.specs.declared.loading.Totals.{Totals}
 use Rattle.djq_load.specs.declared.reading.Reading.{Reading}
 use Rattle.djq_load.specs.Replies.{read_bytes}
-use Rattle.djq_load.specs.Lines.{Loads, Feeds, BreaksOff, IsIdle, LineRuns, TakesAll, Stands}
+use Rattle.djq_load.specs.Lines.{FeedsLines, Feeds, LoadBreaksOff, SessionIsIdle, LineRuns, TakesAll, CursorStands}
 use Rattle.djq_load.specs.Joins.{GivesFew}
-use Rattle.djq_load.specs.Totals.{so_far, reads_for, IsRead, IsTold, open_line, next_line}
+use Rattle.djq_load.specs.Totals.{so_far, reads_for, ReadsSoFar, TotalsAreTold, open_line, next_line}
 use Rattle.djq_load.specs.Totals.{AreTotals, RunsLoad, BreaksReading, RunsOut}
 use Rattle.djq_load.proofs.Served.{quiet, listed}
 use Rattle.djq_load.proofs.Idle.{loads_one, loads_then, breaks_at, breaks_behind, breaks_before}
@@ -31,8 +31,8 @@ use Rattle.djq_load.proofs.Listing.{listing_read}
 use Rattle.djq_load.proofs.Few.{has_given, answers_are, all_few}
 
 -- What is pending as the cursor was read.
-pub read_served : (old : State) (before : Counts) (mid : State) (now : Counts) (r : Reading) → IsIdle old
-    → LineRuns next_line old before mid now → ((reads : ℕ) × IsRead old r reads)
+pub read_served : (old : State) (before : Counts) (mid : State) (now : Counts) (r : Reading) → SessionIsIdle old
+    → LineRuns next_line old before mid now → ((reads : ℕ) × ReadsSoFar old r reads)
     → pending_of mid 1 ≢ refusal_line NoMemory
 read_served old before mid now r idle runs (reads, h) e =
     let t = next_tells h.given r.ended old before mid now idle h.stands runs in listed t.told t.end (sym t.pending ∙ e)
@@ -46,8 +46,8 @@ is_last (suc k) given told full few some = let one : 0 < told = some (omega arit
 -- The cursor was read once more.
 pub read_on : (old : State) (before : Counts) (mid : State) (now : Counts) (new : State) (r after : Reading)
     (text : Bytes) (reads : ℕ)
-    → IsIdle old → LineRuns next_line old before mid now → text ≡ pending_of mid 1 → after ≡ read_bytes r text
-    → TakesAll mid new → r.ended ≡ false → IsRead old r reads → IsRead new after (reads + 1)
+    → SessionIsIdle old → LineRuns next_line old before mid now → text ≡ pending_of mid 1 → after ≡ read_bytes r text
+    → TakesAll mid new → r.ended ≡ false → ReadsSoFar old r reads → ReadsSoFar new after (reads + 1)
 read_on old before mid now new r after text reads idle runs is_text is_after takes going h =
     let t = next_tells h.given r.ended old before mid now idle h.stands runs in
     let all = h.given ++ t.told in
@@ -57,7 +57,7 @@ read_on old before mid now new r after text reads idle runs is_text is_after tak
     let ended : after.ended ≡ t.end = ap (λ (x : Reading). x.ended) e in
     record {
       given = all;
-      stands = subst (λ (b : Bool). Stands new all b) (sym ended) (stands_on all t.end mid new takes t.stands);
+      stands = subst (λ (b : Bool). CursorStands new all b) (sym ended) (stands_on all t.end mid new takes t.stands);
       is = e ∙ ap (λ (b : Bool). so_far all b) (sym ended);
       full = λ k. omega (arith, length-append h.given t.told, h.full going, t.full (sym ended ∙ k));
       left = λ k some. took_left mid new all takes (t.left (sym ended ∙ k));
@@ -67,17 +67,17 @@ read_on old before mid now new r after text reads idle runs is_text is_after tak
     }
 
 -- it was read to its end
-pub read_all : (st : State) (r : Reading) (reads : ℕ) → GivesFew st → IsRead st r reads → r.ended ≡ true
-    → IsTold st (record { answers = r.answers; sum = r.sum }) reads
+pub read_all : (st : State) (r : Reading) (reads : ℕ) → GivesFew st → ReadsSoFar st r reads → r.ended ≡ true
+    → TotalsAreTold st (record { answers = r.answers; sum = r.sum }) reads
 read_all st r reads few h ended = record {
   given = h.given;
-  stands = subst (λ (b : Bool). Stands st h.given b) ended h.stands;
+  stands = subst (λ (b : Bool). CursorStands st h.given b) ended h.stands;
   reads_are = h.last ended;
   answers = answers_are st r reads few h;
   sum = ap (λ (x : Reading). x.sum) h.is;
 }
 
-totals_are : (st : State) (totals : Totals) (reads : ℕ) → GivesFew st → (h : IsTold st totals reads)
+totals_are : (st : State) (totals : Totals) (reads : ℕ) → GivesFew st → (h : TotalsAreTold st totals reads)
     → AreTotals st h.given totals
 totals_are st totals reads few h =
     let q = has_given st h.given true few.give h.stands in
@@ -102,7 +102,7 @@ opened_parts old mid none (inr h) =
     ∙ ap (λ (xs : List Session). record old { sessions = xs }) none in
     (ap (λ (st : State). held_of st 1) alone, ap (λ (st : State). cause_of st 1) alone)
 
-opened_idle : (old new : State) → old.sessions ≡ [] → Makes old (opened 1) new → IsOpen new 1 → IsIdle new
+opened_idle : (old new : State) → old.sessions ≡ [] → Makes old (opened 1) new → IsOpen new 1 → SessionIsIdle new
 opened_idle old new none m there =
     let h = m.step in
     let parts = opened_parts old h.mid none h.acts.2 in
@@ -117,8 +117,8 @@ opened_idle old new none m there =
 
 -- Opening it, where it was opened.
 pub record Begins (old new : State) (counted : Counts) : Type 0 where
-  pub idle : IsIdle new
-  pub loads : Loads [] old counted new counted
+  pub idle : SessionIsIdle new
+  pub loads : FeedsLines [] old counted new counted
 
 pub begins : (old new : State) (counted : Counts) (r : Result ⊤ OpenRefusal) → is_err r ≡ false → OpenGives old 1 r new
     → old.sessions ≡ [] → Begins old new counted
@@ -133,29 +133,31 @@ begins old new counted (Err r) e h none = absurd cc
 -- The whole: the session is opened, the load fed, the cursor opened, and read so many times.
 all_loads : (n seed k : ℕ) (start a : State) (before : Counts) (b : State) (at_b : Counts) (c : State) (at_c : Counts)
     (d : State) (now : Counts)
-    → Loads [] start before a before → Loads (load n seed) a before b at_b → Loads (open_line ∷ []) b at_b c at_c
-    → Loads (replicate k next_line) c at_c d now
-    → Loads (load n seed ++ open_line ∷ replicate k next_line) start before d now
+    → FeedsLines [] start before a before → FeedsLines (load n seed) a before b at_b
+    → FeedsLines (open_line ∷ []) b at_b c at_c
+    → FeedsLines (replicate k next_line) c at_c d now
+    → FeedsLines (load n seed ++ open_line ∷ replicate k next_line) start before d now
 all_loads n seed k start a before b at_b c at_c d now opens feeds points reads =
-    let begun : Loads (load n seed) start before b at_b = loads_then [] (load n seed) start before a before b at_b opens
+    let begun : FeedsLines (load n seed) start before b at_b =
+    loads_then [] (load n seed) start before a before b at_b opens
     feeds in
-    let rest : Loads (open_line ∷ replicate k next_line) b at_b d now = loads_then (open_line ∷ [])
+    let rest : FeedsLines (open_line ∷ replicate k next_line) b at_b d now = loads_then (open_line ∷ [])
     (replicate k next_line) b at_b c at_c d now points reads in
     loads_then (load n seed) (open_line ∷ replicate k next_line) start before b at_b d now begun rest
 
 -- to its end, where the totals are answered
 pub answers_load : (n seed : ℕ) (r : Result Totals NoMem) (start a : State) (before : Counts) (b : State)
     (at_b : Counts) (c : State) (at_c : Counts) (d : State) (now : Counts)
-    → GivesFew c → IsIdle c → Loads [] start before a before → Loads (load n seed) a before b at_b
-    → Loads (open_line ∷ []) b at_b c at_c
-    → IfOk r (λ totals. (k : ℕ) × Loads (replicate k next_line) c at_c d now × IsTold d totals k)
+    → GivesFew c → SessionIsIdle c → FeedsLines [] start before a before → FeedsLines (load n seed) a before b at_b
+    → FeedsLines (open_line ∷ []) b at_b c at_c
+    → IfOk r (λ totals. (k : ℕ) × FeedsLines (replicate k next_line) c at_c d now × TotalsAreTold d totals k)
     → OnOk r (cause_of d 1 ≡ None) → IfOk r (λ totals. RunsLoad n seed totals start before d now)
 answers_load n seed (Ok totals) start a before b at_b c at_c d now few idle opens feeds points (k, reads, told) running
     =
     let whole = all_loads n seed k start a before b at_b c at_c d now opens feeds points reads in
     record {
       answers = told.given;
-      loads = subst (λ (m : ℕ). Loads (load n seed ++ open_line ∷ replicate m next_line) start before d now)
+      loads = subst (λ (m : ℕ). FeedsLines (load n seed ++ open_line ∷ replicate m next_line) start before d now)
           told.reads_are whole;
       stands = told.stands;
       running = running;
@@ -170,7 +172,8 @@ where_err (Err e) p = p
 
 -- Memory is wanting: at a line of the load,
 pub breaks_feeding : (n seed : ℕ) (start a : State) (before : Counts) (d : State) (now : Counts)
-    → Loads [] start before a before → BreaksOff (load n seed) a before d now → RunsOut n seed start before d now
+    → FeedsLines [] start before a before → LoadBreaksOff (load n seed) a before d now
+    → RunsOut n seed start before d now
 breaks_feeding n seed start a before d now opens breaks =
     inr (inl (breaks_before (load n seed) (open_line ∷ []) start before d now
     (breaks_behind [] (load n seed) start before a before d now opens breaks)))
@@ -178,7 +181,8 @@ breaks_feeding n seed start a before d now opens breaks =
 -- at the one that opens the cursor,
 pub breaks_opening : (n seed : ℕ) (start a : State) (before : Counts) (b : State) (at_b : Counts) (d : State)
     (now : Counts)
-    → Loads [] start before a before → Loads (load n seed) a before b at_b → Feeds (open_line ∷ []) b at_b d now
+    → FeedsLines [] start before a before → FeedsLines (load n seed) a before b at_b
+    → Feeds (open_line ∷ []) b at_b d now
     → RunsOut n seed start before d now
 breaks_opening n seed start a before b at_b d now opens feeds breaks =
     inr (inl (breaks_at (load n seed) open_line [] (load n seed ++ open_line ∷ []) start before b at_b d now refl
@@ -187,11 +191,12 @@ breaks_opening n seed start a before b at_b d now opens feeds breaks =
 -- or at one that reads it
 pub breaks_reading : (n seed : ℕ) (start a : State) (before : Counts) (b : State) (at_b : Counts) (c : State)
     (at_c : Counts) (d : State) (now : Counts)
-    → Loads [] start before a before → Loads (load n seed) a before b at_b → Loads (open_line ∷ []) b at_b c at_c
+    → FeedsLines [] start before a before → FeedsLines (load n seed) a before b at_b
+    → FeedsLines (open_line ∷ []) b at_b c at_c
     → BreaksReading [] c at_c d now → RunsOut n seed start before d now
 breaks_reading n seed start a before b at_b c at_c d now opens feeds points r =
     let lines = load n seed ++ open_line ∷ [] in
-    let front : Loads lines start before c at_c =
+    let front : FeedsLines lines start before c at_c =
     loads_then (load n seed) (open_line ∷ []) start before b at_b c at_c
     (loads_then [] (load n seed) start before a before b at_b opens feeds) points in
     inr (inr (record {

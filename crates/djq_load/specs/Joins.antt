@@ -20,12 +20,12 @@ join = record {
 }
 
 -- the most answers that it may have: one for each row of the one relation and each of the other
-abbrev pub most_answers : ℕ
-most_answers = ROWS * ROWS
+abbrev pub most_load_answers : ℕ
+most_load_answers = ROWS * ROWS
 
 -- A relation has no more rows than may be.
-abbrev pub IsWithin : Relation → Type 0
-IsWithin r = length r.rows ≤ ROWS
+abbrev pub RelationIsSmall : Relation → Type 0
+RelationIsSmall r = length r.rows ≤ ROWS
 
 -- What is registered is the query of a load.
 abbrev pub IsJoin : Listed → Type 0
@@ -33,7 +33,7 @@ IsJoin q = q ≡ a_query join
 
 -- Each relation is within its limit, and no other query is registered.
 pub record Joins (st : Store) : Type 0 where
-  pub rows : All IsWithin st.relations
+  pub rows : All RelationIsSmall st.relations
   pub queries : All IsJoin st.queries
 
 -- And cursors have given what they should: so none has given more answers than there may be.

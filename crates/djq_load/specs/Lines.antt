@@ -12,19 +12,19 @@ use Rattle.djq_laws.specs.Course.{RunNext}
 use Rattle.djq_laws.specs.Watched.{batch_of}
 
 -- What was done didn't tell session 1 that memory is wanting.
-abbrev pub IsServed : Did → Type 0
-IsServed d = to_session 1 d.effect.queued ≢ refusal_line NoMemory
+abbrev pub HadMemory : Did → Type 0
+HadMemory d = to_session 1 d.effect.queued ≢ refusal_line NoMemory
 
 -- **A run of the join machine in which one session, of id 1, is fed these lines**, one after
 -- another: each comes where none is left to be run and nothing is pending. No line is answered that
 -- memory is wanting, so each did what it says or was refused for what it says. It counts no more of
 -- listings than it may cost.
-pub record Loads (lines : List Bytes) (old : State) (before : Counts) (new : State)
+pub record FeedsLines (lines : List Bytes) (old : State) (before : Counts) (new : State)
     (now : Counts) : Type 0 where
   pub done : List Did
   pub walk : Walk RunNext old done new
   pub fed : pieces_of done ≡ lines
-  pub served : All IsServed done
+  pub served : All HadMemory done
   pub listing : now.listing ≤ before.listing + cost_of done
 
 -- **A run in which session 1 is fed these lines**, whatever it is answered, and whether or not the
@@ -38,7 +38,7 @@ pub record Feeds (lines : List Bytes) (old : State) (before : Counts) (new : Sta
 
 -- Of these lines a first part was fed, each run and answered, and one line more, at which memory
 -- was wanting.
-pub record BreaksOff (lines : List Bytes) (old : State) (before : Counts) (new : State)
+pub record LoadBreaksOff (lines : List Bytes) (old : State) (before : Counts) (new : State)
     (now : Counts) : Type 0 where
   pub earlier : List Bytes
   pub line : Bytes
@@ -46,11 +46,11 @@ pub record BreaksOff (lines : List Bytes) (old : State) (before : Counts) (new :
   pub are : earlier ++ line ∷ later ≡ lines
   pub mid : State
   pub between : Counts
-  pub loads : Loads earlier old before mid between
+  pub loads : FeedsLines earlier old before mid between
   pub feeds : Feeds (line ∷ []) mid between new now
 
 -- Session 1 is open and goes on, holds nothing and has nothing pending.
-pub record IsIdle (st : State) : Type 0 where
+pub record SessionIsIdle (st : State) : Type 0 where
   pub is_open : IsOpen st 1
   pub held : held_of st 1 ≡ []
   pub pending : pending_of st 1 ≡ []
@@ -71,19 +71,19 @@ TakesAll old new = ((pending_of old 1 ≡ []) × (new ≡ old))
     ⊎ ((0 < length (pending_of old 1)) × Makes old (took 1 (pending_of old 1)) new)
 
 -- the cursors of a session; none where there is no session
-abbrev pub cursors_in : Option Session → List Cursor
-cursors_in None = []
-cursors_in (Some x) = x.cursors
+abbrev pub session_cursors : Option Session → List Cursor
+session_cursors None = []
+session_cursors (Some x) = x.cursors
 
 -- the cursors of session 1
 abbrev pub cursors_of : State → List Cursor
-cursors_of st = cursors_in (session_of st 1)
+cursors_of st = session_cursors (session_of st 1)
 
 -- the cursor of a load, which has given these answers
 abbrev pub cursor_at : List Tuple → Bool → Cursor
 cursor_at given ended = record { name = codes "c"; query = codes "q"; position = open_at given ended }
 
 -- The session has that cursor, and no batch open.
-pub record Stands (st : State) (given : List Tuple) (ended : Bool) : Type 0 where
+pub record CursorStands (st : State) (given : List Tuple) (ended : Bool) : Type 0 where
   pub cursor : cursor_of (cursors_of st) (codes "c") ≡ Some (cursor_at given ended)
   pub batch : batch_of st 1 ≡ None

@@ -12,8 +12,8 @@ reading answers sum ended place =
     record { answers = answers; sum = sum; ended = ended; place = place }
 
 -- a line that begins with `=` is an answer
-abbrev pub in_front : Reading → ℕ → Reading
-in_front r b =
+abbrev pub at_line_front : Reading → ℕ → Reading
+at_line_front r b =
     if b == 61 then reading ((r.answers + 1) % 2 ^ 64) r.sum r.ended (Answer false 0)
     else (if b == 10 then r
     else reading r.answers r.sum (b == 101) Other)
@@ -38,17 +38,17 @@ in_answer r below n b =
     else record r { place = Answer below ((n * 10 % 2 ^ 64 + (b - 48)) % 2 ^ 64) })))
 
 -- a text ends at a quote that no backslash stands before
-abbrev pub in_text : Reading → ℕ → Reading
-in_text r b =
+abbrev pub within_text : Reading → ℕ → Reading
+within_text r b =
     if b == 92 then record r { place = Escape }
     else (if b == 34 then record r { place = Answer false 0 } else r)
 
 -- what was read, behind a byte
 abbrev pub read_at : Place → Reading → ℕ → Reading
-read_at Front r b = in_front r b
+read_at Front r b = at_line_front r b
 read_at Other r b = in_other r b
 read_at (Answer below n) r b = in_answer r below n b
-read_at Text r b = in_text r b
+read_at Text r b = within_text r b
 read_at Escape r b = record r { place = Text }
 
 -- what was read, behind a further byte, by the place at which it stands

@@ -16,7 +16,7 @@ use Rattle.djq_load.specs.declared.loading.Totals.{Totals}
 use Rattle.djq_load.specs.declared.reading.Place.TheVariants.{Front}
 use Rattle.djq_load.specs.declared.reading.Reading.{Reading}
 use Rattle.djq_load.specs.Replies.{reading}
-use Rattle.djq_load.specs.Lines.{Loads, Feeds, BreaksOff, Stands}
+use Rattle.djq_load.specs.Lines.{FeedsLines, Feeds, LoadBreaksOff, CursorStands}
 
 -- an integer modulo 2^64; nothing where there is none
 abbrev pub residue : Option ℤ → ℕ
@@ -49,9 +49,9 @@ HasLeft store given = IsSomeAnd (listed_of store.queries (codes "q"))
 -- What was read, by so many reads, is what the cursor has given. Where it wasn't told the end, each
 -- read gave a thousand answers, and behind the first read some are left; else the last read alone
 -- was told the end.
-pub record IsRead (st : State) (r : Reading) (reads : ℕ) : Type 0 where
+pub record ReadsSoFar (st : State) (r : Reading) (reads : ℕ) : Type 0 where
   pub given : List Tuple
-  pub stands : Stands st given r.ended
+  pub stands : CursorStands st given r.ended
   pub is : r ≡ so_far given r.ended
   pub full : r.ended ≡ false → length given ≡ 1000 * reads
   pub left : r.ended ≡ false → 0 < reads → HasLeft st.store given
@@ -59,9 +59,9 @@ pub record IsRead (st : State) (r : Reading) (reads : ℕ) : Type 0 where
 
 -- A cursor that was told the end, by the last of so many reads, has given answers that come to
 -- these totals.
-pub record IsTold (st : State) (totals : Totals) (reads : ℕ) : Type 0 where
+pub record TotalsAreTold (st : State) (totals : Totals) (reads : ℕ) : Type 0 where
   pub given : List Tuple
-  pub stands : Stands st given true
+  pub stands : CursorStands st given true
   pub reads_are : reads ≡ reads_for (length given)
   pub answers : totals.answers ≡ length given
   pub sum : totals.sum ≡ amount_of given % 2 ^ 64
@@ -90,9 +90,9 @@ pub record AreTotals (st : State) (answers : List Tuple) (totals : Totals) : Typ
 pub record RunsLoad (n seed : ℕ) (totals : Totals) (old : State) (before : Counts) (new : State)
     (now : Counts) : Type 0 where
   pub answers : List Tuple
-  pub loads : Loads (load n seed ++ open_line ∷ replicate (reads_for (length answers)) next_line)
+  pub loads : FeedsLines (load n seed ++ open_line ∷ replicate (reads_for (length answers)) next_line)
       old before new now
-  pub stands : Stands new answers true
+  pub stands : CursorStands new answers true
   pub running : cause_of new 1 ≡ None
   pub totals_are : AreTotals new answers totals
 
@@ -104,9 +104,9 @@ pub record BreaksReading (lines : List Bytes) (old : State) (before : Counts) (n
   pub nexts : ℕ
   pub mid : State
   pub between : Counts
-  pub loads : Loads (lines ++ replicate nexts next_line) old before mid between
+  pub loads : FeedsLines (lines ++ replicate nexts next_line) old before mid between
   pub given : List Tuple
-  pub stands : Stands mid given false
+  pub stands : CursorStands mid given false
   pub many : length given ≡ 1000 * nexts
   pub feeds : Feeds (next_line ∷ []) mid between new now
 
@@ -116,5 +116,5 @@ pub record BreaksReading (lines : List Bytes) (old : State) (before : Counts) (n
 abbrev pub RunsOut : ℕ → ℕ → State → Counts → State → Counts → Type 0
 RunsOut n seed old before new now =
     ((new ≡ old) × (now ≡ before))
-    ⊎ (BreaksOff (load n seed ++ open_line ∷ []) old before new now
+    ⊎ (LoadBreaksOff (load n seed ++ open_line ∷ []) old before new now
     ⊎ BreaksReading (load n seed ++ open_line ∷ []) old before new now)

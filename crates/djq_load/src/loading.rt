@@ -6,9 +6,11 @@ ghost use Rattle.djq_machine.specs.State.{opening};
 ghost use Rattle.djq_machine.specs.Call.{IsOpen, cause_of, counts};
 ghost use Rattle.djq_machine.specs.Run.{pending_of};
 ghost use Rattle.djq_laws.specs.declared.limits.TheConstants.{READ_BYTES};
-ghost use Rattle.djq_load.specs.Lines.{Loads, Feeds, BreaksOff, IsIdle, LineRuns, TakesAll, Stands};
+ghost use Rattle.djq_load.specs.Lines.{FeedsLines, Feeds, LoadBreaksOff, SessionIsIdle, LineRuns, TakesAll};
+ghost use Rattle.djq_load.specs.Lines.{CursorStands};
 ghost use Rattle.djq_load.specs.Joins.{GivesFew};
-ghost use Rattle.djq_load.specs.Totals.{IsRead, IsTold, open_line, next_line, RunsLoad, BreaksReading, RunsOut};
+ghost use Rattle.djq_load.specs.Totals.{ReadsSoFar, TotalsAreTold, open_line, next_line, RunsLoad, BreaksReading};
+ghost use Rattle.djq_load.specs.Totals.{RunsOut};
 
 use crate::reading::Reading;
 use djq_gen::{LINE_BYTES, Load};
@@ -68,12 +70,12 @@ fn feed_load<M: Machine, L: Ledgers>(
     seed: u32,
     steps: &mut Steps<L>,
 ) -> Result<(), NoMem>
-    requires { IsIdle (M.state machine.old) }
-    ensures loads { OnOk result (Loads (load n seed)
+    requires { SessionIsIdle (M.state machine.old) }
+    ensures loads { OnOk result (FeedsLines (load n seed)
         (M.state machine.old) (counts steps.old.listing steps.old.update steps.old.rows)
         (M.state machine.new) (counts steps.new.listing steps.new.update steps.new.rows)) }
-    ensures idle { OnOk result (IsIdle (M.state machine.new)) }
-    ensures breaks { OnErr result (BreaksOff (load n seed)
+    ensures idle { OnOk result (SessionIsIdle (M.state machine.new)) }
+    ensures breaks { OnErr result (LoadBreaksOff (load n seed)
         (M.state machine.old) (counts steps.old.listing steps.old.update steps.old.rows)
         (M.state machine.new) (counts steps.new.listing steps.new.update steps.new.rows)) }
 {
@@ -91,13 +93,13 @@ fn feed_line<M: Machine, L: Ledgers>(
     line: &[u8],
     steps: &mut Steps<L>,
 ) -> Result<(), NoMem>
-    requires idle { IsIdle (M.state machine.old) }
+    requires idle { SessionIsIdle (M.state machine.old) }
     requires one { behind_lf line.now ≡ Some [] }
     requires short { length line.now ≤ READ_BYTES }
-    ensures loads { OnOk result (Loads (line.now ∷ [])
+    ensures loads { OnOk result (FeedsLines (line.now ∷ [])
         (M.state machine.old) (counts steps.old.listing steps.old.update steps.old.rows)
         (M.state machine.new) (counts steps.new.listing steps.new.update steps.new.rows)) }
-    ensures idle { OnOk result (IsIdle (M.state machine.new)) }
+    ensures idle { OnOk result (SessionIsIdle (M.state machine.new)) }
     ensures breaks { OnErr result (Feeds (line.now ∷ [])
         (M.state machine.old) (counts steps.old.listing steps.old.update steps.old.rows)
         (M.state machine.new) (counts steps.new.listing steps.new.update steps.new.rows)) }
@@ -112,12 +114,12 @@ fn feed_line<M: Machine, L: Ledgers>(
 
 /// Opens the cursor.
 fn open_cursor<M: Machine, L: Ledgers>(machine: &mut M, steps: &mut Steps<L>) -> Result<(), NoMem>
-    requires { IsIdle (M.state machine.old) }
-    ensures loads { OnOk result (Loads (open_line ∷ [])
+    requires { SessionIsIdle (M.state machine.old) }
+    ensures loads { OnOk result (FeedsLines (open_line ∷ [])
         (M.state machine.old) (counts steps.old.listing steps.old.update steps.old.rows)
         (M.state machine.new) (counts steps.new.listing steps.new.update steps.new.rows)) }
-    ensures idle { OnOk result (IsIdle (M.state machine.new)) }
-    ensures stands { OnOk result (Stands (M.state machine.new) [] false) }
+    ensures idle { OnOk result (SessionIsIdle (M.state machine.new)) }
+    ensures stands { OnOk result (CursorStands (M.state machine.new) [] false) }
     ensures breaks { OnErr result (Feeds (open_line ∷ [])
         (M.state machine.old) (counts steps.old.listing steps.old.update steps.old.rows)
         (M.state machine.new) (counts steps.new.listing steps.new.update steps.new.rows)) }
@@ -135,13 +137,13 @@ fn list_answers<M: Machine, L: Ledgers>(
     machine: &mut M,
     steps: &mut Steps<L>,
 ) -> Result<Totals, NoMem>
-    requires idle { IsIdle (M.state machine.old) }
-    requires stands { Stands (M.state machine.old) [] false }
+    requires idle { SessionIsIdle (M.state machine.old) }
+    requires stands { CursorStands (M.state machine.old) [] false }
     requires few { GivesFew (M.state machine.old) }
-    ensures told { IfOk result (λ totals. (k : ℕ) × Loads (replicate k next_line)
+    ensures told { IfOk result (λ totals. (k : ℕ) × FeedsLines (replicate k next_line)
         (M.state machine.old) (counts steps.old.listing steps.old.update steps.old.rows)
         (M.state machine.new) (counts steps.new.listing steps.new.update steps.new.rows)
-        × IsTold (M.state machine.new) totals k) }
+        × TotalsAreTold (M.state machine.new) totals k) }
     ensures running { OnOk result (cause_of (M.state machine.new) 1 ≡ None) }
     ensures breaks { OnErr result (BreaksReading []
         (M.state machine.old) (counts steps.old.listing steps.old.update steps.old.rows)
@@ -163,15 +165,15 @@ fn read_more<M: Machine, L: Ledgers>(
     reading: Reading,
     steps: &mut Steps<L>,
 ) -> Result<Reading, NoMem>
-    requires idle { IsIdle (M.state machine.old) }
+    requires idle { SessionIsIdle (M.state machine.old) }
     requires going { reading.ended ≡ false }
-    requires reads { (reads : ℕ) × IsRead (M.state machine.old) reading reads }
-    ensures loads { OnOk result (Loads (next_line ∷ [])
+    requires reads { (reads : ℕ) × ReadsSoFar (M.state machine.old) reading reads }
+    ensures loads { OnOk result (FeedsLines (next_line ∷ [])
         (M.state machine.old) (counts steps.old.listing steps.old.update steps.old.rows)
         (M.state machine.new) (counts steps.new.listing steps.new.update steps.new.rows)) }
-    ensures idle { OnOk result (IsIdle (M.state machine.new)) }
-    ensures read { IfOk result (λ after. (reads : ℕ) → IsRead (M.state machine.old) reading reads
-        → IsRead (M.state machine.new) after (reads + 1)) }
+    ensures idle { OnOk result (SessionIsIdle (M.state machine.new)) }
+    ensures read { IfOk result (λ after. (reads : ℕ) → ReadsSoFar (M.state machine.old) reading reads
+        → ReadsSoFar (M.state machine.new) after (reads + 1)) }
     ensures breaks { OnErr result (Feeds (next_line ∷ [])
         (M.state machine.old) (counts steps.old.listing steps.old.update steps.old.rows)
         (M.state machine.new) (counts steps.new.listing steps.new.update steps.new.rows)) }
@@ -189,7 +191,7 @@ fn run_line<M: Machine, L: Ledgers>(
     line: &[u8],
     steps: &mut Steps<L>,
 ) -> Result<(), NoMem>
-    requires idle { IsIdle (M.state machine.old) }
+    requires idle { SessionIsIdle (M.state machine.old) }
     requires some { 0 < length line.now }
     requires short { length line.now ≤ READ_BYTES }
     ensures runs { OnOk result (LineRuns line.now

@@ -1,6 +1,7 @@
 ghost use Rattle.std.specs.Prelude.{◌≡◌, false};
 ghost use Rattle.djq_load.specs.declared.reading.Place.TheVariants.{Front};
-ghost use Rattle.djq_load.specs.Replies.{reading, in_front, in_other, in_answer, in_text, read_byte, read_bytes};
+ghost use Rattle.djq_load.specs.Replies.{reading, at_line_front, in_other, in_answer, within_text, read_byte};
+ghost use Rattle.djq_load.specs.Replies.{read_bytes};
 
 /// Where a reader stands in the replies of a session.
 #[derive(Clone, Copy, Debug)]
@@ -46,7 +47,7 @@ impl Reading {
 
     /// Behind a byte at the front of a line.
     fn in_front(self, byte: u8) -> Reading
-        ensures { result ≡ in_front self byte }
+        ensures { result ≡ at_line_front self byte }
     {
         match byte {
             b'=' => Reading {
@@ -105,7 +106,7 @@ impl Reading {
 
     /// Behind a byte of a text.
     fn in_text(self, byte: u8) -> Reading
-        ensures { result ≡ in_text self byte }
+        ensures { result ≡ within_text self byte }
     {
         match byte {
             b'\\' => Reading {

@@ -92,13 +92,13 @@ HavePlaces st (h ∷ hs) = (place_refusal st h ≡ None) × (length (with_held s
 
 -- Why a batch goes no further than a held row: the row has no place, or a text of it finds none; or
 -- out of memory, where the row has its place. The first of its texts have become known.
-abbrev pub StopsAt : Store → HeldRow → List Bytes → Refusal → Type 0
-StopsAt st h known Limit = ((place_refusal st h ≡ Some Limit) × (known ≡ st.texts))
+abbrev pub BatchStopsAt : Store → HeldRow → List Bytes → Refusal → Type 0
+BatchStopsAt st h known Limit = ((place_refusal st h ≡ Some Limit) × (known ≡ st.texts))
     ⊎ ((place_refusal st h ≡ None) × (is_there st h ≡ false)
     × FindsNoPlace st.texts (texts_in h.row) known)
-StopsAt st h known NoMemory = (place_refusal st h ≡ None)
+BatchStopsAt st h known NoMemory = (place_refusal st h ≡ None)
     × LearnsFirst st.texts (texts_in h.row) known × (length known ≤ TEXTS)
-StopsAt st h known _ = ⊥
+BatchStopsAt st h known _ = ⊥
 
 -- A batch is refused at one of its rows, where all before it have their places; and nothing changes
 -- but that texts became known.
@@ -108,7 +108,7 @@ pub record RefusesBatch (old : Store) (held : List HeldRow) (new : Store) (r : R
   pub rest : List HeldRow
   pub parts : held ≡ front ++ at ∷ rest
   pub places : HavePlaces old front
-  pub stops : StopsAt (with_all old front) at new.texts r
+  pub stops : BatchStopsAt (with_all old front) at new.texts r
   pub stays : new ≡ record old { texts = new.texts }
 
 -- All rows of a batch go in, and it is told how many came; or none does.

@@ -28,13 +28,13 @@ abbrev pub out : ℕ → List Did → Bytes
 out s done = flat_map (λ d. to_session s d.effect.queued) done
 
 -- what an event takes of a session's pending bytes, as sent to it
-abbrev pub taken_by : ℕ → Event → Bytes
-taken_by s (took t bytes) = if t == s then bytes else []
-taken_by s _ = []
+abbrev pub taken_from : ℕ → Event → Bytes
+taken_from s (took t bytes) = if t == s then bytes else []
+taken_from s _ = []
 
 -- all that was taken
 abbrev pub all_taken : ℕ → List Did → Bytes
-all_taken s done = flat_map (λ d. taken_by s d.event) done
+all_taken s done = flat_map (λ d. taken_from s d.event) done
 
 -- what an event brings to a session
 abbrev pub fed_by : ℕ → Event → Bytes
@@ -100,13 +100,13 @@ groups_in l the_line = (l ∷ []) ∷ []
 groups_in l (the_batch held) = (codes "batch" ∷ held ++ codes "done" ∷ []) ∷ []
 
 -- the group that a step keeps
-abbrev pub group_of : Event → Keeping → List Group
-group_of (stepped s (run l)) keeping = groups_in l keeping
-group_of _ _ = []
+abbrev pub kept_group : Event → Keeping → List Group
+kept_group (stepped s (run l)) keeping = groups_in l keeping
+kept_group _ _ = []
 
 -- the groups that a run keeps, in order
 abbrev pub groups_of : List Did → List Group
-groups_of done = flat_map (λ d. group_of d.event d.effect.kept) done
+groups_of done = flat_map (λ d. kept_group d.event d.effect.kept) done
 
 -- the lines of groups
 abbrev pub lines_in : List Group → List Bytes

@@ -90,7 +90,8 @@ pub trait Machine {
     fn step<L: Ledgers>(&mut self, id: u64, steps: &mut Steps<L>) -> Stepped
         requires { IsOpen (state self.old) id }
         ensures { StepGives (state self.old) id result (state self.new)
-            (counts steps.old.listing steps.old.update steps.old.rows) (counts steps.new.listing steps.new.update steps.new.rows)
+            (counts steps.old.listing steps.old.update steps.old.rows)
+            (counts steps.new.listing steps.new.update steps.new.rows)
             (kept self.new) };
 
     /// The line with this number, counted from 0, of those that the last step kept.

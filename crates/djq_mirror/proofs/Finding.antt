@@ -82,14 +82,14 @@ use Rattle.djq_mirror.specs.Reading.{
   is_member_told,
   is_node_kind,
   is_node_told,
-  is_number,
+  is_printed_number,
   is_rest_told,
   is_stale_told,
   is_trim_told,
   is_worded,
   line_told,
   told_if,
-  told_in,
+  news_in,
   word_told,
   words_told,
 }
@@ -284,7 +284,7 @@ counted_found l (w ∷ []) e h = absurd (cc)
 counted_found l (w ∷ n ∷ []) e h =
     let both = and_parts
     (bytes_eq w (codes "absent") || bytes_eq w (codes "held") || bytes_eq w (codes "query")
-    || bytes_eq w (codes "union") || bytes_eq w (codes "watch")) (is_number n) h in
+    || bytes_eq w (codes "union") || bytes_eq w (codes "watch")) (is_printed_number n) h in
     let k = number_is n both.1 in
     elim (or_cases
     (bytes_eq w (codes "absent") || bytes_eq w (codes "held") || bytes_eq w (codes "query")
@@ -313,8 +313,8 @@ counted_found l (w ∷ n ∷ []) e h =
     ]
 counted_found l (w ∷ n ∷ m ∷ []) e h =
     let both = and_parts (bytes_eq w (codes "added") || bytes_eq w (codes "removed") || bytes_eq w (codes "done"))
-    (is_number n && is_number m) h in
-    let numbers = and_parts (is_number n) (is_number m) both.1 in
+    (is_printed_number n && is_printed_number m) h in
+    let numbers = and_parts (is_printed_number n) (is_printed_number m) both.1 in
     let k = number_is n numbers.0 in
     let j = number_is m numbers.1 in
     elim (or_cases (bytes_eq w (codes "added") || bytes_eq w (codes "removed")) (bytes_eq w (codes "done")) both.0) [
@@ -426,7 +426,7 @@ leaf_is k (r ∷ ws) e h =
 trim_is : (k : Bytes) (ws : List Bytes) → k ≡ codes "trim" → is_trim_told ws ≡ true → IsKind (k ∷ ws)
 trim_is k [] e h = absurd (cc)
 trim_is k (c ∷ ws) e h =
-    let both = and_parts (is_number c) (is_label_end ws) h in
+    let both = and_parts (is_printed_number c) (is_label_end ws) h in
     let n = number_is c both.0 in
     let end = end_is ws both.1 in
     record {
@@ -441,10 +441,10 @@ trim_is k (c ∷ ws) e h =
 
 meet_is : (k : Bytes) (ws : List Bytes) → k ≡ codes "meet" → is_meet_told ws ≡ true → IsKind (k ∷ ws)
 meet_is k [] e h = absurd (cc)
-meet_is k (g ∷ []) e h = absurd (cc (and_parts (is_number g) (is_trim_told []) h).1)
+meet_is k (g ∷ []) e h = absurd (cc (and_parts (is_printed_number g) (is_trim_told []) h).1)
 meet_is k (g ∷ s ∷ ws) e h =
-    let both = and_parts (is_number g) (is_trim_told (s ∷ ws)) h in
-    let more = and_parts (is_number s) (is_label_end ws) both.1 in
+    let both = and_parts (is_printed_number g) (is_trim_told (s ∷ ws)) h in
+    let more = and_parts (is_printed_number s) (is_label_end ws) both.1 in
     let n = number_is g both.0 in
     let m = number_is s more.0 in
     let end = end_is ws more.1 in
@@ -475,7 +475,7 @@ kind_is (k ∷ ws) h = by (bytes_eq k (codes "leaf")) (bytes_eq k (codes "trim")
 node_found : (l : Bytes) (ws : List Bytes) → l ≡ codes "n" ++ spaced 32 ws → is_node_told ws ≡ true → IsTold l nothing
 node_found l [] e h = absurd (cc)
 node_found l (j ∷ ws) e h =
-    let both = and_parts (is_number j) (is_node_kind ws) h in
+    let both = and_parts (is_printed_number j) (is_node_kind ws) h in
     let n = number_is j both.0 in
     let kind = kind_is ws both.1 in
     by_body l nothing (explained n.0 kind.node kind.label kind.out) (n.1, kind.is_node, kind.variables)
@@ -489,8 +489,8 @@ stale_found l [] e h = absurd (cc)
 stale_found l (c ∷ []) e h = absurd (cc)
 stale_found l (c ∷ r ∷ []) e h = absurd (cc)
 stale_found l (c ∷ r ∷ n ∷ []) e h =
-    let both = and_parts (is_name c) (is_name r && is_number n) h in
-    let more = and_parts (is_name r) (is_number n) both.1 in
+    let both = and_parts (is_name c) (is_name r && is_printed_number n) h in
+    let more = and_parts (is_name r) (is_printed_number n) both.1 in
     let k = number_is n more.1 in
     by_body l makes_stale (stale c r k.0) (both.0, more.0, k.1)
     (words_are l (codes "stale") _ _ e (ap (λ x. c ∷ r ∷ x ∷ []) k.2)) refl
@@ -501,8 +501,8 @@ count_found : (l : Bytes) (ws : List Bytes) (w : News) → l ≡ codes "at" ++ s
 count_found l [] w e h = absurd (cc)
 count_found l (q ∷ []) w e h = absurd (cc)
 count_found l (q ∷ n ∷ []) w e h =
-    let said = if_said (is_name q && is_number n) (counts q) w h in
-    let both = and_parts (is_name q) (is_number n) said.0 in
+    let said = if_said (is_name q && is_printed_number n) (counts q) w h in
+    let both = and_parts (is_name q) (is_printed_number n) said.0 in
     let k = number_is n both.1 in
     by_body l w (counted q k.0) (both.0, k.1) (words_are l (codes "at") _ _ e (ap (λ x. q ∷ x ∷ []) k.2)) said.1
 count_found l (q ∷ n ∷ o ∷ ws) w e h = absurd (cc)
@@ -631,5 +631,5 @@ line_found l first rest w e h = by (bytes_eq first (codes "=")) (bytes_eq first 
         (λ r. ap (λ (xs : Bytes). xs ++ 32 ∷ r) (same_bytes first (codes "-") k)) t
     by false false false f g k t = words_found l first (parts_left 32 rest) w (e ∙ words_back 32 first rest) t
 
-pub told_found : (l : Bytes) (w : News) → told_in l ≡ Some w → IsTold l w
+pub told_found : (l : Bytes) (w : News) → news_in l ≡ Some w → IsTold l w
 told_found l w h = line_found l (before 32 l) (behind 32 l) w (cut_back 32 l) h

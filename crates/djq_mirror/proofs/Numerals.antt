@@ -10,7 +10,7 @@ use Rattle.djq_model.specs.Data.{Bytes, bytes_eq}
 use Rattle.djq_model.specs.Equality.{bytes_eq-decides}
 use Rattle.djq_value.specs.Literal.{is_digit, natural_of}
 use Rattle.djq_value.specs.Number.{capped}
-use Rattle.djq_mirror.specs.Reading.{is_number, number_as}
+use Rattle.djq_mirror.specs.Reading.{is_printed_number, number_as}
 use Rattle.djq_value.proofs.Literals.{natural_written, written}
 
 pub digits_written : (n : ℕ) → n < 2 ^ 64 → list_all is_digit (decimal n) ≡ true
@@ -24,13 +24,13 @@ pub bytes_are : (xs ys : Bytes) → xs ≡ ys → bytes_eq xs ys ≡ true
 bytes_are xs ys e = (bytes_eq-decides xs ys).1 e
 
 -- a number that is printed is one of the words that are numbers
-pub number_printed : (n : ℕ) → n < 2 ^ 64 → is_number (decimal n) ≡ true
+pub number_printed : (n : ℕ) → n < 2 ^ 64 → is_printed_number (decimal n) ≡ true
 number_printed n h =
     ap (number_as (decimal n)) (natural_written n h)
     ∙ and_from _ _ (lt-ltb n 18446744073709551616 (omega (arith, h))) (bytes_are (decimal n) (decimal n) refl)
 
 -- and each such word is a number that is printed
-pub number_is : (w : Bytes) → is_number w ≡ true → (n : ℕ) × (n < 2 ^ 64) × (w ≡ decimal n)
+pub number_is : (w : Bytes) → is_printed_number w ≡ true → (n : ℕ) × (n < 2 ^ 64) × (w ≡ decimal n)
 number_is w h = by (natural_of w) h
   where
     by : (o : Option ℕ) → number_as w o ≡ true → (n : ℕ) × (n < 2 ^ 64) × (w ≡ decimal n)
@@ -40,7 +40,8 @@ number_is w h = by (natural_of w) h
         (n, omega (arith, ltb-true n 18446744073709551616 parts.0), same_bytes w (decimal n) parts.1)
 
 -- what is printed of the number that was read tells whether the word is one
-pub number_read : (w : Bytes) (n : ℕ) → Some n ≡ option_map capped (natural_of w) → bytes_eq w (decimal n) ≡ is_number w
+pub number_read : (w : Bytes) (n : ℕ) → Some n ≡ option_map capped (natural_of w)
+    → bytes_eq w (decimal n) ≡ is_printed_number w
 number_read w n e = by (natural_of w) refl e
   where
     above : (m : ℕ) → natural_of w ≡ Some m → 18446744073709551616 ≤ m → n ≡ 18446744073709551615

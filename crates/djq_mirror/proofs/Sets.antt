@@ -13,7 +13,7 @@ use Rattle.std.specs.BTreeSet.{BTreeSet, contains_by, insert_key}
 use Rattle.std.specs.Set.{remove_key}
 use Rattle.std.proofs.lemmas.Map.Text.{is_eq-slice_cmp}
 use Rattle.djq_model.specs.Data.{Bytes, bytes_eq}
-use Rattle.djq_mirror.specs.Acting.{texts_of}
+use Rattle.djq_mirror.specs.Acting.{set_texts}
 use Rattle.djq_mirror.specs.Mirror.{Acted, IsInOrder, has_text, put, take_out}
 use Rattle.djq_mirror.proofs.Numerals.{bytes_are, same_bytes}
 
@@ -130,26 +130,27 @@ flipped s t = by (bytes_eq s t) (bytes_eq t s) refl refl
     by false true e f = sym e ∙ bytes_are s t (sym (same_bytes t s f))
 
 pub set_has : {A : Type 0} (s : BTreeSet (Vec ℕ A)) (t : Bytes) → contains_by (λ k. slice_cmp nat_cmp t k.items) s
-    ≡ has_text (texts_of s) t
+    ≡ has_text (set_texts s) t
 set_has s t = holds (λ v. v.items) s.keys t
 
 pub put_acted : {A : Type 0} (old new : BTreeSet (Vec ℕ A)) (k : Vec ℕ A) (t : Bytes) → k.items ≡ t
     → new.keys ≡ insert_key (λ x y. slice_cmp nat_cmp x.items y.items) old.keys k
     → IsStrictlySortedBy (λ x y. slice_cmp nat_cmp x.items y.items) new.keys
-    → Acted (texts_of old) (put t) (texts_of new)
+    → Acted (set_texts old) (put t) (set_texts new)
 put_acted old new k t e is order = (
   in_order (λ v. v.items) new.keys order,
   λ u. ap (λ ks. has_text (map (λ v. v.items) ks) u) is ∙ put_there (λ v. v.items) old.keys k u
-      ∙ ap (λ x. bytes_eq u x || has_text (texts_of old) u) e ∙ ap (λ b. b || has_text (texts_of old) u) (flipped u t),
+      ∙ ap (λ x. bytes_eq u x || has_text (set_texts old) u) e
+      ∙ ap (λ b. b || has_text (set_texts old) u) (flipped u t),
 )
 
 pub take_acted : {A : Type 0} (old new : BTreeSet (Vec ℕ A)) (t : Bytes)
     → new.keys ≡ remove_key (is_at (λ k. slice_cmp nat_cmp t k.items)) old.keys
     → IsStrictlySortedBy (λ x y. slice_cmp nat_cmp x.items y.items) old.keys
     → IsStrictlySortedBy (λ x y. slice_cmp nat_cmp x.items y.items) new.keys
-    → Acted (texts_of old) (take_out t) (texts_of new)
+    → Acted (set_texts old) (take_out t) (set_texts new)
 take_acted old new t is was order = (
   in_order (λ v. v.items) new.keys order,
   λ u. ap (λ ks. has_text (map (λ v. v.items) ks) u) is ∙ taken_out (λ v. v.items) old.keys t u was
-      ∙ ap (λ b. not b && has_text (texts_of old) u) (flipped u t),
+      ∙ ap (λ b. not b && has_text (set_texts old) u) (flipped u t),
 )

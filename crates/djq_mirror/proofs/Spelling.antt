@@ -9,7 +9,7 @@ use Rattle.djq_model.specs.Data.{Bytes, bytes_eq}
 use Rattle.djq_value.specs.Literal.{is_digit, is_lower, is_name}
 use Rattle.djq_mirror.specs.Parts.{parts}
 use Rattle.djq_mirror.specs.Reading.{is_edge_word, is_label_word}
-use Rattle.djq_mirror.specs.Replies.{is_label, is_variable, joined, label_of}
+use Rattle.djq_mirror.specs.Replies.{is_label, is_printed_variable, joined, label_of}
 use Rattle.djq_mirror.proofs.Numerals.{digits_written, same_bytes}
 use Rattle.djq_mirror.proofs.Parting.{glued, lacks, parts_back, parts_spaced, spaced}
 
@@ -56,7 +56,7 @@ pub number_lacks : (n : ℕ) → n < 2 ^ 64 → lacks 32 (decimal n) ≡ true
 number_lacks n h = lacks_by is_digit 32 (λ b k e. let low = digit_low b k in absurd (omega (arith, e, low))) (decimal n)
     (digits_written n h)
 
-pub variable_lacks : (sign : ℕ) → sign < 48 → (w : Bytes) → is_variable w ≡ true → lacks sign w ≡ true
+pub variable_lacks : (sign : ℕ) → sign < 48 → (w : Bytes) → is_printed_variable w ≡ true → lacks sign w ≡ true
 variable_lacks sign small w h = elim (or_cases (is_name w) (bytes_eq w (codes "_")) h) [
   | inl name ↦ name_lacks sign small w name
   | inr hole ↦
@@ -68,7 +68,7 @@ variable_lacks sign small w h = elim (or_cases (is_name w) (bytes_eq w (codes "_
 pub label_lacks : (sign : ℕ) → sign < 48 → (xs : List Bytes) → is_label xs ≡ true → list_all (lacks sign) xs ≡ true
 label_lacks sign small [] h = refl
 label_lacks sign small (x ∷ xs) h =
-    let both = and_parts (is_variable x) (is_label xs) h in
+    let both = and_parts (is_printed_variable x) (is_label xs) h in
     and_from (lacks sign x) (list_all (lacks sign) xs) (variable_lacks sign small x both.0)
     (label_lacks sign small xs both.1)
 
@@ -92,7 +92,7 @@ joined_parts x xs h =
 
 -- variables that are printed with commas between them are such a word
 pub joined_word : (x : Bytes) (xs : List Bytes) → is_label (x ∷ xs) ≡ true → is_edge_word (joined (x ∷ xs)) ≡ true
-joined_word x xs h = ap (λ (ps : List Bytes). list_all is_variable ps) (joined_parts x xs h) ∙ h
+joined_word x xs h = ap (λ (ps : List Bytes). list_all is_printed_variable ps) (joined_parts x xs h) ∙ h
 
 pub record IsJoined (w : Bytes) : Type 0 where
   pub first : Bytes
@@ -104,7 +104,7 @@ pub record IsJoined (w : Bytes) : Type 0 where
 pub word_joined : (w : Bytes) → is_edge_word w ≡ true → IsJoined w
 word_joined w h = by (parts 44 w) (parts_back 44 w) h
   where
-    by : (ps : List Bytes) → glued 44 ps ≡ w → list_all is_variable ps ≡ true → IsJoined w
+    by : (ps : List Bytes) → glued 44 ps ≡ w → list_all is_printed_variable ps ≡ true → IsJoined w
     by [] e k = absurd (no_word w (sym e) h)
       where
         no_word : (u : Bytes) → u ≡ [] → is_edge_word u ≡ true → ⊥

@@ -73,12 +73,12 @@ use Rattle.djq_mirror.specs.Reading.{
   is_member_told,
   is_node_kind,
   is_node_told,
-  is_number,
+  is_printed_number,
   is_rest_told,
   is_stale_told,
   is_trim_told,
   told_if,
-  told_in,
+  news_in,
 }
 use Rattle.djq_mirror.specs.Replies.{
   Node,
@@ -160,7 +160,8 @@ ok_two w n m h g l k =
     (two_lack (decimal n) (decimal m) (number_lacks n h) (number_lacks m g)))
     ∙ told_true (is_counted (w ∷ decimal n ∷ decimal m ∷ [])) nothing k
 
-both_numbers : (n m : ℕ) → n < 2 ^ 64 → m < 2 ^ 64 → (is_number (decimal n) && is_number (decimal m)) ≡ true
+both_numbers : (n m : ℕ) → n < 2 ^ 64 → m < 2 ^ 64
+    → (is_printed_number (decimal n) && is_printed_number (decimal m)) ≡ true
 both_numbers n m h k = and_from _ _ (number_printed n h) (number_printed m k)
 
 -- edges
@@ -219,10 +220,10 @@ node_lacks (meet g s) ws h k =
 node_kind : (node : Node) (ws : List Bytes) → IsNode node → is_label_end ws ≡ true → is_node_kind (node_words node ws)
     ≡ true
 node_kind (leaf r) ws h k = and_from (is_name r) (is_label_end ws) h k
-node_kind (trim c) ws h k = and_from (is_number (decimal c)) (is_label_end ws) (number_printed c h) k
+node_kind (trim c) ws h k = and_from (is_printed_number (decimal c)) (is_label_end ws) (number_printed c h) k
 node_kind (meet g s) ws h k =
-    and_from (is_number (decimal g)) (is_trim_told (decimal s ∷ ws)) (number_printed g h.0)
-    (and_from (is_number (decimal s)) (is_label_end ws) (number_printed s h.1) k)
+    and_from (is_printed_number (decimal g)) (is_trim_told (decimal s ∷ ws)) (number_printed g h.0)
+    (and_from (is_printed_number (decimal s)) (is_label_end ws) (number_printed s h.1) k)
 
 node_told : (j : ℕ) (node : Node) (label : List Bytes) (out : Bool) → j < 2 ^ 64 → IsNode node → is_label label ≡ true
     → told_if (is_node_told (parts 32 (decimal j ++ spaced 32 (node_words node (label_of label ∷ out_words out)))))
@@ -233,7 +234,7 @@ node_told j node label out h k l =
     (behind_word (decimal j) ws (number_lacks j h)
     (node_lacks node (label_of label ∷ out_words out) k (out_lacks label out l)))
     ∙ told_true (is_node_told (decimal j ∷ ws)) nothing
-    (and_from (is_number (decimal j)) (is_node_kind ws) (number_printed j h)
+    (and_from (is_printed_number (decimal j)) (is_node_kind ws) (number_printed j h)
     (node_kind node (label_of label ∷ out_words out) k (label_end label out l)))
 
 -- names and numbers
@@ -245,15 +246,15 @@ stale_told c r n h k l =
     (behind_word c (r ∷ decimal n ∷ []) (name_lacks 32 (omega arith) c h)
     (two_lack r (decimal n) (name_lacks 32 (omega arith) r k) (number_lacks n l)))
     ∙ told_true _ makes_stale
-    (and_from (is_name c) (is_name r && is_number (decimal n)) h
-    (and_from (is_name r) (is_number (decimal n)) k (number_printed n l)))
+    (and_from (is_name c) (is_name r && is_printed_number (decimal n)) h
+    (and_from (is_name r) (is_printed_number (decimal n)) k (number_printed n l)))
 
 count_is_told : (q : Bytes) (n : ℕ) → is_name q ≡ true → n < 2 ^ 64
     → count_told (parts 32 (q ++ spaced 32 (decimal n ∷ []))) ≡ Some (counts q)
 count_is_told q n h l =
     ap count_told (behind_word q (decimal n ∷ []) (name_lacks 32 (omega arith) q h)
     (one_lacks (decimal n) (number_lacks n l)))
-    ∙ cond-true _ _ _ (and_from (is_name q) (is_number (decimal n)) h (number_printed n l))
+    ∙ cond-true _ _ _ (and_from (is_name q) (is_printed_number (decimal n)) h (number_printed n l))
 
 member_is_told : (n : Bytes) → is_name n ≡ true
     → told_if (is_member_told (parts 32 (n ++ spaced 32 []))) nothing ≡ Some nothing
@@ -282,7 +283,7 @@ change_is_told s q t h k =
 
 -- all forms
 
-refused_told : (r : Refusal) → told_in (refused_words r) ≡ Some nothing
+refused_told : (r : Refusal) → news_in (refused_words r) ≡ Some nothing
 refused_told Syntax = refl
 refused_told Taken = refl
 refused_told NoRelation = refl
@@ -300,13 +301,13 @@ refused_told Unbound = refl
 refused_told Member = refl
 refused_told Misplaced = refl
 
-ended_told : (e : EndLine) → told_in (ended_words e) ≡ Some nothing
+ended_told : (e : EndLine) → news_in (ended_words e) ≡ Some nothing
 ended_told Long = refl
 ended_told Slow = refl
 ended_told Memory = refl
 ended_told Full = refl
 
-body_told : (r : Reply) → IsPrinted r → told_in (body r) ≡ Some (news_of r)
+body_told : (r : Reply) → IsPrinted r → news_in (body r) ≡ Some (news_of r)
 body_told done h = refl
 body_told opened h = refl
 body_told (added n m) h = ok_two (codes "added") n m h.0 h.1 refl (both_numbers n m h.0 h.1)
@@ -340,5 +341,5 @@ body_told (ended e) h = ended_told e
 body_told cut h = refl
 body_told bye h = refl
 
-pub reply_told : (l : Bytes) (r : Reply) → IsReply l r → told_in l ≡ Some (news_of r)
-reply_told l r h = ap told_in (body_of l r h) ∙ body_told r h.printed
+pub reply_told : (l : Bytes) (r : Reply) → IsReply l r → news_in l ≡ Some (news_of r)
+reply_told l r h = ap news_in (body_of l r h) ∙ body_told r h.printed

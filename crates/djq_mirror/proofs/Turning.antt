@@ -7,9 +7,9 @@ use Rattle.djq_mirror.specs.declared.mode.TheConstants.{REPLY_LINE_BYTES}
 use Rattle.std.specs.Prelude.{Result, Ok, Err}
 use Rattle.djq_mirror.specs.declared.mirror.MirrorRefusal.{MirrorRefusal}
 use Rattle.djq_mirror.specs.declared.mirror.MirrorRefusal.TheVariants.{Outside, NoMem}
-use Rattle.djq_mirror.specs.Acting.{LineEnds, Turns}
-use Rattle.djq_mirror.specs.Mirror.{Act, Follows, Held, IsOutside, Seen, Turned, may_turn, turn_of}
-use Rattle.djq_mirror.specs.Reading.{News, news_of, told_in, turn_by}
+use Rattle.djq_mirror.specs.Acting.{LineEnds, MirrorTurns}
+use Rattle.djq_mirror.specs.Mirror.{Act, Follows, Held, IsOutside, SeenMirror, Turned, may_turn, turn_of}
+use Rattle.djq_mirror.specs.Reading.{News, news_of, news_in, turn_by}
 use Rattle.djq_mirror.specs.Replies.{
   Reply,
   done,
@@ -83,7 +83,7 @@ pub turn_told : (name : Bytes) (mode : Mode) (r : Reply) (w : News) → news_of 
     ≡ turn_by name mode w
 turn_told name mode r w e = turn_same name mode r ∙ ap (turn_by name mode) e
 
-pub follows : (name : Bytes) (old new : Held) (l : Bytes) (w : News) → told_in l ≡ Some w → length l ≤ REPLY_LINE_BYTES
+pub follows : (name : Bytes) (old new : Held) (l : Bytes) (w : News) → news_in l ≡ Some w → length l ≤ REPLY_LINE_BYTES
     → may_turn old.texts (turn_by name old.mode w) ≡ true → Turned old (turn_by name old.mode w) new
     → Follows name old l new
 follows name old new l w e short allowed turned =
@@ -96,7 +96,7 @@ follows name old new l w e short allowed turned =
       turned = subst (λ (t : Option (Mode × Act)). Turned old t new) (sym same) turned;
     }
 
-pub outside : (name : Bytes) (old : Held) (l : Bytes) (w : News) → told_in l ≡ Some w
+pub outside : (name : Bytes) (old : Held) (l : Bytes) (w : News) → news_in l ≡ Some w
     → may_turn old.texts (turn_by name old.mode w) ≡ false → IsOutside name old l
 outside name old l w e stopped = λ r h.
     ap (may_turn old.texts) (turn_told name old.mode r w (some_is (news_of r) w (sym (reply_told l r h.reply) ∙ e)))
@@ -105,12 +105,13 @@ outside name old l w e stopped = λ r h.
 no_news : {A : Type 0} (o : Option News) (w : News) → o ≡ None → o ≡ Some w → A
 no_news o w e f = absurd (cc)
 
-pub outside_none : (name : Bytes) (old : Held) (l : Bytes) → told_in l ≡ None → IsOutside name old l
-outside_none name old l e = λ r h. no_news (told_in l) (news_of r) e (reply_told l r h.reply)
+pub outside_none : (name : Bytes) (old : Held) (l : Bytes) → news_in l ≡ None → IsOutside name old l
+outside_none name old l e = λ r h. no_news (news_in l) (news_of r) e (reply_told l r h.reply)
 
 -- what a turn says of the line
-pub line_ends : {A : Type 0} (old new : Seen) (l : Bytes) (w : News) (r : Result A MirrorRefusal) → told_in l ≡ Some w
-    → length l ≤ REPLY_LINE_BYTES → Turns old (turn_by old.name old.held.mode w) r new → LineEnds old l r new
+pub line_ends : {A : Type 0} (old new : SeenMirror) (l : Bytes) (w : News) (r : Result A MirrorRefusal)
+    → news_in l ≡ Some w
+    → length l ≤ REPLY_LINE_BYTES → MirrorTurns old (turn_by old.name old.held.mode w) r new → LineEnds old l r new
 line_ends old new l w (Ok u) e short h = (follows old.name old.held new.held l w e short h.1 h.2, h.0)
 line_ends old new l w (Err Outside) e short h = (outside old.name old.held l w e h.0, h.1)
 line_ends old new l w (Err NoMem) e short h = h

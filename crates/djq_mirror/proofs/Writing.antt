@@ -8,7 +8,7 @@ use Rattle.djq_lines.specs.Reply.{line}
 use Rattle.bytes.specs.Filled.{Filled}
 use Rattle.std.specs.Prelude.{Result, Ok, Err, IsErr}
 use Rattle.djq_value.specs.Output.{Puts}
-use Rattle.djq_mirror.specs.Acting.{Adds}
+use Rattle.djq_mirror.specs.Acting.{AppendsText}
 
 -- the lines of answers
 abbrev pub answers_text : {A : Type 0} → List (Vec ℕ A) → Bytes
@@ -33,14 +33,14 @@ begun_all old now new text all h e =
 
 -- what an error says of the output
 pub adds_err : {A E : Type 0} (old text new : Bytes) (r : Result A E) → IsErr r → take (length old) new ≡ old
-    → Adds old text r new
+    → AppendsText old text r new
 adds_err old text new (Ok a) e h = absurd (cc)
 adds_err old text new (Err e) i h = h
 
 -- a last piece behind all answers
 pub end_added : {A B E : Type 0} (old : Bytes) (now new : Filled) (text : Bytes) (all rest : List (Vec ℕ A))
     (r : Result B E) → rest ≡ []
-    → IsBegun old now.items all rest → Puts now new text r → Adds old (answers_text all ++ text) r new.items
+    → IsBegun old now.items all rest → Puts now new text r → AppendsText old (answers_text all ++ text) r new.items
 end_added {A} old now new text all rest (Ok a) over h p =
     begun_all old now.items new.items text all (subst (λ (ks : List (Vec ℕ A)). IsBegun old now.items all ks) over h)
     p.items

@@ -20,18 +20,18 @@ FollowsAll name old (l ∷ ls) new =
     (between : Held) × HasNoLf l × Follows name old l between × FollowsAll name between ls new
 
 -- Each line of the input is allowed, the last with its LF, and this is held at the end.
-pub record IsHeld (name input : Bytes) (held : Held) : Type 0 where
+pub record HoldsAtEnd (name input : Bytes) (held : Held) : Type 0 where
   pub lines : List Bytes
   pub is : input ≡ lines_text lines
   pub follows : FollowsAll name at_first lines held
 
 -- a line that isn't allowed, or a last line without its LF, and what is behind it
-abbrev pub Stops : Bytes → Held → Bytes → Bytes → Type 0
-Stops name held l [] = l ≢ []
-Stops name held l (b ∷ behind) = (b ≡ 10) × IsOutside name held l
+abbrev pub StopsMirror : Bytes → Held → Bytes → Bytes → Type 0
+StopsMirror name held l [] = l ≢ []
+StopsMirror name held l (b ∷ behind) = (b ≡ 10) × IsOutside name held l
 
 -- The line with this number, from 1, is the first that isn't allowed.
-pub record IsRefused (name input : Bytes) (n : ℕ) : Type 0 where
+pub record FirstIsRefused (name input : Bytes) (n : ℕ) : Type 0 where
   pub lines : List Bytes
   pub held : Held
   pub bad : Bytes
@@ -40,4 +40,4 @@ pub record IsRefused (name input : Bytes) (n : ℕ) : Type 0 where
   pub number : n ≡ length lines + 1
   pub follows : FollowsAll name at_first lines held
   pub line_of_its_own : HasNoLf bad
-  pub stops : Stops name held bad behind
+  pub stops : StopsMirror name held bad behind

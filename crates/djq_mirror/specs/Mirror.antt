@@ -21,7 +21,7 @@ pub record Held : Type 0 where
   pub texts : List Bytes
 
 -- What contracts see of a mirror: its query, and what it holds.
-pub record Seen : Type 0 where
+pub record SeenMirror : Type 0 where
   pub name : Bytes
   pub held : Held
 
@@ -110,20 +110,20 @@ Turned old None new = ⊥
 Turned old (Some turn) new = (new.mode ≡ turn.0) × Acted old.texts turn.1 new.texts
 
 -- Bytes without an LF are a line of this form that isn't too long.
-pub record IsLine (bytes : Bytes) (r : Reply) : Type 0 where
+pub record IsReplyLine (bytes : Bytes) (r : Reply) : Type 0 where
   pub reply : IsReply bytes r
   pub short : length bytes ≤ REPLY_LINE_BYTES
 
 -- Bytes without an LF are a line that is allowed, and this is held behind it.
 pub record Follows (name : Bytes) (old : Held) (bytes : Bytes) (new : Held) : Type 0 where
   pub reply : Reply
-  pub is_line : IsLine bytes reply
+  pub is_line : IsReplyLine bytes reply
   pub allowed : allows name old reply ≡ true
   pub turned : Turned old (turn_of name old.mode reply) new
 
 -- Bytes without an LF are no line that is allowed.
 abbrev pub IsOutside : Bytes → Held → Bytes → Type 0
-IsOutside name held bytes = (r : Reply) → IsLine bytes r → allows name held r ≡ false
+IsOutside name held bytes = (r : Reply) → IsReplyLine bytes r → allows name held r ≡ false
 
 -- What is written of a mirror at the end: in mode Live its answers as lines, and `end`; else `none`.
 abbrev pub written_in : Mode → List Bytes → Bytes

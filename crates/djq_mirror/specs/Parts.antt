@@ -15,6 +15,6 @@ parts_left sign None = []
 parts_left sign (Some bs) = parts sign bs
 
 -- The first part is taken from those that are left; none is given where none is left.
-abbrev pub TakesPart : List Bytes → Option (Bor Bytes) → List Bytes → Type 0
-TakesPart old None new = (old ≡ []) × (new ≡ [])
-TakesPart old (Some p) new = old ≡ p.now ∷ new
+abbrev pub TakesFirstPart : List Bytes → Option (Bor Bytes) → List Bytes → Type 0
+TakesFirstPart old None new = (old ≡ []) × (new ≡ [])
+TakesFirstPart old (Some p) new = old ≡ p.now ∷ new

@@ -18,7 +18,7 @@ use Rattle.djq_mirror.specs.Cells.{are_cells_in}
 use Rattle.djq_mirror.specs.Mirror.{Act, keep, clear, put, take_out, turn_of_change, turn_of_count}
 use Rattle.djq_model.specs.Parts.{before, behind}
 use Rattle.djq_mirror.specs.Parts.{parts, parts_left}
-use Rattle.djq_mirror.specs.Replies.{Reply, opened, answer, more, last, stale, changed, counted, is_variable}
+use Rattle.djq_mirror.specs.Replies.{Reply, opened, answer, more, last, stale, changed, counted, is_printed_variable}
 
 -- what a line tells of a listing or of a query
 pub data News : Type 0 where
@@ -87,12 +87,12 @@ number_as w None = false
 number_as w (Some n) = nat_lt n 18446744073709551616 && bytes_eq w (decimal n)
 
 -- a number of 64 bits as it is printed
-abbrev pub is_number : Bytes → Bool
-is_number w = number_as w (natural_of w)
+abbrev pub is_printed_number : Bytes → Bool
+is_printed_number w = number_as w (natural_of w)
 
 -- variables with commas between them
 abbrev pub is_edge_word : Bytes → Bool
-is_edge_word w = list_all is_variable (parts 44 w)
+is_edge_word w = list_all is_printed_variable (parts 44 w)
 
 -- a label: a dash, or variables with commas between them
 abbrev pub is_label_word : Bytes → Bool
@@ -104,10 +104,10 @@ is_label_word w = bytes_eq w (codes "-") || is_edge_word w
 abbrev pub is_counted : List Bytes → Bool
 is_counted (w ∷ n ∷ []) =
     (bytes_eq w (codes "absent") || bytes_eq w (codes "held") || bytes_eq w (codes "query")
-    || bytes_eq w (codes "union") || bytes_eq w (codes "watch")) && is_number n
+    || bytes_eq w (codes "union") || bytes_eq w (codes "watch")) && is_printed_number n
 is_counted (w ∷ n ∷ m ∷ []) =
     (bytes_eq w (codes "added") || bytes_eq w (codes "removed") || bytes_eq w (codes "done"))
-    && (is_number n && is_number m)
+    && (is_printed_number n && is_printed_number m)
 is_counted ws = false
 
 -- behind `no`: a word and edges, of which there is one at least
@@ -130,12 +130,12 @@ is_leaf_told (r ∷ ws) = is_name r && is_label_end ws
 -- behind `trim`: the number of a node, a label, and `out` or nothing
 abbrev pub is_trim_told : List Bytes → Bool
 is_trim_told [] = false
-is_trim_told (c ∷ ws) = is_number c && is_label_end ws
+is_trim_told (c ∷ ws) = is_printed_number c && is_label_end ws
 
 -- behind `meet`: the numbers of two nodes, a label, and `out` or nothing
 abbrev pub is_meet_told : List Bytes → Bool
 is_meet_told [] = false
-is_meet_told (g ∷ ws) = is_number g && is_trim_told ws
+is_meet_told (g ∷ ws) = is_printed_number g && is_trim_told ws
 
 -- behind the number of a node
 abbrev pub is_node_kind : List Bytes → Bool
@@ -148,7 +148,7 @@ is_node_kind (k ∷ ws) =
 -- behind `n`
 abbrev pub is_node_told : List Bytes → Bool
 is_node_told [] = false
-is_node_told (j ∷ ws) = is_number j && is_node_kind ws
+is_node_told (j ∷ ws) = is_printed_number j && is_node_kind ws
 
 -- behind `m`
 abbrev pub is_member_told : List Bytes → Bool
@@ -157,12 +157,12 @@ is_member_told ws = false
 
 -- behind `stale`
 abbrev pub is_stale_told : List Bytes → Bool
-is_stale_told (c ∷ r ∷ n ∷ []) = is_name c && (is_name r && is_number n)
+is_stale_told (c ∷ r ∷ n ∷ []) = is_name c && (is_name r && is_printed_number n)
 is_stale_told ws = false
 
 -- behind `at`
 abbrev pub count_told : List Bytes → Option News
-count_told (q ∷ n ∷ []) = if is_name q && is_number n then Some (counts q) else None
+count_told (q ∷ n ∷ []) = if is_name q && is_printed_number n then Some (counts q) else None
 count_told ws = None
 
 -- the lines that are always the same and tell nothing
@@ -222,5 +222,5 @@ line_told line first rest =
     else words_told line first (parts_left 32 rest)))
 
 -- What a line tells; none where it is of no form.
-abbrev pub told_in : Bytes → Option News
-told_in line = line_told line (before 32 line) (behind 32 line)
+abbrev pub news_in : Bytes → Option News
+news_in line = line_told line (before 32 line) (behind 32 line)

@@ -14,7 +14,7 @@ use Rattle.djq_lines.specs.declared.answer.Shape.{Shape}
 use Rattle.djq_lines.specs.declared.answer.Sign.{Sign}
 use Rattle.djq_lines.specs.Reply.{
   line,
-  numbered,
+  numbered_line,
   numbered_twice,
   answer_line,
   last_line,
@@ -104,22 +104,22 @@ reply_text done = line (codes "ok")
 reply_text opened = line (codes "ok open")
 reply_text (added n copies) = numbered_twice (codes "ok added ") n copies
 reply_text (removed n copies) = numbered_twice (codes "ok removed ") n copies
-reply_text (absent n) = numbered (codes "ok absent ") n
+reply_text (absent n) = numbered_line (codes "ok absent ") n
 reply_text batch_opened = line (codes "ok batch")
-reply_text (row_held n) = numbered (codes "ok held ") n
+reply_text (row_held n) = numbered_line (codes "ok held ") n
 reply_text (batch_done n rows) = numbered_twice (codes "ok done ") n rows
-reply_text (registered most) = numbered (codes "ok query ") most
+reply_text (registered most) = numbered_line (codes "ok query ") most
 reply_text (cyclic edges) = edges_line (codes "no cyclic") edges
 reply_text (not_connex edges) = edges_line (codes "no connex") edges
 reply_text (answer t) = answer_line t
 reply_text more = last_line false
 reply_text last = last_line true
 reply_text (stale cursor relation n) = stale_line cursor relation n
-reply_text (united most) = numbered (codes "ok union ") most
+reply_text (united most) = numbered_line (codes "ok union ") most
 reply_text (member name) = member_line name
 reply_text (had found) = has_reply (Ok found)
 reply_text (shaped s) = shape_reply (Ok s)
-reply_text (watched n) = numbered (codes "ok watch ") n
+reply_text (watched n) = numbered_line (codes "ok watch ") n
 reply_text (changed s query t) = change_line s query t
 reply_text (counted query n) = at_line query n
 reply_text (explained j node label out) =
@@ -148,12 +148,12 @@ abbrev pub are_cells : Tuple → Bool
 are_cells t = list_all is_cell t
 
 -- a variable as it is printed: its name, or `_` for a hole
-abbrev pub is_variable : Bytes → Bool
-is_variable x = is_name x || bytes_eq x (codes "_")
+abbrev pub is_printed_variable : Bytes → Bool
+is_printed_variable x = is_name x || bytes_eq x (codes "_")
 
 -- the variables of a label
 abbrev pub is_label : List Bytes → Bool
-is_label xs = list_all is_variable xs
+is_label xs = list_all is_printed_variable xs
 
 -- the variables of an edge, of which there is one at least
 abbrev pub is_edge : List Bytes → Bool

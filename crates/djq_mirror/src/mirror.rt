@@ -1,7 +1,7 @@
 ghost use Rattle.std.specs.Prelude.{◌≡◌, ◌∷◌, ◌++◌, codes, OnErr, OnOk};
 ghost use Rattle.std.specs.List.{flat_map};
 ghost use Rattle.djq_lines.specs.Reply.{line as line_of};
-ghost use Rattle.djq_mirror.specs.Acting.{Adds, LineEnds, Turns, Writes, texts_of};
+ghost use Rattle.djq_mirror.specs.Acting.{AppendsText, LineEnds, MirrorTurns, AppendsOrKeeps, set_texts};
 ghost use Rattle.djq_mirror.specs.Mirror.{at_first, written};
 ghost use Rattle.djq_mirror.specs.Reading.{news_by, turn_by};
 
@@ -40,15 +40,15 @@ pub struct Mirror {
 }
 
 impl Model for Mirror {
-    ghost use Rattle.djq_mirror.specs.Mirror.{Seen};
+    ghost use Rattle.djq_mirror.specs.Mirror.{SeenMirror};
 
-    ghost Value = { Seen };
+    ghost Value = { SeenMirror };
 
-    ghost use Rattle.djq_mirror.specs.Acting.{texts_of};
+    ghost use Rattle.djq_mirror.specs.Acting.{set_texts};
 
     ghost view = { λ m. record {
       name = m.name;
-      held = record { mode = m.mode; texts = texts_of m.texts };
+      held = record { mode = m.mode; texts = set_texts m.texts };
     } };
 }
 
@@ -87,7 +87,7 @@ impl Mirror {
 
     /// Does what a line tells.
     fn take(&mut self, told: Told<'_>) -> Result<(), MirrorRefusal>
-        ensures { Turns self.old (turn_by self.old.name self.old.held.mode (news_by told.entry))
+        ensures { MirrorTurns self.old (turn_by self.old.name self.old.held.mode (news_by told.entry))
             result self.new }
     {
         let Some((mode, act)) = turn(self.name.as_bytes(), self.mode, told) else {
@@ -122,8 +122,8 @@ impl Mirror {
 
 /// Appends answers as the lines of a listing, and `end`.
 fn add_answers(texts: &Texts, out: &mut BytesMut) -> Result<(), NoMem>
-    ensures { Adds out.old.items
-        (flat_map (λ t. line_of (61 ∷ t)) (texts_of texts.now) ++ line_of (codes "end"))
+    ensures { AppendsText out.old.items
+        (flat_map (λ t. line_of (61 ∷ t)) (set_texts texts.now) ++ line_of (codes "end"))
         result out.new.items }
 {
     for text in texts.iter() {
@@ -134,7 +134,7 @@ fn add_answers(texts: &Texts, out: &mut BytesMut) -> Result<(), NoMem>
 
 /// Appends an answer as the line of a listing.
 fn add_answer(text: &[u8], out: &mut BytesMut) -> Result<(), NoMem>
-    ensures { Writes out.old.items (line_of (61 ∷ text.now)) result out.new.items }
+    ensures { AppendsOrKeeps out.old.items (line_of (61 ∷ text.now)) result out.new.items }
 {
     out.reserve(text.len() + 2)?;
     out.extend_reserved(b"=");

@@ -2,7 +2,7 @@
 ghost use Rattle.std.specs.Prelude.{◌≡◌, ◌≤◌, length};
 ghost use Rattle.std.specs.Option.{option_map};
 ghost use Rattle.djq_model.specs.Parts.{before, behind};
-ghost use Rattle.djq_mirror.specs.Parts.{TakesPart, parts_left};
+ghost use Rattle.djq_mirror.specs.Parts.{TakesFirstPart, parts_left};
 
 use memchr::memchr;
 use std::marker::Model;
@@ -47,7 +47,7 @@ impl<'a> Parts<'a> {
 
     /// The next part.
     pub(crate) fn next(&mut self) -> Option<&'a [u8]>
-        ensures { TakesPart self.old result self.new }
+        ensures { TakesFirstPart self.old result self.new }
     {
         let bytes = self.rest?;
         let (part, rest) = split_at(bytes, self.sign);

@@ -1,6 +1,6 @@
 //! The answers that are held, by their texts in byte order.
 ghost use Rattle.std.specs.Prelude.{◌≡◌, map};
-ghost use Rattle.djq_mirror.specs.Acting.{Acts, texts_of};
+ghost use Rattle.djq_mirror.specs.Acting.{ActsOn, set_texts};
 ghost use Rattle.djq_mirror.specs.Mirror.{put, take_out as take_out_of};
 ghost use Rattle.djq_mirror.specs.Reading.{act_by};
 
@@ -14,7 +14,7 @@ pub(crate) type Texts = BTreeSet<Vec<u8>>;
 
 /// Does this to the texts. After a refusal they are as before.
 pub(crate) fn act_on(alloc: Global, texts: &mut Texts, act: Act<'_>) -> Result<(), MirrorRefusal>
-    ensures { Acts (texts_of texts.old) (act_by act.entry) result (texts_of texts.new) }
+    ensures { ActsOn (set_texts texts.old) (act_by act.entry) result (set_texts texts.new) }
 {
     match act {
         Act::Keep => Ok(()),
@@ -29,7 +29,7 @@ pub(crate) fn act_on(alloc: Global, texts: &mut Texts, act: Act<'_>) -> Result<(
 
 /// Puts a text in that isn't there.
 fn put_in(alloc: Global, texts: &mut Texts, text: &[u8]) -> Result<(), MirrorRefusal>
-    ensures { Acts (texts_of texts.old) (put text.now) result (texts_of texts.new) }
+    ensures { ActsOn (set_texts texts.old) (put text.now) result (set_texts texts.new) }
 {
     if texts.contains(text) {
         return Err(MirrorRefusal::Outside);
@@ -45,7 +45,7 @@ fn put_in(alloc: Global, texts: &mut Texts, text: &[u8]) -> Result<(), MirrorRef
 
 /// Takes a text out that is there.
 fn take_out(texts: &mut Texts, text: &[u8]) -> Result<(), MirrorRefusal>
-    ensures { Acts (texts_of texts.old) (take_out_of text.now) result (texts_of texts.new) }
+    ensures { ActsOn (set_texts texts.old) (take_out_of text.now) result (set_texts texts.new) }
 {
     // that the texts stand in order
     let _count = texts.len();

@@ -5,7 +5,7 @@ ghost use Rattle.djq_mirror.specs.Cells.{are_cells_in};
 ghost use Rattle.djq_mirror.specs.Parts.{parts_left};
 ghost use Rattle.djq_mirror.specs.Reading.{change_told, count_told, is_stale_told, lists};
 ghost use Rattle.djq_mirror.specs.Reading.{news_by, told_if as told_if_of};
-ghost use Rattle.djq_mirror.specs.Reading.{told_in, words_told, word_told};
+ghost use Rattle.djq_mirror.specs.Reading.{news_in, words_told, word_told};
 
 use crate::cells::are_cells;
 use crate::forms::{is_fixed, is_worded};
@@ -39,7 +39,7 @@ pub(crate) enum Told<'a> {
 
 /// What a line tells; none exactly where it is of no form.
 pub(crate) fn read_line(alloc: Global, line: &[u8]) -> Result<Option<Told<'_>>, NoMem>
-    ensures { IfOk result (λ told. option_map news_by told ≡ told_in line.now) }
+    ensures { IfOk result (λ told. option_map news_by told ≡ news_in line.now) }
 {
     let (first, rest) = split_at(line, b' ');
     if is_text(first, b"=") {

@@ -1,8 +1,8 @@
 //! What a word may be.
 ghost use Rattle.std.specs.Prelude.{◌≡◌, decimal};
 ghost use Rattle.djq_model.specs.Data.{bytes_eq};
-ghost use Rattle.djq_mirror.specs.Replies.{is_variable as is_variable_of};
-ghost use Rattle.djq_mirror.specs.Reading.{is_edge_word, is_label_word, is_number as is_number_of};
+ghost use Rattle.djq_mirror.specs.Replies.{is_printed_variable as is_variable_of};
+ghost use Rattle.djq_mirror.specs.Reading.{is_edge_word, is_label_word, is_printed_number as is_number_of};
 
 use crate::parts::Parts;
 use djq_value::{is_name, is_text, read_natural};

@@ -99,5 +99,5 @@ abbrev pub cell_at : Tuple → ℕ → Value
 cell_at row column = slice_index_or row column (Int (pos 0))
 
 -- the cells of a row at columns, in the columns' order
-abbrev pub cells_at : List ℕ → Tuple → Tuple
-cells_at columns row = map (cell_at row) columns
+abbrev pub cells_of_columns : List ℕ → Tuple → Tuple
+cells_of_columns columns row = map (cell_at row) columns

@@ -3,8 +3,8 @@ use Rattle.djq_net.specs.declared.conn.Found.{Found}
 use Rattle.djq_net.specs.declared.conn.Found.TheVariants.{Bytes, End, Nothing, Broken}
 
 -- bytes that a read found are some, and at most as many as there was room for
-abbrev pub FitsIn : Found → ℕ → Type 0
-FitsIn (Bytes n) room = (1 ≤ n) × (n ≤ room)
-FitsIn End room = Unit {0}
-FitsIn Nothing room = Unit {0}
-FitsIn Broken room = Unit {0}
+abbrev pub FoundFits : Found → ℕ → Type 0
+FoundFits (Bytes n) room = (1 ≤ n) × (n ≤ room)
+FoundFits End room = Unit {0}
+FoundFits Nothing room = Unit {0}
+FoundFits Broken room = Unit {0}

@@ -6,7 +6,7 @@ use Rattle.djq_io.specs.declared.hub.Turn.TheVariants.{Idle}
 
 -- What a hub over TCP shows: whether it listens, the ids of its sessions, how many faults it has met
 -- itself, how many connections couldn't be accepted, and how many faults each session has.
-pub record Shown : Type 0 where
+pub record ShownByTcp : Type 0 where
   pub listens : Bool
   pub ids : Ids
   pub faults : ℕ

@@ -1,6 +1,6 @@
 ghost use Rattle.std.specs.Prelude.{◌<◌, length};
 ghost use Rattle.djq_io.specs.Hub.{Takes};
-ghost use Rattle.djq_net.specs.Found.{FitsIn};
+ghost use Rattle.djq_net.specs.Found.{FoundFits};
 
 use djq_io::Sent;
 use mio::event::Event;
@@ -48,7 +48,7 @@ impl Conn {
     /// Reads what the client sent. One that begins with a request of HTTP has ended: a web page can send such
     /// a request to any port of its reader's machine, with lines of the protocol in it.
     pub(crate) fn read(&mut self, buf: &mut [u8]) -> Found
-        ensures { FitsIn result (length buf.new) }
+        ensures { FoundFits result (length buf.new) }
     {
         match self.stream.read(buf) {
             Ok(0) => Found::End,

@@ -49,9 +49,9 @@ pub struct TcpHub<R: Net<Listener = net::TcpListener, Stream = net::TcpStream> +
 impl<R: Net<Listener = net::TcpListener, Stream = net::TcpStream> + Eprint + Drop> Model
     for TcpHub<R> {
     ghost use Rattle.std.specs.Prelude.{is_some};
-    ghost use Rattle.djq_net.specs.Tcp.{Shown};
+    ghost use Rattle.djq_net.specs.Tcp.{ShownByTcp};
 
-    ghost Value = { Shown };
+    ghost Value = { ShownByTcp };
 
     ghost view = { λ h. record {
       listens = is_some h.listening;

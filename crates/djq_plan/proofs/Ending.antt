@@ -8,7 +8,7 @@ use Rattle.std.proofs.lemmas.List.{get_or_past, nil_from_length}
 use Rattle.std.proofs.lemmas.Bool.{cases_lt, cases_eq, eqb-true, false≢true, le-leb, lt-leb, and_parts}
 use Rattle.djq_hyper.specs.Hypergraph.{member, edge_at, one}
 use Rattle.djq_hyper.specs.Variables.{IsVariableSet, AreVariableSets}
-use Rattle.djq_hyper.proofs.Members.{has, one_true, one_false}
+use Rattle.djq_hyper.proofs.Members.{has_bit, one_true, one_false}
 use Rattle.djq_hyper.proofs.Bags.{numbers, times}
 use Rattle.djq_tree.specs.declared.node.Node.{Node}
 use Rattle.djq_tree.specs.declared.node.Node.TheVariants as node
@@ -177,7 +177,7 @@ module _ (m : ℕ) (mid last : Growth) (some : 0 < m) (g : Grown m mid) (h : Gro
   no_weight x =
       let a = root_is in
       let e : weight x last.labels last.numbers ≡ weight x last.labels (a.r ∷ []) = ap (weight x last.labels) a.only in
-      let f : has x (edge_at last.labels a.r) ≡ has x [] = ap (has x) a.empty in
+      let f : has_bit x (edge_at last.labels a.r) ≡ has_bit x [] = ap (has_bit x) a.empty in
       omega arith
 
   some_parent : (nodes : List Node) (j : ℕ) → Parent nodes j → is_some (parent nodes j) ≡ true

@@ -4,7 +4,7 @@ use Rattle.std.proofs.Common.{◌&&◌, List, [], ◌∷◌, length, refl, ap, s
 use Rattle.std.specs.Prelude.{remove}
 use Rattle.std.proofs.lemmas.Bool.{cases_Bool, cases_lt, false≢true}
 use Rattle.djq_hyper.specs.Hypergraph.{member, subset, difference, degree, edge_at}
-use Rattle.djq_hyper.proofs.Members.{has, has_difference, one_le, from_true, has_here, subset_from}
+use Rattle.djq_hyper.proofs.Members.{has_bit, has_difference, one_le, from_true, has_here, subset_from}
 use Rattle.djq_hyper.proofs.Owning.{edge_with, edge_in}
 use Rattle.djq_hyper.proofs.Bags.{labels}
 use Rattle.djq_hyper.proofs.Counting.{Same, degree_same, outside}
@@ -37,11 +37,11 @@ module _ (keep : List ℕ) (L : List (List ℕ)) (i : ℕ) (X : List ℕ) (t : T
   record Gone (x : ℕ) : Type 0 where
     before : degree x L ≡ 1
     after : degree x M ≡ 0
-    free : has x keep ≡ 0
+    free : has_bit x keep ≡ 0
 
   -- another one lies in as many
   record Stays (x : ℕ) : Type 0 where
-    out : has x X ≡ 0
+    out : has_bit x X ≡ 0
     same : degree x M ≡ degree x L
 
   fate : (x : ℕ) → Gone x ⊎ Stays x
@@ -49,8 +49,8 @@ module _ (keep : List ℕ) (L : List (List ℕ)) (i : ℕ) (X : List ℕ) (t : T
       let d = degree_same x L (edge_at L i ∷ R) was in
       let e = degree_same x M (difference (edge_at L i) X ∷ R) is in
       let m = has_difference x (edge_at L i) X in
-      let k : has x X ≡ has x (removable keep L i) = ap (has x) t.are in
-      elim (cases_lt 0 (has x X)) [
+      let k : has_bit x X ≡ has_bit x (removable keep L i) = ap (has_bit x) t.are in
+      elim (cases_lt 0 (has_bit x X)) [
         | inl gone ↦
             let r = removed_says keep L i x (omega arith) in
             let n = removed_elsewhere keep L i x t.within r in
@@ -89,8 +89,8 @@ module _ (keep : List ℕ) (L : List (List ℕ)) (i : ℕ) (X : List ℕ) (t : T
             ]
       ]
 
-  trim_headed : IsEven keep L → (x y : ℕ) → 0 < has x keep → 0 < degree x M → pairs x y M ≡ degree x M
-      → (pairs x y M ≡ degree y M) ⊎ (0 < has y keep)
+  trim_headed : IsEven keep L → (x y : ℕ) → 0 < has_bit x keep → 0 < degree x M → pairs x y M ≡ degree x M
+      → (pairs x y M ≡ degree y M) ⊎ (0 < has_bit y keep)
   trim_headed even x y head some full =
       elim (fate x) [
         | inl gone ↦ absurd (let a = gone.after in omega arith)
@@ -124,8 +124,8 @@ module _ (keep : List ℕ) (L : List (List ℕ)) (i : ℕ) (X : List ℕ) (t : T
             ]
       ]
 
-  untrim_headed : IsEven keep M → (x y : ℕ) → 0 < has x keep → 0 < degree x L → pairs x y L ≡ degree x L
-      → (pairs x y L ≡ degree y L) ⊎ (0 < has y keep)
+  untrim_headed : IsEven keep M → (x y : ℕ) → 0 < has_bit x keep → 0 < degree x L → pairs x y L ≡ degree x L
+      → (pairs x y L ≡ degree y L) ⊎ (0 < has_bit y keep)
   untrim_headed even x y head some full =
       elim (fate x) [
         | inl gone ↦ absurd (let a = gone.free in omega arith)
@@ -141,28 +141,28 @@ module _ (keep : List ℕ) (L : List (List ℕ)) (i : ℕ) (X : List ℕ) (t : T
 -- ---- a meet of two equal labels
 
 module _ (keep : List ℕ) (L : List (List ℕ)) (g s : ℕ) (m : Meets L g s)
-    (equal : (x : ℕ) → has x (edge_at L s) ≡ has x (edge_at L g)) where
+    (equal : (x : ℕ) → has_bit x (edge_at L s) ≡ has_bit x (edge_at L g)) where
   abbrev N : List (List ℕ)
   N = current_after L (Meet g s)
 
   abbrev W : List (List ℕ)
   W = without_both L g s
 
-  meet_degree : (x : ℕ) → degree x L ≡ has x (edge_at L g) + degree x N
+  meet_degree : (x : ℕ) → degree x L ≡ has_bit x (edge_at L g) + degree x N
   meet_degree x =
       let a = degree_same x L (edge_at L g ∷ edge_at L s ∷ W) (bag_both labels [] L g s m.apart m.guard m.side) in
       let b = degree_same x (edge_at L g ∷ W) N (after_meet L g s) in
       omega (arith, equal x)
 
-  meet_pairs : (x y : ℕ) → pairs x y L ≡ min (has x (edge_at L g)) (has y (edge_at L g)) + pairs x y N
+  meet_pairs : (x y : ℕ) → pairs x y L ≡ min (has_bit x (edge_at L g)) (has_bit y (edge_at L g)) + pairs x y N
   meet_pairs x y =
       let a = pairs_same x y L (edge_at L g ∷ edge_at L s ∷ W) (bag_both labels [] L g s m.apart m.guard m.side) in
       let b = pairs_same x y (edge_at L g ∷ W) N (after_meet L g s) in
       omega (arith, equal x, equal y)
 
   -- the label is still there once
-  meet_rest : (x y : ℕ) → (pairs x y N ≡ min (has x (edge_at L g)) (has y (edge_at L g)) + pairs x y W)
-      × (degree x N ≡ has x (edge_at L g) + degree x W) × (degree y N ≡ has y (edge_at L g) + degree y W)
+  meet_rest : (x y : ℕ) → (pairs x y N ≡ min (has_bit x (edge_at L g)) (has_bit y (edge_at L g)) + pairs x y W)
+      × (degree x N ≡ has_bit x (edge_at L g) + degree x W) × (degree y N ≡ has_bit y (edge_at L g) + degree y W)
   meet_rest x y =
       let a = pairs_same x y (edge_at L g ∷ W) N (after_meet L g s) in
       let b = degree_same x (edge_at L g ∷ W) N (after_meet L g s) in
@@ -179,8 +179,8 @@ module _ (keep : List ℕ) (L : List (List ℕ)) (g s : ℕ) (m : Meets L g s)
         | inr q ↦ elim q [ inl h ↦ inr (inl (omega arith)) | inr h ↦ inr (inr (omega arith)) ]
       ]
 
-  meet_headed : IsEven keep L → (x y : ℕ) → 0 < has x keep → 0 < degree x N → pairs x y N ≡ degree x N
-      → (pairs x y N ≡ degree y N) ⊎ (0 < has y keep)
+  meet_headed : IsEven keep L → (x y : ℕ) → 0 < has_bit x keep → 0 < degree x N → pairs x y N ≡ degree x N
+      → (pairs x y N ≡ degree y N) ⊎ (0 < has_bit y keep)
   meet_headed even x y head some full =
       let p = meet_pairs x y in let d = meet_degree x in let e = meet_degree y in let r = meet_rest x y in
       let a = r.0 in let b = r.1 in let c = r.2 in let u = pairs_most x y W in let v = pairs_least x y W in
@@ -196,8 +196,8 @@ module _ (keep : List ℕ) (L : List (List ℕ)) (g s : ℕ) (m : Meets L g s)
         | inr q ↦ elim q [ inl h ↦ inr (inl (omega arith)) | inr h ↦ inr (inr (omega arith)) ]
       ]
 
-  unmeet_headed : IsEven keep N → (x y : ℕ) → 0 < has x keep → 0 < degree x L → pairs x y L ≡ degree x L
-      → (pairs x y L ≡ degree y L) ⊎ (0 < has y keep)
+  unmeet_headed : IsEven keep N → (x y : ℕ) → 0 < has_bit x keep → 0 < degree x L → pairs x y L ≡ degree x L
+      → (pairs x y L ≡ degree y L) ⊎ (0 < has_bit y keep)
   unmeet_headed even x y head some full =
       let p = meet_pairs x y in let d = meet_degree x in let e = meet_degree y in let r = meet_rest x y in
       let a = r.0 in let b = r.1 in let c = r.2 in let u = pairs_most x y W in let v = pairs_least x y W in
@@ -208,7 +208,7 @@ module _ (keep : List ℕ) (L : List (List ℕ)) (g s : ℕ) (m : Meets L g s)
 -- where it is a meet, its two labels have the same variables
 abbrev pub MeetsEqual : List (List ℕ) → Choice → Type 0
 MeetsEqual L (Trim i X) = Unit {0}
-MeetsEqual L (Meet g s) = (x : ℕ) → has x (edge_at L s) ≡ has x (edge_at L g)
+MeetsEqual L (Meet g s) = (x : ℕ) → has_bit x (edge_at L s) ≡ has_bit x (edge_at L g)
 MeetsEqual L Stuck = Unit {0}
 
 pub even_step : (keep : List ℕ) (L : List (List ℕ)) (c : Choice) → Says keep L c → MeetsEqual L c → IsEven keep L
@@ -240,13 +240,13 @@ record Two (x : ℕ) (L : List (List ℕ)) : Type 0 where
   b : ℕ
   apart : a < b
   below : b < length L
-  in_a : 0 < has x (edge_at L a)
-  in_b : 0 < has x (edge_at L b)
+  in_a : 0 < has_bit x (edge_at L a)
+  in_b : 0 < has_bit x (edge_at L b)
 
 two_places : (x : ℕ) (L : List (List ℕ)) → 1 < degree x L → Two x L
 two_places x [] h = absurd (omega arith)
 two_places x (l ∷ L) h =
-    elim (cases_lt 0 (has x l)) [
+    elim (cases_lt 0 (has_bit x l)) [
       | inl here ↦
           let p = edge_with L x (omega (arith, one_le (member x l))) in
           record {
@@ -273,9 +273,9 @@ two_places x (l ∷ L) h =
 
 module _ (keep : List ℕ) (L : List (List ℕ)) (even : IsEven keep L) (bare : IsBare keep L) where
   -- what lies in a label with x lies in each label with x, where x isn't kept and no such variable lies in fewer
-  full : (n : ℕ) → ((z : ℕ) → degree z L ≤ n → 0 < degree z L → has z keep ≡ 0 → ⊥) → (x : ℕ) → degree x L ≤ suc n
-      → has x keep ≡ 0
-      → (z j : ℕ) → 0 < has x (edge_at L j) → 0 < has z (edge_at L j) → pairs x z L ≡ degree x L
+  full : (n : ℕ) → ((z : ℕ) → degree z L ≤ n → 0 < degree z L → has_bit z keep ≡ 0 → ⊥) → (x : ℕ) → degree x L ≤ suc n
+      → has_bit x keep ≡ 0
+      → (z j : ℕ) → 0 < has_bit x (edge_at L j) → 0 < has_bit z (edge_at L j) → pairs x z L ≡ degree x L
   full n lesser x low free z j here there =
       let lies = edge_in L j z in
       let turn = pairs_turn x z L in
@@ -289,7 +289,7 @@ module _ (keep : List ℕ) (L : List (List ℕ)) (even : IsEven keep L) (bare : 
               elim (cases_lt (degree z L) (degree x L)) [
                 | inr most ↦ omega arith
                 | inl less ↦
-                    elim (cases_lt 0 (has z keep)) [
+                    elim (cases_lt 0 (has_bit z keep)) [
                       | inr out ↦ absurd (lesser z (omega arith) (omega arith) (omega arith))
                       | inl kept ↦
                           elim (even.headed z x kept (omega arith) (omega arith))
@@ -299,7 +299,7 @@ module _ (keep : List ℕ) (L : List (List ℕ)) (even : IsEven keep L) (bare : 
         ]
       ]
 
-  alone : (x : ℕ) → degree x L ≡ 1 → has x keep ≡ 0 → ⊥
+  alone : (x : ℕ) → degree x L ≡ 1 → has_bit x keep ≡ 0 → ⊥
   alone x one_label free =
       let p = edge_with L x (omega arith) in
       let here = from_true (member x (edge_at L p.0)) p.1 in
@@ -308,7 +308,7 @@ module _ (keep : List ℕ) (L : List (List ℕ)) (even : IsEven keep L) (bare : 
       (record { here = omega (arith, one_le (member x (edge_at L p.0))); only = one_label; free = free }))
 
   -- each variable that is left is kept
-  pub none_left : (n x : ℕ) → degree x L ≤ n → 0 < degree x L → has x keep ≡ 0 → ⊥
+  pub none_left : (n x : ℕ) → degree x L ≤ n → 0 < degree x L → has_bit x keep ≡ 0 → ⊥
   none_left zero x low some free = omega arith
   none_left (suc n) x low some free =
       elim (cases_lt 1 (degree x L)) [
@@ -321,10 +321,10 @@ module _ (keep : List ℕ) (L : List (List ℕ)) (even : IsEven keep L) (bare : 
             false≢true (sym (bare.no_twin t.a t.b t.apart t.below) ∙ rw (ab, ba) refl)
       ]
     where
-      in_other : (z a b : ℕ) → 0 < has x (edge_at L b) → (0 < has z (edge_at L a) → pairs x z L ≡ degree x L)
-          → has z (edge_at L a) ≤ has z (edge_at L b)
+      in_other : (z a b : ℕ) → 0 < has_bit x (edge_at L b) → (0 < has_bit z (edge_at L a) → pairs x z L ≡ degree x L)
+          → has_bit z (edge_at L a) ≤ has_bit z (edge_at L b)
       in_other z a b there all =
-          elim (cases_lt 0 (has z (edge_at L a))) [
+          elim (cases_lt 0 (has_bit z (edge_at L a))) [
             | inr none ↦ omega arith
             | inl some ↦ let e = pairs_each x z L b (all some) in let o = one_le (member z (edge_at L a)) in omega arith
           ]
@@ -333,7 +333,7 @@ module _ (keep : List ℕ) (L : List (List ℕ)) (even : IsEven keep L) (bare : 
 abbrev pub Moves : (List (List ℕ) → Bool) → List ℕ → Type 0
 Moves over keep = (L : List (List ℕ)) → 0 < length L → over L ≡ false → IsEven keep L → IsBare keep L → ⊥
 
-loose : (F : List ℕ) (L : List (List ℕ)) → are_within F L ≡ false → (x : ℕ) × (0 < degree x L) × (has x F ≡ 0)
+loose : (F : List ℕ) (L : List (List ℕ)) → are_within F L ≡ false → (x : ℕ) × (0 < degree x L) × (has_bit x F ≡ 0)
 loose F [] h = absurd cc
 loose F (l ∷ L) h =
     elim (cases_Bool (subset l F)) [

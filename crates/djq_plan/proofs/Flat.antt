@@ -9,7 +9,7 @@ use Rattle.std.proofs.lemmas.List.Kept.{AllPairs-from_increasing}
 use Rattle.djq_hyper.specs.Flat.{IsFlat}
 use Rattle.djq_hyper.specs.Hypergraph.{member, subset, degree, edge_at}
 use Rattle.djq_hyper.specs.Variables.{AreCovered}
-use Rattle.djq_hyper.proofs.Members.{has, same_one, subset_says}
+use Rattle.djq_hyper.proofs.Members.{has_bit, same_one, subset_says}
 use Rattle.djq_hyper.proofs.Bags.{numbers}
 use Rattle.djq_hyper.proofs.Rising.{same_sets}
 use Rattle.djq_tree.specs.declared.choice.Choice.{Choice}
@@ -85,26 +85,27 @@ equal_turn keep L Stuck moves t = tt
 
 -- the labels of the guard and the side of each meet have the same variables
 abbrev pub Evens : Growth → Type 0
-Evens s = (k g d : ℕ) → node_at s.nodes k ≡ node.Meet g d → (x : ℕ) → has x (edge_at s.labels d)
-    ≡ has x (edge_at s.labels g)
+Evens s = (k g d : ℕ) → node_at s.nodes k ≡ node.Meet g d → (x : ℕ) → has_bit x (edge_at s.labels d)
+    ≡ has_bit x (edge_at s.labels g)
 
 evens_start : (H : List (List ℕ)) → Evens (start H)
 evens_start H k g d e = absurd
     (let l = some_leaf (length H) k in let q : node.Leaf l.0 ≡ node.Meet g d = sym l.1 ∙ e in cc)
 
 -- the labels that are there stay
-old_label : (labels : List (List ℕ)) (l : List ℕ) (x j : ℕ) → j < length labels → has x (edge_at (labels ++ l ∷ []) j)
-    ≡ has x (edge_at labels j)
-old_label labels l x j low = ap (has x) (label_old labels l j low)
+old_label : (labels : List (List ℕ)) (l : List ℕ) (x j : ℕ) → j < length labels
+    → has_bit x (edge_at (labels ++ l ∷ []) j)
+    ≡ has_bit x (edge_at labels j)
+old_label labels l x j low = ap (has_bit x) (label_old labels l j low)
 
 evens_added : (m : ℕ) (s : Growth) (n : Node) (l : List ℕ) → Grown m s → Evens s
-    → ((g d : ℕ) → n ≡ node.Meet g d → (x : ℕ) → has x (edge_at (s.labels ++ l ∷ []) d)
-    ≡ has x (edge_at (s.labels ++ l ∷ []) g))
-    → (k g d : ℕ) → node_at (s.nodes ++ n ∷ []) k ≡ node.Meet g d → (x : ℕ) → has x (edge_at (s.labels ++ l ∷ []) d)
-    ≡ has x (edge_at (s.labels ++ l ∷ []) g)
+    → ((g d : ℕ) → n ≡ node.Meet g d → (x : ℕ) → has_bit x (edge_at (s.labels ++ l ∷ []) d)
+    ≡ has_bit x (edge_at (s.labels ++ l ∷ []) g))
+    → (k g d : ℕ) → node_at (s.nodes ++ n ∷ []) k ≡ node.Meet g d → (x : ℕ) → has_bit x (edge_at (s.labels ++ l ∷ []) d)
+    ≡ has_bit x (edge_at (s.labels ++ l ∷ []) g)
 evens_added m s n l grown evens new k g d is x =
-    by_node s.nodes n (λ k n. (g d : ℕ) → n ≡ node.Meet g d → (x : ℕ) → has x (edge_at (s.labels ++ l ∷ []) d)
-    ≡ has x (edge_at (s.labels ++ l ∷ []) g))
+    by_node s.nodes n (λ k n. (g d : ℕ) → n ≡ node.Meet g d → (x : ℕ) → has_bit x (edge_at (s.labels ++ l ∷ []) d)
+    ≡ has_bit x (edge_at (s.labels ++ l ∷ []) g))
     (λ k low g d e x.
     let t = grown.sound.meet k g d e in
     let a = t.guard_lower in let b = t.side_lower in let c = grown.sound.labelled in
@@ -120,8 +121,8 @@ number_low m s i g low =
     omega arith
 
 number_has : (m : ℕ) (s : Growth) (i x : ℕ) → Grown m s → i < length s.current
-    → has x (edge_at s.labels (slice_index s.numbers i)) ≡ has x (edge_at s.current i)
-number_has m s i x g low = ap (has x) (sym (current_at m s i g low))
+    → has_bit x (edge_at s.labels (slice_index s.numbers i)) ≡ has_bit x (edge_at s.current i)
+number_has m s i x g low = ap (has_bit x) (sym (current_at m s i g low))
 
 evens_step : (m : ℕ) (keep : List ℕ) (s : Growth) (c : Choice) → Grown m s → Says keep s.current c
     → MeetsEqual s.current c → Evens s → Evens (grown s c)
@@ -158,8 +159,8 @@ evens_less m s t ext grown evens k g d e x =
       | inl low ↦
           let u = grown.sound.meet k g d e in
           let a = u.guard_lower in let b = u.side_lower in let c = grown.sound.labelled in
-          ap (has x) (sym (extends_label s t d ext (omega arith))) ∙ evens k g d (extends_node s t k ext low ∙ e) x
-          ∙ ap (has x) (extends_label s t g ext (omega arith))
+          ap (has_bit x) (sym (extends_label s t d ext (omega arith))) ∙ evens k g d (extends_node s t k ext low ∙ e) x
+          ∙ ap (has_bit x) (extends_label s t g ext (omega arith))
     ]
 
 -- ---- a stage forwards
@@ -246,7 +247,7 @@ equal_meets H F t p tree flat =
           (AllPairs-from_increasing (edge_at t.labels d) (tree.sets d).rising)
           (AllPairs-from_increasing (edge_at t.labels g) (tree.sets g).rising)
           (λ x. same_one (member x (edge_at t.labels d)) (member x (edge_at t.labels g))
-          (subst (λ (L : List (List ℕ)). has x (edge_at L d) ≡ has x (edge_at L g)) labels
+          (subst (λ (L : List (List ℕ)). has_bit x (edge_at L d) ≡ has_bit x (edge_at L g)) labels
           (last.evens k g d (ap (λ (n : List Node). node_at n k) (sym nodes) ∙ e) x)));
     }
 
@@ -278,7 +279,7 @@ root_even L over = record {
     none (l ∷ []) h x =
         let e : l ≡ [] = nil_from_length l
         (eqb-true (length l) 0 (and_parts (length (l ∷ []) == 1) (length l == 0) h).1) in
-        ap (λ (k : List ℕ). has x k + 0) e
+        ap (λ (k : List ℕ). has_bit x k + 0) e
     none (l ∷ m ∷ L) h x = absurd
         (let e = eqb-true (length (l ∷ m ∷ L)) 1 (and_parts (length (l ∷ m ∷ L) == 1) (length l == 0) h).0 in
         omega arith)
@@ -298,7 +299,7 @@ flat_from H F t heads p meets =
     let m = length H in
     let nodes : t.nodes ≡ p.last.nodes = ap (λ (u : Tree). u.nodes) p.is in
     let labels : t.labels ≡ p.last.labels = ap (λ (u : Tree). u.labels) p.is in
-    let evens : Evens p.last = λ k g d e x. ap (has x)
+    let evens : Evens p.last = λ k g d e x. ap (has_bit x)
     (ap (λ (L : List (List ℕ)). edge_at L d) (sym labels)
     ∙ meets.equal k g d (ap (λ (n : List Node). node_at n k) nodes ∙ e)
     ∙ ap (λ (L : List (List ℕ)). edge_at L g) labels) in

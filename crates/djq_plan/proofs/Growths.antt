@@ -8,7 +8,7 @@ use Rattle.std.proofs.lemmas.List.{take_all, get_or_past, get_or_push, get_or_ap
 use Rattle.std.proofs.Math.Numerals.{add-one}
 use Rattle.std.proofs.lemmas.Bool.{cases_lt, cases_eq, eq-eqb, ne_eqb, false≢true}
 use Rattle.djq_hyper.specs.Hypergraph.{member, difference, degree, edge_at}
-use Rattle.djq_hyper.proofs.Members.{has, Sub, from_true, has_difference, has_here, subset_says}
+use Rattle.djq_hyper.proofs.Members.{has_bit, Sub, from_true, has_difference, has_here, subset_says}
 use Rattle.djq_hyper.proofs.Bags.{numbers, times, Bag}
 use Rattle.djq_tree.specs.declared.node.Node.TheVariants as node
 use Rattle.djq_tree.specs.declared.choice.Choice.{Choice}
@@ -31,7 +31,7 @@ pub record Grown (m : ℕ) (s : Growth) : Type 0 where
 pub degree_weight : (x : ℕ) (labels : List (List ℕ)) (ns : List ℕ) → degree x (map (edge_at labels) ns)
     ≡ weight x labels ns
 degree_weight x labels [] = refl
-degree_weight x labels (j ∷ ns) = ap (λ n. has x (edge_at labels j) + n) (degree_weight x labels ns)
+degree_weight x labels (j ∷ ns) = ap (λ n. has_bit x (edge_at labels j) + n) (degree_weight x labels ns)
 
 pub current_weight : (m x : ℕ) (s : Growth) → Grown m s → degree x s.current ≡ weight x s.labels s.numbers
 current_weight m x s g = ap (degree x) g.paired ∙ degree_weight x s.labels s.numbers
@@ -58,7 +58,7 @@ paired_push labels l R n e low =
 
 -- ---- a trim
 
-pub first_of : (l : List ℕ) → not (length l == 0) ≡ true → (x : ℕ) × (0 < has x l)
+pub first_of : (l : List ℕ) → not (length l == 0) ≡ true → (x : ℕ) × (0 < has_bit x l)
 first_of [] h = absurd cc
 first_of (x ∷ l) h = (x, omega (arith, has_here x x l refl))
 
@@ -84,8 +84,8 @@ module _ (m : ℕ) (keep : List ℕ) (s : Growth) (i : ℕ) (X : List ℕ) (g : 
   is : Bag numbers (R ++ length s.nodes ∷ []) (length s.nodes ∷ R)
   is = bag_push numbers (length s.nodes) R
 
-  has_l : (x : ℕ) → has x l ≡ min (has x (edge_at s.labels c)) (1 - has x X)
-  has_l x = has_difference x (edge_at s.current i) X ∙ ap (λ (k : List ℕ). min (has x k) (1 - has x X)) label_is
+  has_l : (x : ℕ) → has_bit x l ≡ min (has_bit x (edge_at s.labels c)) (1 - has_bit x X)
+  has_l x = has_difference x (edge_at s.current i) X ∙ ap (λ (k : List ℕ). min (has_bit x k) (1 - has_bit x X)) label_is
 
   inside : Sub l (edge_at s.labels c)
   inside x = omega (arith, has_l x)
@@ -95,20 +95,20 @@ module _ (m : ℕ) (keep : List ℕ) (s : Growth) (i : ℕ) (X : List ℕ) (g : 
       ap (λ (k : List (List ℕ)). degree x (remove k i)) g.paired
       ∙ ap (degree x) (map_remove (edge_at s.labels) s.numbers i) ∙ degree_weight x s.labels R
 
-  alone : (x : ℕ) → 0 < has x (edge_at s.labels c) → has x l ≡ 0 → weight x s.labels R ≡ 0
+  alone : (x : ℕ) → 0 < has_bit x (edge_at s.labels c) → has_bit x l ≡ 0 → weight x s.labels R ≡ 0
   alone x h none =
-      let k : has x X ≡ has x (removable keep s.current i) = ap (has x) t.are in
+      let k : has_bit x X ≡ has_bit x (removable keep s.current i) = ap (has_bit x) t.are in
       let q = has_l x in
       let r = removed_says keep s.current i x (omega arith) in
       sym (rest_weight x) ∙ removed_elsewhere keep s.current i x t.within r
 
-  one_gone : (x : ℕ) × (0 < has x (edge_at s.labels c)) × (has x l ≡ 0)
+  one_gone : (x : ℕ) × (0 < has_bit x (edge_at s.labels c)) × (has_bit x l ≡ 0)
   one_gone =
       let f = first_of (removable keep s.current i) t.some in
       let r = removed_says keep s.current i f.0 f.1 in
       let h = r.here in
-      let k : has f.0 X ≡ has f.0 (removable keep s.current i) = ap (has f.0) t.are in
-      let e : has f.0 (edge_at s.current i) ≡ has f.0 (edge_at s.labels c) = ap (has f.0) label_is in
+      let k : has_bit f.0 X ≡ has_bit f.0 (removable keep s.current i) = ap (has_bit f.0) t.are in
+      let e : has_bit f.0 (edge_at s.current i) ≡ has_bit f.0 (edge_at s.labels c) = ap (has_bit f.0) label_is in
       let q = has_l f.0 in
       let p = f.1 in
       (f.0, omega arith, omega arith)
@@ -159,8 +159,8 @@ module _ (m : ℕ) (s : Growth) (i d : ℕ) (g : Grown m s) (t : Meets s.current
   meet_inside : Sub (edge_at s.labels D) (edge_at s.labels G)
   meet_inside x =
       let h = subset_says (edge_at s.current d) (edge_at s.current i) t.inside x in
-      let e : has x (edge_at s.current d) ≡ has x (edge_at s.labels D) = ap (has x) meet_side in
-      let f : has x (edge_at s.current i) ≡ has x (edge_at s.labels G) = ap (has x) meet_guard in
+      let e : has_bit x (edge_at s.current d) ≡ has_bit x (edge_at s.labels D) = ap (has_bit x) meet_side in
+      let f : has_bit x (edge_at s.current i) ≡ has_bit x (edge_at s.labels G) = ap (has_bit x) meet_guard in
       omega arith
 
   meet_sound : Sound m (s.nodes ++ node.Meet G D ∷ []) (s.labels ++ edge_at s.labels G ∷ []) (W ++ length s.nodes ∷ [])
@@ -282,7 +282,7 @@ start_grown H = record {
     live = λ x j w t. (let b = times_below (length H) j (start_low H x j t.has) in omega arith);
     dead = λ x j k w t u.
         let b = times_below (length H) j (start_low H x j t.has) in
-        let i = total_in numbers (λ k. has x (edge_at H k)) j (numbers_below (length H)) (omega arith) in
+        let i = total_in numbers (λ k. has_bit x (edge_at H k)) j (numbers_below (length H)) (omega arith) in
         let h = from_true (member x (edge_at H j)) t.has in
         absurd (omega arith);
   };

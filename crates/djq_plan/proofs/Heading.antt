@@ -5,7 +5,7 @@ use Rattle.std.specs.Prelude.{remove}
 use Rattle.std.proofs.lemmas.List.{length_push, get_or_past}
 use Rattle.std.proofs.lemmas.Bool.{cases_lt, false≢true}
 use Rattle.djq_hyper.specs.Hypergraph.{member, subset, difference, degree, edge_at}
-use Rattle.djq_hyper.proofs.Members.{has, Sub, one_le, one_true, from_true, has_difference, subset_from}
+use Rattle.djq_hyper.proofs.Members.{has_bit, Sub, one_le, one_true, from_true, has_difference, subset_from}
 use Rattle.djq_hyper.proofs.Bags.{labels, numbers, times, times_itself, total}
 use Rattle.djq_hyper.proofs.Counting.{degree_same, count_self}
 use Rattle.djq_tree.specs.declared.choice.Choice.{Choice}
@@ -23,7 +23,7 @@ use Rattle.djq_tree.proofs.Trimming.{has_times}
 use Rattle.djq_plan.proofs.Keeping.{degree_grow}
 
 -- a current label's variables are current
-pub label_in : (L : List (List ℕ)) (i x : ℕ) → i < length L → has x (edge_at L i) ≤ degree x L
+pub label_in : (L : List (List ℕ)) (i x : ℕ) → i < length L → has_bit x (edge_at L i) ≤ degree x L
 label_in L i x low = let b = degree_same x L (edge_at L i ∷ remove L i) (bag_remove labels [] L i low) in omega arith
 
 -- the labels from a number on lie in F
@@ -35,37 +35,37 @@ late_push : (F : List ℕ) (M : ℕ) (labels : List (List ℕ)) (l : List ℕ) �
 late_push F M labels l late sub j from low x =
     elim (cases_lt j (length labels)) [
       | inl old ↦
-          let e : has x (edge_at (labels ++ l ∷ []) j)
-          ≡ has x (edge_at labels j) = ap (has x) (label_old labels l j old) in
+          let e : has_bit x (edge_at (labels ++ l ∷ []) j)
+          ≡ has_bit x (edge_at labels j) = ap (has_bit x) (label_old labels l j old) in
           let s = late j from old x in omega arith
       | inr new ↦
           let k : j ≡ length labels = (let q = length_push labels l in omega arith) in
-          let e : has x (edge_at (labels ++ l ∷ []) j) ≡ has x l = ap (has x) (label_new labels l j k) in
+          let e : has_bit x (edge_at (labels ++ l ∷ []) j) ≡ has_bit x l = ap (has_bit x) (label_new labels l j k) in
           let s = sub x in omega arith
     ]
 
 late_step : (F keep : List ℕ) (M : ℕ) (s : Growth) (c : Choice) → Says keep s.current c
-    → ((x : ℕ) → 0 < degree x s.current → 0 < has x F) → LateIn F M s.labels → LateIn F M (grown s c).labels
+    → ((x : ℕ) → 0 < degree x s.current → 0 < has_bit x F) → LateIn F M s.labels → LateIn F M (grown s c).labels
 late_step F keep M s (Trim i X) t all late =
     late_push F M s.labels (difference (edge_at s.current i) X) late
     (λ x. let m = has_difference x (edge_at s.current i) X in let l = label_in s.current i x t.within in let o = one_le
     (member x (edge_at s.current i)) in
-    in_F (has x (difference (edge_at s.current i) X)) x (omega arith) (omega arith))
+    in_F (has_bit x (difference (edge_at s.current i) X)) x (omega arith) (omega arith))
   where
-    in_F : (n x : ℕ) → n ≤ 1 → n ≤ degree x s.current → n ≤ has x F
+    in_F : (n x : ℕ) → n ≤ 1 → n ≤ degree x s.current → n ≤ has_bit x F
     in_F zero x a b = omega arith
     in_F (suc n) x a b = let f = all x (omega arith) in omega arith
 late_step F keep M s (Meet g d) t all late =
     late_push F M s.labels (edge_at s.current g) late
-    (λ x. let l = label_in s.current g x t.guard in in_F (has x (edge_at s.current g)) x
+    (λ x. let l = label_in s.current g x t.guard in in_F (has_bit x (edge_at s.current g)) x
     (one_le (member x (edge_at s.current g))) l)
   where
-    in_F : (n x : ℕ) → n ≤ 1 → n ≤ degree x s.current → n ≤ has x F
+    in_F : (n x : ℕ) → n ≤ 1 → n ≤ degree x s.current → n ≤ has_bit x F
     in_F zero x a b = omega arith
     in_F (suc n) x a b = let f = all x (omega arith) in omega arith
 late_step F keep M s Stuck t all late = late
 
-pub late_grow : (F keep : List ℕ) (M n : ℕ) (s : Growth) → ((x : ℕ) → 0 < degree x s.current → 0 < has x F)
+pub late_grow : (F keep : List ℕ) (M n : ℕ) (s : Growth) → ((x : ℕ) → 0 < degree x s.current → 0 < has_bit x F)
     → LateIn F M s.labels → LateIn F M (grow keep n s).labels
 unfolding grow
 late_grow F keep M zero s all late = late
@@ -75,10 +75,10 @@ late_grow F keep M (suc n) s all late =
     (λ x h. all x (let d = degree_grow keep n s x in omega arith)) (late_grow F keep M n s all late)
 
 -- a variable of labels that lie in F is in F
-pub within_has : (F : List ℕ) (L : List (List ℕ)) → are_within F L ≡ true → (x : ℕ) → 0 < degree x L → 0 < has x F
+pub within_has : (F : List ℕ) (L : List (List ℕ)) → are_within F L ≡ true → (x : ℕ) → 0 < degree x L → 0 < has_bit x F
 within_has F [] h x d = absurd (omega arith)
 within_has F (l ∷ L) h x d =
-    elim (cases_lt 0 (has x l)) [
+    elim (cases_lt 0 (has_bit x l)) [
       | inl here ↦ let s = within_all F (l ∷ L) h l (count_self l L) x in omega arith
       | inr other ↦ within_has F L (tail_within (subset l F) (are_within F L) h) x (omega arith)
     ]
@@ -104,17 +104,17 @@ out_within marks j h =
 
 module _ (m : ℕ) (F : List ℕ) (mid last : Growth) (g : Grown m mid) (h : Grown m last) (ext : Extends mid last)
     (over : are_within F mid.current ≡ true) (late : LateIn F (length mid.nodes) last.labels)
-    (covers : (x : ℕ) → 0 < has x F → 0 < degree x mid.current) where
+    (covers : (x : ℕ) → 0 < has_bit x F → 0 < degree x mid.current) where
   early_sub : (j : ℕ) → j < length mid.nodes → member j mid.numbers ≡ true → Sub (edge_at last.labels j) F
   early_sub j low is x =
-      let e : has x (edge_at last.labels j)
-      ≡ has x (edge_at mid.labels j) = ap (has x)
+      let e : has_bit x (edge_at last.labels j)
+      ≡ has_bit x (edge_at mid.labels j) = ap (has_bit x)
       (extends_label mid last j ext (let k = g.sound.labelled in omega arith)) in
       let t = has_times j mid.numbers in
       let i = from_true (member j mid.numbers) is in
       let w = current_weight m x mid g in
-      let q = total_in numbers (λ k. has x (edge_at mid.labels k)) j mid.numbers (omega arith) in
-      elim (cases_lt 0 (has x (edge_at mid.labels j))) [
+      let q = total_in numbers (λ k. has_bit x (edge_at mid.labels k)) j mid.numbers (omega arith) in
+      elim (cases_lt 0 (has_bit x (edge_at mid.labels j))) [
         | inl some ↦ let f = within_has F mid.current over x (omega arith) in omega
             (arith, one_le (member x (edge_at mid.labels j)))
         | inr none ↦ omega arith
@@ -137,7 +137,7 @@ module _ (m : ℕ) (F : List ℕ) (mid last : Growth) (g : Grown m mid) (h : Gro
   head_covered x in_F =
       let d = covers x (from_true (member x F) in_F) in
       let w = current_weight m x mid g in
-      let s = total_some (λ k. has x (edge_at mid.labels k)) mid.numbers (omega arith) in
+      let s = total_some (λ k. has_bit x (edge_at mid.labels k)) mid.numbers (omega arith) in
       let low = g.sound.small s.0 s.1 in
       let l = extends_length mid last ext in (
         s.0,

@@ -3,7 +3,7 @@ use Rattle.std.proofs.Common.{◌≡◌, ℕ, zero, suc, ◌<◌, ◌≤◌, Lis
 use Rattle.std.specs.Prelude.{remove}
 use Rattle.std.proofs.lemmas.Bool.{cases_lt}
 use Rattle.djq_hyper.specs.Hypergraph.{member, difference, degree, edge_at}
-use Rattle.djq_hyper.proofs.Members.{has, one_le, has_difference, subset_says}
+use Rattle.djq_hyper.proofs.Members.{has_bit, one_le, has_difference, subset_says}
 use Rattle.djq_hyper.proofs.Bags.{labels}
 use Rattle.djq_hyper.proofs.Counting.{degree_same}
 use Rattle.djq_tree.specs.declared.choice.Choice.{Choice}
@@ -39,14 +39,15 @@ degree_grow keep (suc n) s x =
 
 -- ---- the variables that are kept
 
-kept_step : (keep : List ℕ) (L : List (List ℕ)) (c : Choice) (x : ℕ) → Says keep L c → 0 < has x keep → 0 < degree x L
+kept_step : (keep : List ℕ) (L : List (List ℕ)) (c : Choice) (x : ℕ) → Says keep L c → 0 < has_bit x keep
+    → 0 < degree x L
     → 0 < degree x (current_after L c)
 kept_step keep L (Trim i X) x t kept h =
     let a = degree_same x (difference (edge_at L i) X ∷ remove L i) (current_after L (Trim i X)) (after_trim L i X) in
     let b = degree_same x L (edge_at L i ∷ remove L i) (bag_remove labels [] L i t.within) in
     let m = has_difference x (edge_at L i) X in
-    let k : has x X ≡ has x (removable keep L i) = ap (has x) t.are in
-    elim (cases_lt 0 (has x X)) [
+    let k : has_bit x X ≡ has_bit x (removable keep L i) = ap (has_bit x) t.are in
+    elim (cases_lt 0 (has_bit x X)) [
       | inl gone ↦ absurd (let r = removed_says keep L i x (omega arith) in let f = r.free in omega arith)
       | inr stays ↦ omega (arith, one_le (member x (edge_at L i)))
     ]
@@ -58,7 +59,7 @@ kept_step keep L (Meet g d) x t kept h =
     omega arith
 kept_step keep L Stuck x t kept h = h
 
-pub kept_grow : (keep : List ℕ) (n : ℕ) (s : Growth) (x : ℕ) → 0 < has x keep → 0 < degree x s.current
+pub kept_grow : (keep : List ℕ) (n : ℕ) (s : Growth) (x : ℕ) → 0 < has_bit x keep → 0 < degree x s.current
     → 0 < degree x (grow keep n s).current
 unfolding grow
 kept_grow keep zero s x kept h = h

@@ -5,7 +5,7 @@ use Rattle.std.specs.Prelude.{remove, ◌==◌}
 use Rattle.std.proofs.lemmas.List.{nil_from_length}
 use Rattle.std.proofs.lemmas.Bool.{cases_Bool, cases_lt, eqb-true, eq-eqb, ne_eqb, false≢true, and_parts}
 use Rattle.djq_hyper.specs.Hypergraph.{member, subset, difference, degree, edge_at, one}
-use Rattle.djq_hyper.proofs.Members.{has, Sub, one_le, one_true, from_true, has_difference}
+use Rattle.djq_hyper.proofs.Members.{has_bit, Sub, one_le, one_true, from_true, has_difference}
 use Rattle.djq_hyper.proofs.Members.{has_filter, has_here, subset_from, subset_says}
 use Rattle.djq_hyper.proofs.Bags.{labels, same_item}
 use Rattle.djq_hyper.proofs.Counting.{count, Same, count_self, degree_same}
@@ -22,11 +22,12 @@ use Rattle.djq_plan.proofs.Says.{Trims, Meets, Sticks, Says, choose_says}
 -- ---- what a trim removes
 
 pub record Removed (keep : List ℕ) (L : List (List ℕ)) (i x : ℕ) : Type 0 where
-  pub here : has x (edge_at L i) ≡ 1
+  pub here : has_bit x (edge_at L i) ≡ 1
   pub only : degree x L ≡ 1
-  pub free : has x keep ≡ 0
+  pub free : has_bit x keep ≡ 0
 
-pub removed_says : (keep : List ℕ) (L : List (List ℕ)) (i x : ℕ) → 0 < has x (removable keep L i) → Removed keep L i x
+pub removed_says : (keep : List ℕ) (L : List (List ℕ)) (i x : ℕ) → 0 < has_bit x (removable keep L i)
+    → Removed keep L i x
 removed_says keep L i x h =
     let m = has_difference x (filter (λ x. degree x L == 1) (edge_at L i)) keep in
     let f = has_filter (λ x. degree x L == 1) x (edge_at L i) in
@@ -38,7 +39,8 @@ removed_says keep L i x h =
       free = omega arith;
     }
 
-pub removed_from : (keep : List ℕ) (L : List (List ℕ)) (i x : ℕ) → Removed keep L i x → has x (removable keep L i) ≡ 1
+pub removed_from : (keep : List ℕ) (L : List (List ℕ)) (i x : ℕ) → Removed keep L i x
+    → has_bit x (removable keep L i) ≡ 1
 removed_from keep L i x r =
     let m = has_difference x (filter (λ x. degree x L == 1) (edge_at L i)) keep in
     let f = has_filter (λ x. degree x L == 1) x (edge_at L i) in
@@ -46,7 +48,7 @@ removed_from keep L i x r =
     let b = from_true (degree x L == 1) (eq-eqb (degree x L) 1 r.only) in
     omega (arith, one_le (degree x L == 1))
 
-nonempty : (x : ℕ) (l : List ℕ) → 0 < has x l → not (length l == 0) ≡ true
+nonempty : (x : ℕ) (l : List ℕ) → 0 < has_bit x l → not (length l == 0) ≡ true
 nonempty x [] h = absurd (omega arith)
 nonempty x (y ∷ l) h = rw (ne_eqb (length (y ∷ l)) 0 (λ e. absurd (omega arith))) refl
 
@@ -74,10 +76,10 @@ swapped : (L : List (List ℕ)) (g s : ℕ) → Meets L g s → Same L (edge_at 
 swapped L g s m a = let b = bag_both labels [] L g s m.apart m.guard m.side a in omega arith
 
 free_of : (F keep : List ℕ) (L : List (List ℕ)) (i : ℕ) (X : List ℕ) → Sub F keep → Trims keep L i X → (x : ℕ)
-    → 0 < has x X → degree x (F ∷ remove L i) ≡ 0
+    → 0 < has_bit x X → degree x (F ∷ remove L i) ≡ 0
 free_of F keep L i X sub t x h =
     let r = removed_says keep L i x
-    (let e : has x X ≡ has x (removable keep L i) = ap (λ (l : List ℕ). has x l) t.are in omega arith) in
+    (let e : has_bit x X ≡ has_bit x (removable keep L i) = ap (λ (l : List ℕ). has_bit x l) t.are in omega arith) in
     let d = removed_elsewhere keep L i x t.within r in
     let f = r.free in let s = sub x in omega arith
 
@@ -199,7 +201,7 @@ stuck_low F L st r a stands =
         let d = degree_same o.var L (o.label ∷ o.rest) in_L in
         let w = o.within in let al = o.alone in
         let le = one_le (member o.var o.label) in
-        let same : has o.var (edge_at L p.at) ≡ has o.var o.label = ap (λ (l : List ℕ). has o.var l) p.is in
+        let same : has_bit o.var (edge_at L p.at) ≡ has_bit o.var o.label = ap (λ (l : List ℕ). has_bit o.var l) p.is in
         false≢true (sym (st.no_own p.at p.below)
         ∙ has_removable_from F L p.at o.var (record { here = omega arith; only = omega arith; free = omega arith }))
 
@@ -214,8 +216,8 @@ stuck_low F L st r a stands =
         let q = other_place L p.at o.over p.below (let k = in_L o.over in let th = o.there in omega arith) in
         no_pair F L p.at q.at st p.below q.below q.apart (subset_from (edge_at L p.at) (edge_at L q.at)
         (λ x. let i = o.inside x in
-        let e : has x (edge_at L p.at) ≡ has x o.label = ap (λ (l : List ℕ). has x l) p.is in
-        let f : has x (edge_at L q.at) ≡ has x o.over = ap (λ (l : List ℕ). has x l) q.is in omega arith))
+        let e : has_bit x (edge_at L p.at) ≡ has_bit x o.label = ap (λ (l : List ℕ). has_bit x l) p.is in
+        let f : has_bit x (edge_at L q.at) ≡ has_bit x o.over = ap (λ (l : List ℕ). has_bit x l) q.is in omega arith))
 
 -- ---- where a stage stands
 

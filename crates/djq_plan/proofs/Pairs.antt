@@ -5,17 +5,17 @@ use Rattle.std.proofs.Common.{◌&&◌, ◌||◌, List, [], ◌∷◌, refl, ◌
 use Rattle.std.proofs.lemmas.Bool.{cases_Bool, and_parts}
 use Rattle.djq_hyper.specs.Hypergraph.{member, degree, edge_at, one}
 use Rattle.djq_hyper.specs.Variables.{AreCovered}
-use Rattle.djq_hyper.specs.Flat.{is_within, is_apart, IsFlat}
-use Rattle.djq_hyper.proofs.Members.{has, one_true, from_true}
+use Rattle.djq_hyper.specs.Flat.{edges_are_within, is_apart, IsFlat}
+use Rattle.djq_hyper.proofs.Members.{has_bit, one_true, from_true}
 use Rattle.djq_hyper.proofs.Bags.{labels, total, total_same}
 use Rattle.djq_hyper.proofs.Counting.{Same}
 
 -- how many labels have both variables
 abbrev pub pairs : ℕ → ℕ → List (List ℕ) → ℕ
-pairs x y L = total (λ l. min (has x l) (has y l)) L
+pairs x y L = total (λ l. min (has_bit x l) (has_bit y l)) L
 
 pub pairs_same : (x y : ℕ) (L M : List (List ℕ)) → Same L M → pairs x y L ≡ pairs x y M
-pairs_same x y L M h = total_same labels (λ l. min (has x l) (has y l)) L M h
+pairs_same x y L M h = total_same labels (λ l. min (has_bit x l) (has_bit y l)) L M h
 
 pub pairs_turn : (x y : ℕ) (L : List (List ℕ)) → pairs x y L ≡ pairs y x L
 pairs_turn x y [] = refl
@@ -50,14 +50,15 @@ parts true true h = absurd (omega arith)
 parts true false h = refl
 parts false b h = refl
 
-pub within_pairs : (H : List (List ℕ)) (x y : ℕ) → is_within H x y ≡ true → pairs x y H ≡ degree x H
+pub within_pairs : (H : List (List ℕ)) (x y : ℕ) → edges_are_within H x y ≡ true → pairs x y H ≡ degree x H
 within_pairs [] x y h = refl
 within_pairs (e ∷ H) x y h =
-    let here = implied (member x e) (member y e) (and_parts (not (member x e) || member y e) (is_within H x y) h).0 in
-    let r = within_pairs H x y (and_parts (not (member x e) || member y e) (is_within H x y) h).1 in
+    let here = implied (member x e) (member y e)
+    (and_parts (not (member x e) || member y e) (edges_are_within H x y) h).0 in
+    let r = within_pairs H x y (and_parts (not (member x e) || member y e) (edges_are_within H x y) h).1 in
     omega arith
 
-pub pairs_within : (H : List (List ℕ)) (x y : ℕ) → pairs x y H ≡ degree x H → is_within H x y ≡ true
+pub pairs_within : (H : List (List ℕ)) (x y : ℕ) → pairs x y H ≡ degree x H → edges_are_within H x y ≡ true
 pairs_within [] x y h = refl
 pairs_within (e ∷ H) x y h =
     let m = pairs_most x y H in
@@ -76,7 +77,8 @@ pairs_apart [] x y h = refl
 pairs_apart (e ∷ H) x y h = rw (parts (member x e) (member y e) (omega arith), pairs_apart H x y (omega arith)) refl
 
 -- a place with both variables
-pub pairs_at : (x y : ℕ) (L : List (List ℕ)) (j : ℕ) → min (has x (edge_at L j)) (has y (edge_at L j)) ≤ pairs x y L
+pub pairs_at : (x y : ℕ) (L : List (List ℕ)) (j : ℕ)
+    → min (has_bit x (edge_at L j)) (has_bit y (edge_at L j)) ≤ pairs x y L
 pairs_at x y [] zero = omega arith
 pairs_at x y [] (suc j) = omega arith
 pairs_at x y (l ∷ L) zero = omega arith
@@ -84,7 +86,7 @@ pairs_at x y (l ∷ L) (suc j) = omega (arith, pairs_at x y L j)
 
 -- where each label with x has y, so has the one at a place
 pub pairs_each : (x y : ℕ) (L : List (List ℕ)) (j : ℕ) → pairs x y L ≡ degree x L
-    → has x (edge_at L j) ≤ has y (edge_at L j)
+    → has_bit x (edge_at L j) ≤ has_bit y (edge_at L j)
 pairs_each x y [] zero h = omega arith
 pairs_each x y [] (suc j) h = omega arith
 pairs_each x y (l ∷ L) zero h = omega (arith, pairs_most x y L)
@@ -95,8 +97,8 @@ pairs_each x y (l ∷ L) (suc j) h = pairs_each x y L j (omega (arith, pairs_mos
 -- the labels L are those of a flat query whose head has the variables of `keep`, but that these needn't lie in L
 pub record IsEven (keep : List ℕ) (L : List (List ℕ)) : Type 0 where
   pub nested : (x y : ℕ) → (pairs x y L ≡ degree x L) ⊎ ((pairs x y L ≡ degree y L) ⊎ (pairs x y L ≡ 0))
-  pub headed : (x y : ℕ) → 0 < has x keep → 0 < degree x L → pairs x y L ≡ degree x L
-      → (pairs x y L ≡ degree y L) ⊎ (0 < has y keep)
+  pub headed : (x y : ℕ) → 0 < has_bit x keep → 0 < degree x L → pairs x y L ≡ degree x L
+      → (pairs x y L ≡ degree y L) ⊎ (0 < has_bit y keep)
 
 one_of : (a b c : Bool) → (a || b || c) ≡ true → (a ≡ true) ⊎ ((b ≡ true) ⊎ (c ≡ true))
 one_of true b c h = inl refl
@@ -117,7 +119,7 @@ last_or false false c h = h
 
 pub even_of : (H : List (List ℕ)) (F : List ℕ) → IsFlat H F → IsEven F H
 even_of H F flat = record {
-  nested = λ x y. elim (one_of (is_within H x y) (is_within H y x) (is_apart H x y) ((flat x).nested y)) [
+  nested = λ x y. elim (one_of (edges_are_within H x y) (edges_are_within H y x) (is_apart H x y) ((flat x).nested y)) [
     | inl w ↦ inl (within_pairs H x y w)
     | inr r ↦ elim r [
       | inl w ↦ inr (inl (pairs_turn x y H ∙ within_pairs H y x w))
@@ -125,7 +127,7 @@ even_of H F flat = record {
           (inr (apart_pairs H x y a))
     ]
   ];
-  headed = λ x y head some full. elim (cases_Bool (is_within H y x)) [
+  headed = λ x y head some full. elim (cases_Bool (edges_are_within H y x)) [
     | inl w ↦ inl (pairs_turn x y H ∙ within_pairs H y x w)
     | inr less ↦ inr (from_true (member y F)
         ((flat x).headed y (one_true (member x F) head) (pairs_within H x y full) less))
@@ -135,11 +137,11 @@ even_of H F flat = record {
 pub flat_of : (H : List (List ℕ)) (F : List ℕ) → AreCovered F H → IsEven F H → IsFlat H F
 flat_of H F heads even x = record {
   nested = λ y. elim (even.nested x y) [
-    | inl p ↦ first_or (is_within H x y) (is_within H y x) (is_apart H x y) (pairs_within H x y p)
+    | inl p ↦ first_or (edges_are_within H x y) (edges_are_within H y x) (is_apart H x y) (pairs_within H x y p)
     | inr r ↦ elim r [
-      | inl p ↦ middle_or (is_within H x y) (is_within H y x) (is_apart H x y)
+      | inl p ↦ middle_or (edges_are_within H x y) (edges_are_within H y x) (is_apart H x y)
           (pairs_within H y x (pairs_turn y x H ∙ p))
-      | inr p ↦ last_or (is_within H x y) (is_within H y x) (is_apart H x y) (pairs_apart H x y p)
+      | inr p ↦ last_or (edges_are_within H x y) (edges_are_within H y x) (is_apart H x y) (pairs_apart H x y p)
     ]
   ];
   headed = λ y head w less. elim (even.headed x y (from_true (member x F) head) (heads x head) (within_pairs H x y w)) [

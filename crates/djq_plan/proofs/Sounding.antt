@@ -5,7 +5,7 @@ use Rattle.std.proofs.lemmas.List.{get_or_append_left, get_or_push, get_or_past,
 use Rattle.std.proofs.lemmas.Bool.{cases_Bool, cases_lt, cases_eq, eqb-true, eq-eqb, ne_eqb, false≢true}
 use Rattle.std.proofs.Math.Bool.{or-true}
 use Rattle.djq_hyper.specs.Hypergraph.{member, subset, edge_at, one}
-use Rattle.djq_hyper.proofs.Members.{has, Sub, one_le, from_true, from_false, subset_from, subset_says}
+use Rattle.djq_hyper.proofs.Members.{has_bit, Sub, one_le, from_true, from_false, subset_from, subset_says}
 use Rattle.djq_hyper.proofs.Bags.{numbers, times, Bag, total, total_same}
 use Rattle.djq_tree.specs.declared.node.Node.{Node}
 use Rattle.djq_tree.specs.declared.node.Node.TheVariants.{Leaf, Trim, Meet}
@@ -14,7 +14,7 @@ use Rattle.djq_plan.proofs.Places.{total_in, total_agree}
 
 -- how many current nodes have the variable
 abbrev pub weight : ℕ → List (List ℕ) → List ℕ → ℕ
-weight x labels ns = total (λ j. has x (edge_at labels j)) ns
+weight x labels ns = total (λ j. has_bit x (edge_at labels j)) ns
 
 -- a node that has j as a child
 pub record Parent (nodes : List Node) (j : ℕ) : Type 0 where
@@ -99,11 +99,11 @@ pub record Adds (nodes : List Node) (labels : List (List ℕ)) (ns : List ℕ) (
   pub trim : (c : ℕ) → n ≡ Trim c → IsTrim (labels ++ l ∷ []) (length nodes) c
   pub meet : (g s : ℕ) → n ≡ Meet g s → IsMeet (labels ++ l ∷ []) (length nodes) g s
   -- a child's variable that the new node lacks lies in no current label any more
-  pub lost : (x j : ℕ) → has_child n j ≡ true → 0 < has x (edge_at labels j) → has x l ≡ 0
+  pub lost : (x j : ℕ) → has_child n j ≡ true → 0 < has_bit x (edge_at labels j) → has_bit x l ≡ 0
       → weight x (labels ++ l ∷ []) ns' ≡ 0
   -- a variable that is lost lay in one current label
   pub single : (x j k : ℕ) → weight x (labels ++ l ∷ []) ns' ≡ 0 → 0 < times numbers j ns → 0 < times numbers k ns
-      → 0 < has x (edge_at labels j) → 0 < has x (edge_at labels k) → j ≡ k
+      → 0 < has_bit x (edge_at labels j) → 0 < has_bit x (edge_at labels k) → j ≡ k
   pub fewer : (x : ℕ) → weight x labels ns ≡ 0 → weight x (labels ++ l ∷ []) ns' ≡ 0
 
 module _ (m : ℕ) (nodes : List Node) (labels : List (List ℕ)) (ns : List ℕ) (n : Node) (l : List ℕ) (ns' : List ℕ)
@@ -286,9 +286,9 @@ module _ (m : ℕ) (nodes : List Node) (labels : List (List ℕ)) (ns : List ℕ
 
   not_new : (x j : ℕ) → weight x labels' ns' ≡ 0 → IsTop nodes' labels' x j → j ≢ length nodes
   not_new x j w t e =
-      let i = total_in numbers (λ k. has x (edge_at labels' k)) (length nodes) ns' a.itself in
-      let k : has x (edge_at labels' j)
-      ≡ has x (edge_at labels' (length nodes)) = ap (λ (z : ℕ). has x (edge_at labels' z)) e in
+      let i = total_in numbers (λ k. has_bit x (edge_at labels' k)) (length nodes) ns' a.itself in
+      let k : has_bit x (edge_at labels' j)
+      ≡ has_bit x (edge_at labels' (length nodes)) = ap (λ (z : ℕ). has_bit x (edge_at labels' z)) e in
       let h = from_true (member x (edge_at labels' j)) t.has in
       omega arith
 
@@ -331,13 +331,13 @@ one_ne j c apart = rw (ne_eqb j c apart) refl
 -- the weight with a new node
 pub new_weight : (labels : List (List ℕ)) (l : List ℕ) (R ns' : List ℕ) (x : ℕ) → Bag numbers ns' (length labels ∷ R)
     → ((j : ℕ) → 0 < times numbers j R → j < length labels)
-    → weight x (labels ++ l ∷ []) ns' ≡ has x l + weight x labels R
+    → weight x (labels ++ l ∷ []) ns' ≡ has_bit x l + weight x labels R
 new_weight labels l R ns' x is low =
-    let t = total_same numbers (λ j. has x (edge_at (labels ++ l ∷ []) j)) ns' (length labels ∷ R) is in
-    let e : has x (edge_at (labels ++ l ∷ []) (length labels))
-    ≡ has x l = ap (λ (k : List ℕ). has x k) (label_new labels l (length labels) refl) in
-    let r = total_agree (λ j. has x (edge_at (labels ++ l ∷ []) j)) (λ j. has x (edge_at labels j)) R
-    (λ j h. ap (λ (k : List ℕ). has x k) (label_old labels l j (low j h))) in
+    let t = total_same numbers (λ j. has_bit x (edge_at (labels ++ l ∷ []) j)) ns' (length labels ∷ R) is in
+    let e : has_bit x (edge_at (labels ++ l ∷ []) (length labels))
+    ≡ has_bit x l = ap (λ (k : List ℕ). has_bit x k) (label_new labels l (length labels) refl) in
+    let r = total_agree (λ j. has_bit x (edge_at (labels ++ l ∷ []) j)) (λ j. has_bit x (edge_at labels j)) R
+    (λ j h. ap (λ (k : List ℕ). has_bit x k) (label_old labels l j (low j h))) in
     omega arith
 
 -- ---- a trim
@@ -345,8 +345,8 @@ new_weight labels l R ns' x is low =
 module _ (nodes : List Node) (labels : List (List ℕ)) (ns R ns' : List ℕ) (c : ℕ) (l : List ℕ) (m x0 : ℕ)
     (s : Sound m nodes labels ns) (was : Bag numbers ns (c ∷ R)) (is : Bag numbers ns' (length nodes ∷ R))
     (inside : Sub l (edge_at labels c))
-    (alone : (x : ℕ) → 0 < has x (edge_at labels c) → has x l ≡ 0 → weight x labels R ≡ 0)
-    (some : 0 < has x0 (edge_at labels c)) (gone : has x0 l ≡ 0) where
+    (alone : (x : ℕ) → 0 < has_bit x (edge_at labels c) → has_bit x l ≡ 0 → weight x labels R ≡ 0)
+    (some : 0 < has_bit x0 (edge_at labels c)) (gone : has_bit x0 l ≡ 0) where
   trim_in : 0 < times numbers c ns
   trim_in = let w = was c in let o = one_eq c c refl in omega arith
 
@@ -356,14 +356,14 @@ module _ (nodes : List Node) (labels : List (List ℕ)) (ns R ns' : List ℕ) (c
   trim_rest : (j : ℕ) → 0 < times numbers j R → j < length nodes
   trim_rest j h = s.small j (let w = was j in omega arith)
 
-  trim_weight : (x : ℕ) → weight x (labels ++ l ∷ []) ns' ≡ has x l + weight x labels R
+  trim_weight : (x : ℕ) → weight x (labels ++ l ∷ []) ns' ≡ has_bit x l + weight x labels R
   trim_weight x =
       new_weight labels l R ns' x
       (λ j. is j ∙ ap (λ (n : ℕ). one (numbers.eq j n) + times numbers j R) (sym s.labelled))
       (λ j h. let r = trim_rest j h in let e = s.labelled in omega arith)
 
-  trim_before : (x : ℕ) → weight x labels ns ≡ has x (edge_at labels c) + weight x labels R
-  trim_before x = total_same numbers (λ j. has x (edge_at labels j)) ns (c ∷ R) was
+  trim_before : (x : ℕ) → weight x labels ns ≡ has_bit x (edge_at labels c) + weight x labels R
+  trim_before x = total_same numbers (λ j. has_bit x (edge_at labels j)) ns (c ∷ R) was
 
   trim_not_new : times numbers (length nodes) ns ≡ 0
   trim_not_new = elim (cases_lt 0 (times numbers (length nodes) ns))
@@ -413,7 +413,8 @@ module _ (nodes : List Node) (labels : List (List ℕ)) (ns R ns' : List ℕ) (c
     meet = λ g d e. absurd cc;
     lost = λ x j child had none.
         let e = eqb-true c j child in
-        let k : has x (edge_at labels c) ≡ has x (edge_at labels j) = ap (λ (z : ℕ). has x (edge_at labels z)) e in
+        let k : has_bit x (edge_at labels c)
+        ≡ has_bit x (edge_at labels j) = ap (λ (z : ℕ). has_bit x (edge_at labels z)) e in
         let a = alone x (omega arith) none in
         let w = trim_weight x in omega arith;
     single = λ x j k none in_j in_k has_j has_k. trim_single x j none in_j has_j
@@ -422,13 +423,13 @@ module _ (nodes : List Node) (labels : List (List ℕ)) (ns R ns' : List ℕ) (c
   }
     where
       trim_single : (x j : ℕ) → weight x (labels ++ l ∷ []) ns' ≡ 0 → 0 < times numbers j ns
-          → 0 < has x (edge_at labels j) → j ≡ c
+          → 0 < has_bit x (edge_at labels j) → j ≡ c
       trim_single x j none in_j has_j =
           elim (cases_eq j c) [
             | inl e ↦ e
             | inr apart ↦
                 let w = was j in let o = one_ne j c apart in
-                let t = total_in numbers (λ k. has x (edge_at labels k)) j R (omega arith) in
+                let t = total_in numbers (λ k. has_bit x (edge_at labels k)) j R (omega arith) in
                 absurd (let q = trim_weight x in omega arith)
           ]
 
@@ -452,14 +453,14 @@ module _ (nodes : List Node) (labels : List (List ℕ)) (ns R ns' : List ℕ) (g
   meet_rest : (j : ℕ) → 0 < times numbers j R → j < length nodes
   meet_rest j h = s.small j (let w = was j in omega arith)
 
-  meet_weight : (x : ℕ) → weight x (labels ++ guard ∷ []) ns' ≡ has x guard + weight x labels R
+  meet_weight : (x : ℕ) → weight x (labels ++ guard ∷ []) ns' ≡ has_bit x guard + weight x labels R
   meet_weight x =
       new_weight labels guard R ns' x
       (λ j. is j ∙ ap (λ (n : ℕ). one (numbers.eq j n) + times numbers j R) (sym s.labelled))
       (λ j h. let r = meet_rest j h in let e = s.labelled in omega arith)
 
-  meet_before : (x : ℕ) → weight x labels ns ≡ has x guard + (has x (edge_at labels d) + weight x labels R)
-  meet_before x = total_same numbers (λ j. has x (edge_at labels j)) ns (g ∷ d ∷ R) was
+  meet_before : (x : ℕ) → weight x labels ns ≡ has_bit x guard + (has_bit x (edge_at labels d) + weight x labels R)
+  meet_before x = total_same numbers (λ j. has_bit x (edge_at labels j)) ns (g ∷ d ∷ R) was
 
   meet_not_new : times numbers (length nodes) ns ≡ 0
   meet_not_new = elim (cases_lt 0 (times numbers (length nodes) ns))
@@ -499,11 +500,12 @@ module _ (nodes : List Node) (labels : List (List ℕ)) (ns R ns' : List ℕ) (g
       (λ e. (let o = one_eq j g (sym e) in omega arith), λ e. (let o = one_eq j d (sym e) in omega arith))
 
   -- no current node has a variable that weighs nothing with the new one
-  meet_none : (x j : ℕ) → weight x (labels ++ guard ∷ []) ns' ≡ 0 → 0 < times numbers j ns → has x (edge_at labels j)
+  meet_none : (x j : ℕ) → weight x (labels ++ guard ∷ []) ns' ≡ 0 → 0 < times numbers j ns
+      → has_bit x (edge_at labels j)
       ≡ 0
   meet_none x j none in_j =
       let w = meet_weight x in let b = meet_before x in let i = inside x in
-      let t = total_in numbers (λ k. has x (edge_at labels k)) j ns in_j in
+      let t = total_in numbers (λ k. has_bit x (edge_at labels k)) j ns in_j in
       omega arith
 
   pub meet_adds : Adds nodes labels ns (Meet g d) guard ns'
@@ -547,10 +549,11 @@ module _ (nodes : List Node) (labels : List (List ℕ)) (ns R ns' : List ℕ) (g
         (subst (λ (z : ℕ). IsMeet (labels ++ guard ∷ []) (length nodes) z d) k meet_is));
     lost = λ x j child had none.
         absurd (elim (meet_children j child) [
-          | inl e ↦ let k : has x guard
-              ≡ has x (edge_at labels j) = ap (λ (z : ℕ). has x (edge_at labels z)) e in omega arith
-          | inr e ↦ let k : has x (edge_at labels d)
-              ≡ has x (edge_at labels j) = ap (λ (z : ℕ). has x (edge_at labels z)) e in let i = inside x in omega arith
+          | inl e ↦ let k : has_bit x guard
+              ≡ has_bit x (edge_at labels j) = ap (λ (z : ℕ). has_bit x (edge_at labels z)) e in omega arith
+          | inr e ↦ let k : has_bit x (edge_at labels d)
+              ≡ has_bit x (edge_at labels j) = ap (λ (z : ℕ). has_bit x (edge_at labels z)) e in let i =
+              inside x in omega arith
         ]);
     single = λ x j k none in_j in_k has_j has_k. absurd (let z = meet_none x j none in_j in omega arith);
     fewer = λ x none. let b = meet_before x in let w = meet_weight x in omega arith;

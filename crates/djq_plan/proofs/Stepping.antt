@@ -7,7 +7,7 @@ use Rattle.std.proofs.lemmas.List.{length_push}
 use Rattle.std.proofs.Math.Numerals.{add-one}
 use Rattle.std.proofs.lemmas.Bool.{cases_lt, cases_eq, eq-eqb, ne_eqb, lt-leb}
 use Rattle.djq_hyper.specs.Hypergraph.{member, difference, edge_at}
-use Rattle.djq_hyper.proofs.Members.{has, has_other, one_true}
+use Rattle.djq_hyper.proofs.Members.{has_bit, has_other, one_true}
 use Rattle.djq_hyper.proofs.Bags.{labels, total, total_same, times}
 use Rattle.djq_tree.specs.declared.choice.Choice.{Choice}
 use Rattle.djq_tree.specs.declared.choice.Choice.TheVariants.{Trim, Meet, Stuck}
@@ -45,7 +45,7 @@ meet_places keep L M g s same e =
 abbrev pub size : List (List ℕ) → ℕ
 size L = total (λ l. length l + 1) L
 
-filter_less : (p : ℕ → Bool) (x : ℕ) (l : List ℕ) → p x ≡ false → 0 < has x l → length (filter p l) < length l
+filter_less : (p : ℕ → Bool) (x : ℕ) (l : List ℕ) → p x ≡ false → 0 < has_bit x l → length (filter p l) < length l
 filter_less p x [] no_pass h = absurd (omega arith)
 filter_less p x (y ∷ l) no_pass h =
     elim (cases_eq x y) [
@@ -67,7 +67,7 @@ choice_falls keep L (Trim i X) t moves =
     let b = size_same L (edge_at L i ∷ remove L i) (bag_remove labels [] L i t.within) in
     let f = first_of (removable keep L i) t.some in
     let r = removed_says keep L i f.0 f.1 in
-    let k : has f.0 X ≡ has f.0 (removable keep L i) = ap (has f.0) t.are in
+    let k : has_bit f.0 X ≡ has_bit f.0 (removable keep L i) = ap (has_bit f.0) t.are in
     let p = f.1 in
     let in_X : member f.0 X ≡ true = one_true (member f.0 X) (omega arith) in
     let h = r.here in

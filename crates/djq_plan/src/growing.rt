@@ -28,7 +28,13 @@ impl Model for Growing {
 
     ghost Value = { Growth };
 
-    ghost view = { λ g. record { nodes = g.nodes.items; labels = g.labels.items; numbers = g.numbers.items; current = g.current.items } };
+    ghost view = { λ g. record {
+      nodes = g.nodes.items;
+      labels = g.labels.items;
+      numbers = g.numbers.items;
+      current =
+          g.current.items;
+    } };
 
     ghost invariant = { λ g. length g.numbers.items ≡ length g.current.items };
 }

@@ -4,7 +4,7 @@ use Rattle.std.proofs.Common.{length, take, drop, slice_index_or, refl, ap, subs
 use Rattle.std.proofs.Common.{inl, inr, length-take-le, take-append-drop, mul-le-mul_right}
 use Rattle.std.proofs.lemmas.Bool.{cases_eq}
 use Rattle.std.proofs.lemmas.List.{take_more, take-take}
-use Rattle.djq_index.specs.Tuple.{same, one}
+use Rattle.djq_index.specs.Tuple.{same, one_if}
 use Rattle.djq_index.specs.Entries.{Entry, count_of}
 use Rattle.djq_index.specs.Table.{Table}
 use Rattle.djq_index.proofs.Apart.{stands}
@@ -35,7 +35,7 @@ times-append [] vs v = omega arith
 times-append (u ∷ us) vs v = omega (arith, times-append us vs v)
 
 pub times_next : (us : List (List ℕ)) (i : ℕ) (u v : List ℕ) → i < length us → times (take (i + 1) us) v
-    ≡ times (take i us) v + one (same (slice_index_or us i u) v)
+    ≡ times (take i us) v + one_if (same (slice_index_or us i u) v)
 times_next us i u v less =
     ap (λ (xs : List (List ℕ)). times xs v) (take_more us i u less)
     ∙ times-append (take i us) (slice_index_or us i u ∷ []) v
@@ -64,7 +64,7 @@ longer_by (u ∷ us) es fs h =
       ap (λ (xs : List Entry). count_of xs v) s.is,
       cnt_middle s.front s.entry s.back v,
       ap
-          (λ (w : List ℕ). one (same w v)) s.tuple,
+          (λ (w : List ℕ). one_if (same w v)) s.tuple,
     )) in
     omega (arith, rest, ap (λ (xs : List Entry). length xs) s.is, length_middle s.front s.entry s.back)
 
@@ -85,7 +85,7 @@ come_more t old mid new a i us u h less e x l = record {
     inserted_cnt (key_at mid a) (entries_at mid a) (entries_at new a) u l.gains v,
     x.leaf v,
     times_next us i u v less,
-    ap (λ (w : List ℕ). one (same w v)) e,
+    ap (λ (w : List ℕ). one_if (same w v)) e,
   );
   others = λ j v low apart. ap (λ (es : List Entry). count_of es v)
       (l.below j (leaf_below t a j x.sound.family.is_tree low apart)) ∙ x.others j v low apart;
@@ -103,7 +103,7 @@ come_refused t old mid new a us x r = record {
 pub next_there : (us : List (List ℕ)) (i : ℕ) (u : List ℕ) → i < length us → u ≡ slice_index_or us i u
     → times (take i us) u + 1 ≤ times us u
 next_there us i u less e = omega
-    (arith, times_first us (i + 1) u, times_next us i u u less, ap (λ (w : List ℕ). one (same w u)) e, one_same u)
+    (arith, times_first us (i + 1) u, times_next us i u u less, ap (λ (w : List ℕ). one_if (same w u)) e, one_same u)
 
 pub next_absent : (t : Tree) (old mid : List Table) (a i w : ℕ) (us : List (List ℕ)) (u : List ℕ)
     → AreNew w (entries_at old a) us → HaveCome t old mid a (take i us) → i < length us → u ≡ slice_index_or us i u
@@ -157,7 +157,7 @@ gone_more t old mid new a i us u h less e x d = record {
     x.leaf v,
     times_next us i u v
         less,
-    ap (λ (w : List ℕ). one (same w v)) e,
+    ap (λ (w : List ℕ). one_if (same w v)) e,
   );
   others = λ j v low apart. ap (λ (es : List Entry). count_of es v)
       (d.below j (leaf_below t a j x.sound.family.is_tree low apart)) ∙ x.others j v low apart;
@@ -179,7 +179,7 @@ next_held t old mid a i n us u h x less long e =
       first_less us (i + 1) n u (omega arith),
       times_next us i u u (omega arith),
       ap
-          (λ (w : List ℕ). one (same w u)) e,
+          (λ (w : List ℕ). one_if (same w u)) e,
       one_same u,
     )
 

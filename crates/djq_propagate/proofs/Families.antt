@@ -7,7 +7,7 @@ use Rattle.std.proofs.Math.Bool.{or-true}
 use Rattle.std.specs.Prelude.{◌==◌}
 use Rattle.djq_index.specs.Tuple.{pick}
 use Rattle.djq_index.specs.Entries.{Entry, supports_of, count_of, group_size}
-use Rattle.djq_index.specs.Table.{Table, AreApart}
+use Rattle.djq_index.specs.Table.{Table, TuplesDiffer}
 use Rattle.djq_index.proofs.Groups.{cnt_same, many_even}
 use Rattle.djq_index.proofs.Apart.{cnt_once}
 use Rattle.djq_tree.specs.declared.node.Node.{Node}
@@ -17,10 +17,11 @@ use Rattle.djq_tree.proofs.Climbing.{rising_of}
 use Rattle.djq_reduct.specs.Tables.{no_table, table_at, entries_at, key_at}
 use Rattle.djq_reduct.specs.Reducts.{IsReductOf, IsFamily, AreReduced}
 use Rattle.djq_reduct.proofs.Family.{apart_at, entries_past}
-use Rattle.djq_propagate.specs.Walks.{Changed, Ready, ChangedOnlyAt, ReducedAbove, IsUnder, Refused, UnchangedAbove}
+use Rattle.djq_propagate.specs.Walks.{ChangedOneTable, Ready, ChangedOnlyAt, ReducedAbove, IsParentOf, Refused}
+use Rattle.djq_propagate.specs.Walks.{UnchangedAbove}
 
 -- in one family each tuple stands once at most in a table
-pub apart_of : (t : Tree) (ts : List Table) → IsFamily t ts → (k : ℕ) → AreApart (entries_at ts k)
+pub apart_of : (t : Tree) (ts : List Table) → IsFamily t ts → (k : ℕ) → TuplesDiffer (entries_at ts k)
 apart_of t ts f k = apart_at ts k (f.sound k)
 
 pub once : (t : Tree) (ts : List Table) → IsFamily t ts → (k : ℕ) (u : List ℕ) → count_of (entries_at ts k) u ≤ 1
@@ -129,21 +130,21 @@ agree_from t ts us from f g high ra rb low (suc n) k under v =
     ]
 
 -- the parent of a node
-pub child_of : (t : Tree) (k : ℕ) (n : Node) (j : ℕ) → IsUnder t k n j → has_child (node_at t.nodes k) j ≡ true
+pub child_of : (t : Tree) (k : ℕ) (n : Node) (j : ℕ) → IsParentOf t k n j → has_child (node_at t.nodes k) j ≡ true
 child_of t k n j u = subst (λ (m : Node). has_child m j ≡ true) (sym u.node) u.child
 
-pub lower_of : (t : Tree) (k : ℕ) (n : Node) (j : ℕ) → IsTree t → IsUnder t k n j → j < k
+pub lower_of : (t : Tree) (k : ℕ) (n : Node) (j : ℕ) → IsTree t → IsParentOf t k n j → j < k
 lower_of t k n j s u = rising_of t s k j (child_of t k n j u)
 
 -- a child of another node isn't j
-pub other_child : (t : Tree) (k : ℕ) (n : Node) (j i c : ℕ) → IsTree t → IsUnder t k n j → i ≢ k
+pub other_child : (t : Tree) (k : ℕ) (n : Node) (j i c : ℕ) → IsTree t → IsParentOf t k n j → i ≢ k
     → has_child (node_at t.nodes i) c ≡ true → c ≡ j → ⊥
 other_child t k n j i c s u apart child same = apart
     (s.one_parent j i k (subst (λ (x : ℕ). has_child (node_at t.nodes i) x ≡ true) same child) (child_of t k n j u))
 
 -- the equations of the nodes other than j and its parent don't read the table of j
 pub apart_keeps : (t : Tree) (was now new : List Table) (j k : ℕ) (n : Node) (i : ℕ) → ChangedOnlyAt t was now j
-    → IsUnder t k n j → IsFamily t new → i ≢ k → i ≢ j → j < i → i < length t.nodes
+    → IsParentOf t k n j → IsFamily t new → i ≢ k → i ≢ j → j < i → i < length t.nodes
     → ((v : List ℕ) → supports_of (entries_at new i) v ≡ supports_of (entries_at now i) v)
     → ((v : List ℕ) → count_of (entries_at new i) v ≡ count_of (entries_at now i) v)
     → ((c : ℕ) → c < i → c ≢ j → (v : List ℕ) → count_of (entries_at new c) v ≡ count_of (entries_at now c) v)
@@ -162,7 +163,7 @@ pub now_family : (t : Tree) (was now : List Table) (j : ℕ) → ChangedOnlyAt t
 now_family t was now j b = b.changed.family t b.ready.family
 
 -- above the parent all is as it was
-pub ready_up : (t : Tree) (was now : List Table) (j k : ℕ) (n : Node) → ChangedOnlyAt t was now j → IsUnder t k n j
+pub ready_up : (t : Tree) (was now : List Table) (j k : ℕ) (n : Node) → ChangedOnlyAt t was now j → IsParentOf t k n j
     → Ready t now k
 ready_up t was now j k n b u =
     let low = lower_of t k n j b.ready.family.is_tree u in
@@ -178,8 +179,8 @@ ready_up t was now j k n b u =
 
 -- where the parent's tuples stay, so do the equations above it
 pub above_same : (t : Tree) (was now new : List Table) (j k : ℕ) (n : Node) → ChangedOnlyAt t was now j
-    → IsUnder t k n j
-    → Changed now new k → ((v : List ℕ) → count_of (entries_at new k) v ≡ count_of (entries_at now k) v)
+    → IsParentOf t k n j
+    → ChangedOneTable now new k → ((v : List ℕ) → count_of (entries_at new k) v ≡ count_of (entries_at now k) v)
     → AreReduced t new (k + 1)
 above_same t was now new j k n b u c same =
     let low = lower_of t k n j b.ready.family.is_tree u in
@@ -197,7 +198,8 @@ above_same t was now new j k n b u c same =
     }
 
 -- the node k, the parent of j, is right again, and so are those above it: so all above j are
-pub righted : (t : Tree) (was now new : List Table) (j k : ℕ) (n : Node) → ChangedOnlyAt t was now j → IsUnder t k n j
+pub righted : (t : Tree) (was now new : List Table) (j k : ℕ) (n : Node) → ChangedOnlyAt t was now j
+    → IsParentOf t k n j
     → IsFamily t new → ((i : ℕ) → i < k → entries_at new i ≡ entries_at now i)
     → IsReductOf n new k → AreReduced t new (k + 1) → ReducedAbove t now new j
 righted t was now new j k n b u f low here above =
@@ -222,7 +224,7 @@ righted t was now new j k n b u f low here above =
     }
 
 -- nothing is to be done at the parent
-pub idle : (t : Tree) (was now : List Table) (j k : ℕ) (n : Node) → ChangedOnlyAt t was now j → IsUnder t k n j
+pub idle : (t : Tree) (was now : List Table) (j k : ℕ) (n : Node) → ChangedOnlyAt t was now j → IsParentOf t k n j
     → IsReductOf n now k → ReducedAbove t now now j
 idle t was now j k n b u here = righted t was now now j k n b u (now_family t was now j b) (λ i less. refl) here
     (ready_up t was now j k n b u).reduced
@@ -238,7 +240,8 @@ topmost t was now j b top = record {
 }
 
 -- a refusal above is one here
-pub stayed : (t : Tree) (now new : List Table) (j k : ℕ) (n : Node) → IsTree t → IsUnder t k n j → Refused t now new k
+pub stayed : (t : Tree) (now new : List Table) (j k : ℕ) (n : Node) → IsTree t → IsParentOf t k n j
+    → Refused t now new k
     → UnchangedAbove t now new j
 stayed t now new j k n s u r =
     let lower = lower_of t k n j s u in

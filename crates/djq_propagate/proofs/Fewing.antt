@@ -3,7 +3,7 @@ use Rattle.std.proofs.Common.{◌≡◌, ◌≢◌, ℕ, ◌<◌, ◌≤◌, Boo
 use Rattle.std.proofs.Common.{refl, ap, subst, sym, ◌∙◌, arith, inl, inr}
 use Rattle.std.specs.Prelude.{◌==◌}
 use Rattle.std.proofs.lemmas.Bool.{cases_eq, cases_lt, cases_Bool}
-use Rattle.djq_index.specs.Tuple.{same, pick, one}
+use Rattle.djq_index.specs.Tuple.{same, pick, one_if}
 use Rattle.djq_index.specs.Entries.{Entry, count_of, group_size, marks, unmarked}
 use Rattle.djq_index.specs.Table.{Table}
 use Rattle.djq_index.proofs.Tuples.{same_cases, same_is, true_from_one, one_same, one_other}
@@ -18,9 +18,9 @@ use Rattle.djq_tree.specs.Tree.{Tree, node_at, has_child}
 use Rattle.djq_reduct.specs.Marks.{path_at, IsBare, agreeing}
 use Rattle.djq_reduct.specs.Reducts.{IsReductOf, IsReducts, IsFamily}
 use Rattle.djq_reduct.specs.Tables.{entries_at, key_at}
-use Rattle.djq_propagate.specs.Touches.{IsTouched, IsTouchedUp, HaveFew, CanWalk, IsWalked, IsStep, reach, cost}
+use Rattle.djq_propagate.specs.Touches.{IsTouched, IsTouchedUp, HaveFew, CanWalk, IsWalked, IsStepUp, reach, cost}
 use Rattle.djq_propagate.specs.Updates.{HasTaken}
-use Rattle.djq_propagate.specs.Walks.{Changed, InsertedUpwards, RemovedUpwards, CameAs}
+use Rattle.djq_propagate.specs.Walks.{ChangedOneTable, InsertedUpwards, RemovedUpwards, CameAs}
 use Rattle.djq_propagate.proofs.Families.{once, tuples_same, reduced_same}
 use Rattle.djq_propagate.proofs.Marking.{reach_agrees, guard_some, bare_mid, covered_mid}
 use Rattle.djq_propagate.proofs.Measuring.{length_less}
@@ -40,8 +40,8 @@ few_same (e ∷ f ∷ es) most h =
     let a = cnt_cons e (f ∷ es) e.tuple in let b = cnt_cons f es e.tuple in
     let c = cnt_cons e (f ∷ es) f.tuple in let d = cnt_cons f es f.tuple in
     let x = one_same e.tuple in let y = one_same f.tuple in
-    let twice : one (same f.tuple e.tuple)
-    ≡ 1 = ap (λ (w : List ℕ). one (same f.tuple w)) (h e.tuple f.tuple (omega arith) (omega arith)) ∙ y in
+    let twice : one_if (same f.tuple e.tuple)
+    ≡ 1 = ap (λ (w : List ℕ). one_if (same f.tuple w)) (h e.tuple f.tuple (omega arith) (omega arith)) ∙ y in
     let m = most e.tuple in
     absurd (omega arith)
 
@@ -129,7 +129,7 @@ few_lived t old new a u meets r leaf bare l p =
     )
 
 pub few_marked : (t : Tree) (old new : List Table) (a : ℕ) (u : List ℕ) → IsBare old
-    → IsTouched t old new a (λ v. one (same u v)) → HaveFew new
+    → IsTouched t old new a (λ v. one_if (same u v)) → HaveFew new
 few_marked t old new a u bare x = record {
   each = λ i. elim (cases_eq i a) [
     | inl here ↦
@@ -247,7 +247,7 @@ few_cost t ts (Meet g d) j k meets f e within few =
           )
     ]
 
-pub step_few : (t : Tree) (ts : List Table) (j k : ℕ) → HasEqualMeets t → IsStep t ts j k
+pub step_few : (t : Tree) (ts : List Table) (j k : ℕ) → HasEqualMeets t → IsStepUp t ts j k
     → length (marks (entries_at ts j)) ≤ 1 → cost (node_at t.nodes k) j ts (marks (entries_at ts j)) ≤ 5
 step_few t ts j k meets s few = few_cost t ts (node_at t.nodes k) j k meets s.family refl s.within few
 
@@ -256,7 +256,8 @@ step_few t ts j k meets s few = few_cost t ts (node_at t.nodes k) j k meets s.fa
 bare_marks : (es : List Entry) → length (marks (unmarked es)) ≡ 0
 bare_marks es = ap (λ (xs : List Entry). length xs) (unmarked_marks es)
 
-pub few_cleared : (old new : List Table) (k : ℕ) → Changed old new k → entries_at new k ≡ unmarked (entries_at old k)
+pub few_cleared : (old new : List Table) (k : ℕ) → ChangedOneTable old new k
+    → entries_at new k ≡ unmarked (entries_at old k)
     → HaveFew old → HaveFew new
 few_cleared old new k c e few = record {
   each = λ i. elim (cases_eq i k) [
@@ -268,7 +269,8 @@ few_cleared old new k c e few = record {
 
 pub few_clear_more : (n : Node) (mid new : List Table) (j k : ℕ)
     → (has_child n j ≡ true → entries_at new k ≡ unmarked (entries_at mid k))
-    → (has_child n j ≡ true → Changed mid new k) → (has_child n j ≡ false → new ≡ mid) → HaveFew mid → HaveFew new
+    → (has_child n j ≡ true → ChangedOneTable mid new k) → (has_child n j ≡ false → new ≡ mid)
+    → HaveFew mid → HaveFew new
 few_clear_more n mid new j k clear change apart few =
     elim (cases_Bool (has_child n j)) [
       | inl child ↦ few_cleared mid new k (change child) (clear child) few

@@ -5,7 +5,7 @@ use Rattle.std.proofs.lemmas.Bool.{cases_eq, cases_lt}
 use Rattle.std.proofs.lemmas.List.{length-map}
 use Rattle.std.specs.Prelude.{slice_index}
 use Rattle.djq_index.specs.declared.place.Place.{Place}
-use Rattle.djq_index.specs.Tuple.{same, pick, one}
+use Rattle.djq_index.specs.Tuple.{same, pick, one_if}
 use Rattle.djq_index.specs.Entries.{Entry, supports_of, count_of, group_size, group_of}
 use Rattle.djq_index.specs.Changes.{InsertedAs, Removed, Supported}
 use Rattle.djq_index.specs.Table.{Table, IsAt}
@@ -25,21 +25,21 @@ use Rattle.djq_reduct.specs.Columns.{column, columns}
 use Rattle.djq_reduct.specs.Tables.{entries_at, key_at, width_at}
 use Rattle.djq_reduct.specs.Reducts.{IsReductOf, IsFamily}
 use Rattle.djq_reduct.proofs.Family.{trim_law, meet_law}
-use Rattle.djq_propagate.specs.Walks.{Changed, Ready, InsertedUpwards, Refused, ChangedOnlyAt, ReducedAbove}
+use Rattle.djq_propagate.specs.Walks.{ChangedOneTable, Ready, InsertedUpwards, Refused, ChangedOnlyAt, ReducedAbove}
 use Rattle.djq_propagate.specs.Walks.{UnchangedAbove}
-use Rattle.djq_propagate.specs.Walks.{IsUnder, IsGrown, IsEmptied, IsFull}
+use Rattle.djq_propagate.specs.Walks.{IsParentOf, IsGrown, IsEmptied, CoversAll}
 use Rattle.djq_propagate.proofs.Sides.{group_once, group_has, take_le, take_all, cut_new, cond_one}
 use Rattle.djq_propagate.proofs.Families.{once, apart_of, same_keys, child_of, lower_of, now_family}
 use Rattle.djq_propagate.proofs.Families.{ready_up, above_same, righted, idle, below_up, reduced_same, agree_from}
 
 -- the equation of a parent, before its child changed
-pub law_of : (t : Tree) (was now : List Table) (j k : ℕ) (n : Node) → ChangedOnlyAt t was now j → IsUnder t k n j
+pub law_of : (t : Tree) (was now : List Table) (j k : ℕ) (n : Node) → ChangedOnlyAt t was now j → IsParentOf t k n j
     → IsReductOf n was k
 law_of t was now j k n b u =
     let low = lower_of t k n j b.ready.family.is_tree u in
     subst (λ (m : Node). IsReductOf m was k) u.node (b.ready.reduced.at k (omega arith) u.within)
 
-pub same_up : (t : Tree) (was now : List Table) (j k : ℕ) (n : Node) → ChangedOnlyAt t was now j → IsUnder t k n j
+pub same_up : (t : Tree) (was now : List Table) (j k : ℕ) (n : Node) → ChangedOnlyAt t was now j → IsParentOf t k n j
     → entries_at now k ≡ entries_at was k
 same_up t was now j k n b u = let low = lower_of t k n j b.ready.family.is_tree u in b.changed.others k (omega arith)
 
@@ -65,31 +65,31 @@ unfolding pick
 pick_length ks u = length-map ks (λ c. slice_index u c)
 
 -- under a trim
-pub trim_key : (t : Tree) (ts : List Table) (j k : ℕ) → IsFamily t ts → j < length t.nodes → IsUnder t k (Trim j) j
+pub trim_key : (t : Tree) (ts : List Table) (j k : ℕ) → IsFamily t ts → j < length t.nodes → IsParentOf t k (Trim j) j
     → length (key_at ts j) ≡ length (label_at t.labels k)
 trim_key t ts j k f h u = key_length t ts j f h ∙ ap (λ (l : List ℕ). length l) (key_of_trim t k j f.is_tree u.node)
 
-pub trim_few : (t : Tree) (ts : List Table) (j k : ℕ) → IsFamily t ts → j < length t.nodes → IsUnder t k (Trim j) j
+pub trim_few : (t : Tree) (ts : List Table) (j k : ℕ) → IsFamily t ts → j < length t.nodes → IsParentOf t k (Trim j) j
     → length (key_at ts j) ≤ 16
 trim_few t ts j k f h u = let n = f.narrow.labels k in omega (arith, trim_key t ts j k f h u)
 
 pub trim_wide : (t : Tree) (ts : List Table) (j k : ℕ) (v w : List ℕ) → IsFamily t ts → j < length t.nodes
-    → IsUnder t k (Trim j) j → w ≡ pick (key_at ts j) v → length w ≡ width_at ts k
+    → IsParentOf t k (Trim j) j → w ≡ pick (key_at ts j) v → length w ≡ width_at ts k
 trim_wide t ts j k v w f h u e = ap (λ (x : List ℕ). length x) e ∙ pick_length (key_at ts j) v ∙ trim_key t ts j k f h u
     ∙ sym (f.keyed k u.within).width
 
 trim_equation : {m : Bool} (t : Tree) (was now new : List Table) (j k : ℕ) (u w : List ℕ) → ChangedOnlyAt t was now j
-    → IsUnder t k (Trim j) j → IsFamily t new → entries_at new j ≡ entries_at now j
+    → IsParentOf t k (Trim j) j → IsFamily t new → entries_at new j ≡ entries_at now j
     → InsertedAs m (key_at was j) (entries_at was j) (entries_at now j) u → w ≡ pick (key_at now j) u
-    → ((v : List ℕ) → supports_of (entries_at new k) v ≡ supports_of (entries_at now k) v + one (same w v))
+    → ((v : List ℕ) → supports_of (entries_at new k) v ≡ supports_of (entries_at now k) v + one_if (same w v))
     → IsReductOf (Trim j) new k
 unfolding IsReductOf
 trim_equation {m} t was now new j k u w b x f stay i e gain v =
     let keys : key_at new j ≡ key_at was j = same_keys t was new b.ready.family f j in
     let law = trim_law (Trim j) j was k refl (law_of t was now j k (Trim j) b x) v in
     let more = inserted_many (key_at was j) (entries_at was j) (entries_at now j) u i (key_at was j) v in
-    let here : one (same w v)
-    ≡ one (same (pick (key_at was j) u) v) = ap (λ (y : List ℕ). one (same y v))
+    let here : one_if (same w v)
+    ≡ one_if (same (pick (key_at was j) u) v) = ap (λ (y : List ℕ). one_if (same y v))
     (e ∙ ap (λ (ks : List ℕ). pick ks u) (keys_now t was now j b j)) in
     let right : group_size (key_at new j) (entries_at new j) v
     ≡ group_size (key_at was j) (entries_at now j) v = ap₂ (λ (ks : List ℕ) (es : List Entry). group_size ks es v)
@@ -101,7 +101,8 @@ trim_equation {m} t was now new j k u w b x f stay i e gain v =
 
 -- the projection was there
 pub trim_raised : {m : Bool} (t : Tree) (was now new : List Table) (j k : ℕ) (u w : List ℕ) → ChangedOnlyAt t was now j
-    → InsertedAs m (key_at was j) (entries_at was j) (entries_at now j) u → IsUnder t k (Trim j) j → Changed now new k
+    → InsertedAs m (key_at was j) (entries_at was j) (entries_at now j) u → IsParentOf t k (Trim j) j
+    → ChangedOneTable now new k
     → Supported (entries_at now k) (entries_at new k) w (supports_of (entries_at now k) w)
     (supports_of (entries_at now k) w + 1) → w
     ≡ pick (key_at now j) u → ReducedAbove t now new j
@@ -122,7 +123,7 @@ lived_low t now new k w s l i less = l.below i (below_up t k i s less)
 
 -- it came
 pub trim_lived : {m : Bool} (t : Tree) (was now new : List Table) (j k : ℕ) (u w : List ℕ) → ChangedOnlyAt t was now j
-    → InsertedAs m (key_at was j) (entries_at was j) (entries_at now j) u → IsUnder t k (Trim j) j
+    → InsertedAs m (key_at was j) (entries_at was j) (entries_at now j) u → IsParentOf t k (Trim j) j
     → InsertedUpwards t now new k w
     → w ≡ pick (key_at now j) u → ReducedAbove t now new j
 trim_lived {m} t was now new j k u w b i x l e =
@@ -135,7 +136,7 @@ trim_lived {m} t was now new j k u w b i x l e =
 
 -- a trim's tuple has no more supports than there is room for
 pub trim_room : {m : Bool} (t : Tree) (was now : List Table) (j k : ℕ) (u w : List ℕ) → ChangedOnlyAt t was now j
-    → InsertedAs m (key_at was j) (entries_at was j) (entries_at now j) u → IsUnder t k (Trim j) j
+    → InsertedAs m (key_at was j) (entries_at was j) (entries_at now j) u → IsParentOf t k (Trim j) j
     → length (entries_at now j) ≤ 4294967295 → supports_of (entries_at now k) w < 4294967295
 trim_room {m} t was now j k u w b i x small =
     omega (
@@ -159,18 +160,19 @@ was_absent {m} t was now j u b i =
     )
 
 -- at a guard
-pub guard_few : (t : Tree) (ts : List Table) (j s k : ℕ) → IsFamily t ts → j < length t.nodes → IsUnder t k (Meet j s) j
+pub guard_few : (t : Tree) (ts : List Table) (j s k : ℕ) → IsFamily t ts → j < length t.nodes
+    → IsParentOf t k (Meet j s) j
     → length (key_at ts j) ≤ 16
 guard_few t ts j s k f h u = let n = f.narrow.labels s in omega
     (arith, key_length t ts j f h, ap (λ (l : List ℕ). length l) (key_of_guard t k j s f.is_tree u.node))
 
 pub guard_wide : (t : Tree) (ts : List Table) (j s k : ℕ) → IsFamily t ts → j < length t.nodes
-    → IsUnder t k (Meet j s) j → width_at ts k ≡ width_at ts j
+    → IsParentOf t k (Meet j s) j → width_at ts k ≡ width_at ts j
 guard_wide t ts j s k f h u = (f.keyed k u.within).width
     ∙ ap (λ (l : List ℕ). length l) (f.is_tree.meet k j s u.node).guard ∙ sym (f.keyed j h).width
 
 pub guard_absent : {m : Bool} (t : Tree) (was now : List Table) (j s k : ℕ) (u : List ℕ) → ChangedOnlyAt t was now j
-    → InsertedAs m (key_at was j) (entries_at was j) (entries_at now j) u → IsUnder t k (Meet j s) j
+    → InsertedAs m (key_at was j) (entries_at was j) (entries_at now j) u → IsParentOf t k (Meet j s) j
     → count_of (entries_at now k) u ≡ 0
 guard_absent {m} t was now j s k u b i x =
     let law : supports_of (entries_at was k) u
@@ -184,25 +186,25 @@ guard_absent {m} t was now j s k u b i x =
     ap (λ (es : List Entry). count_of es u) (same_up t was now j k (Meet j s) b x)
     ∙ cnt_none (entries_at was k) u (b.ready.family.supported k) zero_supp
 
-pub side_stays : (t : Tree) (was now : List Table) (j s k : ℕ) → ChangedOnlyAt t was now j → IsUnder t k (Meet j s) j
+pub side_stays : (t : Tree) (was now : List Table) (j s k : ℕ) → ChangedOnlyAt t was now j → IsParentOf t k (Meet j s) j
     → entries_at now s ≡ entries_at was s
 side_stays t was now j s k b x = let m = b.ready.family.is_tree.meet k j s x.node in let apart = m.apart in
     b.changed.others s (omega arith)
 
-times_one : (u v : List ℕ) (f : List ℕ → ℕ) (n : ℕ) → f u ≡ n → one (same u v) * f v ≡ one (same u v) * n
+times_one : (u v : List ℕ) (f : List ℕ → ℕ) (n : ℕ) → f u ≡ n → one_if (same u v) * f v ≡ one_if (same u v) * n
 times_one u v f n h =
     elim (same_cases u v) [
-      | inl here ↦ ap (λ (m : ℕ). one (same u v) * m) (ap f (sym here) ∙ h)
+      | inl here ↦ ap (λ (m : ℕ). one_if (same u v) * m) (ap f (sym here) ∙ h)
       | inr other ↦ (let e = one_other u v other in rw e (omega arith))
     ]
 
 guard_equation : {m : Bool} (t : Tree) (was now new : List Table) (j s k : ℕ) (u : List ℕ) (n : ℕ)
     → ChangedOnlyAt t was now j
-    → IsUnder t k (Meet j s) j → IsFamily t new → entries_at new j ≡ entries_at now j → entries_at new s
+    → IsParentOf t k (Meet j s) j → IsFamily t new → entries_at new j ≡ entries_at now j → entries_at new s
     ≡ entries_at now s
     → InsertedAs m (key_at was j) (entries_at was j) (entries_at now j) u
     → count_of (entries_at now s) (pick (key_at now j) u) ≡ n
-    → ((v : List ℕ) → supports_of (entries_at new k) v ≡ supports_of (entries_at now k) v + one (same u v) * n)
+    → ((v : List ℕ) → supports_of (entries_at new k) v ≡ supports_of (entries_at now k) v + one_if (same u v) * n)
     → IsReductOf (Meet j s) new k
 unfolding IsReductOf
 guard_equation {m} t was now new j s k u n b x f stay side i has gain v =
@@ -215,15 +217,15 @@ guard_equation {m} t was now new j s k u n b x f stay side i has gain v =
     (sym (keys_now t was now j b j)) ∙ has in
     let times = times_one u v (λ w. count_of (entries_at was s) (pick (key_at was j) w)) n part in
     let first : count_of (entries_at new j) v
-    ≡ count_of (entries_at was j) v + one (same u v) = ap (λ (es : List Entry). count_of es v) stay ∙ more in
+    ≡ count_of (entries_at was j) v + one_if (same u v) = ap (λ (es : List Entry). count_of es v) stay ∙ more in
     let second : count_of (entries_at new s) (pick (key_at new j) v)
     ≡ count_of (entries_at was s) (pick (key_at was j) v) = ap₂ (λ (es : List Entry) (ks : List ℕ). count_of es
     (pick ks v))
     sides keys in
     let both : count_of (entries_at new j) v * count_of (entries_at new s) (pick (key_at new j) v)
-    ≡ (count_of (entries_at was j) v + one (same u v)) * count_of (entries_at was s) (pick (key_at was j) v) = ap₂
+    ≡ (count_of (entries_at was j) v + one_if (same u v)) * count_of (entries_at was s) (pick (key_at was j) v) = ap₂
     (λ (a c : ℕ). a * c) first second in
-    let spread = distributes (count_of (entries_at was j) v) (one (same u v))
+    let spread = distributes (count_of (entries_at was j) v) (one_if (same u v))
     (count_of (entries_at was s) (pick (key_at was j) v)) in
     let up : supports_of (entries_at now k) v
     ≡ supports_of (entries_at was k) v = ap (λ (es : List Entry). supports_of es v) (same_up t was now j k (Meet j s)
@@ -236,7 +238,7 @@ guard_equation {m} t was now new j s k u n b x f stay side i has gain v =
 -- the side has the projection
 pub guard_lived : {m : Bool} (t : Tree) (was now new : List Table) (j s k : ℕ) (u : List ℕ) (p : Place)
     → ChangedOnlyAt t was now j → InsertedAs m (key_at was j) (entries_at was j) (entries_at now j) u
-    → IsUnder t k (Meet j s) j
+    → IsParentOf t k (Meet j s) j
     → InsertedUpwards t now new k u
     → IsAt (entries_at now s) p (pick (key_at now j) u) → ReducedAbove t now new j
 guard_lived {m} t was now new j s k u p b i x l a =
@@ -257,7 +259,7 @@ guard_lived {m} t was now new j s k u p b i x l a =
 
 -- it doesn't
 pub guard_idle : {m : Bool} (t : Tree) (was now : List Table) (j s k : ℕ) (u : List ℕ) → ChangedOnlyAt t was now j
-    → InsertedAs m (key_at was j) (entries_at was j) (entries_at now j) u → IsUnder t k (Meet j s) j
+    → InsertedAs m (key_at was j) (entries_at was j) (entries_at now j) u → IsParentOf t k (Meet j s) j
     → count_of (entries_at now s) (pick (key_at now j) u) ≡ 0 → ReducedAbove t now now j
 guard_idle {m} t was now j s k u b i x none =
     idle t was now j k (Meet j s) b x
@@ -276,7 +278,7 @@ meet_high t k g s h e =
 
 -- at a side: none of the group that comes was there
 pub side_none : {m : Bool} (t : Tree) (was now : List Table) (g j k : ℕ) (u v : List ℕ) → ChangedOnlyAt t was now j
-    → InsertedAs m (key_at was j) (entries_at was j) (entries_at now j) u → IsUnder t k (Meet g j) j
+    → InsertedAs m (key_at was j) (entries_at was j) (entries_at now j) u → IsParentOf t k (Meet g j) j
     → pick (key_at now g) v ≡ u → supports_of (entries_at now k) v ≡ 0
 side_none {m} t was now g j k u v b i x here =
     let law : supports_of (entries_at was k) v
@@ -292,7 +294,7 @@ side_none {m} t was now g j k u v b i x here =
 
 pub side_absent : {m : Bool} (t : Tree) (was now mid : List Table) (g j k i : ℕ) (u : List ℕ) (e : Entry)
     → ChangedOnlyAt t was now j → InsertedAs m (key_at was j) (entries_at was j) (entries_at now j) u
-    → IsUnder t k (Meet g j) j
+    → IsParentOf t k (Meet g j) j
     → IsGrown t now mid k (take i (group_of (key_at now g) (entries_at now g) u)) → group_of (key_at now g)
     (entries_at now g) u
     ≡ take i (group_of (key_at now g) (entries_at now g) u) ++ e ∷ drop (i + 1) (group_of (key_at now g)
@@ -311,7 +313,7 @@ side_absent {m} t was now mid g j k i u e b ins x grown cut =
 -- the whole group came
 pub side_righted : {mark : Bool} (t : Tree) (was now new : List Table) (g j k i : ℕ) (u : List ℕ)
     → ChangedOnlyAt t was now j
-    → InsertedAs mark (key_at was j) (entries_at was j) (entries_at now j) u → IsUnder t k (Meet g j) j
+    → InsertedAs mark (key_at was j) (entries_at was j) (entries_at now j) u → IsParentOf t k (Meet g j) j
     → IsGrown t now new k (take i (group_of (key_at now g) (entries_at now g) u))
     → drop i (group_of (key_at now g) (entries_at now g) u) ≡ [] → ReducedAbove t now new j
 unfolding IsReductOf
@@ -338,21 +340,21 @@ side_righted {mark} t was now new g j k i u b ins x grown ends = righted t was n
         let first : count_of (entries_at new g) v
         ≡ count_of (entries_at was g) v = ap (λ (es : List Entry). count_of es v) (grown.low g low ∙ guards) in
         let second : count_of (entries_at new j) (pick (key_at new g) v)
-        ≡ count_of (entries_at was j) (pick (key_at was g) v) + one (same u (pick (key_at was g) v)) =
+        ≡ count_of (entries_at was j) (pick (key_at was g) v) + one_if (same u (pick (key_at was g) v)) =
         ap₂ (λ (es : List Entry) (ks : List ℕ). count_of es (pick ks v)) (grown.low j low_side) keys
         ∙ inserted_cnt (key_at was j) (entries_at was j) (entries_at now j) u ins (pick (key_at was g) v) in
         let both : count_of (entries_at new g) v * count_of (entries_at new j) (pick (key_at new g) v)
         ≡ count_of (entries_at was g) v *
-        (count_of (entries_at was j) (pick (key_at was g) v) + one (same u (pick (key_at was g) v))) = ap₂
+        (count_of (entries_at was j) (pick (key_at was g) v) + one_if (same u (pick (key_at was g) v))) = ap₂
         (λ (a c : ℕ). a * c) first second in
         let sum = spread (count_of (entries_at was g) v) (count_of (entries_at was j) (pick (key_at was g) v))
-        (one (same u (pick (key_at was g) v))) in
+        (one_if (same u (pick (key_at was g) v))) in
         let group : count_of (group_of (key_at now g) (entries_at now g) u) v
-        ≡ count_of (entries_at was g) v * one (same u (pick (key_at was g) v)) =
+        ≡ count_of (entries_at was g) v * one_if (same u (pick (key_at was g) v)) =
         cnt_grp (key_at now g) (entries_at now g) u v
-        ∙ ap₂ (λ (es : List Entry) (ks : List ℕ). count_of es v * one (same (pick ks v) u)) guards
+        ∙ ap₂ (λ (es : List Entry) (ks : List ℕ). count_of es v * one_if (same (pick ks v) u)) guards
         (keys_now t was now j b g)
-        ∙ ap (λ (q : Bool). count_of (entries_at was g) v * one q) (same_sym (pick (key_at was g) v) u) in
+        ∙ ap (λ (q : Bool). count_of (entries_at was g) v * one_if q) (same_sym (pick (key_at was g) v) u) in
         let up : supports_of (entries_at now k) v
         ≡ supports_of (entries_at was k) v = ap (λ (es : List Entry). supports_of es v)
         (same_up t was now j k (Meet g j) b x) in
@@ -361,9 +363,9 @@ side_righted {mark} t was now new g j k i u b ins x grown ends = righted t was n
 -- a refusal above, and what came before it
 pub side_full : {m : Bool} (t : Tree) (was now mid after : List Table) (g j k i : ℕ) (u : List ℕ)
     → ChangedOnlyAt t was now j
-    → InsertedAs m (key_at was j) (entries_at was j) (entries_at now j) u → IsUnder t k (Meet g j) j
+    → InsertedAs m (key_at was j) (entries_at was j) (entries_at now j) u → IsParentOf t k (Meet g j) j
     → IsGrown t now mid k (take i (group_of (key_at now g) (entries_at now g) u)) → Refused t mid after k
-    → IsFull (entries_at after k) (take i (group_of (key_at now g) (entries_at now g) u))
+    → CoversAll (entries_at after k) (take i (group_of (key_at now g) (entries_at now g) u))
 side_full {m} t was now mid after g j k i u b ins x grown r = record {
   each = λ v some.
       let all = group_of (key_at now g) (entries_at now g) u in
@@ -391,7 +393,7 @@ same_group t now mid after g k i u es s f low grown r =
     (r.below g (below_up t k g s low) ∙ grown.low g low)
 
 pub side_stayed : (t : Tree) (was now mid after new : List Table) (g j k i : ℕ) (u : List ℕ) → ChangedOnlyAt t was now j
-    → IsUnder t k (Meet g j) j
+    → IsParentOf t k (Meet g j) j
     → IsGrown t now mid k (take i (group_of (key_at now g) (entries_at now g) u)) → Refused t mid after k
     → IsEmptied t after new k (take i (group_of (key_at after g) (entries_at after g) u)) → UnchangedAbove t now new j
 side_stayed t was now mid after new g j k i u b x grown r e = record {
@@ -435,9 +437,9 @@ side_stayed t was now mid after new g j k i u b x grown r e = record {
 
 -- the table of the node itself, once its tuple is taken back
 pub refused_here : {m : Bool} (t : Tree) (old mid after new : List Table) (j : ℕ) (u : List ℕ) → Ready t old j
-    → count_of (entries_at old j) u ≡ 0 → Changed old mid j
+    → count_of (entries_at old j) u ≡ 0 → ChangedOneTable old mid j
     → InsertedAs m (key_at old j) (entries_at old j) (entries_at mid j) u
-    → UnchangedAbove t mid after j → Changed after new j → Removed (entries_at after j) (entries_at new j) u
+    → UnchangedAbove t mid after j → ChangedOneTable after new j → Removed (entries_at after j) (entries_at new j) u
     → Refused t old new j
 refused_here {m} t old mid after new j u r absent c i s d x = record {
   family = d.family t s.family;
@@ -476,7 +478,7 @@ refused_here {m} t old mid after new j u r absent c i s d x = record {
         ]
 
 -- the node has gained it, and those above are right
-pub lived_here : {m : Bool} (t : Tree) (old mid new : List Table) (j : ℕ) (u : List ℕ) → Changed old mid j
+pub lived_here : {m : Bool} (t : Tree) (old mid new : List Table) (j : ℕ) (u : List ℕ) → ChangedOneTable old mid j
     → InsertedAs m (key_at old j) (entries_at old j) (entries_at mid j) u → ReducedAbove t mid new j
     → InsertedUpwards t old new j u
 lived_here {m} t old mid new j u c i r = record {

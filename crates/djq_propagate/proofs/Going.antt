@@ -7,7 +7,7 @@ use Rattle.std.proofs.lemmas.Bool.{cases_eq, cases_Bool, eqb-true, eq-eqb, ne_eq
 use Rattle.djq_index.specs.declared.place.Place.{Place}
 use Rattle.djq_index.specs.Tuple.{same, pick}
 use Rattle.djq_index.specs.Entries.{Entry, supports_of, count_of, group_of, marks, head_at}
-use Rattle.djq_index.specs.Table.{Table, IsAt, IsLive}
+use Rattle.djq_index.specs.Table.{Table, IsAt, IsOccupied}
 use Rattle.djq_index.proofs.Groups.{grp_yes, grp_no}
 use Rattle.djq_index.proofs.Marks.{marks_yes, marks_no}
 use Rattle.djq_index.proofs.Walking.{WalkCut, walk_cut}
@@ -17,7 +17,7 @@ use Rattle.djq_tree.specs.Tree.{Tree, IsTree, node_at, has_child, parent}
 use Rattle.djq_tree.proofs.Climbing.{parent_above, rising_of}
 use Rattle.djq_reduct.specs.Tables.{entries_at, key_at, width_at}
 use Rattle.djq_reduct.specs.Reducts.{IsFamily}
-use Rattle.djq_propagate.specs.Walks.{Changed, IsUnder, Refused, CameAs, unlike}
+use Rattle.djq_propagate.specs.Walks.{ChangedOneTable, IsParentOf, Refused, CameAs, unlike}
 use Rattle.djq_propagate.proofs.Families.{same_keys}
 use Rattle.djq_propagate.proofs.Tabling.{IsRead, family_read}
 
@@ -44,7 +44,7 @@ pub trim_same : (c j : ℕ) → has_child (Trim c) j ≡ true → c ≡ j
 trim_same c j h = eqb-true c j h
 
 pub under_trim : (t : Tree) (j k c : ℕ) (o : Option ℕ) (n : Node) → IsTree t → o ≡ parent t.nodes j → o ≡ Some k
-    → k < length t.nodes → n ≡ node_at t.nodes k → n ≡ Trim c → IsUnder t k (Trim j) j
+    → k < length t.nodes → n ≡ node_at t.nodes k → n ≡ Trim c → IsParentOf t k (Trim j) j
 under_trim t j k c o n s up is within here e =
     let at : node_at t.nodes k ≡ Trim c = sym here ∙ e in
     let h : has_child (Trim c) j ≡ true = subst (λ (m : Node). has_child m j ≡ true) at (child_at t j k o s up is) in
@@ -57,7 +57,7 @@ under_trim t j k c o n s up is within here e =
     }
 
 pub under_guard : (t : Tree) (j k g d : ℕ) (o : Option ℕ) (n : Node) → IsTree t → o ≡ parent t.nodes j → o ≡ Some k
-    → k < length t.nodes → n ≡ node_at t.nodes k → n ≡ Meet g d → g ≡ j → IsUnder t k (Meet j d) j
+    → k < length t.nodes → n ≡ node_at t.nodes k → n ≡ Meet g d → g ≡ j → IsParentOf t k (Meet j d) j
 under_guard t j k g d o n s up is within here e same_one =
     let at : node_at t.nodes k ≡ Meet g d = sym here ∙ e in
     let h : has_child (Meet g d) j ≡ true = subst (λ (m : Node). has_child m j ≡ true) at (child_at t j k o s up is) in
@@ -73,7 +73,7 @@ or_right false b e h = h
 or_right true b e h = absurd (false≢true (sym e))
 
 pub under_side : (t : Tree) (j k g d : ℕ) (o : Option ℕ) (n : Node) → IsTree t → o ≡ parent t.nodes j → o ≡ Some k
-    → k < length t.nodes → n ≡ node_at t.nodes k → n ≡ Meet g d → (g ≡ j → ⊥) → IsUnder t k (Meet g j) j
+    → k < length t.nodes → n ≡ node_at t.nodes k → n ≡ Meet g d → (g ≡ j → ⊥) → IsParentOf t k (Meet g j) j
 under_side t j k g d o n s up is within here e apart =
     let at : node_at t.nodes k ≡ Meet g d = sym here ∙ e in
     let h : has_child (Meet g d) j ≡ true = subst (λ (m : Node). has_child m j ≡ true) at (child_at t j k o s up is) in
@@ -86,7 +86,7 @@ under_side t j k g d o n s up is within here e apart =
     }
 
 -- the other child of a meet
-pub guard_under : (t : Tree) (k g d j : ℕ) → IsUnder t k (Meet g d) j → IsUnder t k (Meet g d) g
+pub guard_under : (t : Tree) (k g d j : ℕ) → IsParentOf t k (Meet g d) j → IsParentOf t k (Meet g d) g
 guard_under t k g d j u = record { within = u.within; node = u.node; child = guard_has g d }
   where
     guard_has : (x y : ℕ) → has_child (Meet x y) x ≡ true
@@ -150,7 +150,7 @@ mark_at (x ∷ es) xs e ys h =
     ]
 
 -- what an index reads at a meet's guard
-pub guard_read : (t : Tree) (ts : List Table) (j k g : ℕ) (x : Table) → IsFamily t ts → IsUnder t k (Meet g j) j
+pub guard_read : (t : Tree) (ts : List Table) (j k g : ℕ) (x : Table) → IsFamily t ts → IsParentOf t k (Meet g j) j
     → x ≡ slice_index_or ts g x → IsRead ts g x
 guard_read t ts j k g x f u e =
     let m = f.is_tree.meet k g j u.node in
@@ -168,7 +168,7 @@ pub cut_at : (ks : List ℕ) (es : List Entry) (w : List ℕ) (i : ℕ) (p : Pla
 cut_at ks es w i p k = subst (λ (q : Place). IsAt es q k.entry.tuple) k.at
     (group_at ks es w (take i (group_of ks es w)) k.entry (drop (i + 1) (group_of ks es w)) k.is)
 
-pub as_live : (es : List Entry) (p : Place) (u : List ℕ) → IsAt es p u → IsLive es p
+pub as_live : (es : List Entry) (p : Place) (u : List ℕ) → IsAt es p u → IsOccupied es p
 as_live es p u a = record { tuple = u; is_at = a }
 
 pub moved_at : (es ds : List Entry) (p : Place) (u : List ℕ) → ds ≡ es → IsAt es p u → IsAt ds p u
@@ -193,7 +193,8 @@ err_map (Ok a) P Q f h = tt
 err_map (Err e) P Q f h = f h
 
 -- nothing came
-pub refused_none : (t : Tree) (old new : List Table) (j : ℕ) → IsFamily t old → Changed old new j → entries_at new j
+pub refused_none : (t : Tree) (old new : List Table) (j : ℕ) → IsFamily t old → ChangedOneTable old new j
+    → entries_at new j
     ≡ entries_at old j → Refused t old new j
 refused_none t old new j f c e = record {
   family = c.family t f;
@@ -207,7 +208,8 @@ refused_none t old new j f c e = record {
       | inr apart ↦ c.others i apart
     ]
 
-pub plain_none : {m : Bool} (old new : List Table) (j : ℕ) → Changed old new j → entries_at new j ≡ entries_at old j
+pub plain_none : {m : Bool} (old new : List Table) (j : ℕ) → ChangedOneTable old new j
+    → entries_at new j ≡ entries_at old j
     → CameAs m old new
 plain_none {m} old new j c e = record { same = λ i v. ap (λ (es : List Entry). count_of (unlike m es) v) (all i) }
   where

@@ -1,7 +1,7 @@
 -- A node has lost a tuple: what its parent loses.
 use Rattle.std.proofs.Common.{◌≡◌, ◌≢◌, ℕ, ◌+◌, ◌-◌, ◌*◌, ◌<◌, ◌≤◌, Bool, true, false, cond, List}
 use Rattle.std.proofs.Common.{[], take, drop, refl, ap, ap₂, subst, sym, ◌∙◌, arith, inl, inr}
-use Rattle.djq_index.specs.Tuple.{same, pick, one}
+use Rattle.djq_index.specs.Tuple.{same, pick, one_if}
 use Rattle.djq_index.specs.Entries.{Entry, supports_of, count_of, group_size, group_of}
 use Rattle.djq_index.specs.Changes.{Removed, Supported}
 use Rattle.djq_index.specs.Table.{Table}
@@ -14,7 +14,8 @@ use Rattle.djq_tree.specs.Tree.{Tree, IsTree, IsMeet}
 use Rattle.djq_reduct.specs.Tables.{entries_at, key_at}
 use Rattle.djq_reduct.specs.Reducts.{IsReductOf, IsFamily}
 use Rattle.djq_reduct.proofs.Family.{trim_law, meet_law}
-use Rattle.djq_propagate.specs.Walks.{Changed, RemovedUpwards, ChangedOnlyAt, ReducedAbove, IsUnder, IsEmptied, IsFull}
+use Rattle.djq_propagate.specs.Walks.{ChangedOneTable, RemovedUpwards, ChangedOnlyAt, ReducedAbove, IsParentOf}
+use Rattle.djq_propagate.specs.Walks.{IsEmptied, CoversAll}
 use Rattle.djq_propagate.proofs.Families.{once, apart_of, same_keys, lower_of, now_family}
 use Rattle.djq_propagate.proofs.Families.{above_same, righted, idle, below_up}
 use Rattle.djq_propagate.proofs.Sides.{group_has, take_le, take_all, cond_one}
@@ -27,17 +28,17 @@ was_there t was now j u b r = omega
     (arith, removed_cnt (entries_at was j) (entries_at now j) u r u, one_same u, once t was b.ready.family j u)
 
 trim_equation : (t : Tree) (was now new : List Table) (j k : ℕ) (u w : List ℕ) → ChangedOnlyAt t was now j
-    → IsUnder t k (Trim j) j → IsFamily t new → entries_at new j ≡ entries_at now j
+    → IsParentOf t k (Trim j) j → IsFamily t new → entries_at new j ≡ entries_at now j
     → Removed (entries_at was j) (entries_at now j) u → w ≡ pick (key_at now j) u
-    → ((v : List ℕ) → supports_of (entries_at now k) v ≡ supports_of (entries_at new k) v + one (same w v))
+    → ((v : List ℕ) → supports_of (entries_at now k) v ≡ supports_of (entries_at new k) v + one_if (same w v))
     → IsReductOf (Trim j) new k
 unfolding IsReductOf
 trim_equation t was now new j k u w b x f stay r e loss v =
     let keys : key_at new j ≡ key_at was j = same_keys t was new b.ready.family f j in
     let law = trim_law (Trim j) j was k refl (law_of t was now j k (Trim j) b x) v in
     let less = removed_many (entries_at was j) (entries_at now j) u r (key_at was j) v in
-    let here : one (same w v)
-    ≡ one (same (pick (key_at was j) u) v) = ap (λ (y : List ℕ). one (same y v))
+    let here : one_if (same w v)
+    ≡ one_if (same (pick (key_at was j) u) v) = ap (λ (y : List ℕ). one_if (same y v))
     (e ∙ ap (λ (ks : List ℕ). pick ks u) (keys_now t was now j b j)) in
     let right : group_size (key_at new j) (entries_at new j) v
     ≡ group_size (key_at was j) (entries_at now j) v = ap₂ (λ (ks : List ℕ) (es : List Entry). group_size ks es v)
@@ -49,12 +50,12 @@ trim_equation t was now new j k u w b x f stay r e loss v =
 
 -- a trim has the projection
 pub trim_some : (t : Tree) (was now : List Table) (j k : ℕ) (u w : List ℕ) → ChangedOnlyAt t was now j
-    → Removed (entries_at was j) (entries_at now j) u → IsUnder t k (Trim j) j → w ≡ pick (key_at now j) u
+    → Removed (entries_at was j) (entries_at now j) u → IsParentOf t k (Trim j) j → w ≡ pick (key_at now j) u
     → 0 < supports_of (entries_at now k) w
 trim_some t was now j k u w b r x e =
     let law = trim_law (Trim j) j was k refl (law_of t was now j k (Trim j) b x) w in
     let less = removed_many (entries_at was j) (entries_at now j) u r (key_at was j) w in
-    let here : one (same (pick (key_at was j) u) w)
+    let here : one_if (same (pick (key_at was j) u) w)
     ≡ 1 = one_true (same (pick (key_at was j) u) w)
     (is_same (pick (key_at was j) u) w (ap (λ (ks : List ℕ). pick ks u) (sym (keys_now t was now j b j)) ∙ sym e))
     in
@@ -63,14 +64,14 @@ trim_some t was now j k u w b r x e =
     x) in
     omega arith
 
-step_down : (b : Bool) (n : ℕ) → 0 < n → cond b n 0 ≡ cond b (n - 1) 0 + one b
-unfolding one
+step_down : (b : Bool) (n : ℕ) → 0 < n → cond b n 0 ≡ cond b (n - 1) 0 + one_if b
+unfolding one_if
 step_down true n h = omega arith
 step_down false n h = refl
 
 -- it keeps other supports
 pub trim_lowered : (t : Tree) (was now new : List Table) (j k : ℕ) (u w : List ℕ) → ChangedOnlyAt t was now j
-    → Removed (entries_at was j) (entries_at now j) u → IsUnder t k (Trim j) j → Changed now new k
+    → Removed (entries_at was j) (entries_at now j) u → IsParentOf t k (Trim j) j → ChangedOneTable now new k
     → Supported (entries_at now k) (entries_at new k) w (supports_of (entries_at now k) w)
     (supports_of (entries_at now k) w - 1) → w
     ≡ pick (key_at now j) u → ReducedAbove t now new j
@@ -97,7 +98,7 @@ died_low t now new k w s d i less = d.below i (below_up t k i s less)
 
 -- it was the last one
 pub trim_died : (t : Tree) (was now new : List Table) (j k : ℕ) (u w : List ℕ) → ChangedOnlyAt t was now j
-    → Removed (entries_at was j) (entries_at now j) u → IsUnder t k (Trim j) j → RemovedUpwards t now new k w → w
+    → Removed (entries_at was j) (entries_at now j) u → IsParentOf t k (Trim j) j → RemovedUpwards t now new k w → w
     ≡ pick (key_at now j) u
     → supports_of (entries_at now k) w ≤ 1 → ReducedAbove t now new j
 trim_died t was now new j k u w b r x d e last =
@@ -117,14 +118,14 @@ trim_died t was now new j k u w b r x d e last =
 
 -- it can't be missing
 pub trim_missing : (t : Tree) (was now : List Table) (j k : ℕ) (u w : List ℕ) → ChangedOnlyAt t was now j
-    → Removed (entries_at was j) (entries_at now j) u → IsUnder t k (Trim j) j → w ≡ pick (key_at now j) u
+    → Removed (entries_at was j) (entries_at now j) u → IsParentOf t k (Trim j) j → w ≡ pick (key_at now j) u
     → count_of (entries_at now k) w ≡ 0 → ⊥
 trim_missing t was now j k u w b r x e none =
     let some = trim_some t was now j k u w b r x e in
     omega (arith, supp_none (entries_at now k) w none)
 
 guard_supp : (t : Tree) (was now : List Table) (j s k : ℕ) (u : List ℕ) → ChangedOnlyAt t was now j
-    → Removed (entries_at was j) (entries_at now j) u → IsUnder t k (Meet j s) j → supports_of (entries_at now k) u
+    → Removed (entries_at was j) (entries_at now j) u → IsParentOf t k (Meet j s) j → supports_of (entries_at now k) u
     ≡ count_of (entries_at was s) (pick (key_at was j) u)
 guard_supp t was now j s k u b r x =
     let law : supports_of (entries_at was k) u
@@ -136,16 +137,16 @@ guard_supp t was now j s k u b r x =
     (λ (n : ℕ). n * count_of (entries_at was s) (pick (key_at was j) u)) (was_there t was now j u b r) in
     ap (λ (es : List Entry). supports_of es u) (same_up t was now j k (Meet j s) b x) ∙ omega arith
 
-times_cond : (u v : List ℕ) (f : List ℕ → ℕ) → one (same u v) * f v ≡ cond (same u v) (f u) 0
+times_cond : (u v : List ℕ) (f : List ℕ → ℕ) → one_if (same u v) * f v ≡ cond (same u v) (f u) 0
 times_cond u v f =
     elim (same_cases u v) [
-      | inl here ↦ (let e = is_same u v here in let k : one (same u v)
+      | inl here ↦ (let e = is_same u v here in let k : one_if (same u v)
           ≡ 1 = one_true (same u v) e in rw (k, e) (omega (arith, ap f here)))
       | inr other ↦ (let k = one_other u v other in rw (k, other) (omega arith))
     ]
 
 guard_equation : (t : Tree) (was now new : List Table) (j s k : ℕ) (u : List ℕ) → ChangedOnlyAt t was now j
-    → IsUnder t k (Meet j s) j → IsFamily t new → entries_at new j ≡ entries_at now j → entries_at new s
+    → IsParentOf t k (Meet j s) j → IsFamily t new → entries_at new j ≡ entries_at now j → entries_at new s
     ≡ entries_at now s
     → Removed (entries_at was j) (entries_at now j) u
     → ((v : List ℕ) → supports_of (entries_at now k) v
@@ -172,9 +173,9 @@ guard_equation t was now new j s k u b x f stay side r loss v =
     first
     second in
     let old : count_of (entries_at was j) v * count_of (entries_at was s) (pick (key_at was j) v)
-    ≡ (count_of (entries_at now j) v + one (same u v)) * count_of (entries_at was s) (pick (key_at was j) v) = ap
+    ≡ (count_of (entries_at now j) v + one_if (same u v)) * count_of (entries_at was s) (pick (key_at was j) v) = ap
     (λ (n : ℕ). n * count_of (entries_at was s) (pick (key_at was j) v)) less in
-    let spread = distributes (count_of (entries_at now j) v) (one (same u v))
+    let spread = distributes (count_of (entries_at now j) v) (one_if (same u v))
     (count_of (entries_at was s) (pick (key_at was j) v)) in
     let up : supports_of (entries_at now k) v
     ≡ supports_of (entries_at was k) v = ap (λ (es : List Entry). supports_of es v) (same_up t was now j k (Meet j s)
@@ -186,7 +187,7 @@ guard_equation t was now new j s k u b x f stay side r loss v =
 
 -- the meet has it
 pub guard_died : (t : Tree) (was now new : List Table) (j s k : ℕ) (u : List ℕ) → ChangedOnlyAt t was now j
-    → Removed (entries_at was j) (entries_at now j) u → IsUnder t k (Meet j s) j → RemovedUpwards t now new k u
+    → Removed (entries_at was j) (entries_at now j) u → IsParentOf t k (Meet j s) j → RemovedUpwards t now new k u
     → ReducedAbove t now new j
 guard_died t was now new j s k u b r x d =
     let tree = b.ready.family.is_tree in
@@ -203,7 +204,7 @@ cond_none false n h = refl
 
 -- it doesn't
 pub guard_idle : (t : Tree) (was now : List Table) (j s k : ℕ) (u : List ℕ) → ChangedOnlyAt t was now j
-    → Removed (entries_at was j) (entries_at now j) u → IsUnder t k (Meet j s) j → count_of (entries_at now k) u ≡ 0
+    → Removed (entries_at was j) (entries_at now j) u → IsParentOf t k (Meet j s) j → count_of (entries_at now k) u ≡ 0
     → ReducedAbove t now now j
 guard_idle t was now j s k u b r x none =
     idle t was now j k (Meet j s) b x
@@ -212,8 +213,8 @@ guard_idle t was now j s k u b r x none =
 
 -- at a side: the whole group is there, with one support each
 pub side_full : (t : Tree) (was now : List Table) (g j k n : ℕ) (u : List ℕ) → ChangedOnlyAt t was now j
-    → Removed (entries_at was j) (entries_at now j) u → IsUnder t k (Meet g j) j
-    → IsFull (entries_at now k) (take n (group_of (key_at now g) (entries_at now g) u))
+    → Removed (entries_at was j) (entries_at now j) u → IsParentOf t k (Meet g j) j
+    → CoversAll (entries_at now k) (take n (group_of (key_at now g) (entries_at now g) u))
 side_full t was now g j k n u b r x = record {
   each = λ v some.
       let m = b.ready.family.is_tree.meet k g j x.node in
@@ -241,7 +242,7 @@ side_full t was now g j k n u b r x = record {
 
 -- the whole group went
 pub side_righted : (t : Tree) (was now new : List Table) (g j k n : ℕ) (u : List ℕ) → ChangedOnlyAt t was now j
-    → Removed (entries_at was j) (entries_at now j) u → IsUnder t k (Meet g j) j
+    → Removed (entries_at was j) (entries_at now j) u → IsParentOf t k (Meet g j) j
     → IsEmptied t now new k (take n (group_of (key_at now g) (entries_at now g) u))
     → drop n (group_of (key_at now g) (entries_at now g) u) ≡ [] → ReducedAbove t now new j
 unfolding IsReductOf
@@ -271,7 +272,7 @@ side_righted t was now new g j k n u b r x gone ends = righted t was now new j k
         ≡ count_of (entries_at now j) (pick (key_at was g) v) = ap₂
         (λ (es : List Entry) (ks : List ℕ). count_of es (pick ks v)) (gone.low j low_side) keys in
         let less : count_of (entries_at was j) (pick (key_at was g) v)
-        ≡ count_of (entries_at now j) (pick (key_at was g) v) + one (same u (pick (key_at was g) v)) = removed_cnt
+        ≡ count_of (entries_at now j) (pick (key_at was g) v) + one_if (same u (pick (key_at was g) v)) = removed_cnt
         (entries_at was j) (entries_at now j) u r (pick (key_at was g) v) in
         let both : count_of (entries_at new g) v * count_of (entries_at new j) (pick (key_at new g) v)
         ≡ count_of (entries_at was g) v * count_of (entries_at now j) (pick (key_at was g) v) = ap₂
@@ -279,23 +280,23 @@ side_righted t was now new g j k n u b r x gone ends = righted t was now new j k
         second in
         let old : count_of (entries_at was g) v * count_of (entries_at was j) (pick (key_at was g) v)
         ≡ count_of (entries_at was g) v *
-        (count_of (entries_at now j) (pick (key_at was g) v) + one (same u (pick (key_at was g) v))) = ap
+        (count_of (entries_at now j) (pick (key_at was g) v) + one_if (same u (pick (key_at was g) v))) = ap
         (λ (c : ℕ). count_of (entries_at was g) v * c) less in
         let sum = spread (count_of (entries_at was g) v) (count_of (entries_at now j) (pick (key_at was g) v))
-        (one (same u (pick (key_at was g) v))) in
+        (one_if (same u (pick (key_at was g) v))) in
         let group : count_of (group_of (key_at now g) (entries_at now g) u) v
-        ≡ count_of (entries_at was g) v * one (same u (pick (key_at was g) v)) =
+        ≡ count_of (entries_at was g) v * one_if (same u (pick (key_at was g) v)) =
         cnt_grp (key_at now g) (entries_at now g) u v
-        ∙ ap₂ (λ (es : List Entry) (ks : List ℕ). count_of es v * one (same (pick ks v) u)) guards
+        ∙ ap₂ (λ (es : List Entry) (ks : List ℕ). count_of es v * one_if (same (pick ks v) u)) guards
         (keys_now t was now j b g)
-        ∙ ap (λ (q : Bool). count_of (entries_at was g) v * one q) (same_sym (pick (key_at was g) v) u) in
+        ∙ ap (λ (q : Bool). count_of (entries_at was g) v * one_if q) (same_sym (pick (key_at was g) v) u) in
         let up : supports_of (entries_at now k) v
         ≡ supports_of (entries_at was k) v = ap (λ (es : List Entry). supports_of es v)
         (same_up t was now j k (Meet g j) b x) in
         omega (arith, gone.lost v, take_all (group_of (key_at now g) (entries_at now g) u) n v ends)
 
 -- the node has lost it, and those above are right
-pub died_here : (t : Tree) (old mid new : List Table) (j : ℕ) (u : List ℕ) → Changed old mid j
+pub died_here : (t : Tree) (old mid new : List Table) (j : ℕ) (u : List ℕ) → ChangedOneTable old mid j
     → Removed (entries_at old j) (entries_at mid j) u → ReducedAbove t mid new j → RemovedUpwards t old new j u
 died_here t old mid new j u c r x = record {
   family = x.family;

@@ -3,7 +3,7 @@ use Rattle.std.proofs.Common.{◌≡◌, ◌≢◌, ℕ, zero, suc, ◌+◌, ◌
 use Rattle.std.proofs.Common.{List, length, refl, ap, ap₂, subst, sym, ◌∙◌, arith, inl, inr}
 use Rattle.std.specs.Prelude.{◌==◌, ◌||◌}
 use Rattle.std.proofs.lemmas.Bool.{cases_eq, cases_lt, cases_Bool, false≢true, eq-eqb, ne_eqb, eqb-true}
-use Rattle.djq_index.specs.Tuple.{pick, one}
+use Rattle.djq_index.specs.Tuple.{pick, one_if}
 use Rattle.djq_index.specs.Entries.{Entry, supports_of, count_of, group_size, marks, plain}
 use Rattle.djq_index.specs.Table.{Table}
 use Rattle.djq_index.proofs.Tuples.{one_true, one_false}
@@ -44,7 +44,7 @@ pub reach_agrees : (n : Node) (going : Bool) (j : ℕ) (ts : List Table) (es : L
 unfolding reach agreeing
 reach_agrees (Leaf a) going j ts es w h = h
 reach_agrees (Trim c) going j ts es w h = first_some (group_size (key_at ts c) es w)
-    (one (is_marked_by going (group_size (key_at ts c) (plain (entries_at ts c)) w))) h
+    (one_if (is_marked_by going (group_size (key_at ts c) (plain (entries_at ts c)) w))) h
 reach_agrees (Meet g s) going j ts es w h = by_side (g == j) (count_of es w) (count_of (entries_at ts g) w)
     (count_of es (pick (key_at ts g) w)) h
   where
@@ -59,7 +59,7 @@ agree_reaches : (n : Node) (j : ℕ) (ts : List Table) (es : List Entry) (w : Li
 unfolding reach agreeing
 agree_reaches (Leaf a) j ts es w guards h = h
 agree_reaches (Trim c) j ts es w guards h =
-    both_some (group_size (key_at ts c) es w) (one (is_marked_by false (group_size (key_at ts c)
+    both_some (group_size (key_at ts c) es w) (one_if (is_marked_by false (group_size (key_at ts c)
     (plain (entries_at ts c)) w))) h
     (omega (
       arith,
@@ -184,7 +184,7 @@ trim_step t ts us c k f low law none x w =
             (gate_zero (group_size (key_at ts c) (plain (entries_at ts c)) w) (omega arith)) in
             let m = x.comes w there
             (both_some (group_size (key_at ts c) (marks (entries_at ts c)) w)
-            (one (is_marked_by true (group_size (key_at ts c) (plain (entries_at ts c)) w))) (omega arith)
+            (one_if (is_marked_by true (group_size (key_at ts c) (plain (entries_at ts c)) w))) (omega arith)
             (omega arith)) in
             omega arith)
       ]),
@@ -194,10 +194,10 @@ trim_step t ts us c k f low law none x w =
           elim (cases_lt 0 (count_of (marks (entries_at us k)) w)) [
             | inl marked ↦ absurd (
                 let o = x.only w marked in
-                let r : 0 < group_size (key_at ts c) (marks (entries_at ts c)) w * one
+                let r : 0 < group_size (key_at ts c) (marks (entries_at ts c)) w * one_if
                 (is_marked_by true (group_size (key_at ts c) (plain (entries_at ts c)) w)) = omega arith in
                 let g = second_some (group_size (key_at ts c) (marks (entries_at ts c)) w)
-                (one (is_marked_by true (group_size (key_at ts c) (plain (entries_at ts c)) w))) r in
+                (one_if (is_marked_by true (group_size (key_at ts c) (plain (entries_at ts c)) w))) r in
                 let z = one_false (is_marked_by true (group_size (key_at ts c) (plain (entries_at ts c)) w))
                 (gate_shut (group_size (key_at ts c) (plain (entries_at ts c)) w) p) in
                 omega arith)

@@ -8,9 +8,9 @@ use Rattle.std.proofs.lemmas.Bool.{cases_eq, cases_lt, cases_Bool, lt-ltb, ltb-t
 use Rattle.std.proofs.lemmas.List.{take_more}
 use Rattle.std.proofs.lemmas.List.Sums.{sum_by-append, sum_by-cons}
 use Rattle.std.proofs.Math.Seq.{take-length}
-use Rattle.djq_index.specs.Tuple.{same, pick, one}
+use Rattle.djq_index.specs.Tuple.{same, pick, one_if}
 use Rattle.djq_index.specs.Entries.{Entry, count_of, group_size}
-use Rattle.djq_index.specs.Table.{Table, AreApart}
+use Rattle.djq_index.specs.Table.{Table, TuplesDiffer}
 use Rattle.djq_index.proofs.Tuples.{same_cases, is_same, one_true, one_false, one_other, one_same, one_le}
 use Rattle.djq_index.proofs.Counts.{many_middle, cnt_cons, cnt_length, cnt_split}
 use Rattle.djq_index.proofs.Groups.{many_even, many_sub}
@@ -72,11 +72,11 @@ holds ks (f ∷ fs) w h =
       })
     ]
 
-apart_first : (e : Entry) (es : List Entry) → AreApart (e ∷ es) → (count_of es e.tuple ≡ 0) × AreApart es
-unfolding AreApart
+apart_first : (e : Entry) (es : List Entry) → TuplesDiffer (e ∷ es) → (count_of es e.tuple ≡ 0) × TuplesDiffer es
+unfolding TuplesDiffer
 apart_first e es h = h
 
-pub keys_length : (ks : List ℕ) (es fs : List Entry) → AreApart es → ((v : List ℕ) → 0 < count_of es v
+pub keys_length : (ks : List ℕ) (es fs : List Entry) → TuplesDiffer es → ((v : List ℕ) → 0 < count_of es v
     → 0 < group_size ks fs v)
     → length es ≤ length fs
 keys_length ks [] fs h all = omega arith
@@ -88,7 +88,8 @@ keys_length ks (e ∷ es) fs h all =
     (same_cases e.tuple v) [
       | inl here ↦ absurd (let none : count_of es v ≡ 0 = subst (λ (w : List ℕ). count_of es w ≡ 0) here a.0 in omega
           arith)
-      | inr other ↦ (let apart : one (same (pick ks s.entry.tuple) v) ≡ 0 = ap (λ (w : List ℕ). one (same w v)) s.key
+      | inr other ↦
+          (let apart : one_if (same (pick ks s.entry.tuple) v) ≡ 0 = ap (λ (w : List ℕ). one_if (same w v)) s.key
           ∙ one_other e.tuple v other in
           omega (
             arith,
@@ -179,7 +180,7 @@ part_size ts (suc k) h =
 pub whole_size : (ts : List Table) → size ts ≡ part ts (length ts)
 whole_size ts = sym (part_size ts (length ts) (omega arith) ∙ ap size (take-length ts))
 
-seen_here : (a k : ℕ) → k ≡ a → (one (nat_lt a (suc k)) ≡ 1) × (one (nat_lt a k) ≡ 0)
+seen_here : (a k : ℕ) → k ≡ a → (one_if (nat_lt a (suc k)) ≡ 1) × (one_if (nat_lt a k) ≡ 0)
 seen_here a k e = (
   one_true (nat_lt a (suc k)) (lt-ltb a (suc k) (omega arith)),
   one_false (nat_lt a k)
@@ -190,7 +191,7 @@ seen_here a k e = (
     not_less x y h = elim (cases_Bool (nat_lt x y))
         [ inl less ↦ absurd (let l = ltb-true x y less in omega arith) | inr no_less ↦ no_less ]
 
-seen_more : (a k : ℕ) → one (nat_lt a k) ≤ one (nat_lt a (suc k))
+seen_more : (a k : ℕ) → one_if (nat_lt a k) ≤ one_if (nat_lt a (suc k))
 seen_more a k = elim (cases_Bool (nat_lt a k)) [
   | inl less ↦ (let l = ltb-true a k less in omega
       (arith, one_true (nat_lt a (suc k)) (lt-ltb a (suc k) (omega arith)), one_le (nat_lt a k)))
@@ -207,7 +208,7 @@ times_more x y n h = omega (arith, mul-le-mul_right n h, spread x n)
 times_same : (x y n : ℕ) → x ≤ y → x * n ≤ y * n
 times_same x y n h = mul-le-mul_right n h
 
-pub step_count : (nodes : List Node) (a k : ℕ) → steps nodes a (suc k) ≡ steps nodes a k + one (on_path nodes a k)
+pub step_count : (nodes : List Node) (a k : ℕ) → steps nodes a (suc k) ≡ steps nodes a k + one_if (on_path nodes a k)
 unfolding steps
 step_count nodes a k = refl
 
@@ -215,7 +216,7 @@ step_count nodes a k = refl
 grow_part : (nodes : List Node) (a : ℕ) (ts us : List Table) (n : ℕ)
     → ((i : ℕ) → IsOff nodes a i → length (entries_at us i) ≡ length (entries_at ts i))
     → ((i : ℕ) → length (entries_at us i) ≤ length (entries_at ts i) + n) → (k : ℕ)
-    → part us k ≤ part ts k + (one (nat_lt a k) + steps nodes a k) * n
+    → part us k ≤ part ts k + (one_if (nat_lt a k) + steps nodes a k) * n
 unfolding part
 grow_part nodes a ts us n off all zero = omega arith
 grow_part nodes a ts us n off all (suc k) =
@@ -225,14 +226,17 @@ grow_part nodes a ts us n off all (suc k) =
     let more = seen_more a k in
     elim (cases_eq k a) [
       | inl same_one ↦ (let s = seen_here a k same_one in
-          let t = times_more (one (nat_lt a k) + steps nodes a k) (one (nat_lt a (suc k)) + steps nodes a (suc k)) n
+          let t = times_more (one_if (nat_lt a k) + steps nodes a k)
+          (one_if (nat_lt a (suc k)) + steps nodes a (suc k)) n
           (let x = s.0 in let y = s.1 in omega arith) in omega arith)
       | inr apart ↦ elim (cases_Bool (on_path nodes a k)) [
         | inl on ↦ (let o = one_true (on_path nodes a k) on in
-            let t = times_more (one (nat_lt a k) + steps nodes a k) (one (nat_lt a (suc k)) + steps nodes a (suc k)) n
+            let t = times_more (one_if (nat_lt a k) + steps nodes a k)
+            (one_if (nat_lt a (suc k)) + steps nodes a (suc k)) n
             (omega arith) in omega arith)
         | inr none ↦ (let e = off k (apart, none) in
-            let t = times_same (one (nat_lt a k) + steps nodes a k) (one (nat_lt a (suc k)) + steps nodes a (suc k)) n
+            let t = times_same (one_if (nat_lt a k) + steps nodes a k)
+            (one_if (nat_lt a (suc k)) + steps nodes a (suc k)) n
             (omega arith) in omega arith)
       ]
     ]
@@ -243,7 +247,7 @@ pub grown_size : (nodes : List Node) (a : ℕ) (ts us : List Table) (n : ℕ) �
     → size us ≤ size ts + (1 + steps nodes a (length ts)) * n
 grown_size nodes a ts us n long off all =
     let g = grow_part nodes a ts us n off all (length ts) in
-    let t = times_same (one (nat_lt a (length ts)) + steps nodes a (length ts)) (1 + steps nodes a (length ts)) n
+    let t = times_same (one_if (nat_lt a (length ts)) + steps nodes a (length ts)) (1 + steps nodes a (length ts)) n
     (let o = one_le (nat_lt a (length ts)) in omega arith) in
     omega (arith, whole_size us, whole_size ts, ap (λ (k : ℕ). part us k) long)
 

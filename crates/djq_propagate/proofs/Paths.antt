@@ -3,7 +3,7 @@ use Rattle.std.proofs.Common.{◌≡◌, ◌≢◌, ℕ, zero, suc, ◌+◌, ◌
 use Rattle.std.proofs.Common.{List, length, refl, ap, ap₂, subst, sym, ◌∙◌, arith, inl, inr, ◌⊎◌}
 use Rattle.std.proofs.Common.{add-one}
 use Rattle.std.proofs.lemmas.Bool.{cases_eq, cases_lt, cases_Bool, false≢true}
-use Rattle.djq_index.specs.Tuple.{one, pick}
+use Rattle.djq_index.specs.Tuple.{one_if, pick}
 use Rattle.djq_index.specs.Entries.{Entry, supports_of, count_of, group_size, marks, unmarked}
 use Rattle.djq_index.specs.Table.{Table}
 use Rattle.djq_index.proofs.Groups.{many_even}
@@ -18,7 +18,7 @@ use Rattle.djq_reduct.specs.Reducts.{IsReductOf, IsFamily, AreReduced}
 use Rattle.djq_reduct.proofs.Family.{entries_past}
 use Rattle.djq_reduct.specs.Marks.{path_at, on_path, IsOff}
 use Rattle.djq_reduct.proofs.Paths.{reaches, free_below, off_below}
-use Rattle.djq_propagate.specs.Walks.{Changed}
+use Rattle.djq_propagate.specs.Walks.{ChangedOneTable}
 use Rattle.djq_propagate.specs.Touches.{IsTouched, IsTouchedUp}
 use Rattle.djq_propagate.specs.Updates.{HasCleared, steps}
 use Rattle.djq_propagate.proofs.Families.{same_keys, tuples_same}
@@ -145,9 +145,9 @@ unfolding steps
 steps_none nodes a = refl
 
 pub steps_more : (nodes : List Node) (a k j : ℕ) → j ≡ path_at nodes a k → steps nodes a (k + 1)
-    ≡ steps nodes a k + one (has_child (node_at nodes k) j)
+    ≡ steps nodes a k + one_if (has_child (node_at nodes k) j)
 unfolding steps
-steps_more nodes a k j e = rw add-one (ap (λ (b : Bool). steps nodes a k + one b) (on_at nodes a k j e))
+steps_more nodes a k j e = rw add-one (ap (λ (b : Bool). steps nodes a k + one_if b) (on_at nodes a k j e))
 
 pub steps_count : (x y z m c d e : ℕ) → x ≡ y + z → c ≤ d + y * m → e ≤ c + z * m → e ≤ d + x * m
 steps_count x y z m c d e h k l = let s : x * m
@@ -161,7 +161,8 @@ unfolding count_of
 no_marks es v = ap (λ (xs : List Entry). count_of xs v) (unmarked_marks es)
 
 -- marks are cleared
-pub cleared_leaf : (t : Tree) (old new : List Table) (a : ℕ) → IsFamily t old → Changed old new a → entries_at new a
+pub cleared_leaf : (t : Tree) (old new : List Table) (a : ℕ) → IsFamily t old → ChangedOneTable old new a
+    → entries_at new a
     ≡ unmarked (entries_at old a) → HasCleared t old new a 0
 cleared_leaf t old new a f c e = record {
   family = c.family t f;
@@ -182,7 +183,7 @@ cleared_leaf t old new a f c e = record {
 
 pub cleared_more : (t : Tree) (old mid new : List Table) (a k j : ℕ) → a < t.leaves → HasCleared t old mid a k → j
     ≡ path_at t.nodes a k → (has_child (node_at t.nodes k) j ≡ true → entries_at new k ≡ unmarked (entries_at mid k))
-    → (has_child (node_at t.nodes k) j ≡ true → Changed mid new k)
+    → (has_child (node_at t.nodes k) j ≡ true → ChangedOneTable mid new k)
     → (has_child (node_at t.nodes k) j ≡ false → new ≡ mid) → HasCleared t old new a (k + 1)
 cleared_more t old mid new a k j leaf x at clear change apart =
     elim (cases_Bool (has_child (node_at t.nodes k) j)) [

@@ -2,7 +2,7 @@
 use Rattle.std.proofs.Common.{◌≡◌, ℕ, ◌+◌, ◌≤◌, Bool, true, false, List, [], ◌∷◌, ◌++◌, refl, ap}
 use Rattle.std.proofs.Common.{subst, sym, ◌∙◌, arith, inl, inr}
 use Rattle.std.proofs.lemmas.Bool.{cases_eq, cases_Bool, false≢true}
-use Rattle.djq_index.specs.Tuple.{same, one}
+use Rattle.djq_index.specs.Tuple.{same, one_if}
 use Rattle.djq_index.specs.Entries.{Entry, supports_of, count_of, marks, plain}
 use Rattle.djq_index.specs.Changes.{InsertedAs, Removed, Supported}
 use Rattle.djq_index.specs.Table.{Table}
@@ -14,7 +14,7 @@ use Rattle.djq_tree.specs.Tree.{Tree}
 use Rattle.djq_reduct.specs.Tables.{entries_at, key_at}
 use Rattle.djq_reduct.specs.Reducts.{IsFamily}
 use Rattle.djq_reduct.specs.Marks.{IsBare}
-use Rattle.djq_propagate.specs.Walks.{Changed, CameAs, Fewer, unlike}
+use Rattle.djq_propagate.specs.Walks.{ChangedOneTable, CameAs, Fewer, unlike}
 use Rattle.djq_propagate.proofs.Families.{once, tuples_same}
 
 pub plain_refl : {m : Bool} (ts : List Table) → CameAs m ts ts
@@ -34,7 +34,7 @@ fewer_trans ts us xs a b = record {
 }
 
 -- at each node: what holds at k, and what holds of all that stay
-each : (P : List Entry → List Entry → Type 0) (old new : List Table) (k : ℕ) → Changed old new k
+each : (P : List Entry → List Entry → Type 0) (old new : List Table) (k : ℕ) → ChangedOneTable old new k
     → P (entries_at old k) (entries_at new k) → ((es : List Entry) → P es es) → (i : ℕ)
     → P (entries_at old i) (entries_at new i)
 each P old new k c here stay i =
@@ -50,7 +50,7 @@ inserted_unlike true key old new u i = inserted_plain key old new u i
 inserted_unlike false key old new u i = ap marks i.is ∙ marks_middle i.front i.entry i.back i.marked
     ∙ sym (ap marks i.was)
 
-pub inserted_same : {m : Bool} (old new : List Table) (k : ℕ) (u : List ℕ) → Changed old new k
+pub inserted_same : {m : Bool} (old new : List Table) (k : ℕ) (u : List ℕ) → ChangedOneTable old new k
     → InsertedAs m (key_at old k) (entries_at old k) (entries_at new k) u → CameAs m old new
 inserted_same {m} old new k u c i = record {
   same = each (λ ds es. (v : List ℕ) → count_of (unlike m es) v ≡ count_of (unlike m ds) v) old new k c
@@ -69,7 +69,7 @@ plain_alike xs d e ys v t m =
           ap (λ (es : List Entry). count_of es v)
           (plain-append xs (e ∷ ys) ∙ ap (λ (es : List Entry). plain xs ++ es) (plain_no e ys (sym m ∙ other)))
           ∙ cnt_middle (plain xs) e (plain ys) v
-          ∙ ap (λ (w : List ℕ). one (same w v) + count_of (plain xs ++ plain ys) v) (sym t)
+          ∙ ap (λ (w : List ℕ). one_if (same w v) + count_of (plain xs ++ plain ys) v) (sym t)
           ∙ sym (ap (λ (es : List Entry). count_of es v)
           (plain-append xs (d ∷ ys) ∙ ap (λ (es : List Entry). plain xs ++ es) (plain_no d ys other))
           ∙ cnt_middle (plain xs) d (plain ys) v)
@@ -99,14 +99,14 @@ supported_unlike : (m : Bool) (old new : List Entry) (u : List ℕ) (from to : �
 supported_unlike true old new u from to s v = supported_plain old new u from to s v
 supported_unlike false old new u from to s v = supported_marks old new u from to s v
 
-pub raised_same : {m : Bool} (old new : List Table) (k : ℕ) (u : List ℕ) (from to : ℕ) → Changed old new k
+pub raised_same : {m : Bool} (old new : List Table) (k : ℕ) (u : List ℕ) (from to : ℕ) → ChangedOneTable old new k
     → Supported (entries_at old k) (entries_at new k) u from to → CameAs m old new
 raised_same {m} old new k u from to c s = record {
   same = each (λ ds es. (v : List ℕ) → count_of (unlike m es) v ≡ count_of (unlike m ds) v) old new k c
       (supported_unlike m (entries_at old k) (entries_at new k) u from to s) (λ es v. refl);
 }
 
-pub lowered_fewer : (old new : List Table) (k : ℕ) (u : List ℕ) (from to : ℕ) → Changed old new k
+pub lowered_fewer : (old new : List Table) (k : ℕ) (u : List ℕ) (from to : ℕ) → ChangedOneTable old new k
     → Supported (entries_at old k) (entries_at new k) u from to → Fewer old new
 lowered_fewer old new k u from to c s = record {
   unmarked = each (λ ds es. (v : List ℕ) → count_of (plain es) v ≤ count_of (plain ds) v) old new k c
@@ -141,7 +141,7 @@ pub removed_marks : (old new : List Entry) (u : List ℕ) → Removed old new u 
     → count_of (marks new) v ≤ count_of (marks old) v
 removed_marks old new u r v = rw (r.was, r.is) (marks_less r.front r.entry r.back v)
 
-pub removed_fewer : (old new : List Table) (k : ℕ) (u : List ℕ) → Changed old new k
+pub removed_fewer : (old new : List Table) (k : ℕ) (u : List ℕ) → ChangedOneTable old new k
     → Removed (entries_at old k) (entries_at new k) u → Fewer old new
 removed_fewer old new k u c r = record {
   unmarked = each (λ ds es. (v : List ℕ) → count_of (plain es) v ≤ count_of (plain ds) v) old new k c

@@ -11,7 +11,7 @@ use Rattle.djq_tree.specs.Tree.{Tree}
 use Rattle.djq_reduct.specs.Reducts.{IsFamily}
 use Rattle.djq_reduct.specs.Tables.{entries_at, key_at}
 use Rattle.djq_propagate.specs.Sizes.{size}
-use Rattle.djq_propagate.specs.Walks.{ChangedOnlyAt, IsUnder, IsGrown}
+use Rattle.djq_propagate.specs.Walks.{ChangedOnlyAt, IsParentOf, IsGrown}
 use Rattle.djq_propagate.proofs.Families.{now_family, ready_up, agree_from, lower_of}
 use Rattle.djq_propagate.proofs.Gains.{meet_high}
 use Rattle.djq_propagate.proofs.Rooms.{same_size}
@@ -20,7 +20,7 @@ use Rattle.djq_propagate.proofs.Touching.{cut_length, take_zero}
 
 -- where no tuple of a group has come to its meet, the tables are as large as before
 none_size : (t : Tree) (was now mid : List Table) (g j k i : ℕ) (u : List ℕ) → ChangedOnlyAt t was now j
-    → IsUnder t k (Meet g j) j → IsGrown t now mid k (take i (group_of (key_at now g) (entries_at now g) u)) → i ≡ 0
+    → IsParentOf t k (Meet g j) j → IsGrown t now mid k (take i (group_of (key_at now g) (entries_at now g) u)) → i ≡ 0
     → size mid ≡ size now
 none_size t was now mid g j k i u b x grown start =
     same_size t now mid f grown.family
@@ -49,7 +49,7 @@ none_size t was now mid g j k i u b x grown start =
 
 -- at a side the group has one tuple, so that none had come
 pub side_flat : (t : Tree) (was now mid after last : List Table) (g j k i x y z w : ℕ) (u : List ℕ) (e : Entry)
-    → HasEqualMeets t → ChangedOnlyAt t was now j → IsUnder t k (Meet g j) j
+    → HasEqualMeets t → ChangedOnlyAt t was now j → IsParentOf t k (Meet g j) j
     → IsGrown t now mid k (take i (group_of (key_at now g) (entries_at now g) u)) → group_of (key_at now g)
     (entries_at now g) u
     ≡ take i (group_of (key_at now g) (entries_at now g) u) ++ e ∷ drop (i + 1) (group_of (key_at now g)

@@ -18,7 +18,7 @@ use Rattle.djq_reduct.specs.Reducts.{IsReducts, IsFamily, AreReduced}
 use Rattle.djq_reduct.proofs.Family.{entries_past, meet_law}
 use Rattle.djq_propagate.specs.Sizes.{size, AreAtMost}
 use Rattle.djq_propagate.specs.Updates.{HasAtMost, paths}
-use Rattle.djq_propagate.specs.Walks.{Changed, ChangedOnlyAt, IsUnder, IsGrown}
+use Rattle.djq_propagate.specs.Walks.{ChangedOneTable, ChangedOnlyAt, IsParentOf, IsGrown}
 use Rattle.djq_propagate.proofs.Families.{once, apart_of, tuples_same, now_family}
 use Rattle.djq_propagate.proofs.Sides.{group_once, group_has, take_le, cut_new}
 use Rattle.djq_propagate.proofs.Gains.{law_of, same_up, meet_high, side_absent}
@@ -72,7 +72,7 @@ room_size t ts n j f within h room =
     omega (arith, whole_size ts, times_turn (length t.nodes) n)
 
 -- a tuple comes to a table with room
-pub most_more : {m : Bool} (old new : List Table) (n j : ℕ) (u : List ℕ) → Changed old new j
+pub most_more : {m : Bool} (old new : List Table) (n j : ℕ) (u : List ℕ) → ChangedOneTable old new j
     → InsertedAs m (key_at old j) (entries_at old j) (entries_at new j) u → AreAtMost old n
     → length (entries_at old j) < n → AreAtMost new n
 most_more {m} old new n j u c i h room = record {
@@ -85,7 +85,7 @@ most_more {m} old new n j u c i h room = record {
 
 -- then there is room above: at a trim, at a guard's meet
 pub trim_fits : {m : Bool} (t : Tree) (was now : List Table) (j k n : ℕ) (u : List ℕ) → ChangedOnlyAt t was now j
-    → InsertedAs m (key_at was j) (entries_at was j) (entries_at now j) u → IsUnder t k (Trim j) j
+    → InsertedAs m (key_at was j) (entries_at was j) (entries_at now j) u → IsParentOf t k (Trim j) j
     → length (entries_at now j) ≤ n → length (entries_at now k) < n
 trim_fits {m} t was now j k n u b i x h =
     omega (
@@ -97,7 +97,7 @@ trim_fits {m} t was now j k n u b i x h =
     )
 
 pub guard_fits : {m : Bool} (t : Tree) (was now : List Table) (j s k n : ℕ) (u : List ℕ) → ChangedOnlyAt t was now j
-    → InsertedAs m (key_at was j) (entries_at was j) (entries_at now j) u → IsUnder t k (Meet j s) j
+    → InsertedAs m (key_at was j) (entries_at was j) (entries_at now j) u → IsParentOf t k (Meet j s) j
     → length (entries_at now j) ≤ n → length (entries_at now k) < n
 guard_fits {m} t was now j s k n u b i x h =
     omega (
@@ -126,7 +126,7 @@ over t ts n from f r high low (suc m) k less =
 -- at a side's meet, for the next one of the guard's group
 pub next_fits : {m : Bool} (t : Tree) (was now mid : List Table) (g j k i : ℕ) (u : List ℕ) (e : Entry)
     → ChangedOnlyAt t was now j → InsertedAs m (key_at was j) (entries_at was j) (entries_at now j) u
-    → IsUnder t k (Meet g j) j
+    → IsParentOf t k (Meet g j) j
     → IsGrown t now mid k (take i (group_of (key_at now g) (entries_at now g) u)) → group_of (key_at now g)
     (entries_at now g) u
     ≡ take i (group_of (key_at now g) (entries_at now g) u) ++ e ∷ drop (i + 1) (group_of (key_at now g)
@@ -188,7 +188,7 @@ next_fits {m} t was now mid g j k i u e b ins x grown cut = let l = length_less 
 
 pub side_fits : {m : Bool} (t : Tree) (was now mid : List Table) (g j k i n : ℕ) (u : List ℕ) (e : Entry)
     → ChangedOnlyAt t was now j → InsertedAs m (key_at was j) (entries_at was j) (entries_at now j) u
-    → IsUnder t k (Meet g j) j
+    → IsParentOf t k (Meet g j) j
     → IsGrown t now mid k (take i (group_of (key_at now g) (entries_at now g) u)) → group_of (key_at now g)
     (entries_at now g) u
     ≡ take i (group_of (key_at now g) (entries_at now g) u) ++ e ∷ drop (i + 1) (group_of (key_at now g)

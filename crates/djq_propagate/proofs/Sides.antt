@@ -5,9 +5,9 @@ use Rattle.std.proofs.Common.{inr}
 use Rattle.std.proofs.lemmas.Bool.{cases_lt}
 use Rattle.std.proofs.lemmas.List.{take-append-drop}
 use Rattle.std.proofs.Math.ListN.{drop_of_length-le}
-use Rattle.djq_index.specs.Tuple.{same, pick, one}
+use Rattle.djq_index.specs.Tuple.{same, pick, one_if}
 use Rattle.djq_index.specs.Entries.{Entry, supports_of, count_of, group_of, head_at}
-use Rattle.djq_index.specs.Table.{Table, AreApart}
+use Rattle.djq_index.specs.Table.{Table, TuplesDiffer}
 use Rattle.djq_index.proofs.Tuples.{is_same, same_cases, one_same, one_other, one_true}
 use Rattle.djq_index.proofs.Counts.{many_length, length_grp, count_of-append, cnt_cons}
 use Rattle.djq_index.proofs.Apart.{cnt_once, supp_none}
@@ -15,11 +15,11 @@ use Rattle.djq_index.proofs.Groups.{cnt_grp}
 use Rattle.djq_index.proofs.Changing.{inserted_supp, removed_supp}
 use Rattle.djq_tree.specs.Tree.{Tree}
 use Rattle.djq_reduct.specs.Tables.{entries_at, key_at}
-use Rattle.djq_propagate.specs.Walks.{Ready, InsertedUpwards, RemovedUpwards, IsFull, IsGrown, IsEmptied}
+use Rattle.djq_propagate.specs.Walks.{Ready, InsertedUpwards, RemovedUpwards, CoversAll, IsGrown, IsEmptied}
 use Rattle.djq_propagate.proofs.Families.{apart_of, below_up}
 
 -- a group's tuples
-pub group_once : (ks : List ℕ) (es : List Entry) (w v : List ℕ) → AreApart es → count_of (group_of ks es w) v ≤ 1
+pub group_once : (ks : List ℕ) (es : List Entry) (w v : List ℕ) → TuplesDiffer es → count_of (group_of ks es w) v ≤ 1
 group_once ks es w v h =
     elim (same_cases (pick ks v) w) [
       | inl here ↦ (let e = one_true (same (pick ks v) w) (is_same (pick ks v) w here) in rw (cnt_grp ks es w v, e)
@@ -75,10 +75,10 @@ drop_group ks es w n h = drop_of_length-le (group_of ks es w) (omega (arith, len
 
 -- the next one of the list
 pub cut_cnt : (g : List Entry) (i : ℕ) (e : Entry) (v : List ℕ) → g ≡ take i g ++ e ∷ drop (i + 1) g
-    → (count_of g v ≡ count_of (take i g) v + one (same e.tuple v) + count_of (drop (i + 1) g) v)
-    × (count_of (take (i + 1) g) v ≡ count_of (take i g) v + one (same e.tuple v))
+    → (count_of g v ≡ count_of (take i g) v + one_if (same e.tuple v) + count_of (drop (i + 1) g) v)
+    × (count_of (take (i + 1) g) v ≡ count_of (take i g) v + one_if (same e.tuple v))
 cut_cnt g i e v h =
-    let whole : count_of g v ≡ count_of (take i g) v + one (same e.tuple v) + count_of (drop (i + 1) g) v = omega (
+    let whole : count_of g v ≡ count_of (take i g) v + one_if (same e.tuple v) + count_of (drop (i + 1) g) v = omega (
       arith,
       ap (λ (es : List Entry). count_of es v) h,
       count_of-append (take i g) (e ∷ drop (i + 1) g) v,
@@ -154,7 +154,7 @@ emptied_ready t old mid k es within g = record { family = g.family; within = wit
 
 -- the next one is still there
 pub still_there : (t : Tree) (old mid : List Table) (k : ℕ) (g : List Entry) (i n : ℕ) (e : Entry)
-    → IsEmptied t old mid k (take i g) → IsFull (entries_at old k) (take n g) → i < n
+    → IsEmptied t old mid k (take i g) → CoversAll (entries_at old k) (take n g) → i < n
     → ((v : List ℕ) → count_of g v ≤ 1) → g
     ≡ take i g ++ e ∷ drop (i + 1) g → supports_of (entries_at mid k) e.tuple ≡ 1
 still_there t old mid k g i n e m full less once_each cut =
@@ -163,8 +163,8 @@ still_there t old mid k g i n e m full less once_each cut =
     let third = c.2 in
     omega (arith, m.lost e.tuple, full.each e.tuple (omega (arith, take_grows g (i + 1) n e.tuple (omega arith))))
 
-pub cond_one : (b : Bool) (n : ℕ) → n ≡ 1 → cond b n 0 ≡ one b
-unfolding one
+pub cond_one : (b : Bool) (n : ℕ) → n ≡ 1 → cond b n 0 ≡ one_if b
+unfolding one_if
 cond_one true n h = h
 cond_one false n h = refl
 

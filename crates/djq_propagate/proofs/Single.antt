@@ -3,7 +3,7 @@ use Rattle.std.proofs.Common.{◌≡◌, ◌≢◌, ℕ, zero, suc, ◌+◌, ◌
 use Rattle.std.proofs.Common.{List, [], ◌∷◌, length, refl, ap, subst, sym, ◌∙◌, arith, inl, inr}
 use Rattle.std.specs.Prelude.{◌==◌}
 use Rattle.std.proofs.lemmas.Bool.{cases_eq, cases_lt, cases_Bool, ne_eqb, eqb-true, false≢true}
-use Rattle.djq_index.specs.Tuple.{same, pick, one}
+use Rattle.djq_index.specs.Tuple.{same, pick, one_if}
 use Rattle.djq_index.specs.Entries.{Entry, count_of, group_size}
 use Rattle.djq_index.specs.Table.{Table, AreWide}
 use Rattle.djq_index.proofs.Tuples.{same_cases, is_same, one_same, one_other, one_true, one_le}
@@ -63,7 +63,7 @@ unfolding group_size count_of
 many_whole ks [] u h = refl
 many_whole ks (e ∷ es) u h =
     let here : pick ks e.tuple ≡ e.tuple = h e.tuple (omega (arith, one_same e.tuple)) in
-    omega (arith, ap (λ (w : List ℕ). one (same w u)) here, many_whole ks es u (λ v some. h v (omega arith)))
+    omega (arith, ap (λ (w : List ℕ). one_if (same w u)) here, many_whole ks es u (λ v some. h v (omega arith)))
 
 -- so its groups have one tuple
 pub group_single : (t : Tree) (ts : List Table) (k g d : ℕ) (u : List ℕ) → HasEqualMeets t → IsFamily t ts
@@ -143,8 +143,8 @@ module _ (t : Tree) (ts us : List Table) (a : ℕ) (meets : HasEqualMeets t) (r 
 
   trim_more : (c k : ℕ) → node_at t.nodes k ≡ Trim c → IsReductOf (Trim c) ts k → IsReductOf (Trim c) us k
       → OneMore (entries_at ts c) (entries_at us c) → OneMore (entries_at ts k) (entries_at us k)
-  trim_more c k e old new one = record {
-    tuple = pick (key_at ts c) one.tuple;
+  trim_more c k e old new one_if = record {
+    tuple = pick (key_at ts c) one_if.tuple;
     only = λ v some none.
         let ks = key_at ts c in
         let now = trim_law (Trim c) c us k refl new v in
@@ -159,15 +159,15 @@ module _ (t : Tree) (ts us : List Table) (a : ℕ) (meets : HasEqualMeets t) (r 
         let grouped : count_of (entries_at ts c) u ≤ group_size ks (entries_at ts c) v = subst
         (λ (w : List ℕ). count_of (entries_at ts c) u ≤ group_size ks (entries_at ts c) w) h.key
         (in_group ks (entries_at ts c) u) in
-        sym h.key ∙ ap (pick ks) (one.only u has (omega arith));
+        sym h.key ∙ ap (pick ks) (one_if.only u has (omega arith));
   }
 
   guard_more : (g d k : ℕ) → node_at t.nodes k ≡ Meet g d → IsReductOf (Meet g d) ts k → IsReductOf (Meet g d) us k
       → ((v : List ℕ) → count_of (entries_at us d) v ≡ count_of (entries_at ts d) v) → OneMore (entries_at ts g)
       (entries_at us g)
       → OneMore (entries_at ts k) (entries_at us k)
-  guard_more g d k e old new even one = record {
-    tuple = one.tuple;
+  guard_more g d k e old new even one_if = record {
+    tuple = one_if.tuple;
     only = λ v some none.
         let now = meet_law (Meet g d) g d us k refl new v in
         let before = meet_law (Meet g d) g d ts k refl old v in
@@ -180,15 +180,16 @@ module _ (t : Tree) (ts us : List Table) (a : ℕ) (meets : HasEqualMeets t) (r 
         (λ (q : List ℕ). 0 < count_of (entries_at us d) (pick q v)) (same_keys t ts us r.family s.family g)
         (second_some (count_of (entries_at us g) v) (count_of (entries_at us d) (pick (key_at us g) v)) (omega arith))
         in
-        one.only v guards (left_zero (count_of (entries_at ts g) v) (count_of (entries_at ts d) (pick (key_at ts g) v))
+        one_if.only v guards
+        (left_zero (count_of (entries_at ts g) v) (count_of (entries_at ts d) (pick (key_at ts g) v))
         (omega arith) (omega (arith, even (pick (key_at ts g) v))));
   }
 
   side_more : (g d k : ℕ) → node_at t.nodes k ≡ Meet g d → k < length t.nodes → IsReductOf (Meet g d) ts k
       → IsReductOf (Meet g d) us k → ((v : List ℕ) → count_of (entries_at us g) v ≡ count_of (entries_at ts g) v)
       → OneMore (entries_at ts d) (entries_at us d) → OneMore (entries_at ts k) (entries_at us k)
-  side_more g d k e within old new even one = record {
-    tuple = one.tuple;
+  side_more g d k e within old new even one_if = record {
+    tuple = one_if.tuple;
     only = λ v some none.
         let now = meet_law (Meet g d) g d us k refl new v in
         let before = meet_law (Meet g d) g d ts k refl old v in
@@ -208,26 +209,26 @@ module _ (t : Tree) (ts us : List Table) (a : ℕ) (meets : HasEqualMeets t) (r 
         let fresh = right_zero (count_of (entries_at ts g) v) (count_of (entries_at ts d) (pick (key_at ts g) v))
         (omega arith)
         guards in
-        sym whole ∙ one.only (pick (key_at ts g) v) sides fresh;
+        sym whole ∙ one_if.only (pick (key_at ts g) v) sides fresh;
   }
 
   node_more : (n : Node) (j k : ℕ) → node_at t.nodes k ≡ n → k < length t.nodes → j ≡ path_at t.nodes a k
       → has_child n j ≡ true → IsReductOf n ts k → IsReductOf n us k → OneMore (entries_at ts j) (entries_at us j)
       → OneMore (entries_at ts k) (entries_at us k)
-  node_more (Leaf b) j k e within at child old new one = absurd (false≢true child)
-  node_more (Trim c) j k e within at child old new one = trim_more c k e old new
-      (subst (λ (i : ℕ). OneMore (entries_at ts i) (entries_at us i)) (sym (trim_same c j child)) one)
-  node_more (Meet g d) j k e within at child old new one =
+  node_more (Leaf b) j k e within at child old new one_if = absurd (false≢true child)
+  node_more (Trim c) j k e within at child old new one_if = trim_more c k e old new
+      (subst (λ (i : ℕ). OneMore (entries_at ts i) (entries_at us i)) (sym (trim_same c j child)) one_if)
+  node_more (Meet g d) j k e within at child old new one_if =
       elim (cases_eq g j) [
         | inl here ↦
             guard_more g d k e old new
             (child_even (Meet g d) j k d e at (side_has g d)
             (λ (q : d ≡ j). (r.family.is_tree.meet k g d e).apart (here ∙ sym q)))
-            (subst (λ (i : ℕ). OneMore (entries_at ts i) (entries_at us i)) (sym here) one)
+            (subst (λ (i : ℕ). OneMore (entries_at ts i) (entries_at us i)) (sym here) one_if)
         | inr other ↦
             let same_side : d ≡ j = eqb-true d j (or_right (g == j) (d == j) (ne_eqb g j other) child) in
             side_more g d k e within old new (child_even (Meet g d) j k g e at (guard_has g d) other)
-            (subst (λ (i : ℕ). OneMore (entries_at ts i) (entries_at us i)) (sym same_side) one)
+            (subst (λ (i : ℕ). OneMore (entries_at ts i) (entries_at us i)) (sym same_side) one_if)
       ]
 
   path_more : (k : ℕ) → OneMore (entries_at ts (path_at t.nodes a k)) (entries_at us (path_at t.nodes a k))

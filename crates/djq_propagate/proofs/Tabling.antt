@@ -13,12 +13,12 @@ use Rattle.djq_index.specs.Entries.{Entry, bare, unmarked, marks, group_of, supp
 use Rattle.djq_index.specs.Changes.{InsertedAs, Touched, Supported}
 use Rattle.djq_index.proofs.Apart.{supported_in, supported_out}
 use Rattle.djq_index.proofs.Changing.{inserted_supported}
-use Rattle.djq_index.specs.Table.{Table, IsTable, AreSupported, AreWide, IsAt, IsLive}
+use Rattle.djq_index.specs.Table.{Table, IsTable, AreSupported, AreWide, IsAt, IsOccupied}
 use Rattle.djq_tree.specs.Tree.{Tree}
 use Rattle.djq_reduct.specs.Tables.{no_table, table_at, entries_at, key_at, width_at}
 use Rattle.djq_reduct.specs.Reducts.{IsFamily}
 use Rattle.djq_propagate.specs.Sizes.{size}
-use Rattle.djq_propagate.specs.Walks.{Changed}
+use Rattle.djq_propagate.specs.Walks.{ChangedOneTable}
 
 -- the table that an index reads is the node's
 pub record IsRead (ts : List Table) (k : ℕ) (t : Table) : Type 0 where
@@ -69,7 +69,7 @@ pub at_read : {ts : List Table} {k : ℕ} {t : Table} {p : Place} {u : List ℕ}
 at_read {ts} {k} {t} {p} {u} r a = subst (λ (es : List Entry). IsAt es p u) (sym r.entries) a
 
 pub live_read : {ts : List Table} {k : ℕ} {t : Table} {p : Place} {u : List ℕ} → IsRead ts k t
-    → IsAt (entries_at ts k) p u → IsLive t.entries p
+    → IsAt (entries_at ts k) p u → IsOccupied t.entries p
 live_read {ts} {k} {t} {p} {u} r a = record { tuple = u; is_at = at_read r a }
 
 -- what a write leaves
@@ -132,7 +132,8 @@ unfolding entries_at
 supported_set ts k t h up all i = at_each (λ (u : Table). AreSupported u.entries) ts k t h (up (all k)) i (all i)
 
 changed_set : (ts : List Table) (k : ℕ) (t : Table) → k < length ts → IsTable t → t.key ≡ key_at ts k → t.width
-    ≡ width_at ts k → (AreSupported (entries_at ts k) → AreSupported t.entries) → Changed ts (slice_set ts k t) k
+    ≡ width_at ts k → (AreSupported (entries_at ts k) → AreSupported t.entries)
+    → ChangedOneTable ts (slice_set ts k t) k
 changed_set ts k t h sound key width supported = record {
   others = λ i apart. other_entries ts k i t apart;
   family = λ r f. record {
@@ -163,7 +164,7 @@ onto_key {ts} {k} {t} P s r p =
     onto (P (key_at ts k)) s r (subst (λ (ks : List ℕ). P ks t.entries s.entries) r.key p)
 
 pub changed_into : {ts : List Table} {k : ℕ} {t s : Table} → IsRead ts k t → IsTable s → s.key ≡ t.key
-    → s.width ≡ t.width → (AreSupported t.entries → AreSupported s.entries) → Changed ts (slice_set ts k s) k
+    → s.width ≡ t.width → (AreSupported t.entries → AreSupported s.entries) → ChangedOneTable ts (slice_set ts k s) k
 changed_into {ts} {k} {t} {s} r sound key width up =
     changed_set ts k s r.within sound (key ∙ r.key) (width ∙ r.width) (λ a. up (to_read AreSupported r a))
 
@@ -203,7 +204,7 @@ unmarked_supported (e ∷ es) h = (h.0, unmarked_supported es h.1)
 
 -- the marks of a table went, and no other table changed
 pub record IsCleared (old new : List Table) (k : ℕ) : Type 0 where
-  pub changed : Changed old new k
+  pub changed : ChangedOneTable old new k
   pub cleared : entries_at new k ≡ unmarked (entries_at old k)
 
 pub cleared_into : {ts : List Table} {k : ℕ} {t s : Table} → IsRead ts k t → IsTable s → s.key ≡ t.key
@@ -215,7 +216,7 @@ cleared_into {ts} {k} {t} {s} r sound key width is = record {
 
 -- the supports of a tuple of a table changed by f, and no other table did
 pub record IsResupported (old new : List Table) (k : ℕ) (u : List ℕ) (f : ℕ → ℕ) : Type 0 where
-  pub changed : Changed old new k
+  pub changed : ChangedOneTable old new k
   pub supported : Supported (entries_at old k) (entries_at new k) u (supports_of (entries_at old k) u)
       (f (supports_of (entries_at old k) u))
 

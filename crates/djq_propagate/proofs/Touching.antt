@@ -7,10 +7,10 @@ use Rattle.std.proofs.lemmas.List.{take-append-drop, length-take, append-nil}
 use Rattle.std.proofs.Common.{length-append}
 use Rattle.std.proofs.Math.ListN.{drop_of_length-le}
 use Rattle.djq_index.specs.declared.place.Place.{Place}
-use Rattle.djq_index.specs.Tuple.{same, pick, one}
+use Rattle.djq_index.specs.Tuple.{same, pick, one_if}
 use Rattle.djq_index.specs.Entries.{Entry, count_of, group_size, group_of, marks, plain, is_marked, head_at}
 use Rattle.djq_index.specs.Changes.{Touched}
-use Rattle.djq_index.specs.Table.{Table, IsAt, AreApart, AreLast}
+use Rattle.djq_index.specs.Table.{Table, IsAt, TuplesDiffer, AreLast}
 use Rattle.djq_index.proofs.Tuples.{same_is, same_refl, same_cases, same_sym, one_other, one_true, true_from_one}
 use Rattle.djq_index.proofs.Counts.{length_grp, cnt_cons, group_size-append, many_cons, cnt_split, many_split}
 use Rattle.djq_index.proofs.Apart.{there}
@@ -23,9 +23,9 @@ use Rattle.djq_tree.specs.Tree.{Tree, IsTree, node_at, has_child}
 use Rattle.djq_tree.proofs.Climbing.{rising_of}
 use Rattle.djq_reduct.specs.Tables.{entries_at, key_at}
 use Rattle.djq_reduct.specs.Reducts.{IsFamily}
-use Rattle.djq_propagate.specs.Walks.{Changed, IsUnder}
+use Rattle.djq_propagate.specs.Walks.{ChangedOneTable, IsParentOf}
 use Rattle.djq_index.proofs.Walking.{WalkCut}
-use Rattle.djq_propagate.specs.Touches.{IsTouched, IsStep, is_marked_by, reach_one, reach, cost_one, cost}
+use Rattle.djq_propagate.specs.Touches.{IsTouched, IsStepUp, is_marked_by, reach_one, reach, cost_one, cost}
 use Rattle.djq_propagate.proofs.Families.{once, apart_of, tuples_same, guard_has}
 use Rattle.djq_propagate.proofs.Sides.{cut_cnt, head_none}
 use Rattle.djq_index.proofs.Tuples.{one_false}
@@ -47,8 +47,8 @@ touched_none t ts k f family all = record {
 }
 
 -- one tuple is
-pub touched_one : (t : Tree) (old new : List Table) (k : ℕ) (u : List ℕ) → IsFamily t old → Changed old new k
-    → Touched (key_at old k) (entries_at old k) (entries_at new k) u → IsTouched t old new k (λ v. one (same u v))
+pub touched_one : (t : Tree) (old new : List Table) (k : ℕ) (u : List ℕ) → IsFamily t old → ChangedOneTable old new k
+    → Touched (key_at old k) (entries_at old k) (entries_at new k) u → IsTouched t old new k (λ v. one_if (same u v))
 touched_one t old new k u f c x = record {
   family = c.family t f;
   others = c.others;
@@ -60,15 +60,15 @@ touched_one t old new k u f c x = record {
 }
 
 -- it is absent, or marked
-pub one_absent : (es : List Entry) (u v : List ℕ) → count_of es u ≡ 0 → 0 < count_of es v → 0 < one (same u v)
+pub one_absent : (es : List Entry) (u v : List ℕ) → count_of es u ≡ 0 → 0 < count_of es v → 0 < one_if (same u v)
     → 0 < count_of (marks es) v
 one_absent es u v none some here =
     let e : u ≡ v = same_is u v (true_from_one (same u v) here) in
     let k : count_of es v ≡ 0 = subst (λ (w : List ℕ). count_of es w ≡ 0) e none in
     absurd (omega arith)
 
-pub one_marked : (es : List Entry) (u v : List ℕ) → AreApart es → is_marked es u ≡ true → 0 < count_of es v
-    → 0 < one (same u v) → 0 < count_of (marks es) v
+pub one_marked : (es : List Entry) (u v : List ℕ) → TuplesDiffer es → is_marked es u ≡ true → 0 < count_of es v
+    → 0 < one_if (same u v) → 0 < count_of (marks es) v
 one_marked es u v h m some here =
     let e : u ≡ v = same_is u v (true_from_one (same u v) here) in
     let k : is_marked es v ≡ true = subst (λ (w : List ℕ). is_marked es w ≡ true) e m in
@@ -149,9 +149,9 @@ unfolding head_at
 first_of_group [] p h = absurd cc
 first_of_group (e ∷ g) p h = (e, g, refl, cc)
 
-marked_middle : (xs : List Entry) (e : Entry) (ys : List Entry) → AreApart (xs ++ e ∷ ys)
+marked_middle : (xs : List Entry) (e : Entry) (ys : List Entry) → TuplesDiffer (xs ++ e ∷ ys)
     → is_marked (xs ++ e ∷ ys) e.tuple ≡ e.marked
-unfolding AreApart
+unfolding TuplesDiffer
 marked_middle [] e ys h = is_marked_here e ys e.tuple (same_refl e.tuple)
 marked_middle (x ∷ xs) e ys h =
     elim (same_cases x.tuple e.tuple) [
@@ -180,13 +180,13 @@ first_is ks es w p h =
           (group_at ks es w [] c.0 c.1 c.2);
     }
 
-entry_mark : (ks : List ℕ) (es : List Entry) (w : List ℕ) (e : Entry) (rest : List Entry) → AreApart es
+entry_mark : (ks : List ℕ) (es : List Entry) (w : List ℕ) (e : Entry) (rest : List Entry) → TuplesDiffer es
     → group_of ks es w
     ≡ e ∷ rest → is_marked es e.tuple ≡ e.marked
 entry_mark ks es w e rest h is =
     let s = group_split ks es w e rest is in
     subst (λ (xs : List Entry). is_marked xs e.tuple ≡ e.marked) (sym s.2)
-    (marked_middle s.0 e s.1 (subst AreApart s.2 h))
+    (marked_middle s.0 e s.1 (subst TuplesDiffer s.2 h))
 
 pub gate_first : (t : Tree) (ts : List Table) (k : ℕ) (w : List ℕ) (p : Place) (b : Bool)
     (x : IsFirst (key_at ts k) (entries_at ts k) w p) → IsFamily t ts → b ≡ is_marked (entries_at ts k) x.entry.tuple
@@ -208,28 +208,28 @@ gate_first t ts k w p b x f e =
 pub reach_yes : (j : ℕ) (ts : List Table) (u v w : List ℕ) (going b : Bool) → w ≡ pick (key_at ts j) u → b
     ≡ is_marked_by going (group_size (key_at ts j) (plain (entries_at ts j)) w) → b ≡ true
     → reach_one (Trim j) going j ts u v
-    ≡ one (same w v)
+    ≡ one_if (same w v)
 unfolding reach_one
 reach_yes j ts u v w going b e g yes_gate =
     elim (same_cases w v) [
       | inl here ↦ (
-          let open_gate : one (is_marked_by going (group_size (key_at ts j) (plain (entries_at ts j)) v))
+          let open_gate : one_if (is_marked_by going (group_size (key_at ts j) (plain (entries_at ts j)) v))
           ≡ 1 = one_true (is_marked_by going (group_size (key_at ts j) (plain (entries_at ts j)) v))
           (ap (λ (x : List ℕ). is_marked_by going (group_size (key_at ts j) (plain (entries_at ts j)) x)) (sym here)
           ∙ sym g
           ∙ yes_gate) in
-          let k : one (same (pick (key_at ts j) u) v) * one
+          let k : one_if (same (pick (key_at ts j) u) v) * one_if
           (is_marked_by going (group_size (key_at ts j) (plain (entries_at ts j)) v))
-          ≡ one (same (pick (key_at ts j) u) v) * 1 = ap (λ (n : ℕ). one (same (pick (key_at ts j) u) v) * n)
+          ≡ one_if (same (pick (key_at ts j) u) v) * 1 = ap (λ (n : ℕ). one_if (same (pick (key_at ts j) u) v) * n)
           open_gate in
-          omega (arith, ap (λ (x : List ℕ). one (same x v)) e))
+          omega (arith, ap (λ (x : List ℕ). one_if (same x v)) e))
       | inr other ↦ (
-          let none : one (same (pick (key_at ts j) u) v) ≡ 0 = ap (λ (x : List ℕ). one (same x v)) (sym e)
+          let none : one_if (same (pick (key_at ts j) u) v) ≡ 0 = ap (λ (x : List ℕ). one_if (same x v)) (sym e)
           ∙ one_other w v other in
-          let k : one (same (pick (key_at ts j) u) v) * one
+          let k : one_if (same (pick (key_at ts j) u) v) * one_if
           (is_marked_by going (group_size (key_at ts j) (plain (entries_at ts j)) v))
-          ≡ 0 * one (is_marked_by going (group_size (key_at ts j) (plain (entries_at ts j)) v)) = ap
-          (λ (n : ℕ). n * one (is_marked_by going (group_size (key_at ts j) (plain (entries_at ts j)) v))) none in
+          ≡ 0 * one_if (is_marked_by going (group_size (key_at ts j) (plain (entries_at ts j)) v)) = ap
+          (λ (n : ℕ). n * one_if (is_marked_by going (group_size (key_at ts j) (plain (entries_at ts j)) v))) none in
           omega (arith, one_other w v other))
     ]
 
@@ -240,23 +240,23 @@ unfolding reach_one
 reach_no j ts u v w going b e g no_gate =
     elim (same_cases w v) [
       | inl here ↦ (
-          let shut : one (is_marked_by going (group_size (key_at ts j) (plain (entries_at ts j)) v))
+          let shut : one_if (is_marked_by going (group_size (key_at ts j) (plain (entries_at ts j)) v))
           ≡ 0 = one_false (is_marked_by going (group_size (key_at ts j) (plain (entries_at ts j)) v))
           (ap (λ (x : List ℕ). is_marked_by going (group_size (key_at ts j) (plain (entries_at ts j)) x)) (sym here)
           ∙ sym g
           ∙ no_gate) in
-          let k : one (same (pick (key_at ts j) u) v) * one
+          let k : one_if (same (pick (key_at ts j) u) v) * one_if
           (is_marked_by going (group_size (key_at ts j) (plain (entries_at ts j)) v))
-          ≡ one (same (pick (key_at ts j) u) v) * 0 = ap (λ (n : ℕ). one (same (pick (key_at ts j) u) v) * n) shut
+          ≡ one_if (same (pick (key_at ts j) u) v) * 0 = ap (λ (n : ℕ). one_if (same (pick (key_at ts j) u) v) * n) shut
           in
           omega arith)
       | inr other ↦ (
-          let none : one (same (pick (key_at ts j) u) v) ≡ 0 = ap (λ (x : List ℕ). one (same x v)) (sym e)
+          let none : one_if (same (pick (key_at ts j) u) v) ≡ 0 = ap (λ (x : List ℕ). one_if (same x v)) (sym e)
           ∙ one_other w v other in
-          let k : one (same (pick (key_at ts j) u) v) * one
+          let k : one_if (same (pick (key_at ts j) u) v) * one_if
           (is_marked_by going (group_size (key_at ts j) (plain (entries_at ts j)) v))
-          ≡ 0 * one (is_marked_by going (group_size (key_at ts j) (plain (entries_at ts j)) v)) = ap
-          (λ (n : ℕ). n * one (is_marked_by going (group_size (key_at ts j) (plain (entries_at ts j)) v))) none in
+          ≡ 0 * one_if (is_marked_by going (group_size (key_at ts j) (plain (entries_at ts j)) v)) = ap
+          (λ (n : ℕ). n * one_if (is_marked_by going (group_size (key_at ts j) (plain (entries_at ts j)) v))) none in
           omega arith)
     ]
 
@@ -271,7 +271,7 @@ pub reach_trim : (n : Node) (c : ℕ) (going : Bool) (j : ℕ) (ts : List Table)
 reach_trim n c going j ts u v e = ap (λ (m : Node). reach_one m going j ts u v) e
 
 pub reach_guard : (n : Node) (g s : ℕ) (going : Bool) (j : ℕ) (ts : List Table) (u v : List ℕ) → n ≡ Meet g s → g ≡ j
-    → reach_one n going j ts u v ≡ one (same u v)
+    → reach_one n going j ts u v ≡ one_if (same u v)
 unfolding reach_one
 reach_guard n g s going j ts u v e here = rw (e, eq-eqb g j here) refl
 
@@ -300,11 +300,11 @@ pub reach_still : (n : Node) (going : Bool) (j : ℕ) (ts us : List Table) (u v 
 unfolding reach_one
 reach_still (Leaf a) going j ts us u v keys kids = refl
 reach_still (Trim c) going j ts us u v keys kids = ap₂
-    (λ (ks : List ℕ) (es : List Entry). one (same (pick ks u) v) * one
+    (λ (ks : List ℕ) (es : List Entry). one_if (same (pick ks u) v) * one_if
     (is_marked_by going (group_size ks (plain es) v))) (keys c)
     (kids c (eq-eqb c c refl))
 reach_still (Meet g s) going j ts us u v keys kids = ap₂
-    (λ (ks : List ℕ) (es : List Entry). cond (g == j) (one (same u v)) (count_of (group_of ks es u) v)) (keys g)
+    (λ (ks : List ℕ) (es : List Entry). cond (g == j) (one_if (same u v)) (count_of (group_of ks es u) v)) (keys g)
     (kids g (guard_has g s))
 
 pub cost_still : (n : Node) (j : ℕ) (ts us : List Table) (u : List ℕ) → ((c : ℕ) → key_at us c ≡ key_at ts c)
@@ -317,7 +317,7 @@ cost_still (Meet g s) j ts us u keys kids = ap₂
 
 -- one marked tuple more
 cut_many : (ks : List ℕ) (g : List Entry) (i : ℕ) (e : Entry) (w : List ℕ) → g ≡ take i g ++ e ∷ drop (i + 1) g
-    → group_size ks (take (i + 1) g) w ≡ group_size ks (take i g) w + one (same (pick ks e.tuple) w)
+    → group_size ks (take (i + 1) g) w ≡ group_size ks (take i g) w + one_if (same (pick ks e.tuple) w)
 cut_many ks g i e w h =
     omega (
       arith,
@@ -346,21 +346,21 @@ pub reach_more : (n : Node) (going : Bool) (j : ℕ) (ts : List Table) (g : List
 unfolding reach reach_one
 reach_more (Leaf a) going j ts g i e v h = refl
 reach_more (Trim c) going j ts g i e v h =
-    ap (λ (x : ℕ). x * one (is_marked_by going (group_size (key_at ts c) (plain (entries_at ts c)) v)))
+    ap (λ (x : ℕ). x * one_if (is_marked_by going (group_size (key_at ts c) (plain (entries_at ts c)) v)))
     (cut_many (key_at ts c) g i e v h)
-    ∙ spread (group_size (key_at ts c) (take i g) v) (one (same (pick (key_at ts c) e.tuple) v))
-    (one (is_marked_by going (group_size (key_at ts c) (plain (entries_at ts c)) v)))
+    ∙ spread (group_size (key_at ts c) (take i g) v) (one_if (same (pick (key_at ts c) e.tuple) v))
+    (one_if (is_marked_by going (group_size (key_at ts c) (plain (entries_at ts c)) v)))
 reach_more (Meet c s) going j ts g i e v h =
-    cond_sum (c == j) (count_of (take (i + 1) g) v) (count_of (take i g) v) (one (same e.tuple v))
+    cond_sum (c == j) (count_of (take (i + 1) g) v) (count_of (take i g) v) (one_if (same e.tuple v))
     (count_of (entries_at ts c) v * count_of (take (i + 1) g) (pick (key_at ts c) v))
     (count_of (entries_at ts c) v * count_of (take i g) (pick (key_at ts c) v))
     (count_of (group_of (key_at ts c) (entries_at ts c) e.tuple) v)
     (cut_cnt g i e v h).1
     (ap (λ (x : ℕ). count_of (entries_at ts c) v * x) (cut_cnt g i e (pick (key_at ts c) v) h).1
     ∙ spread_left (count_of (entries_at ts c) v) (count_of (take i g) (pick (key_at ts c) v))
-    (one (same e.tuple (pick (key_at ts c) v)))
+    (one_if (same e.tuple (pick (key_at ts c) v)))
     ∙ ap (λ (x : ℕ). count_of (entries_at ts c) v * count_of (take i g) (pick (key_at ts c) v) + x)
-    (ap (λ (q : Bool). count_of (entries_at ts c) v * one q) (same_sym e.tuple (pick (key_at ts c) v))
+    (ap (λ (q : Bool). count_of (entries_at ts c) v * one_if q) (same_sym e.tuple (pick (key_at ts c) v))
     ∙ sym (cnt_grp (key_at ts c) (entries_at ts c) e.tuple v)))
 
 pub reach_nothing : (n : Node) (going : Bool) (j : ℕ) (ts : List Table) (v : List ℕ) → reach n going j ts [] v ≡ 0
@@ -424,7 +424,7 @@ cut_mark es i p k = subst (λ (q : Place). IsAt es q k.entry.tuple) k.at
 
 -- a step is under its node
 pub step_trim : (t : Tree) (j k c : ℕ) (n : Node) → has_child (node_at t.nodes k) j ≡ true → k < length t.nodes → n
-    ≡ node_at t.nodes k → n ≡ Trim c → IsUnder t k (Trim j) j
+    ≡ node_at t.nodes k → n ≡ Trim c → IsParentOf t k (Trim j) j
 step_trim t j k c n child within here e =
     let at : node_at t.nodes k ≡ Trim c = sym here ∙ e in
     let h : has_child (Trim c) j ≡ true = subst (λ (m : Node). has_child m j ≡ true) at child in
@@ -436,7 +436,7 @@ step_trim t j k c n child within here e =
       child = subst (λ (x : ℕ). has_child (Trim x) j ≡ true) same_one h;
     }
 
-pub step_lower : (t : Tree) (ts : List Table) (j k : ℕ) → IsStep t ts j k → j < k
+pub step_lower : (t : Tree) (ts : List Table) (j k : ℕ) → IsStepUp t ts j k → j < k
 step_lower t ts j k s = rising_of t s.family.is_tree k j s.child
 
 pub guard_lower : (t : Tree) (k g d : ℕ) (n : Node) → IsTree t → n ≡ node_at t.nodes k → n ≡ Meet g d → g < k
@@ -475,7 +475,7 @@ groups_first ks x gs (e ∷ es) =
       groups_first ks x gs es,
       many_cons ks x gs e.tuple,
       cnt_cons e es (pick ks x.tuple),
-      ap one
+      ap one_if
           (same_sym (pick ks x.tuple) e.tuple),
     )
 

@@ -3,7 +3,7 @@ use Rattle.std.proofs.Common.{◌≡◌, ◌≢◌, ℕ, suc, ◌+◌, ◌<◌, 
 use Rattle.std.proofs.Common.{refl, ap, subst, sym, ◌∙◌, arith, inl, inr}
 use Rattle.std.proofs.lemmas.Bool.{cases_eq, cases_lt, cases_Bool, false≢true}
 use Rattle.djq_index.specs.declared.place.Place.{Place}
-use Rattle.djq_index.specs.Tuple.{one, same}
+use Rattle.djq_index.specs.Tuple.{one_if, same}
 use Rattle.djq_index.specs.Entries.{Entry, supports_of, count_of, marks, plain, head_at}
 use Rattle.djq_index.specs.Table.{Table, IsAt}
 use Rattle.djq_index.proofs.Counts.{cnt_split, cnt_length}
@@ -16,7 +16,7 @@ use Rattle.djq_reduct.specs.Tables.{entries_at, key_at}
 use Rattle.djq_reduct.specs.Reducts.{Reducts, IsReducts, IsReductOf, IsFamily, AreReduced, SameTables}
 use Rattle.djq_reduct.proofs.Family.{leaf_law, one_family}
 use Rattle.djq_reduct.specs.Marks.{on_path, IsOff, IsBare, AreOnPath, IsWithout}
-use Rattle.djq_propagate.specs.Walks.{Ready, InsertedUpwards, RemovedUpwards, Refused, Fewer, CameAs, IsBelow}
+use Rattle.djq_propagate.specs.Walks.{Ready, InsertedUpwards, RemovedUpwards, Refused, Fewer, CameAs, IsBelowParent}
 use Rattle.djq_propagate.specs.Touches.{IsTouched, IsTouchedUp, CanWalk, IsWalked}
 use Rattle.djq_propagate.specs.Batches.{times, HaveCome, HasInsertedAll, HasGainedAll}
 use Rattle.djq_propagate.specs.Updates.{HasInserted, HasMarked, HasKept, HasDropped, HasTaken}
@@ -49,7 +49,7 @@ ready_leaf t ts a r h = record {
 }
 
 -- other leaves are below
-pub leaf_below : (t : Tree) (a i : ℕ) → IsTree t → i < t.leaves → i ≢ a → IsBelow t a i
+pub leaf_below : (t : Tree) (a i : ℕ) → IsTree t → i < t.leaves → i ≢ a → IsBelowParent t a i
 leaf_below t a i s h apart = (apart, (λ k child. let high = inner_high t k a s child in omega arith))
 
 leaf_supp : (t : Tree) (ts : List Table) (i : ℕ) → IsReducts (both t ts) → i < t.leaves → (v : List ℕ)
@@ -64,7 +64,7 @@ from_leaf n i ts e h = subst (λ (m : Node). IsReductOf m ts i) (sym e) h
 
 -- the tables are reducts again once a leaf's tuple has gone up
 reducts_from : (t : Tree) (old new : List Table) (a : ℕ) → IsReducts (both t old) → a < t.leaves → IsFamily t new
-    → AreReduced t new (a + 1) → ((i : ℕ) → IsBelow t a i → entries_at new i ≡ entries_at old i)
+    → AreReduced t new (a + 1) → ((i : ℕ) → IsBelowParent t a i → entries_at new i ≡ entries_at old i)
     → ((v : List ℕ) → supports_of (entries_at new a) v ≡ count_of (entries_at new a) v) → IsReducts (both t new)
 reducts_from t old new a r h f up below here = record {
   family = f;
@@ -177,7 +177,7 @@ lost_all t old new a u r h b d = record {
 }
 
 -- what came, as a list
-pub times_one : (u v : List ℕ) → times (u ∷ []) v ≡ one (same u v)
+pub times_one : (u v : List ℕ) → times (u ∷ []) v ≡ one_if (same u v)
 unfolding times
 times_one u v = omega arith
 
@@ -294,7 +294,7 @@ inserted_all t old mid new a u r h b l p x walk = inserted_one (both t old) (bot
 
 -- a tuple is marked for a removal
 pub marked_all : (t : Tree) (old mid new : List Table) (a : ℕ) (u : List ℕ) → IsReducts (both t old) → a < t.leaves
-    → IsBare old → 0 < count_of (entries_at old a) u → IsTouched t old mid a (λ v. one (same u v))
+    → IsBare old → 0 < count_of (entries_at old a) u → IsTouched t old mid a (λ v. one_if (same u v))
     → IsTouchedUp t mid new a
     → IsWalked t mid new a true (length t.nodes) → HasMarked (both t old) (both t new) a u
 marked_all t old mid new a u r h b there y x walk = record {
@@ -319,7 +319,7 @@ marked_all t old mid new a u r h b there y x walk = record {
       | inr apart ↦ ap (λ (es : List Entry). supports_of es v) (y.others i apart)
     ]
 
-    mark : (v : List ℕ) → count_of (marks (entries_at mid a)) v ≡ one (same u v)
+    mark : (v : List ℕ) → count_of (marks (entries_at mid a)) v ≡ one_if (same u v)
     mark v =
         elim (same_cases u v) [
           | inl here ↦ (

@@ -1,6 +1,6 @@
 -- Many tuples come to a leaf at once, or go from it.
 use Rattle.std.specs.Prelude.{◌≡◌, ◌≢◌, ℕ, ◌+◌, ◌<◌, ◌≤◌, List, [], ◌∷◌, length}
-use Rattle.djq_index.specs.Tuple.{same, one}
+use Rattle.djq_index.specs.Tuple.{same, one_if}
 use Rattle.djq_index.specs.Entries.{Entry, count_of, marks}
 use Rattle.djq_index.specs.Table.{Table}
 use Rattle.djq_tree.specs.Tree.{Tree}
@@ -11,7 +11,7 @@ use Rattle.djq_reduct.specs.Marks.{IsBare, AreMarks, IsWithout}
 -- how often the tuple v stands in a list
 unfoldable pub times : List (List ℕ) → List ℕ → ℕ
 times [] v = 0
-times (u ∷ us) v = one (same u v) + times us v
+times (u ∷ us) v = one_if (same u v) + times us v
 
 -- tuples of one width that differ, and of which none is among the entries
 pub record AreNew (width : ℕ) (es : List Entry) (us : List (List ℕ)) : Type 0 where

@@ -35,8 +35,8 @@ abbrev pub after_take : Tree → ℕ → ℕ → ℕ
 after_take t n x = x + 5 * (paths t * n)
 
 -- the bound of an update of one of m leaves over v variables: 16 (m + v) n
-abbrev pub update_bound : ℕ → ℕ → ℕ → ℕ
-update_bound m v n = 16 * ((m + v) * n)
+abbrev pub leaf_update_bound : ℕ → ℕ → ℕ → ℕ
+leaf_update_bound m v n = 16 * ((m + v) * n)
 
 -- each variable of a leaf is in the list
 abbrev pub HasVariables : Tree → List ℕ → Type 0
@@ -44,9 +44,9 @@ HasVariables t V = (x : ℕ) → 0 < degree x (leaf_labels t) → member x V ≡
 
 -- the calls of an update count the bound at most, and twice the bound where it is taken back
 pub record AddUp (t : Tree) (v n : ℕ) : Type 0 where
-  pub inserted : (x : ℕ) → after_keep t n (after_insert t n x) ≤ x + update_bound t.leaves v n
-  pub removed : (x : ℕ) → after_drop t n (after_mark t n x) ≤ x + update_bound t.leaves v n
-  pub undone : (x : ℕ) → after_drop t n (after_insert t n x) ≤ x + 2 * update_bound t.leaves v n
-  pub refused : (x : ℕ) → after_refusal t n x ≤ x + 2 * update_bound t.leaves v n
-  pub added : (x : ℕ) → after_add t n x ≤ x + update_bound t.leaves v n
-  pub taken : (x : ℕ) → after_take t n x ≤ x + update_bound t.leaves v n
+  pub inserted : (x : ℕ) → after_keep t n (after_insert t n x) ≤ x + leaf_update_bound t.leaves v n
+  pub removed : (x : ℕ) → after_drop t n (after_mark t n x) ≤ x + leaf_update_bound t.leaves v n
+  pub undone : (x : ℕ) → after_drop t n (after_insert t n x) ≤ x + 2 * leaf_update_bound t.leaves v n
+  pub refused : (x : ℕ) → after_refusal t n x ≤ x + 2 * leaf_update_bound t.leaves v n
+  pub added : (x : ℕ) → after_add t n x ≤ x + leaf_update_bound t.leaves v n
+  pub taken : (x : ℕ) → after_take t n x ≤ x + leaf_update_bound t.leaves v n

@@ -1,6 +1,6 @@
 -- Tuples are marked where they stand.
 use Rattle.std.specs.Prelude.{◌≡◌, ◌≢◌, ℕ, ◌+◌, ◌*◌, ◌<◌, ◌≤◌, Bool, true, false, cond, ◌==◌, List, [], ◌∷◌, length}
-use Rattle.djq_index.specs.Tuple.{same, pick, one}
+use Rattle.djq_index.specs.Tuple.{same, pick, one_if}
 use Rattle.djq_index.specs.Entries.{Entry, supports_of, count_of, group_size, group_of, marks, plain}
 use Rattle.djq_index.specs.Table.{Table}
 use Rattle.djq_tree.specs.declared.node.Node.{Node}
@@ -29,15 +29,15 @@ is_marked_by true n = n == 0
 -- what a marked tuple u of the child j reaches at a node, and what the marked tuples es reach
 unfoldable pub reach_one : Node → Bool → ℕ → List Table → List ℕ → List ℕ → ℕ
 reach_one (Leaf a) going j ts u w = 0
-reach_one (Trim c) going j ts u w = one (same (pick (key_at ts c) u) w) * one
+reach_one (Trim c) going j ts u w = one_if (same (pick (key_at ts c) u) w) * one_if
     (is_marked_by going (group_size (key_at ts c) (plain (entries_at ts c)) w))
-reach_one (Meet g s) going j ts u w = cond (g == j) (one (same u w))
+reach_one (Meet g s) going j ts u w = cond (g == j) (one_if (same u w))
     (count_of (group_of (key_at ts g) (entries_at ts g) u) w)
 
 -- what the marked tuples es of the child j reach at a node
 unfoldable pub reach : Node → Bool → ℕ → List Table → List Entry → List ℕ → ℕ
 reach (Leaf a) going j ts es w = 0
-reach (Trim c) going j ts es w = group_size (key_at ts c) es w * one
+reach (Trim c) going j ts es w = group_size (key_at ts c) es w * one_if
     (is_marked_by going (group_size (key_at ts c) (plain (entries_at ts c)) w))
 reach (Meet g s) going j ts es w = cond (g == j) (count_of es w) (count_of (entries_at ts g) w * count_of es
     (pick (key_at ts g) w))
@@ -54,7 +54,7 @@ cost n j ts [] = 0
 cost n j ts (e ∷ es) = 1 + cost_one n j ts e.tuple + cost n j ts es
 
 -- the node k has the child j
-pub record IsStep (t : Tree) (ts : List Table) (j k : ℕ) : Type 0 where
+pub record IsStepUp (t : Tree) (ts : List Table) (j k : ℕ) : Type 0 where
   pub family : IsFamily t ts
   pub within : k < length t.nodes
   pub child : has_child (node_at t.nodes k) j ≡ true

@@ -1,6 +1,6 @@
 -- What the calls of an update leave.
 use Rattle.std.specs.Prelude.{◌≡◌, ◌≢◌, ℕ, zero, suc, ◌+◌, ◌<◌, ◌≤◌, true, List, length}
-use Rattle.djq_index.specs.Tuple.{same, one}
+use Rattle.djq_index.specs.Tuple.{same, one_if}
 use Rattle.djq_index.specs.Entries.{supports_of, count_of, marks}
 use Rattle.djq_index.specs.Table.{Table}
 use Rattle.djq_tree.specs.declared.node.Node.{Node}
@@ -15,7 +15,7 @@ use Rattle.djq_propagate.specs.Walks.{Fewer}
 pub record HasInserted (old new : Reducts) (a : ℕ) (u : List ℕ) : Type 0 where
   pub sound : IsReducts new
   pub without : IsWithout new old a
-  pub marked : (v : List ℕ) → count_of (marks (entries_at new.tables a)) v ≡ one (same u v)
+  pub marked : (v : List ℕ) → count_of (marks (entries_at new.tables a)) v ≡ one_if (same u v)
   pub are_marks : AreMarks new.tree new.tables a
 
 -- the tuple u of the leaf a is the marked one there, and all tables hold what they held
@@ -23,7 +23,7 @@ pub record HasMarked (old new : Reducts) (a : ℕ) (u : List ℕ) : Type 0 where
   pub sound : IsReducts new
   pub tree : new.tree ≡ old.tree
   pub tables : SameTables old new
-  pub marked : (v : List ℕ) → count_of (marks (entries_at new.tables a)) v ≡ one (same u v)
+  pub marked : (v : List ℕ) → count_of (marks (entries_at new.tables a)) v ≡ one_if (same u v)
   pub are_marks : AreMarks new.tree new.tables a
 
 -- all tables hold what they held, without a mark
@@ -43,7 +43,8 @@ pub record HasDropped (old new : Reducts) (a : ℕ) : Type 0 where
 pub record HasGained (old new : Reducts) (a : ℕ) (u : List ℕ) : Type 0 where
   pub sound : IsReducts new
   pub tree : new.tree ≡ old.tree
-  pub leaf : (v : List ℕ) → count_of (entries_at new.tables a) v ≡ count_of (entries_at old.tables a) v + one (same u v)
+  pub leaf : (v : List ℕ)
+      → count_of (entries_at new.tables a) v ≡ count_of (entries_at old.tables a) v + one_if (same u v)
   pub others : (j : ℕ) (v : List ℕ) → j < old.tree.leaves → j ≢ a → count_of (entries_at new.tables j) v
       ≡ count_of (entries_at old.tables j) v
   pub bare : IsBare new.tables
@@ -52,7 +53,8 @@ pub record HasGained (old new : Reducts) (a : ℕ) (u : List ℕ) : Type 0 where
 pub record HasLost (old new : Reducts) (a : ℕ) (u : List ℕ) : Type 0 where
   pub sound : IsReducts new
   pub tree : new.tree ≡ old.tree
-  pub leaf : (v : List ℕ) → count_of (entries_at old.tables a) v ≡ count_of (entries_at new.tables a) v + one (same u v)
+  pub leaf : (v : List ℕ)
+      → count_of (entries_at old.tables a) v ≡ count_of (entries_at new.tables a) v + one_if (same u v)
   pub others : (j : ℕ) (v : List ℕ) → j < old.tree.leaves → j ≢ a → count_of (entries_at new.tables j) v
       ≡ count_of (entries_at old.tables j) v
   pub bare : IsBare new.tables
@@ -76,7 +78,7 @@ pub record HasCleared (t : Tree) (old new : List Table) (a k : ℕ) : Type 0 whe
 -- how many nodes with numbers below k are on the path from the leaf a, above a
 unfoldable pub steps : List Node → ℕ → ℕ → ℕ
 steps nodes a zero = 0
-steps nodes a (suc k) = steps nodes a k + one (on_path nodes a k)
+steps nodes a (suc k) = steps nodes a k + one_if (on_path nodes a k)
 
 -- no path of the tree has more nodes than this, and it is at most the number of atoms and variables
 abbrev pub paths : Tree → ℕ

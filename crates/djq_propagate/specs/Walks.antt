@@ -12,7 +12,7 @@ use Rattle.djq_reduct.specs.Reducts.{IsFamily, AreReduced}
 use Rattle.djq_propagate.specs.Sizes.{size, AreAtMost}
 
 -- the table k changed, and no other
-pub record Changed (old new : List Table) (k : ℕ) : Type 0 where
+pub record ChangedOneTable (old new : List Table) (k : ℕ) : Type 0 where
   pub others : (i : ℕ) → i ≢ k → entries_at new i ≡ entries_at old i
   pub family : (t : Tree) → IsFamily t old → IsFamily t new
   pub size : size new + length (entries_at old k) ≡ size old + length (entries_at new k)
@@ -24,34 +24,34 @@ pub record Ready (t : Tree) (ts : List Table) (j : ℕ) : Type 0 where
   pub reduced : AreReduced t ts (j + 1)
 
 -- i isn't j, and has a lower number than j's parent, if any
-abbrev pub IsBelow : Tree → ℕ → ℕ → Type 0
-IsBelow t j i = (i ≢ j) × ((k : ℕ) → has_child (node_at t.nodes k) j ≡ true → i < k)
+abbrev pub IsBelowParent : Tree → ℕ → ℕ → Type 0
+IsBelowParent t j i = (i ≢ j) × ((k : ℕ) → has_child (node_at t.nodes k) j ≡ true → i < k)
 
 -- the node j has gained the tuple u, and those above it what it brings
 pub record InsertedUpwards (t : Tree) (old new : List Table) (j : ℕ) (u : List ℕ) : Type 0 where
   pub family : IsFamily t new
   pub mark : Bool
   pub gains : InsertedAs mark (key_at old j) (entries_at old j) (entries_at new j) u
-  pub below : (i : ℕ) → IsBelow t j i → entries_at new i ≡ entries_at old i
+  pub below : (i : ℕ) → IsBelowParent t j i → entries_at new i ≡ entries_at old i
   pub reduced : AreReduced t new (j + 1)
 
 -- the node j has lost the tuple u, and those above it what it took away
 pub record RemovedUpwards (t : Tree) (old new : List Table) (j : ℕ) (u : List ℕ) : Type 0 where
   pub family : IsFamily t new
   pub loses : Removed (entries_at old j) (entries_at new j) u
-  pub below : (i : ℕ) → IsBelow t j i → entries_at new i ≡ entries_at old i
+  pub below : (i : ℕ) → IsBelowParent t j i → entries_at new i ≡ entries_at old i
   pub reduced : AreReduced t new (j + 1)
 
 -- all tables hold the same tuples with the same supports, and those below are the same
 pub record Refused (t : Tree) (old new : List Table) (j : ℕ) : Type 0 where
   pub family : IsFamily t new
   pub supports : (i : ℕ) (v : List ℕ) → supports_of (entries_at new i) v ≡ supports_of (entries_at old i) v
-  pub below : (i : ℕ) → IsBelow t j i → entries_at new i ≡ entries_at old i
+  pub below : (i : ℕ) → IsBelowParent t j i → entries_at new i ≡ entries_at old i
 
 -- the table of the node j has changed since each table above it was its node's reduct, and no other one has
 pub record ChangedOnlyAt (t : Tree) (was now : List Table) (j : ℕ) : Type 0 where
   pub ready : Ready t was j
-  pub changed : Changed was now j
+  pub changed : ChangedOneTable was now j
 
 -- the table of the node j has gained the tuple u, and those above it were right before
 -- the node j has just gained the tuple u, and those above it have nothing of what it brings
@@ -72,7 +72,7 @@ pub record Losing (t : Tree) (now : List Table) (j : ℕ) (u : List ℕ) : Type 
 pub record ReducedAbove (t : Tree) (old new : List Table) (j : ℕ) : Type 0 where
   pub family : IsFamily t new
   pub at : entries_at new j ≡ entries_at old j
-  pub below : (i : ℕ) → IsBelow t j i → entries_at new i ≡ entries_at old i
+  pub below : (i : ℕ) → IsBelowParent t j i → entries_at new i ≡ entries_at old i
   pub reduced : AreReduced t new (j + 1)
 
 -- all is as it was, but for the order in groups above the node j
@@ -80,16 +80,16 @@ pub record UnchangedAbove (t : Tree) (old new : List Table) (j : ℕ) : Type 0 w
   pub family : IsFamily t new
   pub at : entries_at new j ≡ entries_at old j
   pub supports : (i : ℕ) (v : List ℕ) → supports_of (entries_at new i) v ≡ supports_of (entries_at old i) v
-  pub below : (i : ℕ) → IsBelow t j i → entries_at new i ≡ entries_at old i
+  pub below : (i : ℕ) → IsBelowParent t j i → entries_at new i ≡ entries_at old i
 
 -- the node k, which is n, is the parent of the node j
-pub record IsUnder (t : Tree) (k : ℕ) (n : Node) (j : ℕ) : Type 0 where
+pub record IsParentOf (t : Tree) (k : ℕ) (n : Node) (j : ℕ) : Type 0 where
   pub within : k < length t.nodes
   pub node : node_at t.nodes k ≡ n
   pub child : has_child n j ≡ true
 
 -- each of the tuples of es is among the entries ds, with one support
-pub record IsFull (ds es : List Entry) : Type 0 where
+pub record CoversAll (ds es : List Entry) : Type 0 where
   pub each : (v : List ℕ) → 0 < count_of es v → supports_of ds v ≡ 1
 
 -- the node k has gained the tuples of es, with one support each, and those above it what they bring

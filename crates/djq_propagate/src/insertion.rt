@@ -9,7 +9,7 @@ ghost use Rattle.djq_reduct.specs.Tables.{entries_at, key_at, width_at};
 ghost use Rattle.djq_reduct.specs.Marks.{IsBare};
 ghost use Rattle.djq_propagate.specs.Sizes.{size, AreAtMost};
 ghost use Rattle.djq_propagate.specs.Walks.{Ready, InsertedUpwards, Refused, Gaining, InsertedAbove};
-ghost use Rattle.djq_propagate.specs.Walks.{CameAs, IsUnder};
+ghost use Rattle.djq_propagate.specs.Walks.{CameAs, IsParentOf};
 ghost use Rattle.djq_index.specs.declared.table.TheConstants.{TUPLES};
 
 use crate::removal::remove_group_from_meet;
@@ -102,7 +102,7 @@ fn insert_above_trim<L: Ledger>(
 ) -> Result<(), AllocError>
     requires gaining { Gaining tree.now tables.old.items at tuple.now }
     requires wide { length tuple.now ≡ width_at tables.old.items at }
-    requires under { IsUnder tree.now up (Trim at) at }
+    requires under { IsParentOf tree.now up (Trim at) at }
     requires bare { marked ≡ false → IsBare tables.old.items }
     ensures { InsertedAbove tree.now tables.old.items tables.new.items at marked result tally.old tally.new }
 {
@@ -134,7 +134,7 @@ fn insert_above_wide<L: Ledger>(
 ) -> Result<(), AllocError>
     requires gaining { Gaining tree.now tables.old.items at tuple.now }
     requires wide { length tuple.now ≡ width_at tables.old.items at }
-    requires under { IsUnder tree.now up (Trim at) at }
+    requires under { IsParentOf tree.now up (Trim at) at }
     requires bare { marked ≡ false → IsBare tables.old.items }
     ensures { InsertedAbove tree.now tables.old.items tables.new.items at marked result tally.old tally.new }
 {
@@ -158,7 +158,7 @@ fn insert_above_part<L: Ledger>(
 ) -> Result<(), AllocError>
     requires gaining { Gaining tree.now tables.old.items at tuple.now }
     requires wide { length tuple.now ≡ width_at tables.old.items at }
-    requires under { IsUnder tree.now up (Trim at) at }
+    requires under { IsParentOf tree.now up (Trim at) at }
     requires part { cells.now ≡ pick (key_at tables.old.items at) tuple.now }
     requires bare { marked ≡ false → IsBare tables.old.items }
     ensures { InsertedAbove tree.now tables.old.items tables.new.items at marked result tally.old tally.new }
@@ -187,7 +187,7 @@ fn insert_above_guard<L: Ledger>(
 ) -> Result<(), AllocError>
     requires gaining { Gaining tree.now tables.old.items at tuple.now }
     requires wide { length tuple.now ≡ width_at tables.old.items at }
-    requires under { IsUnder tree.now up (Meet at side) at }
+    requires under { IsParentOf tree.now up (Meet at side) at }
     requires bare { marked ≡ false → IsBare tables.old.items }
     ensures { InsertedAbove tree.now tables.old.items tables.new.items at marked result tally.old tally.new }
 {
@@ -211,7 +211,7 @@ fn insert_above_side<L: Ledger>(
     tally: &mut Tally<L>,
 ) -> Result<(), AllocError>
     requires gaining { Gaining tree.now tables.old.items at tuple.now }
-    requires under { IsUnder tree.now up (Meet guard at) at }
+    requires under { IsParentOf tree.now up (Meet guard at) at }
     requires bare { marked ≡ false → IsBare tables.old.items }
     ensures { InsertedAbove tree.now tables.old.items tables.new.items at marked result tally.old tally.new }
 {

@@ -2,14 +2,14 @@
 
 ghost use Rattle.std.specs.Prelude.{◌≡◌, ℕ, ◌+◌, ◌*◌, ◌<◌, ◌≤◌, false, true, cond, length};
 ghost use Rattle.djq_index.specs.Entries.{marks, unmarked};
-ghost use Rattle.djq_index.specs.Tuple.{one};
+ghost use Rattle.djq_index.specs.Tuple.{one_if};
 ghost use Rattle.djq_tree.specs.Flat.{HasEqualMeets};
 ghost use Rattle.djq_tree.specs.Tree.{node_at, has_child};
 ghost use Rattle.djq_reduct.specs.Tables.{entries_at};
 ghost use Rattle.djq_reduct.specs.Reducts.{IsFamily, IsReducts};
 ghost use Rattle.djq_propagate.specs.Sizes.{size};
 ghost use Rattle.djq_propagate.specs.Touches.{CanWalk, HaveFew, IsTouched, IsTouchedUp, IsWalked, reach};
-ghost use Rattle.djq_propagate.specs.Walks.{Changed};
+ghost use Rattle.djq_propagate.specs.Walks.{ChangedOneTable};
 ghost use Rattle.djq_propagate.specs.Updates.{HasCleared, HasTaken, steps};
 
 use crate::removal::remove_tuple;
@@ -45,9 +45,9 @@ fn touch_above<L: Ledger>(
     ensures idle { up < tree.now.second_stage → removal ≡ false → tables.new.items ≡ tables.old.items }
     ensures apart { has_child (node_at tree.now.nodes up) at ≡ false → tables.new.items ≡ tables.old.items }
     ensures counted { (n : ℕ) → ((i : ℕ) → length (entries_at tables.old.items i) ≤ n)
-        → tally.new ≤ tally.old + one (has_child (node_at tree.now.nodes up) at) * (1 + 5 * n) }
+        → tally.new ≤ tally.old + one_if (has_child (node_at tree.now.nodes up) at) * (1 + 5 * n) }
     ensures flat { HasEqualMeets tree.now → length (marks (entries_at tables.old.items at)) ≤ 1
-        → tally.new ≤ tally.old + one (has_child (node_at tree.now.nodes up) at) * 6 }
+        → tally.new ≤ tally.old + one_if (has_child (node_at tree.now.nodes up) at) * 6 }
 {
     if tree.node(up).has_child(at) {
         if up >= tree.second_stage() {
@@ -101,11 +101,11 @@ fn clear_above<L: Ledger>(
     ensures next { result ≡ cond (has_child (node_at tree.now.nodes up) at) up at }
     ensures cleared { has_child (node_at tree.now.nodes up) at ≡ true
         → entries_at tables.new.items up ≡ unmarked (entries_at tables.old.items up) }
-    ensures changed { has_child (node_at tree.now.nodes up) at ≡ true → Changed tables.old.items tables.new.items up }
+    ensures changed { has_child (node_at tree.now.nodes up) at ≡ true → ChangedOneTable tables.old.items tables.new.items up }
     ensures apart { has_child (node_at tree.now.nodes up) at ≡ false → tables.new.items ≡ tables.old.items }
     ensures counted { (n : ℕ) → ((i : ℕ) → length (entries_at tables.old.items i) ≤ n)
-        → tally.new ≤ tally.old + one (has_child (node_at tree.now.nodes up) at) * (1 + n) }
-    ensures flat { HaveFew tables.old.items → tally.new ≤ tally.old + one
+        → tally.new ≤ tally.old + one_if (has_child (node_at tree.now.nodes up) at) * (1 + n) }
+    ensures flat { HaveFew tables.old.items → tally.new ≤ tally.old + one_if
         (has_child (node_at tree.now.nodes up) at) * 2 }
 {
     if tree.node(up).has_child(at) {

@@ -8,7 +8,7 @@ ghost use Rattle.djq_tree.specs.declared.node.Node.TheVariants.{Trim, Meet};
 ghost use Rattle.djq_reduct.specs.Tables.{entries_at, key_at, width_at};
 ghost use Rattle.djq_propagate.specs.Sizes.{size};
 ghost use Rattle.djq_propagate.specs.Walks.{Ready, RemovedUpwards, Losing, RemovedAbove, Fewer};
-ghost use Rattle.djq_propagate.specs.Walks.{IsUnder, IsEmptied, IsFull};
+ghost use Rattle.djq_propagate.specs.Walks.{IsParentOf, IsEmptied, CoversAll};
 
 use crate::tables::{column_of, find_at, part_of, read_at, remove_at};
 use djq_index::{Place, Table};
@@ -80,7 +80,7 @@ fn remove_above_trim<L: Ledger>(
 )
     requires losing { Losing tree.now tables.old.items at tuple.now }
     requires wide { length tuple.now ≡ width_at tables.old.items at }
-    requires under { IsUnder tree.now up (Trim at) at }
+    requires under { IsParentOf tree.now up (Trim at) at }
     ensures { RemovedAbove tree.now tables.old.items tables.new.items at tally.old tally.new }
 {
     match column_of(tables, at) {
@@ -108,7 +108,7 @@ fn remove_above_wide<L: Ledger>(
 )
     requires losing { Losing tree.now tables.old.items at tuple.now }
     requires wide { length tuple.now ≡ width_at tables.old.items at }
-    requires under { IsUnder tree.now up (Trim at) at }
+    requires under { IsParentOf tree.now up (Trim at) at }
     ensures { RemovedAbove tree.now tables.old.items tables.new.items at tally.old tally.new }
 {
     let mut part = Cells::new(0);
@@ -130,7 +130,7 @@ fn remove_above_part<L: Ledger>(
 )
     requires losing { Losing tree.now tables.old.items at tuple.now }
     requires wide { length tuple.now ≡ width_at tables.old.items at }
-    requires under { IsUnder tree.now up (Trim at) at }
+    requires under { IsParentOf tree.now up (Trim at) at }
     requires part { cells.now ≡ pick (key_at tables.old.items at) tuple.now }
     ensures { RemovedAbove tree.now tables.old.items tables.new.items at tally.old tally.new }
 {
@@ -158,7 +158,7 @@ fn remove_above_guard<L: Ledger>(
     tally: &mut Tally<L>,
 )
     requires losing { Losing tree.now tables.old.items at tuple.now }
-    requires under { IsUnder tree.now up (Meet at side) at }
+    requires under { IsParentOf tree.now up (Meet at side) at }
     ensures { RemovedAbove tree.now tables.old.items tables.new.items at tally.old tally.new }
 {
     match find_at(tables, up, tuple, tally) {
@@ -179,7 +179,7 @@ fn remove_above_side<L: Ledger>(
     tally: &mut Tally<L>,
 )
     requires losing { Losing tree.now tables.old.items at tuple.now }
-    requires under { IsUnder tree.now up (Meet guard at) at }
+    requires under { IsParentOf tree.now up (Meet guard at) at }
     ensures { RemovedAbove tree.now tables.old.items tables.new.items at tally.old tally.new }
 {
     let count = tables[guard].len();
@@ -199,7 +199,7 @@ pub(crate) fn remove_group_from_meet<L: Ledger>(
 )
     requires ready { Ready tree.now tables.old.items up }
     requires lower { guard < up }
-    requires full { IsFull (entries_at tables.old.items up)
+    requires full { CoversAll (entries_at tables.old.items up)
         (take count (group_of (key_at tables.old.items guard) (entries_at tables.old.items guard)
         cells.now)) }
     ensures emptied { IsEmptied tree.now tables.old.items tables.new.items up

@@ -4,10 +4,10 @@ ghost use Rattle.std.specs.Prelude.{◌≡◌, ℕ, ◌+◌, ◌<◌, ◌≤◌,
 ghost use Rattle.std.specs.Prelude.{IfOk, IfSome, OnErr, MatchOption};
 ghost use Rattle.djq_index.specs.Tuple.{pick};
 ghost use Rattle.djq_index.specs.Entries.{count_of, marks};
-ghost use Rattle.djq_index.specs.Table.{IsAt, IsLive};
+ghost use Rattle.djq_index.specs.Table.{IsAt, IsOccupied};
 ghost use Rattle.djq_index.specs.Changes.{InsertedAs, Removed};
 ghost use Rattle.djq_reduct.specs.Tables.{entries_at, key_at, width_at};
-ghost use Rattle.djq_propagate.specs.Walks.{Changed};
+ghost use Rattle.djq_propagate.specs.Walks.{ChangedOneTable};
 ghost use Rattle.djq_index.specs.declared.table.TheConstants.{TUPLES};
 ghost use Rattle.djq_index.specs.declared.cells.TheConstants.{CELLS};
 
@@ -36,7 +36,7 @@ pub(crate) fn find_at<L: Ledger>(
 pub(crate) fn read_at(tables: &Vec<Table>, at: usize, place: Place, cells: &mut Cells)
     requires within { at < length tables.now.items }
     requires narrow { width_at tables.now.items at ≤ CELLS }
-    requires live { IsLive (entries_at tables.now.items at) place }
+    requires live { IsOccupied (entries_at tables.now.items at) place }
     ensures tuple { (u : List ℕ) → IsAt (entries_at tables.now.items at) place u → cells.new ≡ u }
     ensures wide { length cells.new ≡ width_at tables.now.items at }
 {
@@ -140,7 +140,7 @@ pub(crate) fn insert_at<L: Ledger>(
         (entries_at tables.old.items at) (entries_at tables.new.items at) tuple.now) }
     ensures lies { IfOk result (λ p. IsAt (entries_at tables.new.items at) p tuple.now) }
     ensures refused { OnErr result (entries_at tables.new.items at ≡ entries_at tables.old.items at) }
-    ensures changed { Changed tables.old.items tables.new.items at }
+    ensures changed { ChangedOneTable tables.old.items tables.new.items at }
     ensures counted { tally.new ≡ tally.old + 1 }
 {
     let table = &mut tables[at];
@@ -155,10 +155,10 @@ pub(crate) fn remove_at<L: Ledger>(
     tally: &mut Tally<L>,
 )
     requires within { at < length tables.old.items }
-    requires live { IsLive (entries_at tables.old.items at) place }
+    requires live { IsOccupied (entries_at tables.old.items at) place }
     ensures removed { (u : List ℕ) → IsAt (entries_at tables.old.items at) place u
         → Removed (entries_at tables.old.items at) (entries_at tables.new.items at) u }
-    ensures changed { Changed tables.old.items tables.new.items at }
+    ensures changed { ChangedOneTable tables.old.items tables.new.items at }
     ensures counted { tally.new ≡ tally.old + 1 }
 {
     let table = &mut tables[at];

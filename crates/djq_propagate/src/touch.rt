@@ -1,15 +1,15 @@
 //! Tuples are marked: those of a node that follow from the marked ones of its child.
 
 ghost use Rattle.std.specs.Prelude.{◌≡◌, ℕ, ◌+◌, ◌*◌, ◌<◌, ◌≤◌, length};
-ghost use Rattle.djq_index.specs.Tuple.{same, one};
+ghost use Rattle.djq_index.specs.Tuple.{same, one_if};
 ghost use Rattle.djq_index.specs.Entries.{count_of, group_size, marks, plain, group_of};
 ghost use Rattle.djq_tree.specs.Flat.{HasEqualMeets};
 ghost use Rattle.djq_tree.specs.Tree.{node_at};
 ghost use Rattle.djq_tree.specs.declared.node.Node.TheVariants.{Trim};
 ghost use Rattle.djq_reduct.specs.Tables.{entries_at, key_at, width_at};
 ghost use Rattle.djq_reduct.specs.Reducts.{IsFamily};
-ghost use Rattle.djq_propagate.specs.Touches.{IsTouched, IsStep, is_marked_by, reach_one, reach, cost_one};
-ghost use Rattle.djq_propagate.specs.Walks.{IsUnder};
+ghost use Rattle.djq_propagate.specs.Touches.{IsTouched, IsStepUp, is_marked_by, reach_one, reach, cost_one};
+ghost use Rattle.djq_propagate.specs.Walks.{IsParentOf};
 
 use crate::tables::{part_of, read_at};
 use djq_index::Table;
@@ -28,7 +28,7 @@ pub(crate) fn touch_tuple<L: Ledger>(
 )
     requires family { IsFamily tree.now tables.old.items }
     requires within { at < length tree.now.nodes }
-    ensures touched { IsTouched tree.now tables.old.items tables.new.items at (λ v. one (same tuple.now v)) }
+    ensures touched { IsTouched tree.now tables.old.items tables.new.items at (λ v. one_if (same tuple.now v)) }
     ensures counted { tally.new ≤ tally.old + 2 }
 {
     let table = &mut tables[at];
@@ -82,7 +82,7 @@ fn touch_part<L: Ledger>(
     requires family { IsFamily tree.now tables.old.items }
     requires within { at < length tree.now.nodes }
     requires wide { length tuple.now ≡ width_at tables.old.items at }
-    requires under { IsUnder tree.now up (Trim at) at }
+    requires under { IsParentOf tree.now up (Trim at) at }
     ensures touched { IsTouched tree.now tables.old.items tables.new.items up
         (λ v. reach_one (Trim at) going at tables.old.items tuple.now v) }
     ensures counted { tally.new ≤ tally.old + 3 }
@@ -141,7 +141,7 @@ fn touch_from<L: Ledger>(
     going: bool,
     tally: &mut Tally<L>,
 )
-    requires step { IsStep tree.now tables.old.items at up }
+    requires step { IsStepUp tree.now tables.old.items at up }
     requires wide { length tuple.now ≡ width_at tables.old.items at }
     ensures touched { IsTouched tree.now tables.old.items tables.new.items up
         (λ v. reach_one (node_at tree.now.nodes up) going at tables.old.items tuple.now v) }
@@ -170,7 +170,7 @@ pub(crate) fn touch_step<L: Ledger>(
     going: bool,
     tally: &mut Tally<L>,
 )
-    requires step { IsStep tree.now tables.old.items at up }
+    requires step { IsStepUp tree.now tables.old.items at up }
     ensures touched { IsTouched tree.now tables.old.items tables.new.items up
         (λ v. reach (node_at tree.now.nodes up) going at tables.old.items
         (marks (entries_at tables.old.items at)) v) }

@@ -15,9 +15,10 @@ use Rattle.djq_value.specs.Literal.{is_name, is_small_value, literal_of}
 use Rattle.djq_lines.specs.Grammar.{Body, Item, atom, is_small_atom, comparison, atom_in, atom_over}
 use Rattle.djq_lines.specs.Grammar.{behind_item, body_in, compared, item_in, items_in, items_within}
 use Rattle.djq_lines.specs.Grammar.{list_in, more_in, name_of, past_item, put_first, put_item}
-use Rattle.djq_lines.specs.Grammar.{query_in, query_of, term_of}
+use Rattle.djq_lines.specs.Grammar.{query_of_tokens, query_of, term_of}
 use Rattle.std.proofs.lemmas.Bool.{cond-true, true≢false}
-use Rattle.djq_proto.specs.Bodies.{HasOneMore, IsRead, ReadsOn, constant_in, comparison_behind, has_atom_in, with_item}
+use Rattle.djq_proto.specs.Bodies.{HasOneMore, BodyIsRead, ReadsOn, constant_in, comparison_behind, has_atom_in}
+use Rattle.djq_proto.specs.Bodies.{with_item}
 use Rattle.djq_proto.specs.Reading.{ReadsAs, ReadsPart, is_comma, is_outside, is_small_body, is_small_query}
 use Rattle.djq_proto.specs.declared.body.Parts.{Parts}
 use Rattle.djq_proto.specs.declared.refusal.LineRefusal.{LineRefusal}
@@ -211,11 +212,11 @@ counted b (comparison c) = refl
 pub record PartsSoFar (start rest : List Token) (parts : Parts) : Type 0 where
   pub read : Body
   pub split : items_in 0 start ≡ onto read (items_in (length read.0) rest)
-  pub kept : IsRead read parts
+  pub kept : BodyIsRead read parts
 
 -- what reading an item gave, where it gave something
 pub on_some : (b : Body) (o : Option (Item × List Token)) (p : Parts) (left : List Token) → ReadsOn b o (Some p) left
-    → (i : Item) × (o ≡ Some (i, left)) × IsRead (with_item b i) p
+    → (i : Item) × (o ≡ Some (i, left)) × BodyIsRead (with_item b i) p
 on_some b None p left h = absurd (cc)
 on_some b (Some q) p left h = (q.0, ap (λ us. Some (q.0, us)) (sym h.1), h.0)
 
@@ -230,7 +231,7 @@ item_less n ts mid i e = subst (IsShorter (length ts)) e (item_shorter n ts)
 
 -- one more item, and a comma
 pub parts_more : (start rest mid new : List Token) (old more : Parts) (h : PartsSoFar start rest old) (i : Item)
-    → item_in (length h.read.0) rest ≡ Some (i, mid) → mid ≡ comma ∷ new → IsRead (with_item h.read i) more
+    → item_in (length h.read.0) rest ≡ Some (i, mid) → mid ≡ comma ∷ new → BodyIsRead (with_item h.read i) more
     → PartsSoFar start new more
 parts_more start rest mid new old more h i is e kept = record {
   read = with_item h.read i;
@@ -408,6 +409,6 @@ head_refused n head (Some b) body NoMem h k = k.1
 -- what stands behind the name of a query and its head
 pub query_split : (old mid rest : List Token) (n : Bytes) (head : List Bytes) → old ≡ word n ∷ mid → is_name n ≡ true
     → list_in name_of mid ≡ Some (head, rest)
-    → query_in old ≡ option_map (λ (b : Body). record { name = n; head = head; atoms = b.0; comparisons = b.1 })
+    → query_of_tokens old ≡ option_map (λ (b : Body). record { name = n; head = head; atoms = b.0; comparisons = b.1 })
     (body_in rest)
-query_split old mid rest n head e named some = ap query_in e ∙ cond-true _ _ _ named ∙ ap (query_of n) some
+query_split old mid rest n head e named some = ap query_of_tokens e ∙ cond-true _ _ _ named ∙ ap (query_of n) some

@@ -8,7 +8,7 @@ use Rattle.std.proofs.lemmas.Bool.{cond-true, cond-false}
 use Rattle.djq_model.specs.Data.{Bytes}
 use Rattle.djq_lines.specs.Line.{before_lf, behind_lf, without_cr, is_long, front_of, line_or_dry}
 use Rattle.djq_lines.specs.Line.{dry, too_long, a_line}
-use Rattle.djq_proto.specs.Splitting.{IsFirstLf, HasNoLf}
+use Rattle.djq_proto.specs.Splitting.{IsFirstLf, HasNoLineEnd}
 
 pub before_lf-at : (bytes : Bytes) (at : ℕ) → IsFirstLf bytes at → before_lf bytes ≡ take at bytes
 before_lf-at [] at h = absurd (omega (arith, h.within))
@@ -27,7 +27,7 @@ behind_lf-at (b ∷ bs) (suc at) h =
     { within = omega (arith, h.within); lf = h.lf; before = λ k l. h.before (suc k) (omega arith) })
 
 -- bytes without LF stand in front of the first LF
-pub before_lf-front : (n : ℕ) (bytes : Bytes) → HasNoLf (take n bytes) → before_lf bytes
+pub before_lf-front : (n : ℕ) (bytes : Bytes) → HasNoLineEnd (take n bytes) → before_lf bytes
     ≡ take n bytes ++ before_lf (drop n bytes)
 before_lf-front zero bytes h = refl
 before_lf-front (suc n) [] h = refl
@@ -35,7 +35,7 @@ before_lf-front (suc n) (b ∷ bs) h =
     cond-false _ _ _ (ne_eqb b 10 (h zero (omega arith)))
     ∙ ap (λ xs. b ∷ xs) (before_lf-front n bs (λ k l. h (suc k) (omega arith)))
 
-pub behind_lf-none : (bytes : Bytes) → HasNoLf bytes → behind_lf bytes ≡ None
+pub behind_lf-none : (bytes : Bytes) → HasNoLineEnd bytes → behind_lf bytes ≡ None
 behind_lf-none [] h = refl
 behind_lf-none (b ∷ bs) h =
     cond-false _ _ _ (ne_eqb b 10 (h zero (omega arith))) ∙ behind_lf-none bs (λ k l. h (suc k) (omega arith))
@@ -68,7 +68,7 @@ whole_or_more bytes = elim (cases_lt (length bytes) 4098) [
 all_seen : (bytes : Bytes) → take (min (length bytes) 4098) bytes ≡ bytes → length bytes ≤ min (length bytes) 4098
 all_seen bytes whole = omega (arith, ap length whole, length-take (min (length bytes) 4098) bytes)
 
-pub front_of-no_lf_long : (bytes : Bytes) → HasNoLf (take (min (length bytes) 4098) bytes)
+pub front_of-no_lf_long : (bytes : Bytes) → HasNoLineEnd (take (min (length bytes) 4098) bytes)
     → is_long (take (min (length bytes) 4098) bytes) ≡ true → front_of bytes ≡ too_long
 front_of-no_lf_long bytes h long =
     let n = min (length bytes) 4098 in
@@ -87,13 +87,13 @@ short_front : (bs : Bytes) → is_long bs ≡ false → length bs < 4098
 short_front bs short = leb-false 4098 (length bs)
     (or_parts (leb 4098 (length bs)) (leb 4097 (length bs) && not (eqb (get_or bs 4096 0) 13)) short).0
 
-pub front_of-no_lf_dry : (bytes : Bytes) → HasNoLf (take (min (length bytes) 4098) bytes)
+pub front_of-no_lf_dry : (bytes : Bytes) → HasNoLineEnd (take (min (length bytes) 4098) bytes)
     → is_long (take (min (length bytes) 4098) bytes) ≡ false → front_of bytes ≡ dry
 front_of-no_lf_dry bytes h short =
     let n = min (length bytes) 4098 in
     elim (whole_or_more bytes) [
       | inl whole ↦
-          let none : HasNoLf bytes = subst HasNoLf whole h in
+          let none : HasNoLineEnd bytes = subst HasNoLineEnd whole h in
           let all : before_lf bytes ≡ bytes = before_lf-front n bytes h
           ∙ ap (λ xs. take n bytes ++ before_lf xs) (drop_all n bytes (all_seen bytes whole))
           ∙ append-nil (take n bytes) ∙ whole in
@@ -105,6 +105,7 @@ front_of-no_lf_dry bytes h short =
 -- what a search of the first bytes says that found none
 pub no_lf_from_search : (held : Bytes) (n : ℕ) → n ≡ min (length held) 4098
     → ((k : ℕ) → 0 ≤ k → k < length (take n held) → (eqb (get_or (take n held) k 0) 10 ≡ true → ⊥))
-    → HasNoLf (take (min (length held) 4098) held)
+    → HasNoLineEnd (take (min (length held) 4098) held)
 no_lf_from_search held n e h =
-    subst (λ (m : ℕ). HasNoLf (take m held)) e (λ k l is. h k (omega arith) l (eq-eqb (get_or (take n held) k 0) 10 is))
+    subst (λ (m : ℕ). HasNoLineEnd (take m held)) e
+    (λ k l is. h k (omega arith) l (eq-eqb (get_or (take n held) k 0) 10 is))

@@ -18,7 +18,7 @@ use Rattle.djq_value.specs.Token.{Token, word, text, open_paren, close_paren, co
 use Rattle.djq_value.proofs.Small.{natural_digits}
 use Rattle.djq_value.proofs.Spellings.{tokens_spelled}
 use Rattle.djq_lines.specs.Grammar.{all_of, in_front}
-use Rattle.djq_proto.specs.RowReading.{TakesRowWord, is_number}
+use Rattle.djq_proto.specs.RowReading.{TakesRowWord, is_integer_value}
 use Rattle.djq_proto.specs.declared.row.RowWord.{RowWord}
 use Rattle.djq_proto.specs.declared.row.RowWord.TheVariants.{Add, Del}
 use Rattle.djq_value.proofs.Literals.{map_some}
@@ -120,18 +120,21 @@ front_parts None more xs e = absurd (cc)
 front_parts (Some a) None xs e = absurd (cc)
 front_parts (Some a) (Some bs) xs e = (a, bs, refl, refl, cc)
 
-low_numbers : (ts : List Token) (xs : Tuple) → all_of literal_of ts ≡ Some xs → list_all is_number xs ≡ true → AreLow ts
+low_numbers : (ts : List Token) (xs : Tuple) → all_of literal_of ts ≡ Some xs
+    → list_all is_integer_value xs ≡ true → AreLow ts
 low_numbers [] xs e h = tt
 low_numbers (word w ∷ ts) xs e h =
     let parts = front_parts (literal_of (word w)) (all_of literal_of ts) xs e in
     let found = map_some (λ i. Int i) (integer_of w) parts.0 parts.2 in
-    let each = and_parts (is_number parts.0) (list_all is_number parts.1) (ap (list_all is_number) (sym parts.4) ∙ h) in
+    let each = and_parts (is_integer_value parts.0) (list_all is_integer_value parts.1)
+    (ap (list_all is_integer_value) (sym parts.4) ∙ h) in
     (low_integer w found.0 found.1, low_numbers ts parts.1 parts.3 each.1)
 low_numbers (text t ∷ ts) xs e h =
     let parts = front_parts (Some (Text t)) (all_of literal_of ts) xs e in
-    let each = and_parts (is_number parts.0) (list_all is_number parts.1) (ap (list_all is_number) (sym parts.4) ∙ h) in
+    let each = and_parts (is_integer_value parts.0) (list_all is_integer_value parts.1)
+    (ap (list_all is_integer_value) (sym parts.4) ∙ h) in
     let same : Text t ≡ parts.0 = cc (parts.2) in
-    let not_one : false ≡ true = ap is_number same ∙ each.0 in
+    let not_one : false ≡ true = ap is_integer_value same ∙ each.0 in
     absurd (cc (not_one))
 low_numbers (open_paren ∷ ts) xs e h = absurd (cc)
 low_numbers (close_paren ∷ ts) xs e h = absurd (cc)
@@ -153,7 +156,7 @@ low_utf8 line ts e h =
 
 pub numbers_utf8 : (line : Bytes) (verb : RowWord) (old ts : List Token) (name : Bytes) (xs : Tuple)
     → TakesRowWord (tokens line) (Some verb) old → old ≡ word name ∷ ts → is_name name ≡ true
-    → all_of literal_of ts ≡ Some xs → list_all is_number xs ≡ true → is_utf8 line ≡ true
+    → all_of literal_of ts ≡ Some xs → list_all is_integer_value xs ≡ true → is_utf8 line ≡ true
 numbers_utf8 line Add old ts name xs taken e named all numbers =
     low_utf8 line (word (codes "add") ∷ word name ∷ ts) (taken ∙ ap (λ us. word (codes "add") ∷ us) e)
     (refl, (low_name name named, low_numbers ts xs all numbers))

@@ -27,7 +27,7 @@ use Rattle.djq_lines.specs.declared.command.Command.TheVariants.{
 }
 use Rattle.djq_lines.specs.Grammar.{command_in, command_of}
 use Rattle.djq_proto.specs.RowReading.{row_word_in}
-use Rattle.djq_proto.specs.Saying.{Says}
+use Rattle.djq_proto.specs.Saying.{SaysCommand}
 use Rattle.djq_proto.specs.declared.row.RowWord.{RowWord}
 use Rattle.djq_proto.specs.declared.row.RowWord.TheVariants.{Add as Adds, Del as Deletes}
 use Rattle.djq_proto.proofs.Numerals.{guard_some}
@@ -39,7 +39,7 @@ row_word_for (Add name row) = Some Adds
 row_word_for (Del name row) = Some Deletes
 row_word_for _ = None
 
-said_by : (c : Command) (ts : List Token) → Says c ts → row_word_in ts ≡ row_word_for c
+said_by : (c : Command) (ts : List Token) → SaysCommand c ts → row_word_in ts ≡ row_word_for c
 said_by (Rel n cs) ts s = ap row_word_in s.4
 said_by (Add n vs) ts s = ap row_word_in s.1.3
 said_by (Del n vs) ts s = ap row_word_in s.1.3

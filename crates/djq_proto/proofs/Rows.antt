@@ -17,8 +17,8 @@ use Rattle.djq_lines.specs.declared.command.Command.{Command}
 use Rattle.djq_lines.specs.declared.command.Command.TheVariants.{Add as AddRow, Del as DeleteRow}
 use Rattle.djq_lines.specs.Grammar.{all_of, command_in, command_of, in_front, is_in_range, named_some}
 use Rattle.djq_lines.specs.Grammar.{takes_memory_to_read}
-use Rattle.djq_proto.specs.Reading.{Gives, Reads, ReadsAs, onto}
-use Rattle.djq_proto.specs.RowReading.{IsRefused, ReadsNumbers, TakesRowWord, is_number, named_in, named_read}
+use Rattle.djq_proto.specs.Reading.{GivesCommand, LineReadsAs, ReadsAs, onto}
+use Rattle.djq_proto.specs.RowReading.{IsRefused, ReadsNumbers, TakesRowWord, is_integer_value, named_in, named_read}
 use Rattle.djq_proto.specs.RowReading.{named_with, row_word_in, values_read}
 use Rattle.djq_proto.specs.declared.refusal.LineRefusal.{LineRefusal}
 use Rattle.djq_proto.specs.declared.refusal.LineRefusal.TheVariants.{Syntax, Range, NoMem}
@@ -47,13 +47,13 @@ takes Del name row = refl
 
 row_made : (verb : RowWord) (o : Option (Bytes × Tuple)) (name : Bytes) (row : Tuple)
     → ReadsAs (λ p. list_all is_small_value p.1) o (Ok (name, row))
-    → Gives (made_of verb o) (Ok (row_command verb name row))
+    → GivesCommand (made_of verb o) (Ok (row_command verb name row))
 row_made verb None name row h = absurd (cc)
 row_made verb (Some p) name row h =
     ((ap (λ (q : Bytes × Tuple). row_command verb q.0 q.1) h.0, ranged verb p.0 p.1 ∙ h.1), tt)
 
 row_refused : (verb : RowWord) (o : Option (Bytes × Tuple)) (e : LineRefusal)
-    → ReadsAs (λ p. list_all is_small_value p.1) o (Err e) → Gives (made_of verb o) (Err e)
+    → ReadsAs (λ p. list_all is_small_value p.1) o (Err e) → GivesCommand (made_of verb o) (Err e)
 row_refused verb None e h = (cc, tt)
 row_refused verb (Some p) Syntax h = absurd h
 row_refused verb (Some p) Range h = (ranged verb p.0 p.1 ∙ h, tt)
@@ -87,17 +87,19 @@ line_made verb line rest h =
 pub line_said : (verb : RowWord) (line : Bytes) (rest : List Token) (name : Bor Bytes) (row : Tuple)
     → TakesRowWord (tokens line) (Some verb) rest
     → ReadsAs (λ p. list_all is_small_value p.1) (named_in line rest) (named_read (Ok name) row)
-    → Reads line (Ok (row_command verb name.now row))
+    → LineReadsAs line (Ok (row_command verb name.now row))
 line_said verb line rest name row taken h =
-    subst (λ o. Gives o (Ok (row_command verb name.now row))) (sym (line_made verb line rest taken))
+    subst (λ o. GivesCommand o (Ok (row_command verb name.now row))) (sym (line_made verb line rest taken))
     (row_made verb (named_in line rest) name.now row h)
 
 -- a line that is refused
 pub line_refused : (verb : RowWord) (line : Bytes) (rest : List Token) (e : LineRefusal) (row : Tuple)
     → TakesRowWord (tokens line) (Some verb) rest
-    → ReadsAs (λ p. list_all is_small_value p.1) (named_in line rest) (named_read (Err e) row) → Reads line (Err e)
+    → ReadsAs (λ p. list_all is_small_value p.1) (named_in line rest) (named_read (Err e) row)
+    → LineReadsAs line (Err e)
 line_refused verb line rest e row taken h =
-    subst (λ o. Gives o (Err e)) (sym (line_made verb line rest taken)) (row_refused verb (named_in line rest) e h)
+    subst (λ o. GivesCommand o (Err e)) (sym (line_made verb line rest taken))
+    (row_refused verb (named_in line rest) e h)
 
 -- Behind the keyword: a name and values.
 
@@ -126,7 +128,7 @@ pub numbers_on : (old mid new : List Token) (row more all : Tuple) → ReadsNumb
 numbers_on old mid new row more all h k = (
   h.0 ++ k.0,
   k.1 ∙ ap (λ (ys : Tuple). ys ++ k.0) h.1 ∙ append_assoc row h.0 k.0,
-  list_all-append is_number h.0 k.0 ∙ and_from _ _ h.2 k.2,
+  list_all-append is_integer_value h.0 k.0 ∙ and_from _ _ h.2 k.2,
   list_all-append is_small_value h.0 k.0 ∙ and_from _ _ h.3 k.3,
   h.4 ∙ ap (onto h.0) k.4 ∙ onto-twice h.0 k.0 (all_of literal_of new),
 )

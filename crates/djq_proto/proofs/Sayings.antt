@@ -100,7 +100,7 @@ use Rattle.djq_lines.specs.Grammar.{
   command_with,
   compared,
   comparison_of,
-  count_of,
+  answer_count,
   is_count,
   item_in,
   items_in,
@@ -115,15 +115,16 @@ use Rattle.djq_lines.specs.Grammar.{
   name_of,
   named_any,
   named_some,
-  nothing,
+  at_line_end,
   one_name,
-  query_in,
+  query_of_tokens,
   query_of,
   term_of,
   two_names,
   type_of,
 }
-use Rattle.djq_proto.specs.Saying.{Says, SaysAtom, SaysBody, SaysItem, SaysItems, SaysName, SaysOne, SaysQuery, SaysRow, SaysTerm, SaysType, SaysValue, atoms_among, comparisons_among, list_tokens}
+use Rattle.djq_proto.specs.Saying.{SaysCommand, SaysAtom, SaysBody, SaysItem, SaysItems, SaysName, SaysOne, SaysQuery}
+use Rattle.djq_proto.specs.Saying.{SaysRow, SaysTerm, SaysType, SaysValue, atoms_among, comparisons_among, list_tokens}
 use Rattle.djq_proto.proofs.Bodies.{items_in-step}
 use Rattle.djq_proto.proofs.Numerals.{guard_some, numeral_from, numeral_said}
 use Rattle.djq_value.proofs.Literals.{map_some}
@@ -371,7 +372,7 @@ head_parts n (Some p) q e =
     e in
     (p.0, p.1, found.0, refl, found.1, found.2)
 
-query_said : (ts : List Token) (q : Query) → query_in ts ≡ Some q → SaysQuery q ts
+query_said : (ts : List Token) (q : Query) → query_of_tokens ts ≡ Some q → SaysQuery q ts
 query_said [] q e = absurd (cc)
 query_said (word n ∷ ts) q e =
     let guarded = guard_some (is_name n) (query_of n (list_in name_of ts)) q e in
@@ -403,9 +404,9 @@ body_from q ts s =
     ∙ ap₂ {C = Option Body} (λ (atoms : List Atom) (cs : List Comparison). Some (atoms, cs)) (sym s.2) (sym s.3))
     ∙ atoms_some (q.atoms, q.comparisons) s.4
 
-query_from : (q : Query) (ts : List Token) → SaysQuery q ts → query_in ts ≡ Some q
+query_from : (q : Query) (ts : List Token) → SaysQuery q ts → query_of_tokens ts ≡ Some q
 query_from q ts s =
-    ap query_in s.5 ∙ cond-true _ _ _ s.2
+    ap query_of_tokens s.5 ∙ cond-true _ _ _ s.2
     ∙ ap (query_of q.name) (list_from name_of SaysName name_from refl q.head s.0 (arrow ∷ s.1) s.3)
     ∙ ap (option_map (λ (b : Body). record { name = q.name; head = q.head; atoms = b.0; comparisons = b.1 }))
     (body_from q s.1 s.4)
@@ -537,7 +538,7 @@ two_said (word m ∷ word n ∷ []) p e =
     (subst IsName same.0 names.0, subst IsName same.1 names.1, ap₂ (λ v w. word v ∷ word w ∷ []) same.0 same.1)
 two_said _ p e = absurd cc
 
-count_said : (o : Option ℕ) (k : ℕ) → count_of o ≡ Some k → (o ≡ Some k) × (is_count k ≡ true)
+count_said : (o : Option ℕ) (k : ℕ) → answer_count o ≡ Some k → (o ≡ Some k) × (is_count k ≡ true)
 count_said None k e = absurd (cc)
 count_said (Some n) k e =
     let guarded = guard_some (is_count n) (Some n) k e in
@@ -545,17 +546,17 @@ count_said (Some n) k e =
     (guarded.1, subst (λ m. is_count m ≡ true) same guarded.0)
 
 next_said : (ts : List Token) (p : Bytes × ℕ) → name_and_count ts ≡ Some p
-    → Says (Next p.0 p.1) (word (codes "next") ∷ ts)
+    → SaysCommand (Next p.0 p.1) (word (codes "next") ∷ ts)
 next_said (word c ∷ word w ∷ []) p e =
-    let guarded = guard_some (is_name c) (option_map (λ (n : ℕ). (c, n)) (count_of (natural_of w))) p e in
-    let found = map_some (λ (n : ℕ). (c, n)) (count_of (natural_of w)) p guarded.1 in
+    let guarded = guard_some (is_name c) (option_map (λ (n : ℕ). (c, n)) (answer_count (natural_of w))) p e in
+    let found = map_some (λ (n : ℕ). (c, n)) (answer_count (natural_of w)) p guarded.1 in
     let count = count_said (natural_of w) found.0 found.1 in
     let bounds = and_parts (leb 1 found.0) (leb found.0 1000) count.1 in
-    subst (λ (q : Bytes × ℕ). Says (Next q.0 q.1) (word (codes "next") ∷ word c ∷ word w ∷ [])) found.2
+    subst (λ (q : Bytes × ℕ). SaysCommand (Next q.0 q.1) (word (codes "next") ∷ word c ∷ word w ∷ [])) found.2
     (w, guarded.0, numeral_said w found.0 count.0, leb-true 1 found.0 bounds.0, leb-true found.0 1000 bounds.1, refl)
 next_said _ p e = absurd cc
 
-nothing_said : (command c : Command) (ts : List Token) → nothing command ts ≡ Some c → (ts ≡ []) × (command ≡ c)
+nothing_said : (command c : Command) (ts : List Token) → at_line_end command ts ≡ Some c → (ts ≡ []) × (command ≡ c)
 nothing_said command c [] e = (refl, cc)
 nothing_said command c (t ∷ ts) e = absurd (cc)
 
@@ -621,61 +622,62 @@ row_said : (keyword : Bytes) (ts : List Token) (n : Bytes) (vs : Tuple) → IsNa
 row_said keyword ts n vs h = (h.items, h.named, h.say, ap (λ us. word keyword ∷ us) h.split)
 
 named_one : (keyword : Bytes) (make : Bytes → Command) (ts : List Token) (c : Command)
-    → ((n : Bytes) (us : List Token) → SaysOne keyword n us → Says (make n) us) → option_map make (one_name ts) ≡ Some c
-    → Says c (word keyword ∷ ts)
+    → ((n : Bytes) (us : List Token) → SaysOne keyword n us → SaysCommand (make n) us)
+    → option_map make (one_name ts) ≡ Some c
+    → SaysCommand c (word keyword ∷ ts)
 named_one keyword make ts c says e =
     let found = map_some make (one_name ts) c e in
     let one = one_said ts found.0 found.1 in
-    subst (λ (d : Command). Says d (word keyword ∷ ts)) found.2
+    subst (λ (d : Command). SaysCommand d (word keyword ∷ ts)) found.2
     (says found.0 (word keyword ∷ ts) (one.0, ap (λ us. word keyword ∷ us) one.1))
 
 -- a keyword alone
 alone_said : (keyword : Bytes) (command : Command) (ts : List Token) (c : Command)
-    → ((us : List Token) → us ≡ word keyword ∷ [] → Says command us) → nothing command ts ≡ Some c
-    → Says c (word keyword ∷ ts)
+    → ((us : List Token) → us ≡ word keyword ∷ [] → SaysCommand command us) → at_line_end command ts ≡ Some c
+    → SaysCommand c (word keyword ∷ ts)
 alone_said keyword command ts c says e =
     let none = nothing_said command c ts e in
-    subst (λ (d : Command). Says d (word keyword ∷ ts)) none.1
+    subst (λ (d : Command). SaysCommand d (word keyword ∷ ts)) none.1
     (says (word keyword ∷ ts) (ap (λ us. word keyword ∷ us) none.0))
 
 behind_said : (k : Keyword) (ts : List Token) (c : Command) → command_behind k ts ≡ Some c
-    → Says c (word (keyword_text k) ∷ ts)
+    → SaysCommand c (word (keyword_text k) ∷ ts)
 behind_said RelWord ts c e =
     let found = map_some (λ (p : Bytes × List ColumnType). Rel p.0 p.1) (named_some type_of ts) c e in
     let some = some_said type_of SaysType type_said ts found.0 found.1 in
-    subst (λ (d : Command). Says d (word (codes "rel") ∷ ts)) found.2
+    subst (λ (d : Command). SaysCommand d (word (codes "rel") ∷ ts)) found.2
     (some.0.items, some.0.named, some.1, some.0.say, ap (λ us. word (codes "rel") ∷ us) some.0.split)
 behind_said AddWord ts c e =
     let found = map_some (λ (p : Bytes × Tuple). Add p.0 p.1) (named_some literal_of ts) c e in
     let some = some_said literal_of SaysValue value_said ts found.0 found.1 in
-    subst (λ (d : Command). Says d (word (codes "add") ∷ ts)) found.2
+    subst (λ (d : Command). SaysCommand d (word (codes "add") ∷ ts)) found.2
     (some.1, row_said (codes "add") ts found.0.0 found.0.1 some.0)
 behind_said DelWord ts c e =
     let found = map_some (λ (p : Bytes × Tuple). Del p.0 p.1) (named_some literal_of ts) c e in
     let some = some_said literal_of SaysValue value_said ts found.0 found.1 in
-    subst (λ (d : Command). Says d (word (codes "del") ∷ ts)) found.2
+    subst (λ (d : Command). SaysCommand d (word (codes "del") ∷ ts)) found.2
     (some.1, row_said (codes "del") ts found.0.0 found.0.1 some.0)
 behind_said QueryWord ts c e =
-    let found = map_some (λ q. Register q) (query_in ts) c e in
-    subst (λ (d : Command). Says d (word (codes "query") ∷ ts)) found.2 (ts, query_said ts found.0 found.1, refl)
+    let found = map_some (λ q. Register q) (query_of_tokens ts) c e in
+    subst (λ (d : Command). SaysCommand d (word (codes "query") ∷ ts)) found.2 (ts, query_said ts found.0 found.1, refl)
 behind_said UnionWord ts c e =
     let found = map_some (λ (p : Bytes × List Bytes). Union p.0 p.1) (name_and_members ts) c e in
     let some = members_said ts found.0 found.1 in
-    subst (λ (d : Command). Says d (word (codes "union") ∷ ts)) found.2
+    subst (λ (d : Command). SaysCommand d (word (codes "union") ∷ ts)) found.2
     (some.0.items, some.0.named, some.1, some.0.say, ap (λ us. word (codes "union") ∷ us) some.0.split)
 behind_said DropWord ts c e = named_one (codes "drop") (λ q. Drop q) ts c (λ n us s. s) e
 behind_said OpenWord ts c e =
     let found = map_some (λ (p : Bytes × Bytes). Open p.0 p.1) (two_names ts) c e in
     let two = two_said ts found.0 found.1 in
-    subst (λ (d : Command). Says d (word (codes "open") ∷ ts)) found.2
+    subst (λ (d : Command). SaysCommand d (word (codes "open") ∷ ts)) found.2
     (two.0, two.1, ap (λ us. word (codes "open") ∷ us) two.2)
 behind_said NextWord ts c e =
     let found = map_some (λ (p : Bytes × ℕ). Next p.0 p.1) (name_and_count ts) c e in
-    subst (λ (d : Command). Says d (word (codes "next") ∷ ts)) found.2 (next_said ts found.0 found.1)
+    subst (λ (d : Command). SaysCommand d (word (codes "next") ∷ ts)) found.2 (next_said ts found.0 found.1)
 behind_said CloseWord ts c e = named_one (codes "close") (λ q. Close q) ts c (λ n us s. s) e
 behind_said HasWord ts c e =
     let found = map_some (λ (p : Bytes × Tuple). Has p.0 p.1) (named_any literal_of ts) c e in
-    subst (λ (d : Command). Says d (word (codes "has") ∷ ts)) found.2
+    subst (λ (d : Command). SaysCommand d (word (codes "has") ∷ ts)) found.2
     (row_said (codes "has") ts found.0.0 found.0.1 (any_said literal_of SaysValue value_said ts found.0 found.1))
 behind_said WatchWord ts c e = named_one (codes "watch") (λ q. Watch q) ts c (λ n us s. s) e
 behind_said UnwatchWord ts c e = named_one (codes "unwatch") (λ q. Unwatch q) ts c (λ n us s. s) e
@@ -688,12 +690,12 @@ behind_said QuitWord ts c e = alone_said (codes "quit") Quit ts c (λ us s. s) e
 behind_said StopWord ts c e = alone_said (codes "stop") Stop ts c (λ us s. s) e
 
 with_said : (w : Bytes) (o : Option Keyword) (ts : List Token) (c : Command) → keyword_of w ≡ o → command_with o ts
-    ≡ Some c → Says c (word w ∷ ts)
+    ≡ Some c → SaysCommand c (word w ∷ ts)
 with_said w None ts c is e = absurd (cc)
-with_said w (Some k) ts c is e = subst (λ (v : Bytes). Says c (word v ∷ ts)) (sym (keyword_said w k is))
+with_said w (Some k) ts c is e = subst (λ (v : Bytes). SaysCommand c (word v ∷ ts)) (sym (keyword_said w k is))
     (behind_said k ts c e)
 
-command_said : (ts : List Token) (c : Command) → command_in ts ≡ Some c → Says c ts
+command_said : (ts : List Token) (c : Command) → command_in ts ≡ Some c → SaysCommand c ts
 command_said [] c e = absurd (cc)
 command_said (word w ∷ ts) c e = with_said w (keyword_of w) ts c refl e
 command_said (text t ∷ ts) c e = absurd (cc)
@@ -704,7 +706,7 @@ command_said (arrow ∷ ts) c e = absurd (cc)
 command_said (operator o ∷ ts) c e = absurd (cc)
 command_said (stray ∷ ts) c e = absurd (cc)
 
-said_read : (c : Command) (ts : List Token) → Says c ts → command_in ts ≡ Some c
+said_read : (c : Command) (ts : List Token) → SaysCommand c ts → command_in ts ≡ Some c
 said_read (Rel n cs) ts s = ap command_in s.4
     ∙ ap (option_map (λ (p : Bytes × List ColumnType). Rel p.0 p.1))
     (some_from type_of SaysType type_from n cs s.0 s.1 s.2 s.3)
@@ -725,7 +727,7 @@ said_read (Next c k) ts s =
     ap command_in s.5
     ∙ ap (option_map (λ (p : Bytes × ℕ). Next p.0 p.1))
     (cond-true _ _ _ s.1 ∙ ap (option_map (λ (n : ℕ). (c, n)))
-    (ap count_of (numeral_from s.0 k s.2)
+    (ap answer_count (numeral_from s.0 k s.2)
     ∙ cond-true _ _ _ (and_from (leb 1 k) (leb k 1000) (le-leb 1 k s.3) (le-leb k 1000 s.4))))
 said_read (Close c) ts s = ap command_in s.1 ∙ ap (option_map (λ n. Close n)) (cond-true _ _ _ s.0)
 said_read (Has q vs) ts s = ap command_in s.3
@@ -740,5 +742,5 @@ said_read Abandon ts s = ap command_in s
 said_read Quit ts s = ap command_in s
 said_read Stop ts s = ap command_in s
 
-pub commands_are_said : (ts : List Token) (c : Command) → (command_in ts ≡ Some c) ↔ Says c ts
+pub commands_are_said : (ts : List Token) (c : Command) → (command_in ts ≡ Some c) ↔ SaysCommand c ts
 commands_are_said ts c = (command_said ts c, said_read c ts)

@@ -41,7 +41,7 @@ use Rattle.djq_value.proofs.Spellings.{tokens_are_spelled}
 use Rattle.djq_lines.specs.Grammar.{Item, atom, comparison, command_in, command_of, past_item}
 use Rattle.djq_proto.specs.Laws.{Spells}
 use Rattle.djq_proto.specs.Saying.{
-  Says,
+  SaysCommand,
   SaysAtom,
   SaysComparison,
   SaysItem,
@@ -138,7 +138,7 @@ body_real n (i ∷ []) ts s = item_real n i ts s
 body_real n (i ∷ j ∷ js) ts s = as_real ts (s.0 ++ comma ∷ s.1) s.4
     (append_real s.0 (comma ∷ s.1) (item_real n i s.0 s.2) (body_real (past_item n i) (j ∷ js) s.1 s.3))
 
-says_real : (c : Command) (ts : List Token) → Says c ts → HasNoStray ts
+says_real : (c : Command) (ts : List Token) → SaysCommand c ts → HasNoStray ts
 says_real (Rel n cs) ts s = as_real ts _ s.4 (items_real SaysType type_real cs s.0 s.3)
 says_real (Add n vs) ts s = as_real ts _ s.1.3 (items_real SaysValue value_real vs s.1.0 s.1.2)
 says_real (Del n vs) ts s = as_real ts _ s.1.3 (items_real SaysValue value_real vs s.1.0 s.1.2)

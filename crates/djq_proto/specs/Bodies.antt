@@ -34,14 +34,14 @@ has_atom_in ([], comparisons) = false
 has_atom_in (a ∷ atoms, comparisons) = true
 
 -- These are the parts of a body that was read.
-abbrev pub IsRead : Body → Parts → Type 0
-IsRead b p = ReadsAs is_small_body (Some b) p.read × (p.has_atom ≡ has_atom_in b)
+abbrev pub BodyIsRead : Body → Parts → Type 0
+BodyIsRead b p = ReadsAs is_small_body (Some b) p.read × (p.has_atom ≡ has_atom_in b)
 
 -- The parts of a body and of an item more; none where there is no item.
 abbrev pub HasOneMore : Body → Option Item → Option Parts → Type 0
 HasOneMore b None r = r ≡ None
 HasOneMore b (Some i) None = ⊥
-HasOneMore b (Some i) (Some p) = IsRead (with_item b i) p
+HasOneMore b (Some i) (Some p) = BodyIsRead (with_item b i) p
 
 -- The same of an item that stands in front of other tokens: these are left.
 abbrev pub ReadsOn : Body → Option (Item × List Token) → Option Parts → List Token → Type 0

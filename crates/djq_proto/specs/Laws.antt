@@ -5,18 +5,18 @@ use Rattle.djq_value.specs.Token.{Token}
 use Rattle.djq_value.specs.Spelling.{IsSpelling}
 use Rattle.djq_lines.specs.declared.command.Command.{Command}
 use Rattle.djq_lines.specs.Grammar.{command_in, command_of}
-use Rattle.djq_proto.specs.Saying.{Says}
+use Rattle.djq_proto.specs.Saying.{SaysCommand}
 
 -- a line of UTF-8 that spells a command
 pub record Spells (c : Command) (line : Bytes) : Type 0 where
   pub utf8 : IsUtf8 line
   pub tokens : List Token
-  pub says : Says c tokens
+  pub says : SaysCommand c tokens
   pub spelled : IsSpelling tokens line
 
 -- Tokens are read as a command exactly where they say it.
 abbrev pub CommandsAreSaid : Type 0
-CommandsAreSaid = (ts : List Token) (c : Command) → (command_in ts ≡ Some c) ↔ Says c ts
+CommandsAreSaid = (ts : List Token) (c : Command) → (command_in ts ≡ Some c) ↔ SaysCommand c ts
 
 -- A line says a command exactly where it spells it.
 abbrev pub CommandsAreSpelled : Type 0

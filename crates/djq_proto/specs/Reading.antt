@@ -56,14 +56,14 @@ is_outside (Err Syntax) = true
 is_outside (Err _) = false
 
 -- Out of memory comes only where reading takes memory.
-abbrev pub TakesMemory : Option Command → Result Command LineRefusal → Type 0
-TakesMemory (Some c) (Err NoMem) = takes_memory_to_read c ≡ true
-TakesMemory o r = Unit {0}
+abbrev pub ReadingTakesMemory : Option Command → Result Command LineRefusal → Type 0
+ReadingTakesMemory (Some c) (Err NoMem) = takes_memory_to_read c ≡ true
+ReadingTakesMemory o r = Unit {0}
 
 -- what reading a command answers
-abbrev pub Gives : Option Command → Result Command LineRefusal → Type 0
-Gives o r = ReadsAs is_in_range o r × TakesMemory o r
+abbrev pub GivesCommand : Option Command → Result Command LineRefusal → Type 0
+GivesCommand o r = ReadsAs is_in_range o r × ReadingTakesMemory o r
 
 -- what reading a line answers
-abbrev pub Reads : Bytes → Result Command LineRefusal → Type 0
-Reads line r = Gives (command_of line) r
+abbrev pub LineReadsAs : Bytes → Result Command LineRefusal → Type 0
+LineReadsAs line r = GivesCommand (command_of line) r

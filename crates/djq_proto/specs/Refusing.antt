@@ -7,11 +7,11 @@ use Rattle.djq_proto.specs.declared.refusal.LineRefusal.{LineRefusal}
 use Rattle.djq_proto.specs.declared.refusal.LineRefusal.TheVariants.{Syntax, Range, NoMem}
 
 -- the one that comes first
-abbrev pub first_of : LineRefusal → LineRefusal → LineRefusal
-first_of Syntax r = Syntax
-first_of Range Syntax = Syntax
-first_of Range _ = Range
-first_of NoMem r = r
+abbrev pub earlier_of : LineRefusal → LineRefusal → LineRefusal
+earlier_of Syntax r = Syntax
+earlier_of Range Syntax = Syntax
+earlier_of Range _ = Range
+earlier_of NoMem r = r
 
 -- what a literal's refusal is of the line
 abbrev pub line_refusal_of : LiteralRefusal → LineRefusal

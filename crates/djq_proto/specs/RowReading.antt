@@ -14,7 +14,7 @@ use Rattle.djq_value.specs.Lexing.{has_name_first}
 use Rattle.djq_value.specs.Literal.{is_name, is_small_value, literal_of}
 use Rattle.djq_value.specs.Token.{Token, word, tokens}
 use Rattle.djq_lines.specs.Grammar.{all_of, keyword_of, named_some}
-use Rattle.djq_proto.specs.Reading.{Reads, ReadsAs, onto}
+use Rattle.djq_proto.specs.Reading.{LineReadsAs, ReadsAs, onto}
 use Rattle.djq_proto.specs.declared.refusal.LineRefusal.{LineRefusal}
 use Rattle.djq_proto.specs.declared.row.RowLine.{RowLine}
 use Rattle.djq_proto.specs.declared.row.RowLine.TheVariants.{Add, Del, Refused, Other}
@@ -64,14 +64,14 @@ TakesNameInFront old None = has_name_first old ≡ false
 TakesNameInFront old (Some r) = (old ≡ word r.0.now ∷ r.1) × (is_name r.0.now ≡ true)
 
 -- whether a value is an integer
-abbrev pub is_number : Value → Bool
-is_number (Int i) = true
-is_number (Text t) = false
+abbrev pub is_integer_value : Value → Bool
+is_integer_value (Int i) = true
+is_integer_value (Text t) = false
 
 -- Integers of 64 bits were taken from the front of tokens, and put behind a row.
 abbrev pub ReadsNumbers : List Token → Tuple → List Token → Tuple → Type 0
 ReadsNumbers old row new more =
-    (xs : Tuple) × (more ≡ row ++ xs) × (list_all is_number xs ≡ true)
+    (xs : Tuple) × (more ≡ row ++ xs) × (list_all is_integer_value xs ≡ true)
     × (list_all is_small_value xs ≡ true)
     × (all_of literal_of old ≡ onto xs (all_of literal_of new))
 
@@ -115,8 +115,8 @@ ReadsOthers line ts row result new =
 -- a line that is refused it is told with which keyword it begins. A line that begins with another word
 -- is told apart, and the values stay.
 abbrev pub ReadsRow : Bytes → RowLine → Tuple → Tuple → Type 0
-ReadsRow line (Add name) old new = Reads line (Ok (AddRow name.now new))
-ReadsRow line (Del name) old new = Reads line (Ok (DeleteRow name.now new))
+ReadsRow line (Add name) old new = LineReadsAs line (Ok (AddRow name.now new))
+ReadsRow line (Del name) old new = LineReadsAs line (Ok (DeleteRow name.now new))
 ReadsRow line (Refused verb refusal) old new =
-    (row_word_in (tokens line) ≡ Some verb) × Reads line (Err refusal)
+    (row_word_in (tokens line) ≡ Some verb) × LineReadsAs line (Err refusal)
 ReadsRow line Other old new = (begins_row (tokens line) ≡ false) × (new ≡ old)

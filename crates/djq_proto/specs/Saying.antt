@@ -163,26 +163,26 @@ abbrev pub SaysRow : Bytes → Bytes → Tuple → List Token → Type 0
 SaysRow keyword n vs ts = (us : List Token) × IsName n × AllZip SaysValue vs us × (ts ≡ word keyword ∷ word n ∷ us)
 
 -- the tokens that say a command
-abbrev pub Says : Command → List Token → Type 0
-Says (Rel n cs) ts = (us : List Token) × IsName n × (0 < length cs) × AllZip SaysType cs us
+abbrev pub SaysCommand : Command → List Token → Type 0
+SaysCommand (Rel n cs) ts = (us : List Token) × IsName n × (0 < length cs) × AllZip SaysType cs us
     × (ts ≡ word (codes "rel") ∷ word n ∷ us)
-Says (Add n vs) ts = (0 < length vs) × SaysRow (codes "add") n vs ts
-Says (Del n vs) ts = (0 < length vs) × SaysRow (codes "del") n vs ts
-Says (Register q) ts = (us : List Token) × SaysQuery q us × (ts ≡ word (codes "query") ∷ us)
-Says (Union n ms) ts = (us : List Token) × IsName n × (2 ≤ length ms) × AllZip SaysName ms us
+SaysCommand (Add n vs) ts = (0 < length vs) × SaysRow (codes "add") n vs ts
+SaysCommand (Del n vs) ts = (0 < length vs) × SaysRow (codes "del") n vs ts
+SaysCommand (Register q) ts = (us : List Token) × SaysQuery q us × (ts ≡ word (codes "query") ∷ us)
+SaysCommand (Union n ms) ts = (us : List Token) × IsName n × (2 ≤ length ms) × AllZip SaysName ms us
     × (ts ≡ word (codes "union") ∷ word n ∷ us)
-Says (Drop q) ts = SaysOne (codes "drop") q ts
-Says (Open c q) ts = IsName c × IsName q × (ts ≡ word (codes "open") ∷ word c ∷ word q ∷ [])
-Says (Next c k) ts = (ds : Bytes) × IsName c × IsNumeral ds k × (1 ≤ k) × (k ≤ NEXT_COUNT)
+SaysCommand (Drop q) ts = SaysOne (codes "drop") q ts
+SaysCommand (Open c q) ts = IsName c × IsName q × (ts ≡ word (codes "open") ∷ word c ∷ word q ∷ [])
+SaysCommand (Next c k) ts = (ds : Bytes) × IsName c × IsNumeral ds k × (1 ≤ k) × (k ≤ NEXT_COUNT)
     × (ts ≡ word (codes "next") ∷ word c ∷ word ds ∷ [])
-Says (Close c) ts = SaysOne (codes "close") c ts
-Says (Has q vs) ts = SaysRow (codes "has") q vs ts
-Says (Watch q) ts = SaysOne (codes "watch") q ts
-Says (Unwatch q) ts = SaysOne (codes "unwatch") q ts
-Says (Explain q) ts = SaysOne (codes "explain") q ts
-Says (Shape q) ts = SaysOne (codes "shape") q ts
-Says Batch ts = ts ≡ word (codes "batch") ∷ []
-Says Done ts = ts ≡ word (codes "done") ∷ []
-Says Abandon ts = ts ≡ word (codes "abandon") ∷ []
-Says Quit ts = ts ≡ word (codes "quit") ∷ []
-Says Stop ts = ts ≡ word (codes "stop") ∷ []
+SaysCommand (Close c) ts = SaysOne (codes "close") c ts
+SaysCommand (Has q vs) ts = SaysRow (codes "has") q vs ts
+SaysCommand (Watch q) ts = SaysOne (codes "watch") q ts
+SaysCommand (Unwatch q) ts = SaysOne (codes "unwatch") q ts
+SaysCommand (Explain q) ts = SaysOne (codes "explain") q ts
+SaysCommand (Shape q) ts = SaysOne (codes "shape") q ts
+SaysCommand Batch ts = ts ≡ word (codes "batch") ∷ []
+SaysCommand Done ts = ts ≡ word (codes "done") ∷ []
+SaysCommand Abandon ts = ts ≡ word (codes "abandon") ∷ []
+SaysCommand Quit ts = ts ≡ word (codes "quit") ∷ []
+SaysCommand Stop ts = ts ≡ word (codes "stop") ∷ []

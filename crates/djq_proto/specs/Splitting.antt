@@ -19,5 +19,5 @@ pub record IsFirstLf (bytes : Bytes) (at : ℕ) : Type 0 where
   pub before : (k : ℕ) → k < at → slice_index bytes k ≢ 10
 
 -- there is no LF
-abbrev pub HasNoLf : Bytes → Type 0
-HasNoLf bytes = (k : ℕ) → k < length bytes → slice_index bytes k ≢ 10
+abbrev pub HasNoLineEnd : Bytes → Type 0
+HasNoLineEnd bytes = (k : ℕ) → k < length bytes → slice_index bytes k ≢ 10

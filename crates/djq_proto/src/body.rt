@@ -11,7 +11,7 @@ ghost use Rattle.djq_value.specs.Lexing.{lexeme_of};
 ghost use Rattle.djq_value.specs.Literal.{is_small_value};
 ghost use Rattle.djq_proto.specs.Reading.{ReadsAs, ReadsPart, is_comma as is_comma_of};
 ghost use Rattle.djq_proto.specs.Reading.{is_small_body};
-ghost use Rattle.djq_proto.specs.Bodies.{HasOneMore, IsRead, ReadsOn, atom_of};
+ghost use Rattle.djq_proto.specs.Bodies.{HasOneMore, BodyIsRead, ReadsOn, atom_of};
 ghost use Rattle.djq_proto.specs.Bodies.{comparison_behind, constant_in, with_item};
 
 use crate::item::Item;
@@ -69,7 +69,7 @@ fn read_items(alloc: Global, lexer: &mut Lexer<'_>) -> Result<Body, LineRefusal>
 
 /// The body that was read to its end: it has an atom.
 fn whole(parts: Parts) -> Result<Body, LineRefusal>
-    ensures { (b : BodyOf) → IsRead b parts → ReadsAs is_small_body (with_atoms (Some b)) result }
+    ensures { (b : BodyOf) → BodyIsRead b parts → ReadsAs is_small_body (with_atoms (Some b)) result }
 {
     if parts.has_atom {
         parts.read
@@ -87,7 +87,7 @@ fn is_comma(token: &Token<'_>) -> bool
 
 /// The parts that were read, and an item more; none where no item is in front.
 fn read_item(alloc: Global, lexer: &mut Lexer<'_>, parts: Parts) -> Option<Parts>
-    ensures { (b : BodyOf) → IsRead b parts
+    ensures { (b : BodyOf) → BodyIsRead b parts
         → ReadsOn b (item_in (length b.0) lexer.old) result lexer.new }
 {
     let name = next_name(lexer)?;
@@ -117,7 +117,7 @@ fn read_constant(alloc: Global, lexer: &mut Lexer<'_>) -> Result<Value, LineRefu
 /// The parts and an atom of these terms; none where the terms are outside the grammar.
 fn with_atom(parts: Parts, relation: Name, terms: Result<Terms, LineRefusal>) -> Option<Parts>
     ensures { (b : BodyOf) (o : Option (List TermOf))
-        → IsRead b parts → ReadsAs (list_all is_small_term) o terms
+        → BodyIsRead b parts → ReadsAs (list_all is_small_term) o terms
         → HasOneMore b (option_map (atom_of relation) o) result }
 {
     if is_outside(&terms) {
@@ -154,7 +154,7 @@ fn with_comparison(
     constant: Result<Value, LineRefusal>,
 ) -> Option<Parts>
     ensures { (b : BodyOf) (o : Option ValueOf)
-        → IsRead b parts → ReadsAs is_small_value o constant
+        → BodyIsRead b parts → ReadsAs is_small_value o constant
         → HasOneMore b (option_map (comparison_behind (length b.0) variable operator) o) result }
 {
     if is_outside(&constant) {

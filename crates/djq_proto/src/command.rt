@@ -1,7 +1,7 @@
 ghost use Rattle.std.specs.Prelude.{◌≡◌};
 ghost use Rattle.std.specs.Str.{is_utf8 as is_utf8_of};
 ghost use Rattle.djq_lines.specs.Grammar.{command_behind, command_in};
-ghost use Rattle.djq_proto.specs.Reading.{Gives, Reads};
+ghost use Rattle.djq_proto.specs.Reading.{GivesCommand, LineReadsAs};
 
 use crate::keyword::read_keyword;
 use crate::parts::{
@@ -24,7 +24,7 @@ use std::str;
 /// past its limit. `NoMem` only for a line that is in range and holds types, literals, a query or
 /// members of a union.
 pub fn read_command(alloc: Global, line: &[u8]) -> Result<Command, LineRefusal>
-    ensures { Reads line.now result }
+    ensures { LineReadsAs line.now result }
 {
     if !is_utf8(line) {
         return Err(LineRefusal::Syntax);
@@ -42,7 +42,7 @@ pub(crate) fn is_utf8(line: &[u8]) -> bool
 
 /// A keyword, and what stands behind it.
 fn read_tokens(alloc: Global, lexer: &mut Lexer<'_>) -> Result<Command, LineRefusal>
-    ensures { Gives (command_in lexer.old) result }
+    ensures { GivesCommand (command_in lexer.old) result }
 {
     let Some(word) = next_word(lexer) else {
         return Err(LineRefusal::Syntax);
@@ -59,7 +59,7 @@ fn read_arguments(
     keyword: Keyword,
     lexer: &mut Lexer<'_>,
 ) -> Result<Command, LineRefusal>
-    ensures { Gives (command_behind keyword lexer.old) result }
+    ensures { GivesCommand (command_behind keyword lexer.old) result }
 {
     match keyword {
         Keyword::Rel => {

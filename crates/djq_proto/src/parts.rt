@@ -3,7 +3,7 @@ ghost use Rattle.std.specs.Prelude.{◌≡◌, true, Err, Ok};
 ghost use Rattle.std.specs.List.{list_all};
 ghost use Rattle.std.specs.Option.{ok_or};
 ghost use Rattle.djq_value.specs.Literal.{natural_of};
-ghost use Rattle.djq_lines.specs.Grammar.{count_of, name_and_count, named_any, named_some, nothing};
+ghost use Rattle.djq_lines.specs.Grammar.{answer_count, name_and_count, named_any, named_some, at_line_end};
 ghost use Rattle.djq_lines.specs.Grammar.{name_and_members, one_name, two_names};
 ghost use Rattle.djq_proto.specs.Reading.{has_three as has_three_of, ReadsAs};
 ghost use Rattle.djq_proto.specs.declared.refusal.LineRefusal.TheVariants.{Syntax};
@@ -112,7 +112,7 @@ pub(crate) fn read_count(lexer: &mut Lexer<'_>) -> Result<(Name, u32), LineRefus
 
 /// The count that a word is: digits alone, from 1 to 1000.
 fn count_in(word: &[u8]) -> Option<u32>
-    ensures { result ≡ count_of (natural_of word.now) }
+    ensures { result ≡ answer_count (natural_of word.now) }
 {
     match read_natural(word) {
         Some(count) if count >= 1 && count <= NEXT_COUNT as u64 => Some(count as u32),
@@ -122,7 +122,7 @@ fn count_in(word: &[u8]) -> Option<u32>
 
 /// Nothing.
 pub(crate) fn read_nothing(lexer: &Lexer<'_>, command: Command) -> Result<Command, LineRefusal>
-    ensures { result ≡ ok_or (nothing command lexer.now) Syntax }
+    ensures { result ≡ ok_or (at_line_end command lexer.now) Syntax }
 {
     if lexer.is_done() {
         Ok(command)

@@ -1,5 +1,5 @@
 //! The lines that register a query.
-ghost use Rattle.djq_lines.specs.Grammar.{query_in};
+ghost use Rattle.djq_lines.specs.Grammar.{query_of_tokens};
 ghost use Rattle.djq_proto.specs.Reading.{ReadsAs, is_small_query};
 
 use crate::body::read_body;
@@ -11,7 +11,7 @@ use std::alloc::Global;
 
 /// A query, to the line's end.
 pub(crate) fn read_query(alloc: Global, lexer: &mut Lexer<'_>) -> Result<Query, LineRefusal>
-    ensures { ReadsAs is_small_query (query_in lexer.old) result }
+    ensures { ReadsAs is_small_query (query_of_tokens lexer.old) result }
 {
     let Some(name) = next_name(lexer) else {
         return Err(LineRefusal::Syntax);

@@ -1,5 +1,5 @@
 ghost use Rattle.std.specs.Prelude.{◌≡◌};
-ghost use Rattle.djq_proto.specs.Refusing.{first_of, line_refusal_of};
+ghost use Rattle.djq_proto.specs.Refusing.{earlier_of, line_refusal_of};
 
 use djq_model::NoMem;
 use djq_value::LiteralRefusal;
@@ -22,7 +22,7 @@ pub enum LineRefusal {
 impl LineRefusal {
     /// The one that comes first in the order of refusals.
     pub(crate) fn first(self, other: Self) -> Self
-        ensures { result ≡ first_of self other }
+        ensures { result ≡ earlier_of self other }
     {
         match (self, other) {
             (LineRefusal::Syntax, _) | (_, LineRefusal::Syntax) => LineRefusal::Syntax,

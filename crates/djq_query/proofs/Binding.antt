@@ -20,7 +20,7 @@ use Rattle.djq_query.specs.declared.pattern.Test.{Test}
 use Rattle.djq_query.specs.declared.pattern.Slot.{Slot}
 use Rattle.djq_query.specs.declared.pattern.Slot.TheVariants.{Place, Cell}
 use Rattle.djq_query.specs.Numbered.{is_number}
-use Rattle.djq_query.specs.Pattern.{IsPattern, is_place, is_within, slot_of, bound, test_of, tests_of}
+use Rattle.djq_query.specs.Pattern.{IsPattern, is_place, slot_is_within, slot_of, bound, test_of, tests_of}
 use Rattle.djq_query.proofs.Columns.{from_place}
 
 -- the members of a set, one after another
@@ -105,12 +105,12 @@ place_below x (y ∷ label) h =
 
 slots_within : (label : List ℕ) (ts : List NumberedTerm) (cs : List ℕ)
     → ((x : ℕ) → list_any (is_number x) ts ≡ true → member x label ≡ true)
-    → list_all (is_within (length label)) (bound label ts cs) ≡ true
+    → list_all (slot_is_within (length label)) (bound label ts cs) ≡ true
 unfolding bound slot_of
 slots_within label [] cs h = refl
 slots_within label (t ∷ ts) [] h = refl
 slots_within label (Number x ∷ ts) (c ∷ cs) h =
-    and_from _ (list_all (is_within (length label)) (bound label ts cs))
+    and_from _ (list_all (slot_is_within (length label)) (bound label ts cs))
     (lt-ltb (position_or_len (λ y. y == x) label) (length label)
     (place_below x label (h x (or_left (x == x) _ (eq-eqb x x refl)))))
     (slots_within label ts cs (λ y e. h y (or_right (y == x) _ e)))
@@ -240,7 +240,8 @@ pub pattern_of : (label : List ℕ) (ts : List NumberedTerm) (cs : List ℕ) (co
     ≡ tests_of label compared constants → IsPattern (record { width = width; slots = slots; tests = tests })
 pattern_of label ts cs compared constants width slots tests rising few long members wide told tested = record {
   narrow = omega arith;
-  within = ap₂ (λ (w : ℕ) ss. list_all (is_within w) ss) wide told ∙ slots_within label ts cs (λ x h. members x ∙ h);
+  within = ap₂ (λ (w : ℕ) ss. list_all (slot_is_within w) ss) wide told
+      ∙ slots_within label ts cs (λ x h. members x ∙ h);
   all = λ p below.
       let under : p < length label = omega arith in
       ap (list_any (is_place p)) told

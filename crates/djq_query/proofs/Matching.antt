@@ -15,14 +15,14 @@ use Rattle.djq_query.specs.declared.pattern.Test.{Test}
 use Rattle.djq_query.specs.declared.pattern.Slot.{Slot}
 use Rattle.djq_query.specs.declared.pattern.Slot.TheVariants.{Place, Cell}
 use Rattle.djq_query.specs.Pattern.{Shape, IsPattern, IsPlain, Passes, cell_of, put_cell}
-use Rattle.djq_query.specs.Pattern.{filled, is_place, is_within}
+use Rattle.djq_query.specs.Pattern.{filled, is_place, slot_is_within}
 use Rattle.djq_query.proofs.Edging.{all_true_at}
 
 -- a slot of a pattern, whatever the default
-pub slot_within : (w : ℕ) (slots : List Slot) (i : ℕ) (s d : Slot) → list_all (is_within w) slots ≡ true
-    → i < length slots → s ≡ get_or slots i d → is_within w s ≡ true
+pub slot_within : (w : ℕ) (slots : List Slot) (i : ℕ) (s d : Slot) → list_all (slot_is_within w) slots ≡ true
+    → i < length slots → s ≡ get_or slots i d → slot_is_within w s ≡ true
 slot_within w slots i s d all below is =
-    all_true_at (is_within w) slots i s all below (is ∙ get_or_default slots i d s below)
+    all_true_at (slot_is_within w) slots i s all below (is ∙ get_or_default slots i d s below)
 
 -- the cell that a filled row has at a column
 pub filled_at : (u row : List ℕ) (slots : List Slot) (i : ℕ) (d : Slot) → filled u slots ≡ row → i < length slots
@@ -43,7 +43,7 @@ or_right true e = refl
 or_right false e = e
 
 -- a place that was read before, or is read now
-put_read : (t u : List ℕ) (s : Slot) (c p : ℕ) (b : Bool) → c ≡ cell_of u s → is_within (length t) s ≡ true
+put_read : (t u : List ℕ) (s : Slot) (c p : ℕ) (b : Bool) → c ≡ cell_of u s → slot_is_within (length t) s ≡ true
     → (b ≡ true → slice_index t p ≡ slice_index u p) → (b || is_place p s) ≡ true
     → slice_index (put_cell t s c) p ≡ slice_index u p
 unfolding put_cell cell_of
@@ -58,7 +58,7 @@ put_read t u (Place q) c p b is within before known =
 put_read t u (Cell d) c p b is within before known = before (or_right b known)
 
 pub read_on : (t v u row : List ℕ) (slots ss : List Slot) (i : ℕ) (d : Slot) → ss ≡ slots → i < length ss
-    → is_within (length t) (get_or ss i d) ≡ true → v ≡ put_cell t (get_or ss i d) (get_or row i 0)
+    → slot_is_within (length t) (get_or ss i d) ≡ true → v ≡ put_cell t (get_or ss i d) (get_or row i 0)
     → filled u slots ≡ row → ((p : ℕ) → list_any (is_place p) (take i slots) ≡ true → slice_index t p ≡ slice_index u p)
     → (p : ℕ) → list_any (is_place p) (take (i + 1) slots) ≡ true → slice_index v p ≡ slice_index u p
 read_on t v u row slots ss i d same below within put fill before p known =
@@ -149,10 +149,10 @@ unfolding put_cell
 put_fixed t s d c e = ap (λ r. put_cell t r c) (sym e)
 
 pub within_read : (n : Shape) (t : List ℕ) (ss : List Slot) (i : ℕ) (d : Slot) → IsPattern n → ss ≡ n.slots → length t
-    ≡ n.width → i < length ss → is_within (length t) (get_or ss i d) ≡ true
+    ≡ n.width → i < length ss → slot_is_within (length t) (get_or ss i d) ≡ true
 within_read n t ss i d pattern same wide below =
     slot_within (length t) ss i (get_or ss i d) d
-    (ap₂ (λ (w : ℕ) (l : List Slot). list_all (is_within w) l) wide same ∙ pattern.within) below refl
+    (ap₂ (λ (w : ℕ) (l : List Slot). list_all (slot_is_within w) l) wide same ∙ pattern.within) below refl
 
 -- a variable's place that is the column's number
 pub placed_at : (u : List ℕ) (s : Slot) (p k : ℕ) → s ≡ Place p → eqb p k ≡ true → cell_of u s ≡ slice_index u k

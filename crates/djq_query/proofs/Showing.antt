@@ -24,8 +24,8 @@ use Rattle.djq_query.specs.declared.numbered.NumberedAtom.{NumberedAtom}
 use Rattle.djq_query.specs.declared.numbered.NumberedComparison.{NumberedComparison}
 use Rattle.djq_query.specs.Numbered.{Numbered, IsNumbered, labels, number_of, numbered}
 use Rattle.djq_query.specs.Numbered.{numbered_terms, numbered_comparison, AreNumbered}
-use Rattle.djq_query.specs.Meaning.{Rise, holes_among, holes_in, IsShown, AreShown, AreAtomsShown}
-use Rattle.djq_query.specs.Meaning.{AreComparisonsShown, IsShownBy}
+use Rattle.djq_query.specs.Meaning.{Rise, holes_among, holes_in, TermIsShown, TermsAreShown, AreAtomsShown}
+use Rattle.djq_query.specs.Meaning.{AreComparisonsShown, QueryIsShown}
 use Rattle.djq_query.proofs.Counting.{term_more, known_behind}
 use Rattle.djq_query.proofs.Faults.{sound_of}
 use Rattle.djq_query.proofs.Numbers.{labels_columns, number_unknown}
@@ -82,13 +82,14 @@ name_shown : (known : List Label) (x : Bytes) (b : Bool) → is_known known x �
 name_shown known x true e = named_at known x e
 name_shown known x false e = ap (slice_get (known ++ Some x ∷ [])) (number_unknown known x e) ∙ last known (Some x)
 
-term_shown : (known : List Label) (t : Term) → IsShown (with_term known t) t (numbered known t)
+term_shown : (known : List Label) (t : Term) → TermIsShown (with_term known t) t (numbered known t)
 term_shown known (Named x) = name_shown known x (is_known known x) refl
 term_shown known Hole = last known None
 term_shown known (Constant v) = refl
 
 shown_kept : (ls ms : List Label) (t : Term) (n : NumberedTerm)
-    → ((k : ℕ) (l : Label) → slice_get ls k ≡ Some l → slice_get ms k ≡ Some l) → IsShown ls t n → IsShown ms t n
+    → ((k : ℕ) (l : Label) → slice_get ls k ≡ Some l → slice_get ms k ≡ Some l) → TermIsShown ls t n
+    → TermIsShown ms t n
 shown_kept ls ms (Named x) (Number k) f h = f k (Some x) h
 shown_kept ls ms Hole (Number k) f h = f k None h
 shown_kept ls ms (Constant v) (Fixed w) f h = h
@@ -98,7 +99,7 @@ shown_kept ls ms (Constant v) (Number k) f h = absurd h
 
 terms_shown : (known ms : List Label) (ts : List Term)
     → ((k : ℕ) (l : Label) → slice_get (with_terms known ts) k ≡ Some l → slice_get ms k ≡ Some l)
-    → AreShown ms ts (numbered_terms known ts)
+    → TermsAreShown ms ts (numbered_terms known ts)
 unfolding numbered_terms
 terms_shown known ms [] f = tt
 terms_shown known ms (t ∷ ts) f = (
@@ -116,7 +117,7 @@ atoms_shown rs known ms [] (n ∷ ns) f h = absurd h
 atoms_shown rs known ms (a ∷ atoms) [] f h = absurd h
 atoms_shown rs known ms (a ∷ atoms) (n ∷ ns) f h = (
   h.0.0,
-  subst (AreShown ms a.terms) (sym h.0.1)
+  subst (TermsAreShown ms a.terms) (sym h.0.1)
       (terms_shown known ms a.terms (λ k l e. f k l (atoms_kept (with_atom known a) atoms k l e))),
   atoms_shown rs (with_atom known a) ms atoms ns f h.1,
 )
@@ -251,7 +252,7 @@ compared_shown atoms (c ∷ cs) none =
 
 -- a query without a fault, by number
 pub shown_by : (rs : List Relation) (q : Query) (n : Numbered) → query_fault rs q ≡ None → IsNumbered rs q n
-    → IsShownBy rs q n
+    → QueryIsShown rs q n
 shown_by rs q n fault numbered =
     let sound = sound_of rs q fault in
     let named : labels n.variables ≡ variables_of q.atoms = ap labels numbered.variables

@@ -17,26 +17,27 @@ use Rattle.djq_query.specs.Numbered.{Numbered, IsNumbered, labels, number_of}
 
 -- A term and the term that stands for it: a name's number has that name, a hole's has none, and a
 -- constant is itself.
-abbrev pub IsShown : List Label → Term → NumberedTerm → Type 0
-IsShown ls (Named x) (Number k) = slice_get ls k ≡ Some (Some x)
-IsShown ls Hole (Number k) = slice_get ls k ≡ Some None
-IsShown ls (Constant v) (Fixed w) = w ≡ v
-IsShown ls (Named x) (Fixed w) = ⊥
-IsShown ls Hole (Fixed w) = ⊥
-IsShown ls (Constant v) (Number k) = ⊥
+abbrev pub TermIsShown : List Label → Term → NumberedTerm → Type 0
+TermIsShown ls (Named x) (Number k) = slice_get ls k ≡ Some (Some x)
+TermIsShown ls Hole (Number k) = slice_get ls k ≡ Some None
+TermIsShown ls (Constant v) (Fixed w) = w ≡ v
+TermIsShown ls (Named x) (Fixed w) = ⊥
+TermIsShown ls Hole (Fixed w) = ⊥
+TermIsShown ls (Constant v) (Number k) = ⊥
 
 -- the same of terms, one by one
-abbrev pub AreShown : List Label → List Term → List NumberedTerm → Type 0
-AreShown ls [] [] = Unit {0}
-AreShown ls (t ∷ ts) (n ∷ ns) = IsShown ls t n × AreShown ls ts ns
-AreShown ls [] (n ∷ ns) = ⊥
-AreShown ls (t ∷ ts) [] = ⊥
+abbrev pub TermsAreShown : List Label → List Term → List NumberedTerm → Type 0
+TermsAreShown ls [] [] = Unit {0}
+TermsAreShown ls (t ∷ ts) (n ∷ ns) = TermIsShown ls t n × TermsAreShown ls ts ns
+TermsAreShown ls [] (n ∷ ns) = ⊥
+TermsAreShown ls (t ∷ ts) [] = ⊥
 
 -- the same of atoms, over the same relations
 abbrev pub AreAtomsShown : List Relation → List Label → List Atom → List NumberedAtom → Type 0
 AreAtomsShown rs ls [] [] = Unit {0}
 AreAtomsShown rs ls (a ∷ atoms) (n ∷ ns) =
-    (slice_get rs n.relation ≡ relation_of rs a.relation) × AreShown ls a.terms n.terms × AreAtomsShown rs ls atoms ns
+    (slice_get rs n.relation ≡ relation_of rs a.relation) × TermsAreShown ls a.terms n.terms
+    × AreAtomsShown rs ls atoms ns
 AreAtomsShown rs ls [] (n ∷ ns) = ⊥
 AreAtomsShown rs ls (a ∷ atoms) [] = ⊥
 
@@ -80,7 +81,7 @@ Rise from (k ∷ ks) = (from ≤ k) × Rise (k + 1) ks
 -- The numbers stand for the query: its variables are those of its body in the order in which they
 -- first stand; term by term, each name has one number, each hole has one of its own, each comparison
 -- is of the number of its variable, and the head's numbers have the head's names.
-pub record IsShownBy (rs : List Relation) (q : Query) (n : Numbered) : Type 0 where
+pub record QueryIsShown (rs : List Relation) (q : Query) (n : Numbered) : Type 0 where
   pub variables : labels n.variables ≡ variables_of q.atoms
   pub body : AreAtomsShown rs (labels n.variables) q.atoms n.atoms
   pub comparisons : AreComparisonsShown (labels n.variables) q.comparisons n.comparisons
@@ -92,4 +93,4 @@ pub record IsShownBy (rs : List Relation) (q : Query) (n : Numbered) : Type 0 wh
 -- The numbers of a query without a fault stand for it.
 abbrev pub NumbersAreShown : Type 0
 NumbersAreShown = (rs : List Relation) (q : Query) (n : Numbered) → query_fault rs q ≡ None → IsNumbered rs q n
-    → IsShownBy rs q n
+    → QueryIsShown rs q n

@@ -57,7 +57,7 @@ Passes u t = passes t.operator (slice_index u t.place) t.cell ≡ true
 
 -- A tuple gives a row: it has a cell for each variable, put into the atom its cells are the row's, and
 -- they pass every test.
-pub record Gives (p : Shape) (u row : List ℕ) : Type 0 where
+pub record GivesRow (p : Shape) (u row : List ℕ) : Type 0 where
   pub wide : length u ≡ p.width
   pub fills : filled u p.slots ≡ row
   pub passes : All (Passes u) p.tests
@@ -73,14 +73,14 @@ is_place p (Place q) = p == q
 is_place p (Cell c) = false
 
 -- whether a slot is a place below the width, or a cell
-abbrev pub is_within : ℕ → Slot → Bool
-is_within width (Place p) = nat_lt p width
-is_within width (Cell c) = true
+abbrev pub slot_is_within : ℕ → Slot → Bool
+slot_is_within width (Place p) = nat_lt p width
+slot_is_within width (Cell c) = true
 
 -- Each place is that of a variable, and each variable has a place; each test is of a variable.
 pub record IsPattern (p : Shape) : Type 0 where
   pub narrow : p.width ≤ CELLS
-  pub within : list_all (is_within p.width) p.slots ≡ true
+  pub within : list_all (slot_is_within p.width) p.slots ≡ true
   pub all : (x : ℕ) → x < p.width → list_any (is_place x) p.slots ≡ true
   pub tested : list_all (λ t. nat_lt t.place p.width) p.tests ≡ true
 
@@ -90,7 +90,7 @@ pub record IsPlain (width : ℕ) (slots : List Slot) : Type 0 where
   pub same : (u : List ℕ) → length u ≡ width → filled u slots ≡ u
 
 -- a pattern, with whether it is known to be plain
-pub record IsMade (p : Shape) (plain : Bool) : Type 0 where
+pub record PatternIsMade (p : Shape) (plain : Bool) : Type 0 where
   pub pattern : IsPattern p
   pub straight : plain ≡ true → IsPlain p.width p.slots
 

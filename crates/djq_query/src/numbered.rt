@@ -60,7 +60,8 @@ impl Model for NumberedQuery {
 
     ghost view = { λ q. record { head = q.head; atoms = q.atoms; comparisons = q.comparisons; variables = q.variables } };
 
-    ghost invariant = { λ q. spec.IsWithin (record { head = q.head; atoms = q.atoms; comparisons = q.comparisons; variables = q.variables }) };
+    ghost invariant = { λ q. spec.IsWithin
+        (record { head = q.head; atoms = q.atoms; comparisons = q.comparisons; variables = q.variables }) };
 }
 
 impl NumberedQuery {

@@ -16,10 +16,10 @@ ghost use Rattle.std.specs.Prelude.{
 ghost use Rattle.djq_query.specs.Pattern.{
   cell_of,
   filled,
-  is_within,
+  slot_is_within,
   passes,
   put_cell,
-  Gives,
+  GivesRow,
   IsPattern,
   IsPlain,
   Passes,
@@ -69,12 +69,12 @@ impl Model for Pattern {
 
     ghost view = { λ p. record { width = p.width; slots = p.slots; tests = p.tests } };
 
-    ghost invariant = { λ p. spec.IsMade (record { width = p.width; slots = p.slots; tests = p.tests }) p.plain };
+    ghost invariant = { λ p. spec.PatternIsMade (record { width = p.width; slots = p.slots; tests = p.tests }) p.plain };
 }
 
 /// The cell that a tuple gives a column.
 fn cell_of(tuple: &[u64], slot: Slot) -> u64
-    requires { is_within (length tuple.now) slot ≡ true }
+    requires { slot_is_within (length tuple.now) slot ≡ true }
     ensures { result ≡ cell_of tuple.now slot }
 {
     match slot {
@@ -85,7 +85,7 @@ fn cell_of(tuple: &[u64], slot: Slot) -> u64
 
 /// Writes the cell of a row's column into a tuple, where a variable stands at the column.
 fn put(tuple: &mut Cells, slot: Slot, cell: u64)
-    requires { is_within (length tuple.old) slot ≡ true }
+    requires { slot_is_within (length tuple.old) slot ≡ true }
     ensures { tuple.new ≡ put_cell tuple.old slot cell }
 {
     match slot {
@@ -170,8 +170,8 @@ impl Pattern {
         requires { length row.now ≡ length self.now.slots }
         ensures wide { IfSome result (λ t. length t.now ≡ self.now.width) }
         ensures few { IfSome result (λ t. length t.now ≤ CELLS) }
-        ensures exact { MatchOption result ((u : List ℕ) → Gives self.now u row.now → ⊥)
-            (λ t. (u : List ℕ) → (t.now ≡ u) ↔ Gives self.now u row.now) }
+        ensures exact { MatchOption result ((u : List ℕ) → GivesRow self.now u row.now → ⊥)
+            (λ t. (u : List ℕ) → (t.now ≡ u) ↔ GivesRow self.now u row.now) }
     {
         if self.plain {
             return if self.passes(row) { Some(row) } else { None };

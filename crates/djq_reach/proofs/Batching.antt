@@ -20,14 +20,15 @@ use Rattle.djq_live.specs.Batching.{GrowsBy}
 use Rattle.djq_live.specs.Changes.{HasSameRows, Went}
 use Rattle.djq_live.specs.Live.{Live, IsKept, SameQuery}
 use Rattle.djq_live.specs.Stepping.{HasMore}
-use Rattle.djq_live.specs.Updating.{CanAddAll, CanDelete, CountsBatch, CountsUpdate, Follows, atoms_over, update_bound}
+use Rattle.djq_live.specs.Updating.{CanAddAll, CanDelete, CountsBatchAt, CountsUpdate, KeptAfter, atoms_over}
+use Rattle.djq_live.specs.Updating.{update_bound}
 use Rattle.djq_live.proofs.Changing.{over_stays}
 use Rattle.djq_live.proofs.Sizing.{fewer_stay}
 use Rattle.djq_reach.specs.Places.{place_at, is_reader, log_at, no_log, AreOnce}
 use Rattle.djq_reach.specs.Reaching.{DoneAt, Reach, AllAt}
 use Rattle.djq_reach.specs.Tending.{Tends, TendedAt, work_of, work_at}
-use Rattle.djq_reach.specs.Batching.{Comes, CanComeAll, CanGoAll, CanGiveAll, TakesInAll, Refuses}
-use Rattle.djq_reach.specs.Batching.{LetsOutAll, GivesAllBack, OthersStay, WorksBatch}
+use Rattle.djq_reach.specs.Batching.{RowsCameIn, CanComeAll, CanGoAll, CanGiveAll, TakesInAll, StaysUnchanged}
+use Rattle.djq_reach.specs.Batching.{LetsOutAll, GivesAllBack, OtherLogsStay, WorksBatch}
 use Rattle.djq_reach.proofs.Among.{apart, reader_more, or_true}
 use Rattle.djq_deltas.proofs.Cases.{or_false}
 use Rattle.djq_reach.proofs.Reaching.{some_as, only, once_at, reader_there, reader_front, same_then}
@@ -120,7 +121,7 @@ fewer_then a b c ba cb = record {
 pub record Among (c : Catalog) (at : ℕ) (cells : List (List ℕ)) (l : Live) : Type 0 where
   pub now : Catalog
   pub rows : List Tuple
-  pub comes : Comes c now at cells rows
+  pub comes : RowsCameIn c now at cells rows
   pub kept : IsKept now l
 
 pub kept_same : (c d : Catalog) (l : Live) → HasSameRows c d → IsKept c l → IsKept d l
@@ -139,7 +140,7 @@ last_goes c at cells cell l a =
 
 pub last_gone : (c : Catalog) (at : ℕ) (cells : List (List ℕ)) (cell : List ℕ) (l m : Live)
     → Among c at (cells ++ cell ∷ []) l
-    → Follows (λ x y row. Went x y at cell row) l m → Among c at cells m
+    → KeptAfter (λ x y row. Went x y at cell row) l m → Among c at cells m
 last_gone c at cells cell l m a gone =
     let less = one_less c a.now at cells cell a.rows a.comes in
     record {
@@ -215,7 +216,8 @@ all_go_out places at cells gs h i e = some_as (place_at gs i) (λ l. IsKept h.af
 
 module _ (places : List ℕ) (k d at : ℕ) (cells : List (List ℕ)) (old now mid : List (Option Live)) (o : AreOnce places)
     (low : k < length places)
-    (took : Reach (take k places) (TakesInAll at cells) old now) (last : Reach (get_or places k d ∷ []) Refuses now mid)
+    (took : Reach (take k places) (TakesInAll at cells) old now)
+    (last : Reach (get_or places k d ∷ []) StaysUnchanged now mid)
   where
     pub front_gives : CanComeAll places at cells old → CanGoAll (take k places) at cells mid
     front_gives h = record {
@@ -223,7 +225,7 @@ module _ (places : List ℕ) (k d at : ℕ) (cells : List (List ℕ)) (old now m
       after = h.after;
       rows = h.rows;
       comes = h.comes;
-      kept = front_kept places k d (TakesInAll at cells) Refuses (λ l. IsKept h.before l)
+      kept = front_kept places k d (TakesInAll at cells) StaysUnchanged (λ l. IsKept h.before l)
           (λ l. IsKept h.after l) old now
           mid o low h.kept took last
           (λ l m k' t. t.follows h.before h.after h.rows k' h.comes.came);
@@ -232,7 +234,7 @@ module _ (places : List ℕ) (k d at : ℕ) (cells : List (List ℕ)) (old now m
     pub given_all_back : (new : List (Option Live)) → Reach (take k places) (LetsOutAll at cells) mid new
         → Reach places (GivesAllBack at cells) old new
     given_all_back new out =
-        done_back places k d (TakesInAll at cells) Refuses (LetsOutAll at cells) (GivesAllBack at cells)
+        done_back places k d (TakesInAll at cells) StaysUnchanged (LetsOutAll at cells) (GivesAllBack at cells)
         old now mid new o
         low took last out
         (λ l m n t u. record {
@@ -315,7 +317,7 @@ module _ (places : List ℕ) (k d at : ℕ) (cells : List (List ℕ)) (old now m
             let other : (get_or places k d == j) ≡ false = apart (get_or places k d) j (λ s.
             false≢true (sym (once_at places k d o low) ∙ ap (is_reader (take k places)) s ∙ e)) in
             let middle : place_at mid j ≡ place_at now j =
-            subst (λ (b : Bool). DoneAt Refuses b (place_at now j) (place_at mid j))
+            subst (λ (b : Bool). DoneAt StaysUnchanged b (place_at now j) (place_at mid j))
             (only (get_or places k d) j ∙ other)
             (last.each j) in
             subst (λ (q : Option Live). IsSomeAnd q (λ l. HasAtMost l.reducts (n + length cells))
@@ -329,18 +331,18 @@ module _ (places : List ℕ) (k d at : ℕ) (cells : List (List ℕ)) (old now m
 
 -- ---- logs in other places
 
-pub others_none : (logs : List Log) → OthersStay [] logs logs
+pub others_none : (logs : List Log) → OtherLogsStay [] logs logs
 others_none logs = record { long = refl; others = λ i e. refl }
 
-pub others_set : (logs : List Log) (i : ℕ) (m : Log) → OthersStay (i ∷ []) logs (set logs i m)
+pub others_set : (logs : List Log) (i : ℕ) (m : Log) → OtherLogsStay (i ∷ []) logs (set logs i m)
 others_set logs i m = record {
   long = length-set logs i m;
   others = λ j e. get_or-set_other logs i j m no_log (λ s. false≢true (sym e ∙ only i j ∙ eq-eqb i j (sym s)));
 }
 
 pub others_next : (places : List ℕ) (k d : ℕ) (old mid new : List Log) → k < length places
-    → OthersStay (take k places) old mid
-    → OthersStay (get_or places k d ∷ []) mid new → OthersStay (take (k + 1) places) old new
+    → OtherLogsStay (take k places) old mid
+    → OtherLogsStay (get_or places k d ∷ []) mid new → OtherLogsStay (take (k + 1) places) old new
 others_next places k d old mid new low a b = record {
   long = b.long ∙ a.long;
   others = λ j e.
@@ -354,8 +356,8 @@ others_next places k d old mid new low a b = record {
     either true c e = absurd (false≢true (sym e))
     either false c e = (refl, e)
 
-pub others_front : (places : List ℕ) (k : ℕ) (old new : List Log) → OthersStay (take k places) old new
-    → OthersStay places old new
+pub others_front : (places : List ℕ) (k : ℕ) (old new : List Log) → OtherLogsStay (take k places) old new
+    → OtherLogsStay places old new
 others_front places k old new a = record {
   long = a.long;
   others = λ j e. a.others j (outside j (is_reader (take k places) j) refl e);

@@ -16,7 +16,7 @@ use Rattle.djq_live.specs.Asked.{IsAsked}
 use Rattle.djq_live.specs.Changes.{CameAll, Went, IsLater}
 use Rattle.djq_live.specs.Live.{Live, IsKept, IsLive, SameQuery}
 use Rattle.djq_live.specs.Staying.{StaysOver}
-use Rattle.djq_live.specs.Updating.{Follows}
+use Rattle.djq_live.specs.Updating.{KeptAfter}
 use Rattle.djq_propagate.specs.Updates.{HasAtMost}
 use Rattle.djq_live.proofs.Later.{asked_later}
 use Rattle.djq_live.proofs.Sizing.{fewer_stay}
@@ -24,8 +24,8 @@ use Rattle.djq_live.proofs.Untouched.{came_all_lives, went_lives}
 use Rattle.djq_reach.specs.declared.group.Group.{Group}
 use Rattle.djq_reach.specs.Places.{place_at, reads_place, is_reader, readers_at}
 use Rattle.djq_reach.specs.Reaching.{DoneAt, Reach, AllAt, Renews, Carries}
-use Rattle.djq_reach.specs.Batching.{Comes, CanComeAll, CanGoAll, LetsOutAll, TakesInAll}
-use Rattle.djq_reach.specs.Grouping.{CanComeBy, ComesBy, Leads, reached}
+use Rattle.djq_reach.specs.Batching.{RowsCameIn, CanComeAll, CanGoAll, LetsOutAll, TakesInAll}
+use Rattle.djq_reach.specs.Grouping.{CanComeBy, ComesBy, GroupsLead, reached}
 use Rattle.djq_reach.specs.Growing.{Grows}
 use Rattle.djq_reach.proofs.Batching.{Among, all_gone, grown_by, last_gone, more_room}
 use Rattle.djq_reach.proofs.Clearing.{reached_front, reached_one, reader_both, take_whole, taken_all}
@@ -36,17 +36,19 @@ use Rattle.djq_reach.proofs.Reaching.{same_refl, same_then}
 -- ---- one step
 
 -- the names are the same
-pub named_on : (c d : Catalog) (at : ℕ) (cells : List (List ℕ)) (rows : List Tuple) → Comes c d at cells rows → (r : ℕ)
+pub named_on : (c d : Catalog) (at : ℕ) (cells : List (List ℕ)) (rows : List Tuple)
+    → RowsCameIn c d at cells rows → (r : ℕ)
     → r < length c.relations
     → (relation_at d.relations r).name ≡ (relation_at c.relations r).name
 named_on c d at cells rows h r low = h.came.later.named r low
 
-pub long_on : (c d : Catalog) (at : ℕ) (cells : List (List ℕ)) (rows : List Tuple) → Comes c d at cells rows
+pub long_on : (c d : Catalog) (at : ℕ) (cells : List (List ℕ)) (rows : List Tuple) → RowsCameIn c d at cells rows
     → length d.relations ≡ length c.relations
 long_on c d at cells rows h = omega (arith, h.came.later.long, h.back.long)
 
 -- and so are the texts
-pub texts_on : (c d : Catalog) (at : ℕ) (cells : List (List ℕ)) (rows : List Tuple) → Comes c d at cells rows → d.texts
+pub texts_on : (c d : Catalog) (at : ℕ) (cells : List (List ℕ)) (rows : List Tuple)
+    → RowsCameIn c d at cells rows → d.texts
     ≡ c.texts
 texts_on c d at cells rows h =
     h.came.later.texts ∙ ap (λ (ts : List Bytes). c.texts ++ ts)
@@ -92,14 +94,14 @@ went_past c d at cells row l went low none k =
 
 -- and so do they as they go again
 pub back_past : (c d : Catalog) (at : ℕ) (cells : List (List ℕ)) (rows : List Tuple) (l : Live)
-    → Comes c d at cells rows → at < length c.relations
+    → RowsCameIn c d at cells rows → at < length c.relations
     → reads l.query (relation_at c.relations at).name ≡ false → IsKept d l → IsKept c l
 back_past c d at cells rows l h low none k =
     row_by_row (length cells) (omega arith)
     (record {
       now = d;
       rows = rows;
-      comes = subst (λ (xs : List (List ℕ)). Comes c d at xs rows) (sym (whole cells)) h;
+      comes = subst (λ (xs : List (List ℕ)). RowsCameIn c d at xs rows) (sym (whole cells)) h;
       kept = k;
     })
   where
@@ -145,7 +147,7 @@ names_by c d [] h = record {
 }
 names_by c d (g ∷ groups) h =
     let e : Catalog = h.0 in
-    let one : Comes c e g.relation.at g.rows h.1 = h.2 in
+    let one : RowsCameIn c e g.relation.at g.rows h.1 = h.2 in
     let rest = names_by e d groups h.3 in
     let long = long_on c e g.relation.at g.rows h.1 one in
     record {
@@ -182,7 +184,7 @@ rest_none : (q : Query) (c : Catalog) (g : Group) (groups : List Group) → Read
     → ReadsNone q c groups
 rest_none q c g groups h = λ k d low. h (suc k) d (omega (arith, low))
 
-names_one : (c e : Catalog) (g : Group) (rows : List Tuple) → Comes c e g.relation.at g.rows rows → Names c e
+names_one : (c e : Catalog) (g : Group) (rows : List Tuple) → RowsCameIn c e g.relation.at g.rows rows → Names c e
 names_one c e g rows h = record {
   long = long_on c e g.relation.at g.rows rows h;
   named = named_on c e g.relation.at g.rows rows h;
@@ -215,7 +217,7 @@ pub record LastStep (c d : Catalog) (groups : List Group) (g : Group) : Type 0 w
   pub middle : Catalog
   pub rows : List Tuple
   pub front : ComesBy c groups middle
-  pub comes : Comes middle d g.relation.at g.rows rows
+  pub comes : RowsCameIn middle d g.relation.at g.rows rows
 
 pub last_step : (c d : Catalog) (groups : List Group) (g : Group) → ComesBy c (groups ++ g ∷ []) d
     → LastStep c d groups g
@@ -223,7 +225,7 @@ last_step c d [] g h = record {
   middle = c;
   rows = h.1;
   front = refl;
-  comes = subst (λ (x : Catalog). Comes c x g.relation.at g.rows h.1) (sym h.3) h.2;
+  comes = subst (λ (x : Catalog). RowsCameIn c x g.relation.at g.rows h.1) (sym h.3) h.2;
 }
 last_step c d (k ∷ groups) g h =
     let more = last_step h.0 d groups g h.3 in
@@ -255,8 +257,8 @@ rest_steps c d (g ∷ groups) (suc k) h = rest_steps h.0 d groups k h.3
 
 module _ (readers : List (List ℕ)) (groups : List Group) (gs : List (Option Live)) where
   -- the groups in front lead to a catalog in between
-  pub leads_front : (c d : Catalog) (k : ℕ) → Leads readers groups gs c d → (e : Catalog)
-      × Leads readers (take k groups) gs c e
+  pub leads_front : (c d : Catalog) (k : ℕ) → GroupsLead readers groups gs c d → (e : Catalog)
+      × GroupsLead readers (take k groups) gs c e
   leads_front c d k h =
       let first = first_steps c d groups k h.comes in (
         first.now,
@@ -272,10 +274,10 @@ module _ (readers : List (List ℕ)) (groups : List Group) (gs : List (Option Li
   -- and those behind them lead on from it
   pub record Far (k : ℕ) (c d : Catalog) : Type 0 where
     pub now : Catalog
-    pub leads : Leads readers (take k groups) gs c now
+    pub leads : GroupsLead readers (take k groups) gs c now
     pub rest : ComesBy now (drop k groups) d
 
-  pub far_of : (c d : Catalog) (k : ℕ) → Leads readers groups gs c d → Far k c d
+  pub far_of : (c d : Catalog) (k : ℕ) → GroupsLead readers groups gs c d → Far k c d
   far_of c d k h =
       let first = first_steps c d groups k h.comes in
       record {
@@ -295,12 +297,12 @@ module _ (readers : List (List ℕ)) (groups : List Group) (gs : List (Option Li
     pub inside : g.relation.at < length c.relations
     pub middle : Catalog
     pub rows : List Tuple
-    pub front : Leads readers (take k groups) gs c middle
-    pub comes : Comes middle d g.relation.at g.rows rows
+    pub front : GroupsLead readers (take k groups) gs c middle
+    pub comes : RowsCameIn middle d g.relation.at g.rows rows
     pub names : Names c middle
 
   pub step_of : (k : ℕ) (g : Group) (c d : Catalog) → k < length groups → g ≡ slice_index_or groups k g
-      → Leads readers (take (k + 1) groups) gs c d → Step k g c d
+      → GroupsLead readers (take (k + 1) groups) gs c d → Step k g c d
   step_of k g c d low is h =
       let shape : take (k + 1) groups ≡ take k groups ++ g ∷ [] = take_more groups k g low
       ∙ ap (λ (x : Group). take k groups ++ x ∷ []) (sym is) in
@@ -328,7 +330,7 @@ module _ (readers : List (List ℕ)) (groups : List Group) (gs : List (Option Li
           (All-tail (λ (y : Group). y.relation.at < length c.relations) y (xs ++ x ∷ []) all)
 
   -- a query whose place isn't reached reads none of the relations
-  pub unread_by : (c d : Catalog) (i : ℕ) (l : Live) → Leads readers groups gs c d → place_at gs i ≡ Some l
+  pub unread_by : (c d : Catalog) (i : ℕ) (l : Live) → GroupsLead readers groups gs c d → place_at gs i ≡ Some l
       → is_reader (reached readers groups) i ≡ false
       → ReadsNone l.query c groups
   unread_by c d i l h there out = by groups h.within out
@@ -355,13 +357,13 @@ module _ (readers : List (List ℕ)) (groups : List Group) (gs : List (Option Li
           (by xs (All-tail (λ (g : Group). g.relation.at < length c.relations) x xs within) both.1)
 
   -- a query that reads none of the relations stays over the change
-  pub stays_by : (c d : Catalog) (i : ℕ) (l : Live) → Leads readers groups gs c d → place_at gs i ≡ Some l
+  pub stays_by : (c d : Catalog) (i : ℕ) (l : Live) → GroupsLead readers groups gs c d → place_at gs i ≡ Some l
       → is_reader (reached readers groups) i ≡ false
       → IsLive c l → StaysOver c d l
   stays_by c d i l h there out live = lives_by c d groups l h.comes (unread_by c d i l h there out) live
 
   -- so the groups carry all queries to the last catalog
-  pub carried_by : (c d : Catalog) (hs : List (Option Live)) → Leads readers groups gs c d
+  pub carried_by : (c d : Catalog) (hs : List (Option Live)) → GroupsLead readers groups gs c d
       → ((i : ℕ) (l : Live) → place_at gs i ≡ Some l → IsLive c l)
       → Reach (reached readers groups) (Renews d) gs hs → Carries (reached readers groups) c gs d hs
   carried_by c d hs h live r = record
@@ -372,7 +374,7 @@ module _ (readers : List (List ℕ)) (groups : List Group) (gs : List (Option Li
 -- the readers stay those that read, where only tables change
 pub leads_same : (readers : List (List ℕ)) (groups : List Group) (gs hs : List (Option Live)) (c d : Catalog)
     (ps : List ℕ)
-    → Reach ps SameQuery gs hs → Leads readers groups gs c d → Leads readers groups hs c d
+    → Reach ps SameQuery gs hs → GroupsLead readers groups gs c d → GroupsLead readers groups hs c d
 leads_same readers groups gs hs c d ps r h = record {
   comes = h.comes;
   within = h.within;
@@ -443,15 +445,16 @@ reads_of name gs i l there e = sym (ap (reads_place name) there) ∙ e
 pub record Behind (readers : List (List ℕ)) (groups : List Group) (left : ℕ) (gs hs : List (Option Live)) (c : Catalog)
     : Type 0 where
   pub now : Catalog
-  pub leads : Leads readers (take left groups) gs c now
+  pub leads : GroupsLead readers (take left groups) gs c now
   pub kept : AllAt (reached readers groups) hs (λ m. IsKept now m)
 
 pub behind_all : (readers : List (List ℕ)) (groups : List Group) (gs : List (Option Live)) (c d : Catalog)
-    → Leads readers groups gs c d
+    → GroupsLead readers groups gs c d
     → AllAt (reached readers groups) gs (λ m. IsKept d m) → Behind readers groups (length groups) gs gs c
 behind_all readers groups gs c d h kept = record {
   now = d;
-  leads = subst (λ (xs : List Group). Leads readers xs gs c d) (sym (take_whole groups (length groups) (omega arith)))
+  leads = subst (λ (xs : List Group). GroupsLead readers xs gs c d)
+      (sym (take_whole groups (length groups) (omega arith)))
       h;
   kept = kept;
 }
@@ -464,7 +467,7 @@ module _ (readers : List (List ℕ)) (groups : List Group) (left : ℕ) (g : Gro
   last_of =
       let same : left ≡ left - 1 + 1 = omega (arith, some) in
       step_of readers groups gs (left - 1) g c b.now (omega (arith, some, low)) is
-      (subst (λ (n : ℕ). Leads readers (take n groups) gs c b.now) same b.leads)
+      (subst (λ (n : ℕ). GroupsLead readers (take n groups) gs c b.now) same b.leads)
 
   -- the last of the groups that are left can go
   pub group_goes : (places : List ℕ) (cells : List (List ℕ)) → places ≡ readers_at readers g.relation.at → cells
@@ -473,7 +476,7 @@ module _ (readers : List (List ℕ)) (groups : List Group) (left : ℕ) (g : Gro
     before = last_of.middle;
     after = b.now;
     rows = last_of.rows;
-    comes = subst (λ (xs : List (List ℕ)). Comes last_of.middle b.now g.relation.at xs last_of.rows) (sym rows)
+    comes = subst (λ (xs : List (List ℕ)). RowsCameIn last_of.middle b.now g.relation.at xs last_of.rows) (sym rows)
         last_of.comes;
     kept = λ i e. b.kept i (reached_one readers groups (left - 1) g i (omega (arith, some, low)) is
         (subst (λ (ps : List ℕ). is_reader ps i ≡ true) are e));
@@ -490,7 +493,7 @@ module _ (readers : List (List ℕ)) (groups : List Group) (left : ℕ) (g : Gro
     kept = all_on (reached readers groups) places (LetsOutAll g.relation.at cells) (λ m. IsKept b.now m)
         (λ m. IsKept last_of.middle m) hs new out b.kept
         (λ i m n there e k t. t.follows last_of.middle b.now last_of.rows
-        (subst (λ (xs : List (List ℕ)). Comes last_of.middle b.now g.relation.at xs last_of.rows) (sym rows)
+        (subst (λ (xs : List (List ℕ)). RowsCameIn last_of.middle b.now g.relation.at xs last_of.rows) (sym rows)
         last_of.comes) k)
         (λ i m there e k. back_past last_of.middle b.now g.relation.at g.rows last_of.rows m last_of.comes within
         (unread i m there e) k);
@@ -521,7 +524,7 @@ module _ (readers : List (List ℕ)) (groups : List Group) (left : ℕ) (g : Gro
       (λ m. HasAtMost m.reducts n × IsKept b.now m) (λ m. HasAtMost m.reducts n) hs new out
       (λ i e. both (place_at hs i) (few i e) (b.kept i e))
       (λ i m x there e k t. fewer_stay x.reducts m.reducts n (t.follows last_of.middle b.now last_of.rows
-      (subst (λ (xs : List (List ℕ)). Comes last_of.middle b.now g.relation.at xs last_of.rows) (sym rows)
+      (subst (λ (xs : List (List ℕ)). RowsCameIn last_of.middle b.now g.relation.at xs last_of.rows) (sym rows)
       last_of.comes) k.1).over.reducts t.fewer k.0)
       (λ i m there e k. k.0)
     where
@@ -573,7 +576,7 @@ none_led c d (x ∷ xs) h = h
 -- A query that was kept before the first of the groups is kept behind them.
 pub record TakesInBy (readers : List (List ℕ)) (groups : List Group) (gs : List (Option Live)) (k : ℕ) (l m : Live) :
     Type 0 where
-  pub follows : (c d : Catalog) → IsKept c l → Leads readers (take k groups) gs c d → IsKept d m
+  pub follows : (c d : Catalog) → IsKept c l → GroupsLead readers (take k groups) gs c d → IsKept d m
   pub same : SameQuery l m
 
 pub takes_none : (readers : List (List ℕ)) (groups : List Group) (gs : List (Option Live))
@@ -591,7 +594,7 @@ takes_none readers groups gs = record
 
 pub all_kept : (ps : List ℕ) (readers : List (List ℕ)) (groups : List Group) (gs now : List (Option Live)) (k : ℕ)
     (c d : Catalog) → Reach ps (TakesInBy readers groups gs k) gs now
-    → AllAt ps gs (λ l. IsKept c l) → Leads readers (take k groups) gs c d → AllAt ps now (λ m. IsKept d m)
+    → AllAt ps gs (λ l. IsKept c l) → GroupsLead readers (take k groups) gs c d → AllAt ps now (λ m. IsKept d m)
 all_kept ps readers groups gs now k c d r kept leads i e =
     by (place_at gs i) (place_at now i)
     (subst (λ (b : Bool). DoneAt (TakesInBy readers groups gs k) b (place_at gs i) (place_at now i)) e (r.each i))
@@ -622,8 +625,9 @@ module _ (readers : List (List ℕ)) (groups : List Group) (gs : List (Option Li
     pub in_reached : (i : ℕ) → is_reader places i ≡ true → is_reader (reached readers groups) i ≡ true
     in_reached i e = reached_one readers groups k g i low is (subst (λ (ps : List ℕ). is_reader ps i ≡ true) are e)
 
-    pub comes_so : (c d : Catalog) (s : Step readers groups gs k g c d) → Comes s.middle d g.relation.at cells s.rows
-    comes_so c d s = subst (λ (xs : List (List ℕ)). Comes s.middle d g.relation.at xs s.rows) (sym rows) s.comes
+    pub comes_so : (c d : Catalog) (s : Step readers groups gs k g c d)
+        → RowsCameIn s.middle d g.relation.at cells s.rows
+    comes_so c d s = subst (λ (xs : List (List ℕ)). RowsCameIn s.middle d g.relation.at xs s.rows) (sym rows) s.comes
 
     pub within_step : (c d : Catalog) (s : Step readers groups gs k g c d) → g.relation.at < length s.middle.relations
     within_step c d s = omega (arith, s.names.long, s.inside)

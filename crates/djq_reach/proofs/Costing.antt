@@ -25,9 +25,9 @@ use Rattle.djq_live.specs.Updating.{IsDeltaOf, atoms_over, update_bound}
 use Rattle.djq_reach.specs.declared.group.Group.{Group}
 use Rattle.djq_reach.specs.Places.{place_at, is_reader, readers_at, watched_at, AreOnce}
 use Rattle.djq_reach.specs.Reaching.{DoneAt, Reach, AllAt}
-use Rattle.djq_reach.specs.Tending.{Costs, DeltasOf, cost_of, cost_at, work_of, work_at}
-use Rattle.djq_reach.specs.Grouping.{AreAmong, CostsBy, Leads, atoms_over_any, batch_cost}
-use Rattle.djq_reach.specs.Grouping.{batch_cost_at, group_work, reached, relations_of, rows_in}
+use Rattle.djq_reach.specs.Tending.{Costs, DeltasOf, listing_cost, cost_at, work_of, work_at}
+use Rattle.djq_reach.specs.Grouping.{PlacesAreAmong, CostsBy, GroupsLead, atoms_over_any, batch_cost}
+use Rattle.djq_reach.specs.Grouping.{batch_cost_at, group_work, reached, group_relations, rows_of_groups}
 use Rattle.djq_reach.specs.Grouping.{times_back}
 use Rattle.djq_reach.proofs.Among.{reader_more, apart}
 use Rattle.djq_reach.proofs.Chaining.{Far, Step, TakesInBy, all_kept, asked_by, comes_so, far_of}
@@ -150,38 +150,38 @@ atoms_apart ats at (m ∷ ms) out =
     step false true false e f h more = absurd (false≢true (h ∙ ap₂ (λ b c. b || c) e f))
 
 relations_more : (groups : List Group) (k : ℕ) (g : Group) → k < length groups → g ≡ slice_index_or groups k g
-    → relations_of (take (k + 1) groups) ≡ relations_of (take k groups) ++ g.relation.at ∷ []
+    → group_relations (take (k + 1) groups) ≡ group_relations (take k groups) ++ g.relation.at ∷ []
 relations_more groups k g low is =
-    ap relations_of (take_more groups k g low ∙ ap (λ (x : Group). take k groups ++ x ∷ []) (sym is))
+    ap group_relations (take_more groups k g low ∙ ap (λ (x : Group). take k groups ++ x ∷ []) (sym is))
     ∙ map-append (λ (x : Group). x.relation.at) (take k groups) (g ∷ [])
 
-relations_front : (groups : List Group) (k : ℕ) → relations_of (take k groups) ≡ take k (relations_of groups)
+relations_front : (groups : List Group) (k : ℕ) → group_relations (take k groups) ≡ take k (group_relations groups)
 relations_front [] zero = refl
 relations_front [] (suc k) = refl
 relations_front (g ∷ groups) zero = refl
 relations_front (g ∷ groups) (suc k) = ap (λ (xs : List ℕ). g.relation.at ∷ xs) (relations_front groups k)
 
 -- the relation of a group isn't that of one in front of it
-pub fresh_group : (groups : List Group) (k : ℕ) (g : Group) → AreOnce (relations_of groups) → k < length groups → g
+pub fresh_group : (groups : List Group) (k : ℕ) (g : Group) → AreOnce (group_relations groups) → k < length groups → g
     ≡ slice_index_or groups k g
-    → is_reader (relations_of (take k groups)) g.relation.at ≡ false
+    → is_reader (group_relations (take k groups)) g.relation.at ≡ false
 fresh_group groups k g once low is =
-    subst (λ (i : ℕ). is_reader (relations_of (take k groups)) i ≡ false) named
-    (subst (λ (xs : List ℕ). is_reader xs (slice_index_or (relations_of groups) k 0) ≡ false)
+    subst (λ (i : ℕ). is_reader (group_relations (take k groups)) i ≡ false) named
+    (subst (λ (xs : List ℕ). is_reader xs (slice_index_or (group_relations groups) k 0) ≡ false)
     (sym (relations_front groups k))
-    (once_at (relations_of groups) k 0 once (omega (arith, low, long groups))))
+    (once_at (group_relations groups) k 0 once (omega (arith, low, long groups))))
   where
-    long : (xs : List Group) → length (relations_of xs) ≡ length xs
+    long : (xs : List Group) → length (group_relations xs) ≡ length xs
     long [] = refl
     long (x ∷ xs) = let more = long xs in omega (arith, more)
 
-    nth : (xs : List Group) (j : ℕ) (x : Group) → j < length xs → slice_index_or (relations_of xs) j 0
+    nth : (xs : List Group) (j : ℕ) (x : Group) → j < length xs → slice_index_or (group_relations xs) j 0
         ≡ (slice_index_or xs j x).relation.at
     nth [] j x less = absurd (omega (arith, less))
     nth (y ∷ ys) zero x less = refl
     nth (y ∷ ys) (suc j) x less = nth ys j x (omega (arith, less))
 
-    named : slice_index_or (relations_of groups) k 0 ≡ g.relation.at
+    named : slice_index_or (group_relations groups) k 0 ≡ g.relation.at
     named = nth groups k g low ∙ ap (λ (x : Group). x.relation.at) (sym is)
 
 -- ---- what listing counts, group after group
@@ -197,9 +197,9 @@ seconds e (Some l) zs = late_part (IsAnswer e.relations l.query) (answers_are_de
 
 abbrev pub CostsSo : List (List ℕ) → List Group → List (Option Live) → List ℕ → ℕ → ℕ → ℕ → Type 0
 CostsSo readers groups gs ws k before now = (c d : Catalog) (f : ℕ → List Change) (order : List ℕ)
-    → Leads readers (take k groups) gs c d → AllAt (reached readers groups) gs (λ l. IsKept c l)
-    → DeltasOf (reached readers groups) ws gs c d f → AreAmong (reached readers groups) order
-    → now ≤ before + sum_by (batch_cost_at ws gs (relations_of (take k groups)) f)
+    → GroupsLead readers (take k groups) gs c d → AllAt (reached readers groups) gs (λ l. IsKept c l)
+    → DeltasOf (reached readers groups) ws gs c d f → PlacesAreAmong (reached readers groups) order
+    → now ≤ before + sum_by (batch_cost_at ws gs (group_relations (take k groups)) f)
     (filter (is_reader (reached readers groups)) order)
 
 of_live : (l : Live) (o : Option Live) (c : Catalog) → o ≡ Some l → IsSomeAnd o (λ x. IsKept c x) → IsKept c l
@@ -210,7 +210,7 @@ point : (readers : List (List ℕ)) (groups : List Group) (gs : List (Option Liv
     (e : Catalog) (zs : List Change)
     → more ≡ ats ++ at ∷ [] → is_reader ats at ≡ false → (w r : Bool) (p q : Option Live)
     → DoneAt (TakesInBy readers groups gs k) true p q
-    → cond w (batch_cost ats (firsts e p zs) p) 0 + cond r (cond w (cost_of at (seconds e p zs) q) 0) 0 ≤ cond w
+    → cond w (batch_cost ats (firsts e p zs) p) 0 + cond r (cond w (listing_cost at (seconds e p zs) q) 0) 0 ≤ cond w
     (batch_cost more zs p) 0
 point readers groups gs k ats more at e zs is out false true p q t = omega arith
 point readers groups gs k ats more at e zs is out false false p q t = omega arith
@@ -236,7 +236,7 @@ point readers groups gs k ats more at e zs is out true r (Some l) (Some m) t = b
     atoms = subst (λ (xs : List ℕ). atoms_over_any l ats + atoms_over l at ≤ atoms_over_any l xs) (sym is)
         (atoms_apart ats at l.numbered.atoms out)
 
-    other : cost_of at (seconds e (Some l) zs) (Some m)
+    other : listing_cost at (seconds e (Some l) zs) (Some m)
         ≡ (length (seconds e (Some l) zs) + atoms_over l at) * most_steps (length l.query.head)
     other = ap (λ (n : Numbered). (length (seconds e (Some l) zs) + length (filter (λ a. a.relation == at) n.atoms)) *
         most_steps (length m.query.head)) t.same.numbered
@@ -244,7 +244,7 @@ point readers groups gs k ats more at e zs is out true r (Some l) (Some m) t = b
         t.same.query
 
     by : (r : Bool) → (length (firsts e (Some l) zs) + atoms_over_any l ats) * most_steps (length l.query.head) + cond r
-        (cost_of at (seconds e (Some l) zs) (Some m)) 0
+        (listing_cost at (seconds e (Some l) zs) (Some m)) 0
         ≤ (length zs + atoms_over_any l more) * most_steps (length l.query.head)
     by true =
         let all = mul-le (length (firsts e (Some l) zs) + atoms_over_any l ats +
@@ -266,7 +266,7 @@ module _ (readers : List (List ℕ)) (groups : List Group) (gs : List (Option Li
     (low : k < length groups) (is : g ≡ slice_index_or groups k g)
     (places : List ℕ) (cells : List (List ℕ)) (are : places ≡ readers_at readers g.relation.at) (rows : cells ≡ g.rows)
     (once : AreOnce places)
-    (fresh : is_reader (relations_of (take k groups)) g.relation.at ≡ false) (now : List (Option Live))
+    (fresh : is_reader (group_relations (take k groups)) g.relation.at ≡ false) (now : List (Option Live))
     (r : Reach (reached readers groups) (TakesInBy readers groups gs k) gs now) where
   pub costs_on : (before mid after : ℕ) → CostsSo readers groups gs ws k before mid
       → Costs (λ c d. CameAll c d g.relation.at cells) places ws now g.relation.at mid after
@@ -283,10 +283,11 @@ module _ (readers : List (List ℕ)) (groups : List Group) (gs : List (Option Li
       let part = sums_within (cost_at ws now g.relation.at (λ i. seconds e (place_at gs i) (f i))) places
       (filter (is_reader (reached readers groups)) order) once
       (λ i h. filter_reader (is_reader (reached readers groups)) order i (among i (inside i h)) (inside i h)) in
-      let both = sums_both (batch_cost_at ws gs (relations_of (take k groups)) (λ i. firsts e (place_at gs i) (f i)))
+      let both = sums_both (batch_cost_at ws gs (group_relations (take k groups)) (λ i. firsts e (place_at gs i) (f i)))
       (λ i. cond (is_reader places i) (cost_at ws now g.relation.at (λ i. seconds e (place_at gs i) (f i)) i) 0)
-      (batch_cost_at ws gs (relations_of (take (k + 1) groups)) f) (filter (is_reader (reached readers groups)) order)
-      (λ i h. point readers groups gs k (relations_of (take k groups)) (relations_of (take (k + 1) groups))
+      (batch_cost_at ws gs (group_relations (take (k + 1) groups)) f)
+      (filter (is_reader (reached readers groups)) order)
+      (λ i h. point readers groups gs k (group_relations (take k groups)) (group_relations (take (k + 1) groups))
       g.relation.at e (f i)
       (relations_more groups k g low is) fresh (watched_at ws i) (is_reader places i) (place_at gs i) (place_at now i)
       (subst (λ (b : Bool). DoneAt (TakesInBy readers groups gs k) b (place_at gs i) (place_at now i))
@@ -347,8 +348,8 @@ costs_all readers groups gs ws k before now so c d f order leads kept deltas amo
     let first = so c far.now (λ i. firsts far.now (place_at gs i) (f i)) order far.leads kept
     (λ i l h w there. early i l h w there) among in
     let less = sums_under
-    (batch_cost_at ws gs (relations_of (take k groups)) (λ i. firsts far.now (place_at gs i) (f i)))
-    (batch_cost_at ws gs (relations_of groups) f)
+    (batch_cost_at ws gs (group_relations (take k groups)) (λ i. firsts far.now (place_at gs i) (f i)))
+    (batch_cost_at ws gs (group_relations groups) f)
     (filter (is_reader (reached readers groups)) order) (λ i h. fewer i (watched_at ws i) (place_at gs i)) in
     omega (arith, first, less)
   where
@@ -388,19 +389,19 @@ costs_all readers groups gs ws k before now so c d f order leads kept deltas amo
         step true false e h more = absurd (false≢true (sym h ∙ reader_front ats j m.relation e))
 
     fewer : (i : ℕ) (w : Bool) (p : Option Live)
-        → cond w (batch_cost (relations_of (take k groups)) (firsts far.now p (f i)) p) 0 ≤ cond w
-        (batch_cost (relations_of groups) (f i) p) 0
+        → cond w (batch_cost (group_relations (take k groups)) (firsts far.now p (f i)) p) 0 ≤ cond w
+        (batch_cost (group_relations groups) (f i) p) 0
     fewer i false p = omega arith
     fewer i true None = omega arith
     fewer i true (Some l) =
         let long = parts_long (IsAnswer (far.now).relations l.query)
         (answers_are_decided (far.now).relations (a_query l.query)) (f i) in
-        let atoms = subst (λ (xs : List ℕ). atoms_over_any l xs ≤ atoms_over_any l (relations_of groups))
+        let atoms = subst (λ (xs : List ℕ). atoms_over_any l xs ≤ atoms_over_any l (group_relations groups))
         (sym (relations_front groups k))
-        (atoms_front (relations_of groups) k l.numbered.atoms) in
-        mul-le (length (firsts far.now (Some l) (f i)) + atoms_over_any l (relations_of (take k groups)))
+        (atoms_front (group_relations groups) k l.numbered.atoms) in
+        mul-le (length (firsts far.now (Some l) (f i)) + atoms_over_any l (group_relations (take k groups)))
         (most_steps (length l.query.head))
-        (length (f i) + atoms_over_any l (relations_of groups)) (most_steps (length l.query.head))
+        (length (f i) + atoms_over_any l (group_relations groups)) (most_steps (length l.query.head))
         (omega (arith, long, atoms)) (omega arith)
 
 -- ---- what updates count
@@ -435,13 +436,13 @@ sums_two F G H (x ∷ xs) k =
 
 -- the rows so far, and those of a group more
 pub rows_more : (groups : List Group) (k : ℕ) (g : Group) → k < length groups → g ≡ slice_index_or groups k g
-    → rows_in (take (k + 1) groups) ≡ rows_in (take k groups) + length g.rows
+    → rows_of_groups (take (k + 1) groups) ≡ rows_of_groups (take k groups) + length g.rows
 rows_more groups k g low is =
     let more = sum_by_more (λ (x : Group). length x.rows) groups k g low in
     let same : length (slice_index_or groups k g).rows ≡ length g.rows = ap (λ (x : Group). length x.rows) (sym is) in
     omega (arith, more, same)
 
-pub rows_front : (groups : List Group) (k : ℕ) → rows_in (take k groups) ≤ rows_in groups
+pub rows_front : (groups : List Group) (k : ℕ) → rows_of_groups (take k groups) ≤ rows_of_groups groups
 rows_front groups k = sum_by-take-le (λ (x : Group). length x.rows) groups k
 
 pub sum_more : (F : Group → ℕ) (groups : List Group) (k : ℕ) (g : Group) → k < length groups → g

@@ -14,12 +14,12 @@ use Rattle.djq_model.specs.Equality.{tuple_eq-decides}
 use Rattle.djq_model.specs.Answer.{AreDifferent}
 use Rattle.djq_model.specs.Typed.{fits}
 use Rattle.djq_rows.specs.Cells.{HaveCells, StandFor}
-use Rattle.djq_rows.specs.Catalog.{Catalog, IsCatalog, IsKeptRelation, IsCounted}
+use Rattle.djq_rows.specs.Catalog.{Catalog, IsCatalog, IsKeptRelation, CopiesAreInRange}
 use Rattle.djq_rows.specs.Catalog.{StandForRow, no_relation, relation_at, counted_at, rows_at}
 use Rattle.djq_rows.specs.Catalog.{with_rows_at}
 use Rattle.djq_live.specs.Changes.{IsLater, CameAll, Went, StandForRows, HasSameRows}
 use Rattle.djq_live.proofs.Members.{in_last}
-use Rattle.djq_reach.specs.Batching.{Comes}
+use Rattle.djq_reach.specs.Batching.{RowsCameIn}
 
 -- ---- lists and their last item
 
@@ -200,7 +200,8 @@ module _ (d : Catalog) (at : ℕ) (fs : List CountedRow) (low : at < length d.re
             (subst (λ (ts : List Tuple). All (HaveCells d.texts) ts) whole old.cells);
         few = let a = length-append (plain_of fs) (plain_of ks) in
             omega (arith, old.few, ap length whole, a);
-        counted = all_front IsCounted fs ks (subst (λ (xs : List CountedRow). All IsCounted xs) e old.counted);
+        counted = all_front CopiesAreInRange fs ks
+            (subst (λ (xs : List CountedRow). All CopiesAreInRange xs) e old.counted);
       }
 
       relation_kept : (k : ℕ) (x : Relation) → k < length d.relations
@@ -272,12 +273,12 @@ pub record OneLess (c d : Catalog) (at : ℕ) (cells : List (List ℕ)) (cell : 
   pub middle : Catalog
   pub rows : List Tuple
   pub row : Tuple
-  pub comes : Comes c middle at cells rows
+  pub comes : RowsCameIn c middle at cells rows
   pub went : Went d middle at cell row
   pub there : Contains (rows_at d.relations at) row
 
 pub one_less : (c d : Catalog) (at : ℕ) (cells : List (List ℕ)) (cell : List ℕ) (rows : List Tuple)
-    → Comes c d at (cells ++ cell ∷ []) rows → OneLess c d at cells cell
+    → RowsCameIn c d at (cells ++ cell ∷ []) rows → OneLess c d at cells cell
 one_less c d at cells cell rows h = record {
   middle = fewer d at fs within;
   rows = ends.front;
@@ -326,7 +327,7 @@ one_less c d at cells cell rows h = record {
     catalog = fewer_catalog d at fs within h.came.later.catalog (counted.last ∷ []) counted.is
 
 -- Where no rows came, the catalogs have the same rows.
-pub none_came : (c d : Catalog) (at : ℕ) (rows : List Tuple) → Comes c d at [] rows → HasSameRows d c
+pub none_came : (c d : Catalog) (at : ℕ) (rows : List Tuple) → RowsCameIn c d at [] rows → HasSameRows d c
 none_came c d at rows h = record {
   later = h.back;
   same = λ k low. elim (cases_eq k at) [

@@ -13,8 +13,8 @@ use Rattle.djq_reach.specs.declared.group.Group.{Group}
 use Rattle.djq_reach.specs.Places.{place_at, is_reader, readers_at, log_at, watched_at}
 use Rattle.djq_reach.specs.Reaching.{DoneAt, Reach, AllAt, Renews}
 use Rattle.djq_reach.specs.Tending.{TendedAt, Tends, Empties, AreUnwatched, HaveLogs}
-use Rattle.djq_reach.specs.Batching.{Comes, GivesAllBack, OthersStay}
-use Rattle.djq_reach.specs.Grouping.{CanComeBy, CanGoBy, Leads, reached}
+use Rattle.djq_reach.specs.Batching.{RowsCameIn, GivesAllBack, OtherLogsStay}
+use Rattle.djq_reach.specs.Grouping.{CanComeBy, CanGoBy, GroupsLead, reached}
 use Rattle.djq_reach.proofs.Batching.{more_room}
 use Rattle.djq_reach.proofs.Chaining.{Step, TakesInBy, all_kept, all_on, back_by, comes_so}
 use Rattle.djq_reach.proofs.Chaining.{in_reached, leads_front, leads_same, reach_on, renewed}
@@ -47,7 +47,7 @@ have_logs ps gs logs c long kept i e = let low = below_some gs i (λ l. IsKept c
 pub emptied_all : (Does : ℕ → Live → Log → Log → Type 0) (ps places : List ℕ) (gs : List (Option Live))
     (first old mid new : List Log)
     → ((i : ℕ) → is_reader places i ≡ true → is_reader ps i ≡ true) → Tends ps Does gs first old
-    → OthersStay places old mid → Empties ps mid new → Empties ps first new
+    → OtherLogsStay places old mid → Empties ps mid new → Empties ps first new
 emptied_all Does ps places gs first old mid new sub a b c = record {
   long = c.long ∙ b.long ∙ a.long;
   emptied = c.emptied;
@@ -73,11 +73,11 @@ module _ (readers : List (List ℕ)) (groups : List Group) (gs : List (Option Li
   -- the queries are kept in front of the group that was refused
   pub record Held (c d : Catalog) : Type 0 where
     pub far : Catalog
-    pub leads : Leads readers (take (k + 1) groups) gs c far
+    pub leads : GroupsLead readers (take (k + 1) groups) gs c far
     pub step : Step readers groups gs k g c far
     pub kept : AllAt (reached readers groups) mid (λ m. IsKept step.middle m)
 
-  pub held_of : (c d : Catalog) → Leads readers groups gs c d → AllAt (reached readers groups) gs (λ l. IsKept c l)
+  pub held_of : (c d : Catalog) → GroupsLead readers groups gs c d → AllAt (reached readers groups) gs (λ l. IsKept c l)
       → Held c d
   held_of c d h kept =
       let far = leads_front readers groups gs c d (k + 1) h in
@@ -94,7 +94,7 @@ module _ (readers : List (List ℕ)) (groups : List Group) (gs : List (Option Li
             (λ i m there e h. h);
       }
 
-  pub few_mid : (c d : Catalog) (n : ℕ) → Leads readers groups gs c d
+  pub few_mid : (c d : Catalog) (n : ℕ) → GroupsLead readers groups gs c d
       → AllAt (reached readers groups) gs (λ l. IsKept c l)
       → AllAt (reached readers groups) now (λ m. HasAtMost m.reducts n)
       → AllAt (reached readers groups) mid (λ m. HasAtMost m.reducts (n + length g.rows))
@@ -114,7 +114,7 @@ module _ (readers : List (List ℕ)) (groups : List Group) (gs : List (Option Li
       both e None x y = absurd x
       both e (Some m) x y = (x, y)
 
-  leads_mid : (c d : Catalog) (b : Held c d) → Leads readers (take k groups) mid c b.step.middle
+  leads_mid : (c d : Catalog) (b : Held c d) → GroupsLead readers (take k groups) mid c b.step.middle
   leads_mid c d b = leads_same readers (take k groups) gs mid c b.step.middle (reached readers groups) same_mid
       b.step.front
 
@@ -135,10 +135,10 @@ module _ (readers : List (List ℕ)) (groups : List Group) (gs : List (Option Li
       }
 
   pub groups_back : (new : List (Option Live))
-      → ((c d : Catalog) → Leads readers (take k groups) mid c d
+      → ((c d : Catalog) → GroupsLead readers (take k groups) mid c d
       → AllAt (reached readers (take k groups)) mid (λ m. IsKept d m)
       → Reach (reached readers (take k groups)) (Renews c) mid new)
-      → (c d : Catalog) → Leads readers groups gs c d → AllAt (reached readers groups) gs (λ l. IsKept c l)
+      → (c d : Catalog) → GroupsLead readers groups gs c d → AllAt (reached readers groups) gs (λ l. IsKept c l)
       → Reach (reached readers groups) (Renews c) gs new
   groups_back new given c d h kept =
       let b = held_of c d h kept in

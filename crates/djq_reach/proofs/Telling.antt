@@ -19,13 +19,13 @@ use Rattle.djq_rows.specs.Catalog.{Catalog, relation_at}
 use Rattle.djq_live.specs.Shown.{shown, AreShownAs}
 use Rattle.djq_live.specs.Changes.{CameAll}
 use Rattle.djq_live.specs.Live.{Live, IsKept, IsShowable, SameQuery}
-use Rattle.djq_live.specs.Updating.{IsDeltaOf, Logs, LogsWhere, change_of}
+use Rattle.djq_live.specs.Updating.{IsDeltaOf, LogsDelta, LogsWhere, change_of}
 use Rattle.djq_reach.specs.declared.group.Group.{Group}
 use Rattle.djq_reach.specs.Places.{place_at, is_reader, readers_at, log_at, watched_at}
 use Rattle.djq_reach.specs.Reaching.{DoneAt, Reach}
-use Rattle.djq_reach.specs.Tending.{Tells, TellsWhere, TellsAt, TendedAt, Tends}
+use Rattle.djq_reach.specs.Tending.{LogTellsOver, TellsWhere, LogTellsAt, TendedAt, Tends}
 use Rattle.djq_reach.specs.Batching.{LogsAt}
-use Rattle.djq_reach.specs.Grouping.{Clears, Leads, reached}
+use Rattle.djq_reach.specs.Grouping.{Clears, GroupsLead, reached}
 use Rattle.djq_reach.proofs.Chaining.{Step, TakesInBy, asked_by, comes_so, grows_by, in_reached}
 use Rattle.djq_reach.proofs.Chaining.{none_led, step_of, texts_on, unread_step}
 use Rattle.djq_reach.proofs.Deltas.{delta_as, delta_none, deltas_join}
@@ -69,7 +69,7 @@ not_lost true b h e = absurd (false≢true (sym e ∙ h refl))
 -- nothing came
 pub tells_none : (readers : List (List ℕ)) (groups : List Group) (gs : List (Option Live)) (l : Live) (log : Log)
     → log.lines ≡ []
-    → Tells (λ c d (w : ⊤). Leads readers (take 0 groups) gs c d) l log
+    → LogTellsOver (λ c d (w : ⊤). GroupsLead readers (take 0 groups) gs c d) l log
 tells_none readers groups gs l log none = record {
   tells = λ e c d w kept leads.
       subst (λ (ks : List Line). IsDeltaOf l c d (map (change_of d.texts l) ks)) (sym none)
@@ -84,9 +84,9 @@ module _ (readers : List (List ℕ)) (groups : List Group) (gs : List (Option Li
   where
     -- a group of a relation that the query reads
     tells_read : (l m : Live) (old new : Log) → TakesInBy readers groups gs k l m
-        → Tells (λ c d (w : ⊤). Leads readers (take k groups) gs c d) l old
-        → Logs (λ c d. CameAll c d g.relation.at cells) m old new
-        → Tells (λ c d (w : ⊤). Leads readers (take (k + 1) groups) gs c d) l new
+        → LogTellsOver (λ c d (w : ⊤). GroupsLead readers (take k groups) gs c d) l old
+        → LogsDelta (λ c d. CameAll c d g.relation.at cells) m old new
+        → LogTellsOver (λ c d (w : ⊤). GroupsLead readers (take (k + 1) groups) gs c d) l new
     tells_read l m old new t x h = record {
       tells = λ e c d w kept leads.
           let s = step_of readers groups gs k g c d low is leads in
@@ -131,8 +131,8 @@ module _ (readers : List (List ℕ)) (groups : List Group) (gs : List (Option Li
 
     -- a group of another relation
     tells_past : (i : ℕ) (l : Live) (log : Log) → place_at gs i ≡ Some l → is_reader places i ≡ false
-        → Tells (λ c d (w : ⊤). Leads readers (take k groups) gs c d) l log
-        → Tells (λ c d (w : ⊤). Leads readers (take (k + 1) groups) gs c d) l log
+        → LogTellsOver (λ c d (w : ⊤). GroupsLead readers (take k groups) gs c d) l log
+        → LogTellsOver (λ c d (w : ⊤). GroupsLead readers (take (k + 1) groups) gs c d) l log
     tells_past i l log there out x = record {
       tells = λ e c d w kept leads.
           let s = step_of readers groups gs k g c d low is leads in
@@ -157,10 +157,11 @@ module _ (readers : List (List ℕ)) (groups : List Group) (gs : List (Option Li
 
     pub tends_on : (ws : List ℕ) (now : List (Option Live)) (first old new : List Log)
         → Reach (reached readers groups) (TakesInBy readers groups gs k) gs now
-        → Tends (reached readers groups) (TellsAt ws (λ c d (w : ⊤). Leads readers (take k groups) gs c d)) gs first old
+        → Tends (reached readers groups)
+        (LogTellsAt ws (λ c d (w : ⊤). GroupsLead readers (take k groups) gs c d)) gs first old
         → Tends places (LogsAt ws (λ c d. CameAll c d g.relation.at cells)) now old new
         → Tends (reached readers groups)
-        (TellsAt ws (λ c d (w : ⊤). Leads readers (take (k + 1) groups) gs c d)) gs first
+        (LogTellsAt ws (λ c d (w : ⊤). GroupsLead readers (take (k + 1) groups) gs c d)) gs first
         new
     tends_on ws now first old new r a b = record {
       long = b.long ∙ a.long;
@@ -172,10 +173,11 @@ module _ (readers : List (List ℕ)) (groups : List Group) (gs : List (Option Li
         by : (i : ℕ) (f : Bool) → is_reader (reached readers groups) i ≡ f → (h : Bool) → is_reader places i ≡ h
             → (p : Option Live) → place_at gs i ≡ p → (q : Option Live) → (w : Bool)
             → DoneAt (TakesInBy readers groups gs k) f p q
-            → TendedAt (TellsWhere w (λ c d (w : ⊤). Leads readers (take k groups) gs c d)) f p (log_at first i)
+            → TendedAt (TellsWhere w (λ c d (w : ⊤). GroupsLead readers (take k groups) gs c d)) f p (log_at first i)
             (log_at old i)
             → TendedAt (LogsWhere w (λ c d. CameAll c d g.relation.at cells)) h q (log_at old i) (log_at new i)
-            → TendedAt (TellsWhere w (λ c d (w : ⊤). Leads readers (take (k + 1) groups) gs c d)) f p (log_at first i)
+            → TendedAt (TellsWhere w (λ c d (w : ⊤). GroupsLead readers (take (k + 1) groups) gs c d)) f p
+            (log_at first i)
             (log_at new i)
         by i false e true f p ep q w t x y = absurd
             (false≢true (sym e ∙ in_reached readers groups gs k g low is places cells are rows i f))
@@ -185,6 +187,7 @@ module _ (readers : List (List ℕ)) (groups : List Group) (gs : List (Option Li
         by i true e true f (Some l) ep (Some m) true t x y = tells_read l m (log_at old i) (log_at new i) t x y
         by i true e true f (Some l) ep (Some m) false t x y = y ∙ x
         by i true e false f (Some l) ep (Some m) true t x y =
-            subst (λ (z : Log). Tells (λ c d (w : ⊤). Leads readers (take (k + 1) groups) gs c d) l z) (sym y)
+            subst (λ (z : Log). LogTellsOver
+            (λ c d (w : ⊤). GroupsLead readers (take (k + 1) groups) gs c d) l z) (sym y)
             (tells_past i l (log_at old i) ep f x)
         by i true e false f (Some l) ep (Some m) false t x y = y ∙ x

@@ -14,8 +14,8 @@ use Rattle.djq_live.specs.Live.{Live, IsKept, IsShowable}
 use Rattle.djq_live.specs.Updating.{change_of, IsDeltaOf, delta_bound, LogsWhere, CountsDelta, IsEmpty}
 use Rattle.djq_reach.specs.Places.{place_at, is_reader, log_at, no_log, watched_at, AreOnce}
 use Rattle.djq_reach.specs.Reaching.{DoneAt, Reach, AllAt}
-use Rattle.djq_reach.specs.Tending.{Readies, TellsWhere, TellsAt, Shows, TendedAt, Tends, Empties}
-use Rattle.djq_reach.specs.Tending.{cost_of, cost_at, Costs}
+use Rattle.djq_reach.specs.Tending.{Readies, TellsWhere, LogTellsAt, LogShows, TendedAt, Tends, Empties}
+use Rattle.djq_reach.specs.Tending.{listing_cost, cost_at, Costs}
 use Rattle.djq_reach.proofs.Among.{apart, reader_more, or_true}
 use Rattle.djq_deltas.proofs.Cases.{or_false}
 use Rattle.djq_reach.proofs.Reaching.{below_some, everywhere, only, once_at, reader_there, reader_front}
@@ -34,7 +34,7 @@ tells_where Changed false l old mid new r h = h ∙ r
 
 -- a log that tells anew, or is as it was, or empty, can be shown
 pub shows_where : (Changed : Catalog → Catalog → Tuple → Type 0) (b : Bool) (i : ℕ) (l : Live) (old new : Log)
-    → TellsWhere b Changed l old new → Shows Changed i l old new
+    → TellsWhere b Changed l old new → LogShows Changed i l old new
 shows_where Changed true i l old new h = inr h.shown
 shows_where Changed false i l old new h = inl h
 
@@ -42,13 +42,13 @@ pub all_none : (P : Line → Type 0) (xs : List Line) → xs ≡ [] → All P xs
 all_none P xs e = subst (λ (ys : List Line). All P ys) (sym e) (λ k d low. absurd (omega (arith, low)))
 
 pub shows_none : (Changed : Catalog → Catalog → Tuple → Type 0) (i : ℕ) (l : Live) (old new : Log) → new.lines ≡ []
-    → Shows Changed i l old new
+    → LogShows Changed i l old new
 shows_none Changed i l old new e = inr (λ kept c d row k ch. all_none (λ x. IsShowable d.texts l x.answer) new.lines e)
 
 -- either way
 pub shows_either : {A E : Type 0} (Changed : Catalog → Catalog → Tuple → Type 0) (b : Bool) (i : ℕ) (l : Live)
     (old new : Log) (r : Result A E) → OnOk r (TellsWhere b Changed l old new) → OnErr r (new.lines ≡ [])
-    → Shows Changed i l old new
+    → LogShows Changed i l old new
 shows_either Changed b i l old new (Ok a) h e = shows_where Changed b i l old new h
 shows_either Changed b i l old new (Err x) h e = shows_none Changed i l old new e
 
@@ -164,22 +164,23 @@ tends_as Does Do ps gs old new f t = record {
     by_place i true (Some l) h = f i l (log_at old i) (log_at new i) h
 
 pub tells_show : (Changed : Catalog → Catalog → Tuple → Type 0) (ws ps : List ℕ) (gs : List (Option Live))
-    (old new : List Log) → Tends ps (TellsAt ws Changed) gs old new → Tends ps (Shows Changed) gs old new
+    (old new : List Log) → Tends ps (LogTellsAt ws Changed) gs old new → Tends ps (LogShows Changed) gs old new
 tells_show Changed ws ps gs old new t =
-    tends_as (TellsAt ws Changed) (Shows Changed) ps gs old new
+    tends_as (LogTellsAt ws Changed) (LogShows Changed) ps gs old new
     (λ i l x y h. shows_where Changed (watched_at ws i) i l x y h) t
 
 -- where only the front of the places was reached
 pub shows_front : (Changed : Catalog → Catalog → Tuple → Type 0) (places : List ℕ) (k : ℕ) (gs : List (Option Live))
-    (old new : List Log) → Tends (take k places) (Shows Changed) gs old new → Tends places (Shows Changed) gs old new
+    (old new : List Log) → Tends (take k places) (LogShows Changed) gs old new
+    → Tends places (LogShows Changed) gs old new
 shows_front Changed places k gs old new t = record {
   long = t.long;
   each = λ i. by_front i (is_reader (take k places) i) refl (is_reader places i) refl (place_at gs i) (t.each i);
 }
   where
     by_front : (i : ℕ) (a : Bool) → is_reader (take k places) i ≡ a → (b : Bool) → is_reader places i ≡ b
-        → (o : Option Live) → TendedAt (Shows Changed i) a o (log_at old i) (log_at new i)
-        → TendedAt (Shows Changed i) b o (log_at old i) (log_at new i)
+        → (o : Option Live) → TendedAt (LogShows Changed i) a o (log_at old i) (log_at new i)
+        → TendedAt (LogShows Changed i) b o (log_at old i) (log_at new i)
     by_front i false e false f o h = h
     by_front i false e true f None h = tt
     by_front i false e true f (Some l) h = inl h
@@ -188,12 +189,12 @@ shows_front Changed places k gs old new t = record {
 
 -- a log that isn't told of is as before
 pub tends_quiet : (Changed : Catalog → Catalog → Tuple → Type 0) (ws ps : List ℕ) (gs : List (Option Live))
-    (old new : List Log) → Tends ps (TellsAt ws Changed) gs old new
+    (old new : List Log) → Tends ps (LogTellsAt ws Changed) gs old new
     → (i : ℕ) (l : Live) → place_at gs i ≡ Some l → (is_reader ps i && watched_at ws i) ≡ false
     → log_at new i ≡ log_at old i
 tends_quiet Changed ws ps gs old new t i l there =
     by_place (is_reader ps i) (watched_at ws i) (subst
-    (λ (o : Option Live). TendedAt (TellsAt ws Changed i) (is_reader ps i) o (log_at old i) (log_at new i)) there
+    (λ (o : Option Live). TendedAt (LogTellsAt ws Changed i) (is_reader ps i) o (log_at old i) (log_at new i)) there
     (t.each i))
   where
     by_place : (b w : Bool) → TendedAt (TellsWhere w Changed) b (Some l) (log_at old i) (log_at new i)
@@ -256,8 +257,8 @@ module _ {R : Type 0} (Changed : Catalog → Catalog → R → Type 0) (ws : Lis
       let k : IsKept c l = subst (λ (o : Option Live). IsSomeAnd o (λ x. IsKept c x)) there (kept i mine) in
       let bound = h c d row (f i) k ch (deltas i l mine (sym w) there) in
       let cost : cost_at ws gs at f i
-      ≡ delta_bound l at (f i) = ap (λ t. cond t (cost_of at (f i) (place_at gs i)) 0) (sym w)
-      ∙ ap (cost_of at (f i)) there in
+      ≡ delta_bound l at (f i) = ap (λ t. cond t (listing_cost at (f i) (place_at gs i)) 0) (sym w)
+      ∙ ap (listing_cost at (f i)) there in
       let total = sum_by-cons (cost_at ws gs at f) i [] in
       omega (arith, bound, cost, total)
   costs_one gs i l false before now there w h c d row f ch kept deltas = omega (arith, h)
@@ -275,7 +276,7 @@ module _ {R : Type 0} (Changed : Catalog → Catalog → R → Type 0) (ws : Lis
       (λ j l e w there. deltas j l (subst (λ (k : ℕ). is_reader (done ++ i ∷ []) k ≡ true) (here j e) at_end) w
       (sym (ap (place_at gs) (here j e)) ∙ sym same ∙ ap (place_at hs) (here j e) ∙ there)) in
       let cost : cost_at ws hs at f i
-      ≡ cost_at ws gs at f i = ap (λ (o : Option Live). cond (watched_at ws i) (cost_of at (f i) o) 0) same in
+      ≡ cost_at ws gs at f i = ap (λ (o : Option Live). cond (watched_at ws i) (listing_cost at (f i) o) 0) same in
       let one = sum_by-cons (cost_at ws hs at f) i [] in
       let other = sum_by-cons (cost_at ws gs at f) i [] in
       let total = sum_by-append (cost_at ws gs at f) done (i ∷ []) in

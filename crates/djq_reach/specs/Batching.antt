@@ -9,14 +9,14 @@ use Rattle.djq_live.specs.Batching.{GrowsBy}
 use Rattle.djq_live.specs.Changes.{CameAll, IsLater}
 use Rattle.djq_live.specs.Live.{Live, IsKept, SameQuery}
 use Rattle.djq_live.specs.Stepping.{HasMore}
-use Rattle.djq_live.specs.Updating.{Follows, LogsWhere}
+use Rattle.djq_live.specs.Updating.{KeptAfter, LogsWhere}
 use Rattle.djq_reach.specs.Places.{watched_at, is_reader, log_at}
 use Rattle.djq_reach.specs.Reaching.{AllAt}
 use Rattle.djq_reach.specs.Tending.{work_at}
 
 -- Rows with these cells came into a relation, and neither a text nor a relation came with them: so
 -- they can go again.
-pub record Comes (c d : Catalog) (at : ℕ) (cells : List (List ℕ)) (rows : List Tuple) : Type 0
+pub record RowsCameIn (c d : Catalog) (at : ℕ) (cells : List (List ℕ)) (rows : List Tuple) : Type 0
   where
     pub came : CameAll c d at cells rows
     pub back : IsLater d c
@@ -27,7 +27,7 @@ pub record CanComeAll (places : List ℕ) (at : ℕ) (cells : List (List ℕ)) (
   pub before : Catalog
   pub after : Catalog
   pub rows : List Tuple
-  pub comes : Comes before after at cells rows
+  pub comes : RowsCameIn before after at cells rows
   pub kept : AllAt places gs (λ l. IsKept before l)
 
 -- They are kept behind them.
@@ -36,7 +36,7 @@ pub record CanGoAll (places : List ℕ) (at : ℕ) (cells : List (List ℕ)) (gs
   pub before : Catalog
   pub after : Catalog
   pub rows : List Tuple
-  pub comes : Comes before after at cells rows
+  pub comes : RowsCameIn before after at cells rows
   pub kept : AllAt places gs (λ l. IsKept after l)
 
 -- A query is kept behind rows that came and can go again.
@@ -44,24 +44,24 @@ pub record CanGiveAll (l : Live) (at : ℕ) (cells : List (List ℕ)) : Type 0 w
   pub before : Catalog
   pub after : Catalog
   pub rows : List Tuple
-  pub comes : Comes before after at cells rows
+  pub comes : RowsCameIn before after at cells rows
   pub kept : IsKept after l
 
 -- A query takes in rows that came.
 pub record TakesInAll (at : ℕ) (cells : List (List ℕ)) (l m : Live) : Type 0 where
-  pub follows : Follows (λ c d rows. CameAll c d at cells rows) l m
+  pub follows : KeptAfter (λ c d rows. CameAll c d at cells rows) l m
   pub same : SameQuery l m
   pub grows : GrowsBy (length cells) l.reducts m.reducts
 
 -- It is kept over the catalog over which it was, and its tables hold what they held.
-pub record Refuses (l m : Live) : Type 0 where
+pub record StaysUnchanged (l m : Live) : Type 0 where
   pub kept : (c : Catalog) → IsKept c l → IsKept c m
   pub same : SameQuery l m
   pub tables : SameTables l.reducts m.reducts
 
 -- It lets rows out that came: it is kept over the catalog that was before them.
 pub record LetsOutAll (at : ℕ) (cells : List (List ℕ)) (l m : Live) : Type 0 where
-  pub follows : (c d : Catalog) (rows : List Tuple) → Comes c d at cells rows → IsKept d l
+  pub follows : (c d : Catalog) (rows : List Tuple) → RowsCameIn c d at cells rows → IsKept d l
       → IsKept c m
   pub same : SameQuery l m
   pub fewer : HasMore m.reducts l.reducts
@@ -69,10 +69,10 @@ pub record LetsOutAll (at : ℕ) (cells : List (List ℕ)) (l m : Live) : Type 0
 -- It is kept over a catalog into which rows came that can go again. No leaf has more tuples than it
 -- would have with them.
 pub record GivesAllBack (at : ℕ) (cells : List (List ℕ)) (l m : Live) : Type 0 where
-  pub kept : (c d : Catalog) (rows : List Tuple) → Comes c d at cells rows → IsKept c l
+  pub kept : (c d : Catalog) (rows : List Tuple) → RowsCameIn c d at cells rows → IsKept c l
       → IsKept c m
   pub same : SameQuery l m
-  pub few : (n : ℕ) → (c d : Catalog) (rows : List Tuple) → Comes c d at cells rows → IsKept c l
+  pub few : (n : ℕ) → (c d : Catalog) (rows : List Tuple) → RowsCameIn c d at cells rows → IsKept c l
       → HasAtMost l.reducts n → HasAtMost m.reducts (n + length cells)
 
 -- Where a query is watched its log tells of a change behind what it told; else it is as before.
@@ -81,7 +81,7 @@ abbrev pub LogsAt : {R : Type 0} → List ℕ → (Catalog → Catalog → R →
 LogsAt {R} watchers Changed i = LogsWhere (watched_at watchers i) Changed
 
 -- The logs in all other places are as before.
-pub record OthersStay (places : List ℕ) (old new : List Log) : Type 0 where
+pub record OtherLogsStay (places : List ℕ) (old new : List Log) : Type 0 where
   pub long : length new ≡ length old
   pub others : (i : ℕ) → is_reader places i ≡ false → log_at new i ≡ log_at old i
 

@@ -14,11 +14,11 @@ use Rattle.djq_reach.specs.declared.group.Group.{Group}
 use Rattle.djq_reach.specs.Places.{place_at, reads_place, is_reader, readers_at, watched_at, log_at}
 use Rattle.djq_reach.specs.Reaching.{AllAt}
 use Rattle.djq_reach.specs.Tending.{DeltasOf, work_at}
-use Rattle.djq_reach.specs.Batching.{Comes}
+use Rattle.djq_reach.specs.Batching.{RowsCameIn}
 
 -- the relations of groups, by their places
-abbrev pub relations_of : List Group → List ℕ
-relations_of groups = map (λ g. g.relation.at) groups
+abbrev pub group_relations : List Group → List ℕ
+group_relations groups = map (λ g. g.relation.at) groups
 
 -- the places of the queries that read one of them
 abbrev pub reached : List (List ℕ) → List Group → List ℕ
@@ -26,18 +26,18 @@ reached readers [] = []
 reached readers (g ∷ groups) = readers_at readers g.relation.at ++ reached readers groups
 
 -- how many rows the groups have
-abbrev pub rows_in : List Group → ℕ
-rows_in groups = sum_by (λ g. length g.rows) groups
+abbrev pub rows_of_groups : List Group → ℕ
+rows_of_groups groups = sum_by (λ g. length g.rows) groups
 
 -- The groups came one after another: each leads from a catalog to the next one.
 abbrev pub ComesBy : Catalog → List Group → Catalog → Type 0
 ComesBy c [] d = d ≡ c
 ComesBy c (g ∷ groups) d =
-    (e : Catalog) × (rows : List Tuple) × Comes c e g.relation.at g.rows rows × ComesBy e groups d
+    (e : Catalog) × (rows : List Tuple) × RowsCameIn c e g.relation.at g.rows rows × ComesBy e groups d
 
 -- The groups lead from one catalog to another, and the readers of a relation are the places of the
 -- queries that read it.
-pub record Leads (readers : List (List ℕ)) (groups : List Group) (gs : List (Option Live))
+pub record GroupsLead (readers : List (List ℕ)) (groups : List Group) (gs : List (Option Live))
     (c d : Catalog) : Type 0 where
   pub comes : ComesBy c groups d
   pub within : All (λ g. g.relation.at < length c.relations) groups
@@ -50,7 +50,7 @@ pub record CanComeBy (readers : List (List ℕ)) (groups : List Group) (gs : Lis
     Type 0 where
   pub before : Catalog
   pub after : Catalog
-  pub leads : Leads readers groups gs before after
+  pub leads : GroupsLead readers groups gs before after
   pub kept : AllAt (reached readers groups) gs (λ l. IsKept before l)
 
 -- They do so to a catalog over which these queries are kept.
@@ -58,7 +58,7 @@ pub record CanGoBy (readers : List (List ℕ)) (groups : List Group) (gs : List 
     Type 0 where
   pub before : Catalog
   pub after : Catalog
-  pub leads : Leads readers groups gs before after
+  pub leads : GroupsLead readers groups gs before after
   pub kept : AllAt (reached readers groups) gs (λ l. IsKept after l)
 
 -- The logs in the places that pass are emptied, and no other changes.
@@ -84,18 +84,18 @@ batch_cost_at watchers gs ats f i =
     if watched_at watchers i then batch_cost ats (f i) (place_at gs i) else 0
 
 -- these places are all among others
-abbrev pub AreAmong : List ℕ → List ℕ → Type 0
-AreAmong places order = (i : ℕ) → is_reader places i ≡ true → is_reader order i ≡ true
+abbrev pub PlacesAreAmong : List ℕ → List ℕ → Type 0
+PlacesAreAmong places order = (i : ℕ) → is_reader places i ≡ true → is_reader order i ≡ true
 
 -- What listing the deltas between two catalogs counts at most, whatever deltas these are: each query
 -- that reads one of the relations counts once, in whatever order they stand.
 abbrev pub CostsBy : List (List ℕ) → List Group → List ℕ → List (Option Live) → ℕ → ℕ → Type 0
 CostsBy readers groups watchers gs before now = (c d : Catalog) (f : ℕ → List Change)
-    (order : List ℕ) → Leads readers groups gs c d
+    (order : List ℕ) → GroupsLead readers groups gs c d
     → AllAt (reached readers groups) gs (λ l. IsKept c l)
     → DeltasOf (reached readers groups) watchers gs c d f
-    → AreAmong (reached readers groups) order
-    → now ≤ before + sum_by (batch_cost_at watchers gs (relations_of groups) f)
+    → PlacesAreAmong (reached readers groups) order
+    → now ≤ before + sum_by (batch_cost_at watchers gs (group_relations groups) f)
     (filter (is_reader (reached readers groups)) order)
 
 -- what the readers of a group's relation count at most: so many times the bound of an update

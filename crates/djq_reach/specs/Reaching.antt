@@ -6,7 +6,7 @@ use Rattle.djq_live.specs.Cursors.{outdated_slots}
 use Rattle.djq_live.specs.Changes.{Came, Went}
 use Rattle.djq_live.specs.Live.{Live, IsKept, IsLive, SameQuery}
 use Rattle.djq_live.specs.Stepping.{GrowsByOne}
-use Rattle.djq_live.specs.Updating.{Follows}
+use Rattle.djq_live.specs.Updating.{KeptAfter}
 use Rattle.djq_live.specs.Staying.{StaysOver}
 use Rattle.djq_reach.specs.Places.{place_at, is_reader}
 
@@ -51,13 +51,13 @@ pub record CanGo (places : List ℕ) (at : ℕ) (cells : List ℕ) (gs : List (O
 
 -- A query takes in a row that came.
 pub record TakesIn (at : ℕ) (cells : List ℕ) (l m : Live) : Type 0 where
-  pub follows : Follows (λ c d row. Came c d at cells row) l m
+  pub follows : KeptAfter (λ c d row. Came c d at cells row) l m
   pub same : SameQuery l m
   pub grows : GrowsByOne l.reducts m.reducts
 
 -- It lets a row out that went.
 pub record LetsOut (at : ℕ) (cells : List ℕ) (l m : Live) : Type 0 where
-  pub follows : Follows (λ c d row. Went c d at cells row) l m
+  pub follows : KeptAfter (λ c d row. Went c d at cells row) l m
   pub same : SameQuery l m
 
 -- It is kept over the catalog over which it was.

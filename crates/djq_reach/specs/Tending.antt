@@ -16,7 +16,7 @@ use Rattle.djq_reach.specs.Places.{place_at, is_reader, log_at, watched_at}
 use Rattle.djq_reach.specs.Reaching.{AllAt}
 
 -- Unless it is lost, a log tells how the answers of a query changed.
-pub record Tells {R : Type 0} (Changed : Catalog → Catalog → R → Type 0) (l : Live) (log : Log) :
+pub record LogTellsOver {R : Type 0} (Changed : Catalog → Catalog → R → Type 0) (l : Live) (log : Log) :
     Type 0 where
   pub tells : log.lost ≡ false → (c d : Catalog) (what : R) → IsKept c l → Changed c d what
       → IsDeltaOf l c d (map (change_of d.texts l) log.lines)
@@ -31,22 +31,22 @@ Readies false old new = new ≡ old
 -- It does where the query is watched, and is as before where it isn't.
 abbrev pub TellsWhere :
     {R : Type 0} → Bool → (Catalog → Catalog → R → Type 0) → Live → Log → Log → Type 0
-TellsWhere {R} true Changed l old new = Tells Changed l new
+TellsWhere {R} true Changed l old new = LogTellsOver Changed l new
 TellsWhere {R} false Changed l old new = new ≡ old
 
 -- A log tells so where the query in this place is watched, and is as before where it isn't.
-abbrev pub TellsAt :
+abbrev pub LogTellsAt :
     {R : Type 0} → List ℕ → (Catalog → Catalog → R → Type 0) → ℕ → Live → Log → Log → Type 0
-TellsAt {R} watchers Changed i = TellsWhere (watched_at watchers i) Changed
+LogTellsAt {R} watchers Changed i = TellsWhere (watched_at watchers i) Changed
 
 -- A log is as before, or can be shown, unless it is lost.
-abbrev pub Shows : (Catalog → Catalog → Tuple → Type 0) → ℕ → Live → Log → Log → Type 0
-Shows Changed i l old new = (new ≡ old) ⊎ (new.lost ≡ false → (c d : Catalog) (row : Tuple)
+abbrev pub LogShows : (Catalog → Catalog → Tuple → Type 0) → ℕ → Live → Log → Log → Type 0
+LogShows Changed i l old new = (new ≡ old) ⊎ (new.lost ≡ false → (c d : Catalog) (row : Tuple)
     → IsKept c l → Changed c d row → All (λ k. IsShowable d.texts l k.answer) new.lines)
 
 -- What the logs tell of the queries in their places can be shown.
-abbrev pub AreShown : List Bytes → List (Option Live) → List Log → Type 0
-AreShown texts gs logs = (i : ℕ) (l : Live) → place_at gs i ≡ Some l
+abbrev pub LogsCanBeShown : List Bytes → List (Option Live) → List Log → Type 0
+LogsCanBeShown texts gs logs = (i : ℕ) (l : Live) → place_at gs i ≡ Some l
     → (log_at logs i).lost ≡ false → All (λ k. IsShowable texts l k.answer) (log_at logs i).lines
 
 -- What is done to the log in a place, or nothing.
@@ -79,14 +79,14 @@ DeltasOf places watchers gs c d f = (i : ℕ) (l : Live) → is_reader places i 
     → watched_at watchers i ≡ true → place_at gs i ≡ Some l → IsDeltaOf l c d (f i)
 
 -- what listing a delta counts at most
-abbrev pub cost_of : ℕ → List Change → Option Live → ℕ
-cost_of at changes None = 0
-cost_of at changes (Some l) = delta_bound l at changes
+abbrev pub listing_cost : ℕ → List Change → Option Live → ℕ
+listing_cost at changes None = 0
+listing_cost at changes (Some l) = delta_bound l at changes
 
 -- of the query in a place, where it is watched
 abbrev pub cost_at : List ℕ → List (Option Live) → ℕ → (ℕ → List Change) → ℕ → ℕ
 cost_at watchers gs at f i =
-    if watched_at watchers i then cost_of at (f i) (place_at gs i) else 0
+    if watched_at watchers i then listing_cost at (f i) (place_at gs i) else 0
 
 -- What listing the deltas of the queries in these places counts at most, whatever deltas they have.
 abbrev pub Costs : {R : Type 0} → (Catalog → Catalog → R → Type 0) → List ℕ → List ℕ

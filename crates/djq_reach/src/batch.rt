@@ -5,9 +5,9 @@ ghost use Rattle.djq_rows.specs.Catalog.{Catalog as CatalogModel};
 ghost use Rattle.djq_live.specs.Live.{IsKept};
 ghost use Rattle.djq_reach.specs.Places.{is_reader, readers_at, watched_at, AreOnce};
 ghost use Rattle.djq_reach.specs.Reaching.{Reach, AllAt, Renews};
-ghost use Rattle.djq_reach.specs.Tending.{Tends, TellsAt, AreUnwatched, HaveLogs, Empties};
-ghost use Rattle.djq_reach.specs.Grouping.{CanComeBy, CanGoBy, Clears, CostsBy, Leads, WorksBy};
-ghost use Rattle.djq_reach.specs.Grouping.{reached, relations_of, rows_in, times_back};
+ghost use Rattle.djq_reach.specs.Tending.{Tends, LogTellsAt, AreUnwatched, HaveLogs, Empties};
+ghost use Rattle.djq_reach.specs.Grouping.{CanComeBy, CanGoBy, Clears, CostsBy, GroupsLead, WorksBy};
+ghost use Rattle.djq_reach.specs.Grouping.{reached, group_relations, rows_of_groups, times_back};
 
 use crate::group::Group;
 use crate::places::is_watched;
@@ -78,7 +78,7 @@ fn give_groups_back<L: Ledgers>(
 )
     requires once { (r : ℕ) → AreOnce (readers_at readers.now r) }
     requires can { CanGoBy readers.now groups.now queries.old.items }
-    ensures given { (c d : CatalogModel) → Leads readers.now groups.now queries.old.items c d
+    ensures given { (c d : CatalogModel) → GroupsLead readers.now groups.now queries.old.items c d
         → AllAt (reached readers.now groups.now) queries.old.items (λ l. IsKept d l)
         → Reach (reached readers.now groups.now) (Renews c) queries.old.items queries.new.items }
     ensures counted { steps.new.listing ≡ steps.old.listing }
@@ -121,21 +121,21 @@ pub fn insert_batch_into_readers<L: Ledgers>(
     steps: &mut Steps<L>,
 ) -> Result<(), NoMem>
     requires once { (r : ℕ) → AreOnce (readers_at readers.now r) }
-    requires differ { AreOnce (relations_of groups.now) }
+    requires differ { AreOnce (group_relations groups.now) }
     requires can { CanComeBy readers.now groups.now queries.old.items }
     requires watched { length watchers.now ≡ length queries.old.items }
     requires logged { length logs.old.items ≡ length queries.old.items }
     ensures taken { OnOk result ((c d : CatalogModel)
-        → Leads readers.now groups.now queries.old.items c d
+        → GroupsLead readers.now groups.now queries.old.items c d
         → AllAt (reached readers.now groups.now) queries.old.items (λ l. IsKept c l)
         → Reach (reached readers.now groups.now) (Renews d) queries.old.items queries.new.items) }
     ensures given { OnErr result ((c d : CatalogModel)
-        → Leads readers.now groups.now queries.old.items c d
+        → GroupsLead readers.now groups.now queries.old.items c d
         → AllAt (reached readers.now groups.now) queries.old.items (λ l. IsKept c l)
         → Reach (reached readers.now groups.now) (Renews c) queries.old.items queries.new.items) }
     ensures tells { OnOk result (Tends (reached readers.now groups.now)
-        (TellsAt watchers.now (λ c d (what : ⊤).
-        Leads readers.now groups.now queries.old.items c d))
+        (LogTellsAt watchers.now (λ c d (what : ⊤).
+        GroupsLead readers.now groups.now queries.old.items c d))
         queries.old.items logs.old.items logs.new.items) }
     ensures emptied { OnErr result (Empties (reached readers.now groups.now)
         logs.old.items logs.new.items) }
@@ -144,9 +144,9 @@ pub fn insert_batch_into_readers<L: Ledgers>(
     ensures unlisted { AreUnwatched watchers.now (reached readers.now groups.now)
         → steps.new.listing ≡ steps.old.listing }
     ensures updates { OnOk result (WorksBy readers.now groups.now queries.old.items
-        (rows_in groups.now) (λ g. 1) steps.old.update steps.new.update) }
+        (rows_of_groups groups.now) (λ g. 1) steps.old.update steps.new.update) }
     ensures refusal { OnErr result (WorksBy readers.now groups.now queries.old.items
-        (rows_in groups.now) times_back
+        (rows_of_groups groups.now) times_back
         steps.old.update steps.new.update) }
 {
     clear_logs(logs, watchers, readers, groups);

@@ -4,7 +4,7 @@ ghost use Rattle.std.specs.Prelude.{◌≡◌, ◌<◌, [], ◌∷◌, ⊤, fals
 ghost use Rattle.djq_live.specs.Changes.{Came, Went};
 ghost use Rattle.djq_live.specs.Updating.{CanAdd, CanDelete};
 ghost use Rattle.djq_reach.specs.Places.{place_at, watched_at, AreOnce};
-ghost use Rattle.djq_reach.specs.Tending.{Readies, Tends, TellsAt, Shows, Costs};
+ghost use Rattle.djq_reach.specs.Tending.{Readies, Tends, LogTellsAt, LogShows, Costs};
 ghost use Rattle.djq_reach.specs.Tending.{AreUnwatched, HaveLogs, Empties, Works};
 ghost use Rattle.djq_reach.specs.Reaching.{Reach, AllAt, CanCome, CanGo, TakesIn, LetsOut, Remains, GivesBack, Ages};
 
@@ -41,9 +41,9 @@ fn insert_at<L: Ledgers>(
         queries.old.items queries.new.items) }
     ensures err { OnErr result (Reach (at ∷ []) Remains queries.old.items queries.new.items) }
     ensures tells { OnOk result (Tends (at ∷ [])
-        (TellsAt watchers.now (λ c d. Came c d relation.at cells.now))
+        (LogTellsAt watchers.now (λ c d. Came c d relation.at cells.now))
         queries.old.items logs.old.items logs.new.items) }
-    ensures shows { Tends (at ∷ []) (Shows (λ c d. Came c d relation.at cells.now))
+    ensures shows { Tends (at ∷ []) (LogShows (λ c d. Came c d relation.at cells.now))
         queries.old.items logs.old.items logs.new.items }
     ensures counted { Costs (λ c d. Came c d relation.at cells.now) (at ∷ []) watchers.now
         queries.old.items relation.at steps.old.listing steps.new.listing }
@@ -79,7 +79,7 @@ fn delete_at<L: Ledgers>(
     requires logged { at < length logs.old.items }
     ensures reach { Reach (at ∷ []) (LetsOut relation.at cells.now)
         queries.old.items queries.new.items }
-    ensures tells { Tends (at ∷ []) (TellsAt watchers.now (λ c d. Went c d relation.at cells.now))
+    ensures tells { Tends (at ∷ []) (LogTellsAt watchers.now (λ c d. Went c d relation.at cells.now))
         queries.old.items logs.old.items logs.new.items }
     ensures counted { Costs (λ c d. Went c d relation.at cells.now) (at ∷ []) watchers.now
         queries.old.items relation.at steps.old.listing steps.new.listing }
@@ -155,9 +155,9 @@ pub fn insert_into_readers<L: Ledgers>(
     ensures given { OnErr result (Reach places.now (GivesBack relation.at cells.now)
         queries.old.items queries.new.items) }
     ensures tells { OnOk result (Tends places.now
-        (TellsAt watchers.now (λ c d. Came c d relation.at cells.now))
+        (LogTellsAt watchers.now (λ c d. Came c d relation.at cells.now))
         queries.old.items logs.old.items logs.new.items) }
-    ensures shows { Tends places.now (Shows (λ c d. Came c d relation.at cells.now))
+    ensures shows { Tends places.now (LogShows (λ c d. Came c d relation.at cells.now))
         queries.old.items logs.old.items logs.new.items }
     ensures counted { Costs (λ c d. Came c d relation.at cells.now) places.now watchers.now
         queries.old.items relation.at steps.old.listing steps.new.listing }
@@ -218,7 +218,7 @@ pub fn delete_from_readers<L: Ledgers>(
     requires logged { length logs.old.items ≡ length queries.old.items }
     ensures reach { Reach places.now (LetsOut relation.at cells.now)
         queries.old.items queries.new.items }
-    ensures tells { Tends places.now (TellsAt watchers.now (λ c d. Went c d relation.at cells.now))
+    ensures tells { Tends places.now (LogTellsAt watchers.now (λ c d. Went c d relation.at cells.now))
         queries.old.items logs.old.items logs.new.items }
     ensures counted { Costs (λ c d. Went c d relation.at cells.now) places.now watchers.now
         queries.old.items relation.at steps.old.listing steps.new.listing }

@@ -6,8 +6,8 @@ ghost use Rattle.djq_live.specs.Updating.{CanAddAll, CountsUpdate};
 ghost use Rattle.djq_reach.specs.Places.{place_at, watched_at, AreOnce};
 ghost use Rattle.djq_reach.specs.Reaching.{Reach};
 ghost use Rattle.djq_reach.specs.Tending.{Tends, Costs, AreUnwatched};
-ghost use Rattle.djq_reach.specs.Batching.{CanComeAll, CanGoAll, CanGiveAll, LogsAt, OthersStay};
-ghost use Rattle.djq_reach.specs.Batching.{TakesInAll, Refuses, LetsOutAll, GivesAllBack, WorksBatch};
+ghost use Rattle.djq_reach.specs.Batching.{CanComeAll, CanGoAll, CanGiveAll, LogsAt, OtherLogsStay};
+ghost use Rattle.djq_reach.specs.Batching.{TakesInAll, StaysUnchanged, LetsOutAll, GivesAllBack, WorksBatch};
 
 use crate::places::is_watched;
 use djq_cursor::DeltaLog;
@@ -34,11 +34,11 @@ fn insert_rows_at<L: Ledgers>(
     requires logged { at < length logs.old.items }
     ensures ok { OnOk result (Reach (at ∷ []) (TakesInAll relation.at rows.now)
         queries.old.items queries.new.items) }
-    ensures err { OnErr result (Reach (at ∷ []) Refuses queries.old.items queries.new.items) }
+    ensures err { OnErr result (Reach (at ∷ []) StaysUnchanged queries.old.items queries.new.items) }
     ensures tells { OnOk result (Tends (at ∷ [])
         (LogsAt watchers.now (λ c d. CameAll c d relation.at rows.now))
         queries.old.items logs.old.items logs.new.items) }
-    ensures others { OthersStay (at ∷ []) logs.old.items logs.new.items }
+    ensures others { OtherLogsStay (at ∷ []) logs.old.items logs.new.items }
     ensures counted { Costs (λ c d. CameAll c d relation.at rows.now) (at ∷ []) watchers.now
         queries.old.items relation.at steps.old.listing steps.new.listing }
     ensures unlisted { watched_at watchers.now at ≡ false
@@ -123,7 +123,7 @@ pub fn insert_all_into_readers<L: Ledgers>(
     ensures tells { OnOk result (Tends places.now
         (LogsAt watchers.now (λ c d. CameAll c d relation.at rows.now))
         queries.old.items logs.old.items logs.new.items) }
-    ensures others { OthersStay places.now logs.old.items logs.new.items }
+    ensures others { OtherLogsStay places.now logs.old.items logs.new.items }
     ensures counted { Costs (λ c d. CameAll c d relation.at rows.now) places.now watchers.now
         queries.old.items relation.at steps.old.listing steps.new.listing }
     ensures unlisted { AreUnwatched watchers.now places.now

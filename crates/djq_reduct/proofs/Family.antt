@@ -6,7 +6,7 @@ use Rattle.std.specs.Prelude.{slice_index_or}
 use Rattle.std.proofs.lemmas.List.{get_or_past, get_or_read}
 use Rattle.djq_index.specs.Tuple.{pick}
 use Rattle.djq_index.specs.Entries.{Entry, supports_of, count_of, group_size}
-use Rattle.djq_index.specs.Table.{Table, IsTable, AreApart}
+use Rattle.djq_index.specs.Table.{Table, IsTable, TuplesDiffer}
 use Rattle.djq_index.proofs.Groups.{cnt_same, many_same}
 use Rattle.djq_tree.specs.declared.node.Node.{Node}
 use Rattle.djq_tree.specs.declared.node.Node.TheVariants.{Leaf, Trim, Meet}
@@ -18,7 +18,7 @@ use Rattle.djq_reduct.specs.Tables.{no_table, table_at, entries_at, key_at, widt
 use Rattle.djq_reduct.specs.Reducts.{Reducts, IsReductOf, IsReducts, SameLeaves, SameTables}
 
 -- the entries of a table that is a table
-pub apart_at : (ts : List Table) (k : ℕ) → IsTable (table_at ts k) → AreApart (entries_at ts k)
+pub apart_at : (ts : List Table) (k : ℕ) → IsTable (table_at ts k) → TuplesDiffer (entries_at ts k)
 unfolding entries_at
 apart_at ts k h = h.apart
 

@@ -7,7 +7,7 @@ use Rattle.std.proofs.lemmas.List.{get_or_past, get_or_append_left}
 use Rattle.std.proofs.Math.Seq.{get_or-append_seam}
 use Rattle.djq_index.specs.Tuple.{pick}
 use Rattle.djq_index.specs.Entries.{supports_of, count_of, group_size}
-use Rattle.djq_index.specs.Table.{Table, IsTable, AreApart, ArePlaced, AreLast, AreWide, AreColumns, AreSupported}
+use Rattle.djq_index.specs.Table.{Table, IsTable, TuplesDiffer, ArePlaced, AreLast, AreWide, AreColumns, AreSupported}
 use Rattle.djq_tree.specs.declared.node.Node.{Node}
 use Rattle.djq_tree.specs.declared.node.Node.TheVariants.{Leaf, Trim, Meet}
 use Rattle.djq_tree.specs.Tree.{Tree, IsTree, node_at}
@@ -56,7 +56,7 @@ made_entries t n k =
 
 -- a table without tuples
 blank : (width : ℕ) (key : List ℕ) → AreColumns width key → IsTable (record { width = width; key = key; entries = [] })
-unfolding AreApart ArePlaced AreLast AreWide
+unfolding TuplesDiffer ArePlaced AreLast AreWide
 blank width key h = record { apart = tt; placed = tt; last = tt; wide = tt; columns = h }
 
 blank_columns : AreColumns 0 []

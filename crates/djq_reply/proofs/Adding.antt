@@ -8,7 +8,7 @@ use Rattle.bytes.specs.Filled.{Filled}
 use Rattle.djq_model.specs.Data.{Bytes}
 use Rattle.djq_value.specs.Output.{Put, Lacks}
 use Rattle.djq_value.proofs.Putting.{texts_at, texts_more}
-use Rattle.djq_reply.specs.Adding.{Cut, Adds}
+use Rattle.djq_reply.specs.Adding.{Cut, AppendsPart}
 
 -- a piece that was put behind another one
 pub put_behind : (old mid new : Filled) (text more : Bytes) → Put old mid text → Put mid new more
@@ -61,6 +61,6 @@ put_item text old mid new xs k x h e p c =
 
 -- what an error says of the output
 pub adds_err : {A E : Type 0} (old new : Filled) (text : Bytes) (r : Result A E) → IsErr r → Cut old new text
-    → Adds old new text r
+    → AppendsPart old new text r
 adds_err old new text (Ok a) e h = absurd (cc)
 adds_err old new text (Err e) i h = h

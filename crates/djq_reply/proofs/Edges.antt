@@ -2,11 +2,11 @@
 use Rattle.std.proofs.Common.{◌≡◌, ◌++◌, ℕ, List}
 use Rattle.bytes.specs.Filled.{Filled}
 use Rattle.djq_model.specs.Data.{Bytes}
-use Rattle.djq_hyper.specs.Naming.{listed}
+use Rattle.djq_hyper.specs.Naming.{comma_listed}
 use Rattle.djq_value.specs.Output.{Put}
 
 -- Of these variables, each behind a comma, all are printed but the rest.
 pub record ListedSoFar (names : List Bytes) (variables rest : List ℕ) (old now : Filled) : Type 0 where
   pub done : Bytes
-  pub split : listed names variables ≡ done ++ listed names rest
+  pub split : comma_listed names variables ≡ done ++ comma_listed names rest
   pub put : Put old now done

@@ -11,7 +11,7 @@ use Rattle.djq_value.specs.Writing.{Written, Writes}
 use Rattle.djq_value.proofs.Putting.{texts_more}
 use Rattle.djq_value.proofs.Writing.{written_more, stays_before}
 use Rattle.djq_lines.specs.Reply.{line}
-use Rattle.djq_reply.specs.Taking.{IsTaken}
+use Rattle.djq_reply.specs.Taking.{RoomIsTaken}
 
 -- a text behind one that was written
 pub writes_more : (old mid new : Bytes) (at middle : ℕ) (text more : Bytes) (r : Option ℕ) → at ≤ length old
@@ -31,7 +31,7 @@ written_item text old mid new at middle end xs k x h e p c =
     (written_more old mid new at middle end (flat_map text (take k xs)) (text x) p c)
 
 -- a line that was written into the room that was taken, without what it didn't need
-pub line_put : (old mid new : Filled) (bytes front : Bytes) (start end : ℕ) → IsTaken old mid start
+pub line_put : (old mid new : Filled) (bytes front : Bytes) (start end : ℕ) → RoomIsTaken old mid start
     → Written mid.items bytes start (line front) end → length bytes ≡ length mid.items → new.items ≡ take end bytes
     → length new.items + new.spare ≡ length mid.items + mid.spare → Put old new (line front)
 line_put old mid new bytes front start end t w same e room =
@@ -45,7 +45,7 @@ line_put old mid new bytes front start end t w same e room =
     }
 
 -- what was there, where no line was written
-pub none_put : (old mid new : Filled) (bytes : Bytes) (start : ℕ) → IsTaken old mid start → take start bytes
+pub none_put : (old mid new : Filled) (bytes : Bytes) (start : ℕ) → RoomIsTaken old mid start → take start bytes
     ≡ take start mid.items
     → new.items ≡ take start bytes → length new.items + new.spare ≡ length mid.items + mid.spare
     → (new.items ≡ old.items) × (new.spare ≡ old.spare)

@@ -12,6 +12,6 @@ pub record Cut (old new : Filled) (text : Bytes) : Type 0 where
   pub lacks : old.spare < length text + 32
 
 -- A text is appended whole; or a part of it, where the room was too small for it.
-abbrev pub Adds : {A E : Type 0} → Filled → Filled → Bytes → Result A E → Type 0
-Adds old new text (Ok a) = Put old new text
-Adds old new text (Err e) = Cut old new text
+abbrev pub AppendsPart : {A E : Type 0} → Filled → Filled → Bytes → Result A E → Type 0
+AppendsPart old new text (Ok a) = Put old new text
+AppendsPart old new text (Err e) = Cut old new text

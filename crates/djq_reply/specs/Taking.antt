@@ -3,7 +3,7 @@ use Rattle.std.specs.Prelude.{◌≡◌, ℕ, ◌+◌, ◌<◌, ◌≤◌, lengt
 use Rattle.bytes.specs.Filled.{Filled}
 
 -- From a place on, behind what was there, all room but 32 bytes is taken; none where there was less.
-pub record IsTaken (old new : Filled) (start : ℕ) : Type 0 where
+pub record RoomIsTaken (old new : Filled) (start : ℕ) : Type 0 where
   pub begins : start ≡ length old.items
   pub stays : take start new.items ≡ old.items
   pub room : length new.items + new.spare ≡ length old.items + old.spare

@@ -7,8 +7,8 @@ ghost use Rattle.std.specs.Prelude.{◌≡◌, ◌≤◌, ◌++◌, codes, lengt
 ghost use Rattle.djq_lines.specs.Reply.{answer_line, at_line, cells_text, change_line, last_line};
 ghost use Rattle.djq_lines.specs.Reply.{line};
 ghost use Rattle.djq_lines.specs.Reply.{member_line, sign_text as sign_text_of};
-ghost use Rattle.djq_reply.specs.Adding.{Adds};
-ghost use Rattle.djq_reply.specs.Taking.{IsTaken};
+ghost use Rattle.djq_reply.specs.Adding.{AppendsPart};
+ghost use Rattle.djq_reply.specs.Taking.{RoomIsTaken};
 ghost use Rattle.djq_value.specs.Output.{Puts};
 ghost use Rattle.djq_value.specs.Writing.{Writes};
 ghost use Rattle.djq_value.specs.declared.output.TheConstants.{KEPT};
@@ -69,7 +69,7 @@ fn put_answer_by_pieces<A: Answered>(answer: &A, out: &mut BytesMut) -> Result<(
 
 /// An answer's line value by value, each asking for its own room.
 fn add_answer<A: Answered>(answer: &A, out: &mut BytesMut) -> Result<(), NoMem>
-    ensures { Adds out.old out.new (answer_line (A.values answer.now)) result }
+    ensures { AppendsPart out.old out.new (answer_line (A.values answer.now)) result }
 {
     put(out, b"=")?;
     add_cells(answer, out)?;
@@ -148,7 +148,7 @@ fn add_change<A: Answered>(
     answer: &A,
     out: &mut BytesMut,
 ) -> Result<(), NoMem>
-    ensures { Adds out.old out.new (change_line sign query.now (A.values answer.now)) result }
+    ensures { AppendsPart out.old out.new (change_line sign query.now (A.values answer.now)) result }
 {
     add_front(sign, query.as_bytes(), out)?;
     add_cells(answer, out)?;
@@ -244,7 +244,7 @@ pub fn put_last(is_end: bool, out: &mut BytesMut) -> Result<(), NoMem>
 /// Values, each behind a space.
 fn add_cells<A: Answered>(answer: &A, out: &mut BytesMut) -> Result<(), NoMem>
     requires { KEPT ≤ out.old.spare }
-    ensures { Adds out.old out.new (cells_text (A.values answer.now)) result }
+    ensures { AppendsPart out.old out.new (cells_text (A.values answer.now)) result }
 {
     for at in 0..answer.len() {
         print_cell(answer.value(at), out)?;
@@ -255,7 +255,7 @@ fn add_cells<A: Answered>(answer: &A, out: &mut BytesMut) -> Result<(), NoMem>
 /// Takes all the room but the one that stays behind what is queued, and gives the place where it
 /// begins.
 fn take_room(out: &mut BytesMut) -> usize
-    ensures { IsTaken out.old out.new result }
+    ensures { RoomIsTaken out.old out.new result }
 {
     let start = out.len();
     out.advance_mut((out.capacity() - start).saturating_sub(KEPT));

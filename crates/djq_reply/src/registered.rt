@@ -1,10 +1,10 @@
 //! What `query` is answered. A rest is of any length: its line is printed piece by piece, and taken
 //! back out of memory.
 ghost use Rattle.std.specs.Prelude.{◌≡◌, ◌+◌, ◌≤◌, ◌∷◌, ◌++◌, codes};
-ghost use Rattle.djq_hyper.specs.Naming.{edge_text, listed, name_at};
+ghost use Rattle.djq_hyper.specs.Naming.{edge_text, comma_listed, name_at};
 ghost use Rattle.djq_lines.specs.Reply.{edges_text, query_reply, rest_line};
 ghost use Rattle.djq_lines.specs.declared.limits.TheConstants.{LAST_LINE_BYTES, REPLY_BYTES};
-ghost use Rattle.djq_reply.specs.Adding.{Adds};
+ghost use Rattle.djq_reply.specs.Adding.{AppendsPart};
 ghost use Rattle.djq_value.specs.Output.{Puts};
 ghost use Rattle.djq_value.specs.declared.output.TheConstants.{KEPT};
 
@@ -56,7 +56,7 @@ fn put_rest(words: &[u8], rest: &NamedRest, out: &mut BytesMut) -> Result<(), No
 
 /// A rest behind these words, edge by edge.
 fn add_rest(words: &[u8], rest: &NamedRest, out: &mut BytesMut) -> Result<(), NoMem>
-    ensures { Adds out.old out.new (rest_line words.now rest.now) result }
+    ensures { AppendsPart out.old out.new (rest_line words.now rest.now) result }
 {
     put(out, words)?;
     add_edges(&rest.names, &rest.edges, out)?;
@@ -66,7 +66,7 @@ fn add_rest(words: &[u8], rest: &NamedRest, out: &mut BytesMut) -> Result<(), No
 /// Edges, each behind a space.
 fn add_edges(names: &Names, edges: &Edges, out: &mut BytesMut) -> Result<(), NoMem>
     requires { KEPT ≤ out.old.spare }
-    ensures { Adds out.old out.new (edges_text names.now edges.now) result }
+    ensures { AppendsPart out.old out.new (edges_text names.now edges.now) result }
 {
     for edge in edges.as_slice() {
         add_edge(names, *edge, out)?;
@@ -76,7 +76,7 @@ fn add_edges(names: &Names, edges: &Edges, out: &mut BytesMut) -> Result<(), NoM
 
 /// An edge behind a space.
 fn add_edge(names: &Names, edge: VarSet, out: &mut BytesMut) -> Result<(), NoMem>
-    ensures { Adds out.old out.new (32 ∷ edge_text names.now edge) result }
+    ensures { AppendsPart out.old out.new (32 ∷ edge_text names.now edge) result }
 {
     let mut rest = edge;
     put(out, b" ")?;
@@ -92,7 +92,7 @@ fn add_edge(names: &Names, edge: VarSet, out: &mut BytesMut) -> Result<(), NoMem
 /// Variables, each behind a comma.
 fn add_listed(names: &Names, variables: VarSet, out: &mut BytesMut) -> Result<(), NoMem>
     requires { KEPT ≤ out.old.spare }
-    ensures { Adds out.old out.new (listed names.now variables) result }
+    ensures { AppendsPart out.old out.new (comma_listed names.now variables) result }
 {
     let mut rest = variables;
     'variables: while let Some(variable) = rest.pop() {
@@ -103,7 +103,7 @@ fn add_listed(names: &Names, variables: VarSet, out: &mut BytesMut) -> Result<()
 
 /// A variable behind a comma.
 fn add_variable(names: &Names, variable: usize, out: &mut BytesMut) -> Result<(), NoMem>
-    ensures { Adds out.old out.new (codes "," ++ name_at names.now variable) result }
+    ensures { AppendsPart out.old out.new (codes "," ++ name_at names.now variable) result }
 {
     put(out, b",")?;
     put(out, name_of(names, variable))

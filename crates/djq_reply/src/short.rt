@@ -2,7 +2,7 @@
 ghost use Rattle.std.specs.Prelude.{◌≡◌, ◌+◌, ◌<◌, ◌≤◌, ◌++◌, codes, length};
 ghost use Rattle.std.specs.Fmt.{decimal};
 ghost use Rattle.djq_lines.specs.Reply.{add_reply, bye, delete_reply, done_reply, has_reply};
-ghost use Rattle.djq_lines.specs.Reply.{held_reply, line, numbered, numbered_twice, ok_reply};
+ghost use Rattle.djq_lines.specs.Reply.{held_reply, line, numbered_line, numbered_twice, ok_reply};
 ghost use Rattle.djq_lines.specs.Reply.{refusal_line, shape_reply, stale_line, union_reply};
 ghost use Rattle.djq_lines.specs.Reply.{watch_reply};
 ghost use Rattle.djq_lines.specs.declared.limits.TheConstants.{LAST_LINE_BYTES, REPLY_BYTES};
@@ -52,7 +52,7 @@ fn say_digits(out: &mut BytesMut, words: &[u8], number: u64, behind: &[u8])
 pub(crate) fn say_number(out: &mut BytesMut, words: &[u8], number: u64)
     requires { length words.now + 21 + LAST_LINE_BYTES ≤ out.old.spare }
     ensures kept { LAST_LINE_BYTES ≤ out.new.spare }
-    ensures says { Says out.old out.new (numbered words.now number) }
+    ensures says { Says out.old out.new (numbered_line words.now number) }
 {
     say_digits(out, words, number, b"\n");
 }

@@ -41,11 +41,11 @@ use Rattle.djq_model.specs.Data.{
 use Rattle.djq_dict.specs.Known.{AllDifferent}
 use Rattle.djq_index.specs.Tuple.{same}
 use Rattle.djq_index.specs.Entries.{Entry, count_of, supports_of}
-use Rattle.djq_index.specs.Table.{AreApart, AreSupported}
+use Rattle.djq_index.specs.Table.{TuplesDiffer, AreSupported}
 use Rattle.djq_index.proofs.Tuples.{is_same, same_cases, one_true}
 use Rattle.djq_index.proofs.Counts.{cnt_middle, supp_cons}
 use Rattle.djq_index.proofs.Apart.{supp_none, cnt_supp}
-use Rattle.djq_rows.specs.Catalog.{IsCounted}
+use Rattle.djq_rows.specs.Catalog.{CopiesAreInRange}
 use Rattle.djq_rows.specs.Parts.{row_of, tuples_of, counted_row, AreWithin, IsCopied}
 use Rattle.djq_rows.proofs.Learning.{Grown}
 use Rattle.djq_rows.proofs.Encoding.{row_grown}
@@ -96,7 +96,7 @@ entry_within texts ts (x ∷ xs) e ys k =
 
 other_row : (texts : List Bytes) (ts : List ColumnType) (x : Entry) (xs : List Entry) (e : Entry)
     (ys : List Entry) → AllDifferent texts → Within texts ts (x ∷ xs ++ e ∷ ys)
-    → AreApart (x ∷ xs ++ e ∷ ys)
+    → TuplesDiffer (x ∷ xs ++ e ∷ ys)
     → tuple_eq (row_of texts ts x.tuple) (row_of texts ts e.tuple) ≡ false
 other_row texts ts x xs e ys d h a =
     row_no texts ts x.tuple e.tuple d (within_first texts ts x (xs ++ e ∷ ys) h)
@@ -111,7 +111,7 @@ other_row texts ts x xs e ys d h a =
 -- its copies change
 pub recounted : (texts : List Bytes) (ts : List ColumnType) (xs : List Entry) (d e : Entry)
     (ys : List Entry) (n : ℕ) → AllDifferent texts → Within texts ts (xs ++ d ∷ ys)
-    → AreApart (xs ++ d ∷ ys) → e.tuple ≡ d.tuple → e.supports ≡ n
+    → TuplesDiffer (xs ++ d ∷ ys) → e.tuple ≡ d.tuple → e.supports ≡ n
     → with_copies (counted_in texts ts (xs ++ d ∷ ys)) (row_of texts ts d.tuple) n
     ≡ counted_in texts ts (xs ++ e ∷ ys)
 unfolding counted_row
@@ -128,7 +128,7 @@ recounted texts ts (x ∷ xs) d e ys n f h a t s =
 -- it goes
 pub dropped_row : (texts : List Bytes) (ts : List ColumnType) (xs : List Entry) (e : Entry)
     (ys : List Entry) → AllDifferent texts → Within texts ts (xs ++ e ∷ ys)
-    → AreApart (xs ++ e ∷ ys)
+    → TuplesDiffer (xs ++ e ∷ ys)
     → without_copies (counted_in texts ts (xs ++ e ∷ ys)) (row_of texts ts e.tuple)
     ≡ counted_in texts ts (xs ++ ys)
 unfolding counted_row
@@ -158,7 +158,7 @@ supp_no e es u s =
     omega (arith, none)
 
 pub copies_row : (texts : List Bytes) (ts : List ColumnType) (es : List Entry) (u : List ℕ)
-    → AllDifferent texts → Within texts ts es → AreWithin texts ts u → AreApart es
+    → AllDifferent texts → Within texts ts es → AreWithin texts ts u → TuplesDiffer es
     → copies_among (counted_in texts ts es) (row_of texts ts u) ≡ supports_of es u
 unfolding counted_row
 copies_row texts ts [] u d h k a = supp_nil u
@@ -201,7 +201,7 @@ are_supported [] h = tt
 are_supported (e ∷ es) h = (h.0.0, are_supported es h.1)
 
 pub are_counted : (texts : List Bytes) (ts : List ColumnType) (es : List Entry) → Copied es
-    → AllByRecursion IsCounted (counted_in texts ts es)
+    → AllByRecursion CopiesAreInRange (counted_in texts ts es)
 unfolding counted_row
 are_counted texts ts [] h = tt
 are_counted texts ts (e ∷ es) h = (h.0, are_counted texts ts es h.1)

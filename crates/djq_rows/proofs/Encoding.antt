@@ -43,17 +43,17 @@ use Rattle.djq_model.specs.Typed.{is_of, fits}
 use Rattle.djq_model.specs.Known.{knows_all, texts_in}
 use Rattle.djq_dict.specs.Known.{AllDifferent}
 use Rattle.djq_rows.specs.Cells.{
-  place_of,
+  text_place,
   cell_for,
   cells_of,
   HasCell,
   HaveCells,
-  StandsFor,
+  CellStandsFor,
   IsCell,
   StandFor,
   AreCells,
 }
-use Rattle.djq_rows.specs.Parts.{value_of, row_of, IsWithin, AreWithin}
+use Rattle.djq_rows.specs.Parts.{value_of, row_of, CellFits, AreWithin}
 use Rattle.djq_rows.proofs.Learning.{
   Grown,
   place_known,
@@ -70,20 +70,20 @@ pub value_back : (texts : List Bytes) (t : ColumnType) (v : Value) → is_of t v
     texts v → value_of texts t (cell_for texts v) ≡ v
 value_back texts IntColumn (Int i) o h = ap (λ z. Int z) (to_z-of_z w64 i h)
 value_back texts TextColumn (Text s) o h = ap (λ (u : Bytes). Text u) (get_or_from_slice_get texts
-    (place_of texts s) s [] (place_known texts s h))
+    (text_place texts s) s [] (place_known texts s h))
 value_back texts IntColumn (Text s) o h = absurd cc
 value_back texts TextColumn (Int i) o h = absurd cc
 
 pub value_within : (texts : List Bytes) (t : ColumnType) (v : Value) → is_of t v ≡ true → HasCell
-    texts v → IsWithin texts t (cell_for texts v)
+    texts v → CellFits texts t (cell_for texts v)
 value_within texts IntColumn (Int i) o h = (Fits-of_z h).fits
 value_within texts TextColumn (Text s) o h = place_below texts s h
 value_within texts IntColumn (Text s) o h = absurd cc
 value_within texts TextColumn (Int i) o h = absurd cc
 
 -- a cell that can stand in a column stands for its value
-pub value_stands : (texts : List Bytes) (t : ColumnType) (c : ℕ) → AllDifferent texts → IsWithin
-    texts t c → StandsFor texts t c (value_of texts t c)
+pub value_stands : (texts : List Bytes) (t : ColumnType) (c : ℕ) → AllDifferent texts → CellFits
+    texts t c → CellStandsFor texts t c (value_of texts t c)
 value_stands texts IntColumn c d h = record {
   of = refl;
   has = sfits_to_z (record { fits = h });
@@ -99,12 +99,12 @@ value_stands texts TextColumn c d h =
           (slice_index_or texts c []) c d here;
     }
 
-pub within_more : (texts us : List Bytes) (t : ColumnType) (c : ℕ) → IsWithin texts t c → IsWithin
+pub within_more : (texts us : List Bytes) (t : ColumnType) (c : ℕ) → CellFits texts t c → CellFits
     (texts ++ us) t c
 within_more texts us IntColumn c h = h
 within_more texts us TextColumn c h = omega (arith, length-append texts us)
 
-value_more : (texts us : List Bytes) (t : ColumnType) (c : ℕ) → IsWithin texts t c → value_of (texts
+value_more : (texts us : List Bytes) (t : ColumnType) (c : ℕ) → CellFits texts t c → value_of (texts
     ++ us) t c ≡ value_of texts t c
 value_more texts us IntColumn c h = refl
 value_more texts us TextColumn c h = ap (λ (u : Bytes). Text u) (get_or_append_left texts us [] c h)
@@ -291,12 +291,12 @@ pub unknown_row : (texts : List Bytes) (row : Tuple) → knows_all texts (texts_
 unknown_row texts row f h = let k = have_known texts row h in cc
 
 -- one cell, and the value that it stands for
-pub cell_within : (texts : List Bytes) (t : ColumnType) (c : ℕ) → IsCell texts t c → IsWithin texts
+pub cell_within : (texts : List Bytes) (t : ColumnType) (c : ℕ) → IsCell texts t c → CellFits texts
     t c
-cell_within texts t c k = subst (IsWithin texts t) (sym k.stands.is) (value_within texts t k.value
+cell_within texts t c k = subst (CellFits texts t) (sym k.stands.is) (value_within texts t k.value
     k.stands.of k.stands.has)
 
-pub stands_back : (texts : List Bytes) (t : ColumnType) (c : ℕ) (v : Value) → StandsFor texts t c v
+pub stands_back : (texts : List Bytes) (t : ColumnType) (c : ℕ) (v : Value) → CellStandsFor texts t c v
     → value_of texts t c ≡ v
 stands_back texts t c v s = ap (value_of texts t) s.is ∙ value_back texts t v s.of s.has
 

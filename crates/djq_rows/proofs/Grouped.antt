@@ -34,22 +34,22 @@ use Rattle.djq_model.specs.Equality.{tuple_eq-decides}
 use Rattle.djq_dict.specs.Known.{AllDifferent}
 use Rattle.djq_index.specs.Tuple.{same}
 use Rattle.djq_index.specs.Entries.{Entry, count_of}
-use Rattle.djq_index.specs.Table.{IsAt, AreApart}
+use Rattle.djq_index.specs.Table.{IsAt, TuplesDiffer}
 use Rattle.djq_index.proofs.Tuples.{same_is, is_same, one_true, one_false}
 use Rattle.djq_index.proofs.Counts.{cnt_cons, cnt_length}
 use Rattle.djq_index.proofs.Apart.{there}
 use Rattle.djq_rows.specs.Parts.{row_of, tuples_of, AreWithin}
-use Rattle.djq_rows.specs.Rows.{place}
+use Rattle.djq_rows.specs.Rows.{row_place}
 use Rattle.djq_rows.specs.Tuples.{HasTuple}
 use Rattle.djq_rows.proofs.Encoding.{same_cells}
 
 -- a tuple that is found
 
-pub found : (es : List Entry) (slot : ℕ) (u : List ℕ) → IsAt es (place slot) u → 0 < count_of es u
+pub found : (es : List Entry) (slot : ℕ) (u : List ℕ) → IsAt es (row_place slot) u → 0 < count_of es u
 found es slot u a = there es a.front a.entry a.back u a.is a.tuple
 
 pub found_has : (es : List Entry) (u : List ℕ) (r : Option ℕ) (b : Bool) → MatchOption r (count_of es u
-    ≡ 0) (λ slot. IsAt es (place slot) u) → b ≡ is_some r → HasTuple es u b
+    ≡ 0) (λ slot. IsAt es (row_place slot) u) → b ≡ is_some r → HasTuple es u b
 found_has es u None true h e = absurd cc
 found_has es u None false h e = h
 found_has es u (Some slot) true h e = found es slot u h
@@ -162,12 +162,12 @@ present_row texts ts (e ∷ es) u n = elim (cases_Bool (same e.tuple u)) [
 
 -- apart from an entry its tuple is absent
 
-pub apart_first : (x : Entry) (es : List Entry) → AreApart (x ∷ es) → count_of es x.tuple ≡ 0
-unfolding AreApart
+pub apart_first : (x : Entry) (es : List Entry) → TuplesDiffer (x ∷ es) → count_of es x.tuple ≡ 0
+unfolding TuplesDiffer
 apart_first x es h = h.0
 
-pub apart_rest : (x : Entry) (es : List Entry) → AreApart (x ∷ es) → AreApart es
-unfolding AreApart
+pub apart_rest : (x : Entry) (es : List Entry) → TuplesDiffer (x ∷ es) → TuplesDiffer es
+unfolding TuplesDiffer
 apart_rest x es h = h.1
 
 -- different tuples are different rows
@@ -184,7 +184,7 @@ others_differ texts ts (e ∷ es) u d h k n = (
 )
 
 pub rows_differ : (texts : List Bytes) (ts : List ColumnType) (es : List Entry) → AllDifferent texts
-    → Within texts ts es → AreApart es → AreDifferent (rows_in texts ts es)
+    → Within texts ts es → TuplesDiffer es → AreDifferent (rows_in texts ts es)
 rows_differ texts ts [] d h a = subst AreDifferent (sym (rows_nil texts ts)) (λ i j k low high.
     absurd (omega arith))
 rows_differ texts ts (e ∷ es) d h a =

@@ -37,8 +37,8 @@ use Rattle.djq_dict.specs.declared.refusal.InternRefusal.{InternRefusal}
 use Rattle.djq_dict.specs.declared.refusal.InternRefusal.TheVariants.{Full, NoMem}
 use Rattle.djq_dict.specs.Known.{AllDifferent, IsUnknown, Learns}
 use Rattle.djq_rows.specs.Cells.{cell_for, cells_of, HasCell, HaveCells}
-use Rattle.djq_rows.specs.Changes.{LearnsSome, FindsNoPlace, InternsValue, InternsRow}
-use Rattle.djq_rows.specs.Parts.{IsWithin, value_of}
+use Rattle.djq_rows.specs.Changes.{LearnsSome, FindsNoPlaceFor, InternsValue, InternsRow}
+use Rattle.djq_rows.specs.Parts.{CellFits, value_of}
 use Rattle.djq_rows.proofs.Learning.{
   Grown,
   knows_at,
@@ -152,7 +152,7 @@ learns_some old now new row at v c was unknown is = record {
 
 pub finds_no_place : (old now new : List Bytes) (row : Tuple) (at : ℕ) (v : Value) → Cut row at v
     → now ≡ all_learned old (texts_in (take at row)) → knows_all now (texts_of v) ≡ false
-    → length now ≡ MOST_TEXTS → new ≡ now → FindsNoPlace old (texts_in row) new
+    → length now ≡ MOST_TEXTS → new ≡ now → FindsNoPlaceFor old (texts_in row) new
 finds_no_place old now new row at (Int i) c was unknown many is = absurd cc
 finds_no_place old now new row at (Text t) c was unknown many is = record {
   first = texts_in (take at row);
@@ -258,8 +258,8 @@ row_unknown old now new row at v r c was h =
     why NoMem k = k.0
 
 pub text_below : (texts : List Bytes) (column : ColumnType) (cell : ℕ) → column ≡ TextColumn →
-    IsWithin texts column cell → cell < length texts
-text_below texts column cell is h = subst (λ t. IsWithin texts t cell) is h
+    CellFits texts column cell → cell < length texts
+text_below texts column cell is h = subst (λ t. CellFits texts t cell) is h
 
 pub text_lent : (texts : List Bytes) (column : ColumnType) (cell : ℕ) (t : Bytes) → column ≡
     TextColumn → slice_get texts cell ≡ Some t → Text t ≡ value_of texts column cell

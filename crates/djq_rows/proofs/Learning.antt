@@ -43,7 +43,7 @@ use Rattle.djq_model.specs.Data.{Bytes, Tuple, bytes_eq}
 use Rattle.djq_model.specs.Equality.{bytes_eq-decides}
 use Rattle.djq_model.specs.Known.{knows, knows_all, texts_of, texts_in, learned, all_learned}
 use Rattle.djq_dict.specs.Known.{AllDifferent, IsUnknown, Learns}
-use Rattle.djq_rows.specs.Cells.{place_of}
+use Rattle.djq_rows.specs.Cells.{text_place}
 
 pub eq_refl : (t : Bytes) → bytes_eq t t ≡ true
 eq_refl t = (bytes_eq-decides t t).1 refl
@@ -72,7 +72,7 @@ knows_at (s ∷ ts) t (suc n) h = by_test (bytes_eq s t) (knows_at ts t n h)
     by_test false k = k
 
 pub place_at : (ts : List Bytes) (t : Bytes) (n : ℕ) → AllDifferent ts → slice_get ts n ≡ Some t → n
-    ≡ place_of ts t
+    ≡ text_place ts t
 place_at [] t n d h = absurd cc
 place_at (s ∷ ts) t zero d h = let same : s ≡ t = cc in rw (ap (λ u. bytes_eq u t) same ∙ eq_refl t)
     refl
@@ -83,19 +83,19 @@ place_at (s ∷ ts) t (suc n) d h =
     rw other (ap suc (place_at ts t n (different_tail s ts d) h))
 
 -- a known text stands at its number
-pub place_known : (ts : List Bytes) (t : Bytes) → knows ts t ≡ true → slice_get ts (place_of ts t) ≡
+pub place_known : (ts : List Bytes) (t : Bytes) → knows ts t ≡ true → slice_get ts (text_place ts t) ≡
     Some t
 place_known [] t h = absurd cc
 place_known (s ∷ ts) t h = by_test (bytes_eq s t) (place_known ts t) refl h
   where
-    by_test : (b : Bool) → (knows ts t ≡ true → slice_get ts (place_of ts t) ≡ Some t) → bytes_eq s
+    by_test : (b : Bool) → (knows ts t ≡ true → slice_get ts (text_place ts t) ≡ Some t) → bytes_eq s
         t ≡ b → cond b true (knows ts t) ≡ true
-        → slice_get (s ∷ ts) (cond b zero (suc (place_of ts t))) ≡ Some t
+        → slice_get (s ∷ ts) (cond b zero (suc (text_place ts t))) ≡ Some t
     by_test true rest e k = ap (λ (u : Bytes). Some u) ((bytes_eq-decides s t).0 e)
     by_test false rest e k = rest k
 
-pub place_below : (ts : List Bytes) (t : Bytes) → knows ts t ≡ true → place_of ts t < length ts
-place_below ts t h = slice_get_within ts (place_of ts t) t (place_known ts t h)
+pub place_below : (ts : List Bytes) (t : Bytes) → knows ts t ≡ true → text_place ts t < length ts
+place_below ts t h = slice_get_within ts (text_place ts t) t (place_known ts t h)
 
 pub unknown : (ts : List Bytes) (t : Bytes) → IsUnknown ts t → knows ts t ≡ false
 unknown [] t h = refl
@@ -116,14 +116,14 @@ knows_more (s ∷ ts) us t h = by_test (bytes_eq s t) (knows_more ts us t) h
     by_test true rest k = refl
     by_test false rest k = rest k
 
-pub place_more : (ts us : List Bytes) (t : Bytes) → knows ts t ≡ true → place_of (ts ++ us) t ≡
-    place_of ts t
+pub place_more : (ts us : List Bytes) (t : Bytes) → knows ts t ≡ true → text_place (ts ++ us) t ≡
+    text_place ts t
 place_more [] us t h = absurd cc
 place_more (s ∷ ts) us t h = by_test (bytes_eq s t) (place_more ts us t) h
   where
-    by_test : (b : Bool) → (knows ts t ≡ true → place_of (ts ++ us) t ≡ place_of ts t) → cond b true
+    by_test : (b : Bool) → (knows ts t ≡ true → text_place (ts ++ us) t ≡ text_place ts t) → cond b true
         (knows ts t) ≡ true
-        → cond b zero (suc (place_of (ts ++ us) t)) ≡ cond b zero (suc (place_of ts t))
+        → cond b zero (suc (text_place (ts ++ us) t)) ≡ cond b zero (suc (text_place ts t))
     by_test true rest k = refl
     by_test false rest k = ap suc (rest k)
 

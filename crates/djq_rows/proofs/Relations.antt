@@ -62,7 +62,7 @@ use Rattle.djq_lines.specs.declared.answer.DeleteOutcome.{DeleteOutcome}
 use Rattle.djq_lines.specs.declared.answer.DeleteOutcome.TheVariants.{Last, Left, Absent}
 use Rattle.djq_dict.specs.Known.{AllDifferent, IsUnknown}
 use Rattle.djq_index.specs.Entries.{Entry, count_of, supports_of}
-use Rattle.djq_index.specs.Table.{AreApart}
+use Rattle.djq_index.specs.Table.{TuplesDiffer}
 use Rattle.djq_index.specs.Changes.{Supported}
 use Rattle.djq_index.proofs.Apart.{there, stands, supp_at, cnt_none, supp_none}
 use Rattle.djq_rows.specs.declared.refusal.RowsRefusal.{RowsRefusal}
@@ -75,10 +75,10 @@ use Rattle.djq_rows.specs.Catalog.{
   counted_at,
   rows_at,
   with_rows_at,
-  IsCounted,
+  CopiesAreInRange,
   IsKeptRelation,
 }
-use Rattle.djq_rows.specs.Changes.{HasNoPlace, AddsRow, DeletesRow}
+use Rattle.djq_rows.specs.Changes.{HasNoPlace, AddsRowAt, DeletesRowAt}
 use Rattle.djq_rows.specs.Parts.{
   row_of,
   tuples_of,
@@ -87,7 +87,7 @@ use Rattle.djq_rows.specs.Parts.{
   kept_at,
   no_kept,
   AreWithin,
-  IsSound,
+  RelationIsSound,
 }
 use Rattle.djq_rows.specs.Tuples.{
   HasTuple,
@@ -207,20 +207,20 @@ pub relations_long : (texts : List Bytes) (ks : List Kept) → length (relations
     ks
 relations_long texts ks = length-map ks (relation_in texts)
 
-pub sound_at : (texts : List Bytes) (ks : List Kept) (at : ℕ) → AllByRecursion (IsSound texts) ks →
-    at < length ks → IsSound texts (kept_at ks at)
-sound_at texts ks at h low = All-get_or (IsSound texts) ks at no_kept low (All-from_recursion
-    (IsSound texts) ks h)
+pub sound_at : (texts : List Bytes) (ks : List Kept) (at : ℕ) → AllByRecursion (RelationIsSound texts) ks →
+    at < length ks → RelationIsSound texts (kept_at ks at)
+sound_at texts ks at h low = All-get_or (RelationIsSound texts) ks at no_kept low (All-from_recursion
+    (RelationIsSound texts) ks h)
 
-pub sound_set : (texts : List Bytes) (ks : List Kept) (at : ℕ) (k : Kept) → AllByRecursion (IsSound
-    texts) ks → IsSound texts k → AllByRecursion (IsSound texts) (set ks at k)
-sound_set texts ks at k h s = recursion_from_All (IsSound texts) (set ks at k) (All-set (IsSound
-    texts) ks at k s (All-from_recursion (IsSound texts) ks h))
+pub sound_set : (texts : List Bytes) (ks : List Kept) (at : ℕ) (k : Kept) → AllByRecursion (RelationIsSound
+    texts) ks → RelationIsSound texts k → AllByRecursion (RelationIsSound texts) (set ks at k)
+sound_set texts ks at k h s = recursion_from_All (RelationIsSound texts) (set ks at k) (All-set (RelationIsSound
+    texts) ks at k s (All-from_recursion (RelationIsSound texts) ks h))
 
-pub sound_push : (texts : List Bytes) (ks : List Kept) (k : Kept) → AllByRecursion (IsSound texts)
-    ks → IsSound texts k → AllByRecursion (IsSound texts) (ks ++ k ∷ [])
-sound_push texts ks k h s = recursion_from_All (IsSound texts) (ks ++ k ∷ []) (All-push (IsSound
-    texts) ks k (All-from_recursion (IsSound texts) ks h) s)
+pub sound_push : (texts : List Bytes) (ks : List Kept) (k : Kept) → AllByRecursion (RelationIsSound texts)
+    ks → RelationIsSound texts k → AllByRecursion (RelationIsSound texts) (ks ++ k ∷ [])
+sound_push texts ks k h s = recursion_from_All (RelationIsSound texts) (ks ++ k ∷ []) (All-push (RelationIsSound
+    texts) ks k (All-from_recursion (RelationIsSound texts) ks h) s)
 
 -- one relation changes
 
@@ -250,7 +250,7 @@ changes texts ks at k rows low n t e =
 -- adding
 
 module _ (texts : List Bytes) (ks : List Kept) (at : ℕ) (k : Kept) (u : List ℕ) (row : Tuple) (d :
-    AllDifferent texts) (low : at < length ks) (s : IsSound texts (kept_at ks at))
+    AllDifferent texts) (low : at < length ks) (s : RelationIsSound texts (kept_at ks at))
     (n : k.name ≡ (kept_at ks at).name) (t : k.types ≡ (kept_at ks at).types) (stand : StandFor
     texts (kept_at ks at).types u row) where
   abbrev was : List Entry
@@ -316,7 +316,7 @@ module _ (texts : List Bytes) (ks : List Kept) (at : ℕ) (k : Kept) (u : List �
       ap (λ (l : List ColumnType). counted_in texts l k.rows.entries) t
       ∙ ap (counted_in texts types) c.is
       ∙ sym (recounted texts types c.front c.before c.after c.back to d
-      (subst (Within texts types) c.was s.within) (subst AreApart c.was s.apart)
+      (subst (Within texts types) c.was s.within) (subst TuplesDiffer c.was s.apart)
       (c.same_tuple ∙ sym c.tuple) c.has)
       ∙ ap (λ (es : List Entry). with_copies (counted_in texts types es)
       (row_of texts types c.before.tuple) to) (sym c.was)
@@ -340,7 +340,7 @@ module _ (texts : List Bytes) (ks : List Kept) (at : ℕ) (k : Kept) (u : List �
       is_absent (suc c) e h = absurd (false≢true (sym h ∙ present (omega (arith, e))))
 
   pub added : (r : Result AddOutcome RowsRefusal) → AddsTuple (kept_at ks at).rows u r k.rows →
-      AddsRow (relations_of texts ks) at row r (relations_of texts (set ks at k))
+      AddsRowAt (relations_of texts ks) at row r (relations_of texts (set ks at k))
   added (Ok First) a = (
     absent a.adds.0,
     omega (arith, a.adds.1, long),
@@ -369,13 +369,13 @@ module _ (texts : List Bytes) (ks : List Kept) (at : ℕ) (k : Kept) (u : List �
       ap (λ (l : List ColumnType). counted_in texts l k.rows.entries) t
       ∙ ap (counted_in texts types) e.is
       ∙ sym (dropped_row texts types e.front e.entry e.back d (subst (Within texts types) e.was
-      s.within) (subst AreApart e.was s.apart))
+      s.within) (subst TuplesDiffer e.was s.apart))
       ∙ ap (λ (l : List Entry). without_copies (counted_in texts types l) (row_of texts types
       e.entry.tuple)) (sym e.was)
       ∙ ap₂ (λ (l : List CountedRow) (r : Tuple). without_copies l r)
       (sym (counted_is texts ks at low)) (ap (row_of texts types) e.tuple ∙ row_is)
 
-  pub deleted : (r : DeleteOutcome) → DeletesTuple (kept_at ks at).rows u r k.rows → DeletesRow
+  pub deleted : (r : DeleteOutcome) → DeletesTuple (kept_at ks at).rows u r k.rows → DeletesRowAt
       (relations_of texts ks) at row r (relations_of texts (set ks at k))
   deleted Last e = let out = e.deletes.1 in (
     present (there was out.front out.entry out.back u out.was out.tuple),
@@ -395,8 +395,8 @@ module _ (texts : List Bytes) (ks : List Kept) (at : ℕ) (k : Kept) (u : List �
 -- and it stays sound
 
 sound_as : (texts : List Bytes) (j k : Kept) → k.types ≡ j.types → StayApart j.rows k.rows →
-    IsSound texts j → Within texts j.types k.rows.entries → length k.rows.entries ≤ ROWS →
-    Copied k.rows.entries → IsSound texts k
+    RelationIsSound texts j → Within texts j.types k.rows.entries → length k.rows.entries ≤ ROWS →
+    Copied k.rows.entries → RelationIsSound texts k
 sound_as texts j k t st s w few c = record {
   some = subst (λ (l : List ColumnType). 0 < length l) (sym t) s.some;
   narrow = subst (λ (l : List ColumnType). length l ≤ COLUMNS) (sym t) s.narrow;
@@ -408,14 +408,14 @@ sound_as texts j k t st s w few c = record {
 }
 
 same_sound : (texts : List Bytes) (j k : Kept) → k.types ≡ j.types → StayApart j.rows k.rows →
-    IsSound texts j → k.rows.entries ≡ j.rows.entries → IsSound texts k
+    RelationIsSound texts j → k.rows.entries ≡ j.rows.entries → RelationIsSound texts k
 same_sound texts j k t st s e = sound_as texts j k t st s (subst (Within texts j.types) (sym e)
     s.within) (subst (λ (es : List Entry). length es ≤ ROWS) (sym e) s.few) (subst Copied (sym e)
     s.copied)
 
 counted_sound : (texts : List Bytes) (j k : Kept) (u : List ℕ) (from to : ℕ) → k.types ≡ j.types →
-    StayApart j.rows k.rows → IsSound texts j → Supported j.rows.entries k.rows.entries u from
-    to → 1 ≤ to → to ≤ COPIES → IsSound texts k
+    StayApart j.rows k.rows → RelationIsSound texts j → Supported j.rows.entries k.rows.entries u from
+    to → 1 ≤ to → to ≤ COPIES → RelationIsSound texts k
 counted_sound texts j k u from to t st s c some few = sound_as texts j k t st s
     (subst (Within texts j.types) (sym c.is) (within_in texts j.types c.front c.before c.after
     c.back (c.same_tuple ∙ sym c.tuple) (subst (Within texts j.types) c.was s.within)))
@@ -429,8 +429,8 @@ counted_sound texts j k u from to t st s c some few = sound_as texts j k t st s
     (subst Copied c.was s.copied) (omega (arith, c.has, some), omega (arith, c.has, few))))
 
 pub added_sound : (texts : List Bytes) (j k : Kept) (u : List ℕ) (r : Result AddOutcome RowsRefusal)
-    → k.types ≡ j.types → AreWithin texts j.types u → IsSound texts j → AddsTuple j.rows u r
-    k.rows → IsSound texts k
+    → k.types ≡ j.types → AreWithin texts j.types u → RelationIsSound texts j → AddsTuple j.rows u r
+    k.rows → RelationIsSound texts k
 added_sound texts j k u (Ok First) t h s a =
     let p = a.adds.2 in
     sound_as texts j k t a.stay s (subst (Within texts j.types) (sym p.is) (within_push texts
@@ -449,7 +449,7 @@ added_sound texts j k u (Err Full) t h s a = same_sound texts j k t a.stay s a.a
 added_sound texts j k u (Err NoMem) t h s a = same_sound texts j k t a.stay s a.adds.2
 
 -- a tuple that is there has no more supports than a row may have copies
-most_copies : (es : List Entry) (u : List ℕ) → Copied es → AreApart es → 0 < count_of es u → supports_of
+most_copies : (es : List Entry) (u : List ℕ) → Copied es → TuplesDiffer es → 0 < count_of es u → supports_of
     es u ≤ COPIES
 most_copies es u c a h = let s = stands es u h in omega (
   arith,
@@ -458,7 +458,7 @@ most_copies es u c a h = let s = stands es u h in omega (
 )
 
 pub deleted_sound : (texts : List Bytes) (j k : Kept) (u : List ℕ) (r : DeleteOutcome) → k.types ≡
-    j.types → IsSound texts j → DeletesTuple j.rows u r k.rows → IsSound texts k
+    j.types → RelationIsSound texts j → DeletesTuple j.rows u r k.rows → RelationIsSound texts k
 deleted_sound texts j k u Last t s e =
     let p = e.deletes.1 in
     sound_as texts j k t e.stay s (subst (Within texts j.types) (sym p.is) (within_out texts
@@ -489,7 +489,7 @@ tuples_grown old new ts (u ∷ us) g h = (
       g h.1,
 )
 
-relation_grown : (old new : List Bytes) (k : Kept) → Grown old new → IsSound old k → relation_in new
+relation_grown : (old new : List Bytes) (k : Kept) → Grown old new → RelationIsSound old k → relation_in new
     k ≡ relation_in old k
 unfolding relation_in
 relation_grown old new k g s = ap (λ (l : List CountedRow). record {
@@ -499,13 +499,13 @@ relation_grown old new k g s = ap (λ (l : List CountedRow). record {
 }) (counted_grown old new k.types k.rows.entries g s.within)
 
 pub relations_grown : (old new : List Bytes) (ks : List Kept) → Grown old new → AllByRecursion
-    (IsSound old) ks → relations_of new ks ≡ relations_of old ks
+    (RelationIsSound old) ks → relations_of new ks ≡ relations_of old ks
 relations_grown old new [] g h = refl
 relations_grown old new (k ∷ ks) g h = ap (λ (r : Relation). r ∷ relations_of new ks)
     (relation_grown old new k g h.0) ∙ ap (λ (l : List Relation). relation_in old k ∷ l)
     (relations_grown old new ks g h.1)
 
-sound_grown : (old new : List Bytes) (k : Kept) → Grown old new → IsSound old k → IsSound new k
+sound_grown : (old new : List Bytes) (k : Kept) → Grown old new → RelationIsSound old k → RelationIsSound new k
 sound_grown old new k g s = record {
   some = s.some;
   narrow = s.narrow;
@@ -516,8 +516,8 @@ sound_grown old new k g s = record {
   copied = s.copied;
 }
 
-pub sounds_grown : (old new : List Bytes) (ks : List Kept) → Grown old new → AllByRecursion (IsSound
-    old) ks → AllByRecursion (IsSound new) ks
+pub sounds_grown : (old new : List Bytes) (ks : List Kept) → Grown old new → AllByRecursion (RelationIsSound
+    old) ks → AllByRecursion (RelationIsSound new) ks
 sounds_grown old new [] g h = tt
 sounds_grown old new (k ∷ ks) g h = (sound_grown old new k g h.0, sounds_grown old new ks g h.1)
 
@@ -547,7 +547,7 @@ rows_kept : (texts : List Bytes) (k : Kept) (P : List Tuple → Type 0) → P (r
     k.rows.entries) → P (tuples_in (relation_in texts k))
 rows_kept texts k P h = subst P (sym (in_rows texts k)) h
 
-pub sound_kept : (texts : List Bytes) (k : Kept) → AllDifferent texts → IsSound texts k → IsKeptRelation
+pub sound_kept : (texts : List Bytes) (k : Kept) → AllDifferent texts → RelationIsSound texts k → IsKeptRelation
     texts (relation_in texts k)
 sound_kept texts k d s = record {
   some = subst (λ (l : List ColumnType). 0 < length l) (sym (in_types texts k)) s.some;
@@ -567,7 +567,7 @@ sound_kept texts k d s = record {
     s.few,
     rows_long texts k.types k.rows.entries,
   ));
-  counted = subst (All IsCounted) (sym (in_counted texts k)) (All-from_recursion IsCounted
+  counted = subst (All CopiesAreInRange) (sym (in_counted texts k)) (All-from_recursion CopiesAreInRange
       (counted_in texts k.types k.rows.entries) (are_counted texts k.types k.rows.entries
       s.copied));
 }
@@ -582,7 +582,7 @@ cells_back_all texts ts (u ∷ us) d h =
     d h.0) ∙ ap (λ (l : List (List ℕ)). u ∷ l) (cells_back_all texts ts us d h.1)
 
 pub tuples_are : (texts : List Bytes) (ks : List Kept) (at : ℕ) → AllDifferent texts →
-    AllByRecursion (IsSound texts) ks → at < length ks
+    AllByRecursion (RelationIsSound texts) ks → at < length ks
     → tuples_of (kept_at ks at).rows.entries ≡ map (cells_of texts) (rows_at (relations_of texts
     ks) at)
 tuples_are texts ks at d h low =

@@ -74,7 +74,7 @@ use Rattle.djq_rows.specs.Catalog.{
   IsKeptRelation,
   IsCatalog,
 }
-use Rattle.djq_rows.specs.Changes.{FindsRelation, AddsRow, DeletesRow}
+use Rattle.djq_rows.specs.Changes.{FindsRelation, AddsRowAt, DeletesRowAt}
 use Rattle.djq_rows.specs.Parts.{
   tuples_of,
   relation_in,
@@ -83,7 +83,7 @@ use Rattle.djq_rows.specs.Parts.{
   no_kept,
   catalog_of,
   AreWithin,
-  IsSound,
+  RelationIsSound,
   IsParts,
 }
 use Rattle.djq_rows.specs.Tuples.{HasTuple, AddsTuple, DeletesTuple}
@@ -140,7 +140,7 @@ cells_within texts ks at cells low a = subst (λ ts. AreWithin texts ts cells) (
     low) (are_within texts (relation_at (relations_of texts ks) at).types cells a)
 
 pub cells_wide : (texts : List Bytes) (ks : List Kept) (at : ℕ) (cells : List ℕ) → AllByRecursion
-    (IsSound texts) ks → at < length ks → AreCells texts (relation_at (relations_of texts ks)
+    (RelationIsSound texts) ks → at < length ks → AreCells texts (relation_at (relations_of texts ks)
     at).types cells
     → length cells ≡ (kept_at ks at).rows.width
 cells_wide texts ks at cells s low a = within_long texts (kept_at ks at).types cells (cells_within
@@ -151,10 +151,10 @@ cells_wide texts ks at cells s low a = within_long texts (kept_at ks at).types c
 pub changed_parts : (p q : Parts) (at : ℕ) (j k : Kept) → IsParts p → at < length p.kept.items → j ≡
     kept_at p.kept.items at → q.texts ≡ p.texts → q.names ≡ p.names → q.kept.items ≡ set
     p.kept.items at k
-    → k.name ≡ j.name → (IsSound p.texts j → IsSound p.texts k) → IsParts q
+    → k.name ≡ j.name → (RelationIsSound p.texts j → RelationIsSound p.texts k) → IsParts q
 changed_parts p q at j k h low e texts names kept n sound =
     let here : k.name ≡ (kept_at p.kept.items at).name = n ∙ ap (λ (x : Kept). x.name) e in
-    let k_sound = sound (subst (IsSound p.texts) (sym e) (sound_at p.texts p.kept.items at h.sound
+    let k_sound = sound (subst (RelationIsSound p.texts) (sym e) (sound_at p.texts p.kept.items at h.sound
     low)) in
     record {
       few = rw kept (omega (arith, h.few, length-set p.kept.items at k));
@@ -162,13 +162,13 @@ changed_parts p q at j k h low e texts names kept n sound =
           x.name)) (sym kept);
       named = subst AllDifferent (sym names) h.named;
       different = subst AllDifferent (sym texts) h.different;
-      sound = subst (λ l. AllByRecursion (IsSound l) q.kept.items) (sym texts) (subst
-          (AllByRecursion (IsSound p.texts)) (sym kept) (sound_set p.texts p.kept.items at k h.sound
+      sound = subst (λ l. AllByRecursion (RelationIsSound l) q.kept.items) (sym texts) (subst
+          (AllByRecursion (RelationIsSound p.texts)) (sym kept) (sound_set p.texts p.kept.items at k h.sound
           k_sound));
     }
 
 pub has_done : (texts : List Bytes) (ks : List Kept) (at : ℕ) (j : Kept) (u : List ℕ) (b : Bool) →
-    AllDifferent texts → AllByRecursion (IsSound texts) ks → at < length ks → j ≡ kept_at ks at →
+    AllDifferent texts → AllByRecursion (RelationIsSound texts) ks → at < length ks → j ≡ kept_at ks at →
     HasTuple j.rows.entries u b
     → (row : Tuple) → StandFor texts (relation_at (relations_of texts ks) at).types u row → b ≡
     has_row (rows_at (relations_of texts ks) at) row
@@ -178,7 +178,7 @@ has_done texts ks at j u b d s low e h row stand =
     x.rows.entries u b) e h)
 
 pub copies_done : (texts : List Bytes) (ks : List Kept) (at : ℕ) (j : Kept) (u : List ℕ) (n : ℕ) →
-    AllDifferent texts → AllByRecursion (IsSound texts) ks → at < length ks → j ≡ kept_at ks at →
+    AllDifferent texts → AllByRecursion (RelationIsSound texts) ks → at < length ks → j ≡ kept_at ks at →
     n ≡ supports_of j.rows.entries u → (row : Tuple) → StandFor texts (relation_at (relations_of texts ks)
     at).types u row → n ≡ copies_among (counted_at (relations_of texts ks) at) row
 copies_done texts ks at j u n d s low e h row stand =
@@ -187,7 +187,7 @@ copies_done texts ks at j u n d s low e h row stand =
     (subst (λ ts. StandFor texts ts u row) (types_is texts ks at low) stand))
 
 pub copies_has : (texts : List Bytes) (ks : List Kept) (at : ℕ) (j : Kept) (u : List ℕ) (n : ℕ) →
-    AllDifferent texts → AllByRecursion (IsSound texts) ks → at < length ks → j ≡ kept_at ks at →
+    AllDifferent texts → AllByRecursion (RelationIsSound texts) ks → at < length ks → j ≡ kept_at ks at →
     n ≡ supports_of j.rows.entries u → (row : Tuple) → StandFor texts (relation_at (relations_of texts ks)
     at).types u row → has_row (rows_at (relations_of texts ks) at) row ≡ not (n == 0)
 copies_has texts ks at j u n d s low e h row stand =
@@ -196,11 +196,11 @@ copies_has texts ks at j u n d s low e h row stand =
     (h ∙ ap (λ (x : Kept). supports_of x.rows.entries u) e)
 
 pub add_done : (texts : List Bytes) (ks : List Kept) (at : ℕ) (j k : Kept) (u : List ℕ) (r : Result
-    AddOutcome RowsRefusal) → AllDifferent texts → AllByRecursion (IsSound texts) ks → at < length
+    AddOutcome RowsRefusal) → AllDifferent texts → AllByRecursion (RelationIsSound texts) ks → at < length
     ks → j ≡ kept_at ks at
     → k.name ≡ j.name → k.types ≡ j.types → AddsTuple j.rows u r k.rows → (row : Tuple) → StandFor
     texts (relation_at (relations_of texts ks) at).types u row
-    → AddsRow (relations_of texts ks) at row r (relations_of texts (set ks at k))
+    → AddsRowAt (relations_of texts ks) at row r (relations_of texts (set ks at k))
 add_done texts ks at j k u r d s low e n t a row stand =
     added texts ks at k u row d low (sound_at texts ks at s low) (n ∙ ap (λ (x : Kept). x.name) e)
     (t ∙ ap (λ (x : Kept). x.types) e)
@@ -208,11 +208,11 @@ add_done texts ks at j k u r d s low e n t a row stand =
     AddsTuple x.rows u r k.rows) e a)
 
 pub delete_done : (texts : List Bytes) (ks : List Kept) (at : ℕ) (j k : Kept) (u : List ℕ) (r :
-    DeleteOutcome) → AllDifferent texts → AllByRecursion (IsSound texts) ks → at < length ks → j ≡
+    DeleteOutcome) → AllDifferent texts → AllByRecursion (RelationIsSound texts) ks → at < length ks → j ≡
     kept_at ks at
     → k.name ≡ j.name → k.types ≡ j.types → DeletesTuple j.rows u r k.rows → (row : Tuple) →
     StandFor texts (relation_at (relations_of texts ks) at).types u row
-    → DeletesRow (relations_of texts ks) at row r (relations_of texts (set ks at k))
+    → DeletesRowAt (relations_of texts ks) at row r (relations_of texts (set ks at k))
 delete_done texts ks at j k u r d s low e n t a row stand =
     deleted texts ks at k u row d low (sound_at texts ks at s low) (n ∙ ap (λ (x : Kept). x.name) e)
     (t ∙ ap (λ (x : Kept). x.types) e)
@@ -247,11 +247,11 @@ learned_parts p q ts h is names kept = record {
   names = names ∙ h.names ∙ ap (map (λ (x : Kept). x.name)) (sym kept);
   named = subst AllDifferent (sym names) h.named;
   different = subst AllDifferent (sym is) (all_different p.texts ts h.different);
-  sound = subst (AllByRecursion (IsSound q.texts)) (sym kept) (sounds_grown p.texts q.texts
+  sound = subst (AllByRecursion (RelationIsSound q.texts)) (sym kept) (sounds_grown p.texts q.texts
       p.kept.items (learned_grown p.texts q.texts ts is) h.sound);
 }
 
-pub learned_relations : (old new ts : List Bytes) (ks : List Kept) → AllByRecursion (IsSound old) ks
+pub learned_relations : (old new ts : List Bytes) (ks : List Kept) → AllByRecursion (RelationIsSound old) ks
     → new ≡ all_learned old ts → relations_of new ks ≡ relations_of old ks
 learned_relations old new ts ks s is = relations_grown old new ks (learned_grown old new ts is) s
 
@@ -347,7 +347,7 @@ pub pushed_parts : (p q : Parts) (name : Bytes) (types : List ColumnType) → Is
     AllDifferent q.names → q.kept.items ≡ p.kept.items ++ fresh name types ∷ [] → q.texts ≡ p.texts
     → length p.kept.items < RELATIONS → 0 < length types → length types ≤ COLUMNS → IsParts q
 pushed_parts p q name types h none learns named kept texts few some narrow =
-    let new : IsSound p.texts (fresh name types) = record {
+    let new : RelationIsSound p.texts (fresh name types) = record {
       some = some;
       narrow = narrow;
       width = refl;
@@ -367,8 +367,8 @@ pushed_parts p q name types h none learns named kept texts few some narrow =
           (fresh name types ∷ []));
       named = named;
       different = subst AllDifferent (sym texts) h.different;
-      sound = subst (λ l. AllByRecursion (IsSound l) q.kept.items) (sym texts)
-          (subst (AllByRecursion (IsSound p.texts)) (sym kept) (sound_push p.texts p.kept.items
+      sound = subst (λ l. AllByRecursion (RelationIsSound l) q.kept.items) (sym texts)
+          (subst (AllByRecursion (RelationIsSound p.texts)) (sym kept) (sound_push p.texts p.kept.items
           (fresh name types) h.sound new));
     }
 
@@ -394,7 +394,7 @@ names_differ p h = λ i j d low high same.
     subst AllDifferent (names_in p h) h.named i j d.name low (omega arith)
     (get_or-map f rs i d d.name (omega arith) ∙ same ∙ sym (get_or-map f rs j d d.name high))
 
-all_kept : (texts : List Bytes) (ks : List Kept) → AllDifferent texts → AllByRecursion (IsSound
+all_kept : (texts : List Bytes) (ks : List Kept) → AllDifferent texts → AllByRecursion (RelationIsSound
     texts) ks → AllByRecursion (IsKeptRelation texts) (relations_of texts ks)
 all_kept texts [] d h = tt
 all_kept texts (k ∷ ks) d h = (sound_kept texts k d h.0, all_kept texts ks d h.1)
@@ -412,7 +412,7 @@ catalog_sound p h many = record {
 -- a row with an unknown text
 
 have_at : (texts : List Bytes) (ks : List Kept) (at : ℕ) → AllDifferent texts → AllByRecursion
-    (IsSound texts) ks → at < length (relations_of texts ks) → AllByRecursion (HaveCells texts)
+    (RelationIsSound texts) ks → at < length (relations_of texts ks) → AllByRecursion (HaveCells texts)
     (rows_at (relations_of texts ks) at)
 have_at texts ks at d s low =
     recursion_from_All (HaveCells texts) (rows_at (relations_of texts ks) at)

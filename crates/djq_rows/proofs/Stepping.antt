@@ -28,9 +28,9 @@ use Rattle.std.specs.Prelude.{Option, Some, None, map}
 use Rattle.std.proofs.lemmas.List.{length-map}
 use Rattle.djq_index.specs.declared.place.Place.{Place}
 use Rattle.djq_index.specs.Entries.{Entry, head_at}
-use Rattle.djq_index.specs.Table.{IsAt, IsLive}
+use Rattle.djq_index.specs.Table.{IsAt, IsOccupied}
 use Rattle.djq_index.proofs.Walking.{walk_cut}
-use Rattle.djq_rows.specs.Rows.{Rows, place, place_of}
+use Rattle.djq_rows.specs.Rows.{Rows, row_place, row_place_of}
 use Rattle.djq_rows.specs.Parts.{tuples_of}
 use Rattle.djq_rows.specs.Walking.{entries_left, tuples_left, IsWalk}
 
@@ -67,7 +67,7 @@ pub all_left : (t : Rows) (n : ℕ) → n ≡ length t.entries → entries_left 
 all_left t n e = let none : length t.entries - n ≡ 0 = omega arith in ap (λ k. drop k t.entries)
     none
 
-pub starts : (t : Rows) (next : Option ℕ) (n : ℕ) → n ≡ length t.entries → place_of next ≡ head_at
+pub starts : (t : Rows) (next : Option ℕ) (n : ℕ) → n ≡ length t.entries → row_place_of next ≡ head_at
     t.entries → IsWalk t next n
 starts t next n long at = record {
   within = omega arith;
@@ -84,18 +84,18 @@ unfolding head_at
 no_entry [] h = refl
 no_entry (e ∷ es) h = absurd cc
 
-pub none_left : (t : Rows) (n : ℕ) → place_of None ≡ head_at (entries_left t n) → tuples_left t n ≡
+pub none_left : (t : Rows) (n : ℕ) → row_place_of None ≡ head_at (entries_left t n) → tuples_left t n ≡
     []
 unfolding tuples_of
 none_left t n h = ap (map (λ (e : Entry). e.tuple)) (no_entry (entries_left t n) h)
 
 -- where the walk stands, there is an entry
-pub stands : (t : Rows) (n slot : ℕ) → place_of (Some slot) ≡ head_at (entries_left t n) → Ahead
-    t.entries (length t.entries - n) (place slot)
-stands t n slot h = ahead t.entries (length t.entries - n) (place slot) (sym h)
+pub stands : (t : Rows) (n slot : ℕ) → row_place_of (Some slot) ≡ head_at (entries_left t n) → Ahead
+    t.entries (length t.entries - n) (row_place slot)
+stands t n slot h = ahead t.entries (length t.entries - n) (row_place slot) (sym h)
 
-pub stands_at : (t : Rows) (n slot : ℕ) (a : Ahead t.entries (length t.entries - n) (place slot)) →
-    IsAt t.entries (place slot) a.entry.tuple
+pub stands_at : (t : Rows) (n slot : ℕ) (a : Ahead t.entries (length t.entries - n) (row_place slot)) →
+    IsAt t.entries (row_place slot) a.entry.tuple
 stands_at t n slot a = record {
   front = take (length t.entries - n) t.entries;
   back = drop (length t.entries - n + 1) t.entries;
@@ -105,8 +105,8 @@ stands_at t n slot a = record {
   at = a.at;
 }
 
-pub stands_live : (t : Rows) (n slot : ℕ) (a : Ahead t.entries (length t.entries - n) (place slot))
-    → IsLive t.entries (place slot)
+pub stands_live : (t : Rows) (n slot : ℕ) (a : Ahead t.entries (length t.entries - n) (row_place slot))
+    → IsOccupied t.entries (row_place slot)
 stands_live t n slot a = record { tuple = a.entry.tuple; is_at = stands_at t n slot a }
 
 rest_of : (t : Rows) (n : ℕ) → n ≤ length t.entries → 0 < n → drop (length t.entries - n + 1)
@@ -128,9 +128,9 @@ step_left t n p a high =
     a))) ∙ cons_tuples a.entry (entries_left t (n - 1))
 
 pub steps : (t : Rows) (n slot : ℕ) (next : Option ℕ) (a : Ahead t.entries (length t.entries - n)
-    (place slot)) → n ≤ length t.entries → place_of next ≡ head_at (drop (length t.entries - n + 1)
+    (row_place slot)) → n ≤ length t.entries → row_place_of next ≡ head_at (drop (length t.entries - n + 1)
     t.entries) → IsWalk t next (n - 1)
-steps t n slot next a within at = let some = some_left t n (place slot) a in record {
+steps t n slot next a within at = let some = some_left t n (row_place slot) a in record {
   within = omega (arith, within);
   at = at ∙ ap head_at (rest_of t n within some);
 }

@@ -60,8 +60,8 @@ with_rows_at relations at rows =
     slice_set relations at (let r = relation_at relations at in record r { rows = rows })
 
 -- A row has a copy at least, and no more than there may be.
-abbrev pub IsCounted : CountedRow → Type 0
-IsCounted c = (1 ≤ c.copies) × (c.copies ≤ COPIES)
+abbrev pub CopiesAreInRange : CountedRow → Type 0
+CopiesAreInRange c = (1 ≤ c.copies) × (c.copies ≤ COPIES)
 
 -- A relation has a column at least. Its rows suit its columns, differ, have cells, and are within
 -- the limit, and so are the copies of each.
@@ -72,7 +72,7 @@ pub record IsKeptRelation (texts : List Bytes) (r : Relation) : Type 0 where
   pub differ : AreDifferent (tuples_in r)
   pub cells : All (HaveCells texts) (tuples_in r)
   pub few : length (tuples_in r) ≤ ROWS
-  pub counted : All IsCounted r.rows
+  pub counted : All CopiesAreInRange r.rows
 
 -- what holds of every catalog
 pub record IsCatalog (c : Catalog) : Type 0 where

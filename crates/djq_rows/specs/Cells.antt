@@ -23,14 +23,14 @@ use Rattle.djq_model.specs.Typed.{is_of, fits}
 use Rattle.djq_model.specs.Known.{knows}
 
 -- the place of a text among the known ones; past their end where it isn't known
-abbrev pub place_of : List Bytes → Bytes → ℕ
-place_of [] text = zero
-place_of (t ∷ ts) text = if bytes_eq t text then zero else suc (place_of ts text)
+abbrev pub text_place : List Bytes → Bytes → ℕ
+text_place [] text = zero
+text_place (t ∷ ts) text = if bytes_eq t text then zero else suc (text_place ts text)
 
 -- the cell of a value
 abbrev pub cell_for : List Bytes → Value → ℕ
 cell_for texts (Int i) = cast_unsigned w64 i
-cell_for texts (Text t) = place_of texts t
+cell_for texts (Text t) = text_place texts t
 
 -- the cells of a row
 abbrev pub cells_of : List Bytes → Tuple → List ℕ
@@ -47,7 +47,7 @@ HaveCells texts [] = ⊤
 HaveCells texts (v ∷ vs) = HasCell texts v × HaveCells texts vs
 
 -- in a column of this type, the cell stands for the value
-pub record StandsFor (texts : List Bytes) (column : ColumnType) (cell : ℕ) (value : Value) : Type 0
+pub record CellStandsFor (texts : List Bytes) (column : ColumnType) (cell : ℕ) (value : Value) : Type 0
   where
     pub of : is_of column value ≡ true
     pub has : HasCell texts value
@@ -56,7 +56,7 @@ pub record StandsFor (texts : List Bytes) (column : ColumnType) (cell : ℕ) (va
 -- in a column of this type, the cell stands for some value
 pub record IsCell (texts : List Bytes) (column : ColumnType) (cell : ℕ) : Type 0 where
   pub value : Value
-  pub stands : StandsFor texts column cell value
+  pub stands : CellStandsFor texts column cell value
 
 -- in columns of these types, the cells stand for the row
 pub record StandFor (texts : List Bytes) (types : List ColumnType) (cells : List ℕ) (row : Tuple) :

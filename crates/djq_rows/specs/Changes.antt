@@ -55,16 +55,16 @@ use Rattle.djq_rows.specs.Catalog.{relation_at, counted_at, rows_at, with_rows_a
 
 -- A relation without rows comes behind the others; or its name is taken, or, where it isn't, there
 -- are as many as there may be, or no memory, and nothing changes.
-abbrev pub MakesRelation : List Relation → Bytes → List ColumnType → Result RelationId RowsRefusal →
+abbrev pub MakesRelationAt : List Relation → Bytes → List ColumnType → Result RelationId RowsRefusal →
     List Relation → Type 0
-MakesRelation old name types (Ok id) new =
+MakesRelationAt old name types (Ok id) new =
     (relation_of old name ≡ None) × (length old < RELATIONS) × (id.at ≡ length old)
     × (new ≡ old ++ record { name = name; types = types; rows = [] } ∷ [])
-MakesRelation old name types (Err NameTaken) new = (is_some (relation_of old name) ≡ true) × (new ≡
+MakesRelationAt old name types (Err NameTaken) new = (is_some (relation_of old name) ≡ true) × (new ≡
     old)
-MakesRelation old name types (Err Full) new =
+MakesRelationAt old name types (Err Full) new =
     (relation_of old name ≡ None) × (RELATIONS ≤ length old) × (new ≡ old)
-MakesRelation old name types (Err NoMem) new =
+MakesRelationAt old name types (Err NoMem) new =
     (relation_of old name ≡ None) × (length old < RELATIONS) × (new ≡ old)
 
 -- There is no place for one more: the row has as many copies as there may be, or it isn't there and
@@ -77,29 +77,29 @@ pub record HasNoPlace (relations : List Relation) (at : ℕ) (row : Tuple) : Typ
 -- A row that isn't there comes behind the others of its relation, with one copy; one that is has a
 -- copy more, and nothing else changes. It is refused where there is no place; else only a new one,
 -- for want of memory.
-abbrev pub AddsRow : List Relation → ℕ → Tuple → Result AddOutcome RowsRefusal → List Relation →
+abbrev pub AddsRowAt : List Relation → ℕ → Tuple → Result AddOutcome RowsRefusal → List Relation →
     Type 0
-AddsRow old at row (Ok First) new =
+AddsRowAt old at row (Ok First) new =
     (has_row (rows_at old at) row ≡ false) × (length (rows_at old at) < ROWS)
     × (new ≡ with_rows_at old at (with_row (counted_at old at) row))
-AddsRow old at row (Ok (More n)) new =
+AddsRowAt old at row (Ok (More n)) new =
     (has_row (rows_at old at) row ≡ true) × (n ≡ copies_among (counted_at old at) row + 1)
     × (n ≤ COPIES) × (new ≡ with_rows_at old at (with_copies (counted_at old at) row n))
-AddsRow old at row (Err NameTaken) new = ⊥
-AddsRow old at row (Err Full) new = HasNoPlace old at row × (new ≡ old)
-AddsRow old at row (Err NoMem) new =
+AddsRowAt old at row (Err NameTaken) new = ⊥
+AddsRowAt old at row (Err Full) new = HasNoPlace old at row × (new ≡ old)
+AddsRowAt old at row (Err NoMem) new =
     (has_row (rows_at old at) row ≡ false) × (length (rows_at old at) < ROWS) × (new ≡ old)
 
 -- A row with one copy goes; one with several has a copy less, and nothing else changes; one that
 -- isn't there changes nothing.
-abbrev pub DeletesRow : List Relation → ℕ → Tuple → DeleteOutcome → List Relation → Type 0
-DeletesRow old at row Last new =
+abbrev pub DeletesRowAt : List Relation → ℕ → Tuple → DeleteOutcome → List Relation → Type 0
+DeletesRowAt old at row Last new =
     (has_row (rows_at old at) row ≡ true) × (copies_among (counted_at old at) row ≡ 1)
     × (new ≡ with_rows_at old at (without_copies (counted_at old at) row))
-DeletesRow old at row (Left n) new =
+DeletesRowAt old at row (Left n) new =
     (has_row (rows_at old at) row ≡ true) × (copies_among (counted_at old at) row ≡ n + 1)
     × (1 ≤ n) × (new ≡ with_rows_at old at (with_copies (counted_at old at) row n))
-DeletesRow old at row Absent new = (has_row (rows_at old at) row ≡ false) × (new ≡ old)
+DeletesRowAt old at row Absent new = (has_row (rows_at old at) row ≡ false) × (new ≡ old)
 
 -- The first of these texts have become known, but not all.
 pub record LearnsSome (old : List Bytes) (texts : List Bytes) (new : List Bytes) : Type 0 where
@@ -110,7 +110,7 @@ pub record LearnsSome (old : List Bytes) (texts : List Bytes) (new : List Bytes)
   pub learned : new ≡ all_learned old first
 
 -- The next of these texts isn't known, and as many are as may be.
-pub record FindsNoPlace (old : List Bytes) (texts : List Bytes) (new : List Bytes) : Type 0 where
+pub record FindsNoPlaceFor (old : List Bytes) (texts : List Bytes) (new : List Bytes) : Type 0 where
   pub first : List Bytes
   pub next : Bytes
   pub rest : List Bytes
@@ -137,7 +137,7 @@ abbrev pub InternsRow : List Bytes → Tuple → Result (List ℕ) InternRefusal
 InternsRow old row (Ok cells) new = (new ≡ all_learned old (texts_in row))
     × HaveCells new row × (cells ≡ cells_of new row)
 InternsRow old row (Err TextsFull) new =
-    (MOST_TEXTS < length (all_learned old (texts_in row))) × FindsNoPlace old (texts_in row) new
+    (MOST_TEXTS < length (all_learned old (texts_in row))) × FindsNoPlaceFor old (texts_in row) new
 InternsRow old row (Err NoMemForTexts) new = LearnsSome old (texts_in row) new
 
 -- The cell of a value that isn't an unknown text is told, and none of one that is.
@@ -146,19 +146,19 @@ TellsCell texts value None = knows_all texts (texts_of value) ≡ false
 TellsCell texts value (Some cell) = HasCell texts value × (cell ≡ cell_for texts value)
 
 -- The cells of a row whose texts are all known are told, and none where they aren't.
-abbrev pub TellsCells : List Bytes → Tuple → Option (List ℕ) → Type 0
-TellsCells texts row None = knows_all texts (texts_in row) ≡ false
-TellsCells texts row (Some cells) = HaveCells texts row × (cells ≡ cells_of texts row)
+abbrev pub TellsRowCells : List Bytes → Tuple → Option (List ℕ) → Type 0
+TellsRowCells texts row None = knows_all texts (texts_in row) ≡ false
+TellsRowCells texts row (Some cells) = HaveCells texts row × (cells ≡ cells_of texts row)
 
 -- Cells that were written are told, where the call says so.
-abbrev pub told : Bool → List ℕ → Option (List ℕ)
-told true cells = Some cells
-told false cells = None
+abbrev pub told_cells : Bool → List ℕ → Option (List ℕ)
+told_cells true cells = Some cells
+told_cells false cells = None
 
 -- Cells that were written are the result, where there is no error.
-abbrev pub given : {E : Type 0} → Result Unit E → List ℕ → Result (List ℕ) E
-given (Ok u) cells = Ok cells
-given (Err e) cells = Err e
+abbrev pub given_cells : {E : Type 0} → Result Unit E → List ℕ → Result (List ℕ) E
+given_cells (Ok u) cells = Ok cells
+given_cells (Err e) cells = Err e
 
 -- The relation of a name is told, and none where no relation has it.
 abbrev pub FindsRelation : List Relation → Bytes → Option RelationId → Type 0

@@ -29,7 +29,7 @@ use Rattle.djq_model.specs.Data.{Bytes, Tuple}
 use Rattle.djq_lines.specs.declared.limits.TheConstants.{COLUMNS, RELATIONS, ROWS, COPIES}
 use Rattle.djq_dict.specs.Known.{AllDifferent}
 use Rattle.djq_index.specs.Entries.{Entry}
-use Rattle.djq_index.specs.Table.{AreApart}
+use Rattle.djq_index.specs.Table.{TuplesDiffer}
 use Rattle.djq_rows.specs.declared.kept.Kept.{Kept}
 use Rattle.djq_rows.specs.declared.catalog.Catalog.TheInside.{Inside}
 use Rattle.djq_rows.specs.Catalog.{Catalog}
@@ -79,14 +79,14 @@ abbrev pub catalog_of : Inside → Catalog
 catalog_of p = record { relations = relations_of p.texts p.kept.items; texts = p.texts }
 
 -- a cell that can stand in a column
-abbrev pub IsWithin : List Bytes → ColumnType → ℕ → Type 0
-IsWithin texts IntColumn cell = cell < 2 ^ 64
-IsWithin texts TextColumn cell = cell < length texts
+abbrev pub CellFits : List Bytes → ColumnType → ℕ → Type 0
+CellFits texts IntColumn cell = cell < 2 ^ 64
+CellFits texts TextColumn cell = cell < length texts
 
 -- cells that can stand in columns of these types
 unfoldable pub AreWithin : List Bytes → List ColumnType → List ℕ → Type 0
 AreWithin texts [] [] = ⊤
-AreWithin texts (t ∷ ts) (c ∷ cs) = IsWithin texts t c × AreWithin texts ts cs
+AreWithin texts (t ∷ ts) (c ∷ cs) = CellFits texts t c × AreWithin texts ts cs
 AreWithin texts [] (c ∷ cs) = ⊥
 AreWithin texts (t ∷ ts) [] = ⊥
 
@@ -95,11 +95,11 @@ abbrev pub IsCopied : Entry → Type 0
 IsCopied e = (1 ≤ e.supports) × (e.supports ≤ COPIES)
 
 -- what holds of each relation that is kept
-pub record IsSound (texts : List Bytes) (k : Kept) : Type 0 where
+pub record RelationIsSound (texts : List Bytes) (k : Kept) : Type 0 where
   pub some : 0 < length k.types
   pub narrow : length k.types ≤ COLUMNS
   pub width : k.rows.width ≡ length k.types
-  pub apart : AreApart k.rows.entries
+  pub apart : TuplesDiffer k.rows.entries
   pub within : AllByRecursion (AreWithin texts k.types) (tuples_of k.rows.entries)
   pub few : length k.rows.entries ≤ ROWS
   pub copied : AllByRecursion IsCopied k.rows.entries
@@ -110,4 +110,4 @@ pub record IsParts (p : Inside) : Type 0 where
   pub names : p.names ≡ map (λ (k : Kept). k.name) p.kept.items
   pub named : AllDifferent p.names
   pub different : AllDifferent p.texts
-  pub sound : AllByRecursion (IsSound p.texts) p.kept.items
+  pub sound : AllByRecursion (RelationIsSound p.texts) p.kept.items

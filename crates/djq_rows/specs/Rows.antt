@@ -4,7 +4,7 @@ use Rattle.std.specs.Prelude.{ℕ, ◌≤◌, false, List, map, length, slice_in
 use Rattle.djq_arena.specs.Rows.{Row, SlotRows, AreRows}
 use Rattle.djq_index.specs.declared.place.Place.{Place}
 use Rattle.djq_index.specs.Entries.{Entry}
-use Rattle.djq_index.specs.Table.{AreApart}
+use Rattle.djq_index.specs.Table.{TuplesDiffer}
 
 -- how many cells each row has, and the rows as entries, the oldest first: the supports of each are its
 -- copies, and none is marked
@@ -17,8 +17,8 @@ abbrev pub copies_at : List ℕ → ℕ → ℕ
 copies_at copies slot = slice_index_or copies slot 0
 
 -- a row with its copies
-unfoldable pub entry_of : List ℕ → Row → Entry
-entry_of copies r = record {
+unfoldable pub entry_with_copies : List ℕ → Row → Entry
+entry_with_copies copies r = record {
   at = record { slot = r.slot };
   tuple = r.cells;
   supports = copies_at copies r.slot;
@@ -26,20 +26,20 @@ entry_of copies r = record {
 }
 
 -- rows, each with its copies
-unfoldable pub entries_in : List ℕ → List Row → List Entry
-entries_in copies rows = map (entry_of copies) rows
+unfoldable pub entries_with_copies : List ℕ → List Row → List Entry
+entries_with_copies copies rows = map (entry_with_copies copies) rows
 
 -- the place of a slot
-abbrev pub place : ℕ → Place
-place slot = record { slot = slot }
+abbrev pub row_place : ℕ → Place
+row_place slot = record { slot = slot }
 
 -- the place of a slot, if there is one
-abbrev pub place_of : Option ℕ → Option Place
-place_of None = None
-place_of (Some slot) = Some (place slot)
+abbrev pub row_place_of : Option ℕ → Option Place
+row_place_of None = None
+row_place_of (Some slot) = Some (row_place slot)
 
 -- each slot has copies, and no row stands twice
-pub record AreKept (slots : SlotRows) (copies : List ℕ) : Type 0 where
+pub record CopiesAreKept (slots : SlotRows) (copies : List ℕ) : Type 0 where
   pub rows : AreRows slots
   pub copied : slots.room ≤ length copies
-  pub apart : AreApart (entries_in copies slots.rows)
+  pub apart : TuplesDiffer (entries_with_copies copies slots.rows)

@@ -23,7 +23,7 @@ use Rattle.djq_lines.specs.declared.answer.AddOutcome.TheVariants.{First, More}
 use Rattle.djq_lines.specs.declared.answer.DeleteOutcome.{DeleteOutcome}
 use Rattle.djq_lines.specs.declared.answer.DeleteOutcome.TheVariants.{Last, Left, Absent}
 use Rattle.djq_index.specs.Entries.{Entry, count_of, supports_of}
-use Rattle.djq_index.specs.Table.{AreApart}
+use Rattle.djq_index.specs.Table.{TuplesDiffer}
 use Rattle.djq_index.specs.Changes.{Supported}
 use Rattle.djq_rows.specs.Rows.{Rows}
 use Rattle.djq_rows.specs.declared.refusal.RowsRefusal.{RowsRefusal}
@@ -48,7 +48,7 @@ pub record Dropped (old new : List Entry) (u : List ℕ) : Type 0 where
 -- the rows keep their width, and none stands twice
 pub record StayApart (old new : Rows) : Type 0 where
   pub width : new.width ≡ old.width
-  pub apart : AreApart new.entries
+  pub apart : TuplesDiffer new.entries
 
 -- whether a tuple is there
 abbrev pub HasTuple : List Entry → List ℕ → Bool → Type 0

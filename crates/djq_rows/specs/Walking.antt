@@ -2,7 +2,7 @@
 use Rattle.std.specs.Prelude.{◌≡◌, ℕ, ◌-◌, ◌≤◌, List, [], ◌∷◌, length, drop, Option, Some, None}
 use Rattle.std.specs.Borrow.{Bor}
 use Rattle.djq_index.specs.Entries.{Entry, head_at}
-use Rattle.djq_rows.specs.Rows.{Rows, place_of}
+use Rattle.djq_rows.specs.Rows.{Rows, row_place_of}
 use Rattle.djq_rows.specs.Parts.{tuples_of}
 
 -- the entries that are left, when there are so many of them
@@ -16,7 +16,7 @@ tuples_left r left = tuples_of (entries_left r left)
 -- a walk stands at the first entry that is left
 pub record IsWalk (r : Rows) (next : Option ℕ) (left : ℕ) : Type 0 where
   pub within : left ≤ length r.entries
-  pub at : place_of next ≡ head_at (entries_left r left)
+  pub at : row_place_of next ≡ head_at (entries_left r left)
 
 -- The first of the rows that are left is told; none where none is left.
 abbrev pub TellsRow : List (List ℕ) → Option (Bor (List ℕ)) → List (List ℕ) → Type 0

@@ -19,19 +19,19 @@ ghost use Rattle.djq_model.specs.Data.{Tuple, has_row, copies_among};
 ghost use Rattle.djq_model.specs.Typed.{is_of, fits};
 ghost use Rattle.djq_model.specs.ValueRef.{value_lent};
 ghost use Rattle.djq_model.specs.declared.value.Value.{Value as Datum};
-ghost use Rattle.djq_rows.specs.Cells.{cells_of, StandsFor, IsCell};
+ghost use Rattle.djq_rows.specs.Cells.{cells_of, CellStandsFor, IsCell};
 ghost use Rattle.djq_rows.specs.Catalog.{IsCatalog, StandForRow, AreCellsOf, relation_at, counted_at, rows_at};
 ghost use Rattle.djq_rows.specs.Changes.{
-  MakesRelation,
+  MakesRelationAt,
   FindsRelation,
-  AddsRow,
-  DeletesRow,
+  AddsRowAt,
+  DeletesRowAt,
   InternsValue,
   InternsRow,
   TellsCell,
-  TellsCells,
-  told,
-  given,
+  TellsRowCells,
+  told_cells,
+  given_cells,
 };
 
 use crate::kept::Kept;
@@ -126,7 +126,7 @@ impl Catalog {
     pub fn relation(&mut self, name: Name, types: Types) -> Result<RelationId, RowsRefusal>
         requires some { 0 < length types }
         requires narrow { length types ≤ COLUMNS }
-        ensures makes { MakesRelation self.old.relations name types result self.new.relations }
+        ensures makes { MakesRelationAt self.old.relations name types result self.new.relations }
         ensures texts { self.new.texts ≡ self.old.texts }
     {
         if self.id(&name).is_some() {
@@ -212,7 +212,7 @@ impl Catalog {
     /// relation. It takes no memory.
     pub fn cells(&self, row: &[Value]) -> Option<Cells>
         requires { length row.now ≤ CELLS }
-        ensures tells { TellsCells self.now.texts row.now result }
+        ensures tells { TellsRowCells self.now.texts row.now result }
         ensures absent { IfNone result ((at : ℕ) → at < length self.now.relations
             → has_row (rows_at self.now.relations at) row.now ≡ false) }
     {
@@ -228,8 +228,8 @@ impl Catalog {
     /// known, and then the row is in no relation. It takes no memory.
     pub fn write_cells(&self, row: &[Value], cells: &mut Cells) -> bool
         requires { length row.now ≤ CELLS }
-        ensures tells { TellsCells self.now.texts row.now (told result cells.new) }
-        ensures absent { IfNone (told result cells.new) ((at : ℕ) → at < length self.now.relations
+        ensures tells { TellsRowCells self.now.texts row.now (told_cells result cells.new) }
+        ensures absent { IfNone (told_cells result cells.new) ((at : ℕ) → at < length self.now.relations
             → has_row (rows_at self.now.relations at) row.now ≡ false) }
     {
         // read for what holds of the rows: all their texts are known
@@ -294,7 +294,7 @@ impl Catalog {
     /// As of [`Catalog::intern_row`].
     pub fn intern_cells(&mut self, row: &[Value], cells: &mut Cells) -> Result<(), InternRefusal>
         requires { length row.now ≤ CELLS }
-        ensures interns { InternsRow self.old.texts row.now (given result cells.new) self.new.texts }
+        ensures interns { InternsRow self.old.texts row.now (given_cells result cells.new) self.new.texts }
         ensures absent { OnErr result ((at : ℕ) → at < length self.old.relations
             → has_row (rows_at self.old.relations at) row.now ≡ false) }
         ensures relations { self.new.relations ≡ self.old.relations }
@@ -352,7 +352,7 @@ impl Catalog {
         requires there { id.at < length self.old.relations }
         requires row { AreCellsOf self.old id.at cells.now }
         ensures adds { (row : Tuple) → StandForRow self.old id.at cells.now row
-            → AddsRow self.old.relations id.at row result self.new.relations }
+            → AddsRowAt self.old.relations id.at row result self.new.relations }
         ensures texts { self.new.texts ≡ self.old.texts }
         ensures counted { tally.new ≤ tally.old + 2 }
     {
@@ -370,7 +370,7 @@ impl Catalog {
         requires there { id.at < length self.old.relations }
         requires row { AreCellsOf self.old id.at cells.now }
         ensures deletes { (row : Tuple) → StandForRow self.old id.at cells.now row
-            → DeletesRow self.old.relations id.at row result self.new.relations }
+            → DeletesRowAt self.old.relations id.at row result self.new.relations }
         ensures texts { self.new.texts ≡ self.old.texts }
         ensures counted { tally.new ≤ tally.old + 2 }
     {
@@ -380,7 +380,7 @@ impl Catalog {
     /// The value that a cell of a column stands for. Its text is lent, so it takes no memory.
     pub fn value(&self, column: ColumnType, cell: u64) -> ValueRef<'_>
         requires { IsCell self.now.texts column cell }
-        ensures { (value : Datum) → StandsFor self.now.texts column cell value
+        ensures { (value : Datum) → CellStandsFor self.now.texts column cell value
             → value_lent result ≡ value }
     {
         match column {

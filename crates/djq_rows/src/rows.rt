@@ -20,9 +20,9 @@ ghost use Rattle.std.specs.Prelude.{
 };
 ghost use Rattle.djq_arena.specs.Store.{hash};
 ghost use Rattle.djq_index.specs.Entries.{Entry, count_of, supports_of, head_at};
-ghost use Rattle.djq_index.specs.Table.{AreApart, IsAt, IsLive};
+ghost use Rattle.djq_index.specs.Table.{TuplesDiffer, IsAt, IsOccupied};
 ghost use Rattle.djq_index.specs.Changes.{Supported};
-ghost use Rattle.djq_rows.specs.Rows.{AreKept, copies_at, entries_in, place, place_of};
+ghost use Rattle.djq_rows.specs.Rows.{CopiesAreKept, copies_at, entries_with_copies, row_place, row_place_of};
 ghost use Rattle.djq_rows.specs.Tuples.{Appended, Dropped};
 ghost use Rattle.djq_arena.specs.declared.link.TheConstants.{SLOTS};
 
@@ -47,11 +47,11 @@ impl Model for Rows {
 
     ghost Value = { spec.Rows };
 
-    ghost use Rattle.djq_rows.specs.Rows.{entries_in, AreKept};
+    ghost use Rattle.djq_rows.specs.Rows.{entries_with_copies, CopiesAreKept};
 
-    ghost view = { λ r. record { width = r.arena.width; entries = entries_in r.copies.items r.arena.rows } };
+    ghost view = { λ r. record { width = r.arena.width; entries = entries_with_copies r.copies.items r.arena.rows } };
 
-    ghost invariant = { λ r. AreKept r.arena r.copies.items };
+    ghost invariant = { λ r. CopiesAreKept r.arena r.copies.items };
 }
 
 impl Rows {
@@ -69,7 +69,7 @@ impl Rows {
 
     /// The law that no row stands twice. It does nothing.
     pub fn laws(&self)
-        ensures { AreApart self.now.entries }
+        ensures { TuplesDiffer self.now.entries }
     {
         let _ = &self.arena;
     }
@@ -84,7 +84,7 @@ impl Rows {
     /// The slot of a row; none exactly where it is absent. It counts one lookup.
     pub fn find<L: Ledger>(&self, cells: &[u64], tally: &mut Tally<L>) -> Option<u32>
         ensures found { MatchOption result (count_of self.now.entries cells.now ≡ 0)
-            (λ slot. IsAt self.now.entries (place slot) cells.now) }
+            (λ slot. IsAt self.now.entries (row_place slot) cells.now) }
         ensures counted { tally.new ≡ tally.old + 1 }
     {
         tally.lookup();
@@ -100,7 +100,7 @@ impl Rows {
     ) -> Option<u32>
         requires { code ≡ hash cells.now }
         ensures found { MatchOption result (count_of self.now.entries cells.now ≡ 0)
-            (λ slot. IsAt self.now.entries (place slot) cells.now) }
+            (λ slot. IsAt self.now.entries (row_place slot) cells.now) }
         ensures counted { tally.new ≡ tally.old + 1 }
     {
         tally.lookup();
@@ -109,7 +109,7 @@ impl Rows {
 
     /// The slot of the oldest row. It counts one lookup.
     pub fn first<L: Ledger>(&self, tally: &mut Tally<L>) -> Option<u32>
-        ensures first { place_of result ≡ head_at self.now.entries }
+        ensures first { row_place_of result ≡ head_at self.now.entries }
         ensures counted { tally.new ≡ tally.old + 1 }
     {
         tally.lookup();
@@ -118,9 +118,9 @@ impl Rows {
 
     /// The slot of the row that came next after the one in a slot. It counts one link.
     pub fn next<L: Ledger>(&self, slot: u32, tally: &mut Tally<L>) -> Option<u32>
-        requires { IsLive self.now.entries (place slot) }
+        requires { IsOccupied self.now.entries (row_place slot) }
         ensures next { (xs : List Entry) (e : Entry) (ys : List Entry) → self.now.entries ≡ xs ++ e ∷ ys
-            → e.at ≡ place slot → place_of result ≡ head_at ys }
+            → e.at ≡ row_place slot → row_place_of result ≡ head_at ys }
         ensures counted { tally.new ≡ tally.old + 1 }
     {
         tally.link();
@@ -129,16 +129,16 @@ impl Rows {
 
     /// The cells of the row in a slot.
     pub fn cells(&self, slot: u32) -> &[u64]
-        requires { IsLive self.now.entries (place slot) }
-        ensures { (u : List ℕ) → IsAt self.now.entries (place slot) u → result.now ≡ u }
+        requires { IsOccupied self.now.entries (row_place slot) }
+        ensures { (u : List ℕ) → IsAt self.now.entries (row_place slot) u → result.now ≡ u }
     {
         self.arena.cells(slot)
     }
 
     /// How many copies of the row in a slot there are.
     pub fn copies(&self, slot: u32) -> u32
-        requires { IsLive self.now.entries (place slot) }
-        ensures { (u : List ℕ) → IsAt self.now.entries (place slot) u → result ≡ supports_of self.now.entries u }
+        requires { IsOccupied self.now.entries (row_place slot) }
+        ensures { (u : List ℕ) → IsAt self.now.entries (row_place slot) u → result ≡ supports_of self.now.entries u }
     {
         self.copies[slot as usize]
     }
@@ -157,7 +157,7 @@ impl Rows {
         requires few { length self.old.entries < SLOTS }
         ensures came { IfOk result (λ _. Appended self.old.entries self.new.entries cells.now) }
         ensures refused { OnErr result (self.new.entries ≡ self.old.entries) }
-        ensures apart { AreApart self.new.entries }
+        ensures apart { TuplesDiffer self.new.entries }
         ensures width { self.new.width ≡ self.old.width }
         ensures counted { tally.new ≡ tally.old + 1 }
     {
@@ -171,10 +171,10 @@ impl Rows {
 
     /// Takes the row in a slot out. Other slots stay.
     pub fn remove<L: Ledger>(&mut self, slot: u32, tally: &mut Tally<L>)
-        requires { IsLive self.old.entries (place slot) }
-        ensures went { (u : List ℕ) → IsAt self.old.entries (place slot) u
+        requires { IsOccupied self.old.entries (row_place slot) }
+        ensures went { (u : List ℕ) → IsAt self.old.entries (row_place slot) u
             → Dropped self.old.entries self.new.entries u }
-        ensures apart { AreApart self.new.entries }
+        ensures apart { TuplesDiffer self.new.entries }
         ensures width { self.new.width ≡ self.old.width }
         ensures counted { tally.new ≡ tally.old + 1 }
     {
@@ -185,10 +185,10 @@ impl Rows {
 
     /// Gives the row in a slot another number of copies.
     pub fn recount<L: Ledger>(&mut self, slot: u32, copies: u32, tally: &mut Tally<L>)
-        requires { IsLive self.old.entries (place slot) }
-        ensures recounted { (u : List ℕ) → IsAt self.old.entries (place slot) u
+        requires { IsOccupied self.old.entries (row_place slot) }
+        ensures recounted { (u : List ℕ) → IsAt self.old.entries (row_place slot) u
             → Supported self.old.entries self.new.entries u (supports_of self.old.entries u) copies }
-        ensures apart { AreApart self.new.entries }
+        ensures apart { TuplesDiffer self.new.entries }
         ensures width { self.new.width ≡ self.old.width }
         ensures counted { tally.new ≡ tally.old + 1 }
     {

@@ -7,7 +7,7 @@ use Rattle.djq_io.specs.declared.sink.Write.{Write}
 use Rattle.djq_io.specs.declared.sink.Wrote.TheVariants.{Failed}
 use Rattle.djq_machine.specs.State.{State}
 use Rattle.djq_machine.specs.Run.{all_taken, pending_of}
-use Rattle.djq_laws.specs.Course.{Does, last_write}
+use Rattle.djq_laws.specs.Course.{RunDoes, last_write}
 use Rattle.djq_laws.proofs.Courses.{does_well}
 use Rattle.djq_laws.proofs.Heading.{headline}
 use Rattle.djq_run.specs.declared.status.Status.{Status}
@@ -87,7 +87,7 @@ failed_write_is_last status before now start state ends earlier failed later h n
     record {
       last = (l.1).last;
       is = is_fault status (sym ends.failed ∙ l.0);
-      does = subst (λ (ws : List Write). Does start c.done ws state) (sym (l.1).before) c.does;
+      does = subst (λ (ws : List Write). RunDoes start c.done ws state) (sym (l.1).before) c.does;
       queued = ap (λ bs. bs ++ failed.piece) wrote ∙ ap (λ (w : Write). all_taken 1 c.done ++ w.piece) (l.1).same
           ∙ head.sent;
     }

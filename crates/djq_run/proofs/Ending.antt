@@ -3,7 +3,7 @@ use Rattle.std.specs.Prelude.{ℕ, List, [], ◌∷◌, ◌⊎◌, false, Result
 use Rattle.std.specs.Prelude.{◌+◌, ◌<◌, ◌≤◌, true, Option, None, Some, IsSomeAnd, length}
 use Rattle.std.proofs.Common.{refl, sym, ap, ◌∙◌, subst, inl, inr, length-append, arith}
 use Rattle.std.proofs.lemmas.Grind.{flat_map-append}
-use Rattle.djq_io.specs.Source.{Reading}
+use Rattle.djq_io.specs.Source.{SourceReading}
 use Rattle.djq_model.specs.Data.{Bytes}
 use Rattle.djq_lines.specs.declared.answer.EndCause.{EndCause}
 use Rattle.djq_lines.specs.declared.answer.EndCause.TheVariants.{Input, Quit, Stop, Long, Slow, Memory}
@@ -19,7 +19,7 @@ use Rattle.djq_laws.specs.declared.limits.TheConstants.{MOST_READS}
 use Rattle.djq_laws.proofs.Queueing.{stepped_held, stepped_cause}
 use Rattle.djq_laws.proofs.Sending.{step_bytes}
 use Rattle.djq_laws.specs.Course.{Outside, Course, AwaitsInput}
-use Rattle.djq_laws.proofs.Moving.{Comes, is_held, out_of_memory, is_dropped, Ends, input_ends, had_ended}
+use Rattle.djq_laws.proofs.Moving.{InputComes, is_held, out_of_memory, is_dropped, InputIsOver, input_ends, had_ended}
 use Rattle.djq_laws.proofs.Courses.{course_then, course_then_done, course_then_failed}
 use Rattle.djq_run.specs.declared.status.Status.{Status}
 use Rattle.djq_run.specs.declared.status.Status.TheVariants.{Done, Usage, ReadFault, HubFault}
@@ -29,11 +29,11 @@ use Rattle.djq_run.specs.declared.status.Status.TheVariants.{BadLog, Mirror}
 use Rattle.djq_run.specs.declared.status.Status.TheVariants.{WriteFault as StatusWriteFault}
 use Rattle.djq_run.specs.declared.session.Served.{Served}
 use Rattle.djq_run.specs.declared.session.Served.TheVariants.{AwaitsInput as Waiting, Ended, WriteFault}
-use Rattle.djq_run.specs.Ends.{Awaits, IsAtEnd, IsWellEnded, EndedBy, IsCutOff, Stands, ReadsCount}
+use Rattle.djq_run.specs.Ends.{Awaits, IsAtEnd, IsWellEnded, EndedBy, IsCutOff, StatusStands, ReadsCount}
 use Rattle.djq_run.specs.Ends.{StatusCount, RunEnds}
 use Rattle.djq_run.proofs.Going.{PieceFed, awaits, by_opening, goes_begun}
-use Rattle.djq_run.specs.Parts.{GoesTo, Serves, ServedCount, GoesOn, ReadEnds}
-use Rattle.djq_run.specs.Parts.{status_of, has_failed, failed_by}
+use Rattle.djq_run.specs.Parts.{GoesTo, ServedTo, ServedCount, RunGoesOn, ReadEnds}
+use Rattle.djq_run.specs.Parts.{status_of, write_failed, failed_by}
 
 -- a session that awaits input is open, and has no end cause
 none_kept : (o : Option Session) → IsSomeAnd o AwaitsInput → cause_in o ≡ None
@@ -54,9 +54,9 @@ ended_by P st c cause pending h = record
 
 -- What the session came to behind a piece, as where the run goes on to or ends, since no line ends its input.
 pub served_as : (served : Served) (fed : Bytes) (before now : Outside) (old mid new : State) → cause_of old 1 ≡ None
-    → (cause_of mid 1 ≡ Some Input → cause_of old 1 ≡ Some Input) → Serves served mid new
+    → (cause_of mid 1 ≡ Some Input → cause_of old 1 ≡ Some Input) → ServedTo served mid new
     → 0 < length fed → now.read_faults ≡ before.read_faults → ServedCount served before.write_faults now.write_faults
-    → GoesOn (status_of served) fed before now new
+    → RunGoesOn (status_of served) fed before now new
 served_as Waiting fed before now old mid new running input h some reads writes = (h, omega (arith, some), reads, writes)
 served_as (Ended Input) fed before now old mid new running input h some reads writes = absurd
     (none_input (cause_of old 1) (cause_of mid 1) running (h.2 refl) input)
@@ -77,18 +77,18 @@ served_as WriteFault fed before now old mid new running input h some reads write
 )
 
 -- no piece ends a session's input
-pub piece_input : (old new : State) (bytes : Bytes) → Comes old new 1 bytes → cause_of new 1 ≡ Some Input
+pub piece_input : (old new : State) (bytes : Bytes) → InputComes old new 1 bytes → cause_of new 1 ≡ Some Input
     → cause_of old 1 ≡ Some Input
 piece_input old new bytes (is_held a b d e f) cause = cc
 piece_input old new bytes (out_of_memory a b d e f) cause = cc
 piece_input old new bytes (is_dropped a c b d e f) cause = cc
 
-pub piece_open : (old new : State) (bytes : Bytes) → Comes old new 1 bytes → IsOpen new 1
+pub piece_open : (old new : State) (bytes : Bytes) → InputComes old new 1 bytes → IsOpen new 1
 piece_open old new bytes (is_held a b d e f) = a
 piece_open old new bytes (out_of_memory a b d e f) = a
 piece_open old new bytes (is_dropped a c b d e f) = a
 
-pub end_open : (old new : State) → Ends old new 1 → IsOpen new 1
+pub end_open : (old new : State) → InputIsOver old new 1 → IsOpen new 1
 end_open old new (input_ends a b c d e f) = a
 end_open old new (had_ended a b c d e f) = a
 
@@ -97,14 +97,14 @@ pub record InputEnded (mid : State) : Type 0 where
   pub cause : cause_of mid 1 ≡ Some Input
   pub dry : is_dry (held_of mid 1) ≡ true
 
-pub input_ended : (old mid : State) → Awaits old → Ends old mid 1 → InputEnded mid
+pub input_ended : (old mid : State) → Awaits old → InputIsOver old mid 1 → InputEnded mid
 input_ended old mid waits (input_ends a b c d e f) = record { cause = c; dry = ap (λ bytes. is_dry bytes) d ∙ e }
 input_ended old mid waits (had_ended a c b d e f) = absurd (some_none (sym (awaits_running old waits) ∙ b))
   where
     some_none : None ≡ Some c → ⊥
     some_none e = cc
 
-pub ends_done : (reading : Option Reading) (mid new : State) → InputEnded mid → cause_of new 1 ≡ cause_of mid 1
+pub ends_done : (reading : Option SourceReading) (mid new : State) → InputEnded mid → cause_of new 1 ≡ cause_of mid 1
     → held_of new 1 ≡ held_of mid 1 → pending_of new 1 ≡ [] → IsAtEnd reading
     → EndedBy (IsWellEnded reading new) new
 ends_done reading mid new ended cause held pending at_end =
@@ -122,7 +122,7 @@ fed_more o o' o'' old mid new c well d =
     ∙ length-append (all_fed 1 c.done) (all_fed 1 d.done)
 
 -- a run ends by a write that failed as serving does
-served_failed : (served : Served) → has_failed served ≡ failed_by (status_of served)
+served_failed : (served : Served) → write_failed served ≡ failed_by (status_of served)
 served_failed Waiting = refl
 served_failed (Ended Input) = refl
 served_failed (Ended Quit) = refl
@@ -134,9 +134,9 @@ served_failed WriteFault = refl
 
 -- What a piece comes to, whose lines were served.
 pub piece_ends : (served : Served) (o mid_o o' : Outside) (old mid new : State) (bytes : Bytes)
-    → PieceFed o mid_o old mid bytes → GoesTo (has_failed served) mid mid_o o' new → Awaits old
-    → Comes old mid 1 bytes
-    → Serves served mid new → 0 < length bytes → o'.read_faults ≡ o.read_faults
+    → PieceFed o mid_o old mid bytes → GoesTo (write_failed served) mid mid_o o' new → Awaits old
+    → InputComes old mid 1 bytes
+    → ServedTo served mid new → 0 < length bytes → o'.read_faults ≡ o.read_faults
     → ServedCount served o.write_faults o'.write_faults → ReadEnds (status_of served) o o' old new
 piece_ends served o mid_o o' old mid new bytes piece c waits comes serves some reads writes =
     let whole = course_then o mid_o o' old mid new piece.course piece.well c.0 in
@@ -150,8 +150,9 @@ piece_ends served o mid_o o' old mid new bytes piece c waits comes serves some r
     }
 
 -- What a status says, with more bytes fed before.
-stands_more : (status : Status) (fed fed' : Bytes) (reading : Option Reading) (st : State) → length fed ≤ length fed'
-    → Stands status fed reading st → Stands status fed' reading st
+stands_more : (status : Status) (fed fed' : Bytes) (reading : Option SourceReading) (st : State)
+    → length fed ≤ length fed'
+    → StatusStands status fed reading st → StatusStands status fed' reading st
 stands_more Done fed fed' reading st more h = h
 stands_more SessionEnded fed fed' reading st more h = h
 stands_more NoMemory fed fed' reading st more h = h
@@ -167,8 +168,8 @@ stands_more (BadLog at) fed fed' reading st more h = h
 stands_more (Mirror n) fed fed' reading st more h = h
 
 -- The source is as it was at its end.
-pub still_at_end : (reading reading' : Option Reading) → IsAtEnd reading → reading' ≡ reading → IsAtEnd reading'
-still_at_end reading reading' h same = subst (λ (r : Option Reading). IsAtEnd r) (sym same) h
+pub still_at_end : (reading reading' : Option SourceReading) → IsAtEnd reading → reading' ≡ reading → IsAtEnd reading'
+still_at_end reading reading' h same = subst (λ (r : Option SourceReading). IsAtEnd r) (sym same) h
 
 -- The run so far, in which no fault was met, and a read that ends it.
 pub run_ends : (status : Status) (before mid_o now : Outside) (start mid state : State)

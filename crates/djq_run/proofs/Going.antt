@@ -2,7 +2,7 @@
 use Rattle.std.specs.Prelude.{ℕ, List, [], ◌∷◌, ◌≡◌, ◌+◌, ◌<◌, ◌≤◌, Bool, true, false, Option, None}
 use Rattle.std.specs.Prelude.{Some, IsSome, IsSomeAnd, length, take}
 use Rattle.std.proofs.Common.{refl, sym, ap, ◌∙◌, subst, append-nil, length-take, arith}
-use Rattle.djq_io.specs.Source.{Reading, Gives, GivesPiece}
+use Rattle.djq_io.specs.Source.{SourceReading, SourceGives, GivesPiece}
 use Rattle.djq_io.specs.Sink.{Gains}
 use Rattle.djq_io.specs.declared.sink.Write.{Write}
 use Rattle.djq_io.specs.declared.sink.Wrote.TheVariants.{Took, Failed as WriteFailed}
@@ -24,7 +24,7 @@ use Rattle.djq_run.specs.Parts.{GoesTo, with_sink}
 
 -- an event that may come next, and counts nothing
 by_event : (o o' : Outside) (old new : State) (event : Event) → Makes old event new → MayRun old event
-    → Gives o.reading o'.reading (piece_of event) → Gains o.writing o'.writing (writes_by old event)
+    → SourceGives o.reading o'.reading (piece_of event) → Gains o.writing o'.writing (writes_by old event)
     → o'.counted ≡ o.counted → GoesTo false old o o' new
 by_event o o' old new event m may gives gains same =
     let d : Did = record { event = event; effect = m.effect } in
@@ -82,7 +82,7 @@ pub record PieceFed (o o' : Outside) (old new : State) (bytes : Bytes) : Type 0 
   pub well : course.failed ≡ false
   pub fed : all_fed 1 course.done ≡ bytes
 
-pub by_piece : (reading reading' : Option Reading) (rf rf' : ℕ) (told : Option (List Write)) (wf : ℕ)
+pub by_piece : (reading reading' : Option SourceReading) (rf rf' : ℕ) (told : Option (List Write)) (wf : ℕ)
     (counted : Counts) (old new : State) (bytes : Bytes) → Awaits old
     → 0 < length bytes → length bytes ≤ READ_BYTES → GivesPiece reading reading' bytes → Makes old (fed 1 bytes) new
     → PieceFed (outside reading rf told wf counted) (outside reading' rf' told wf counted) old new bytes
@@ -102,16 +102,18 @@ by_piece reading reading' rf rf' told wf counted old new bytes waits some few gi
     }
 
 -- the end of the input
-pub by_end : (reading reading' : Option Reading) (rf rf' : ℕ) (told : Option (List Write)) (wf : ℕ) (counted : Counts)
+pub by_end : (reading reading' : Option SourceReading) (rf rf' : ℕ) (told : Option (List Write)) (wf : ℕ)
+    (counted : Counts)
     (old new : State) → reading' ≡ reading → Awaits old → Makes old (ended 1) new
     → GoesTo false old (outside reading rf told wf counted) (outside reading' rf' told wf counted) new
 by_end reading reading' rf rf' told wf counted old new same waits m =
     by_event (outside reading rf told wf counted) (outside reading' rf' told wf counted) old new (ended 1) m
     (refl, waits)
-    (subst (λ (r : Option Reading). Gives reading r []) (sym same) (gives_none reading)) (gains_none told) refl
+    (subst (λ (r : Option SourceReading). SourceGives reading r []) (sym same) (gives_none reading))
+    (gains_none told) refl
 
 -- a read that failed
-pub by_failure : (reading reading' : Option Reading) (rf rf' : ℕ) (told : Option (List Write)) (wf : ℕ)
+pub by_failure : (reading reading' : Option SourceReading) (rf rf' : ℕ) (told : Option (List Write)) (wf : ℕ)
     (counted : Counts) (old : State) → reading' ≡ reading
     → GoesTo false old (outside reading rf told wf counted) (outside reading' rf' told wf counted) old
 by_failure reading reading' rf rf' told wf counted old same = (
@@ -120,7 +122,7 @@ by_failure reading reading' rf rf' told wf counted old same = (
     writes = [];
     does = (refl, refl);
     failed = false;
-    read = subst (λ (r : Option Reading). Gives reading r []) (sym same) (gives_none reading);
+    read = subst (λ (r : Option SourceReading). SourceGives reading r []) (sym same) (gives_none reading);
     written = gains_none told;
     listing = omega arith;
   },

@@ -14,14 +14,14 @@ use Rattle.djq_machine.specs.Run.{pending_of}
 use Rattle.djq_machine.specs.Call.{IsOpen, MakesCounted, RanStep, EndedStepAs, StepGives, Counts, cause_of, held_of}
 use Rattle.djq_laws.specs.Moved.{EndsByRun}
 use Rattle.djq_laws.specs.Course.{Outside}
-use Rattle.djq_laws.proofs.Moving.{Takes, StepsLine, stepped_facts}
+use Rattle.djq_laws.proofs.Moving.{SessionTakes, StepsLine, stepped_facts}
 use Rattle.djq_laws.proofs.Cutting.{front_fewer}
 use Rattle.djq_run.specs.Parts.{GoesTo, with_sink}
 use Rattle.djq_run.proofs.Going.{goes_begun, by_line}
 
 -- a write that took some bytes leaves fewer pending
 pub fewer_pending : (n : ℕ) (old new : State) → 1 ≤ n → n ≤ length (pending_of old 1)
-    → Takes old new 1 (take n (pending_of old 1)) → length (pending_of new 1) < length (pending_of old 1)
+    → SessionTakes old new 1 (take n (pending_of old 1)) → length (pending_of new 1) < length (pending_of old 1)
 fewer_pending n old new some within t =
     omega (
       arith,
@@ -39,7 +39,7 @@ no_bytes (b ∷ bs) e = absurd (omega (arith, e))
 
 -- a write that took all leaves nothing pending
 pub none_pending : (n : ℕ) (old new : State) → n ≡ length (pending_of old 1)
-    → Takes old new 1 (take n (pending_of old 1)) → pending_of new 1 ≡ []
+    → SessionTakes old new 1 (take n (pending_of old 1)) → pending_of new 1 ≡ []
 none_pending n old new all t =
     no_bytes (pending_of new 1)
     (omega (

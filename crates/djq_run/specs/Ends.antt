@@ -1,7 +1,7 @@
 -- How a run of one session, from a source to a sink, ends.
 use Rattle.std.specs.Prelude.{ℕ, [], ◌≡◌, ◌<◌, ◌≤◌, ◌⊎◌, Bool, true, false, Option, Some, IfSome, IsSomeAnd, length}
 use Rattle.djq_io.specs.Faults.{Counted}
-use Rattle.djq_io.specs.Source.{Reading}
+use Rattle.djq_io.specs.Source.{SourceReading}
 use Rattle.djq_model.specs.Data.{Bytes}
 use Rattle.djq_lines.specs.declared.answer.EndCause.{EndCause}
 use Rattle.djq_lines.specs.declared.answer.EndCause.TheVariants.{Input, Quit, Stop, Long, Slow, Memory}
@@ -22,12 +22,12 @@ abbrev pub Awaits : State → Type 0
 Awaits st = IsSomeAnd (session_of st 1) AwaitsInput
 
 -- The source has nothing left, where it tells.
-abbrev pub IsAtEnd : Option Reading → Type 0
+abbrev pub IsAtEnd : Option SourceReading → Type 0
 IsAtEnd reading = IfSome reading (λ r. r.left ≡ [])
 
 -- The session was ended by the end of its input, with none left and each whole line run; or it
 -- asked for the end.
-abbrev pub IsWellEnded : Option Reading → State → EndCause → Type 0
+abbrev pub IsWellEnded : Option SourceReading → State → EndCause → Type 0
 IsWellEnded reading st Input = IsAtEnd reading × (is_dry (held_of st 1) ≡ true)
 IsWellEnded reading st Quit = Unit {0}
 IsWellEnded reading st Stop = Unit {0}
@@ -46,27 +46,27 @@ pub record EndedBy (P : EndCause → Type 0) (st : State) : Type 0 where
 
 -- Some of what was queued isn't written. Where the session's input has ended, the source is at its
 -- end.
-pub record IsUnsent (reading : Option Reading) (st : State) : Type 0 where
+pub record IsUnsent (reading : Option SourceReading) (st : State) : Type 0 where
   pub some : 0 < length (pending_of st 1)
   pub at_end : cause_of st 1 ≡ Some Input → IsAtEnd reading
 
 -- What each status says of the state that the run led to, of the bytes that were fed on its way,
 -- and of what is left. With the counts of faults these shut one another out, so each status comes
 -- exactly where what it says holds.
-abbrev pub Stands : Status → Bytes → Option Reading → State → Type 0
-Stands Done fed reading st = EndedBy (IsWellEnded reading st) st
-Stands SessionEnded fed reading st = EndedBy IsCutOff st
-Stands NoMemory fed reading st = EndedBy (λ c. c ≡ Memory) st
-Stands ReadFault fed reading st = Awaits st
-Stands TurnsUsed fed reading st = Awaits st × (MOST_READS ≤ length fed)
-Stands WriteFault fed reading st = IsUnsent reading st
-Stands Usage fed reading st = ⊥
-Stands HubFault fed reading st = ⊥
-Stands (Schedule n) fed reading st = ⊥
-Stands DiskFault fed reading st = ⊥
-Stands LogFull fed reading st = ⊥
-Stands (BadLog at) fed reading st = ⊥
-Stands (Mirror n) fed reading st = ⊥
+abbrev pub StatusStands : Status → Bytes → Option SourceReading → State → Type 0
+StatusStands Done fed reading st = EndedBy (IsWellEnded reading st) st
+StatusStands SessionEnded fed reading st = EndedBy IsCutOff st
+StatusStands NoMemory fed reading st = EndedBy (λ c. c ≡ Memory) st
+StatusStands ReadFault fed reading st = Awaits st
+StatusStands TurnsUsed fed reading st = Awaits st × (MOST_READS ≤ length fed)
+StatusStands WriteFault fed reading st = IsUnsent reading st
+StatusStands Usage fed reading st = ⊥
+StatusStands HubFault fed reading st = ⊥
+StatusStands (Schedule n) fed reading st = ⊥
+StatusStands DiskFault fed reading st = ⊥
+StatusStands LogFull fed reading st = ⊥
+StatusStands (BadLog at) fed reading st = ⊥
+StatusStands (Mirror n) fed reading st = ⊥
 
 -- The first fault of the source ends the run with its status; under every other status there was
 -- none.
@@ -95,7 +95,7 @@ pub record RunEnds (status : Status) (before now : Outside) (start state : State
   pub course : Course start before now state
   -- a write failed under WriteFault alone, and nothing was done behind it
   pub failed : course.failed ≡ is_write_fault status
-  pub stands : Stands status (all_fed 1 course.done) now.reading state
+  pub stands : StatusStands status (all_fed 1 course.done) now.reading state
       ⊎ NothingDone status before now start state
   pub read_faults : ReadsCount status before.read_faults now.read_faults
   pub write_faults : StatusCount status before.write_faults now.write_faults

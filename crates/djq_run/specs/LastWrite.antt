@@ -5,7 +5,7 @@ use Rattle.djq_io.specs.declared.sink.Write.{Write}
 use Rattle.djq_io.specs.declared.sink.Wrote.TheVariants.{Failed}
 use Rattle.djq_machine.specs.State.{State}
 use Rattle.djq_machine.specs.Run.{out}
-use Rattle.djq_laws.specs.Course.{Outside, Does, last_write}
+use Rattle.djq_laws.specs.Course.{Outside, RunDoes, last_write}
 use Rattle.djq_run.specs.declared.status.Status.{Status}
 use Rattle.djq_run.specs.declared.status.Status.TheVariants.{WriteFault}
 use Rattle.djq_run.specs.Ends.{RunEnds}
@@ -27,7 +27,7 @@ pub record BreaksOff (status : Status) (before now : Outside) (start state : Sta
     (later : List Write) : Type 0 where
   pub last : later ≡ []
   pub is : status ≡ WriteFault
-  pub does : Does start ends.course.done earlier state
+  pub does : RunDoes start ends.course.done earlier state
   pub queued : bytes_of earlier ++ failed.piece ≡ out 1 ends.course.done
 
 -- **A write that fails ends the run.**

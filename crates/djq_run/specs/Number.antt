@@ -7,17 +7,17 @@ use Rattle.djq_run.specs.declared.status.Status.TheVariants.{Schedule, SessionEn
 use Rattle.djq_run.specs.declared.status.Status.TheVariants.{LogFull, BadLog, Mirror}
 
 -- The number with which the process ends.
-abbrev pub number_of : Status → ℕ
-number_of Done = 0
-number_of Usage = 1
-number_of ReadFault = 2
-number_of WriteFault = 3
-number_of HubFault = 4
-number_of TurnsUsed = 5
-number_of NoMemory = 6
-number_of (Schedule n) = 7
-number_of SessionEnded = 8
-number_of DiskFault = 9
-number_of LogFull = 10
-number_of (BadLog at) = 11
-number_of (Mirror n) = 12
+abbrev pub exit_number : Status → ℕ
+exit_number Done = 0
+exit_number Usage = 1
+exit_number ReadFault = 2
+exit_number WriteFault = 3
+exit_number HubFault = 4
+exit_number TurnsUsed = 5
+exit_number NoMemory = 6
+exit_number (Schedule n) = 7
+exit_number SessionEnded = 8
+exit_number DiskFault = 9
+exit_number LogFull = 10
+exit_number (BadLog at) = 11
+exit_number (Mirror n) = 12

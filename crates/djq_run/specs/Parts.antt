@@ -13,7 +13,7 @@ use Rattle.djq_run.specs.declared.status.Status.TheVariants.{Done, NoMemory, Ses
 use Rattle.djq_run.specs.declared.status.Status.TheVariants.{WriteFault as StatusWriteFault}
 use Rattle.djq_run.specs.declared.session.Served.{Served}
 use Rattle.djq_run.specs.declared.session.Served.TheVariants.{AwaitsInput, Ended, WriteFault}
-use Rattle.djq_run.specs.Ends.{Awaits, Stands, ReadsCount, StatusCount, is_write_fault}
+use Rattle.djq_run.specs.Ends.{Awaits, StatusStands, ReadsCount, StatusCount, is_write_fault}
 
 -- the outside, with other writes, faults of the sink, and counts
 abbrev pub with_sink : Outside → Option (List Write) → ℕ → Counts → Outside
@@ -45,17 +45,17 @@ pub record Flushed (whole : Bool) (told : Option (List Write)) (count : ℕ) (ol
   pub faults : FlushCounts whole count count'
 
 -- What the session has come to. Running lines doesn't end its input.
-abbrev pub Serves : Served → State → State → Type 0
-Serves AwaitsInput old new = Awaits new
-Serves (Ended c) old new = (cause_of new 1 ≡ Some c) × (pending_of new 1 ≡ [])
+abbrev pub ServedTo : Served → State → State → Type 0
+ServedTo AwaitsInput old new = Awaits new
+ServedTo (Ended c) old new = (cause_of new 1 ≡ Some c) × (pending_of new 1 ≡ [])
     × (c ≡ Input → cause_of old 1 ≡ Some Input)
-Serves WriteFault old new = (0 < length (pending_of new 1))
+ServedTo WriteFault old new = (0 < length (pending_of new 1))
     × (cause_of new 1 ≡ Some Input → cause_of old 1 ≡ Some Input)
 
 -- whether a write failed
-abbrev pub has_failed : Served → Bool
-has_failed WriteFault = true
-has_failed _ = false
+abbrev pub write_failed : Served → Bool
+write_failed WriteFault = true
+write_failed _ = false
 
 -- The count of the sink's faults rises where a write failed alone.
 abbrev pub ServedCount : Served → ℕ → ℕ → Type 0
@@ -80,10 +80,10 @@ failed_by (Some status) = is_write_fault status
 
 -- A read goes on to where input may come, with a byte fed at least and no fault; or it ends the
 -- run.
-abbrev pub GoesOn : Option Status → Bytes → Outside → Outside → State → Type 0
-GoesOn None fed before now new = Awaits new × (1 ≤ length fed)
+abbrev pub RunGoesOn : Option Status → Bytes → Outside → Outside → State → Type 0
+RunGoesOn None fed before now new = Awaits new × (1 ≤ length fed)
     × (now.read_faults ≡ before.read_faults) × (now.write_faults ≡ before.write_faults)
-GoesOn (Some status) fed before now new = Stands status fed now.reading new
+RunGoesOn (Some status) fed before now new = StatusStands status fed now.reading new
     × ReadsCount status before.read_faults now.read_faults
     × StatusCount status before.write_faults now.write_faults
 
@@ -91,4 +91,4 @@ GoesOn (Some status) fed before now new = Stands status fed now.reading new
 pub record ReadEnds (status : Option Status) (before now : Outside) (old new : State) : Type 0 where
   pub course : Course old before now new
   pub failed : course.failed ≡ failed_by status
-  pub goes_on : GoesOn status (all_fed 1 course.done) before now new
+  pub goes_on : RunGoesOn status (all_fed 1 course.done) before now new

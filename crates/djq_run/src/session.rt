@@ -3,7 +3,8 @@ ghost use Rattle.djq_machine.specs.Call.{IsOpen, counts};
 ghost use Rattle.djq_laws.specs.declared.limits.TheConstants.{READ_BYTES};
 ghost use Rattle.djq_laws.specs.Course.{Outside, outside};
 ghost use Rattle.djq_run.specs.Ends.{Awaits, RunEnds};
-ghost use Rattle.djq_run.specs.Parts.{Flushed, GoesTo, ReadEnds, Serves, ServedCount, has_failed, with_sink, status_of};
+ghost use Rattle.djq_run.specs.Parts.{Flushed, GoesTo, ReadEnds, ServedTo, ServedCount, write_failed, with_sink};
+ghost use Rattle.djq_run.specs.Parts.{status_of};
 
 use crate::status::Status;
 use djq_io::{Read, Sink, Source, Wrote};
@@ -118,12 +119,12 @@ fn serve_held<M: Machine, K: Sink, L: Ledgers>(
     steps: &mut Steps<L>,
 ) -> Served
     requires { IsOpen (M.state machine.old) 1 }
-    ensures course { (o : Outside) → GoesTo (has_failed result) (M.state machine.old)
+    ensures course { (o : Outside) → GoesTo (write_failed result) (M.state machine.old)
         (with_sink o (K.told sink.old) (K.faults sink.old)
         (counts steps.old.listing steps.old.update steps.old.rows))
         (with_sink o (K.told sink.new) (K.faults sink.new)
         (counts steps.new.listing steps.new.update steps.new.rows)) (M.state machine.new) }
-    ensures serves { Serves result (M.state machine.old) (M.state machine.new) }
+    ensures serves { ServedTo result (M.state machine.old) (M.state machine.new) }
     ensures faults { ServedCount result (K.faults sink.old) (K.faults sink.new) }
 {
     'lines: while flush(machine, sink) {

@@ -11,20 +11,21 @@ use Rattle.djq_model.specs.Data.{Bytes}
 use Rattle.djq_schedule.specs.declared.line.Keyword.{Keyword}
 use Rattle.djq_schedule.specs.declared.line.Keyword.TheVariants.{Open, Say, Part, Again, Free, End}
 use Rattle.djq_model.specs.Parts.{before, behind}
-use Rattle.djq_schedule.specs.Schedule.{Order, Stage, rest_of, lines_of, keyword_of}
+use Rattle.djq_schedule.specs.Schedule.{Order, Stage, rest_or_none, schedule_lines, schedule_keyword_of}
 use Rattle.djq_schedule.specs.Schedule.{id_of, takes_text, order_with, order_behind, order_of}
-use Rattle.djq_schedule.specs.Schedule.{may_stand, text_or_none, turn_of}
+use Rattle.djq_schedule.specs.Schedule.{may_stand, text_or_none, turn_of_line}
 use Rattle.djq_schedule.specs.Made.{standing, in_grammar, coming_of, next_stage, behind_turns}
 use Rattle.djq_schedule.specs.Made.{turns_by, turns_from, turns_of, first_stage}
 use Rattle.djq_schedule.proofs.Splitting.{first_line}
 
 -- the first line is one more
-pub one_line_more : (rest after : Bytes) → 0 < length rest → after ≡ rest_of (behind 10 rest) → length (lines_of rest)
-    ≡ length (lines_of after) + 1
+pub one_line_more : (rest after : Bytes) → 0 < length rest → after ≡ rest_or_none (behind 10 rest)
+    → length (schedule_lines rest)
+    ≡ length (schedule_lines after) + 1
 one_line_more [] after some is_rest = absurd (omega (arith, some))
 one_line_more (b ∷ rest) after some is_rest =
     let more = ap (λ (ls : List Bytes). length ls) (first_line b rest) in
-    let same = ap (λ (xs : Bytes). length (lines_of xs)) is_rest in
+    let same = ap (λ (xs : Bytes). length (schedule_lines xs)) is_rest in
     omega (arith, more, same)
 
 -- turns, as the answer for a schedule
@@ -59,8 +60,8 @@ counted_from st n (l ∷ ls) turns h =
 
 -- A schedule has as many turns as lines.
 pub turn_for_each_line : (bytes : Bytes) (turns : List Coming) → turns_of bytes ≡ Ok turns → length turns
-    ≡ length (lines_of bytes)
-turn_for_each_line bytes turns h = counted_from first_stage 1 (lines_of bytes) turns h
+    ≡ length (schedule_lines bytes)
+turn_for_each_line bytes turns h = counted_from first_stage 1 (schedule_lines bytes) turns h
 
 -- a turn brings at most so many bytes as are read at a time
 abbrev pub IsShort : Incoming → Type 0
@@ -132,13 +133,13 @@ line_short st line q h = at_test (nat_le (length line) 8192) refl h
     at_test true e k = omega (
       arith,
       leb-true (length line) 8192 e,
-      order_short (keyword_of (before 32 line)) (behind 32 line) line q refl
+      order_short (schedule_keyword_of (before 32 line)) (behind 32 line) line q refl
           (standing_as st (order_of line) q k),
     )
     at_test false e k = absurd cc
 
 turn_short : (k : Keyword) (id : ℕ) (text : Option Bytes) → length (text_or_none text) + 1 ≤ 8192
-    → IsShort (turn_of k id text)
+    → IsShort (turn_of_line k id text)
 turn_short Open id text h = tt
 turn_short Say id text h = omega (arith, length-append (text_or_none text) (10 ∷ []), h)
 turn_short Part id text h = omega (arith, h)
@@ -165,4 +166,4 @@ short_from st n (l ∷ ls) turns h = short_at st n l (in_grammar st l) ls turns 
 
 -- No turn of a schedule brings more than is read at a time.
 pub turns_are_short : (bytes : Bytes) (turns : List Coming) → turns_of bytes ≡ Ok turns → AllShort turns
-turns_are_short bytes turns h = short_from first_stage 1 (lines_of bytes) turns h
+turns_are_short bytes turns h = short_from first_stage 1 (schedule_lines bytes) turns h

@@ -7,7 +7,7 @@ use Rattle.djq_io.specs.MemHub.{Recorded, with_coming}
 use Rattle.djq_io.specs.declared.hub.Coming.{Coming}
 use Rattle.djq_model.specs.Data.{Bytes}
 use Rattle.djq_model.specs.Parts.{before, behind}
-use Rattle.djq_schedule.specs.Schedule.{Order, Stage, rest_of, lines_of}
+use Rattle.djq_schedule.specs.Schedule.{Order, Stage, rest_or_none, schedule_lines}
 use Rattle.djq_schedule.specs.Made.{in_grammar, coming_of, next_stage, behind_turns, turns_by}
 use Rattle.djq_schedule.specs.Made.{turns_from, turns_of, AddsLine}
 use Rattle.djq_schedule.proofs.Splitting.{first_line}
@@ -23,7 +23,7 @@ pub record IsFresh (hub : Recorded) : Type 0 where
 
 -- What is made of the lines so far: the turns of them all are these, and then those of the rest.
 pub record Making (bytes : Bytes) (hub : Recorded) (st : Stage) (number : ℕ) (rest : Bytes) : Type 0 where
-  pub turns : turns_of bytes ≡ behind_turns hub.script.turns (turns_from st (number + 1) (lines_of rest))
+  pub turns : turns_of bytes ≡ behind_turns hub.script.turns (turns_from st (number + 1) (schedule_lines rest))
   pub fresh : IsFresh hub
   pub few : number + length rest ≤ length bytes
 
@@ -53,16 +53,16 @@ fresh_with hub coming f = record
     { blocked = f.blocked; past = f.past; ids = f.ids; listens = f.listens; fails = f.fails; sends = f.sends }
 
 pub made_more : (bytes : Bytes) (hub hub' : Recorded) (st st' : Stage) (number : ℕ) (b : ℕ) (rest l after : Bytes)
-    → Making bytes hub st number (b ∷ rest) → l ≡ before 10 (b ∷ rest) → after ≡ rest_of (behind 10 (b ∷ rest))
+    → Making bytes hub st number (b ∷ rest) → l ≡ before 10 (b ∷ rest) → after ≡ rest_or_none (behind 10 (b ∷ rest))
     → length after ≤ length rest → AddsLine true st hub l st' hub' → Making bytes hub' st' (number + 1) after
 made_more bytes hub hub' st st' number b rest l after m is_line is_rest few h =
     let a = added_at (in_grammar st l) st st' hub hub' h in
     let coming = coming_of st a.0 in
-    let ls = lines_of after in
-    let lines : lines_of (b ∷ rest) ≡ l ∷ ls = first_line b rest
-    ∙ ap (λ (xs : Bytes). xs ∷ lines_of (rest_of (behind 10 (b ∷ rest)))) (sym is_line)
-    ∙ ap (λ (xs : Bytes). l ∷ lines_of xs) (sym is_rest) in
-    let here : turns_from st (number + 1) (lines_of (b ∷ rest))
+    let ls = schedule_lines after in
+    let lines : schedule_lines (b ∷ rest) ≡ l ∷ ls = first_line b rest
+    ∙ ap (λ (xs : Bytes). xs ∷ schedule_lines (rest_or_none (behind 10 (b ∷ rest)))) (sym is_line)
+    ∙ ap (λ (xs : Bytes). l ∷ schedule_lines xs) (sym is_rest) in
+    let here : turns_from st (number + 1) (schedule_lines (b ∷ rest))
     ≡ behind_turns (coming ∷ []) (turns_from st' (number + 1 + 1) ls) =
     ap (λ (xs : List Bytes). turns_from st (number + 1) xs) lines ∙ turns_at st (number + 1) l ls a.0 a.1
     ∙ ap (λ (k : Stage). behind_turns (coming ∷ []) (turns_from k (number + 1 + 1) ls)) (sym a.2) in
@@ -79,37 +79,39 @@ pub made_outside : (bytes : Bytes) (hub : Recorded) (st : Stage) (number : ℕ) 
     → Making bytes hub st number (b ∷ rest) → l ≡ before 10 (b ∷ rest) → in_grammar st l ≡ None → turns_of bytes
     ≡ Err (number + 1)
 made_outside bytes hub st number b rest l m is_line none =
-    let ls = lines_of (rest_of (behind 10 (b ∷ rest))) in
+    let ls = schedule_lines (rest_or_none (behind 10 (b ∷ rest))) in
     m.turns ∙ ap (λ (xs : List Bytes). behind_turns hub.script.turns (turns_from st (number + 1) xs))
     (first_line b rest ∙ ap (λ (xs : Bytes). xs ∷ ls) (sym is_line))
     ∙ ap (λ (r : Result (List Coming) ℕ). behind_turns hub.script.turns r) (turns_outside st (number + 1) l ls none)
 
 -- the same of bytes that aren't empty, as the code has them
 
-behind_fewer : (sign : ℕ) (xs : Bytes) → length (rest_of (behind sign xs)) ≤ length xs
+behind_fewer : (sign : ℕ) (xs : Bytes) → length (rest_or_none (behind sign xs)) ≤ length xs
 behind_fewer sign [] = omega arith
 behind_fewer sign (x ∷ xs) = at_first (x == sign) (behind_fewer sign xs)
   where
-    at_first : (t : Bool) → length (rest_of (behind sign xs)) ≤ length xs
-        → length (rest_of (cond t (Some xs) (behind sign xs))) ≤ length (x ∷ xs)
+    at_first : (t : Bool) → length (rest_or_none (behind sign xs)) ≤ length xs
+        → length (rest_or_none (cond t (Some xs) (behind sign xs))) ≤ length (x ∷ xs)
     at_first true h = omega arith
     at_first false h = omega (arith, h)
 
-first_fewer : (sign x : ℕ) (xs : Bytes) → length (rest_of (behind sign (x ∷ xs))) ≤ length xs
+first_fewer : (sign x : ℕ) (xs : Bytes) → length (rest_or_none (behind sign (x ∷ xs))) ≤ length xs
 first_fewer sign x xs = at_first (x == sign) (behind_fewer sign xs)
   where
-    at_first : (t : Bool) → length (rest_of (behind sign xs)) ≤ length xs
-        → length (rest_of (cond t (Some xs) (behind sign xs))) ≤ length xs
+    at_first : (t : Bool) → length (rest_or_none (behind sign xs)) ≤ length xs
+        → length (rest_or_none (cond t (Some xs) (behind sign xs))) ≤ length xs
     at_first true h = omega arith
     at_first false h = h
 
-pub smaller : (rest after : Bytes) → 0 < length rest → after ≡ rest_of (behind 10 rest) → length after < length rest
+pub smaller : (rest after : Bytes) → 0 < length rest → after ≡ rest_or_none (behind 10 rest)
+    → length after < length rest
 smaller [] after some is_rest = absurd (omega (arith, some))
 smaller (b ∷ rest) after some is_rest = omega (arith, ap length is_rest, first_fewer 10 b rest)
 
 pub line_added : (bytes : Bytes) (hub hub' : Recorded) (st st' : Stage) (number : ℕ) (rest l after : Bytes)
     (added : Bool) → added ≡ true → 0 < length rest → Making bytes hub st number rest → l ≡ before 10 rest
-    → after ≡ rest_of (behind 10 rest) → AddsLine added st hub l st' hub' → Making bytes hub' st' (number + 1) after
+    → after ≡ rest_or_none (behind 10 rest) → AddsLine added st hub l st' hub'
+    → Making bytes hub' st' (number + 1) after
 line_added bytes hub hub' st st' number [] l after added is some m is_line is_rest h = absurd (omega (arith, some))
 line_added bytes hub hub' st st' number (b ∷ rest) l after added is some m is_line is_rest h =
     made_more bytes hub hub' st st' number b rest l after m is_line is_rest

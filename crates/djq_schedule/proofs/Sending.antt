@@ -10,21 +10,22 @@ use Rattle.djq_io.specs.declared.hub.Told.{Told}
 use Rattle.djq_io.specs.declared.hub.Told.TheVariants.{Listening, Turning, Sending, Closing}
 use Rattle.djq_model.specs.Data.{Bytes}
 use Rattle.djq_io.specs.Calls.{sent_by, sent_to}
-use Rattle.djq_schedule.specs.Sent.{ended_lines, begun_line, ended_by, text_behind, sent_text}
+use Rattle.djq_schedule.specs.Sent.{ended_lines, begun_line, lines_ended_by, text_behind, sent_text}
 
 -- the text of one call more
 text_more : (earlier told : List Told) (t : Told) → text_behind earlier (told ++ t ∷ [])
-    ≡ text_behind earlier told ++ ended_by (earlier ++ told) t
-text_more earlier [] t = append-nil (ended_by earlier t)
-    ∙ ap (λ (us : List Told). ended_by us t) (sym (append-nil earlier))
+    ≡ text_behind earlier told ++ lines_ended_by (earlier ++ told) t
+text_more earlier [] t = append-nil (lines_ended_by earlier t)
+    ∙ ap (λ (us : List Told). lines_ended_by us t) (sym (append-nil earlier))
 text_more earlier (u ∷ told) t =
-    ap (λ (bytes : Bytes). ended_by earlier u ++ bytes)
+    ap (λ (bytes : Bytes). lines_ended_by earlier u ++ bytes)
     (text_more (earlier ++ u ∷ []) told t
-    ∙ ap (λ (us : List Told). text_behind (earlier ++ u ∷ []) told ++ ended_by us t)
+    ∙ ap (λ (us : List Told). text_behind (earlier ++ u ∷ []) told ++ lines_ended_by us t)
     (append_assoc earlier (u ∷ []) told))
-    ∙ sym (append_assoc (ended_by earlier u) (text_behind (earlier ++ u ∷ []) told) (ended_by (earlier ++ u ∷ told) t))
+    ∙ sym (append_assoc (lines_ended_by earlier u) (text_behind (earlier ++ u ∷ []) told)
+    (lines_ended_by (earlier ++ u ∷ told) t))
 
-pub sent_more : (told : List Told) (t : Told) → sent_text (told ++ t ∷ []) ≡ sent_text told ++ ended_by told t
+pub sent_more : (told : List Told) (t : Told) → sent_text (told ++ t ∷ []) ≡ sent_text told ++ lines_ended_by told t
 sent_more told t = text_more [] told t
 
 -- what is behind the last LF, of bytes and then others
@@ -86,7 +87,7 @@ piece_sent told id offered sent piece text text' begun begun' h is_text is_begun
     at_session s false e = h.rests s
 
 -- nothing was sent
-none_sent : (told : List Told) (t : Told) (text : Bytes) (begun : ℕ → Bytes) → ended_by told t ≡ []
+none_sent : (told : List Told) (t : Told) (text : Bytes) (begun : ℕ → Bytes) → lines_ended_by told t ≡ []
     → ((s : ℕ) → sent_by s t ≡ []) → HasSent told text begun → HasSent (told ++ t ∷ []) text begun
 none_sent told t text begun no_lines none h = record {
   lines = h.lines ∙ sym (append-nil (sent_text told)) ∙ ap (λ (bytes : Bytes). sent_text told ++ bytes) (sym no_lines)

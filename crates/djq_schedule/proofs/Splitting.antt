@@ -6,7 +6,7 @@ use Rattle.std.proofs.lemmas.Bool.{false_from_ne_true}
 use Rattle.memchr.specs.Find.{IsFirstByte, is_byte}
 use Rattle.djq_model.specs.Data.{Bytes}
 use Rattle.djq_model.specs.Parts.{before, behind, with_first}
-use Rattle.djq_schedule.specs.Schedule.{rest_of, lines_of}
+use Rattle.djq_schedule.specs.Schedule.{rest_or_none, schedule_lines}
 
 -- what stands before the first of these bytes, and behind it
 pub split_found : (sign : ℕ) (xs : Bytes) (k : ℕ) → k < length xs → (get_or xs k 0 == sign) ≡ true
@@ -32,19 +32,21 @@ split_none sign (x ∷ xs) other =
     (rw here (ap (λ (ys : Bytes). x ∷ ys) rest.0), rw here rest.1)
 
 -- the first line, and those behind it
-pub first_line : (b : ℕ) (bytes : Bytes) → lines_of (b ∷ bytes)
-    ≡ before 10 (b ∷ bytes) ∷ lines_of (rest_of (behind 10 (b ∷ bytes)))
+pub first_line : (b : ℕ) (bytes : Bytes) → schedule_lines (b ∷ bytes)
+    ≡ before 10 (b ∷ bytes) ∷ schedule_lines (rest_or_none (behind 10 (b ∷ bytes)))
 first_line b [] = last (b == 10)
   where
     last : (t : Bool) → cond t ([] ∷ []) (with_first b [])
-        ≡ cond t [] (b ∷ []) ∷ lines_of (rest_of (cond t (Some []) None))
+        ≡ cond t [] (b ∷ []) ∷ schedule_lines (rest_or_none (cond t (Some []) None))
     last true = refl
     last false = refl
 first_line b (d ∷ bytes) = at_first (b == 10) (first_line d bytes)
   where
-    at_first : (t : Bool) → lines_of (d ∷ bytes) ≡ before 10 (d ∷ bytes) ∷ lines_of (rest_of (behind 10 (d ∷ bytes)))
-        → cond t ([] ∷ lines_of (d ∷ bytes)) (with_first b (lines_of (d ∷ bytes)))
-        ≡ cond t [] (b ∷ before 10 (d ∷ bytes)) ∷ lines_of (rest_of (cond t (Some (d ∷ bytes)) (behind 10 (d ∷ bytes))))
+    at_first : (t : Bool)
+        → schedule_lines (d ∷ bytes) ≡ before 10 (d ∷ bytes) ∷ schedule_lines (rest_or_none (behind 10 (d ∷ bytes)))
+        → cond t ([] ∷ schedule_lines (d ∷ bytes)) (with_first b (schedule_lines (d ∷ bytes)))
+        ≡ cond t [] (b ∷ before 10 (d ∷ bytes))
+        ∷ schedule_lines (rest_or_none (cond t (Some (d ∷ bytes)) (behind 10 (d ∷ bytes))))
     at_first true h = refl
     at_first false h = ap (λ (ls : List Bytes). with_first b ls) h
 

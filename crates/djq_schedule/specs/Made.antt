@@ -7,8 +7,8 @@ use Rattle.djq_io.specs.declared.hub.Coming.{Coming}
 use Rattle.djq_model.specs.Data.{Bytes}
 use Rattle.djq_schedule.specs.declared.schedule.ScheduleRefusal.{ScheduleRefusal}
 use Rattle.djq_schedule.specs.declared.schedule.ScheduleRefusal.TheVariants.{Outside, NoMem}
-use Rattle.djq_schedule.specs.Schedule.{Order, Stage, lines_of, order_of, may_stand, stage_after}
-use Rattle.djq_schedule.specs.Schedule.{blocked_after, turn_of}
+use Rattle.djq_schedule.specs.Schedule.{Order, Stage, schedule_lines, order_of, may_stand, stage_after}
+use Rattle.djq_schedule.specs.Schedule.{blocked_after, turn_of_line}
 
 -- what a line says, where it is in the grammar at this stage
 abbrev pub standing : Stage → Option Order → Option Order
@@ -22,7 +22,7 @@ in_grammar st line = if nat_le (length line) 8192 then standing st (order_of lin
 -- the turn of a line, with the sessions that are blocked behind it
 abbrev pub coming_of : Stage → Order → Coming
 coming_of st o = record {
-  turn = turn_of o.0 o.1.0 o.1.1;
+  turn = turn_of_line o.0 o.1.0 o.1.1;
   blocked =
       blocked_after o.0 o.1.0 st.blocked;
 }
@@ -55,10 +55,10 @@ first_stage = record { newest = None; opened = []; ended = []; blocked = [] }
 
 -- The turns of a schedule, or the number of its first line outside the grammar.
 abbrev pub turns_of : Bytes → Result (List Coming) ℕ
-turns_of bytes = turns_from first_stage 1 (lines_of bytes)
+turns_of bytes = turns_from first_stage 1 (schedule_lines bytes)
 
 -- A hub that was asked nothing yet, with the turns of this schedule as its script.
-pub record IsMade (bytes : Bytes) (hub : Recorded) : Type 0 where
+pub record ScheduleIsMade (bytes : Bytes) (hub : Recorded) : Type 0 where
   pub turns : turns_of bytes ≡ Ok hub.script.turns
   pub blocked : hub.script.blocked ≡ []
   pub past : hub.past ≡ Some []
@@ -68,9 +68,9 @@ pub record IsMade (bytes : Bytes) (hub : Recorded) : Type 0 where
   pub sends : hub.failing_sends ≡ []
 
 -- This line is the first outside the grammar, or memory was wanted.
-abbrev pub Refuses : Bytes → ScheduleRefusal → Type 0
-Refuses bytes (Outside n) = turns_of bytes ≡ Err n
-Refuses bytes NoMem = Unit {0}
+abbrev pub ScheduleRefuses : Bytes → ScheduleRefusal → Type 0
+ScheduleRefuses bytes (Outside n) = turns_of bytes ≡ Err n
+ScheduleRefuses bytes NoMem = Unit {0}
 
 -- A line was added, with its turn; or it is outside the grammar, and nothing changed.
 abbrev pub AddsLine : Bool → Stage → Recorded → Bytes → Stage → Recorded → Type 0

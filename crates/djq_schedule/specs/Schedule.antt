@@ -11,18 +11,18 @@ use Rattle.djq_schedule.specs.declared.line.Keyword.{Keyword}
 use Rattle.djq_schedule.specs.declared.line.Keyword.TheVariants.{Open, Say, Part, Again, Free, End}
 
 -- the rest; none where there is none
-abbrev pub rest_of : Option Bytes → Bytes
-rest_of None = []
-rest_of (Some rest) = rest
+abbrev pub rest_or_none : Option Bytes → Bytes
+rest_or_none None = []
+rest_or_none (Some rest) = rest
 
 -- the lines of a schedule, without their LFs
-abbrev pub lines_of : Bytes → List Bytes
-lines_of [] = []
-lines_of (b ∷ bytes) = if b == 10 then [] ∷ lines_of bytes else with_first b (lines_of bytes)
+abbrev pub schedule_lines : Bytes → List Bytes
+schedule_lines [] = []
+schedule_lines (b ∷ bytes) = if b == 10 then [] ∷ schedule_lines bytes else with_first b (schedule_lines bytes)
 
 -- the keyword that a word is, if it is one
-abbrev pub keyword_of : Bytes → Option Keyword
-keyword_of word =
+abbrev pub schedule_keyword_of : Bytes → Option Keyword
+schedule_keyword_of word =
     if bytes_eq word (codes "open") then Some Open
     else (if bytes_eq word (codes "say") then Some Say
     else (if bytes_eq word (codes "part") then Some Part
@@ -65,7 +65,7 @@ order_behind None _ = None
 
 -- what a line says, at whatever stage it stands; none where it says nothing
 abbrev pub order_of : Bytes → Option Order
-order_of line = order_behind (keyword_of (before 32 line)) (behind 32 line)
+order_of line = order_behind (schedule_keyword_of (before 32 line)) (behind 32 line)
 
 -- Where a schedule stands: the newest session, those that were opened, those whose input ended, and
 -- those that take nothing now.
@@ -76,8 +76,8 @@ pub record Stage : Type 0 where
   pub blocked : List ℕ
 
 -- whether a session is one of these
-abbrev pub is_among : List ℕ → ℕ → Bool
-is_among ids id = list_any (λ other. nat_eq other id) ids
+abbrev pub is_session_among : List ℕ → ℕ → Bool
+is_session_among ids id = list_any (λ other. nat_eq other id) ids
 
 -- whether an id is above that of the newest session, if there is one
 abbrev pub is_above : Option ℕ → ℕ → Bool
@@ -88,8 +88,8 @@ is_above (Some newest) id = nat_lt newest id
 -- where their input hasn't ended.
 abbrev pub may_stand : Stage → Keyword → ℕ → Bool
 may_stand st Open id = is_above st.newest id
-may_stand st Free id = is_among st.opened id
-may_stand st _ id = is_among st.opened id && not (is_among st.ended id)
+may_stand st Free id = is_session_among st.opened id
+may_stand st _ id = is_session_among st.opened id && not (is_session_among st.ended id)
 
 -- the newest session, behind a line
 abbrev pub newest_after : Keyword → ℕ → Option ℕ → Option ℕ
@@ -129,10 +129,10 @@ text_or_none None = []
 text_or_none (Some text) = text
 
 -- the turn of a line; a text that is said ends with LF
-abbrev pub turn_of : Keyword → ℕ → Option Bytes → Incoming
-turn_of Open id text = Opens id
-turn_of Say id text = Brings id (text_or_none text ++ 10 ∷ [])
-turn_of Part id text = Brings id (text_or_none text)
-turn_of Again id text = Nothing
-turn_of Free id text = Nothing
-turn_of End id text = Ends id
+abbrev pub turn_of_line : Keyword → ℕ → Option Bytes → Incoming
+turn_of_line Open id text = Opens id
+turn_of_line Say id text = Brings id (text_or_none text ++ 10 ∷ [])
+turn_of_line Part id text = Brings id (text_or_none text)
+turn_of_line Again id text = Nothing
+turn_of_line Free id text = Nothing
+turn_of_line End id text = Ends id

@@ -24,14 +24,14 @@ begun_line begun (b ∷ bytes) = if b == 10 then begun_line [] bytes
     else begun_line (begun ++ b ∷ []) bytes
 
 -- the lines that end in what a call sends, behind these calls
-abbrev pub ended_by : List Told → Told → Bytes
-ended_by earlier (Sending s offered sent taken) = ended_lines s (begun_line [] (sent_to s earlier)) taken
-ended_by earlier _ = []
+abbrev pub lines_ended_by : List Told → Told → Bytes
+lines_ended_by earlier (Sending s offered sent taken) = ended_lines s (begun_line [] (sent_to s earlier)) taken
+lines_ended_by earlier _ = []
 
 -- the lines that end in what calls send, behind those earlier ones, in the order of the calls
 abbrev pub text_behind : List Told → List Told → Bytes
 text_behind earlier [] = []
-text_behind earlier (t ∷ told) = ended_by earlier t ++ text_behind (earlier ++ t ∷ []) told
+text_behind earlier (t ∷ told) = lines_ended_by earlier t ++ text_behind (earlier ++ t ∷ []) told
 
 -- **What was sent**: each line behind its session's number, in the order in which their LFs were
 -- sent. What a session was sent behind its last LF is no line.

@@ -1,7 +1,7 @@
 ghost use Rattle.std.specs.Prelude.{◌≡◌};
 ghost use Rattle.std.specs.Option.{option_map};
 ghost use Rattle.djq_model.specs.Parts.{before, behind};
-ghost use Rattle.djq_schedule.specs.Schedule.{keyword_of, id_of, takes_text, order_of};
+ghost use Rattle.djq_schedule.specs.Schedule.{schedule_keyword_of, id_of, takes_text, order_of};
 
 use memchr::memchr;
 
@@ -32,7 +32,7 @@ pub(crate) fn split_at(bytes: &[u8], sign: u8) -> (&[u8], Option<&[u8]>)
 
 /// A line's keyword.
 fn read_keyword(word: &[u8]) -> Option<Keyword>
-    ensures { result ≡ keyword_of word.now }
+    ensures { result ≡ schedule_keyword_of word.now }
 {
     match word {
         b"open" => Some(Keyword::Open),

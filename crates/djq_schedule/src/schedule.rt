@@ -1,7 +1,7 @@
 ghost use Rattle.std.specs.Prelude.{◌≡◌, ◌≤◌, length, IfOk, MatchBool, MatchOption, MatchResult, option_map};
 ghost use Rattle.djq_model.specs.Parts.{before, behind};
-ghost use Rattle.djq_schedule.specs.Schedule.{rest_of, lines_of, turn_of};
-ghost use Rattle.djq_schedule.specs.Made.{in_grammar, AddsLine, IsMade, Refuses};
+ghost use Rattle.djq_schedule.specs.Schedule.{rest_or_none, schedule_lines, turn_of_line};
+ghost use Rattle.djq_schedule.specs.Made.{in_grammar, AddsLine, ScheduleIsMade, ScheduleRefuses};
 
 use crate::line::{Keyword, read_order, split_at};
 use crate::sessions_so_far::SessionsSoFar;
@@ -27,7 +27,7 @@ pub enum ScheduleRefusal {
 /// `Outside(n)` exactly where line n, counted from 1, is the first outside the grammar; `NoMem` out
 /// of memory.
 pub fn schedule_hub(alloc: Global, bytes: &[u8]) -> Result<MemHub, ScheduleRefusal>
-    ensures { MatchResult result (IsMade bytes.now) (Refuses bytes.now) }
+    ensures { MatchResult result (ScheduleIsMade bytes.now) (ScheduleRefuses bytes.now) }
 {
     let mut hub = MemHub::new(alloc);
     let mut seen = SessionsSoFar::new(alloc);
@@ -48,7 +48,7 @@ pub fn schedule_hub(alloc: Global, bytes: &[u8]) -> Result<MemHub, ScheduleRefus
 
 /// How many lines a schedule has.
 pub fn count_lines(bytes: &[u8]) -> u64
-    ensures counted { result ≡ length (lines_of bytes.now) }
+    ensures counted { result ≡ length (schedule_lines bytes.now) }
     ensures few { result ≤ length bytes.now }
 {
     let mut count: u64 = 0;
@@ -63,7 +63,7 @@ pub fn count_lines(bytes: &[u8]) -> u64
 /// The first line, without its LF, and what is behind it.
 fn next_line(bytes: &[u8]) -> (&[u8], &[u8])
     ensures line { result.0.now ≡ before 10 bytes.now }
-    ensures rest { result.1.now ≡ rest_of (behind 10 bytes.now) }
+    ensures rest { result.1.now ≡ rest_or_none (behind 10 bytes.now) }
 {
     match split_at(bytes, b'\n') {
         (line, Some(rest)) => (line, rest),
@@ -116,7 +116,7 @@ fn make_turn(
     id: u64,
     text: Option<&[u8]>,
 ) -> Result<Incoming, AllocError>
-    ensures { IfOk result (λ turn. turn ≡ turn_of keyword id (option_map (λ t. t.now) text.entry)) }
+    ensures { IfOk result (λ turn. turn ≡ turn_of_line keyword id (option_map (λ t. t.now) text.entry)) }
 {
     let text = text.unwrap_or(&[]);
     Ok(match keyword {

@@ -2,7 +2,7 @@
 use Rattle.std.specs.Prelude.{ℕ, List, [], ◌∷◌, ◌++◌, ◌≡◌, Bool, true, false, codes}
 use Rattle.std.proofs.Common.{refl, sym, ap, ◌∙◌, subst, inl, inr}
 use Rattle.std.specs.List.{AllByRecursion}
-use Rattle.djq_journal.specs.Format.{IsLine}
+use Rattle.djq_journal.specs.Format.{IsJournalLine}
 use Rattle.djq_journal.specs.Logging.{grouped}
 use Rattle.djq_model.specs.Data.{Bytes}
 use Rattle.djq_machine.specs.State.{State}
@@ -39,9 +39,9 @@ step_group old s new mid now true lines (l, inr m) is = is ∙ by m.effect.kept 
 -- They are lines.
 pub step_lines : (old : State) (s : ℕ) (new : State) (mid now : Counts) (kept : Bool) (lines : List Bytes)
     → HoldLines old → (ran : RanStep old s new mid now)
-    → KeepsGroup kept (groups_by old s new mid now ran) lines → AllByRecursion IsLine lines
+    → KeepsGroup kept (groups_by old s new mid now ran) lines → AllByRecursion IsJournalLine lines
 step_lines old s new mid now false lines hold ran (none, no_lines) = subst
-    (λ (ls : List Bytes). AllByRecursion IsLine ls) (sym no_lines) tt
+    (λ (ls : List Bytes). AllByRecursion IsJournalLine ls) (sym no_lines) tt
 step_lines old s new mid now true lines hold (l, inl m) is = absurd (none_is lines is)
 step_lines old s new mid now true lines hold (l, inr m) is = kept_lines old s l m.effect m.step.mid m.step.acts hold
     lines is

@@ -18,7 +18,7 @@ use Rattle.djq_machine.specs.Call.{IsOpen, Makes, cause_of, state_ids, is_due, f
 use Rattle.djq_laws.proofs.Changing.{all_found}
 use Rattle.djq_laws.proofs.Rising.{step_ids}
 use Rattle.djq_serve.specs.Server.{first_open}
-use Rattle.djq_serve.specs.Kept.{Agrees, IsNew}
+use Rattle.djq_serve.specs.Kept.{Agrees, IsNewSession}
 use Rattle.djq_serve.specs.Parts.{IsServed, NotServed}
 use Rattle.std.proofs.lemmas.Option.{same_Some}
 use Rattle.djq_laws.proofs.Containing.{found_passes}
@@ -97,7 +97,7 @@ all_as P Q f [] h = All-nil Q
 all_as P Q f (x ∷ xs) h = All-cons Q x xs (f x (All-head P x xs h)) (all_as P Q f xs (All-tail P x xs h))
 
 pub is_new : (st : State) (ids ids' : Ids) (s : ℕ) → IsNewId ids s → ids' ≡ with_opened ids s → Agrees st ids
-    → IsNew st ids' s
+    → IsNewSession st ids' s
 is_new st ids ids' s new hub a = record {
   same = ap (λ (i : Ids). i.open_ids) hub ∙ ap (λ (is : List ℕ). is ++ s ∷ []) a.same;
   newest = ap (λ (i : Ids). i.newest) hub;
@@ -113,7 +113,7 @@ above_in (x ∷ xs) s h =
     All-cons (λ (y : Session). y.id < s) x xs (All-head (λ t. t < s) x.id (map (λ (y : Session). y.id) xs) h)
     (above_in xs s (All-tail (λ t. t < s) x.id (map (λ (y : Session). y.id) xs) h))
 
-pub is_above : (st : State) (ids : Ids) (s : ℕ) → IsNew st ids s → All (λ (x : Session). x.id < s) st.sessions
+pub is_above : (st : State) (ids : Ids) (s : ℕ) → IsNewSession st ids s → All (λ (x : Session). x.id < s) st.sessions
 is_above st ids s n = above_in st.sessions s n.above
 
 pub not_open : (st : State) (s : ℕ) → All (λ t. t < s) (state_ids st) → IsOpen st s → ⊥
@@ -133,7 +133,8 @@ all_push : (P : ℕ → Type 0) (xs : List ℕ) (s : ℕ) → All P xs → P s �
 all_push P [] s h p = All-cons P s [] p (All-nil P)
 all_push P (x ∷ xs) s h p = All-cons P x (xs ++ s ∷ []) (All-head P x xs h) (all_push P xs s (All-tail P x xs h) p)
 
-pub opens_in : (old new : State) (ids ids' : Ids) (s : ℕ) → IsNew old ids s → Makes old (opened s) new → IsOpen new s
+pub opens_in : (old new : State) (ids ids' : Ids) (s : ℕ) → IsNewSession old ids s → Makes old (opened s) new
+    → IsOpen new s
     → ids' ≡ ids → Agrees new ids'
 opens_in old new ids ids' s n m there hub =
     let both = opened_ids old new s n.above there (step_ids old (opened s) m.effect new m.step) in
@@ -162,7 +163,7 @@ dropped_last (x ∷ xs) s h = at_first (x == s) refl (dropped_last xs s (All-tai
     at_first true e rest = let less = All-head (λ t. t < s) x xs h in absurd (omega (arith, less, eqb-true x s e))
     at_first false e rest = ap (λ (is : List ℕ). x ∷ is) rest
 
-pub refused_in : (st : State) (ids ids' : Ids) (s : ℕ) → IsNew st ids s → ids' ≡ without ids s → Agrees st ids'
+pub refused_in : (st : State) (ids ids' : Ids) (s : ℕ) → IsNewSession st ids s → ids' ≡ without ids s → Agrees st ids'
 refused_in st ids ids' s n hub = record {
   same = ap (λ (i : Ids). i.open_ids) hub ∙ ap (λ (is : List ℕ). filter (λ i. not (i == s)) is) n.same
       ∙ dropped_last (state_ids st) s n.above;
@@ -236,5 +237,5 @@ served_by st s false e going = inr (λ there. absurd (no_one (sym e ∙ refl) (s
     no_one : list_any (λ i. nat_eq i s) (state_ids st) ≡ false → list_any (λ i. nat_eq i s) (state_ids st) ≡ true → ⊥
     no_one f t = cc
 
-pub new_at_hub : (st : State) (ids : Ids) (s : ℕ) → IsNew st ids s → Contains ids.open_ids s
+pub new_at_hub : (st : State) (ids : Ids) (s : ℕ) → IsNewSession st ids s → Contains ids.open_ids s
 new_at_hub st ids s n = subst (λ (is : List ℕ). Contains is s) (sym n.same) (Contains-push (state_ids st) s)

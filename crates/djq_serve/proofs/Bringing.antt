@@ -20,12 +20,12 @@ use Rattle.djq_machine.specs.Step.{opened, fed, ended, SameRelations, Step}
 use Rattle.djq_machine.specs.Call.{IsOpen, Makes, OpenGives, Counts}
 use Rattle.djq_laws.specs.declared.limits.TheConstants.{READ_BYTES}
 use Rattle.djq_serve.specs.declared.served.Served.TheVariants.{HubFault}
-use Rattle.djq_serve.specs.Told.{Shown, Tells, turns_in}
+use Rattle.djq_serve.specs.Told.{Shown, HubTells, turns_in}
 use Rattle.djq_serve.specs.Server.{next_turn, no_turn, waiting, lines, flushing, closing, server}
 use Rattle.djq_serve.specs.Server.{offering, LetsIn, refusal_for}
 use Rattle.djq_serve.specs.Goes.{Far, one_turn, seen, Goes}
-use Rattle.djq_serve.specs.Kept.{Agrees, IsNew}
-use Rattle.djq_serve.specs.Parts.{Admits, Refuses}
+use Rattle.djq_serve.specs.Kept.{Agrees, IsNewSession}
+use Rattle.djq_serve.specs.Parts.{Admits, OffersAndCloses}
 use Rattle.djq_serve.proofs.Telling.{tells_none, tells_more}
 use Rattle.djq_serve.proofs.Agreeing.{is_above, not_open, refused_in}
 use Rattle.djq_serve.proofs.Moving.{happens, turn_goes}
@@ -44,7 +44,7 @@ stays_out st s above = record {
   queued = refl;
 }
 
-pub not_let_in : (st new : State) (ids : Ids) (s : ℕ) → IsNew st ids s → new ≡ st → Makes st (opened s) new
+pub not_let_in : (st new : State) (ids : Ids) (s : ℕ) → IsNewSession st ids s → new ≡ st → Makes st (opened s) new
 not_let_in st new ids s n same = subst (λ (k : State). Makes st (opened s) k) (sym same)
     (record { effect = nothing; step = stays_out st s (is_above st ids s n) })
 
@@ -59,8 +59,9 @@ full_text st many = ap (λ b. cond b end_memory end_full) (le-ltb (length st.ses
 memory_text : (st : State) → length st.sessions < SESSIONS → refusal_for st ≡ end_memory
 memory_text st few = ap (λ b. cond b end_memory end_full) (lt-ltb (length st.sessions) SESSIONS few)
 
-refused : (st new : State) (hub hub' : Shown) (s : ℕ) (text : Bytes) → IsNew st hub.ids s → new ≡ st → refusal_for st
-    ≡ text → Refuses hub s text hub' → Admits st hub s new hub'
+refused : (st new : State) (hub hub' : Shown) (s : ℕ) (text : Bytes) → IsNewSession st hub.ids s → new ≡ st
+    → refusal_for st
+    ≡ text → OffersAndCloses hub s text hub' → Admits st hub s new hub'
 refused st new hub hub' s text n same is_text r = record {
   makes = not_let_in st new hub.ids s n same;
   more = offering s text r.sent ∷ Closing s ∷ [];
@@ -77,20 +78,22 @@ refused st new hub hub' s text n same is_text r = record {
 
 -- a line was offered, and the session closed
 pub refuses_by : (hub hub' : Shown) (s : ℕ) (sent : Sent) (piece text : Bytes) → piece ≡ text → Takes sent piece
-    → Tells hub hub' (offering s piece sent ∷ Closing s ∷ []) → hub'.ids ≡ without hub.ids s → Refuses hub s text hub'
+    → HubTells hub hub' (offering s piece sent ∷ Closing s ∷ []) → hub'.ids ≡ without hub.ids s
+    → OffersAndCloses hub s text hub'
 refuses_by hub hub' s sent piece text same takes told ids =
-    subst (λ (t : Bytes). Refuses hub s t hub') same (record { sent = sent; takes = takes; told = told; ids = ids })
+    subst (λ (t : Bytes). OffersAndCloses hub s t hub') same
+    (record { sent = sent; takes = takes; told = told; ids = ids })
 
-pub is_full : (st new : State) (hub hub' : Shown) (s : ℕ) → IsNew st hub.ids s → new ≡ st
-    → SESSIONS ≤ length st.sessions → Refuses hub s end_full hub' → Admits st hub s new hub'
+pub is_full : (st new : State) (hub hub' : Shown) (s : ℕ) → IsNewSession st hub.ids s → new ≡ st
+    → SESSIONS ≤ length st.sessions → OffersAndCloses hub s end_full hub' → Admits st hub s new hub'
 is_full st new hub hub' s n same many r = refused st new hub hub' s end_full n same (full_text st many) r
 
-pub is_unmade : (st new : State) (hub hub' : Shown) (s : ℕ) → IsNew st hub.ids s → new ≡ st
-    → length st.sessions < SESSIONS → Refuses hub s end_memory hub' → Admits st hub s new hub'
+pub is_unmade : (st new : State) (hub hub' : Shown) (s : ℕ) → IsNewSession st hub.ids s → new ≡ st
+    → length st.sessions < SESSIONS → OffersAndCloses hub s end_memory hub' → Admits st hub s new hub'
 is_unmade st new hub hub' s n same few r = refused st new hub hub' s end_memory n same (memory_text st few) r
 
-pub out_agrees : (st new : State) (hub hub' : Shown) (s : ℕ) (text : Bytes) → IsNew st hub.ids s → new ≡ st
-    → Refuses hub s text hub' → Agrees new hub'.ids
+pub out_agrees : (st new : State) (hub hub' : Shown) (s : ℕ) (text : Bytes) → IsNewSession st hub.ids s → new ≡ st
+    → OffersAndCloses hub s text hub' → Agrees new hub'.ids
 out_agrees st new hub hub' s text n same r = subst (λ (k : State). Agrees k hub'.ids) (sym same)
     (refused_in st hub.ids hub'.ids s n r.ids)
 
@@ -109,7 +112,7 @@ none_more s st new more (inl h) = ap turns_in h.1
 none_more s st new more (inr h) = ap turns_in h.3
 
 pub turn_opens : (hub mid hub' : Shown) (counted : Counts) (f : Far) (st new : State) (s : ℕ)
-    → Tells hub mid (Turning (Opened s) [] ∷ []) → Admits st mid s new hub'
+    → HubTells hub mid (Turning (Opened s) [] ∷ []) → Admits st mid s new hub'
     → Goes (seen hub counted f) (server st waiting) (seen hub' counted (one_turn f)) (server new (flushing 0 next_turn))
 turn_opens hub mid hub' counted f st new s told a =
     turn_goes hub hub' counted f st new (Opened s) [] a.more _ (flushing 0 next_turn)
@@ -119,7 +122,7 @@ turn_opens hub mid hub' counted f st new s told a =
 -- bytes came
 pub turn_feeds : (hub hub' : Shown) (counted : Counts) (f : Far) (st new : State) (s n : ℕ) (buf : Bytes) → 1 ≤ n
     → n ≤ length buf → length buf ≡ READ_BYTES → Makes st (fed s (take n buf)) new
-    → Tells hub hub' (Turning (Brought s n) (take n buf) ∷ [])
+    → HubTells hub hub' (Turning (Brought s n) (take n buf) ∷ [])
     → Goes (seen hub counted f) (server st waiting) (seen hub' counted (one_turn f)) (server new (lines s))
 turn_feeds hub hub' counted f st new s n buf some within room makes told =
     turn_goes hub hub' counted f st new (Brought s n) (take n buf) [] _ (lines s) (
@@ -131,24 +134,26 @@ turn_feeds hub hub' counted f st new s n buf some within room makes told =
 
 -- the input of a session ended
 pub turn_ends : (hub hub' : Shown) (counted : Counts) (f : Far) (st new : State) (s : ℕ) → Makes st (ended s) new
-    → Tells hub hub' (Turning (Ended s) [] ∷ [])
+    → HubTells hub hub' (Turning (Ended s) [] ∷ [])
     → Goes (seen hub counted f) (server st waiting) (seen hub' counted (one_turn f)) (server new (flushing 0 next_turn))
 turn_ends hub hub' counted f st new s makes told =
     turn_goes hub hub' counted f st new (Ended s) [] [] _ (flushing 0 next_turn)
     (happens (ended s) st new makes, refl, refl) refl refl told
 
 -- nothing came, nothing will come, or the hub failed
-pub turn_idles : (hub hub' : Shown) (counted : Counts) (f : Far) (st : State) → Tells hub hub' (Turning Idle [] ∷ [])
+pub turn_idles : (hub hub' : Shown) (counted : Counts) (f : Far) (st : State) → HubTells hub hub' (Turning Idle [] ∷ [])
     → Goes (seen hub counted f) (server st waiting) (seen hub' counted (one_turn f)) (server st (flushing 0 next_turn))
 turn_idles hub hub' counted f st told = turn_goes hub hub' counted f st st Idle [] [] [] (flushing 0 next_turn)
     ((refl, refl), refl, refl) refl refl told
 
-pub turn_over : (hub hub' : Shown) (counted : Counts) (f : Far) (st : State) → Tells hub hub' (Turning HubOver [] ∷ [])
+pub turn_over : (hub hub' : Shown) (counted : Counts) (f : Far) (st : State)
+    → HubTells hub hub' (Turning HubOver [] ∷ [])
     → Goes (seen hub counted f) (server st waiting) (seen hub' counted (one_turn f)) (server st (flushing 0 no_turn))
 turn_over hub hub' counted f st told = turn_goes hub hub' counted f st st HubOver [] [] [] (flushing 0 no_turn)
     ((refl, refl), refl, refl) refl refl told
 
-pub turn_fails : (hub hub' : Shown) (counted : Counts) (f : Far) (st : State) → Tells hub hub' (Turning Failed [] ∷ [])
+pub turn_fails : (hub hub' : Shown) (counted : Counts) (f : Far) (st : State)
+    → HubTells hub hub' (Turning Failed [] ∷ [])
     → Goes (seen hub counted f) (server st waiting) (seen hub' counted (one_turn f)) (server st (closing HubFault))
 turn_fails hub hub' counted f st told = turn_goes hub hub' counted f st st Failed [] [] [] (closing HubFault)
     ((refl, refl), refl, refl) refl refl told

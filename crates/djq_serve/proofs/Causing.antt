@@ -20,19 +20,19 @@ use Rattle.djq_laws.proofs.Finding.{some_there}
 use Rattle.djq_laws.proofs.Stopping.{IsNoLine, step_stopped, kept_says_no_stop}
 use Rattle.djq_serve.specs.declared.served.Served.{Served}
 use Rattle.djq_serve.specs.declared.served.Served.TheVariants.{Stopped, TurnsUsed, HubFault, DiskFault, LogFull}
-use Rattle.djq_serve.specs.Told.{by_turn, turn_is_over, turn_is_failed, has_over, has_failed}
+use Rattle.djq_serve.specs.Told.{by_turn, turn_is_over, turn_is_failed, has_over, turn_failed}
 use Rattle.djq_serve.specs.Server.{Next, more_lines, next_turn, no_turn, Phase, waiting, lines}
 use Rattle.djq_serve.specs.Server.{keeping, flushing, closing, Server, server, Move, all_told}
 use Rattle.djq_serve.specs.Server.{Happens, Stays, LetsIn, Brings, may_run, behind_front, SendsSome}
-use Rattle.djq_serve.specs.Server.{Leaves, Visits, after, first_open, Passes, LinesAt, KeepsAt}
-use Rattle.djq_serve.specs.Server.{FlushesAt, ServesAt, Serves}
+use Rattle.djq_serve.specs.Server.{SessionLeaves, Visits, after, first_open, PhasePasses, LinesAt, KeepsAt}
+use Rattle.djq_serve.specs.Server.{FlushesAt, ServesAt, MakesMove}
 use Rattle.djq_serve.specs.Ends.{says_stopped, says_over, says_fault, IsCaused}
 
 -- whether a session said `stop`, a turn was over, and a turn failed
 record Flags (st : State) (told : List Told) (a b c : Bool) : Type 0 where
   pub stopped : st.stopped ≡ a
   pub over : has_over told ≡ b
-  pub failed : has_failed told ≡ c
+  pub failed : turn_failed told ≡ c
 
 -- What stands where the server is behind some calls.
 abbrev Behind : Next → State → List Told → Type 0
@@ -50,7 +50,7 @@ Stands (closing answer) st told = Flags st told (says_stopped answer) (says_over
 
 -- flags behind further calls
 flags_more : (old new : State) (told more : List Told) (a a' b c b' c' : Bool) → Flags old told a b c → new.stopped ≡ a'
-    → has_over more ≡ b' → has_failed more ≡ c' → Flags new (told ++ more) a' (b || b') (c || c')
+    → has_over more ≡ b' → turn_failed more ≡ c' → Flags new (told ++ more) a' (b || b') (c || c')
 flags_more old new told more a a' b c b' c' f stopped over failed = record {
   stopped = stopped;
   over = list_any-append (by_turn turn_is_over) told more ∙ ap₂ (λ (x y : Bool). x || y) f.over over;
@@ -62,7 +62,7 @@ record Unchanged (st : State) (p : Phase) (m : Move) (new : Server) : Type 0 whe
   pub told : m.told ≡ []
   pub now : new ≡ server st p
 
-unchanged : (st : State) (p : Phase) (m : Move) (new : Server) → Passes st p m new → Unchanged st p m new
+unchanged : (st : State) (p : Phase) (m : Move) (new : Server) → PhasePasses st p m new → Unchanged st p m new
 unchanged st p m new (none, same) = record { told = ap (λ (k : Move). k.told) none; now = same }
 
 stands_unchanged : (st : State) (p : Phase) (m : Move) (new : Server) (told : List Told) → Unchanged st p m new
@@ -84,7 +84,7 @@ kept_still st new done (none, same) = ap (λ (k : State). k.stopped) same
 
 -- calls among which is no turn
 quiet_flags : (next : Next) (old new : State) (told more : List Told) → Behind next old told → new.stopped ≡ old.stopped
-    → has_over more ≡ false → has_failed more ≡ false → Behind next new (told ++ more)
+    → has_over more ≡ false → turn_failed more ≡ false → Behind next new (told ++ more)
 quiet_flags (more_lines s) old new told more f same over failed = flags_more old new told more old.stopped new.stopped
     false false false false f refl over failed
 quiet_flags next_turn old new told more f same over failed = flags_more old new told more old.stopped new.stopped false
@@ -94,7 +94,7 @@ quiet_flags no_turn old new told more f same over failed = flags_more old new to
 
 -- a turn that neither was over nor failed, from where the server waits
 after_turn : (old new : State) (told more : List Told) → Flags old told false false false → has_over more ≡ false
-    → has_failed more ≡ false → Flags new (told ++ more) new.stopped false false
+    → turn_failed more ≡ false → Flags new (told ++ more) new.stopped false false
 after_turn old new told more f over failed = flags_more old new told more false new.stopped false false false false f
     refl over failed
 
@@ -102,9 +102,9 @@ phase_as : (p q : Phase) (st : State) (told : List Told) → q ≡ p → Stands 
 phase_as p q st told e h = subst (λ (k : Phase). Stands k st told) (sym e) h
 
 let_in_quiet : (s : ℕ) (st new : State) (more : List Told) → LetsIn s st more new → (has_over more ≡ false)
-    × (has_failed more ≡ false)
-let_in_quiet s st new more (inl (there, is)) = (ap has_over is, ap has_failed is)
-let_in_quiet s st new more (inr (out, sent, fits, is)) = (ap has_over is, ap has_failed is)
+    × (turn_failed more ≡ false)
+let_in_quiet s st new more (inl (there, is)) = (ap has_over is, ap turn_failed is)
+let_in_quiet s st new more (inr (out, sent, fits, is)) = (ap has_over is, ap turn_failed is)
 
 turn_stands : (turn : Turn) (piece : Bytes) (st : State) (more : List Told) (done : List Did) (new : State)
     (next : Phase) (told : List Told)
@@ -116,25 +116,25 @@ turn_stands (Opened s) piece st more done new next told (happens, lets, phase) f
     (after_turn st new told (Turning (Opened s) piece ∷ more) f q.0 q.1)
 turn_stands (Brought s n) piece st more done new next told (happens, none, phase, is) f =
     phase_as (lines s) next new _ phase
-    (after_turn st new told (Turning (Brought s n) piece ∷ more) f (ap has_over none) (ap has_failed none))
+    (after_turn st new told (Turning (Brought s n) piece ∷ more) f (ap has_over none) (ap turn_failed none))
 turn_stands (Ended s) piece st more done new next told (happens, none, phase) f =
     phase_as (flushing 0 next_turn) next new _ phase
-    (after_turn st new told (Turning (Ended s) piece ∷ more) f (ap has_over none) (ap has_failed none))
+    (after_turn st new told (Turning (Ended s) piece ∷ more) f (ap has_over none) (ap turn_failed none))
 turn_stands Idle piece st more done new next told (stays, none, phase) f =
     phase_as (flushing 0 next_turn) next new _ phase
-    (after_turn st new told (Turning Idle piece ∷ more) f (ap has_over none) (ap has_failed none))
+    (after_turn st new told (Turning Idle piece ∷ more) f (ap has_over none) (ap turn_failed none))
 turn_stands HubOver piece st more done new next told (stays, none, phase) f =
     phase_as (flushing 0 no_turn) next new _ phase
     (flags_more st new told (Turning HubOver piece ∷ more) false false false false true false f
     (kept_still st new done stays ∙ f.stopped)
     (ap (λ (ts : List Told). has_over (Turning HubOver piece ∷ ts)) none)
-    (ap (λ (ts : List Told). has_failed (Turning HubOver piece ∷ ts)) none))
+    (ap (λ (ts : List Told). turn_failed (Turning HubOver piece ∷ ts)) none))
 turn_stands Failed piece st more done new next told (stays, none, phase) f =
     phase_as (closing HubFault) next new _ phase
     (flags_more st new told (Turning Failed piece ∷ more) false false false false false true f
     (kept_still st new done stays ∙ f.stopped)
     (ap (λ (ts : List Told). has_over (Turning Failed piece ∷ ts)) none)
-    (ap (λ (ts : List Told). has_failed (Turning Failed piece ∷ ts)) none))
+    (ap (λ (ts : List Told). turn_failed (Turning Failed piece ∷ ts)) none))
 
 -- where a line's step kept something, no session said `stop`
 line_stands : (s : ℕ) (outcome : LineOutcome) (k : Keeping) (st : State) (told : List Told)
@@ -166,7 +166,7 @@ lines_stand s st m new true told may (none, (outcome, happens, phase)) f =
     (λ k. kept_says_no_stop st (stepped s outcome) happens.0 new.state happens.1 k ∙ first_false st.stopped _ may)
     (flags_more st new.state told m.told st.stopped (new.state).stopped false false false false f refl
     (ap has_over none)
-    (ap has_failed none)))
+    (ap turn_failed none)))
 lines_stand s st m new false told may passes f =
     stands_unchanged st (flushing 0 next_turn) m new told (unchanged st (flushing 0 next_turn) m new passes) f
 
@@ -174,28 +174,29 @@ lines_stand s st m new false told may passes f =
 record Quiet (st new : State) (told : List Told) : Type 0 where
   pub stopped : new.stopped ≡ st.stopped
   pub over : has_over told ≡ false
-  pub failed : has_failed told ≡ false
+  pub failed : turn_failed told ≡ false
 
 sends_quiet : (sent : Sent) (s : ℕ) (st : State) (told : List Told) (done : List Did) (new : State)
     → SendsSome sent s st told done new → Quiet st new told
 sends_quiet (Took n) s st told done new (some, within, is, happens) = record {
   stopped = kept_stop (took s (take n (pending_of st s))) st new done tt happens;
   over = ap has_over is;
-  failed = ap has_failed is;
+  failed = ap turn_failed is;
 }
 sends_quiet Again s st told done new (is, stays) = record
-    { stopped = kept_still st new done stays; over = ap has_over is; failed = ap has_failed is }
+    { stopped = kept_still st new done stays; over = ap has_over is; failed = ap turn_failed is }
 sends_quiet Gone s st told done new (is, happens) = record {
   stopped = kept_stop (closed s (pending_of st s)) st new done tt happens;
   over = ap has_over is;
   failed = ap
-      has_failed is;
+      turn_failed is;
 }
 
-leaves_quiet : (s : ℕ) (st : State) (told : List Told) (done : List Did) (new : State) → Leaves s st told done new
+leaves_quiet : (s : ℕ) (st : State) (told : List Told) (done : List Did) (new : State)
+    → SessionLeaves s st told done new
     → Quiet st new told
 leaves_quiet s st told done new (is, happens) = record
-    { stopped = kept_stop (closed s []) st new done tt happens; over = ap has_over is; failed = ap has_failed is }
+    { stopped = kept_stop (closed s []) st new done tt happens; over = ap has_over is; failed = ap turn_failed is }
 
 visits_quiet : (s : ℕ) (st : State) (told : List Told) (done : List Did) (new : State) (to : ℕ)
     → Visits s st told done new to → Quiet st new told
@@ -223,7 +224,7 @@ flush_stands next st m new (Some s) told (to, visits, phase) f =
     (quiet_flags next st new.state told m.told f q.stopped q.over q.failed)
 
 close_flags : (a b c : Bool) (old new : State) (told more : List Told) → Flags old told a b c
-    → new.stopped ≡ old.stopped → has_over more ≡ false → has_failed more ≡ false → Flags new (told ++ more) a b c
+    → new.stopped ≡ old.stopped → has_over more ≡ false → turn_failed more ≡ false → Flags new (told ++ more) a b c
 close_flags a b c old new told more f same over failed = record {
   stopped = same ∙ f.stopped;
   over = list_any-append (by_turn turn_is_over) told more ∙ ap₂ (λ (x y : Bool). x || y) f.over over ∙ or_false b;
@@ -265,9 +266,9 @@ move_stands (closing answer) st m new told g f =
     phase_as (closing answer) new.phase new.state _ k.2.2
     (close_flags (says_stopped answer) (says_over answer) (says_fault answer) st new.state told m.told f
     (kept_stop (closed k.0 (pending_of st k.0)) st new.state m.done tt k.2.1)
-    (ap has_over k.2.0) (ap has_failed k.2.0))
+    (ap has_over k.2.0) (ap turn_failed k.2.0))
 
-walk_stands : (old : Server) (moves : List Move) (new : Server) (told : List Told) → Walk Serves old moves new
+walk_stands : (old : Server) (moves : List Move) (new : Server) (told : List Told) → Walk MakesMove old moves new
     → Stands old.phase old.state told → Stands new.phase new.state (told ++ all_told moves)
 walk_stands old [] new told w f =
     subst (λ (k : Server). Stands k.phase k.state (told ++ [])) (sym w)
@@ -277,7 +278,7 @@ walk_stands old (m ∷ moves) new told w f =
     (walk_stands w.0 moves new (told ++ m.told) w.2 (move_stands old.phase old.state m w.0 told w.1 f))
 
 pub is_caused : (st : State) (moves : List Move) (new : State) (answer : Served) → st.stopped ≡ false
-    → Walk Serves (server st waiting) moves (server new (closing answer)) → IsCaused answer (all_told moves) new
+    → Walk MakesMove (server st waiting) moves (server new (closing answer)) → IsCaused answer (all_told moves) new
 is_caused st moves new answer going w =
     let f = walk_stands (server st waiting) moves (server new (closing answer)) [] w
     (record { stopped = going; over = refl; failed = refl }) in

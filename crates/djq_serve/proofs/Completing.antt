@@ -6,12 +6,12 @@ use Rattle.djq_disk.specs.History.{History}
 use Rattle.djq_machine.specs.State.{State, Session}
 use Rattle.djq_machine.specs.Run.{Did, Run, Group}
 use Rattle.djq_machine.specs.Call.{Counts, state_ids}
-use Rattle.djq_laws.specs.Sent.{all_opened, OpensOnce}
+use Rattle.djq_laws.specs.Sent.{all_opened, SessionsOpenOnce}
 use Rattle.djq_laws.proofs.Dropping.{sent_in_order}
 use Rattle.djq_laws.proofs.Cutting.{in_order}
 use Rattle.djq_laws.proofs.Giving.{runs_give}
 use Rattle.djq_serve.specs.declared.served.Served.{Served}
-use Rattle.djq_serve.specs.Told.{Shown, Tells}
+use Rattle.djq_serve.specs.Told.{Shown, HubTells}
 use Rattle.djq_serve.specs.Server.{closing, waiting, server, all_told, all_done}
 use Rattle.djq_serve.specs.Goes.{Far, far, seen, GoesQuietly}
 use Rattle.djq_serve.specs.Kept.{Agrees}
@@ -26,7 +26,7 @@ use Rattle.djq_serve.proofs.Losing.{is_silent}
 -- None was open at first, and all that opened have rising ids.
 rising_from : (old : State) (told : List Told) (done : List Did) (x z : Shown) → old.sessions ≡ []
     → all_opened done ≡ opened_in told
-    → Tells x z told → OpensOnce old done × AllPairs (λ s t. s < t) (all_opened done)
+    → HubTells x z told → SessionsOpenOnce old done × AllPairs (λ s t. s < t) (all_opened done)
 rising_from old told done x z alone same tells =
     let rising : AllPairs (λ s t. s < t) (all_opened done) =
     subst (λ (is : List ℕ). AllPairs (λ s t. s < t) is) (sym same) (open_rising told x.ids z.ids tells.ids) in

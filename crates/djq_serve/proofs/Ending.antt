@@ -13,7 +13,7 @@ use Rattle.djq_serve.specs.Told.{Shown}
 use Rattle.djq_serve.specs.Server.{next_turn, waiting, lines, flushing, closing, server}
 use Rattle.djq_serve.specs.Goes.{Far, far, one_turn, with_groups, seen, Goes, GoesQuietly}
 use Rattle.djq_serve.specs.Kept.{AllSettled}
-use Rattle.djq_serve.specs.Ends.{HasTaken, FaultsCount}
+use Rattle.djq_serve.specs.Ends.{TurnsTaken, FaultsCount}
 use Rattle.djq_serve.specs.Parts.{phase_of, MayAnswer, RunsLines, TakesTurn, TurnAnswers, Took}
 use Rattle.djq_serve.specs.Logged.{AllKept, KeepsBy, DiskCounts}
 use Rattle.djq_serve.proofs.Going.{goes_none, goes_then}
@@ -99,7 +99,7 @@ kept_turn result x y z w before now old mid ran new s g g' d d' may feeds runs e
 
 -- a turn ends the serving
 fewer_taken : (answer : Served) (turns taken before now : ℕ) → TurnAnswers (Some answer) before now → taken ≤ turns
-    → HasTaken answer turns taken
+    → TurnsTaken answer turns taken
 fewer_taken Stopped turns taken before now h few = few
 fewer_taken Over turns taken before now h few = few
 fewer_taken HubFault turns taken before now h few = few

@@ -1,10 +1,10 @@
 -- Groups that are kept in one stretch after another.
 use Rattle.std.specs.Prelude.{ℕ, List, [], ◌∷◌, ◌++◌, ◌≡◌, Option, None, Some}
 use Rattle.std.proofs.Common.{refl, sym, ap, ◌∙◌, subst, append-nil, append_assoc}
-use Rattle.djq_disk.specs.History.{History, WhereTold}
+use Rattle.djq_disk.specs.History.{History, WhereHistoryTold}
 use Rattle.djq_disk.proofs.Telling.{told_none, told_so, told_both}
 use Rattle.djq_journal.specs.Keeping.{WasKeeping}
-use Rattle.djq_journal.specs.Logging.{grouped, HasKept, HasLost, Keeps, Overfull, FillsLog}
+use Rattle.djq_journal.specs.Logging.{grouped, HasKeptGroups, MayHaveKept, Keeps, Overfull, FillsLog}
 use Rattle.djq_journal.specs.declared.log.Kept.TheVariants.{All, Failed, Full}
 use Rattle.djq_model.specs.Data.{Bytes}
 use Rattle.djq_machine.specs.Run.{Group}
@@ -14,17 +14,18 @@ use Rattle.djq_serve.specs.Logged.{AllKept, LastLost, LastLeft, KeepsBy}
 
 abbrev KeepsOn : Option ℕ → Option ℕ → List Group → History → History → Type 0
 KeepsOn gate gate' groups a b = (found : List Bytes) (had : List Group) (start : History)
-    → HasKept gate found had start a → HasKept gate' found (had ++ groups) start b
+    → HasKeptGroups gate found had start a → HasKeptGroups gate' found (had ++ groups) start b
 
 -- none are kept, and nothing changes
 pub none_kept : (gate : Option ℕ) (h : Option History) → AllKept gate gate [] h h
 none_kept gate h = told_none h (KeepsOn gate gate [])
-    (λ o found had start kept. subst (λ (gs : List Group). HasKept gate found gs start o) (sym (append-nil had)) kept)
+    (λ o found had start kept. subst (λ (gs : List Group). HasKeptGroups gate found gs start o)
+    (sym (append-nil had)) kept)
 
 on_then : (g g' g'' : Option ℕ) (xs ys : List Group) (a b c : History) → KeepsOn g g' xs a b → KeepsOn g' g'' ys b c
     → KeepsOn g g'' (xs ++ ys) a c
 on_then g g' g'' xs ys a b c p q found had start kept =
-    subst (λ (gs : List Group). HasKept g'' found gs start c) (append_assoc had xs ys)
+    subst (λ (gs : List Group). HasKeptGroups g'' found gs start c) (append_assoc had xs ys)
     (q found (had ++ xs) start (p found had start kept))
 
 -- some, and then others
@@ -40,9 +41,9 @@ lost_then g g' xs ys a b c p lost = record {
   last = lost.last;
   cut = ap (λ (gs : List Group). xs ++ gs) lost.cut ∙ sym (append_assoc xs lost.whole (lost.last ∷ []));
   kept = told_both a b c (KeepsOn g g' xs)
-      (λ o n. (found : List Bytes) (had : List Group) (start : History) → HasKept g' found had start o
+      (λ o n. (found : List Bytes) (had : List Group) (start : History) → HasKeptGroups g' found had start o
       → WasKeeping found (had ++ lost.whole) lost.last start n)
-      (λ o n. (found : List Bytes) (had : List Group) (start : History) → HasKept g found had start o
+      (λ o n. (found : List Bytes) (had : List Group) (start : History) → HasKeptGroups g found had start o
       → WasKeeping found (had ++ (xs ++ lost.whole)) lost.last start n)
       (λ o m n q r found had start kept.
       subst (λ (gs : List Group). WasKeeping found gs lost.last start n) (append_assoc had xs lost.whole)
@@ -74,7 +75,7 @@ keeps_then (Some LogFull) g g' g'' xs ys a b c p q = left_then g g' xs ys a b c 
 
 -- lines that were kept are a group more
 pub lines_kept : (g g' : Option ℕ) (lines : List Bytes) (groups : List Group) (a b : Option History) → groups
-    ≡ grouped lines → WhereTold a b (Keeps All g g' lines) → AllKept g g' groups a b
+    ≡ grouped lines → WhereHistoryTold a b (Keeps All g g' lines) → AllKept g g' groups a b
 lines_kept g g' lines groups a b is told =
     subst (λ (gs : List Group). AllKept g g' gs a b) (sym is)
     (told_so a b (Keeps All g g' lines) (KeepsOn g g' (grouped lines)) (λ o n k. k) told)
@@ -92,19 +93,19 @@ some_group groups lines is some none = differ (sym (is ∙ some_lines lines some
     differ e = cc
 
 was_kept : (g : Option ℕ) (found : List Bytes) (had : List Group) (last : Group) (a b : History)
-    → HasLost g found had last a b → WasKeeping found had last a b
+    → MayHaveKept g found had last a b → WasKeeping found had last a b
 was_kept None found had last a b h = absurd h
 was_kept (Some gate) found had last a b h = h
 
 -- lines that failed to be kept
 pub lines_lost : (g g' : Option ℕ) (lines : List Bytes) (groups : List Group) (a b : Option History) → groups
-    ≡ grouped lines → FillsLog Failed g lines → WhereTold a b (Keeps Failed g g' lines) → LastLost g groups a b
+    ≡ grouped lines → FillsLog Failed g lines → WhereHistoryTold a b (Keeps Failed g g' lines) → LastLost g groups a b
 lines_lost g g' lines groups a b is fills told = record {
   whole = [];
   last = lines;
   cut = is ∙ some_lines lines fills.1;
   kept = told_so a b (Keeps Failed g g' lines)
-      (λ o n. (found : List Bytes) (had : List Group) (start : History) → HasKept g found had start o
+      (λ o n. (found : List Bytes) (had : List Group) (start : History) → HasKeptGroups g found had start o
       → WasKeeping found (had ++ []) lines start n)
       (λ o n k found had start kept. subst (λ (gs : List Group). WasKeeping found gs lines start n)
       (sym (append-nil had)) (was_kept g found had lines start n (k found had start kept))) told;
@@ -117,7 +118,7 @@ full_some (Some gate) (l ∷ ls) over none = cc
 
 -- lines for which there was no room
 pub lines_left : (g g' : Option ℕ) (lines : List Bytes) (groups : List Group) (a b : Option History) → groups
-    ≡ grouped lines → FillsLog Full g lines → WhereTold a b (Keeps Full g g' lines) → LastLeft g groups a b
+    ≡ grouped lines → FillsLog Full g lines → WhereHistoryTold a b (Keeps Full g g' lines) → LastLeft g groups a b
 lines_left g g' lines groups a b is fills told = record {
   whole = [];
   last = lines;
@@ -125,7 +126,8 @@ lines_left g g' lines groups a b is fills told = record {
   gate' = g;
   full = fills;
   kept = told_so a b (Keeps Full g g' lines) (KeepsOn g g [])
-      (λ o n k found had start kept. subst (λ (gs : List Group). HasKept g found gs start n) (sym (append-nil had))
+      (λ o n k found had start kept. subst (λ (gs : List Group). HasKeptGroups g found gs start n)
+      (sym (append-nil had))
       (k found had start kept)) told;
 }
 

@@ -16,7 +16,7 @@ use Rattle.djq_machine.specs.State.{State}
 use Rattle.djq_machine.specs.Effect.{Effect}
 use Rattle.djq_machine.specs.LineStep.{LineOutcome}
 use Rattle.djq_machine.specs.Step.{Event, opened, fed, stepped, took, ended, closed, Step}
-use Rattle.djq_machine.specs.Run.{Did, Run, Walk, taken_by, all_taken, pending_of}
+use Rattle.djq_machine.specs.Run.{Did, Run, Walk, taken_from, all_taken, pending_of}
 use Rattle.djq_machine.specs.Call.{first_due}
 use Rattle.djq_laws.specs.Sent.{opened_by, all_opened}
 use Rattle.djq_laws.proofs.Courses.{walk_then}
@@ -26,7 +26,7 @@ use Rattle.djq_io.specs.Calls.{sent_by, sent_to}
 use Rattle.djq_serve.specs.Server.{Next, more_lines, next_turn, Phase, waiting, lines, keeping}
 use Rattle.djq_serve.specs.Server.{flushing, closing, Server, Move, all_told, all_done, Happens}
 use Rattle.djq_serve.specs.Server.{Stays, LetsIn, Brings, may_run, SendsSome, Visits, after}
-use Rattle.djq_serve.specs.Server.{first_open, refusal_for, Passes, LinesAt, FlushesAt, ServesAt, Serves}
+use Rattle.djq_serve.specs.Server.{first_open, refusal_for, PhasePasses, LinesAt, FlushesAt, ServesAt, MakesMove}
 use Rattle.djq_serve.specs.Ends.{refuses, NeverRefused}
 use Rattle.djq_serve.proofs.Opening.{opens_at, opened_in}
 
@@ -68,7 +68,8 @@ module _ (P : State → List Told → List Did → State → Type 0) (h : OfMove
   by_none st told done new (none, same) f = subst (λ (ds : List Did). P st told ds new) (sym none)
       (subst (λ (k : State). P st told [] k) (sym same) f)
 
-  by_passing : (st : State) (p : Phase) (m : Move) (new : Server) → Passes st p m new → P st m.told m.done new.state
+  by_passing : (st : State) (p : Phase) (m : Move) (new : Server) → PhasePasses st p m new
+      → P st m.told m.done new.state
   by_passing st p m new (none, same) =
       subst (λ (k : Move). P st k.told k.done new.state) (sym none)
       (subst (λ (k : Server). P st [] [] k.state) (sym same) (h.quiet st))
@@ -161,7 +162,7 @@ module _ (P : State → List Told → List Did → State → Type 0) (h : OfMove
       (by_step (closed f.0 (pending_of st f.0)) st _ m.done new.state f.2.1
       (h.closes st new.state f.0 (pending_of st f.0)))
 
-  pub of_move : (old : Server) (m : Move) (new : Server) → Serves old m new → P old.state m.told m.done new.state
+  pub of_move : (old : Server) (m : Move) (new : Server) → MakesMove old m new → P old.state m.told m.done new.state
   of_move old m new g = by_phase old.phase old.state m new g
 
 -- Each move is a run of the machine, and so are they all.
@@ -183,7 +184,7 @@ runs_by = record {
   closes = λ st new s bytes e step. (new, step, refl);
 }
 
-pub serve_runs : (old : Server) (moves : List Move) (new : Server) → Walk Serves old moves new
+pub serve_runs : (old : Server) (moves : List Move) (new : Server) → Walk MakesMove old moves new
     → Run old.state (all_done moves) new.state
 serve_runs old [] new w = ap (λ (k : Server). k.state) w
 serve_runs old (m ∷ moves) new w =
@@ -217,7 +218,7 @@ sends_by s = record {
   closes = λ st new t bytes e step never. refl;
 }
 
-pub serve_sends : (s : ℕ) (old : Server) (moves : List Move) (new : Server) → Walk Serves old moves new
+pub serve_sends : (s : ℕ) (old : Server) (moves : List Move) (new : Server) → Walk MakesMove old moves new
     → NeverRefused s moves → sent_to s (all_told moves) ≡ all_taken s (all_done moves)
 serve_sends s old [] new w never = refl
 serve_sends s old (m ∷ moves) new w never =
@@ -226,7 +227,7 @@ serve_sends s old (m ∷ moves) new w never =
     (of_move (MoveSends s) (sends_by s) old m w.0 w.1
     (All-head (λ (k : Move). refuses s k.told ≡ false) m moves never))
     (serve_sends s w.0 moves new w.2 (All-tail (λ (k : Move). refuses s k.told ≡ false) m moves never))
-    ∙ sym (flat_map-append (λ (d : Did). taken_by s d.event) m.done (all_done moves))
+    ∙ sym (flat_map-append (λ (d : Did). taken_from s d.event) m.done (all_done moves))
 
 -- A session opens in the machine exactly where one opens at the hub.
 abbrev MoveOpens : State → List Told → List Did → State → Type 0
@@ -247,7 +248,7 @@ opens_by = record {
   closes = λ st new s bytes e step. refl;
 }
 
-pub serve_opens : (old : Server) (moves : List Move) (new : Server) → Walk Serves old moves new
+pub serve_opens : (old : Server) (moves : List Move) (new : Server) → Walk MakesMove old moves new
     → all_opened (all_done moves) ≡ opened_in (all_told moves)
 serve_opens old [] new w = refl
 serve_opens old (m ∷ moves) new w =

@@ -8,7 +8,7 @@ use Rattle.djq_machine.specs.declared.machine.Stepped.TheVariants.{Dry, Ended}
 use Rattle.djq_machine.specs.State.{State}
 use Rattle.djq_machine.specs.LineStep.{LineOutcome, long, blank, slow, no_room, run}
 use Rattle.djq_machine.specs.Step.{stepped}
-use Rattle.djq_machine.specs.Run.{Group, group_of}
+use Rattle.djq_machine.specs.Run.{Group, kept_group}
 use Rattle.djq_model.specs.Data.{Bytes}
 use Rattle.djq_machine.specs.Call.{MakesCounted, RanStep, EndedStepAs, StepGives, Counts, cause_of, held_of, groups_by}
 use Rattle.djq_laws.proofs.Rising.{step_ids}
@@ -71,12 +71,12 @@ line_done : (x y : Shown) (before mid now : Counts) (old st ran : State) (s : �
     (outcome : LineOutcome)
     → Lining x y before mid old st s groups → st.stopped ≡ false
     → (makes : MakesCounted st (stepped s outcome) ran mid now)
-    → behind_front s outcome makes.effect.kept ≡ keeping s (group_of (stepped s outcome) makes.effect.kept)
+    → behind_front s outcome makes.effect.kept ≡ keeping s (kept_group (stepped s outcome) makes.effect.kept)
     → (f : Far) → Goes (seen x before f) (server old (lines s))
-    (seen y now (with_groups (groups ++ group_of (stepped s outcome) makes.effect.kept) f))
-    (server ran (keeping s (group_of (stepped s outcome) makes.effect.kept)))
+    (seen y now (with_groups (groups ++ kept_group (stepped s outcome) makes.effect.kept) f))
+    (server ran (keeping s (kept_group (stepped s outcome) makes.effect.kept)))
 line_done x y before mid now old st ran s groups outcome so_far going makes behind f =
-    let more = group_of (stepped s outcome) makes.effect.kept in
+    let more = kept_group (stepped s outcome) makes.effect.kept in
     let between : Far = with_groups groups f in
     subst (λ (k : Far). Goes (seen x before f) (server old (lines s)) (seen y now k) (server ran (keeping s more)))
     (both_groups f groups more)
@@ -198,7 +198,7 @@ cut_lined : (x y : Shown) (before mid now : Counts) (old st new : State) (s : �
     (outcome : LineOutcome)
     → Lining x y before mid old st s groups → st.stopped ≡ false
     → (makes : MakesCounted st (stepped s outcome) new mid now) → behind_front s outcome makes.effect.kept
-    ≡ flushing 0 next_turn → group_of (stepped s outcome) makes.effect.kept ≡ [] → IsSome (cause_of new s)
+    ≡ flushing 0 next_turn → kept_group (stepped s outcome) makes.effect.kept ≡ [] → IsSome (cause_of new s)
     → Lined x y before now old new s groups
 cut_lined x y before mid now old st new s groups outcome so_far going makes behind unkept ended = record {
   agrees = agrees_same st new y.ids y.ids (step_ids st (stepped s outcome) makes.effect new makes.step) refl
@@ -206,7 +206,7 @@ cut_lined x y before mid now old st new s groups outcome so_far going makes behi
   settled = λ _. one_and_others new s (inl ended) (ran_settled st s outcome makes.effect new makes.step so_far.settled);
   goes = λ f.
       let between : Far = with_groups groups f in
-      let same : with_groups (group_of (stepped s outcome) makes.effect.kept) between
+      let same : with_groups (kept_group (stepped s outcome) makes.effect.kept) between
       ≡ between = ap (λ (gs : List Group). with_groups gs between) unkept ∙ sym (no_groups between) in
       goes_then (seen x before f) (server old (lines s)) (seen y mid between) (server st (lines s)) (seen y now between)
       (server new (flushing 0 next_turn)) (so_far.goes f)

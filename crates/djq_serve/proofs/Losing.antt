@@ -12,15 +12,15 @@ use Rattle.djq_machine.specs.State.{State}
 use Rattle.djq_machine.specs.Keeping.{Keeping, no_line, the_line, the_batch}
 use Rattle.djq_machine.specs.LineStep.{LineOutcome, long, blank, slow, no_room, run}
 use Rattle.djq_machine.specs.Step.{Event, opened, fed, stepped, took, ended, closed}
-use Rattle.djq_machine.specs.Run.{Did, Group, Walk, group_of, groups_of, pending_of}
+use Rattle.djq_machine.specs.Run.{Did, Group, Walk, kept_group, groups_of, pending_of}
 use Rattle.djq_machine.specs.Call.{first_due}
 use Rattle.djq_laws.proofs.Finding.{some_there}
 use Rattle.djq_serve.specs.declared.served.Served.{Served}
 use Rattle.djq_serve.specs.declared.served.Served.TheVariants.{Stopped, Over, TurnsUsed, HubFault, DiskFault, LogFull}
 use Rattle.djq_serve.specs.Server.{Next, more_lines, next_turn, no_turn, Phase, waiting, lines, keeping, flushing}
 use Rattle.djq_serve.specs.Server.{closing, Server, server, Move, all_told, all_done, Happens, Brings, may_run}
-use Rattle.djq_serve.specs.Server.{behind_front, after, first_open, Passes, LinesAt, KeepsAt, FlushesAt}
-use Rattle.djq_serve.specs.Server.{ServesAt, Serves}
+use Rattle.djq_serve.specs.Server.{behind_front, after, first_open, PhasePasses, LinesAt, KeepsAt, FlushesAt}
+use Rattle.djq_serve.specs.Server.{ServesAt, MakesMove}
 use Rattle.djq_serve.specs.Logged.{IsClose, IsClosed, Unanswered, Silent}
 
 -- whether an answer comes of the disk
@@ -53,7 +53,7 @@ Follows (closing answer) moves = (says_lost answer ≡ true) × Closes moves
 phase_follows : (p q : Phase) (moves : List Move) → p ≡ q → Follows p moves → Follows q moves
 phase_follows p q moves e f = subst (λ (k : Phase). Follows k moves) e f
 
-passed : (st : State) (p : Phase) (m : Move) (new : Server) (moves : List Move) → Passes st p m new
+passed : (st : State) (p : Phase) (m : Move) (new : Server) (moves : List Move) → PhasePasses st p m new
     → Follows new.phase moves → Follows p moves
 passed st p m new moves (none, same) f = phase_follows new.phase p moves (ap (λ (k : Server). k.phase) same) f
 
@@ -82,7 +82,7 @@ closes_more m moves told done c = record {
   done = All-append (λ (d : Did). IsClosed d.event) m.done (all_done moves) done c.done;
 }
 
-closes_passed : (st : State) (p : Phase) (m : Move) (new : Server) (moves : List Move) → Passes st p m new
+closes_passed : (st : State) (p : Phase) (m : Move) (new : Server) (moves : List Move) → PhasePasses st p m new
     → Closes moves → Closes (m ∷ moves)
 closes_passed st p m new moves (none, same) c =
     subst (λ (k : Move). Closes (k ∷ moves)) (sym none) (record { told = c.told; done = c.done })
@@ -119,7 +119,7 @@ none_kept s m moves (inl l) = loses_more m moves l
 none_kept s m moves (inr (some, c)) = absurd (some refl)
 
 front_loses : (s : ℕ) (outcome : LineOutcome) (k : Keeping) (m : Move) (moves : List Move) → m.told ≡ []
-    → groups_of m.done ≡ group_of (stepped s outcome) k → Follows (behind_front s outcome k) moves → Loses (m ∷ moves)
+    → groups_of m.done ≡ kept_group (stepped s outcome) k → Follows (behind_front s outcome k) moves → Loses (m ∷ moves)
 front_loses s long k m moves quiet is f = loses_more m moves f
 front_loses s (blank l) k m moves quiet is f = none_kept s m moves f
 front_loses s (slow l) k m moves quiet is f = loses_more m moves f
@@ -133,8 +133,8 @@ front_loses s (run l) (the_batch held) m moves quiet is (inr (some, c)) =
 
 -- the group of one step
 group_of_one : (event : Event) (st new : State) (done : List Did) → (h : Happens event st done new)
-    → groups_of done ≡ group_of event (h.0).kept
-group_of_one event st new done (e, step, is) = ap groups_of is ∙ append-nil (group_of event e.kept)
+    → groups_of done ≡ kept_group event (h.0).kept
+group_of_one event st new done (e, step, is) = ap groups_of is ∙ append-nil (kept_group event e.kept)
 
 lines_lose : (s : ℕ) (st : State) (m : Move) (new : Server) (moves : List Move) (b : Bool) → LinesAt s st m new b
     → Follows new.phase moves → Loses (m ∷ moves)
@@ -208,7 +208,7 @@ move_follows (closing answer) st m new moves g f =
     (closes.0, closes_one k.0 st new.state m moves k.2.0 k.2.1 closes.1)
 
 walk_follows : (old : Server) (moves : List Move) (new : State) (answer : Served) → says_lost answer ≡ true
-    → Walk Serves old moves (server new (closing answer)) → Follows old.phase moves
+    → Walk MakesMove old moves (server new (closing answer)) → Follows old.phase moves
 walk_follows old [] new answer lost w =
     phase_follows (closing answer) old.phase [] (ap (λ (k : Server). k.phase) w) (lost, closes_none)
 walk_follows old (m ∷ moves) new answer lost w =
@@ -234,7 +234,7 @@ none_of (d ∷ done) h =
     ap₂ (λ (xs ys : List Group). xs ++ ys) (by_event d.event (All-head (λ (k : Did). IsClosed k.event) d done h))
     (none_of done (All-tail (λ (k : Did). IsClosed k.event) d done h))
   where
-    by_event : (event : Event) → IsClosed event → group_of event d.effect.kept ≡ []
+    by_event : (event : Event) → IsClosed event → kept_group event d.effect.kept ≡ []
     by_event (closed s bytes) is = refl
     by_event (opened s) is = absurd is
     by_event (fed s bytes) is = absurd is
@@ -247,10 +247,10 @@ all_groups : (moves : List Move) (last : Group) → (u : Unanswered last moves)
 all_groups moves last u =
     ap (λ (ms : List Move). groups_of (all_done ms)) u.cut
     ∙ ap groups_of (flat_map-append (λ (m : Move). m.done) u.before (u.step ∷ u.behind))
-    ∙ flat_map-append (λ (d : Did). group_of d.event d.effect.kept) (all_done u.before)
+    ∙ flat_map-append (λ (d : Did). kept_group d.event d.effect.kept) (all_done u.before)
     (u.step.done ++ all_done u.behind)
     ∙ ap (λ (gs : List Group). groups_of (all_done u.before) ++ gs)
-    (flat_map-append (λ (d : Did). group_of d.event d.effect.kept) u.step.done (all_done u.behind)
+    (flat_map-append (λ (d : Did). kept_group d.event d.effect.kept) u.step.done (all_done u.behind)
     ∙ ap₂ (λ (xs ys : List Group). xs ++ ys) u.keeps (none_of (all_done u.behind) u.done))
 
 is_unanswered : (moves : List Move) → Loses moves → (whole : List Group) (last : Group)
@@ -262,7 +262,7 @@ is_unanswered moves l whole last is =
     l.unanswered
 
 pub is_silent : (answer : Served) (st : State) (moves : List Move) (new : State)
-    → Walk Serves (server st waiting) moves (server new (closing answer)) → (whole : List Group) (last : Group)
+    → Walk MakesMove (server st waiting) moves (server new (closing answer)) → (whole : List Group) (last : Group)
     → groups_of (all_done moves) ≡ whole ++ last ∷ [] → Silent answer last moves
 is_silent DiskFault st moves new w whole last is =
     is_unanswered moves (walk_follows (server st waiting) moves new DiskFault refl w) whole last is

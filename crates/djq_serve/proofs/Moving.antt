@@ -11,11 +11,11 @@ use Rattle.djq_model.specs.Data.{Bytes}
 use Rattle.djq_machine.specs.State.{State}
 use Rattle.djq_machine.specs.LineStep.{LineOutcome}
 use Rattle.djq_machine.specs.Step.{Event, stepped, took, closed, Step}
-use Rattle.djq_machine.specs.Run.{Did, Group, pending_of, group_of, groups_of}
+use Rattle.djq_machine.specs.Run.{Did, Group, pending_of, kept_group, groups_of}
 use Rattle.djq_machine.specs.Call.{Makes, MakesCounted, Counts, cause_of, first_due}
 use Rattle.djq_serve.specs.declared.served.Served.{Served}
 use Rattle.djq_serve.specs.declared.served.Served.TheVariants.{TurnsUsed, DiskFault, LogFull}
-use Rattle.djq_serve.specs.Told.{Shown, Tells, turn_in, turns_in}
+use Rattle.djq_serve.specs.Told.{Shown, HubTells, turn_in, turns_in}
 use Rattle.djq_serve.specs.Server.{Next, more_lines, next_turn, Phase, waiting, lines, keeping}
 use Rattle.djq_serve.specs.Server.{flushing, closing, server, move, offering, Happens, Brings}
 use Rattle.djq_serve.specs.Server.{may_run, behind_front, after, first_open, LinesAt, FlushesAt}
@@ -40,7 +40,7 @@ flush_over hub st from next none =
 
 pub visit_takes : (hub hub' : Shown) (st new : State) (from : ℕ) (next : Next) (s n : ℕ) → first_due st from ≡ Some s
     → 1 ≤ n → n ≤ length (pending_of st s) → Makes st (took s (take n (pending_of st s))) new
-    → Tells hub hub' (offering s (pending_of st s) (Took n) ∷ [])
+    → HubTells hub hub' (offering s (pending_of st s) (Took n) ∷ [])
     → GoesQuietly hub (server st (flushing from next)) hub' (server new (flushing s next))
 visit_takes hub hub' st new from next s n due some within makes told =
     let event = took s (take n (pending_of st s)) in
@@ -53,7 +53,7 @@ visit_takes hub hub' st new from next s n due some within makes told =
 
 pub visit_blocked : (hub hub' : Shown) (st : State) (from : ℕ) (next : Next) (s : ℕ) → first_due st from ≡ Some s
     → 0 < length (pending_of st s)
-    → Tells hub hub' (offering s (pending_of st s) Again ∷ [])
+    → HubTells hub hub' (offering s (pending_of st s) Again ∷ [])
     → GoesQuietly hub (server st (flushing from next)) hub' (server st (flushing (s + 1) next))
 visit_blocked hub hub' st from next s due some told =
     let m = move (offering s (pending_of st s) Again ∷ []) [] in
@@ -64,7 +64,7 @@ visit_blocked hub hub' st from next s due some told =
 
 pub visit_gone : (hub hub' : Shown) (st new : State) (from : ℕ) (next : Next) (s : ℕ) → first_due st from ≡ Some s
     → 0 < length (pending_of st s)
-    → Makes st (closed s (pending_of st s)) new → Tells hub hub' (offering s (pending_of st s) Gone ∷ Closing s ∷ [])
+    → Makes st (closed s (pending_of st s)) new → HubTells hub hub' (offering s (pending_of st s) Gone ∷ Closing s ∷ [])
     → GoesQuietly hub (server st (flushing from next)) hub' (server new (flushing (s + 1) next))
 visit_gone hub hub' st new from next s due some makes told =
     let d : Did = record { event = closed s (pending_of st s); effect = makes.effect } in
@@ -76,7 +76,7 @@ visit_gone hub hub' st new from next s due some makes told =
 
 pub visit_closes : (hub hub' : Shown) (st new : State) (from : ℕ) (next : Next) (s : ℕ) → first_due st from ≡ Some s
     → pending_of st s ≡ [] → IsSome (cause_of st s)
-    → Makes st (closed s (pending_of st s)) new → Tells hub hub' (Closing s ∷ [])
+    → Makes st (closed s (pending_of st s)) new → HubTells hub hub' (Closing s ∷ [])
     → GoesQuietly hub (server st (flushing from next)) hub' (server new (flushing (s + 1) next))
 visit_closes hub hub' st new from next s due none ended makes told =
     let m = move (Closing s ∷ []) (record { event = closed s []; effect = makes.effect } ∷ []) in
@@ -92,13 +92,13 @@ visit_closes hub hub' st new from next s due none ended makes told =
 pub line_runs : (hub : Shown) (before now : Counts) (f : Far) (st new : State) (s : ℕ) (outcome : LineOutcome)
     → may_run st s ≡ true → (makes : MakesCounted st (stepped s outcome) new before now)
     → Goes (seen hub before f) (server st (lines s))
-    (seen hub now (with_groups (group_of (stepped s outcome) makes.effect.kept) f))
+    (seen hub now (with_groups (kept_group (stepped s outcome) makes.effect.kept) f))
     (server new (behind_front s outcome makes.effect.kept))
 line_runs hub before now f st new s outcome may makes =
     let d : Did = record { event = stepped s outcome; effect = makes.effect } in
     let m = move [] (d ∷ []) in
     let b = server new (behind_front s outcome makes.effect.kept) in
-    let groups : List Group = group_of (stepped s outcome) makes.effect.kept in
+    let groups : List Group = kept_group (stepped s outcome) makes.effect.kept in
     goes_by (seen hub before f) (server st (lines s)) (seen hub now (with_groups groups f)) b m
     (subst (λ (t : Bool). LinesAt s st m b t) (sym may) (refl, (outcome, (makes.effect, makes.step, refl), refl)))
     (tells_none hub)
@@ -144,7 +144,7 @@ none_in_more more none turn piece = omega (arith, sum_by-cons turn_in (Turning t
 pub turn_goes : (hub hub' : Shown) (counted : Counts) (f : Far) (st new : State) (turn : Turn) (piece : Bytes)
     (more : List Told) (done : List Did) (next : Phase)
     → Brings turn piece st more done new next → turns_in more ≡ 0 → groups_of done ≡ []
-    → Tells hub hub' (Turning turn piece ∷ more)
+    → HubTells hub hub' (Turning turn piece ∷ more)
     → Goes (seen hub counted f) (server st waiting) (seen hub' counted (one_turn f)) (server new next)
 turn_goes hub hub' counted f st new turn piece more done next brings none unkept told =
     let m = move (Turning turn piece ∷ more) done in
@@ -155,7 +155,7 @@ turn_goes hub hub' counted f st new turn piece more done next brings none unkept
 -- A session is closed at the end.
 
 pub closing_goes : (hub hub' : Shown) (st new : State) (answer : Served) (s : ℕ) → first_open st ≡ Some s
-    → Makes st (closed s (pending_of st s)) new → Tells hub hub' (Closing s ∷ [])
+    → Makes st (closed s (pending_of st s)) new → HubTells hub hub' (Closing s ∷ [])
     → GoesQuietly hub (server st (closing answer)) hub' (server new (closing answer))
 closing_goes hub hub' st new answer s first makes told =
     let m = move (Closing s ∷ []) (record { event = closed s (pending_of st s); effect = makes.effect } ∷ []) in

@@ -11,7 +11,7 @@ use Rattle.djq_machine.specs.Step.{Event, took, closed, TookStep, Step, with_rel
 use Rattle.djq_machine.specs.Run.{pending_of}
 use Rattle.djq_machine.specs.Call.{Makes}
 use Rattle.djq_laws.proofs.Finding.{some_there}
-use Rattle.djq_serve.specs.Kept.{ahead}
+use Rattle.djq_serve.specs.Kept.{flush_ahead}
 
 -- how many bytes are pending for sessions
 abbrev total : List Session → ℕ
@@ -92,7 +92,7 @@ closed_total old s bytes new m =
 -- Bytes of a session were taken, and the flush stays at it.
 pub took_nearer : (old new : State) (s to n : ℕ) (piece : Bytes) → to ≡ s → piece ≡ pending_of old s → 1 ≤ n
     → n ≤ length piece → Makes old (took s (take n (pending_of old s))) new
-    → (from : ℕ) → from ≤ s → ahead new to < ahead old from
+    → (from : ℕ) → from ≤ s → flush_ahead new to < flush_ahead old from
 took_nearer old new s to n piece here is_piece some within makes from before =
     omega (
       arith,
@@ -107,6 +107,6 @@ took_nearer old new s to n piece here is_piece some within makes from before =
 
 -- A session was closed, and the flush goes past it.
 pub closed_nearer : (old new : State) (s to : ℕ) (bytes : Bytes) → s < 18446744073709551616 → to ≡ s + 1
-    → Makes old (closed s bytes) new → (from : ℕ) → from ≤ s → ahead new to < ahead old from
+    → Makes old (closed s bytes) new → (from : ℕ) → from ≤ s → flush_ahead new to < flush_ahead old from
 closed_nearer old new s to bytes small behind makes from before = omega
     (arith, closed_total old s bytes new makes, small, behind, before)

@@ -9,7 +9,7 @@ use Rattle.djq_io.specs.declared.hub.Turn.TheVariants.{Opened, Bytes as Brought,
 use Rattle.djq_io.specs.declared.hub.Told.{Told}
 use Rattle.djq_io.specs.declared.hub.Told.TheVariants.{Listening, Turning, Sending, Closing}
 use Rattle.djq_machine.specs.Run.{Walk}
-use Rattle.djq_serve.specs.Told.{Shows}
+use Rattle.djq_serve.specs.Told.{IdsShow}
 
 abbrev pub opens_at : Told → List ℕ
 opens_at (Turning (Opened s) piece) = s ∷ []
@@ -40,7 +40,7 @@ same_newest : (ids : List ℕ) (old new : Option ℕ) → new ≡ old → Rises 
 same_newest ids old new same r = subst (λ (o : Option ℕ). Rises o ids) same r
 
 -- one call earlier
-call_rises : (t : Told) (old new : Ids) (ids : List ℕ) → Shows old t new → Rises new.newest ids
+call_rises : (t : Told) (old new : Ids) (ids : List ℕ) → IdsShow old t new → Rises new.newest ids
     → Rises old.newest (opens_at t ++ ids)
 call_rises (Turning (Opened s) piece) old new ids (above, is) r =
     one_more old.newest s ids above (same_newest ids (Some s) new.newest (ap (λ (i : Ids). i.newest) is) r)
@@ -58,7 +58,7 @@ call_rises (Sending s offered sent taken) old new ids is r =
 call_rises (Closing s) old new ids is r = same_newest ids old.newest new.newest (ap (λ (i : Ids). i.newest) is) r
 call_rises (Listening addr answer) old new ids is r = absurd is
 
-all_rise : (told : List Told) (old new : Ids) → Walk Shows old told new → Rises old.newest (opened_in told)
+all_rise : (told : List Told) (old new : Ids) → Walk IdsShow old told new → Rises old.newest (opened_in told)
 all_rise [] old new w = record {
   above = All-nil (λ t. IfSome old.newest (λ n. n < t));
   rising = λ i j d lt within. absurd (omega (arith, within));
@@ -66,6 +66,6 @@ all_rise [] old new w = record {
 all_rise (t ∷ told) old new w = call_rises t old w.0 (opened_in told) w.1 (all_rise told w.0 new w.2)
 
 -- of all calls
-pub open_rising : (told : List Told) (old new : Ids) → Walk Shows old told new
+pub open_rising : (told : List Told) (old new : Ids) → Walk IdsShow old told new
     → AllPairs (λ s t. s < t) (opened_in told)
 open_rising told old new w = (all_rise told old new w).rising

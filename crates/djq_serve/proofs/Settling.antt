@@ -16,7 +16,7 @@ use Rattle.djq_laws.specs.Moved.{SparesSession}
 use Rattle.djq_laws.proofs.Cutting.{HeldStep, holds, takes, drops, step_holds}
 use Rattle.djq_laws.proofs.Rising.{step_ids}
 use Rattle.djq_laws.proofs.Stopping.{step_stopped}
-use Rattle.djq_serve.specs.Kept.{IsSettled, AllSettled, OthersSettled, Spares}
+use Rattle.djq_serve.specs.Kept.{HoldsNoLine, AllSettled, OthersSettled, Spares}
 use Rattle.djq_serve.proofs.Agreeing.{open_contains}
 
 -- A session holds the same, and has ended where it had.
@@ -40,7 +40,7 @@ kept old event e new h t none_fed no_line spared =
     (cause_of new t)) no_line
     (step_holds old event e new h t spared)))
 
-kept_settled : (old new : State) (t : ℕ) → Keeps old new t → IsSettled old t → IsSettled new t
+kept_settled : (old new : State) (t : ℕ) → Keeps old new t → HoldsNoLine old t → HoldsNoLine new t
 kept_settled old new t k (inl cause) = inl (k.1 cause)
 kept_settled old new t k (inr dry) = inr (ap (λ (bytes : Bytes). is_dry bytes) k.0 ∙ dry)
 
@@ -52,7 +52,7 @@ none_held (Some x) h = absurd (h refl)
 pub closed_held : (st : State) (s : ℕ) → (IsOpen st s → ⊥) → held_of st s ≡ []
 closed_held st s h = none_held (session_of st s) h
 
-pub closed_settled : (st : State) (s : ℕ) → (IsOpen st s → ⊥) → IsSettled st s
+pub closed_settled : (st : State) (s : ℕ) → (IsOpen st s → ⊥) → HoldsNoLine st s
 closed_settled st s h = inr (ap (λ (bytes : Bytes). is_dry bytes) (closed_held st s h))
 
 -- the ids without that of a session don't have it
@@ -98,7 +98,7 @@ closed_spares old s bytes new m = record {
     gone : (t : ℕ) → (s == t) ≡ true → IsOpen new t → ⊥
     gone t same there = is_closed old s bytes new m (subst (λ (i : ℕ). IsOpen new i) (sym (eqb-true s t same)) there)
 
-    settled_at : (t : ℕ) (b : Bool) → (s == t) ≡ b → IsSettled old t → IsSettled new t
+    settled_at : (t : ℕ) (b : Bool) → (s == t) ≡ b → HoldsNoLine old t → HoldsNoLine new t
     settled_at t true same h = closed_settled new t (gone t same)
     settled_at t false apart h = kept_settled old new t
         (kept old (closed s bytes) m.effect new m.step t refl refl apart) h
@@ -137,9 +137,9 @@ opened_settled old s new m all t = kept_settled old new t (kept old (opened s) m
     (all t)
 
 -- all are settled: a session and the others
-pub one_and_others : (st : State) (s : ℕ) → IsSettled st s → OthersSettled s st → AllSettled st
+pub one_and_others : (st : State) (s : ℕ) → HoldsNoLine st s → OthersSettled s st → AllSettled st
 one_and_others st s one others t = at (s == t) refl
   where
-    at : (b : Bool) → (s == t) ≡ b → IsSettled st t
-    at true same = subst (λ (i : ℕ). IsSettled st i) (eqb-true s t same) one
+    at : (b : Bool) → (s == t) ≡ b → HoldsNoLine st t
+    at true same = subst (λ (i : ℕ). HoldsNoLine st i) (eqb-true s t same) one
     at false apart = others t apart

@@ -8,7 +8,7 @@ use Rattle.djq_machine.specs.State.{State}
 use Rattle.djq_machine.specs.Step.{took}
 use Rattle.djq_machine.specs.Run.{pending_of}
 use Rattle.djq_machine.specs.Call.{Makes, first_due}
-use Rattle.djq_serve.specs.Told.{Shown, Tells}
+use Rattle.djq_serve.specs.Told.{Shown, HubTells}
 use Rattle.djq_serve.specs.declared.served.Served.TheVariants.{Stopped, Over}
 use Rattle.djq_serve.specs.Server.{Next, next_turn, no_turn, waiting, flushing, closing, server, offering, after}
 use Rattle.djq_serve.specs.Goes.{GoesQuietly}
@@ -31,15 +31,15 @@ at_place x y old new from to place next same goes = subst
 
 -- all pending bytes were offered
 pub offers_all : (x y : Shown) (s : ℕ) (sent : Sent) (piece pending : Bytes) → piece ≡ pending
-    → Tells x y (offering s piece sent ∷ [])
-    → Tells x y (offering s pending sent ∷ [])
+    → HubTells x y (offering s piece sent ∷ [])
+    → HubTells x y (offering s pending sent ∷ [])
 offers_all x y s sent piece pending same told =
-    subst (λ (bytes : Bytes). Tells x y (offering s bytes sent ∷ [])) same told
+    subst (λ (bytes : Bytes). HubTells x y (offering s bytes sent ∷ [])) same told
 
 -- some of the pending bytes were taken
 pub takes_some : (x y : Shown) (old new : State) (s n : ℕ) (piece : Bytes) → piece ≡ pending_of old s → 1 ≤ n
     → n ≤ length piece
-    → Makes old (took s (take n (pending_of old s))) new → Tells x y (offering s piece (Took n) ∷ [])
+    → Makes old (took s (take n (pending_of old s))) new → HubTells x y (offering s piece (Took n) ∷ [])
     → (from : ℕ) (next : Next) → first_due old from ≡ Some s
     → GoesQuietly x (server old (flushing from next)) y (server new (flushing s next))
 takes_some x y old new s n piece is_piece some within makes told from next due =

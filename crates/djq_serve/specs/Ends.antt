@@ -14,14 +14,14 @@ use Rattle.djq_laws.specs.Sent.{all_dropped, all_opened}
 use Rattle.djq_serve.specs.declared.served.Served.{Served}
 use Rattle.djq_serve.specs.declared.served.Served.TheVariants.{Stopped, Over, TurnsUsed, HubFault}
 use Rattle.djq_io.specs.Calls.{sent_to}
-use Rattle.djq_serve.specs.Told.{Shown, has_over, has_failed}
+use Rattle.djq_serve.specs.Told.{Shown, has_over, turn_failed}
 use Rattle.djq_serve.specs.Server.{Move, waiting, closing, server, all_told, all_done}
 use Rattle.djq_serve.specs.Goes.{far, seen, Goes}
 
 -- All turns were taken, or fewer, as the answer says.
-abbrev pub HasTaken : Served → ℕ → ℕ → Type 0
-HasTaken TurnsUsed turns taken = taken ≡ turns
-HasTaken _ turns taken = taken ≤ turns
+abbrev pub TurnsTaken : Served → ℕ → ℕ → Type 0
+TurnsTaken TurnsUsed turns taken = taken ≡ turns
+TurnsTaken _ turns taken = taken ≤ turns
 
 -- a session opens at the hub, and isn't let in: a line is sent to it behind its turn
 abbrev pub refuses : ℕ → List Told → Bool
@@ -60,7 +60,7 @@ says_fault _ = false
 pub record IsCaused (answer : Served) (told : List Told) (st : State) : Type 0 where
   pub stopped : st.stopped ≡ says_stopped answer
   pub over : has_over told ≡ says_over answer
-  pub failed : has_failed told ≡ says_fault answer
+  pub failed : turn_failed told ≡ says_fault answer
 
 -- The first fault of the hub ends the serving; under every other answer there was none.
 abbrev pub FaultsCount : Served → ℕ → ℕ → Type 0
@@ -100,4 +100,4 @@ pub record ServeEnds (answer : Served) (turns : ℕ) (hub : Shown) (counted : Co
   pub caused : IsCaused answer (all_told goes.moves) new
   pub none_open : state_ids new ≡ []
   pub none_at_hub : hub'.ids.open_ids ≡ []
-  pub has_taken : HasTaken answer turns taken
+  pub has_taken : TurnsTaken answer turns taken

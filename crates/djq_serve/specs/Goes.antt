@@ -2,8 +2,8 @@
 use Rattle.std.specs.Prelude.{ℕ, List, ◌++◌, ◌≡◌, ◌+◌, ◌≤◌}
 use Rattle.djq_machine.specs.Run.{Walk, Group, cost_of, groups_of}
 use Rattle.djq_machine.specs.Call.{Counts}
-use Rattle.djq_serve.specs.Told.{Shown, Tells, turns_in}
-use Rattle.djq_serve.specs.Server.{Server, Move, Serves, all_told, all_done}
+use Rattle.djq_serve.specs.Told.{Shown, HubTells, turns_in}
+use Rattle.djq_serve.specs.Server.{Server, Move, MakesMove, all_told, all_done}
 
 -- How far serving has come: how many turns were taken, and which groups of lines the steps kept.
 pub record Far : Type 0 where
@@ -38,8 +38,8 @@ seen hub counted f = record { hub = hub; counted = counted; far = f }
 -- the hub took, and by the groups that the steps kept.
 pub record Goes (o : Seen) (old : Server) (o' : Seen) (new : Server) : Type 0 where
   pub moves : List Move
-  pub walk : Walk Serves old moves new
-  pub told : Tells o.hub o'.hub (all_told moves)
+  pub walk : Walk MakesMove old moves new
+  pub told : HubTells o.hub o'.hub (all_told moves)
   pub listing : o'.counted.listing ≤ o.counted.listing + cost_of (all_done moves)
   pub turned : o'.far.turns ≡ o.far.turns + turns_in (all_told moves)
   pub kept : o'.far.kept ≡ o.far.kept ++ groups_of (all_done moves)

@@ -3,9 +3,9 @@ use Rattle.std.specs.Prelude.{ℕ, List, [], ◌∷◌, ◌++◌, ◌≡◌, Opt
 use Rattle.djq_io.specs.Faults.{Counted}
 use Rattle.djq_io.specs.declared.hub.Told.{Told}
 use Rattle.djq_io.specs.declared.hub.Told.TheVariants.{Closing}
-use Rattle.djq_disk.specs.History.{History, WhereTold}
+use Rattle.djq_disk.specs.History.{History, WhereHistoryTold}
 use Rattle.djq_journal.specs.Keeping.{WasKeeping}
-use Rattle.djq_journal.specs.Logging.{HasKept, Overfull}
+use Rattle.djq_journal.specs.Logging.{HasKeptGroups, Overfull}
 use Rattle.djq_model.specs.Data.{Bytes}
 use Rattle.djq_machine.specs.State.{State}
 use Rattle.djq_machine.specs.Step.{Event, closed}
@@ -19,16 +19,17 @@ use Rattle.djq_serve.specs.Ends.{ServeEnds}
 
 -- All these groups are kept behind those that were, whatever they were and since whenever.
 abbrev pub AllKept : Option ℕ → Option ℕ → List Group → Option History → Option History → Type 0
-AllKept gate gate' groups old new = WhereTold old new (λ a b. (found : List Bytes) (had : List Group) (start : History)
-    → HasKept gate found had start a → HasKept gate' found (had ++ groups) start b)
+AllKept gate gate' groups old new =
+    WhereHistoryTold old new (λ a b. (found : List Bytes) (had : List Group) (start : History)
+    → HasKeptGroups gate found had start a → HasKeptGroups gate' found (had ++ groups) start b)
 
 -- All but the last are kept. The disk failed as that was to be, so a stop leaves it whole or not at all.
 pub record LastLost (gate : Option ℕ) (groups : List Group) (old new : Option History) : Type 0 where
   pub whole : List Group
   pub last : Group
   pub cut : groups ≡ whole ++ last ∷ []
-  pub kept : WhereTold old new (λ a b. (found : List Bytes) (had : List Group) (start : History)
-      → HasKept gate found had start a → WasKeeping found (had ++ whole) last start b)
+  pub kept : WhereHistoryTold old new (λ a b. (found : List Bytes) (had : List Group) (start : History)
+      → HasKeptGroups gate found had start a → WasKeeping found (had ++ whole) last start b)
 
 -- All but the last are kept, for which the journal has no room.
 pub record LastLeft (gate : Option ℕ) (groups : List Group) (old new : Option History) : Type 0 where
@@ -55,15 +56,15 @@ DiskCounts (Some DiskFault) before now = Counted before now
 DiskCounts _ before now = now ≡ before
 
 -- answers that don't come of the disk
-abbrev pub IsPlain : Served → Type 0
-IsPlain DiskFault = ⊥
-IsPlain LogFull = ⊥
-IsPlain _ = Unit {0}
+abbrev pub IsNotOfDisk : Served → Type 0
+IsNotOfDisk DiskFault = ⊥
+IsNotOfDisk LogFull = ⊥
+IsNotOfDisk _ = Unit {0}
 
 -- so for a turn, which may end nothing
 abbrev pub IsPlainTurn : Option Served → Type 0
 IsPlainTurn None = Unit {0}
-IsPlainTurn (Some answer) = IsPlain answer
+IsPlainTurn (Some answer) = IsNotOfDisk answer
 
 -- a call of the hub that closes a session
 abbrev pub IsClose : Told → Type 0

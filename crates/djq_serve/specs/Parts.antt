@@ -13,12 +13,12 @@ use Rattle.djq_machine.specs.Run.{Group}
 use Rattle.djq_machine.specs.Call.{IsOpen, Makes, Counts}
 use Rattle.djq_serve.specs.declared.served.Served.{Served}
 use Rattle.djq_serve.specs.declared.served.Served.TheVariants.{Stopped, Over, TurnsUsed, HubFault, DiskFault, LogFull}
-use Rattle.djq_serve.specs.Told.{Shown, Tells}
+use Rattle.djq_serve.specs.Told.{Shown, HubTells}
 use Rattle.djq_serve.specs.Server.{Next, next_turn, Phase, waiting, lines, flushing, closing}
 use Rattle.djq_serve.specs.Server.{server, after, offering, LetsIn}
 use Rattle.djq_serve.specs.Goes.{Far, far, one_turn, with_groups, seen, Goes, GoesQuietly}
 use Rattle.djq_serve.specs.Kept.{AllSettled}
-use Rattle.djq_serve.specs.Ends.{HasTaken}
+use Rattle.djq_serve.specs.Ends.{TurnsTaken}
 use Rattle.djq_serve.specs.Logged.{KeepsBy}
 
 -- where the server stands behind a turn
@@ -36,13 +36,13 @@ pub record Admits (old : State) (hub : Shown) (s : ℕ) (new : State) (hub' : Sh
   pub makes : Makes old (opened s) new
   pub more : List Told
   pub lets_in : LetsIn s old more new
-  pub told : Tells hub hub' more
+  pub told : HubTells hub hub' more
 
 -- A line was offered to a session, whole and once, and it was closed.
-pub record Refuses (hub : Shown) (s : ℕ) (text : Bytes) (hub' : Shown) : Type 0 where
+pub record OffersAndCloses (hub : Shown) (s : ℕ) (text : Bytes) (hub' : Shown) : Type 0 where
   pub sent : Sent
   pub takes : Takes sent text
-  pub told : Tells hub hub' (offering s text sent ∷ Closing s ∷ [])
+  pub told : HubTells hub hub' (offering s text sent ∷ Closing s ∷ [])
   pub ids : hub'.ids ≡ without hub.ids s
 
 -- A session is open, and no session said `stop`.
@@ -118,5 +118,5 @@ pub record Took (answer : Served) (turns : ℕ) (hub : Shown) (counted : Counts)
   pub groups : List Group
   pub goes : Goes (seen hub counted (far 0 [])) (server old waiting) (seen hub' counted' (far taken groups))
       (server new (closing answer))
-  pub has_taken : HasTaken answer turns taken
+  pub has_taken : TurnsTaken answer turns taken
   pub kept : KeepsBy (Some answer) gate gate' groups disk disk'

@@ -19,7 +19,7 @@ use Rattle.djq_machine.specs.Keeping.{Keeping}
 use Rattle.djq_machine.specs.Effect.{Effect}
 use Rattle.djq_machine.specs.LineStep.{LineOutcome, long, blank, slow, no_room, run}
 use Rattle.djq_machine.specs.Step.{Event, opened, fed, stepped, took, ended, closed, Step, is_dry}
-use Rattle.djq_machine.specs.Run.{Did, Group, group_of, pending_of}
+use Rattle.djq_machine.specs.Run.{Did, Group, kept_group, pending_of}
 use Rattle.djq_machine.specs.Call.{IsOpen, cause_of, held_of, state_ids, first_due}
 use Rattle.djq_laws.specs.declared.limits.TheConstants.{READ_BYTES}
 use Rattle.djq_serve.specs.declared.served.Served.{Served}
@@ -125,10 +125,10 @@ may_run st s = not st.stopped && (is_none (cause_of st s) && not (is_dry (held_o
 -- where the session ended in its place.
 abbrev pub behind_front : ℕ → LineOutcome → Keeping → Phase
 behind_front s long k = flushing 0 next_turn
-behind_front s (blank l) k = keeping s (group_of (stepped s (blank l)) k)
+behind_front s (blank l) k = keeping s (kept_group (stepped s (blank l)) k)
 behind_front s (slow l) k = flushing 0 next_turn
 behind_front s (no_room l) k = flushing 0 next_turn
-behind_front s (run l) k = keeping s (group_of (stepped s (run l)) k)
+behind_front s (run l) k = keeping s (kept_group (stepped s (run l)) k)
 
 -- The front of a session's bytes comes to something.
 abbrev pub RunsOne : ℕ → State → List Did → State → Phase → Type 0
@@ -147,21 +147,21 @@ SendsSome Gone s old told done new = (told ≡ offering s (pending_of old s) Gon
     × Happens (closed s (pending_of old s)) old done new
 
 -- A session that has ended, and for which nothing is pending, is closed.
-abbrev pub Leaves : ℕ → State → List Told → List Did → State → Type 0
-Leaves s old told done new = (told ≡ Closing s ∷ []) × Happens (closed s []) old done new
+abbrev pub SessionLeaves : ℕ → State → List Told → List Did → State → Type 0
+SessionLeaves s old told done new = (told ≡ Closing s ∷ []) × Happens (closed s []) old done new
 
 -- a flush stays at a session of which bytes were taken, and else goes on behind it
-abbrev pub place_after : Sent → ℕ → ℕ
-place_after (Took n) s = s
-place_after Again s = s + 1
-place_after Gone s = s + 1
+abbrev pub flush_after : Sent → ℕ → ℕ
+flush_after (Took n) s = s
+flush_after Again s = s + 1
+flush_after Gone s = s + 1
 
 -- A flush at a session to which something is due: bytes are pending for it, or it has ended.
 abbrev pub Visits : ℕ → State → List Told → List Did → State → ℕ → Type 0
 Visits s old told done new to =
     ((0 < length (pending_of old s)) × (sent : Sent) × SendsSome sent s old told done new
-    × (to ≡ place_after sent s))
-    ⊎ ((pending_of old s ≡ []) × IsSome (cause_of old s) × Leaves s old told done new
+    × (to ≡ flush_after sent s))
+    ⊎ ((pending_of old s ≡ []) × IsSome (cause_of old s) × SessionLeaves s old told done new
     × (to ≡ s + 1))
 
 -- where the server stands behind a flush
@@ -175,31 +175,31 @@ abbrev pub first_open : State → Option ℕ
 first_open st = slice_get (state_ids st) 0
 
 -- no call of the hub and no step: the server stands elsewhere
-abbrev pub Passes : State → Phase → Move → Server → Type 0
-Passes old phase m new = (m ≡ move [] []) × (new ≡ server old phase)
+abbrev pub PhasePasses : State → Phase → Move → Server → Type 0
+PhasePasses old phase m new = (m ≡ move [] []) × (new ≡ server old phase)
 
 -- The lines of a session, by whether one may be run.
 abbrev pub LinesAt : ℕ → State → Move → Server → Bool → Type 0
 LinesAt s old m new true = (m.told ≡ []) × RunsOne s old m.done new.state new.phase
-LinesAt s old m new false = Passes old (flushing 0 next_turn) m new
+LinesAt s old m new false = PhasePasses old (flushing 0 next_turn) m new
 
 -- A group is kept, or there is none: then a flush follows, and the next line. Or there is one that
 -- can't be, and serving ends: all that is done from there on is to close sessions, so nothing is
 -- sent behind it.
 abbrev pub KeepsAt : ℕ → List Group → State → Move → Server → Type 0
-KeepsAt s groups old m new = Passes old (flushing 0 (more_lines s)) m new
-    ⊎ ((groups ≡ [] → ⊥) × (Passes old (closing DiskFault) m new ⊎ Passes old (closing LogFull) m new))
+KeepsAt s groups old m new = PhasePasses old (flushing 0 (more_lines s)) m new
+    ⊎ ((groups ≡ [] → ⊥) × (PhasePasses old (closing DiskFault) m new ⊎ PhasePasses old (closing LogFull) m new))
 
 -- A flush, by the session that it is at.
 abbrev pub FlushesAt : Next → State → Move → Server → Option ℕ → Type 0
-FlushesAt next old m new None = Passes old (after old next) m new
+FlushesAt next old m new None = PhasePasses old (after old next) m new
 FlushesAt next old m new (Some s) = (to : ℕ) × Visits s old m.told m.done new.state to
     × (new.phase ≡ flushing to next)
 
 -- The next thing that the server does, by where it stands.
 abbrev pub ServesAt : Phase → State → Move → Server → Type 0
 ServesAt waiting old m new =
-    Passes old (closing TurnsUsed) m new
+    PhasePasses old (closing TurnsUsed) m new
     ⊎ ((turn : Turn) × (piece : Bytes) × (more : List Told) × (m.told ≡ Turning turn piece ∷ more)
     × Brings turn piece old more m.done new.state new.phase)
 ServesAt (lines s) old m new = LinesAt s old m new (may_run old s)
@@ -210,5 +210,5 @@ ServesAt (closing answer) old m new = IsSomeAnd (first_open old) (λ s.
     × (new.phase ≡ closing answer))
 
 -- The server does one thing.
-abbrev pub Serves : Server → Move → Server → Type 0
-Serves old m new = ServesAt old.phase old.state m new
+abbrev pub MakesMove : Server → Move → Server → Type 0
+MakesMove old m new = ServesAt old.phase old.state m new

@@ -3,7 +3,7 @@ use Rattle.std.specs.Prelude.{ℕ, List, ◌≡◌, Bool, true, false, Option, s
 use Rattle.std.specs.List.{list_any}
 use Rattle.djq_io.specs.Sink.{Gains}
 use Rattle.djq_io.specs.Hub.{Ids, Turns, brought, without}
-use Rattle.djq_io.specs.Script.{Script, WhereTold, Follows, Sends}
+use Rattle.djq_io.specs.Script.{Script, WhereTold, AnswersByScript, Sends}
 use Rattle.djq_io.specs.declared.hub.Turn.{Turn}
 use Rattle.djq_io.specs.declared.hub.Turn.TheVariants.{Over as HubOver, Failed}
 use Rattle.djq_io.specs.declared.hub.Told.{Told}
@@ -19,8 +19,8 @@ pub record Shown : Type 0 where
   pub ids : Ids
 
 -- a hub that shows this past, this script and these ids
-abbrev pub shown : Option (List Told) → Option Script → Ids → Shown
-shown past script ids = record { past = past; script = script; ids = ids }
+abbrev pub hub_shown : Option (List Told) → Option Script → Ids → Shown
+hub_shown past script ids = record { past = past; script = script; ids = ids }
 
 -- Where a hub that goes by a script stands: what is to come, and its sessions.
 pub record Place : Type 0 where
@@ -28,14 +28,14 @@ pub record Place : Type 0 where
   pub ids : Ids
 
 -- the place of a hub with this to come and these sessions
-abbrev pub place : Script → Ids → Place
-place script ids = record { script = script; ids = ids }
+abbrev pub hub_place : Script → Ids → Place
+hub_place script ids = record { script = script; ids = ids }
 
 -- One call is answered as the script says, with a buffer of as many bytes as are read at a time.
 -- Nobody asks the hub to listen.
 abbrev pub IsAnswered : Place → Told → Place → Type 0
 IsAnswered old (Turning turn piece) new = (buf : Bytes) × (length buf ≡ READ_BYTES)
-    × (piece ≡ brought turn buf) × Follows old.ids turn buf old.script new.script
+    × (piece ≡ brought turn buf) × AnswersByScript old.ids turn buf old.script new.script
     × Turns turn READ_BYTES old.ids new.ids
 IsAnswered old (Sending s offered sent taken) new = Sends s offered sent old.script new.script
     × (new.ids ≡ old.ids)
@@ -44,20 +44,20 @@ IsAnswered old (Listening addr answer) new = ⊥
 
 -- What a call does to the ids, which every hub shows: a turn opens a session with an id above that
 -- of every one before, and brings bytes or the end of input of one that runs; a close takes one out.
-abbrev pub Shows : Ids → Told → Ids → Type 0
-Shows old (Turning turn piece) new = Turns turn READ_BYTES old new
-Shows old (Sending s offered sent taken) new = new ≡ old
-Shows old (Closing s) new = new ≡ without old s
-Shows old (Listening addr answer) new = ⊥
+abbrev pub IdsShow : Ids → Told → Ids → Type 0
+IdsShow old (Turning turn piece) new = Turns turn READ_BYTES old new
+IdsShow old (Sending s offered sent taken) new = new ≡ old
+IdsShow old (Closing s) new = new ≡ without old s
+IdsShow old (Listening addr answer) new = ⊥
 
 -- From one moment to a later one a hub was asked these calls, in order. Where it tells its past,
 -- they are what that gained; each did to its ids what it says; and where the hub tells its script,
 -- each was answered as that says.
-pub record Tells (old new : Shown) (told : List Told) : Type 0 where
+pub record HubTells (old new : Shown) (told : List Told) : Type 0 where
   pub past : Gains old.past new.past told
-  pub ids : Walk Shows old.ids told new.ids
+  pub ids : Walk IdsShow old.ids told new.ids
   pub played : WhereTold old.script new.script
-      (λ a b. Walk IsAnswered (place a old.ids) told (place b new.ids))
+      (λ a b. Walk IsAnswered (hub_place a old.ids) told (hub_place b new.ids))
 
 -- a test of the turns among calls
 abbrev pub by_turn : (Turn → Bool) → Told → Bool
@@ -79,8 +79,8 @@ abbrev pub has_over : List Told → Bool
 has_over told = list_any (by_turn turn_is_over) told
 
 -- whether a turn failed
-abbrev pub has_failed : List Told → Bool
-has_failed told = list_any (by_turn turn_is_failed) told
+abbrev pub turn_failed : List Told → Bool
+turn_failed told = list_any (by_turn turn_is_failed) told
 
 -- 1 where a call takes a turn, else 0
 abbrev pub turn_in : Told → ℕ

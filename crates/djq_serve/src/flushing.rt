@@ -3,10 +3,10 @@ ghost use Rattle.djq_io.specs.declared.hub.Told.{Told};
 ghost use Rattle.djq_machine.specs.Step.{closed};
 ghost use Rattle.djq_machine.specs.Run.{pending_of};
 ghost use Rattle.djq_machine.specs.Call.{IsOpen, Makes, first_due};
-ghost use Rattle.djq_serve.specs.Told.{shown, Tells};
+ghost use Rattle.djq_serve.specs.Told.{hub_shown, HubTells};
 ghost use Rattle.djq_serve.specs.Server.{Next, flushing, server};
 ghost use Rattle.djq_serve.specs.Goes.{GoesQuietly};
-ghost use Rattle.djq_serve.specs.Kept.{Agrees, Spares, ahead};
+ghost use Rattle.djq_serve.specs.Kept.{Agrees, Spares, flush_ahead};
 ghost use Rattle.djq_serve.specs.Parts.{Flushes};
 
 use djq_io::{Hub, Sent};
@@ -18,8 +18,8 @@ pub(crate) fn close<M: Machine, H: Hub>(machine: &mut M, hub: &mut H, id: u64)
     requires agrees { Agrees (M.state machine.old) (H.ids hub.old) }
     ensures makes { Makes (M.state machine.old) (closed id (pending_of (M.state machine.old) id))
         (M.state machine.new) }
-    ensures told { Tells (shown (H.past hub.old) (H.script hub.old) (H.ids hub.old))
-        (shown (H.past hub.new) (H.script hub.new) (H.ids hub.new)) (Told.Closing id ∷ []) }
+    ensures told { HubTells (hub_shown (H.past hub.old) (H.script hub.old) (H.ids hub.old))
+        (hub_shown (H.past hub.new) (H.script hub.new) (H.ids hub.new)) (Told.Closing id ∷ []) }
     ensures agrees { Agrees (M.state machine.new) (H.ids hub.new) }
     ensures faults { H.faults hub.new ≡ H.faults hub.old }
 {
@@ -34,12 +34,12 @@ fn visit<M: Machine, H: Hub>(machine: &mut M, hub: &mut H, id: u64) -> u128
     requires open { IsOpen (M.state machine.old) id }
     requires agrees { Agrees (M.state machine.old) (H.ids hub.old) }
     ensures goes { (from : ℕ) (next : Next) → first_due (M.state machine.old) from ≡ Some id
-        → GoesQuietly (shown (H.past hub.old) (H.script hub.old) (H.ids hub.old))
+        → GoesQuietly (hub_shown (H.past hub.old) (H.script hub.old) (H.ids hub.old))
         (server (M.state machine.old) (flushing from next))
-        (shown (H.past hub.new) (H.script hub.new) (H.ids hub.new))
+        (hub_shown (H.past hub.new) (H.script hub.new) (H.ids hub.new))
         (server (M.state machine.new) (flushing result next)) }
     ensures nearer { (from : ℕ) → from ≤ id
-        → ahead (M.state machine.new) result < ahead (M.state machine.old) from }
+        → flush_ahead (M.state machine.new) result < flush_ahead (M.state machine.old) from }
     ensures agrees { Agrees (M.state machine.new) (H.ids hub.new) }
     ensures spares { Spares (M.state machine.old) (M.state machine.new) }
     ensures faults { H.faults hub.new ≡ H.faults hub.old }
@@ -66,8 +66,8 @@ fn visit<M: Machine, H: Hub>(machine: &mut M, hub: &mut H, id: u64) -> u128
 /// Goes by rising id through the open sessions to which something is due.
 pub(crate) fn flush<M: Machine, H: Hub>(machine: &mut M, hub: &mut H)
     requires agrees { Agrees (M.state machine.old) (H.ids hub.old) }
-    ensures flushes { Flushes (shown (H.past hub.old) (H.script hub.old) (H.ids hub.old))
-        (M.state machine.old) (shown (H.past hub.new) (H.script hub.new) (H.ids hub.new))
+    ensures flushes { Flushes (hub_shown (H.past hub.old) (H.script hub.old) (H.ids hub.old))
+        (M.state machine.old) (hub_shown (H.past hub.new) (H.script hub.new) (H.ids hub.new))
         (M.state machine.new) }
     ensures agrees { Agrees (M.state machine.new) (H.ids hub.new) }
     ensures spares { Spares (M.state machine.old) (M.state machine.new) }

@@ -41,7 +41,7 @@
 //! the log has                          rel r int, add r 7; and add r 9, or not
 //! ```
 //!
-//! To read first: `specs/Server.antt`, from `Serves` at its end backwards. It is a relation of one
+//! To read first: `specs/Server.antt`, from `MakesMove` at its end backwards. It is a relation of one
 //! move: where the server stands, what it asks the hub, which step the machine makes, and where the
 //! server stands then. All that holds of whole runs are laws over these moves (`specs/Ends.antt`); what
 //! a log keeps of them is said in `specs/Logged.antt`, and there that what isn't kept isn't answered.

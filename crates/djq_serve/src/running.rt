@@ -1,7 +1,7 @@
 ghost use Rattle.std.specs.Prelude.{◌≡◌, None, MatchBool};
 ghost use Rattle.djq_machine.specs.Call.{counts};
 ghost use Rattle.djq_laws.specs.Holding.{HoldLines};
-ghost use Rattle.djq_serve.specs.Told.{shown};
+ghost use Rattle.djq_serve.specs.Told.{hub_shown};
 ghost use Rattle.djq_serve.specs.Kept.{Agrees, OthersSettled};
 ghost use Rattle.djq_serve.specs.Logged.{DiskCounts};
 ghost use Rattle.djq_serve.specs.Parts.{IsServed, NotServed, RunsLines, SettledBehind, MayLose};
@@ -28,9 +28,9 @@ pub(crate) fn run_lines<M: Machine, H: Hub, D: Disk, L: Ledgers>(
     requires agrees { Agrees (M.state machine.old) (H.ids hub.old) }
     requires settled { OthersSettled id (M.state machine.old) }
     requires lines { HoldLines (M.state machine.old) }
-    ensures runs { RunsLines result (shown (H.past hub.old) (H.script hub.old) (H.ids hub.old))
+    ensures runs { RunsLines result (hub_shown (H.past hub.old) (H.script hub.old) (H.ids hub.old))
         (counts steps.old.listing steps.old.update steps.old.rows) (M.state machine.old) id
-        (shown (H.past hub.new) (H.script hub.new) (H.ids hub.new))
+        (hub_shown (H.past hub.new) (H.script hub.new) (H.ids hub.new))
         (counts steps.new.listing steps.new.update steps.new.rows) (M.state machine.new)
         log.old log.new (D.told disk.old) (D.told disk.new) }
     ensures agrees { Agrees (M.state machine.new) (H.ids hub.new) }

@@ -3,12 +3,12 @@ ghost use Rattle.djq_io.specs.Faults.{Counted};
 ghost use Rattle.djq_machine.specs.Call.{counts, state_ids};
 ghost use Rattle.djq_laws.specs.declared.limits.TheConstants.{READ_BYTES};
 ghost use Rattle.djq_laws.specs.Holding.{HoldLines};
-ghost use Rattle.djq_serve.specs.Told.{shown};
+ghost use Rattle.djq_serve.specs.Told.{hub_shown};
 ghost use Rattle.djq_serve.specs.Server.{closing, server};
 ghost use Rattle.djq_serve.specs.Goes.{GoesQuietly};
 ghost use Rattle.djq_serve.specs.Kept.{Agrees, AllSettled};
 ghost use Rattle.djq_serve.specs.Ends.{ServeEnds, FaultsCount};
-ghost use Rattle.djq_serve.specs.Logged.{ServeLogs, DiskCounts, IsPlain};
+ghost use Rattle.djq_serve.specs.Logged.{ServeLogs, DiskCounts, IsNotOfDisk};
 ghost use Rattle.djq_serve.specs.Parts.{Took};
 
 use crate::flushing::close;
@@ -38,12 +38,12 @@ pub fn serve<M: Machine, H: Hub, L: Ledgers>(
     requires alone { (H.ids hub.old).open_ids ≡ [] }
     requires going { (M.state machine.old).stopped ≡ false }
     ensures ends { ServeEnds result turns
-        (shown (H.past hub.old) (H.script hub.old) (H.ids hub.old))
+        (hub_shown (H.past hub.old) (H.script hub.old) (H.ids hub.old))
         (counts steps.old.listing steps.old.update steps.old.rows) (M.state machine.old)
-        (shown (H.past hub.new) (H.script hub.new) (H.ids hub.new))
+        (hub_shown (H.past hub.new) (H.script hub.new) (H.ids hub.new))
         (counts steps.new.listing steps.new.update steps.new.rows) (M.state machine.new) }
     ensures faults { FaultsCount result (H.faults hub.old) (H.faults hub.new) }
-    ensures plain { IsPlain result }
+    ensures plain { IsNotOfDisk result }
 {
     let mut log = Log::nowhere();
     serve_logged(machine, hub, &mut NoDisk, &mut log, buffer, turns, steps)
@@ -68,14 +68,14 @@ pub fn serve_logged<M: Machine, H: Hub, D: Disk, L: Ledgers>(
     requires alone { (H.ids hub.old).open_ids ≡ [] }
     requires going { (M.state machine.old).stopped ≡ false }
     ensures logs { ServeLogs result turns
-        (shown (H.past hub.old) (H.script hub.old) (H.ids hub.old))
+        (hub_shown (H.past hub.old) (H.script hub.old) (H.ids hub.old))
         (counts steps.old.listing steps.old.update steps.old.rows) (M.state machine.old)
-        (shown (H.past hub.new) (H.script hub.new) (H.ids hub.new))
+        (hub_shown (H.past hub.new) (H.script hub.new) (H.ids hub.new))
         (counts steps.new.listing steps.new.update steps.new.rows) (M.state machine.new)
         log.old log.new (D.told disk.old) (D.told disk.new) }
     ensures faults { FaultsCount result (H.faults hub.old) (H.faults hub.new) }
     ensures disk { DiskCounts (Some result) (D.faults disk.old) (D.faults disk.new) }
-    ensures nowhere { log.old ≡ None → IsPlain result }
+    ensures nowhere { log.old ≡ None → IsNotOfDisk result }
 {
     let served = take_turns(machine, hub, disk, log, buffer, turns, steps);
     close_all(machine, hub);
@@ -97,15 +97,15 @@ fn take_turns<M: Machine, H: Hub, D: Disk, L: Ledgers>(
     requires settled { AllSettled (M.state machine.old) }
     requires lines { HoldLines (M.state machine.old) }
     ensures took { Took result turns
-        (shown (H.past hub.old) (H.script hub.old) (H.ids hub.old))
+        (hub_shown (H.past hub.old) (H.script hub.old) (H.ids hub.old))
         (counts steps.old.listing steps.old.update steps.old.rows) (M.state machine.old)
-        (shown (H.past hub.new) (H.script hub.new) (H.ids hub.new))
+        (hub_shown (H.past hub.new) (H.script hub.new) (H.ids hub.new))
         (counts steps.new.listing steps.new.update steps.new.rows) (M.state machine.new)
         log.old log.new (D.told disk.old) (D.told disk.new) }
     ensures agrees { Agrees (M.state machine.new) (H.ids hub.new) }
     ensures faults { FaultsCount result (H.faults hub.old) (H.faults hub.new) }
     ensures disk { DiskCounts (Some result) (D.faults disk.old) (D.faults disk.new) }
-    ensures nowhere { log.old ≡ None → IsPlain result }
+    ensures nowhere { log.old ≡ None → IsNotOfDisk result }
 {
     for _ in 0..turns {
         if let Some(served) = take_turn(machine, hub, disk, log, buffer, steps) {
@@ -118,10 +118,10 @@ fn take_turns<M: Machine, H: Hub, D: Disk, L: Ledgers>(
 /// Closes every open session.
 fn close_all<M: Machine, H: Hub>(machine: &mut M, hub: &mut H)
     requires agrees { Agrees (M.state machine.old) (H.ids hub.old) }
-    ensures goes { (answer : Served) → GoesQuietly (shown (H.past hub.old) (H.script hub.old)
+    ensures goes { (answer : Served) → GoesQuietly (hub_shown (H.past hub.old) (H.script hub.old)
         (H.ids hub.old))
         (server (M.state machine.old) (closing answer))
-        (shown (H.past hub.new) (H.script hub.new) (H.ids hub.new))
+        (hub_shown (H.past hub.new) (H.script hub.new) (H.ids hub.new))
         (server (M.state machine.new) (closing answer)) }
     ensures agrees { Agrees (M.state machine.new) (H.ids hub.new) }
     ensures none { state_ids (M.state machine.new) ≡ [] }

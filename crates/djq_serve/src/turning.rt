@@ -4,12 +4,13 @@ ghost use Rattle.djq_machine.specs.Step.{opened};
 ghost use Rattle.djq_machine.specs.Call.{IsOpen, Makes, counts};
 ghost use Rattle.djq_laws.specs.declared.limits.TheConstants.{READ_BYTES};
 ghost use Rattle.djq_laws.specs.Holding.{HoldLines};
-ghost use Rattle.djq_serve.specs.Told.{shown, Tells};
+ghost use Rattle.djq_serve.specs.Told.{hub_shown, HubTells};
 ghost use Rattle.djq_serve.specs.Server.{flushing, next_turn, server, refusal_for};
 ghost use Rattle.djq_serve.specs.Goes.{GoesQuietly};
-ghost use Rattle.djq_serve.specs.Kept.{Agrees, IsNew, AllSettled};
+ghost use Rattle.djq_serve.specs.Kept.{Agrees, IsNewSession, AllSettled};
 ghost use Rattle.djq_serve.specs.Logged.{DiskCounts, IsPlainTurn};
-ghost use Rattle.djq_serve.specs.Parts.{phase_of, Admits, Refuses, TakesTurn, TurnAnswers, SettledUnless, MayAnswer};
+ghost use Rattle.djq_serve.specs.Parts.{phase_of, Admits, OffersAndCloses, TakesTurn, TurnAnswers, SettledUnless};
+ghost use Rattle.djq_serve.specs.Parts.{MayAnswer};
 
 use crate::flushing::flush;
 use crate::running::run_lines;
@@ -33,9 +34,9 @@ pub(crate) fn take_turn<M: Machine, H: Hub, D: Disk, L: Ledgers>(
     requires agrees { Agrees (M.state machine.old) (H.ids hub.old) }
     requires settled { AllSettled (M.state machine.old) }
     requires lines { HoldLines (M.state machine.old) }
-    ensures takes { TakesTurn result (shown (H.past hub.old) (H.script hub.old) (H.ids hub.old))
+    ensures takes { TakesTurn result (hub_shown (H.past hub.old) (H.script hub.old) (H.ids hub.old))
         (counts steps.old.listing steps.old.update steps.old.rows) (M.state machine.old)
-        (shown (H.past hub.new) (H.script hub.new) (H.ids hub.new))
+        (hub_shown (H.past hub.new) (H.script hub.new) (H.ids hub.new))
         (counts steps.new.listing steps.new.update steps.new.rows) (M.state machine.new)
         log.old log.new (D.told disk.old) (D.told disk.new) }
     ensures agrees { Agrees (M.state machine.new) (H.ids hub.new) }
@@ -71,10 +72,10 @@ pub(crate) fn take_turn<M: Machine, H: Hub, D: Disk, L: Ledgers>(
 
 /// Lets a session in that opened at the hub, or refuses it.
 fn open<M: Machine, H: Hub>(machine: &mut M, hub: &mut H, id: u64)
-    requires { IsNew (M.state machine.old) (H.ids hub.old) id }
+    requires { IsNewSession (M.state machine.old) (H.ids hub.old) id }
     ensures admits { Admits (M.state machine.old)
-        (shown (H.past hub.old) (H.script hub.old) (H.ids hub.old)) id
-        (M.state machine.new) (shown (H.past hub.new) (H.script hub.new) (H.ids hub.new)) }
+        (hub_shown (H.past hub.old) (H.script hub.old) (H.ids hub.old)) id
+        (M.state machine.new) (hub_shown (H.past hub.new) (H.script hub.new) (H.ids hub.new)) }
     ensures agrees { Agrees (M.state machine.new) (H.ids hub.new) }
     ensures faults { H.faults hub.new ≡ H.faults hub.old }
 {
@@ -89,9 +90,9 @@ fn open<M: Machine, H: Hub>(machine: &mut M, hub: &mut H, id: u64)
 fn refuse<H: Hub>(hub: &mut H, id: u64, line: &[u8])
     requires open { Contains (H.ids hub.old).open_ids id }
     requires some { 0 < length line.now }
-    ensures refuses { Refuses (shown (H.past hub.old) (H.script hub.old) (H.ids hub.old)) id
+    ensures refuses { OffersAndCloses (hub_shown (H.past hub.old) (H.script hub.old) (H.ids hub.old)) id
         line.now
-        (shown (H.past hub.new) (H.script hub.new) (H.ids hub.new)) }
+        (hub_shown (H.past hub.new) (H.script hub.new) (H.ids hub.new)) }
     ensures faults { H.faults hub.new ≡ H.faults hub.old }
 {
     hub.send(id, line);
@@ -102,9 +103,9 @@ fn refuse<H: Hub>(hub: &mut H, id: u64, line: &[u8])
 fn end_turn<M: Machine, H: Hub>(machine: &mut M, hub: &mut H) -> Option<Served>
     requires agrees { Agrees (M.state machine.old) (H.ids hub.old) }
     requires settled { (M.state machine.old).stopped ≡ false → AllSettled (M.state machine.old) }
-    ensures goes { GoesQuietly (shown (H.past hub.old) (H.script hub.old) (H.ids hub.old))
+    ensures goes { GoesQuietly (hub_shown (H.past hub.old) (H.script hub.old) (H.ids hub.old))
         (server (M.state machine.old) (flushing 0 next_turn))
-        (shown (H.past hub.new) (H.script hub.new) (H.ids hub.new))
+        (hub_shown (H.past hub.new) (H.script hub.new) (H.ids hub.new))
         (server (M.state machine.new) (phase_of result)) }
     ensures agrees { Agrees (M.state machine.new) (H.ids hub.new) }
     ensures settled { SettledUnless result (M.state machine.new) }

@@ -30,21 +30,21 @@ abbrev pub named : {C : Type 0} → List (NamedCursor C) → Bytes → Option (N
 named cursors name = find (λ n. bytes_eq n.name name) cursors
 
 -- whether a cursor has this name
-abbrev pub is_named : {C : Type 0} → Bytes → NamedCursor C → Bool
-is_named name n = bytes_eq n.name name
+abbrev pub cursor_is_named : {C : Type 0} → Bytes → NamedCursor C → Bool
+cursor_is_named name n = bytes_eq n.name name
 
 -- A session has few cursors, whose names differ, and room for its last line as long as it goes on.
-pub record IsKept {C : Type 0} (why : Option EndCause) (spare : ℕ) (names : List (NamedCursor C)) : Type 0 where
+pub record DialogIsKept {C : Type 0} (why : Option EndCause) (spare : ℕ) (names : List (NamedCursor C)) : Type 0 where
   pub room : KeepsRoom why spare
   pub few : length names ≤ CURSORS
   pub different : AllPairs (λ a b. bytes_eq a.name b.name ≡ false) names
 
 -- whether something is due to a session: bytes are pending for it, or it has ended
-abbrev pub is_due : {C Q : Type 0} → Dialog C Q → Bool
-is_due d = nat_lt 0 (length d.pending) || is_some d.cause
+abbrev pub dialog_is_due : {C Q : Type 0} → Dialog C Q → Bool
+dialog_is_due d = nat_lt 0 (length d.pending) || is_some d.cause
 
 -- Nothing came, nothing is queued, and nothing is named.
-pub record IsFresh {C Q : Type 0} (d : Dialog C Q) : Type 0 where
+pub record IsNewDialog {C Q : Type 0} (d : Dialog C Q) : Type 0 where
   pub held : d.held ≡ []
   pub pending : d.pending ≡ []
   pub cause : d.cause ≡ None
@@ -63,7 +63,7 @@ pub record Queues {C Q : Type 0} (old new : Dialog C Q) (text : Bytes) : Type 0 
   pub room : old.room ≤ new.room + length text
 
 -- The room was too small for a text and the last line, and nothing else changes.
-pub record Lacks {C Q : Type 0} (old new : Dialog C Q) (text : Bytes) : Type 0 where
+pub record DialogLacks {C Q : Type 0} (old new : Dialog C Q) (text : Bytes) : Type 0 where
   pub same : new ≡ record old { room = new.room }
   pub room : old.room ≤ new.room
   pub lacks : old.room < length text + LAST_LINE_BYTES
@@ -71,7 +71,7 @@ pub record Lacks {C Q : Type 0} (old new : Dialog C Q) (text : Bytes) : Type 0 w
 -- A text is queued, or the room was too small for it.
 abbrev pub MayQueue : {C Q A E : Type 0} → Dialog C Q → Dialog C Q → Bytes → Result A E → Type 0
 MayQueue old new text (Ok a) = Queues old new text
-MayQueue old new text (Err e) = Lacks old new text
+MayQueue old new text (Err e) = DialogLacks old new text
 
 -- Room is made for a text of this length and the last line; or there was too little, and as much as there was is left.
 abbrev pub KeepsFor : {A E : Type 0} → ℕ → ℕ → ℕ → Result A E → Type 0
@@ -79,14 +79,14 @@ KeepsFor count old new (Ok a) = (count + LAST_LINE_BYTES ≤ new) × (old ≤ ne
 KeepsFor count old new (Err e) = (old ≤ new) × (old < count + LAST_LINE_BYTES)
 
 -- A line is queued, the cause kept, and the batch dropped, where one was open.
-abbrev pub EndsWith : {C Q : Type 0} → Dialog C Q → Dialog C Q → Bytes → EndCause → Type 0
-EndsWith old new line cause = new
+abbrev pub DialogEndsWith : {C Q : Type 0} → Dialog C Q → Dialog C Q → Bytes → EndCause → Type 0
+DialogEndsWith old new line cause = new
     ≡ record old { pending = old.pending ++ line; room = new.room; cause = Some cause; batch = None }
 
 -- the rows that a batch holds; none where none is open
-abbrev pub rows_held : Option (List HeldRow) → List HeldRow
-rows_held None = []
-rows_held (Some rows) = rows
+abbrev pub batch_rows : Option (List HeldRow) → List HeldRow
+batch_rows None = []
+batch_rows (Some rows) = rows
 
 -- The last cursor is gone, and what was kept for it is given back.
 abbrev pub PopsCursor : {C Q : Type 0} → Dialog C Q → Dialog C Q → Option C → Type 0

@@ -1,5 +1,5 @@
 ghost use Rattle.std.specs.Prelude.{IfOk};
-ghost use Rattle.djq_session.specs.Dialog.{IsFresh};
+ghost use Rattle.djq_session.specs.Dialog.{IsNewDialog};
 
 use crate::named::NamedCursor;
 use bytes::BytesMut;
@@ -38,7 +38,7 @@ pub struct Session<C, Q> {
 }
 
 impl<C, Q> Model for Session<C, Q> {
-    ghost use Rattle.djq_session.specs.Dialog.{Dialog, IsKept};
+    ghost use Rattle.djq_session.specs.Dialog.{Dialog, DialogIsKept};
 
     ghost Value = { Dialog C Q };
 
@@ -52,7 +52,7 @@ impl<C, Q> Model for Session<C, Q> {
       batch = s.batch;
     } };
 
-    ghost invariant = { λ s. IsKept s.cause s.output.spare s.cursors.items };
+    ghost invariant = { λ s. DialogIsKept s.cause s.output.spare s.cursors.items };
 }
 
 impl<C: Copy, Q: Copy + PartialEq> Session<C, Q> {
@@ -62,7 +62,7 @@ impl<C: Copy, Q: Copy + PartialEq> Session<C, Q> {
     ///
     /// `NoMem` out of memory.
     pub fn new(alloc: Global) -> Result<Self, NoMem>
-        ensures { IfOk result IsFresh }
+        ensures { IfOk result IsNewDialog }
     {
         Ok(Session {
             input: BytesMut::new(alloc),

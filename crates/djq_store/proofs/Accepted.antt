@@ -27,7 +27,7 @@ use Rattle.djq_cursor.specs.declared.log.Line.{Line}
 use Rattle.djq_engine.specs.Kept.{Kept, Registered, SameShape, affected_of, told_at}
 use Rattle.djq_engine.specs.Places.{told_of}
 use Rattle.djq_engine.specs.Watching.{LogsTell}
-use Rattle.djq_united.specs.United.{IsUnited, union_of, first_of}
+use Rattle.djq_united.specs.United.{IsUnited, union_of, first_of_members}
 use Rattle.djq_gains.specs.Told.{GoOneWay}
 use Rattle.djq_gains.specs.Gains.{members_at, count_in, HaveChanged, IsUnionDelta, TellUnion}
 use Rattle.djq_deltas.specs.Growing.{HaveRows, SparesOthers}
@@ -36,8 +36,8 @@ use Rattle.djq_deltas.proofs.Lists.{first_there, later_there, kept_there, hold_e
 use Rattle.djq_store.specs.declared.joined.Joined.{Joined}
 use Rattle.djq_store.specs.declared.settling.Turn.{Turn}
 use Rattle.djq_store.specs.declared.settling.Turn.TheVariants.{Came, Went, Lacked}
-use Rattle.djq_store.specs.Places.{joined_at, first_member, told_in}
-use Rattle.djq_store.specs.Settling.{first_read, touched_in, TellsUnion, asking_steps}
+use Rattle.djq_store.specs.Places.{joined_at, first_member, told_of_union}
+use Rattle.djq_store.specs.Settling.{first_read_by, touched_in, TellsUnionLog, asking_steps}
 use Rattle.djq_store.specs.Whole.{IsListed, IsCounted}
 use Rattle.djq_store.proofs.Behind.{Behind, grows, member_there, member_same, union_is}
 use Rattle.djq_store.proofs.Counting.{mapped_was}

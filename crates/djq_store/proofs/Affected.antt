@@ -22,9 +22,9 @@ use Rattle.djq_deltas.proofs.Lists.{nothing_there, first_or_later, first_there, 
 use Rattle.djq_deltas.proofs.Lists.{kept_there, mapped_there, pairs_head, pairs_tail}
 use Rattle.djq_store.specs.declared.joined.Joined.{Joined}
 use Rattle.djq_store.specs.declared.settling.Turn.{Turn}
-use Rattle.djq_store.specs.Affecting.{is_reached, is_member_reached, is_affected}
+use Rattle.djq_store.specs.Affecting.{is_reached_id, is_member_reached, is_affected}
 use Rattle.djq_store.specs.Places.{joined_at, listed_at, registered_as}
-use Rattle.djq_store.specs.Settling.{first_read, is_settled}
+use Rattle.djq_store.specs.Settling.{first_read_by, is_settled}
 use Rattle.djq_store.specs.Whole.{IsListed, query_places}
 use Rattle.djq_store.proofs.Alike.{SameUnions}
 use Rattle.djq_store.proofs.Behind.{Behind, h, member_there, outdated_member, first_outdates}
@@ -69,13 +69,13 @@ filter_twice p q (x ∷ xs) out =
 -- an id among those of registered queries that pass
 pub reached_is : (p : Registered → Bool) (rs : List Registered) (r : Registered)
     → AllPairs (λ r s. same_query r.id s.id ≡ false) rs → Contains rs r
-    → is_reached (map (λ (s : Registered). s.id) (filter p rs)) r.id.at ≡ p r
+    → is_reached_id (map (λ (s : Registered). s.id) (filter p rs)) r.id.at ≡ p r
 reached_is p rs r apart c = by (p r) refl
   where
     ids : List QueryId
     ids = map (λ (s : Registered). s.id) (filter p rs)
 
-    there : p r ≡ true → is_reached ids r.id.at ≡ true
+    there : p r ≡ true → is_reached_id ids r.id.at ≡ true
     there hit = any_there (λ (id : QueryId). id.at == r.id.at) ids r.id
         (mapped_there (λ (s : Registered). s.id) (filter p rs) r (kept_there p rs r hit c))
         (eq-eqb r.id.at r.id.at refl)
@@ -83,7 +83,7 @@ reached_is p rs r apart c = by (p r) refl
     only : {x y : Registered} → Some x ≡ Some y → x ≡ y
     only h = cc
 
-    back : is_reached ids r.id.at ≡ true → p r ≡ true
+    back : is_reached_id ids r.id.at ≡ true → p r ≡ true
     back hit =
         let one = passing (λ (id : QueryId). id.at == r.id.at) ids hit in
         let s = mapped_was (λ (s : Registered). s.id) (filter p rs) one.one one.there in
@@ -94,11 +94,11 @@ reached_is p rs r apart c = by (p r) refl
         ∙ ap (λ (i : ℕ). registered_at rs (id_at i)) same_id ∙ found_itself rs r apart c) in
         ap p (sym same) ∙ was.1
 
-    by : (b : Bool) → p r ≡ b → is_reached ids r.id.at ≡ b
+    by : (b : Bool) → p r ≡ b → is_reached_id ids r.id.at ≡ b
     by true e = there e
-    by false e = none (is_reached ids r.id.at) refl
+    by false e = none (is_reached_id ids r.id.at) refl
       where
-        none : (d : Bool) → is_reached ids r.id.at ≡ d → d ≡ false
+        none : (d : Bool) → is_reached_id ids r.id.at ≡ d → d ≡ false
         none false f = refl
         none true f = absurd (false≢true (sym e ∙ back f))
 
@@ -108,20 +108,20 @@ module _ (change : RowsChange) (relations : List Bytes) (turn : Turn) (e e' : Ke
   abbrev pub out_at : ℕ → Bool
   out_at at = is_outdated change (listed_at e.places us at)
 
-  query_reached : (at : ℕ) (s : Seat e at) → is_reached e'.affected at ≡ out_at at
+  query_reached : (at : ℕ) (s : Seat e at) → is_reached_id e'.affected at ≡ out_at at
   query_reached at s =
-      ap (λ (ids : List QueryId). is_reached ids at) affects
-      ∙ ap (λ (id : QueryId). is_reached (map (λ (r : Registered). r.id) (readers_of e.registered change)) id.at)
+      ap (λ (ids : List QueryId). is_reached_id ids at) affects
+      ∙ ap (λ (id : QueryId). is_reached_id (map (λ (r : Registered). r.id) (readers_of e.registered change)) id.at)
       (sym s.id)
       ∙ reached_is (λ (r : Registered). is_outdated change r.query) e.registered s.registered b.did.before.apart
       (found_there e.registered (id_at at) s.registered s.found)
       ∙ ap (is_outdated change) (s.is ∙ sym (listed_seat e b.did.before us at s))
 
   member_reached : (k : ℕ) (j : Joined) → joined_at us k ≡ Some j
-      → list_any (is_reached e'.affected) j.union.members ≡ is_outdated change (union_of e.places j.union)
+      → list_any (is_reached_id e'.affected) j.union.members ≡ is_outdated change (union_of e.places j.union)
   member_reached k j there =
       let united = w.united k j there in
-      any_same (is_reached e'.affected) (λ m. is_some (change.outdater (a_query (the_query (query_at e.places m)))))
+      any_same (is_reached_id e'.affected) (λ m. is_some (change.outdater (a_query (the_query (query_at e.places m)))))
       j.union.members
       (λ m c.
       let l = member_there (Some change) relations turn e e' us us' b j.union united m c in
@@ -130,27 +130,28 @@ module _ (change : RowsChange) (relations : List Bytes) (turn : Turn) (e e' : Ke
       (listed_seat e b.did.before us m s ∙ ap a_query (sym (ap the_query s.there))))
       ∙ sym (outdated_member (Some change) relations turn e e' us us' b j.union united)
 
-  same_test : (at : ℕ) → is_reader order at ≡ true → is_affected (is_reached e'.affected) us at ≡ out_at at
+  same_test : (at : ℕ) → is_reader order at ≡ true → is_affected (is_reached_id e'.affected) us at ≡ out_at at
   same_test at there = by (cases_place at)
     where
-      by : (at < QUERIES) ⊎ Slot at → is_affected (is_reached e'.affected) us at
+      by : (at < QUERIES) ⊎ Slot at → is_affected (is_reached_id e'.affected) us at
           ≡ is_outdated change (listed_at e.places us at)
       by (inl low) =
-          low_place at (is_reached e'.affected) (λ k. is_member_reached (is_reached e'.affected) (joined_at us k)) low
+          low_place at (is_reached_id e'.affected)
+          (λ k. is_member_reached (is_reached_id e'.affected) (joined_at us k)) low
           ∙ query_reached at (order_seat e b.did.before us order w at there low)
       by (inr s) =
           let joint = order_joint e b.did.before us order w s.slot
           (subst (λ (i : ℕ). is_reader order i ≡ true) s.is there) in
-          ap (is_affected (is_reached e'.affected) us) s.is
-          ∙ high_place s.slot (is_reached e'.affected)
-          (λ k. is_member_reached (is_reached e'.affected) (joined_at us k))
-          ∙ ap (is_member_reached (is_reached e'.affected)) joint.there
+          ap (is_affected (is_reached_id e'.affected) us) s.is
+          ∙ high_place s.slot (is_reached_id e'.affected)
+          (λ k. is_member_reached (is_reached_id e'.affected) (joined_at us k))
+          ∙ ap (is_member_reached (is_reached_id e'.affected)) joint.there
           ∙ member_reached s.slot joint.union joint.there
           ∙ ap (is_outdated change) (sym (ap (listed_at e.places us) s.is ∙ listed_joint e.places us s.slot joint))
 
   -- those of the order
-  pub affected_order : filter (is_affected (is_reached e'.affected) us) order ≡ filter out_at order
-  affected_order = filter_members (is_affected (is_reached e'.affected) us) out_at order same_test
+  pub affected_order : filter (is_affected (is_reached_id e'.affected) us) order ≡ filter out_at order
+  affected_order = filter_members (is_affected (is_reached_id e'.affected) us) out_at order same_test
 
   -- where no union is outdated, those of the engine are all
   pub affected_queries : list_any (is_settled e' relations) us ≡ false

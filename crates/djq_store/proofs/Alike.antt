@@ -15,12 +15,13 @@ use Rattle.djq_engine.specs.declared.cursor.CursorId.{CursorId}
 use Rattle.djq_engine.specs.Kept.{Kept, Registered, held_at, SameTellings}
 use Rattle.djq_engine.specs.Places.{query_in, id_at}
 use Rattle.djq_united.specs.Slots.{slot_at}
-use Rattle.djq_united.specs.United.{United, IsUnited, first_of}
+use Rattle.djq_united.specs.United.{United, IsUnited, first_of_members}
 use Rattle.djq_store.specs.declared.joined.Joined.{Joined}
 use Rattle.djq_store.specs.Below.{IsEngine}
 use Rattle.djq_store.specs.Places.{joined_at, listed_in, listed_at, union_watchers, sessions_at}
-use Rattle.djq_store.specs.Places.{registered_as, held_as, held_of, told_in, lender_in, in_places}
-use Rattle.djq_store.specs.Places.{cursors_in, seen}
+use Rattle.djq_store.specs.Places.{registered_as, held_union_cursor, union_cursor_of, told_of_union, lender_in}
+use Rattle.djq_store.specs.Places.{in_places}
+use Rattle.djq_store.specs.Places.{cursors_in, store_seen}
 use Rattle.djq_store.specs.Whole.{IsListed, IsCounted, IsShownByFirst, wants}
 use Rattle.djq_store.proofs.Held.{held_low, held_high}
 use Rattle.djq_store.proofs.Seats.{Slot, cases_place}
@@ -93,7 +94,7 @@ module _ (us us' : List (Option Joined)) (s : SameUnions us us') where
   pub lenders_alike : (gs : List (Option Live)) → map (lender_in gs) us' ≡ map (lender_in gs) us
   lenders_alike gs = map_each (lender_in gs) (lender_in gs) us us' s.long
       (λ i. sym (same_of (lender_in gs) (lender_in gs) refl
-      (λ j j' h. ap (λ (members : List ℕ). first_of (queries_at gs members)) (sym h.members)) (joined_at us i)
+      (λ j j' h. ap (λ (members : List ℕ). first_of_members (queries_at gs members)) (sym h.members)) (joined_at us i)
       (joined_at us' i) (s.each i)))
 
   -- the store stays whole, where each union fits

@@ -12,7 +12,7 @@ use Rattle.djq_store.specs.declared.parts.Parts.{Parts}
 use Rattle.djq_store.specs.declared.settling.Turn.{Turn}
 use Rattle.djq_store.specs.declared.settling.Turn.TheVariants.{Came, Went, Lacked}
 use Rattle.djq_store.specs.Batches.{has_union}
-use Rattle.djq_store.specs.Following.{Follows, FollowsAffected}
+use Rattle.djq_store.specs.Following.{UnionsFollow, FollowsAffected}
 use Rattle.djq_store.specs.Places.{joined_at}
 use Rattle.djq_store.specs.Settling.{SettlesAt, is_settled}
 
@@ -42,7 +42,7 @@ module _ (names : List Bytes) (p p' : Parts) (none : has_union p.unions.items �
 
   pub follows_alone : (turn : Turn) → p'.engine ≡ p.engine → p'.unions.items ≡ p.unions.items → p'.order ≡ p.order
       → p'.sessions ≡ p.sessions → AffectsOwn turn p p' → vec_capacity p.affected ≤ vec_capacity p'.affected
-      → Follows names turn p p'
+      → UnionsFollow names turn p p'
   follows_alone turn engine unions order sessions own room = record {
     engine = engine;
     long = ap (λ (us : List (Option Joined)). length us) unions;
@@ -59,7 +59,7 @@ module _ (names : List Bytes) (p p' : Parts) (none : has_union p.unions.items �
 
   pub follows_made : (turn : Turn) → (turn ≡ Lacked → ⊥) → p'.engine ≡ p.engine → p'.unions.items ≡ p.unions.items
       → p'.order ≡ p.order → p'.sessions ≡ p.sessions → p'.affected.items ≡ map (λ id. id.at) p.engine.affected
-      → vec_capacity p.affected ≤ vec_capacity p'.affected → Follows names turn p p'
+      → vec_capacity p.affected ≤ vec_capacity p'.affected → UnionsFollow names turn p p'
   follows_made Lacked made engine unions order sessions own room = absurd (made refl)
   follows_made Came made engine unions order sessions own room = follows_alone Came engine unions order sessions own
       room

@@ -32,14 +32,15 @@ use Rattle.djq_engine.specs.Kept.{same_query, registered_at, registered_of, held
 use Rattle.djq_engine.specs.Places.{id_at}
 use Rattle.djq_engine.proofs.Conditions.{answers_done}
 use Rattle.djq_engine.proofs.Listing.{here, behind}
-use Rattle.djq_united.specs.United.{union_of, members_in, first_of}
+use Rattle.djq_united.specs.United.{union_of, members_in, first_of_members}
 use Rattle.djq_store.specs.declared.explained.Explained.{Explained}
 use Rattle.djq_store.specs.declared.explained.Explained.TheVariants.{Tree, Members}
 use Rattle.djq_store.specs.declared.joined.Joined.{Joined}
 use Rattle.djq_store.specs.Below.{IsEngine}
-use Rattle.djq_store.specs.Explaining.{ExplainGives, Explains, TakesMemory, HasMember}
+use Rattle.djq_store.specs.Explaining.{ExplainGives, Explains, ExplainTakesMemory, HasMember}
 use Rattle.djq_store.specs.Lending.{LendsEngine}
-use Rattle.djq_store.specs.Places.{joined_at, listed_at, union_watchers, sessions_at, registered_as, lender_in, seen}
+use Rattle.djq_store.specs.Places.{joined_at, listed_at, union_watchers, sessions_at, registered_as, lender_in}
+use Rattle.djq_store.specs.Places.{store_seen}
 use Rattle.djq_store.specs.Whole.{IsListed}
 use Rattle.djq_store.proofs.Found.{found_passes, found_all}
 use Rattle.djq_engine.proofs.Firsts.{find_mapped}
@@ -96,7 +97,7 @@ count_members gs (k ∷ ks) h = by_place (query_at gs k) h.0 (count_members gs k
 module _ (e : Kept) (b : IsEngine e) (us : List (Option Joined)) (order sessions affected : List ℕ)
     (w : IsListed e us order) where
   abbrev old : Kept
-  old = seen e us order sessions affected
+  old = store_seen e us order sessions affected
 
   -- ---- by name
 
@@ -262,7 +263,7 @@ module _ (e : Kept) (b : IsEngine e) (us : List (Option Joined)) (order sessions
   union_explained name k f n is = record {
     answer = answers_done (first_refusal ((is_none (listed_of old.store.queries name), NoQuery) ∷ [])) (Members n)
         (λ x. IsSomeAnd (listed_of old.store.queries name) (λ q. Explains q x))
-        (OutOfMemoryWhere (IsSomeAnd (listed_of old.store.queries name) TakesMemory))
+        (OutOfMemoryWhere (IsSomeAnd (listed_of old.store.queries name) ExplainTakesMemory))
         (ap (λ o. first_refusal ((is_none o, NoQuery) ∷ [])) (called_listed name k f))
         (subst (λ (o : Option Listed). IsSomeAnd o (λ q. Explains q (Members n))) (sym (called_listed name k f)) is);
   }
@@ -292,47 +293,48 @@ module _ (e : Kept) (b : IsEngine e) (us : List (Option Joined)) (order sessions
 
   module _ (name : Bytes) (none : NoUnion us name) where
     explained_as : (o : Option Listed) → ((q : Listed) → o ≡ Some q → (x : Query) × (q ≡ a_query x)) → (lines : List ℕ)
-        → IsSomeAnd o (λ q. kept.Explains q lines) → IsSomeAnd o (λ q. Explains q (Tree lines))
+        → IsSomeAnd o (λ q. kept.TreeExplains q lines) → IsSomeAnd o (λ q. Explains q (Tree lines))
     explained_as None h lines x = x
     explained_as (Some q) h lines x = let is = h q refl in
         subst (λ (q : Listed). Explains q (Tree lines)) (sym is.1)
-        (subst (λ (q : Listed). kept.Explains q lines) is.1 x)
+        (subst (λ (q : Listed). kept.TreeExplains q lines) is.1 x)
 
     takes_as : (o : Option Listed) → ((q : Listed) → o ≡ Some q → (x : Query) × (q ≡ a_query x))
-        → IsSomeAnd o kept.HasTree → IsSomeAnd o TakesMemory
+        → IsSomeAnd o kept.HasTree → IsSomeAnd o ExplainTakesMemory
     takes_as None h x = x
-    takes_as (Some q) h x = let is = h q refl in subst TakesMemory (sym is.1) (subst kept.HasTree is.1 x)
+    takes_as (Some q) h x = let is = h q refl in subst ExplainTakesMemory (sym is.1) (subst kept.HasTree is.1 x)
 
     given : (o : Option Listed) → ((q : Listed) → o ≡ Some q → (x : Query) × (q ≡ a_query x)) → (lines : List ℕ)
         → Answers (first_refusal ((is_none o, NoQuery) ∷ [])) (Ok lines)
-        (λ lines. IsSomeAnd o (λ q. kept.Explains q lines)) (OutOfMemoryWhere (IsSomeAnd o kept.HasTree))
+        (λ lines. IsSomeAnd o (λ q. kept.TreeExplains q lines)) (OutOfMemoryWhere (IsSomeAnd o kept.HasTree))
         → Answers (first_refusal ((is_none o, NoQuery) ∷ [])) (Ok (Tree lines)) (λ x. IsSomeAnd o (λ q. Explains q x))
-        (OutOfMemoryWhere (IsSomeAnd o TakesMemory))
+        (OutOfMemoryWhere (IsSomeAnd o ExplainTakesMemory))
     given None h lines x = x
     given (Some q) h lines x = explained_as (Some q) h lines x
 
-    pub lines_explained : (lines : List ℕ) → kept.ExplainGives e.store name (Ok lines)
+    pub lines_explained : (lines : List ℕ) → kept.QueryExplainGives e.store name (Ok lines)
         → ExplainGives old.store name (Ok (Tree lines))
     lines_explained lines g = record {
       answer = subst (λ (o : Option Listed). Answers (first_refusal ((is_none o, NoQuery) ∷ [])) (Ok (Tree lines))
-          (λ x. IsSomeAnd o (λ q. Explains q x)) (OutOfMemoryWhere (IsSomeAnd o TakesMemory)))
+          (λ x. IsSomeAnd o (λ q. Explains q x)) (OutOfMemoryWhere (IsSomeAnd o ExplainTakesMemory)))
           (sym (engine_listed e b us order w name none))
           (given (listed_of (e.store).queries name) (engine_has name) lines g.answer);
     }
 
     refused : (o : Option Listed) → ((q : Listed) → o ≡ Some q → (x : Query) × (q ≡ a_query x)) → (r : Refusal)
         → Answers (first_refusal ((is_none o, NoQuery) ∷ [])) (Err r)
-        (λ (lines : List ℕ). IsSomeAnd o (λ q. kept.Explains q lines)) (OutOfMemoryWhere (IsSomeAnd o kept.HasTree))
+        (λ (lines : List ℕ). IsSomeAnd o (λ q. kept.TreeExplains q lines)) (OutOfMemoryWhere (IsSomeAnd o kept.HasTree))
         → Answers (first_refusal ((is_none o, NoQuery) ∷ [])) (Err r)
-        (λ (x : Explained). IsSomeAnd o (λ q. Explains q x)) (OutOfMemoryWhere (IsSomeAnd o TakesMemory))
+        (λ (x : Explained). IsSomeAnd o (λ q. Explains q x)) (OutOfMemoryWhere (IsSomeAnd o ExplainTakesMemory))
     refused None h r x = x
     refused (Some q) h NoMemory x = takes_as (Some q) h x
     refused (Some q) h _ x = x
 
-    pub none_explained : (r : Refusal) → kept.ExplainGives e.store name (Err r) → ExplainGives old.store name (Err r)
+    pub none_explained : (r : Refusal) → kept.QueryExplainGives e.store name (Err r)
+        → ExplainGives old.store name (Err r)
     none_explained r g = record {
       answer = subst (λ (o : Option Listed). Answers (first_refusal ((is_none o, NoQuery) ∷ [])) (Err r)
-          (λ (x : Explained). IsSomeAnd o (λ q. Explains q x)) (OutOfMemoryWhere (IsSomeAnd o TakesMemory)))
+          (λ (x : Explained). IsSomeAnd o (λ q. Explains q x)) (OutOfMemoryWhere (IsSomeAnd o ExplainTakesMemory)))
           (sym (engine_listed e b us order w name none))
           (refused (listed_of (e.store).queries name) (engine_has name) r g.answer);
     }

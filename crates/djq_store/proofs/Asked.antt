@@ -22,14 +22,14 @@ use Rattle.djq_reach.specs.Places.{is_reader}
 use Rattle.djq_engine.specs.Kept.{Kept, Registered, is_watched, told_at}
 use Rattle.djq_united.specs.Staying.{MembersStay}
 use Rattle.djq_united.specs.United.{IsUnited, union_of}
-use Rattle.djq_gains.specs.Gains.{members_at, count_in, told_in}
+use Rattle.djq_gains.specs.Gains.{members_at, count_in, told_of_member}
 use Rattle.djq_deltas.proofs.Lists.{nothing_there, first_or_later, first_there, later_there}
 use Rattle.djq_deltas.proofs.Lists.{kept_there, mapped_there, hold_each}
 use Rattle.djq_store.specs.declared.joined.Joined.{Joined}
 use Rattle.djq_store.specs.declared.settling.Turn.{Turn}
 use Rattle.djq_store.specs.declared.settling.Turn.TheVariants.{Came, Went, Lacked}
 use Rattle.djq_store.specs.Places.{by_place, joined_at, listed_at, registered_as, sessions_at, union_watchers}
-use Rattle.djq_store.specs.Settling.{first_read, touched_in, is_settled, asking_steps, telling_steps, settling_steps}
+use Rattle.djq_store.specs.Settling.{first_read_by, touched_in, is_settled, asking_steps, telling_steps, settling_steps}
 use Rattle.djq_store.proofs.Seats.{Slot, cases_place, behind_queries, low_place, high_place}
 use Rattle.djq_store.proofs.Summing.{sum_covered, sum_kept, sum_mapped, sum_fewer, sum_times, kept_was}
 

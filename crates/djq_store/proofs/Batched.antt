@@ -24,7 +24,7 @@ use Rattle.djq_machine.specs.State.{Store}
 use Rattle.djq_machine.specs.Stale.{reads, listed_reads}
 use Rattle.djq_machine.specs.Changes.{RowsChange, is_outdated}
 use Rattle.djq_machine.specs.Batch.{suit_refusal, SuitAll, is_there, with_held, with_all}
-use Rattle.djq_machine.specs.Batch.{count_came, has_come, store_behind, StopsAt, RefusesBatch}
+use Rattle.djq_machine.specs.Batch.{count_came, has_come, store_behind, BatchStopsAt, RefusesBatch}
 use Rattle.djq_machine.specs.Batch.{AddsBatch, rows_held, rows_tried, batch_outcome}
 use Rattle.djq_machine.specs.Watch.{is_touched}
 use Rattle.djq_machine.proofs.Reading.{reads_atom}
@@ -35,7 +35,7 @@ use Rattle.djq_deltas.proofs.Lists.{nothing_there, first_or_later, first_there, 
 use Rattle.djq_store.specs.declared.parts.Parts.{Parts}
 use Rattle.djq_store.specs.Batches.{has_grown, is_lacked}
 use Rattle.djq_store.specs.Following.{batch_turn}
-use Rattle.djq_store.specs.Places.{kept_in}
+use Rattle.djq_store.specs.Places.{store_kept_in}
 use Rattle.djq_store.proofs.Doing.{IsMade, IsTried, IsKnown, turn_by}
 use Rattle.djq_store.proofs.Grown.{HasRelation, grown_is}
 use Rattle.djq_store.proofs.Lifting.{with_queries, batch_lifted}
@@ -218,7 +218,7 @@ behind_texts st held = by (count_came st held)
     by zero = refl
     by (suc n) = refl
 
-stops_grows : TextsStay → (st new : Store) (h : HeldRow) (r : Refusal) → StopsAt st h new.texts r → Grown st new
+stops_grows : TextsStay → (st new : Store) (h : HeldRow) (r : Refusal) → BatchStopsAt st h new.texts r → Grown st new
 stops_grows law st new h Limit (inl k) = ([], k.1 ∙ sym (append-nil st.texts))
 stops_grows law st new h Limit (inr k) = let m = law st.texts (k.2.first) in (m.0, k.2.learned ∙ m.1)
 stops_grows law st new h NoMemory k = let m = law st.texts (k.1.first) in (m.0, k.1.learned ∙ m.1)
@@ -236,8 +236,8 @@ batch_grows law old new held (Err r) h =
 
 pub store_batches : (p p' : Parts) (e' : Kept) (held : List HeldRow) (r : Result ℕ Refusal)
     → AddsBatch (p.engine).store held r e'.store
-    → (kept_in p').store ≡ with_queries ((kept_in p).store).queries e'.store
-    → AddsBatch (kept_in p).store held r (kept_in p').store
+    → (store_kept_in p').store ≡ with_queries ((store_kept_in p).store).queries e'.store
+    → AddsBatch (store_kept_in p).store held r (store_kept_in p').store
 store_batches p p' e' held r h is =
-    subst (λ (st : Store). AddsBatch (kept_in p).store held r st) (sym is)
-    (batch_lifted ((kept_in p).store).queries (p.engine).store held r e'.store h)
+    subst (λ (st : Store). AddsBatch (store_kept_in p).store held r st) (sym is)
+    (batch_lifted ((store_kept_in p).store).queries (p.engine).store held r e'.store h)

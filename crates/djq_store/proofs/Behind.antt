@@ -21,8 +21,8 @@ use Rattle.djq_reach.specs.Places.{is_reader}
 use Rattle.djq_engine.specs.Kept.{Kept, Registered, Outdates, KeepsPlaces, KeepsQuery, SameShape, is_tried}
 use Rattle.djq_engine.proofs.Listing.{map_members}
 use Rattle.djq_united.specs.Staying.{KeepMembers, AreUntouched}
-use Rattle.djq_united.specs.United.{United, IsUnited, union_of, members_in, first_of}
-use Rattle.djq_gains.specs.Gains.{AtFirst, TellUnion}
+use Rattle.djq_united.specs.United.{United, IsUnited, union_of, members_in, first_of_members}
+use Rattle.djq_gains.specs.Gains.{AtFirstMember, TellUnion}
 use Rattle.djq_deltas.proofs.Lists.{first_or_later}
 use Rattle.djq_store.specs.declared.joined.Joined.{Joined}
 use Rattle.djq_store.specs.declared.parts.Parts.{Parts}
@@ -30,9 +30,9 @@ use Rattle.djq_store.specs.declared.settling.Turn.{Turn}
 use Rattle.djq_store.specs.declared.settling.Turn.TheVariants.{Came, Went, Lacked}
 use Rattle.djq_store.specs.Below.{IsEngine, StayingLaws}
 use Rattle.djq_store.specs.Places.{joined_at, first_member, listed_at, registered_as, sessions_at}
-use Rattle.djq_store.specs.Settling.{first_read, touched_in, outdated_union, TellsUnion}
+use Rattle.djq_store.specs.Settling.{first_read_by, touched_in, outdated_union, TellsUnionLog}
 use Rattle.djq_store.specs.Settling.{TellsWatched, SettlesLog, SettlesLogBy, Settles, SettlesAt}
-use Rattle.djq_store.specs.Whole.{IsListed, IsCounted, IsRoomy, IsWhole, IsShownByFirst, wants}
+use Rattle.djq_store.specs.Whole.{IsListed, IsCounted, IsRoomy, StoreIsWhole, IsShownByFirst, wants}
 use Rattle.djq_store.proofs.Alike.{SameUnion, SameUnions, listed_alike, sessions_alike}
 use Rattle.djq_store.proofs.Alike.{registered_alike, unions_alike, wants_alike, counted_kept}
 use Rattle.djq_store.proofs.Members.{Grows, kept_shapes, grown_members, SameFirst, same_first, log_stays}
@@ -83,7 +83,7 @@ each_there gs (k ∷ ms) h m c = by (first_or_later k ms m c) (λ d. each_there 
     by (inl e) more = subst (λ (i : ℕ). (l : Live) × (query_at gs i ≡ Some l)) e here
     by (inr d) more = more d
 
-pub first_get : (ls : List Live) → slice_get ls 0 ≡ first_of ls
+pub first_get : (ls : List Live) → slice_get ls 0 ≡ first_of_members ls
 first_get [] = refl
 first_get (l ∷ ls) = refl
 
@@ -119,7 +119,7 @@ module _ (o : Option RowsChange) (relations : List Bytes) (turn : Turn) (e e' : 
     union_is = ap (a_union u.name) (all_queries e.places u.members w.members.have.each)
 
     -- the relation that outdates it
-    pub first_outdates : first_read e'.places relations u.members ≡ outdater_by o (union_of e.places u)
+    pub first_outdates : first_read_by e'.places relations u.members ≡ outdater_by o (union_of e.places u)
     first_outdates =
         first_is e'.places h u.members member_same relations u.name
         ∙ sym (b.outdater (a_union u.name (map h u.members)))
@@ -179,10 +179,10 @@ module _ (o : Option RowsChange) (relations : List Bytes) (turn : Turn) (e e' : 
     united_behind k j' there =
         let t = turned_back e' relations (e'.store).seq turn us us' b.long b.unions k j' there in
         let united = w.united k t.before t.there in
-        by t.before t.settles united (first_read e'.places relations t.before.union.members) refl
+        by t.before t.settles united (first_read_by e'.places relations t.before.union.members) refl
       where
         by : (j : Joined) → Settles e' relations (e'.store).seq turn j j' → IsUnited e.places j.union
-            → (f : Option Bytes) → first_read e'.places relations j.union.members ≡ f → IsUnited e'.places j'.union
+            → (f : Option Bytes) → first_read_by e'.places relations j.union.members ≡ f → IsUnited e'.places j'.union
         by j s united None f =
             subst (λ (u : United). IsUnited e'.places u)
             (sym (s.union ∙ ap (λ (r : Option Bytes). outdated_union r (e'.store).seq j.union) f))
@@ -196,7 +196,7 @@ module _ (o : Option RowsChange) (relations : List Bytes) (turn : Turn) (e e' : 
     module _ (j j' : Joined) (s : SameUnion j j') (united : IsUnited e.places j.union) (shown : IsShownByFirst e j)
       where
         first_now : first_member e'.places j'.union ≡ first_member e'.places j.union
-        first_now = ap (λ (ms : List ℕ). first_of (queries_at e'.places ms)) s.members
+        first_now = ap (λ (ms : List ℕ). first_of_members (queries_at e'.places ms)) s.members
 
         abbrev Shown : Log → Type 0
         Shown log = log.lost ≡ false → IsSomeAnd (first_member e'.places j'.union)
@@ -208,7 +208,7 @@ module _ (o : Option RowsChange) (relations : List Bytes) (turn : Turn) (e e' : 
             (λ l. All (λ (n : Line). IsShowable (e'.store).texts l n.answer) j.log.lines))
             (sym first_now) (log_stays e e' grows b.laws.members b.laws.showable j united shown kept))
 
-        told_shown : (came : Bool) → TellsUnion e' relations came j j'.log → Shown j'.log
+        told_shown : (came : Bool) → TellsUnionLog e' relations came j j'.log → Shown j'.log
         told_shown came tells kept =
             subst (λ (f : Option Live). IsSomeAnd f
             (λ l. All (λ (n : Line). IsShowable (e'.store).texts l n.answer) j'.log.lines))
@@ -247,7 +247,7 @@ module _ (o : Option RowsChange) (relations : List Bytes) (turn : Turn) (e e' : 
         let t = turned_back e' relations (e'.store).seq turn us us' b.long b.unions k j' there in
         log_shown t.before j' (settled_same e' relations (e'.store).seq turn t.before j' t.settles)
         (w.united k t.before t.there) (w.shown k t.before t.there)
-        (first_read e'.places relations t.before.union.members) t.settles.log
+        (first_read_by e'.places relations t.before.union.members) t.settles.log
 
     -- what is registered is as before
     pub listed_behind : (at : ℕ) → is_reader order at ≡ true → listed_at e'.places us' at ≡ listed_at e.places us at

@@ -25,7 +25,7 @@ use Rattle.djq_united.specs.United.{AreMembers}
 use Rattle.djq_store.specs.declared.joined.Joined.{Joined}
 use Rattle.djq_store.specs.Below.{IsEngine}
 use Rattle.djq_store.specs.Judging.{ArePlacesOf}
-use Rattle.djq_store.specs.Places.{seen}
+use Rattle.djq_store.specs.Places.{store_seen}
 use Rattle.djq_store.specs.Whole.{IsListed}
 use Rattle.djq_store.proofs.Found.{found_passes}
 use Rattle.djq_store.proofs.Judged.{under, none_called, listed_below, types_are}
@@ -83,7 +83,7 @@ are_fit st name names h =
 module _ (e : Kept) (b : IsEngine e) (law : HeadTypesAre) (us : List (Option Joined)) (order sessions affected : List ℕ)
     (w : IsListed e us order) where
   abbrev st : Store
-  st = (seen e us order sessions affected).store
+  st = (store_seen e us order sessions affected).store
 
   -- a query under a name, in its place
   pub record Chosen (name : Bytes) (place : ℕ) : Type 0 where

@@ -27,7 +27,7 @@ use Rattle.djq_engine.specs.declared.cursor.QueryId.{QueryId}
 use Rattle.djq_engine.specs.Kept.{Kept, Registered, registered_at, told_at, affected_of, readers_of, is_watched}
 use Rattle.djq_engine.specs.Places.{id_at, told_of}
 use Rattle.djq_engine.specs.Watching.{LogsTell, Affects}
-use Rattle.djq_united.specs.United.{United, IsUnited, union_of, first_of}
+use Rattle.djq_united.specs.United.{United, IsUnited, union_of, first_of_members}
 use Rattle.djq_gains.specs.Gains.{TellUnion}
 use Rattle.djq_deltas.specs.Finite.{IsBound}
 use Rattle.djq_deltas.specs.Growing.{SparesOthers}
@@ -37,8 +37,9 @@ use Rattle.djq_store.specs.declared.joined.Joined.{Joined}
 use Rattle.djq_store.specs.declared.settling.Turn.{Turn}
 use Rattle.djq_store.specs.declared.settling.Turn.TheVariants.{Came, Went, Lacked}
 use Rattle.djq_store.specs.Below.{IsEngine}
-use Rattle.djq_store.specs.Places.{joined_at, first_member, told_in, listed_at, registered_as, union_watchers, seen}
-use Rattle.djq_store.specs.Settling.{first_read, touched_in, is_settled, outdated_union, TellsUnion}
+use Rattle.djq_store.specs.Places.{joined_at, first_member, told_of_union, listed_at, registered_as, union_watchers}
+use Rattle.djq_store.specs.Places.{store_seen}
+use Rattle.djq_store.specs.Settling.{first_read_by, touched_in, is_settled, outdated_union, TellsUnionLog}
 use Rattle.djq_store.specs.Settling.{SettlesLog, SettlesLogBy, Settles, settling_steps, telling_steps}
 use Rattle.djq_store.specs.Watching.{TellsChange, is_reached}
 use Rattle.djq_store.specs.Whole.{IsListed, IsCounted}
@@ -70,14 +71,15 @@ module _ (e : Kept) (b : IsEngine e) (us : List (Option Joined)) (order sessions
   few_told : length e.told ≤ QUERIES
   few_told = let long = b.long in let few = b.few in omega (arith, long, few)
 
-  pub told_low : (at : ℕ) → at < QUERIES → told_at (seen e us order sessions affected) (id_at at) ≡ told_at e (id_at at)
-  told_low at low = places_low e.told (map (told_in (e.store).texts e.places) us) at few_told low
+  pub told_low : (at : ℕ) → at < QUERIES
+      → told_at (store_seen e us order sessions affected) (id_at at) ≡ told_at e (id_at at)
+  told_low at low = places_low e.told (map (told_of_union (e.store).texts e.places) us) at few_told low
 
-  pub told_high : (k : ℕ) → told_at (seen e us order sessions affected) (id_at (QUERIES + k))
-      ≡ told_in (e.store).texts e.places (joined_at us k)
+  pub told_high : (k : ℕ) → told_at (store_seen e us order sessions affected) (id_at (QUERIES + k))
+      ≡ told_of_union (e.store).texts e.places (joined_at us k)
   told_high k =
-      places_high e.told (map (told_in (e.store).texts e.places) us) k few_told
-      ∙ slot_told (told_in (e.store).texts e.places) us k refl
+      places_high e.told (map (told_of_union (e.store).texts e.places) us) k few_told
+      ∙ slot_told (told_of_union (e.store).texts e.places) us k refl
 
 -- the query in a place
 abbrev query_in : List (Option Live) → ℕ → Query
@@ -99,39 +101,40 @@ module _ (o : Option RowsChange) (relations : List Bytes) (turn : Turn) (e e' : 
 
   first_now : first_member e'.places (now.after).union ≡ Some first.new
   first_now =
-      ap (λ (ms : List ℕ). first_of (queries_at e'.places ms))
+      ap (λ (ms : List ℕ). first_of_members (queries_at e'.places ms))
       (settled_same e' relations (e'.store).seq turn j now.after now.settles).members
       ∙ first.now
 
-  pub told_now : told_in (e'.store).texts e'.places (joined_at us' k)
+  pub told_now : told_of_union (e'.store).texts e'.places (joined_at us' k)
       ≡ cond (now.after).log.lost None (Some (map (change_of (e'.store).texts first.new) (now.after).log.lines))
   told_now =
-      ap (told_in (e'.store).texts e'.places) now.there
+      ap (told_of_union (e'.store).texts e'.places) now.there
       ∙ ap (λ (x : Option Live). told_of (e'.store).texts x (now.after).log) first_now
 
   -- one that isn't outdated tells what it told
   pub told_stays : outdater_by o (union_of e.places j.union) ≡ None
-      → told_in (e'.store).texts e'.places (joined_at us' k) ≡ told_in (e.store).texts e.places (joined_at us k)
+      → told_of_union (e'.store).texts e'.places (joined_at us' k)
+      ≡ told_of_union (e.store).texts e.places (joined_at us k)
   told_stays none =
-      let miss : first_read e'.places relations j.union.members ≡ None =
+      let miss : first_read_by e'.places relations j.union.members ≡ None =
       first_outdates o relations turn e e' us us' b j.union united ∙ none in
       let union : (now.after).union ≡ j.union =
       (now.settles).union ∙ ap (λ (r : Option Bytes). outdated_union r (e'.store).seq j.union) miss in
       let log : (now.after).log ≡ j.log =
       subst (λ (r : Option Bytes). SettlesLogBy r e' relations turn j (now.after).log) miss (now.settles).log in
-      ap (told_in (e'.store).texts e'.places) now.there
+      ap (told_of_union (e'.store).texts e'.places) now.there
       ∙ ap₂ (λ (u : United) (l : Log). told_of (e'.store).texts (first_member e'.places u) l) union log
       ∙ log_tells e e' (grows o relations turn e e' us us' b) b.laws.members b.laws.showable j united
       (w.shown k j there)
-      ∙ ap (told_in (e.store).texts e.places) (sym there)
+      ∙ ap (told_of_union (e.store).texts e.places) (sym there)
 
   -- where memory was refused, one that is outdated tells of nothing
   pub told_nothing : turn ≡ Lacked → is_some (outdater_by o (union_of e.places j.union)) ≡ true
-      → told_in (e'.store).texts e'.places (joined_at us' k) ≡ Some []
+      → told_of_union (e'.store).texts e'.places (joined_at us' k) ≡ Some []
   told_nothing lacks hit =
-      let reached : is_some (first_read e'.places relations j.union.members) ≡ true =
+      let reached : is_some (first_read_by e'.places relations j.union.members) ≡ true =
       ap is_some (first_outdates o relations turn e e' us us' b j.union united) ∙ hit in
-      let log = by (first_read e'.places relations j.union.members) reached (now.settles).log in
+      let log = by (first_read_by e'.places relations j.union.members) reached (now.settles).log in
       told_now ∙ ap₂ (λ (c : Bool) (ns : List Line). cond c None (Some (map (change_of (e'.store).texts first.new) ns)))
       log.1 log.0
     where
@@ -178,16 +181,17 @@ module _ (o : Option RowsChange) (relations : List Bytes) (turn : Turn) (e e' : 
   same_query None r s q k = refl
   same_query (Some change) r s q k = ap (is_outdated change) (sym q) ∙ k
 
-  pub all_stay : (id : QueryId) → IsSomeAnd (registered_at (seen e us order sessions affected).registered id)
+  pub all_stay : (id : QueryId) → IsSomeAnd (registered_at (store_seen e us order sessions affected).registered id)
       (λ r. is_reached o r ≡ false)
-      → told_at (seen e' us' order sessions affected') id ≡ told_at (seen e us order sessions affected) id
+      → told_at (store_seen e' us' order sessions affected') id ≡ told_at (store_seen e us order sessions affected) id
   all_stay id k =
       let h = registered_has e b.did.before us order w sessions id (λ r. is_reached o r ≡ false) k in
       by (cases_place id.at) h.0 h.1
     where
       by : (id.at < QUERIES) ⊎ Slot id.at → is_reader order id.at ≡ true
           → is_reached o (registered_as e.places us sessions id.at) ≡ false
-          → told_at (seen e' us' order sessions affected') id ≡ told_at (seen e us order sessions affected) id
+          → told_at (store_seen e' us' order sessions affected') id
+          ≡ told_at (store_seen e us order sessions affected) id
       by (inl low) there miss =
           let s = order_seat e b.did.before us order w id.at there low in
           told_low e' b.did.after us' order sessions affected' id.at low
@@ -201,8 +205,8 @@ module _ (o : Option RowsChange) (relations : List Bytes) (turn : Turn) (e e' : 
           let none = out_of o (registered_as e.places us sessions id.at) miss in
           let out : outdater_by o (union_of e.places joint.union.union) ≡ None =
           ap (outdater_by o) (sym (ap (listed_at e.places us) s.is ∙ listed_joint e.places us s.slot joint)) ∙ none in
-          ap (λ (i : ℕ). told_at (seen e' us' order sessions affected') (id_at i)) s.is
+          ap (λ (i : ℕ). told_at (store_seen e' us' order sessions affected') (id_at i)) s.is
           ∙ told_high e' b.did.after us' order sessions affected' s.slot
           ∙ told_stays o relations turn e e' us us' b order w s.slot joint.union joint.there out
-          ∙ sym (ap (λ (i : ℕ). told_at (seen e us order sessions affected) (id_at i)) s.is
+          ∙ sym (ap (λ (i : ℕ). told_at (store_seen e us order sessions affected) (id_at i)) s.is
           ∙ told_high e b.did.before us order sessions affected s.slot)

@@ -17,7 +17,7 @@ use Rattle.djq_engine.specs.Kept.{Kept, Registered, registered_at, with_watchers
 use Rattle.djq_engine.proofs.Listing.{map_members}
 use Rattle.djq_store.specs.declared.joined.Joined.{Joined}
 use Rattle.djq_store.specs.Below.{IsEngine}
-use Rattle.djq_store.specs.Places.{joined_at, union_watchers, sessions_at, registered_as, seen}
+use Rattle.djq_store.specs.Places.{joined_at, union_watchers, sessions_at, registered_as, store_seen}
 use Rattle.djq_store.specs.Whole.{IsListed, IsCounted, wants}
 use Rattle.djq_store.proofs.Found.{found_passes}
 use Rattle.djq_store.proofs.Ordered.{Seat, order_seat}
@@ -214,11 +214,11 @@ module _ (e : Kept) (b : IsEngine e) (us : List (Option Joined)) (order sessions
           (let r : Registered = record (registered_as e.places us sessions x) { watchers = k } in r ∷ l))
           (sessions_other x (λ k. false≢true (sym g ∙ eq-eqb x id.at k))) (more h)
 
-  pub query_seen : seen watched us order (set sessions id.at n) affected
-      ≡ record (seen e us order sessions affected)
-      { registered = with_watchers id f (seen e us order sessions affected).registered }
+  pub query_seen : store_seen watched us order (set sessions id.at n) affected
+      ≡ record (store_seen e us order sessions affected)
+      { registered = with_watchers id f (store_seen e us order sessions affected).registered }
   query_seen = ap (λ (rs : List Registered).
-      (let k : Kept = record (seen e us order sessions affected) { registered = rs } in k))
+      (let k : Kept = record (store_seen e us order sessions affected) { registered = rs } in k))
       (registered_with order w.once there)
 
 -- the engine counts fewer than may be

@@ -14,12 +14,12 @@ use Rattle.djq_engine.specs.Kept.{Kept, HeldCursor, Registered, same_id, held_at
 use Rattle.djq_engine.specs.Kept.{outdated_held, cursors_behind, Outdates}
 use Rattle.djq_engine.specs.Places.{id_at}
 use Rattle.djq_slots.specs.declared.progress.Progress.TheVariants.{Open, Stale}
-use Rattle.djq_united.specs.Slots.{Progress, slot_at, outdated_progress, outdated_slots}
-use Rattle.djq_united.specs.United.{United, IsUnited, union_of, members_in, position_of}
+use Rattle.djq_united.specs.Slots.{UnionProgress, slot_at, outdated_progress, outdated_slots}
+use Rattle.djq_united.specs.United.{United, IsUnited, union_of, members_in, union_position}
 use Rattle.djq_store.specs.declared.joined.Joined.{Joined}
 use Rattle.djq_store.specs.declared.settling.Turn.{Turn}
-use Rattle.djq_store.specs.Places.{joined_at, listed_at, held_as, held_of, cursors_in, seen}
-use Rattle.djq_store.specs.Settling.{first_read, outdated_union}
+use Rattle.djq_store.specs.Places.{joined_at, listed_at, held_union_cursor, union_cursor_of, cursors_in, store_seen}
+use Rattle.djq_store.specs.Settling.{first_read_by, outdated_union}
 use Rattle.djq_store.specs.Whole.{IsListed}
 use Rattle.djq_store.proofs.Behind.{Behind, outdater_by, first_outdates, untouched, queries_behind}
 use Rattle.djq_engine.proofs.Firsts.{find_mapped}
@@ -56,7 +56,7 @@ aged_by qs qs' (Some change) n x e =
     by None = None
     by (Some q) = change.outdater q
 
-slot_mapped : (f : Progress → Progress) (slots : List (Option Progress)) (k : ℕ)
+slot_mapped : (f : UnionProgress → UnionProgress) (slots : List (Option UnionProgress)) (k : ℕ)
     → slot_at (map (option_map f) slots) k ≡ option_map f (slot_at slots k)
 slot_mapped f [] zero = refl
 slot_mapped f [] (suc k) = refl
@@ -133,44 +133,47 @@ module _ (o : Option RowsChange) (relations : List Bytes) (turn : Turn) (e e' : 
 
   slot_cursor : (k : ℕ) (j j' : Joined) → joined_at us k ≡ Some j → IsUnited e.places j.union → (r : Option Bytes)
       → outdater_by o (union_of e.places j.union) ≡ r → j'.union ≡ outdated_union r n j.union → (id : CursorId)
-      → held_of (e'.store).texts e'.places id (Some j')
-      ≡ option_map (aged qs o n) (held_of (e.store).texts e.places id (Some j))
+      → union_cursor_of (e'.store).texts e'.places id (Some j')
+      ≡ option_map (aged qs o n) (union_cursor_of (e.store).texts e.places id (Some j))
   slot_cursor k j j' there united None out same id =
-      ap (λ (u : United). option_map (held_as (e'.store).texts e'.places u id) (slot_at u.cursors id.cursor)) same
+      ap (λ (u : United). option_map (held_union_cursor (e'.store).texts e'.places u id)
+      (slot_at u.cursors id.cursor)) same
       ∙ by (slot_at j.union.cursors id.cursor) refl
     where
-      by : (x : Option Progress) → slot_at j.union.cursors id.cursor ≡ x
-          → option_map (held_as (e'.store).texts e'.places j.union id) x
-          ≡ option_map (aged qs o n) (option_map (held_as (e.store).texts e.places j.union id) x)
+      by : (x : Option UnionProgress) → slot_at j.union.cursors id.cursor ≡ x
+          → option_map (held_union_cursor (e'.store).texts e'.places j.union id) x
+          ≡ option_map (aged qs o n) (option_map (held_union_cursor (e.store).texts e.places j.union id) x)
       by None f = refl
       by (Some p) f =
           ap (λ (pos : Position). Some (record { id = id; query = j.union.name; position = pos }))
-          (ap (λ (ts : List Bytes). position_of ts (members_in e'.places j.union) p) (sym b.did.after.over.texts)
+          (ap (λ (ts : List Bytes). union_position ts (members_in e'.places j.union) p) (sym b.did.after.over.texts)
           ∙ (b.laws.unions b.did.before.over.catalog b.did.after.over.catalog e.places e'.places j.union
           (untouched o relations turn e e' us us' b j.union united out) united).1 id.cursor p f
-          ∙ ap (λ (ts : List Bytes). position_of ts (members_in e.places j.union) p) b.did.before.over.texts)
+          ∙ ap (λ (ts : List Bytes). union_position ts (members_in e.places j.union) p) b.did.before.over.texts)
           ∙ ap (λ (x : HeldCursor). Some x) (sym (aged_union j None (union_listed k j there) out id
-          (position_of (e.store).texts (members_in e.places j.union) p)))
+          (union_position (e.store).texts (members_in e.places j.union) p)))
   slot_cursor k j j' there united (Some r) out same id =
-      ap (λ (u : United). option_map (held_as (e'.store).texts e'.places u id) (slot_at u.cursors id.cursor)) same
-      ∙ ap (option_map (held_as (e'.store).texts e'.places (outdated_union (Some r) n j.union) id))
+      ap (λ (u : United). option_map (held_union_cursor (e'.store).texts e'.places u id)
+      (slot_at u.cursors id.cursor)) same
+      ∙ ap (option_map (held_union_cursor (e'.store).texts e'.places (outdated_union (Some r) n j.union) id))
       (slot_mapped (outdated_progress r n) j.union.cursors id.cursor)
       ∙ by (slot_at j.union.cursors id.cursor)
     where
-      stands : (p : Progress) → position_of (e'.store).texts (members_in e'.places j.union) (outdated_progress r n p)
-          ≡ outdated (Some r) n (position_of (e.store).texts (members_in e.places j.union) p)
+      stands : (p : UnionProgress)
+          → union_position (e'.store).texts (members_in e'.places j.union) (outdated_progress r n p)
+          ≡ outdated (Some r) n (union_position (e.store).texts (members_in e.places j.union) p)
       stands (Open cursor ended) = refl
       stands (Stale s m) = refl
 
-      by : (x : Option Progress)
-          → option_map (held_as (e'.store).texts e'.places (outdated_union (Some r) n j.union) id)
+      by : (x : Option UnionProgress)
+          → option_map (held_union_cursor (e'.store).texts e'.places (outdated_union (Some r) n j.union) id)
           (option_map (outdated_progress r n) x)
-          ≡ option_map (aged qs o n) (option_map (held_as (e.store).texts e.places j.union id) x)
+          ≡ option_map (aged qs o n) (option_map (held_union_cursor (e.store).texts e.places j.union id) x)
       by None = refl
       by (Some p) =
           ap (λ (pos : Position). Some (record { id = id; query = j.union.name; position = pos })) (stands p)
           ∙ ap (λ (x : HeldCursor). Some x) (sym (aged_union j (Some r) (union_listed k j there) out id
-          (position_of (e.store).texts (members_in e.places j.union) p)))
+          (union_position (e.store).texts (members_in e.places j.union) p)))
 
   -- of all
 
@@ -179,16 +182,16 @@ module _ (o : Option RowsChange) (relations : List Bytes) (turn : Turn) (e e' : 
   cursor_behind id = by_case (cases_place id.query.at)
     where
       by_slot : (k : ℕ) (x : Option Joined) → joined_at us k ≡ x
-          → held_of (e'.store).texts e'.places id (joined_at us' k)
-          ≡ option_map (aged qs o n) (held_of (e.store).texts e.places id x)
+          → union_cursor_of (e'.store).texts e'.places id (joined_at us' k)
+          ≡ option_map (aged qs o n) (union_cursor_of (e.store).texts e.places id x)
       by_slot k None f =
-          ap (held_of (e'.store).texts e'.places id)
+          ap (union_cursor_of (e'.store).texts e'.places id)
           (vacant_turned e' relations n turn us us' b.long b.unions k f)
       by_slot k (Some j) f =
           let t = turned e' relations n turn us us' b.long b.unions k j f in
           let united = w.united k j f in
-          ap (held_of (e'.store).texts e'.places id) t.there
-          ∙ slot_cursor k j t.after f united (first_read e'.places relations j.union.members)
+          ap (union_cursor_of (e'.store).texts e'.places id) t.there
+          ∙ slot_cursor k j t.after f united (first_read_by e'.places relations j.union.members)
           (sym (first_outdates o relations turn e e' us us' b j.union united)) t.settles.union id
 
       by_case : (id.query.at < QUERIES) ⊎ Slot id.query.at
@@ -200,6 +203,7 @@ module _ (o : Option RowsChange) (relations : List Bytes) (turn : Turn) (e e' : 
           ∙ by_slot s.slot (joined_at us s.slot) refl
           ∙ ap (option_map (aged qs o n)) (sym (held_high e us id b.did.before s.slot s.is))
 
-  pub outdates_behind : Outdates (seen e us order sessions affected) o (seen e' us' order sessions affected')
+  pub outdates_behind : Outdates (store_seen e us order sessions affected) o
+      (store_seen e' us' order sessions affected')
   outdates_behind id =
-      cursor_behind id ∙ sym (behind_is (seen e us order sessions affected) o n id)
+      cursor_behind id ∙ sym (behind_is (store_seen e us order sessions affected) o n id)

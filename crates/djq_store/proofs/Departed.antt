@@ -8,11 +8,12 @@ use Rattle.djq_reach.specs.Places.{is_reader, AreOnce}
 use Rattle.djq_reach.proofs.Among.{apart}
 use Rattle.djq_engine.specs.declared.cursor.QueryId.{QueryId}
 use Rattle.djq_engine.specs.Kept.{same_query}
-use Rattle.djq_engine.specs.Places.{id_at, left}
+use Rattle.djq_engine.specs.Places.{id_at, places_without}
 use Rattle.djq_engine.proofs.Listing.{reader_filter, all_but, here, behind}
 
 -- what is left was there, and is another place
-pub left_in : (at : ℕ) (xs : List ℕ) (i : ℕ) → is_reader (left at xs) i ≡ true → (is_reader xs i ≡ true) × (i ≡ at → ⊥)
+pub left_in : (at : ℕ) (xs : List ℕ) (i : ℕ) → is_reader (places_without at xs) i ≡ true → (is_reader xs i ≡ true)
+    × (i ≡ at → ⊥)
 left_in at xs i h = split (is_reader xs i) (i == at) refl (sym (reader_filter (λ j. not (j == at)) xs i) ∙ h)
   where
     split : (b c : Bool) → (i == at) ≡ c → (b && not c) ≡ true → (b ≡ true) × (i ≡ at → ⊥)
@@ -20,7 +21,7 @@ left_in at xs i h = split (is_reader xs i) (i == at) refl (sym (reader_filter (�
     split true false f e = (refl, λ same. false≢true (sym f ∙ eq-eqb i at same))
     split false c f e = absurd cc
 
-pub left_other : (at : ℕ) (xs : List ℕ) (i : ℕ) → (i ≡ at → ⊥) → is_reader (left at xs) i ≡ is_reader xs i
+pub left_other : (at : ℕ) (xs : List ℕ) (i : ℕ) → (i ≡ at → ⊥) → is_reader (places_without at xs) i ≡ is_reader xs i
 left_other at xs i d = reader_filter (λ j. not (j == at)) xs i ∙ ap (λ c. is_reader xs i && not c) (apart i at d)
     ∙ and_true (is_reader xs i)
   where
@@ -28,7 +29,7 @@ left_other at xs i d = reader_filter (λ j. not (j == at)) xs i ∙ ap (λ c. is
     and_true true = refl
     and_true false = refl
 
-pub left_here : (at : ℕ) (xs : List ℕ) → is_reader (left at xs) at ≡ false
+pub left_here : (at : ℕ) (xs : List ℕ) → is_reader (places_without at xs) at ≡ false
 left_here at xs = reader_filter (λ j. not (j == at)) xs at ∙ ap (λ c. is_reader xs at && not c) (eq-eqb at at refl)
     ∙ and_false (is_reader xs at)
   where
@@ -36,13 +37,14 @@ left_here at xs = reader_filter (λ j. not (j == at)) xs at ∙ ap (λ c. is_rea
     and_false true = refl
     and_false false = refl
 
-pub left_shorter : (at : ℕ) (xs : List ℕ) → AreOnce xs → is_reader xs at ≡ true → length (left at xs) + 1 ≡ length xs
+pub left_shorter : (at : ℕ) (xs : List ℕ) → AreOnce xs → is_reader xs at ≡ true
+    → length (places_without at xs) + 1 ≡ length xs
 left_shorter at [] once there = absurd cc
 left_shorter at (x ∷ xs) once there = step (x == at) refl there (left_shorter at xs once.1)
   where
     step : (c : Bool) → (x == at) ≡ c → (c || is_reader xs at) ≡ true
-        → (is_reader xs at ≡ true → length (left at xs) + 1 ≡ length xs)
-        → length (cond (not c) (x ∷ left at xs) (left at xs)) + 1 ≡ suc (length xs)
+        → (is_reader xs at ≡ true → length (places_without at xs) + 1 ≡ length xs)
+        → length (cond (not c) (x ∷ places_without at xs) (places_without at xs)) + 1 ≡ suc (length xs)
     step true e h more =
         let gone = all_but xs at (ap (is_reader xs) (sym (eqb-true x at e)) ∙ once.0) in
         let same = ap (λ (ys : List ℕ). length ys) gone in omega (arith, same)
@@ -51,20 +53,20 @@ left_shorter at (x ∷ xs) once there = step (x == at) refl there (left_shorter 
 -- what is made of what is left, where a test tells the place
 pub map_left : {A : Type 0} (f : ℕ → A) (p : A → Bool) (at : ℕ) (xs : List ℕ)
     → ((i : ℕ) → is_reader xs i ≡ true → p (f i) ≡ (i == at))
-    → filter (λ x. not (p x)) (map f xs) ≡ map f (left at xs)
+    → filter (λ x. not (p x)) (map f xs) ≡ map f (places_without at xs)
 map_left f p at [] h = refl
 map_left f p at (x ∷ xs) h = step (p (f x)) (x == at) (h x (here x xs))
     (map_left f p at xs (λ i there. h i (behind x xs i there)))
   where
-    step : (b c : Bool) → b ≡ c → filter (λ x. not (p x)) (map f xs) ≡ map f (left at xs)
+    step : (b c : Bool) → b ≡ c → filter (λ x. not (p x)) (map f xs) ≡ map f (places_without at xs)
         → cond (not b) (f x ∷ filter (λ x. not (p x)) (map f xs)) (filter (λ x. not (p x)) (map f xs))
-        ≡ map f (cond (not c) (x ∷ left at xs) (left at xs))
+        ≡ map f (cond (not c) (x ∷ places_without at xs) (places_without at xs))
     step true true e more = more
     step false false e more = ap (λ l. f x ∷ l) more
     step true false e more = absurd cc
     step false true e more = absurd cc
 
-pub ids_left : (at : ℕ) (xs : List ℕ) → map id_at (left at xs)
+pub ids_left : (at : ℕ) (xs : List ℕ) → map id_at (places_without at xs)
     ≡ filter (λ (id : QueryId). not (same_query id (id_at at))) (map id_at xs)
 ids_left at xs = sym (map_left id_at (λ (id : QueryId). same_query id (id_at at)) at xs (λ i there. refl))
 

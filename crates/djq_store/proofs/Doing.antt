@@ -27,13 +27,14 @@ use Rattle.djq_store.specs.declared.joined.Joined.{Joined}
 use Rattle.djq_store.specs.declared.parts.Parts.{Parts}
 use Rattle.djq_store.specs.declared.settling.Turn.{Turn}
 use Rattle.djq_store.specs.declared.settling.Turn.TheVariants.{Came, Went, Lacked}
-use Rattle.djq_store.specs.Affecting.{is_reached, is_member_reached, is_affected}
+use Rattle.djq_store.specs.Affecting.{is_reached_id, is_member_reached, is_affected}
 use Rattle.djq_store.specs.Below.{IsEngine, StayingLaws}
-use Rattle.djq_store.specs.Following.{AffectsAll, FollowsAffected, Follows, FollowsBy, following_steps}
-use Rattle.djq_store.specs.Places.{joined_at, listed_at, registered_as, sessions_at, union_watchers, seen, kept_in}
+use Rattle.djq_store.specs.Following.{AffectsAll, FollowsAffected, UnionsFollow, FollowsBy, following_steps}
+use Rattle.djq_store.specs.Places.{joined_at, listed_at, registered_as, sessions_at, union_watchers, store_seen}
+use Rattle.djq_store.specs.Places.{store_kept_in}
 use Rattle.djq_store.specs.Settling.{SettlesAt, AreUnionsUnwatched}
 use Rattle.djq_store.specs.Watching.{TellsChange}
-use Rattle.djq_store.specs.Whole.{IsListed, IsCounted, IsRoomy, IsWhole, wants}
+use Rattle.djq_store.specs.Whole.{IsListed, IsCounted, IsRoomy, StoreIsWhole, wants}
 use Rattle.djq_store.proofs.Accepted.{GoRows}
 use Rattle.djq_store.proofs.Affected.{affected_order, affected_queries}
 use Rattle.djq_store.proofs.Alike.{SameUnion, SameIn, SameUnions}
@@ -88,11 +89,11 @@ over p e' = record p { engine = e' }
 
 -- What it comes to.
 pub record Comes (p p' : Parts) (e' : Kept) (outcome : RowsOutcome) (before last : ℕ) : Type 0 where
-  pub whole : IsWhole p'
-  pub outdates : Outdates (kept_in p) (tried outcome) (kept_in p')
-  pub registered : (kept_in p').registered ≡ (kept_in p).registered
-  pub store : (kept_in p').store ≡ with_queries (kept_in p).store.queries e'.store
-  pub tells : TellsChange (kept_in p) outcome (kept_in p') before last
+  pub whole : StoreIsWhole p'
+  pub outdates : Outdates (store_kept_in p) (tried outcome) (store_kept_in p')
+  pub registered : (store_kept_in p').registered ≡ (store_kept_in p).registered
+  pub store : (store_kept_in p').store ≡ with_queries (store_kept_in p).store.queries e'.store
+  pub tells : TellsChange (store_kept_in p) outcome (store_kept_in p') before last
 
 -- ---- the affected
 
@@ -128,16 +129,17 @@ unsettled e n turn (Some j) = record {
 
 module _ (p p' : Parts) (e' : Kept) (engine : p'.engine ≡ e') (order : p'.order ≡ p.order)
     (sessions : p'.sessions ≡ p.sessions) where
-  seen_now : kept_in p' ≡ seen e' p'.unions.items p.order.items p.sessions.items p'.affected.items
+  seen_now : store_kept_in p' ≡ store_seen e' p'.unions.items p.order.items p.sessions.items p'.affected.items
   seen_now =
-      ap (λ (x : Kept). seen x p'.unions.items p'.order.items p'.sessions.items p'.affected.items) engine
-      ∙ ap (λ v. seen e' p'.unions.items v.items p'.sessions.items p'.affected.items) order
-      ∙ ap (λ v. seen e' p'.unions.items p.order.items v.items p'.affected.items) sessions
+      ap (λ (x : Kept). store_seen x p'.unions.items p'.order.items p'.sessions.items p'.affected.items) engine
+      ∙ ap (λ v. store_seen e' p'.unions.items v.items p'.sessions.items p'.affected.items) order
+      ∙ ap (λ v. store_seen e' p'.unions.items p.order.items v.items p'.affected.items) sessions
 
   comes : (o : Option RowsChange) (outcome : RowsOutcome) → tried outcome ≡ o → (relations : List Bytes) (turn : Turn)
-      → Behind o relations turn p.engine e' p.unions.items p'.unions.items → IsWhole p
+      → Behind o relations turn p.engine e' p.unions.items p'.unions.items → StoreIsWhole p
       → vec_capacity p.affected ≤ vec_capacity p'.affected → (before last : ℕ)
-      → TellsChange (kept_in p) outcome (seen e' p'.unions.items p.order.items p.sessions.items p'.affected.items)
+      → TellsChange (store_kept_in p) outcome
+      (store_seen e' p'.unions.items p.order.items p.sessions.items p'.affected.items)
       before last
       → Comes p p' e' outcome before last
   comes o outcome tries relations turn b w room before last tells = record {
@@ -154,8 +156,8 @@ module _ (p p' : Parts) (e' : Kept) (engine : p'.engine ≡ e') (order : p'.orde
         affected = let a = w.roomy.affected in omega (arith, a, room);
       };
     };
-    outdates = subst (λ (x : Option RowsChange). Outdates (kept_in p) x (kept_in p')) (sym tries)
-        (subst (λ (k : Kept). Outdates (kept_in p) o k) (sym seen_now)
+    outdates = subst (λ (x : Option RowsChange). Outdates (store_kept_in p) x (store_kept_in p')) (sym tries)
+        (subst (λ (k : Kept). Outdates (store_kept_in p) o k) (sym seen_now)
         (outdates_behind o relations turn p.engine e' p.unions.items p'.unions.items b p.order.items w.listed
         p.sessions.items p.affected.items p'.affected.items));
     registered = ap (λ (k : Kept). k.registered) seen_now
@@ -164,14 +166,14 @@ module _ (p p' : Parts) (e' : Kept) (engine : p'.engine ≡ e') (order : p'.orde
     store = ap (λ (k : Kept). k.store) seen_now
         ∙ ap (λ (qs : List Listed). with_queries qs e'.store)
         (queries_behind o relations turn p.engine e' p.unions.items p'.unions.items b p.order.items w.listed);
-    tells = subst (λ (k : Kept). TellsChange (kept_in p) outcome k before last) (sym seen_now) tells;
+    tells = subst (λ (k : Kept). TellsChange (store_kept_in p) outcome k before last) (sym seen_now) tells;
   }
 
 -- ---- by what came of it
 
 pub comes_to : (outcome : RowsOutcome) (p p' : Parts) (e' : Kept) (came : Bool) (relations : List Bytes)
-    (before mid last : ℕ) → IsWhole p → StayingLaws → Did p.engine (tried outcome) e'
-    → watching.TellsChange p.engine outcome e' before mid → IsKnown p.engine e' came relations outcome
+    (before mid last : ℕ) → StoreIsWhole p → StayingLaws → Did p.engine (tried outcome) e'
+    → watching.EngineTellsChange p.engine outcome e' before mid → IsKnown p.engine e' came relations outcome
     → FollowsBy (turn_by came outcome) relations (over p e') p'
     → last ≤ mid + following_steps (turn_by came outcome) e' relations p.unions.items
     → Comes p p' e' outcome before last
@@ -197,9 +199,9 @@ comes_to (accepted change) p p' e' came relations before mid last w laws did tel
         p.order.items
     by b (inl items) =
         items
-        ∙ filter_same (is_affected (is_reached e'.affected) p'.unions.items)
-        (is_affected (is_reached e'.affected) p.unions.items)
-        p.order.items (λ at k. affected_alike (is_reached e'.affected) p.unions.items p'.unions.items
+        ∙ filter_same (is_affected (is_reached_id e'.affected) p'.unions.items)
+        (is_affected (is_reached_id e'.affected) p.unions.items)
+        p.order.items (λ at k. affected_alike (is_reached_id e'.affected) p.unions.items p'.unions.items
         (same (Some change) relations (turn_for came) p.engine e' p.unions.items p'.unions.items b) at)
         ∙ affected_order change relations (turn_for came) p.engine e' p.unions.items p'.unions.items b p.order.items
         w.listed tells.affected
@@ -237,14 +239,14 @@ comes_to unchanged p p' e' came relations before mid last w laws did tells known
 
 -- ---- what nobody watches
 
-module _ (p : Parts) (b : IsEngine p.engine) (w : IsWhole p) (none : IsUnwatched (kept_in p)) where
+module _ (p : Parts) (b : IsEngine p.engine) (w : StoreIsWhole p) (none : IsUnwatched (store_kept_in p)) where
   zero_of : (n : ℕ) → nat_lt 0 n ≡ false → n ≡ 0
   zero_of zero e = refl
   zero_of (suc n) e = absurd (false≢true (sym e ∙ lt-ltb 0 (suc n) (omega arith)))
 
   idle : (at : ℕ) → is_reader p.order.items at ≡ true → sessions_at p.unions.items p.sessions.items at ≡ 0
   idle at there = zero_of (sessions_at p.unions.items p.sessions.items at)
-      (All-contains (λ (r : Registered). is_watched r ≡ false) (kept_in p).registered
+      (All-contains (λ (r : Registered). is_watched r ≡ false) (store_kept_in p).registered
       (registered_as p.engine.places p.unions.items p.sessions.items at) none
       (seen_there p.engine b p.unions.items p.order.items w.listed p.sessions.items at there))
 
@@ -296,7 +298,7 @@ affected_low e e' b change is =
     b.placed was.0) in
     subst (λ (i : QueryId). i.at < QUERIES) r.2 (omega (arith, place_below e.places r.0.id.at t.0 t.1, b.few))))
 
-pub affected_few : (p : Parts) (e' : Kept) → IsWhole p → (change : RowsChange)
+pub affected_few : (p : Parts) (e' : Kept) → StoreIsWhole p → (change : RowsChange)
     → e'.affected ≡ map (λ (r : Registered). r.id) (readers_of p.engine.registered change)
     → length e'.affected ≤ vec_capacity p.affected
 affected_few p e' w change is =
@@ -308,11 +310,12 @@ affected_few p e' w change is =
     let room = w.roomy.affected in
     omega (arith, mapped, kept, same_length, slots, few, room)
 
-pub order_few : (p : Parts) → IsWhole p → length p.order.items ≤ vec_capacity p.affected
+pub order_few : (p : Parts) → StoreIsWhole p → length p.order.items ≤ vec_capacity p.affected
 order_few p w = let few = w.listed.few in let room = w.roomy.affected in omega (arith, few, room)
 
 -- members stay members
-pub members_behind : (p : Parts) (e' : Kept) → IsWhole p → StayingLaws → (o : Option RowsChange) → Did p.engine o e'
+pub members_behind : (p : Parts) (e' : Kept) → StoreIsWhole p → StayingLaws → (o : Option RowsChange)
+    → Did p.engine o e'
     → (k : ℕ) (j : Joined) → joined_at p.unions.items k ≡ Some j → AreMembers e'.places j.union.members
 members_behind p e' w laws o did k j there =
     (laws.members p.engine.places e'.places j.union

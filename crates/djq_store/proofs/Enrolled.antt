@@ -18,12 +18,13 @@ use Rattle.djq_live.specs.Member.{query_at}
 use Rattle.djq_reach.specs.Places.{is_reader}
 use Rattle.djq_reach.proofs.Among.{apart, reader_more}
 use Rattle.djq_engine.specs.declared.cursor.QueryId.{QueryId}
-use Rattle.djq_engine.specs.Kept.{Kept, Registered, TellsOf, registered_at, registered_of, same_query, told_at}
+use Rattle.djq_engine.specs.Kept.{Kept, Registered, TellsOfQuery, registered_at, registered_of, same_query, told_at}
 use Rattle.djq_engine.specs.Places.{id_at}
 use Rattle.djq_engine.proofs.Listing.{once_push, map_members}
 use Rattle.djq_united.specs.United.{IsUnited}
 use Rattle.djq_store.specs.declared.joined.Joined.{Joined}
-use Rattle.djq_store.specs.Places.{joined_at, listed_at, union_watchers, sessions_at, registered_as, told_in, seen}
+use Rattle.djq_store.specs.Places.{joined_at, listed_at, union_watchers, sessions_at, registered_as, told_of_union}
+use Rattle.djq_store.specs.Places.{store_seen}
 use Rattle.djq_store.specs.Whole.{IsListed, IsCounted, wants}
 use Rattle.djq_engine.proofs.Firsts.{find_mapped}
 use Rattle.djq_store.proofs.Members.{log_stays}
@@ -84,12 +85,13 @@ wants_none e us at vacant united = count_none (wants at) us (λ k low. by_slot k
 -- what the log of a union tells is the same
 pub log_same : (e e' : Kept) (r : Rests e e') (us : List (Option Joined)) (order sessions affected : List ℕ)
     (w : IsListed e us order) (k : ℕ)
-    → told_in (e'.store).texts e'.places (joined_at us k) ≡ told_in (e.store).texts e.places (joined_at us k)
+    → told_of_union (e'.store).texts e'.places (joined_at us k)
+    ≡ told_of_union (e.store).texts e.places (joined_at us k)
 log_same e e' r us order sessions affected w k =
-    sym (mapped_at (told_in (e'.store).texts e'.places) us k refl)
+    sym (mapped_at (told_of_union (e'.store).texts e'.places) us k refl)
     ∙ ap (λ xs. get_or xs k None)
     (logs_stay e e' r.before (grows e e' r us order sessions affected w) r.laws.members us order w r.laws.showable)
-    ∙ mapped_at (told_in (e.store).texts e.places) us k refl
+    ∙ mapped_at (told_of_union (e.store).texts e.places) us k refl
 
 module _ (e e' : Kept) (r : Rests e e') (us : List (Option Joined)) (order sessions affected : List ℕ)
     (w : IsListed e us order) (q : Query) (at : ℕ)
@@ -237,14 +239,14 @@ module _ (e e' : Kept) (r : Rests e e') (us : List (Option Joined)) (order sessi
 
       -- what is told
       pub enrolled_tells : length order < QUERIES → length sessions ≡ QUERIES
-          → IsSomeAnd (registered_of e'.registered q.name) (λ (x : Registered). TellsOf e x.id (Some []) e')
-          → IsSomeAnd (registered_of (seen e' us order' sessions' affected).registered q.name)
-          (λ (x : Registered). TellsOf (seen e us order sessions affected) x.id (Some [])
-          (seen e' us order' sessions' affected))
+          → IsSomeAnd (registered_of e'.registered q.name) (λ (x : Registered). TellsOfQuery e x.id (Some []) e')
+          → IsSomeAnd (registered_of (store_seen e' us order' sessions' affected).registered q.name)
+          (λ (x : Registered). TellsOfQuery (store_seen e us order sessions affected) x.id (Some [])
+          (store_seen e' us order' sessions' affected))
       enrolled_tells less long tells =
           subst (λ (o : Option Registered). IsSomeAnd o
-          (λ (x : Registered). TellsOf (seen e us order sessions affected) x.id (Some [])
-          (seen e' us order' sessions' affected)))
+          (λ (x : Registered). TellsOfQuery (store_seen e us order sessions affected) x.id (Some [])
+          (store_seen e' us order' sessions' affected)))
           (sym by_name) (record
           { here = told_low e' r.after us order' sessions' affected (id_at at) low ∙ told.here; others = others })
         where
@@ -259,22 +261,23 @@ module _ (e e' : Kept) (r : Rests e e') (us : List (Option Joined)) (order sessi
               or_true true = refl
               or_true false = refl
 
-          by_name : registered_of (seen e' us order' sessions' affected).registered q.name
+          by_name : registered_of (store_seen e' us order' sessions' affected).registered q.name
               ≡ Some (registered_as e'.places us sessions' at)
           by_name = registered_by_name e' r.after us order' w' sessions' q.name
               ∙ ap (option_map (registered_as e'.places us sessions'))
               (named_here e' r.after us order' w' q.name at at_end name_here)
 
-          told : TellsOf e (id_at at) (Some []) e'
-          told = subst (λ (o : Option Registered). IsSomeAnd o (λ (x : Registered). TellsOf e x.id (Some []) e'))
+          told : TellsOfQuery e (id_at at) (Some []) e'
+          told = subst (λ (o : Option Registered). IsSomeAnd o (λ (x : Registered). TellsOfQuery e x.id (Some []) e'))
               (in_engine unknown) tells
 
-          others : (id : QueryId) → same_query id (id_at at) ≡ false → told_at (seen e' us order' sessions' affected) id
-              ≡ told_at (seen e us order sessions affected) id
+          others : (id : QueryId) → same_query id (id_at at) ≡ false
+              → told_at (store_seen e' us order' sessions' affected) id
+              ≡ told_at (store_seen e us order sessions affected) id
           others id differs = by_case (cases_place id.at)
             where
-              by_case : (id.at < QUERIES) ⊎ Slot id.at → told_at (seen e' us order' sessions' affected) id
-                  ≡ told_at (seen e us order sessions affected) id
+              by_case : (id.at < QUERIES) ⊎ Slot id.at → told_at (store_seen e' us order' sessions' affected) id
+                  ≡ told_at (store_seen e us order sessions affected) id
               by_case (inl l) = told_low e' r.after us order' sessions' affected id l ∙ told.others id differs
                   ∙ sym (told_low e r.before us order sessions affected id l)
               by_case (inr s) =

@@ -9,7 +9,7 @@ use Rattle.djq_engine.specs.Kept.{Kept, Registered, registered_at}
 use Rattle.djq_store.specs.declared.joined.Joined.{Joined}
 use Rattle.djq_store.specs.declared.parts.Parts.{Parts}
 use Rattle.djq_store.specs.Places.{joined_at, union_watchers, sessions_at}
-use Rattle.djq_store.specs.Whole.{IsListed, IsCounted, IsRoomy, IsWhole}
+use Rattle.djq_store.specs.Whole.{IsListed, IsCounted, IsRoomy, StoreIsWhole}
 use Rattle.djq_store.proofs.Seats.{low_place, high_place, Slot, cases_place}
 
 -- no slot has a union
@@ -67,7 +67,7 @@ module _ (e : Kept) (none : e.registered ≡ []) where
 -- what a fresh store keeps is whole
 pub fresh_whole : (p : Parts) → p.engine.registered ≡ [] → p.unions.items ≡ [] → p.order.items ≡ [] → p.sessions.items
     ≡ unwatched QUERIES → QUERIES ≤ vec_capacity p.order
-    → QUERIES ≤ vec_capacity p.affected → IsWhole p
+    → QUERIES ≤ vec_capacity p.affected → StoreIsWhole p
 fresh_whole p none unions order sessions room affected = record {
   listed =
       subst (λ (us : List (Option Joined)). IsListed p.engine us p.order.items) (sym unions)

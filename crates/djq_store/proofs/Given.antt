@@ -25,9 +25,9 @@ use Rattle.djq_united.specs.Staying.{MembersStay, UnionsStay}
 use Rattle.djq_store.specs.declared.joined.Joined.{Joined}
 use Rattle.djq_store.specs.declared.parts.Parts.{Parts}
 use Rattle.djq_store.specs.Below.{IsEngine, StayingLaws}
-use Rattle.djq_store.specs.Places.{in_places, listed_at, lender_in, seen}
+use Rattle.djq_store.specs.Places.{in_places, listed_at, lender_in, store_seen}
 use Rattle.djq_store.specs.Reading as store
-use Rattle.djq_store.specs.Whole.{IsListed, IsWhole}
+use Rattle.djq_store.specs.Whole.{IsListed, StoreIsWhole}
 use Rattle.djq_store.proofs.Held.{held_low}
 use Rattle.djq_store.proofs.Ordered.{NoUnion, Seat, engine_listed, seat, seat_no_union, seat_order}
 use Rattle.djq_store.proofs.Ordered.{joint_order, listed_seat, listed_joint}
@@ -52,10 +52,10 @@ held_seat e b id h there = seat e b id.query.at
 module _ (e e' : Kept) (r : Rests e e') (us : List (Option Joined)) (order sessions affected : List ℕ)
     (w : IsListed e us order) where
   abbrev old : Kept
-  old = seen e us order sessions affected
+  old = store_seen e us order sessions affected
 
   abbrev new : Kept
-  new = seen e' us order sessions affected
+  new = store_seen e' us order sessions affected
 
   -- ---- a cursor is opened
 
@@ -71,15 +71,16 @@ module _ (e e' : Kept) (r : Rests e e') (us : List (Option Joined)) (order sessi
         tellings = tellings_over e e' r us order sessions affected w o.tellings;
       }
 
-  pub open_over : (name : Bytes) (result : Result CursorId Refusal) → NoUnion us name → kept.OpenGives e name result e'
-      → kept.OpenGives old name result new
+  pub open_over : (name : Bytes) (result : Result CursorId Refusal) → NoUnion us name
+      → kept.CursorOpenGives e name result e'
+      → kept.CursorOpenGives old name result new
   open_over name result none o = record {
     answer = answers_as (first_refusal ((is_none (listed_of (e.store).queries name), NoQuery) ∷ []))
         (first_refusal ((is_none (listed_of old.store.queries name), NoQuery) ∷ [])) result
         (λ id. kept.OpensCursor e name id e') (λ id. kept.OpensCursor old name id new) ⊤ ⊤
         (ap (λ o. first_refusal ((is_none o, NoQuery) ∷ [])) (engine_listed e r.before us order w name none))
         (opens name) (λ h. h) o.answer;
-    stays = λ x f. ap (λ (x : Kept). seen x us order sessions affected) (o.stays x f);
+    stays = λ x f. ap (λ (x : Kept). store_seen x us order sessions affected) (o.stays x f);
   }
 
   -- ---- a cursor of a query is read
@@ -110,7 +111,7 @@ module _ (e e' : Kept) (r : Rests e e') (us : List (Option Joined)) (order sessi
 
   gives_at : (h : HeldCursor) (q : Listed) (position : Position) (result : Next) (answer : List ℕ)
       → h.id.query.at < QUERIES
-      → kept.NextGivesAt e h q position result answer e' → store.NextGivesAt old h q position result answer new
+      → kept.EngineNextGivesAt e h q position result answer e' → store.NextGivesAt old h q position result answer new
   gives_at h q (open_at given ended) Given answer low g = (
     g.0,
     g.1,
@@ -121,7 +122,7 @@ module _ (e e' : Kept) (r : Rests e e') (us : List (Option Joined)) (order sessi
   gives_at h q (open_at given ended) End answer low g = (g.0, moves h (open_at given true) low g.1)
   gives_at h q (open_at given ended) (Stale relation n) answer low g = g
   gives_at h q (stale s m) (Stale relation n) answer low g =
-      (g.0, g.1, ap (λ (x : Kept). seen x us order sessions affected) g.2)
+      (g.0, g.1, ap (λ (x : Kept). store_seen x us order sessions affected) g.2)
   gives_at h q (stale s m) Given answer low g = g
   gives_at h q (stale s m) End answer low g = g
 
@@ -157,14 +158,17 @@ module _ (e e' : Kept) (r : Rests e e') (us : List (Option Joined)) (order sessi
             → IsSomeAnd o (λ r. h.query ≡ listed_name r.query) → h.query ≡ listed_name x.query
         over_name o h x e g = subst (λ (o : Option Registered). IsSomeAnd o (λ r. h.query ≡ listed_name r.query)) e g
 
-    pub next_over : (result : Next) (answer : List ℕ) (before now : ℕ) → kept.NextGives e id result answer e' before now
+    pub next_over : (result : Next) (answer : List ℕ) (before now : ℕ)
+        → kept.EngineNextGives e id result answer e' before now
         → store.NextGives old id result answer new before now
     next_over result answer before now g =
         let t = some_there (held_at e.cursors id)
         (λ h. IsSomeAnd (listed_of (e.store).queries h.query)
-        (λ q. kept.NextGivesAt e h q h.position result answer e' × (now ≤ before + read_steps result q))) g.gives in
+        (λ q. kept.EngineNextGivesAt e h q h.position result answer e'
+        × (now ≤ before + read_steps result q))) g.gives in
         let u = some_there (listed_of (e.store).queries t.0.query)
-        (λ q. kept.NextGivesAt e t.0 q t.0.position result answer e' × (now ≤ before + read_steps result q)) t.2 in
+        (λ q. kept.EngineNextGivesAt e t.0 q t.0.position result answer e'
+        × (now ≤ before + read_steps result q)) t.2 in
         let s = same_cursor t.0 u.0 t.1 u.1 in
         let low' : t.0.id.query.at < QUERIES = subst (λ (c : CursorId). c.query.at < QUERIES) (sym s.id_is) low in
         record {
@@ -208,8 +212,8 @@ module _ (e e' : Kept) (r : Rests e e') (us : List (Option Joined)) (order sessi
     }
 
 -- the store stays whole
-pub whole_over : (p : Parts) (e' : Kept) → Rests p.engine e' → e'.registered ≡ p.engine.registered → IsWhole p
-    → IsWhole (record p { engine = e' })
+pub whole_over : (p : Parts) (e' : Kept) → Rests p.engine e' → e'.registered ≡ p.engine.registered → StoreIsWhole p
+    → StoreIsWhole (record p { engine = e' })
 whole_over p e' r same w = record {
   listed = listed_over p.engine e' r p.unions.items p.order.items p.sessions.items p.affected.items w.listed same;
   counted = counts_stay p.engine e' p.unions.items p.sessions.items same w.counted;
@@ -220,7 +224,7 @@ whole_over p e' r same w = record {
 
 module _ (e e' : Kept) (b : IsEngine e) (b' : IsEngine e') (laws : StayingLaws) (k : KeepsTables e e') where
   -- a call that opens a cursor, or finds no memory for it
-  opened_same : (name : Bytes) (result : Result CursorId Refusal) → kept.OpenGives e name result e'
+  opened_same : (name : Bytes) (result : Result CursorId Refusal) → kept.CursorOpenGives e name result e'
       → (e'.store ≡ e.store) × (e'.registered ≡ e.registered)
   opened_same name (Ok id) o = let d =
       (done_of (first_refusal ((is_none (listed_of (e.store).queries name), NoQuery) ∷ [])) id
@@ -228,12 +232,13 @@ module _ (e e' : Kept) (b : IsEngine e) (b' : IsEngine e') (laws : StayingLaws) 
   opened_same name (Err x) o =
       (ap (λ (k : Kept). k.store) (o.stays x refl), ap (λ (k : Kept). k.registered) (o.stays x refl))
 
-  pub opened_rests : (name : Bytes) (result : Result CursorId Refusal) → kept.OpenGives e name result e' → Rests e e'
+  pub opened_rests : (name : Bytes) (result : Result CursorId Refusal)
+      → kept.CursorOpenGives e name result e' → Rests e e'
   opened_rests name result o = rests_with e e' b b' laws k (opened_same name result o).0
 
 pub whole_opened : (p : Parts) (e' : Kept) → IsEngine p.engine → IsEngine e' → StayingLaws → KeepsTables p.engine e'
     → (name : Bytes) (result : Result CursorId Refusal)
-    → kept.OpenGives p.engine name result e' → IsWhole p → IsWhole (record p { engine = e' })
+    → kept.CursorOpenGives p.engine name result e' → StoreIsWhole p → StoreIsWhole (record p { engine = e' })
 whole_opened p e' b b' laws k name result o w =
     whole_over p e' (opened_rests p.engine e' b b' laws k name result o)
     (opened_same p.engine e' b b' laws k name result o).1 w
@@ -252,7 +257,7 @@ module _ (e e' : Kept) (id : CursorId) where
   itself same = (ap (λ (k : Kept). k.store) same, ap (λ (k : Kept). k.registered) same)
 
   next_at_same : (h : HeldCursor) (q : Listed) (position : Position) (result : Next) (answer : List ℕ)
-      → kept.NextGivesAt e h q position result answer e' → (e'.store ≡ e.store) × (e'.registered ≡ e.registered)
+      → kept.EngineNextGivesAt e h q position result answer e' → (e'.store ≡ e.store) × (e'.registered ≡ e.registered)
   next_at_same h q (open_at given ended) Given answer g = moved_same h (open_at (given ++ g.0 ∷ []) false) g.4
   next_at_same h q (open_at given ended) End answer g = moved_same h (open_at given true) g.1
   next_at_same h q (open_at given ended) (Stale relation n) answer g = absurd g
@@ -266,14 +271,15 @@ module _ (e e' : Kept) (id : CursorId) where
   more_at_same h q (open_at given ended) false g = moved_same h (open_at given true) g.1
   more_at_same h q (stale s m) more g = absurd g
 
-  pub next_same : (result : Next) (answer : List ℕ) (before now : ℕ) → kept.NextGives e id result answer e' before now
+  pub next_same : (result : Next) (answer : List ℕ) (before now : ℕ)
+      → kept.EngineNextGives e id result answer e' before now
       → (e'.store ≡ e.store) × (e'.registered ≡ e.registered)
   next_same result answer before now g =
       let t = some_there (held_at e.cursors id)
       (λ h. IsSomeAnd (listed_of (e.store).queries h.query)
-      (λ q. kept.NextGivesAt e h q h.position result answer e' × (now ≤ before + read_steps result q))) g.gives in
+      (λ q. kept.EngineNextGivesAt e h q h.position result answer e' × (now ≤ before + read_steps result q))) g.gives in
       let u = some_there (listed_of (e.store).queries t.0.query)
-      (λ q. kept.NextGivesAt e t.0 q t.0.position result answer e' × (now ≤ before + read_steps result q)) t.2 in
+      (λ q. kept.EngineNextGivesAt e t.0 q t.0.position result answer e' × (now ≤ before + read_steps result q)) t.2 in
       next_at_same t.0 u.0 t.0.position result answer u.2.0
 
   pub more_same : (result : Bool) (before now : ℕ) → kept.MoreGives e id result e' before now → (e'.store ≡ e.store)

@@ -18,16 +18,16 @@ use Rattle.djq_machine.specs.Store.{Tells, TellsWhether, answer_types, atoms_of,
 use Rattle.djq_live.specs.Live.{Live}
 use Rattle.djq_live.specs.Member.{HaveQueries, HeadTypesAre, head_types, query_at, queries_at}
 use Rattle.djq_live.proofs.AtPlaces.{nth_is}
-use Rattle.djq_engine.specs.Kept.{Kept, Registered, IsOver, registered_at, registered_of}
+use Rattle.djq_engine.specs.Kept.{Kept, Registered, PlacesAreKept, registered_at, registered_of}
 use Rattle.djq_engine.specs.Places.{id_at}
 use Rattle.djq_engine.proofs.Conditions.{answers_done, done_of}
 use Rattle.djq_united.specs.United.{AreMembers, union_of}
 use Rattle.djq_deltas.proofs.Lists.{nothing_there, first_or_later, mapped_there, one_there, some_one}
 use Rattle.djq_gains.proofs.Members.{got, member_at}
 use Rattle.djq_store.specs.declared.joined.Joined.{Joined}
-use Rattle.djq_store.specs.Asking.{TellsOf, asked_in}
+use Rattle.djq_store.specs.Asking.{TellsMembership, asked_in}
 use Rattle.djq_store.specs.Below.{IsEngine}
-use Rattle.djq_store.specs.Places.{seen}
+use Rattle.djq_store.specs.Places.{store_seen}
 use Rattle.djq_store.specs.Whole.{IsListed}
 use Rattle.djq_store.proofs.Answering.{called_listed}
 use Rattle.djq_store.proofs.Found.{found_all}
@@ -93,7 +93,7 @@ module _ (e : Kept) (b : IsEngine e) (at : ℕ) where
         ap (listed_of (e.store).queries) called ∙ seat_listed s ∙ ap (λ (m : Live). Some (a_query m.query)) is
 
     pub told_there : (t : Tuple) (result : Result Bool Refusal) → TellsWhether e.store name t result
-        → TellsOf (e.store).relations (a_query l.query) t result
+        → TellsMembership (e.store).relations (a_query l.query) t result
     told_there t result told = subst (Told (e.store).relations t result) seat_listed_as told.answer
 
     pub steps_there : has_steps (listed_of (e.store).queries name) ≡ length l.query.atoms
@@ -193,7 +193,8 @@ refused_as o o' r D D' L e h = subst (λ (p : Option Refusal). Answers p (Err r)
     by None h = h
     by (Some s) h = h
 
-module _ (e : Kept) (over : IsOver e) (law : HeadTypesAre) (ks : List ℕ) (m : AreMembers e.places ks) (name : Bytes)
+module _ (e : Kept) (over : PlacesAreKept e) (law : HeadTypesAre) (ks : List ℕ) (m : AreMembers e.places ks)
+    (name : Bytes)
     (t : Tuple) where
   abbrev relations : List Relation
   relations = (e.store).relations
@@ -217,7 +218,7 @@ module _ (e : Kept) (over : IsOver e) (law : HeadTypesAre) (ks : List ℕ) (m : 
         ∙ m.alike.each first.live l (got (queries_at e.places ks) 0 first.live first.nth) among
         ∙ types_of (get_or ks n 0) l there
 
-    pub one_has : TellsOf relations (a_query l.query) t (Ok true) → TellsOf relations union t (Ok true)
+    pub one_has : TellsMembership relations (a_query l.query) t (Ok true) → TellsMembership relations union t (Ok true)
     one_has h =
         let d = done_of (misfit (answer_types relations l.query) t) true
         (λ yes. Tells (IsAnswer relations l.query t) yes) (OutOfMemoryWhere ⊥) h in
@@ -227,7 +228,8 @@ module _ (e : Kept) (over : IsOver e) (law : HeadTypesAre) (ks : List ℕ) (m : 
         (one_there (λ q. IsAnswer relations q t) (asked_in e.places ks) l.query
         (mapped_there (λ (x : Live). x.query) (queries_at e.places ks) l among) d.1)
 
-    pub one_refuses : (r : Refusal) → TellsOf relations (a_query l.query) t (Err r) → TellsOf relations union t (Err r)
+    pub one_refuses : (r : Refusal) → TellsMembership relations (a_query l.query) t (Err r)
+        → TellsMembership relations union t (Err r)
     one_refuses r h =
         refused_as (misfit (answer_types relations l.query) t) (misfit (listed_types relations (Some union)) t) r
         (λ yes. Tells (IsAnswer relations l.query t) yes) (λ yes. Tells (AnswersOf relations union t) yes)
@@ -235,23 +237,25 @@ module _ (e : Kept) (over : IsOver e) (law : HeadTypesAre) (ks : List ℕ) (m : 
         (sym (ap (λ ts. misfit ts t) same_types)) h
 
   pub all_lack : ((i : ℕ) → i < length ks
-      → IsSomeAnd (query_at e.places (get_or ks i 0)) (λ l. TellsOf relations (a_query l.query) t (Ok false)))
-      → TellsOf relations union t (Ok false)
+      → IsSomeAnd (query_at e.places (get_or ks i 0)) (λ l. TellsMembership relations (a_query l.query) t (Ok false)))
+      → TellsMembership relations union t (Ok false)
   all_lack each =
       let low : 0 < length ks = omega (arith, m.several) in
-      let first = some_there (query_at e.places (get_or ks 0 0)) (λ l. TellsOf relations (a_query l.query) t (Ok false))
+      let first = some_there (query_at e.places (get_or ks 0 0))
+      (λ l. TellsMembership relations (a_query l.query) t (Ok false))
       (each 0 low) in
       answers_done (misfit (listed_types relations (Some union)) t) false
       (λ yes. Tells (AnswersOf relations union t) yes) (OutOfMemoryWhere ⊥)
       (ap (λ ts. misfit ts t) (same_types 0 low first.0 first.1) ∙ (lacks first.0 first.2).0)
       (λ any. let one = some_one (λ q. IsAnswer relations q t) (asked_in e.places ks) any in
       none_has e.places (λ q. IsAnswer relations q t) ks
-      (λ i below. some_as (query_at e.places (get_or ks i 0)) (λ l. TellsOf relations (a_query l.query) t (Ok false))
+      (λ i below. some_as (query_at e.places (get_or ks i 0))
+      (λ l. TellsMembership relations (a_query l.query) t (Ok false))
       (λ l. IsAnswer relations l.query t → ⊥)
       (λ l h. (lacks l h).1) (each i below))
       one.0 one.1 one.2)
     where
-      lacks : (l : Live) → TellsOf relations (a_query l.query) t (Ok false)
+      lacks : (l : Live) → TellsMembership relations (a_query l.query) t (Ok false)
           → (misfit (answer_types relations l.query) t ≡ None) × (IsAnswer relations l.query t → ⊥)
       lacks l h = done_of (misfit (answer_types relations l.query) t) false
           (λ yes. Tells (IsAnswer relations l.query t) yes) (OutOfMemoryWhere ⊥) h
@@ -262,10 +266,10 @@ module _ (e : Kept) (b : IsEngine e) (us : List (Option Joined)) (order sessions
     (w : IsListed e us order)
     (name : Bytes) (t : Tuple) (result : Result Bool Refusal) where
   abbrev old : Kept
-  old = seen e us order sessions affected
+  old = store_seen e us order sessions affected
 
   pub union_tells : (k : ℕ) (f : Called us name k)
-      → TellsOf (e.store).relations (union_of e.places f.union.union) t result
+      → TellsMembership (e.store).relations (union_of e.places f.union.union) t result
       → TellsWhether old.store name t result
   union_tells k f h = record {
     answer = subst (Told (e.store).relations t result) (sym (called_listed e b us order sessions affected w name k f))

@@ -13,11 +13,12 @@ use Rattle.djq_reach.proofs.Among.{apart}
 use Rattle.djq_engine.specs.declared.cursor.CursorId.{CursorId}
 use Rattle.djq_engine.specs.Kept.{Kept, HeldCursor, Registered, registered_at, same_id, held_at}
 use Rattle.djq_engine.specs.Places.{id_at}
-use Rattle.djq_united.specs.Slots.{Progress, slot_at}
+use Rattle.djq_united.specs.Slots.{UnionProgress, slot_at}
 use Rattle.djq_united.specs.United.{United}
 use Rattle.djq_store.specs.declared.joined.Joined.{Joined}
 use Rattle.djq_store.specs.Below.{IsEngine}
-use Rattle.djq_store.specs.Places.{joined_at, held_as, held_in, held_from, held_of, cursors_in}
+use Rattle.djq_store.specs.Places.{joined_at, held_union_cursor, union_cursors_in, union_cursors_from, union_cursor_of}
+use Rattle.djq_store.specs.Places.{cursors_in}
 use Rattle.djq_store.proofs.Ordered.{seat}
 use Rattle.djq_store.proofs.Seats.{Slot, cases_place}
 use Rattle.djq_deltas.proofs.Cases.{or_none}
@@ -25,71 +26,74 @@ use Rattle.djq_deltas.proofs.Cases.{or_none}
 -- the slots of one union
 
 module _ (texts : List Bytes) (gs : List (Option Live)) where
-  slots_other : (u : United) (at k : ℕ) (slots : List (Option Progress)) (id : CursorId) → (at ≡ id.query.at → ⊥)
-      → held_at (held_in texts gs u at k slots) id ≡ None
+  slots_other : (u : United) (at k : ℕ) (slots : List (Option UnionProgress)) (id : CursorId) → (at ≡ id.query.at → ⊥)
+      → held_at (union_cursors_in texts gs u at k slots) id ≡ None
   slots_other u at k [] id d = refl
   slots_other u at k (None ∷ slots) id d = slots_other u at (suc k) slots id d
   slots_other u at k (Some c ∷ slots) id d =
-      ap (λ b. cond (b && (k == id.cursor)) (Some (held_as texts gs u (record { query = id_at at; cursor = k }) c))
-      (held_at (held_in texts gs u at (suc k) slots) id)) (apart at id.query.at d)
+      ap (λ b. cond (b && (k == id.cursor))
+      (Some (held_union_cursor texts gs u (record { query = id_at at; cursor = k }) c))
+      (held_at (union_cursors_in texts gs u at (suc k) slots) id)) (apart at id.query.at d)
       ∙ slots_other u at (suc k) slots id d
 
-  slots_passed : (u : United) (at k : ℕ) (slots : List (Option Progress)) (id : CursorId) → id.cursor < k
-      → held_at (held_in texts gs u at k slots) id ≡ None
+  slots_passed : (u : United) (at k : ℕ) (slots : List (Option UnionProgress)) (id : CursorId) → id.cursor < k
+      → held_at (union_cursors_in texts gs u at k slots) id ≡ None
   slots_passed u at k [] id low = refl
   slots_passed u at k (None ∷ slots) id low = slots_passed u at (suc k) slots id (omega arith)
   slots_passed u at k (Some c ∷ slots) id low =
-      ap (λ b. cond b (Some (held_as texts gs u (record { query = id_at at; cursor = k }) c))
-      (held_at (held_in texts gs u at (suc k) slots) id))
+      ap (λ b. cond b (Some (held_union_cursor texts gs u (record { query = id_at at; cursor = k }) c))
+      (held_at (union_cursors_in texts gs u at (suc k) slots) id))
       (and_right (at == id.query.at) (k == id.cursor) (apart k id.cursor (λ e. omega arith)))
       ∙ slots_passed u at (suc k) slots id (omega arith)
 
-  slots_here : (u : United) (at k j : ℕ) (slots : List (Option Progress)) (id : CursorId) → at ≡ id.query.at → k + j
+  slots_here : (u : United) (at k j : ℕ) (slots : List (Option UnionProgress)) (id : CursorId)
+      → at ≡ id.query.at → k + j
       ≡ id.cursor
-      → held_at (held_in texts gs u at k slots) id ≡ option_map (held_as texts gs u id) (slot_at slots j)
+      → held_at (union_cursors_in texts gs u at k slots) id
+      ≡ option_map (held_union_cursor texts gs u id) (slot_at slots j)
   slots_here u at k zero [] id e f = refl
   slots_here u at k (suc j) [] id e f = refl
   slots_here u at k zero (None ∷ slots) id e f = slots_passed u at (suc k) slots id (omega arith)
   slots_here u at k (suc j) (None ∷ slots) id e f = slots_here u at (suc k) j slots id e (omega arith)
   slots_here u at k zero (Some c ∷ slots) id e f =
       let k_is : k ≡ id.cursor = omega arith in
-      ap (λ b. cond b (Some (held_as texts gs u (record { query = id_at at; cursor = k }) c))
-      (held_at (held_in texts gs u at (suc k) slots) id))
+      ap (λ b. cond b (Some (held_union_cursor texts gs u (record { query = id_at at; cursor = k }) c))
+      (held_at (union_cursors_in texts gs u at (suc k) slots) id))
       (and_from (at == id.query.at) (k == id.cursor) (eq-eqb at id.query.at e) (eq-eqb k id.cursor k_is))
-      ∙ ap₂ (λ (a : ℕ) (s : ℕ). Some (held_as texts gs u (record { query = id_at a; cursor = s }) c)) e k_is
+      ∙ ap₂ (λ (a : ℕ) (s : ℕ). Some (held_union_cursor texts gs u (record { query = id_at a; cursor = s }) c)) e k_is
   slots_here u at k (suc j) (Some c ∷ slots) id e f =
-      ap (λ b. cond b (Some (held_as texts gs u (record { query = id_at at; cursor = k }) c))
-      (held_at (held_in texts gs u at (suc k) slots) id))
+      ap (λ b. cond b (Some (held_union_cursor texts gs u (record { query = id_at at; cursor = k }) c))
+      (held_at (union_cursors_in texts gs u at (suc k) slots) id))
       (and_right (at == id.query.at) (k == id.cursor) (apart k id.cursor (λ s. omega arith)))
       ∙ slots_here u at (suc k) j slots id e (omega arith)
 
   -- all unions
 
   unions_passed : (at : ℕ) (us : List (Option Joined)) (id : CursorId) → id.query.at < at
-      → held_at (held_from texts gs at us) id ≡ None
+      → held_at (union_cursors_from texts gs at us) id ≡ None
   unions_passed at [] id low = refl
   unions_passed at (None ∷ us) id low = unions_passed (suc at) us id (omega arith)
   unions_passed at (Some j ∷ us) id low =
-      find-append (λ h. same_id h.id id) (held_in texts gs j.union at zero j.union.cursors)
-      (held_from texts gs (suc at) us)
+      find-append (λ h. same_id h.id id) (union_cursors_in texts gs j.union at zero j.union.cursors)
+      (union_cursors_from texts gs (suc at) us)
       ∙ ap₂ option_or (slots_other j.union at zero j.union.cursors id (λ e. omega arith))
       (unions_passed (suc at) us id (omega arith))
 
   unions_here : (at i : ℕ) (us : List (Option Joined)) (id : CursorId) → at + i ≡ id.query.at
-      → held_at (held_from texts gs at us) id ≡ held_of texts gs id (joined_at us i)
+      → held_at (union_cursors_from texts gs at us) id ≡ union_cursor_of texts gs id (joined_at us i)
   unions_here at zero [] id e = refl
   unions_here at (suc i) [] id e = refl
   unions_here at zero (None ∷ us) id e = unions_passed (suc at) us id (omega arith)
   unions_here at zero (Some j ∷ us) id e =
-      find-append (λ h. same_id h.id id) (held_in texts gs j.union at zero j.union.cursors)
-      (held_from texts gs (suc at) us)
+      find-append (λ h. same_id h.id id) (union_cursors_in texts gs j.union at zero j.union.cursors)
+      (union_cursors_from texts gs (suc at) us)
       ∙ ap₂ option_or (slots_here j.union at zero id.cursor j.union.cursors id (omega arith) (omega arith))
       (unions_passed (suc at) us id (omega arith))
-      ∙ or_none (option_map (held_as texts gs j.union id) (slot_at j.union.cursors id.cursor))
+      ∙ or_none (option_map (held_union_cursor texts gs j.union id) (slot_at j.union.cursors id.cursor))
   unions_here at (suc i) (None ∷ us) id e = unions_here (suc at) i us id (omega arith)
   unions_here at (suc i) (Some j ∷ us) id e =
-      find-append (λ h. same_id h.id id) (held_in texts gs j.union at zero j.union.cursors)
-      (held_from texts gs (suc at) us)
+      find-append (λ h. same_id h.id id) (union_cursors_in texts gs j.union at zero j.union.cursors)
+      (union_cursors_from texts gs (suc at) us)
       ∙ ap₂ option_or (slots_other j.union at zero j.union.cursors id (λ s. omega arith))
       (unions_here (suc at) i us id (omega arith))
 
@@ -97,15 +101,15 @@ module _ (e : Kept) (us : List (Option Joined)) (id : CursorId) where
   -- a cursor of a query is the engine's
   pub held_low : id.query.at < QUERIES → held_at (cursors_in e us) id ≡ held_at e.cursors id
   held_low low =
-      find-append (λ h. same_id h.id id) e.cursors (held_from (e.store).texts e.places QUERIES us)
+      find-append (λ h. same_id h.id id) e.cursors (union_cursors_from (e.store).texts e.places QUERIES us)
       ∙ ap (option_or (held_at e.cursors id)) (unions_passed (e.store).texts e.places QUERIES us id low)
       ∙ or_none (held_at e.cursors id)
 
   -- a cursor of a union stands in its slot
   pub held_high : IsEngine e → (k : ℕ) → id.query.at ≡ QUERIES + k
-      → held_at (cursors_in e us) id ≡ held_of (e.store).texts e.places id (joined_at us k)
+      → held_at (cursors_in e us) id ≡ union_cursor_of (e.store).texts e.places id (joined_at us k)
   held_high b k is =
-      find-append (λ h. same_id h.id id) e.cursors (held_from (e.store).texts e.places QUERIES us)
+      find-append (λ h. same_id h.id id) e.cursors (union_cursors_from (e.store).texts e.places QUERIES us)
       ∙ ap₂ option_or (none (held_at e.cursors id) refl) (unions_here (e.store).texts e.places QUERIES k us id (sym is))
     where
       registered : (P : Registered → Type 0) (o : Option Registered) → IsSomeAnd o P → is_some o ≡ true

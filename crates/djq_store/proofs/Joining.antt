@@ -13,14 +13,14 @@ use Rattle.djq_machine.specs.State.{Store}
 use Rattle.djq_machine.specs.Store.{answer_steps}
 use Rattle.djq_machine.specs.Union.{AreUnder, RegistersUnion, union_refusal}
 use Rattle.djq_live.specs.Member.{queries_at, HeadTypesAre}
-use Rattle.djq_engine.specs.Kept.{Kept, Registered, SameCursors, TellsOf, registered_of}
+use Rattle.djq_engine.specs.Kept.{Kept, Registered, SameCursors, TellsOfQuery, registered_of}
 use Rattle.djq_engine.specs.Places.{id_at}
 use Rattle.djq_united.specs.United.{United, AreMembers, IsUnited, union_of}
 use Rattle.djq_store.specs.declared.joined.Joined.{Joined}
 use Rattle.djq_store.specs.Below.{IsEngine}
-use Rattle.djq_store.specs.Filling.{Fills}
+use Rattle.djq_store.specs.Filling.{FillsSlot}
 use Rattle.djq_store.specs.Judging.{ArePlacesOf}
-use Rattle.djq_store.specs.Places.{seen, listed_at}
+use Rattle.djq_store.specs.Places.{store_seen, listed_at}
 use Rattle.djq_store.specs.Registering.{EnrolsUnion, EnrolsUnionTelling}
 use Rattle.djq_store.specs.Whole.{IsListed, IsCounted}
 use Rattle.djq_store.proofs.Chosen.{Fit, are_fit, are_chosen, are_members, are_under}
@@ -31,9 +31,9 @@ use Rattle.djq_store.proofs.Unioned.{unioned_tells}
 module _ (e : Kept) (b : IsEngine e) (law : HeadTypesAre) (us : List (Option Joined)) (order sessions affected : List ℕ)
     (w : IsListed e us order)
     (name : Bytes) (names : List Bytes) (two : 2 ≤ length names)
-    (free : union_refusal (seen e us order sessions affected).store name names ≡ None) where
+    (free : union_refusal (store_seen e us order sessions affected).store name names ≡ None) where
   abbrev old : Kept
-  old = seen e us order sessions affected
+  old = store_seen e us order sessions affected
 
   fit : Fit old.store name names
   fit = are_fit old.store name names free
@@ -53,13 +53,13 @@ module _ (e : Kept) (b : IsEngine e) (law : HeadTypesAre) (us : List (Option Joi
     under = are_under e b law us order sessions affected w names ps
         (are_chosen e b law us order sessions affected w names ps fit.known fit.queries at)
 
-    module _ (us' : List (Option Joined)) (k : ℕ) (j : Joined) (f : Fills us us' k j)
+    module _ (us' : List (Option Joined)) (k : ℕ) (j : Joined) (f : FillsSlot us us' k j)
         (is : j.union ≡ record { name = name; members = ps; cursors = [] }) (unwatched : j.watchers ≡ 0) where
       abbrev order' : List ℕ
       order' = order ++ (QUERIES + k) ∷ []
 
       abbrev new : Kept
-      new = seen e us' order' sessions affected
+      new = store_seen e us' order' sessions affected
 
       union_is : union_of e.places j.union ≡ a_union name qs
       union_is = ap (union_of e.places) is
@@ -111,6 +111,6 @@ module _ (e : Kept) (b : IsEngine e) (law : HeadTypesAre) (us : List (Option Joi
         joining_tells most = (
           refl,
           subst (λ (u : United). IsSomeAnd (registered_of new.registered u.name)
-              (λ (r : Registered). TellsOf old r.id (Some []) new)) is
+              (λ (r : Registered). TellsOfQuery old r.id (Some []) new)) is
               (unioned_tells e b us us' order sessions affected w k j f fits kept empty unknown joining_less),
         )

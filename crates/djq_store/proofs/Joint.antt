@@ -22,10 +22,11 @@ use Rattle.djq_engine.proofs.Listing.{here, behind, map_members}
 use Rattle.djq_united.specs.United.{IsUnited}
 use Rattle.djq_store.specs.declared.joined.Joined.{Joined}
 use Rattle.djq_store.specs.Below.{IsEngine}
-use Rattle.djq_store.specs.Counting.{HasWatchers, with_all}
+use Rattle.djq_store.specs.Counting.{HasWatchers, with_watchers_at}
 use Rattle.djq_store.specs.Places.{joined_at, listed_in, listed_at, union_watchers, sessions_at}
-use Rattle.djq_store.specs.Places.{registered_as, held_in, held_from, told_in, lender_in, in_places}
-use Rattle.djq_store.specs.Places.{cursors_in, seen}
+use Rattle.djq_store.specs.Places.{registered_as, union_cursors_in, union_cursors_from, told_of_union, lender_in}
+use Rattle.djq_store.specs.Places.{in_places}
+use Rattle.djq_store.specs.Places.{cursors_in, store_seen}
 use Rattle.djq_store.specs.Whole.{IsListed, IsCounted, IsShownByFirst, wants}
 use Rattle.djq_store.proofs.Alike.{set_all}
 use Rattle.djq_store.proofs.Answering.{same_slot}
@@ -52,12 +53,12 @@ set_reads f us k j x there same i = by_order (cases_order i k)
 
 -- ---- the registered queries, of which several have other watchers
 
-pub ids_all : (f : ℕ → ℕ) (xs : List ℕ) (rs : List Registered) → map (λ r. r.id.at) (with_all f xs rs)
+pub ids_all : (f : ℕ → ℕ) (xs : List ℕ) (rs : List Registered) → map (λ r. r.id.at) (with_watchers_at f xs rs)
     ≡ map (λ r. r.id.at) rs
 ids_all f [] rs = refl
 ids_all f (x ∷ xs) rs = ids_all f xs (with_watchers (id_at x) f rs) ∙ ids_with (id_at x) f rs
 
-pub length_all : (f : ℕ → ℕ) (xs : List ℕ) (rs : List Registered) → length (with_all f xs rs) ≡ length rs
+pub length_all : (f : ℕ → ℕ) (xs : List ℕ) (rs : List Registered) → length (with_watchers_at f xs rs) ≡ length rs
 length_all f [] rs = refl
 length_all f (x ∷ xs) rs = length_all f xs (with_watchers (id_at x) f rs) ∙ length_with (id_at x) f rs
 
@@ -65,7 +66,7 @@ abbrev pub changed_all : List ℕ → (ℕ → ℕ) → Registered → Registere
 changed_all xs f r = cond (is_reader xs r.id.at) (record r { watchers = f r.watchers }) r
 
 pub at_all : (f : ℕ → ℕ) (xs : List ℕ) (rs : List Registered) (other : QueryId) → AreOnce xs
-    → registered_at (with_all f xs rs) other ≡ option_map (changed_all xs f) (registered_at rs other)
+    → registered_at (with_watchers_at f xs rs) other ≡ option_map (changed_all xs f) (registered_at rs other)
 at_all f [] rs other once = itself (registered_at rs other)
   where
     itself : (o : Option Registered) → o ≡ option_map (changed_all [] f) o
@@ -110,7 +111,7 @@ pub record WasAll (xs : List ℕ) (f : ℕ → ℕ) (rs : List Registered) (r : 
   pub watchers : r.watchers ≡ cond (is_reader xs old.id.at) (f old.watchers) old.watchers
 
 pub was_all : (f : ℕ → ℕ) (xs : List ℕ) (rs : List Registered) → AreOnce xs → (r : Registered)
-    → registered_at (with_all f xs rs) r.id ≡ Some r → WasAll xs f rs r
+    → registered_at (with_watchers_at f xs rs) r.id ≡ Some r → WasAll xs f rs r
 was_all f xs rs once r found = by_found (registered_at rs r.id) refl
   where
     same : {x y : Registered} → Some x ≡ Some y → x ≡ y
@@ -155,7 +156,7 @@ module _ (e : Kept) (us : List (Option Joined)) (order sessions affected : List 
 
   -- it stays whole, over an engine that counts others
   pub heard_listed : (f : ℕ → ℕ) (xs : List ℕ)
-      → IsListed (record e { registered = with_all f xs e.registered }) heard_in order
+      → IsListed (record e { registered = with_watchers_at f xs e.registered }) heard_in order
   heard_listed f xs = record {
     united = set_all us k j heard (λ x. IsUnited e.places x.union) there w.united (w.united k j there);
     shown = set_all us k j heard (IsShownByFirst e) there w.shown (w.shown k j there);
@@ -259,7 +260,8 @@ module _ (e : Kept) (us : List (Option Joined)) (order sessions affected : List 
 
   -- one more for each member, as the first begins
   pub counted_first : j.watchers ≡ 0 → 0 < n → n ≤ SESSIONS → AreOnce j.union.members
-      → IsCounted (record e { registered = with_all (λ n. n + 1) j.union.members e.registered }) heard_in sessions
+      → IsCounted (record e { registered = with_watchers_at (λ n. n + 1) j.union.members e.registered })
+      heard_in sessions
   counted_first none now few once = record {
     counted = λ r found. by_old r (was_all (λ n. n + 1) j.union.members e.registered once r found);
     few = heard_few few;
@@ -293,7 +295,8 @@ module _ (e : Kept) (us : List (Option Joined)) (order sessions affected : List 
 
   -- one less for each member, as the last leaves
   pub counted_last : 0 < j.watchers → n ≡ 0 → AreOnce j.union.members
-      → IsCounted (record e { registered = with_all (λ n. n - 1) j.union.members e.registered }) heard_in sessions
+      → IsCounted (record e { registered = with_watchers_at (λ n. n - 1) j.union.members e.registered })
+      heard_in sessions
   counted_last was none once = record {
     counted = λ r found. by_old r (was_all (λ n. n - 1) j.union.members e.registered once r found);
     few = heard_few (omega (arith, none));
@@ -329,42 +332,45 @@ module _ (e : Kept) (us : List (Option Joined)) (order sessions affected : List 
   watchers_few = let few = v.few (QUERIES + k) in let is = sessions_there sessions in omega (arith, few, is)
 
   pub heard_seen : (f g : ℕ → ℕ) (xs : List ℕ) → n ≡ f j.watchers → is_reader order (QUERIES + k) ≡ true
-      → (seen (record e { registered = with_all g xs e.registered }) heard_in order sessions affected).registered
-      ≡ with_watchers (id_at (QUERIES + k)) f (seen e us order sessions affected).registered
+      → (store_seen (record e { registered = with_watchers_at g xs e.registered }) heard_in order sessions
+      affected).registered
+      ≡ with_watchers (id_at (QUERIES + k)) f (store_seen e us order sessions affected).registered
   heard_seen f g xs is there = registered_with f is order w.once there
 
   -- nothing else is seen to change
 
-  told_same : map (told_in (e.store).texts e.places) heard_in ≡ map (told_in (e.store).texts e.places) us
-  told_same = map_each (told_in (e.store).texts e.places) (told_in (e.store).texts e.places) us heard_in
-      (length-set us k (Some heard)) (set_reads (told_in (e.store).texts e.places) us k j heard there refl)
+  told_same : map (told_of_union (e.store).texts e.places) heard_in ≡ map (told_of_union (e.store).texts e.places) us
+  told_same = map_each (told_of_union (e.store).texts e.places) (told_of_union (e.store).texts e.places) us heard_in
+      (length-set us k (Some heard)) (set_reads (told_of_union (e.store).texts e.places) us k j heard there refl)
 
   lenders_same : map (lender_in e.places) heard_in ≡ map (lender_in e.places) us
   lenders_same = map_each (lender_in e.places) (lender_in e.places) us heard_in (length-set us k (Some heard))
       (set_reads (lender_in e.places) us k j heard there refl)
 
   held_same : (at : ℕ) (xs : List (Option Joined)) (i : ℕ) → joined_at xs i ≡ Some j
-      → held_from (e.store).texts e.places at (set xs i (Some heard)) ≡ held_from (e.store).texts e.places at xs
+      → union_cursors_from (e.store).texts e.places at (set xs i (Some heard))
+      ≡ union_cursors_from (e.store).texts e.places at xs
   held_same at [] zero found = absurd cc
   held_same at [] (suc i) found = absurd cc
   held_same at (o ∷ xs) zero found = sym
-      (ap (λ (o : Option Joined). held_from (e.store).texts e.places at (o ∷ xs)) found)
+      (ap (λ (o : Option Joined). union_cursors_from (e.store).texts e.places at (o ∷ xs)) found)
   held_same at (None ∷ xs) (suc i) found = held_same (suc at) xs i found
   held_same at (Some x ∷ xs) (suc i) found = ap
-      (λ hs. held_in (e.store).texts e.places x.union at zero x.union.cursors ++ hs) (held_same (suc at) xs i found)
+      (λ hs. union_cursors_in (e.store).texts e.places x.union at zero x.union.cursors ++ hs)
+      (held_same (suc at) xs i found)
 
   queries_same : (xs : List ℕ) → map (listed_at e.places heard_in) xs ≡ map (listed_at e.places us) xs
   queries_same [] = refl
   queries_same (x ∷ xs) = ap₂ (λ (q : Listed) (qs : List Listed). q ∷ qs) (listed_same x) (queries_same xs)
 
   pub seen_heard : (rs : List Registered) (f : ℕ → ℕ) → n ≡ f j.watchers → is_reader order (QUERIES + k) ≡ true
-      → seen (record e { registered = rs }) heard_in order sessions affected
-      ≡ record (seen e us order sessions affected)
-      { registered = with_watchers (id_at (QUERIES + k)) f (seen e us order sessions affected).registered }
+      → store_seen (record e { registered = rs }) heard_in order sessions affected
+      ≡ record (store_seen e us order sessions affected)
+      { registered = with_watchers (id_at (QUERIES + k)) f (store_seen e us order sessions affected).registered }
   seen_heard rs f is among =
       ap₂ (λ (qs : List Listed) (hs : List HeldCursor). made qs hs (map (registered_as e.places heard_in sessions)
       order)
-      (in_places e.told (map (told_in (e.store).texts e.places) heard_in))
+      (in_places e.told (map (told_of_union (e.store).texts e.places) heard_in))
       (in_places e.places (map (lender_in e.places) heard_in)))
       (queries_same order) (ap (λ hs. e.cursors ++ hs) (held_same QUERIES us k there))
       ∙ ap₂ (λ (rs : List Registered) (told : List (Option (List Change))). made (map (listed_at e.places us) order)
@@ -372,7 +378,7 @@ module _ (e : Kept) (us : List (Option Joined)) (order sessions affected : List 
       (registered_with f is order w.once among) (ap (in_places e.told) told_same)
       ∙ ap (λ (ps : List (Option Live)). made (map (listed_at e.places us) order) (cursors_in e us)
       (with_watchers (id_at (QUERIES + k)) f (map (registered_as e.places us sessions) order))
-      (in_places e.told (map (told_in (e.store).texts e.places) us)) ps) (ap (in_places e.places) lenders_same)
+      (in_places e.told (map (told_of_union (e.store).texts e.places) us)) ps) (ap (in_places e.places) lenders_same)
     where
       made : List Listed → List HeldCursor → List Registered → List (Option (List Change)) → List (Option Live) → Kept
       made qs hs rs told ps = record {
@@ -464,18 +470,21 @@ module _ (e : Kept) (us : List (Option Joined)) (order sessions affected : List 
     pub old_is : (j : Joined) → joined_at us k ≡ Some j → m.old ≡ j
     old_is j found = same_slot us k m.old j m.there found
 
-    pub on_listed : (g : ℕ → ℕ) (xs : List ℕ) → IsListed (record e { registered = with_all g xs e.registered }) vs order
+    pub on_listed : (g : ℕ → ℕ) (xs : List ℕ)
+        → IsListed (record e { registered = with_watchers_at g xs e.registered }) vs order
     on_listed g xs = subst
-        (λ (us' : List (Option Joined)). IsListed (record e { registered = with_all g xs e.registered }) us' order)
+        (λ (us' : List (Option Joined)). IsListed
+        (record e { registered = with_watchers_at g xs e.registered }) us' order)
         (sym m.is)
         (heard_listed e us order sessions affected w v k m.old m.there (f m.old.watchers) g xs)
 
-    pub on_seen : (rs : List Registered) → seen (record e { registered = rs }) vs order sessions affected
-        ≡ record (seen e us order sessions affected)
-        { registered = with_watchers (id_at (QUERIES + k)) f (seen e us order sessions affected).registered }
-    on_seen rs = subst (λ (us' : List (Option Joined)). seen (record e { registered = rs }) us' order sessions affected
-        ≡ record (seen e us order sessions affected)
-        { registered = with_watchers (id_at (QUERIES + k)) f (seen e us order sessions affected).registered })
+    pub on_seen : (rs : List Registered) → store_seen (record e { registered = rs }) vs order sessions affected
+        ≡ record (store_seen e us order sessions affected)
+        { registered = with_watchers (id_at (QUERIES + k)) f (store_seen e us order sessions affected).registered }
+    on_seen rs =
+        subst (λ (us' : List (Option Joined)). store_seen (record e { registered = rs }) us' order sessions affected
+        ≡ record (store_seen e us order sessions affected)
+        { registered = with_watchers (id_at (QUERIES + k)) f (store_seen e us order sessions affected).registered })
         (sym m.is)
         (seen_heard e us order sessions affected w v k m.old m.there (f m.old.watchers) rs f refl (among m.old m.there))
 
@@ -485,21 +494,21 @@ module _ (e : Kept) (us : List (Option Joined)) (order sessions affected : List 
 
     pub first_counted : m.old.watchers ≡ 0 → 0 < f m.old.watchers → f m.old.watchers ≤ SESSIONS → (members : List ℕ)
         → members ≡ m.old.union.members
-        → IsCounted (record e { registered = with_all (λ n. n + 1) members e.registered }) vs sessions
+        → IsCounted (record e { registered = with_watchers_at (λ n. n + 1) members e.registered }) vs sessions
     first_counted none now few members are = subst
         (λ (us' : List (Option Joined)). IsCounted
-        (record e { registered = with_all (λ n. n + 1) members e.registered }) us' sessions) (sym m.is)
-        (subst (λ (ks : List ℕ). IsCounted (record e { registered = with_all (λ n. n + 1) ks e.registered })
+        (record e { registered = with_watchers_at (λ n. n + 1) members e.registered }) us' sessions) (sym m.is)
+        (subst (λ (ks : List ℕ). IsCounted (record e { registered = with_watchers_at (λ n. n + 1) ks e.registered })
         (heard_in e us order sessions affected w v k m.old m.there (f m.old.watchers)) sessions) (sym are)
         (counted_first e us order sessions affected w v k m.old m.there (f m.old.watchers) none now few
         (once_of m.old.union.members (w.united k m.old m.there).members.differ)))
 
     pub last_counted : 0 < m.old.watchers → f m.old.watchers ≡ 0 → (members : List ℕ) → members ≡ m.old.union.members
-        → IsCounted (record e { registered = with_all (λ n. n - 1) members e.registered }) vs sessions
+        → IsCounted (record e { registered = with_watchers_at (λ n. n - 1) members e.registered }) vs sessions
     last_counted was none members are = subst
         (λ (us' : List (Option Joined)). IsCounted
-        (record e { registered = with_all (λ n. n - 1) members e.registered }) us' sessions) (sym m.is)
-        (subst (λ (ks : List ℕ). IsCounted (record e { registered = with_all (λ n. n - 1) ks e.registered })
+        (record e { registered = with_watchers_at (λ n. n - 1) members e.registered }) us' sessions) (sym m.is)
+        (subst (λ (ks : List ℕ). IsCounted (record e { registered = with_watchers_at (λ n. n - 1) ks e.registered })
         (heard_in e us order sessions affected w v k m.old m.there (f m.old.watchers)) sessions) (sym are)
         (counted_last e us order sessions affected w v k m.old m.there (f m.old.watchers) was none
         (once_of m.old.union.members (w.united k m.old m.there).members.differ)))

@@ -13,7 +13,7 @@ use Rattle.djq_engine.specs.declared.cursor.QueryId.{QueryId}
 use Rattle.djq_engine.specs.Kept.{Kept, Registered, AtPlace, registered_at, registered_of}
 use Rattle.djq_store.specs.declared.joined.Joined.{Joined}
 use Rattle.djq_store.specs.Below.{IsEngine}
-use Rattle.djq_store.specs.Places.{seen}
+use Rattle.djq_store.specs.Places.{store_seen}
 use Rattle.djq_store.specs.Whole.{IsListed}
 use Rattle.djq_store.proofs.Answering.{called_listed}
 use Rattle.djq_store.proofs.Found.{found_all}
@@ -33,7 +33,7 @@ pub record Under (e : Kept) (name : Bytes) : Type 0 where
 module _ (e : Kept) (b : IsEngine e) (us : List (Option Joined)) (order sessions affected : List ℕ)
     (w : IsListed e us order) (name : Bytes) where
   abbrev listed : Option Listed
-  listed = listed_of ((seen e us order sessions affected).store).queries name
+  listed = listed_of ((store_seen e us order sessions affected).store).queries name
 
   pub union_known : (k : ℕ) → Called us name k → is_none listed ≡ false
   union_known k f = ap is_none (called_listed e b us order sessions affected w name k f)
@@ -121,7 +121,7 @@ module _ (e : Kept) (b : IsEngine e) (us : List (Option Joined)) (order sessions
 
     pub types_are : HeadTypesAre → (id : QueryId) (l : Live)
         → Some id ≡ option_map (λ r. r.id) (registered_of e.registered name) → query_at e.places id.at ≡ Some l
-        → head_types l ≡ types_under (seen e us order sessions affected).store name
+        → head_types l ≡ types_under (store_seen e us order sessions affected).store name
     types_are law id l is there =
         law b.over.catalog l (b.over.live id.at l there).kept
         ∙ ap (λ rs. answer_types rs l.query) b.over.relations

@@ -22,7 +22,7 @@ use Rattle.djq_machine.specs.Store.{MakesRelation, rel_refusal, AddsAs, AddsRow,
 use Rattle.djq_machine.specs.Store.{DeletesAs, DeletesRow, delete_refusal}
 use Rattle.djq_machine.specs.Changes.{RowsChange, RowsOutcome, accepted, out_of_memory}
 use Rattle.djq_machine.specs.Batch.{SuitAll, is_there, with_held, with_all, count_came, has_come}
-use Rattle.djq_machine.specs.Batch.{store_behind, place_refusal, HavePlaces, StopsAt, RefusesBatch}
+use Rattle.djq_machine.specs.Batch.{store_behind, place_refusal, HavePlaces, BatchStopsAt, RefusesBatch}
 use Rattle.djq_machine.specs.Batch.{AddsBatch, first_read, rows_held, rows_tried, batch_outcome}
 
 -- a store with other queries registered
@@ -141,8 +141,8 @@ module _ (qs : List Listed) where
     subst (λ (m : Store). HavePlaces m ks) (sym (held_lifted st k)) (places_lifted (with_held st k) ks h.2),
   )
 
-  stops_lifted : (st : Store) (h : HeldRow) (known : List Bytes) (r : Refusal) → StopsAt st h known r
-      → StopsAt (with_queries qs st) h known r
+  stops_lifted : (st : Store) (h : HeldRow) (known : List Bytes) (r : Refusal) → BatchStopsAt st h known r
+      → BatchStopsAt (with_queries qs st) h known r
   stops_lifted st h known Limit k = k
   stops_lifted st h known NoMemory k = k
   stops_lifted st h known _ k = absurd k
@@ -175,7 +175,7 @@ module _ (qs : List Listed) where
     rest = h.rest;
     parts = h.parts;
     places = places_lifted old h.front h.places;
-    stops = subst (λ (m : Store). StopsAt m h.at new.texts r) (sym (all_lifted old h.front))
+    stops = subst (λ (m : Store). BatchStopsAt m h.at new.texts r) (sym (all_lifted old h.front))
         (stops_lifted (with_all old h.front) h.at new.texts r h.stops);
     stays = ap (with_queries qs) h.stays;
   }

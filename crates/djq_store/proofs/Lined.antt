@@ -20,7 +20,7 @@ use Rattle.djq_engine.specs.Lending.{sign_of}
 use Rattle.djq_engine.specs.Places.{id_at, told_of}
 use Rattle.djq_store.specs.declared.joined.Joined.{Joined}
 use Rattle.djq_store.specs.Below.{IsEngine}
-use Rattle.djq_store.specs.Places.{joined_at, first_member, told_in, seen}
+use Rattle.djq_store.specs.Places.{joined_at, first_member, told_of_union, store_seen}
 use Rattle.djq_store.specs.Whole.{IsListed}
 use Rattle.djq_store.proofs.Commanded.{told_low, told_high}
 use Rattle.djq_store.proofs.Members.{First, first_there}
@@ -29,7 +29,7 @@ module _ (e : Kept) (b : IsEngine e) (us : List (Option Joined)) (order sessions
     (w : IsListed e us order)
     (id : QueryId) where
   abbrev now : Kept
-  now = seen e us order sessions affected
+  now = store_seen e us order sessions affected
 
   pub told_query : id.at < QUERIES → told_at now id ≡ told_at e id
   told_query low = told_low e b us order sessions affected id.at low
@@ -49,7 +49,7 @@ module _ (e : Kept) (b : IsEngine e) (us : List (Option Joined)) (order sessions
     told_union =
         ap (λ (i : ℕ). told_at now (id_at i)) (sym (add-sub_of_le high))
         ∙ told_high e b us order sessions affected (id.at - QUERIES)
-        ∙ ap (told_in (e.store).texts e.places) found
+        ∙ ap (told_of_union (e.store).texts e.places) found
         ∙ ap (λ (o : Option Live). told_of (e.store).texts o j.log) lent
 
     pub told_count : (n : Option ℕ) → n ≡ cond j.log.lost None (Some (length j.log.lines))

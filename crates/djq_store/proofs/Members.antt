@@ -11,12 +11,12 @@ use Rattle.djq_live.specs.Live.{Live, IsShowable, ShowableStays, values_of}
 use Rattle.djq_live.specs.Member.{query_at, queries_at, HaveQueries}
 use Rattle.djq_live.specs.Updating.{change_of}
 use Rattle.djq_live.specs.Staying.{HasSameShape, HasSameTables}
-use Rattle.djq_engine.specs.Kept.{Kept, SameShape, SameTables, KeepsPlaces, KeepsQuery, KeepsTables}
+use Rattle.djq_engine.specs.Kept.{Kept, SameShape, SameLiveTables, KeepsPlaces, KeepsQuery, KeepsTables}
 use Rattle.djq_engine.specs.Places.{told_of}
-use Rattle.djq_united.specs.United.{United, IsUnited, members_in, first_of, union_of}
+use Rattle.djq_united.specs.United.{United, IsUnited, members_in, first_of_members, union_of}
 use Rattle.djq_united.specs.Staying.{MembersStay, KeepMembers}
 use Rattle.djq_store.specs.declared.joined.Joined.{Joined}
-use Rattle.djq_store.specs.Places.{first_member, told_in}
+use Rattle.djq_store.specs.Places.{first_member, told_of_union}
 use Rattle.djq_store.specs.Whole.{IsShownByFirst}
 use Rattle.djq_deltas.proofs.Cases.{some_there, some_as}
 
@@ -45,7 +45,7 @@ pub record First (gs : List (Option Live)) (ks : List ℕ) : Type 0 where
   pub is : ks ≡ place ∷ rest
   pub query : Live
   pub there : query_at gs place ≡ Some query
-  pub first : first_of (queries_at gs ks) ≡ Some query
+  pub first : first_of_members (queries_at gs ks) ≡ Some query
 
 pub first_there : (gs : List (Option Live)) (ks : List ℕ) → HaveQueries gs ks → 2 ≤ length ks → First gs ks
 first_there gs [] have some = absurd (omega arith)
@@ -59,7 +59,7 @@ first_there gs (k ∷ ks) have some =
       first = front (query_at gs k) t.0 t.1;
     }
   where
-    front : (o : Option Live) (l : Live) → o ≡ Some l → first_of (option_to_list o ++ queries_at gs ks) ≡ Some l
+    front : (o : Option Live) (l : Live) → o ≡ Some l → first_of_members (option_to_list o ++ queries_at gs ks) ≡ Some l
     front None l e = absurd cc
     front (Some m) l e = e
 
@@ -133,7 +133,7 @@ module _ (e e' : Kept) (g : Grows e e') (law : MembersStay) (showable : Showable
       (subst (λ (texts : List Bytes). All (λ n. IsShowable texts f.new n.answer) j.log.lines) (sym g.texts)
       (lines_stay showable (e.store).texts g.more f.old f.new f.shape j.log.lines h))
 
-  pub log_tells : told_in (e'.store).texts e'.places (Some j) ≡ told_in (e.store).texts e.places (Some j)
+  pub log_tells : told_of_union (e'.store).texts e'.places (Some j) ≡ told_of_union (e.store).texts e.places (Some j)
   log_tells = by_lost j.log.lost refl
     where
       f : SameFirst e e' g law j.union w
@@ -145,8 +145,8 @@ module _ (e e' : Kept) (g : Grows e e') (law : MembersStay) (showable : Showable
           ap (λ (o : Option Live). told_of texts o j.log) there
           ∙ ap (λ b. cond b None (Some (map (change_of texts l) j.log.lines))) lost
 
-      by_lost : (c : Bool) → j.log.lost ≡ c → told_in (e'.store).texts e'.places (Some j)
-          ≡ told_in (e.store).texts e.places (Some j)
+      by_lost : (c : Bool) → j.log.lost ≡ c → told_of_union (e'.store).texts e'.places (Some j)
+          ≡ told_of_union (e.store).texts e.places (Some j)
       by_lost true lost = told_as (e'.store).texts (first_member e'.places j.union) f.new true f.now lost
           ∙ sym (told_as (e.store).texts (first_member e.places j.union) f.old true f.before lost)
       by_lost false kept =

@@ -20,18 +20,19 @@ use Rattle.djq_live.specs.Live.{Live, IsShowable, values_of}
 use Rattle.djq_live.specs.Member.{query_at, queries_at}
 use Rattle.djq_engine.specs.declared.cursor.CursorId.{CursorId}
 use Rattle.djq_engine.specs.declared.cursor.QueryId.{QueryId}
-use Rattle.djq_engine.specs.Kept.{Kept, HeldCursor, OpensCursor, OpenGives, ClosesCursor, MovesCursor}
+use Rattle.djq_engine.specs.Kept.{Kept, HeldCursor, OpensCursor, CursorOpenGives, ClosesCursor, MovesCursor}
 use Rattle.djq_engine.specs.Kept.{MoreGives, MoreGivesAt, IsShown, AnswerIs, AtQuery, SameTellings}
 use Rattle.djq_engine.specs.Kept.{held_at, same_id, read_steps}
 use Rattle.djq_engine.specs.Places.{id_at}
-use Rattle.djq_united.specs.Slots.{Progress, slot_at}
+use Rattle.djq_united.specs.Slots.{UnionProgress, slot_at}
 use Rattle.djq_united.specs.Reading as united
-use Rattle.djq_united.specs.United.{United, IsUnited, AtFirst, members_in, first_of, position_of, union_of}
+use Rattle.djq_united.specs.United.{United, IsUnited, AtFirst, members_in, first_of_members, union_position, union_of}
 use Rattle.djq_store.specs.declared.joined.Joined.{Joined}
 use Rattle.djq_store.specs.Below.{IsEngine}
-use Rattle.djq_store.specs.Moving.{MovesUnion, OpensUnion, ClosesUnion, ReadsUnion, TellsUnion}
-use Rattle.djq_store.specs.Places.{joined_at, listed_at, registered_as, held_as, held_of, told_in}
-use Rattle.djq_store.specs.Places.{lender_in, in_places, first_member, cursors_in, seen}
+use Rattle.djq_store.specs.Moving.{MovesUnion, OpensUnion, ClosesUnion, ReadsUnion, TellsUnionMore}
+use Rattle.djq_store.specs.Places.{joined_at, listed_at, registered_as, held_union_cursor, union_cursor_of}
+use Rattle.djq_store.specs.Places.{told_of_union}
+use Rattle.djq_store.specs.Places.{lender_in, in_places, first_member, cursors_in, store_seen}
 use Rattle.djq_store.specs.Reading as store
 use Rattle.djq_store.specs.Whole.{IsListed, IsCounted, IsShownByFirst}
 use Rattle.djq_store.proofs.Alike.{SameUnions, SameUnion, set_same, set_all, listed_kept}
@@ -71,7 +72,7 @@ module _ (e : Kept) (b : IsEngine e) (us : List (Option Joined)) (order sessions
   same = set_same us k j with_union there (record { name = name; members = members; watchers = refl })
 
   first_same : first_member e.places u ≡ first_member e.places j.union
-  first_same = ap (λ (ks : List ℕ). first_of (queries_at e.places ks)) members
+  first_same = ap (λ (ks : List ℕ). first_of_members (queries_at e.places ks)) members
 
   shown_on : IsShownByFirst e with_union
   shown_on kept = subst
@@ -87,50 +88,54 @@ module _ (e : Kept) (b : IsEngine e) (us : List (Option Joined)) (order sessions
   pub moved_counted : IsCounted e us sessions → IsCounted e others sessions
   moved_counted c = counted_kept us others same e sessions c
 
-  pub moved_store : (seen e others order sessions affected).store ≡ (seen e us order sessions affected).store
+  pub moved_store : (store_seen e others order sessions affected).store
+      ≡ (store_seen e us order sessions affected).store
   moved_store = ap (λ (qs : List Listed). (let s : Store = record e.store { queries = qs } in s))
       (queries_alike us others same e.places order)
 
-  pub moved_registered : (seen e others order sessions affected).registered
-      ≡ (seen e us order sessions affected).registered
+  pub moved_registered : (store_seen e others order sessions affected).registered
+      ≡ (store_seen e us order sessions affected).registered
   moved_registered = registered_alike us others same e.places sessions order
 
-  told_same : (i : ℕ) → told_in (e.store).texts e.places (joined_at others i)
-      ≡ told_in (e.store).texts e.places (joined_at us i)
+  told_same : (i : ℕ) → told_of_union (e.store).texts e.places (joined_at others i)
+      ≡ told_of_union (e.store).texts e.places (joined_at us i)
   told_same i = by_order (cases_order i k)
     where
-      other : (i ≡ k → ⊥) → told_in (e.store).texts e.places (joined_at others i)
-          ≡ told_in (e.store).texts e.places (joined_at us i)
-      other d = ap (told_in (e.store).texts e.places) (get_or-set_other us k i (Some with_union) None d)
+      other : (i ≡ k → ⊥) → told_of_union (e.store).texts e.places (joined_at others i)
+          ≡ told_of_union (e.store).texts e.places (joined_at us i)
+      other d = ap (told_of_union (e.store).texts e.places) (get_or-set_other us k i (Some with_union) None d)
 
-      by_order : (i ≡ k) ⊎ ((i < k) ⊎ (k < i)) → told_in (e.store).texts e.places (joined_at others i)
-          ≡ told_in (e.store).texts e.places (joined_at us i)
+      by_order : (i ≡ k) ⊎ ((i < k) ⊎ (k < i)) → told_of_union (e.store).texts e.places (joined_at others i)
+          ≡ told_of_union (e.store).texts e.places (joined_at us i)
       by_order (inl f) =
-          ap (λ n. told_in (e.store).texts e.places (joined_at others n)) f
-          ∙ ap (told_in (e.store).texts e.places) (set_here us k j (Some with_union) there)
-          ∙ ap (λ (ks : List ℕ). told_in (e.store).texts e.places
+          ap (λ n. told_of_union (e.store).texts e.places (joined_at others n)) f
+          ∙ ap (told_of_union (e.store).texts e.places) (set_here us k j (Some with_union) there)
+          ∙ ap (λ (ks : List ℕ). told_of_union (e.store).texts e.places
           (Some (record j { union = record { name = []; members = ks; cursors = [] } }))) members
-          ∙ sym (ap (told_in (e.store).texts e.places) there)
-          ∙ sym (ap (λ n. told_in (e.store).texts e.places (joined_at us n)) f)
+          ∙ sym (ap (told_of_union (e.store).texts e.places) there)
+          ∙ sym (ap (λ n. told_of_union (e.store).texts e.places (joined_at us n)) f)
       by_order (inr (inl l)) = other (λ f. omega (arith, f, l))
       by_order (inr (inr l)) = other (λ f. omega (arith, f, l))
 
-  pub moved_tellings : SameTellings (seen e us order sessions affected) (seen e others order sessions affected)
+  pub moved_tellings : SameTellings (store_seen e us order sessions affected)
+      (store_seen e others order sessions affected)
   moved_tellings = record {
     affected = refl;
     told = ap (in_places e.told)
-        (map_each (told_in (e.store).texts e.places) (told_in (e.store).texts e.places) us others same.long told_same);
+        (map_each (told_of_union (e.store).texts e.places) (told_of_union (e.store).texts e.places) us others
+        same.long told_same);
   }
 
   pub moved_here : (cursor : ℕ) → held_at (cursors_in e others) (cursor_of k cursor)
-      ≡ option_map (held_as (e.store).texts e.places u (cursor_of k cursor)) (slot_at u.cursors cursor)
+      ≡ option_map (held_union_cursor (e.store).texts e.places u (cursor_of k cursor)) (slot_at u.cursors cursor)
   moved_here cursor = held_high e others (cursor_of k cursor) b k refl
-      ∙ ap (held_of (e.store).texts e.places (cursor_of k cursor)) (set_here us k j (Some with_union) there)
+      ∙ ap (union_cursor_of (e.store).texts e.places (cursor_of k cursor)) (set_here us k j (Some with_union) there)
 
   pub stood_here : (cursor : ℕ) → held_at (cursors_in e us) (cursor_of k cursor)
-      ≡ option_map (held_as (e.store).texts e.places j.union (cursor_of k cursor)) (slot_at j.union.cursors cursor)
+      ≡ option_map (held_union_cursor (e.store).texts e.places j.union (cursor_of k cursor))
+      (slot_at j.union.cursors cursor)
   stood_here cursor = held_high e us (cursor_of k cursor) b k refl
-      ∙ ap (held_of (e.store).texts e.places (cursor_of k cursor)) there
+      ∙ ap (union_cursor_of (e.store).texts e.places (cursor_of k cursor)) there
 
   pub moved_others : (id : CursorId)
       → (id.query.at ≡ QUERIES + k → slot_at u.cursors id.cursor ≡ slot_at j.union.cursors id.cursor)
@@ -138,20 +143,21 @@ module _ (e : Kept) (b : IsEngine e) (us : List (Option Joined)) (order sessions
   moved_others id same_slot = by_case (cases_place id.query.at)
     where
       by_order : (s : Slot id.query.at) → (s.slot ≡ k) ⊎ ((s.slot < k) ⊎ (k < s.slot))
-          → held_of (e.store).texts e.places id (joined_at others s.slot)
-          ≡ held_of (e.store).texts e.places id (joined_at us s.slot)
+          → union_cursor_of (e.store).texts e.places id (joined_at others s.slot)
+          ≡ union_cursor_of (e.store).texts e.places id (joined_at us s.slot)
       by_order s (inl f) =
-          ap (λ n. held_of (e.store).texts e.places id (joined_at others n)) f
-          ∙ ap (held_of (e.store).texts e.places id) (set_here us k j (Some with_union) there)
-          ∙ ap (λ o. option_map (held_as (e.store).texts e.places u id) o) (same_slot (s.is ∙ ap (λ n. QUERIES + n) f))
+          ap (λ n. union_cursor_of (e.store).texts e.places id (joined_at others n)) f
+          ∙ ap (union_cursor_of (e.store).texts e.places id) (set_here us k j (Some with_union) there)
+          ∙ ap (λ o. option_map (held_union_cursor (e.store).texts e.places u id) o)
+          (same_slot (s.is ∙ ap (λ n. QUERIES + n) f))
           ∙ ap₂ (λ (called : Bytes) (ks : List ℕ). option_map
-          (held_as (e.store).texts e.places (record { name = called; members = ks; cursors = [] }) id)
+          (held_union_cursor (e.store).texts e.places (record { name = called; members = ks; cursors = [] }) id)
           (slot_at j.union.cursors id.cursor)) name members
-          ∙ sym (ap (held_of (e.store).texts e.places id) there)
-          ∙ sym (ap (λ n. held_of (e.store).texts e.places id (joined_at us n)) f)
-      by_order s (inr (inl l)) = ap (held_of (e.store).texts e.places id)
+          ∙ sym (ap (union_cursor_of (e.store).texts e.places id) there)
+          ∙ sym (ap (λ n. union_cursor_of (e.store).texts e.places id (joined_at us n)) f)
+      by_order s (inr (inl l)) = ap (union_cursor_of (e.store).texts e.places id)
           (get_or-set_other us k s.slot (Some with_union) None (λ f. omega (arith, f, l)))
-      by_order s (inr (inr l)) = ap (held_of (e.store).texts e.places id)
+      by_order s (inr (inr l)) = ap (union_cursor_of (e.store).texts e.places id)
           (get_or-set_other us k s.slot (Some with_union) None (λ f. omega (arith, f, l)))
 
       by_case : (id.query.at < QUERIES) ⊎ Slot id.query.at → held_at (cursors_in e others) id

@@ -8,7 +8,7 @@ use Rattle.djq_engine.specs.declared.cursor.QueryId.{QueryId}
 use Rattle.djq_engine.specs.Kept.{Kept, told_at}
 use Rattle.djq_store.specs.declared.joined.Joined.{Joined}
 use Rattle.djq_store.specs.Below.{IsEngine}
-use Rattle.djq_store.specs.Places.{joined_at, told_in, seen}
+use Rattle.djq_store.specs.Places.{joined_at, told_of_union, store_seen}
 use Rattle.djq_store.specs.Whole.{query_places}
 use Rattle.djq_store.proofs.Seats.{places_low, places_high}
 
@@ -59,13 +59,13 @@ filter_long p (x ∷ xs) = step (p x) (filter_long p xs)
 
 module _ (e : Kept) (b : IsEngine e) (us : List (Option Joined)) (order sessions affected : List ℕ) where
   -- what is told of a query, and of a union
-  pub told_low : (id : QueryId) → id.at < QUERIES → told_at (seen e us order sessions affected) id ≡ told_at e id
+  pub told_low : (id : QueryId) → id.at < QUERIES → told_at (store_seen e us order sessions affected) id ≡ told_at e id
   told_low id low = let long = b.long in let few = b.few in
-      places_low e.told (map (told_in (e.store).texts e.places) us) id.at (omega arith) low
+      places_low e.told (map (told_of_union (e.store).texts e.places) us) id.at (omega arith) low
 
-  pub told_high : (id : QueryId) (k : ℕ) → id.at ≡ QUERIES + k → told_at (seen e us order sessions affected) id
-      ≡ told_in (e.store).texts e.places (joined_at us k)
+  pub told_high : (id : QueryId) (k : ℕ) → id.at ≡ QUERIES + k → told_at (store_seen e us order sessions affected) id
+      ≡ told_of_union (e.store).texts e.places (joined_at us k)
   told_high id k is = let long = b.long in let few = b.few in
-      ap (λ i. get_or (seen e us order sessions affected).told i None) is
-      ∙ places_high e.told (map (told_in (e.store).texts e.places) us) k (omega arith)
-      ∙ mapped_at (told_in (e.store).texts e.places) us k refl
+      ap (λ i. get_or (store_seen e us order sessions affected).told i None) is
+      ∙ places_high e.told (map (told_of_union (e.store).texts e.places) us) k (omega arith)
+      ∙ mapped_at (told_of_union (e.store).texts e.places) us k refl

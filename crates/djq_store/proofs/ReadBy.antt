@@ -14,7 +14,7 @@ use Rattle.djq_reach.specs.Places.{reads_place}
 use Rattle.djq_engine.specs.Places.{no_query, query_in}
 use Rattle.djq_united.specs.United.{United, union_of}
 use Rattle.djq_deltas.proofs.Lists.{nothing_there, first_or_later, first_there, later_there}
-use Rattle.djq_store.specs.Settling.{reads_some, some_read, first_read, touched_in}
+use Rattle.djq_store.specs.Settling.{reads_some, some_read, first_read_by, touched_in}
 
 -- ---- lists
 
@@ -137,7 +137,7 @@ module _ (gs : List (Option Live)) (h : ℕ → Query) (ms : List ℕ)
 
   -- the first relation that it reads
   pub first_is : (relations : List Bytes) (name : Bytes)
-      → first_read gs relations ms ≡ find (listed_reads (a_union name (map h ms))) relations
+      → first_read_by gs relations ms ≡ find (listed_reads (a_union name (map h ms))) relations
   first_is relations name =
       find_same (some_read gs ms) (listed_reads (a_union name (map h ms))) relations (λ r. some_is r)
 

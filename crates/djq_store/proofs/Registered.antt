@@ -28,7 +28,7 @@ use Rattle.djq_engine.proofs.Conditions.{front_refuses, front_passes}
 use Rattle.djq_store.specs.declared.joined.Joined.{Joined}
 use Rattle.djq_store.specs.Below.{IsEngine, StayingLaws}
 use Rattle.djq_store.specs.Registering.{is_registered}
-use Rattle.djq_store.specs.Places.{listed_at, registered_as, seen}
+use Rattle.djq_store.specs.Places.{listed_at, registered_as, store_seen}
 use Rattle.djq_store.specs.Whole.{IsListed, IsCounted, query_places}
 use Rattle.djq_store.proofs.Enrolled.{enrolled, not_in_order, in_engine, enrolled_listed}
 use Rattle.djq_store.proofs.Enrolled.{enrolled_counted, enrolled_queries, enrolled_registered}
@@ -97,7 +97,7 @@ front_of e q = (is_some (listed_of (e.store).queries q.name), Taken) ∷ query_f
 module _ (e : Kept) (b : IsEngine e) (us : List (Option Joined)) (order sessions affected : List ℕ)
     (w : IsListed e us order) (q : Query) where
   abbrev old : Kept
-  old = seen e us order sessions affected
+  old = store_seen e us order sessions affected
 
   engine_fewer : length (e.store).queries ≤ length order
   engine_fewer =
@@ -180,7 +180,7 @@ module _ (e : Kept) (b : IsEngine e) (us : List (Option Joined)) (order sessions
 module _ (e e' : Kept) (r : Rests e e') (us : List (Option Joined)) (order sessions affected : List ℕ)
     (w : IsListed e us order) (q : Query) (none : NoUnion us q.name) (less : length order < QUERIES) where
   abbrev before : Kept
-  before = seen e us order sessions affected
+  before = store_seen e us order sessions affected
 
   same_refusals : query_refusal before.store q ≡ query_refusal e.store q
   same_refusals = same_refusal e r.before us order sessions affected w q none less
@@ -196,7 +196,7 @@ module _ (e e' : Kept) (r : Rests e e') (us : List (Option Joined)) (order sessi
 
   module _ (sessions' affected' : List ℕ) where
     abbrev same_order : Kept
-    same_order = seen e' us order sessions' affected'
+    same_order = store_seen e' us order sessions' affected'
 
     same_store : e'.store ≡ e.store → same_order.store ≡ before.store
     same_store same = store_with e.store (map (listed_at e.places us) order) same (map (listed_at e'.places us) order)
@@ -241,10 +241,11 @@ module _ (e e' : Kept) (r : Rests e e') (us : List (Option Joined)) (order sessi
     }
 
     tells : ((id : QueryId) → told_at e' id ≡ told_at e id) → (id : QueryId)
-        → told_at (seen e' us order sessions affected) id ≡ told_at before id
+        → told_at (store_seen e' us order sessions affected) id ≡ told_at before id
     tells same id = by_case (cases_place id.at)
       where
-        by_case : (id.at < QUERIES) ⊎ Slot id.at → told_at (seen e' us order sessions affected) id ≡ told_at before id
+        by_case : (id.at < QUERIES) ⊎ Slot id.at
+            → told_at (store_seen e' us order sessions affected) id ≡ told_at before id
         by_case (inl low) = told_low e' r.after us order sessions affected id low ∙ same id
             ∙ sym (told_low e r.before us order sessions affected id low)
         by_case (inr s) = told_high e' r.after us order sessions affected id s.slot s.is
@@ -252,14 +253,14 @@ module _ (e e' : Kept) (r : Rests e e') (us : List (Option Joined)) (order sessi
             ∙ sym (told_high e r.before us order sessions affected id s.slot s.is)
 
     pub unregistered_tells : (result : Result QueryOutcome Refusal) → is_registered result ≡ false
-        → EnrolsTelling e q result e' → EnrolsTelling before q result (seen e' us order sessions affected)
+        → EnrolsTelling e q result e' → EnrolsTelling before q result (store_seen e' us order sessions affected)
     unregistered_tells (Ok (HasRegistered most)) n h = absurd cc
     unregistered_tells (Ok (Cyclic rest)) n h = (refl, tells h.1)
     unregistered_tells (Ok (NotConnex rest)) n h = (refl, tells h.1)
     unregistered_tells (Err x) n h = (refl, tells h.1)
 
     pub unregistered_enrols : (result : Result QueryOutcome Refusal) → is_registered result ≡ false
-        → Enrols before.registered q result (seen e' us order sessions affected).registered
+        → Enrols before.registered q result (store_seen e' us order sessions affected).registered
     unregistered_enrols (Ok (HasRegistered most)) n = absurd cc
     unregistered_enrols (Ok (Cyclic rest)) n = registered_over e e' r us order sessions affected w
     unregistered_enrols (Ok (NotConnex rest)) n = registered_over e e' r us order sessions affected w
@@ -310,7 +311,7 @@ module _ (e e' : Kept) (r : Rests e e') (us : List (Option Joined)) (order sessi
           ≡ e.registered ++ record { id = x; query = a_query q; watchers = 0 } ∷ []) id_same en.2
 
       abbrev after : Kept
-      after = seen e' us (order ++ id.at ∷ []) (set sessions id.at 0) affected
+      after = store_seen e' us (order ++ id.at ∷ []) (set sessions id.at 0) affected
 
       pub registered_listed : IsListed e' us (order ++ id.at ∷ [])
       registered_listed = enrolled_listed e e' r us order sessions affected w q id.at fresh last none unknown less

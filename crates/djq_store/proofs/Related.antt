@@ -14,8 +14,8 @@ use Rattle.djq_reach.specs.Places.{place_at}
 use Rattle.djq_engine.specs.Kept.{Kept, KeepsTables, KeepsQuery}
 use Rattle.djq_store.specs.declared.parts.Parts.{Parts}
 use Rattle.djq_store.specs.Below.{IsEngine, StayingLaws}
-use Rattle.djq_store.specs.Places.{kept_in, listed_at}
-use Rattle.djq_store.specs.Whole.{IsWhole}
+use Rattle.djq_store.specs.Places.{store_kept_in, listed_at}
+use Rattle.djq_store.specs.Whole.{StoreIsWhole}
 use Rattle.djq_store.proofs.Lifting.{with_queries, makes_lifted}
 use Rattle.djq_store.proofs.Staying.{Rests, queries_over}
 
@@ -50,10 +50,10 @@ made_rests e e' name types r b b' laws h places = record {
 }
 
 pub store_makes : (p : Parts) (e' : Kept) (name : Bytes) (types : List ColumnType) (r : Result ⊤ Refusal)
-    → Rests p.engine e' → IsWhole p → MakesRelation (p.engine).store name types r e'.store
-    → MakesRelation (kept_in p).store name types r (kept_in (record p { engine = e' })).store
+    → Rests p.engine e' → StoreIsWhole p → MakesRelation (p.engine).store name types r e'.store
+    → MakesRelation (store_kept_in p).store name types r (store_kept_in (record p { engine = e' })).store
 store_makes p e' name types r rests w h =
-    subst (λ (qs : List Listed). MakesRelation (kept_in p).store name types r (with_queries qs e'.store))
+    subst (λ (qs : List Listed). MakesRelation (store_kept_in p).store name types r (with_queries qs e'.store))
     (sym (queries_over p.engine e' rests p.unions.items p.order.items p.sessions.items p.affected.items w.listed))
     (makes_lifted (map (listed_at p.engine.places p.unions.items) p.order.items) (p.engine).store name types r e'.store
     h)

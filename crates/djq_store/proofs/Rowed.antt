@@ -20,8 +20,8 @@ use Rattle.djq_store.specs.declared.parts.Parts.{Parts}
 use Rattle.djq_store.specs.declared.settling.Turn.{Turn}
 use Rattle.djq_store.specs.Below.{IsEngine, StayingLaws}
 use Rattle.djq_store.specs.Following.{IfMade, FollowsBy, following_steps, add_turn, delete_turn}
-use Rattle.djq_store.specs.Places.{kept_in}
-use Rattle.djq_store.specs.Whole.{IsWhole}
+use Rattle.djq_store.specs.Places.{store_kept_in}
+use Rattle.djq_store.specs.Whole.{StoreIsWhole}
 use Rattle.djq_store.proofs.Behind.{Did}
 use Rattle.djq_store.proofs.Doing.{Comes, IsKnown, turn_by, over, comes_to, affected_low, affected_few}
 use Rattle.djq_store.proofs.Lifting.{with_queries, adds_lifted, deletes_lifted}
@@ -30,15 +30,15 @@ use Rattle.djq_store.proofs.Rowing.{Grown, add_known, add_turns, add_grows, dele
 -- ---- what following asks for
 
 made_low : (p : Parts) (e' : Kept) → IsEngine p.engine → (came : Bool) (outcome : RowsOutcome) (before mid : ℕ)
-    → watching.TellsChange p.engine outcome e' before mid
+    → watching.EngineTellsChange p.engine outcome e' before mid
     → IfMade (turn_by came outcome) (All (λ (id : QueryId). id.at < QUERIES) e'.affected)
 made_low p e' b true (accepted change) before mid t = affected_low p.engine e' b change t.affected
 made_low p e' b false (accepted change) before mid t = affected_low p.engine e' b change t.affected
 made_low p e' b came (out_of_memory change) before mid t = tt
 made_low p e' b came unchanged before mid t = tt
 
-made_few : (p : Parts) (e' : Kept) → IsWhole p → (came : Bool) (outcome : RowsOutcome) (before mid : ℕ)
-    → watching.TellsChange p.engine outcome e' before mid
+made_few : (p : Parts) (e' : Kept) → StoreIsWhole p → (came : Bool) (outcome : RowsOutcome) (before mid : ℕ)
+    → watching.EngineTellsChange p.engine outcome e' before mid
     → IfMade (turn_by came outcome) (length e'.affected ≤ vec_capacity p.affected)
 made_few p e' w true (accepted change) before mid t = affected_few p e' w change t.affected
 made_few p e' w false (accepted change) before mid t = affected_few p e' w change t.affected
@@ -47,22 +47,22 @@ made_few p e' w came unchanged before mid t = tt
 
 -- with the turn that the code chose
 pub turn_low : (p : Parts) (e' : Kept) → IsEngine p.engine → (came : Bool) (outcome : RowsOutcome) (turn : Option Turn)
-    → turn ≡ turn_by came outcome → (before mid : ℕ) → watching.TellsChange p.engine outcome e' before mid
+    → turn ≡ turn_by came outcome → (before mid : ℕ) → watching.EngineTellsChange p.engine outcome e' before mid
     → IfMade turn (All (λ (id : QueryId). id.at < QUERIES) e'.affected)
 turn_low p e' b came outcome turn is before mid t =
     subst (λ (x : Option Turn). IfMade x (All (λ (id : QueryId). id.at < QUERIES) e'.affected)) (sym is)
     (made_low p e' b came outcome before mid t)
 
-pub turn_few : (p : Parts) (e' : Kept) → IsWhole p → (came : Bool) (outcome : RowsOutcome) (turn : Option Turn)
-    → turn ≡ turn_by came outcome → (before mid : ℕ) → watching.TellsChange p.engine outcome e' before mid
+pub turn_few : (p : Parts) (e' : Kept) → StoreIsWhole p → (came : Bool) (outcome : RowsOutcome) (turn : Option Turn)
+    → turn ≡ turn_by came outcome → (before mid : ℕ) → watching.EngineTellsChange p.engine outcome e' before mid
     → IfMade turn (length e'.affected ≤ vec_capacity p.affected)
 turn_few p e' w came outcome turn is before mid t =
     subst (λ (x : Option Turn). IfMade x (length e'.affected ≤ vec_capacity p.affected)) (sym is)
     (made_few p e' w came outcome before mid t)
 
 pub turn_comes : (p p' : Parts) (e' : Kept) (came : Bool) (relations : List Bytes) (outcome : RowsOutcome)
-    (turn : Option Turn) → turn ≡ turn_by came outcome → (before mid last : ℕ) → IsWhole p → StayingLaws
-    → Did p.engine (tried outcome) e' → watching.TellsChange p.engine outcome e' before mid
+    (turn : Option Turn) → turn ≡ turn_by came outcome → (before mid last : ℕ) → StoreIsWhole p → StayingLaws
+    → Did p.engine (tried outcome) e' → watching.EngineTellsChange p.engine outcome e' before mid
     → IsKnown p.engine e' came relations outcome → FollowsBy turn relations (over p e') p'
     → last ≤ mid + following_steps turn e' relations p.unions.items → Comes p p' e' outcome before last
 turn_comes p p' e' came relations outcome turn is before mid last w laws did t known follows counted =
@@ -89,16 +89,16 @@ did_by e e' outcome b b' registered outdates places grown = record {
 
 pub store_adds : (p p' : Parts) (e' : Kept) (name : Bytes) (row : Tuple) (r : Result AddOutcome Refusal)
     → AddsRow (p.engine).store name row r e'.store
-    → (kept_in p').store ≡ with_queries ((kept_in p).store).queries e'.store
-    → AddsRow (kept_in p).store name row r (kept_in p').store
+    → (store_kept_in p').store ≡ with_queries ((store_kept_in p).store).queries e'.store
+    → AddsRow (store_kept_in p).store name row r (store_kept_in p').store
 store_adds p p' e' name row r h is =
-    subst (λ (st : Store). AddsRow (kept_in p).store name row r st) (sym is)
-    (adds_lifted ((kept_in p).store).queries (p.engine).store name row r e'.store h)
+    subst (λ (st : Store). AddsRow (store_kept_in p).store name row r st) (sym is)
+    (adds_lifted ((store_kept_in p).store).queries (p.engine).store name row r e'.store h)
 
 pub store_deletes : (p p' : Parts) (e' : Kept) (name : Bytes) (row : Tuple) (r : Result DeleteOutcome Refusal)
     → DeletesRow (p.engine).store name row r e'.store
-    → (kept_in p').store ≡ with_queries ((kept_in p).store).queries e'.store
-    → DeletesRow (kept_in p).store name row r (kept_in p').store
+    → (store_kept_in p').store ≡ with_queries ((store_kept_in p).store).queries e'.store
+    → DeletesRow (store_kept_in p).store name row r (store_kept_in p').store
 store_deletes p p' e' name row r h is =
-    subst (λ (st : Store). DeletesRow (kept_in p).store name row r st) (sym is)
-    (deletes_lifted ((kept_in p).store).queries (p.engine).store name row r e'.store h)
+    subst (λ (st : Store). DeletesRow (store_kept_in p).store name row r st) (sym is)
+    (deletes_lifted ((store_kept_in p).store).queries (p.engine).store name row r e'.store h)

@@ -7,7 +7,7 @@ use Rattle.djq_united.specs.United.{United}
 use Rattle.djq_store.specs.declared.joined.Joined.{Joined}
 use Rattle.djq_store.specs.declared.settling.Turn.{Turn}
 use Rattle.djq_store.specs.Places.{joined_at}
-use Rattle.djq_store.specs.Settling.{first_read, outdated_union, Settles, SettlesAt}
+use Rattle.djq_store.specs.Settling.{first_read_by, outdated_union, Settles, SettlesAt}
 use Rattle.djq_store.proofs.Alike.{SameUnion, SameIn, SameUnions}
 
 same_name : (o : Option Bytes) (n : ℕ) (u : United) → (outdated_union o n u).name ≡ u.name
@@ -22,9 +22,9 @@ module _ (e : Kept) (relations : List Bytes) (n : ℕ) (turn : Turn) where
   pub settled_same : (j k : Joined) → Settles e relations n turn j k → SameUnion j k
   settled_same j k h = record {
     name = ap (λ (u : United). u.name) h.union
-        ∙ same_name (first_read e.places relations j.union.members) n j.union;
+        ∙ same_name (first_read_by e.places relations j.union.members) n j.union;
     members = ap (λ (u : United). u.members) h.union
-        ∙ same_members (first_read e.places relations j.union.members) n j.union;
+        ∙ same_members (first_read_by e.places relations j.union.members) n j.union;
     watchers = h.watchers;
   }
 

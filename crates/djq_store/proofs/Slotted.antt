@@ -12,7 +12,7 @@ use Rattle.djq_engine.specs.Places.{id_at, query_in}
 use Rattle.djq_store.specs.declared.joined.Joined.{Joined}
 use Rattle.djq_store.specs.Below.{IsEngine}
 use Rattle.djq_store.specs.Places.{joined_at, listed_in, listed_at, union_watchers, sessions_at}
-use Rattle.djq_store.specs.Places.{registered_as, held_of, told_in, cursors_in, seen}
+use Rattle.djq_store.specs.Places.{registered_as, union_cursor_of, told_of_union, cursors_in, store_seen}
 use Rattle.djq_store.proofs.Held.{held_low, held_high}
 use Rattle.djq_store.proofs.Placed.{told_low, told_high}
 use Rattle.djq_store.proofs.Seats.{Slot, cases_place, low_place, high_place}
@@ -61,17 +61,19 @@ module _ (us us' : List (Option Joined)) (k : ℕ) (others : (i : ℕ) → (i �
           by_case : (id.query.at < QUERIES) ⊎ Slot id.query.at → held_at (cursors_in e us') id
               ≡ held_at (cursors_in e us) id
           by_case (inl low) = held_low e us' id low ∙ sym (held_low e us id low)
-          by_case (inr s) = held_high e us' id b s.slot s.is ∙ ap (held_of (e.store).texts e.places id) (slot_other d s)
+          by_case (inr s) = held_high e us' id b s.slot s.is
+              ∙ ap (union_cursor_of (e.store).texts e.places id) (slot_other d s)
               ∙ sym (held_high e us id b s.slot s.is)
 
       pub told_other : (order order' sessions affected affected' : List ℕ) (id : QueryId) → (id.at ≡ QUERIES + k → ⊥)
-          → told_at (seen e us' order' sessions affected') id ≡ told_at (seen e us order sessions affected) id
+          → told_at (store_seen e us' order' sessions affected') id
+          ≡ told_at (store_seen e us order sessions affected) id
       told_other order order' sessions affected affected' id d = by_case (cases_place id.at)
         where
-          by_case : (id.at < QUERIES) ⊎ Slot id.at → told_at (seen e us' order' sessions affected') id
-              ≡ told_at (seen e us order sessions affected) id
+          by_case : (id.at < QUERIES) ⊎ Slot id.at → told_at (store_seen e us' order' sessions affected') id
+              ≡ told_at (store_seen e us order sessions affected) id
           by_case (inl low) = told_low e b us' order' sessions affected' id low
               ∙ sym (told_low e b us order sessions affected id low)
           by_case (inr s) = told_high e b us' order' sessions affected' id s.slot s.is
-              ∙ ap (told_in (e.store).texts e.places) (slot_other d s)
+              ∙ ap (told_of_union (e.store).texts e.places) (slot_other d s)
               ∙ sym (told_high e b us order sessions affected id s.slot s.is)

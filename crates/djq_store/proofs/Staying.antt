@@ -12,16 +12,16 @@ use Rattle.djq_live.specs.Member.{query_at}
 use Rattle.djq_reach.specs.Places.{is_reader}
 use Rattle.djq_engine.specs.declared.cursor.CursorId.{CursorId}
 use Rattle.djq_engine.specs.Kept.{Kept, HeldCursor, Registered, SameCursors, SameTellings, SameShape}
-use Rattle.djq_engine.specs.Kept.{KeepsTables, MovesCursor, IsOver, held_at, same_id}
+use Rattle.djq_engine.specs.Kept.{KeepsTables, MovesCursor, PlacesAreKept, held_at, same_id}
 use Rattle.djq_engine.specs.Places.{id_at, query_in}
 use Rattle.djq_engine.proofs.Listing.{map_members}
-use Rattle.djq_united.specs.Slots.{Progress, slot_at}
-use Rattle.djq_united.specs.United.{United, IsUnited, AreKept, members_in, position_of}
+use Rattle.djq_united.specs.Slots.{UnionProgress, slot_at}
+use Rattle.djq_united.specs.United.{United, IsUnited, AreKept, members_in, union_position}
 use Rattle.djq_united.specs.Staying.{MembersStay, UnionsStay, AreUntouched}
 use Rattle.djq_store.specs.declared.joined.Joined.{Joined}
 use Rattle.djq_store.specs.Below.{IsEngine, StayingLaws}
 use Rattle.djq_store.specs.Places.{in_places, joined_at, listed_in, listed_at, registered_as}
-use Rattle.djq_store.specs.Places.{held_as, held_of, told_in, cursors_in, seen}
+use Rattle.djq_store.specs.Places.{held_union_cursor, union_cursor_of, told_of_union, cursors_in, store_seen}
 use Rattle.djq_store.specs.Whole.{IsListed, IsCounted}
 use Rattle.djq_store.proofs.Held.{held_low, held_high}
 use Rattle.djq_store.proofs.Members.{Grows, grown_members, kept_members, kept_shapes, union_stays, log_stays, log_tells}
@@ -65,8 +65,8 @@ module _ (e e' : Kept) (b : IsEngine e) (g : Grows e e') (law : MembersStay) (us
       (listed_stays at there))
 
   module _ (showable : ShowableStays) where
-    pub logs_stay : map (told_in (e'.store).texts e'.places) us ≡ map (told_in (e.store).texts e.places) us
-    logs_stay = map_slots (told_in (e'.store).texts e'.places) (told_in (e.store).texts e.places) us refl
+    pub logs_stay : map (told_of_union (e'.store).texts e'.places) us ≡ map (told_of_union (e.store).texts e.places) us
+    logs_stay = map_slots (told_of_union (e'.store).texts e'.places) (told_of_union (e.store).texts e.places) us refl
         (λ k j there. log_tells e e' g law showable j (w.united k j there) (w.shown k j there))
 
     -- the order stays one of all that is registered
@@ -96,10 +96,10 @@ counts_stay e e' us sessions same w = record {
 
 -- ---- where tables stay, too
 
-pub kept_over : (e : Kept) (o : IsOver e) → AreKept o.catalog e.places
+pub kept_over : (e : Kept) (o : PlacesAreKept e) → AreKept o.catalog e.places
 kept_over e o = record { each = λ k l there. (o.live k l there).kept }
 
-module _ (e e' : Kept) (k : KeepsTables e e') (o : IsOver e) (o' : IsOver e') (more : List Bytes)
+module _ (e e' : Kept) (k : KeepsTables e e') (o : PlacesAreKept e) (o' : PlacesAreKept e') (more : List Bytes)
     (texts : (e'.store).texts ≡ (e.store).texts ++ more) (law : UnionsStay) (u : United) (w : IsUnited e.places u) where
   untouched : AreUntouched o.catalog o'.catalog e.places e'.places u.members
   untouched = record {
@@ -114,18 +114,18 @@ module _ (e e' : Kept) (k : KeepsTables e e') (o : IsOver e) (o' : IsOver e') (m
   united_stays = (law o.catalog o'.catalog e.places e'.places u untouched w).0
 
   pub union_cursor_stays : (id : CursorId)
-      → option_map (held_as (e'.store).texts e'.places u id) (slot_at u.cursors id.cursor)
-      ≡ option_map (held_as (e.store).texts e.places u id) (slot_at u.cursors id.cursor)
+      → option_map (held_union_cursor (e'.store).texts e'.places u id) (slot_at u.cursors id.cursor)
+      ≡ option_map (held_union_cursor (e.store).texts e.places u id) (slot_at u.cursors id.cursor)
   union_cursor_stays id = by_slot (slot_at u.cursors id.cursor) refl
     where
-      by_slot : (o : Option Progress) → slot_at u.cursors id.cursor ≡ o
-          → option_map (held_as (e'.store).texts e'.places u id) o
-          ≡ option_map (held_as (e.store).texts e.places u id) o
+      by_slot : (o : Option UnionProgress) → slot_at u.cursors id.cursor ≡ o
+          → option_map (held_union_cursor (e'.store).texts e'.places u id) o
+          ≡ option_map (held_union_cursor (e.store).texts e.places u id) o
       by_slot None f = refl
       by_slot (Some p) f = ap (λ pos. Some (record { id = id; query = u.name; position = pos }))
-          (ap (λ (ts : List Bytes). position_of ts (members_in e'.places u) p) (sym o'.texts)
+          (ap (λ (ts : List Bytes). union_position ts (members_in e'.places u) p) (sym o'.texts)
           ∙ (law o.catalog o'.catalog e.places e'.places u untouched w).1 id.cursor p f
-          ∙ ap (λ (ts : List Bytes). position_of ts (members_in e.places u) p) o.texts)
+          ∙ ap (λ (ts : List Bytes). union_position ts (members_in e.places u) p) o.texts)
 
 -- The tables of all queries are as they were, and texts stay.
 pub record Rests (e e' : Kept) : Type 0 where
@@ -164,8 +164,8 @@ module _ (e e' : Kept) (r : Rests e e') (us : List (Option Joined)) (order sessi
       ≡ held_at (cursors_in e us) id
   cursor_over id same = by_case (cases_place id.query.at)
     where
-      by_slot : (i : ℕ) (o : Option Joined) → joined_at us i ≡ o → held_of (e'.store).texts e'.places id o
-          ≡ held_of (e.store).texts e.places id o
+      by_slot : (i : ℕ) (o : Option Joined) → joined_at us i ≡ o → union_cursor_of (e'.store).texts e'.places id o
+          ≡ union_cursor_of (e.store).texts e.places id o
       by_slot i None f = refl
       by_slot i (Some j) f = union_cursor_stays e e' r.tables r.before.over r.after.over r.more r.texts r.laws.unions
           j.union (w.united i j f) id
@@ -186,13 +186,13 @@ module _ (e e' : Kept) (r : Rests e e') (us : List (Option Joined)) (order sessi
   pub queries_over : map (listed_at e'.places us) order ≡ map (listed_at e.places us) order
   queries_over = queries_stay e e' r.before grows r.laws.members us order w
 
-  pub store_over : e'.store ≡ e.store → (seen e' us order sessions affected).store
-      ≡ (seen e us order sessions affected).store
+  pub store_over : e'.store ≡ e.store → (store_seen e' us order sessions affected).store
+      ≡ (store_seen e us order sessions affected).store
   store_over same = ap₂ (λ (st : Store) (qs : List Listed). (let s : Store = record st { queries = qs } in s)) same
       queries_over
 
   pub tellings_over : SameTellings e e'
-      → SameTellings (seen e us order sessions affected) (seen e' us order sessions affected)
+      → SameTellings (store_seen e us order sessions affected) (store_seen e' us order sessions affected)
   tellings_over same = record {
     affected = refl;
     told = ap₂ in_places same.told (logs_stay e e' r.before grows r.laws.members us order w r.laws.showable);

@@ -8,19 +8,19 @@ use Rattle.djq_reach.specs.Places.{is_reader}
 use Rattle.djq_engine.specs.declared.cursor.QueryId.{QueryId}
 use Rattle.djq_engine.specs.Kept.{Kept, Registered, registered_at, with_watchers}
 use Rattle.djq_engine.specs.Places.{id_at}
-use Rattle.djq_store.specs.Counting.{with_all}
+use Rattle.djq_store.specs.Counting.{with_watchers_at}
 use Rattle.djq_store.proofs.Counted.{changed, at_with}
 use Rattle.djq_store.proofs.Found.{found_passes}
 
-pub with_more : (f : ℕ → ℕ) (xs : List ℕ) (a : ℕ) (rs : List Registered) → with_all f (xs ++ a ∷ []) rs
-    ≡ with_watchers (id_at a) f (with_all f xs rs)
+pub with_more : (f : ℕ → ℕ) (xs : List ℕ) (a : ℕ) (rs : List Registered) → with_watchers_at f (xs ++ a ∷ []) rs
+    ≡ with_watchers (id_at a) f (with_watchers_at f xs rs)
 with_more f [] a rs = refl
 with_more f (x ∷ xs) a rs = with_more f xs a (with_watchers (id_at x) f rs)
 
 -- one that is watched so often more at most is counted on
 pub with_room : (xs : List ℕ) (rs : List Registered) (id : QueryId) (extra most : ℕ)
     → IsSomeAnd (registered_at rs id) (λ r. r.watchers + (length xs + extra) ≤ most)
-    → IsSomeAnd (registered_at (with_all (λ n. n + 1) xs rs) id) (λ r. r.watchers + extra ≤ most)
+    → IsSomeAnd (registered_at (with_watchers_at (λ n. n + 1) xs rs) id) (λ r. r.watchers + extra ≤ most)
 with_room [] rs id extra most h = weaker (registered_at rs id) h
   where
     weaker : (o : Option Registered) → IsSomeAnd o (λ r. r.watchers + (0 + extra) ≤ most)
@@ -44,7 +44,7 @@ with_room (x ∷ xs) rs id extra most h =
 
 -- one that isn't among them is as before
 pub with_apart : (f : ℕ → ℕ) (xs : List ℕ) (rs : List Registered) (a : ℕ) → is_reader xs a ≡ false
-    → registered_at (with_all f xs rs) (id_at a) ≡ registered_at rs (id_at a)
+    → registered_at (with_watchers_at f xs rs) (id_at a) ≡ registered_at rs (id_at a)
 with_apart f [] rs a d = refl
 with_apart f (x ∷ xs) rs a d =
     let n = neither (x == a) (is_reader xs a) d in
@@ -86,7 +86,7 @@ none_before xs i d low = by_places (take i xs) (λ k below same.
 -- what the code asks for at each of them, and what is done then
 
 module _ (e k : Kept) (members : List ℕ) (i : ℕ) (low : i < length members) where
-  module _ (before : k ≡ record e { registered = with_all (λ n. n + 1) (take i members) e.registered })
+  module _ (before : k ≡ record e { registered = with_watchers_at (λ n. n + 1) (take i members) e.registered })
       (few : IsSomeAnd (registered_at e.registered (id_at (get_or members i 0)))
       (λ r. r.watchers + length members ≤ 4294967295)) where
     watched_so_far : IsSomeAnd (registered_at k.registered (id_at (get_or members i 0)))
@@ -118,7 +118,7 @@ module _ (e k : Kept) (members : List ℕ) (i : ℕ) (low : i < length members) 
         some (Some r) h = refl
 
   pub can_leave : AllPairs (λ j k. j ≡ k → ⊥) members → k
-      ≡ record e { registered = with_all (λ n. n - 1) (take i members) e.registered }
+      ≡ record e { registered = with_watchers_at (λ n. n - 1) (take i members) e.registered }
       → IsSomeAnd (registered_at e.registered (id_at (get_or members i 0))) (λ r. 0 < r.watchers)
       → IsSomeAnd (registered_at k.registered (id_at (get_or members i 0))) (λ r. 0 < r.watchers)
   can_leave apart before h = subst
@@ -128,13 +128,14 @@ module _ (e k : Kept) (members : List ℕ) (i : ℕ) (low : i < length members) 
       (sym (with_apart (λ n. n - 1) (take i members) e.registered (get_or members i 0)
       (none_before members i apart low))) h)
 
-  pub one_more : (f : ℕ → ℕ) (new : Kept) → k ≡ record e { registered = with_all f (take i members) e.registered }
+  pub one_more : (f : ℕ → ℕ) (new : Kept)
+      → k ≡ record e { registered = with_watchers_at f (take i members) e.registered }
       → new ≡ record k { registered = with_watchers (id_at (get_or members i 0)) f k.registered } → new
-      ≡ record e { registered = with_all f (take (i + 1) members) e.registered }
+      ≡ record e { registered = with_watchers_at f (take (i + 1) members) e.registered }
   one_more f new before done =
       done ∙ ap (λ (x : Kept).
       (let y : Kept = record x { registered = with_watchers (id_at (get_or members i 0)) f x.registered } in y))
       before
       ∙ ap (λ (rs : List Registered). (let y : Kept = record e { registered = rs } in y))
-      (sym (ap (λ (xs : List ℕ). with_all f xs e.registered) (take_more members i 0 low)
+      (sym (ap (λ (xs : List ℕ). with_watchers_at f xs e.registered) (take_more members i 0 low)
       ∙ with_more f (take i members) (get_or members i 0) e.registered))

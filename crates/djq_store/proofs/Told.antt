@@ -25,15 +25,16 @@ use Rattle.djq_engine.specs.Kept.{Kept, Registered, registered_at, told_at, affe
 use Rattle.djq_engine.specs.Places.{id_at}
 use Rattle.djq_engine.specs.Watching.{LogsTell}
 use Rattle.djq_engine.specs.Watching as engine
-use Rattle.djq_united.specs.United.{union_of, first_of}
+use Rattle.djq_united.specs.United.{union_of, first_of_members}
 use Rattle.djq_gains.specs.Gains.{TellUnion}
 use Rattle.djq_deltas.specs.Growing.{SparesOthers}
 use Rattle.djq_deltas.proofs.Lists.{kept_there, mapped_there, first_there, later_there}
 use Rattle.djq_store.specs.declared.joined.Joined.{Joined}
 use Rattle.djq_store.specs.declared.settling.Turn.{Turn}
 use Rattle.djq_store.specs.declared.settling.Turn.TheVariants.{Came, Went, Lacked}
-use Rattle.djq_store.specs.Places.{joined_at, told_in, listed_at, registered_as, sessions_at, union_watchers, seen}
-use Rattle.djq_store.specs.Settling.{first_read, touched_in, is_settled, TellsUnion, TellsWatched}
+use Rattle.djq_store.specs.Places.{joined_at, told_of_union, listed_at, registered_as, sessions_at, union_watchers}
+use Rattle.djq_store.specs.Places.{store_seen}
+use Rattle.djq_store.specs.Settling.{first_read_by, touched_in, is_settled, TellsUnionLog, TellsWatched}
 use Rattle.djq_store.specs.Settling.{SettlesLog, SettlesLogBy, settling_steps, telling_steps, asking_steps}
 use Rattle.djq_store.specs.Watching.{TellsChange, is_reached}
 use Rattle.djq_store.specs.Whole.{IsListed, IsCounted}
@@ -61,7 +62,7 @@ turn_for false = Went
 -- the log of a watched union that is outdated tells its delta
 tells_log : (came : Bool) (e' : Kept) (relations : List Bytes) (j : Joined) (log : Log) → nat_lt 0 j.watchers ≡ true
     → (r : Option Bytes) → is_some r ≡ true → SettlesLogBy r e' relations (turn_for came) j log
-    → TellsUnion e' relations came j log
+    → TellsUnionLog e' relations came j log
 tells_log came e' relations j log watched None miss s = absurd (false≢true miss)
 tells_log true e' relations j log watched (Some r) hit s =
     subst (λ (x : Bool). TellsWatched x e' relations true j log) watched s
@@ -127,7 +128,7 @@ ids_of_all e us sessions order change =
 module _ (change : RowsChange) (relations : List Bytes) (came : Bool) (e e' : Kept) (us us' : List (Option Joined))
     (b : Behind (Some change) relations (turn_for came) e e' us us') (order : List ℕ) (w : IsListed e us order)
     (sessions affected affected' : List ℕ) (c : IsCounted e us sessions) (before mid last : ℕ)
-    (t : engine.TellsChange e (accepted change) e' before mid)
+    (t : engine.EngineTellsChange e (accepted change) e' before mid)
     (spares : SparesOthers (e.store).relations change)
     (out : (q : Query) → is_touched change q ≡ true → is_outdated change (a_query q) ≡ true)
     (hits : (q : Query) → is_touched change q ≡ list_any (reads q) relations)
@@ -139,10 +140,10 @@ module _ (change : RowsChange) (relations : List Bytes) (came : Bool) (e e' : Ke
   eds = t.deltas
 
   abbrev old : Kept
-  old = seen e us order sessions affected
+  old = store_seen e us order sessions affected
 
   abbrev new : Kept
-  new = seen e' us' order sessions affected'
+  new = store_seen e' us' order sessions affected'
 
   abbrev fs : ℕ → List Change
   fs = f change relations (turn_for came) e e' us us' b order w sessions c eds t.listed spares out
@@ -177,8 +178,8 @@ module _ (change : RowsChange) (relations : List Bytes) (came : Bool) (e e' : Ke
   -- of a union, by whether its log was lost
   union_by : (k : ℕ) (j : Joined) (there : joined_at us k ≡ Some j) → 0 < j.watchers → (log : Log) (l : Live)
       → told_at new (id_at (QUERIES + k)) ≡ cond log.lost None (Some (map (change_of (e'.store).texts l) log.lines))
-      → first_of (queries_at e'.places j.union.members) ≡ Some l
-      → TellsUnion e' relations came j log → (lost : Bool) → log.lost ≡ lost
+      → first_of_members (queries_at e'.places j.union.members) ≡ Some l
+      → TellsUnionLog e' relations came j log → (lost : Bool) → log.lost ≡ lost
       → (changes : List Change) × IsDelta (AnswersOf (e.store).relations (union_of e.places j.union))
       (AnswersOf change.after (union_of e.places j.union)) changes × LogAt (QUERIES + k) changes
   union_by k j there some log l says at tells true h =
@@ -204,7 +205,7 @@ module _ (change : RowsChange) (relations : List Bytes) (came : Bool) (e e' : Ke
   tells_union k j there hit some =
       let x = now (Some change) relations (turn_for came) e e' us us' b order w k j there in
       let l = first (Some change) relations (turn_for came) e e' us us' b order w k j there in
-      let reached : is_some (first_read e'.places relations j.union.members) ≡ true =
+      let reached : is_some (first_read_by e'.places relations j.union.members) ≡ true =
       ap is_some (first_outdates (Some change) relations (turn_for came) e e' us us' b j.union (w.united k j there))
       ∙ hit in
       union_by k j there some (x.after).log l.new
@@ -212,7 +213,7 @@ module _ (change : RowsChange) (relations : List Bytes) (came : Bool) (e e' : Ke
       ∙ told_now (Some change) relations (turn_for came) e e' us us' b order w k j there)
       l.now
       (tells_log came e' relations j (x.after).log (lt-ltb 0 j.watchers some)
-      (first_read e'.places relations j.union.members) reached (x.settles).log)
+      (first_read_by e'.places relations j.union.members) reached (x.settles).log)
       (x.after).log.lost refl
 
   list : Lists (e.store).relations change qs fs (members_at us) ps
@@ -301,7 +302,7 @@ module _ (change : RowsChange) (relations : List Bytes) (came : Bool) (e e' : Ke
 module _ (change : RowsChange) (relations : List Bytes) (e e' : Kept) (us us' : List (Option Joined))
     (b : Behind (Some change) relations Lacked e e' us us') (order : List ℕ) (w : IsListed e us order)
     (sessions affected affected' : List ℕ) (c : IsCounted e us sessions) (before mid last : ℕ)
-    (t : engine.TellsChange e (out_of_memory change) e' before mid)
+    (t : engine.EngineTellsChange e (out_of_memory change) e' before mid)
     (spares : SparesOthers (e.store).relations change)
     (out : (q : Query) → is_touched change q ≡ true → is_outdated change (a_query q) ≡ true)
     (counted : last ≤ mid + sum_by (settling_steps e' relations Lacked) us)
@@ -320,16 +321,16 @@ module _ (change : RowsChange) (relations : List Bytes) (e e' : Kept) (us us' : 
       in
       (d.0, d.1, tt))
 
-  discarded : (id : QueryId) → IsSomeAnd (registered_at (seen e us order sessions affected).registered id)
+  discarded : (id : QueryId) → IsSomeAnd (registered_at (store_seen e us order sessions affected).registered id)
       (λ r. is_outdated change r.query ≡ true)
-      → told_at (seen e' us' order sessions affected') id ≡ Some []
+      → told_at (store_seen e' us' order sessions affected') id ≡ Some []
   discarded id k =
       let h = registered_has e b.did.before us order w sessions id (λ r. is_outdated change r.query ≡ true) k in
       by (cases_place id.at) h.0 h.1
     where
       by : (id.at < QUERIES) ⊎ Slot id.at → is_reader order id.at ≡ true
           → is_outdated change (registered_as e.places us sessions id.at).query ≡ true
-          → told_at (seen e' us' order sessions affected') id ≡ Some []
+          → told_at (store_seen e' us' order sessions affected') id ≡ Some []
       by (inl low) there hit =
           let s = order_seat e b.did.before us order w id.at there low in
           told_low e' b.did.after us' order sessions affected' id.at low
@@ -339,14 +340,14 @@ module _ (change : RowsChange) (relations : List Bytes) (e e' : Kept) (us us' : 
       by (inr s) there hit =
           let joint = order_joint e b.did.before us order w s.slot
           (subst (λ (i : ℕ). is_reader order i ≡ true) s.is there) in
-          ap (λ (i : ℕ). told_at (seen e' us' order sessions affected') (id_at i)) s.is
+          ap (λ (i : ℕ). told_at (store_seen e' us' order sessions affected') (id_at i)) s.is
           ∙ told_high e' b.did.after us' order sessions affected' s.slot
           ∙ told_nothing (Some change) relations Lacked e e' us us' b order w s.slot joint.union joint.there refl
           (ap (is_outdated change) (sym (ap (listed_at e.places us) s.is ∙ listed_joint e.places us s.slot joint))
           ∙ hit)
 
-  pub tells_refused : TellsChange (seen e us order sessions affected) (out_of_memory change)
-      (seen e' us' order sessions affected') before last
+  pub tells_refused : TellsChange (store_seen e us order sessions affected) (out_of_memory change)
+      (store_seen e' us' order sessions affected') before last
   tells_refused =
       let ps = places change relations Lacked e e' us us' b order w sessions c t.deltas t.listed spares out in
       let qs = q_at change relations Lacked e e' us us' b order w sessions c t.deltas t.listed spares out in
@@ -374,9 +375,10 @@ module _ (change : RowsChange) (relations : List Bytes) (e e' : Kept) (us us' : 
 
 pub tells_none : (relations : List Bytes) (turn : Turn) (e e' : Kept) (us us' : List (Option Joined))
     → Behind None relations turn e e' us us' → (order : List ℕ) → IsListed e us order
-    → (sessions affected affected' : List ℕ) (before mid last : ℕ) → engine.TellsChange e unchanged e' before mid
+    → (sessions affected affected' : List ℕ) (before mid last : ℕ) → engine.EngineTellsChange e unchanged e' before mid
     → last ≤ mid → affected' ≡ affected
-    → TellsChange (seen e us order sessions affected) unchanged (seen e' us' order sessions affected') before last
+    → TellsChange (store_seen e us order sessions affected) unchanged
+    (store_seen e' us' order sessions affected') before last
 tells_none relations turn e e' us us' b order w sessions affected affected' before mid last t less affects =
     let none = t.counted in
     record {

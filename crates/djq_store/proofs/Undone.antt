@@ -18,17 +18,17 @@ use Rattle.djq_machine.specs.Store.{drop_refusal}
 use Rattle.djq_reach.specs.Places.{is_reader}
 use Rattle.djq_engine.specs.declared.cursor.CursorId.{CursorId}
 use Rattle.djq_engine.specs.declared.cursor.QueryId.{QueryId}
-use Rattle.djq_engine.specs.Kept.{Kept, HeldCursor, Registered, SameCursors, Uses, DropGives, TellsOf}
+use Rattle.djq_engine.specs.Kept.{Kept, HeldCursor, Registered, SameCursors, Uses, DropGives, TellsOfQuery}
 use Rattle.djq_engine.specs.Kept.{same_query, held_at, registered_at, registered_of, is_watched}
-use Rattle.djq_engine.specs.Places.{id_at, left}
+use Rattle.djq_engine.specs.Places.{id_at, places_without}
 use Rattle.djq_engine.proofs.Conditions.{answers_refused, answers_done}
 use Rattle.djq_engine.proofs.Listing.{map_members, drop_listed, filter_twice, once_filter, reader_filter, all_but}
-use Rattle.djq_united.specs.Slots.{Progress, slot_at, are_vacant}
+use Rattle.djq_united.specs.Slots.{UnionProgress, slot_at, are_vacant}
 use Rattle.djq_united.specs.United.{IsUnited, union_of}
 use Rattle.djq_store.specs.declared.joined.Joined.{Joined}
 use Rattle.djq_store.specs.Below.{IsEngine}
 use Rattle.djq_store.specs.Places.{joined_at, listed_at, union_watchers, sessions_at, registered_as}
-use Rattle.djq_store.specs.Places.{held_as, held_of, told_in, seen}
+use Rattle.djq_store.specs.Places.{held_union_cursor, union_cursor_of, told_of_union, store_seen}
 use Rattle.djq_store.specs.Whole.{IsListed, IsCounted, IsShownByFirst, wants, query_places}
 use Rattle.djq_store.proofs.Belonging.{union_no_member}
 use Rattle.djq_store.proofs.Departed.{left_in, left_other, left_here, left_shorter, map_left, ids_left, occupied}
@@ -54,7 +54,7 @@ module _ (e : Kept) (b : IsEngine e) (us : List (Option Joined)) (order sessions
   at = QUERIES + k
 
   abbrev old : Kept
-  old = seen e us order sessions affected
+  old = store_seen e us order sessions affected
 
   abbrev name : Bytes
   name = j.union.name
@@ -113,9 +113,10 @@ module _ (e : Kept) (b : IsEngine e) (us : List (Option Joined)) (order sessions
       let o = occupied j.union.cursors some in
       in_use (inl (
         cursor_of k o.slot,
-        held_as (e.store).texts e.places j.union (cursor_of k o.slot) o.item,
-        held_high e us (cursor_of k o.slot) b k refl ∙ ap (held_of (e.store).texts e.places (cursor_of k o.slot)) there
-            ∙ ap (option_map (held_as (e.store).texts e.places j.union (cursor_of k o.slot))) o.there,
+        held_union_cursor (e.store).texts e.places j.union (cursor_of k o.slot) o.item,
+        held_high e us (cursor_of k o.slot) b k refl
+            ∙ ap (union_cursor_of (e.store).texts e.places (cursor_of k o.slot)) there
+            ∙ ap (option_map (held_union_cursor (e.store).texts e.places j.union (cursor_of k o.slot))) o.there,
         refl,
       ))
 
@@ -168,7 +169,7 @@ module _ (e : Kept) (b : IsEngine e) (us : List (Option Joined)) (order sessions
         and_false true = refl
         and_false false = refl
 
-    pub undone_listed : IsListed e us' (left at order)
+    pub undone_listed : IsListed e us' (places_without at order)
     undone_listed = record {
       united = some_of (λ y. IsUnited e.places y.union) w.united;
       shown = some_of (IsShownByFirst e) w.shown;
@@ -187,13 +188,13 @@ module _ (e : Kept) (b : IsEngine e) (us : List (Option Joined)) (order sessions
       within = let long = length-set us k None in let within = w.within in omega (arith, long, within);
     }
       where
-        other : (i : ℕ) → (i ≡ k → ⊥) → is_reader (left at order) (QUERIES + i) ≡ is_some (joined_at us' i)
+        other : (i : ℕ) → (i ≡ k → ⊥) → is_reader (places_without at order) (QUERIES + i) ≡ is_some (joined_at us' i)
         other i d = left_other at order (QUERIES + i) (λ h. d (omega (arith, h))) ∙ w.unions i
             ∙ sym (ap is_some (others i d))
 
-        by_order : (i : ℕ) → (i ≡ k) ⊎ ((i < k) ⊎ (k < i)) → is_reader (left at order) (QUERIES + i)
+        by_order : (i : ℕ) → (i ≡ k) ⊎ ((i < k) ⊎ (k < i)) → is_reader (places_without at order) (QUERIES + i)
             ≡ is_some (joined_at us' i)
-        by_order i (inl h) = ap (λ n. is_reader (left at order) (QUERIES + n)) h ∙ left_here at order
+        by_order i (inl h) = ap (λ n. is_reader (places_without at order) (QUERIES + n)) h ∙ left_here at order
             ∙ sym (ap is_some (ap (joined_at us') h ∙ gone))
         by_order i (inr (inl l)) = other i (λ h. omega (arith, h, l))
         by_order i (inr (inr l)) = other i (λ h. omega (arith, h, l))
@@ -229,7 +230,7 @@ module _ (e : Kept) (b : IsEngine e) (us : List (Option Joined)) (order sessions
         few_at i (inr (inr l)) = few_other i (λ h. omega (arith, h, l))
 
     abbrev new : Kept
-    new = seen e us' (left at order) sessions (left at affected)
+    new = store_seen e us' (places_without at order) sessions (places_without at affected)
 
     test_at : (i : ℕ) → is_reader order i ≡ true → bytes_eq (listed_name (listed_at e.places us i)) name ≡ (i == at)
     test_at i h = by_test (bytes_eq (listed_name (listed_at e.places us i)) name) refl (i == at) refl
@@ -258,7 +259,7 @@ module _ (e : Kept) (b : IsEngine e) (us : List (Option Joined)) (order sessions
     )
       where
         of_union : (id : CursorId) (h : HeldCursor) (i : ℕ) (o : Option Joined) → joined_at us i ≡ o
-            → held_of (e.store).texts e.places id o ≡ Some h → h.query ≡ name → ⊥
+            → union_cursor_of (e.store).texts e.places id o ≡ Some h → h.query ≡ name → ⊥
         of_union id h i None f g called = absurd cc
         of_union id h i (Some y) f g called = by_slot (slot_at y.union.cursors id.cursor) refl g
           where
@@ -268,11 +269,11 @@ module _ (e : Kept) (b : IsEngine e) (us : List (Option Joined)) (order sessions
             same_joined : {x y : Joined} → Some x ≡ Some y → x ≡ y
             same_joined h = cc
 
-            by_slot : (o : Option Progress) → slot_at y.union.cursors id.cursor ≡ o
-                → option_map (held_as (e.store).texts e.places y.union id) o ≡ Some h → ⊥
+            by_slot : (o : Option UnionProgress) → slot_at y.union.cursors id.cursor ≡ o
+                → option_map (held_union_cursor (e.store).texts e.places y.union id) o ≡ Some h → ⊥
             by_slot None s g = absurd cc
             by_slot (Some p) s g =
-                let is : held_as (e.store).texts e.places y.union id p ≡ h = same g in
+                let is : held_union_cursor (e.store).texts e.places y.union id p ≡ h = same g in
                 let z : Joint us i = record { union = y; there = f } in
                 let places : QUERIES + i ≡ at = w.named (QUERIES + i) at (joint_order e b us order w i z) in_order
                 (ap listed_name (listed_joint e.places us i z) ∙ ap (λ (x : HeldCursor). x.query) is ∙ called
@@ -304,16 +305,16 @@ module _ (e : Kept) (b : IsEngine e) (us : List (Option Joined)) (order sessions
     cursors_same : SameCursors old.cursors new.cursors
     cursors_same id = by_order (cases_order id.query.at at)
       where
-        slots_none : (o : Option Progress) → slot_at j.union.cursors id.cursor ≡ o
-            → option_map (held_as (e.store).texts e.places j.union id) o ≡ None
+        slots_none : (o : Option UnionProgress) → slot_at j.union.cursors id.cursor ≡ o
+            → option_map (held_union_cursor (e.store).texts e.places j.union id) o ≡ None
         slots_none None f = refl
         slots_none (Some p) f = absurd (vacant_slot j.union.cursors none_held id.cursor p f)
 
         by_order : (id.query.at ≡ at) ⊎ ((id.query.at < at) ⊎ (at < id.query.at)) → held_at new.cursors id
             ≡ held_at old.cursors id
         by_order (inl h) =
-            held_high e us' id b k h ∙ ap (held_of (e.store).texts e.places id) gone
-            ∙ sym (held_high e us id b k h ∙ ap (held_of (e.store).texts e.places id) there
+            held_high e us' id b k h ∙ ap (union_cursor_of (e.store).texts e.places id) gone
+            ∙ sym (held_high e us id b k h ∙ ap (union_cursor_of (e.store).texts e.places id) there
             ∙ slots_none (slot_at j.union.cursors id.cursor) refl)
         by_order (inr (inl l)) = held_other us us' k others e b id (λ h. omega (arith, h, l))
         by_order (inr (inr l)) = held_other us us' k others e b id (λ h. omega (arith, h, l))
@@ -328,25 +329,26 @@ module _ (e : Kept) (b : IsEngine e) (us : List (Option Joined)) (order sessions
             { queries = drop_first (λ q. bytes_eq (listed_name q) name) old.store.queries }) (OutOfMemoryWhere ⊥)
             (refusal false)
             (ap (λ (qs : List Listed). (let s : Store = record e.store { queries = qs } in s))
-            (map_members (listed_at e.places us') (listed_at e.places us) (left at order)
+            (map_members (listed_at e.places us') (listed_at e.places us) (places_without at order)
             (λ i h. listed_same i (left_in at order i h).1)
             ∙ sym (drop_listed (listed_at e.places us) order name at w.once test_at)));
         stays = tt;
       };
       cursors = cursors_same;
       registered =
-          map_members (registered_as e.places us' sessions) (registered_as e.places us sessions) (left at order)
+          map_members (registered_as e.places us' sessions) (registered_as e.places us sessions)
+          (places_without at order)
           (λ i h. registered_other us us' k others e.places sessions i (left_in at order i h).1)
           ∙ sym (map_left (registered_as e.places us sessions) (λ (r : Registered). bytes_eq (listed_name r.query) name)
           at order test_at);
       tellings = subst (λ (o : Option Registered). IsSomeAnd o
-          (λ r. TellsOf old r.id None new
+          (λ r. TellsOfQuery old r.id None new
           × (new.affected ≡ filter (λ (id : QueryId). not (same_query id r.id)) old.affected))) (sym named_at) (
             record {
-              here = told_high e b us' (left at order) sessions (left at affected) (id_at at) k refl
-                  ∙ ap (told_in (e.store).texts e.places) gone;
-              others = λ id d. told_other us us' k others e b order (left at order) sessions affected
-                  (left at affected) id
+              here = told_high e b us' (places_without at order) sessions (places_without at affected) (id_at at) k refl
+                  ∙ ap (told_of_union (e.store).texts e.places) gone;
+              others = λ id d. told_other us us' k others e b order (places_without at order) sessions affected
+                  (places_without at affected) id
                   (λ h. false≢true (sym d ∙ eq-eqb id.at at h));
             },
             ids_left at affected,

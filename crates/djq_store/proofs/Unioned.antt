@@ -13,18 +13,18 @@ use Rattle.djq_machine.specs.State.{Store}
 use Rattle.djq_live.specs.Live.{Live, IsShowable}
 use Rattle.djq_reach.specs.Places.{is_reader}
 use Rattle.djq_reach.proofs.Among.{apart, reader_more}
-use Rattle.djq_engine.specs.Kept.{Kept, Registered, SameCursors, TellsOf, held_at, registered_at, registered_of}
+use Rattle.djq_engine.specs.Kept.{Kept, Registered, SameCursors, TellsOfQuery, held_at, registered_at, registered_of}
 use Rattle.djq_live.specs.Updating.{change_of}
 use Rattle.djq_engine.specs.Places.{id_at, told_of}
-use Rattle.djq_engine.specs.Finding.{IsFirst}
+use Rattle.djq_engine.specs.Finding.{IsFirstPassing}
 use Rattle.djq_engine.proofs.Firsts.{first_of_position, none_of_position}
 use Rattle.djq_engine.proofs.Listing.{map_members, once_push}
 use Rattle.djq_united.specs.United.{IsUnited, union_of}
 use Rattle.djq_store.specs.declared.joined.Joined.{Joined}
 use Rattle.djq_store.specs.Below.{IsEngine}
-use Rattle.djq_store.specs.Filling.{Fills}
+use Rattle.djq_store.specs.Filling.{FillsSlot}
 use Rattle.djq_store.specs.Places.{joined_at, listed_at, union_watchers, sessions_at, registered_as}
-use Rattle.djq_store.specs.Places.{held_of, told_in, seen}
+use Rattle.djq_store.specs.Places.{union_cursor_of, told_of_union, store_seen}
 use Rattle.djq_store.specs.Whole.{IsListed, IsCounted, IsShownByFirst, wants, query_places}
 use Rattle.djq_store.proofs.Held.{held_high}
 use Rattle.djq_store.proofs.Members.{first_there}
@@ -36,7 +36,7 @@ use Rattle.djq_store.proofs.Slotted.{listed_other, sessions_other, registered_ot
 
 -- a slot that is set
 pub fills_set : (us : List (Option Joined)) (k : ℕ) (j : Joined) → k < length us → joined_at us k ≡ None
-    → length us ≤ QUERIES → Fills us (set us k (Some j)) k j
+    → length us ≤ QUERIES → FillsSlot us (set us k (Some j)) k j
 fills_set us k j low vacant within = record {
   vacant = vacant;
   here = get_or-set_same us k (Some j) None low;
@@ -65,7 +65,7 @@ fills_set us k j low vacant within = record {
 
 -- a slot behind all others
 pub fills_push : (us : List (Option Joined)) (j : Joined) → length us < QUERIES
-    → Fills us (us ++ Some j ∷ []) (length us) j
+    → FillsSlot us (us ++ Some j ∷ []) (length us) j
 fills_push us j low = record {
   vacant = get_or_past us (length us) None (omega arith);
   here = last us;
@@ -98,7 +98,7 @@ pub found_vacant : (us vs : List (Option Joined)) (k : ℕ) → vs ≡ us → So
     × (joined_at us k ≡ None)
 found_vacant us vs k same e = (first.below, none (joined_at us k) (first.passes None))
   where
-    first : IsFirst is_none us k
+    first : IsFirstPassing is_none us k
     first = first_of_position is_none us k (sym (e ∙ ap (position is_none) same))
 
     none : (o : Option Joined) → is_none o ≡ true → o ≡ None
@@ -116,7 +116,7 @@ none_vacant us vs same e = all us (none_of_position is_none us (sym (e ∙ ap (p
         (arith, more, here)
 
 module _ (e : Kept) (b : IsEngine e) (us us' : List (Option Joined)) (order sessions affected : List ℕ)
-    (w : IsListed e us order) (k : ℕ) (j : Joined) (f : Fills us us' k j) where
+    (w : IsListed e us order) (k : ℕ) (j : Joined) (f : FillsSlot us us' k j) where
   abbrev at : ℕ
   at = QUERIES + k
 
@@ -124,10 +124,10 @@ module _ (e : Kept) (b : IsEngine e) (us us' : List (Option Joined)) (order sess
   order' = order ++ at ∷ []
 
   abbrev old : Kept
-  old = seen e us order sessions affected
+  old = store_seen e us order sessions affected
 
   abbrev new : Kept
-  new = seen e us' order' sessions affected
+  new = store_seen e us' order' sessions affected
 
   listed_same : (i : ℕ) → (i ≡ at → ⊥) → listed_at e.places us' i ≡ listed_at e.places us i
   listed_same i d = listed_other us us' k f.others e.places i d
@@ -224,9 +224,9 @@ module _ (e : Kept) (b : IsEngine e) (us us' : List (Option Joined)) (order sess
       by_order : (id.query.at ≡ at) ⊎ ((id.query.at < at) ⊎ (at < id.query.at)) → held_at new.cursors id
           ≡ held_at old.cursors id
       by_order (inl h) =
-          held_high e us' id b k h ∙ ap (held_of (e.store).texts e.places id) f.here
+          held_high e us' id b k h ∙ ap (union_cursor_of (e.store).texts e.places id) f.here
           ∙ ap (option_map _) (no_slot id.cursor)
-          ∙ sym (held_high e us id b k h ∙ ap (held_of (e.store).texts e.places id) f.vacant)
+          ∙ sym (held_high e us id b k h ∙ ap (union_cursor_of (e.store).texts e.places id) f.vacant)
       by_order (inr (inl l)) = held_other us us' k f.others e b id (λ h. omega (arith, h, l))
       by_order (inr (inr l)) = held_other us us' k f.others e b id (λ h. omega (arith, h, l))
 
@@ -314,12 +314,12 @@ module _ (e : Kept) (b : IsEngine e) (us us' : List (Option Joined)) (order sess
 
     -- nothing is told of it yet
     pub unioned_tells : IsSomeAnd (registered_of new.registered j.union.name)
-        (λ (r : Registered). TellsOf old r.id (Some []) new)
+        (λ (r : Registered). TellsOfQuery old r.id (Some []) new)
     unioned_tells =
-        subst (λ (o : Option Registered). IsSomeAnd o (λ (r : Registered). TellsOf old r.id (Some []) new))
+        subst (λ (o : Option Registered). IsSomeAnd o (λ (r : Registered). TellsOfQuery old r.id (Some []) new))
         (sym by_name) (record {
           here = told_high e b us' order' sessions affected (id_at at) k refl
-              ∙ ap (told_in (e.store).texts e.places) f.here ∙ told;
+              ∙ ap (told_of_union (e.store).texts e.places) f.here ∙ told;
           others = λ id d. told_other us us' k f.others e b order order' sessions affected affected id
               (λ h. false≢true (sym d ∙ eq-eqb id.at at h));
         })
@@ -337,7 +337,7 @@ module _ (e : Kept) (b : IsEngine e) (us us' : List (Option Joined)) (order sess
             ∙ ap (option_map (registered_as e.places us' sessions))
             (named_here e b us' order' unioned_listed j.union.name at at_end name_here)
 
-        told : told_in (e.store).texts e.places (Some j) ≡ Some []
+        told : told_of_union (e.store).texts e.places (Some j) ≡ Some []
         told =
             let first = first_there e.places j.union.members fits.members.have fits.members.several in
             ap (λ o. told_of (e.store).texts o j.log) first.first

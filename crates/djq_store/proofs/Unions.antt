@@ -20,17 +20,18 @@ use Rattle.djq_rows.specs.Catalog.{Catalog}
 use Rattle.djq_live.specs.Live.{Live, IsShowable, values_of}
 use Rattle.djq_live.specs.Member.{queries_at}
 use Rattle.djq_engine.specs.declared.cursor.CursorId.{CursorId}
-use Rattle.djq_engine.specs.Kept.{Kept, HeldCursor, OpensCursor, OpenGives, ClosesCursor, MovesCursor}
+use Rattle.djq_engine.specs.Kept.{Kept, HeldCursor, OpensCursor, CursorOpenGives, ClosesCursor, MovesCursor}
 use Rattle.djq_engine.specs.Kept.{MoreGives, MoreGivesAt, IsShown, AnswerIs, AtQuery, held_at, same_id, read_steps}
 use Rattle.djq_engine.specs.Places.{id_at}
 use Rattle.djq_engine.proofs.Conditions.{answers_done, answers_lacking}
-use Rattle.djq_united.specs.Slots.{Progress, slot_at}
+use Rattle.djq_united.specs.Slots.{UnionProgress, slot_at}
 use Rattle.djq_united.specs.Reading as united
-use Rattle.djq_united.specs.United.{United, IsUnited, members_in, first_of, position_of, union_of}
+use Rattle.djq_united.specs.United.{United, IsUnited, members_in, first_of_members, union_position, union_of}
 use Rattle.djq_store.specs.declared.joined.Joined.{Joined}
 use Rattle.djq_store.specs.Below.{IsEngine}
-use Rattle.djq_store.specs.Moving.{MovesUnion, OpensUnion, ClosesUnion, ReadsUnion, TellsUnion}
-use Rattle.djq_store.specs.Places.{joined_at, listed_at, held_as, held_of, lender_in, first_member, cursors_in, seen}
+use Rattle.djq_store.specs.Moving.{MovesUnion, OpensUnion, ClosesUnion, ReadsUnion, TellsUnionMore}
+use Rattle.djq_store.specs.Places.{joined_at, listed_at, held_union_cursor, union_cursor_of, lender_in, first_member}
+use Rattle.djq_store.specs.Places.{cursors_in, store_seen}
 use Rattle.djq_store.specs.Reading as store
 use Rattle.djq_store.specs.Whole.{IsListed, IsCounted}
 use Rattle.djq_store.proofs.Held.{held_high}
@@ -66,10 +67,10 @@ set_itself us k j there = ap (set us k) (sym there) ∙ set-get_or us k None
 module _ (e : Kept) (b : IsEngine e) (us : List (Option Joined)) (order sessions affected : List ℕ)
     (w : IsListed e us order) (k : ℕ) where
   abbrev old : Kept
-  old = seen e us order sessions affected
+  old = store_seen e us order sessions affected
 
   abbrev new : List (Option Joined) → Kept
-  new vs = seen e vs order sessions affected
+  new vs = store_seen e vs order sessions affected
 
   -- the name of a union stands for it
   pub union_listed : (j : Joined) → joined_at us k ≡ Some j → listed_of old.store.queries j.union.name
@@ -95,9 +96,11 @@ module _ (e : Kept) (b : IsEngine e) (us : List (Option Joined)) (order sessions
         let same_members : v.members ≡ o.union.members = ap (λ (x : United). x.members) opens.opens.others in
         let fits_now = opens.united e.places fits in record {
           fresh = stood_here e b us order sessions affected w k o there v same_name same_members fits_now cursor
-              ∙ ap (option_map (held_as (e.store).texts e.places o.union (cursor_of k cursor))) opens.opens.free;
+              ∙ ap (option_map (held_union_cursor (e.store).texts e.places o.union (cursor_of k cursor)))
+              opens.opens.free;
           there = moved_here e b us order sessions affected w k o there v same_name same_members fits_now cursor
-              ∙ ap (option_map (held_as (e.store).texts e.places v (cursor_of k cursor))) opens.opens.sets.there
+              ∙ ap (option_map (held_union_cursor (e.store).texts e.places v (cursor_of k cursor)))
+              opens.opens.sets.there
               ∙ ap₂ (λ (q : Bytes) (position : Position). Some
               (record { id = cursor_of k cursor; query = q; position = position })) (same_name ∙ called)
               (opens.opens.stands (e.store).texts (members_in e.places v));
@@ -110,7 +113,7 @@ module _ (e : Kept) (b : IsEngine e) (us : List (Option Joined)) (order sessions
         }
 
     pub open_union : (cursor : ℕ) (vs : List (Option Joined)) → MovesUnion (OpensUnion cursor) k us vs
-        → OpenGives old name (Ok (cursor_of k cursor)) (new vs)
+        → CursorOpenGives old name (Ok (cursor_of k cursor)) (new vs)
     open_union cursor vs m = record {
       answer = answers_done (first_refusal ((is_none (listed_of old.store.queries name), NoQuery) ∷ []))
           (cursor_of k cursor) (λ id. OpensCursor old name id (new vs)) (OutOfMemoryWhere ⊤) known
@@ -120,7 +123,7 @@ module _ (e : Kept) (b : IsEngine e) (us : List (Option Joined)) (order sessions
       stays = λ r e. absurd cc;
     }
 
-    pub open_lacks : (vs : List (Option Joined)) → vs ≡ us → OpenGives old name (Err NoMemory) (new vs)
+    pub open_lacks : (vs : List (Option Joined)) → vs ≡ us → CursorOpenGives old name (Err NoMemory) (new vs)
     open_lacks vs same = record {
       answer = answers_lacking (first_refusal ((is_none (listed_of old.store.queries name), NoQuery) ∷ []))
           (λ id. OpensCursor old name id (new vs)) ⊤ known tt;
@@ -167,9 +170,9 @@ module _ (e : Kept) (b : IsEngine e) (us : List (Option Joined)) (order sessions
           gone = moved_here e b us order sessions affected w k m.old m.there m.new closed_name
               closed_members closed_fits
               cursor
-              ∙ ap (λ (x : United). option_map (held_as (e.store).texts e.places m.new (cursor_of k cursor))
+              ∙ ap (λ (x : United). option_map (held_union_cursor (e.store).texts e.places m.new (cursor_of k cursor))
               (slot_at x.cursors cursor)) m.done.closes
-              ∙ ap (option_map (held_as (e.store).texts e.places m.new (cursor_of k cursor)))
+              ∙ ap (option_map (held_union_cursor (e.store).texts e.places m.new (cursor_of k cursor)))
               (emptied m.old.union.cursors cursor);
           others = λ other apart. moved_others e b us order sessions affected w k m.old m.there m.new closed_name
               closed_members closed_fits other
@@ -187,49 +190,52 @@ module _ (e : Kept) (b : IsEngine e) (us : List (Option Joined)) (order sessions
 
   -- ---- a cursor is read
 
-  module _ (u : United) (o : Joined) (there : joined_at us k ≡ Some o) (cursor : ℕ) (p : Progress)
+  module _ (u : United) (o : Joined) (there : joined_at us k ≡ Some o) (cursor : ℕ) (p : UnionProgress)
       (slot : slot_at o.union.cursors cursor ≡ Some p) where
     abbrev held : HeldCursor
-    held = held_as (e.store).texts e.places o.union (cursor_of k cursor) p
+    held = held_union_cursor (e.store).texts e.places o.union (cursor_of k cursor) p
 
     pub held_there : held_at old.cursors (cursor_of k cursor) ≡ Some held
     held_there = held_high e us (cursor_of k cursor) b k refl
-        ∙ ap (held_of (e.store).texts e.places (cursor_of k cursor)) there
-        ∙ ap (option_map (held_as (e.store).texts e.places o.union (cursor_of k cursor))) slot
+        ∙ ap (union_cursor_of (e.store).texts e.places (cursor_of k cursor)) there
+        ∙ ap (option_map (held_union_cursor (e.store).texts e.places o.union (cursor_of k cursor))) slot
 
-  module _ (o : Joined) (there : joined_at us k ≡ Some o) (cursor : ℕ) (p : Progress)
+  module _ (o : Joined) (there : joined_at us k ≡ Some o) (cursor : ℕ) (p : UnionProgress)
       (slot : slot_at o.union.cursors cursor ≡ Some p) (v : United) where
     abbrev after : List (Option Joined)
     after = set us k (Some (record o { union = v }))
 
     -- the first member shows it
-    at_first : v.members ≡ o.union.members → (P : Live → Type 0) → IsSomeAnd (first_of (members_in e.places o.union)) P
+    at_first : v.members ≡ o.union.members → (P : Live → Type 0)
+        → IsSomeAnd (first_of_members (members_in e.places o.union)) P
         → AtQuery (new after) (cursor_of k cursor) P
     at_first same P h = subst (λ (x : Option Live). IsSomeAnd x P) (sym lends) h
       where
-        lends : get_or (new after).places (QUERIES + k) None ≡ first_of (members_in e.places o.union)
+        lends : get_or (new after).places (QUERIES + k) None ≡ first_of_members (members_in e.places o.union)
         lends =
             places_high e.places (map (lender_in e.places) after) k b.few
             ∙ get_or-map (lender_in e.places) after k None None
             (slot_below after k (record o { union = v }) (set_here us k o (Some (record o { union = v })) there))
             ∙ ap (lender_in e.places) (set_here us k o (Some (record o { union = v })) there)
-            ∙ ap (λ (ks : List ℕ). first_of (queries_at e.places ks)) same
+            ∙ ap (λ (ks : List ℕ). first_of_members (queries_at e.places ks)) same
 
     moves : (c : Catalog) (texts : c.texts ≡ (e.store).texts) (position : Position)
-        → united.MovesTo c e.places o.union cursor position v
-        → MovesCursor old (held_as (e.store).texts e.places o.union (cursor_of k cursor) p) position (new after)
+        → united.UnionCursorMoves c e.places o.union cursor position v
+        → MovesCursor old (held_union_cursor (e.store).texts e.places o.union (cursor_of k cursor) p)
+        position (new after)
     moves c texts position m =
         let same_name : v.name ≡ o.union.name = ap (λ (x : United). x.name) m.moved in
         let same_members : v.members ≡ o.union.members = ap (λ (x : United). x.members) m.moved in
         record {
           there = moved_here e b us order sessions affected w k o there v same_name same_members m.united cursor
-              ∙ ap (λ (x : United). option_map (held_as (e.store).texts e.places v (cursor_of k cursor))
+              ∙ ap (λ (x : United). option_map (held_union_cursor (e.store).texts e.places v (cursor_of k cursor))
               (slot_at x.cursors cursor)) m.moved
-              ∙ ap (option_map (held_as (e.store).texts e.places v (cursor_of k cursor)))
+              ∙ ap (option_map (held_union_cursor (e.store).texts e.places v (cursor_of k cursor)))
               (set_here o.union.cursors cursor p (Some m.progress) slot)
               ∙ ap₂ (λ (q : Bytes) (x : Position). Some (record { id = cursor_of k cursor; query = q; position = x }))
               same_name
-              (ap₂ (λ (ts : List Bytes) (ks : List ℕ). position_of ts (queries_at e.places ks) m.progress) (sym texts)
+              (ap₂ (λ (ts : List Bytes) (ks : List ℕ). union_position ts (queries_at e.places ks)
+              m.progress) (sym texts)
               same_members ∙ m.stands);
           others = λ other apart. moved_others e b us order sessions affected w k o there v same_name same_members
               m.united other
@@ -241,7 +247,7 @@ module _ (e : Kept) (b : IsEngine e) (us : List (Option Joined)) (order sessions
           tellings = moved_tellings e b us order sessions affected w k o there v same_name same_members m.united;
         }
 
-    members_moved : (c : Catalog) (position : Position) → united.MovesTo c e.places o.union cursor position v
+    members_moved : (c : Catalog) (position : Position) → united.UnionCursorMoves c e.places o.union cursor position v
         → v.members ≡ o.union.members
     members_moved c position m = ap (λ (x : United). x.members) m.moved
 
@@ -262,11 +268,11 @@ module _ (e : Kept) (b : IsEngine e) (us : List (Option Joined)) (order sessions
       shown_first answer t (Some l) h = shown answer t l h
 
       gives_at : (position : Position) (result : Next) (answer : List ℕ)
-          → united.NextGivesAt c e.places o.union cursor position result answer v
-          → store.NextGivesAt old (held_as (e.store).texts e.places o.union (cursor_of k cursor) p)
+          → united.UnionNextGivesAt c e.places o.union cursor position result answer v
+          → store.NextGivesAt old (held_union_cursor (e.store).texts e.places o.union (cursor_of k cursor) p)
           (union_of e.places o.union) position result answer (new after)
       gives_at (open_at given ended) Given answer g =
-          let s = shown_first answer g.0 (first_of (members_in e.places o.union)) g.2 in
+          let s = shown_first answer g.0 (first_of_members (members_in e.places o.union)) g.2 in
           let ms = members_moved c (open_at (given ++ g.0 ∷ []) false) g.3 in (
             g.0,
             subst (λ (rs : List Relation). IsLeft (AnswersOf rs (union_of e.places o.union)) given g.0) relations g.1,
@@ -290,8 +296,8 @@ module _ (e : Kept) (b : IsEngine e) (us : List (Option Joined)) (order sessions
       gives_at (stale s m) End answer g = g
 
       more_gives_at : (position : Position) (result : Bool)
-          → united.MoreGivesAt c e.places o.union cursor position result v
-          → MoreGivesAt old (held_as (e.store).texts e.places o.union (cursor_of k cursor) p)
+          → united.UnionMoreGivesAt c e.places o.union cursor position result v
+          → MoreGivesAt old (held_union_cursor (e.store).texts e.places o.union (cursor_of k cursor) p)
           (union_of e.places o.union) position result (new after)
       more_gives_at (open_at given ended) true g = (
         (
@@ -314,7 +320,7 @@ module _ (e : Kept) (b : IsEngine e) (us : List (Option Joined)) (order sessions
       pub members : v.members ≡ o.union.members
       pub united : IsUnited e.places v
 
-    of_moves : (c : Catalog) (position : Position) → united.MovesTo c e.places o.union cursor position v → Fits
+    of_moves : (c : Catalog) (position : Position) → united.UnionCursorMoves c e.places o.union cursor position v → Fits
     of_moves c position m = record {
       name = ap (λ (x : United). x.name) m.moved;
       members = ap (λ (x : United). x.members) m.moved;
@@ -323,7 +329,7 @@ module _ (e : Kept) (b : IsEngine e) (us : List (Option Joined)) (order sessions
     }
 
     read_fits : (c : Catalog) (position : Position) (result : Next) (answer : List ℕ)
-        → united.NextGivesAt c e.places o.union cursor position result answer v → Fits
+        → united.UnionNextGivesAt c e.places o.union cursor position result answer v → Fits
     read_fits c (open_at given ended) Given answer g = of_moves c (open_at (given ++ g.0 ∷ []) false) g.3
     read_fits c (open_at given ended) End answer g = of_moves c (open_at given true) g.1
     read_fits c (open_at given ended) (Stale relation n) answer g = absurd g
@@ -336,7 +342,7 @@ module _ (e : Kept) (b : IsEngine e) (us : List (Option Joined)) (order sessions
     read_fits c (stale s m) End answer g = absurd g
 
     told_fits : (c : Catalog) (position : Position) (result : Bool)
-        → united.MoreGivesAt c e.places o.union cursor position result v → Fits
+        → united.UnionMoreGivesAt c e.places o.union cursor position result v → Fits
     told_fits c (open_at given ended) true g = of_moves c (open_at given false) g.1
     told_fits c (open_at given ended) false g = of_moves c (open_at given true) g.1
     told_fits c (stale s m) more g = absurd g
@@ -344,17 +350,17 @@ module _ (e : Kept) (b : IsEngine e) (us : List (Option Joined)) (order sessions
   module _ (cursor : ℕ) (vs : List (Option Joined)) (before now : ℕ) where
     module _ (result : Next) (answer : List ℕ)
         (m : MovesUnion (ReadsUnion e.places cursor result answer before now) k us vs) where
-      read : (p : Progress) × (slot_at m.old.union.cursors cursor ≡ Some p)
-          × united.NextGivesAt b.over.catalog e.places m.old.union cursor
-          (position_of (b.over.catalog).texts (members_in e.places m.old.union) p) result answer m.new
+      read : (p : UnionProgress) × (slot_at m.old.union.cursors cursor ≡ Some p)
+          × united.UnionNextGivesAt b.over.catalog e.places m.old.union cursor
+          (union_position (b.over.catalog).texts (members_in e.places m.old.union) p) result answer m.new
       read = some_there (slot_at m.old.union.cursors cursor)
-          (λ p. united.NextGivesAt b.over.catalog e.places m.old.union cursor
-          (position_of (b.over.catalog).texts (members_in e.places m.old.union) p) result answer m.new)
+          (λ p. united.UnionNextGivesAt b.over.catalog e.places m.old.union cursor
+          (union_position (b.over.catalog).texts (members_in e.places m.old.union) p) result answer m.new)
           (m.done.gives b.over.catalog (kept_over e b.over))
 
       fits : Fits m.old m.there cursor read.0 read.1 m.new
       fits = read_fits m.old m.there cursor read.0 read.1 m.new b.over.catalog
-          (position_of (b.over.catalog).texts (members_in e.places m.old.union) read.0) result answer read.2
+          (union_position (b.over.catalog).texts (members_in e.places m.old.union) read.0) result answer read.2
 
       pub read_listed : IsListed e vs order
       read_listed = subst (λ (us' : List (Option Joined)). IsListed e us' order) (sym m.is)
@@ -367,49 +373,53 @@ module _ (e : Kept) (b : IsEngine e) (us : List (Option Joined)) (order sessions
       pub next_union : store.NextGives old (cursor_of k cursor) result answer (new vs) before now
       next_union = record {
         gives = some_and (held_at old.cursors (cursor_of k cursor))
-            (held_as (e.store).texts e.places m.old.union (cursor_of k cursor) read.0)
+            (held_union_cursor (e.store).texts e.places m.old.union (cursor_of k cursor) read.0)
             (λ h. IsSomeAnd (listed_of old.store.queries h.query)
             (λ q. store.NextGivesAt old h q h.position result answer (new vs)
             × (now ≤ before + read_steps result q)))
             (held_there m.new m.old m.there cursor read.0 read.1)
             (some_and (listed_of old.store.queries m.old.union.name) (union_of e.places m.old.union)
-            (λ q. store.NextGivesAt old (held_as (e.store).texts e.places m.old.union (cursor_of k cursor) read.0) q
-            (position_of (e.store).texts (members_in e.places m.old.union) read.0) result answer (new vs)
+            (λ q. store.NextGivesAt old
+            (held_union_cursor (e.store).texts e.places m.old.union (cursor_of k cursor) read.0) q
+            (union_position (e.store).texts (members_in e.places m.old.union) read.0) result answer (new vs)
             × (now ≤ before + read_steps result q))
             (union_listed m.old m.there) (given, counted result m.done.counted));
       }
         where
-          given : store.NextGivesAt old (held_as (e.store).texts e.places m.old.union (cursor_of k cursor) read.0)
-              (union_of e.places m.old.union) (position_of (e.store).texts (members_in e.places m.old.union) read.0)
+          given : store.NextGivesAt old
+              (held_union_cursor (e.store).texts e.places m.old.union (cursor_of k cursor) read.0)
+              (union_of e.places m.old.union) (union_position (e.store).texts (members_in e.places m.old.union) read.0)
               result answer (new vs)
           given = subst (λ (us' : List (Option Joined)). store.NextGivesAt old
-              (held_as (e.store).texts e.places m.old.union (cursor_of k cursor) read.0) (union_of e.places m.old.union)
-              (position_of (e.store).texts (members_in e.places m.old.union) read.0) result answer (new us')) (sym m.is)
+              (held_union_cursor (e.store).texts e.places m.old.union (cursor_of k cursor) read.0)
+              (union_of e.places m.old.union)
+              (union_position (e.store).texts (members_in e.places m.old.union) read.0) result answer
+              (new us')) (sym m.is)
               (subst (λ (ts : List Bytes). store.NextGivesAt old
-              (held_as (e.store).texts e.places m.old.union (cursor_of k cursor) read.0)
-              (union_of e.places m.old.union) (position_of ts (members_in e.places m.old.union) read.0) result
+              (held_union_cursor (e.store).texts e.places m.old.union (cursor_of k cursor) read.0)
+              (union_of e.places m.old.union) (union_position ts (members_in e.places m.old.union) read.0) result
               answer (new (set us k (Some (record m.old { union = m.new }))))) b.over.texts
               (gives_at m.old m.there cursor read.0 read.1 m.new b.over.catalog b.over.texts b.over.relations
-              (position_of (b.over.catalog).texts (members_in e.places m.old.union) read.0) result answer read.2))
+              (union_position (b.over.catalog).texts (members_in e.places m.old.union) read.0) result answer read.2))
 
-          counted : (result : Next) → now ≤ before + united.read_steps result (union_of e.places m.old.union)
+          counted : (result : Next) → now ≤ before + united.union_read_steps result (union_of e.places m.old.union)
               → now ≤ before + read_steps result (union_of e.places m.old.union)
           counted Given h = h
           counted End h = h
           counted (Stale relation n) h = h
 
-    module _ (result : Bool) (m : MovesUnion (TellsUnion e.places cursor result before now) k us vs) where
-      looked : (p : Progress) × (slot_at m.old.union.cursors cursor ≡ Some p)
-          × united.MoreGivesAt b.over.catalog e.places m.old.union cursor
-          (position_of (b.over.catalog).texts (members_in e.places m.old.union) p) result m.new
+    module _ (result : Bool) (m : MovesUnion (TellsUnionMore e.places cursor result before now) k us vs) where
+      looked : (p : UnionProgress) × (slot_at m.old.union.cursors cursor ≡ Some p)
+          × united.UnionMoreGivesAt b.over.catalog e.places m.old.union cursor
+          (union_position (b.over.catalog).texts (members_in e.places m.old.union) p) result m.new
       looked = some_there (slot_at m.old.union.cursors cursor)
-          (λ p. united.MoreGivesAt b.over.catalog e.places m.old.union cursor
-          (position_of (b.over.catalog).texts (members_in e.places m.old.union) p) result m.new)
+          (λ p. united.UnionMoreGivesAt b.over.catalog e.places m.old.union cursor
+          (union_position (b.over.catalog).texts (members_in e.places m.old.union) p) result m.new)
           (m.done.gives b.over.catalog (kept_over e b.over))
 
       looked_fits : Fits m.old m.there cursor looked.0 looked.1 m.new
       looked_fits = told_fits m.old m.there cursor looked.0 looked.1 m.new b.over.catalog
-          (position_of (b.over.catalog).texts (members_in e.places m.old.union) looked.0) result looked.2
+          (union_position (b.over.catalog).texts (members_in e.places m.old.union) looked.0) result looked.2
 
       pub looked_listed : IsListed e vs order
       looked_listed = subst (λ (us' : List (Option Joined)). IsListed e us' order) (sym m.is)
@@ -424,27 +434,30 @@ module _ (e : Kept) (b : IsEngine e) (us : List (Option Joined)) (order sessions
       pub more_union : MoreGives old (cursor_of k cursor) result (new vs) before now
       more_union = record {
         gives = some_and (held_at old.cursors (cursor_of k cursor))
-            (held_as (e.store).texts e.places m.old.union (cursor_of k cursor) looked.0)
+            (held_union_cursor (e.store).texts e.places m.old.union (cursor_of k cursor) looked.0)
             (λ h. IsSomeAnd (listed_of old.store.queries h.query)
             (λ q. MoreGivesAt old h q h.position result (new vs) × (now ≤ before + answer_steps q)))
             (held_there m.new m.old m.there cursor looked.0 looked.1)
             (some_and (listed_of old.store.queries m.old.union.name) (union_of e.places m.old.union)
-            (λ q. MoreGivesAt old (held_as (e.store).texts e.places m.old.union (cursor_of k cursor) looked.0) q
-            (position_of (e.store).texts (members_in e.places m.old.union) looked.0) result (new vs)
+            (λ q. MoreGivesAt old
+            (held_union_cursor (e.store).texts e.places m.old.union (cursor_of k cursor) looked.0) q
+            (union_position (e.store).texts (members_in e.places m.old.union) looked.0) result (new vs)
             × (now ≤ before + answer_steps q))
             (union_listed m.old m.there) (given, m.done.counted));
       }
         where
-          given : MoreGivesAt old (held_as (e.store).texts e.places m.old.union (cursor_of k cursor) looked.0)
-              (union_of e.places m.old.union) (position_of (e.store).texts (members_in e.places m.old.union) looked.0)
+          given : MoreGivesAt old (held_union_cursor (e.store).texts e.places m.old.union (cursor_of k cursor) looked.0)
+              (union_of e.places m.old.union)
+              (union_position (e.store).texts (members_in e.places m.old.union) looked.0)
               result (new vs)
           given = subst (λ (us' : List (Option Joined)). MoreGivesAt old
-              (held_as (e.store).texts e.places m.old.union (cursor_of k cursor) looked.0)
-              (union_of e.places m.old.union) (position_of (e.store).texts (members_in e.places m.old.union) looked.0)
+              (held_union_cursor (e.store).texts e.places m.old.union (cursor_of k cursor) looked.0)
+              (union_of e.places m.old.union)
+              (union_position (e.store).texts (members_in e.places m.old.union) looked.0)
               result (new us')) (sym m.is)
               (subst (λ (ts : List Bytes). MoreGivesAt old
-              (held_as (e.store).texts e.places m.old.union (cursor_of k cursor) looked.0)
-              (union_of e.places m.old.union) (position_of ts (members_in e.places m.old.union) looked.0) result
+              (held_union_cursor (e.store).texts e.places m.old.union (cursor_of k cursor) looked.0)
+              (union_of e.places m.old.union) (union_position ts (members_in e.places m.old.union) looked.0) result
               (new (set us k (Some (record m.old { union = m.new }))))) b.over.texts
               (more_gives_at m.old m.there cursor looked.0 looked.1 m.new b.over.catalog b.over.texts b.over.relations
-              (position_of (b.over.catalog).texts (members_in e.places m.old.union) looked.0) result looked.2))
+              (union_position (b.over.catalog).texts (members_in e.places m.old.union) looked.0) result looked.2))

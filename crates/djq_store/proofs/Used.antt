@@ -19,15 +19,16 @@ use Rattle.djq_reach.specs.Places.{is_reader}
 use Rattle.djq_engine.specs.declared.cursor.CursorId.{CursorId}
 use Rattle.djq_engine.specs.declared.cursor.QueryId.{QueryId}
 use Rattle.djq_engine.specs.Kept.{Kept, HeldCursor, Registered, KeepsQuery, KeepsTables, Uses, DropGives}
-use Rattle.djq_engine.specs.Kept.{DropsPlace, TellsOf, same_query, held_at, registered_at}
+use Rattle.djq_engine.specs.Kept.{DropsPlace, TellsOfQuery, same_query, held_at, registered_at}
 use Rattle.djq_engine.specs.Kept.{registered_of, is_watched, same_id}
-use Rattle.djq_engine.specs.Places.{id_at, left}
+use Rattle.djq_engine.specs.Places.{id_at, places_without}
 use Rattle.djq_engine.proofs.Listing.{reader_filter}
-use Rattle.djq_united.specs.Slots.{Progress, slot_at}
+use Rattle.djq_united.specs.Slots.{UnionProgress, slot_at}
 use Rattle.djq_engine.proofs.Conditions.{answers_refused, answers_done, refused_as, done_of}
 use Rattle.djq_store.specs.declared.joined.Joined.{Joined}
 use Rattle.djq_store.specs.Below.{IsEngine, StayingLaws}
-use Rattle.djq_store.specs.Places.{joined_at, listed_at, union_watchers, registered_as, held_as, held_of, seen}
+use Rattle.djq_store.specs.Places.{joined_at, listed_at, union_watchers, registered_as, held_union_cursor}
+use Rattle.djq_store.specs.Places.{union_cursor_of, store_seen}
 use Rattle.djq_store.specs.Whole.{IsListed, IsCounted, wants, query_places}
 use Rattle.djq_store.proofs.Belonging.{is_called, seat_no_member, seat_member}
 use Rattle.djq_store.proofs.Departed.{none_any}
@@ -165,7 +166,7 @@ module _ (e : Kept) (b : IsEngine e) (us : List (Option Joined)) (order sessions
     (w : IsListed e us order) (count : IsCounted e us sessions)
     (name : Bytes) (none : NoUnion us name) where
   abbrev old : Kept
-  old = seen e us order sessions affected
+  old = store_seen e us order sessions affected
 
   same_listed : listed_of old.store.queries name ≡ listed_of (e.store).queries name
   same_listed = engine_listed e b us order w name none
@@ -301,14 +302,15 @@ module _ (e : Kept) (b : IsEngine e) (us : List (Option Joined)) (order sessions
       )
         where
           of_union : (id : CursorId) (h : HeldCursor) (k : ℕ) (o : Option Joined) → joined_at us k ≡ o
-              → held_of (e.store).texts e.places id o ≡ Some h → h.query ≡ name → ⊥
+              → union_cursor_of (e.store).texts e.places id o ≡ Some h → h.query ≡ name → ⊥
           of_union id h k None f g called = absurd cc
           of_union id h k (Some j) f g called = by_slot (slot_at j.union.cursors id.cursor) g
             where
-              by_slot : (o : Option Progress) → option_map (held_as (e.store).texts e.places j.union id) o ≡ Some h → ⊥
+              by_slot : (o : Option UnionProgress)
+                  → option_map (held_union_cursor (e.store).texts e.places j.union id) o ≡ Some h → ⊥
               by_slot None g = absurd cc
               by_slot (Some p) g =
-                  let is : held_as (e.store).texts e.places j.union id p ≡ h = same g in
+                  let is : held_union_cursor (e.store).texts e.places j.union id p ≡ h = same g in
                   false≢true (sym (none k j f)
                   ∙ (bytes_eq-decides j.union.name name).1 (ap (λ (x : HeldCursor). x.query) is ∙ called))
                 where
@@ -330,7 +332,7 @@ module _ (e : Kept) (b : IsEngine e) (us : List (Option Joined)) (order sessions
           let p = subst (λ (o : Option Registered). IsSomeAnd o (λ r. e'.places ≡ set e.places r.id.at None)) in_engine
           places in
           let t = subst (λ (o : Option Registered). IsSomeAnd o
-          (λ r. TellsOf e r.id None e'
+          (λ r. TellsOfQuery e r.id None e'
           × (e'.affected ≡ filter (λ (id : QueryId). not (same_query id r.id)) e.affected))) in_engine g.tellings in
           let d = done_of (drop_refusal e.store g.used name) tt
           (λ _. e'.store ≡ record e.store
@@ -346,12 +348,13 @@ module _ (e : Kept) (b : IsEngine e) (us : List (Option Joined)) (order sessions
             store = d.1 ∙ ap (λ (qs : List Listed). (let st : Store = record e.store { queries = qs } in st))
                 (sym (ap (λ (st : Store). st.queries) d.1));
             cursors = g.cursors;
-            tells = subst (λ (i : QueryId). TellsOf e i None e') s.id t.0;
+            tells = subst (λ (i : QueryId). TellsOfQuery e i None e') s.id t.0;
             none = alone;
           }
 
       pub drop_gives : (e' : Kept) → (v : Vacates e e' us name at) → DropGives e name (Ok tt) e'
-          → DropGives old name (Ok tt) (seen e' us (left at order) sessions (left at affected))
+          → DropGives old name (Ok tt)
+          (store_seen e' us (places_without at order) sessions (places_without at affected))
       drop_gives e' v g =
           let d = done_of (drop_refusal e.store g.used name) tt
           (λ _. e'.store ≡ record e.store
@@ -362,7 +365,7 @@ module _ (e : Kept) (b : IsEngine e) (us : List (Option Joined)) (order sessions
             is_used = uses_over g.used g.is_used;
             store = record {
               answer = answers_done (drop_refusal old.store g.used name) tt
-                  (λ _. (seen e' us (left at order) sessions (left at affected)).store
+                  (λ _. (store_seen e' us (places_without at order) sessions (places_without at affected)).store
                   ≡ record old.store {
                     queries = drop_first (λ q. bytes_eq (listed_name q) name) old.store.queries;
                   }) (OutOfMemoryWhere ⊥)
@@ -375,7 +378,7 @@ module _ (e : Kept) (b : IsEngine e) (us : List (Option Joined)) (order sessions
           }
 
       pub drop_refused : (e' : Kept) (x : Refusal) → (r : Rests e e') → DropGives e name (Err x) e'
-          → DropGives old name (Err x) (seen e' us order sessions affected)
+          → DropGives old name (Err x) (store_seen e' us order sessions affected)
       drop_refused e' x r g = record {
         used = g.used;
         is_used = uses_over g.used g.is_used;
@@ -383,7 +386,7 @@ module _ (e : Kept) (b : IsEngine e) (us : List (Option Joined)) (order sessions
           answer = refused_as (drop_refusal e.store g.used name) (drop_refusal old.store g.used name) x
               (λ _. e'.store ≡ record e.store
               { queries = drop_first (λ q. bytes_eq (listed_name q) name) (e.store).queries })
-              (λ _. (seen e' us order sessions affected).store
+              (λ _. (store_seen e' us order sessions affected).store
               ≡ record old.store { queries = drop_first (λ q. bytes_eq (listed_name q) name) old.store.queries }) ⊥
               ⊥
               (same_drop_refusal g.used) (λ h. h) g.store.answer;

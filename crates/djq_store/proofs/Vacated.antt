@@ -16,15 +16,16 @@ use Rattle.djq_live.specs.Member.{query_at, queries_at, AreAlike}
 use Rattle.djq_reach.specs.Places.{is_reader}
 use Rattle.djq_reach.proofs.Reaching.{place_below, reader_there}
 use Rattle.djq_engine.specs.declared.cursor.QueryId.{QueryId}
-use Rattle.djq_engine.specs.Kept.{Kept, HeldCursor, Registered, SameCursors, TellsOf, DropsTelling}
+use Rattle.djq_engine.specs.Kept.{Kept, HeldCursor, Registered, SameCursors, TellsOfQuery, DropsTelling}
 use Rattle.djq_engine.specs.Kept.{held_at, registered_at, registered_of, same_query, told_at}
-use Rattle.djq_engine.specs.Places.{id_at, query_in, told_of, left}
+use Rattle.djq_engine.specs.Places.{id_at, query_in, told_of, places_without}
 use Rattle.djq_engine.proofs.Listing.{map_members, drop_listed, reader_filter, filter_twice, once_filter}
-use Rattle.djq_united.specs.United.{United, IsUnited, FitAll, members_in, first_of, position_of}
+use Rattle.djq_united.specs.United.{United, IsUnited, CursorsFit, members_in, first_of_members, union_position}
 use Rattle.djq_united.specs.Slots.{slot_at}
 use Rattle.djq_store.specs.declared.joined.Joined.{Joined}
 use Rattle.djq_store.specs.Below.{IsEngine}
-use Rattle.djq_store.specs.Places.{joined_at, listed_in, listed_at, registered_as, held_of, told_in, seen}
+use Rattle.djq_store.specs.Places.{joined_at, listed_in, listed_at, registered_as, union_cursor_of, told_of_union}
+use Rattle.djq_store.specs.Places.{store_seen}
 use Rattle.djq_store.specs.Whole.{IsListed, IsCounted, IsShownByFirst, wants, query_places}
 use Rattle.djq_store.proofs.Departed.{left_in, left_other, left_shorter, map_left, find_left, ids_left}
 use Rattle.djq_store.proofs.Held.{held_low, held_high}
@@ -69,7 +70,7 @@ module _ (gs gs' : List (Option Live)) (at : ℕ) (others : (i : ℕ) → (i ≡
       differ = w.members.differ;
       alike = subst (λ (ls : List Live). AreAlike ls) (sym (queries_same u.members none)) w.members.alike;
     };
-    fits = subst (λ (ls : List Live). FitAll ls u.cursors) (sym (queries_same u.members none)) w.fits;
+    fits = subst (λ (ls : List Live). CursorsFit ls u.cursors) (sym (queries_same u.members none)) w.fits;
   }
 
 -- filters by tests that agree on all
@@ -101,7 +102,7 @@ pub record Vacates (e e' : Kept) (us : List (Option Joined)) (name : Bytes) (at 
   pub registered : e'.registered ≡ filter (λ (r : Registered). not (bytes_eq (listed_name r.query) name)) e.registered
   pub store : e'.store ≡ record e.store { queries = (e'.store).queries }
   pub cursors : SameCursors e.cursors e'.cursors
-  pub tells : TellsOf e (id_at at) None e'
+  pub tells : TellsOfQuery e (id_at at) None e'
   pub none : (k : ℕ) (j : Joined) → joined_at us k ≡ Some j → is_reader j.union.members at ≡ false
 
 module _ (e e' : Kept) (us : List (Option Joined)) (order sessions affected : List ℕ) (w : IsListed e us order)
@@ -190,24 +191,24 @@ module _ (e e' : Kept) (us : List (Option Joined)) (order sessions affected : Li
       ∙ filter_all (λ (r : Registered). not (bytes_eq (listed_name r.query) name))
       (λ (r : Registered). not (r.id.at == at)) e.registered (λ k d low. ap (λ c. not c) (engine_test k d low))
 
-  queries_left : query_places (left at order) ≡ map (λ (r : Registered). r.id.at) e'.registered
+  queries_left : query_places (places_without at order) ≡ map (λ (r : Registered). r.id.at) e'.registered
   queries_left =
-      filter_twice (λ i. nat_lt i QUERIES) (λ i. not (i == at)) order ∙ ap (left at) w.queries
+      filter_twice (λ i. nat_lt i QUERIES) (λ i. not (i == at)) order ∙ ap (places_without at) w.queries
       ∙ map_filter (λ (r : Registered). r.id.at) (λ i. not (i == at)) e.registered
       ∙ sym (ap (map (λ (r : Registered). r.id.at)) kept_others)
 
-  first_same : (k : ℕ) (j : Joined) → joined_at us k ≡ Some j → first_of (members_in e'.places j.union)
-      ≡ first_of (members_in e.places j.union)
-  first_same k j there = ap first_of (members_same k j there)
+  first_same : (k : ℕ) (j : Joined) → joined_at us k ≡ Some j → first_of_members (members_in e'.places j.union)
+      ≡ first_of_members (members_in e.places j.union)
+  first_same k j there = ap first_of_members (members_same k j there)
 
   shown_on : (k : ℕ) (j : Joined) → joined_at us k ≡ Some j → IsShownByFirst e' j
   shown_on k j there kept =
       subst (λ (o : Option Live). IsSomeAnd o (λ l. All (λ n. IsShowable (e'.store).texts l n.answer) j.log.lines))
       (sym (first_same k j there))
-      (subst (λ (ts : List Bytes). IsSomeAnd (first_of (members_in e.places j.union))
+      (subst (λ (ts : List Bytes). IsSomeAnd (first_of_members (members_in e.places j.union))
       (λ l. All (λ n. IsShowable ts l n.answer) j.log.lines)) (sym texts) (w.shown k j there kept))
 
-  pub vacated_listed : IsListed e' us (left at order)
+  pub vacated_listed : IsListed e' us (places_without at order)
   vacated_listed = record {
     united = λ k j there. united_same e.places e'.places at others j.union (v.none k j there) (w.united k j there);
     shown = shown_on;
@@ -275,23 +276,23 @@ module _ (e e' : Kept) (us : List (Option Joined)) (order sessions affected : Li
   -- ---- what contracts see
 
   abbrev old : Kept
-  old = seen e us order sessions affected
+  old = store_seen e us order sessions affected
 
   abbrev new : Kept
-  new = seen e' us (left at order) sessions (left at affected)
+  new = store_seen e' us (places_without at order) sessions (places_without at affected)
 
   pub vacated_store : new.store
       ≡ record old.store { queries = drop_first (λ q. bytes_eq (listed_name q) name) old.store.queries }
   vacated_store =
       ap₂ (λ (st : Store) (qs : List Listed). (let s : Store = record st { queries = qs } in s)) v.store
-      (map_members (listed_at e'.places us) (listed_at e.places us) (left at order)
+      (map_members (listed_at e'.places us) (listed_at e.places us) (places_without at order)
       (λ i there. listed_same i (left_in at order i there).1)
       ∙ sym (drop_listed (listed_at e.places us) order name at w.once test_at))
 
   pub vacated_registered : new.registered
       ≡ filter (λ (r : Registered). not (bytes_eq (listed_name r.query) name)) old.registered
   vacated_registered =
-      map_members (registered_as e'.places us sessions) (registered_as e.places us sessions) (left at order)
+      map_members (registered_as e'.places us sessions) (registered_as e.places us sessions) (places_without at order)
       (λ i there. ap (λ (q : Listed). record (registered_as e.places us sessions i) { query = q })
       (listed_same i (left_in at order i there).1))
       ∙ sym (map_left (registered_as e.places us sessions) (λ (r : Registered). bytes_eq (listed_name r.query) name) at
@@ -300,12 +301,12 @@ module _ (e e' : Kept) (us : List (Option Joined)) (order sessions affected : Li
   pub vacated_cursors : SameCursors old.cursors new.cursors
   vacated_cursors id = by_case (cases_place id.query.at)
     where
-      by_slot : (k : ℕ) (o : Option Joined) → joined_at us k ≡ o → held_of (e'.store).texts e'.places id o
-          ≡ held_of (e.store).texts e.places id o
+      by_slot : (k : ℕ) (o : Option Joined) → joined_at us k ≡ o → union_cursor_of (e'.store).texts e'.places id o
+          ≡ union_cursor_of (e.store).texts e.places id o
       by_slot k None f = refl
       by_slot k (Some j) f =
           ap₂ (λ (ts : List Bytes) (ls : List Live). option_map
-          (λ p. (let h : HeldCursor = record { id = id; query = j.union.name; position = position_of ts ls p } in h))
+          (λ p. (let h : HeldCursor = record { id = id; query = j.union.name; position = union_position ts ls p } in h))
           (slot_at j.union.cursors id.cursor)) texts (members_same k j f)
 
       by_case : (id.query.at < QUERIES) ⊎ Slot id.query.at → held_at new.cursors id ≡ held_at old.cursors id
@@ -313,8 +314,8 @@ module _ (e e' : Kept) (us : List (Option Joined)) (order sessions affected : Li
       by_case (inr s) = held_high e' us id v.after s.slot s.is ∙ by_slot s.slot (joined_at us s.slot) refl
           ∙ sym (held_high e us id v.before s.slot s.is)
 
-  told_same : (k : ℕ) (o : Option Joined) → joined_at us k ≡ o → told_in (e'.store).texts e'.places o
-      ≡ told_in (e.store).texts e.places o
+  told_same : (k : ℕ) (o : Option Joined) → joined_at us k ≡ o → told_of_union (e'.store).texts e'.places o
+      ≡ told_of_union (e.store).texts e.places o
   told_same k None f = refl
   told_same k (Some j) f = ap₂ (λ (ts : List Bytes) (o : Option Live). told_of ts o j.log) texts (first_same k j f)
 
@@ -328,10 +329,11 @@ module _ (e e' : Kept) (us : List (Option Joined)) (order sessions affected : Li
   pub vacated_tells : DropsTelling old name (Ok tt) new
   vacated_tells = subst
       (λ (o : Option Registered). IsSomeAnd o
-      (λ r. TellsOf old r.id None new
+      (λ r. TellsOfQuery old r.id None new
       × (new.affected ≡ filter (λ (id : QueryId). not (same_query id r.id)) old.affected))) (sym named_at) (
         record {
-          here = told_low e' v.after us (left at order) sessions (left at affected) (id_at at) v.seat.low
+          here = told_low e' v.after us (places_without at order) sessions (places_without at affected)
+              (id_at at) v.seat.low
               ∙ v.tells.here;
           others = each;
         },
@@ -342,9 +344,10 @@ module _ (e e' : Kept) (us : List (Option Joined)) (order sessions affected : Li
       each id d = by_case (cases_place id.at)
         where
           by_case : (id.at < QUERIES) ⊎ Slot id.at → told_at new id ≡ told_at old id
-          by_case (inl low) = told_low e' v.after us (left at order) sessions (left at affected) id low
+          by_case (inl low) =
+              told_low e' v.after us (places_without at order) sessions (places_without at affected) id low
               ∙ v.tells.others id d ∙ sym (told_low e v.before us order sessions affected id low)
           by_case (inr s) =
-              told_high e' v.after us (left at order) sessions (left at affected) id s.slot s.is
+              told_high e' v.after us (places_without at order) sessions (places_without at affected) id s.slot s.is
               ∙ told_same s.slot (joined_at us s.slot) refl
               ∙ sym (told_high e v.before us order sessions affected id s.slot s.is)

@@ -20,7 +20,7 @@ use Rattle.djq_engine.specs.declared.cursor.QueryId.{QueryId}
 use Rattle.djq_engine.specs.Kept.{Kept}
 use Rattle.djq_united.specs.United.{AreMembers}
 use Rattle.djq_store.specs.declared.joined.Joined.{Joined}
-use Rattle.djq_store.specs.Affecting.{is_reached, is_member_reached, is_affected}
+use Rattle.djq_store.specs.Affecting.{is_reached_id, is_member_reached, is_affected}
 use Rattle.djq_store.specs.declared.settling.Turn.{Turn}
 use Rattle.djq_store.specs.Places.{joined_at, union_watchers}
 use Rattle.djq_store.specs.Settling.{reads_some, touched_in, SettlesAt, is_settled, settling_steps, AreUnionsUnwatched}
@@ -48,26 +48,26 @@ get_replicated (suc n) zero = refl
 get_replicated (suc n) (suc i) = get_replicated n i
 
 pub reached_more : (flags : List Bool) (ids : List QueryId) (n : ℕ) (x : QueryId) → x.at < length flags
-    → slice_get ids n ≡ Some x → ((i : ℕ) → get_or flags i false ≡ is_reached (take n ids) i)
-    → (i : ℕ) → get_or (set flags x.at true) i false ≡ is_reached (take (n + 1) ids) i
+    → slice_get ids n ≡ Some x → ((i : ℕ) → get_or flags i false ≡ is_reached_id (take n ids) i)
+    → (i : ℕ) → get_or (set flags x.at true) i false ≡ is_reached_id (take (n + 1) ids) i
 reached_more flags ids n x low got_x so i = by (x.at == i) refl
   where
     g : (n < length ids) × (get_or ids n x ≡ x)
     g = got ids n x got_x
 
-    more : is_reached (take (n + 1) ids) i ≡ (is_reached (take n ids) i || (x.at == i))
+    more : is_reached_id (take (n + 1) ids) i ≡ (is_reached_id (take n ids) i || (x.at == i))
     more = list_any_more (λ (id : QueryId). id.at == i) ids n x g.0
-        ∙ ap (λ (id : QueryId). is_reached (take n ids) i || (id.at == i)) g.1
+        ∙ ap (λ (id : QueryId). is_reached_id (take n ids) i || (id.at == i)) g.1
 
-    by : (b : Bool) → (x.at == i) ≡ b → get_or (set flags x.at true) i false ≡ is_reached (take (n + 1) ids) i
+    by : (b : Bool) → (x.at == i) ≡ b → get_or (set flags x.at true) i false ≡ is_reached_id (take (n + 1) ids) i
     by true e =
         ap (λ (k : ℕ). get_or (set flags x.at true) k false) (sym (eqb-true x.at i e))
         ∙ get_or-set_same flags x.at true false low
-        ∙ sym (more ∙ ap (λ b. is_reached (take n ids) i || b) e ∙ or_true (is_reached (take n ids) i))
+        ∙ sym (more ∙ ap (λ b. is_reached_id (take n ids) i || b) e ∙ or_true (is_reached_id (take n ids) i))
     by false e =
         get_or-set_other flags x.at i true false (λ (s : i ≡ x.at). false≢true (sym e ∙ eq-eqb x.at i (sym s)))
         ∙ so i
-        ∙ sym (more ∙ ap (λ b. is_reached (take n ids) i || b) e ∙ or_false (is_reached (take n ids) i))
+        ∙ sym (more ∙ ap (λ b. is_reached_id (take n ids) i || b) e ∙ or_false (is_reached_id (take n ids) i))
 
 pub mapped_more : {A : Type 0} (f : A → ℕ) (xs : List A) (n : ℕ) (x : A) → slice_get xs n ≡ Some x
     → map f (take (n + 1) xs) ≡ map f (take n xs) ++ f x ∷ []

@@ -6,8 +6,8 @@ use Rattle.djq_store.specs.declared.joined.Joined.{Joined}
 use Rattle.djq_store.specs.Places.{by_place, joined_at}
 
 -- whether the query in a place is among these
-abbrev pub is_reached : List QueryId → ℕ → Bool
-is_reached ids i = list_any (λ id. id.at == i) ids
+abbrev pub is_reached_id : List QueryId → ℕ → Bool
+is_reached_id ids i = list_any (λ id. id.at == i) ids
 
 -- whether a member of the union in a slot is
 abbrev pub is_member_reached : (ℕ → Bool) → Option Joined → Bool

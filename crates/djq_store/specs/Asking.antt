@@ -11,8 +11,8 @@ use Rattle.djq_live.specs.Live.{Live}
 use Rattle.djq_live.specs.Member.{queries_at}
 
 -- Whether a tuple is an answer of what is registered is told, or why it doesn't suit its answers.
-abbrev pub TellsOf : List Relation → Listed → Tuple → Result Bool Refusal → Type 0
-TellsOf relations q t result = Answers (misfit (listed_types relations (Some q)) t) result
+abbrev pub TellsMembership : List Relation → Listed → Tuple → Result Bool Refusal → Type 0
+TellsMembership relations q t result = Answers (misfit (listed_types relations (Some q)) t) result
     (λ yes. Tells (AnswersOf relations q t) yes) (OutOfMemoryWhere ⊥)
 
 -- the queries in these places

@@ -5,7 +5,8 @@ use Rattle.djq_model.specs.Listed.{listed_name}
 use Rattle.djq_lines.specs.declared.limits.TheConstants.{QUERIES}
 use Rattle.djq_live.specs.Live.{ShowableStays, AnswersAreShowable}
 use Rattle.djq_united.specs.Staying.{MembersStay, UnionsStay}
-use Rattle.djq_engine.specs.Kept.{Kept, same_query, IsOver, ArePlaced, AreListed, AreHeld, AreTold}
+use Rattle.djq_engine.specs.Kept.{Kept, same_query, PlacesAreKept, IdsArePlaced, PlacesAreRegistered}
+use Rattle.djq_engine.specs.Kept.{CursorsAreRegistered, ToldCellsFit}
 
 -- The queries that are registered are those in places, of which there are so many at most; they are kept over the
 -- relations; cursors are over them; what is told of them has cells; and their ids and names differ.
@@ -15,11 +16,11 @@ pub record IsEngine (e : Kept) : Type 0 where
   pub named : AllPairs (λ r s. bytes_eq (listed_name r.query) (listed_name s.query) ≡ false) e.registered
   pub few : length e.places ≤ QUERIES
   pub long : length e.told ≡ length e.places
-  pub over : IsOver e
-  pub placed : ArePlaced e
-  pub listed : AreListed e
-  pub held : AreHeld e
-  pub shown : AreTold e
+  pub over : PlacesAreKept e
+  pub placed : IdsArePlaced e
+  pub listed : PlacesAreRegistered e
+  pub held : CursorsAreRegistered e
+  pub shown : ToldCellsFit e
 
 -- What stays of queries and unions as the engine changes, and what can be shown.
 pub record StayingLaws : Type 0 where

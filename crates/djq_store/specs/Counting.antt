@@ -6,9 +6,9 @@ use Rattle.djq_store.specs.declared.joined.Joined.{Joined}
 use Rattle.djq_store.specs.Places.{joined_at}
 
 -- the registered queries, of which those in these places have other watchers
-abbrev pub with_all : (ℕ → ℕ) → List ℕ → List Registered → List Registered
-with_all f [] rs = rs
-with_all f (at ∷ places) rs = with_all f places (with_watchers (id_at at) f rs)
+abbrev pub with_watchers_at : (ℕ → ℕ) → List ℕ → List Registered → List Registered
+with_watchers_at f [] rs = rs
+with_watchers_at f (at ∷ places) rs = with_watchers_at f places (with_watchers (id_at at) f rs)
 
 -- The union in a slot has other watchers, and nothing else changes.
 pub record HasWatchers (f : ℕ → ℕ) (k : ℕ) (us vs : List (Option Joined)) : Type 0 where

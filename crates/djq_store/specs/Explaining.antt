@@ -18,15 +18,15 @@ Explains (a_union name qs) (Tree lines) = ⊥
 Explains (a_union name qs) (Members count) = count ≡ length qs
 
 -- The lines of a query may find no memory: it has a tree too. A union's members take none.
-abbrev pub TakesMemory : Listed → Type 0
-TakesMemory (a_query q) = HasTree (a_query q)
-TakesMemory (a_union name qs) = ⊥
+abbrev pub ExplainTakesMemory : Listed → Type 0
+ExplainTakesMemory (a_query q) = HasTree (a_query q)
+ExplainTakesMemory (a_union name qs) = ⊥
 
 -- What `explain` answers.
 pub record ExplainGives (st : Store) (name : Bytes) (result : Result Explained Refusal) : Type 0 where
   pub answer : Answers (first_refusal ((is_none (listed_of st.queries name), NoQuery) ∷ []))
       result (λ explained. IsSomeAnd (listed_of st.queries name) (λ q. Explains q explained))
-      (OutOfMemoryWhere (IsSomeAnd (listed_of st.queries name) TakesMemory))
+      (OutOfMemoryWhere (IsSomeAnd (listed_of st.queries name) ExplainTakesMemory))
 
 -- a union of a name has a member at a place
 abbrev pub HasMember : Store → Bytes → ℕ → Type 0

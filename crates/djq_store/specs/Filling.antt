@@ -5,7 +5,7 @@ use Rattle.djq_store.specs.declared.joined.Joined.{Joined}
 use Rattle.djq_store.specs.Places.{joined_at}
 
 -- A slot that was vacant has a union, and the others are as they were.
-pub record Fills (us us' : List (Option Joined)) (k : ℕ) (j : Joined) : Type 0 where
+pub record FillsSlot (us us' : List (Option Joined)) (k : ℕ) (j : Joined) : Type 0 where
   pub vacant : joined_at us k ≡ None
   pub here : joined_at us' k ≡ Some j
   pub others : (i : ℕ) → (i ≡ k → ⊥) → joined_at us' i ≡ joined_at us i

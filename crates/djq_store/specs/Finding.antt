@@ -5,9 +5,9 @@ use Rattle.djq_reach.specs.Places.{is_reader}
 use Rattle.djq_store.specs.declared.joined.Joined.{Joined}
 
 -- whether a slot has the union of a name
-abbrev pub is_named : Bytes → Option Joined → Bool
-is_named name None = false
-is_named name (Some j) = bytes_eq j.union.name name
+abbrev pub union_is_named : Bytes → Option Joined → Bool
+union_is_named name None = false
+union_is_named name (Some j) = bytes_eq j.union.name name
 
 -- whether a slot has a union with the query in a place as a member
 abbrev pub has_member : ℕ → Option Joined → Bool

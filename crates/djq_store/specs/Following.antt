@@ -14,7 +14,7 @@ use Rattle.djq_store.specs.declared.joined.Joined.{Joined}
 use Rattle.djq_store.specs.declared.parts.Parts.{Parts}
 use Rattle.djq_store.specs.declared.settling.Turn.{Turn}
 use Rattle.djq_store.specs.declared.settling.Turn.TheVariants.{Came, Went, Lacked}
-use Rattle.djq_store.specs.Affecting.{is_reached, is_affected}
+use Rattle.djq_store.specs.Affecting.{is_reached_id, is_affected}
 use Rattle.djq_store.specs.Places.{joined_at}
 use Rattle.djq_store.specs.Settling.{SettlesAt, is_settled, settling_steps}
 
@@ -28,7 +28,7 @@ IfMade (Some turn) Holds = Holds
 -- reads a relation that changed, they are the engine's, which are in that order.
 abbrev pub AffectsAll : List Bytes → Parts → Parts → Type 0
 AffectsAll relations old new =
-    (new.affected.items ≡ filter (is_affected (is_reached old.engine.affected) new.unions.items) old.order.items)
+    (new.affected.items ≡ filter (is_affected (is_reached_id old.engine.affected) new.unions.items) old.order.items)
     ⊎ ((list_any (is_settled old.engine relations) old.unions.items ≡ false)
     × (new.affected.items ≡ map (λ id. id.at) old.engine.affected))
 
@@ -38,7 +38,7 @@ FollowsAffected Lacked relations old new = new.affected ≡ old.affected
 FollowsAffected _ relations old new = AffectsAll relations old new
 
 -- The unions are settled behind a change of these relations, and nothing else changes.
-pub record Follows (relations : List Bytes) (turn : Turn) (old new : Parts) : Type 0 where
+pub record UnionsFollow (relations : List Bytes) (turn : Turn) (old new : Parts) : Type 0 where
   pub engine : new.engine ≡ old.engine
   pub long : length new.unions.items ≡ length old.unions.items
   pub unions : (k : ℕ) → SettlesAt old.engine relations (old.engine.store).seq turn
@@ -51,7 +51,7 @@ pub record Follows (relations : List Bytes) (turn : Turn) (old new : Parts) : Ty
 -- Where there was no change, nothing does.
 abbrev pub FollowsBy : Option Turn → List Bytes → Parts → Parts → Type 0
 FollowsBy None relations old new = new ≡ old
-FollowsBy (Some turn) relations old new = Follows relations turn old new
+FollowsBy (Some turn) relations old new = UnionsFollow relations turn old new
 
 -- what it counts at most
 abbrev pub following_steps : Option Turn → Kept → List Bytes → List (Option Joined) → ℕ

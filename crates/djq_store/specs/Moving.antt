@@ -6,7 +6,7 @@ use Rattle.djq_live.specs.declared.listing.Next.{Next}
 use Rattle.djq_live.specs.Live.{Live}
 use Rattle.djq_united.specs.Slots.{slot_at, IsOpenIn}
 use Rattle.djq_united.specs.United.{United, IsUnited, AreKept, union_of}
-use Rattle.djq_united.specs.Reading.{OpensIn, NextGives, MoreGives, read_steps}
+use Rattle.djq_united.specs.Reading.{UnionOpensIn, UnionNextGives, UnionMoreGives, union_read_steps}
 use Rattle.djq_store.specs.declared.joined.Joined.{Joined}
 use Rattle.djq_store.specs.Places.{joined_at}
 
@@ -21,7 +21,7 @@ pub record MovesUnion (Does : United → United → Type 0) (k : ℕ) (us vs : L
 
 -- A cursor is opened.
 pub record OpensUnion (cursor : ℕ) (u v : United) : Type 0 where
-  pub opens : OpensIn u cursor v
+  pub opens : UnionOpensIn u cursor v
   pub united : (qs : List (Option Live)) → IsUnited qs u → IsUnited qs v
 
 -- A cursor goes out of its slot.
@@ -30,23 +30,23 @@ pub record ClosesUnion (cursor : ℕ) (u v : United) : Type 0 where
   pub united : (qs : List (Option Live)) → IsUnited qs u → IsUnited qs v
 
 -- It can be read over the queries in these places, through the cursor in a slot.
-pub record IsReadable (qs : List (Option Live)) (cursor : ℕ) (j : Joined) : Type 0 where
+pub record IsUnionReadable (qs : List (Option Live)) (cursor : ℕ) (j : Joined) : Type 0 where
   pub there : IsSome (slot_at j.union.cursors cursor)
   pub united : IsUnited qs j.union
 
 -- The same, and the cursor isn't stale.
-pub record IsFreshly (qs : List (Option Live)) (cursor : ℕ) (j : Joined) : Type 0 where
+pub record IsUnionFresh (qs : List (Option Live)) (cursor : ℕ) (j : Joined) : Type 0 where
   pub fresh : IsOpenIn j.union.cursors cursor
   pub united : IsUnited qs j.union
 
 -- A cursor is read.
 pub record ReadsUnion (qs : List (Option Live)) (cursor : ℕ) (result : Next) (answer : List ℕ)
     (before now : ℕ) (u v : United) : Type 0 where
-  pub gives : (c : Catalog) → AreKept c qs → NextGives c qs u cursor result answer v
-  pub counted : now ≤ before + read_steps result (union_of qs u)
+  pub gives : (c : Catalog) → AreKept c qs → UnionNextGives c qs u cursor result answer v
+  pub counted : now ≤ before + union_read_steps result (union_of qs u)
 
 -- Whether an answer is left is told.
-pub record TellsUnion (qs : List (Option Live)) (cursor : ℕ) (result : Bool) (before now : ℕ)
+pub record TellsUnionMore (qs : List (Option Live)) (cursor : ℕ) (result : Bool) (before now : ℕ)
     (u v : United) : Type 0 where
-  pub gives : (c : Catalog) → AreKept c qs → MoreGives c qs u cursor result v
+  pub gives : (c : Catalog) → AreKept c qs → UnionMoreGives c qs u cursor result v
   pub counted : now ≤ before + answer_steps (union_of qs u)

@@ -10,8 +10,8 @@ use Rattle.djq_live.specs.Member.{query_at}
 use Rattle.djq_engine.specs.declared.cursor.CursorId.{CursorId}
 use Rattle.djq_engine.specs.Kept.{HeldCursor, Registered, Kept}
 use Rattle.djq_engine.specs.Places.{no_query, query_in, id_at, told_of}
-use Rattle.djq_united.specs.Slots.{Progress, slot_at}
-use Rattle.djq_united.specs.United.{United, members_in, first_of, union_of, position_of}
+use Rattle.djq_united.specs.Slots.{UnionProgress, slot_at}
+use Rattle.djq_united.specs.United.{United, members_in, first_of_members, union_of, union_position}
 use Rattle.djq_store.specs.declared.joined.Joined.{Joined}
 use Rattle.djq_store.specs.declared.parts.Parts.{Parts}
 
@@ -34,7 +34,7 @@ joined_at us k = slice_index_or us k None
 
 -- the first member of a union, by whose tree its answers are given and lent
 abbrev pub first_member : List (Option Live) → United → Option Live
-first_member gs u = first_of (members_in gs u)
+first_member gs u = first_of_members (members_in gs u)
 
 -- the union in a slot, as it is registered
 abbrev pub listed_in : List (Option Live) → Option Joined → Listed
@@ -64,35 +64,36 @@ registered_as gs us sessions at = record {
 }
 
 -- a cursor of a union, as contracts see it
-abbrev pub held_as : List Bytes → List (Option Live) → United → CursorId → Progress → HeldCursor
-held_as texts gs u id p =
-    record { id = id; query = u.name; position = position_of texts (members_in gs u) p }
+abbrev pub held_union_cursor : List Bytes → List (Option Live) → United → CursorId → UnionProgress → HeldCursor
+held_union_cursor texts gs u id p =
+    record { id = id; query = u.name; position = union_position texts (members_in gs u) p }
 
 -- the cursors in slots from this one on, of the union in a place
-abbrev pub held_in : List Bytes → List (Option Live) → United → ℕ → ℕ → List (Option Progress) → List HeldCursor
-held_in texts gs u at k [] = []
-held_in texts gs u at k (None ∷ slots) = held_in texts gs u at (suc k) slots
-held_in texts gs u at k (Some p ∷ slots) =
-    held_as texts gs u (record { query = id_at at; cursor = k }) p
-    ∷ held_in texts gs u at (suc k) slots
+abbrev pub union_cursors_in : List Bytes → List (Option Live) → United → ℕ → ℕ → List (Option UnionProgress)
+    → List HeldCursor
+union_cursors_in texts gs u at k [] = []
+union_cursors_in texts gs u at k (None ∷ slots) = union_cursors_in texts gs u at (suc k) slots
+union_cursors_in texts gs u at k (Some p ∷ slots) =
+    held_union_cursor texts gs u (record { query = id_at at; cursor = k }) p
+    ∷ union_cursors_in texts gs u at (suc k) slots
 
 -- the cursors of all unions from this place on
-abbrev pub held_from : List Bytes → List (Option Live) → ℕ → List (Option Joined) → List HeldCursor
-held_from texts gs at [] = []
-held_from texts gs at (None ∷ us) = held_from texts gs (suc at) us
-held_from texts gs at (Some j ∷ us) =
-    held_in texts gs j.union at zero j.union.cursors ++ held_from texts gs (suc at) us
+abbrev pub union_cursors_from : List Bytes → List (Option Live) → ℕ → List (Option Joined) → List HeldCursor
+union_cursors_from texts gs at [] = []
+union_cursors_from texts gs at (None ∷ us) = union_cursors_from texts gs (suc at) us
+union_cursors_from texts gs at (Some j ∷ us) =
+    union_cursors_in texts gs j.union at zero j.union.cursors ++ union_cursors_from texts gs (suc at) us
 
 -- the cursor of an id over the union in its slot
-abbrev pub held_of : List Bytes → List (Option Live) → CursorId → Option Joined → Option HeldCursor
-held_of texts gs id None = None
-held_of texts gs id (Some j) =
-    option_map (held_as texts gs j.union id) (slot_at j.union.cursors id.cursor)
+abbrev pub union_cursor_of : List Bytes → List (Option Live) → CursorId → Option Joined → Option HeldCursor
+union_cursor_of texts gs id None = None
+union_cursor_of texts gs id (Some j) =
+    option_map (held_union_cursor texts gs j.union id) (slot_at j.union.cursors id.cursor)
 
 -- what the log of a union tells
-abbrev pub told_in : List Bytes → List (Option Live) → Option Joined → Option (List Change)
-told_in texts gs None = None
-told_in texts gs (Some j) = told_of texts (first_member gs j.union) j.log
+abbrev pub told_of_union : List Bytes → List (Option Live) → Option Joined → Option (List Change)
+told_of_union texts gs None = None
+told_of_union texts gs (Some j) = told_of texts (first_member gs j.union) j.log
 
 -- by whom an answer of the union in a slot is lent
 abbrev pub lender_in : List (Option Live) → Option Joined → Option Live
@@ -101,20 +102,20 @@ lender_in gs (Some j) = first_member gs j.union
 
 -- the cursors of queries and of unions
 abbrev pub cursors_in : Kept → List (Option Joined) → List HeldCursor
-cursors_in e us = e.cursors ++ held_from (e.store).texts e.places QUERIES us
+cursors_in e us = e.cursors ++ union_cursors_from (e.store).texts e.places QUERIES us
 
 -- what contracts see, of an engine, unions in slots, the order, the sessions that watch each query, and the affected
 -- places
-abbrev pub seen : Kept → List (Option Joined) → List ℕ → List ℕ → List ℕ → Kept
-seen e us order sessions affected = record {
+abbrev pub store_seen : Kept → List (Option Joined) → List ℕ → List ℕ → List ℕ → Kept
+store_seen e us order sessions affected = record {
   store = record e.store { queries = map (listed_at e.places us) order };
   cursors = cursors_in e us;
   registered = map (registered_as e.places us sessions) order;
   affected = map id_at affected;
-  told = in_places e.told (map (told_in (e.store).texts e.places) us);
+  told = in_places e.told (map (told_of_union (e.store).texts e.places) us);
   places = in_places e.places (map (lender_in e.places) us);
 }
 
 -- what contracts see of a store's parts
-abbrev pub kept_in : Parts → Kept
-kept_in p = seen p.engine p.unions.items p.order.items p.sessions.items p.affected.items
+abbrev pub store_kept_in : Parts → Kept
+store_kept_in p = store_seen p.engine p.unions.items p.order.items p.sessions.items p.affected.items

@@ -8,7 +8,7 @@ use Rattle.djq_lines.specs.declared.rest.QueryOutcome.TheVariants.{Registered as
 use Rattle.djq_lines.specs.declared.answer.Refusal.{Refusal}
 use Rattle.djq_machine.specs.Union.{AreUnder}
 use Rattle.djq_engine.specs.declared.cursor.QueryId.{QueryId}
-use Rattle.djq_engine.specs.Kept.{Kept, SameTellings, TellsOf, registered_at, registered_of}
+use Rattle.djq_engine.specs.Kept.{Kept, SameTellings, TellsOfQuery, registered_at, registered_of}
 
 -- whether a query was registered
 abbrev pub is_registered : Result QueryOutcome Refusal → Bool
@@ -27,5 +27,5 @@ EnrolsUnion old name members (Err r) new = new.registered ≡ old.registered
 -- the affected.
 abbrev pub EnrolsUnionTelling : Kept → Bytes → Result ℕ Refusal → Kept → Type 0
 EnrolsUnionTelling old name (Ok most) new = (new.affected ≡ old.affected)
-    × IsSomeAnd (registered_of new.registered name) (λ r. TellsOf old r.id (Some []) new)
+    × IsSomeAnd (registered_of new.registered name) (λ r. TellsOfQuery old r.id (Some []) new)
 EnrolsUnionTelling old name (Err r) new = SameTellings old new

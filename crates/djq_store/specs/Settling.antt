@@ -13,7 +13,7 @@ use Rattle.djq_engine.specs.Kept.{Kept}
 use Rattle.djq_united.specs.Slots.{outdated_slots}
 use Rattle.djq_united.specs.Staying.{KeepMembers}
 use Rattle.djq_united.specs.United.{United, IsUnited}
-use Rattle.djq_gains.specs.Gains.{AtFirst, TellUnion, members_at, count_in}
+use Rattle.djq_gains.specs.Gains.{AtFirstMember, TellUnion, members_at, count_in}
 use Rattle.djq_store.specs.declared.joined.Joined.{Joined}
 use Rattle.djq_store.specs.declared.settling.Turn.{Turn}
 use Rattle.djq_store.specs.Places.{joined_at}
@@ -30,8 +30,8 @@ abbrev pub some_read : List (Option Live) → List ℕ → Bytes → Bool
 some_read gs members name = list_any (λ i. reads_place name (query_at gs i)) members
 
 -- the first of these relations that one of them reads
-abbrev pub first_read : List (Option Live) → List Bytes → List ℕ → Option Bytes
-first_read gs relations members = find (some_read gs members) relations
+abbrev pub first_read_by : List (Option Live) → List Bytes → List ℕ → Option Bytes
+first_read_by gs relations members = find (some_read gs members) relations
 
 -- those of the places whose queries read one of these relations
 abbrev pub touched_in : List (Option Live) → List Bytes → List ℕ → List ℕ
@@ -46,13 +46,13 @@ outdated_union (Some relation) n u =
     record u { cursors = outdated_slots relation n u.cursors }
 
 -- A log tells how the answers of a union changed, unless that is lost.
-abbrev pub TellsUnion : Kept → List Bytes → Bool → Joined → Log → Type 0
-TellsUnion e relations came j log = log.lost ≡ false → AtFirst e j.union.members
+abbrev pub TellsUnionLog : Kept → List Bytes → Bool → Joined → Log → Type 0
+TellsUnionLog e relations came j log = log.lost ≡ false → AtFirstMember e j.union.members
     (TellUnion e j.union.members (touched_in e.places relations j.union.members) came log.lines)
 
 -- It does so where a session watches the union; else it stays.
 abbrev pub TellsWatched : Bool → Kept → List Bytes → Bool → Joined → Log → Type 0
-TellsWatched true e relations came j log = TellsUnion e relations came j log
+TellsWatched true e relations came j log = TellsUnionLog e relations came j log
 TellsWatched false e relations came j log = log ≡ j.log
 
 -- The log of a union that a change outdates tells of nothing where memory was refused.
@@ -68,13 +68,13 @@ SettlesLogBy (Some relation) e relations turn j log = SettlesLog e relations tur
 
 -- A union behind a change of these relations, of this number.
 pub record Settles (e : Kept) (relations : List Bytes) (n : ℕ) (turn : Turn) (j k : Joined) : Type 0 where
-  pub union : k.union ≡ outdated_union (first_read e.places relations j.union.members) n j.union
+  pub union : k.union ≡ outdated_union (first_read_by e.places relations j.union.members) n j.union
   -- outdated, it goes with whatever tables its members have
-  pub united : is_some (first_read e.places relations j.union.members) ≡ true
+  pub united : is_some (first_read_by e.places relations j.union.members) ≡ true
       → (old new : List (Option Live)) → IsUnited old j.union
       → KeepMembers HasSameShape old new j.union.members → IsUnited new k.union
   pub watchers : k.watchers ≡ j.watchers
-  pub log : SettlesLogBy (first_read e.places relations j.union.members) e relations turn j k.log
+  pub log : SettlesLogBy (first_read_by e.places relations j.union.members) e relations turn j k.log
 
 -- A slot behind such a change: one without a union stays so, and the union of another settles.
 abbrev pub SettlesAt : Kept → List Bytes → ℕ → Turn → Option Joined → Option Joined → Type 0
@@ -85,7 +85,7 @@ SettlesAt e relations n turn (Some j) (Some k) = Settles e relations n turn j k
 -- whether one of these relations outdates the union in a slot
 abbrev pub is_settled : Kept → List Bytes → Option Joined → Bool
 is_settled e relations None = false
-is_settled e relations (Some j) = is_some (first_read e.places relations j.union.members)
+is_settled e relations (Some j) = is_some (first_read_by e.places relations j.union.members)
 
 -- ---- what it counts
 

@@ -55,7 +55,7 @@ pub record IsRoomy (p : Parts) : Type 0 where
   pub affected : QUERIES ≤ vec_capacity p.affected
 
 -- what holds between any two calls
-pub record IsWhole (p : Parts) : Type 0 where
+pub record StoreIsWhole (p : Parts) : Type 0 where
   pub listed : IsListed p.engine p.unions.items p.order.items
   pub counted : IsCounted p.engine p.unions.items p.sessions.items
   pub roomy : IsRoomy p

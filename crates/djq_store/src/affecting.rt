@@ -2,7 +2,7 @@
 ghost use Rattle.std.specs.Prelude.{◌≡◌, ◌<◌, ◌≤◌, ℕ, false, All, filter, map, length, slice_index_or, vec_capacity};
 ghost use Rattle.std.specs.List.{list_any};
 ghost use Rattle.djq_lines.specs.declared.limits.TheConstants.{QUERIES};
-ghost use Rattle.djq_store.specs.Affecting.{is_reached, is_affected};
+ghost use Rattle.djq_store.specs.Affecting.{is_reached_id, is_affected};
 
 use crate::joined::Joined;
 use djq_engine::Engine;
@@ -11,7 +11,7 @@ use djq_lines::limits::QUERIES;
 /// For each place whether the engine's last accepted change affects the query there.
 fn reached_places(engine: &Engine) -> [bool; QUERIES]
     requires { All (λ id. id.at < QUERIES) engine.now.affected }
-    ensures { (i : ℕ) → slice_index_or result i false ≡ is_reached engine.now.affected i }
+    ensures { (i : ℕ) → slice_index_or result i false ≡ is_reached_id engine.now.affected i }
 {
     let mut reached = [false; QUERIES];
     for nth in 0..engine.affected_count() {
@@ -60,7 +60,7 @@ pub fn affect(
     requires low { All (λ id. id.at < QUERIES) engine.now.affected }
     requires room { length order.now ≤ vec_capacity affected.old }
     ensures items { affected.new.items
-        ≡ filter (is_affected (is_reached engine.now.affected) unions.now) order.now }
+        ≡ filter (is_affected (is_reached_id engine.now.affected) unions.now) order.now }
     ensures room { vec_capacity affected.old ≤ vec_capacity affected.new }
 {
     let reached = reached_places(engine);

@@ -6,7 +6,7 @@ ghost use Rattle.djq_machine.specs.Store.{TellsShape, TellsWhether, atoms_of, ha
 ghost use Rattle.djq_machine.specs.Batch.{TellsSuits};
 ghost use Rattle.djq_live.specs.Member.{query_at};
 ghost use Rattle.djq_united.specs.United.{AreMembers};
-ghost use Rattle.djq_store.specs.Asking.{TellsOf, asked_in};
+ghost use Rattle.djq_store.specs.Asking.{TellsMembership, asked_in};
 ghost use Rattle.djq_store.specs.Explaining.{ExplainGives, HasMember};
 
 use crate::below::engine_laws;
@@ -28,7 +28,7 @@ fn has_at<L: Ledgers>(
 ) -> Result<bool, Refusal>
     requires { IsSomeAnd (query_at engine.now.places at) (λ l. ⊤) }
     ensures tells { IsSomeAnd (query_at engine.now.places at)
-        (λ l. TellsOf engine.now.store.relations (a_query l.query) tuple.now result) }
+        (λ l. TellsMembership engine.now.store.relations (a_query l.query) tuple.now result) }
     ensures counted { IsSomeAnd (query_at engine.now.places at)
         (λ l. listing.new ≤ listing.old + length l.query.atoms) }
 {
@@ -45,7 +45,7 @@ fn some_has<L: Ledgers>(
     listing: &mut Tally<Listing<L>>,
 ) -> Result<bool, Refusal>
     requires { AreMembers engine.now.places members.now }
-    ensures tells { (name : Bytes) → TellsOf engine.now.store.relations
+    ensures tells { (name : Bytes) → TellsMembership engine.now.store.relations
         (a_union name (asked_in engine.now.places members.now)) tuple.now result }
     ensures counted { listing.new ≤ listing.old + atoms_of (asked_in engine.now.places members.now) }
 {

@@ -1,7 +1,7 @@
 //! Unions that are put into slots.
 ghost use Rattle.std.specs.Prelude.{◌≡◌, ◌≤◌, ◌<◌, count_by, is_none, is_some, position, length, IfOk, OnErr};
 ghost use Rattle.djq_lines.specs.declared.limits.TheConstants.{QUERIES};
-ghost use Rattle.djq_store.specs.Filling.{Fills};
+ghost use Rattle.djq_store.specs.Filling.{FillsSlot};
 
 use crate::joined::Joined;
 use djq_model::NoMem;
@@ -21,7 +21,7 @@ fn vacant_slot(unions: &[Option<Joined>]) -> Option<usize>
 pub fn fill_slot(unions: &mut Vec<Option<Joined>>, joined: Joined) -> Result<usize, NoMem>
     requires few { count_by is_some unions.old.items < QUERIES }
     requires within { length unions.old.items ≤ QUERIES }
-    ensures ok { IfOk result (λ k. Fills unions.old.items unions.new.items k joined) }
+    ensures ok { IfOk result (λ k. FillsSlot unions.old.items unions.new.items k joined) }
     ensures err { OnErr result (unions.new.items ≡ unions.old.items) }
 {
     if let Some(slot) = vacant_slot(unions.as_slice()) {

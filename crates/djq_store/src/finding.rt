@@ -1,6 +1,6 @@
 //! Unions in their slots, found by name.
 ghost use Rattle.std.specs.Prelude.{◌≡◌, ⊤, Some, IsSomeAnd, position};
-ghost use Rattle.djq_store.specs.Finding.{is_named};
+ghost use Rattle.djq_store.specs.Finding.{union_is_named};
 ghost use Rattle.djq_store.specs.Places.{joined_at};
 
 use crate::joined::Joined;
@@ -8,7 +8,7 @@ use djq_model::Name;
 
 /// Whether a slot has the union of a name.
 fn is_named(slot: &Option<Joined>, name: &Name) -> bool
-    ensures { result ≡ is_named name.now slot.now }
+    ensures { result ≡ union_is_named name.now slot.now }
 {
     match slot {
         Some(joined) => joined.union.name() == *name,
@@ -18,7 +18,7 @@ fn is_named(slot: &Option<Joined>, name: &Name) -> bool
 
 /// The slot of the union of a name.
 pub fn find_union(unions: &[Option<Joined>], name: &Name) -> Option<usize>
-    ensures { result ≡ position (is_named name.now) unions.now }
+    ensures { result ≡ position (union_is_named name.now) unions.now }
 {
     unions.iter().position(|slot| is_named(slot, name))
 }

@@ -8,7 +8,7 @@ ghost use Rattle.djq_united.specs.United.{AreMembers};
 ghost use Rattle.djq_store.specs.declared.joined.Joined.{Joined as JoinedModel};
 ghost use Rattle.djq_store.specs.Places.{joined_at};
 ghost use Rattle.djq_store.specs.Following.{IfMade, FollowsBy, following_steps, add_turn, delete_turn, batch_turn};
-ghost use Rattle.djq_store.specs.Affecting.{is_reached, is_affected};
+ghost use Rattle.djq_store.specs.Affecting.{is_reached_id, is_affected};
 ghost use Rattle.djq_store.specs.Batches.{AreCounts, grown_of, has_union};
 ghost use Rattle.djq_store.specs.Settling.{AreUnionsUnwatched};
 
@@ -147,7 +147,7 @@ fn know_affected(parts: &mut Parts, read: bool)
     requires few { length parts.old.engine.affected ≤ vec_capacity parts.old.affected }
     requires room { length parts.old.order.items ≤ vec_capacity parts.old.affected }
     ensures all { read ≡ true → parts.new.affected.items ≡ filter (is_affected
-        (is_reached parts.old.engine.affected) parts.old.unions.items) parts.old.order.items }
+        (is_reached_id parts.old.engine.affected) parts.old.unions.items) parts.old.order.items }
     ensures queries { read ≡ false
         → parts.new.affected.items ≡ map (λ id. id.at) parts.old.engine.affected }
     ensures engine { parts.new.engine ≡ parts.old.engine }

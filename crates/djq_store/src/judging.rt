@@ -6,9 +6,9 @@ ghost use Rattle.djq_model.specs.Listed.{listed_of};
 ghost use Rattle.djq_machine.specs.Union.{union_refusal, stands_twice, types_differ, types_under, is_union};
 ghost use Rattle.djq_live.specs.Member.{head_types};
 ghost use Rattle.djq_engine.specs.Kept.{registered_of};
-ghost use Rattle.djq_store.specs.Places.{kept_in};
+ghost use Rattle.djq_store.specs.Places.{store_kept_in};
 ghost use Rattle.djq_store.specs.Judging.{AreQueries, ArePlacesOf};
-ghost use Rattle.djq_store.specs.Whole.{IsWhole};
+ghost use Rattle.djq_store.specs.Whole.{StoreIsWhole};
 
 use crate::below::engine_laws;
 use crate::finding::find_union;
@@ -22,8 +22,8 @@ use std::alloc::Global;
 
 /// Whether nothing is registered under a name.
 fn is_unknown(parts: &Parts, name: &Name) -> bool
-    requires { IsWhole parts.now }
-    ensures { result ≡ is_none (listed_of (kept_in parts.now).store.queries name.now) }
+    requires { StoreIsWhole parts.now }
+    ensures { result ≡ is_none (listed_of (store_kept_in parts.now).store.queries name.now) }
 {
     engine_laws(&parts.engine);
     find_union(parts.unions.as_slice(), name).is_none() && parts.engine.query_id(name).is_none()
@@ -31,8 +31,8 @@ fn is_unknown(parts: &Parts, name: &Name) -> bool
 
 /// Whether a union is registered under a name.
 fn is_union(parts: &Parts, name: &Name) -> bool
-    requires { IsWhole parts.now }
-    ensures { result ≡ is_union (listed_of (kept_in parts.now).store.queries name.now) }
+    requires { StoreIsWhole parts.now }
+    ensures { result ≡ is_union (listed_of (store_kept_in parts.now).store.queries name.now) }
 {
     engine_laws(&parts.engine);
     find_union(parts.unions.as_slice(), name).is_some()
@@ -40,16 +40,16 @@ fn is_union(parts: &Parts, name: &Name) -> bool
 
 /// Whether one of these names is registered nowhere.
 fn any_unknown(parts: &Parts, names: &[Name]) -> bool
-    requires { IsWhole parts.now }
-    ensures { result ≡ list_any (λ n. is_none (listed_of (kept_in parts.now).store.queries n)) names.now }
+    requires { StoreIsWhole parts.now }
+    ensures { result ≡ list_any (λ n. is_none (listed_of (store_kept_in parts.now).store.queries n)) names.now }
 {
     names.iter().any(|name| is_unknown(parts, name))
 }
 
 /// Whether a union is registered under one of these names.
 fn any_union(parts: &Parts, names: &[Name]) -> bool
-    requires { IsWhole parts.now }
-    ensures { result ≡ list_any (λ n. is_union (listed_of (kept_in parts.now).store.queries n)) names.now }
+    requires { StoreIsWhole parts.now }
+    ensures { result ≡ list_any (λ n. is_union (listed_of (store_kept_in parts.now).store.queries n)) names.now }
 {
     names.iter().any(|name| is_union(parts, name))
 }
@@ -75,10 +75,10 @@ fn stands_twice(names: &[Name]) -> bool
 
 /// The query that is registered under a name.
 fn query_of<'a>(parts: &'a Parts, name: &Name) -> &'a LiveQuery
-    requires whole { IsWhole parts.now }
-    requires known { is_some (listed_of (kept_in parts.now).store.queries name.now) ≡ true }
-    requires query { is_union (listed_of (kept_in parts.now).store.queries name.now) ≡ false }
-    ensures { head_types result.now ≡ types_under (kept_in parts.now).store name.now }
+    requires whole { StoreIsWhole parts.now }
+    requires known { is_some (listed_of (store_kept_in parts.now).store.queries name.now) ≡ true }
+    requires query { is_union (listed_of (store_kept_in parts.now).store.queries name.now) ≡ false }
+    ensures { head_types result.now ≡ types_under (store_kept_in parts.now).store name.now }
 {
     engine_laws(&parts.engine);
     head_types_are();
@@ -90,9 +90,9 @@ fn query_of<'a>(parts: &'a Parts, name: &Name) -> &'a LiveQuery
 
 /// Whether the answers of some of these queries have other types than those of the first.
 fn types_differ(parts: &Parts, names: &[Name]) -> bool
-    requires whole { IsWhole parts.now }
-    requires queries { AreQueries (kept_in parts.now).store names.now }
-    ensures { result ≡ types_differ (kept_in parts.now).store names.now }
+    requires whole { StoreIsWhole parts.now }
+    requires queries { AreQueries (store_kept_in parts.now).store names.now }
+    ensures { result ≡ types_differ (store_kept_in parts.now).store names.now }
 {
     for nth in 1..names.len() {
         if !query_of(parts, &names[0]).is_alike(query_of(parts, &names[nth])) {
@@ -104,11 +104,11 @@ fn types_differ(parts: &Parts, names: &[Name]) -> bool
 
 /// Whether the members of a union stand there twice, are unions, or have answers of different types.
 fn are_misfit(parts: &Parts, members: &[Name]) -> bool
-    requires whole { IsWhole parts.now }
-    requires known { list_any (λ n. is_none (listed_of (kept_in parts.now).store.queries n)) members.now ≡ false }
+    requires whole { StoreIsWhole parts.now }
+    requires known { list_any (λ n. is_none (listed_of (store_kept_in parts.now).store.queries n)) members.now ≡ false }
     ensures { result ≡ (stands_twice members.now
-        || list_any (λ n. is_union (listed_of (kept_in parts.now).store.queries n)) members.now
-        || types_differ (kept_in parts.now).store members.now) }
+        || list_any (λ n. is_union (listed_of (store_kept_in parts.now).store.queries n)) members.now
+        || types_differ (store_kept_in parts.now).store members.now) }
 {
     if stands_twice(members) {
         return true;
@@ -121,8 +121,8 @@ fn are_misfit(parts: &Parts, members: &[Name]) -> bool
 
 /// Why a union isn't registered.
 pub fn judge_union(parts: &Parts, name: &Name, members: &[Name]) -> Option<Refusal>
-    requires { IsWhole parts.now }
-    ensures { result ≡ union_refusal (kept_in parts.now).store name.now members.now }
+    requires { StoreIsWhole parts.now }
+    ensures { result ≡ union_refusal (store_kept_in parts.now).store name.now members.now }
 {
     if !is_unknown(parts, name) {
         return Some(Refusal::Taken);

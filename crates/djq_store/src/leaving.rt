@@ -1,7 +1,7 @@
 //! Places that are left out of lists, and whether a union needs the query in one.
 ghost use Rattle.std.specs.Prelude.{◌≡◌, vec_capacity};
 ghost use Rattle.std.specs.List.{list_any};
-ghost use Rattle.djq_engine.specs.Places.{left};
+ghost use Rattle.djq_engine.specs.Places.{places_without};
 ghost use Rattle.djq_store.specs.Finding.{has_member};
 
 use crate::joined::Joined;
@@ -25,7 +25,7 @@ pub fn is_member(unions: &[Option<Joined>], at: usize) -> bool
 
 /// Takes a place out of a list of places.
 pub fn leave_out(places: &mut Vec<usize>, at: usize)
-    ensures items { places.new.items ≡ left at places.old.items }
+    ensures items { places.new.items ≡ places_without at places.old.items }
     ensures room { vec_capacity places.new ≡ vec_capacity places.old }
 {
     places.retain(|place| *place != at);

@@ -4,9 +4,9 @@ ghost use Rattle.djq_rows.specs.Catalog.{Catalog as CatalogModel};
 ghost use Rattle.djq_united.specs.Slots.{slot_at};
 ghost use Rattle.djq_united.specs.United.{AreKept};
 ghost use Rattle.djq_store.specs.Places.{joined_at};
-ghost use Rattle.djq_store.specs.Moving.{MovesUnion, OpensUnion, ClosesUnion, ReadsUnion, TellsUnion};
-ghost use Rattle.djq_store.specs.Moving.{IsReadable, IsFreshly};
-ghost use Rattle.djq_engine.specs.Kept.{OpenGives, MoreGives, ClosesCursor, IsHeld, IsFresh, IsShown, AnswerIs};
+ghost use Rattle.djq_store.specs.Moving.{MovesUnion, OpensUnion, ClosesUnion, ReadsUnion, TellsUnionMore};
+ghost use Rattle.djq_store.specs.Moving.{IsUnionReadable, IsUnionFresh};
+ghost use Rattle.djq_engine.specs.Kept.{CursorOpenGives, MoreGives, ClosesCursor, IsHeld, IsFresh, IsShown, AnswerIs};
 ghost use Rattle.djq_store.specs.Reading.{NextGives};
 
 use crate::below::engine_laws;
@@ -53,7 +53,7 @@ fn next_at<L: Ledgers>(
     answer: &mut Answer,
     listing: &mut Tally<Listing<L>>,
 ) -> Next
-    requires readable { IsSomeAnd (joined_at unions.old.items slot) (IsReadable queries.now cursor) }
+    requires readable { IsSomeAnd (joined_at unions.old.items slot) (IsUnionReadable queries.now cursor) }
     requires kept { (c : CatalogModel) × AreKept c queries.now }
     ensures { MovesUnion (ReadsUnion queries.now cursor result answer.new listing.old listing.new)
         slot unions.old.items unions.new.items }
@@ -72,9 +72,9 @@ fn more_at<L: Ledgers>(
     queries: &[Option<LiveQuery>],
     listing: &mut Tally<Listing<L>>,
 ) -> bool
-    requires fresh { IsSomeAnd (joined_at unions.old.items slot) (IsFreshly queries.now cursor) }
+    requires fresh { IsSomeAnd (joined_at unions.old.items slot) (IsUnionFresh queries.now cursor) }
     requires kept { (c : CatalogModel) × AreKept c queries.now }
-    ensures { MovesUnion (TellsUnion queries.now cursor result listing.old listing.new)
+    ensures { MovesUnion (TellsUnionMore queries.now cursor result listing.old listing.new)
         slot unions.old.items unions.new.items }
 {
     match &mut unions[slot] {
@@ -90,7 +90,7 @@ impl Store {
     ///
     /// `NoQuery` where none has the name; `NoMemory` out of memory. Nothing has changed.
     pub fn open(&mut self, name: &Name) -> Result<CursorId, Refusal>
-        ensures { OpenGives self.old name.now result self.new }
+        ensures { CursorOpenGives self.old name.now result self.new }
     {
         engine_laws(&self.parts.engine);
         let Some(slot) = find_union(self.parts.unions.as_slice(), name) else {

@@ -8,7 +8,7 @@ ghost use Rattle.djq_reach.specs.Places.{reads_place};
 ghost use Rattle.djq_united.specs.United.{AreMembers};
 ghost use Rattle.djq_store.specs.declared.joined.Joined.{Joined as JoinedModel};
 ghost use Rattle.djq_store.specs.Places.{joined_at, union_watchers};
-ghost use Rattle.djq_store.specs.Settling.{reads_some, some_read, first_read, touched_in, SettlesLog, Settles};
+ghost use Rattle.djq_store.specs.Settling.{reads_some, some_read, first_read_by, touched_in, SettlesLog, Settles};
 ghost use Rattle.djq_store.specs.Settling.{SettlesAt, telling_steps, settling_steps, is_settled};
 ghost use Rattle.djq_store.specs.Settling.{AreUnionsUnwatched};
 
@@ -73,7 +73,7 @@ fn some_read(queries: &[Option<LiveQuery>], members: &[usize], relation: &Name) 
 
 /// The first of these relations that a member reads.
 fn first_read(queries: &[Option<LiveQuery>], members: &[usize], relations: &[Name]) -> Option<Name>
-    ensures { result ≡ first_read queries.now relations.now members.now }
+    ensures { result ≡ first_read_by queries.now relations.now members.now }
 {
     for relation in relations {
         if some_read(queries, members, relation) {

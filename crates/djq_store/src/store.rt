@@ -26,12 +26,12 @@ impl Model for Store {
 
     ghost Value = { Kept };
 
-    ghost use Rattle.djq_store.specs.Places.{kept_in};
-    ghost use Rattle.djq_store.specs.Whole.{IsWhole};
+    ghost use Rattle.djq_store.specs.Places.{store_kept_in};
+    ghost use Rattle.djq_store.specs.Whole.{StoreIsWhole};
 
-    ghost view = { λ s. kept_in s.parts };
+    ghost view = { λ s. store_kept_in s.parts };
 
-    ghost invariant = { λ s. IsWhole s.parts };
+    ghost invariant = { λ s. StoreIsWhole s.parts };
 }
 
 impl Store {

@@ -3,9 +3,9 @@ ghost use Rattle.std.specs.Prelude.{◌≡◌, ◌<◌, ◌≤◌, ◌+◌, ◌-
 ghost use Rattle.djq_lines.specs.declared.limits.TheConstants.{QUERIES, SESSIONS};
 ghost use Rattle.djq_engine.specs.Kept.{registered_at, IsRegistered, with_watchers};
 ghost use Rattle.djq_engine.specs.Places.{id_at};
-ghost use Rattle.djq_store.specs.Counting.{HasWatchers, with_all};
-ghost use Rattle.djq_store.specs.Places.{joined_at, kept_in};
-ghost use Rattle.djq_store.specs.Whole.{IsWhole};
+ghost use Rattle.djq_store.specs.Counting.{HasWatchers, with_watchers_at};
+ghost use Rattle.djq_store.specs.Places.{joined_at, store_kept_in};
+ghost use Rattle.djq_store.specs.Whole.{StoreIsWhole};
 ghost use Rattle.djq_engine.specs.declared.watching.TheConstants.{WATCHERS};
 
 use crate::below::engine_laws;
@@ -21,7 +21,7 @@ fn watch_members(engine: &mut Engine, members: &[usize])
     requires { All (λ at. IsSomeAnd (registered_at engine.old.registered (id_at at))
         (λ r. r.watchers + length members.now ≤ WATCHERS)) members.now }
     ensures { engine.new ≡ record engine.old {
-      registered = with_all (λ n. n + 1) members.now engine.old.registered;
+      registered = with_watchers_at (λ n. n + 1) members.now engine.old.registered;
     } }
 {
     for nth in 0..members.len() {
@@ -35,7 +35,7 @@ fn unwatch_members(engine: &mut Engine, members: &[usize])
     requires watched { All (λ at. IsSomeAnd (registered_at engine.old.registered (id_at at))
         (λ r. 0 < r.watchers)) members.now }
     ensures { engine.new ≡ record engine.old {
-      registered = with_all (λ n. n - 1) members.now engine.old.registered;
+      registered = with_watchers_at (λ n. n - 1) members.now engine.old.registered;
     } }
 {
     for nth in 0..members.len() {
@@ -67,11 +67,11 @@ fn ignore(unions: &mut Vec<Option<Joined>>, slot: usize)
 
 /// A session more watches the union in a slot. The first one watches its members through it.
 fn watch_union(parts: &mut Parts, slot: usize)
-    requires whole { IsWhole parts.old }
+    requires whole { StoreIsWhole parts.old }
     requires few { IsSomeAnd (joined_at parts.old.unions.items slot) (λ j. j.watchers < SESSIONS) }
-    ensures whole { IsWhole parts.new }
-    ensures watches { kept_in parts.new ≡ record (kept_in parts.old) {
-      registered = with_watchers (id_at (QUERIES + slot)) (λ n. n + 1) (kept_in parts.old).registered;
+    ensures whole { StoreIsWhole parts.new }
+    ensures watches { store_kept_in parts.new ≡ record (store_kept_in parts.old) {
+      registered = with_watchers (id_at (QUERIES + slot)) (λ n. n + 1) (store_kept_in parts.old).registered;
     } }
 {
     engine_laws(&parts.engine);
@@ -86,11 +86,11 @@ fn watch_union(parts: &mut Parts, slot: usize)
 
 /// A session that watched the union in a slot does so no more. The last one leaves its members.
 fn unwatch_union(parts: &mut Parts, slot: usize)
-    requires whole { IsWhole parts.old }
+    requires whole { StoreIsWhole parts.old }
     requires some { IsSomeAnd (joined_at parts.old.unions.items slot) (λ j. 0 < j.watchers) }
-    ensures whole { IsWhole parts.new }
-    ensures watches { kept_in parts.new ≡ record (kept_in parts.old) {
-      registered = with_watchers (id_at (QUERIES + slot)) (λ n. n - 1) (kept_in parts.old).registered;
+    ensures whole { StoreIsWhole parts.new }
+    ensures watches { store_kept_in parts.new ≡ record (store_kept_in parts.old) {
+      registered = with_watchers (id_at (QUERIES + slot)) (λ n. n - 1) (store_kept_in parts.old).registered;
     } }
 {
     engine_laws(&parts.engine);

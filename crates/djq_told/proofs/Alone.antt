@@ -6,9 +6,9 @@ use Rattle.std.proofs.lemmas.Bool.{both_ways}
 use Rattle.djq_model.specs.Data.{Bytes, bytes_eq}
 use Rattle.djq_lines.specs.Reply.{line, cells_text}
 use Rattle.djq_mirror.specs.declared.mode.Mode.{Mode}
-use Rattle.djq_mirror.specs.Inputs.{lines_text, HasNoLf, FollowsAll, Stops}
+use Rattle.djq_mirror.specs.Inputs.{lines_text, HasNoLf, FollowsAll, StopsMirror}
 use Rattle.djq_mirror.specs.Mirror.{Held, at_first, Act, keep, clear, put, take_out, turn_of}
-use Rattle.djq_mirror.specs.Mirror.{may_act, may_turn, allows, has_text, IsInOrder, Acted, Turned, IsLine, Follows}
+use Rattle.djq_mirror.specs.Mirror.{may_act, may_turn, allows, has_text, IsInOrder, Acted, Turned, IsReplyLine, Follows}
 use Rattle.djq_mirror.specs.Reading.{News, news_of}
 use Rattle.djq_mirror.specs.Replies.{Reply}
 use Rattle.djq_mirror.proofs.Telling.{reply_told}
@@ -85,7 +85,7 @@ turned_in_order old new (Some turn) h order = by turn.1 h.1
     by (take_out t) p = p.0
 
 -- a line tells one thing
-one_turn : (name l : Bytes) (mode mode' : Mode) (r r' : Reply) → mode' ≡ mode → IsLine l r → IsLine l r'
+one_turn : (name l : Bytes) (mode mode' : Mode) (r r' : Reply) → mode' ≡ mode → IsReplyLine l r → IsReplyLine l r'
     → turn_of name mode' r' ≡ turn_of name mode r
 one_turn name l mode mode' r r' same one two =
     let news : news_of r' ≡ news_of r = some_same (sym (reply_told l r' two.reply) ∙ reply_told l r one.reply) in
@@ -128,7 +128,7 @@ alike_behind name a b h (l ∷ ls) (m ∷ ms) a' b' e one two =
 -- the line that would be refused is followed
 stops_nowhere : (name : Bytes) (a b : Held) → IsAlike a b → (ls ms : List Bytes) (a' b' : Held) (bad behind : Bytes)
     → lines_text ls ≡ lines_text ms ++ (bad ++ behind) → FollowsAll name a ls a' → FollowsAll name b ms b' → HasNoLf bad
-    → Stops name b' bad behind → ⊥
+    → StopsMirror name b' bad behind → ⊥
 stops_nowhere name a b h [] [] a' b' [] [] e one two own stops = stops refl
 stops_nowhere name a b h [] [] a' b' (x ∷ bad) behind e one two own stops = absurd cc
 stops_nowhere name a b h [] [] a' b' [] (x ∷ behind) e one two own stops = absurd cc
@@ -146,7 +146,7 @@ stops_nowhere name a b h (l ∷ ls) [] a' b' bad (x ∷ behind) e one two own st
     let cut = one_front l bad (lines_text ls) behind one.1 own
     (sym (line_then l (lines_text ls)) ∙ e ∙ ap (λ (c : ℕ). bad ++ c ∷ behind) stops.0) in
     let f = one.2 in
-    let here : IsLine bad f.reply = subst (λ (k : Bytes). IsLine k f.reply) cut.0 f.is_line in
+    let here : IsReplyLine bad f.reply = subst (λ (k : Bytes). IsReplyLine k f.reply) cut.0 f.is_line in
     let still : IsAlike a b' = subst (λ (k : Held). IsAlike a k) (sym two) h in
     let turn : turn_of name b'.mode f.reply
     ≡ turn_of name a.mode f.reply = ap (λ m. turn_of name m f.reply) still.mode in

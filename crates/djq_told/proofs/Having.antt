@@ -45,11 +45,11 @@ use Rattle.djq_laws.specs.Form.{
   is_whole,
   is_cut,
   without_cursor,
-  Turned,
+  SessionTurned,
   DoesTurn,
   is_turned,
   is_refused,
-  Does,
+  FormDoes,
 }
 use Rattle.djq_laws.proofs.Changing.{all_dropped, all_mapped, less_dropped}
 use Rattle.djq_deltas.proofs.Cases.{some_there}
@@ -160,7 +160,7 @@ module _ (s : ℕ) (name : Bytes) (P : List Tuple → Bool → Type 0) where
 
   has_turned : (old : State) (t : ℕ) (x : Session) (turn : Turn) (new : State)
       → ((t == s) ≡ true → IsCalm (turning turn))
-      → Turned old t x turn new → Has s name P old → Has s name P new
+      → SessionTurned old t x turn new → Has s name P old → Has s name P new
   has_turned old t x (opens_cursor c q) new calm h k =
       has_with old new t _ (λ y. refl) (λ e y l. absurd (calm e)) h.2 k
   has_turned old t x (moves_cursor c) new calm h k =
@@ -184,7 +184,7 @@ module _ (s : ℕ) (name : Bytes) (P : List Tuple → Bool → Type 0) where
   has_turn old t x turn new calm (is_refused r) k = has_replied t old new r k
 
   has_form : (f : Form) (old : State) (t : ℕ) (x : Session) (e : Effect) (new : State) → ((t == s) ≡ true → IsCalm f)
-      → Does f old t x e new → Has s name P old → Has s name P new
+      → FormDoes f old t x e new → Has s name P old → Has s name P new
   has_form asking old t x e new calm h k = has_replied t old new h.1 k
   has_form storing old t x e new calm h k =
       has_replied t (record old { store = h.1.store }) new h.1.replied

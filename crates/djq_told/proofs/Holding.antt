@@ -8,7 +8,7 @@ use Rattle.djq_mirror.specs.Inputs.{lines_text, FollowsAll}
 use Rattle.djq_mirror.specs.Mirror.{Held, at_first}
 use Rattle.djq_mirror.specs.Replies.{Reply, IsPrinted}
 use Rattle.djq_told.specs.Lines.{IsShort}
-use Rattle.djq_told.specs.Mirrored.{Passes, MirroredAreHeld}
+use Rattle.djq_told.specs.Mirrored.{RepliesPass, MirroredAreHeld}
 use Rattle.djq_told.specs.Told.{replies_text}
 use Rattle.djq_told.proofs.Lines.{printed_are_lines}
 
@@ -18,7 +18,7 @@ record AreFollowed (name : Bytes) (old : Held) (rs : List Reply) (new : Held) : 
   text : replies_text rs ≡ lines_text lines
   follows : FollowsAll name old lines new
 
-followed : (name : Bytes) (old : Held) (rs : List Reply) (new : Held) → Passes name old rs new
+followed : (name : Bytes) (old : Held) (rs : List Reply) (new : Held) → RepliesPass name old rs new
     → All (λ r. IsPrinted r × IsShort r) rs → AreFollowed name old rs new
 followed name old [] new h p = record { lines = []; text = refl; follows = h }
 followed name old (r ∷ rs) new h p =

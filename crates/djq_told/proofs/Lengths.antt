@@ -10,12 +10,12 @@ use Rattle.djq_model.specs.declared.query.Term.TheVariants.{Variable, Hole, Cons
 use Rattle.djq_model.specs.declared.query.Atom.{Atom}
 use Rattle.djq_model.specs.declared.query.Query.{Query}
 use Rattle.djq_value.specs.Token.{Token, comma, arrow}
-use Rattle.djq_value.specs.Spelling.{IsSpelling, text_of}
+use Rattle.djq_value.specs.Spelling.{IsSpelling, token_text}
 use Rattle.djq_lines.specs.declared.command.Command.TheVariants.{Query as Register}
 use Rattle.djq_lines.specs.declared.limits.TheConstants.{LINE_BYTES}
 use Rattle.djq_lines.specs.Grammar.{Item, atom, comparison, past_item}
 use Rattle.djq_lines.specs.Line.{too_long, a_line, before_lf, behind_lf, without_cr, line_or_dry, is_long, front_of}
-use Rattle.djq_proto.specs.Saying.{Says, SaysAtom, SaysItem, SaysItems, SaysName, SaysTerm}
+use Rattle.djq_proto.specs.Saying.{SaysCommand, SaysAtom, SaysItem, SaysItems, SaysName, SaysTerm}
 use Rattle.djq_proto.specs.Saying.{list_tokens, more_tokens, atoms_among}
 use Rattle.djq_told.proofs.Weighing.{total, total_append}
 use Rattle.djq_laws.proofs.Short.{short_line}
@@ -39,18 +39,18 @@ query_weight q = total name_weight q.head + total atom_weight q.atoms
 -- ---- tokens
 
 abbrev bytes_of : Token → ℕ
-bytes_of t = length (text_of t)
+bytes_of t = length (token_text t)
 
 abbrev behind_one : Token → ℕ
-behind_one t = 1 + length (text_of t)
+behind_one t = 1 + length (token_text t)
 
 spelled_less : (ts : List Token) (l : Bytes) → IsSpelling ts l → total bytes_of ts ≤ length l
 spelled_less [] l h = omega arith
 spelled_less (t ∷ ts) l (front, behind, spaces, is, token, follows, more) =
     let rest = spelled_less ts behind more in
     let whole = ap length is in
-    let one = length-append front (text_of t ++ behind) in
-    let two = length-append (text_of t) behind in
+    let one = length-append front (token_text t ++ behind) in
+    let two = length-append (token_text t) behind in
     omega (arith, rest, whole, one, two)
 
 more_weight : (us : List Token) → total behind_one us ≤ total bytes_of (more_tokens us)
@@ -108,7 +108,7 @@ items_less n (i ∷ j ∷ js) ts (front, back, first, later, parts) =
     let both = total_append bytes_of front (comma ∷ back) in
     omega (arith, one, whole, both)
 
-pub query_less : (q : Query) (ts : List Token) (l : Bytes) → Says (Register q) ts → IsSpelling ts l
+pub query_less : (q : Query) (ts : List Token) (l : Bytes) → SaysCommand (Register q) ts → IsSpelling ts l
     → query_weight q ≤ length l
 query_less q ts l (us, (heads, body, name, head, (items, said, atoms, comparisons, some), parts), whole) spelled =
     let all = spelled_less ts l spelled in

@@ -100,7 +100,7 @@ use Rattle.djq_mirror.specs.Replies.{
   IsNumber,
   is_cell,
   are_cells,
-  is_variable,
+  is_printed_variable,
   is_label,
   is_edge,
   is_rest,
@@ -266,7 +266,7 @@ change_plain Went = (plain_bytes (codes "- ") refl, omega arith)
 
 -- ---- rests
 
-variable_plain : (x : Bytes) → is_variable x ≡ true → HasNoLf x
+variable_plain : (x : Bytes) → is_printed_variable x ≡ true → HasNoLf x
 variable_plain x e = by (is_name x) refl e
   where
     by : (b : Bool) → is_name x ≡ b → (b || bytes_eq x (codes "_")) ≡ true → HasNoLf x
@@ -276,14 +276,14 @@ variable_plain x e = by (is_name x) refl e
 commas_plain : (xs : List Bytes) → is_label xs ≡ true → HasNoLf (flat_map (λ y. 44 ∷ y) xs)
 commas_plain [] e = All-nil (λ b. b ≢ 10)
 commas_plain (x ∷ xs) e =
-    let both = and_parts (is_variable x) (is_label xs) e in
+    let both = and_parts (is_printed_variable x) (is_label xs) e in
     join (44 ∷ x) (flat_map (λ y. 44 ∷ y) xs) (join (44 ∷ []) x (plain_bytes (44 ∷ []) refl) (variable_plain x both.0))
     (commas_plain xs both.1)
 
 edge_plain : (xs : List Bytes) → is_edge xs ≡ true → HasNoLf (joined xs)
 edge_plain [] e = absurd cc
 edge_plain (x ∷ xs) e =
-    let both = and_parts (is_variable x) (is_label xs) e in
+    let both = and_parts (is_printed_variable x) (is_label xs) e in
     join x (flat_map (λ y. 44 ∷ y) xs) (variable_plain x both.0) (commas_plain xs both.1)
 
 edges_plain : (es : List (List Bytes)) → list_all is_edge es ≡ true → HasNoLf (flat_map (λ e. 32 ∷ joined e) es)

@@ -50,7 +50,7 @@ use Rattle.djq_value.specs.Literal.{IsName}
 use Rattle.djq_told.specs.Sayable.{IsSayableRow, IsSayableListed, IsSayablePosition}
 use Rattle.djq_told.specs.Sayable.{IsSayableCursor, IsSayableSession, IsSayableState}
 use Rattle.djq_told.specs.Told.{replies_text, is_told_of}
-use Rattle.djq_told.specs.Mirrored.{Passes, Shows, MayBeSaid, MayBeRead, ReadsOnly, ReadsAlong}
+use Rattle.djq_told.specs.Mirrored.{RepliesPass, HoldsTextsOf, MayBeSaid, MayBeRead, ReadsOnly, ReadsAlong}
 use Rattle.djq_told.specs.Mirrored.{IsMirrored, WatchersAreMirrored}
 use Rattle.djq_told.proofs.Having.{OpenHas, CursorHas, HasFew, Has, ReadsCalm, EventCalm, has_line}
 use Rattle.djq_told.proofs.Having.{has_behind, has_step}
@@ -82,15 +82,15 @@ Finished given finished = finished ≡ true
 -- live the answers, and the cursor is finished, where it is open.
 pub data Mirrors (q : Listed) (s : ℕ) (st : State) (held : Held) : Type 0 where
   is_idle : held.mode ≡ Idle → Has s (listed_name q) Any st → Mirrors q s st held
-  is_listing : (given : List Tuple) → held.mode ≡ Listing → Shows held (Contains given)
+  is_listing : (given : List Tuple) → held.mode ≡ Listing → HoldsTextsOf held (Contains given)
       → Has s (listed_name q) (HasGiven given) st → Mirrors q s st held
-  is_live : held.mode ≡ Live → Shows held (AnswersOf st.store.relations q) → Has s (listed_name q) Finished st
+  is_live : held.mode ≡ Live → HoldsTextsOf held (AnswersOf st.store.relations q) → Has s (listed_name q) Finished st
       → Mirrors q s st held
 
 -- A mirror takes these replies, and it is so again.
 pub record Goes (q : Listed) (s : ℕ) (new : State) (held : Held) (rs : List Reply) : Type 0 where
   pub behind : Held
-  pub passes : Passes (listed_name q) held rs behind
+  pub passes : RepliesPass (listed_name q) held rs behind
   pub mirrors : Mirrors q s new behind
 
 open_any : (P : List Tuple → Bool → Type 0) (p : Position) → OpenHas P p → OpenHas Any p
@@ -120,7 +120,7 @@ module _ (q : Listed) (s : ℕ) (old new : State) (held : Held) (rs : List Reply
   calm_goes (tells_none none same seq) m = record {
     behind = held;
     passes = passes_told (listed_name q) held held rs harmless
-        (subst (λ (ts : List Reply). Passes (listed_name q) held ts held) (sym none) refl);
+        (subst (λ (ts : List Reply). RepliesPass (listed_name q) held ts held) (sym none) refl);
     mirrors = by m;
   }
     where
@@ -135,14 +135,14 @@ module _ (q : Listed) (s : ℕ) (old new : State) (held : Held) (rs : List Reply
   calm_goes (tells_delta delta is tells seq counts) (is_idle e h) = record {
     behind = idle_with held;
     passes = passes_told (listed_name q) held (idle_with held) rs harmless
-        (subst (λ (ts : List Reply). Passes (listed_name q) held ts (idle_with held)) (sym tells)
+        (subst (λ (ts : List Reply). RepliesPass (listed_name q) held ts (idle_with held)) (sym tells)
         (delta_idles (listed_name q) held delta new.store.seq (inl e)));
     mirrors = is_idle refl (steps Any h);
   }
   calm_goes (tells_delta delta is tells seq counts) (is_listing given e shows h) = record {
     behind = idle_with held;
     passes = passes_told (listed_name q) held (idle_with held) rs harmless
-        (subst (λ (ts : List Reply). Passes (listed_name q) held ts (idle_with held)) (sym tells)
+        (subst (λ (ts : List Reply). RepliesPass (listed_name q) held ts (idle_with held)) (sym tells)
         (delta_idles (listed_name q) held delta new.store.seq (inr e)));
     mirrors = is_idle refl (has_any s (listed_name q) (HasGiven given) new (steps (HasGiven given) h));
   }
@@ -152,7 +152,7 @@ module _ (q : Listed) (s : ℕ) (old new : State) (held : Held) (rs : List Reply
       delta is (listed_name q) held new.store.seq e shows in record {
         behind = k.behind;
         passes = passes_told (listed_name q) held k.behind rs harmless
-            (subst (λ (ts : List Reply). Passes (listed_name q) held ts k.behind) (sym tells) k.passes);
+            (subst (λ (ts : List Reply). RepliesPass (listed_name q) held ts k.behind) (sym tells) k.passes);
         mirrors = is_live k.mode k.shows (steps Finished h);
       }
 
@@ -368,7 +368,7 @@ module _ (q : Listed) (s : ℕ) (old : State) (event : Event) (e : Effect) (new 
         told : List Reply
         told = map (λ t. answer t) h.told
 
-        idle_then : held.mode ≡ Idle → (end : Bool) → Passes name held (told ++ last_reply end ∷ []) held
+        idle_then : held.mode ≡ Idle → (end : Bool) → RepliesPass name held (told ++ last_reply end ∷ []) held
         idle_then mode true = passes_then name held held held told (last_line ∷ []) (answers_idle name held h.told mode)
             (last_stays name held (inl mode))
         idle_then mode false = passes_then name held held held told (more_line ∷ [])
@@ -383,7 +383,8 @@ module _ (q : Listed) (s : ℕ) (old : State) (event : Event) (e : Effect) (new 
         by (is_listing shown mode shows l) end is_end =
             let has = held_by (HasGiven shown) l in
             let g = gave over in
-            let shows' : Shows held (Contains given) = subst (λ (ts : List Tuple). Shows held (Contains ts)) (sym has.0)
+            let shows' : HoldsTextsOf held (Contains given) =
+            subst (λ (ts : List Tuple). HoldsTextsOf held (Contains ts)) (sym has.0)
             shows in
             let k2 = answers_shown name held given h.told mode (all_good given g.answers)
             (all_good h.told h.tells.answers) h.tells.different shows' in
@@ -761,7 +762,7 @@ mirrors_along q s old sound fine gives (d ∷ done) new walk reads held m =
     }
 
 shown_live : (q : Listed) (s : ℕ) (st : State) (held : Held) → Mirrors q s st held → held.mode ≡ Live
-    → Shows held (AnswersOf st.store.relations q)
+    → HoldsTextsOf held (AnswersOf st.store.relations q)
 shown_live q s st held (is_live mode shows h) e = shows
 shown_live q s st held (is_idle mode h) e = let both : Idle ≡ Live = sym mode ∙ e in absurd (cc both)
 shown_live q s st held (is_listing given mode shows h) e = let both : Listing ≡ Live = sym mode ∙ e in absurd (cc both)

@@ -26,7 +26,7 @@ use Rattle.djq_deltas.proofs.Lists.{nothing_there, first_or_later, first_there, 
 use Rattle.djq_deltas.proofs.Lists.{mapped_there, pairs_head, pairs_tail}
 use Rattle.djq_told.specs.Sayable.{IsSayableValue, IsSayableRow}
 use Rattle.djq_told.specs.Told.{is_told_of, delta_replies}
-use Rattle.djq_told.specs.Mirrored.{Passes, Shows}
+use Rattle.djq_told.specs.Mirrored.{RepliesPass, HoldsTextsOf}
 use Rattle.djq_told.proofs.Replying.{IsHarmless}
 use Rattle.djq_told.proofs.Sorting.{put_in, taken_out, has_put, has_out, sorted_put, sorted_out}
 use Rattle.djq_told.proofs.Sorting.{put_is, out_is, nothing_sorted}
@@ -35,28 +35,28 @@ use Rattle.djq_mirror.proofs.Celling.{ends_cells}
 
 -- ---- one reply after the other
 
-pub passes_then : (name : Bytes) (a b c : Held) (rs ts : List Reply) → Passes name a rs b → Passes name b ts c
-    → Passes name a (rs ++ ts) c
-passes_then name a b c [] ts h k = subst (λ (x : Held). Passes name x ts c) h k
+pub passes_then : (name : Bytes) (a b c : Held) (rs ts : List Reply) → RepliesPass name a rs b → RepliesPass name b ts c
+    → RepliesPass name a (rs ++ ts) c
+passes_then name a b c [] ts h k = subst (λ (x : Held). RepliesPass name x ts c) h k
 passes_then name a b c (r ∷ rs) ts h k = (h.0, h.1, h.2, passes_then name h.0 b c rs ts h.3 k)
 
 -- a reply whose turn keeps all
 pub stays : (name : Bytes) (held : Held) (r : Reply) → turn_of name held.mode r ≡ Some (held.mode, keep)
-    → Passes name held (r ∷ []) held
+    → RepliesPass name held (r ∷ []) held
 stays name held r e =
     (held, ap (may_turn held.texts) e, subst (λ o. Turned held o held) (sym e) (refl, refl), refl)
 
 -- Where all others are harmless, what tells of the query does all.
 pub passes_told : (name : Bytes) (old new : Held) (rs : List Reply) → All IsHarmless rs
-    → Passes name old (filter (is_told_of name) rs) new → Passes name old rs new
+    → RepliesPass name old (filter (is_told_of name) rs) new → RepliesPass name old rs new
 passes_told name old new [] h k = k
 passes_told name old new (r ∷ rs) h k =
     by (is_told_of name r) refl k (λ held l. passes_told name held new rs (All-tail IsHarmless r rs h) l)
   where
     by : (b : Bool) → is_told_of name r ≡ b
-        → Passes name old (cond b (r ∷ filter (is_told_of name) rs) (filter (is_told_of name) rs)) new
-        → ((held : Held) → Passes name held (filter (is_told_of name) rs) new → Passes name held rs new)
-        → Passes name old (r ∷ rs) new
+        → RepliesPass name old (cond b (r ∷ filter (is_told_of name) rs) (filter (is_told_of name) rs)) new
+        → ((held : Held) → RepliesPass name held (filter (is_told_of name) rs) new → RepliesPass name held rs new)
+        → RepliesPass name old (r ∷ rs) new
     by true e l rest = (l.0, l.1, l.2, rest l.0 l.3)
     by false e l rest =
         let still = stays name old r (All-head IsHarmless r rs h name old.mode e) in
@@ -91,11 +91,11 @@ and_split false b e = (refl, e)
 -- ---- one text is put in, or taken out
 
 -- a tuple comes that isn't shown
-pub put_shown : (held : Held) (mode : Mode) (P Q : Tuple → Type 0) (t : Tuple) → Shows held P
+pub put_shown : (held : Held) (mode : Mode) (P Q : Tuple → Type 0) (t : Tuple) → HoldsTextsOf held P
     → ((u : Tuple) → P u → IsSayableRow u) → IsSayableRow t → (P t → ⊥)
     → ((u : Tuple) → Q u → (u ≡ t) ⊎ P u) → ((u : Tuple) → (u ≡ t) ⊎ P u → Q u)
     → (has_text held.texts (cells_text t) ≡ false)
-    × Shows (record { mode = mode; texts = put_in (cells_text t) held.texts }) Q
+    × HoldsTextsOf (record { mode = mode; texts = put_in (cells_text t) held.texts }) Q
 put_shown held mode P Q t h fine good absent from to = (
   false_from_ne_true (has_text held.texts (cells_text t)) (λ e.
       let k = h.texts (cells_text t) e in
@@ -122,11 +122,11 @@ put_shown held mode P Q t h fine good absent from to = (
         or_right (bytes_eq (cells_text u) (cells_text t)) (has_text held.texts (cells_text u)) (h.tuples u p)
 
 -- one that is shown goes
-pub out_shown : (held : Held) (mode : Mode) (P Q : Tuple → Type 0) (t : Tuple) → Shows held P
+pub out_shown : (held : Held) (mode : Mode) (P Q : Tuple → Type 0) (t : Tuple) → HoldsTextsOf held P
     → ((u : Tuple) → P u → IsSayableRow u) → P t
     → ((u : Tuple) → Q u → P u × (u ≡ t → ⊥)) → ((u : Tuple) → P u → (u ≡ t → ⊥) → Q u)
     → (has_text held.texts (cells_text t) ≡ true)
-    × Shows (record { mode = mode; texts = taken_out (cells_text t) held.texts }) Q
+    × HoldsTextsOf (record { mode = mode; texts = taken_out (cells_text t) held.texts }) Q
 out_shown held mode P Q t h fine there from to = (
   h.tuples t there,
   record {
@@ -174,13 +174,13 @@ abbrev pub idle_with : Held → Held
 idle_with held = record { mode = Idle; texts = held.texts }
 
 idle_turn : (name : Bytes) (held : Held) (r : Reply) → turn_of name held.mode r ≡ Some (Idle, keep)
-    → Passes name held (r ∷ []) (idle_with held)
+    → RepliesPass name held (r ∷ []) (idle_with held)
 idle_turn name held r e =
     (idle_with held, ap (may_turn held.texts) e, subst (λ o. Turned held o (idle_with held)) (sym e) (refl, refl), refl)
 
 pub delta_idles : (name : Bytes) (held : Held) (changes : List Change) (n : ℕ)
     → (held.mode ≡ Idle) ⊎ (held.mode ≡ Listing)
-    → Passes name held (delta_replies name (record { number = n; changes = changes })) (idle_with held)
+    → RepliesPass name held (delta_replies name (record { number = n; changes = changes })) (idle_with held)
 delta_idles name held [] n o = idle_turn name held (counted name n) (count_turns name held.mode n ∙ by o)
   where
     by : (held.mode ≡ Idle) ⊎ (held.mode ≡ Listing) → Some (turn_of_count held.mode) ≡ Some (Idle, keep)
@@ -206,7 +206,7 @@ live_with texts = record { mode = Live; texts = texts }
 other_queries_stay : (name : Bytes) (held : Held) (t : Tuple) → held.mode ≡ Live → has_text held.texts (cells_text t)
     ≡ false
     → IsInOrder (put_in (cells_text t) held.texts)
-    → Passes name held (changed Came name t ∷ []) (live_with (put_in (cells_text t) held.texts))
+    → RepliesPass name held (changed Came name t ∷ []) (live_with (put_in (cells_text t) held.texts))
 other_queries_stay name held t mode none order =
     let turn : turn_of name held.mode (changed Came name t) ≡ Some (Live, put (cells_text t)) =
     change_turns name held.mode Came t ∙ ap (λ (m : Mode). Some (turn_of_change m Came (cells_text t))) mode in (
@@ -219,7 +219,7 @@ other_queries_stay name held t mode none order =
 
 went_passes : (name : Bytes) (held : Held) (t : Tuple) → held.mode ≡ Live → has_text held.texts (cells_text t) ≡ true
     → IsInOrder (taken_out (cells_text t) held.texts)
-    → Passes name held (changed Went name t ∷ []) (live_with (taken_out (cells_text t) held.texts))
+    → RepliesPass name held (changed Went name t ∷ []) (live_with (taken_out (cells_text t) held.texts))
 went_passes name held t mode there order =
     let turn : turn_of name held.mode (changed Went name t) ≡ Some (Live, take_out (cells_text t)) =
     change_turns name held.mode Went t ∙ ap (λ (m : Mode). Some (turn_of_change m Went (cells_text t))) mode in (
@@ -246,9 +246,9 @@ Awaits After cs t =
 -- A mirror is live behind these replies, and shows these tuples.
 pub record LiveBehind (name : Bytes) (held : Held) (rs : List Reply) (These : Tuple → Type 0) : Type 0 where
   pub behind : Held
-  pub passes : Passes name held rs behind
+  pub passes : RepliesPass name held rs behind
   pub mode : behind.mode ≡ Live
-  pub shows : Shows behind These
+  pub shows : HoldsTextsOf behind These
 
 module _ (Before After : Tuple → Type 0)
     (good : (t : Tuple) → Before t → IsSayableRow t) (fine : (t : Tuple) → After t → IsSayableRow t) where
@@ -346,7 +346,7 @@ module _ (Before After : Tuple → Type 0)
 
   -- all of them
   delta_lives : (name : Bytes) (held : Held) (cs : List Change) (n : ℕ) → held.mode ≡ Live → AllChange cs
-      → AreDifferent (map (λ (k : Change). k.answer) cs) → Shows held (Awaits After cs)
+      → AreDifferent (map (λ (k : Change). k.answer) cs) → HoldsTextsOf held (Awaits After cs)
       → LiveBehind name held (delta_replies name (record { number = n; changes = cs })) (Awaits After [])
   delta_lives name held [] n mode h apart shows = record {
     behind = held;
@@ -367,19 +367,19 @@ module _ (Before After : Tuple → Type 0)
       rest : List Reply
       rest = delta_replies name (record { number = n; changes = cs })
 
-      goes : (r : Reply) → changed c.sign name t ≡ r → (next : Held) → Passes name held (r ∷ []) next
+      goes : (r : Reply) → changed c.sign name t ≡ r → (next : Held) → RepliesPass name held (r ∷ []) next
           → LiveBehind name next rest (Awaits After [])
           → LiveBehind name held (changed c.sign name t ∷ rest) (Awaits After [])
       goes r e next first more = record {
         behind = more.behind;
-        passes = subst (λ (x : Reply). Passes name held (x ∷ rest) more.behind) (sym e)
+        passes = subst (λ (x : Reply). RepliesPass name held (x ∷ rest) more.behind) (sym e)
             (passes_then name held next more.behind (r ∷ []) rest first more.passes);
         mode = more.mode;
         shows = more.shows;
       }
 
       by : (s : Sign) → c.sign ≡ s
-          → ((next : Held) → next.mode ≡ Live → Shows next (Awaits After cs)
+          → ((next : Held) → next.mode ≡ Live → HoldsTextsOf next (Awaits After cs)
           → LiveBehind name next rest (Awaits After []))
           → LiveBehind name held (changed c.sign name t ∷ rest) (Awaits After [])
       by Came e more =
@@ -387,7 +387,7 @@ module _ (Before After : Tuple → Type 0)
           let all : AllChange (coming t ∷ cs) = subst (λ (x : Change). AllChange (x ∷ cs)) is h in
           let first = All-head (λ (k : Change). HasChanged Before After k.sign k.answer) (coming t) cs all in
           let both = put_shown held Live (Awaits After (coming t ∷ cs)) (Awaits After cs) t
-          (subst (λ (x : Change). Shows held (Awaits After (x ∷ cs))) is shows)
+          (subst (λ (x : Change). HoldsTextsOf held (Awaits After (x ∷ cs))) is shows)
           (λ u a. awaited_good (coming t ∷ cs) all u a) (fine t first.0)
           (λ a. came_absent cs t all a) (λ u a. came_from cs t u a) (λ u a. came_to cs t all apart u a) in
           goes (changed Came name t) (ap (λ (x : Sign). changed x name t) e)
@@ -398,7 +398,7 @@ module _ (Before After : Tuple → Type 0)
           let is : c ≡ (going t) = ap (λ (x : Sign). record { sign = x; answer = t }) e in
           let all : AllChange (going t ∷ cs) = subst (λ (x : Change). AllChange (x ∷ cs)) is h in
           let both = out_shown held Live (Awaits After (going t ∷ cs)) (Awaits After cs) t
-          (subst (λ (x : Change). Shows held (Awaits After (x ∷ cs))) is shows)
+          (subst (λ (x : Change). HoldsTextsOf held (Awaits After (x ∷ cs))) is shows)
           (λ u a. awaited_good (going t ∷ cs) all u a)
           (inr (first_there (going t) cs (going t) refl))
           (λ u a. went_from cs t all apart u a) (λ u a ne. went_to cs t u a ne) in
@@ -409,8 +409,8 @@ module _ (Before After : Tuple → Type 0)
 
 -- other tuples that are the same
 pub shows_same : (held : Held) (P Q : Tuple → Type 0) → ((t : Tuple) → P t → Q t) → ((t : Tuple) → Q t → P t)
-    → Shows held P
-    → Shows held Q
+    → HoldsTextsOf held P
+    → HoldsTextsOf held Q
 shows_same held P Q there back h = record {
   order = h.order;
   texts = λ u e. let k = h.texts u e in (k.0, there k.0 k.1, k.2);
@@ -442,7 +442,7 @@ module _ (Before After : Tuple → Type 0) (before : (t : Tuple) → Decided (Be
   awaits_none t (inl k) = k.0
   awaits_none t (inr c) = absurd (nothing_there (going t) c)
 
-  pub delta_shown : (name : Bytes) (held : Held) (n : ℕ) → held.mode ≡ Live → Shows held Before
+  pub delta_shown : (name : Bytes) (held : Held) (n : ℕ) → held.mode ≡ Live → HoldsTextsOf held Before
       → LiveBehind name held (delta_replies name (record { number = n; changes = changes })) After
   delta_shown name held n mode h =
       let k = delta_lives Before After good fine name held changes n mode delta.changed delta.different
@@ -494,14 +494,14 @@ not_before (x ∷ xs) t ys apart c =
 -- A mirror is in a mode behind these replies, and shows these tuples.
 pub record Behind (name : Bytes) (held : Held) (rs : List Reply) (mode : Mode) (These : Tuple → Type 0) : Type 0 where
   pub behind : Held
-  pub passes : Passes name held rs behind
+  pub passes : RepliesPass name held rs behind
   pub is : behind.mode ≡ mode
-  pub shows : Shows behind These
+  pub shows : HoldsTextsOf behind These
 
 answer_passes : (name : Bytes) (held : Held) (t : Tuple) → held.mode ≡ Listing → has_text held.texts (cells_text t)
     ≡ false
     → IsInOrder (put_in (cells_text t) held.texts)
-    → Passes name held (answer t ∷ []) (record { mode = Listing; texts = put_in (cells_text t) held.texts })
+    → RepliesPass name held (answer t ∷ []) (record { mode = Listing; texts = put_in (cells_text t) held.texts })
 answer_passes name held t mode none order =
     let next : Held = record { mode = Listing; texts = put_in (cells_text t) held.texts } in
     let turn : turn_of name held.mode (answer t) ≡ Some (Listing, put (cells_text t)) =
@@ -514,13 +514,13 @@ answer_passes name held t mode none order =
 
 -- answers that weren't told before
 pub answers_shown : (name : Bytes) (held : Held) (given told : List Tuple) → held.mode ≡ Listing
-    → All IsSayableRow given → All IsSayableRow told → AreDifferent (given ++ told) → Shows held (Contains given)
+    → All IsSayableRow given → All IsSayableRow told → AreDifferent (given ++ told) → HoldsTextsOf held (Contains given)
     → Behind name held (map (λ t. answer t) told) Listing (Contains (given ++ told))
 answers_shown name held given [] mode good fine apart shows = record {
   behind = held;
   passes = refl;
   is = mode;
-  shows = subst (λ (ts : List Tuple). Shows held (Contains ts)) (sym (append-nil given)) shows;
+  shows = subst (λ (ts : List Tuple). HoldsTextsOf held (Contains ts)) (sym (append-nil given)) shows;
 }
 answers_shown name held given (t ∷ told) mode good fine apart shows =
     let first = All-head IsSayableRow t told fine in
@@ -536,12 +536,12 @@ answers_shown name held given (t ∷ told) mode good fine apart shows =
       passes = passes_then name held next more.behind (answer t ∷ []) (map (λ u. answer u) told)
           (answer_passes name held t mode both.0 both.1.order) more.passes;
       is = more.is;
-      shows = subst (λ (ts : List Tuple). Shows more.behind (Contains ts)) assoc more.shows;
+      shows = subst (λ (ts : List Tuple). HoldsTextsOf more.behind (Contains ts)) assoc more.shows;
     }
 
 -- an idle mirror passes them over
 pub answers_idle : (name : Bytes) (held : Held) (told : List Tuple) → held.mode ≡ Idle
-    → Passes name held (map (λ t. answer t) told) held
+    → RepliesPass name held (map (λ t. answer t) told) held
 answers_idle name held [] mode = refl
 answers_idle name held (t ∷ told) mode =
     passes_then name held held held (answer t ∷ []) (map (λ u. answer u) told)
@@ -565,7 +565,7 @@ opened_shown name held =
 
 -- a stale cursor
 pub stale_idles : (name : Bytes) (held : Held) (c relation : Bytes) (n : ℕ)
-    → Passes name held (stale c relation n ∷ []) (idle_with held)
+    → RepliesPass name held (stale c relation n ∷ []) (idle_with held)
 stale_idles name held c relation n = idle_turn name held (stale c relation n) (by held.mode)
   where
     by : (m : Mode) → turn_of name m (stale c relation n) ≡ Some (Idle, keep)
@@ -575,7 +575,7 @@ stale_idles name held c relation n = idle_turn name held (stale c relation n) (b
 
 -- the last line of a listing
 pub more_stays : (name : Bytes) (held : Held) → (held.mode ≡ Idle) ⊎ (held.mode ≡ Listing)
-    → Passes name held (more_line ∷ []) held
+    → RepliesPass name held (more_line ∷ []) held
 more_stays name held (inl e) =
     stays name held more_line
     (ap (λ (m : Mode). turn_of name m more_line) e ∙ ap (λ (m : Mode). Some (m, keep)) (sym e))
@@ -584,7 +584,7 @@ more_stays name held (inr e) =
     (ap (λ (m : Mode). turn_of name m more_line) e ∙ ap (λ (m : Mode). Some (m, keep)) (sym e))
 
 pub last_stays : (name : Bytes) (held : Held) → (held.mode ≡ Idle) ⊎ (held.mode ≡ Live)
-    → Passes name held (last_line ∷ []) held
+    → RepliesPass name held (last_line ∷ []) held
 last_stays name held (inl e) =
     stays name held last_line
     (ap (λ (m : Mode). turn_of name m last_line) e ∙ ap (λ (m : Mode). Some (m, keep)) (sym e))
@@ -593,12 +593,12 @@ last_stays name held (inr e) =
     (ap (λ (m : Mode). turn_of name m last_line) e ∙ ap (λ (m : Mode). Some (m, keep)) (sym e))
 
 pub last_lives : (name : Bytes) (held : Held) → held.mode ≡ Listing
-    → Passes name held (last_line ∷ []) (record { mode = Live; texts = held.texts })
+    → RepliesPass name held (last_line ∷ []) (record { mode = Live; texts = held.texts })
 last_lives name held e =
     let next : Held = record { mode = Live; texts = held.texts } in
     let turn : turn_of name held.mode last_line ≡ Some (Live, keep) = ap (λ (m : Mode). turn_of name m last_line) e in
     (next, ap (may_turn held.texts) turn, subst (λ o. Turned held o next) (sym turn) (refl, refl), refl)
 
-pub shows_with : (held : Held) (mode : Mode) (P : Tuple → Type 0) → Shows held P
-    → Shows (record { mode = mode; texts = held.texts }) P
+pub shows_with : (held : Held) (mode : Mode) (P : Tuple → Type 0) → HoldsTextsOf held P
+    → HoldsTextsOf (record { mode = mode; texts = held.texts }) P
 shows_with held mode P h = record { order = h.order; texts = h.texts; tuples = h.tuples }

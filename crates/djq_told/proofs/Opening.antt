@@ -14,7 +14,7 @@ use Rattle.djq_machine.specs.Call.{IsOpen}
 use Rattle.djq_laws.specs.Moved.{SparesSession}
 use Rattle.djq_laws.specs.Sent.{opened_by, all_opened}
 use Rattle.djq_laws.specs.Sound.{IsStart}
-use Rattle.djq_laws.specs.Silent.{IsOver, OpensNone}
+use Rattle.djq_laws.specs.Silent.{SessionIsOver, OpensNone}
 use Rattle.djq_laws.proofs.Containing.{found_there, found_passes}
 use Rattle.djq_laws.proofs.Courses.{walk_then}
 use Rattle.djq_deltas.proofs.Cases.{some_there}
@@ -48,8 +48,8 @@ not_below st s below there =
     let same : (f.0).id ≡ s = eqb-true (f.0).id s (found_passes (λ (x : Session). x.id == s) st.sessions f.0 f.1) in
     absurd (omega (arith, less, same))
 
-none_open : (st : State) (s : ℕ) → st.sessions ≡ [] → IsOver st s
-none_open st s none = subst (λ (xs : List Session). IsOver (record st { sessions = xs }) s) (sym none) (λ h. h)
+none_open : (st : State) (s : ℕ) → st.sessions ≡ [] → SessionIsOver st s
+none_open st s none = subst (λ (xs : List Session). SessionIsOver (record st { sessions = xs }) s) (sym none) (λ h. h)
 
 -- what an opening does
 opens_below : (old : State) (s : ℕ) (event : Event) (e : Effect) (new : State) → event ≡ opened s → Step old event e new

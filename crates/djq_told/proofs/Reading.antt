@@ -71,7 +71,7 @@ use Rattle.djq_lines.specs.Grammar.{
   reading_of,
 }
 use Rattle.djq_proto.specs.Saying.{
-  Says,
+  SaysCommand,
   SaysAtom,
   SaysComparison,
   SaysItem,
@@ -85,7 +85,8 @@ use Rattle.djq_proto.specs.Saying.{
   comparisons_among,
 }
 use Rattle.djq_proto.proofs.Spelled.{commands_are_spelled}
-use Rattle.djq_told.specs.Sayable.{IsSayableValue, IsSayableRow, IsSayableTerm, IsSayableAtom, IsSayableComparison, IsSayableQuery}
+use Rattle.djq_told.specs.Sayable.{IsSayableValue, IsSayableRow, IsSayableTerm, IsSayableAtom, IsSayableComparison}
+use Rattle.djq_told.specs.Sayable.{IsSayableQuery}
 use Rattle.djq_told.proofs.Lengths.{query_weight, query_less}
 use Rattle.djq_told.proofs.Utf8.{HaveUtf8, texts_have_utf8}
 
@@ -211,7 +212,7 @@ items_said n (i ∷ j ∷ js) ts (front, back, first, later, parts) h small =
     item_front n i (j ∷ js) front first (front_utf8 front (comma ∷ back) k) small
     (λ less. items_said (past_item n i) (j ∷ js) back later (back_utf8 front (comma ∷ back) k).1 less)
 
-query_said : (q : Query) (ts : List Token) → Says (Register q) ts → HaveUtf8 ts → is_in_range (Register q) ≡ true
+query_said : (q : Query) (ts : List Token) → SaysCommand (Register q) ts → HaveUtf8 ts → is_in_range (Register q) ≡ true
     → IsSayableQuery q
 query_said q ts (us, (heads, body, name, head, (items, said, atoms, comparisons, some), parts), whole) h small =
     let k = (subst HaveUtf8 whole h).1 in
@@ -233,7 +234,8 @@ query_said q ts (us, (heads, body, name, head, (items, said, atoms, comparisons,
 
 -- ---- commands
 
-said_sayable : (c : Command) (ts : List Token) → Says c ts → HaveUtf8 ts → is_in_range c ≡ true → IsSayableCommand c
+said_sayable : (c : Command) (ts : List Token) → SaysCommand c ts → HaveUtf8 ts → is_in_range c ≡ true
+    → IsSayableCommand c
 said_sayable (Rel name types) ts s h small = s.1
 said_sayable (Add name row) ts s h small = (s.1.1, row_said row s.1.0 s.1.2 (subst HaveUtf8 s.1.3 h).1.1 small)
 said_sayable (Del name row) ts s h small = (s.1.1, row_said row s.1.0 s.1.2 (subst HaveUtf8 s.1.3 h).1.1 small)
@@ -277,7 +279,7 @@ abbrev pub IsShortCommand : Command → Type 0
 IsShortCommand (Register q) = query_weight q ≤ LINE_BYTES
 IsShortCommand c = Unit {0}
 
-said_short : (c : Command) (ts : List Token) (l : Bytes) → Says c ts → IsSpelling ts l → length l ≤ LINE_BYTES
+said_short : (c : Command) (ts : List Token) (l : Bytes) → SaysCommand c ts → IsSpelling ts l → length l ≤ LINE_BYTES
     → IsShortCommand c
 said_short (Register q) ts l s spelled few = let less = query_less q ts l s spelled in omega (arith, less, few)
 said_short c ts l s spelled few = tt

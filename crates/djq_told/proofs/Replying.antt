@@ -40,7 +40,7 @@ use Rattle.djq_model.specs.declared.query.Query.{Query}
 use Rattle.djq_model.specs.Data.{Bytes, Tuple, bytes_eq}
 use Rattle.djq_model.specs.Listed.{Listed, a_query, a_union, listed_name, AnswersOf, listed_of}
 use Rattle.djq_hyper.specs.Hypergraph.{numbers_below}
-use Rattle.djq_hyper.specs.Naming.{name_at, edge_text, listed}
+use Rattle.djq_hyper.specs.Naming.{name_at, edge_text, comma_listed}
 use Rattle.djq_tree.specs.Labels.{label_at}
 use Rattle.djq_tree.specs.declared.node.Node.{Node as TreeNode}
 use Rattle.djq_tree.specs.declared.node.Node.TheVariants.{Leaf, Trim, Meet}
@@ -303,7 +303,7 @@ held_small old held name row r answered a e =
     omega (arith, below)
 
 -- edges by the names of their variables
-pub listed_joined : (names : List Bytes) (xs : List ℕ) → listed names xs
+pub listed_joined : (names : List Bytes) (xs : List ℕ) → comma_listed names xs
     ≡ flat_map (λ y. 44 ∷ y) (map (name_at names) xs)
 listed_joined names [] = refl
 listed_joined names (x ∷ xs) = ap (λ bytes. codes "," ++ (name_at names x ++ bytes)) (listed_joined names xs)

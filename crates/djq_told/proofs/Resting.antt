@@ -23,7 +23,7 @@ use Rattle.djq_lines.specs.declared.limits.TheConstants.{LINE_BYTES}
 use Rattle.djq_lines.specs.Hypergraph.{number_of, numbers_in, edges_from, edges_of, head_of, label_name, variable_names}
 use Rattle.djq_lines.specs.Rest.{is_before, IsNamedRest}
 use Rattle.djq_lines.specs.Variables.{Label, is_named, is_known, with_term, with_terms, with_atom, variables_of}
-use Rattle.djq_mirror.specs.Replies.{joined, is_variable, is_label, is_edge, is_rest}
+use Rattle.djq_mirror.specs.Replies.{joined, is_printed_variable, is_label, is_edge, is_rest}
 use Rattle.djq_deltas.proofs.Lists.{nothing_there, first_or_later, first_there, hold_each}
 use Rattle.djq_value.specs.Literal.{IsName}
 use Rattle.djq_told.specs.Sayable.{IsSayableTerm, IsSayableAtom, IsSayableQuery}
@@ -184,7 +184,7 @@ edges_below n ks (a ∷ atoms) =
 -- ---- names are printed
 
 abbrev IsPrintedLabel : Label → Type 0
-IsPrintedLabel k = is_variable (label_name k) ≡ true
+IsPrintedLabel k = is_printed_variable (label_name k) ≡ true
 
 name_printed : (x : Bytes) → IsName x → IsPrintedLabel (Some x)
 name_printed x h = rw h refl
@@ -210,7 +210,7 @@ atoms_printed ks (a ∷ atoms) h said =
     (All-tail IsSayableAtom a atoms said)
 
 printed_at : (vs : List Label) → All IsPrintedLabel vs → (x : ℕ) → x < length vs
-    → is_variable (name_at (names_of vs) x) ≡ true
+    → is_printed_variable (name_at (names_of vs) x) ≡ true
 printed_at [] h x lt = absurd (omega arith)
 printed_at (k ∷ vs) h zero lt = All-head IsPrintedLabel k vs h
 printed_at (k ∷ vs) h (suc x) lt = printed_at vs (All-tail IsPrintedLabel k vs h) x (omega (arith, lt))

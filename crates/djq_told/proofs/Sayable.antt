@@ -153,7 +153,7 @@ use Rattle.djq_laws.specs.Form.{
   is_whole,
   is_cut,
   without_cursor,
-  Turned,
+  SessionTurned,
   DoesTurn,
   is_turned,
   is_refused,
@@ -163,7 +163,9 @@ use Rattle.djq_laws.proofs.Forms.{add_does, command_does, Reads, turned_down, ca
 use Rattle.djq_laws.proofs.Queueing.{session_changed}
 use Rattle.djq_laws.proofs.Changing.{all_changed, all_found, all_dropped, all_mapped}
 use Rattle.djq_value.specs.Literal.{IsName}
-use Rattle.djq_told.specs.Sayable.{IsSayableRow, IsSayableRelation, IsSayableListed, IsSayableStore, IsSayablePosition, IsSayableCursor, IsSayableHeld, IsSayableSession, IsSayableState, RunsKeepSayable, OpeningIsSayable, StatesAreSayable}
+use Rattle.djq_told.specs.Sayable.{IsSayableRow, IsSayableRelation, IsSayableListed, IsSayableStore, IsSayablePosition}
+use Rattle.djq_told.specs.Sayable.{IsSayableCursor, IsSayableHeld, IsSayableSession, IsSayableState, RunsKeepSayable}
+use Rattle.djq_told.specs.Sayable.{OpeningIsSayable, StatesAreSayable}
 use Rattle.djq_told.proofs.Reading.{IsSayableCommand, read_sayable}
 use Rattle.djq_laws.proofs.Told.{change_keeps}
 use Rattle.djq_told.proofs.Storing.{
@@ -342,7 +344,7 @@ IsSayableTurn (holds_row l name row) = IsName name × IsSayableRow row
 IsSayableTurn closes_batch = Unit {0}
 
 turned_kept : (old : State) (s : ℕ) (x : Session) (t : Turn) (new : State) → session_of old s ≡ Some x
-    → IsSayableTurn t → Turned old s x t new → IsSayableState old → IsSayableState new
+    → IsSayableTurn t → SessionTurned old s x t new → IsSayableState old → IsSayableState new
 turned_kept old s x (opens_cursor c q) new found said h k =
     session_kept old new s (with_cursor c q) h.2 (λ y g. record {
       cursors = All-push IsSayableCursor y.cursors (record { name = c; query = q; position = open_at [] false })

@@ -21,7 +21,7 @@ use Rattle.djq_model.specs.declared.query.Operator.TheVariants.{Less, LessOrEqua
 use Rattle.djq_model.specs.declared.query.Operator.TheVariants.{GreaterOrEqual, Equal, NotEqual}
 use Rattle.djq_value.specs.Token.{Token, word, text, open_paren, close_paren, comma, arrow}
 use Rattle.djq_value.specs.Token.{operator, stray, ends_word, may_end}
-use Rattle.djq_value.specs.Spelling.{IsSpaces, IsSpelling, IsToken, MayFollow, sign_of, text_of}
+use Rattle.djq_value.specs.Spelling.{IsSpaces, IsSpelling, IsToken, MayFollow, operator_text, token_text}
 use Rattle.djq_value.specs.ValueText.{escaped}
 
 -- A byte of ASCII is a character by itself.
@@ -196,7 +196,7 @@ one_behind b behind lt u = (tt, behind_ascii b behind lt u)
 two_behind : (b c : ℕ) (behind : Bytes) → b < 128 → c < 128 → IsUtf8 (b ∷ c ∷ behind) → Unit {0} × IsUtf8 behind
 two_behind b c behind lt small u = (tt, behind_ascii c behind small (behind_ascii b (c ∷ behind) lt u))
 
-sign_behind : (o : Operator) (behind : Bytes) → IsUtf8 (sign_of o ++ behind) → Unit {0} × IsUtf8 behind
+sign_behind : (o : Operator) (behind : Bytes) → IsUtf8 (operator_text o ++ behind) → Unit {0} × IsUtf8 behind
 sign_behind Less behind u = one_behind 60 behind (omega arith) u
 sign_behind LessOrEqual behind u = two_behind 60 61 behind (omega arith) (omega arith) u
 sign_behind Greater behind u = one_behind 62 behind (omega arith) u
@@ -204,7 +204,7 @@ sign_behind GreaterOrEqual behind u = two_behind 62 61 behind (omega arith) (ome
 sign_behind Equal behind u = one_behind 61 behind (omega arith) u
 sign_behind NotEqual behind u = two_behind 33 61 behind (omega arith) (omega arith) u
 
-token_behind : (t : Token) (behind : Bytes) → IsUtf8 (text_of t ++ behind) → IsToken t → MayFollow t behind
+token_behind : (t : Token) (behind : Bytes) → IsUtf8 (token_text t ++ behind) → IsToken t → MayFollow t behind
     → HasUtf8Token t × IsUtf8 behind
 token_behind (word w) behind u is follows = (tt, behind_word w behind follows u)
 token_behind (text t) behind u is follows =
@@ -222,6 +222,6 @@ token_behind stray behind u is follows = absurd is
 pub texts_have_utf8 : (ts : List Token) (line : Bytes) → IsUtf8 line → IsSpelling ts line → HaveUtf8 ts
 texts_have_utf8 [] line u s = tt
 texts_have_utf8 (t ∷ ts) line u (front, behind, spaces, parts, is, follows, rest) =
-    let v = behind_spaces front (text_of t ++ behind) spaces (subst IsUtf8 parts u) in
+    let v = behind_spaces front (token_text t ++ behind) spaces (subst IsUtf8 parts u) in
     let k = token_behind t behind v is follows in
     (k.0, texts_have_utf8 ts behind k.1 rest)

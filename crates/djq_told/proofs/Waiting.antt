@@ -55,7 +55,7 @@ use Rattle.djq_laws.proofs.Queueing.{stepped_cause}
 use Rattle.djq_laws.proofs.Sounding.{step_sound, states_are_sound}
 use Rattle.djq_told.specs.Sayable.{IsSayableStore, IsSayableState}
 use Rattle.djq_told.specs.Told.{replies_text}
-use Rattle.djq_told.specs.Mirrored.{Passes, IsMirrored, Reads, ReadersAreReadBack, AsksNoListing}
+use Rattle.djq_told.specs.Mirrored.{RepliesPass, IsMirrored, SessionReads, ReadersAreReadBack, AsksNoListing}
 use Rattle.djq_told.specs.Mirrored.{SaysNoListing, WaitsAlong, ReadersAreMirrored}
 use Rattle.djq_told.specs.Mirrored.{StartsAreMirrored, EndsNow, EndsAreMirrored}
 use Rattle.djq_told.proofs.Hearing.{all_heard, own_replies, text_append, change_heard}
@@ -287,10 +287,10 @@ explains_none s event h = tt
 
 -- what is held stays, where nothing is told of the query
 plain_passes : (name : Bytes) (held : Held) (rs : List Reply) → All IsPlain rs → All IsHarmless rs
-    → Passes name held rs held
+    → RepliesPass name held rs held
 plain_passes name held rs plain harmless =
     passes_told name held held rs harmless
-    (subst (λ (ts : List Reply). Passes name held ts held) (sym (none_of name rs plain)) refl)
+    (subst (λ (ts : List Reply). RepliesPass name held ts held) (sym (none_of name rs plain)) refl)
 
 record Waited (s : ℕ) (done : List Did) (new : State) : Type 0 where
   replies : List Reply
@@ -343,7 +343,7 @@ out_append s xs ys = flat_map-append (λ (d : Did). to_session s d.effect.queued
 
 readers_are_well : (q : Listed) (s : ℕ) (first : State) → IsSoundState first → IsSayableState first
     → CursorsGive first → (fore : List Did) (old : State) (done : List Did) (new : State)
-    → Reads q s first fore old done new → IsWell q s (fore ++ done) new
+    → SessionReads q s first fore old done new → IsWell q s (fore ++ done) new
 readers_are_well q s first sound fine gives fore old done new h =
     let w = waited s first sound fine gives fore old h.waits in
     let k = watchers_are_well q s old w.sound w.fine w.gives h.none done new h.walk h.reads in
@@ -366,7 +366,7 @@ readers_are_mirrored q s first sound fine gives fore old done new h =
 
 starts_are_well : (start : State) → IsStart start → IsSayableStore start.store → (q : Listed) (s : ℕ)
     (earlier : List Did) (first : State) → Run start earlier first → (fore : List Did) (old : State)
-    (done : List Did) (new : State) → Reads q s first fore old done new → IsWell q s (fore ++ done) new
+    (done : List Did) (new : State) → SessionReads q s first fore old done new → IsWell q s (fore ++ done) new
 starts_are_well start h said q s earlier first walk fore old done new reads =
     readers_are_well q s first (states_are_sound start h earlier first walk)
     (states_are_sayable start h said earlier first walk)

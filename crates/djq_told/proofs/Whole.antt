@@ -4,26 +4,26 @@ use Rattle.std.proofs.Common.{sym, ap, ◌∙◌, subst, append-nil}
 use Rattle.djq_model.specs.Data.{Bytes}
 use Rattle.djq_model.specs.Listed.{Listed, listed_name}
 use Rattle.djq_lines.specs.declared.answer.EndCause.{EndCause}
-use Rattle.djq_mirror.specs.Inputs.{IsHeld}
+use Rattle.djq_mirror.specs.Inputs.{HoldsAtEnd}
 use Rattle.djq_machine.specs.State.{State, Session, session_of}
 use Rattle.djq_machine.specs.Effect.{Effect}
 use Rattle.djq_machine.specs.Step.{Event, opened, fed, stepped, took, ended, closed, Step}
 use Rattle.djq_machine.specs.Run.{Did, Run, to_session, out}
 use Rattle.djq_machine.specs.Call.{cause_of, cause_in}
 use Rattle.djq_machine.proofs.Walks.{walk_as}
-use Rattle.djq_laws.specs.Moved.{Ends, input_ends, had_ended}
+use Rattle.djq_laws.specs.Moved.{InputIsOver, input_ends, had_ended}
 use Rattle.djq_laws.specs.Sound.{IsSoundState}
-use Rattle.djq_laws.specs.Silent.{IsOver}
+use Rattle.djq_laws.specs.Silent.{SessionIsOver}
 use Rattle.djq_laws.specs.Watched.{WatchesStep}
 use Rattle.djq_laws.proofs.Moving.{ended_facts}
 use Rattle.djq_laws.proofs.Silent.{closed_is_over, over_is_silent}
 use Rattle.djq_laws.proofs.Sounding.{step_sound, runs_keep_sound, states_are_sound}
-use Rattle.djq_told.specs.Mirrored.{WaitsStep, Reads, EndsNow, IsReadBack}
+use Rattle.djq_told.specs.Mirrored.{WaitsStep, SessionReads, EndsNow, IsReadBack}
 use Rattle.djq_told.specs.Whole.{LeavesOff, SessionsAreReadBack}
 use Rattle.djq_told.proofs.Waiting.{out_append, readers_are_read_back}
 
 -- a session that has a cause to end doesn't go on
-caused_over : (st : State) (s : ℕ) (cause : EndCause) → cause_of st s ≡ Some cause → IsOver st s
+caused_over : (st : State) (s : ℕ) (cause : EndCause) → cause_of st s ≡ Some cause → SessionIsOver st s
 caused_over st s cause e goes = by (session_of st s) e goes
   where
     both : (c : Option EndCause) → c ≡ Some cause → c ≡ None → ⊥
@@ -35,15 +35,15 @@ caused_over st s cause e goes = by (session_of st s) e goes
     by (Some x) h k = both x.cause h k
 
 ends_over : (s : ℕ) (old : State) (event : Event) (e : Effect) (new : State) → Step old event e new → EndsNow s event
-    → IsOver new s
+    → SessionIsOver new s
 ends_over s old (ended t) e new h now =
-    subst (λ (i : ℕ). IsOver new i) now (by (ended_facts old t e new h))
+    subst (λ (i : ℕ). SessionIsOver new i) now (by (ended_facts old t e new h))
   where
-    by : Ends old new t → IsOver new t
+    by : InputIsOver old new t → SessionIsOver new t
     by (input_ends there running cause held dry sent) = caused_over new t _ cause
     by (had_ended there c was cause held pending) = caused_over new t c cause
 ends_over s old (closed t bytes) e new h now =
-    subst (λ (i : ℕ). IsOver new i) now (closed_is_over old t bytes e new h)
+    subst (λ (i : ℕ). SessionIsOver new i) now (closed_is_over old t bytes e new h)
 ends_over s old (opened t) e new h now = absurd now
 ends_over s old (fed t bytes) e new h now = absurd now
 ends_over s old (stepped t outcome) e new h now = absurd now
@@ -54,13 +54,13 @@ same_read_back : (q : Listed) (s : ℕ) (done whole : List Did) (at : State) →
     → IsReadBack q s done at → IsReadBack q s whole at
 same_read_back q s done whole at same h = record {
   held = h.held;
-  input = subst (λ (bytes : Bytes). IsHeld (listed_name q) bytes h.held) (sym same) h.input;
+  input = subst (λ (bytes : Bytes). HoldsAtEnd (listed_name q) bytes h.held) (sym same) h.input;
   live = h.live;
 }
 
 -- a reader's state is reached by a run
 reads_run : (q : Listed) (s : ℕ) (first : State) (fore : List Did) (old : State) (done : List Did) (at : State)
-    → Reads q s first fore old done at → Run first fore old × Run old done at
+    → SessionReads q s first fore old done at → Run first fore old × Run old done at
 reads_run q s first fore old done at h = (
   walk_as (WaitsStep s) (λ (o : State) (d : Did) (n : State). Step o d.event d.effect n) (λ o d n k. k.step) first fore
       old h.waits,

@@ -20,7 +20,7 @@ use Rattle.djq_lines.specs.declared.command.Command.TheVariants.{
 }
 use Rattle.djq_lines.specs.Grammar.{Reading, says_command, reading_of}
 use Rattle.djq_mirror.specs.declared.mode.Mode.TheVariants.{Live}
-use Rattle.djq_mirror.specs.Inputs.{IsHeld}
+use Rattle.djq_mirror.specs.Inputs.{HoldsAtEnd}
 use Rattle.djq_mirror.specs.Replies.{Reply, IsPrinted}
 use Rattle.djq_mirror.specs.Mirror.{Held, at_first, turn_of, allows, has_text, IsInOrder, Turned}
 use Rattle.djq_machine.specs.State.{State, Session, session_of}
@@ -37,14 +37,14 @@ use Rattle.djq_told.specs.Told.{replies_text}
 
 -- Replies, one after the other, are allowed in a mirror of the query of a name, and this is held
 -- behind them.
-abbrev pub Passes : Bytes → Held → List Reply → Held → Type 0
-Passes name old [] new = new ≡ old
-Passes name old (r ∷ rs) new =
+abbrev pub RepliesPass : Bytes → Held → List Reply → Held → Type 0
+RepliesPass name old [] new = new ≡ old
+RepliesPass name old (r ∷ rs) new =
     (between : Held) × (allows name old r ≡ true) × Turned old (turn_of name old.mode r) between
-    × Passes name between rs new
+    × RepliesPass name between rs new
 
 -- What is held are the texts of these tuples, in byte order.
-pub record Shows (held : Held) (These : Tuple → Type 0) : Type 0 where
+pub record HoldsTextsOf (held : Held) (These : Tuple → Type 0) : Type 0 where
   pub order : IsInOrder held.texts
   pub texts : (u : Bytes) → has_text held.texts u ≡ true → (t : Tuple) × These t × (cells_text t ≡ u)
   pub tuples : (t : Tuple) → These t → has_text held.texts (cells_text t) ≡ true
@@ -90,8 +90,8 @@ pub record IsMirrored (q : Listed) (s : ℕ) (done : List Did) (at : State) : Ty
   pub replies : List Reply
   pub whole : out s done ≡ replies_text replies
   pub held : Held
-  pub passes : Passes (listed_name q) at_first replies held
-  pub live : held.mode ≡ Live → Shows held (AnswersOf at.store.relations q)
+  pub passes : RepliesPass (listed_name q) at_first replies held
+  pub live : held.mode ≡ Live → HoldsTextsOf held (AnswersOf at.store.relations q)
 
 -- So it is along every run in which a session watches a query, from where it has no cursor yet, if
 -- it reads the query through one cursor at a time.
@@ -131,7 +131,7 @@ abbrev pub WaitsAlong : ℕ → State → List Did → State → Type 0
 WaitsAlong s = Walk (WaitsStep s)
 
 -- A session waits, begins to watch a query, and reads it through one cursor at a time.
-pub record Reads (q : Listed) (s : ℕ) (first : State) (fore : List Did) (old : State) (done : List Did)
+pub record SessionReads (q : Listed) (s : ℕ) (first : State) (fore : List Did) (old : State) (done : List Did)
     (new : State) : Type 0 where
   pub waits : WaitsAlong s first fore old
   pub none : IsSomeAnd (session_of old s) (λ x. x.cursors ≡ [])
@@ -142,13 +142,13 @@ pub record Reads (q : Listed) (s : ℕ) (first : State) (fore : List Did) (old :
 abbrev pub ReadersAreMirrored : Type 0
 ReadersAreMirrored = (q : Listed) (s : ℕ) (first : State) → IsSoundState first → IsSayableState first
     → CursorsGive first → (fore : List Did) (old : State) (done : List Did) (new : State)
-    → Reads q s first fore old done new → IsMirrored q s (fore ++ done) new
+    → SessionReads q s first fore old done new → IsMirrored q s (fore ++ done) new
 
 -- So it is in every run from a state to start from whose names and values lines can say.
 abbrev pub StartsAreMirrored : Type 0
 StartsAreMirrored = (start : State) → IsStart start → IsSayableStore start.store → (q : Listed) (s : ℕ)
     (earlier : List Did) (first : State) → Run start earlier first → (fore : List Did) (old : State)
-    (done : List Did) (new : State) → Reads q s first fore old done new
+    (done : List Did) (new : State) → SessionReads q s first fore old done new
     → IsMirrored q s (fore ++ done) new
 
 -- The input of a session ends, or it is gone.
@@ -168,21 +168,21 @@ EndsAreMirrored = (q : Listed) (s : ℕ) (done : List Did) (new : State) → IsM
 -- comes to what it holds: none of its bytes is refused.
 abbrev pub MirroredAreHeld : Type 0
 MirroredAreHeld = (q : Listed) (s : ℕ) (done : List Did) (at : State) (m : IsMirrored q s done at)
-    → All (λ r. IsPrinted r × IsShort r) m.replies → IsHeld (listed_name q) (out s done) m.held
+    → All (λ r. IsPrinted r × IsShort r) m.replies → HoldsAtEnd (listed_name q) (out s done) m.held
 
 -- The whole of what a session was sent comes to what a mirror holds, from the first of its bytes to the
 -- last; and where the mirror is live, it holds the query's answers over the rows of a state.
 pub record IsReadBack (q : Listed) (s : ℕ) (done : List Did) (at : State) : Type 0 where
   pub held : Held
-  pub input : IsHeld (listed_name q) (out s done) held
-  pub live : held.mode ≡ Live → Shows held (AnswersOf at.store.relations q)
+  pub input : HoldsAtEnd (listed_name q) (out s done) held
+  pub live : held.mode ≡ Live → HoldsTextsOf held (AnswersOf at.store.relations q)
 
 -- So it is in every run from a state to start from whose names and values lines can say; and behind the
 -- end of the session's input, or as it is closed, of the rows as they were then.
 abbrev pub ReadersAreReadBack : Type 0
 ReadersAreReadBack = (start : State) → IsStart start → IsSayableStore start.store → (q : Listed) (s : ℕ)
     (earlier : List Did) (first : State) → Run start earlier first → (fore : List Did) (old : State)
-    (done : List Did) (new : State) → Reads q s first fore old done new
+    (done : List Did) (new : State) → SessionReads q s first fore old done new
     → IsReadBack q s (fore ++ done) new
     × ((d : Did) (last : State) → Step new d.event d.effect last → EndsNow s d.event
     → IsReadBack q s ((fore ++ done) ++ d ∷ []) new)

@@ -4,7 +4,7 @@ use Rattle.djq_model.specs.declared.relation.Relation.{Relation}
 use Rattle.djq_model.specs.Data.{Bytes}
 use Rattle.djq_model.specs.Listed.{Listed, AnswersOf}
 use Rattle.djq_mirror.specs.Mirror.{Held}
-use Rattle.djq_mirror.specs.Inputs.{IsHeld, IsRefused}
+use Rattle.djq_mirror.specs.Inputs.{HoldsAtEnd, FirstIsRefused}
 use Rattle.djq_machine.specs.State.{State}
 use Rattle.djq_machine.specs.Step.{opened, Step}
 use Rattle.djq_machine.specs.Run.{Did, Run, out}
@@ -13,7 +13,7 @@ use Rattle.djq_laws.specs.Sent.{all_opened}
 use Rattle.djq_laws.specs.Sound.{IsStart}
 use Rattle.djq_laws.specs.Silent.{OpensNone}
 use Rattle.djq_told.specs.Sayable.{IsSayableStore}
-use Rattle.djq_told.specs.Mirrored.{Shows, Reads, EndsNow, IsReadBack}
+use Rattle.djq_told.specs.Mirrored.{HoldsTextsOf, SessionReads, EndsNow, IsReadBack}
 
 -- What comes behind a session that reads a query: nothing; or its input ends, or it is closed, and
 -- then whatever comes, but for a session of its id.
@@ -40,7 +40,7 @@ pub record ReadsWhole (q : Listed) (s : ℕ) (start : State) (whole : List Did) 
     pub fore : List Did
     pub old : State
     pub done : List Did
-    pub reads : Reads q s first fore old done at
+    pub reads : SessionReads q s first fore old done at
     pub later : List Did
     pub leaves : LeavesOff s at later new
     pub is : whole ≡ earlier ++ ((fore ++ done) ++ later)
@@ -66,7 +66,7 @@ pub record ReadsSinceOpened (q : Listed) (s : ℕ) (start : State) (whole : List
     pub fore : List Did
     pub old : State
     pub done : List Did
-    pub reads : Reads q s first fore old done at
+    pub reads : SessionReads q s first fore old done at
     pub later : List Did
     pub leaves : GoesOnBehind s at later new
     pub is : whole ≡ earlier ++ (opening ∷ ((fore ++ done) ++ later))
@@ -84,8 +84,8 @@ OpenedAreReadBack = (start : State) → IsStart start → IsSayableStore start.s
 -- What an input comes to in a mirror is all that it comes to: no line of it is refused, and whatever a
 -- mirror holds behind it is in the same mode and shows the same answers.
 abbrev pub HeldAlone : Type 0
-HeldAlone = (name input : Bytes) (held : Held) → IsHeld name input held
-    → ((n : ℕ) → IsRefused name input n → ⊥)
-    × ((other : Held) → IsHeld name input other
+HeldAlone = (name input : Bytes) (held : Held) → HoldsAtEnd name input held
+    → ((n : ℕ) → FirstIsRefused name input n → ⊥)
+    × ((other : Held) → HoldsAtEnd name input other
     → (other.mode ≡ held.mode) × ((q : Listed) (relations : List Relation)
-    → Shows held (AnswersOf relations q) → Shows other (AnswersOf relations q)))
+    → HoldsTextsOf held (AnswersOf relations q) → HoldsTextsOf other (AnswersOf relations q)))

@@ -6,7 +6,7 @@ use Rattle.std.proofs.lemmas.Bool.{cases_Bool, eqb-true, or_cases}
 use Rattle.djq_tree.specs.declared.node.Node.{Node}
 use Rattle.djq_tree.specs.declared.node.Node.TheVariants.{Leaf, Trim, Meet}
 use Rattle.djq_tree.specs.Tree.{Tree, IsTree, node_at, has_child, IsRising, parent, climb, climb_on}
-use Rattle.djq_tree.specs.Tree.{path_of, rest_of, is_out, IsFrontier}
+use Rattle.djq_tree.specs.Tree.{path_of, path_or_none, is_out, IsFrontier}
 use Rattle.djq_tree.proofs.Finding.{lowest_is, lowest_none_is, lowest_some}
 
 -- a parent is a node with this child, and higher
@@ -54,19 +54,20 @@ climb_enough nodes rising (suc n) (suc m) j h k =
     (λ p e. let up = (parent_above nodes j p rising e).0 in climb_enough nodes rising n m p (omega arith) (omega arith))
 
 climb_rest : (nodes : List Node) (j : ℕ) (o : Option ℕ) → climb_on (climb nodes (length nodes)) j o
-    ≡ j ∷ rest_of nodes o
+    ≡ j ∷ path_or_none nodes o
 climb_rest nodes j None = refl
 climb_rest nodes j (Some p) = refl
 
 -- a path is its node and the parent's path
-pub path_step : (nodes : List Node) (j : ℕ) → IsRising nodes → path_of nodes j ≡ j ∷ rest_of nodes (parent nodes j)
+pub path_step : (nodes : List Node) (j : ℕ) → IsRising nodes → path_of nodes j ≡ j ∷ path_or_none nodes (parent nodes j)
 path_step nodes j rising =
     climb_enough nodes rising (length nodes) (suc (length nodes)) j (omega arith) (omega arith)
     ∙ climb_rest nodes j (parent nodes j)
 
 -- a step of the iterator
-pub next_step : (nodes : List Node) (o p : Option ℕ) (l : List ℕ) (j : ℕ) → IsRising nodes → rest_of nodes o ≡ l → o
-    ≡ Some j → p ≡ parent nodes j → l ≡ j ∷ rest_of nodes p
+pub next_step : (nodes : List Node) (o p : Option ℕ) (l : List ℕ) (j : ℕ) → IsRising nodes
+    → path_or_none nodes o ≡ l → o
+    ≡ Some j → p ≡ parent nodes j → l ≡ j ∷ path_or_none nodes p
 next_step nodes o p l j rising seen is up = sym seen ∙ rw (is, up) (path_step nodes j rising)
 
 -- a tree's children have lower numbers

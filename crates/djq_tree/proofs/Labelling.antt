@@ -7,13 +7,13 @@ use Rattle.std.proofs.lemmas.Bool.{cases_lt, eq-eqb, or_right}
 use Rattle.std.proofs.lemmas.Option.{get_or_from_slice_get}
 use Rattle.djq_hyper.specs.Hypergraph.{member, degree}
 use Rattle.djq_hyper.specs.Variables.{AreNamed}
-use Rattle.djq_hyper.proofs.Members.{has, from_true, subset_says}
+use Rattle.djq_hyper.proofs.Members.{has_bit, from_true, subset_says}
 use Rattle.djq_hyper.proofs.Owning.{edge_in, edge_with}
 use Rattle.djq_tree.specs.declared.node.Node.{Node}
 use Rattle.djq_tree.specs.declared.node.Node.TheVariants.{Leaf, Trim, Meet}
 use Rattle.djq_tree.specs.Labels.{label_at}
 use Rattle.djq_tree.specs.Tree.{Tree, IsTree, node_at, is_out, leaf_labels}
-use Rattle.djq_tree.specs.Explaining.{IsNamed, name_at, listed, label_text, node_text, end_text, line_text}
+use Rattle.djq_tree.specs.Explaining.{IsNamed, name_at, comma_listed, label_text, node_text, end_text, line_text}
 
 pub name_of : (names : List (List ℕ)) (i : ℕ) (t : List ℕ) → slice_get names i ≡ Some t → t ≡ name_at names i
 name_of names i t h = sym (get_or_from_slice_get names i t [] h)
@@ -27,23 +27,23 @@ popped l m x n e h =
 
 -- one more variable is written
 pub listed_more : (names : List (List ℕ)) (s s1 s2 t all l m : List ℕ) (x : ℕ) → s1 ≡ s ++ codes "," → s2 ≡ s1 ++ t
-    → slice_get names x ≡ Some t → l ≡ x ∷ m → s ++ listed names l ≡ all → s2 ++ listed names m ≡ all
+    → slice_get names x ≡ Some t → l ≡ x ∷ m → s ++ comma_listed names l ≡ all → s2 ++ comma_listed names m ≡ all
 listed_more names s s1 s2 t all l m x comma name at e h =
     let n = name_of names x t at in
-    let f : s ++ listed names (x ∷ m) ≡ all = ap (λ k. s ++ listed names k) (sym e) ∙ h in
+    let f : s ++ comma_listed names (x ∷ m) ≡ all = ap (λ k. s ++ comma_listed names k) (sym e) ∙ h in
     rw (name, comma, n) (simp append_assoc refl ∙ f)
 
 -- the whole label is written
 pub labelled_first : (names : List (List ℕ)) (s s1 t l m : List ℕ) (x : ℕ) → s1 ≡ s ++ t → slice_get names x ≡ Some t
-    → l ≡ x ∷ m → s1 ++ listed names m ≡ s ++ label_text names l
+    → l ≡ x ∷ m → s1 ++ comma_listed names m ≡ s ++ label_text names l
 labelled_first names s s1 t l m x name at e =
-    rw (name, name_of names x t at, e) (append_assoc s (name_at names x) (listed names m))
+    rw (name, name_of names x t at, e) (append_assoc s (name_at names x) (comma_listed names m))
 
 -- nothing is left to write
 pub labelled : (names : List (List ℕ)) (s s1 s2 t l m r : List ℕ) (x : ℕ) → s1 ≡ s ++ t → slice_get names x ≡ Some t → l
-    ≡ x ∷ m → r ≡ [] → s2 ++ listed names r ≡ s1 ++ listed names m → s2 ≡ s ++ label_text names l
+    ≡ x ∷ m → r ≡ [] → s2 ++ comma_listed names r ≡ s1 ++ comma_listed names m → s2 ≡ s ++ label_text names l
 labelled names s s1 s2 t l m r x name at e none h =
-    let f : s2 ++ [] ≡ s1 ++ listed names m = ap (λ k. s2 ++ listed names k) (sym none) ∙ h in
+    let f : s2 ++ [] ≡ s1 ++ comma_listed names m = ap (λ k. s2 ++ comma_listed names k) (sym none) ∙ h in
     sym (append-nil s2) ∙ f ∙ labelled_first names s s1 t l m x name at e
 
 -- the atom of a leaf has a name
@@ -78,8 +78,8 @@ line_written atoms variables t j n l o s s1 s2 s3 s4 s5 s6 s7 at_n at_l at_o h1 
 -- ---- each variable of a label lies in a leaf's
 
 leaf_node : (t : Tree) (j x : ℕ) (n : Node) → IsTree t → j < length t.nodes → node_at t.nodes j ≡ n → t.leaves ≤ j
-    → ((c : ℕ) → c < j → 0 < has x (label_at t.labels c) → 0 < degree x (leaf_labels t))
-    → 0 < has x (label_at t.labels j) → 0 < degree x (leaf_labels t)
+    → ((c : ℕ) → c < j → 0 < has_bit x (label_at t.labels c) → 0 < degree x (leaf_labels t))
+    → 0 < has_bit x (label_at t.labels j) → 0 < degree x (leaf_labels t)
 leaf_node t j x (Leaf a) s within e late lower h = absurd (let low = s.inner j a within e in omega arith)
 leaf_node t j x (Trim c) s within e late lower h =
     let i = s.trim j c e in
@@ -87,16 +87,16 @@ leaf_node t j x (Trim c) s within e late lower h =
 leaf_node t j x (Meet g d) s within e late lower h =
     let i = s.meet j g d e in
     lower g i.guard_lower
-    (let k : has x (label_at t.labels j) ≡ has x (label_at t.labels g) = ap (has x) i.guard in omega arith)
+    (let k : has_bit x (label_at t.labels j) ≡ has_bit x (label_at t.labels g) = ap (has_bit x) i.guard in omega arith)
 
-leaf_below : (t : Tree) → IsTree t → (n j x : ℕ) → j < n → 0 < has x (label_at t.labels j)
+leaf_below : (t : Tree) → IsTree t → (n j x : ℕ) → j < n → 0 < has_bit x (label_at t.labels j)
     → 0 < degree x (leaf_labels t)
 leaf_below t s zero j x low h = absurd (omega arith)
 leaf_below t s (suc n) j x low h =
     elim (cases_lt j t.leaves) [
       | inl early ↦
-          let k : has x (label_at (leaf_labels t) j)
-          ≡ has x (label_at t.labels j) = ap (has x) (get_or-take t.leaves t.labels j [] early) in
+          let k : has_bit x (label_at (leaf_labels t) j)
+          ≡ has_bit x (label_at t.labels j) = ap (has_bit x) (get_or-take t.leaves t.labels j [] early) in
           let d = edge_in (leaf_labels t) j x in
           omega arith
       | inr late ↦
@@ -104,13 +104,13 @@ leaf_below t s (suc n) j x low h =
             | inl within ↦ leaf_node t j x (node_at t.nodes j) s within refl late
                 (λ c lower k. leaf_below t s n c x (omega arith) k) h
             | inr past ↦
-                absurd (let e = s.labelled in let k : has x (label_at t.labels j)
-                ≡ has x [] = ap (has x) (get_or_past t.labels j [] (omega arith)) in omega arith)
+                absurd (let e = s.labelled in let k : has_bit x (label_at t.labels j)
+                ≡ has_bit x [] = ap (has_bit x) (get_or_past t.labels j [] (omega arith)) in omega arith)
           ]
     ]
 
 -- a variable of a label lies in the label of a leaf
-pub leaf_has : (t : Tree) → IsTree t → (j x : ℕ) → 0 < has x (label_at t.labels j) → 0 < degree x (leaf_labels t)
+pub leaf_has : (t : Tree) → IsTree t → (j x : ℕ) → 0 < has_bit x (label_at t.labels j) → 0 < degree x (leaf_labels t)
 leaf_has t s j x h = leaf_below t s (suc j) j x (omega arith) h
 
 -- where the leaves' variables have names, all have

@@ -6,12 +6,12 @@ use Rattle.std.specs.Prelude.{nat_le, slice_index_or}
 use Rattle.std.proofs.lemmas.List.{get_or_read}
 use Rattle.std.proofs.lemmas.Bool.{cases_Bool, cases_eq, le-leb, lt-leb, leb-true}
 use Rattle.djq_hyper.specs.Hypergraph.{member}
-use Rattle.djq_hyper.proofs.Members.{has, has_here, has_other, from_true}
+use Rattle.djq_hyper.proofs.Members.{has_bit, has_here, has_other, from_true}
 use Rattle.djq_tree.specs.declared.node.Node.{Node}
 use Rattle.djq_tree.specs.Tree.{Tree, IsTree, parent, climb, climb_on, path_of, is_out, IsFrontier, SplitsPath}
 use Rattle.djq_tree.proofs.Climbing.{parent_above, rising_of, frontier_here}
 
-first_or : (k j : ℕ) (l : List ℕ) → 0 < has k (j ∷ l) → (k ≡ j) ⊎ (0 < has k l)
+first_or : (k j : ℕ) (l : List ℕ) → 0 < has_bit k (j ∷ l) → (k ≡ j) ⊎ (0 < has_bit k l)
 first_or k j l h = elim (cases_eq k j)
     [ inl e ↦ inl e | inr apart ↦ inr (let o = has_other k j l apart in omega arith) ]
 
@@ -44,7 +44,7 @@ out_here t j k here e = record { out = ap (λ (i : ℕ). is_out t.out i) e ∙ h
 
 out_climb : (t : Tree) → IsTree t → (up : ℕ → List ℕ) (j k : ℕ) (o : Option ℕ) → parent t.nodes j ≡ o → is_out t.out j
     ≡ true
-    → ((p : ℕ) → o ≡ Some p → 0 < has k (up p) → OutFrom t p k) → 0 < has k (climb_on up j o) → OutFrom t j k
+    → ((p : ℕ) → o ≡ Some p → 0 < has_bit k (up p) → OutFrom t p k) → 0 < has_bit k (climb_on up j o) → OutFrom t j k
 out_climb t s up j k None e here r h = elim (first_or k j [] h)
     [ inl same ↦ out_here t j k here same | inr none ↦ absurd (omega arith) ]
 out_climb t s up j k (Some p) e here r h =
@@ -57,7 +57,7 @@ out_climb t s up j k (Some p) e here r h =
     ]
 
 -- from a node in `out` on, the whole path is in `out`
-out_on : (t : Tree) → IsTree t → (n j : ℕ) → is_out t.out j ≡ true → (k : ℕ) → 0 < has k (climb t.nodes n j)
+out_on : (t : Tree) → IsTree t → (n j : ℕ) → is_out t.out j ≡ true → (k : ℕ) → 0 < has_bit k (climb t.nodes n j)
     → OutFrom t j k
 out_on t s zero j here k h = elim (first_or k j [] h)
     [ inl same ↦ out_here t j k here same | inr none ↦ absurd (omega arith) ]
@@ -69,7 +69,7 @@ record Split (t : Tree) (j f k : ℕ) : Type 0 where
   high : j ≤ f
   side : is_out t.out k ≡ nat_le f k
 
-split_out : (t : Tree) → IsTree t → (n j f k : ℕ) → is_out t.out j ≡ true → f ≡ j → 0 < has k (climb t.nodes n j)
+split_out : (t : Tree) → IsTree t → (n j f k : ℕ) → is_out t.out j ≡ true → f ≡ j → 0 < has_bit k (climb t.nodes n j)
     → Split t j f k
 split_out t s n j f k here e h =
     let o = out_on t s n j here k h in
@@ -87,9 +87,9 @@ none_found false j f x y = absurd cc
 -- at a node that isn't in `out` the path goes on at its parent
 split_climb : (t : Tree) → IsTree t → (up : ℕ → List ℕ) (j f k : ℕ) (o : Option ℕ) → parent t.nodes j ≡ o
     → is_out t.out j ≡ false
-    → ((p m : ℕ) → o ≡ Some p → find (λ i. is_out t.out i) (up p) ≡ Some f → 0 < has m (up p) → Split t p f m)
-    → ((p : ℕ) → 0 < has p (up p))
-    → find (λ i. is_out t.out i) (climb_on up j o) ≡ Some f → 0 < has k (climb_on up j o) → Split t j f k
+    → ((p m : ℕ) → o ≡ Some p → find (λ i. is_out t.out i) (up p) ≡ Some f → 0 < has_bit m (up p) → Split t p f m)
+    → ((p : ℕ) → 0 < has_bit p (up p))
+    → find (λ i. is_out t.out i) (climb_on up j o) ≡ Some f → 0 < has_bit k (climb_on up j o) → Split t j f k
 split_climb t s up j f k None e off r first found h = absurd (none_found (is_out t.out j) j f off found)
 split_climb t s up j f k (Some p) e off r first found h =
     let later = goes_on (is_out t.out j) off found in
@@ -114,11 +114,11 @@ found_first p j f l here h = step (p j) here h
     step true x y = (let e : j ≡ f = cc in sym e)
     step false x y = absurd cc
 
-climb_first : (nodes : List Node) (n j : ℕ) → 0 < has j (climb nodes n j)
+climb_first : (nodes : List Node) (n j : ℕ) → 0 < has_bit j (climb nodes n j)
 climb_first nodes zero j = omega (arith, has_here j j [] refl)
 climb_first nodes (suc n) j = first_on (climb nodes n) j (parent nodes j)
   where
-    first_on : (up : ℕ → List ℕ) (j : ℕ) (o : Option ℕ) → 0 < has j (climb_on up j o)
+    first_on : (up : ℕ → List ℕ) (j : ℕ) (o : Option ℕ) → 0 < has_bit j (climb_on up j o)
     first_on up j None = omega (arith, has_here j j [] refl)
     first_on up j (Some p) = omega (arith, has_here j j (up p) refl)
 
@@ -132,7 +132,7 @@ climb_out t (suc n) j f here h = on (climb t.nodes n) (parent t.nodes j) h
     on up (Some p) k = found_first (λ i. is_out t.out i) j f (up p) here k
 
 split_on : (t : Tree) → IsTree t → (n j f k : ℕ) → find (λ i. is_out t.out i) (climb t.nodes n j) ≡ Some f
-    → 0 < has k (climb t.nodes n j) → Split t j f k
+    → 0 < has_bit k (climb t.nodes n j) → Split t j f k
 split_on t s zero j f k found h =
     elim (cases_Bool (is_out t.out j)) [
       | inl here ↦ split_out t s zero j f k here (climb_out t zero j f here found) h

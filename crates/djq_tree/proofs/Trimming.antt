@@ -6,7 +6,7 @@ use Rattle.std.proofs.lemmas.List.{take_all, take-append-drop}
 use Rattle.std.proofs.lemmas.List.Sums.{sum_by-append}
 use Rattle.std.proofs.lemmas.Bool.{cases_lt, cases_eq, ne_eqb, le-leb, lt-leb}
 use Rattle.djq_hyper.specs.Hypergraph.{member, degree, one}
-use Rattle.djq_hyper.proofs.Members.{has, one_le, one_or, one_true, one_false, from_true, subset_says}
+use Rattle.djq_hyper.proofs.Members.{has_bit, one_le, one_or, one_true, one_false, from_true, subset_says}
 use Rattle.djq_hyper.proofs.Bags.{numbers, times, times_itself, out_of, out_same, length_same}
 use Rattle.djq_hyper.proofs.Counting.{outside}
 use Rattle.djq_tree.specs.declared.node.Node.{Node}
@@ -21,7 +21,7 @@ use Rattle.djq_tree.proofs.Labelling.{leaf_has}
 
 -- ---- lists of numbers
 
-pub has_times : (j : ℕ) (ns : List ℕ) → has j ns ≡ min 1 (times numbers j ns)
+pub has_times : (j : ℕ) (ns : List ℕ) → has_bit j ns ≡ min 1 (times numbers j ns)
 has_times j [] = refl
 has_times j (y ∷ ns) =
     let o = one_or (j == y) (member j ns) in
@@ -49,8 +49,8 @@ record Loses (t : Tree) (a b x : ℕ) : Type 0 where
   from : a ≤ trim
   below : trim < b
   is : node_at t.nodes trim ≡ Trim child
-  had : 0 < has x (label_at t.labels child)
-  lost : has x (label_at t.labels trim) ≡ 0
+  had : 0 < has_bit x (label_at t.labels child)
+  lost : has_bit x (label_at t.labels trim) ≡ 0
 
 loses_top : (t : Tree) (a b x : ℕ) → IsTree t → (l : Loses t a b x) → IsTop t.nodes t.labels x l.child
 loses_top t a b x s l = record {
@@ -159,7 +159,8 @@ dropped t a (suc n) s low = dropped_kind t a n (node_at t.nodes (a + n)) s (omeg
     (dropped t a n s (omega arith))
 
 -- where a list has all that is lost, it isn't shorter
-few_dropped : (t : Tree) (a n : ℕ) (V : List ℕ) → (d : Dropped t a n) → ((x : ℕ) → Loses t a (a + n) x → 0 < has x V)
+few_dropped : (t : Tree) (a n : ℕ) (V : List ℕ) → (d : Dropped t a n)
+    → ((x : ℕ) → Loses t a (a + n) x → 0 < has_bit x V)
     → length d.vars ≤ length V
 few_dropped t a n V d all =
     no_longer d.vars V
@@ -181,7 +182,7 @@ all_trims_of t s V all =
     omega arith
 
 -- the second stage's trims lose variables of the head
-second_lost : (t : Tree) (b x : ℕ) → IsTree t → Loses t t.second_stage b x → 0 < has x t.head
+second_lost : (t : Tree) (b x : ℕ) → IsTree t → Loses t t.second_stage b x → 0 < has_bit x t.head
 second_lost t b x s l =
     let out = s.out_split l.trim l.child (trim_child t.nodes l.trim l.child l.is)
     ∙ le-leb t.second_stage l.trim l.from in

@@ -1,6 +1,6 @@
 -- The text that explains a tree: a line for each node.
 use Rattle.std.specs.Prelude.{ℕ, zero, suc, ◌<◌, Bool, true, false, List, [], ◌∷◌, ◌++◌, length, codes, decimal}
-pub use Rattle.djq_hyper.specs.Naming.{name_at, listed}
+pub use Rattle.djq_hyper.specs.Naming.{name_at, comma_listed}
 use Rattle.djq_tree.specs.Labels.{label_at}
 use Rattle.djq_tree.specs.declared.node.Node.{Node}
 use Rattle.djq_tree.specs.declared.node.Node.TheVariants.{Leaf, Trim, Meet}
@@ -9,7 +9,7 @@ use Rattle.djq_tree.specs.Tree.{Tree, node_at, is_out}
 -- a label: its variables in order of number with commas between them, or a dash where it has none
 abbrev pub label_text : List (List ℕ) → List ℕ → List ℕ
 label_text variables [] = codes "-"
-label_text variables (x ∷ xs) = name_at variables x ++ listed variables xs
+label_text variables (x ∷ xs) = name_at variables x ++ comma_listed variables xs
 
 -- what a node is
 abbrev pub node_text : List (List ℕ) → Node → List ℕ

@@ -114,9 +114,9 @@ abbrev pub path_of : List Node → ℕ → List ℕ
 path_of nodes j = climb nodes (length nodes) j
 
 -- the same where there may be no node to start at
-abbrev pub rest_of : List Node → Option ℕ → List ℕ
-rest_of nodes None = []
-rest_of nodes (Some j) = path_of nodes j
+abbrev pub path_or_none : List Node → Option ℕ → List ℕ
+path_or_none nodes None = []
+path_or_none nodes (Some j) = path_of nodes j
 
 -- children have lower numbers, and a path's next node, where there is one, is a node
 abbrev pub IsPlaced : List Node → Option ℕ → Type 0

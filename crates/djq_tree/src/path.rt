@@ -20,9 +20,9 @@ impl<'a> Model for Path<'a> {
 
     ghost Value = { List ℕ };
 
-    ghost use Rattle.djq_tree.specs.Tree.{rest_of, IsPlaced};
+    ghost use Rattle.djq_tree.specs.Tree.{path_or_none, IsPlaced};
 
-    ghost view = { λ p. rest_of p.nodes.now p.next };
+    ghost view = { λ p. path_or_none p.nodes.now p.next };
 
     ghost invariant = { λ p. IsPlaced p.nodes.now p.next };
 }

@@ -48,9 +48,23 @@ impl Model for Tree {
 
     ghost Value = { spec.Tree };
 
-    ghost view = { λ t. record { nodes = t.nodes.items; labels = t.labels.items; out = t.out.items; head = t.head; leaves = t.leaves; second_stage = t.second_stage } };
+    ghost view = { λ t. record {
+      nodes = t.nodes.items;
+      labels = t.labels.items;
+      out = t.out.items;
+      head = t.head;
+      leaves = t.leaves;
+      second_stage = t.second_stage;
+    } };
 
-    ghost invariant = { λ t. spec.IsTree (record { nodes = t.nodes.items; labels = t.labels.items; out = t.out.items; head = t.head; leaves = t.leaves; second_stage = t.second_stage }) };
+    ghost invariant = { λ t. spec.IsTree (record {
+      nodes = t.nodes.items;
+      labels = t.labels.items;
+      out = t.out.items;
+      head = t.head;
+      leaves = t.leaves;
+      second_stage = t.second_stage;
+    }) };
 }
 
 /// Tells of a node which its parent is, where there is room.

@@ -29,7 +29,7 @@ use Rattle.std.proofs.lemmas.List.Elements.{All-nil, All-contains, Contains-push
 use Rattle.djq_union.specs.Answers.{AreSomeCells, AreAllCells, IsListingOfCells}
 use Rattle.djq_union.specs.Order.{merged}
 use Rattle.djq_union.specs.Union.{some_has, given_at, union_given, FitsFirst, UnionFits}
-use Rattle.djq_union.specs.Going.{GoesOn, MemberGoesOn, UnionGoesOn}
+use Rattle.djq_union.specs.Going.{AnswersGoOn, MemberGoesOn, UnionGoesOn}
 use Rattle.djq_union.proofs.Lists.{all_of, AreOnce, once_of, different_of, once_left, counted_last}
 use Rattle.djq_union.proofs.Lists.{uncounted_last, pigeons, reached}
 use Rattle.djq_union.proofs.Merging.{
@@ -81,7 +81,7 @@ module _ {A : Type 0} where
   all_at_end has given false h = (h.0 refl).all
 
   pub end_of : (has : A → Bool) (old new : List A) (more : Bool) (out : A) → AreSomeCells has old
-      → GoesOn has old new more out → (more ≡ false) ↔ IsListingOfCells has old
+      → AnswersGoOn has old new more out → (more ≡ false) ↔ IsListingOfCells has old
   end_of has old new true out some g = (
     λ e. absurd (false≢true (sym e)),
     λ listing. absurd (one_left has old new out g.some g.one listing.all),
@@ -91,9 +91,9 @@ module _ {A : Type 0} where
 
   -- two calls, of which the first changed no more than the list's name
   pub goes_along : (has : A → Bool) (old same new : List A) (more : Bool) (out : A) → old ≡ same
-      → GoesOn has old new more out → GoesOn has same new more out
+      → AnswersGoOn has old new more out → AnswersGoOn has same new more out
   goes_along has old same new more out e g =
-      subst (λ (l : List A). GoesOn has l new more out) e g
+      subst (λ (l : List A). AnswersGoOn has l new more out) e g
 
 module _ {M S A : Type 0} (has : M → A → Bool) (given : M → S → List A) (fits : M → S → Type 0) where
   -- ---- a member

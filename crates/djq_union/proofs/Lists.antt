@@ -35,7 +35,7 @@ use Rattle.std.proofs.lemmas.List.Elements.{
   Contains-append_cases,
   Contains-push_cases,
 }
-use Rattle.djq_union.specs.Answers.{AreDifferent}
+use Rattle.djq_union.specs.Answers.{AreDistinctAnswers}
 
 module _ {A : Type 0} where
   -- ---- what a list contains
@@ -67,14 +67,14 @@ module _ {A : Type 0} where
   AreOnce [] = ⊤
   AreOnce (x ∷ xs) = (Contains xs x → ⊥) × AreOnce xs
 
-  pub once_of : (xs : List A) → AreDifferent xs → AreOnce xs
+  pub once_of : (xs : List A) → AreDistinctAnswers xs → AreOnce xs
   once_of [] h = tt
   once_of (x ∷ xs) h = (
     λ c. h 0 (suc c.0) x (omega arith) (omega (arith, c.1)) (sym c.2),
     once_of xs (λ i j d l m. h (suc i) (suc j) d (omega (arith, l)) (omega (arith, m))),
   )
 
-  pub different_of : (xs : List A) → AreOnce xs → AreDifferent xs
+  pub different_of : (xs : List A) → AreOnce xs → AreDistinctAnswers xs
   different_of [] h = λ i j d l m. absurd (omega (arith, m))
   different_of (x ∷ xs) h = AllPairs-cons (λ (s t : A). s ≡ t → ⊥) x xs
       (all_of (λ (t : A). x ≡ t → ⊥) xs

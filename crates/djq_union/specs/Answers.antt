@@ -2,12 +2,12 @@
 use Rattle.std.specs.Prelude.{◌≡◌, Bool, true, List, All, AllPairs, Contains}
 
 -- no two of a list are equal
-abbrev pub AreDifferent : {A : Type 0} → List A → Type 0
-AreDifferent ts = AllPairs (λ s t. s ≡ t → ⊥) ts
+abbrev pub AreDistinctAnswers : {A : Type 0} → List A → Type 0
+AreDistinctAnswers ts = AllPairs (λ s t. s ≡ t → ⊥) ts
 
 -- different answers
 pub record AreSomeCells {A : Type 0} (has : A → Bool) (ts : List A) : Type 0 where
-  pub different : AreDifferent ts
+  pub different : AreDistinctAnswers ts
   pub answers : All (λ t. has t ≡ true) ts
 
 -- no answer is missing

@@ -18,7 +18,7 @@ use Rattle.djq_union.specs.Answers.{AreSomeCells, AreAllCells}
 use Rattle.djq_union.specs.Union.{some_has, given_at, union_given, UnionFits}
 
 -- one answer more was given, and was none of those before; or all had been
-pub record GoesOn {A : Type 0} (has : A → Bool) (old new : List A) (more : Bool) (out : A)
+pub record AnswersGoOn {A : Type 0} (has : A → Bool) (old new : List A) (more : Bool) (out : A)
     : Type 0 where
   pub one : OnTrue more (new ≡ old ++ out ∷ [])
   pub same : OnFalse more (new ≡ old)
@@ -29,7 +29,7 @@ pub record GoesOn {A : Type 0} (has : A → Bool) (old new : List A) (more : Boo
 pub record MemberGoesOn {M S A : Type 0} (has : M → A → Bool) (given : M → S → List A)
     (fits : M → S → Type 0) (m : M) (old new : Option S) (more : Bool) (out : A) : Type 0 where
   pub fit : IfSome new (λ begun. fits m begun)
-  pub goes : GoesOn (has m) (given_at given m old) (given_at given m new) more out
+  pub goes : AnswersGoOn (has m) (given_at given m old) (given_at given m new) more out
 
 -- the i-th of these states goes on, and the others stay
 abbrev pub MovesAt : {M S A : Type 0} → (M → A → Bool) → (M → S → List A) → (M → S → Type 0)
@@ -43,5 +43,5 @@ pub record UnionGoesOn {M S A : Type 0} (has : M → A → Bool) (given : M → 
     (fits : M → S → Type 0) (ms : List M) (old new : List (Option S)) (more : Bool) (out : A)
     : Type 0 where
   pub fit : UnionFits has given fits ms new
-  pub goes : GoesOn (some_has has ms) (union_given has given ms old)
+  pub goes : AnswersGoOn (some_has has ms) (union_given has given ms old)
       (union_given has given ms new) more out

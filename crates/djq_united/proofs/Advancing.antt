@@ -66,27 +66,27 @@ use Rattle.djq_live.specs.Member.{
 }
 use Rattle.djq_live.proofs.AtPlaces.{as_many}
 use Rattle.djq_slots.specs.declared.progress.Progress.TheVariants.{Open, Stale}
-use Rattle.djq_united.specs.Slots.{Progress, slot_at, OpensSlot}
+use Rattle.djq_united.specs.Slots.{UnionProgress, slot_at, OpensSlot}
 use Rattle.djq_united.specs.United.{
   United,
   members_in,
   FitsMembers,
-  FitsOver,
+  CursorFitsMembers,
   AreMembers,
   IsUnited,
   AreKept,
   shown_cells,
-  given_by,
-  position_of,
+  given_by_union,
+  union_position,
 }
-use Rattle.djq_united.specs.Advancing.{union_cells, Reads, Looks}
+use Rattle.djq_united.specs.Advancing.{union_cells, UnionReads, UnionLooks}
 use Rattle.djq_united.specs.Reading.{
-  OpensIn,
-  MovesTo,
-  NextGives,
-  NextGivesAt,
-  MoreGives,
-  MoreGivesAt,
+  UnionOpensIn,
+  UnionCursorMoves,
+  UnionNextGives,
+  UnionNextGivesAt,
+  UnionMoreGives,
+  UnionMoreGivesAt,
 }
 use Rattle.djq_united.proofs.Lists.{IsMissing, missing}
 use Rattle.djq_united.proofs.Placed.{member_kept}
@@ -166,41 +166,41 @@ over_members : (c : Catalog) (qs : List (Option Live)) (u : United) → AreKept 
     → IsUnited qs u → AreOver c (members_in qs u)
 over_members c qs u kept united = over_places c qs u.members kept united.members
 
-moves : (c : Catalog) (qs : List (Option Live)) (u : United) (k : ℕ) (p : Progress)
-    (position : Position) → IsUnited qs u → FitsOver (members_in qs u) p
-    → position_of c.texts (members_in qs u) p ≡ position
-    → MovesTo c qs u k position (record u { cursors = slice_set u.cursors k (Some p) })
+moves : (c : Catalog) (qs : List (Option Live)) (u : United) (k : ℕ) (p : UnionProgress)
+    (position : Position) → IsUnited qs u → CursorFitsMembers (members_in qs u) p
+    → union_position c.texts (members_in qs u) p ≡ position
+    → UnionCursorMoves c qs u k position (record u { cursors = slice_set u.cursors k (Some p) })
 moves c qs u k p position united fit stands = record {
   progress = p;
   moved = refl;
   stands = stands;
   united = record {
     members = united.members;
-    fits = put_each (FitsOver (members_in qs u)) u.cursors k p united.fits fit;
+    fits = put_each (CursorFitsMembers (members_in qs u)) u.cursors k p united.fits fit;
   };
 }
 
 -- a cursor in a slot fits, where the union is seen from outside
-pub fits_seen : (qs : List (Option Live)) (u v : United) (ks : List ℕ) (k : ℕ) (p : Progress)
+pub fits_seen : (qs : List (Option Live)) (u v : United) (ks : List ℕ) (k : ℕ) (p : UnionProgress)
     → u ≡ v → ks ≡ u.members → IsUnited qs v → slot_at u.cursors k ≡ Some p
-    → FitsOver (queries_at qs ks) p
+    → CursorFitsMembers (queries_at qs ks) p
 fits_seen qs u v ks k p e at united there =
-    subst (λ (js : List ℕ). FitsOver (queries_at qs js) p) (sym at)
+    subst (λ (js : List ℕ). CursorFitsMembers (queries_at qs js) p) (sym at)
     ((subst (IsUnited qs) (sym e) united).fits.each k p there)
 
 -- ---- a read
 
 given_more : (texts : List Bytes) (ls : List Live) (old new : List (Option Cursor)) (t : List ℕ)
     → union_cells ls new ≡ union_cells ls old ++ t ∷ []
-    → given_by texts ls new ≡ given_by texts ls old ++ shown_cells texts ls t ∷ []
+    → given_by_union texts ls new ≡ given_by_union texts ls old ++ shown_cells texts ls t ∷ []
 given_more texts ls old new t e =
     ap (map (shown_cells texts ls)) e
     ∙ map-append (shown_cells texts ls) (union_cells ls old) (t ∷ [])
 
-gives_at : (c : Catalog) (qs : List (Option Live)) (u : United) (k : ℕ) (p q : Progress)
+gives_at : (c : Catalog) (qs : List (Option Live)) (u : United) (k : ℕ) (p q : UnionProgress)
     (result : Next) (answer : List ℕ) → AreKept c qs → IsUnited qs u
-    → slot_at u.cursors k ≡ Some p → Reads (members_in qs u) p result answer q
-    → NextGivesAt c qs u k (position_of c.texts (members_in qs u) p) result answer
+    → slot_at u.cursors k ≡ Some p → UnionReads (members_in qs u) p result answer q
+    → UnionNextGivesAt c qs u k (union_position c.texts (members_in qs u) p) result answer
     (record u { cursors = slice_set u.cursors k (Some q) })
 gives_at c qs u k (Open old ended) (Open new e) Given answer kept united there h =
     let ls = members_in qs u in
@@ -229,37 +229,37 @@ gives_at c qs u k (Stale q m) new End answer kept united there h = absurd h
 gives_at c qs u k (Stale q m) new (IsStale r n) answer kept united there h = (
   h.0,
   h.1,
-  ap (λ (slots : List (Option Progress)). record u { cursors = slots })
+  ap (λ (slots : List (Option UnionProgress)). record u { cursors = slots })
       (put_same u.cursors k (Stale q m) new there h.2),
 )
 
-next_gives : (c : Catalog) (qs : List (Option Live)) (u : United) (k : ℕ) (p q : Progress)
+next_gives : (c : Catalog) (qs : List (Option Live)) (u : United) (k : ℕ) (p q : UnionProgress)
     (result : Next) (answer : List ℕ) → AreKept c qs → IsUnited qs u → slot_at u.cursors k ≡ Some p
-    → Reads (members_in qs u) p result answer q
-    → NextGives c qs u k result answer (record u { cursors = slice_set u.cursors k (Some q) })
+    → UnionReads (members_in qs u) p result answer q
+    → UnionNextGives c qs u k result answer (record u { cursors = slice_set u.cursors k (Some q) })
 next_gives c qs u k p q result answer kept united there h =
-    subst (λ (o : Option Progress). IsSomeAnd o (λ p. NextGivesAt c qs u k
-    (position_of c.texts (members_in qs u) p) result answer
+    subst (λ (o : Option UnionProgress). IsSomeAnd o (λ p. UnionNextGivesAt c qs u k
+    (union_position c.texts (members_in qs u) p) result answer
     (record u { cursors = slice_set u.cursors k (Some q) }))) (sym there)
     (gives_at c qs u k p q result answer kept united there h)
 
 -- the same where the union is seen from outside
 pub next_seen : (c : Catalog) (qs : List (Option Live)) (u v : United) (ks : List ℕ) (k : ℕ)
-    (p q : Progress) (result : Next) (answer : List ℕ) → u ≡ v → ks ≡ u.members → AreKept c qs
-    → IsUnited qs v → slot_at u.cursors k ≡ Some p → Reads (queries_at qs ks) p result answer q
-    → NextGives c qs v k result answer (record u { cursors = slice_set u.cursors k (Some q) })
+    (p q : UnionProgress) (result : Next) (answer : List ℕ) → u ≡ v → ks ≡ u.members → AreKept c qs
+    → IsUnited qs v → slot_at u.cursors k ≡ Some p → UnionReads (queries_at qs ks) p result answer q
+    → UnionNextGives c qs v k result answer (record u { cursors = slice_set u.cursors k (Some q) })
 next_seen c qs u v ks k p q result answer e at kept united there h =
-    subst (λ (w : United). NextGives c qs w k result answer
+    subst (λ (w : United). UnionNextGives c qs w k result answer
     (record u { cursors = slice_set u.cursors k (Some q) })) e
     (next_gives c qs u k p q result answer kept (subst (IsUnited qs) (sym e) united) there
-    (subst (λ (js : List ℕ). Reads (queries_at qs js) p result answer q) at h))
+    (subst (λ (js : List ℕ). UnionReads (queries_at qs js) p result answer q) at h))
 
 -- ---- a look
 
-looks_at : (c : Catalog) (qs : List (Option Live)) (u : United) (k : ℕ) (p q : Progress)
+looks_at : (c : Catalog) (qs : List (Option Live)) (u : United) (k : ℕ) (p q : UnionProgress)
     (left : Bool) → AreKept c qs → IsUnited qs u → slot_at u.cursors k ≡ Some p
-    → Looks (members_in qs u) p left q
-    → MoreGivesAt c qs u k (position_of c.texts (members_in qs u) p) left
+    → UnionLooks (members_in qs u) p left q
+    → UnionMoreGivesAt c qs u k (union_position c.texts (members_in qs u) p) left
     (record u { cursors = slice_set u.cursors k (Some q) })
 looks_at c qs u k (Open old ended) q true kept united there h =
     let ls = members_in qs u in
@@ -270,38 +270,38 @@ looks_at c qs u k (Open old ended) q true kept united there h =
         left_shown c ls (union_cells ls old) m.cells (over_members c qs u kept united)
             (given_had ls (union_cells ls old) (given_some ls old fit)) m.is m.fresh,
       ),
-      moves c qs u k q _ united (subst (FitsOver ls) (sym h.0) fit)
-          (ap (position_of c.texts ls) h.0),
+      moves c qs u k q _ united (subst (CursorFitsMembers ls) (sym h.0) fit)
+          (ap (union_position c.texts ls) h.0),
     )
 looks_at c qs u k (Open old ended) q false kept united there h =
     let ls = members_in qs u in
     let fit : FitsMembers ls old = united.fits.each k (Open old ended) there in (
       all_shown c ls (union_cells ls old) (over_members c qs u kept united) h.1,
-      moves c qs u k q _ united (subst (FitsOver ls) (sym h.0) fit)
-          (ap (position_of c.texts ls) h.0),
+      moves c qs u k q _ united (subst (CursorFitsMembers ls) (sym h.0) fit)
+          (ap (union_position c.texts ls) h.0),
     )
 looks_at c qs u k (Stale r m) q true kept united there h = absurd h
 looks_at c qs u k (Stale r m) q false kept united there h = absurd h
 
-more_gives : (c : Catalog) (qs : List (Option Live)) (u : United) (k : ℕ) (p q : Progress)
+more_gives : (c : Catalog) (qs : List (Option Live)) (u : United) (k : ℕ) (p q : UnionProgress)
     (left : Bool) → AreKept c qs → IsUnited qs u → slot_at u.cursors k ≡ Some p
-    → Looks (members_in qs u) p left q
-    → MoreGives c qs u k left (record u { cursors = slice_set u.cursors k (Some q) })
+    → UnionLooks (members_in qs u) p left q
+    → UnionMoreGives c qs u k left (record u { cursors = slice_set u.cursors k (Some q) })
 more_gives c qs u k p q left kept united there h =
-    subst (λ (o : Option Progress). IsSomeAnd o (λ p. MoreGivesAt c qs u k
-    (position_of c.texts (members_in qs u) p) left
+    subst (λ (o : Option UnionProgress). IsSomeAnd o (λ p. UnionMoreGivesAt c qs u k
+    (union_position c.texts (members_in qs u) p) left
     (record u { cursors = slice_set u.cursors k (Some q) }))) (sym there)
     (looks_at c qs u k p q left kept united there h)
 
 pub more_seen : (c : Catalog) (qs : List (Option Live)) (u v : United) (ks : List ℕ) (k : ℕ)
-    (p q : Progress) (left : Bool) → u ≡ v → ks ≡ u.members → AreKept c qs → IsUnited qs v
-    → slot_at u.cursors k ≡ Some p → Looks (queries_at qs ks) p left q
-    → MoreGives c qs v k left (record u { cursors = slice_set u.cursors k (Some q) })
+    (p q : UnionProgress) (left : Bool) → u ≡ v → ks ≡ u.members → AreKept c qs → IsUnited qs v
+    → slot_at u.cursors k ≡ Some p → UnionLooks (queries_at qs ks) p left q
+    → UnionMoreGives c qs v k left (record u { cursors = slice_set u.cursors k (Some q) })
 more_seen c qs u v ks k p q left e at kept united there h =
-    subst (λ (w : United). MoreGives c qs w k left
+    subst (λ (w : United). UnionMoreGives c qs w k left
     (record u { cursors = slice_set u.cursors k (Some q) })) e
     (more_gives c qs u k p q left kept (subst (IsUnited qs) (sym e) united) there
-    (subst (λ (js : List ℕ). Looks (queries_at qs js) p left q) at h))
+    (subst (λ (js : List ℕ). UnionLooks (queries_at qs js) p left q) at h))
 
 -- ---- one read of an open cursor
 
@@ -319,14 +319,14 @@ came_had ls old new t more e one some =
     (subst (λ (ts : List (List ℕ)). Contains ts t) (sym (came_one ls old new t more e one))
     (Contains-push (union_cells ls old) t))
 
-pub reads_given : (ls : List Live) (l : Live) (p : Progress) (old new : List (Option Cursor))
+pub reads_given : (ls : List Live) (l : Live) (p : UnionProgress) (old new : List (Option Cursor))
     (ended more : Bool) (t answer : List ℕ) → p ≡ Open old ended → slice_get ls 0 ≡ Some l
     → not more ≡ false → FitsMembers ls new
     → OnTrue more (union_cells ls new ≡ union_cells ls old ++ t ∷ [])
     → AreSomeCells (some_has has_cells ls) (union_cells ls new) → answer ≡ in_tree l t
-    → Reads ls p Given answer (Open new (not more))
+    → UnionReads ls p Given answer (Open new (not more))
 reads_given ls l p old new ended more t answer is first e fit one some turned =
-    subst (λ (q : Progress). Reads ls q Given answer (Open new (not more))) (sym is) (
+    subst (λ (q : UnionProgress). UnionReads ls q Given answer (Open new (not more))) (sym is) (
       record {
         fits = fit;
         cells = t;
@@ -337,22 +337,22 @@ reads_given ls l p old new ended more t answer is first e fit one some turned =
       e,
     )
 
-pub looks_open : (ls : List Live) (p : Progress) (old : List (Option Cursor)) (ended left : Bool)
+pub looks_open : (ls : List Live) (p : UnionProgress) (old : List (Option Cursor)) (ended left : Bool)
     → p ≡ Open old ended → (left ≡ false) ↔ AreAllCells (some_has has_cells ls) (union_cells ls old)
-    → Looks ls p left (Open old (not left))
+    → UnionLooks ls p left (Open old (not left))
 looks_open ls p old ended left is h =
-    subst (λ (q : Progress). Looks ls q left (Open old (not left))) (sym is) (by left h)
+    subst (λ (q : UnionProgress). UnionLooks ls q left (Open old (not left))) (sym is) (by left h)
   where
     by : (b : Bool)
         → (b ≡ false) ↔ AreAllCells (some_has has_cells ls) (union_cells ls old)
-        → Looks ls (Open old ended) b (Open old (not b))
+        → UnionLooks ls (Open old ended) b (Open old (not b))
     by true k = (refl, λ all. false≢true (sym (k.1 all)))
     by false k = (refl, k.0 refl)
 
 -- ---- a cursor is opened
 
 pub open_united : (qs : List (Option Live)) (u v : United) (cursor : List (Option Cursor))
-    (slots : List (Option Progress)) (result : Result ℕ NoMem) → u ≡ v → IsUnited qs v
+    (slots : List (Option UnionProgress)) (result : Result ℕ NoMem) → u ≡ v → IsUnited qs v
     → ((ls : List Live) → length ls ≤ 8 → FitsMembers ls cursor)
     → IfOk result (λ k. OpensSlot u.cursors k cursor slots) → OnErr result (slots ≡ u.cursors)
     → IsUnited qs (record u { cursors = slots })
@@ -362,19 +362,19 @@ open_united qs u v cursor slots (Ok k) e united fits opens same =
     let few = mine.members.have.few in
     record {
       members = mine.members;
-      fits = open_each (FitsOver (members_in qs u)) u.cursors k cursor slots mine.fits opens
+      fits = open_each (CursorFitsMembers (members_in qs u)) u.cursors k cursor slots mine.fits opens
           (fits (members_in qs u) (omega arith));
     }
 open_united qs u v cursor slots (Err none) e united fits opens same =
-    subst (λ (new : List (Option Progress)). IsUnited qs (record u { cursors = new })) (sym same)
+    subst (λ (new : List (Option UnionProgress)). IsUnited qs (record u { cursors = new })) (sym same)
     (subst (IsUnited qs) (sym e) united)
 
-pub opens : (u v : United) (cursor : List (Option Cursor)) (slots : List (Option Progress))
+pub opens : (u v : United) (cursor : List (Option Cursor)) (slots : List (Option UnionProgress))
     (result : Result ℕ NoMem) → u ≡ v → ((ls : List Live) → union_cells ls cursor ≡ [])
     → IfOk result (λ k. OpensSlot u.cursors k cursor slots)
-    → IfOk result (λ k. OpensIn v k (record u { cursors = slots }))
+    → IfOk result (λ k. UnionOpensIn v k (record u { cursors = slots }))
 opens u v cursor slots (Ok k) e none opened =
-    subst (λ (w : United). OpensIn w k (record u { cursors = slots })) e (record {
+    subst (λ (w : United). UnionOpensIn w k (record u { cursors = slots })) e (record {
       free = opened.free;
       progress = Open cursor false;
       stands = λ texts ls. ap

@@ -32,7 +32,7 @@ use Rattle.djq_rows.specs.Catalog.{Catalog}
 use Rattle.djq_live.specs.Live.{Live, IsKept}
 use Rattle.djq_live.specs.Asked.{column_of}
 use Rattle.djq_live.specs.Member.{has_cells, head_types}
-use Rattle.djq_live.specs.Order.{reading}
+use Rattle.djq_live.specs.Order.{cell_of_variable}
 use Rattle.djq_live.proofs.InHead.{had_from}
 use Rattle.djq_live.proofs.Standing.{head_are}
 use Rattle.djq_united.proofs.Lists.{has_one}
@@ -57,7 +57,7 @@ cells_wide c ls m t over there had =
     let kept = over.kept h.one h.there in
     let from = had_from h.one t (c, kept) h.is in
     ap (λ (cells : List ℕ). length cells) (sym from.is)
-    ∙ length-map (h.one.numbered).head (reading (h.one.reducts).tree.head from.from)
+    ∙ length-map (h.one.numbered).head (cell_of_variable (h.one.reducts).tree.head from.from)
     ∙ sym (length-map (h.one.numbered).head (column_of (h.one.numbered).variables))
     ∙ ap (λ (cs : List ColumnType). length cs) (over.alike.each h.one m h.there there)
     ∙ sym (head_wide c m (over.kept m there))

@@ -5,7 +5,7 @@ use Rattle.std.specs.List.{list_any}
 use Rattle.std.proofs.lemmas.Bool.{cases_Bool, false≢true, or_cases, or_left, or_right}
 use Rattle.djq_index.specs.Tuple.{same}
 use Rattle.djq_index.proofs.Tuples.{same_is, is_same}
-use Rattle.djq_cursor.specs.Menus.{has}
+use Rattle.djq_cursor.specs.Menus.{has_tuple}
 use Rattle.djq_cursor.proofs.Menus.{contains_of}
 use Rattle.djq_union.proofs.Lists.{none_contained, at_head, in_tail, head_or_tail}
 
@@ -53,11 +53,11 @@ module _ {A B : Type 0} (f : A → B) where
 
 -- ---- tuples of cells that are in a list, and those that aren't
 
-pub found : (us : List (List ℕ)) (t : List ℕ) → Contains us t → has us t ≡ true
+pub found : (us : List (List ℕ)) (t : List ℕ) → Contains us t → has_tuple us t ≡ true
 found [] t there = absurd (none_contained t there)
 found (u ∷ us) t there = elim (head_or_tail u us t there) [
-  | inl here ↦ or_left (same u t) (has us t) (is_same u t here)
-  | inr later ↦ or_right (same u t) (has us t) (found us t later)
+  | inl here ↦ or_left (same u t) (has_tuple us t) (is_same u t here)
+  | inr later ↦ or_right (same u t) (has_tuple us t) (found us t later)
 ]
 
 -- either each tuple that passes a test is in a list, or one of them isn't
@@ -67,23 +67,23 @@ pub record IsMissing (p : List ℕ → Bool) (us : List (List ℕ)) : Type 0 whe
   pub fresh : Contains us cells → ⊥
 
 pub missing : (us xs : List (List ℕ))
-    → ((t : List ℕ) → has xs t ≡ true → Contains us t) ⊎ IsMissing (has xs) us
+    → ((t : List ℕ) → has_tuple xs t ≡ true → Contains us t) ⊎ IsMissing (has_tuple xs) us
 missing us [] = inl (λ t h. absurd (false≢true h))
 missing us (x ∷ xs) = elim (missing us xs) [
-  | inl all ↦ elim (cases_Bool (has us x)) [
-    | inl given ↦ inl (λ t h. elim (or_cases (same x t) (has xs t) h) [
+  | inl all ↦ elim (cases_Bool (has_tuple us x)) [
+    | inl given ↦ inl (λ t h. elim (or_cases (same x t) (has_tuple xs t) h) [
       | inl here ↦ subst (λ (u : List ℕ). Contains us u) (same_is x t here) (contains_of us x given)
       | inr later ↦ all t later
     ])
     | inr new ↦ inr (record {
       cells = x;
-      is = or_left (same x x) (has xs x) (is_same x x refl);
+      is = or_left (same x x) (has_tuple xs x) (is_same x x refl);
       fresh = λ there. false≢true (sym new ∙ found us x there);
     })
   ]
   | inr m ↦ inr (record {
     cells = m.cells;
-    is = or_right (same x m.cells) (has xs m.cells) m.is;
+    is = or_right (same x m.cells) (has_tuple xs m.cells) m.is;
     fresh = m.fresh;
   })
 ]

@@ -47,17 +47,17 @@ use Rattle.djq_live.specs.Member.{
 use Rattle.djq_live.specs.Staying.{HasSameTables, HasSameShape}
 use Rattle.djq_live.proofs.Showable.{stays_showable}
 use Rattle.djq_slots.specs.declared.progress.Progress.TheVariants.{Open, Stale}
-use Rattle.djq_united.specs.Slots.{Progress, outdated_slots}
+use Rattle.djq_united.specs.Slots.{UnionProgress, outdated_slots}
 use Rattle.djq_united.specs.United.{
   United,
   members_in,
   FitsMembers,
-  FitsOver,
-  FitAll,
+  CursorFitsMembers,
+  CursorsFit,
   IsUnited,
   shown_cells,
-  given_by,
-  position_of,
+  given_by_union,
+  union_position,
 }
 use Rattle.djq_united.specs.Advancing.{union_cells}
 use Rattle.djq_united.specs.Staying.{KeepMembers, MembersStay, UnionsStay, StaleStand}
@@ -226,8 +226,8 @@ union_fits (l ∷ ls) (m ∷ ms) (s ∷ ss) zip kept fit =
       union_fits ls ms ss zip.1 (λ n there. kept n (in_tail m ms n there)) fit.1,
     )
 
-over_later : (ls ms : List Live) (p : Progress) → AllZip HasSameTables ls ms
-    → ((m : Live) → Contains ms m → IsKeptSomewhere m) → FitsOver ls p → FitsOver ms p
+over_later : (ls ms : List Live) (p : UnionProgress) → AllZip HasSameTables ls ms
+    → ((m : Live) → Contains ms m → IsKeptSomewhere m) → CursorFitsMembers ls p → CursorFitsMembers ms p
 over_later ls ms (Open cursor ended) zip kept fit = union_fits ls ms cursor zip kept fit
 over_later ls ms (Stale r n) zip kept fit = tt
 
@@ -251,16 +251,16 @@ shown_later c more (l ∷ ls) (m ∷ ms) t zip over had =
 
 given_later : (c : Catalog) (more : List Bytes) (ls ms : List Live) (cursor : List (Option Cursor))
     → AllZip HasSameTables ls ms → AreOver c ls → FitsMembers ls cursor
-    → given_by (c.texts ++ more) ms cursor ≡ given_by c.texts ls cursor
+    → given_by_union (c.texts ++ more) ms cursor ≡ given_by_union c.texts ls cursor
 given_later c more ls ms cursor zip over fit =
     ap (map (shown_cells (c.texts ++ more) ms)) (same_cells ls ms cursor zip)
     ∙ same_images (shown_cells (c.texts ++ more) ms) (shown_cells c.texts ls) (union_cells ls cursor)
     (λ t there. shown_later c more ls ms t zip over
     (given_had ls (union_cells ls cursor) (given_some ls cursor fit) t there))
 
-stands_later : (c : Catalog) (more : List Bytes) (ls ms : List Live) (p : Progress)
-    → AllZip HasSameTables ls ms → AreOver c ls → FitsOver ls p
-    → position_of (c.texts ++ more) ms p ≡ position_of c.texts ls p
+stands_later : (c : Catalog) (more : List Bytes) (ls ms : List Live) (p : UnionProgress)
+    → AllZip HasSameTables ls ms → AreOver c ls → CursorFitsMembers ls p
+    → union_position (c.texts ++ more) ms p ≡ union_position c.texts ls p
 stands_later c more ls ms (Open cursor ended) zip over fit =
     ap (λ (given : List Tuple). open_at given ended) (given_later c more ls ms cursor zip over fit)
 stands_later c more ls ms (Stale r n) zip over fit = refl
@@ -295,7 +295,7 @@ unions_stayed c d old new u same united =
         };
       },
       λ k p e.
-          ap (λ (texts : List Bytes). position_of texts ms p) same.texts
+          ap (λ (texts : List Bytes). union_position texts ms p) same.texts
           ∙ stands_later c same.more ls ms p zip over (united.fits.each k p e),
     )
 
@@ -307,18 +307,18 @@ stale_stood texts more ls ms relation n (Stale r m) = refl
 
 -- Once its cursors are stale, a union goes with the same queries, whatever their tables are.
 united_later : (old new : List (Option Live)) (u : United) (relation : Bytes) (n : ℕ)
-    (slots : List (Option Progress)) → slots ≡ outdated_slots relation n u.cursors
+    (slots : List (Option UnionProgress)) → slots ≡ outdated_slots relation n u.cursors
     → IsUnited old u → KeepMembers HasSameShape old new u.members
     → IsUnited new (record u { cursors = slots })
 united_later old new u relation n slots e united keep = record {
   members = (members_stayed old new u keep united.members).0;
-  fits = subst (FitAll (members_in new u)) (sym e)
-      (stale_each (FitsOver (members_in new u)) (λ r m. tt) relation n u.cursors);
+  fits = subst (CursorsFit (members_in new u)) (sym e)
+      (stale_each (CursorFitsMembers (members_in new u)) (λ r m. tt) relation n u.cursors);
 }
 
 -- the same where the union is seen from outside
 pub later_seen : (old new : List (Option Live)) (u v : United) (relation : Bytes) (n : ℕ)
-    (slots : List (Option Progress)) → u ≡ v → slots ≡ outdated_slots relation n u.cursors
+    (slots : List (Option UnionProgress)) → u ≡ v → slots ≡ outdated_slots relation n u.cursors
     → IsUnited old v → KeepMembers HasSameShape old new v.members
     → IsUnited new (record u { cursors = slots })
 later_seen old new u v relation n slots e is united keep =

@@ -19,7 +19,7 @@ use Rattle.djq_live.specs.Member.{has_cells, in_tree, AreAlike}
 use Rattle.djq_live.proofs.InTree.{tree_stand}
 use Rattle.djq_live.proofs.Standing.{are_had, cells_tell, had_stand, have_cells, head_are}
 use Rattle.djq_live.proofs.Listings.{in_image, image_of}
-use Rattle.djq_united.specs.United.{first_of, AtFirst, shown_cells}
+use Rattle.djq_united.specs.United.{first_of_members, AtFirst, shown_cells}
 use Rattle.djq_united.specs.Reading.{IsShownBy}
 use Rattle.djq_united.proofs.Lists.{has_one, one_has, some_one, one_there}
 
@@ -165,7 +165,7 @@ first_showable c l ls t over had = (shows c l ls over t had).showable
 
 -- ---- the first member, as it is lent
 
-pub first_at : (l : Live) (ls : List Live) → slice_get ls 0 ≡ Some l → first_of ls ≡ Some l
+pub first_at : (l : Live) (ls : List Live) → slice_get ls 0 ≡ Some l → first_of_members ls ≡ Some l
 first_at l [] e = absurd cc
 first_at l (m ∷ ms) e = e
 

@@ -21,7 +21,7 @@ use Rattle.djq_live.specs.declared.listing.Next.{Next}
 use Rattle.djq_live.specs.declared.listing.Next.TheVariants.{Given, End, Stale as IsStale}
 use Rattle.djq_live.specs.Live.{Live}
 use Rattle.djq_live.specs.Member.{has_cells, cells_given, in_tree}
-use Rattle.djq_united.specs.Slots.{Progress}
+use Rattle.djq_united.specs.Slots.{UnionProgress}
 use Rattle.djq_slots.specs.declared.progress.Progress.TheVariants.{Open, Stale}
 use Rattle.djq_united.specs.United.{FitsMembers, AtFirst}
 
@@ -31,7 +31,7 @@ union_cells ls cursor = union_given has_cells cells_given ls cursor
 
 -- A cursor goes on by one answer that it hasn't given, and the first member has it as a tuple of its
 -- tree.
-pub record Advances (ls : List Live) (old : List (Option Cursor)) (answer : List ℕ)
+pub record UnionAdvances (ls : List Live) (old : List (Option Cursor)) (answer : List ℕ)
     (new : List (Option Cursor)) : Type 0 where
   pub fits : FitsMembers ls new
   pub cells : List ℕ
@@ -40,27 +40,27 @@ pub record Advances (ls : List Live) (old : List (Option Cursor)) (answer : List
   pub turned : AtFirst ls (λ l. answer ≡ in_tree l cells)
 
 -- A cursor has given each answer, and stays there.
-pub record Ends (ls : List Live) (old new : List (Option Cursor)) : Type 0 where
+pub record UnionEnds (ls : List Live) (old new : List (Option Cursor)) : Type 0 where
   pub fits : FitsMembers ls new
   pub gives : union_cells ls new ≡ union_cells ls old
   pub all : IsListingOfCells (some_has has_cells ls) (union_cells ls old)
 
 -- What a read gives: one answer that is left, the end exactly where none is, or what made the
 -- cursor stale.
-abbrev pub Reads : List Live → Progress → Next → List ℕ → Progress → Type 0
-Reads ls (Open old ended) Given answer (Open new e) = Advances ls old answer new × (e ≡ false)
-Reads ls (Open old ended) End answer (Open new e) = Ends ls old new × (e ≡ true)
-Reads ls (Stale q m) (IsStale relation n) answer new =
+abbrev pub UnionReads : List Live → UnionProgress → Next → List ℕ → UnionProgress → Type 0
+UnionReads ls (Open old ended) Given answer (Open new e) = UnionAdvances ls old answer new × (e ≡ false)
+UnionReads ls (Open old ended) End answer (Open new e) = UnionEnds ls old new × (e ≡ true)
+UnionReads ls (Stale q m) (IsStale relation n) answer new =
     (relation ≡ q) × (n ≡ m) × (new ≡ Stale q m)
-Reads ls _ _ answer _ = ⊥
+UnionReads ls _ _ answer _ = ⊥
 
 -- A look at whether an answer is left: the cursor has given what it had given before.
-abbrev pub Looks : List Live → Progress → Bool → Progress → Type 0
-Looks ls (Open old ended) true new =
+abbrev pub UnionLooks : List Live → UnionProgress → Bool → UnionProgress → Type 0
+UnionLooks ls (Open old ended) true new =
     (new ≡ Open old false) × (AreAllCells (some_has has_cells ls) (union_cells ls old) → ⊥)
-Looks ls (Open old ended) false new =
+UnionLooks ls (Open old ended) false new =
     (new ≡ Open old true) × AreAllCells (some_has has_cells ls) (union_cells ls old)
-Looks ls (Stale q m) left new = ⊥
+UnionLooks ls (Stale q m) left new = ⊥
 
 -- what an answer of the union of these counts at most, and the end too
 abbrev pub most_of : List Live → ℕ

@@ -23,24 +23,24 @@ use Rattle.djq_rows.specs.Catalog.{Catalog}
 use Rattle.djq_live.specs.declared.listing.Next.{Next}
 use Rattle.djq_live.specs.declared.listing.Next.TheVariants.{Given, End, Stale}
 use Rattle.djq_live.specs.Live.{Live, IsShowable, values_of}
-use Rattle.djq_united.specs.Slots.{Progress, slot_at, SetsSlot}
-use Rattle.djq_united.specs.United.{United, members_in, union_of, AtFirst, IsUnited, position_of}
+use Rattle.djq_united.specs.Slots.{UnionProgress, slot_at, SetsSlot}
+use Rattle.djq_united.specs.United.{United, members_in, union_of, AtFirst, IsUnited, union_position}
 
 -- A cursor that has given nothing stands in a slot where none was, and nothing else has changed.
-pub record OpensIn (old : United) (k : ℕ) (new : United) : Type 0 where
+pub record UnionOpensIn (old : United) (k : ℕ) (new : United) : Type 0 where
   pub free : slot_at old.cursors k ≡ None
-  pub progress : Progress
+  pub progress : UnionProgress
   pub stands : (texts : List Bytes) (ls : List Live)
-      → position_of texts ls progress ≡ open_at [] false
+      → union_position texts ls progress ≡ open_at [] false
   pub sets : SetsSlot old.cursors k (Some progress) new.cursors
   pub others : new ≡ record old { cursors = new.cursors }
 
 -- The cursor in a slot is moved, and nothing else.
-pub record MovesTo (c : Catalog) (qs : List (Option Live)) (old : United) (k : ℕ)
+pub record UnionCursorMoves (c : Catalog) (qs : List (Option Live)) (old : United) (k : ℕ)
     (position : Position) (new : United) : Type 0 where
-  pub progress : Progress
+  pub progress : UnionProgress
   pub moved : new ≡ record old { cursors = slice_set old.cursors k (Some progress) }
-  pub stands : position_of c.texts (members_in qs old) progress ≡ position
+  pub stands : union_position c.texts (members_in qs old) progress ≡ position
   pub united : IsUnited qs new
 
 -- The first member shows this tuple.
@@ -50,44 +50,44 @@ pub record IsShownBy (texts : List Bytes) (l : Live) (answer : List ℕ) (t : Tu
 
 -- What a read gives at a position: one answer that is left, as a tuple of the first member's tree;
 -- the end exactly where none is; or what made the cursor stale.
-abbrev pub NextGivesAt : Catalog → List (Option Live) → United → ℕ → Position → Next → List ℕ
+abbrev pub UnionNextGivesAt : Catalog → List (Option Live) → United → ℕ → Position → Next → List ℕ
     → United → Type 0
-NextGivesAt c qs old k (open_at given ended) Given answer new =
+UnionNextGivesAt c qs old k (open_at given ended) Given answer new =
     (t : Tuple) × IsLeft (AnswersOf c.relations (union_of qs old)) given t
     × AtFirst (members_in qs old) (λ l. IsShownBy c.texts l answer t)
-    × MovesTo c qs old k (open_at (given ++ t ∷ []) false) new
-NextGivesAt c qs old k (open_at given ended) End answer new =
+    × UnionCursorMoves c qs old k (open_at (given ++ t ∷ []) false) new
+UnionNextGivesAt c qs old k (open_at given ended) End answer new =
     AreAll (AnswersOf c.relations (union_of qs old)) given
-    × MovesTo c qs old k (open_at given true) new
-NextGivesAt c qs old k (open_at given ended) (Stale relation n) answer new = ⊥
-NextGivesAt c qs old k (stale r m) (Stale relation n) answer new =
+    × UnionCursorMoves c qs old k (open_at given true) new
+UnionNextGivesAt c qs old k (open_at given ended) (Stale relation n) answer new = ⊥
+UnionNextGivesAt c qs old k (stale r m) (Stale relation n) answer new =
     (relation ≡ r) × (n ≡ m) × (new ≡ old)
-NextGivesAt c qs old k (stale r m) _ answer new = ⊥
+UnionNextGivesAt c qs old k (stale r m) _ answer new = ⊥
 
 -- A read of the cursor in a slot.
-abbrev pub NextGives : Catalog → List (Option Live) → United → ℕ → Next → List ℕ → United
+abbrev pub UnionNextGives : Catalog → List (Option Live) → United → ℕ → Next → List ℕ → United
     → Type 0
-NextGives c qs old k result answer new = IsSomeAnd (slot_at old.cursors k)
-    (λ p. NextGivesAt c qs old k (position_of c.texts (members_in qs old) p) result answer new)
+UnionNextGives c qs old k result answer new = IsSomeAnd (slot_at old.cursors k)
+    (λ p. UnionNextGivesAt c qs old k (union_position c.texts (members_in qs old) p) result answer new)
 
 -- What is known at a position of whether an answer is left: a cursor to which none is left stands
 -- at its end.
-abbrev pub MoreGivesAt : Catalog → List (Option Live) → United → ℕ → Position → Bool → United
+abbrev pub UnionMoreGivesAt : Catalog → List (Option Live) → United → ℕ → Position → Bool → United
     → Type 0
-MoreGivesAt c qs old k (open_at given ended) true new =
+UnionMoreGivesAt c qs old k (open_at given ended) true new =
     ((t : Tuple) × IsLeft (AnswersOf c.relations (union_of qs old)) given t)
-    × MovesTo c qs old k (open_at given false) new
-MoreGivesAt c qs old k (open_at given ended) false new =
+    × UnionCursorMoves c qs old k (open_at given false) new
+UnionMoreGivesAt c qs old k (open_at given ended) false new =
     AreAll (AnswersOf c.relations (union_of qs old)) given
-    × MovesTo c qs old k (open_at given true) new
-MoreGivesAt c qs old k (stale r m) more new = ⊥
+    × UnionCursorMoves c qs old k (open_at given true) new
+UnionMoreGivesAt c qs old k (stale r m) more new = ⊥
 
 -- What is known, at a union's cursor in a slot, of whether an answer is left.
-abbrev pub MoreGives : Catalog → List (Option Live) → United → ℕ → Bool → United → Type 0
-MoreGives c qs old k result new = IsSomeAnd (slot_at old.cursors k)
-    (λ p. MoreGivesAt c qs old k (position_of c.texts (members_in qs old) p) result new)
+abbrev pub UnionMoreGives : Catalog → List (Option Live) → United → ℕ → Bool → United → Type 0
+UnionMoreGives c qs old k result new = IsSomeAnd (slot_at old.cursors k)
+    (λ p. UnionMoreGivesAt c qs old k (union_position c.texts (members_in qs old) p) result new)
 
 -- what a read counts at most: a stale cursor costs nothing
-abbrev pub read_steps : Next → Listed → ℕ
-read_steps (Stale relation n) listed = 0
-read_steps _ listed = answer_steps listed
+abbrev pub union_read_steps : Next → Listed → ℕ
+union_read_steps (Stale relation n) listed = 0
+union_read_steps _ listed = answer_steps listed

@@ -14,5 +14,5 @@ use Rattle.djq_cursor.specs.declared.cursor.Cursor.{Cursor}
 use Rattle.djq_slots.specs.declared.progress.Progress.{Progress as ProgressOf}
 
 -- how far a cursor of a union has come
-abbrev pub Progress : Type 0
-Progress = ProgressOf (List (Option Cursor))
+abbrev pub UnionProgress : Type 0
+UnionProgress = ProgressOf (List (Option Cursor))

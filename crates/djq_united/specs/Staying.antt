@@ -6,7 +6,7 @@ use Rattle.djq_rows.specs.Catalog.{Catalog}
 use Rattle.djq_live.specs.Live.{Live}
 use Rattle.djq_live.specs.Member.{query_at}
 use Rattle.djq_live.specs.Staying.{HasSameTables, HasSameShape}
-use Rattle.djq_united.specs.Slots.{Progress, slot_at, outdated_progress}
+use Rattle.djq_united.specs.Slots.{UnionProgress, slot_at, outdated_progress}
 use Rattle.djq_united.specs.United.{
   United,
   members_in,
@@ -14,7 +14,7 @@ use Rattle.djq_united.specs.United.{
   AreMembers,
   IsUnited,
   AreKept,
-  position_of,
+  union_position,
 }
 
 -- The query in each of these places is still there, and is the same in this sense.
@@ -42,12 +42,12 @@ pub record AreUntouched (c d : Catalog) (old new : List (Option Live)) (ks : Lis
 abbrev pub UnionsStay : Type 0
 UnionsStay = (c d : Catalog) (old new : List (Option Live)) (u : United)
     → AreUntouched c d old new u.members → IsUnited old u
-    → IsUnited new u × ((k : ℕ) (p : Progress) → slot_at u.cursors k ≡ Some p
-    → position_of d.texts (members_in new u) p ≡ position_of c.texts (members_in old u) p)
+    → IsUnited new u × ((k : ℕ) (p : UnionProgress) → slot_at u.cursors k ≡ Some p
+    → union_position d.texts (members_in new u) p ≡ union_position c.texts (members_in old u) p)
 
 -- A cursor that a change makes stale stands where the machine says, whatever its members are.
 abbrev pub StaleStand : Type 0
 StaleStand = (texts more : List Bytes) (ls ms : List Live) (relation : Bytes) (n : ℕ)
-    (p : Progress)
-    → position_of more ms (outdated_progress relation n p)
-    ≡ outdated (Some relation) n (position_of texts ls p)
+    (p : UnionProgress)
+    → union_position more ms (outdated_progress relation n p)
+    ≡ outdated (Some relation) n (union_position texts ls p)

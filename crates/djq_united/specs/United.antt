@@ -39,14 +39,14 @@ use Rattle.djq_live.specs.Member.{
   head_types,
   in_tree,
 }
-use Rattle.djq_united.specs.Slots.{Progress}
+use Rattle.djq_united.specs.Slots.{UnionProgress}
 use Rattle.djq_slots.specs.declared.progress.Progress.TheVariants.{Open, Stale}
 
 -- Its name, the places of its members in its order, and its cursors in slots.
 pub record United : Type 0 where
   pub name : Bytes
   pub members : List ℕ
-  pub cursors : List (Option Progress)
+  pub cursors : List (Option UnionProgress)
 
 -- its members, of the queries in their places
 abbrev pub members_in : List (Option Live) → United → List Live
@@ -57,13 +57,13 @@ abbrev pub union_of : List (Option Live) → United → Listed
 union_of qs u = a_union u.name (map (λ l. l.query) (members_in qs u))
 
 -- the first of some members, where there is one
-abbrev pub first_of : List Live → Option Live
-first_of [] = None
-first_of (l ∷ ls) = Some l
+abbrev pub first_of_members : List Live → Option Live
+first_of_members [] = None
+first_of_members (l ∷ ls) = Some l
 
 -- something holds of the first member
 abbrev pub AtFirst : List Live → (Live → Type 0) → Type 0
-AtFirst ls P = IsSomeAnd (first_of ls) P
+AtFirst ls P = IsSomeAnd (first_of_members ls) P
 
 -- whether the answers of some of these have other types than those of the first
 abbrev pub heads_differ : List Live → Bool
@@ -82,18 +82,18 @@ abbrev pub FitsMembers : List Live → List (Option Cursor) → Type 0
 FitsMembers ls cursor = UnionFits has_cells cells_given FitsKept ls cursor
 
 -- an open cursor fits the members
-abbrev pub FitsOver : List Live → Progress → Type 0
-FitsOver ls (Open cursor ended) = FitsMembers ls cursor
-FitsOver ls (Stale relation n) = ⊤
+abbrev pub CursorFitsMembers : List Live → UnionProgress → Type 0
+CursorFitsMembers ls (Open cursor ended) = FitsMembers ls cursor
+CursorFitsMembers ls (Stale relation n) = ⊤
 
 -- The cursors in slots that are open fit the members.
-abbrev pub FitAll : List Live → List (Option Progress) → Type 0
-FitAll ls slots = EachIs (FitsOver ls) slots
+abbrev pub CursorsFit : List Live → List (Option UnionProgress) → Type 0
+CursorsFit ls slots = EachIs (CursorFitsMembers ls) slots
 
 -- It is the union of queries in these places, and its open cursors can go on.
 pub record IsUnited (qs : List (Option Live)) (u : United) : Type 0 where
   pub members : AreMembers qs u.members
-  pub fits : FitAll (members_in qs u) u.cursors
+  pub fits : CursorsFit (members_in qs u) u.cursors
 
 -- Each query in a place is kept over one catalog.
 pub record AreKept (c : Catalog) (qs : List (Option Live)) : Type 0 where
@@ -105,11 +105,11 @@ shown_cells texts [] t = []
 shown_cells texts (l ∷ ls) t = values_of texts l (in_tree l t)
 
 -- the answers that a cursor has given
-abbrev pub given_by : List Bytes → List Live → List (Option Cursor) → List Tuple
-given_by texts ls cursor =
+abbrev pub given_by_union : List Bytes → List Live → List (Option Cursor) → List Tuple
+given_by_union texts ls cursor =
     map (shown_cells texts ls) (union_given has_cells cells_given ls cursor)
 
 -- where a cursor stands
-abbrev pub position_of : List Bytes → List Live → Progress → Position
-position_of texts ls (Open cursor ended) = open_at (given_by texts ls cursor) ended
-position_of texts ls (Stale r n) = stale r n
+abbrev pub union_position : List Bytes → List Live → UnionProgress → Position
+union_position texts ls (Open cursor ended) = open_at (given_by_union texts ls cursor) ended
+union_position texts ls (Stale r n) = stale r n

@@ -3,8 +3,8 @@ ghost use Rattle.std.specs.Prelude.{◌+◌, ◌≤◌};
 ghost use Rattle.djq_rows.specs.Catalog.{Catalog as CatalogModel};
 ghost use Rattle.djq_live.specs.Member.{queries_at};
 ghost use Rattle.djq_united.specs.Slots.{IsOpen};
-ghost use Rattle.djq_united.specs.United.{AreMembers, AreKept, FitsOver};
-ghost use Rattle.djq_united.specs.Advancing.{Reads, Looks, call_steps, most_of};
+ghost use Rattle.djq_united.specs.United.{AreMembers, AreKept, CursorFitsMembers};
+ghost use Rattle.djq_united.specs.Advancing.{UnionReads, UnionLooks, call_steps, most_of};
 
 use djq_live::{LiveQuery, Next, QueriesAt};
 use djq_reduct::{Answer, Cells};
@@ -24,8 +24,8 @@ pub fn read<L: Ledger>(
 ) -> Next
     requires members { AreMembers queries.now places.now }
     requires kept { (c : CatalogModel) × AreKept c queries.now }
-    requires fits { FitsOver (queries_at queries.now places.now) progress.old }
-    ensures reads { Reads (queries_at queries.now places.now) progress.old result answer.new
+    requires fits { CursorFitsMembers (queries_at queries.now places.now) progress.old }
+    ensures reads { UnionReads (queries_at queries.now places.now) progress.old result answer.new
         progress.new }
     ensures counted { listing.new ≤ listing.old
         + call_steps result (queries_at queries.now places.now) }
@@ -57,9 +57,9 @@ pub fn has_more<L: Ledger>(
 ) -> bool
     requires members { AreMembers queries.now places.now }
     requires kept { (c : CatalogModel) × AreKept c queries.now }
-    requires fits { FitsOver (queries_at queries.now places.now) progress.old }
+    requires fits { CursorFitsMembers (queries_at queries.now places.now) progress.old }
     requires fresh { IsOpen progress.old }
-    ensures looks { Looks (queries_at queries.now places.now) progress.old result progress.new }
+    ensures looks { UnionLooks (queries_at queries.now places.now) progress.old result progress.new }
     ensures counted { listing.new ≤ listing.old + most_of (queries_at queries.now places.now) }
 {
     match progress {

@@ -17,7 +17,7 @@ ghost use Rattle.djq_rows.specs.Catalog.{Catalog as CatalogModel};
 ghost use Rattle.djq_live.specs.Live.{Live};
 ghost use Rattle.djq_united.specs.Slots.{slot_at, are_vacant, IsOpenIn, outdated_slots};
 ghost use Rattle.djq_united.specs.United.{union_of, AreMembers, IsUnited, AreKept};
-ghost use Rattle.djq_united.specs.Reading.{OpensIn, NextGives, MoreGives, read_steps};
+ghost use Rattle.djq_united.specs.Reading.{UnionOpensIn, UnionNextGives, UnionMoreGives, union_read_steps};
 ghost use Rattle.djq_live.specs.Staying.{HasSameShape};
 ghost use Rattle.djq_united.specs.Staying.{KeepMembers};
 
@@ -89,7 +89,7 @@ impl LiveUnion {
     ///
     /// `NoMem` out of memory. Nothing has changed.
     pub fn open(&mut self) -> Result<usize, NoMem>
-        ensures ok { IfOk result (λ k. OpensIn self.old k self.new) }
+        ensures ok { IfOk result (λ k. UnionOpensIn self.old k self.new) }
         ensures united { (qs : List (Option Live)) → IsUnited qs self.old → IsUnited qs self.new }
         ensures err { OnErr result (self.new ≡ self.old) }
     {
@@ -120,9 +120,9 @@ impl LiveUnion {
         requires united { IsUnited queries.now self.old }
         requires kept { (c : CatalogModel) × AreKept c queries.now }
         ensures gives { (c : CatalogModel) → AreKept c queries.now
-            → NextGives c queries.now self.old slot result answer.new self.new }
+            → UnionNextGives c queries.now self.old slot result answer.new self.new }
         ensures counted { listing.new ≤ listing.old
-            + read_steps result (union_of queries.now self.old) }
+            + union_read_steps result (union_of queries.now self.old) }
     {
         let members = self.members.as_slice();
         let progress = self.cursors.progress_mut(slot);
@@ -141,7 +141,7 @@ impl LiveUnion {
         requires united { IsUnited queries.now self.old }
         requires kept { (c : CatalogModel) × AreKept c queries.now }
         ensures gives { (c : CatalogModel) → AreKept c queries.now
-            → MoreGives c queries.now self.old slot result self.new }
+            → UnionMoreGives c queries.now self.old slot result self.new }
         ensures counted { listing.new ≤ listing.old + answer_steps (union_of queries.now self.old) }
     {
         let members = self.members.as_slice();

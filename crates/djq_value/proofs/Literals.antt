@@ -17,7 +17,7 @@ use Rattle.djq_model.specs.declared.value.Value.TheVariants.{Int, Text}
 use Rattle.djq_value.specs.Token.{Token, word, text, open_paren, close_paren, comma, arrow}
 use Rattle.djq_value.specs.Token.{operator, stray, behind_spaces, ends_word, may_end, token_at, token_front}
 use Rattle.djq_value.specs.Literal.{digits_value, integer_of, is_digit, is_small_value, literal_of, minus, natural_of}
-use Rattle.djq_value.specs.Spelling.{IsSpaces, IsToken, MayFollow, text_of}
+use Rattle.djq_value.specs.Spelling.{IsSpaces, IsToken, MayFollow, token_text}
 use Rattle.djq_value.specs.ReadValue.{IsLiteral, literal_at, literal_in}
 use Rattle.djq_value.specs.ValueText.{value_text}
 use Rattle.djq_model.specs.declared.value.TheConstants.{TEXT_BYTES}
@@ -124,7 +124,7 @@ signed_token (negsuc n) h =
       λ e. absurd (omega (arith, e)),
     )
 
-pub token_back : (t : Token) (behind : Bytes) → IsToken t → MayFollow t behind → token_at (text_of t ++ behind)
+pub token_back : (t : Token) (behind : Bytes) → IsToken t → MayFollow t behind → token_at (token_text t ++ behind)
     ≡ Some (t, behind)
 token_back t behind h f = ap token_front (no_space t behind h) ∙ token_read t behind h f
 
@@ -143,7 +143,7 @@ map_some f (Some a) b e = (a, refl, cc)
 -- what is known of a token that is a literal
 record IsLiteralToken (t : Token) (v : Value) : Type 0 where
   real : IsReal t
-  literal : IsLiteral v (text_of t)
+  literal : IsLiteral v (token_text t)
   ends : (behind : Bytes) → MayFollow t behind → may_end behind ≡ true
 
 literal_token : (t : Token) (v : Value) → literal_of t ≡ Some v → IsLiteralToken t v
@@ -152,7 +152,7 @@ literal_token (word w) v e =
     record { real = tt; literal = subst (λ (u : Value). IsLiteral u w) found.2 found.1; ends = λ behind f. f }
 literal_token (text s) v e =
     let is : Text s ≡ v = cc in record
-    { real = tt; literal = subst (λ (u : Value). IsLiteral u (text_of (text s))) is refl; ends = λ behind f. f }
+    { real = tt; literal = subst (λ (u : Value). IsLiteral u (token_text (text s))) is refl; ends = λ behind f. f }
 literal_token open_paren v e = absurd (cc)
 literal_token close_paren v e = absurd (cc)
 literal_token comma v e = absurd (cc)
@@ -178,7 +178,7 @@ spelled_as bytes t v behind e is =
     known.real in
     record {
       front = cut.0;
-      spelling = text_of t;
+      spelling = token_text t;
       spaces = cut.1;
       split = cut.2
           ∙ ap (λ xs. cut.0 ++ xs) here.0;

@@ -14,7 +14,7 @@ use Rattle.djq_value.specs.Token.{Token, word, text, open_paren, close_paren, co
 use Rattle.djq_value.specs.Token.{operator, stray, ends_word, may_end, behind_spaces, behind_word}
 use Rattle.djq_value.specs.Token.{word_front, less_front, greater_front, not_front, text_front}
 use Rattle.djq_value.specs.Token.{text_in, token_front, token_at, and_then, tokens_within, tokens}
-use Rattle.djq_value.specs.Spelling.{HasNoStray, IsSpaces, IsToken, BeginsOtherwise, MayFollow, IsSpelling, text_of}
+use Rattle.djq_value.specs.Spelling.{HasNoStray, IsSpaces, IsToken, BeginsOtherwise, MayFollow, IsSpelling, token_text}
 use Rattle.djq_value.specs.ValueText.{escaped}
 use Rattle.std.specs.Prelude.{unwrap_or}
 use Rattle.djq_value.proofs.Texts.{IsSpelledText, text_read, text_spelled}
@@ -101,7 +101,7 @@ greater_read : (bs : Bytes) → BeginsOtherwise 61 bs → greater_front bs ≡ (
 greater_read [] h = refl
 greater_read (b ∷ bs) h = cond-false _ _ _ (ne_eqb b 61 (λ e. h (ap (λ x. Some x) e)))
 
-pub token_read : (t : Token) (behind : Bytes) → IsToken t → MayFollow t behind → token_front (text_of t ++ behind)
+pub token_read : (t : Token) (behind : Bytes) → IsToken t → MayFollow t behind → token_front (token_text t ++ behind)
     ≡ Some (t, behind)
 token_read open_paren behind h f = refl
 token_read close_paren behind h f = refl
@@ -126,7 +126,8 @@ token_read (word (b ∷ w)) behind h f =
     ∙ cond-false _ _ _ (ne_eqb b 34 h.2)
     ∙ ap₂ (λ (xs ys : Bytes). (word (b ∷ xs), ys)) (front_all w behind more f) (behind_all w behind more f))
 
-pub no_space : (t : Token) (behind : Bytes) → IsToken t → behind_spaces (text_of t ++ behind) ≡ text_of t ++ behind
+pub no_space : (t : Token) (behind : Bytes) → IsToken t
+    → behind_spaces (token_text t ++ behind) ≡ token_text t ++ behind
 no_space open_paren behind h = refl
 no_space close_paren behind h = refl
 no_space comma behind h = refl
@@ -149,7 +150,7 @@ spelled_read (t ∷ ts) line s =
     let front = s.0 in
     let behind = s.1 in
     tokens-some line t behind
-    (ap token_at s.3 ∙ ap token_front (spaces_passed front (text_of t ++ behind) s.2 ∙ no_space t behind s.4)
+    (ap token_at s.3 ∙ ap token_front (spaces_passed front (token_text t ++ behind) s.2 ∙ no_space t behind s.4)
     ∙ token_read t behind s.4 s.5)
     ∙ ap (λ more. t ∷ more) (spelled_read ts behind s.6)
 
@@ -181,7 +182,7 @@ no_space_first (b ∷ bs) = cond_both (eqb b 32) (behind_spaces bs) (b ∷ bs) H
 
 -- a token in front of bytes, and what is behind it
 abbrev pub IsCut : Bytes → Token → Bytes → Type 0
-IsCut bs t behind = (bs ≡ text_of t ++ behind) × IsToken t × MayFollow t behind
+IsCut bs t behind = (bs ≡ token_text t ++ behind) × IsToken t × MayFollow t behind
 
 abbrev pub IsReal : Token → Type 0
 IsReal stray = ⊥

@@ -19,9 +19,9 @@ lexeme_of (Operator o) = operator o
 lexeme_of Stray = stray
 
 -- The first token is taken from those that are left; none is given where none is left.
-abbrev pub Takes : List Lexeme → Option Token → List Lexeme → Type 0
-Takes old None new = (old ≡ []) × (new ≡ [])
-Takes old (Some t) new = old ≡ lexeme_of t ∷ new
+abbrev pub TakesToken : List Lexeme → Option Token → List Lexeme → Type 0
+TakesToken old None new = (old ≡ []) × (new ≡ [])
+TakesToken old (Some t) new = old ≡ lexeme_of t ∷ new
 
 -- the word that a token is
 abbrev pub word_of : Lexeme → Option Bytes

@@ -9,6 +9,6 @@ abbrev pub capped : ℕ → ℕ
 capped n = min n 18446744073709551615
 
 -- no integer, one past 64 bits, or one of 64 bits
-abbrev pub number_of : Option ℤ → Number
-number_of None = Other
-number_of (Some i) = if is_small i then Small i else Wide
+abbrev pub number_from : Option ℤ → Number
+number_from None = Other
+number_from (Some i) = if is_small i then Small i else Wide

@@ -22,25 +22,25 @@ abbrev pub literal_at : Bytes → Option (Value × Bytes)
 literal_at bytes = literal_in (token_at bytes)
 
 -- the place of the first byte that is no space
-abbrev pub IsFirst : Bytes → ℕ → Type 0
-IsFirst bytes at = (at ≤ length bytes) × (drop at bytes ≡ behind_spaces bytes)
+abbrev pub IsBehindSpaces : Bytes → ℕ → Type 0
+IsBehindSpaces bytes at = (at ≤ length bytes) × (drop at bytes ≡ behind_spaces bytes)
 
 -- What reading a literal answers, by the literal in front of the bytes. Out of memory comes only for a text within its
 -- limit.
 abbrev pub ReadsValue : Bytes → Result (Value × ℕ) ValueRefusal → Type 0
 ReadsValue bytes (Ok p) = (literal_at bytes ≡ Some (p.0, drop p.1 bytes)) × (is_small_value p.0 ≡ true)
     × (p.1 ≤ length bytes)
-ReadsValue bytes (Err (Syntax at)) = (literal_at bytes ≡ None) × IsFirst bytes at
+ReadsValue bytes (Err (Syntax at)) = (literal_at bytes ≡ None) × IsBehindSpaces bytes at
 ReadsValue bytes (Err (IntRange at)) = (i : ℤ) × (behind : Bytes) × (literal_at bytes ≡ Some (Int i, behind))
-    × (is_small i ≡ false) × IsFirst bytes at
+    × (is_small i ≡ false) × IsBehindSpaces bytes at
 ReadsValue bytes (Err (TextLong at)) = (t : Bytes) × (behind : Bytes) × (literal_at bytes ≡ Some (Text t, behind))
-    × (TEXT_BYTES < length t) × IsFirst bytes at
+    × (TEXT_BYTES < length t) × IsBehindSpaces bytes at
 ReadsValue bytes (Err NoMem) = (t : Bytes) × (behind : Bytes) × (literal_at bytes ≡ Some (Text t, behind))
     × (length t ≤ TEXT_BYTES)
 
 -- What is printed is read back, in front of what may follow a literal.
-abbrev pub IsReadBack : Type 0
-IsReadBack = (v : Value) (behind : Bytes) → is_small_value v ≡ true → may_end behind ≡ true
+abbrev pub ValuesReadBack : Type 0
+ValuesReadBack = (v : Value) (behind : Bytes) → is_small_value v ≡ true → may_end behind ≡ true
     → literal_at (value_text v ++ behind) ≡ Some (v, behind)
 
 -- the bytes that are a literal: a text has one spelling, an integer may have leading zeros

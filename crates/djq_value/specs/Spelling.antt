@@ -14,24 +14,24 @@ abbrev pub IsSpaces : Bytes → Type 0
 IsSpaces bs = All (λ b. b ≡ 32) bs
 
 -- the bytes of an operator
-abbrev pub sign_of : Operator → Bytes
-sign_of Less = codes "<"
-sign_of LessOrEqual = codes "<="
-sign_of Greater = codes ">"
-sign_of GreaterOrEqual = codes ">="
-sign_of Equal = codes "="
-sign_of NotEqual = codes "!="
+abbrev pub operator_text : Operator → Bytes
+operator_text Less = codes "<"
+operator_text LessOrEqual = codes "<="
+operator_text Greater = codes ">"
+operator_text GreaterOrEqual = codes ">="
+operator_text Equal = codes "="
+operator_text NotEqual = codes "!="
 
 -- the bytes of a token
-abbrev pub text_of : Token → Bytes
-text_of (word w) = w
-text_of open_paren = codes "("
-text_of close_paren = codes ")"
-text_of comma = codes ","
-text_of arrow = codes "<-"
-text_of (operator o) = sign_of o
-text_of (text t) = quoted t
-text_of stray = []
+abbrev pub token_text : Token → Bytes
+token_text (word w) = w
+token_text open_paren = codes "("
+token_text close_paren = codes ")"
+token_text comma = codes ","
+token_text arrow = codes "<-"
+token_text (operator o) = operator_text o
+token_text (text t) = quoted t
+token_text stray = []
 
 -- A word has a byte at least, no space and no sign, and begins with no quote. A text may have any bytes.
 abbrev pub IsToken : Token → Type 0
@@ -60,7 +60,8 @@ MayFollow _ bs = Unit {0}
 -- The tokens one after the other, with any number of spaces in front of, between and behind them.
 abbrev pub IsSpelling : List Token → Bytes → Type 0
 IsSpelling [] line = IsSpaces line
-IsSpelling (t ∷ ts) line = (front : Bytes) × (behind : Bytes) × IsSpaces front × (line ≡ front ++ (text_of t ++ behind))
+IsSpelling (t ∷ ts) line = (front : Bytes) × (behind : Bytes) × IsSpaces front
+    × (line ≡ front ++ (token_text t ++ behind))
     × IsToken t × MayFollow t behind × IsSpelling ts behind
 
 -- Each of them is a token.

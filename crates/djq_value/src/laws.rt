@@ -1,6 +1,6 @@
 //! What is read of a line, said of the line alone. The functions do nothing: what they ensure holds
 //! of the definitions.
-ghost use Rattle.djq_value.specs.ReadValue.{IsReadBack, IsSpelledBack};
+ghost use Rattle.djq_value.specs.ReadValue.{ValuesReadBack, IsSpelledBack};
 ghost use Rattle.djq_value.specs.Spelling.{TokensAreSpelled};
 
 /// The tokens of a line are the ones that it spells, and no others.
@@ -10,7 +10,7 @@ pub fn tokens_are_spelled()
 
 /// A value that is printed is read back, in front of what may follow a literal.
 pub fn values_are_read_back()
-    ensures { IsReadBack }
+    ensures { ValuesReadBack }
 {}
 
 /// A value that is read is spelled, behind spaces and in front of what may follow a literal.

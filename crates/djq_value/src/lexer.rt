@@ -4,7 +4,7 @@ ghost use Rattle.std.specs.Option.{option_copied};
 ghost use Rattle.djq_value.specs.Token.{less_front, greater_front, not_front, behind_spaces, behind_word};
 ghost use Rattle.djq_value.specs.Token.{ends_word as ends_word_of, may_end as may_end_of};
 ghost use Rattle.djq_value.specs.Token.{text_front, text_in, token_front, tokens, word_front};
-ghost use Rattle.djq_value.specs.Lexing.{Takes, lexeme_of, word_of};
+ghost use Rattle.djq_value.specs.Lexing.{TakesToken, lexeme_of, word_of};
 ghost use Rattle.djq_value.specs.Small.{TakesCloseName, TakesPlainWord, TakesSmall};
 
 use crate::number::small_front;
@@ -85,7 +85,7 @@ impl<'a> Lexer<'a> {
 
     /// The next token; none exactly where only spaces are left.
     pub fn next(&mut self) -> Option<Token<'a>>
-        ensures { Takes self.old result self.new }
+        ensures { TakesToken self.old result self.new }
     {
         let bytes = &self.rest[space_count(self.rest)..];
         if bytes.is_empty() {

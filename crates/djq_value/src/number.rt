@@ -1,7 +1,7 @@
 //! What number a word is.
 ghost use Rattle.std.specs.Prelude.{◌≡◌, ◌<◌, ◌≤◌, Some, length, pos, option_map};
 ghost use Rattle.djq_value.specs.Literal.{integer_of, minus, natural_of};
-ghost use Rattle.djq_value.specs.Number.{capped, number_of};
+ghost use Rattle.djq_value.specs.Number.{capped, number_from};
 ghost use Rattle.djq_value.specs.Small.{AreDigitsAt, AreDigitsInFront, IsSmallAt, IsSmallInFront};
 
 use crate::lexer::{may_end, space_count};
@@ -69,7 +69,7 @@ fn read_long(digits: &[u8]) -> Option<u64>
 
 /// An optional `-`, then digits.
 pub(crate) fn read_integer(word: &[u8]) -> Number
-    ensures { result ≡ number_of (integer_of word.now) }
+    ensures { result ≡ number_from (integer_of word.now) }
 {
     if !word.is_empty() && word[0] == b'-' {
         match read_natural(&word[1..]) {
@@ -86,7 +86,7 @@ pub(crate) fn read_integer(word: &[u8]) -> Number
 
 /// The integer of this size, where it is within 64 bits.
 fn positive(size: u64) -> Number
-    ensures { result ≡ number_of (Some (pos size)) }
+    ensures { result ≡ number_from (Some (pos size)) }
 {
     match i64::try_from(size) {
         Ok(value) => Number::Small(value),
@@ -96,7 +96,7 @@ fn positive(size: u64) -> Number
 
 /// The integer below zero of this size, where it is within 64 bits.
 fn negative(size: u64) -> Number
-    ensures { result ≡ number_of (Some (minus size)) }
+    ensures { result ≡ number_from (Some (minus size)) }
 {
     if size <= i64::MAX as u64 {
         Number::Small(-(size as i64))

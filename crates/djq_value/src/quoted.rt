@@ -3,7 +3,7 @@ ghost use Rattle.std.specs.Prelude.{◌≡◌, ◌∷◌, ◌≤◌, drop, false
 ghost use Rattle.djq_model.specs.declared.value.TheConstants.{TEXT_BYTES};
 ghost use Rattle.djq_value.specs.Token.{text_in};
 ghost use Rattle.djq_value.specs.Quoted.{put_front, stepped};
-ghost use Rattle.djq_value.specs.TextAt.{Ends, EndsAt, HasText, text_at};
+ghost use Rattle.djq_value.specs.TextAt.{TextEnds, EndsAt, HasText, text_at};
 ghost use Rattle.djq_model.specs.Data.{Bytes};
 
 use crate::print::is_escaped;
@@ -88,7 +88,7 @@ fn step_of(escape: bool, byte: u8) -> Step
 
 /// Where the text that begins here ends, behind its closing quote, and how many bytes it has.
 pub(crate) fn text_end(bytes: &[u8]) -> Option<(usize, usize)>
-    ensures { Ends bytes.now result }
+    ensures { TextEnds bytes.now result }
 {
     text_end_from(bytes, plain_len(bytes))
 }
@@ -112,7 +112,7 @@ fn text_end_from(bytes: &[u8], plain: usize) -> Option<(usize, usize)>
     requires within { plain ≤ length bytes.now }
     requires read { text_in false bytes.now
         ≡ put_front (take plain bytes.now) (text_in false (drop plain bytes.now)) }
-    ensures { Ends bytes.now result }
+    ensures { TextEnds bytes.now result }
 {
     let mut escape = false;
     let mut len = plain;

@@ -16,8 +16,8 @@ use Rattle.djq_value.specs.Literal.{is_name}
 use Rattle.djq_words.specs.declared.commands.Asked.{Asked}
 use Rattle.djq_words.specs.declared.commands.Asked.TheVariants.{Run, Serve, Replay, Gen, Mirror}
 use Rattle.djq_words.specs.Commands.{djq_app}
-use Rattle.djq_words.specs.Asks.{Spells, ReadsAs, TurnsAre, IsGiven, IsRead, IsAsked, AskedBy}
-use Rattle.djq_words.specs.Asks.{ServeAsked, MirrorAsked, Answers}
+use Rattle.djq_words.specs.Asks.{SpellsNumber, TextReadsAs, TurnsAre, IsGiven, NumberIsRead, SubcommandAsks, AskedBy}
+use Rattle.djq_words.specs.Asks.{ServeAsked, MirrorAsked, WordsAsk}
 
 pub simple : is_simple djq_app ≡ true
 unfolding clap_on_literals
@@ -27,25 +27,25 @@ pub simple_and_free : is_simple_and_free djq_app ≡ true
 unfolding clap_on_literals
 simple_and_free = refl
 
-inside : (o : Option (Text × List Row)) (a : Asked) → AskedBy o (Some a) → IsSomeAnd o (λ c. IsAsked c a)
+inside : (o : Option (Text × List Row)) (a : Asked) → AskedBy o (Some a) → IsSomeAnd o (λ c. SubcommandAsks c a)
 inside None a h = absurd cc
 inside (Some c) a h = h
 
-outside : (o : Option (Text × List Row)) (a : Asked) → AskedBy o None → IsSomeAnd o (λ c. IsAsked c a) → ⊥
+outside : (o : Option (Text × List Row)) (a : Asked) → AskedBy o None → IsSomeAnd o (λ c. SubcommandAsks c a) → ⊥
 outside None a h k = k
 outside (Some c) a h k = h a k
 
 -- `clap` took the words
 pub taken : (words : List Text) (found : Option (Text × List Row)) (asked : Option Asked) → fault_of djq_app words ≡ []
-    → found ≡ subcommand_of djq_app words → AskedBy found asked → Answers words asked
+    → found ≡ subcommand_of djq_app words → AskedBy found asked → WordsAsk words asked
 taken words found (Some a) none same h =
-    (none, subst (λ (o : Option (Text × List Row)). IsSomeAnd o (λ c. IsAsked c a)) same (inside found a h))
+    (none, subst (λ (o : Option (Text × List Row)). IsSomeAnd o (λ c. SubcommandAsks c a)) same (inside found a h))
 taken words found None none same h = λ a asks. outside found a h
-    (subst (λ (o : Option (Text × List Row)). IsSomeAnd o (λ c. IsAsked c a)) (sym same) asks.1)
+    (subst (λ (o : Option (Text × List Row)). IsSomeAnd o (λ c. SubcommandAsks c a)) (sym same) asks.1)
 
 -- it refused them, and not for want of memory
 pub refused : (words : List Text) (e : Error) → HasKind (fault_of djq_app words) e → kind_of e ≢ OutOfMemory
-    → Answers words None
+    → WordsAsk words None
 refused words e (inl out) other = λ a asks. absurd (other out)
 refused words e (inr among) other = λ a asks. absurd (subst (λ (ks : Kinds). IsAmong (kind_of e) ks) asks.0 among)
 
@@ -86,10 +86,11 @@ no_addr rows none = none_asked rows (λ addr n given turns. absurd (none_some (s
     none_some : {A : Type 0} {x : A} → None ≡ Some x → ⊥
     none_some e = cc
 
-pub turns_spelled : (text : Text) (n : ℕ) (o : Option Text) → o ≡ Some text → Spells 64 text n → TurnsAre o n
+pub turns_spelled : (text : Text) (n : ℕ) (o : Option Text) → o ≡ Some text → SpellsNumber 64 text n → TurnsAre o n
 turns_spelled text n o e h = subst (λ (k : Option Text). TurnsAre k n) (sym e) h
 
-pub turns_unspelled : (rows : List Row) (text : Text) → first_of (codes "turns") rows ≡ Some text → ReadsAs text None
+pub turns_unspelled : (rows : List Row) (text : Text) → first_of (codes "turns") rows ≡ Some text
+    → TextReadsAs text None
     → ServeAsked rows None
 turns_unspelled rows text given h = none_asked rows (λ addr n is turns. h n
     (subst (λ (k : Option Text). TurnsAre k n) given turns))
@@ -103,24 +104,24 @@ mirror_asks_none rows h (Replay log) asks = mirror_not_replay asks.0
 mirror_asks_none rows h (Gen n seed) asks = mirror_not_gen asks.0
 mirror_asks_none rows h (Mirror query) asks = h query.now asks.1 asks.2
 
-pub none_read : (o : Option Text) → o ≡ None → IsRead o None
+pub none_read : (o : Option Text) → o ≡ None → NumberIsRead o None
 none_read o e n h = subst (λ (k : Option Text). IsGiven k n) e h
 
-pub number_read : (text : Text) (n : ℕ) (o : Option Text) → o ≡ Some text → Spells 64 text n → n < 2 ^ 32
-    → IsRead o (Some n)
+pub number_read : (text : Text) (n : ℕ) (o : Option Text) → o ≡ Some text → SpellsNumber 64 text n → n < 2 ^ 32
+    → NumberIsRead o (Some n)
 number_read text n o e h few = subst (λ (k : Option Text). IsGiven k n) (sym e) (few, h.1)
 
-pub number_unread : (text : Text) (o : Option Text) → o ≡ Some text → ReadsAs text None → IsRead o None
+pub number_unread : (text : Text) (o : Option Text) → o ≡ Some text → TextReadsAs text None → NumberIsRead o None
 number_unread text o e h n given = let g = subst (λ (k : Option Text). IsGiven k n) e given in
     h n (omega (arith, g.0), g.1)
 
 -- a text spells one number
-pub one_number : (text : Text) (m n : ℕ) → Spells 64 text m → Spells 64 text n → m ≡ n
+pub one_number : (text : Text) (m n : ℕ) → SpellsNumber 64 text m → SpellsNumber 64 text n → m ≡ n
 one_number text m n h k = sym (decimal_is_IsNumeral m h.0).1 ∙ ap (λ (t : Text). digits_value 10 t) (sym h.1 ∙ k.1)
     ∙ (decimal_is_IsNumeral n k.0).1
 
-pub number_large : (text : Text) (n : ℕ) (o : Option Text) → o ≡ Some text → Spells 64 text n → (n < 2 ^ 32 → ⊥)
-    → IsRead o None
+pub number_large : (text : Text) (n : ℕ) (o : Option Text) → o ≡ Some text → SpellsNumber 64 text n → (n < 2 ^ 32 → ⊥)
+    → NumberIsRead o None
 number_large text n o e h large k given =
     let g = subst (λ (i : Option Text). IsGiven i k) e given in
     let same : k ≡ n = one_number text k n (omega (arith, g.0), g.1) h in
@@ -134,18 +135,18 @@ unsigned (suc n) h = without_leading_plus_none (decimal (suc n))
     (λ e. let d = first_decimal (suc n) (omega arith) h in absurd (omega (arith, d, e)))
 
 -- What a text spells is what it is parsed as.
-numeral : (text : Text) (n : ℕ) → Spells 64 text n → IsNumeral 10 (without_leading_plus text)
+numeral : (text : Text) (n : ℕ) → SpellsNumber 64 text n → IsNumeral 10 (without_leading_plus text)
     × (digits_value 10 (without_leading_plus text) ≡ n)
 numeral text n h =
     let same : without_leading_plus text ≡ decimal n = ap (λ (t : Text). without_leading_plus t) h.1 ∙ unsigned n h.0 in
     subst (λ (t : Text). IsNumeral 10 t × (digits_value 10 t ≡ n)) (sym same) (decimal_is_IsNumeral n h.0)
 
 pub not_parsed : (text : Text) (error : ParseIntError) → ParsesUnsigned {E = ParseIntError} 64 10 text (Err error)
-    → ReadsAs text None
+    → TextReadsAs text None
 not_parsed text error h n spells = let t = numeral text n spells in h (t.0, omega (arith, t.1, spells.0))
 
 pub not_spelled : (text : Text) (m : ℕ) → ParsesUnsigned {E = ParseIntError} 64 10 text (Ok m) → text ≢ decimal m
-    → ReadsAs text None
+    → TextReadsAs text None
 not_spelled text m h other n spells =
     let t = numeral text n spells in
     let same : n ≡ m = sym t.1 ∙ sym h.1 in

@@ -11,49 +11,49 @@ use Rattle.djq_words.specs.Commands.{djq_app}
 
 -- A text spells a number below 2 to the power of so many bits: it is the number's decimal digits,
 -- with no sign and no leading zero.
-abbrev pub Spells : ℕ → Text → ℕ → Type 0
-Spells bits text n = (n < 2 ^ bits) × (text ≡ decimal n)
+abbrev pub SpellsNumber : ℕ → Text → ℕ → Type 0
+SpellsNumber bits text n = (n < 2 ^ bits) × (text ≡ decimal n)
 
 -- A text is read as the number of 64 bits that it spells; or it spells none.
-abbrev pub ReadsAs : Text → Option ℕ → Type 0
-ReadsAs text (Some n) = Spells 64 text n
-ReadsAs text None = (n : ℕ) → Spells 64 text n → ⊥
+abbrev pub TextReadsAs : Text → Option ℕ → Type 0
+TextReadsAs text (Some n) = SpellsNumber 64 text n
+TextReadsAs text None = (n : ℕ) → SpellsNumber 64 text n → ⊥
 
 -- The number of turns: what the text spells, or the most where there is none.
 abbrev pub TurnsAre : Option Text → ℕ → Type 0
 TurnsAre None n = n ≡ MOST_TURNS
-TurnsAre (Some text) n = Spells 64 text n
+TurnsAre (Some text) n = SpellsNumber 64 text n
 
 -- the number of 32 bits that was given, by the text that spells it
 abbrev pub IsGiven : Option Text → ℕ → Type 0
 IsGiven None n = ⊥
-IsGiven (Some text) n = Spells 32 text n
+IsGiven (Some text) n = SpellsNumber 32 text n
 
 -- What was given is read as its number; or it is none.
-abbrev pub IsRead : Option Text → Option ℕ → Type 0
-IsRead text (Some n) = IsGiven text n
-IsRead text None = (n : ℕ) → IsGiven text n → ⊥
+abbrev pub NumberIsRead : Option Text → Option ℕ → Type 0
+NumberIsRead text (Some n) = IsGiven text n
+NumberIsRead text None = (n : ℕ) → IsGiven text n → ⊥
 
 -- the path of a log, where there is one
-abbrev pub path_of : Option (Bor Text) → Option Text
-path_of log = option_map (λ path. path.now) log
+abbrev pub log_path_of : Option (Bor Text) → Option Text
+log_path_of log = option_map (λ path. path.now) log
 
 -- A subcommand, by its name and what it was given, asks for this.
-abbrev pub IsAsked : Text × List Row → Asked → Type 0
-IsAsked c Run = c.0 ≡ codes "run"
-IsAsked c (Serve addr turns log) = (c.0 ≡ codes "serve") × (first_of (codes "ADDR") c.1 ≡ Some addr.now)
-    × TurnsAre (first_of (codes "turns") c.1) turns × (first_of (codes "log") c.1 ≡ path_of log)
-IsAsked c (Replay log) = (c.0 ≡ codes "replay") × (first_of (codes "log") c.1 ≡ path_of log)
-IsAsked c (Gen n seed) = (c.0 ≡ codes "gen") × IsGiven (first_of (codes "N") c.1) n
+abbrev pub SubcommandAsks : Text × List Row → Asked → Type 0
+SubcommandAsks c Run = c.0 ≡ codes "run"
+SubcommandAsks c (Serve addr turns log) = (c.0 ≡ codes "serve") × (first_of (codes "ADDR") c.1 ≡ Some addr.now)
+    × TurnsAre (first_of (codes "turns") c.1) turns × (first_of (codes "log") c.1 ≡ log_path_of log)
+SubcommandAsks c (Replay log) = (c.0 ≡ codes "replay") × (first_of (codes "log") c.1 ≡ log_path_of log)
+SubcommandAsks c (Gen n seed) = (c.0 ≡ codes "gen") × IsGiven (first_of (codes "N") c.1) n
     × IsGiven (first_of (codes "SEED") c.1) seed
-IsAsked c (Mirror query) = (c.0 ≡ codes "mirror") × (first_of (codes "Q") c.1 ≡ Some query.now)
+SubcommandAsks c (Mirror query) = (c.0 ≡ codes "mirror") × (first_of (codes "Q") c.1 ≡ Some query.now)
     × (is_name query.now ≡ true)
 
 -- What is asked for, where something is.
 abbrev pub AskedBy : Option (Text × List Row) → Option Asked → Type 0
 AskedBy None asked = asked ≡ None
-AskedBy (Some c) (Some a) = IsAsked c a
-AskedBy (Some c) None = (a : Asked) → IsAsked c a → ⊥
+AskedBy (Some c) (Some a) = SubcommandAsks c a
+AskedBy (Some c) None = (a : Asked) → SubcommandAsks c a → ⊥
 
 -- What `serve` asks for, by what it was given.
 abbrev pub ServeAsked : List Row → Option Asked → Type 0
@@ -70,9 +70,9 @@ MirrorAsked rows asked = AskedBy (Some (codes "mirror", rows)) asked
 -- `clap` takes the words for the command set, and the command that they name asks for this.
 abbrev pub Asks : List Text → Asked → Type 0
 Asks words a = (fault_of djq_app words ≡ [])
-    × IsSomeAnd (subcommand_of djq_app words) (λ c. IsAsked c a)
+    × IsSomeAnd (subcommand_of djq_app words) (λ c. SubcommandAsks c a)
 
 -- The words ask for this, or they are no command.
-abbrev pub Answers : List Text → Option Asked → Type 0
-Answers words (Some a) = Asks words a
-Answers words None = (a : Asked) → Asks words a → ⊥
+abbrev pub WordsAsk : List Text → Option Asked → Type 0
+WordsAsk words (Some a) = Asks words a
+WordsAsk words None = (a : Asked) → Asks words a → ⊥

@@ -2,7 +2,7 @@ ghost use Rattle.std.specs.Prelude.{◌≡◌, false, IfOk, map};
 ghost use Rattle.clap.specs.declared.builder.command.Command.TheViews.{out-Command as fields_of};
 ghost use Rattle.clap.specs.Words.{app_of, first_of, found_of, rows_of, subcommand_rows_of};
 ghost use Rattle.djq_words.specs.Commands.{serve_app, replay_app, gen_app, mirror_app, djq_app};
-ghost use Rattle.djq_words.specs.Asks.{AskedBy, ServeAsked, GenAsked, MirrorAsked, ReadsAs, IsRead, Answers};
+ghost use Rattle.djq_words.specs.Asks.{AskedBy, ServeAsked, GenAsked, MirrorAsked, TextReadsAs, NumberIsRead, WordsAsk};
 
 use clap::builder::ValueParser;
 use clap::error::ErrorKind;
@@ -110,7 +110,7 @@ fn djq_command<'a>(alloc: Global) -> Result<Command<'a>, AllocError>
 ///
 /// `AllocError` out of memory.
 pub fn read_words<'a>(alloc: Global, words: &'a [&'a str]) -> Result<Option<Asked<'a>>, AllocError>
-    ensures { IfOk result (Answers (map (λ word. word.now) words.entry.now)) }
+    ensures { IfOk result (WordsAsk (map (λ word. word.now) words.entry.now)) }
 {
     let command = djq_command(alloc)?;
     match command.try_get_matches_from(words) {
@@ -179,7 +179,7 @@ fn mirror_asked<'a>(given: &ArgMatches<'a>) -> Option<Asked<'a>>
 
 /// The number that was given under a name, where there is one of 32 bits.
 fn number_given<'a>(given: &ArgMatches<'a>, name: &str) -> Option<u32>
-    ensures { IsRead (first_of name.now (rows_of (found_of given.now))) result }
+    ensures { NumberIsRead (first_of name.now (rows_of (found_of given.now))) result }
 {
     let Some(text) = given.get_str(name) else {
         return None;
@@ -196,7 +196,7 @@ fn number_given<'a>(given: &ArgMatches<'a>, name: &str) -> Option<u32>
 /// The number whose decimal digits the text is. `clap` takes a sign and leading zeros before them;
 /// these are no number here.
 fn number_in(text: &str) -> Option<u64>
-    ensures { ReadsAs text.now result }
+    ensures { TextReadsAs text.now result }
 {
     let Ok(number) = text.parse::<u64>() else {
         return None;

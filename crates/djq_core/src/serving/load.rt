@@ -2,7 +2,7 @@
 ghost use Rattle.std.specs.Prelude.{◌≡◌, [], is_some, None, Some};
 ghost use Rattle.djq_machine.specs.Loading.{LoadStep, StoreLoads, refused_by};
 ghost use Rattle.djq_core.specs.Views.{loading_in};
-ghost use Rattle.djq_core.specs.Loading.{IsIdle, LoadsRow, LoadsTo, comes_to, is_batch};
+ghost use Rattle.djq_core.specs.Loading.{IsUnused, LoadsRow, LoadsLine, comes_to, is_batch};
 ghost use Rattle.djq_core.specs.Sound.{BatchSuits};
 ghost use Rattle.djq_core.specs.Stepping.{IsRunnable};
 
@@ -66,8 +66,8 @@ fn load_alone<L: Ledgers>(
     line: &[u8],
     steps: &mut Steps<L>,
 ) -> (Loaded, Option<Sequence<HeldRow>>)
-    requires { IsIdle engine.old }
-    ensures loads { LoadsTo line.now result.0 engine.old None engine.new result.1 }
+    requires { IsUnused engine.old }
+    ensures loads { LoadsLine line.now result.0 engine.old None engine.new result.1 }
     ensures listing { steps.new.listing ≡ steps.old.listing }
 {
     match read_command(alloc, line) {
@@ -92,10 +92,10 @@ fn is_batch(command: &Command) -> bool
 
 /// Does a command of a kind that is kept by itself, and refuses any other.
 fn load_command<L: Ledgers>(engine: &mut Store, command: Command, steps: &mut Steps<L>) -> Loaded
-    requires idle { IsIdle engine.old }
+    requires idle { IsUnused engine.old }
     requires runnable { IsRunnable command }
     ensures loads { StoreLoads engine.old.store command result engine.new.store }
-    ensures idle { IsIdle engine.new }
+    ensures idle { IsUnused engine.new }
     ensures listing { steps.new.listing ≡ steps.old.listing }
 {
     match command {
@@ -136,9 +136,9 @@ fn load_in_batch<L: Ledgers>(
     row: &mut Vec<Value>,
     steps: &mut Steps<L>,
 ) -> (Loaded, Option<Sequence<HeldRow>>)
-    requires idle { IsIdle engine.old }
+    requires idle { IsUnused engine.old }
     requires suits { BatchSuits engine.old.store (Some held) }
-    ensures loads { LoadsTo line.now result.0 engine.old (Some held) engine.new result.1 }
+    ensures loads { LoadsLine line.now result.0 engine.old (Some held) engine.new result.1 }
     ensures listing { steps.new.listing ≡ steps.old.listing }
 {
     match read_in_batch(alloc, line, row) {

@@ -1,6 +1,6 @@
 ghost use Rattle.std.specs.Prelude.{◌≡◌, ◌∷◌, ◌++◌, [], length, None, Some, IsSome, is_some};
 ghost use Rattle.std.specs.Prelude.{OnOk, OnErr};
-ghost use Rattle.djq_session.specs.Dialog.{rows_held};
+ghost use Rattle.djq_session.specs.Dialog.{batch_rows};
 
 use super::Session;
 use djq_lines::HeldRow;
@@ -23,7 +23,7 @@ impl<C: Copy, Q: Copy + PartialEq> Session<C, Q> {
 
     /// How many rows its batch holds; none where none is open.
     pub fn rows_held(&self) -> usize
-        ensures { result ≡ length (rows_held self.now.batch) }
+        ensures { result ≡ length (batch_rows self.now.batch) }
     {
         match &self.batch {
             Some(rows) => rows.len(),
@@ -39,7 +39,7 @@ impl<C: Copy, Q: Copy + PartialEq> Session<C, Q> {
     pub fn hold(&mut self, row: HeldRow) -> Result<(), NoMem>
         requires { IsSome self.old.batch }
         ensures held { OnOk result (self.new ≡ record self.old
-            { batch = Some (rows_held self.old.batch ++ row ∷ []) }) }
+            { batch = Some (batch_rows self.old.batch ++ row ∷ []) }) }
         ensures stays { OnErr result (self.new ≡ self.old) }
     {
         match &mut self.batch {

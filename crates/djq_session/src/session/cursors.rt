@@ -2,7 +2,7 @@ ghost use Rattle.std.specs.Prelude.{◌≡◌, ◌∷◌, ◌++◌, ◌<◌, [],
 ghost use Rattle.std.specs.Prelude.{OnOk, OnErr};
 ghost use Rattle.djq_model.specs.Data.{drop_first};
 ghost use Rattle.djq_lines.specs.declared.limits.TheConstants.{CURSORS};
-ghost use Rattle.djq_session.specs.Dialog.{named, is_named, PopsCursor};
+ghost use Rattle.djq_session.specs.Dialog.{named, cursor_is_named, PopsCursor};
 
 use super::Session;
 use crate::named::NamedCursor;
@@ -10,7 +10,7 @@ use djq_model::{Name, NoMem};
 
 /// Where the cursor of a name stands.
 fn place_of<C>(cursors: &[NamedCursor<C>], name: &Name) -> Option<usize>
-    ensures { result ≡ position (is_named name.now) cursors.now }
+    ensures { result ≡ position (cursor_is_named name.now) cursors.now }
 {
     cursors.iter().position(|named| named.name == *name)
 }
@@ -56,7 +56,7 @@ impl<C: Copy, Q: Copy + PartialEq> Session<C, Q> {
     pub fn drop_cursor(&mut self, name: &Name)
         ensures { self.new ≡ record self.old {
           cursors = drop_first
-              (is_named name.now) self.old.cursors;
+              (cursor_is_named name.now) self.old.cursors;
         } }
     {
         if let Some(at) = place_of(self.cursors.as_slice(), name) {

@@ -2,7 +2,7 @@ ghost use Rattle.std.specs.Prelude.{◌≡◌, ◌+◌, ◌≤◌, ◌++◌, Non
 ghost use Rattle.djq_lines.specs.Reply.{bye, end_line, input_cut};
 ghost use Rattle.djq_lines.specs.declared.limits.TheConstants.{LAST_LINE_BYTES, REPLY_BYTES};
 ghost use Rattle.djq_lines.specs.declared.answer.EndCause.TheVariants.{Input};
-ghost use Rattle.djq_session.specs.Dialog.{EndsWith, is_due};
+ghost use Rattle.djq_session.specs.Dialog.{DialogEndsWith, dialog_is_due};
 
 use super::Session;
 use djq_lines::{EndCause, EndLine};
@@ -18,7 +18,7 @@ impl<C: Copy, Q: Copy + PartialEq> Session<C, Q> {
 
     /// Whether something is due to it: bytes are pending for it, or it has ended.
     pub fn is_due(&self) -> bool
-        ensures { result ≡ is_due self.now }
+        ensures { result ≡ dialog_is_due self.now }
     {
         !self.output.is_empty() || self.cause.is_some()
     }
@@ -36,7 +36,7 @@ impl<C: Copy, Q: Copy + PartialEq> Session<C, Q> {
     /// It takes no further commands, for a cause, and is told so by a last line.
     pub fn end_by(&mut self, line: EndLine, cause: EndCause)
         requires { self.old.cause ≡ None }
-        ensures { EndsWith self.old self.new (end_line line) cause }
+        ensures { DialogEndsWith self.old self.new (end_line line) cause }
     {
         say_end(&mut self.output, line);
         self.cause = Some(cause);
@@ -46,7 +46,7 @@ impl<C: Copy, Q: Copy + PartialEq> Session<C, Q> {
     /// Its input has ended within a line, and it is told so.
     pub fn end_cut(&mut self)
         requires { self.old.cause ≡ None }
-        ensures { EndsWith self.old self.new input_cut Input }
+        ensures { DialogEndsWith self.old self.new input_cut Input }
     {
         say_cut(&mut self.output);
         self.cause = Some(EndCause::Input);
@@ -57,7 +57,7 @@ impl<C: Copy, Q: Copy + PartialEq> Session<C, Q> {
     pub fn end_bye(&mut self, cause: EndCause)
         requires running { self.old.cause ≡ None }
         requires room { REPLY_BYTES + LAST_LINE_BYTES ≤ self.old.room }
-        ensures { EndsWith self.old self.new bye cause }
+        ensures { DialogEndsWith self.old self.new bye cause }
     {
         say_bye(&mut self.output);
         self.cause = Some(cause);

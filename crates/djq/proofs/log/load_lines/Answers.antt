@@ -4,7 +4,7 @@ use Rattle.std.specs.Prelude.{IfSome}
 use Rattle.djq_io.specs.Faults.{Counted}
 use Rattle.djq_disk.specs.History.{History}
 use Rattle.djq_disk.proofs.Telling.{told_none}
-use Rattle.djq_journal.specs.Standing.{IsAt, IsIdle}
+use Rattle.djq_journal.specs.Standing.{IsAtGate, IsIdle}
 use Rattle.djq_model.specs.Data.{Bytes}
 use Rattle.djq_lines.specs.declared.held.HeldRow.{HeldRow}
 use Rattle.djq_machine.specs.State.{State, opening}
@@ -71,7 +71,7 @@ returns-in-Refused g c =
           found = found;
           end = loading_in c.lines.machine;
           loads = begun.1;
-          stands = subst (λ (k : ℕ). IfSome told (λ h. IsAt found k h.file)) (sym c.place-at.ensures) still;
+          stands = subst (λ (k : ℕ). IfSome told (λ h. IsAtGate found k h.file)) (sym c.place-at.ensures) still;
           bad = inr (record {
             line = take c.in-Got.n c.next_line.new.buf;
             same = loading_in c.load.new.self;

@@ -1,7 +1,7 @@
 use Rattle.std.proofs.Common.{◌≡◌, ◌-◌, List}
 use Rattle.std.specs.Prelude.{IfSome}
-use Rattle.djq_disk.specs.History.{WhereTold}
-use Rattle.djq_journal.specs.Standing.{IsAt}
+use Rattle.djq_disk.specs.History.{WhereHistoryTold}
+use Rattle.djq_journal.specs.Standing.{IsAtGate}
 use Rattle.djq_model.specs.Data.{Bytes}
 use Rattle.djq_machine.specs.State.{opening}
 use Rattle.djq_machine.specs.Loading.{loading, Loads}
@@ -14,10 +14,10 @@ invariant-lines g l =
     let told = g.D.Disk.told in
     record {
       loading : (found : List Bytes) × Loads (loading opening.store) found (loading_in l.machine)
-          × IfSome (told l.disk) (λ h. IsAt found l.journal h.file);
+          × IfSome (told l.disk) (λ h. IsAtGate found l.journal h.file);
       fresh : l.machine.state ≡ record opening { store = l.machine.state.store };
       faults : g.D.Disk.faults l.disk ≡ g.D.Disk.faults l.fn.disk;
-      same : WhereTold (told l.fn.disk) (told l.disk) (λ o n. n ≡ o);
+      same : WhereHistoryTold (told l.fn.disk) (told l.disk) (λ o n. n ≡ o);
       unlisted : l.steps.listing ≡ l.fn.steps.listing;
     }
 

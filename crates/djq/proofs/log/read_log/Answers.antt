@@ -1,7 +1,7 @@
 -- What opening the journal did and what loading its lines did come together to what reading the log does.
 use Rattle.djq_machine.specs.Call.{counts}
 use Rattle.djq_core.specs.Views.{loading_in}
-use Rattle.djq.specs.Logged.{disk_seen, log_at}
+use Rattle.djq.specs.Logged.{disk_seen, log_seen_at}
 use Rattle.djq.proofs.Logging.{read_whole, unloaded_begins}
 use Rattle.std.proofs.lemmas.Result.{MatchResult-weaker}
 use Rattle.djq.proofs.log.read_log.Goals as goal
@@ -18,7 +18,7 @@ returns-in-Ok g c =
     let first = disk_seen (told c.args.disk.now) (faults c.args.disk.now) in
     let mid = disk_seen (told c.open_journal.new.disk) (faults c.open_journal.new.disk) in
     let last = disk_seen (told c.load_lines.new.disk) (faults c.load_lines.new.disk) in
-    let log = log_at c.args.path.now first last in
+    let log = log_seen_at c.args.path.now first last in
     MatchResult-weaker c.load_lines.result
     c.load_lines.ensures
     (λ gate loads. read_whole log c.in-Ok.journal mid gate (loading_in c.load_lines.new.machine)

@@ -3,7 +3,7 @@ use Rattle.std.proofs.Common.{◌∙◌, ap, inl, inr, refl, arith}
 use Rattle.djq_io.specs.Hub.{Ids}
 use Rattle.djq_machine.specs.State.{State}
 use Rattle.djq_machine.specs.Call.{counts}
-use Rattle.djq_serve.specs.Told.{shown}
+use Rattle.djq_serve.specs.Told.{hub_shown}
 use Rattle.djq.specs.Logged.{disk_seen}
 use Rattle.djq.proofs.Logging.{logs_kept, never_began, begins_still}
 use Rattle.djq.proofs.Running.{faults_from}
@@ -56,7 +56,7 @@ returns-in-Ready g c =
       begins = begins_still c.args.path first then last begun.0 begun.1
           (counts before.listing before.update before.rows) c.open_log.new.machine.state
           (counts now.listing now.update now.rows) begun.2;
-      ready = shown (past c.listen.new.self) (script c.listen.new.self) (ids c.listen.new.self);
+      ready = hub_shown (past c.listen.new.self) (script c.listen.new.self) (ids c.listen.new.self);
       listens = record { past = heard.past; script = heard.script; ids = heard.ids };
       state = c.serve_logged-served.new.machine.state;
       answer = c.serve_logged-served.result;

@@ -4,7 +4,7 @@ use Rattle.std.specs.Prelude.{Result, MatchResult}
 use Rattle.djq_io.specs.declared.hub.Coming.{Coming}
 use Rattle.djq_machine.specs.Call.{counts}
 use Rattle.djq.specs.Logged.{disk_seen, log_seen}
-use Rattle.djq.specs.Replay.{ComesTo, ComesToNothing}
+use Rattle.djq.specs.Replay.{ReplayComesTo, ComesToNothing}
 use Rattle.djq.proofs.replay.make_text.Goals as goal
 
 pub returns-in-Ok : goal.returns-in-Ok
@@ -19,6 +19,6 @@ returns-in-Ok g c =
     (disk_seen (told c.serve_schedule.new.disk) (faults c.serve_schedule.new.disk)) in
     subst
     (λ (r : Result (List Coming) ℕ). MatchResult c.serve_schedule.result
-    (λ made. ComesTo log r c.args.bytes.now counted counted' made.0.items made.1)
+    (λ made. ReplayComesTo log r c.args.bytes.now counted counted' made.0.items made.1)
     (λ status. ComesToNothing log status r c.args.bytes.now counted counted'))
     (sym c.in-Ok.ensures.turns) c.serve_schedule.ensures

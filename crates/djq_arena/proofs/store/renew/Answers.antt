@@ -2,7 +2,7 @@
 use Rattle.std.proofs.Common.{refl, sym, ◌∙◌, subst, length, ap, ap₂, List, arith}
 use Rattle.djq_arena.specs.declared.chain.Pair.{Pair}
 use Rattle.djq_arena.specs.declared.chain.Ends.{Ends}
-use Rattle.djq_arena.specs.Chains.{IsWithin, left, entered}
+use Rattle.djq_arena.specs.Chains.{IsSlotBelow, chain_without, entered}
 use Rattle.djq_arena.specs.Store.{shrunk, extended}
 use Rattle.djq_arena.proofs.Chaining.{length-left}
 use Rattle.djq_arena.proofs.Storing.{held_within, held_prev, held_next, renewed_last, renews}
@@ -12,11 +12,11 @@ pub pair_of-neighbours-requires : goal.pair_of-neighbours-requires
 pair_of-neighbours-requires c = held_within c.args.store.now c.args.slot c.requires.sound c.requires.held
 
 pub leave-requires-clause-prev : goal.leave-requires-clause-prev
-leave-requires-clause-prev c = subst (λ (p : Pair). IsWithin (length c.args.store.now.order.items) p.prev)
+leave-requires-clause-prev c = subst (λ (p : Pair). IsSlotBelow (length c.args.store.now.order.items) p.prev)
     (sym c.pair_of-neighbours.ensures) (held_prev c.args.store.now c.args.slot c.requires.sound c.requires.held)
 
 pub leave-requires-clause-next : goal.leave-requires-clause-next
-leave-requires-clause-next c = subst (λ (p : Pair). IsWithin (length c.args.store.now.order.items) p.next)
+leave-requires-clause-next c = subst (λ (p : Pair). IsSlotBelow (length c.args.store.now.order.items) p.next)
     (sym c.pair_of-neighbours.ensures) (held_next c.args.store.now c.args.slot c.requires.sound c.requires.held)
 
 pub enter-requires-clause-last : goal.enter-requires-clause-last
@@ -39,7 +39,7 @@ pub returns : goal.returns
 returns c =
     let ends = c.leave.ensures.ends ∙ ap (λ (p : Pair). shrunk p c.args.store.now.live) c.pair_of-neighbours.ensures in
     let without = c.leave.ensures.links
-    ∙ ap (λ (p : Pair). left p c.args.store.now.order.items) c.pair_of-neighbours.ensures in
+    ∙ ap (λ (p : Pair). chain_without p c.args.store.now.order.items) c.pair_of-neighbours.ensures in
     record {
       renewed = renews c.args.store.now _ c.args.slot c.requires.sound c.requires.held
           (record {

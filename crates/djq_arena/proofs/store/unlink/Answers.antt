@@ -1,7 +1,7 @@
 -- A held slot stands in the bucket of its cells, and its neighbours in the order are within the arrays.
 use Rattle.std.proofs.Common.{refl, sym, ◌∙◌, subst, length, ap}
 use Rattle.djq_arena.specs.declared.chain.Pair.{Pair}
-use Rattle.djq_arena.specs.Chains.{IsWithin, left}
+use Rattle.djq_arena.specs.Chains.{IsSlotBelow, chain_without}
 use Rattle.djq_arena.specs.Store.{shrunk}
 use Rattle.djq_arena.proofs.Storing.{held_within, held_prev, held_next, held_in_bucket, unlinks}
 use Rattle.djq_arena.proofs.store.unlink.Goals as goal
@@ -18,11 +18,11 @@ pub pair_of-neighbours-requires : goal.pair_of-neighbours-requires
 pair_of-neighbours-requires c = held_within c.args.store.now c.args.slot c.requires.sound c.requires.held
 
 pub leave-requires-clause-prev : goal.leave-requires-clause-prev
-leave-requires-clause-prev c = subst (λ (p : Pair). IsWithin (length c.args.store.now.order.items) p.prev)
+leave-requires-clause-prev c = subst (λ (p : Pair). IsSlotBelow (length c.args.store.now.order.items) p.prev)
     (sym c.pair_of-neighbours.ensures) (held_prev c.args.store.now c.args.slot c.requires.sound c.requires.held)
 
 pub leave-requires-clause-next : goal.leave-requires-clause-next
-leave-requires-clause-next c = subst (λ (p : Pair). IsWithin (length c.args.store.now.order.items) p.next)
+leave-requires-clause-next c = subst (λ (p : Pair). IsSlotBelow (length c.args.store.now.order.items) p.next)
     (sym c.pair_of-neighbours.ensures) (held_next c.args.store.now c.args.slot c.requires.sound c.requires.held)
 
 pub returns : goal.returns
@@ -32,7 +32,7 @@ returns c = record {
         width = refl;
         cells = refl;
         order = c.leave.ensures.links
-            ∙ ap (λ (p : Pair). left p c.args.store.now.order.items) c.pair_of-neighbours.ensures;
+            ∙ ap (λ (p : Pair). chain_without p c.args.store.now.order.items) c.pair_of-neighbours.ensures;
         live = c.leave.ensures.ends ∙ ap (λ (p : Pair). shrunk p c.args.store.now.live) c.pair_of-neighbours.ensures;
         bucket = c.unlist.ensures.unlisted;
         free = refl;

@@ -3,7 +3,7 @@ use Rattle.std.proofs.Common.{◌≡◌, ◌≤◌, List, length, ◌∙◌, sym
 use Rattle.djq_lines.specs.declared.held.HeldRow.{HeldRow}
 use Rattle.djq_lines.specs.declared.limits.TheConstants.{HELD}
 use Rattle.djq_machine.specs.Batch.{SuitAll}
-use Rattle.djq_session.specs.Dialog.{rows_held}
+use Rattle.djq_session.specs.Dialog.{batch_rows}
 use Rattle.djq_core.specs.Changing.{AddsAll}
 use Rattle.djq_core.specs.Sound.{BatchSuits}
 use Rattle.djq_core.specs.declared.change.Outcome.TheVariants.{Done}
@@ -37,8 +37,8 @@ returns-clause-adds g c =
         tells = c.done-result.ensures.tells;
       };
     } in
-    let rows : rows_held c.args.session.now.batch
-    ≡ c.in-Some.held = ap rows_held (sym c.take_batch.ensures.rows ∙ c.in-Some.is) in
+    let rows : batch_rows c.args.session.now.batch
+    ≡ c.in-Some.held = ap batch_rows (sym c.take_batch.ensures.rows ∙ c.in-Some.is) in
     subst (λ (held : List HeldRow). AddsAll c.args.engine.now held (Done c.done-result.result c.in-Some.held)
     c.done-result.new.self c.args.steps.now.listing c.done-result.new.steps.listing) (sym rows)
     (subst (λ (held : List HeldRow). AddsAll c.args.engine.now held (Done c.done-result.result held)

@@ -5,11 +5,11 @@ use Rattle.djq_model.specs.Data.{Bytes, Tuple}
 use Rattle.djq_lines.specs.Reply.{refusal_line}
 use Rattle.djq_lines.specs.declared.answer.Refusal.{Refusal}
 use Rattle.djq_lines.specs.declared.command.Command.TheVariants.{Add, Del}
-use Rattle.djq_proto.specs.Reading.{Reads}
+use Rattle.djq_proto.specs.Reading.{LineReadsAs}
 use Rattle.djq_proto.specs.RowReading.{begins_row}
 use Rattle.djq_value.specs.Token.{tokens}
 use Rattle.djq_session.specs.Dialog.{Replies}
-use Rattle.djq_core.specs.Changing.{Adds, Deletes}
+use Rattle.djq_core.specs.Changing.{TriesToAdd, Deletes}
 use Rattle.djq_core.specs.declared.change.Left.TheVariants.{Telling}
 use Rattle.djq_core.specs.declared.change.Outcome.TheVariants.{Added, Deleted}
 use Rattle.djq_core.specs.Stepping.{refused_as}
@@ -30,8 +30,9 @@ returns-in-Add g c =
     let line = take c.args.end old.held in
     let name = c.in-Add.name.now in
     let row = c.read_row.new.row.items in
-    let said = subst (λ (bs : Bytes). Reads (take c.args.end bs) (Ok (Add name row))) c.held.ensures c.in-Add.ensures in
-    let named = subst (λ (n : Bytes). Adds c.args.engine.now n c.as_slice.result.now (Added c.add-outcome.result)
+    let said = subst (λ (bs : Bytes). LineReadsAs (take c.args.end bs) (Ok (Add name row))) c.held.ensures
+    c.in-Add.ensures in
+    let named = subst (λ (n : Bytes). TriesToAdd c.args.engine.now n c.as_slice.result.now (Added c.add-outcome.result)
     c.add-outcome.new.self c.args.steps.now.listing c.add-outcome.new.steps.listing) c.new.ensures
     (record {
       result = c.add-outcome.result;
@@ -45,7 +46,7 @@ returns-in-Add g c =
         tells = c.add-outcome.ensures.tells;
       };
     }) in
-    let adds = subst (λ (values : Tuple). Adds c.args.engine.now name values (Added c.add-outcome.result)
+    let adds = subst (λ (values : Tuple). TriesToAdd c.args.engine.now name values (Added c.add-outcome.result)
     c.add-outcome.new.self c.args.steps.now.listing c.add-outcome.new.steps.listing)
     c.as_slice.ensures.value named in
     line_leaves (Telling (Added c.add-outcome.result)) c.args.engine.now old c.take_line.new.self line
@@ -68,8 +69,10 @@ returns-in-Del g c =
     let line = take c.args.end old.held in
     let name = c.in-Del.name.now in
     let row = c.read_row.new.row.items in
-    let said = subst (λ (bs : Bytes). Reads (take c.args.end bs) (Ok (Del name row))) c.held.ensures c.in-Del.ensures in
-    let named = subst (λ (n : Bytes). Deletes c.args.engine.now n c.as_slice-in-Del.result.now (Deleted c.del-outcome.result)
+    let said = subst (λ (bs : Bytes). LineReadsAs (take c.args.end bs) (Ok (Del name row))) c.held.ensures
+    c.in-Del.ensures in
+    let named = subst
+    (λ (n : Bytes). Deletes c.args.engine.now n c.as_slice-in-Del.result.now (Deleted c.del-outcome.result)
     c.del-outcome.new.self c.args.steps.now.listing c.del-outcome.new.steps.listing) c.new-in-Del.ensures
     (record {
       result = c.del-outcome.result;
@@ -101,7 +104,7 @@ returns-in-Refused g c =
     let old = c.args.session.now in
     let alone : old.batch ≡ None = search rules in
     let line = take c.args.end old.held in
-    let said = subst (λ (bs : Bytes). Reads (take c.args.end bs) (Err c.in-Refused.refusal)) c.held.ensures
+    let said = subst (λ (bs : Bytes). LineReadsAs (take c.args.end bs) (Err c.in-Refused.refusal)) c.held.ensures
     c.in-Refused.ensures.1 in
     let reply = subst (λ (r : Refusal). Replies c.take_line-in-Refused.new.self c.refuse.new.self (refusal_line r))
     c.refusal_of.ensures c.refuse.ensures in

@@ -3,7 +3,7 @@ use Rattle.std.proofs.Common.{◌∙◌, List, Option, ap, sym, subst, take, dro
 use Rattle.djq_model.specs.Data.{Bytes}
 use Rattle.djq_lines.specs.Reply.{refusal_line}
 use Rattle.djq_lines.specs.declared.answer.Refusal.{Refusal}
-use Rattle.djq_proto.specs.Reading.{Reads}
+use Rattle.djq_proto.specs.Reading.{LineReadsAs}
 use Rattle.djq_session.specs.Dialog.{Replies}
 use Rattle.djq_lines.specs.declared.answer.Refusal.TheVariants.{Misplaced}
 use Rattle.djq_lines.specs.declared.held.HeldRow.{HeldRow}
@@ -21,14 +21,15 @@ run_command-requires-clause-runnable g c = runnable (take c.args.end c.held.resu
 pub run_command-requires-clause-other : goal.run_command-requires-clause-other
 run_command-requires-clause-other g c =
     other (take c.args.end c.args.session.now.held) c.in-Ok.command
-    (subst (λ (bs : Bytes). Reads (take c.args.end bs) (Ok c.in-Ok.command)) c.held.ensures c.in-Ok.ensures)
+    (subst (λ (bs : Bytes). LineReadsAs (take c.args.end bs) (Ok c.in-Ok.command)) c.held.ensures c.in-Ok.ensures)
     c.requires.other
 
 pub returns-else-is_for_batch : goal.returns-else-is_for_batch
 returns-else-is_for_batch g c =
     let old = c.args.session.now in
     let line = take c.args.end old.held in
-    let said = subst (λ (bs : Bytes). Reads (take c.args.end bs) (Ok c.in-Ok.command)) c.held.ensures c.in-Ok.ensures in
+    let said = subst (λ (bs : Bytes). LineReadsAs (take c.args.end bs) (Ok c.in-Ok.command)) c.held.ensures
+    c.in-Ok.ensures in
     line_leaves c.run_command.result c.args.engine.now old c.take_line.new.self line (drop c.args.rest old.held)
     c.in-Ok.command c.run_command.new.engine c.run_command.new.session c.args.steps.now.listing
     c.run_command.new.steps.listing
@@ -45,7 +46,8 @@ pub returns-in-Err : goal.returns-in-Err
 returns-in-Err g c =
     let old = c.args.session.now in
     let line = take c.args.end old.held in
-    let said = subst (λ (bs : Bytes). Reads (take c.args.end bs) (Err c.in-Err.refusal)) c.held.ensures c.in-Err.ensures
+    let said = subst (λ (bs : Bytes). LineReadsAs (take c.args.end bs) (Err c.in-Err.refusal)) c.held.ensures
+    c.in-Err.ensures
     in
     let reply = subst (λ (r : Refusal). Replies c.take_line.new.self c.refuse-in-Err.new.self (refusal_line r))
     c.refusal_of.ensures c.refuse-in-Err.ensures in
@@ -61,7 +63,8 @@ pub returns-then-is_for_batch : goal.returns-then-is_for_batch
 returns-then-is_for_batch g c =
     let old = c.args.session.now in
     let line = take c.args.end old.held in
-    let said = subst (λ (bs : Bytes). Reads (take c.args.end bs) (Ok c.in-Ok.command)) c.held.ensures c.in-Ok.ensures in
+    let said = subst (λ (bs : Bytes). LineReadsAs (take c.args.end bs) (Ok c.in-Ok.command)) c.held.ensures
+    c.in-Ok.ensures in
     runs false false c.args.engine.now old c.take_line.new.self line (drop c.args.rest old.held) c.args.engine.now
     c.refuse.new.self c.args.steps.now.listing c.args.steps.now.listing
     c.requires.front c.take_line.ensures c.requires.said c.requires.few

@@ -3,7 +3,7 @@ use Rattle.std.proofs.Common.{◌≡◌, ◌-◌, List, length, ap, sym, subst, 
 use Rattle.std.specs.Prelude.{take}
 use Rattle.std.proofs.lemmas.List.{take_all}
 use Rattle.djq_cursor.specs.declared.places.Choice.{Choice}
-use Rattle.djq_cursor.specs.Walk.{Follows, blank}
+use Rattle.djq_cursor.specs.Walk.{GoesThrough, blank}
 use Rattle.djq_cursor.proofs.Walking.{given_to, given_whole}
 use Rattle.djq_cursor.proofs.Going.{retreat, given_without, all_levels}
 use Rattle.djq_cursor.proofs.Remaining.{cut, found_left, none_found}
@@ -21,7 +21,7 @@ loop-at-init g c =
     let many = all_levels r menu cs c.requires.descends c.requires.whole in
     record {
       within = omega arith;
-      follows = subst (λ (ds : List Choice). Follows r menu n (blank r.tree) ds) (sym whole)
+      follows = subst (λ (ds : List Choice). GoesThrough r menu n (blank r.tree) ds) (sym whole)
           c.requires.descends;
       given = ap (λ (ds : List Choice). given_to r menu n (blank r.tree) ds) whole
           ∙ given_whole r menu n (blank r.tree) cs c.requires.whole;

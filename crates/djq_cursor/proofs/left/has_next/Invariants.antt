@@ -1,7 +1,7 @@
 use Rattle.std.proofs.Common.{◌≡◌, ◌+◌, ◌≤◌, [], ◌∷◌, ◌++◌, length}
 use Rattle.std.specs.Prelude.{take}
 use Rattle.djq_tree.specs.Levels.{levels}
-use Rattle.djq_cursor.specs.Walk.{Follows, ahead_of, blank, made_by}
+use Rattle.djq_cursor.specs.Walk.{GoesThrough, ahead_of, blank, made_by}
 use Rattle.djq_cursor.proofs.Walking.{given_to}
 use Rattle.djq_cursor.proofs.left.has_next.Given as goal
 
@@ -12,7 +12,7 @@ invariant-loop-at g l =
     let n = length r.tree.nodes in
     record {
       within : l.at ≤ length l.fn.places;
-      follows : Follows r menu n (blank r.tree) (take l.at l.fn.places);
+      follows : GoesThrough r menu n (blank r.tree) (take l.at l.fn.places);
       given : given_to r menu n (blank r.tree) (take l.at l.fn.places)
           ≡ ahead_of r menu l.fn.places ++ made_by r l.fn.places ∷ [];
       counted : l.listing + l.at ≡ l.fn.listing + length (levels r.tree);

@@ -2,7 +2,7 @@
 use Rattle.std.proofs.Common.{◌∙◌, ◌+◌, List, ℕ, length, drop, slice_index_or, ap, sym, refl, arith}
 use Rattle.std.proofs.lemmas.List.{length-set}
 use Rattle.djq_index.proofs.Columns.{column_below}
-use Rattle.djq_cursor.specs.Levels.{put}
+use Rattle.djq_cursor.specs.Levels.{cells_put}
 use Rattle.djq_cursor.proofs.Seeking.{put_next, put_end}
 use Rattle.djq_cursor.proofs.levels.write_each.Goals as goal
 
@@ -21,7 +21,7 @@ loop-at-preserved c =
     let test = c.loop-at-test.true in
     record {
       written =
-          ap (λ (s : List ℕ). put (drop (c.loop-at.at + 1) cs) (drop (c.loop-at.at + 1) us) s)
+          ap (λ (s : List ℕ). cells_put (drop (c.loop-at.at + 1) cs) (drop (c.loop-at.at + 1) us) s)
           c.set.ensures
           ∙ put_next cs us c.loop-at.answer c.loop-at.at (slice_index_or cs c.loop-at.at 0)
           (slice_index_or us c.loop-at.at 0) test (omega arith) refl refl

@@ -1,10 +1,10 @@
 use Rattle.std.proofs.Common.{◌≡◌, length, drop}
-use Rattle.djq_cursor.specs.Levels.{put}
+use Rattle.djq_cursor.specs.Levels.{cells_put}
 use Rattle.djq_cursor.proofs.levels.write_each.Given as goal
 
 abbrev pub invariant-loop-at : goal.invariant-loop-at
 invariant-loop-at l = record {
-  written : put (drop l.at l.columns) (drop l.at l.tuple) l.answer ≡ put l.columns l.tuple
+  written : cells_put (drop l.at l.columns) (drop l.at l.tuple) l.answer ≡ cells_put l.columns l.tuple
       l.fn.answer;
   wide : length l.answer ≡ length l.fn.answer;
 }

@@ -2,7 +2,7 @@
 use Rattle.std.proofs.Common.{◌∙◌, [], ◌∷◌, length, slice_index_or, refl, ap, arith}
 use Rattle.std.proofs.lemmas.List.{length-append}
 use Rattle.djq_cursor.specs.declared.places.Choice.{Choice}
-use Rattle.djq_cursor.specs.Walk.{reached}
+use Rattle.djq_cursor.specs.Walk.{reached_level}
 use Rattle.djq_cursor.proofs.Filling.{
   room_for,
   small_in,
@@ -31,7 +31,7 @@ returns-in_default-clause-whole g c =
     let ls = c.levels-levels.result.now in
     let st = c.loop-at.invariant.stands in
     absurd
-    (some_first r menu (reached (length r.tree.nodes) c.loop-at.places)
+    (some_first r menu (reached_level (length r.tree.nodes) c.loop-at.places)
     (slice_index_or ls c.loop-at.at 0) c.loop-at.places c.loop-at.answer c.laws.ensures.sound st refl
     c.requires.opened
     (next_listed r menu c.loop-at.places ls c.loop-at.at st.follows c.levels-levels.ensures
@@ -44,7 +44,7 @@ returns-in_default-clause-counted g c =
     let ls = c.levels-levels.result.now in
     let st = c.loop-at.invariant.stands in
     absurd
-    (some_first r menu (reached (length r.tree.nodes) c.loop-at.places)
+    (some_first r menu (reached_level (length r.tree.nodes) c.loop-at.places)
     (slice_index_or ls c.loop-at.at 0) c.loop-at.places c.loop-at.answer c.laws.ensures.sound st refl
     c.requires.opened
     (next_listed r menu c.loop-at.places ls c.loop-at.at st.follows c.levels-levels.ensures
@@ -69,7 +69,7 @@ push-requires g c =
     let menu = g.C.Choices.menu c.args.choices.now r in
     let ls = c.levels-levels.result.now in
     let st = c.loop-at.invariant.stands in
-    room_for r menu (reached (length r.tree.nodes) c.loop-at.places)
+    room_for r menu (reached_level (length r.tree.nodes) c.loop-at.places)
     (slice_index_or ls c.loop-at.at 0) c.loop-at.places c.loop-at.answer c.laws.ensures.sound
     (small_in r.tree c.tree.result.now c.tree.ensures c.is_small.ensures) st refl
     (next_listed r menu c.loop-at.places ls c.loop-at.at st.follows c.levels-levels.ensures
@@ -85,7 +85,7 @@ loop-at-preserved g c =
       level = slice_index_or ls c.loop-at.at 0;
       place = c.in-Some.place;
     } in
-    let made = chosen_first r menu (reached (length r.tree.nodes) c.loop-at.places)
+    let made = chosen_first r menu (reached_level (length r.tree.nodes) c.loop-at.places)
     c.loop-at.places c.push.new.self c.loop-at.answer c.write_choice.new.answer choice
     c.laws.ensures.sound st refl
     (next_listed r menu c.loop-at.places ls c.loop-at.at st.follows c.levels-levels.ensures

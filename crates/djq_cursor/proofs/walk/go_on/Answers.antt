@@ -2,7 +2,7 @@
 use Rattle.std.proofs.Common.{◌∙◌, [], ◌∷◌, ◌++◌, length, refl, ap, arith}
 use Rattle.std.proofs.lemmas.List.{length-append}
 use Rattle.djq_cursor.specs.declared.places.Choice.{Choice}
-use Rattle.djq_cursor.specs.Walk.{before, here, blank}
+use Rattle.djq_cursor.specs.Walk.{answers_ahead, here, blank}
 use Rattle.djq_cursor.proofs.Walking.{given_whole}
 use Rattle.djq_cursor.proofs.Keeping.{stands_pop}
 use Rattle.djq_cursor.proofs.Filling.{small_in}
@@ -69,7 +69,7 @@ fill-requires-clause-stands g c =
     let r = c.args.reducts.now in
     let menu = g.C.Choices.menu c.args.choices.now r in
     let d : Choice = record { level = c.in-Some.choice.level; place = c.in-Some-next.place } in
-    let all = before r menu (blank r.tree) c.args.places.now ++ here r (blank r.tree)
+    let all = answers_ahead r menu (blank r.tree) c.args.places.now ++ here r (blank r.tree)
     c.args.places.now ∷ [] in
     let e = pop_is c.loop-choice.places c.pop.new.self c.pop.result c.in-Some.choice
     c.pop.ensures.taken c.in-Some.is in
@@ -86,7 +86,7 @@ returns-in-Some-next-clause-before g c =
     let r = c.args.reducts.now in
     let menu = g.C.Choices.menu c.args.choices.now r in
     let d : Choice = record { level = c.in-Some.choice.level; place = c.in-Some-next.place } in
-    let all = before r menu (blank r.tree) c.args.places.now ++ here r (blank r.tree)
+    let all = answers_ahead r menu (blank r.tree) c.args.places.now ++ here r (blank r.tree)
     c.args.places.now ∷ [] in
     let e = pop_is c.loop-choice.places c.pop.new.self c.pop.result c.in-Some.choice
     c.pop.ensures.taken c.in-Some.is in
@@ -119,7 +119,7 @@ pub loop-choice-preserved : goal.loop-choice-preserved
 loop-choice-preserved g c =
     let r = c.args.reducts.now in
     let menu = g.C.Choices.menu c.args.choices.now r in
-    let all = before r menu (blank r.tree) c.args.places.now ++ here r (blank r.tree)
+    let all = answers_ahead r menu (blank r.tree) c.args.places.now ++ here r (blank r.tree)
     c.args.places.now ∷ [] in
     let e = pop_is c.loop-choice.places c.pop.new.self c.pop.result c.in-Some.choice
     c.pop.ensures.taken c.in-Some.is in

@@ -1,5 +1,5 @@
 use Rattle.std.proofs.Common.{ℕ, ◌≤◌, length}
-use Rattle.djq_dict.specs.Chains.{IsFirst, IsLinked, bucket_of, hashes_of, nexts_of}
+use Rattle.djq_dict.specs.Chains.{IsChainHead, IsLinked, bucket_of, hashes_of, nexts_of}
 use Rattle.djq_dict.proofs.Following.{IsRest}
 use Rattle.djq_dict.proofs.chain.follow.Given as goal
 
@@ -7,7 +7,7 @@ abbrev pub invariant-loop-rest : goal.invariant-loop-rest
 invariant-loop-rest l = record {
   within : l.rest ≤ length l.links;
   walked : (buckets n : ℕ) → IsLinked buckets (hashes_of l.links) (nexts_of l.links)
-      → IsFirst buckets (hashes_of l.links) (bucket_of buckets l.hash) n l.fn.from
+      → IsChainHead buckets (hashes_of l.links) (bucket_of buckets l.hash) n l.fn.from
       → IsRest buckets (hashes_of l.links) l.hash n l.rest;
 }
 

@@ -2,7 +2,7 @@
 use Rattle.std.proofs.Common.{◌≡◌, ◌+◌, ◌-◌, ◌++◌, length, take, drop, ◌∙◌, arith}
 use borrow.Rule.Slice.PartMut.{put_mid}
 use Rattle.std.proofs.lemmas.Slice.{take-put_mid}
-use Rattle.djq_disk.specs.History.{Reads}
+use Rattle.djq_disk.specs.History.{DiskReads}
 use Rattle.djq_disk.specs.declared.disk.DiskRead.TheVariants.{Got}
 use Rattle.djq_disk.proofs.Telling.{told_both}
 use Rattle.djq_disk.proofs.Piecewise.{filled_within, filled_more}
@@ -26,7 +26,7 @@ loop-done-preserved g c =
       within = filled_within done n buf got after within fits is;
       fits = omega (arith, c.in-Got.ensures.fits.2);
       told = told_both _ _ _
-          (λ o m. (take done buf ≡ take done (drop at o.file.bytes)) × (m ≡ o)) (Reads (Got n) (at + done) got)
+          (λ o m. (take done buf ≡ take done (drop at o.file.bytes)) × (m ≡ o)) (DiskReads (Got n) (at + done) got)
           (λ o k. (take (done + n) after ≡ take (done + n) (drop at o.file.bytes)) × (k ≡ o))
           (λ o m k so_far reads. (
             filled_more at done n o.file.bytes buf got after within fits is so_far.0 (rw so_far.1 at reads.0.1),

@@ -4,8 +4,8 @@ use Rattle.std.specs.Prelude.{Result, Ok, Err, OnOk, OnErr, ⊤}
 use Rattle.djq_live.specs.Live.{IsKept}
 use Rattle.djq_reach.specs.Places.{readers_at, AreOnce}
 use Rattle.djq_reach.specs.Reaching.{AllAt, Reach, Renews}
-use Rattle.djq_reach.specs.Tending.{AreUnwatched, TellsAt, Tends, Empties}
-use Rattle.djq_reach.specs.Grouping.{CanComeBy, CostsBy, Leads, WorksBy, reached, rows_in, times_back}
+use Rattle.djq_reach.specs.Tending.{AreUnwatched, LogTellsAt, Tends, Empties}
+use Rattle.djq_reach.specs.Grouping.{CanComeBy, CostsBy, GroupsLead, WorksBy, reached, rows_of_groups, times_back}
 use Rattle.djq_engine.proofs.batch.take_groups.Goals as goal
 use Rattle.djq_reach.proofs.Tending.{on_both, on_refused}
 
@@ -41,19 +41,19 @@ returns g c = record {
             c.args.parts.now.queries.items c.insert_batch_into_readers.new.queries.items)
             c.as_slice-readers.ensures.value
             (reach d c.args.parts.now.catalog
-            (subst (λ (rs : List (List ℕ)). Leads rs c.args.groups.now c.args.parts.now.queries.items d
+            (subst (λ (rs : List (List ℕ)). GroupsLead rs c.args.groups.now c.args.parts.now.queries.items d
             c.args.parts.now.catalog) (sym c.as_slice-readers.ensures.value) here.leads)
             (subst (λ (rs : List (List ℕ)). AllAt (reached rs c.args.groups.now) c.args.parts.now.queries.items
             (λ l. IsKept d l)) (sym c.as_slice-readers.ensures.value) here.kept));
         tends =
             subst (λ (ws : List ℕ). Tends (reached c.args.parts.now.readers.items c.args.groups.now)
-            (TellsAt ws (λ x y (what : ⊤). Leads c.args.parts.now.readers.items c.args.groups.now
+            (LogTellsAt ws (λ x y (what : ⊤). GroupsLead c.args.parts.now.readers.items c.args.groups.now
             c.args.parts.now.queries.items x y))
             c.args.parts.now.queries.items c.args.parts.now.logs.items c.insert_batch_into_readers.new.logs.items)
             c.as_slice-watchers.ensures.value
             (subst (λ (rs : List (List ℕ)). Tends (reached rs c.args.groups.now)
-            (TellsAt c.as_slice-watchers.result.now
-            (λ x y (what : ⊤). Leads rs c.args.groups.now c.args.parts.now.queries.items x y))
+            (LogTellsAt c.as_slice-watchers.result.now
+            (λ x y (what : ⊤). GroupsLead rs c.args.groups.now c.args.parts.now.queries.items x y))
             c.args.parts.now.queries.items c.args.parts.now.logs.items c.insert_batch_into_readers.new.logs.items)
             c.as_slice-readers.ensures.value tends);
       }) c.insert_batch_into_readers.ensures.taken c.insert_batch_into_readers.ensures.tells;
@@ -64,7 +64,7 @@ returns g c = record {
             c.args.parts.now.queries.items
             c.insert_batch_into_readers.new.queries.items) c.as_slice-readers.ensures.value
             (reach d c.args.parts.now.catalog
-            (subst (λ (rs : List (List ℕ)). Leads rs c.args.groups.now c.args.parts.now.queries.items d
+            (subst (λ (rs : List (List ℕ)). GroupsLead rs c.args.groups.now c.args.parts.now.queries.items d
             c.args.parts.now.catalog) (sym c.as_slice-readers.ensures.value) here.leads)
             (subst (λ (rs : List (List ℕ)). AllAt (reached rs c.args.groups.now) c.args.parts.now.queries.items
             (λ l. IsKept d l)) (sym c.as_slice-readers.ensures.value) here.kept));
@@ -85,11 +85,11 @@ returns g c = record {
       (subst (λ (rs : List (List ℕ)). AreUnwatched c.args.parts.now.watchers.items (reached rs c.args.groups.now))
       (sym c.as_slice-readers.ensures.value) none));
   updates = subst (λ (rs : List (List ℕ)). OnOk c.insert_batch_into_readers.result
-      (WorksBy rs c.args.groups.now c.args.parts.now.queries.items (rows_in c.args.groups.now) (λ x. 1)
+      (WorksBy rs c.args.groups.now c.args.parts.now.queries.items (rows_of_groups c.args.groups.now) (λ x. 1)
       c.args.steps.now.update c.insert_batch_into_readers.new.steps.update))
       c.as_slice-readers.ensures.value c.insert_batch_into_readers.ensures.updates;
   refusal = subst (λ (rs : List (List ℕ)). OnErr c.insert_batch_into_readers.result
-      (WorksBy rs c.args.groups.now c.args.parts.now.queries.items (rows_in c.args.groups.now) times_back
+      (WorksBy rs c.args.groups.now c.args.parts.now.queries.items (rows_of_groups c.args.groups.now) times_back
       c.args.steps.now.update c.insert_batch_into_readers.new.steps.update))
       c.as_slice-readers.ensures.value c.insert_batch_into_readers.ensures.refusal;
   rest = record {

@@ -4,13 +4,13 @@ use Rattle.std.specs.Prelude.{◌&&◌}
 use Rattle.djq_model.specs.Data.{Bytes, Tuple, without_copies}
 use Rattle.djq_lines.specs.declared.answer.DeleteOutcome.{DeleteOutcome}
 use Rattle.djq_rows.specs.Catalog.{Catalog, StandForRow, counted_at}
-use Rattle.djq_rows.specs.Changes.{DeletesRow}
+use Rattle.djq_rows.specs.Changes.{DeletesRowAt}
 use Rattle.djq_live.specs.Changes.{Went}
 use Rattle.djq_live.specs.Live.{IsKept}
 use Rattle.djq_engine.specs.Changing.{IsOld}
 use Rattle.djq_reach.specs.Places.{is_reader, watched_at}
 use Rattle.djq_reach.specs.Reaching.{AllAt}
-use Rattle.djq_reach.specs.Tending.{AreUnwatched, AreShown, Costs, Tends, TellsAt, Works}
+use Rattle.djq_reach.specs.Tending.{AreUnwatched, LogsCanBeShown, Costs, Tends, LogTellsAt, Works}
 use Rattle.djq_engine.proofs.Carrying.{readers_kept}
 use Rattle.djq_reach.proofs.Tending.{tells_show, tends_quiet}
 use Rattle.djq_engine.proofs.Tending.{counts_rows, shown_tended, tells_rows}
@@ -21,7 +21,7 @@ use Rattle.djq_engine.proofs.change.drop_cells.Goals as goal
 pub returns-in-Left-clause-deletes : goal.returns-in-Left-clause-deletes
 returns-in-Left-clause-deletes g c row stand =
     let old = c.args.parts.now in
-    let gone = (subst (λ (o : DeleteOutcome). DeletesRow old.catalog.relations c.args.id.at row o
+    let gone = (subst (λ (o : DeleteOutcome). DeletesRowAt old.catalog.relations c.args.id.at row o
     c.delete_row.new.self.relations) c.in-Left.is (c.delete_row.ensures.deletes row stand)) in (
       gone.0,
       gone.1,
@@ -32,19 +32,19 @@ returns-in-Left-clause-deletes g c row stand =
 
 pub returns-in-Left-clause-shown : goal.returns-in-Left-clause-shown
 returns-in-Left-clause-shown g c =
-    subst (λ (ts : List Bytes). AreShown ts c.args.parts.now.queries.items c.args.parts.now.logs.items)
+    subst (λ (ts : List Bytes). LogsCanBeShown ts c.args.parts.now.queries.items c.args.parts.now.logs.items)
     (sym c.delete_row.ensures.texts) c.requires.tended.shown
 
 pub returns-in-Absent-clause-deletes : goal.returns-in-Absent-clause-deletes
 returns-in-Absent-clause-deletes g c row stand =
     let old = c.args.parts.now in
-    let gone = (subst (λ (o : DeleteOutcome). DeletesRow old.catalog.relations c.args.id.at row o
+    let gone = (subst (λ (o : DeleteOutcome). DeletesRowAt old.catalog.relations c.args.id.at row o
     c.delete_row.new.self.relations) c.in-Absent.is (c.delete_row.ensures.deletes row stand)) in
     (gone.0, same_catalog old.catalog c.delete_row.new.self gone.1 c.delete_row.ensures.texts, refl, refl)
 
 pub returns-in-Absent-clause-shown : goal.returns-in-Absent-clause-shown
 returns-in-Absent-clause-shown g c =
-    subst (λ (ts : List Bytes). AreShown ts c.args.parts.now.queries.items c.args.parts.now.logs.items)
+    subst (λ (ts : List Bytes). LogsCanBeShown ts c.args.parts.now.queries.items c.args.parts.now.logs.items)
     (sym c.delete_row.ensures.texts) c.requires.tended.shown
 
 pub delete_from_readers-requires-clause-once : goal.delete_from_readers-requires-clause-once
@@ -52,7 +52,7 @@ delete_from_readers-requires-clause-once g c =
     let old = c.args.parts.now in
     let d = c.delete_row.new.self in
     let row = c.requires.row.0 in
-    let gone = (subst (λ (o : DeleteOutcome). DeletesRow old.catalog.relations c.args.id.at c.requires.row.0 o
+    let gone = (subst (λ (o : DeleteOutcome). DeletesRowAt old.catalog.relations c.args.id.at c.requires.row.0 o
     d.relations)
     c.in-Last.is (c.delete_row.ensures.deletes c.requires.row.0 c.requires.row.1)) in
     let was : IsOld old.catalog c.args.id.at c.args.cells.now row =
@@ -68,7 +68,7 @@ delete_from_readers-requires-clause-can g c =
     let old = c.args.parts.now in
     let d = c.delete_row.new.self in
     let row = c.requires.row.0 in
-    let gone = (subst (λ (o : DeleteOutcome). DeletesRow old.catalog.relations c.args.id.at c.requires.row.0 o
+    let gone = (subst (λ (o : DeleteOutcome). DeletesRowAt old.catalog.relations c.args.id.at c.requires.row.0 o
     d.relations)
     c.in-Last.is (c.delete_row.ensures.deletes c.requires.row.0 c.requires.row.1)) in
     let was : IsOld old.catalog c.args.id.at c.args.cells.now row =
@@ -94,13 +94,13 @@ returns g c =
     c.index.ensures c.as_slice-places.ensures in
     let did = λ (x y : Catalog) (row : Tuple). Went x y at cells row in
     let gone = λ (row : Tuple) (stand : StandForRow old.catalog at cells row).
-    subst (λ (o : DeleteOutcome). DeletesRow old.catalog.relations at row o d.relations) c.in-Last.is
+    subst (λ (o : DeleteOutcome). DeletesRowAt old.catalog.relations at row o d.relations) c.in-Last.is
     (c.delete_row.ensures.deletes row stand) in
     let goes = λ (row : Tuple) (stand : StandForRow old.catalog at cells row).
     c.deleted_went.ensures old.catalog d at cells row c.laws-2.ensures low stand texts (gone row stand).2 in
     let kept = subst (λ (ps : List ℕ). AllAt ps old.queries.items (λ l. IsKept old.catalog l)) (sym places)
     (readers_kept old.catalog old.queries.items old.order old.readers.items whole at low) in
-    let tends = subst (λ (ws : List ℕ). Tends xs (TellsAt ws did) old.queries.items old.logs.items logs)
+    let tends = subst (λ (ws : List ℕ). Tends xs (LogTellsAt ws did) old.queries.items old.logs.items logs)
     c.as_slice-watchers.ensures.value c.delete_from_readers.ensures.tells in
     record {
       deletes = λ row stand. (
@@ -128,7 +128,7 @@ returns g c =
       };
       quiet = λ i l there e. tends_quiet did old.watchers.items xs old.queries.items old.logs.items logs tends i l
           there (ap (λ (ps : List ℕ). is_reader ps i && watched_at old.watchers.items i) places ∙ e);
-      shown = subst (λ (ts : List Bytes). AreShown ts old.queries.items logs) (sym texts)
+      shown = subst (λ (ts : List Bytes). LogsCanBeShown ts old.queries.items logs) (sym texts)
           (shown_tended did old.catalog d old.queries.items xs old.logs.items logs c.requires.row.0 kept
           (goes c.requires.row.0 c.requires.row.1) texts
           (tells_show did c.as_slice-watchers.result.now xs old.queries.items old.logs.items logs

@@ -5,12 +5,12 @@ use Rattle.djq_model.specs.Data.{Bytes, Tuple, with_row}
 use Rattle.djq_lines.specs.declared.answer.AddOutcome.{AddOutcome}
 use Rattle.djq_rows.specs.declared.refusal.RowsRefusal.{RowsRefusal}
 use Rattle.djq_rows.specs.Catalog.{Catalog, StandForRow, counted_at}
-use Rattle.djq_rows.specs.Changes.{AddsRow}
+use Rattle.djq_rows.specs.Changes.{AddsRowAt}
 use Rattle.djq_live.specs.Changes.{Came}
 use Rattle.djq_live.specs.Live.{IsKept}
 use Rattle.djq_reach.specs.Places.{is_reader, watched_at}
 use Rattle.djq_reach.specs.Reaching.{AllAt}
-use Rattle.djq_reach.specs.Tending.{AreShown, AreUnwatched, Costs, Shows, Tends, TellsAt, Works}
+use Rattle.djq_reach.specs.Tending.{LogsCanBeShown, AreUnwatched, Costs, LogShows, Tends, LogTellsAt, Works}
 use Rattle.djq_engine.proofs.Carrying.{readers_kept}
 use Rattle.djq_reach.proofs.Tending.{tends_apart, tends_quiet}
 use Rattle.djq_engine.proofs.Tending.{counts_rows, shown_tended, tells_rows}
@@ -21,14 +21,14 @@ use Rattle.djq_engine.proofs.change.put_cells.Goals as goal
 
 pub unreachable-requires : goal.unreachable-requires
 unreachable-requires g c =
-    subst (λ (r : RowsRefusal). AddsRow c.args.parts.now.catalog.relations c.args.id.at c.requires.row.0 (Err r)
+    subst (λ (r : RowsRefusal). AddsRowAt c.args.parts.now.catalog.relations c.args.id.at c.requires.row.0 (Err r)
     c.add_row.new.self.relations) c.in-Err-NameTaken.field-0-is
     (c.in-Err-NameTaken.ensures.adds c.requires.row.0 c.requires.row.1)
 
 pub returns-in-Ok-More-clause-adds : goal.returns-in-Ok-More-clause-adds
 returns-in-Ok-More-clause-adds g c row stand =
     let old = c.args.parts.now in
-    let adds = subst (λ (o : AddOutcome). AddsRow old.catalog.relations c.args.id.at row (Ok o)
+    let adds = subst (λ (o : AddOutcome). AddsRowAt old.catalog.relations c.args.id.at row (Ok o)
     c.add_row.new.self.relations) c.in-Ok-More.field-0-is (c.in-Ok-More.ensures.adds row stand) in
     record {
       there = adds.0;
@@ -40,25 +40,25 @@ returns-in-Ok-More-clause-adds g c row stand =
 
 pub returns-in-Ok-More-clause-shown : goal.returns-in-Ok-More-clause-shown
 returns-in-Ok-More-clause-shown g c =
-    subst (λ (ts : List Bytes). AreShown ts c.args.parts.now.queries.items c.args.parts.now.logs.items)
+    subst (λ (ts : List Bytes). LogsCanBeShown ts c.args.parts.now.queries.items c.args.parts.now.logs.items)
     (sym c.add_row.ensures.texts) c.requires.tended.shown
 
 pub returns-in-Err-Full-clause-adds : goal.returns-in-Err-Full-clause-adds
 returns-in-Err-Full-clause-adds g c row stand =
     let old = c.args.parts.now in
-    let adds = subst (λ (r : RowsRefusal). AddsRow old.catalog.relations c.args.id.at row (Err r)
+    let adds = subst (λ (r : RowsRefusal). AddsRowAt old.catalog.relations c.args.id.at row (Err r)
     c.add_row.new.self.relations) c.in-Err-Full.field-0-is (c.in-Err-Full.ensures.adds row stand) in
     (adds.0, same_catalog old.catalog c.add_row.new.self adds.1 c.add_row.ensures.texts, refl, refl)
 
 pub returns-in-Err-Full-clause-shown : goal.returns-in-Err-Full-clause-shown
 returns-in-Err-Full-clause-shown g c =
-    subst (λ (ts : List Bytes). AreShown ts c.args.parts.now.queries.items c.args.parts.now.logs.items)
+    subst (λ (ts : List Bytes). LogsCanBeShown ts c.args.parts.now.queries.items c.args.parts.now.logs.items)
     (sym c.add_row.ensures.texts) c.requires.tended.shown
 
 pub returns-in-Err-NoMem-clause-adds : goal.returns-in-Err-NoMem-clause-adds
 returns-in-Err-NoMem-clause-adds g c row stand =
     let old = c.args.parts.now in
-    let adds = subst (λ (r : RowsRefusal). AddsRow old.catalog.relations c.args.id.at row (Err r)
+    let adds = subst (λ (r : RowsRefusal). AddsRowAt old.catalog.relations c.args.id.at row (Err r)
     c.add_row.new.self.relations) c.in-Err-NoMem.field-0-is (c.in-Err-NoMem.ensures.adds row stand) in
     let same = same_catalog old.catalog c.add_row.new.self adds.2 c.add_row.ensures.texts in (
       adds.0,
@@ -72,7 +72,7 @@ returns-in-Err-NoMem-clause-adds g c row stand =
 
 pub returns-in-Err-NoMem-clause-shown : goal.returns-in-Err-NoMem-clause-shown
 returns-in-Err-NoMem-clause-shown g c =
-    subst (λ (ts : List Bytes). AreShown ts c.args.parts.now.queries.items c.args.parts.now.logs.items)
+    subst (λ (ts : List Bytes). LogsCanBeShown ts c.args.parts.now.queries.items c.args.parts.now.logs.items)
     (sym c.add_row.ensures.texts) c.requires.tended.shown
 
 pub returns-in-Err-NoMem-clause-apart : goal.returns-in-Err-NoMem-clause-apart
@@ -89,7 +89,7 @@ insert_into_readers-requires-clause-once g c =
     let old = c.args.parts.now in
     let d = c.add_row.new.self in
     let row = c.requires.row.0 in
-    let adds = (subst (λ (o : AddOutcome). AddsRow old.catalog.relations c.args.id.at c.requires.row.0 (Ok o)
+    let adds = (subst (λ (o : AddOutcome). AddsRowAt old.catalog.relations c.args.id.at c.requires.row.0 (Ok o)
     d.relations)
     c.in-Ok-First.field-0-is (c.in-Ok-First.ensures.adds c.requires.row.0 c.requires.row.1)) in
     let new = came_new old.catalog c.args.id.at c.args.cells.now row d.relations c.requires.row.1 adds in
@@ -104,7 +104,7 @@ insert_into_readers-requires-clause-can g c =
     let old = c.args.parts.now in
     let d = c.add_row.new.self in
     let row = c.requires.row.0 in
-    let adds = (subst (λ (o : AddOutcome). AddsRow old.catalog.relations c.args.id.at c.requires.row.0 (Ok o)
+    let adds = (subst (λ (o : AddOutcome). AddsRowAt old.catalog.relations c.args.id.at c.requires.row.0 (Ok o)
     d.relations)
     c.in-Ok-First.field-0-is (c.in-Ok-First.ensures.adds c.requires.row.0 c.requires.row.1)) in
     let new = came_new old.catalog c.args.id.at c.args.cells.now row d.relations c.requires.row.1 adds in
@@ -130,7 +130,7 @@ returns-in-Ok g c =
     c.index.ensures c.as_slice-places.ensures in
     let did = λ (x y : Catalog) (row : Tuple). Came x y at cells row in
     let adds = λ (row : Tuple) (stand : StandForRow old.catalog at cells row).
-    subst (λ (o : AddOutcome). AddsRow old.catalog.relations at row (Ok o) d.relations) c.in-Ok-First.field-0-is
+    subst (λ (o : AddOutcome). AddsRowAt old.catalog.relations at row (Ok o) d.relations) c.in-Ok-First.field-0-is
     (c.in-Ok-First.ensures.adds row stand) in
     let new = λ (row : Tuple) (stand : StandForRow old.catalog at cells row).
     came_new old.catalog at cells row d.relations stand (adds row stand) in
@@ -144,7 +144,7 @@ returns-in-Ok g c =
     let costs = subst (λ (ws : List ℕ). Costs did xs ws old.queries.items at c.args.steps.now.listing
     c.insert_into_readers.new.steps.listing) c.as_slice-watchers.ensures.value
     c.insert_into_readers.ensures.counted in
-    let tends = subst (λ (ws : List ℕ). Tends xs (TellsAt ws did) old.queries.items old.logs.items logs)
+    let tends = subst (λ (ws : List ℕ). Tends xs (LogTellsAt ws did) old.queries.items old.logs.items logs)
     c.as_slice-watchers.ensures.value c.in-Ok.ensures.tells in
     record {
       adds = λ row stand. (
@@ -171,7 +171,7 @@ returns-in-Ok g c =
       quiet = λ i l there e. tends_quiet did old.watchers.items xs old.queries.items old.logs.items logs tends i l
           there (ap (λ (ps : List ℕ). is_reader ps i && watched_at old.watchers.items i) places ∙ e);
       apart = tt;
-      shown = subst (λ (ts : List Bytes). AreShown ts old.queries.items logs) (sym texts) shown;
+      shown = subst (λ (ts : List Bytes). LogsCanBeShown ts old.queries.items logs) (sym texts) shown;
       tells = λ row stand. tells_rows did old.catalog d old.queries.items old.order old.readers.items whole at low
           old.watchers.items xs places row (comes row stand) (with_row (counted_at old.catalog.relations at) row)
           (adds row stand).2 old.logs.items logs tends;
@@ -204,7 +204,7 @@ returns-in-Err g c =
     c.index.ensures c.as_slice-places.ensures in
     let did = λ (x y : Catalog) (row : Tuple). Came x y at cells row in
     let adds = λ (row : Tuple) (stand : StandForRow old.catalog at cells row).
-    subst (λ (o : AddOutcome). AddsRow old.catalog.relations at row (Ok o) d.relations) c.in-Ok-First.field-0-is
+    subst (λ (o : AddOutcome). AddsRowAt old.catalog.relations at row (Ok o) d.relations) c.in-Ok-First.field-0-is
     (c.in-Ok-First.ensures.adds row stand) in
     let new = λ (row : Tuple) (stand : StandForRow old.catalog at cells row).
     came_new old.catalog at cells row d.relations stand (adds row stand) in
@@ -230,7 +230,8 @@ returns-in-Err g c =
           catalog = back row stand;
           carries = wait_carries old.catalog d at low cells row (new row stand) c.laws.ensures c.laws-2.ensures texts
               (adds row stand).2 old.queries.items old.order old.readers.items whole xs places c.added_came.ensures
-              c.deleted_went.ensures c.insert_into_readers.new.queries.items c.in-Err.ensures.given c.delete_row.new.self
+              c.deleted_went.ensures c.insert_into_readers.new.queries.items c.in-Err.ensures.given
+              c.delete_row.new.self
               (back row stand);
         },
       );
@@ -244,9 +245,9 @@ returns-in-Err g c =
         long = c.insert_into_readers.ensures.shows.long;
       };
       quiet = tt;
-      apart = λ i l there e. tends_apart (Shows did) xs old.queries.items old.logs.items logs
+      apart = λ i l there e. tends_apart (LogShows did) xs old.queries.items old.logs.items logs
           c.insert_into_readers.ensures.shows i (ap (λ (ps : List ℕ). is_reader ps i) places ∙ e);
-      shown = subst (λ (ts : List Bytes). AreShown ts old.queries.items logs)
+      shown = subst (λ (ts : List Bytes). LogsCanBeShown ts old.queries.items logs)
           (sym (c.delete_row.ensures.texts ∙ texts)) shown;
       tells = tt;
       counted = tt;

@@ -4,7 +4,7 @@ use Rattle.std.specs.Prelude.{Some, map}
 use Rattle.djq_model.specs.declared.relation.Relation.{Relation}
 use Rattle.djq_model.specs.Data.{with_row}
 use Rattle.djq_rows.specs.Catalog.{no_relation, relation_at, counted_at}
-use Rattle.djq_rows.specs.Changes.{given}
+use Rattle.djq_rows.specs.Changes.{given_cells}
 use Rattle.djq_live.specs.Live.{Live}
 use Rattle.djq_live.specs.Updating.{change_of}
 use Rattle.djq_reach.specs.Places.{is_reader, log_at, place_at, readers_at, watched_at}
@@ -42,10 +42,10 @@ returns-in-Err-clause-adds g c =
     (all_stay c.live_stays.ensures old.catalog c.intern_cells.new.self old.queries.items old.order old.readers.items
     c.requires.whole
     (learned_rows c.texts_stay.ensures old.catalog c.intern_cells.new.self
-    (interned old.catalog.texts c.args.row.now (given c.intern_cells.result c.intern_cells.new.cells)
+    (interned old.catalog.texts c.args.row.now (given_cells c.intern_cells.result c.intern_cells.new.cells)
     c.intern_cells.new.self.texts c.intern_cells.ensures.interns).0
     c.laws-in-Err.ensures c.intern_cells.ensures.relations
-    (interned old.catalog.texts c.args.row.now (given c.intern_cells.result c.intern_cells.new.cells)
+    (interned old.catalog.texts c.args.row.now (given_cells c.intern_cells.result c.intern_cells.new.cells)
     c.intern_cells.new.self.texts c.intern_cells.ensures.interns).1))
     (c.in-Err.ensures.absent c.args.id.at c.requires.there))
 
@@ -54,12 +54,12 @@ returns-in-Err-clause-shown g c =
     let old = c.args.parts.now in
     (shown_more c.showable_stays.ensures old.catalog.texts
     (c.texts_stay.ensures old.catalog.texts
-    (interned old.catalog.texts c.args.row.now (given c.intern_cells.result c.intern_cells.new.cells)
+    (interned old.catalog.texts c.args.row.now (given_cells c.intern_cells.result c.intern_cells.new.cells)
     c.intern_cells.new.self.texts c.intern_cells.ensures.interns).0).0 c.intern_cells.new.self.texts
-    ((interned old.catalog.texts c.args.row.now (given c.intern_cells.result c.intern_cells.new.cells)
+    ((interned old.catalog.texts c.args.row.now (given_cells c.intern_cells.result c.intern_cells.new.cells)
     c.intern_cells.new.self.texts c.intern_cells.ensures.interns).1
     ∙ (c.texts_stay.ensures old.catalog.texts
-    (interned old.catalog.texts c.args.row.now (given c.intern_cells.result c.intern_cells.new.cells)
+    (interned old.catalog.texts c.args.row.now (given_cells c.intern_cells.result c.intern_cells.new.cells)
     c.intern_cells.new.self.texts c.intern_cells.ensures.interns).0).1) old.queries.items old.logs.items
     c.requires.tended.shown)
 
@@ -86,10 +86,10 @@ put_cells-requires-clause-whole g c =
     (all_stay c.live_stays.ensures old.catalog c.intern_cells.new.self old.queries.items old.order old.readers.items
     c.requires.whole
     (learned_rows c.texts_stay.ensures old.catalog c.intern_cells.new.self
-    (interned old.catalog.texts c.args.row.now (given c.intern_cells.result c.intern_cells.new.cells)
+    (interned old.catalog.texts c.args.row.now (given_cells c.intern_cells.result c.intern_cells.new.cells)
     c.intern_cells.new.self.texts c.intern_cells.ensures.interns).0
     c.laws-2.ensures c.intern_cells.ensures.relations
-    (interned old.catalog.texts c.args.row.now (given c.intern_cells.result c.intern_cells.new.cells)
+    (interned old.catalog.texts c.args.row.now (given_cells c.intern_cells.result c.intern_cells.new.cells)
     c.intern_cells.new.self.texts c.intern_cells.ensures.interns).1)) c.requires.whole
 
 pub put_cells-requires-clause-tended : goal.put_cells-requires-clause-tended
@@ -101,12 +101,12 @@ put_cells-requires-clause-tended g c =
       room = c.requires.tended.room;
       shown = (shown_more c.showable_stays.ensures old.catalog.texts
           (c.texts_stay.ensures old.catalog.texts
-          (interned old.catalog.texts c.args.row.now (given c.intern_cells.result c.intern_cells.new.cells)
+          (interned old.catalog.texts c.args.row.now (given_cells c.intern_cells.result c.intern_cells.new.cells)
           c.intern_cells.new.self.texts c.intern_cells.ensures.interns).0).0 c.intern_cells.new.self.texts
-          ((interned old.catalog.texts c.args.row.now (given c.intern_cells.result c.intern_cells.new.cells)
+          ((interned old.catalog.texts c.args.row.now (given_cells c.intern_cells.result c.intern_cells.new.cells)
           c.intern_cells.new.self.texts c.intern_cells.ensures.interns).1
           ∙ (c.texts_stay.ensures old.catalog.texts
-          (interned old.catalog.texts c.args.row.now (given c.intern_cells.result c.intern_cells.new.cells)
+          (interned old.catalog.texts c.args.row.now (given_cells c.intern_cells.result c.intern_cells.new.cells)
           c.intern_cells.new.self.texts c.intern_cells.ensures.interns).0).1) old.queries.items old.logs.items
           c.requires.tended.shown);
     }
@@ -129,10 +129,10 @@ returns-clause-adds g c =
     (all_stay c.live_stays.ensures old.catalog c.intern_cells.new.self old.queries.items old.order old.readers.items
     c.requires.whole
     (learned_rows c.texts_stay.ensures old.catalog c.intern_cells.new.self
-    (interned old.catalog.texts c.args.row.now (given c.intern_cells.result c.intern_cells.new.cells)
+    (interned old.catalog.texts c.args.row.now (given_cells c.intern_cells.result c.intern_cells.new.cells)
     c.intern_cells.new.self.texts c.intern_cells.ensures.interns).0
     c.laws-2.ensures c.intern_cells.ensures.relations
-    (interned old.catalog.texts c.args.row.now (given c.intern_cells.result c.intern_cells.new.cells)
+    (interned old.catalog.texts c.args.row.now (given_cells c.intern_cells.result c.intern_cells.new.cells)
     c.intern_cells.new.self.texts c.intern_cells.ensures.interns).1)) c.requires.room c.put_cells.result
     (c.put_cells.ensures.adds c.args.row.now
     (same_stand old.catalog c.intern_cells.new.self c.args.id.at c.as_slice.result.now c.args.row.now

@@ -3,7 +3,7 @@ use Rattle.std.proofs.Common.{◌≡◌, ◌<◌, ◌∙◌, ℕ, Bool, true, fa
 use Rattle.std.specs.Prelude.{IfNone}
 use Rattle.djq_model.specs.Data.{has_row}
 use Rattle.djq_rows.specs.Catalog.{StandForRow, no_relation, relation_at, rows_at}
-use Rattle.djq_rows.specs.Changes.{TellsCells, told}
+use Rattle.djq_rows.specs.Changes.{TellsRowCells, told_cells}
 use Rattle.djq_engine.proofs.Judged.{delete_absent, delete_limited, delete_passes, delete_several}
 use Rattle.djq_live.proofs.Rowing.{fits_long}
 use Rattle.djq_engine.proofs.judge.check_delete.Goals as goal
@@ -20,9 +20,9 @@ write_cells-requires g c = omega (
 pub returns-then-not-write_cells-clause-ok : goal.returns-then-not-write_cells-clause-ok
 returns-then-not-write_cells-clause-ok g c =
     let r = c.args.catalog.now.relations in
-    let absent : IfNone (told false c.write_cells.new.cells) ((at : ℕ) → at < length r
+    let absent : IfNone (told_cells false c.write_cells.new.cells) ((at : ℕ) → at < length r
     → has_row (rows_at r at) c.args.row.now ≡ false) =
-    subst (λ (b : Bool). IfNone (told b c.write_cells.new.cells) ((at : ℕ) → at < length r
+    subst (λ (b : Bool). IfNone (told_cells b c.write_cells.new.cells) ((at : ℕ) → at < length r
     → has_row (rows_at r at) c.args.row.now ≡ false)) c.if-not-write_cells.true
     c.write_cells.ensures.absent in
     delete_absent r c.args.name.now c.args.row.now c.args.seq
@@ -31,9 +31,9 @@ returns-then-not-write_cells-clause-ok g c =
 
 pub returns-then-seq-ne-LAST_SEQ-clause-ok : goal.returns-then-seq-ne-LAST_SEQ-clause-ok
 returns-then-seq-ne-LAST_SEQ-clause-ok g c =
-    let known : TellsCells c.args.catalog.now.texts c.args.row.now
-    (told true c.write_cells.new.cells) = subst (λ (b : Bool). TellsCells
-    c.args.catalog.now.texts c.args.row.now (told b c.write_cells.new.cells))
+    let known : TellsRowCells c.args.catalog.now.texts c.args.row.now
+    (told_cells true c.write_cells.new.cells) = subst (λ (b : Bool). TellsRowCells
+    c.args.catalog.now.texts c.args.row.now (told_cells b c.write_cells.new.cells))
     c.if-not-write_cells.false c.write_cells.ensures.tells in
     record {
       relation = c.in_ok-relation.ensures.ok;
@@ -46,9 +46,9 @@ returns-then-seq-ne-LAST_SEQ-clause-ok g c =
 
 pub returns-then-copies-eq1-clause-err : goal.returns-then-copies-eq1-clause-err
 returns-then-copies-eq1-clause-err g c =
-    let known : TellsCells c.args.catalog.now.texts c.args.row.now
-    (told true c.write_cells.new.cells) = subst (λ (b : Bool). TellsCells
-    c.args.catalog.now.texts c.args.row.now (told b c.write_cells.new.cells))
+    let known : TellsRowCells c.args.catalog.now.texts c.args.row.now
+    (told_cells true c.write_cells.new.cells) = subst (λ (b : Bool). TellsRowCells
+    c.args.catalog.now.texts c.args.row.now (told_cells b c.write_cells.new.cells))
     c.if-not-write_cells.false c.write_cells.ensures.tells in
     let stand : StandForRow c.args.catalog.now c.in_ok-relation.relation.at c.as_slice.result.now c.args.row.now =
     record {
@@ -62,9 +62,9 @@ returns-then-copies-eq1-clause-err g c =
 
 pub returns-clause-ok : goal.returns-clause-ok
 returns-clause-ok g c =
-    let known : TellsCells c.args.catalog.now.texts c.args.row.now
-    (told true c.write_cells.new.cells) = subst (λ (b : Bool). TellsCells
-    c.args.catalog.now.texts c.args.row.now (told b c.write_cells.new.cells))
+    let known : TellsRowCells c.args.catalog.now.texts c.args.row.now
+    (told_cells true c.write_cells.new.cells) = subst (λ (b : Bool). TellsRowCells
+    c.args.catalog.now.texts c.args.row.now (told_cells b c.write_cells.new.cells))
     c.if-not-write_cells.false c.write_cells.ensures.tells in
     let stand : StandForRow c.args.catalog.now c.in_ok-relation.relation.at c.as_slice.result.now c.args.row.now =
     record {

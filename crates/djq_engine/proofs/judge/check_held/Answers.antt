@@ -3,7 +3,7 @@ use Rattle.std.proofs.Common.{◌∙◌, sym, ap, arith, inl, inr}
 use Rattle.std.proofs.lemmas.Bool.{false≢true}
 use Rattle.djq_model.specs.Data.{Tuple, has_row}
 use Rattle.djq_rows.specs.Catalog.{rows_at}
-use Rattle.djq_engine.specs.Judging.{Suits}
+use Rattle.djq_engine.specs.Judging.{RowSuits}
 use Rattle.djq_engine.proofs.Judged.{suits_here, place_limited}
 use Rattle.djq_engine.proofs.judge.check_held.Goals as goal
 
@@ -12,7 +12,7 @@ returns-then-not-is_there-clause-err g c =
     let rs = c.args.catalog.now.relations in
     let h = c.args.held.now in
     let at = c.in-Some.id.at in
-    let suits : Suits rs h.relation h.row at =
+    let suits : RowSuits rs h.relation h.row at =
     suits_here rs c.args.seq h.relation h.row at c.requires c.in-Some.ensures.0 c.in-Some.ensures.1 c.in-Some.ensures.2
     in
     place_limited rs h.relation h.row c.args.seq at suits

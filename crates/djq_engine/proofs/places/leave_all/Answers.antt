@@ -1,6 +1,6 @@
 -- The lists behind the index are as they were, so in the next one places differ still.
 use Rattle.std.proofs.Common.{◌∙◌, ap, sym, subst, arith, ◌<◌, length}
-use Rattle.djq_engine.specs.Places.{left}
+use Rattle.djq_engine.specs.Places.{places_without}
 use Rattle.djq_reach.specs.Places.{AreOnce}
 use Rattle.djq_engine.proofs.Lists.{list_read, left_more, left_whole}
 use Rattle.djq_engine.proofs.places.leave_all.Goals as goal
@@ -35,7 +35,7 @@ loop-list-preserved c =
     (c.loop-list.invariant.rest c.loop-list.list (omega arith)) in
     left_more c.args.at c.args.lists.now.items c.loop-list.lists.items c.loop-list.list
     c.leave_out.new.places low c.loop-list.invariant.long c.loop-list.invariant.done
-    c.loop-list.invariant.rest (c.leave_out.ensures ∙ ap (left c.args.at) is)
+    c.loop-list.invariant.rest (c.leave_out.ensures ∙ ap (places_without c.args.at) is)
 
 pub returns : goal.returns
 returns c = left_whole c.args.at c.args.lists.now.items c.loop-list.lists.items c.loop-list.list

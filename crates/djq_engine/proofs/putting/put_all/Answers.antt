@@ -5,7 +5,7 @@ use Rattle.std.specs.Prelude.{◌==◌, cond}
 use Rattle.std.proofs.lemmas.List.{take_all}
 use Rattle.djq_model.specs.Data.{Bytes}
 use Rattle.djq_lines.specs.declared.held.HeldRow.{HeldRow}
-use Rattle.djq_machine.specs.Batch.{StopsAt, with_all, has_come}
+use Rattle.djq_machine.specs.Batch.{BatchStopsAt, with_all, has_come}
 use Rattle.djq_rows.specs.Catalog.{Catalog}
 use Rattle.djq_reach.specs.declared.group.Group.{Group}
 use Rattle.djq_engine.specs.Putting.{bare_of, IsStoreOf, PutsAll}
@@ -126,7 +126,7 @@ returns-in-Err-clause-refused g c st s =
       rest = split.0;
       parts = split.1;
       places = p.places;
-      stops = subst (λ (ts : List Bytes). StopsAt (with_all st (take c.loop-at.at c.args.held.now)) x ts
+      stops = subst (λ (ts : List Bytes). BatchStopsAt (with_all st (take c.loop-at.at c.args.held.now)) x ts
           c.in-Err.refusal) (sym c.take_back.ensures.texts)
           (stops_as (bare_of c.loop-at.catalog c.args.seq) (with_all st (take c.loop-at.at c.args.held.now)) x
           c.put_one.new.catalog.texts c.in-Err.refusal

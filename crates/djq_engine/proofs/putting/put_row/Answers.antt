@@ -7,7 +7,7 @@ use Rattle.djq_lines.specs.declared.answer.AddOutcome.{AddOutcome}
 use Rattle.djq_dict.specs.declared.refusal.InternRefusal.{InternRefusal}
 use Rattle.djq_rows.specs.declared.refusal.RowsRefusal.{RowsRefusal}
 use Rattle.djq_rows.specs.Catalog.{StandForRow, relation_at, rows_at}
-use Rattle.djq_rows.specs.Changes.{AddsRow, InternsRow}
+use Rattle.djq_rows.specs.Changes.{AddsRowAt, InternsRow}
 use Rattle.djq_engine.proofs.Standing.{text_full, text_lacks, puts_new, puts_more, no_place, row_lacks}
 use Rattle.djq_engine.proofs.Storing.{same_stand}
 use Rattle.djq_engine.proofs.putting.put_row.Goals as goal
@@ -49,10 +49,11 @@ returns-in-Ok-First-clause-ok g c =
     (subst (λ (t : Tuple). fits (relation_at old.relations id.at).types t ≡ true) (sym c.as_slice.ensures)
     c.in_ok-id.ensures.ok.relation.suits)
     c.in-Ok.ensures.interns.1 (c.as_slice-2.ensures ∙ c.in-Ok.ensures.interns.2) in
-    let adds : AddsRow mid.relations id.at c.args.held.now.row (Ok c.in-Ok-First.field-0) c.add_row.new.self.relations =
-    subst (λ (t : Tuple). AddsRow mid.relations id.at t (Ok c.in-Ok-First.field-0) c.add_row.new.self.relations)
+    let adds : AddsRowAt mid.relations id.at c.args.held.now.row (Ok c.in-Ok-First.field-0)
+    c.add_row.new.self.relations =
+    subst (λ (t : Tuple). AddsRowAt mid.relations id.at t (Ok c.in-Ok-First.field-0) c.add_row.new.self.relations)
     c.as_slice.ensures (c.in-Ok-First.ensures.adds seen stand) in
-    let known_as = subst (λ (o : AddOutcome). AddsRow mid.relations id.at c.args.held.now.row (Ok o)
+    let known_as = subst (λ (o : AddOutcome). AddsRowAt mid.relations id.at c.args.held.now.row (Ok o)
     c.add_row.new.self.relations) c.in-Ok-First.field-0-is adds in
     puts_new old c.args.held.now c.args.seq id c.in_ok-id.ensures.ok mid c.intern_cells.new.cells
     c.intern_cells.ensures.relations known
@@ -71,10 +72,11 @@ returns-in-Ok-More-clause-ok g c =
     (subst (λ (t : Tuple). fits (relation_at old.relations id.at).types t ≡ true) (sym c.as_slice.ensures)
     c.in_ok-id.ensures.ok.relation.suits)
     c.in-Ok.ensures.interns.1 (c.as_slice-2.ensures ∙ c.in-Ok.ensures.interns.2) in
-    let adds : AddsRow mid.relations id.at c.args.held.now.row (Ok c.in-Ok-More.field-0) c.add_row.new.self.relations =
-    subst (λ (t : Tuple). AddsRow mid.relations id.at t (Ok c.in-Ok-More.field-0) c.add_row.new.self.relations)
+    let adds : AddsRowAt mid.relations id.at c.args.held.now.row (Ok c.in-Ok-More.field-0)
+    c.add_row.new.self.relations =
+    subst (λ (t : Tuple). AddsRowAt mid.relations id.at t (Ok c.in-Ok-More.field-0) c.add_row.new.self.relations)
     c.as_slice.ensures (c.in-Ok-More.ensures.adds seen stand) in
-    let known_as = subst (λ (o : AddOutcome). AddsRow mid.relations id.at c.args.held.now.row (Ok o)
+    let known_as = subst (λ (o : AddOutcome). AddsRowAt mid.relations id.at c.args.held.now.row (Ok o)
     c.add_row.new.self.relations) c.in-Ok-More.field-0-is adds in
     puts_more old c.args.held.now c.args.seq id c.in_ok-id.ensures.ok mid c.intern_cells.new.cells
     c.intern_cells.ensures.relations known
@@ -93,11 +95,11 @@ returns-in-Err-Full-add_row-clause-err g c =
     (subst (λ (t : Tuple). fits (relation_at old.relations id.at).types t ≡ true) (sym c.as_slice.ensures)
     c.in_ok-id.ensures.ok.relation.suits)
     c.in-Ok.ensures.interns.1 (c.as_slice-2.ensures ∙ c.in-Ok.ensures.interns.2) in
-    let adds : AddsRow mid.relations id.at c.args.held.now.row (Err c.in-Err-Full-add_row.field-0)
+    let adds : AddsRowAt mid.relations id.at c.args.held.now.row (Err c.in-Err-Full-add_row.field-0)
     c.add_row.new.self.relations =
-    subst (λ (t : Tuple). AddsRow mid.relations id.at t (Err c.in-Err-Full-add_row.field-0)
+    subst (λ (t : Tuple). AddsRowAt mid.relations id.at t (Err c.in-Err-Full-add_row.field-0)
     c.add_row.new.self.relations) c.as_slice.ensures (c.in-Err-Full-add_row.ensures.adds seen stand) in
-    let known_as = subst (λ (o : RowsRefusal). AddsRow mid.relations id.at c.args.held.now.row (Err o)
+    let known_as = subst (λ (o : RowsRefusal). AddsRowAt mid.relations id.at c.args.held.now.row (Err o)
     c.add_row.new.self.relations) c.in-Err-Full-add_row.field-0-is adds in
     no_place old c.args.held.now c.args.seq id c.in_ok-id.ensures.ok mid c.intern_cells.new.cells
     c.intern_cells.ensures.relations known
@@ -116,11 +118,11 @@ returns-in-Err-NoMem-add_row-clause-err g c =
     (subst (λ (t : Tuple). fits (relation_at old.relations id.at).types t ≡ true) (sym c.as_slice.ensures)
     c.in_ok-id.ensures.ok.relation.suits)
     c.in-Ok.ensures.interns.1 (c.as_slice-2.ensures ∙ c.in-Ok.ensures.interns.2) in
-    let adds : AddsRow mid.relations id.at c.args.held.now.row (Err c.in-Err-NoMem-add_row.field-0)
+    let adds : AddsRowAt mid.relations id.at c.args.held.now.row (Err c.in-Err-NoMem-add_row.field-0)
     c.add_row.new.self.relations =
-    subst (λ (t : Tuple). AddsRow mid.relations id.at t (Err c.in-Err-NoMem-add_row.field-0)
+    subst (λ (t : Tuple). AddsRowAt mid.relations id.at t (Err c.in-Err-NoMem-add_row.field-0)
     c.add_row.new.self.relations) c.as_slice.ensures (c.in-Err-NoMem-add_row.ensures.adds seen stand) in
-    let known_as = subst (λ (o : RowsRefusal). AddsRow mid.relations id.at c.args.held.now.row (Err o)
+    let known_as = subst (λ (o : RowsRefusal). AddsRowAt mid.relations id.at c.args.held.now.row (Err o)
     c.add_row.new.self.relations) c.in-Err-NoMem-add_row.field-0-is adds in
     row_lacks old c.args.held.now c.args.seq id c.in_ok-id.ensures.ok mid c.intern_cells.new.cells
     c.intern_cells.ensures.relations known

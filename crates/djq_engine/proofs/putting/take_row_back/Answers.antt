@@ -7,7 +7,7 @@ use Rattle.djq_lines.specs.declared.answer.Refusal.TheVariants.{NoRelation}
 use Rattle.djq_machine.specs.Batch.{suit_refusal}
 use Rattle.djq_rows.specs.Cells.{HaveCells, cells_of}
 use Rattle.djq_rows.specs.Catalog.{StandForRow, no_relation, relation_at, rows_at}
-use Rattle.djq_engine.specs.Judging.{bare, Suits}
+use Rattle.djq_engine.specs.Judging.{bare_store, RowSuits}
 use Rattle.djq_engine.proofs.GivenUp.{suits_found}
 use Rattle.djq_engine.proofs.Judged.{suited_none}
 use Rattle.djq_live.proofs.Rowing.{fits_long}
@@ -18,8 +18,8 @@ pub unreachable-requires : goal.unreachable-requires
 unreachable-requires g c =
     let now = c.args.catalog.now.relations in
     let h = c.args.held.now in
-    let suit : suit_refusal (bare now 0) h.relation h.row ≡ None = suits_last c.requires.0 h now 0 c.requires.1 in
-    let none : suit_refusal (bare now 0) h.relation h.row
+    let suit : suit_refusal (bare_store now 0) h.relation h.row ≡ None = suits_last c.requires.0 h now 0 c.requires.1 in
+    let none : suit_refusal (bare_store now 0) h.relation h.row
     ≡ Some NoRelation = suited_none now h.relation h.row c.in_default.ensures in
     cc
 
@@ -27,7 +27,7 @@ pub cells-requires : goal.cells-requires
 cells-requires g c =
     let now = c.args.catalog.now.relations in
     let h = c.args.held.now in
-    let suits : Suits now h.relation h.row c.in-Some.id.at
+    let suits : RowSuits now h.relation h.row c.in-Some.id.at
     = last_suits c.requires.0 h now c.in-Some.id.at c.requires.1 c.in-Some.ensures.0 c.in-Some.ensures.1
     c.in-Some.ensures.2 in
     omega (

@@ -1,5 +1,5 @@
 use Rattle.std.proofs.Common.{List, ℕ, ◌≡◌, ◌≤◌, length}
-use Rattle.djq_follow.specs.Follow.{Takes}
+use Rattle.djq_follow.specs.Follow.{TakesLines}
 use Rattle.djq_io.specs.Given.{Gave}
 use Rattle.djq_follow.proofs.reading.follow.Given as goal
 
@@ -7,7 +7,7 @@ abbrev pub invariant-loop : goal.invariant-loop
 invariant-loop g l = record {
   bytes : List ℕ;
   gave : Gave (g.S.Source.told l.fn.source) (g.S.Source.told l.source) bytes;
-  takes : Takes l.fn.follower bytes l.follower;
+  takes : TakesLines l.fn.follower bytes l.follower;
   no_fault : g.S.Source.faults l.source ≡ g.S.Source.faults l.fn.source;
   some : l.counter ≤ length bytes;
   room : length l.buffer ≡ length l.fn.buffer;

@@ -4,7 +4,7 @@ use Rattle.std.specs.Prelude.{slice_get}
 use Rattle.djq_live.specs.Live.{Live, IsKeptSomewhere}
 use Rattle.djq_live.specs.Member.{queries_at}
 use Rattle.djq_live.proofs.AtPlaces.{as_many}
-use Rattle.djq_gains.specs.Gains.{AtFirst}
+use Rattle.djq_gains.specs.Gains.{AtFirstMember}
 use Rattle.djq_gains.specs.Gathered.{Gathered}
 use Rattle.djq_gains.proofs.Collecting.{Collects, collects_none, collects_touched, collects_other, collects_all}
 use Rattle.djq_gains.proofs.Members.{and_so, all_got, all_kept, wide_member}
@@ -30,7 +30,7 @@ loop-nth-init c =
       collects = subst (λ (g : Gathered). Collects c.args.engine.now c.args.members.now
           c.args.touched.now 0 g.gains) is
           (collects_none c.args.engine.now c.args.members.now c.args.touched.now);
-      wide = subst (λ (g : Gathered). AtFirst c.args.engine.now c.args.members.now
+      wide = subst (λ (g : Gathered). AtFirstMember c.args.engine.now c.args.members.now
           (λ q. g.width ≡ length q.query.head)) is
           (and_so (slice_get (queries_at c.args.engine.now.places c.args.members.now) 0)
           (λ (q : Live). c.width.result ≡ length q.query.head) c.member.result.now first
@@ -56,7 +56,7 @@ loop-nth-preserved c = elim c.if-is_among.branch [
             c.loop-nth-test.true (sym c.is_among.ensures ∙ w.if-is_among.true)
             (λ k t. w.in_ok-gather_from.ensures.gathered k t) w.in_ok-gather_from.ensures.told
             w.in_ok-gather_from.ensures.few);
-        wide = subst (λ (n : ℕ). AtFirst c.args.engine.now c.args.members.now
+        wide = subst (λ (n : ℕ). AtFirstMember c.args.engine.now c.args.members.now
             (λ q. n ≡ length q.query.head)) (sym same) c.loop-nth.invariant.wide;
         narrow = subst (λ (n : ℕ). n ≤ 16) (sym same) c.loop-nth.invariant.narrow;
       }
@@ -68,7 +68,7 @@ loop-nth-preserved c = elim c.if-is_among.branch [
             (collects_other c.args.engine.now c.args.members.now c.args.touched.now c.loop-nth.nth
             c.loop-nth.gains.gains c.loop-nth.invariant.collects c.loop-nth-test.true
             (sym c.is_among.ensures ∙ w.if-is_among.false));
-        wide = subst (λ (n : ℕ). AtFirst c.args.engine.now c.args.members.now
+        wide = subst (λ (n : ℕ). AtFirstMember c.args.engine.now c.args.members.now
             (λ q. n ≡ length q.query.head)) (sym same) c.loop-nth.invariant.wide;
         narrow = subst (λ (n : ℕ). n ≤ 16) (sym same) c.loop-nth.invariant.narrow;
       }

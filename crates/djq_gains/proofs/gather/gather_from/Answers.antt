@@ -4,9 +4,9 @@ use Rattle.std.specs.Prelude.{IsSome, IsSomeAnd}
 use Rattle.std.proofs.lemmas.List.{take_all}
 use Rattle.djq_live.specs.Live.{Live}
 use Rattle.djq_live.specs.Member.{head_types, query_at}
-use Rattle.djq_engine.specs.Kept.{Kept, AreListed, registered_at}
+use Rattle.djq_engine.specs.Kept.{Kept, PlacesAreRegistered, registered_at}
 use Rattle.djq_engine.specs.Lending.{sign_of}
-use Rattle.djq_gains.specs.Gains.{told_in}
+use Rattle.djq_gains.specs.Gains.{told_of_member}
 use Rattle.djq_gains.specs.Gathering.{cells_told}
 use Rattle.djq_gains.proofs.Taking.{
   some_with,
@@ -22,7 +22,7 @@ use Rattle.djq_gains.proofs.Taking.{
 }
 use Rattle.djq_gains.proofs.gather.gather_from.Goals as goal
 
-registered : (k : Kept) (place width : ℕ) → AreListed k
+registered : (k : Kept) (place width : ℕ) → PlacesAreRegistered k
     → IsSomeAnd (query_at k.places place) (λ l. length (head_types l) ≡ width)
     → IsSome (registered_at k.registered (record { at = place }))
 registered k place width listed query =
@@ -34,8 +34,8 @@ delta_len-requires c =
     registered c.args.engine.now c.args.place c.args.gains.now.width c.laws.ensures.listed
     c.requires.query
 
-are_counted : (c : goal.After-loop-line) → AreCounted (told_in c.args.engine.now c.args.place) c.in-Some.len
-are_counted c = counted (told_in c.args.engine.now c.args.place) c.in-Some.len
+are_counted : (c : goal.After-loop-line) → AreCounted (told_of_member c.args.engine.now c.args.place) c.in-Some.len
+are_counted c = counted (told_of_member c.args.engine.now c.args.place) c.in-Some.len
     (sym c.in-Some.is ∙ c.delta_len.ensures)
 
 pub loop-line-init : goal.loop-line-init
@@ -62,7 +62,7 @@ returns-in_err-note-clause-width c = c.note.ensures.width ∙ c.loop-line.invari
 
 pub loop-line-preserved : goal.loop-line-preserved
 loop-line-preserved c =
-    let told = counted (told_in c.args.engine.now c.args.place) c.in-Some.len
+    let told = counted (told_of_member c.args.engine.now c.args.place) c.in-Some.len
     (sym c.in-Some.is ∙ c.delta_len.ensures) in
     let long = told_long c.args.engine.now c.args.place told.changes told.is in
     let as_long = told.long in

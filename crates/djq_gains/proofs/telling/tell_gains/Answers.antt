@@ -7,7 +7,7 @@ use Rattle.djq_cursor.specs.declared.log.Line.{Line}
 use Rattle.djq_live.specs.Live.{Live, IsKeptSomewhere}
 use Rattle.djq_live.specs.Member.{queries_at}
 use Rattle.djq_gains.specs.Gains.{TellUnion, members_at, count_in}
-use Rattle.djq_gains.specs.Gathering.{asks_of, lines_of, IsFirst}
+use Rattle.djq_gains.specs.Gathering.{asks_of, gain_lines, AtFirstQuery}
 use Rattle.djq_gains.proofs.Among.{there_among, count_within}
 use Rattle.djq_gains.proofs.Members.{all_kept, member_at, and_so}
 use Rattle.djq_gains.proofs.Delta.{tells_union, atoms_are, counts_at_most}
@@ -23,8 +23,8 @@ returns-in-Ok-clause-tells g c kept =
     let k = c.args.engine.now in
     let members = c.args.members.now in
     let first = member_at k members 0 c.requires.queries c.requires.some in
-    let told = subst (λ (qs : List (Option Live)). IsFirst (queries_at qs members)
-    (λ l. c.tell.new.log.lines ≡ lines_of c.args.came (queries_at qs members) l c.in-Ok.gains.gains))
+    let told = subst (λ (qs : List (Option Live)). AtFirstQuery (queries_at qs members)
+    (λ l. c.tell.new.log.lines ≡ gain_lines c.args.came (queries_at qs members) l c.in-Ok.gains.gains))
     c.places.ensures (c.tell.ensures.told kept) in
     and_so (slice_get (queries_at k.places members) 0)
     (TellUnion k members c.args.touched.now c.args.came c.tell.new.log.lines) first.live first.nth

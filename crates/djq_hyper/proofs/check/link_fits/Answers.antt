@@ -2,21 +2,21 @@
 use Rattle.std.specs.Prelude.{◌<◌, length, ℕ, List}
 use Rattle.std.proofs.Common.{arith, rules, sym, ap, ◌∙◌}
 use Rattle.std.proofs.lemmas.Bool.{eqb-false}
-use Rattle.djq_hyper.specs.Checking.{Fits}
+use Rattle.djq_hyper.specs.Checking.{FitsTree}
 use Rattle.djq_hyper.specs.Hypergraph.{subset, intersection, edge_at}
 use Rattle.djq_hyper.proofs.Checking.{any_some, any_none, last_test, refused, read_at}
 use Rattle.djq_hyper.proofs.check.link_fits.Goals as goal
 
 pub returns-then-stands : goal.returns-then-stands
 returns-then-stands c =
-    refused (Fits c.args.edges.now c.args.before.now c.args.link) (λ f.
+    refused (FitsTree c.args.edges.now c.args.before.now c.args.link) (λ f.
     let some = any_some c.args.link.edge c.args.before.now (sym c.stands.ensures ∙ c.if-stands.true) in
     let none = f.fresh in
     omega arith)
 
 pub returns-then-not-stands : goal.returns-then-not-stands
 returns-then-not-stands c =
-    refused (Fits c.args.edges.now c.args.before.now c.args.link) (λ f.
+    refused (FitsTree c.args.edges.now c.args.before.now c.args.link) (λ f.
     let none = any_none c.args.link.parent c.args.before.now (sym c.stands-2.ensures ∙ c.if-not-stands.true) in
     let more = eqb-false (length c.args.before.now) 0 (sym c.is_empty.ensures ∙ c.if-is_empty.false) in
     let some = f.under (omega arith) in

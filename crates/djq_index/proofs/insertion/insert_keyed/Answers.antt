@@ -5,7 +5,7 @@ use Rattle.djq_index.specs.declared.place.Place.{Place}
 use Rattle.djq_index.specs.declared.raw.Raw.{Raw}
 use Rattle.djq_index.specs.Tuple.{pick}
 use Rattle.djq_index.specs.Table.{IsAt}
-use Rattle.djq_index.specs.Raw.{entries_of, IsReady, IsNoted, IsSeat}
+use Rattle.djq_index.specs.Raw.{entries_of, IsLaidInto, IsNoted, IsSeat}
 use Rattle.djq_index.proofs.Inserting.{slot_notes, slot_links, slot_number, head_ends, last_links, came_bare}
 use Rattle.djq_index.proofs.Inserting.{came_heads, came_inserted, came_at, Refuses, unlaid_refuses, RefusesHead}
 use Rattle.djq_index.proofs.Inserting.{refused_bare, refused_heads, refused_entries}
@@ -166,7 +166,7 @@ init_note-requires c =
 
 pub join-requires-clause-slot : goal.join-requires-clause-slot
 join-requires-clause-slot c =
-    let r : IsReady c.args.raw.now c.append_linked_row.new.rows c.append_linked_row.new.notes.items
+    let r : IsLaidInto c.args.raw.now c.append_linked_row.new.rows c.append_linked_row.new.notes.items
     c.append_linked_row.new.links.items c.find_or_make_head.new.keys c.find_or_make_head.new.ends.items
     c.in_ok-slot.slot
     c.in-Ok.head c.args.tuple.now = record {
@@ -193,7 +193,7 @@ join-requires-clause-number c =
 
 pub join-requires-clause-head : goal.join-requires-clause-head
 join-requires-clause-head c =
-    let r : IsReady c.args.raw.now c.append_linked_row.new.rows c.append_linked_row.new.notes.items
+    let r : IsLaidInto c.args.raw.now c.append_linked_row.new.rows c.append_linked_row.new.notes.items
     c.append_linked_row.new.links.items c.find_or_make_head.new.keys c.find_or_make_head.new.ends.items
     c.in_ok-slot.slot
     c.in-Ok.head c.args.tuple.now = record {
@@ -215,7 +215,7 @@ join-requires-clause-head c =
 
 pub join-requires-clause-last : goal.join-requires-clause-last
 join-requires-clause-last c =
-    let r : IsReady c.args.raw.now c.append_linked_row.new.rows c.append_linked_row.new.notes.items
+    let r : IsLaidInto c.args.raw.now c.append_linked_row.new.rows c.append_linked_row.new.notes.items
     c.append_linked_row.new.links.items c.find_or_make_head.new.keys c.find_or_make_head.new.ends.items
     c.in_ok-slot.slot
     c.in-Ok.head c.args.tuple.now = record {
@@ -254,7 +254,7 @@ returns-in-Ok-clause-raw c =
 
 pub returns-in-Ok-clause-heads : goal.returns-in-Ok-clause-heads
 returns-in-Ok-clause-heads c =
-    let r : IsReady c.args.raw.now c.append_linked_row.new.rows c.append_linked_row.new.notes.items
+    let r : IsLaidInto c.args.raw.now c.append_linked_row.new.rows c.append_linked_row.new.notes.items
     c.append_linked_row.new.links.items c.find_or_make_head.new.keys c.find_or_make_head.new.ends.items
     c.in_ok-slot.slot
     c.in-Ok.head c.args.tuple.now = record {

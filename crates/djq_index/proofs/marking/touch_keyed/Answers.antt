@@ -1,7 +1,7 @@
 -- By the invariant a note names its group's head; once the slot has left, the group's last is a tuple's slot.
 use Rattle.std.proofs.Common.{◌≡◌, refl, sym, ◌∙◌, subst, ap, length, ℕ, List, arith, length-set}
 use Rattle.djq_arena.specs.declared.chain.Pair.{Pair}
-use Rattle.djq_arena.specs.Chains.{pair_at, IsWithin, left}
+use Rattle.djq_arena.specs.Chains.{pair_at, IsSlotBelow, chain_without}
 use Rattle.djq_arena.specs.Store.{shrunk}
 use Rattle.djq_arena.proofs.Chaining.{length-left}
 use Rattle.djq_index.specs.declared.raw.Note.{Note}
@@ -111,10 +111,10 @@ join-requires-clause-last c =
     c.note_of-note.ensures ∙ ap (note_at c.args.raw.now.notes.items) c.slot-slot.ensures in
     let h : c.note_of-note.result.head ≡
     (note_at c.args.raw.now.notes.items c.args.place.slot).head = ap (λ (m : Note). m.head) n in
-    subst (λ (ls : List Pair). IsWithin (length ls)
+    subst (λ (ls : List Pair). IsSlotBelow (length ls)
     (ends_at c.unlink.new.ends.items c.note_of-note.result.head).last) (sym
     (c.unlink.ensures.links
-    ∙ ap (λ (i : ℕ). left
+    ∙ ap (λ (i : ℕ). chain_without
     (pair_at c.args.raw.now.links.items i) c.args.raw.now.links.items) c.slot-slot.ensures))
     (its_last_within c.args.raw.now c.args.place c.requires.unmarked.tuple c.requires.raw
     c.requires.heads f c.note_of-note.result.head c.unlink.new.ends.items h (c.unlink.ensures.ends

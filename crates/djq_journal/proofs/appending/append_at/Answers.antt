@@ -5,7 +5,7 @@ use Rattle.djq_disk.specs.WritingDown.{WritesDown}
 use Rattle.djq_disk.specs.declared.disk.DiskDid.TheVariants.{Done, Failed}
 use Rattle.djq_disk.proofs.Telling.{told_so, told_both}
 use Rattle.djq_disk.proofs.Keeping.{leaves_so}
-use Rattle.djq_journal.specs.Format.{OpensTo}
+use Rattle.djq_journal.specs.Format.{FileOpensTo}
 use Rattle.djq_journal.specs.Standing.{IsIdle}
 use Rattle.djq_journal.specs.Appending.{IsBeforeOrAfter}
 use Rattle.djq_journal.specs.Staging.{IsStaged, AppendsAt}
@@ -43,5 +43,5 @@ returns-in-Failed-clause-told g c lines =
     let gate = c.args.gate in
     told_so _ _ (λ o n. IsIdle lines gate o.file → IsStaged Failed lines gate group o n)
     (λ o n. IsIdle lines gate o.file → AppendsAt Failed lines gate group o n)
-    (λ o n staged idle. leaves_so (OpensTo lines) (IsBeforeOrAfter lines group) o n (λ image opens. inl opens)
+    (λ o n staged idle. leaves_so (FileOpensTo lines) (IsBeforeOrAfter lines group) o n (λ image opens. inl opens)
     (staged idle)) (c.in-Failed.ensures.told lines)

@@ -4,13 +4,13 @@ use Rattle.std.proofs.Common.{sym, ap, subst, ◌∙◌, arith, length-take, len
 use borrow.Rule.Slice.PartMut.{put_mid}
 use Rattle.std.proofs.lemmas.Slice.{take-put_mid}
 use Rattle.std.proofs.lemmas.Option.{slice_get_within}
-use Rattle.djq_disk.specs.History.{WhereTold, Writes}
+use Rattle.djq_disk.specs.History.{WhereHistoryTold, DiskWrites}
 use Rattle.djq_disk.specs.Leaving.{LeavesSince}
 use Rattle.djq_disk.specs.declared.disk.DiskDid.TheVariants.{Done, Failed}
 use Rattle.djq_disk.proofs.Telling.{told_none, told_both}
-use Rattle.djq_journal.specs.Format.{body_of, OpensTo}
+use Rattle.djq_journal.specs.Format.{body_of, FileOpensTo}
 use Rattle.djq_journal.specs.Standing.{IsIdle}
-use Rattle.djq_journal.specs.Staging.{Stages, IsStaged, Gathers}
+use Rattle.djq_journal.specs.Staging.{Stages, IsStaged, StagesLines}
 use Rattle.djq_journal.specs.declared.limits.TheConstants.{PIECE_BYTES}
 use Rattle.djq_journal.proofs.Staged.{staged_none, staged_write, staged_more, staged_all}
 use Rattle.djq_journal.proofs.Groups.{line_at, few_lines, piece_within, gathers_none, gathers_end}
@@ -47,8 +47,8 @@ returns-in-Failed-clause-told g c lines =
     let at = c.loop-line.at in
     let gate = c.args.gate in
     let piece = take c.loop-line.filled c.loop-line.buf in
-    told_both _ _ _ (λ o m. IsIdle lines gate o.file → Stages lines gate inv.written o m) (Writes Failed at piece)
-    (λ o n. IsIdle lines gate o.file → LeavesSince (OpensTo lines) o n)
+    told_both _ _ _ (λ o m. IsIdle lines gate o.file → Stages lines gate inv.written o m) (DiskWrites Failed at piece)
+    (λ o n. IsIdle lines gate o.file → LeavesSince (FileOpensTo lines) o n)
     (λ o m n stages writes idle.
     (staged_write Failed at piece lines gate inv.written o m n idle (stages idle) (omega (arith, inv.gathers.place))
     writes).1)
@@ -102,9 +102,9 @@ loop-line-preserved g c =
     let at = c.if-filled-size.at in
     let filled = c.if-filled-size.filled in
     let size = 3 + length line in
-    let so_far : (written : List ℕ) × Gathers group i gate at written (take filled buf)
+    let so_far : (written : List ℕ) × StagesLines group i gate at written (take filled buf)
     × ((lines : List (List ℕ))
-    → WhereTold (told c.args.disk.now) (told disk)
+    → WhereHistoryTold (told c.args.disk.now) (told disk)
     (λ o n. IsIdle lines gate o.file → Stages lines gate written o n))
     × (g.D.Disk.faults disk ≡ g.D.Disk.faults c.args.disk.now) = elim c.if-filled-size.branch [
       | then-filled-size+in-Done w ↦ (
@@ -114,7 +114,7 @@ loop-line-preserved g c =
         (λ lines. rw w.disk-is
             (told_both (told c.args.disk.now) (told c.loop-line.disk) (told w.write_at.new.self)
             (λ o m. IsIdle lines gate o.file → Stages lines gate inv.written o m)
-            (Writes Done c.loop-line.at (take old buf))
+            (DiskWrites Done c.loop-line.at (take old buf))
             (λ o n. IsIdle lines gate o.file → Stages lines gate (inv.written ++ take old buf) o n)
             (λ o m n stages writes idle. staged_more c.loop-line.at (take old buf) lines gate inv.written o m n idle
             (stages idle) inv.gathers.place writes)
@@ -156,7 +156,7 @@ loop-line-preserved g c =
       );
       within = room;
       written = so_far.0;
-      gathers = subst (λ (xs : List ℕ). Gathers group (i + 1) gate at so_far.0 xs) (sym laid)
+      gathers = subst (λ (xs : List ℕ). StagesLines group (i + 1) gate at so_far.0 xs) (sym laid)
           (gathers_line group i line next gate at so_far.0 (take filled buf) c.in-Some.ensures c.gate_before.ensures
           so_far.1);
       told = so_far.2;
@@ -177,7 +177,7 @@ returns-clause-told g c lines =
     let group = g.G.Group.lines c.args.group.now in
     let piece = take c.loop-line.filled c.loop-line.buf in
     let did = c.write_at-2.result in
-    told_both _ _ _ (λ o m. IsIdle lines gate o.file → Stages lines gate inv.written o m) (Writes did at piece)
+    told_both _ _ _ (λ o m. IsIdle lines gate o.file → Stages lines gate inv.written o m) (DiskWrites did at piece)
     (λ o n. IsIdle lines gate o.file → IsStaged did lines gate group o n)
     (λ o m n stages writes idle. staged_all did at piece lines group gate inv.written o m n idle (stages idle)
     inv.gathers.place

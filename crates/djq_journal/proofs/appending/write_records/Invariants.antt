@@ -1,7 +1,7 @@
 use Rattle.std.proofs.Common.{◌≡◌, ◌-◌, ◌≤◌, ℕ, List, length, take}
-use Rattle.djq_disk.specs.History.{WhereTold}
+use Rattle.djq_disk.specs.History.{WhereHistoryTold}
 use Rattle.djq_journal.specs.Standing.{IsIdle}
-use Rattle.djq_journal.specs.Staging.{Stages, Gathers}
+use Rattle.djq_journal.specs.Staging.{Stages, StagesLines}
 use Rattle.djq_journal.specs.declared.limits.TheConstants.{PIECE_BYTES}
 use Rattle.djq_journal.proofs.appending.write_records.Given as goal
 
@@ -12,8 +12,8 @@ invariant-loop-line g l = record {
   size : length l.buf ≡ PIECE_BYTES;
   within : l.filled ≤ PIECE_BYTES;
   written : List ℕ;
-  gathers : Gathers (g.G.Group.lines l.group) l.i l.gate l.at written (take l.filled l.buf);
-  told : (lines : List (List ℕ)) → WhereTold (g.D.Disk.told l.fn.disk) (g.D.Disk.told l.disk)
+  gathers : StagesLines (g.G.Group.lines l.group) l.i l.gate l.at written (take l.filled l.buf);
+  told : (lines : List (List ℕ)) → WhereHistoryTold (g.D.Disk.told l.fn.disk) (g.D.Disk.told l.disk)
       (λ o n. IsIdle lines l.gate o.file → Stages lines l.gate written o n);
   faults : g.D.Disk.faults l.disk ≡ g.D.Disk.faults l.fn.disk;
 }

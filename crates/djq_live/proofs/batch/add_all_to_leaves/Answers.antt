@@ -1,6 +1,6 @@
 -- Leaves from the index on hold what they held, so their tuples are new; a refused leaf keeps all tables.
 use Rattle.std.proofs.Common.{true, ◌+◌, ◌<◌, length, ℕ, List, refl, sym, subst, ◌∙◌}
-use Rattle.djq_live.specs.Batching.{batch_in, Adds, GrowsBy, CountsMany}
+use Rattle.djq_live.specs.Batching.{batch_tuples, GainsTuples, GrowsBy, CountsMany}
 use Rattle.djq_live.specs.Stepping.{atoms_below}
 use Rattle.djq_tree.specs.Tree.{Tree}
 use Rattle.djq_cursor.specs.Changed.{IsGained}
@@ -19,8 +19,8 @@ leaves-preserved-then-atoms-leaf g c =
     c.index-atoms-leaf.is
     (off_as c.index-atoms-leaf.result _ c.args.relation c.index-atoms-leaf.is c.if-atoms-leaf.true) in
     record {
-      changed = below_skip (λ us old new. Adds us old new) c.args.relation c.args.atoms.now
-          (batch_in c.args.rows.now c.args.batch.now) c.leaves.leaf c.index-atoms-leaf.result c.args.reducts.now
+      changed = below_skip (λ us old new. GainsTuples us old new) c.args.relation c.args.atoms.now
+          (batch_tuples c.args.rows.now c.args.batch.now) c.leaves.leaf c.index-atoms-leaf.result c.args.reducts.now
           c.leaves.reducts (got c.args.atoms.now c.leaves.leaf c.index-atoms-leaf.result c.leaves-test.true
           c.index-atoms-leaf.is)
           (off_as c.index-atoms-leaf.result _ c.args.relation c.index-atoms-leaf.is c.if-atoms-leaf.true)
@@ -43,7 +43,7 @@ add_all_to_leaf-requires-clause-leaf g c =
 
 pub add_all_to_leaf-requires-clause-fresh : goal.add_all_to_leaf-requires-clause-fresh
 add_all_to_leaf-requires-clause-fresh g c =
-    next_fresh c.args.relation c.args.atoms.now (batch_in c.args.rows.now c.args.batch.now) c.leaves.leaf
+    next_fresh c.args.relation c.args.atoms.now (batch_tuples c.args.rows.now c.args.batch.now) c.leaves.leaf
     c.index-atoms-leaf.result c.tuples_in-tuples.result.now c.args.reducts.now c.leaves.reducts c.requires.can
     c.leaves.invariant.changed
     (got c.args.atoms.now c.leaves.leaf c.index-atoms-leaf.result c.leaves-test.true c.index-atoms-leaf.is)
@@ -54,7 +54,7 @@ add_all_to_leaf-requires-clause-fresh g c =
 
 pub add_all_to_leaf-requires-clause-few : goal.add_all_to_leaf-requires-clause-few
 add_all_to_leaf-requires-clause-few g c =
-    next_room c.args.relation c.args.atoms.now (batch_in c.args.rows.now c.args.batch.now) c.leaves.leaf
+    next_room c.args.relation c.args.atoms.now (batch_tuples c.args.rows.now c.args.batch.now) c.leaves.leaf
     c.index-atoms-leaf.result c.tuples_in-tuples.result.now c.args.reducts.now c.leaves.reducts c.requires.can
     c.leaves.invariant.changed
     (got c.args.atoms.now c.leaves.leaf c.index-atoms-leaf.result c.leaves-test.true c.index-atoms-leaf.is)
@@ -73,8 +73,8 @@ leaves-preserved g c =
     c.index-atoms-leaf.is
     (on_as c.index-atoms-leaf.result _ c.args.relation c.index-atoms-leaf.is c.if-atoms-leaf.false) in
     record {
-      changed = below_step (λ us old new. Adds us old new) c.args.relation c.args.atoms.now
-          (batch_in c.args.rows.now c.args.batch.now) c.leaves.leaf c.index-atoms-leaf.result
+      changed = below_step (λ us old new. GainsTuples us old new) c.args.relation c.args.atoms.now
+          (batch_tuples c.args.rows.now c.args.batch.now) c.leaves.leaf c.index-atoms-leaf.result
           c.tuples_in-tuples.result.now c.args.reducts.now c.leaves.reducts c.add_all_to_leaf.new.reducts adds_stable
           c.requires.can.leaves
           (got c.args.atoms.now c.leaves.leaf c.index-atoms-leaf.result c.leaves-test.true c.index-atoms-leaf.is)
@@ -91,7 +91,7 @@ leaves-preserved g c =
           c.add_all_to_leaf.new.steps.listing c.laws.ensures.sound c.leaves.invariant.changed.sound
           c.in-Ok.ensures.gained.sound c.leaves.invariant.more grown over c.leaves.invariant.listed
           c.in-Ok.ensures.listed;
-      grows = λ more few. grown_next c.args.relation c.args.atoms.now (batch_in c.args.rows.now c.args.batch.now)
+      grows = λ more few. grown_next c.args.relation c.args.atoms.now (batch_tuples c.args.rows.now c.args.batch.now)
           c.leaves.leaf more c.index-atoms-leaf.result c.tuples_in-tuples.result.now c.args.reducts.now c.leaves.reducts
           c.add_all_to_leaf.new.reducts
           (got c.args.atoms.now c.leaves.leaf c.index-atoms-leaf.result c.leaves-test.true c.index-atoms-leaf.is)
@@ -99,7 +99,8 @@ leaves-preserved g c =
           c.tuples_in-tuples.ensures (subst (λ (n : ℕ). c.leaves.leaf < n) (sym c.requires.can.long) c.leaves-test.true)
           c.index-batch-leaf.is) few c.leaves.invariant.changed (c.leaves.invariant.grows more few)
           c.in-Ok.ensures.gained;
-      updates = λ more few. counted_more c.args.relation c.args.atoms.now (batch_in c.args.rows.now c.args.batch.now)
+      updates = λ more few. counted_more c.args.relation c.args.atoms.now
+          (batch_tuples c.args.rows.now c.args.batch.now)
           c.leaves.leaf more c.index-atoms-leaf.result c.tuples_in-tuples.result.now c.args.reducts.now c.leaves.reducts
           1 (atoms_below c.args.relation c.args.atoms.now c.leaves.leaf)
           (atoms_below c.args.relation c.args.atoms.now (c.leaves.leaf + 1))
@@ -116,8 +117,8 @@ leaves-preserved g c =
 
 pub returns-in_default-clause-gained : goal.returns-in_default-clause-gained
 returns-in_default-clause-gained g c =
-    below_kept (λ us old new. Adds us old new) c.args.relation c.args.atoms.now
-    (batch_in c.args.rows.now c.args.batch.now) c.leaves.leaf c.args.reducts.now c.leaves.reducts
+    below_kept (λ us old new. GainsTuples us old new) c.args.relation c.args.atoms.now
+    (batch_tuples c.args.rows.now c.args.batch.now) c.leaves.leaf c.args.reducts.now c.leaves.reducts
     c.add_all_to_leaf.new.reducts adds_stable c.leaves.invariant.changed c.in_default.ensures.refused
 
 pub returns-in_default-clause-more : goal.returns-in_default-clause-more
@@ -140,7 +141,7 @@ returns-in_default-clause-grows g c = λ more few.
 
 pub returns-in_default-clause-refusal : goal.returns-in_default-clause-refusal
 returns-in_default-clause-refusal g c = λ low more few.
-    counted_more c.args.relation c.args.atoms.now (batch_in c.args.rows.now c.args.batch.now) c.leaves.leaf more
+    counted_more c.args.relation c.args.atoms.now (batch_tuples c.args.rows.now c.args.batch.now) c.leaves.leaf more
     c.index-atoms-leaf.result c.tuples_in-tuples.result.now c.args.reducts.now c.leaves.reducts 2
     (atoms_below c.args.relation c.args.atoms.now c.leaves.leaf)
     (atoms_below c.args.relation c.args.atoms.now c.leaves.leaf + 2)
@@ -160,6 +161,6 @@ returns-in_default-clause-left g c = λ low.
 
 pub returns-clause-gained : goal.returns-clause-gained
 returns-clause-gained g c =
-    below_at (λ us old new. Adds us old new) c.args.relation c.args.atoms.now
-    (batch_in c.args.rows.now c.args.batch.now) c.leaves.leaf (length c.args.atoms.now) c.args.reducts.now
+    below_at (λ us old new. GainsTuples us old new) c.args.relation c.args.atoms.now
+    (batch_tuples c.args.rows.now c.args.batch.now) c.leaves.leaf (length c.args.atoms.now) c.args.reducts.now
     c.leaves.reducts c.leaves.auto.leaf-end c.leaves-test.false c.leaves.invariant.changed

@@ -2,7 +2,7 @@
 use Rattle.std.proofs.Common.{◌+◌, ◌<◌, length, ℕ, List, sym, subst, ◌∙◌}
 use Rattle.djq_tree.specs.Tree.{Tree}
 use Rattle.djq_propagate.specs.Batches.{AreThere}
-use Rattle.djq_live.specs.Batching.{batch_in, Drops}
+use Rattle.djq_live.specs.Batching.{batch_tuples, LosesTuples}
 use Rattle.djq_live.specs.Stepping.{atoms_below}
 use Rattle.djq_live.proofs.Batched.{got_in, all_lost, drops_stable, drops_more, there_stays}
 use Rattle.djq_live.proofs.Below.{below_skip, below_step, below_at, leaves_stay}
@@ -13,8 +13,8 @@ use Rattle.djq_live.proofs.batch.give_all_from_leaves.Goals as goal
 
 pub leaves-preserved-then-atoms-leaf : goal.leaves-preserved-then-atoms-leaf
 leaves-preserved-then-atoms-leaf g c = record {
-  changed = below_skip (λ us old new. Drops us old new) c.args.relation c.args.atoms.now
-      (batch_in c.args.rows.now c.args.batch.now) c.leaves.leaf c.index-atoms-leaf.result c.args.reducts.now
+  changed = below_skip (λ us old new. LosesTuples us old new) c.args.relation c.args.atoms.now
+      (batch_tuples c.args.rows.now c.args.batch.now) c.leaves.leaf c.index-atoms-leaf.result c.args.reducts.now
       c.leaves.reducts (got c.args.atoms.now c.leaves.leaf c.index-atoms-leaf.result
       (below_end c.leaves.leaf c.args.end (length c.args.atoms.now) c.leaves-test.true c.requires.end)
       c.index-atoms-leaf.is)
@@ -40,8 +40,8 @@ drop_leaf_many-requires-clause-leaf g c =
 
 pub drop_leaf_many-requires-clause-there : goal.drop_leaf_many-requires-clause-there
 drop_leaf_many-requires-clause-there g c =
-    leaves_stay (λ us old new. Drops us old new) (λ (us : List (List ℕ)) es. AreThere es us) c.args.relation
-    c.args.atoms.now (batch_in c.args.rows.now c.args.batch.now) c.leaves.leaf c.args.end c.index-atoms-leaf.result
+    leaves_stay (λ us old new. LosesTuples us old new) (λ (us : List (List ℕ)) es. AreThere es us) c.args.relation
+    c.args.atoms.now (batch_tuples c.args.rows.now c.args.batch.now) c.leaves.leaf c.args.end c.index-atoms-leaf.result
     c.tuples_in-tuples.result.now c.args.reducts.now c.leaves.reducts
     (there_stays c.tuples_in-tuples.result.now) c.leaves-test.true c.requires.there c.leaves.invariant.changed
     (got c.args.atoms.now c.leaves.leaf c.index-atoms-leaf.result
@@ -59,8 +59,8 @@ leaves-preserved g c =
     let step = all_lost c.tuples_in-tuples.result.now c.leaves.leaf c.leaves.reducts c.drop_leaf_many.new.reducts
     c.drop_leaf_many.ensures.lost in
     record {
-      changed = below_step (λ us old new. Drops us old new) c.args.relation c.args.atoms.now
-          (batch_in c.args.rows.now c.args.batch.now) c.leaves.leaf c.index-atoms-leaf.result
+      changed = below_step (λ us old new. LosesTuples us old new) c.args.relation c.args.atoms.now
+          (batch_tuples c.args.rows.now c.args.batch.now) c.leaves.leaf c.index-atoms-leaf.result
           c.tuples_in-tuples.result.now c.args.reducts.now c.leaves.reducts c.drop_leaf_many.new.reducts drops_stable
           c.requires.leaves (got c.args.atoms.now c.leaves.leaf c.index-atoms-leaf.result
           (below_end c.leaves.leaf c.args.end (length c.args.atoms.now) c.leaves-test.true c.requires.end)
@@ -93,6 +93,6 @@ leaves-preserved g c =
 
 pub returns-clause-lost : goal.returns-clause-lost
 returns-clause-lost g c =
-    below_at (λ us old new. Drops us old new) c.args.relation c.args.atoms.now
-    (batch_in c.args.rows.now c.args.batch.now) c.leaves.leaf c.args.end c.args.reducts.now c.leaves.reducts
+    below_at (λ us old new. LosesTuples us old new) c.args.relation c.args.atoms.now
+    (batch_tuples c.args.rows.now c.args.batch.now) c.leaves.leaf c.args.end c.args.reducts.now c.leaves.reducts
     c.leaves.auto.leaf-end c.leaves-test.false c.leaves.invariant.changed

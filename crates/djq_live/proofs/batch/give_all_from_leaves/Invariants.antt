@@ -1,11 +1,11 @@
 use Rattle.std.proofs.Common.{◌≡◌}
-use Rattle.djq_live.specs.Batching.{batch_in, Drops, CountsGiven}
+use Rattle.djq_live.specs.Batching.{batch_tuples, LosesTuples, CountsGiven}
 use Rattle.djq_live.specs.Stepping.{HasMore, ChangesBelow, atoms_below}
 use Rattle.djq_live.proofs.batch.give_all_from_leaves.Given as goal
 
 abbrev pub invariant-leaves : goal.invariant-leaves
 invariant-leaves g l = record {
-  changed : ChangesBelow (λ us old new. Drops us old new) l.relation l.atoms (batch_in l.rows l.batch) l.leaf
+  changed : ChangesBelow (λ us old new. LosesTuples us old new) l.relation l.atoms (batch_tuples l.rows l.batch) l.leaf
       l.fn.reducts l.reducts;
   more : HasMore l.reducts l.fn.reducts;
   listing : l.steps.listing ≡ l.fn.steps.listing;

@@ -2,7 +2,7 @@
 use Rattle.std.proofs.Common.{◌+◌, List, ℕ, [], ◌∷◌, ◌++◌, take, sym, subst, ap, ◌∙◌}
 use Rattle.std.proofs.lemmas.List.{take_more}
 use Rattle.djq_query.specs.declared.numbered.NumberedTerm.{NumberedTerm}
-use Rattle.djq_live.specs.Leaves.{AreCellsOf}
+use Rattle.djq_live.specs.Leaves.{AreCellsOfTerms}
 use Rattle.djq_live.proofs.Patterns.{constant_at, cells_push}
 use Rattle.djq_live.proofs.bind.constant_cells.Goals as goal
 
@@ -17,10 +17,10 @@ terms-preserved c =
     let terms = c.args.terms.now in
     let i = c.terms.i in
     let t = c.index-terms-i.result in
-    subst (λ (cs : List ℕ). AreCellsOf texts (take (i + 1) terms) cs)
+    subst (λ (cs : List ℕ). AreCellsOfTerms texts (take (i + 1) terms) cs)
     (sym c.in_ok-push.ensures.items)
     (subst
-    (λ (ts : List NumberedTerm). AreCellsOf texts ts (c.terms.cells.items
+    (λ (ts : List NumberedTerm). AreCellsOfTerms texts ts (c.terms.cells.items
     ++ c.constant_cell.result ∷ []))
     (sym (take_more terms i t c.terms-test.true
     ∙ ap (λ (u : NumberedTerm). take i terms ++ u ∷ []) (sym c.index-terms-i.is)))

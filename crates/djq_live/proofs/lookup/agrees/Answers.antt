@@ -1,6 +1,6 @@
 -- A variable of the head has its place within the head, and past the end all places have been compared.
 use Rattle.std.proofs.Common.{ℕ, List, ◌<◌, length, ap, ◌∙◌, refl, rules, arith}
-use Rattle.djq_live.specs.Order.{reading}
+use Rattle.djq_live.specs.Order.{cell_of_variable}
 use Rattle.djq_live.proofs.Picking.{member_at, place_low, agree_all}
 use Rattle.djq_live.proofs.lookup.agrees.Goals as goal
 
@@ -20,7 +20,7 @@ bounds-cells-place_of c =
 
 pub returns : goal.returns
 returns c = (
-  λ _. agree_all (reading c.args.head.now c.args.cells.now) c.args.head.now c.args.cells.now
+  λ _. agree_all (cell_of_variable c.args.head.now c.args.cells.now) c.args.head.now c.args.cells.now
       c.loop-at.at c.requires.long
       (omega (arith, c.loop-at-test.false, c.loop-at.auto.at-end)) c.loop-at.invariant,
   λ _. refl,

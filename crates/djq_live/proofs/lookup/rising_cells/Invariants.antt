@@ -1,11 +1,11 @@
 use Rattle.std.proofs.Common.{◌≡◌, ◌≤◌, ◌+◌, ◌++◌, ℕ, true, length, map}
 use Rattle.djq_hyper.specs.Hypergraph.{member}
-use Rattle.djq_live.specs.Order.{reading}
+use Rattle.djq_live.specs.Order.{cell_of_variable}
 use Rattle.djq_live.proofs.lookup.rising_cells.Given as goal
 
 abbrev pub invariant-loop-variable : goal.invariant-loop-variable
 invariant-loop-variable l = record {
-  picked : l.answer ++ map (reading l.head l.cells) l.rest ≡ map (reading l.head l.cells) l.fn.set;
+  picked : l.answer ++ map (cell_of_variable l.head l.cells) l.rest ≡ map (cell_of_variable l.head l.cells) l.fn.set;
   room : length l.answer + length l.rest ≤ 16;
   within : (x : ℕ) → member x l.rest ≡ true → member x l.head ≡ true;
 }

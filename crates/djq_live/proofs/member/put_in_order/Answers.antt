@@ -17,7 +17,7 @@ use Rattle.std.proofs.Common.{
 }
 use Rattle.std.specs.Prelude.{slice_index}
 use Rattle.std.proofs.lemmas.List.{take_all}
-use Rattle.djq_live.specs.Order.{reading}
+use Rattle.djq_live.specs.Order.{cell_of_variable}
 use Rattle.djq_live.proofs.InHead.{in_answer, ordered_room, ordered_more}
 use Rattle.djq_live.proofs.member.put_in_order.Goals as goal
 
@@ -43,7 +43,7 @@ bounds-as_slice-column c =
 
 pub push-requires : goal.push-requires
 push-requires c =
-    let room = ordered_room (reading c.args.reducts.now.tree.head c.args.answer.now)
+    let room = ordered_room (cell_of_variable c.args.reducts.now.tree.head c.args.answer.now)
     c.args.head.now c.loop-variable.cells c.loop-variable.variable-index c.loop-variable.invariant
     c.loop-variable-test.true in
     let few = c.requires.few in
@@ -55,12 +55,12 @@ loop-variable-preserved c =
     c.push.ensures
     ∙ ap₂ (λ (cells : List ℕ) (cell : ℕ). cells ++ cell ∷ []) c.loop-variable.invariant
     (ap₂ (λ (cells : List ℕ) (at : ℕ). slice_index cells at) c.as_slice.ensures c.column.ensures)
-    ∙ ordered_more (reading c.args.reducts.now.tree.head c.args.answer.now) c.args.head.now
+    ∙ ordered_more (cell_of_variable c.args.reducts.now.tree.head c.args.answer.now) c.args.head.now
     c.loop-variable.variable-index c.loop-variable-test.true
 
 pub returns : goal.returns
 returns c =
     let last = c.loop-variable-test.false in
     c.loop-variable.invariant
-    ∙ ap (map (reading c.args.reducts.now.tree.head c.args.answer.now))
+    ∙ ap (map (cell_of_variable c.args.reducts.now.tree.head c.args.answer.now))
     (take_all c.loop-variable.variable-index c.args.head.now (omega arith))

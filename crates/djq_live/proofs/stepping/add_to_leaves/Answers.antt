@@ -1,7 +1,7 @@
 -- Leaves from the index on hold what they held, so they lack the tuple and have room; a refusal keeps all.
 use Rattle.std.proofs.Common.{true, ◌+◌, ◌<◌, length, ℕ, [], ◌∷◌, sym, subst, ◌∙◌}
-use Rattle.djq_live.specs.Changes.{Gains}
-use Rattle.djq_live.specs.Stepping.{Lacks, atoms_below}
+use Rattle.djq_live.specs.Changes.{GainsTuple}
+use Rattle.djq_live.specs.Stepping.{LacksCells, atoms_below}
 use Rattle.djq_live.proofs.Below.{
   below_skip,
   below_step,
@@ -39,7 +39,7 @@ use Rattle.djq_live.proofs.stepping.add_to_leaves.Goals as goal
 
 pub leaves-preserved-then-atoms-leaf : goal.leaves-preserved-then-atoms-leaf
 leaves-preserved-then-atoms-leaf g c = record {
-  changed = below_skip (λ p old new. Gains p c.args.cells.now old new) c.args.relation
+  changed = below_skip (λ p old new. GainsTuple p c.args.cells.now old new) c.args.relation
       c.args.atoms.now c.args.patterns.now c.leaves.leaf c.index-atoms-leaf.result
       c.args.reducts.now c.leaves.reducts
       (got c.args.atoms.now c.leaves.leaf c.index-atoms-leaf.result c.leaves-test.true
@@ -87,8 +87,8 @@ add_to_leaf-requires-clause-long g c =
 
 pub add_to_leaf-requires-clause-absent : goal.add_to_leaf-requires-clause-absent
 add_to_leaf-requires-clause-absent g c =
-    leaves_stay (λ p old new. Gains p c.args.cells.now old new)
-    (λ p es. Lacks c.args.cells.now p es) c.args.relation c.args.atoms.now c.args.patterns.now
+    leaves_stay (λ p old new. GainsTuple p c.args.cells.now old new)
+    (λ p es. LacksCells c.args.cells.now p es) c.args.relation c.args.atoms.now c.args.patterns.now
     c.leaves.leaf (length c.args.atoms.now) c.index-atoms-leaf.result
     c.index-patterns-leaf.result c.args.reducts.now c.leaves.reducts
     (lacks_stay c.args.cells.now c.index-patterns-leaf.result) c.leaves-test.true
@@ -102,7 +102,7 @@ add_to_leaf-requires-clause-absent g c =
 
 pub add_to_leaf-requires-clause-few : goal.add_to_leaf-requires-clause-few
 add_to_leaf-requires-clause-few g c =
-    leaves_stay (λ p old new. Gains p c.args.cells.now old new)
+    leaves_stay (λ p old new. GainsTuple p c.args.cells.now old new)
     (λ p es. length es < 4294967295) c.args.relation c.args.atoms.now c.args.patterns.now
     c.leaves.leaf (length c.args.atoms.now) c.index-atoms-leaf.result
     c.index-patterns-leaf.result c.args.reducts.now c.leaves.reducts
@@ -117,7 +117,7 @@ add_to_leaf-requires-clause-few g c =
 
 pub returns-in_default-clause-gained : goal.returns-in_default-clause-gained
 returns-in_default-clause-gained g c =
-    below_kept (λ p old new. Gains p c.args.cells.now old new) c.args.relation c.args.atoms.now
+    below_kept (λ p old new. GainsTuple p c.args.cells.now old new) c.args.relation c.args.atoms.now
     c.args.patterns.now c.leaves.leaf c.args.reducts.now c.leaves.reducts
     c.add_to_leaf.new.reducts (gains_stable (c.args.cells.now ∷ [])) c.leaves.invariant.changed
     c.in_default.ensures.refused
@@ -140,7 +140,7 @@ leaves-preserved g c =
     let more = gains_more (c.args.cells.now ∷ []) c.index-patterns-leaf.result c.leaves.leaf
     c.leaves.reducts c.add_to_leaf.new.reducts c.in-Ok.ensures.gained in
     record {
-      changed = below_step (λ p old new. Gains p c.args.cells.now old new) c.args.relation
+      changed = below_step (λ p old new. GainsTuple p c.args.cells.now old new) c.args.relation
           c.args.atoms.now c.args.patterns.now c.leaves.leaf c.index-atoms-leaf.result
           c.index-patterns-leaf.result c.args.reducts.now c.leaves.reducts
           c.add_to_leaf.new.reducts (gains_stable (c.args.cells.now ∷ [])) c.requires.leaves.long
@@ -163,13 +163,13 @@ leaves-preserved g c =
           c.leaves-test.true c.index-atoms-leaf.is (on_as c.index-atoms-leaf.result _
           c.args.relation c.index-atoms-leaf.is c.if-atoms-leaf.false))
           c.leaves.invariant.listed c.in-Ok.ensures.listed;
-      grows = grows_next (λ p old new. Gains p c.args.cells.now old new) c.args.relation
+      grows = grows_next (λ p old new. GainsTuple p c.args.cells.now old new) c.args.relation
           c.args.atoms.now c.args.patterns.now c.leaves.leaf c.index-atoms-leaf.result
           c.args.reducts.now c.leaves.reducts c.add_to_leaf.new.reducts
           (got c.args.atoms.now c.leaves.leaf c.index-atoms-leaf.result c.leaves-test.true
           c.index-atoms-leaf.is)
           c.leaves.invariant.changed c.leaves.invariant.grows c.in-Ok.ensures.grows;
-      updates = counts_next (λ p old new. Gains p c.args.cells.now old new) c.args.relation
+      updates = counts_next (λ p old new. GainsTuple p c.args.cells.now old new) c.args.relation
           c.args.atoms.now c.args.patterns.now c.leaves.leaf c.index-atoms-leaf.result
           c.args.reducts.now c.leaves.reducts
           (atoms_below c.args.relation c.args.atoms.now c.leaves.leaf)
@@ -193,7 +193,7 @@ returns-in_default-clause-grows g c =
 
 pub returns-in_default-clause-refusal : goal.returns-in_default-clause-refusal
 returns-in_default-clause-refusal g c = λ low.
-    counts_last (λ p old new. Gains p c.args.cells.now old new) c.args.relation
+    counts_last (λ p old new. GainsTuple p c.args.cells.now old new) c.args.relation
     c.args.atoms.now c.args.patterns.now c.leaves.leaf c.index-atoms-leaf.result
     c.args.reducts.now c.leaves.reducts
     (atoms_below c.args.relation c.args.atoms.now c.leaves.leaf)
@@ -212,6 +212,6 @@ returns-in_default-clause-left g c = λ low.
 
 pub returns-clause-gained : goal.returns-clause-gained
 returns-clause-gained g c =
-    below_at (λ p old new. Gains p c.args.cells.now old new) c.args.relation c.args.atoms.now
+    below_at (λ p old new. GainsTuple p c.args.cells.now old new) c.args.relation c.args.atoms.now
     c.args.patterns.now c.leaves.leaf (length c.args.atoms.now) c.args.reducts.now c.leaves.reducts
     c.leaves.auto.leaf-end c.leaves-test.false c.leaves.invariant.changed

@@ -1,6 +1,6 @@
 use Rattle.std.proofs.Common.{◌≡◌, true, length}
 use Rattle.djq_cursor.specs.Changed.{IsGained}
-use Rattle.djq_live.specs.Changes.{Gains}
+use Rattle.djq_live.specs.Changes.{GainsTuple}
 use Rattle.djq_live.specs.Stepping.{
   HasMore,
   ChangesBelow,
@@ -13,7 +13,7 @@ use Rattle.djq_live.proofs.stepping.add_to_leaves.Given as goal
 
 abbrev pub invariant-leaves : goal.invariant-leaves
 invariant-leaves g l = record {
-  changed : ChangesBelow (λ p old new. Gains p l.cells old new) l.relation l.atoms l.patterns l.leaf
+  changed : ChangesBelow (λ p old new. GainsTuple p l.cells old new) l.relation l.atoms l.patterns l.leaf
       l.fn.reducts l.reducts;
   more : HasMore l.fn.reducts l.reducts;
   listed : ListsWhere l.wanted true (IsGained l.reducts l.fn.reducts) (length

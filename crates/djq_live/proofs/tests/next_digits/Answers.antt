@@ -9,7 +9,7 @@ use Rattle.djq_live.specs.declared.listing.Next.{Next}
 use Rattle.djq_live.specs.declared.listing.Next.TheVariants.{Given, End, Stale as IsStale}
 use Rattle.djq_live.specs.Cursors.{Progress, slot_at}
 use Rattle.djq_live.specs.Live.{Live, IsLive, position_of}
-use Rattle.djq_live.specs.Reading.{MovesTo, NextGivesAt}
+use Rattle.djq_live.specs.Reading.{QueryCursorMoves, QueryNextGivesAt}
 use Rattle.djq_live.proofs.tests.next_digits.Goals as goal
 
 record Stays (c : Catalog) (k : ℕ) (new : Live) : Type 0 where
@@ -17,7 +17,7 @@ record Stays (c : Catalog) (k : ℕ) (new : Live) : Type 0 where
   pub there : IsSome (slot_at new.cursors k)
 
 moved_stays : (c : Catalog) (old new : Live) (k : ℕ) (p : Progress) (position : Position)
-    → slot_at old.cursors k ≡ Some p → MovesTo c old k position new → Stays c k new
+    → slot_at old.cursors k ≡ Some p → QueryCursorMoves c old k position new → Stays c k new
 moved_stays c old new k p position e m = record {
   live = m.live;
   there = ap (λ (l : Live). is_some (slot_at l.cursors k)) m.moved
@@ -26,7 +26,7 @@ moved_stays c old new k p position e m = record {
 
 stays_at : (c : Catalog) (old new : Live) (k : ℕ) (p : Progress) (n : Next) (u : List ℕ)
     → IsLive c old → slot_at old.cursors k ≡ Some p
-    → NextGivesAt c old k (position_of c.texts old p) n u new → Stays c k new
+    → QueryNextGivesAt c old k (position_of c.texts old p) n u new → Stays c k new
 stays_at c old new k (Open cursor ended) Given u live e h =
     moved_stays c old new k (Open cursor ended) _ e h.2
 stays_at c old new k (Open cursor ended) End u live e h =
@@ -40,7 +40,7 @@ stays_at c old new k (Stale q m) (IsStale relation n) u live e h =
 
 stays : (c : Catalog) (old new : Live) (k : ℕ) (o : Option Progress) (n : Next) (u : List ℕ)
     → IsLive c old → slot_at old.cursors k ≡ o
-    → IsSomeAnd o (λ p. NextGivesAt c old k (position_of c.texts old p) n u new)
+    → IsSomeAnd o (λ p. QueryNextGivesAt c old k (position_of c.texts old p) n u new)
     → Stays c k new
 stays c old new k None n u live e h = absurd h
 stays c old new k (Some p) n u live e h = stays_at c old new k p n u live e h

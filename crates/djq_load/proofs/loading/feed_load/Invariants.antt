@@ -1,7 +1,7 @@
 use Rattle.std.proofs.Common.{◌≡◌, List, ℕ, ◌++◌, length}
 use Rattle.djq_gen.specs.Load.{load}
 use Rattle.djq_machine.specs.Call.{counts}
-use Rattle.djq_load.specs.Lines.{Loads, IsIdle}
+use Rattle.djq_load.specs.Lines.{FeedsLines, SessionIsIdle}
 use Rattle.djq_load.proofs.LoadLines.{AreOnes}
 use Rattle.djq_load.proofs.loading.feed_load.Given as goal
 
@@ -10,9 +10,9 @@ abbrev pub invariant-lines : goal.invariant-lines
 invariant-lines g l =
     let state = g.M.Machine.state in
     record {
-      idle : IsIdle (state l.machine);
+      idle : SessionIsIdle (state l.machine);
       so_far : (lines : List (List ℕ)) × (lines ++ l.load ≡ load l.fn.n l.fn.seed)
-          × Loads lines (state l.fn.machine) (counts l.fn.steps.listing l.fn.steps.update l.fn.steps.rows)
+          × FeedsLines lines (state l.fn.machine) (counts l.fn.steps.listing l.fn.steps.update l.fn.steps.rows)
           (state l.machine) (counts l.steps.listing l.steps.update l.steps.rows);
       ones : AreOnes l.load;
     }

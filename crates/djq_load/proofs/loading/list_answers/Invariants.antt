@@ -1,8 +1,8 @@
 use Rattle.std.proofs.Common.{ℕ, replicate}
 use Rattle.djq_machine.specs.Call.{counts}
 use Rattle.djq_load.specs.Joins.{GivesFew}
-use Rattle.djq_load.specs.Lines.{Loads, IsIdle}
-use Rattle.djq_load.specs.Totals.{IsRead, next_line}
+use Rattle.djq_load.specs.Lines.{FeedsLines, SessionIsIdle}
+use Rattle.djq_load.specs.Totals.{ReadsSoFar, next_line}
 use Rattle.djq_load.proofs.Few.{reads_left}
 use Rattle.djq_load.proofs.loading.list_answers.Given as goal
 
@@ -11,11 +11,12 @@ abbrev pub invariant-reads : goal.invariant-reads
 invariant-reads g l =
     let state = g.M.Machine.state in
     record {
-      idle : IsIdle (state l.machine);
+      idle : SessionIsIdle (state l.machine);
       few : GivesFew (state l.machine);
-      read : (k : ℕ) × Loads (replicate k next_line) (state l.fn.machine)
+      read : (k : ℕ) × FeedsLines (replicate k next_line) (state l.fn.machine)
           (counts l.fn.steps.listing l.fn.steps.update l.fn.steps.rows)
-          (state l.machine) (counts l.steps.listing l.steps.update l.steps.rows) × IsRead (state l.machine) l.reading k;
+          (state l.machine) (counts l.steps.listing l.steps.update l.steps.rows)
+          × ReadsSoFar (state l.machine) l.reading k;
     }
 
 -- Each read but the last gives a thousand answers more.

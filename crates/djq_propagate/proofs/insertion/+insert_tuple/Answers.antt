@@ -9,7 +9,7 @@ use Rattle.djq_tree.specs.Flat.{HasEqualMeets}
 use Rattle.djq_reduct.specs.Tables.{entries_at, key_at}
 use Rattle.djq_propagate.specs.Sizes.{size, AreAtMost}
 use Rattle.std.proofs.Common.{rules}
-use Rattle.djq_propagate.specs.Walks.{InsertedUpwards, Refused, ReducedAbove, UnchangedAbove, IsFull}
+use Rattle.djq_propagate.specs.Walks.{InsertedUpwards, Refused, ReducedAbove, UnchangedAbove, CoversAll}
 use Rattle.djq_propagate.proofs.Families.{lower_of, now_family, ready_up, topmost, stayed}
 use Rattle.djq_propagate.proofs.Plains.{bare_at, still_bare, plain_refl, plain_trans, inserted_same}
 use Rattle.djq_propagate.proofs.Plains.{raised_same, removed_fewer, back_same}
@@ -857,7 +857,7 @@ insert_above_side-remove_group_from_meet-requires-clause-lower g t c =
 pub insert_above_side-remove_group_from_meet-requires-clause-full :
     goal.insert_above_side-remove_group_from_meet-requires-clause-full
 insert_above_side-remove_group_from_meet-requires-clause-full g t c =
-    subst (λ (es : List Entry). IsFull (entries_at c.insert_tuple.new.tables.items c.args.up) es)
+    subst (λ (es : List Entry). CoversAll (entries_at c.insert_tuple.new.tables.items c.args.up) es)
     (sym (same_group c.args.tree.now c.args.tables.now.items c.loop-done.tables.items c.insert_tuple.new.tables.items
     c.args.guard c.args.up c.loop-done.done c.args.tuple.now
     (take c.loop-done.done

@@ -2,7 +2,7 @@
 use Rattle.std.proofs.Common.{◌≡◌, ℕ, ◌+◌, ◌*◌, ◌≤◌, List, length, ap, subst, sym, arith}
 use Rattle.std.specs.Prelude.{slice_set}
 use Rattle.djq_index.specs.Entries.{Entry}
-use Rattle.djq_index.specs.Tuple.{one}
+use Rattle.djq_index.specs.Tuple.{one_if}
 use Rattle.djq_tree.specs.Tree.{node_at, has_child}
 use Rattle.djq_propagate.specs.Updates.{HasCleared, steps}
 use Rattle.djq_propagate.proofs.Going.{has_table}
@@ -77,7 +77,7 @@ loop-up-preserved g c =
           c.clear_above-at.ensures.changed c.clear_above-at.ensures.apart;
       counted = λ n h. steps_count (1 + steps c.args.tree.now.nodes c.args.leaf (c.loop-up.up + 1))
           (1 + steps c.args.tree.now.nodes c.args.leaf c.loop-up.up)
-          (one (has_child (node_at c.args.tree.now.nodes c.loop-up.up) c.loop-up.at)) (1 + n) c.loop-up.tally
+          (one_if (has_child (node_at c.args.tree.now.nodes c.loop-up.up) c.loop-up.at)) (1 + n) c.loop-up.tally
           c.args.tally.now c.clear_above-at.new.tally
           (let s = steps_more c.args.tree.now.nodes c.args.leaf c.loop-up.up c.loop-up.at c.loop-up.invariant.at in
           omega arith)
@@ -89,7 +89,8 @@ loop-up-preserved g c =
           c.clear_above-at.ensures.changed c.clear_above-at.ensures.apart (c.loop-up.invariant.few few);
       flat = λ few. steps_count (1 + steps c.args.tree.now.nodes c.args.leaf (c.loop-up.up + 1))
           (1 + steps c.args.tree.now.nodes c.args.leaf c.loop-up.up)
-          (one (has_child (node_at c.args.tree.now.nodes c.loop-up.up) c.loop-up.at)) 2 c.loop-up.tally c.args.tally.now
+          (one_if (has_child (node_at c.args.tree.now.nodes c.loop-up.up) c.loop-up.at)) 2 c.loop-up.tally
+          c.args.tally.now
           c.clear_above-at.new.tally
           (let s = steps_more c.args.tree.now.nodes c.args.leaf c.loop-up.up c.loop-up.at c.loop-up.invariant.at in
           omega arith)

@@ -1,7 +1,7 @@
 -- Of the cases, child or not, second stage or not, removal or not, each way out has one and denies the others.
 use Rattle.std.proofs.Common.{◌≡◌, ℕ, ◌+◌, ◌*◌, Bool, cond, refl, ap, sym, ◌∙◌, arith}
 use Rattle.std.proofs.lemmas.Bool.{false≢true}
-use Rattle.djq_index.specs.Tuple.{one}
+use Rattle.djq_index.specs.Tuple.{one_if}
 use Rattle.djq_index.proofs.Tuples.{one_true}
 use Rattle.djq_tree.specs.Tree.{node_at, has_child}
 use Rattle.djq_propagate.proofs.path.touch_above.Goals as goal
@@ -57,7 +57,7 @@ returns-then-up-second_stage-clause-apart g c =
 
 pub returns-then-up-second_stage-clause-counted : goal.returns-then-up-second_stage-clause-counted
 returns-then-up-second_stage-clause-counted g c =
-    λ n h. let b : one (has_child (node_at c.args.tree.now.nodes c.args.up) c.args.at) * (1 + 5 * n)
+    λ n h. let b : one_if (has_child (node_at c.args.tree.now.nodes c.args.up) c.args.at) * (1 + 5 * n)
     ≡ 1 * (1 + 5 * n) = ap (λ (x : ℕ). x * (1 + 5 * n))
     (one_true (has_child (node_at c.args.tree.now.nodes c.args.up) c.args.at)
     (ap (λ n. has_child n c.args.at) (sym c.node.ensures) ∙ sym c.has_child.ensures ∙ c.if-has_child.true)) in omega
@@ -88,7 +88,7 @@ returns-then-removal-clause-apart g c =
 
 pub returns-then-removal-clause-counted : goal.returns-then-removal-clause-counted
 returns-then-removal-clause-counted g c =
-    λ n h. let b : one (has_child (node_at c.args.tree.now.nodes c.args.up) c.args.at) * (1 + 5 * n)
+    λ n h. let b : one_if (has_child (node_at c.args.tree.now.nodes c.args.up) c.args.at) * (1 + 5 * n)
     ≡ 1 * (1 + 5 * n) = ap (λ (x : ℕ). x * (1 + 5 * n))
     (one_true (has_child (node_at c.args.tree.now.nodes c.args.up) c.args.at)
     (ap (λ n. has_child n c.args.at) (sym c.node.ensures) ∙ sym c.has_child.ensures ∙ c.if-has_child.true)) in omega
@@ -150,7 +150,7 @@ returns-clause-counted g c =
 
 pub returns-then-up-second_stage-clause-flat : goal.returns-then-up-second_stage-clause-flat
 returns-then-up-second_stage-clause-flat g c =
-    λ meets few. let b : one (has_child (node_at c.args.tree.now.nodes c.args.up) c.args.at) * 6
+    λ meets few. let b : one_if (has_child (node_at c.args.tree.now.nodes c.args.up) c.args.at) * 6
     ≡ 1 * 6 = ap (λ (x : ℕ). x * 6)
     (one_true (has_child (node_at c.args.tree.now.nodes c.args.up) c.args.at)
     (ap (λ n. has_child n c.args.at) (sym c.node.ensures) ∙ sym c.has_child.ensures ∙ c.if-has_child.true)) in omega
@@ -158,7 +158,7 @@ returns-then-up-second_stage-clause-flat g c =
 
 pub returns-then-removal-clause-flat : goal.returns-then-removal-clause-flat
 returns-then-removal-clause-flat g c =
-    λ meets few. let b : one (has_child (node_at c.args.tree.now.nodes c.args.up) c.args.at) * 6
+    λ meets few. let b : one_if (has_child (node_at c.args.tree.now.nodes c.args.up) c.args.at) * 6
     ≡ 1 * 6 = ap (λ (x : ℕ). x * 6)
     (one_true (has_child (node_at c.args.tree.now.nodes c.args.up) c.args.at)
     (ap (λ n. has_child n c.args.at) (sym c.node.ensures) ∙ sym c.has_child.ensures ∙ c.if-has_child.true)) in omega

@@ -1,6 +1,6 @@
 -- By the loop the walk is at the path's last node below the index, and up to there the marks are made.
 use Rattle.std.proofs.Common.{◌≡◌, ℕ, ◌+◌, ◌*◌, ◌≤◌, true, false, length, subst, sym, arith}
-use Rattle.djq_index.specs.Tuple.{one}
+use Rattle.djq_index.specs.Tuple.{one_if}
 use Rattle.djq_index.specs.Entries.{marks}
 use Rattle.djq_tree.specs.Tree.{node_at, has_child}
 use Rattle.djq_reduct.specs.Tables.{entries_at}
@@ -57,7 +57,7 @@ loop-up-preserved g c =
           c.touch_above-at.ensures.below c.touch_above-at.ensures.idle c.touch_above-at.ensures.apart;
       counted = λ n h. steps_count (steps c.args.tree.now.nodes c.args.leaf (c.loop-up.up + 1))
           (steps c.args.tree.now.nodes c.args.leaf c.loop-up.up)
-          (one (has_child (node_at c.args.tree.now.nodes c.loop-up.up) c.loop-up.at)) (1 + 5 * n) c.loop-up.tally
+          (one_if (has_child (node_at c.args.tree.now.nodes c.loop-up.up) c.loop-up.at)) (1 + 5 * n) c.loop-up.tally
           c.args.tally.now c.touch_above-at.new.tally
           (steps_more c.args.tree.now.nodes c.args.leaf c.loop-up.up c.loop-up.at c.loop-up.invariant.at)
           (c.loop-up.invariant.counted n h)
@@ -72,7 +72,8 @@ loop-up-preserved g c =
           (c.loop-up.invariant.few meets few);
       flat = λ meets few. steps_count (steps c.args.tree.now.nodes c.args.leaf (c.loop-up.up + 1))
           (steps c.args.tree.now.nodes c.args.leaf c.loop-up.up)
-          (one (has_child (node_at c.args.tree.now.nodes c.loop-up.up) c.loop-up.at)) 6 c.loop-up.tally c.args.tally.now
+          (one_if (has_child (node_at c.args.tree.now.nodes c.loop-up.up) c.loop-up.at)) 6 c.loop-up.tally
+          c.args.tally.now
           c.touch_above-at.new.tally
           (steps_more c.args.tree.now.nodes c.args.leaf c.loop-up.up c.loop-up.at c.loop-up.invariant.at)
           (c.loop-up.invariant.flat meets few)

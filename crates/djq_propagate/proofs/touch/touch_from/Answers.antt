@@ -1,6 +1,6 @@
 -- What a tuple reaches above is told by the node's kind: its projection, itself, or the guard's group.
 use Rattle.std.proofs.Common.{sym, ◌∙◌, arith}
-use Rattle.djq_index.specs.Tuple.{same, one}
+use Rattle.djq_index.specs.Tuple.{same, one_if}
 use Rattle.djq_index.specs.Entries.{count_of, group_of}
 use Rattle.djq_tree.specs.declared.node.Node.TheVariants.{Trim}
 use Rattle.djq_tree.specs.Tree.{node_at}
@@ -96,7 +96,7 @@ returns-in-Trim-clause-counted g c =
 pub returns-then-guard-at-clause-touched : goal.returns-then-guard-at-clause-touched
 returns-then-guard-at-clause-touched g c =
     touched_as c.args.tree.now c.args.tables.now.items c.touch_tuple.new.tables.items c.args.up
-    (λ v. one (same c.args.tuple.now v))
+    (λ v. one_if (same c.args.tuple.now v))
     (λ v. reach_one (node_at c.args.tree.now.nodes c.args.up) c.args.going c.args.at c.args.tables.now.items
     c.args.tuple.now v) c.touch_tuple.ensures.touched
     (λ v. reach_guard (node_at c.args.tree.now.nodes c.args.up) c.in-Meet.guard c.in-Meet.side c.args.going

@@ -1,6 +1,6 @@
 -- By the loop those of the group before the index are marked; the guard is below the meet and stays as it was.
 use Rattle.std.proofs.Common.{ℕ, ◌+◌, List, take, drop, ap, sym, ◌∙◌, arith}
-use Rattle.djq_index.specs.Tuple.{same, one}
+use Rattle.djq_index.specs.Tuple.{same, one_if}
 use Rattle.djq_index.specs.Entries.{Entry, count_of, group_of, head_at}
 use Rattle.djq_index.proofs.Counts.{length_grp}
 use Rattle.djq_reduct.specs.Tables.{entries_at, key_at}
@@ -98,7 +98,7 @@ next-next-requires g c =
     let n = touched_more c.args.tree.now c.args.tables.now.items c.loop-done.tables.items c.touch_tuple.new.tables.items
     c.args.up (λ v. count_of (take c.loop-done.done
     (group_of (key_at c.args.tables.now.items c.args.guard) (entries_at c.args.tables.now.items c.args.guard)
-    c.args.cells.now)) v) (λ v. one (same c.as_slice.result.now v))
+    c.args.cells.now)) v) (λ v. one_if (same c.as_slice.result.now v))
     (λ v. count_of (take (c.loop-done.done + 1)
     (group_of (key_at c.args.tables.now.items c.args.guard) (entries_at c.args.tables.now.items c.args.guard)
     c.args.cells.now)) v) c.requires.family c.loop-done.invariant.touched c.touch_tuple.ensures.touched
@@ -107,7 +107,7 @@ next-next-requires g c =
     ∙ ap (λ (w : List ℕ). count_of
     (take c.loop-done.done
     (group_of (key_at c.args.tables.now.items c.args.guard) (entries_at c.args.tables.now.items c.args.guard)
-    c.args.cells.now)) v + one (same w v))
+    c.args.cells.now)) v + one_if (same w v))
     (sym (c.as_slice.ensures
     ∙ c.read_at.ensures.tuple k.entry.tuple
     (moved_at (entries_at c.args.tables.now.items c.args.guard) (entries_at c.loop-done.tables.items c.args.guard)
@@ -138,7 +138,7 @@ loop-done-preserved g c =
     let n = touched_more c.args.tree.now c.args.tables.now.items c.loop-done.tables.items c.touch_tuple.new.tables.items
     c.args.up (λ v. count_of (take c.loop-done.done
     (group_of (key_at c.args.tables.now.items c.args.guard) (entries_at c.args.tables.now.items c.args.guard)
-    c.args.cells.now)) v) (λ v. one (same c.as_slice.result.now v))
+    c.args.cells.now)) v) (λ v. one_if (same c.as_slice.result.now v))
     (λ v. count_of (take (c.loop-done.done + 1)
     (group_of (key_at c.args.tables.now.items c.args.guard) (entries_at c.args.tables.now.items c.args.guard)
     c.args.cells.now)) v) c.requires.family c.loop-done.invariant.touched c.touch_tuple.ensures.touched
@@ -147,7 +147,7 @@ loop-done-preserved g c =
     ∙ ap (λ (w : List ℕ). count_of
     (take c.loop-done.done
     (group_of (key_at c.args.tables.now.items c.args.guard) (entries_at c.args.tables.now.items c.args.guard)
-    c.args.cells.now)) v + one (same w v))
+    c.args.cells.now)) v + one_if (same w v))
     (sym (c.as_slice.ensures
     ∙ c.read_at.ensures.tuple k.entry.tuple
     (moved_at (entries_at c.args.tables.now.items c.args.guard) (entries_at c.loop-done.tables.items c.args.guard)

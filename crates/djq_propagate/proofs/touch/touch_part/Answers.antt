@@ -1,6 +1,6 @@
 -- What is reached at the trim is the tuple's projection alone, and not even that where the test forbids it.
 use Rattle.std.proofs.Common.{◌∙◌, arith}
-use Rattle.djq_index.specs.Tuple.{same, one}
+use Rattle.djq_index.specs.Tuple.{same, one_if}
 use Rattle.djq_tree.specs.declared.node.Node.TheVariants.{Trim}
 use Rattle.djq_propagate.specs.Touches.{reach_one}
 use Rattle.djq_propagate.proofs.Gains.{width_narrow, trim_few}
@@ -44,7 +44,7 @@ touch_tuple-requires-clause-within g c =
 pub returns-then-is_to_be_marked-clause-touched : goal.returns-then-is_to_be_marked-clause-touched
 returns-then-is_to_be_marked-clause-touched g c =
     touched_as c.args.tree.now c.args.tables.now.items c.touch_tuple.new.tables.items c.args.up
-    (λ v. one (same c.as_slice-cells.result.now v))
+    (λ v. one_if (same c.as_slice-cells.result.now v))
     (λ v. reach_one (Trim c.args.at) c.args.going c.args.at c.args.tables.now.items c.args.tuple.now v)
     c.touch_tuple.ensures.touched
     (λ v. reach_yes c.args.at c.args.tables.now.items c.args.tuple.now v c.as_slice-cells.result.now c.args.going

@@ -1,6 +1,6 @@
 -- A tuple stands once in a table, so where it is absent, or marked, there is nothing left to mark.
 use Rattle.std.proofs.Common.{◌≡◌, true, sym, ◌∙◌, arith}
-use Rattle.djq_index.specs.Tuple.{same, one}
+use Rattle.djq_index.specs.Tuple.{same, one_if}
 use Rattle.djq_index.specs.Entries.{count_of, is_marked}
 use Rattle.djq_index.specs.Changes.{Touched}
 use Rattle.std.specs.Prelude.{slice_set}
@@ -28,7 +28,7 @@ returns-then-marked-clause-touched g c =
     let r = family_read c.args.tree.now c.args.tables.now.items c.args.at c.index_mut-table.result.now c.requires.family
     c.requires.within c.index_mut-table.ensures.value in
     rw (same_set r)
-    (touched_none c.args.tree.now c.args.tables.now.items c.args.at (λ v. one (same c.args.tuple.now v))
+    (touched_none c.args.tree.now c.args.tables.now.items c.args.at (λ v. one_if (same c.args.tuple.now v))
     c.requires.family (λ v there some. one_marked (entries_at c.args.tables.now.items c.args.at) c.args.tuple.now v
     (apart_of c.args.tree.now c.args.tables.now.items c.requires.family c.args.at)
     (of_read (λ es. is_marked es c.args.tuple.now ≡ true) r
@@ -68,7 +68,7 @@ returns-in-None-clause-touched g c =
     let r = family_read c.args.tree.now c.args.tables.now.items c.args.at c.index_mut-table.result.now c.requires.family
     c.requires.within c.index_mut-table.ensures.value in
     rw (same_set r)
-    (touched_none c.args.tree.now c.args.tables.now.items c.args.at (λ v. one (same c.args.tuple.now v))
+    (touched_none c.args.tree.now c.args.tables.now.items c.args.at (λ v. one_if (same c.args.tuple.now v))
     c.requires.family (λ v there some. one_absent (entries_at c.args.tables.now.items c.args.at) c.args.tuple.now v
     (of_read (λ es. count_of es c.args.tuple.now ≡ 0) r c.in-None.ensures.found) there some))
 

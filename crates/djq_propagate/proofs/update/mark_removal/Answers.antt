@@ -1,5 +1,5 @@
 -- No tuple was marked, so the leaf's is the only mark, and the path above is free to be marked.
-use Rattle.djq_index.specs.Tuple.{one, same}
+use Rattle.djq_index.specs.Tuple.{one_if, same}
 use Rattle.std.proofs.Common.{arith, length}
 use Rattle.djq_propagate.specs.Updates.{steps, paths}
 use Rattle.djq_propagate.proofs.Fewing.{few_marked}
@@ -23,7 +23,7 @@ touch_path-requires-clause-family g c =
 pub touch_path-requires-clause-can : goal.touch_path-requires-clause-can
 touch_path-requires-clause-can g c =
     can_remove c.reducts.inside.tree c.reducts.inside.tables.items c.touch_tuple.new.tables.items c.args.leaf
-    (λ v. one (same c.args.tuple.now v)) c.reducts.invariant.0 (rw (← c.reducts.view_is) at c.requires.leaf)
+    (λ v. one_if (same c.args.tuple.now v)) c.reducts.invariant.0 (rw (← c.reducts.view_is) at c.requires.leaf)
     (rw (← c.reducts.view_is) at c.requires.bare) c.touch_tuple.ensures.touched
 
 pub touch_path-requires-clause-leaf : goal.touch_path-requires-clause-leaf
@@ -41,7 +41,7 @@ returns-clause-marked g c = rw (← c.reducts.view_is) (
 pub returns-clause-counted : goal.returns-clause-counted
 returns-clause-counted g c = rw (← c.reducts.view_is) (
     λ n few. mark_counted c.reducts.inside.tree c.reducts.inside.tables.items c.touch_tuple.new.tables.items
-    c.args.leaf c.args.tuple.now (λ v. one (same c.args.tuple.now v)) n c.args.tally.now c.touch_tuple.new.tally
+    c.args.leaf c.args.tuple.now (λ v. one_if (same c.args.tuple.now v)) n c.args.tally.now c.touch_tuple.new.tally
     c.touch_path.new.tally c.reducts.invariant.0 (rw (← c.reducts.view_is) at c.requires.there)
     c.touch_tuple.ensures.touched few c.touch_tuple.ensures.counted c.touch_path.ensures.counted)
 

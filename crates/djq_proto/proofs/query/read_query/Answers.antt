@@ -3,7 +3,7 @@ use Rattle.std.proofs.Common.{sym, subst, ◌∙◌, List, true, Some, Result, E
 use Rattle.std.specs.List.{list_all}
 use Rattle.djq_model.specs.Data.{Bytes}
 use Rattle.djq_model.specs.declared.query.Query.{Query}
-use Rattle.djq_lines.specs.Grammar.{body_in, list_in, name_of, query_in}
+use Rattle.djq_lines.specs.Grammar.{body_in, list_in, name_of, query_of_tokens}
 use Rattle.djq_proto.specs.Reading.{ReadsAs, is_small_query}
 use Rattle.djq_proto.specs.declared.refusal.LineRefusal.{LineRefusal}
 use Rattle.djq_proto.proofs.Listing.{err_is}
@@ -19,7 +19,7 @@ returns-in_err-atoms c =
     let refused : Result Query LineRefusal = Err e in
     let found = part_some (list_all (λ _. true)) (list_in name_of mid) c.read_list-head.result rest
     c.read_list-head.ensures (sym c.is_outside.ensures ∙ c.if-is_outside.false) in
-    subst (λ r. ReadsAs is_small_query (query_in old) r)
+    subst (λ r. ReadsAs is_small_query (query_of_tokens old) r)
     (sym (err_is c.from_residual.result e c.from_residual.ensures.1))
     (subst (λ o. ReadsAs is_small_query o refused)
     (sym (query_split old mid rest c.in-Some.name found.0 c.in-Some.ensures.0 c.in-Some.ensures.1 found.1))
@@ -34,7 +34,7 @@ returns-in_err-head c =
     let refused : Result Query LineRefusal = Err e in
     let found = part_some (list_all (λ _. true)) (list_in name_of mid) c.read_list-head.result rest
     c.read_list-head.ensures (sym c.is_outside.ensures ∙ c.if-is_outside.false) in
-    subst (λ r. ReadsAs is_small_query (query_in old) r)
+    subst (λ r. ReadsAs is_small_query (query_of_tokens old) r)
     (sym (err_is c.from_residual-in_err-head.result e c.from_residual-in_err-head.ensures.1))
     (subst (λ o. ReadsAs is_small_query o refused)
     (sym (query_split old mid rest c.in-Some.name found.0 c.in-Some.ensures.0 c.in-Some.ensures.1 found.1))

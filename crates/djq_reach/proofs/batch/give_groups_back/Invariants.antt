@@ -4,7 +4,7 @@ use Rattle.djq_propagate.specs.Updates.{HasAtMost}
 use Rattle.djq_rows.specs.Catalog.{Catalog}
 use Rattle.djq_live.specs.Live.{IsKept, SameQuery}
 use Rattle.djq_reach.specs.Reaching.{Reach, AllAt}
-use Rattle.djq_reach.specs.Grouping.{Leads, group_work, reached}
+use Rattle.djq_reach.specs.Grouping.{GroupsLead, group_work, reached}
 use Rattle.djq_reach.proofs.Chaining.{Behind}
 use Rattle.djq_reach.proofs.batch.give_groups_back.Given as goal
 
@@ -12,7 +12,7 @@ abbrev pub invariant-loop-left : goal.invariant-loop-left
 invariant-loop-left g l = record {
   low : l.left ≤ length l.groups;
   same : Reach (reached l.readers l.groups) SameQuery l.fn.queries.items l.queries.items;
-  behind : (c d : Catalog) → Leads l.readers l.groups l.fn.queries.items c d
+  behind : (c d : Catalog) → GroupsLead l.readers l.groups l.fn.queries.items c d
       → AllAt (reached l.readers l.groups) l.fn.queries.items (λ m. IsKept d m)
       → Behind l.readers l.groups l.left l.fn.queries.items l.queries.items c;
   few : (n : ℕ) → AllAt (reached l.readers l.groups) l.fn.queries.items (λ m. HasAtMost m.reducts n)

@@ -5,8 +5,8 @@ use Rattle.djq_propagate.specs.Updates.{HasAtMost}
 use Rattle.djq_reach.specs.Reaching.{AllAt}
 use Rattle.djq_reach.specs.declared.group.Group.{Group}
 use Rattle.djq_reach.specs.Places.{AreOnce, readers_at}
-use Rattle.djq_reach.specs.Tending.{TellsAt, Tends, work_at}
-use Rattle.djq_reach.specs.Grouping.{Leads, group_work, reached, rows_in, times_back}
+use Rattle.djq_reach.specs.Tending.{LogTellsAt, Tends, work_at}
+use Rattle.djq_reach.specs.Grouping.{GroupsLead, group_work, reached, rows_of_groups, times_back}
 use Rattle.djq_reach.proofs.Chaining.{all_kept, few_more, group_comes, in_reached, renewed, takes_more, takes_same}
 use Rattle.djq_reach.proofs.Costing.{costs_all, costs_on, fresh_group, group_counts, rows_front}
 use Rattle.djq_reach.proofs.Costing.{rows_more, sum_more, sums_back, works_refused}
@@ -44,8 +44,8 @@ returns-in-Err-clause-given g c =
 
 pub returns-in-Err-clause-emptied : goal.returns-in-Err-clause-emptied
 returns-in-Err-clause-emptied g c =
-    emptied_all (TellsAt c.args.watchers.now
-    (λ x d (w : ⊤). Leads c.args.readers.now (take c.loop-at.at c.args.groups.now) c.args.queries.now.items x d))
+    emptied_all (LogTellsAt c.args.watchers.now
+    (λ x d (w : ⊤). GroupsLead c.args.readers.now (take c.loop-at.at c.args.groups.now) c.args.queries.now.items x d))
     (reached c.args.readers.now c.args.groups.now) c.places_of-places.result.now c.args.queries.now.items
     c.args.logs.now.items c.loop-at.logs.items c.insert_all_into_readers.new.logs.items c.empty_all.new.logs.items
     (in_reached c.args.readers.now c.args.groups.now c.args.queries.now.items c.loop-at.at c.index-groups-at.result
@@ -86,26 +86,27 @@ returns-in-Err-clause-refusal g c n all =
     let groups = c.args.groups.now in
     let gs = c.args.queries.now.items in
     let group = c.index-groups-at.result in
-    let many = n + rows_in (take c.loop-at.at groups) in
+    let many = n + rows_of_groups (take c.loop-at.at groups) in
     let few = c.loop-at.invariant.few n all in
     let rows : length c.as_slice-rows.result.now ≡ length group.rows = ap length c.as_slice-rows.ensures in
     let so_far = rows_more groups c.loop-at.at group c.loop-at-test.true c.index-groups-at.is in
     let front = rows_front groups (c.loop-at.at + 1) in
-    let at_most : many + length c.as_slice-rows.result.now ≤ n + rows_in groups = omega (arith, rows, so_far, front) in
+    let at_most : many + length c.as_slice-rows.result.now ≤ n + rows_of_groups groups =
+    omega (arith, rows, so_far, front) in
     let refused = c.in-Err.ensures.refusal many
     (λ i e. few i ((in_reached c.args.readers.now c.args.groups.now c.args.queries.now.items c.loop-at.at
     c.index-groups-at.result c.loop-at-test.true c.index-groups-at.is c.places_of-places.result.now
     c.as_slice-rows.result.now c.places_of-places.ensures c.as_slice-rows.ensures) i e)) in
     let one = group_counts readers (reached c.args.readers.now c.args.groups.now) gs c.loop-at.queries.items
     group.relation.at (length c.as_slice-rows.result.now + 2)
-    (many + length c.as_slice-rows.result.now) (n + rows_in groups) c.places_of-places.result.now at_most
+    (many + length c.as_slice-rows.result.now) (n + rows_of_groups groups) c.places_of-places.result.now at_most
     (takes_same (reached c.args.readers.now c.args.groups.now) c.args.readers.now c.args.groups.now
     c.args.queries.now.items c.loop-at.queries.items c.loop-at.at c.loop-at.invariant.takes)
     c.places_of-places.ensures in
-    let named : sum_by (work_at gs group.relation.at (length c.as_slice-rows.result.now + 2) (n + rows_in groups)
+    let named : sum_by (work_at gs group.relation.at (length c.as_slice-rows.result.now + 2) (n + rows_of_groups groups)
     (λ i. false)) (readers_at readers group.relation.at)
-    ≡ group_work readers gs (n + rows_in groups) times_back group =
-    ap (λ (t : ℕ). sum_by (work_at gs group.relation.at (t + 2) (n + rows_in groups) (λ i. false))
+    ≡ group_work readers gs (n + rows_of_groups groups) times_back group =
+    ap (λ (t : ℕ). sum_by (work_at gs group.relation.at (t + 2) (n + rows_of_groups groups) (λ i. false))
     (readers_at readers group.relation.at)) rows in
     let mid = few_mid c.args.readers.now c.args.groups.now c.args.queries.now.items c.loop-at.at
     c.index-groups-at.result c.loop-at-test.true c.index-groups-at.is c.places_of-places.result.now
@@ -116,14 +117,14 @@ returns-in-Err-clause-refusal g c n all =
     (λ i e. mid i (reached_front readers groups c.loop-at.at i e)) in
     let back = sums_back readers (reached c.args.readers.now c.args.groups.now) gs
     c.insert_all_into_readers.new.queries.items
-    (many + length group.rows + 0) (n + rows_in groups) (take c.loop-at.at groups)
+    (many + length group.rows + 0) (n + rows_of_groups groups) (take c.loop-at.at groups)
     (omega (arith, so_far, front))
     (same_mid c.args.readers.now c.args.groups.now c.args.queries.now.items c.loop-at.at c.index-groups-at.result
     c.loop-at-test.true c.index-groups-at.is c.places_of-places.result.now c.as_slice-rows.result.now
     c.places_of-places.ensures c.as_slice-rows.ensures c.loop-at.queries.items
     c.insert_all_into_readers.new.queries.items
     c.loop-at.invariant.takes c.in-Err.ensures.given) in
-    works_refused readers groups gs (n + rows_in groups) c.loop-at.at group c.args.steps.now.update
+    works_refused readers groups gs (n + rows_of_groups groups) c.loop-at.at group c.args.steps.now.update
     c.loop-at.steps.update c.insert_all_into_readers.new.steps.update c.give_groups_back.new.steps.update
     c.loop-at-test.true c.index-groups-at.is (c.loop-at.invariant.works n all) (omega (arith, refused, one, named))
     (omega (arith, given, back))
@@ -161,12 +162,12 @@ loop-at-preserved g c = record {
       c.index-groups-at.result c.loop-at-test.true c.index-groups-at.is c.places_of-places.result.now
       c.as_slice-rows.result.now c.places_of-places.ensures c.as_slice-rows.ensures
       c.loop-at.queries.items c.insert_all_into_readers.new.queries.items
-      (n + rows_in (take c.loop-at.at c.args.groups.now))
+      (n + rows_of_groups (take c.loop-at.at c.args.groups.now))
       c.in-Ok.ensures.taken (c.loop-at.invariant.few n all) in
       let so_far = rows_more c.args.groups.now c.loop-at.at c.index-groups-at.result c.loop-at-test.true
       c.index-groups-at.is in
-      let whole : n + rows_in (take c.loop-at.at c.args.groups.now) + length c.index-groups-at.result.rows
-      ≡ n + rows_in (take (c.loop-at.at + 1) c.args.groups.now) = omega (arith, so_far) in
+      let whole : n + rows_of_groups (take c.loop-at.at c.args.groups.now) + length c.index-groups-at.result.rows
+      ≡ n + rows_of_groups (take (c.loop-at.at + 1) c.args.groups.now) = omega (arith, so_far) in
       subst (λ (x : ℕ). AllAt (reached c.args.readers.now c.args.groups.now) c.insert_all_into_readers.new.queries.items
       (λ m. HasAtMost m.reducts x)) whole more;
   works = λ n all.
@@ -174,12 +175,13 @@ loop-at-preserved g c = record {
       let groups = c.args.groups.now in
       let gs = c.args.queries.now.items in
       let group = c.index-groups-at.result in
-      let many = n + rows_in (take c.loop-at.at groups) in
+      let many = n + rows_of_groups (take c.loop-at.at groups) in
       let few = c.loop-at.invariant.few n all in
       let rows : length c.as_slice-rows.result.now ≡ length group.rows = ap length c.as_slice-rows.ensures in
       let so_far = rows_more groups c.loop-at.at group c.loop-at-test.true c.index-groups-at.is in
       let front = rows_front groups (c.loop-at.at + 1) in
-      let at_most : many + length c.as_slice-rows.result.now ≤ n + rows_in groups = omega (arith, rows, so_far, front)
+      let at_most : many + length c.as_slice-rows.result.now ≤ n + rows_of_groups groups =
+      omega (arith, rows, so_far, front)
       in
       let done = c.in-Ok.ensures.updates many
       (λ i e. few i ((in_reached c.args.readers.now c.args.groups.now c.args.queries.now.items c.loop-at.at
@@ -187,11 +189,12 @@ loop-at-preserved g c = record {
       c.as_slice-rows.result.now c.places_of-places.ensures c.as_slice-rows.ensures) i e)) in
       let one = group_counts readers (reached c.args.readers.now c.args.groups.now) gs c.loop-at.queries.items
       group.relation.at 1
-      (many + length c.as_slice-rows.result.now) (n + rows_in groups) c.places_of-places.result.now at_most
+      (many + length c.as_slice-rows.result.now) (n + rows_of_groups groups) c.places_of-places.result.now at_most
       (takes_same (reached c.args.readers.now c.args.groups.now) c.args.readers.now c.args.groups.now
       c.args.queries.now.items c.loop-at.queries.items c.loop-at.at c.loop-at.invariant.takes)
       c.places_of-places.ensures in
-      let sum = sum_more (group_work readers gs (n + rows_in groups) (λ (x : Group). 1)) groups c.loop-at.at group
+      let sum = sum_more (group_work readers gs (n + rows_of_groups groups) (λ (x : Group). 1)) groups
+      c.loop-at.at group
       c.loop-at-test.true c.index-groups-at.is in
       omega (arith, c.loop-at.invariant.works n all, done, one, sum);
 }
@@ -203,13 +206,13 @@ returns-clause-taken g c x d leads kept =
     c.args.queries.now.items c.loop-at.queries.items c.loop-at.at c.loop-at.invariant.takes)
     (all_kept (reached c.args.readers.now c.args.groups.now) c.args.readers.now c.args.groups.now
     c.args.queries.now.items c.loop-at.queries.items c.loop-at.at x d c.loop-at.invariant.takes kept
-    (subst (λ (xs : List Group). Leads c.args.readers.now xs c.args.queries.now.items x d)
+    (subst (λ (xs : List Group). GroupsLead c.args.readers.now xs c.args.queries.now.items x d)
     (sym (take_whole c.args.groups.now c.loop-at.at (omega (arith, c.loop-at-test.false)))) leads))
 
 pub returns-clause-tells : goal.returns-clause-tells
 returns-clause-tells g c =
     subst (λ (xs : List Group). Tends (reached c.args.readers.now c.args.groups.now)
-    (TellsAt c.args.watchers.now (λ x d (w : ⊤). Leads c.args.readers.now xs c.args.queries.now.items x d))
+    (LogTellsAt c.args.watchers.now (λ x d (w : ⊤). GroupsLead c.args.readers.now xs c.args.queries.now.items x d))
     c.args.queries.now.items c.args.logs.now.items c.loop-at.logs.items)
     (take_whole c.args.groups.now c.loop-at.at (omega (arith, c.loop-at-test.false))) c.loop-at.invariant.tends
 
@@ -223,6 +226,7 @@ returns-clause-unlisted g c = c.loop-at.invariant.unlisted
 pub returns-clause-updates : goal.returns-clause-updates
 returns-clause-updates g c n all =
     subst (λ (xs : List Group). c.loop-at.steps.update ≤ c.args.steps.now.update
-    + sum_by (group_work c.args.readers.now c.args.queries.now.items (n + rows_in c.args.groups.now) (λ x. 1)) xs)
+    + sum_by (group_work c.args.readers.now c.args.queries.now.items
+    (n + rows_of_groups c.args.groups.now) (λ x. 1)) xs)
     (take_whole c.args.groups.now c.loop-at.at (omega (arith, c.loop-at-test.false)))
     (c.loop-at.invariant.works n all)

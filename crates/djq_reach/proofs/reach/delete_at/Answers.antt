@@ -6,7 +6,7 @@ use Rattle.djq_rows.specs.Catalog.{Catalog}
 use Rattle.djq_live.specs.Changes.{Went}
 use Rattle.djq_live.specs.Updating.{CanDelete}
 use Rattle.djq_reach.specs.Reaching.{LetsOut}
-use Rattle.djq_reach.specs.Tending.{TellsAt, TellsWhere}
+use Rattle.djq_reach.specs.Tending.{LogTellsAt, TellsWhere}
 use Rattle.djq_reach.proofs.Reaching.{below_some, place_read, reach_read}
 use Rattle.djq_reach.proofs.Tending.{costs_one, lists_nothing, tells_where, tends_read}
 use Rattle.djq_reach.proofs.Working.{works_one}
@@ -29,7 +29,7 @@ returns g c =
       reach = reach_read (LetsOut at cells) gs i query l c.delete.new.self (λ l. CanDelete l at cells) c.requires.can
           c.index_mut.ensures.value c.in-Some.is
           (record { follows = c.delete.ensures.deleted; same = c.delete.ensures.same });
-      tells = tends_read (TellsAt c.args.watchers.now went) gs c.args.logs.now.items i l log c.delete.new.log
+      tells = tends_read (LogTellsAt c.args.watchers.now went) gs c.args.logs.now.items i l log c.delete.new.log
           c.requires.logged there c.index_mut-log.ensures.value
           (subst (λ (b : Bool). TellsWhere b went l log c.delete.new.log) c.is_watched-wanted.ensures
           (tells_where went wanted l log c.clear_if.new.log c.delete.new.log c.clear_if.ensures c.delete.ensures.log));

@@ -3,7 +3,7 @@ use Rattle.std.proofs.Common.{arith, ◌∙◌, refl}
 use Rattle.djq_live.specs.Changes.{Went}
 use Rattle.djq_live.specs.Updating.{CanDelete}
 use Rattle.djq_reach.specs.Reaching.{LetsOut}
-use Rattle.djq_reach.specs.Tending.{TellsAt}
+use Rattle.djq_reach.specs.Tending.{LogTellsAt}
 use Rattle.djq_reach.proofs.Reaching.{all_go, reach_next, reach_none, still}
 use Rattle.djq_reach.proofs.Tending.{costs_front, costs_none, costs_next, place_within, tends_next, tends_none}
 use Rattle.djq_reach.proofs.Working.{works_front, works_next, works_none}
@@ -12,7 +12,7 @@ use Rattle.djq_reach.proofs.reach.delete_from_readers.Goals as goal
 pub loop-at-init : goal.loop-at-init
 loop-at-init g c = record {
   reach = reach_none (LetsOut c.args.relation.at c.args.cells.now) c.args.queries.now.items;
-  tends = tends_none (TellsAt c.args.watchers.now (λ x d. Went x d c.args.relation.at c.args.cells.now))
+  tends = tends_none (LogTellsAt c.args.watchers.now (λ x d. Went x d c.args.relation.at c.args.cells.now))
       c.args.queries.now.items c.args.logs.now.items;
   works = works_none c.args.queries.now.items c.args.relation.at 1 c.args.steps.now.update;
   counted = costs_none (λ x d. Went x d c.args.relation.at c.args.cells.now) c.args.watchers.now c.args.relation.at
@@ -49,7 +49,8 @@ loop-at-preserved g c = record {
       c.args.queries.now.items c.loop-at.queries.items c.delete_at.new.queries.items
       c.requires.once c.loop-at-test.true c.loop-at.invariant.reach c.delete_at.ensures.reach;
   tends = tends_next (LetsOut c.args.relation.at c.args.cells.now)
-      (TellsAt c.args.watchers.now (λ x d. Went x d c.args.relation.at c.args.cells.now)) c.args.places.now c.loop-at.at
+      (LogTellsAt c.args.watchers.now (λ x d. Went x d c.args.relation.at c.args.cells.now))
+      c.args.places.now c.loop-at.at
       0
       c.args.queries.now.items c.loop-at.queries.items c.args.logs.now.items c.loop-at.logs.items
       c.delete_at.new.logs.items

@@ -7,7 +7,7 @@ use Rattle.djq_rows.specs.Catalog.{Catalog}
 use Rattle.djq_live.specs.Changes.{Came}
 use Rattle.djq_live.specs.Updating.{CanAdd}
 use Rattle.djq_reach.specs.Reaching.{Remains, TakesIn}
-use Rattle.djq_reach.specs.Tending.{Shows, TellsAt, TellsWhere}
+use Rattle.djq_reach.specs.Tending.{LogShows, LogTellsAt, TellsWhere}
 use Rattle.djq_reach.proofs.Reaching.{below_some, place_read, reach_read}
 use Rattle.djq_reach.proofs.Tending.{costs_one, lists_nothing, on_both, on_err, on_ok, on_refused, shows_either}
 use Rattle.djq_reach.proofs.Tending.{tells_where, tends_read}
@@ -40,10 +40,10 @@ returns g c =
           c.index_mut.ensures.value c.in-Some.is (record { kept = h; same = c.add.ensures.same }))
           c.add.ensures.refused;
       tells = on_ok c.add.result
-          (λ t. tends_read (TellsAt c.args.watchers.now came) gs logs i l log c.add.new.log c.requires.logged there
+          (λ t. tends_read (LogTellsAt c.args.watchers.now came) gs logs i l log c.add.new.log c.requires.logged there
           c.index_mut-log.ensures.value (subst (λ (b : Bool). TellsWhere b came l log c.add.new.log)
           c.is_watched-wanted.ensures t)) told;
-      shows = tends_read (Shows came) gs logs i l log c.add.new.log c.requires.logged there
+      shows = tends_read (LogShows came) gs logs i l log c.add.new.log c.requires.logged there
           c.index_mut-log.ensures.value (shows_either came wanted i l log c.add.new.log c.add.result told
           (on_err c.add.result (λ h. h.lines) c.add.ensures.emptied));
       counted = costs_one came c.args.watchers.now at gs i l wanted c.args.steps.now.listing

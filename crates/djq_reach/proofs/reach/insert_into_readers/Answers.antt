@@ -3,7 +3,7 @@ use Rattle.std.proofs.Common.{◌+◌, arith, take, ◌∙◌, refl}
 use Rattle.djq_live.specs.Changes.{Came}
 use Rattle.djq_live.specs.Updating.{CanAdd}
 use Rattle.djq_reach.specs.Reaching.{TakesIn}
-use Rattle.djq_reach.specs.Tending.{Shows, TellsAt}
+use Rattle.djq_reach.specs.Tending.{LogShows, LogTellsAt}
 use Rattle.djq_reach.proofs.Reaching.{all_come, front_goes, given_back, once_front, reach_next, reach_none, still}
 use Rattle.djq_reach.proofs.Tending.{costs_front, costs_next, costs_none, place_within, shows_front}
 use Rattle.djq_reach.proofs.Tending.{tells_show, tends_next, tends_none}
@@ -13,7 +13,7 @@ use Rattle.djq_reach.proofs.reach.insert_into_readers.Goals as goal
 pub loop-at-init : goal.loop-at-init
 loop-at-init g c = record {
   reach = reach_none (TakesIn c.args.relation.at c.args.cells.now) c.args.queries.now.items;
-  tends = tends_none (TellsAt c.args.watchers.now (λ x d. Came x d c.args.relation.at c.args.cells.now))
+  tends = tends_none (LogTellsAt c.args.watchers.now (λ x d. Came x d c.args.relation.at c.args.cells.now))
       c.args.queries.now.items c.args.logs.now.items;
   works = works_none c.args.queries.now.items c.args.relation.at 1 c.args.steps.now.update;
   counted = costs_none (λ x d. Came x d c.args.relation.at c.args.cells.now) c.args.watchers.now c.args.relation.at
@@ -65,7 +65,7 @@ returns-in-Err-clause-shows g c =
     shows_front (λ x d. Came x d c.args.relation.at c.args.cells.now) c.args.places.now (c.loop-at.at + 1)
     c.args.queries.now.items c.args.logs.now.items c.insert_at.new.logs.items
     (tends_next (TakesIn c.args.relation.at c.args.cells.now)
-    (Shows (λ x d. Came x d c.args.relation.at c.args.cells.now)) c.args.places.now c.loop-at.at 0
+    (LogShows (λ x d. Came x d c.args.relation.at c.args.cells.now)) c.args.places.now c.loop-at.at 0
     c.args.queries.now.items c.loop-at.queries.items c.args.logs.now.items c.loop-at.logs.items
     c.insert_at.new.logs.items
     c.requires.once c.loop-at-test.true c.loop-at.invariant.reach
@@ -120,7 +120,8 @@ loop-at-preserved g c = record {
       c.args.queries.now.items c.loop-at.queries.items c.insert_at.new.queries.items c.requires.once
       c.loop-at-test.true c.loop-at.invariant.reach c.in-Ok.ensures.ok;
   tends = tends_next (TakesIn c.args.relation.at c.args.cells.now)
-      (TellsAt c.args.watchers.now (λ x d. Came x d c.args.relation.at c.args.cells.now)) c.args.places.now c.loop-at.at
+      (LogTellsAt c.args.watchers.now (λ x d. Came x d c.args.relation.at c.args.cells.now))
+      c.args.places.now c.loop-at.at
       0
       c.args.queries.now.items c.loop-at.queries.items c.args.logs.now.items c.loop-at.logs.items
       c.insert_at.new.logs.items

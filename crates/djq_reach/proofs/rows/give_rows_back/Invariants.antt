@@ -4,14 +4,14 @@ use Rattle.djq_rows.specs.Catalog.{Catalog}
 use Rattle.djq_live.specs.Live.{IsKept, SameQuery}
 use Rattle.djq_live.specs.Stepping.{HasMore}
 use Rattle.djq_live.specs.Updating.{CountsUpdate}
-use Rattle.djq_reach.specs.Batching.{Comes}
+use Rattle.djq_reach.specs.Batching.{RowsCameIn}
 use Rattle.djq_reach.proofs.Batching.{Among}
 use Rattle.djq_reach.proofs.rows.give_rows_back.Given as goal
 
 abbrev pub invariant-loop-left : goal.invariant-loop-left
 invariant-loop-left g l = record {
   low : l.left ≤ length l.rows;
-  among : (c d : Catalog) (rows : List Tuple) → Comes c d l.relation.at l.rows rows → IsKept d l.fn.query
+  among : (c d : Catalog) (rows : List Tuple) → RowsCameIn c d l.relation.at l.rows rows → IsKept d l.fn.query
       → Among c l.relation.at (take l.left l.rows) l.query;
   same : SameQuery l.fn.query l.query;
   fewer : HasMore l.query.reducts l.fn.query.reducts;

@@ -2,7 +2,7 @@ use Rattle.std.proofs.Common.{take, ◌≡◌, length}
 use Rattle.djq_live.specs.Changes.{CameAll}
 use Rattle.djq_reach.specs.Reaching.{Reach}
 use Rattle.djq_reach.specs.Tending.{AreUnwatched, Tends, Costs}
-use Rattle.djq_reach.specs.Batching.{LogsAt, OthersStay, TakesInAll, WorksBatch}
+use Rattle.djq_reach.specs.Batching.{LogsAt, OtherLogsStay, TakesInAll, WorksBatch}
 use Rattle.djq_reach.proofs.rows.insert_all_into_readers.Given as goal
 
 abbrev pub invariant-loop-at : goal.invariant-loop-at
@@ -10,7 +10,7 @@ invariant-loop-at g l = record {
   reach : Reach (take l.at l.places) (TakesInAll l.relation.at l.rows) l.fn.queries.items l.queries.items;
   tends : Tends (take l.at l.places) (LogsAt l.watchers (λ c d. CameAll c d l.relation.at l.rows)) l.fn.queries.items
       l.fn.logs.items l.logs.items;
-  others : OthersStay (take l.at l.places) l.fn.logs.items l.logs.items;
+  others : OtherLogsStay (take l.at l.places) l.fn.logs.items l.logs.items;
   works : WorksBatch (take l.at l.places) l.fn.queries.items l.relation.at (length l.rows) 1 l.fn.steps.update
       l.steps.update;
   counted : Costs (λ c d. CameAll c d l.relation.at l.rows) (take l.at l.places) l.watchers l.fn.queries.items

@@ -3,7 +3,7 @@ use Rattle.std.proofs.Common.{◌∙◌, ◌+◌, subst, Bool, false, length}
 use Rattle.djq_live.specs.Changes.{CameAll}
 use Rattle.djq_live.specs.Updating.{CanAddAll, LogsWhere}
 use Rattle.djq_propagate.specs.Updates.{HasAtMost}
-use Rattle.djq_reach.specs.Batching.{LogsAt, Refuses, TakesInAll}
+use Rattle.djq_reach.specs.Batching.{LogsAt, StaysUnchanged, TakesInAll}
 use Rattle.djq_reach.specs.Tending.{work_of}
 use Rattle.djq_reach.proofs.Batching.{bounds_one, others_set}
 use Rattle.djq_reach.proofs.Reaching.{below_some, place_read, reach_read}
@@ -22,7 +22,7 @@ returns-clause-ok g c =
 pub returns-clause-err : goal.returns-clause-err
 returns-clause-err g c =
     on_refused c.add_many.result
-    (λ h k. reach_read Refuses c.args.queries.now.items c.args.at c.index_mut.result.now c.in-Some.query
+    (λ h k. reach_read StaysUnchanged c.args.queries.now.items c.args.at c.index_mut.result.now c.in-Some.query
     c.add_many.new.self
     (λ l. CanAddAll l c.args.relation.at c.args.rows.now) c.requires.can c.index_mut.ensures.value c.in-Some.is
     (record { kept = h; same = c.add_many.ensures.same; tables = k })) c.add_many.ensures.refused

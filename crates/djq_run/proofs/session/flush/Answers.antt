@@ -1,7 +1,7 @@
 -- What a write took is one more step of the course, and leaves fewer bytes pending, or none.
 use Rattle.std.proofs.Common.{rules, ◌≤◌, ◌∙◌, length, take, refl, ap, arith}
 use Rattle.djq_machine.specs.Run.{pending_of}
-use Rattle.djq_laws.specs.Moved.{Takes}
+use Rattle.djq_laws.specs.Moved.{SessionTakes}
 use Rattle.djq_laws.proofs.Moving.{took_facts}
 use Rattle.djq_run.proofs.Going.{goes_begun, goes_then, by_write, by_fault}
 use Rattle.djq_run.proofs.Parts.{fewer_pending, none_pending}
@@ -27,7 +27,7 @@ writes-preserved g c =
     let state = g.M.Machine.state in
     let same = c.pending-pending.ensures in
     let takes = c.in-Took.ensures.takes in
-    let t : Takes (state c.writes.machine) (state c.took.new.self) 1
+    let t : SessionTakes (state c.writes.machine) (state c.took.new.self) 1
     (take c.in-Took.count (pending_of (state c.writes.machine) 1)) =
     took_facts _ 1 _ c.took.ensures.effect _ c.took.ensures.step in
     record {
@@ -45,7 +45,7 @@ returns-then-count-len g c =
     let state = g.M.Machine.state in
     let same = c.pending-pending.ensures in
     let takes = c.in-Took.ensures.takes in
-    let t : Takes (state c.writes.machine) (state c.took.new.self) 1
+    let t : SessionTakes (state c.writes.machine) (state c.took.new.self) 1
     (take c.in-Took.count (pending_of (state c.writes.machine) 1)) =
     took_facts _ 1 _ c.took.ensures.effect _ c.took.ensures.step in
     record {

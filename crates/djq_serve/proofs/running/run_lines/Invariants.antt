@@ -2,7 +2,7 @@ use Rattle.std.proofs.Common.{◌≡◌, List, length}
 use Rattle.std.specs.Prelude.{None}
 use Rattle.djq_machine.specs.Run.{Group}
 use Rattle.djq_machine.specs.Call.{counts, held_of}
-use Rattle.djq_serve.specs.Told.{shown}
+use Rattle.djq_serve.specs.Told.{hub_shown}
 use Rattle.djq_serve.specs.Logged.{AllKept}
 use Rattle.djq_serve.proofs.Lining.{Lining}
 use Rattle.djq_serve.proofs.running.run_lines.Given as goal
@@ -16,8 +16,8 @@ invariant-lines g l =
     let ids = g.H.Hub.ids in
     record {
       lining : (groups : List Group)
-          × Lining (shown (past l.fn.hub) (script l.fn.hub) (ids l.fn.hub))
-          (shown (past l.hub) (script l.hub) (ids l.hub))
+          × Lining (hub_shown (past l.fn.hub) (script l.fn.hub) (ids l.fn.hub))
+          (hub_shown (past l.hub) (script l.hub) (ids l.hub))
           (counts l.fn.steps.listing l.fn.steps.update l.fn.steps.rows)
           (counts l.steps.listing l.steps.update l.steps.rows)
           (state l.fn.machine) (state l.machine) l.id groups

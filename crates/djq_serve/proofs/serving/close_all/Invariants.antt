@@ -1,7 +1,7 @@
 use Rattle.std.proofs.Common.{◌≡◌, length}
 use Rattle.djq_machine.specs.Call.{state_ids}
 use Rattle.djq_serve.specs.declared.served.Served.{Served}
-use Rattle.djq_serve.specs.Told.{shown}
+use Rattle.djq_serve.specs.Told.{hub_shown}
 use Rattle.djq_serve.specs.Server.{closing, server}
 use Rattle.djq_serve.specs.Goes.{GoesQuietly}
 use Rattle.djq_serve.specs.Kept.{Agrees}
@@ -16,9 +16,9 @@ invariant-closes g l =
     record {
       agrees : Agrees (state l.machine) (ids l.hub);
       goes : (answer : Served)
-          → GoesQuietly (shown (past l.fn.hub) (script l.fn.hub) (ids l.fn.hub))
+          → GoesQuietly (hub_shown (past l.fn.hub) (script l.fn.hub) (ids l.fn.hub))
           (server (state l.fn.machine) (closing answer))
-          (shown (past l.hub) (script l.hub) (ids l.hub)) (server (state l.machine) (closing answer));
+          (hub_shown (past l.hub) (script l.hub) (ids l.hub)) (server (state l.machine) (closing answer));
       faults : g.H.Hub.faults l.hub ≡ g.H.Hub.faults l.fn.hub;
     }
 

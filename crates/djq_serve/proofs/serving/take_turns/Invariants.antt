@@ -2,7 +2,7 @@ use Rattle.std.proofs.Common.{◌≡◌, length}
 use Rattle.std.specs.Prelude.{None}
 use Rattle.djq_machine.specs.Call.{counts}
 use Rattle.djq_laws.specs.declared.limits.TheConstants.{READ_BYTES}
-use Rattle.djq_serve.specs.Told.{shown}
+use Rattle.djq_serve.specs.Told.{hub_shown}
 use Rattle.djq_serve.specs.Kept.{Agrees, AllSettled}
 use Rattle.djq_serve.proofs.Ending.{Taking}
 use Rattle.djq_serve.proofs.serving.take_turns.Given as goal
@@ -16,8 +16,8 @@ invariant-loop g l =
     record {
       agrees : Agrees (state l.machine) (ids l.hub);
       settled : AllSettled (state l.machine);
-      taking : Taking (shown (past l.fn.hub) (script l.fn.hub) (ids l.fn.hub))
-          (shown (past l.hub) (script l.hub) (ids l.hub))
+      taking : Taking (hub_shown (past l.fn.hub) (script l.fn.hub) (ids l.fn.hub))
+          (hub_shown (past l.hub) (script l.hub) (ids l.hub))
           (counts l.fn.steps.listing l.fn.steps.update l.fn.steps.rows)
           (counts l.steps.listing l.steps.update l.steps.rows)
           (state l.fn.machine) (state l.machine) l.fn.log l.log (g.D.Disk.told l.fn.disk) (g.D.Disk.told l.disk)

@@ -2,14 +2,14 @@
 use Rattle.std.proofs.Common.{ℕ, List, [], ◌∷◌, ◌++◌, Bool, cond, ap, sym, arith, length, take, refl, ◌∙◌, get_or}
 use Rattle.std.proofs.lemmas.List.{length-take-le}
 use Rattle.std.specs.Prelude.{false, filter, slice_index_or, vec_capacity}
-use Rattle.djq_store.specs.Affecting.{is_reached, is_affected}
+use Rattle.djq_store.specs.Affecting.{is_reached_id, is_affected}
 use Rattle.djq_store.proofs.Walking.{filter_few, affected_more}
 use Rattle.djq_store.proofs.affecting.affect.Goals.{then-is_affected, else-is_affected}
 use Rattle.djq_store.proofs.affecting.affect.Goals as goal
 
 pub push_reserved-requires : goal.push_reserved-requires
 push_reserved-requires c =
-    let few = filter_few (is_affected (is_reached c.args.engine.now.affected) c.args.unions.now)
+    let few = filter_few (is_affected (is_reached_id c.args.engine.now.affected) c.args.unions.now)
     (take c.loop-nth.nth c.args.order.now) in
     let long = length-take-le c.loop-nth.nth c.args.order.now (omega (arith, c.loop-nth-test.true)) in
     omega (
@@ -26,7 +26,7 @@ push_reserved-requires c =
 pub loop-nth-preserved : goal.loop-nth-preserved
 loop-nth-preserved c =
     let reached = λ (i : ℕ). slice_index_or c.reached_places-reached.result i false in
-    let ids = is_reached c.args.engine.now.affected in
+    let ids = is_reached_id c.args.engine.now.affected in
     let at = get_or c.args.order.now c.loop-nth.nth 0 in
     let before = filter (is_affected ids c.args.unions.now) (take c.loop-nth.nth c.args.order.now) in
     let more = affected_more reached ids c.args.unions.now c.args.order.now c.if-is_affected.affected.items

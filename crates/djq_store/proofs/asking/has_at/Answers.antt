@@ -4,7 +4,7 @@ use Rattle.std.specs.Prelude.{is_some}
 use Rattle.djq_model.specs.Listed.{a_query}
 use Rattle.djq_live.specs.Member.{query_at}
 use Rattle.djq_gains.proofs.Members.{and_so}
-use Rattle.djq_store.specs.Asking.{TellsOf}
+use Rattle.djq_store.specs.Asking.{TellsMembership}
 use Rattle.djq_store.proofs.Having.{told_there, steps_there}
 use Rattle.djq_deltas.proofs.Cases.{some_there}
 use Rattle.djq_store.proofs.Ordered.{seat_here}
@@ -21,7 +21,7 @@ returns-clause-tells g c =
     let e = c.args.engine.now in
     let q = some_there (query_at e.places c.args.at) _ c.requires in
     and_so (query_at e.places c.args.at)
-    (λ l. TellsOf (e.store).relations (a_query l.query) c.args.tuple.now c.has.result) q.0 q.1
+    (λ l. TellsMembership (e.store).relations (a_query l.query) c.args.tuple.now c.has.result) q.0 q.1
     (told_there e c.engine_laws.ensures.engine c.args.at q.0 q.1 c.query_name-name.result c.query_name-name.ensures
     c.args.tuple.now c.has.result c.has.ensures.tells)
 

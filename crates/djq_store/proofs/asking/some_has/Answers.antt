@@ -4,7 +4,7 @@ use Rattle.std.specs.Prelude.{Bool, true, false, IsSomeAnd, Result, Ok}
 use Rattle.djq_lines.specs.declared.answer.Refusal.{Refusal}
 use Rattle.djq_model.specs.Listed.{a_query}
 use Rattle.djq_live.specs.Member.{query_at}
-use Rattle.djq_store.specs.Asking.{TellsOf}
+use Rattle.djq_store.specs.Asking.{TellsMembership}
 use Rattle.djq_store.proofs.Having.{asked_more, atoms_part, counted_more, counted_part}
 use Rattle.djq_deltas.proofs.Cases.{some_there}
 use Rattle.djq_store.proofs.Having.{one_has, one_refuses, all_lack, all_there}
@@ -24,9 +24,9 @@ pub returns-in-Ok-true-clause-tells : goal.returns-in-Ok-true-clause-tells
 returns-in-Ok-true-clause-tells g c = λ name.
     let e = c.args.engine.now in
     let q = some_there (query_at e.places (get_or c.args.members.now c.loop-nth.nth 0))
-    (λ l. TellsOf (e.store).relations (a_query l.query) c.args.tuple.now (Ok true))
+    (λ l. TellsMembership (e.store).relations (a_query l.query) c.args.tuple.now (Ok true))
     (subst (λ (r : Result Bool Refusal). IsSomeAnd (query_at e.places (get_or c.args.members.now c.loop-nth.nth 0))
-    (λ l. TellsOf (e.store).relations (a_query l.query) c.args.tuple.now r))
+    (λ l. TellsMembership (e.store).relations (a_query l.query) c.args.tuple.now r))
     (c.in-Ok-true.is ∙ ap (λ (b : Bool). Ok b) c.in-Ok-true.field-0-test) c.has_at.ensures.tells) in
     one_has e c.engine_laws.ensures.engine.over c.head_types_are.ensures c.args.members.now c.requires name
     c.args.tuple.now
@@ -53,11 +53,11 @@ returns-in-Err-clause-counted g c =
 pub loop-nth-preserved : goal.loop-nth-preserved
 loop-nth-preserved g c = record {
   told = asked_more (λ i. IsSomeAnd (query_at c.args.engine.now.places (get_or c.args.members.now i 0))
-      (λ q. TellsOf (c.args.engine.now.store).relations (a_query q.query) c.args.tuple.now (Ok false)))
+      (λ q. TellsMembership (c.args.engine.now.store).relations (a_query q.query) c.args.tuple.now (Ok false)))
       c.loop-nth.nth c.loop-nth.invariant.told
       (subst (λ (r : Result Bool Refusal). IsSomeAnd
       (query_at c.args.engine.now.places (get_or c.args.members.now c.loop-nth.nth 0))
-      (λ q. TellsOf (c.args.engine.now.store).relations (a_query q.query) c.args.tuple.now r))
+      (λ q. TellsMembership (c.args.engine.now.store).relations (a_query q.query) c.args.tuple.now r))
       (c.in-Ok-false.is ∙ ap (λ (b : Bool). Ok b) c.in-Ok-false.field-0-test) c.has_at.ensures.tells);
   counted = counted_more c.args.engine.now.places c.args.members.now c.loop-nth.nth c.loop-nth-test.true
       c.args.listing.now c.loop-nth.listing c.has_at.new.listing c.loop-nth.invariant.counted

@@ -3,7 +3,7 @@ use Rattle.std.proofs.Common.{◌≡◌, ◌<◌, ◌++◌, ◌∷◌, [], List,
 use Rattle.std.specs.Prelude.{Option, Some}
 use Rattle.djq_lines.specs.declared.limits.TheConstants.{QUERIES}
 use Rattle.djq_store.specs.declared.joined.Joined.{Joined}
-use Rattle.djq_store.specs.Filling.{Fills}
+use Rattle.djq_store.specs.Filling.{FillsSlot}
 use Rattle.djq_store.proofs.Unioned.{fills_set, fills_push, found_vacant, none_vacant}
 use Rattle.djq_store.proofs.filling.fill_slot.Goals as goal
 
@@ -19,10 +19,11 @@ returns-clause-ok c =
       ap (λ (vs : List (Option Joined)). length vs)
           c.as_slice.ensures.value,
     ) in
-    subst (λ (vs : List (Option Joined)). Fills us vs c.len-slot.result c.args.joined)
+    subst (λ (vs : List (Option Joined)). FillsSlot us vs c.len-slot.result c.args.joined)
     (sym (c.push_reserved.ensures.items
     ∙ ap (λ (vs : List (Option Joined)). vs ++ Some c.args.joined ∷ []) c.reserve.ensures.items))
-    (subst (λ (k : ℕ). Fills us (us ++ Some c.args.joined ∷ []) k c.args.joined) long (fills_push us c.args.joined low))
+    (subst (λ (k : ℕ). FillsSlot us (us ++ Some c.args.joined ∷ []) k c.args.joined) long
+    (fills_push us c.args.joined low))
 
 pub returns-in-Some-clause-ok : goal.returns-in-Some-clause-ok
 returns-in-Some-clause-ok c =

@@ -2,7 +2,7 @@
 use Rattle.std.proofs.Common.{◌≡◌, Bool, true, false, refl, sym, ◌∙◌}
 use Rattle.djq_model.specs.Listed.{listed_of}
 use Rattle.djq_machine.specs.Union.{is_union}
-use Rattle.djq_store.specs.Places.{kept_in}
+use Rattle.djq_store.specs.Places.{store_kept_in}
 use Rattle.djq_store.proofs.Judged.{union_there, no_union_there}
 use Rattle.djq_store.proofs.Sought.{sought_none, sought_some}
 use Rattle.djq_store.proofs.judging.is_union.Goals as goal
@@ -11,7 +11,7 @@ pub returns : goal.returns
 returns c = by_found c.is_some.result refl
   where
     by_found : (x : Bool) → c.is_some.result ≡ x
-        → c.is_some.result ≡ is_union (listed_of (kept_in c.args.parts.now).store.queries c.args.name.now)
+        → c.is_some.result ≡ is_union (listed_of (store_kept_in c.args.parts.now).store.queries c.args.name.now)
     by_found true f =
         let p = c.args.parts.now in
         let u = sought_some p.unions.items c.as_slice.result.now c.args.name.now c.as_slice.ensures.value

@@ -1,8 +1,8 @@
 use Rattle.std.proofs.Common.{◌≡◌, ◌+◌, ◌-◌, ℕ, take}
 use Rattle.djq_engine.specs.Kept.{Kept}
-use Rattle.djq_store.specs.Counting.{with_all}
+use Rattle.djq_store.specs.Counting.{with_watchers_at}
 use Rattle.djq_store.proofs.watching.unwatch_members.Given as goal
 
 abbrev pub invariant-loop-nth : goal.invariant-loop-nth
 invariant-loop-nth l = l.engine
-    ≡ record l.fn.engine { registered = with_all (λ n. n - 1) (take l.nth l.members) l.fn.engine.registered }
+    ≡ record l.fn.engine { registered = with_watchers_at (λ n. n - 1) (take l.nth l.members) l.fn.engine.registered }

@@ -6,8 +6,8 @@ use Rattle.djq_lines.specs.declared.limits.TheConstants.{SESSIONS}
 use Rattle.djq_engine.specs.Kept.{Kept, Registered, registered_at, with_watchers}
 use Rattle.djq_engine.specs.Places.{id_at}
 use Rattle.djq_store.specs.declared.joined.Joined.{Joined}
-use Rattle.djq_store.specs.Counting.{with_all}
-use Rattle.djq_store.specs.Places.{joined_at, kept_in, seen}
+use Rattle.djq_store.specs.Counting.{with_watchers_at}
+use Rattle.djq_store.specs.Places.{joined_at, store_kept_in, store_seen}
 use Rattle.djq_store.specs.Whole.{IsListed, IsCounted}
 use Rattle.djq_store.proofs.Joint.{old_is, on_listed, on_seen, on_counted, first_counted, member_roomy}
 use Rattle.djq_store.proofs.watching.watch_union.Goals as goal
@@ -98,13 +98,13 @@ returns c =
             c.members.result.now members);
         roomy = record { order = c.requires.whole.roomy.order; affected = c.requires.whole.roomy.affected };
       };
-      watches = subst (λ (x : Kept). seen x c.listen-2.new.unions.items old.order.items old.sessions.items
+      watches = subst (λ (x : Kept). store_seen x c.listen-2.new.unions.items old.order.items old.sessions.items
           old.affected.items
-          ≡ record (kept_in old)
-          { registered = with_watchers (id_at (256 + c.args.slot)) (λ n. n + 1) (kept_in old).registered })
+          ≡ record (store_kept_in old)
+          { registered = with_watchers (id_at (256 + c.args.slot)) (λ n. n + 1) (store_kept_in old).registered })
           (sym c.watch_members.ensures)
           (on_seen old.engine old.unions.items old.order.items old.sessions.items old.affected.items
           c.requires.whole.listed
           c.requires.whole.counted c.args.slot (λ n. n + 1) c.listen-2.new.unions.items m
-          (with_all (λ n. n + 1) c.members.result.now old.engine.registered));
+          (with_watchers_at (λ n. n + 1) c.members.result.now old.engine.registered));
     }

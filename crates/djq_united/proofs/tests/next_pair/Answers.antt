@@ -8,17 +8,17 @@ use Rattle.djq_live.specs.declared.listing.Next.{Next}
 use Rattle.djq_live.specs.declared.listing.Next.TheVariants.{Given, End, Stale as IsStale}
 use Rattle.djq_live.specs.Live.{Live}
 use Rattle.djq_slots.specs.declared.progress.Progress.TheVariants.{Open, Stale}
-use Rattle.djq_united.specs.Slots.{Progress, slot_at}
-use Rattle.djq_united.specs.United.{United, members_in, IsUnited, position_of}
-use Rattle.djq_united.specs.Reading.{MovesTo, NextGivesAt}
+use Rattle.djq_united.specs.Slots.{UnionProgress, slot_at}
+use Rattle.djq_united.specs.United.{United, members_in, IsUnited, union_position}
+use Rattle.djq_united.specs.Reading.{UnionCursorMoves, UnionNextGivesAt}
 use Rattle.djq_united.proofs.tests.next_pair.Goals as goal
 
 record Stays (qs : List (Option Live)) (k : ℕ) (new : United) : Type 0 where
   pub united : IsUnited qs new
   pub there : IsSome (slot_at new.cursors k)
 
-moved_stays : (c : Catalog) (qs : List (Option Live)) (old new : United) (k : ℕ) (p : Progress)
-    (position : Position) → slot_at old.cursors k ≡ Some p → MovesTo c qs old k position new
+moved_stays : (c : Catalog) (qs : List (Option Live)) (old new : United) (k : ℕ) (p : UnionProgress)
+    (position : Position) → slot_at old.cursors k ≡ Some p → UnionCursorMoves c qs old k position new
     → Stays qs k new
 moved_stays c qs old new k p position e m = record {
   united = m.united;
@@ -26,9 +26,9 @@ moved_stays c qs old new k p position e m = record {
       ∙ ap is_some (set_there old.cursors k p m.progress e);
 }
 
-stays_at : (c : Catalog) (qs : List (Option Live)) (old new : United) (k : ℕ) (p : Progress)
+stays_at : (c : Catalog) (qs : List (Option Live)) (old new : United) (k : ℕ) (p : UnionProgress)
     (n : Next) (t : List ℕ) → IsUnited qs old → slot_at old.cursors k ≡ Some p
-    → NextGivesAt c qs old k (position_of c.texts (members_in qs old) p) n t new → Stays qs k new
+    → UnionNextGivesAt c qs old k (union_position c.texts (members_in qs old) p) n t new → Stays qs k new
 stays_at c qs old new k (Open cursor ended) Given t united e h =
     moved_stays c qs old new k (Open cursor ended) _ e h.3
 stays_at c qs old new k (Open cursor ended) End t united e h =
@@ -40,9 +40,9 @@ stays_at c qs old new k (Stale q m) (IsStale relation n) t united e h =
     subst (λ (u : United). Stays qs k u) (sym h.2)
     (record { united = united; there = ap is_some e })
 
-stays : (c : Catalog) (qs : List (Option Live)) (old new : United) (k : ℕ) (o : Option Progress)
+stays : (c : Catalog) (qs : List (Option Live)) (old new : United) (k : ℕ) (o : Option UnionProgress)
     (n : Next) (t : List ℕ) → IsUnited qs old → slot_at old.cursors k ≡ o
-    → IsSomeAnd o (λ p. NextGivesAt c qs old k (position_of c.texts (members_in qs old) p) n t new)
+    → IsSomeAnd o (λ p. UnionNextGivesAt c qs old k (union_position c.texts (members_in qs old) p) n t new)
     → Stays qs k new
 stays c qs old new k None n t united e h = absurd h
 stays c qs old new k (Some p) n t united e h = stays_at c qs old new k p n t united e h

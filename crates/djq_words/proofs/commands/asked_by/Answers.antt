@@ -4,7 +4,7 @@ use Rattle.std.specs.Prelude.{Some}
 use Rattle.clap.specs.Words.{first_of, found_of, rows_of}
 use Rattle.clap.proofs.WalkLemmas.{first_value-rows}
 use Rattle.djq_words.specs.declared.commands.Asked.TheVariants.{Replay}
-use Rattle.djq_words.specs.Asks.{path_of}
+use Rattle.djq_words.specs.Asks.{log_path_of}
 use Rattle.djq_words.proofs.Asking.{found_is, named, asked_as, other_asked}
 use Rattle.djq_words.proofs.commands.asked_by.Goals as goal
 
@@ -18,7 +18,7 @@ returns-in-serve c =
 pub returns-in-replay : goal.returns-in-replay
 returns-in-replay c =
     let f = found_of c.in_ok-name.inner.now in
-    let log : first_of (codes "log") (rows_of f) ≡ path_of c.get_str.result = sym (first_value-rows f (codes "log"))
+    let log : first_of (codes "log") (rows_of f) ≡ log_path_of c.get_str.result = sym (first_value-rows f (codes "log"))
     ∙ sym c.get_str.ensures in
     asked_as _ _ (Some (Replay c.get_str.result))
     (named (rows_of f) (found_is _ _ _ c.in_ok-name.name.now (rows_of f) c.in_ok-name.ensures.name

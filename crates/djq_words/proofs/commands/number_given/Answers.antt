@@ -2,7 +2,7 @@
 use Rattle.std.proofs.Common.{ℕ, List, Bor, Option, ◌≡◌, ◌∙◌, sym, ap, subst, option_map, arith}
 use Rattle.clap.specs.Words.{first_of, found_of, rows_of}
 use Rattle.clap.proofs.WalkLemmas.{first_value-rows}
-use Rattle.djq_words.specs.Asks.{Spells}
+use Rattle.djq_words.specs.Asks.{SpellsNumber}
 use Rattle.djq_words.proofs.Asking.{none_read, number_read, number_large, number_unread}
 use Rattle.djq_words.proofs.commands.number_given.Goals as goal
 
@@ -26,7 +26,7 @@ returns-in-Ok c =
     let given = sym (first_value-rows f c.args.name.now) ∙ sym c.get_str.ensures
     ∙ ap (λ (o : Option (Bor (List ℕ))). option_map (λ s. s.now) o) c.in-Some.is in
     let same : c.in-Ok.number ≡ c.in-Some-number_in.number = c.in-Ok.ensures.1 in
-    let spelled = subst (λ (n : ℕ). Spells 64 c.in-Some.text.now n) (sym same) c.in-Some-number_in.ensures in
+    let spelled = subst (λ (n : ℕ). SpellsNumber 64 c.in-Some.text.now n) (sym same) c.in-Some-number_in.ensures in
     number_read c.in-Some.text.now c.in-Ok.number (first_of c.args.name.now (rows_of f)) given spelled
     (omega (arith, same, c.in-Ok.ensures.0))
 

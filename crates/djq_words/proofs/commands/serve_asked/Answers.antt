@@ -3,7 +3,7 @@ use Rattle.std.proofs.Common.{ℕ, List, Bor, Option, ◌≡◌, ◌∙◌, None
 use Rattle.clap.specs.Words.{Text, first_of, found_of, rows_of}
 use Rattle.clap.proofs.WalkLemmas.{first_value-rows}
 use Rattle.djq_words.specs.declared.commands.Asked.{Asked}
-use Rattle.djq_words.specs.Asks.{ServeAsked, TurnsAre, path_of}
+use Rattle.djq_words.specs.Asks.{ServeAsked, TurnsAre, log_path_of}
 use Rattle.djq_words.proofs.Asking.{no_addr, turns_spelled, turns_unspelled}
 use Rattle.djq_words.proofs.commands.serve_asked.Goals as goal
 
@@ -21,7 +21,8 @@ returns-in_default c =
     ∙ ap (λ (o : Option (Bor (List ℕ))). option_map (λ s. s.now) o) c.in_ok-addr.was in
     let none : first_of (codes "turns") (rows_of f) ≡ None = sym (first_value-rows f (codes "turns"))
     ∙ sym c.get_str-2.ensures ∙ ap (λ (o : Option (Bor (List ℕ))). option_map (λ s. s.now) o) c.in_default.is in
-    let log : first_of (codes "log") (rows_of f) ≡ path_of c.get_str-log.result = sym (first_value-rows f (codes "log"))
+    let log : first_of (codes "log") (rows_of f)
+    ≡ log_path_of c.get_str-log.result = sym (first_value-rows f (codes "log"))
     ∙ sym c.get_str-log.ensures in
     (refl, given, subst (λ (o : Option Text). TurnsAre o 9223372036854775807) (sym none) refl, log)
 
@@ -34,7 +35,8 @@ returns-in-Some-number_in c =
     ∙ ap (λ (o : Option (Bor (List ℕ))). option_map (λ s. s.now) o) c.in-Some.is in
     let text = c.in-Some.text.now in
     let turns = turns_spelled text _ (first_of (codes "turns") (rows_of f)) spelled c.in-Some-number_in.ensures in
-    let log : first_of (codes "log") (rows_of f) ≡ path_of c.get_str-log.result = sym (first_value-rows f (codes "log"))
+    let log : first_of (codes "log") (rows_of f)
+    ≡ log_path_of c.get_str-log.result = sym (first_value-rows f (codes "log"))
     ∙ sym c.get_str-log.ensures in
     (refl, given, turns, log)
 

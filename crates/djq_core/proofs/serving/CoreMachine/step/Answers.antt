@@ -10,7 +10,7 @@ use Rattle.djq_core.specs.Telling.{TellsAll}
 use Rattle.djq_core.proofs.Composing.{change_gives}
 use Rattle.std.specs.Prelude.{IsSomeAnd}
 use Rattle.djq_machine.specs.State.{State}
-use Rattle.djq_core.specs.Views.{lines_of, state_in, Visible}
+use Rattle.djq_core.specs.Views.{lines_of_step, state_in, Visible}
 use Rattle.djq_machine.specs.Call.{StepGives, counts}
 use Rattle.djq_core.proofs.Places.{here_by, id_by, is_there_in, ids_rise_in, owns, steps, steps_sound, within_by}
 use Rattle.djq_core.proofs.Suited.{suits_at, suited_behind}
@@ -86,14 +86,15 @@ returns-in-Nothing g c =
     (state_in c.step_session-stepped.new.engine (false || c.self.inside.stopped)
     (set c.self.inside.sessions.items c.place_of-at.result
     (record c.index_mut-found.result.now { session = c.step_session-stepped.new.session }))) before now
-    (lines_of c.put_line.new.self c.step_session-stepped.new.copied)) (ap (λ (v : Visible). v.state) c.self.view_is)
+    (lines_of_step c.put_line.new.self c.step_session-stepped.new.copied))
+    (ap (λ (v : Visible). v.state) c.self.view_is)
     (subst (λ (kept : KeptLines). StepGives
     (state_in c.self.inside.engine c.self.inside.stopped c.self.inside.sessions.items) c.args.id
     c.step_session-stepped.result.0
     (state_in c.step_session-stepped.new.engine (false || c.self.inside.stopped)
     (set c.self.inside.sessions.items c.place_of-at.result
     (record c.index_mut-found.result.now { session = c.step_session-stepped.new.session }))) before now
-    (lines_of kept c.step_session-stepped.new.copied)) (sym (c.put_line.ensures ∙ c.is_line_kept.ensures))
+    (lines_of_step kept c.step_session-stepped.new.copied)) (sym (c.put_line.ensures ∙ c.is_line_kept.ensures))
     (steps c.self.inside.engine c.step_session-stepped.new.engine c.self.inside.sessions.items c.place_of-at.result
     c.args.id c.index_mut-found.result.now c.step_session-stepped.new.session c.step_session-stepped.result.0 false
     c.self.inside.stopped c.step_session-stepped.new.copied before now h leaves
@@ -140,7 +141,7 @@ returns-in-Stopping g c =
     (state_in c.step_session-stepped.new.engine (true || c.self.inside.stopped)
     (set c.self.inside.sessions.items c.place_of-at.result
     (record c.index_mut-found.result.now { session = c.step_session-stepped.new.session }))) before now
-    (lines_of c.put_line-in-Stopping.new.self c.step_session-stepped.new.copied))
+    (lines_of_step c.put_line-in-Stopping.new.self c.step_session-stepped.new.copied))
     (ap (λ (v : Visible). v.state) c.self.view_is)
     (subst (λ (kept : KeptLines). StepGives
     (state_in c.self.inside.engine c.self.inside.stopped c.self.inside.sessions.items) c.args.id
@@ -148,7 +149,7 @@ returns-in-Stopping g c =
     (state_in c.step_session-stepped.new.engine (true || c.self.inside.stopped)
     (set c.self.inside.sessions.items c.place_of-at.result
     (record c.index_mut-found.result.now { session = c.step_session-stepped.new.session }))) before now
-    (lines_of kept c.step_session-stepped.new.copied))
+    (lines_of_step kept c.step_session-stepped.new.copied))
     (sym (c.put_line-in-Stopping.ensures ∙ c.is_line_kept-in-Stopping.ensures))
     (steps c.self.inside.engine c.step_session-stepped.new.engine c.self.inside.sessions.items c.place_of-at.result
     c.args.id c.index_mut-found.result.now c.step_session-stepped.new.session c.step_session-stepped.result.0 true
@@ -250,7 +251,7 @@ invariant_of-self-in-Telling g c =
     let gives = subst (λ (xs : List OpenSession). StepGives (state_in c.self.inside.engine c.self.inside.stopped xs)
     c.args.id (Ran (is_kept c.in-Telling.outcome))
     (state_in c.tell_change.new.engine c.self.inside.stopped c.tell_change.new.sessions.items) before now
-    (lines_of (lines_kept c.in-Telling.outcome) c.step_session-stepped.new.copied)) (sym h.is)
+    (lines_of_step (lines_kept c.in-Telling.outcome) c.step_session-stepped.new.copied)) (sym h.is)
     (change_gives c.in-Telling.outcome c.self.inside.engine c.step_session-stepped.new.engine c.tell_change.new.engine
     (c.index_mut-found.result.now).session c.step_session-stepped.new.session front c.args.id back
     c.tell_change.new.sessions.items c.self.inside.stopped c.step_session-stepped.new.copied before now t.1 h.sound
@@ -309,7 +310,7 @@ returns-in-Telling g c =
     let gives = subst (λ (xs : List OpenSession). StepGives (state_in c.self.inside.engine c.self.inside.stopped xs)
     c.args.id (Ran (is_kept c.in-Telling.outcome))
     (state_in c.tell_change.new.engine c.self.inside.stopped c.tell_change.new.sessions.items) before now
-    (lines_of (lines_kept c.in-Telling.outcome) c.step_session-stepped.new.copied)) (sym h.is)
+    (lines_of_step (lines_kept c.in-Telling.outcome) c.step_session-stepped.new.copied)) (sym h.is)
     (change_gives c.in-Telling.outcome c.self.inside.engine c.step_session-stepped.new.engine c.tell_change.new.engine
     (c.index_mut-found.result.now).session c.step_session-stepped.new.session front c.args.id back
     c.tell_change.new.sessions.items c.self.inside.stopped c.step_session-stepped.new.copied before now t.1 h.sound
@@ -317,10 +318,10 @@ returns-in-Telling g c =
     let same = ap (λ (v : Visible). v.state) c.self.view_is in
     subst (λ (r : Stepped). StepGives (c.args.self.now).state c.args.id r
     (state_in c.tell_change.new.engine c.self.inside.stopped c.tell_change.new.sessions.items) before now
-    (lines_of c.put_outcome.new.self c.step_session-stepped.new.copied)) (sym t.0)
+    (lines_of_step c.put_outcome.new.self c.step_session-stepped.new.copied)) (sym t.0)
     (subst (λ (kept : KeptLines). StepGives (c.args.self.now).state c.args.id (Ran (is_kept c.in-Telling.outcome))
     (state_in c.tell_change.new.engine c.self.inside.stopped c.tell_change.new.sessions.items) before now
-    (lines_of kept c.step_session-stepped.new.copied)) (sym c.put_outcome.ensures)
+    (lines_of_step kept c.step_session-stepped.new.copied)) (sym c.put_outcome.ensures)
     (subst (λ (st : State). StepGives st c.args.id (Ran (is_kept c.in-Telling.outcome))
     (state_in c.tell_change.new.engine c.self.inside.stopped c.tell_change.new.sessions.items) before now
-    (lines_of (lines_kept c.in-Telling.outcome) c.step_session-stepped.new.copied)) same gives))
+    (lines_of_step (lines_kept c.in-Telling.outcome) c.step_session-stepped.new.copied)) same gives))

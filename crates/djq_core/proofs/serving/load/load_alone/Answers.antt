@@ -2,10 +2,10 @@
 use Rattle.std.proofs.Common.{◌∙◌, sym, subst, List, None, Some, Err}
 use Rattle.djq_lines.specs.declared.held.HeldRow.{HeldRow}
 use Rattle.djq_machine.specs.declared.machine.Loaded.TheVariants.{Ran}
-use Rattle.djq_core.specs.Loading.{LoadsTo}
+use Rattle.djq_core.specs.Loading.{LoadsLine}
 use Rattle.djq_proto.specs.declared.refusal.LineRefusal.{LineRefusal}
 use Rattle.djq_proto.specs.declared.refusal.LineRefusal.TheVariants.{Syntax, Range, NoMem}
-use Rattle.djq_proto.specs.Reading.{Reads}
+use Rattle.djq_proto.specs.Reading.{LineReadsAs}
 use Rattle.djq_core.proofs.Loading.{opens_batch, said_alone, unread_alone}
 use Rattle.djq_core.proofs.Saying.{runnable}
 use Rattle.djq_core.proofs.Suiting.{none_held}
@@ -16,7 +16,7 @@ load_command-requires-clause-runnable g c = runnable c.args.line.now c.in-Ok.com
 
 pub returns-then-is_batch-clause-loads : goal.returns-then-is_batch-clause-loads
 returns-then-is_batch-clause-loads g c =
-    subst (λ (rows : List HeldRow). LoadsTo c.args.line.now Ran c.args.engine.now None c.args.engine.now (Some rows))
+    subst (λ (rows : List HeldRow). LoadsLine c.args.line.now Ran c.args.engine.now None c.args.engine.now (Some rows))
     (sym c.new.ensures) (record {
       loads = opens_batch c.args.engine.now c.args.line.now c.in-Ok.command c.in-Ok.ensures
           (sym c.is_batch.ensures ∙ c.if-is_batch.true);
@@ -35,7 +35,8 @@ returns-else-is_batch-clause-loads g c = record {
 pub returns-in-Err-Syntax-clause-loads : goal.returns-in-Err-Syntax-clause-loads
 returns-in-Err-Syntax-clause-loads g c = record {
   loads = unread_alone c.args.engine.now c.args.line.now Syntax
-      (subst (λ (r : LineRefusal). Reads c.args.line.now (Err r)) c.in-Err-Syntax.field-0-is c.in-Err-Syntax.ensures);
+      (subst (λ (r : LineRefusal). LineReadsAs c.args.line.now (Err r)) c.in-Err-Syntax.field-0-is
+      c.in-Err-Syntax.ensures);
   idle = c.requires;
   suits = λ h. tt;
 }
@@ -43,7 +44,8 @@ returns-in-Err-Syntax-clause-loads g c = record {
 pub returns-in-Err-Range-clause-loads : goal.returns-in-Err-Range-clause-loads
 returns-in-Err-Range-clause-loads g c = record {
   loads = unread_alone c.args.engine.now c.args.line.now Range
-      (subst (λ (r : LineRefusal). Reads c.args.line.now (Err r)) c.in-Err-Range.field-0-is c.in-Err-Range.ensures);
+      (subst (λ (r : LineRefusal). LineReadsAs c.args.line.now (Err r)) c.in-Err-Range.field-0-is
+      c.in-Err-Range.ensures);
   idle = c.requires;
   suits = λ h. tt;
 }
@@ -51,7 +53,8 @@ returns-in-Err-Range-clause-loads g c = record {
 pub returns-in-Err-NoMem-clause-loads : goal.returns-in-Err-NoMem-clause-loads
 returns-in-Err-NoMem-clause-loads g c = record {
   loads = unread_alone c.args.engine.now c.args.line.now NoMem
-      (subst (λ (r : LineRefusal). Reads c.args.line.now (Err r)) c.in-Err-NoMem.field-0-is c.in-Err-NoMem.ensures);
+      (subst (λ (r : LineRefusal). LineReadsAs c.args.line.now (Err r)) c.in-Err-NoMem.field-0-is
+      c.in-Err-NoMem.ensures);
   idle = c.requires;
   suits = λ h. tt;
 }

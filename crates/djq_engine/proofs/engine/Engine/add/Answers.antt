@@ -9,7 +9,7 @@ use Rattle.djq_engine.specs.declared.change.AddRefusal.{AddRefusal}
 use Rattle.djq_rows.specs.Catalog.{counted_at}
 use Rattle.djq_machine.specs.Changes.{row_in}
 use Rattle.djq_engine.specs.declared.parts.Parts.{Parts}
-use Rattle.djq_engine.specs.Judging.{bare}
+use Rattle.djq_engine.specs.Judging.{bare_store}
 use Rattle.djq_engine.specs.Changing.{
   AddsTo,
   CountsRows,
@@ -73,7 +73,7 @@ pub returns-in_err-id-clause-tells : goal.returns-in_err-id-clause-tells
 returns-in_err-id-clause-tells g c =
     let old = c.self.inside.parts in
     let h : IfErr c.from_residual.result
-    (λ (r : Refusal). add_refusal (bare old.catalog.relations old.seq) c.args.name.now c.args.row.now ≡ Some r) =
+    (λ (r : Refusal). add_refusal (bare_store old.catalog.relations old.seq) c.args.name.now c.args.row.now ≡ Some r) =
     search rules in
     rw (← c.self.view_is)
     (add_refused_tells old c.args.name.now c.args.row.now c.from_residual.result c.from_residual.ensures.0 h

@@ -10,7 +10,7 @@ use Rattle.djq_engine.proofs.Placed.{keeps_changed, keeps_equal}
 use Rattle.djq_rows.specs.declared.relation_id.RelationId.{RelationId}
 use Rattle.djq_engine.specs.Kept.{held_at}
 use Rattle.djq_reach.specs.Places.{readers_at}
-use Rattle.djq_engine.specs.Places.{held_from}
+use Rattle.djq_engine.specs.Places.{query_cursors_from}
 use Rattle.djq_engine.specs.declared.parts.Parts.{Parts}
 use Rattle.djq_engine.specs.Judging.{JudgesDelete}
 use Rattle.djq_engine.specs.Changing.{
@@ -181,7 +181,7 @@ returns-in-Absent g c =
       deletes = delete_none old c.args.name.now c.args.row.now
           (record { relation = c.in-Some.relation; cells = c.check_delete.new.cells }) may gone absent rest.order
           rest.seq;
-      outdates = λ id. ap₂ (λ (x : Catalog) (qs : List (Option Live)). held_at (held_from x.texts zero qs) id)
+      outdates = λ id. ap₂ (λ (x : Catalog) (qs : List (Option Live)). held_at (query_cursors_from x.texts zero qs) id)
           absent.1 absent.2;
       watches = registered_still old gone rest absent.2;
       tells = tells_nothing (kept_in old) (kept_in gone) from to idle (affected_same old gone rest.affected)

@@ -19,11 +19,11 @@ use Rattle.djq_live.specs.Body.{HeadsAreBound}
 use Rattle.djq_live.specs.Live.{Live}
 use Rattle.djq_reach.specs.declared.group.Group.{Group}
 use Rattle.djq_reach.specs.Places.{place_at, is_reader}
-use Rattle.djq_reach.specs.Grouping.{reached, rows_in, times_back}
+use Rattle.djq_reach.specs.Grouping.{reached, rows_of_groups, times_back}
 use Rattle.djq_engine.specs.declared.parts.Parts.{Parts}
 use Rattle.djq_engine.specs.Places.{queries_in}
 use Rattle.djq_engine.specs.Putting.{IsStoreOf, PutsAll, RefusesAll, WentInAll}
-use Rattle.djq_engine.specs.Whole.{kept_in, IsWhole}
+use Rattle.djq_engine.specs.Whole.{kept_in, EngineIsWhole}
 use Rattle.djq_engine.proofs.Accepted.{Settles, taken_whole, taken_registered, taken_places}
 use Rattle.djq_engine.proofs.Accepted.{taken_cursors, taken_adds, taken_tended, taken_tells}
 use Rattle.djq_engine.proofs.Chained.{same_none}
@@ -43,7 +43,7 @@ use Rattle.djq_engine.proofs.Storing.{same_rows}
 use Rattle.djq_engine.proofs.TakenBack.{catalog_counted}
 use Rattle.djq_engine.proofs.Worked.{came_few, counts_all, rows_each}
 use Rattle.djq_engine.specs.Kept.{Kept, Outdates, KeepsPlaces, is_tried}
-use Rattle.djq_engine.specs.Watching.{TellsChange}
+use Rattle.djq_engine.specs.Watching.{EngineTellsChange}
 use Rattle.djq_machine.specs.Changes.{tried}
 use Rattle.djq_engine.proofs.engine.Engine.done.Goals as goal
 
@@ -52,7 +52,7 @@ agrees : (p : Parts) → IsStoreOf p.catalog p.seq (kept_in p).store
 agrees p = record { relations = refl; texts = refl; seq = refl }
 
 -- deltas exist
-have : DeltasExist → HeadsAreBound → (p : Parts) → IsWhole p → (rs : List Relation) → (i : ℕ) (l : Live)
+have : DeltasExist → HeadsAreBound → (p : Parts) → EngineIsWhole p → (rs : List Relation) → (i : ℕ) (l : Live)
     → place_at p.queries.items i ≡ Some l
     → (changes : List Change) × IsDelta (IsAnswer (p.catalog).relations l.query) (IsAnswer rs l.query) changes
 have exist bound p s rs i l there = exist (p.catalog).relations rs (a_query l.query)
@@ -400,7 +400,7 @@ returns-in-Err-take_groups g c =
     let few = came_few (kept_in old).store held in
     let size = w.put.size in
     let counted = w.put.count in
-    let fits : rows_in groups ≤ length held = omega (arith, few, size, counted) in
+    let fits : rows_of_groups groups ≤ length held = omega (arith, few, size, counted) in
     rw (← c.self.view_is) (record {
       adds = lacks_refuses old mid s t held places k new gives
           (lacks_last (kept_in old).store held d count groups w.put some after.texts same);
@@ -566,14 +566,14 @@ returns g c =
     let few = came_few (kept_in old).store held in
     let size = w.put.size in
     let counted = w.put.count in
-    let fits : rows_in groups ≤ length held = omega (arith, few, size, counted) in
+    let fits : rows_of_groups groups ≤ length held = omega (arith, few, size, counted) in
     record {
       adds = rw (← c.self.view_is) (taken_adds old mid new s t held start groups count filled takes x live law);
       outdates = subst (λ (k : Kept). Outdates k (tried (batch_outcome k.store held (Ok count))) (kept_in new))
           c.self.view_is (taken_cursors old mid new s t held start groups count filled takes x live law);
       watches = rw (← c.self.view_is)
           (taken_registered old mid new s t held start groups count filled takes x live law);
-      tells = subst (λ (k : Kept). TellsChange k (batch_outcome k.store held (Ok count)) (kept_in new)
+      tells = subst (λ (k : Kept). EngineTellsChange k (batch_outcome k.store held (Ok count)) (kept_in new)
           c.args.steps.now.listing c.take_groups.new.steps.listing) c.self.view_is
           (taken_tells old mid new s t held start groups count filled takes x live law
           (have c.deltas_exist.ensures c.heads_are_bound.ensures old s (with_all (kept_in old).store held).relations)

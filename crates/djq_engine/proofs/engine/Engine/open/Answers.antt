@@ -3,11 +3,11 @@ use Rattle.std.proofs.Common.{ap, refl, subst, sym, ◌∙◌, List, length, fal
 use Rattle.std.specs.Prelude.{position, IsSomeAnd, Option, ⊤}
 use Rattle.djq_live.specs.Live.{Live}
 use Rattle.djq_engine.specs.Places.{is_query}
-use Rattle.djq_engine.specs.Sound.{IsSound}
+use Rattle.djq_engine.specs.Sound.{QueriesAreSound}
 use Rattle.djq_engine.specs.Whole.{watches_in}
 use Rattle.djq_engine.proofs.Naming.{first_query}
 use Rattle.djq_engine.proofs.Cursors.{open_refused, open_lacks, open_gives}
-use Rattle.djq_reach.specs.Tending.{AreShown}
+use Rattle.djq_reach.specs.Tending.{LogsCanBeShown}
 use Rattle.djq_engine.proofs.Keeping.{opened_kept}
 use Rattle.djq_engine.proofs.Placed.{keeps_equal}
 use Rattle.djq_engine.proofs.engine.Engine.open.Goals as goal
@@ -30,13 +30,13 @@ pub invariant_of-self : goal.invariant_of-self
 invariant_of-self c =
     let old = c.self.inside.parts in
     let e = c.in_default-open_at.ensures.err in (
-      subst (λ (gs : List (Option Live)). IsSound old.catalog gs old.order old.readers.items) (sym e)
+      subst (λ (gs : List (Option Live)). QueriesAreSound old.catalog gs old.order old.readers.items) (sym e)
           c.self.invariant.0,
       record {
         watched = c.self.invariant.1.watched ∙ sym (ap (λ (gs : List (Option Live)). length gs) e);
         logged = c.self.invariant.1.logged ∙ sym (ap (λ (gs : List (Option Live)). length gs) e);
         room = c.self.invariant.1.room;
-        shown = subst (λ (gs : List (Option Live)). AreShown old.catalog.texts gs old.logs.items) (sym e)
+        shown = subst (λ (gs : List (Option Live)). LogsCanBeShown old.catalog.texts gs old.logs.items) (sym e)
             c.self.invariant.1.shown;
       },
     )

@@ -12,11 +12,11 @@ use Rattle.djq_lines.specs.declared.limits.TheConstants.{TEXTS}
 use Rattle.djq_machine.specs.Store.{LearnsAll, LearnsFirst}
 use Rattle.djq_rows.specs.Catalog.{Catalog}
 use Rattle.djq_engine.specs.declared.parts.Parts.{Parts}
-use Rattle.djq_engine.specs.Kept.{Registered, TellsOf}
+use Rattle.djq_engine.specs.Kept.{Registered, TellsOfQuery}
 use Rattle.djq_reach.specs.Places.{log_at, place_at}
 use Rattle.djq_engine.specs.Places.{id_at, query_in, queries_in, registered_in, told_from}
-use Rattle.djq_reach.specs.Tending.{AreShown}
-use Rattle.djq_engine.specs.Whole.{kept_in, IsWhole}
+use Rattle.djq_reach.specs.Tending.{LogsCanBeShown}
+use Rattle.djq_engine.specs.Whole.{kept_in, EngineIsWhole}
 use Rattle.std.specs.Prelude.{Option, Some, None, IsSomeAnd, is_some, map, slice_index_or}
 use Rattle.djq_engine.proofs.Enlisted.{enlisted, name_found, registered_none, registered_same}
 use Rattle.djq_engine.proofs.Tending.{shown_enrolled, shown_places}
@@ -164,7 +164,8 @@ pub invariant_of-self-2 : goal.invariant_of-self-2
 invariant_of-self-2 g c =
     let old = c.self.inside.parts in
     let mid : Parts = record old { catalog = c.intern_constants-known.new.catalog } in
-    let whole : IsWhole mid = sound_texts old.catalog c.intern_constants-known.new.catalog old.queries.items old.order
+    let whole : EngineIsWhole mid =
+    sound_texts old.catalog c.intern_constants-known.new.catalog old.queries.items old.order
     old.readers.items c.intern_constants-known.ensures.relations
     (constants_stay c.live_stays.ensures c.texts_stay.ensures old.catalog c.intern_constants-known.new.catalog
     old.queries.items old.order old.readers.items c.self.invariant.0 c.laws.ensures
@@ -182,7 +183,7 @@ invariant_of-self-2 g c =
         watched = r.watched;
         logged = r.logged;
         room = r.room;
-        shown = subst (λ (x : Catalog). AreShown x.texts new.queries.items new.logs.items) (sym r.catalog)
+        shown = subst (λ (x : Catalog). LogsCanBeShown x.texts new.queries.items new.logs.items) (sym r.catalog)
             (shown_enrolled c.intern_constants-known.new.catalog.texts old.queries.items new.queries.items
             old.logs.items
             new.logs.items r.place r.others r.empty.lines r.logs
@@ -196,7 +197,8 @@ pub returns-clause-registers : goal.returns-clause-registers
 returns-clause-registers g c =
     let old = c.self.inside.parts in
     let mid : Parts = record old { catalog = c.intern_constants-known.new.catalog } in
-    let whole : IsWhole mid = sound_texts old.catalog c.intern_constants-known.new.catalog old.queries.items old.order
+    let whole : EngineIsWhole mid =
+    sound_texts old.catalog c.intern_constants-known.new.catalog old.queries.items old.order
     old.readers.items c.intern_constants-known.ensures.relations
     (constants_stay c.live_stays.ensures c.texts_stay.ensures old.catalog c.intern_constants-known.new.catalog
     old.queries.items old.order old.readers.items c.self.invariant.0 c.laws.ensures
@@ -223,7 +225,8 @@ pub returns-clause-cursors : goal.returns-clause-cursors
 returns-clause-cursors g c =
     rw (← c.self.view_is) (λ id. let old = c.self.inside.parts in
     let mid : Parts = record old { catalog = c.intern_constants-known.new.catalog } in
-    let whole : IsWhole mid = sound_texts old.catalog c.intern_constants-known.new.catalog old.queries.items old.order
+    let whole : EngineIsWhole mid =
+    sound_texts old.catalog c.intern_constants-known.new.catalog old.queries.items old.order
     old.readers.items c.intern_constants-known.ensures.relations
     (constants_stay c.live_stays.ensures c.texts_stay.ensures old.catalog c.intern_constants-known.new.catalog
     old.queries.items old.order old.readers.items c.self.invariant.0 c.laws.ensures
@@ -247,7 +250,8 @@ pub invariant_of-self-in_default-register : goal.invariant_of-self-in_default-re
 invariant_of-self-in_default-register g c =
     let old = c.self.inside.parts in
     let mid : Parts = record old { catalog = c.intern_constants-known.new.catalog } in
-    let whole : IsWhole mid = sound_texts old.catalog c.intern_constants-known.new.catalog old.queries.items old.order
+    let whole : EngineIsWhole mid =
+    sound_texts old.catalog c.intern_constants-known.new.catalog old.queries.items old.order
     old.readers.items c.intern_constants-known.ensures.relations
     (constants_stay c.live_stays.ensures c.texts_stay.ensures old.catalog c.intern_constants-known.new.catalog
     old.queries.items old.order old.readers.items c.self.invariant.0 c.laws.ensures
@@ -260,7 +264,7 @@ invariant_of-self-in_default-register g c =
         watched = r.watched;
         logged = r.logged;
         room = r.room;
-        shown = subst (λ (x : Catalog). AreShown x.texts new.queries.items new.logs.items) (sym r.catalog)
+        shown = subst (λ (x : Catalog). LogsCanBeShown x.texts new.queries.items new.logs.items) (sym r.catalog)
             (shown_places c.intern_constants-known.new.catalog.texts old.queries.items new.queries.items
             old.logs.items
             new.logs.items r.queries r.logs
@@ -274,7 +278,8 @@ pub returns-in_default-register-clause-registers : goal.returns-in_default-regis
 returns-in_default-register-clause-registers g c =
     let old = c.self.inside.parts in
     let mid : Parts = record old { catalog = c.intern_constants-known.new.catalog } in
-    let whole : IsWhole mid = sound_texts old.catalog c.intern_constants-known.new.catalog old.queries.items old.order
+    let whole : EngineIsWhole mid =
+    sound_texts old.catalog c.intern_constants-known.new.catalog old.queries.items old.order
     old.readers.items c.intern_constants-known.ensures.relations
     (constants_stay c.live_stays.ensures c.texts_stay.ensures old.catalog c.intern_constants-known.new.catalog
     old.queries.items old.order old.readers.items c.self.invariant.0 c.laws.ensures
@@ -298,7 +303,8 @@ pub returns-in_default-register-clause-cursors : goal.returns-in_default-registe
 returns-in_default-register-clause-cursors g c =
     rw (← c.self.view_is) (λ id. let old = c.self.inside.parts in
     let mid : Parts = record old { catalog = c.intern_constants-known.new.catalog } in
-    let whole : IsWhole mid = sound_texts old.catalog c.intern_constants-known.new.catalog old.queries.items old.order
+    let whole : EngineIsWhole mid =
+    sound_texts old.catalog c.intern_constants-known.new.catalog old.queries.items old.order
     old.readers.items c.intern_constants-known.ensures.relations
     (constants_stay c.live_stays.ensures c.texts_stay.ensures old.catalog c.intern_constants-known.new.catalog
     old.queries.items old.order old.readers.items c.self.invariant.0 c.laws.ensures
@@ -379,10 +385,10 @@ returns-clause-tellings g c =
     let new = c.register.new.parts in
     let r = c.in-Ok-register.ensures.ok in
     let l = c.in-Ok-build.live in
-    let whole : IsWhole new = (invariant_of-self-2 g c).0 in
+    let whole : EngineIsWhole new = (invariant_of-self-2 g c).0 in
     rw (← c.self.view_is) (
       ap (map id_at) r.affected,
-      subst (λ (o : Option Registered). IsSomeAnd o (λ x. TellsOf (kept_in old) x.id (Some []) (kept_in new)))
+      subst (λ (o : Option Registered). IsSomeAnd o (λ x. TellsOfQuery (kept_in old) x.id (Some []) (kept_in new)))
           (sym (name_found new.catalog new.queries.items new.order new.readers.items new.watchers.items whole
           c.args.query.name r.place
           (record { query = l; there = r.here; called = ap (λ (q : Query). q.name) c.in-Ok-build.ensures.query })))

@@ -2,7 +2,7 @@
 use Rattle.std.proofs.Common.{refl, [], ◌∷◌, ◌++◌, ◌∙◌, ap, ap₂, List, ℕ, subst, sym}
 use Rattle.djq_model.specs.Data.{Bytes}
 use Rattle.djq_engine.specs.Places.{Watches, told_from}
-use Rattle.djq_reach.specs.Tending.{AreShown}
+use Rattle.djq_reach.specs.Tending.{LogsCanBeShown}
 use Rattle.djq_engine.specs.Whole.{watches_in}
 use Rattle.djq_engine.proofs.Lasting.{made_tellings}
 use Rattle.djq_engine.proofs.Making.{made_sound, unmade_sound}
@@ -21,7 +21,7 @@ invariant_of-self-in-Ok-relation c = (
     watched = c.self.invariant.1.watched;
     logged = c.self.invariant.1.logged;
     room = c.self.invariant.1.room;
-    shown = subst (λ (ts : List Bytes). AreShown ts c.self.inside.parts.queries.items
+    shown = subst (λ (ts : List Bytes). LogsCanBeShown ts c.self.inside.parts.queries.items
         c.self.inside.parts.logs.items)
         (sym c.relation.ensures.texts) c.self.invariant.1.shown;
   },
@@ -37,7 +37,7 @@ invariant_of-self-in-Err c = (
     watched = c.self.invariant.1.watched;
     logged = c.self.invariant.1.logged;
     room = c.self.invariant.1.room;
-    shown = subst (λ (ts : List Bytes). AreShown ts c.self.inside.parts.queries.items
+    shown = subst (λ (ts : List Bytes). LogsCanBeShown ts c.self.inside.parts.queries.items
         c.self.inside.parts.logs.items)
         (sym c.relation.ensures.texts) c.self.invariant.1.shown;
   },

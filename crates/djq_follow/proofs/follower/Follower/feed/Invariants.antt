@@ -1,12 +1,12 @@
 use Rattle.std.proofs.Common.{List, ℕ, ◌≡◌, ◌++◌, length}
-use Rattle.djq_follow.specs.Follow.{Takes}
+use Rattle.djq_follow.specs.Follow.{TakesLines}
 use Rattle.djq_follow.proofs.follower.Follower.feed.Given as goal
 
 abbrev pub invariant-lines : goal.invariant-lines
 invariant-lines l = record {
   front : List ℕ;
   is : l.piece ≡ front ++ l.rest;
-  takes : Takes l.fn.self front l.self;
+  takes : TakesLines l.fn.self front l.self;
 }
 
 abbrev pub decreases-lines : goal.decreases-lines

@@ -1,7 +1,7 @@
 -- A tuple is the only one in its slot, so a mark for the slot says something of this tuple alone.
 use Rattle.std.proofs.Common.{◌≡◌, ℕ, ◌<◌, List, length, subst, sym, arith}
 use Rattle.std.specs.Prelude.{◌↔◌, ◌⊎◌}
-use Rattle.djq_gains.specs.Gathered.{Gain, Gathered, AreApart, StandSomewhere, Stand, gains_in, marked_in, marks_at}
+use Rattle.djq_gains.specs.Gathered.{Gain, Gathered, GainsDiffer, StandSomewhere, Stand, gains_in, marked_in, marks_at}
 use Rattle.djq_gains.proofs.Noting.{IsNoted, row_below, noted}
 use Rattle.djq_gains.proofs.gains.Gains.note.Goals as goal
 
@@ -27,7 +27,7 @@ invariant_of-self-2 c =
     let n = is_noted c in
     let is = sym (c.mark.ensures.marked c.seat.new.tuples.rows) in (
       omega (arith, c.seat.ensures.room, c.mark.ensures.long),
-      subst AreApart is n.apart,
+      subst GainsDiffer is n.apart,
       subst StandSomewhere is n.some,
     )
 

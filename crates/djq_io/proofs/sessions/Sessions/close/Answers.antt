@@ -3,7 +3,7 @@ use Rattle.std.proofs.Common.{rules, arith, ap, ap₂, sym, subst, not, nat_eq, 
 use Rattle.std.proofs.lemmas.Fn.{filter_same}
 use Rattle.std.specs.Prelude.{Contains}
 use Rattle.djq_io.specs.Sessions.{Places}
-use Rattle.djq_io.specs.SessionsInside.{open_in, ended_in}
+use Rattle.djq_io.specs.SessionsInside.{open_ids_in, ended_in}
 use Rattle.djq_io.proofs.FaultsOf.{bounded_after_close, close_spares}
 use Rattle.djq_io.proofs.Marking.{closes, fewer_at}
 use Rattle.djq_io.proofs.sessions.Sessions.close.Goals as goal
@@ -19,9 +19,9 @@ returns-clause-ids c =
     let newest = ap (λ (s : Places). s.ids.newest) c.self.view_is in
     let sessions_new = c.retain.new.self.items in
     closes c.args.id c.args.self.now.ids
-    (record { newest = c.self.inside.newest; open_ids = open_in sessions_new; ended_ids = ended_in sessions_new })
+    (record { newest = c.self.inside.newest; open_ids = open_ids_in sessions_new; ended_ids = ended_in sessions_new })
     places opens ends
-    (ap₂ (λ n xs. record { newest = n; open_ids = open_in xs; ended_ids = ended_in xs }) newest kept)
+    (ap₂ (λ n xs. record { newest = n; open_ids = open_ids_in xs; ended_ids = ended_in xs }) newest kept)
 
 -- It had a place.
 pub returns-clause-room : goal.returns-clause-room

@@ -2,7 +2,7 @@
 use Rattle.std.proofs.Common.{rules, arith, ap, sym, ◌∙◌, ◌≡◌, ◌++◌, length, take, drop, map, false}
 use Rattle.std.proofs.lemmas.Grind.{common_steps}
 use Rattle.djq_io.specs.Sessions.{Places}
-use Rattle.djq_io.specs.SessionsInside.{after_end, open_in, ended_in, counts_in}
+use Rattle.djq_io.specs.SessionsInside.{after_end, open_ids_in, ended_in, counts_in}
 use Rattle.djq_io.proofs.Mapping.{mapped_more}
 use Rattle.djq_io.proofs.Marking.{ends_marked}
 use Rattle.djq_io.proofs.FaultsOf.{bounded_after_end, counts_after_end}
@@ -25,8 +25,8 @@ returns-clause-ids c =
     let old = c.args.self.now.ids in
     let newest = ap (λ (s : Places). s.ids.newest) c.self.view_is in
     ends_marked c.args.id old
-    (record { newest = c.self.inside.newest; open_ids = open_in end; ended_ids = ended_in end }) places c.requires
-    opens ends newest (ap open_in marked) (ap ended_in marked)
+    (record { newest = c.self.inside.newest; open_ids = open_ids_in end; ended_ids = ended_in end }) places c.requires
+    opens ends newest (ap open_ids_in marked) (ap ended_in marked)
 
 -- The counts stay, and so do their bounds.
 pub invariant_of-self : goal.invariant_of-self

@@ -1,7 +1,7 @@
 -- The log had the journal that was taken, idle behind whatever lines, and the group has a first line.
 use Rattle.std.proofs.Common.{rules, ◌≡◌, ℕ, List, [], sym, subst}
 use Rattle.std.specs.Prelude.{Option, Some}
-use Rattle.djq_disk.specs.History.{WhereTold}
+use Rattle.djq_disk.specs.History.{WhereHistoryTold}
 use Rattle.djq_disk.proofs.Telling.{told_so}
 use Rattle.djq_journal.specs.Standing.{IsIdle}
 use Rattle.djq_journal.specs.Appending.{Appends}
@@ -18,7 +18,7 @@ returns-in-Done-clause-told g c =
     let gate = c.in-Some-take.journal in
     let next = c.in-Done.next in
     let is : c.args.self.now ≡ Some gate = search rules in
-    subst (λ (at : Option ℕ). WhereTold (told c.args.disk.now) (told c.append_all.new.disk)
+    subst (λ (at : Option ℕ). WhereHistoryTold (told c.args.disk.now) (told c.append_all.new.disk)
     (Keeps All at (Some next) group)) (sym is)
     (told_so _ _ (λ o n. (lines : List (List ℕ)) → IsIdle lines gate o.file → Appends (Done next) lines group o n)
     (Keeps All (Some gate) (Some next) group)
@@ -32,7 +32,7 @@ returns-in-Failed-clause-told g c =
     let group = g.G.Group.lines c.args.group.now in
     let gate = c.in-Some-take.journal in
     let is : c.args.self.now ≡ Some gate = search rules in
-    subst (λ (at : Option ℕ). WhereTold (told c.args.disk.now) (told c.append_all.new.disk)
+    subst (λ (at : Option ℕ). WhereHistoryTold (told c.args.disk.now) (told c.append_all.new.disk)
     (Keeps Failed at c.take.new.self group)) (sym is)
     (told_so _ _ (λ o n. (lines : List (List ℕ)) → IsIdle lines gate o.file → Appends Unappended lines group o n)
     (Keeps Failed (Some gate) c.take.new.self group)
@@ -46,7 +46,7 @@ returns-in-Full-clause-told g c =
     let group = g.G.Group.lines c.args.group.now in
     let gate = c.in-Some-take.journal in
     let is : c.args.self.now ≡ Some gate = search rules in
-    subst (λ (at : Option ℕ). WhereTold (told c.args.disk.now) (told c.append_all.new.disk)
+    subst (λ (at : Option ℕ). WhereHistoryTold (told c.args.disk.now) (told c.append_all.new.disk)
     (Keeps Full at c.take.new.self group)) (sym is)
     (told_so _ _ (λ o n. (lines : List (List ℕ)) → IsIdle lines gate o.file → Appends Overflows lines group o n)
     (Keeps Full (Some gate) c.take.new.self group)

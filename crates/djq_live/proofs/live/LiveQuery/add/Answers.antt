@@ -1,6 +1,6 @@
 -- The row is new, so its leaves lack its tuple and have room; what was put in can be given back.
 use Rattle.std.proofs.Common.{ℕ, [], ◌∷◌, ◌<◌, length, sym, subst, ◌∙◌, arith}
-use Rattle.djq_live.specs.Changes.{Came, Gains}
+use Rattle.djq_live.specs.Changes.{Came, GainsTuple}
 use Rattle.djq_live.specs.Live.{Live}
 use Rattle.djq_live.proofs.Inside.{live_of}
 use Rattle.djq_live.specs.Stepping.{GrowsByOne}
@@ -62,7 +62,7 @@ returns-then-done-atoms-clause-added g c =
     (follows_came l c.args.self.now c.add_to_leaves-done.new.reducts c.args.relation.at
     (c.args.cells.now ∷ []) c.atoms-atoms.result.now c.as_slice-patterns.result.now c.self.view_is
     c.atoms-atoms.ensures c.as_slice-patterns.ensures.value
-    (below_at (λ p old new. Gains p c.args.cells.now old new) c.args.relation.at
+    (below_at (λ p old new. GainsTuple p c.args.cells.now old new) c.args.relation.at
     c.atoms-atoms.result.now c.as_slice-patterns.result.now c.add_to_leaves-done.result
     (length c.atoms-atoms.result.now) c.self.inside.reducts c.add_to_leaves-done.new.reducts
     (let e = c.if-done-atoms.true in omega arith) (let e = c.if-done-atoms.true in omega arith)
@@ -85,7 +85,7 @@ returns-then-done-atoms-clause-log g c =
     c.args.steps.now.listing c.add_to_leaves-done.new.steps.listing c.self.view_is
     c.atoms-atoms.ensures c.as_slice-patterns.ensures.value
     c.add_to_leaves-done.ensures.more
-    (below_at (λ p old new. Gains p c.args.cells.now old new) c.args.relation.at
+    (below_at (λ p old new. GainsTuple p c.args.cells.now old new) c.args.relation.at
     c.atoms-atoms.result.now c.as_slice-patterns.result.now c.add_to_leaves-done.result
     (length c.atoms-atoms.result.now) c.self.inside.reducts c.add_to_leaves-done.new.reducts
     (let e = c.if-done-atoms.true in omega arith) (let e = c.if-done-atoms.true in omega arith)

@@ -1,7 +1,7 @@
 -- Rows that came at once differ and are new, so leaves lack their tuples; those put in can be given back.
 use Rattle.std.proofs.Common.{ℕ, List, ◌<◌, length, ap, sym, subst, ◌∙◌, arith}
 use Rattle.djq_tree.specs.Tree.{Tree}
-use Rattle.djq_live.specs.Batching.{GrowsBy, batch_in}
+use Rattle.djq_live.specs.Batching.{GrowsBy, batch_tuples}
 use Rattle.djq_live.specs.Changes.{CameAll, GainsAll}
 use Rattle.djq_live.specs.Live.{Live}
 use Rattle.djq_live.proofs.Inside.{live_of}
@@ -42,9 +42,9 @@ add_all_to_leaves-done-requires-clause-can g c =
     let hand = in_hand l c.args.relation.at c.args.rows.now c.atoms-atoms.result.now c.as_slice-patterns.result.now
     c.atoms-atoms.ensures c.as_slice-patterns.ensures.value can in
     let of = tuples_as c.args.relation.at c.args.rows.now c.atoms-atoms.result.now c.as_slice-patterns.result.now
-    (batch_in c.args.rows.now c.in-Ok.batch.items) (batch_in c.args.rows.now c.as_slice-tuples.result.now)
-    (ap (batch_in c.args.rows.now) c.as_slice-tuples.ensures.value) c.in-Ok.ensures in
-    hand.takes (batch_in c.args.rows.now c.as_slice-tuples.result.now) of
+    (batch_tuples c.args.rows.now c.in-Ok.batch.items) (batch_tuples c.args.rows.now c.as_slice-tuples.result.now)
+    (ap (batch_tuples c.args.rows.now) c.as_slice-tuples.ensures.value) c.in-Ok.ensures in
+    hand.takes (batch_tuples c.args.rows.now c.as_slice-tuples.result.now) of
 
 pub add_all_to_leaves-done-requires-clause-bare : goal.add_all_to_leaves-done-requires-clause-bare
 add_all_to_leaves-done-requires-clause-bare g c =
@@ -56,10 +56,10 @@ pub returns-then-done-atoms-clause-added : goal.returns-then-done-atoms-clause-a
 returns-then-done-atoms-clause-added g c =
     let l = live_of c.self.inside in
     let of = tuples_as c.args.relation.at c.args.rows.now c.atoms-atoms.result.now c.as_slice-patterns.result.now
-    (batch_in c.args.rows.now c.in-Ok.batch.items) (batch_in c.args.rows.now c.as_slice-tuples.result.now)
-    (ap (batch_in c.args.rows.now) c.as_slice-tuples.ensures.value) c.in-Ok.ensures in
+    (batch_tuples c.args.rows.now c.in-Ok.batch.items) (batch_tuples c.args.rows.now c.as_slice-tuples.result.now)
+    (ap (batch_tuples c.args.rows.now) c.as_slice-tuples.ensures.value) c.in-Ok.ensures in
     let gains = all_gains c.args.relation.at c.args.rows.now c.atoms-atoms.result.now c.as_slice-patterns.result.now
-    (batch_in c.args.rows.now c.as_slice-tuples.result.now) c.add_all_to_leaves-done.result c.self.inside.reducts
+    (batch_tuples c.args.rows.now c.as_slice-tuples.result.now) c.add_all_to_leaves-done.result c.self.inside.reducts
     c.add_all_to_leaves-done.new.reducts of c.add_all_to_leaves-done.ensures.gained in
     let all = below_at (λ p old new. GainsAll p c.args.rows.now old new) c.args.relation.at c.atoms-atoms.result.now
     c.as_slice-patterns.result.now c.add_all_to_leaves-done.result (length c.atoms-atoms.result.now)
@@ -79,10 +79,10 @@ pub returns-then-done-atoms-clause-log : goal.returns-then-done-atoms-clause-log
 returns-then-done-atoms-clause-log g c =
     let l = live_of c.self.inside in
     let of = tuples_as c.args.relation.at c.args.rows.now c.atoms-atoms.result.now c.as_slice-patterns.result.now
-    (batch_in c.args.rows.now c.in-Ok.batch.items) (batch_in c.args.rows.now c.as_slice-tuples.result.now)
-    (ap (batch_in c.args.rows.now) c.as_slice-tuples.ensures.value) c.in-Ok.ensures in
+    (batch_tuples c.args.rows.now c.in-Ok.batch.items) (batch_tuples c.args.rows.now c.as_slice-tuples.result.now)
+    (ap (batch_tuples c.args.rows.now) c.as_slice-tuples.ensures.value) c.in-Ok.ensures in
     let gains = all_gains c.args.relation.at c.args.rows.now c.atoms-atoms.result.now c.as_slice-patterns.result.now
-    (batch_in c.args.rows.now c.as_slice-tuples.result.now) c.add_all_to_leaves-done.result c.self.inside.reducts
+    (batch_tuples c.args.rows.now c.as_slice-tuples.result.now) c.add_all_to_leaves-done.result c.self.inside.reducts
     c.add_all_to_leaves-done.new.reducts of c.add_all_to_leaves-done.ensures.gained in
     let all = below_at (λ p old new. GainsAll p c.args.rows.now old new) c.args.relation.at c.atoms-atoms.result.now
     c.as_slice-patterns.result.now c.add_all_to_leaves-done.result (length c.atoms-atoms.result.now)
@@ -99,10 +99,10 @@ pub returns-then-done-atoms-clause-counted : goal.returns-then-done-atoms-clause
 returns-then-done-atoms-clause-counted g c =
     let l = live_of c.self.inside in
     let of = tuples_as c.args.relation.at c.args.rows.now c.atoms-atoms.result.now c.as_slice-patterns.result.now
-    (batch_in c.args.rows.now c.in-Ok.batch.items) (batch_in c.args.rows.now c.as_slice-tuples.result.now)
-    (ap (batch_in c.args.rows.now) c.as_slice-tuples.ensures.value) c.in-Ok.ensures in
+    (batch_tuples c.args.rows.now c.in-Ok.batch.items) (batch_tuples c.args.rows.now c.as_slice-tuples.result.now)
+    (ap (batch_tuples c.args.rows.now) c.as_slice-tuples.ensures.value) c.in-Ok.ensures in
     let gains = all_gains c.args.relation.at c.args.rows.now c.atoms-atoms.result.now c.as_slice-patterns.result.now
-    (batch_in c.args.rows.now c.as_slice-tuples.result.now) c.add_all_to_leaves-done.result c.self.inside.reducts
+    (batch_tuples c.args.rows.now c.as_slice-tuples.result.now) c.add_all_to_leaves-done.result c.self.inside.reducts
     c.add_all_to_leaves-done.new.reducts of c.add_all_to_leaves-done.ensures.gained in
     counts_came c.args.wanted l c.args.self.now c.add_all_to_leaves-done.new.reducts c.args.relation.at c.args.rows.now
     c.atoms-atoms.result.now c.as_slice-patterns.result.now c.add_all_to_leaves-done.result c.args.log.now
@@ -114,8 +114,8 @@ pub returns-then-done-atoms-clause-grows : goal.returns-then-done-atoms-clause-g
 returns-then-done-atoms-clause-grows g c =
     let l = live_of c.self.inside in
     let of = tuples_as c.args.relation.at c.args.rows.now c.atoms-atoms.result.now c.as_slice-patterns.result.now
-    (batch_in c.args.rows.now c.in-Ok.batch.items) (batch_in c.args.rows.now c.as_slice-tuples.result.now)
-    (ap (batch_in c.args.rows.now) c.as_slice-tuples.ensures.value) c.in-Ok.ensures in
+    (batch_tuples c.args.rows.now c.in-Ok.batch.items) (batch_tuples c.args.rows.now c.as_slice-tuples.result.now)
+    (ap (batch_tuples c.args.rows.now) c.as_slice-tuples.ensures.value) c.in-Ok.ensures in
     subst (λ (x : Live). GrowsBy (length c.args.rows.now) x.reducts c.add_all_to_leaves-done.new.reducts) c.self.view_is
     (c.add_all_to_leaves-done.ensures.grows (length c.args.rows.now) of.few)
 
@@ -124,8 +124,8 @@ returns-then-done-atoms-clause-updates g c =
     let l = live_of c.self.inside in
     let can = can_add_all l c.args.self.now c.args.relation.at c.args.rows.now c.self.view_is c.requires in
     let of = tuples_as c.args.relation.at c.args.rows.now c.atoms-atoms.result.now c.as_slice-patterns.result.now
-    (batch_in c.args.rows.now c.in-Ok.batch.items) (batch_in c.args.rows.now c.as_slice-tuples.result.now)
-    (ap (batch_in c.args.rows.now) c.as_slice-tuples.ensures.value) c.in-Ok.ensures in
+    (batch_tuples c.args.rows.now c.in-Ok.batch.items) (batch_tuples c.args.rows.now c.as_slice-tuples.result.now)
+    (ap (batch_tuples c.args.rows.now) c.as_slice-tuples.ensures.value) c.in-Ok.ensures in
     counts_batch l c.args.self.now c.args.relation.at c.atoms-atoms.result.now c.add_all_to_leaves-done.result
     (length c.args.rows.now) c.args.steps.now.update c.add_all_to_leaves-done.new.steps.update c.self.view_is
     c.atoms-atoms.ensures (can.before, can.kept)
@@ -139,9 +139,9 @@ give_all_from_leaves-requires-clause-leaves g c =
     let hand = in_hand l c.args.relation.at c.args.rows.now c.atoms-atoms.result.now c.as_slice-patterns.result.now
     c.atoms-atoms.ensures c.as_slice-patterns.ensures.value can in
     let of = tuples_as c.args.relation.at c.args.rows.now c.atoms-atoms.result.now c.as_slice-patterns.result.now
-    (batch_in c.args.rows.now c.in-Ok.batch.items) (batch_in c.args.rows.now c.as_slice-tuples.result.now)
-    (ap (batch_in c.args.rows.now) c.as_slice-tuples.ensures.value) c.in-Ok.ensures in
-    let take = hand.takes (batch_in c.args.rows.now c.as_slice-tuples.result.now) of in
+    (batch_tuples c.args.rows.now c.in-Ok.batch.items) (batch_tuples c.args.rows.now c.as_slice-tuples.result.now)
+    (ap (batch_tuples c.args.rows.now) c.as_slice-tuples.ensures.value) c.in-Ok.ensures in
+    let take = hand.takes (batch_tuples c.args.rows.now c.as_slice-tuples.result.now) of in
     ap (λ (t : Tree). t.leaves) c.add_all_to_leaves-done.ensures.gained.tree ∙ take.leaves
 
 pub give_all_from_leaves-requires-clause-long : goal.give_all_from_leaves-requires-clause-long
@@ -151,9 +151,9 @@ give_all_from_leaves-requires-clause-long g c =
     let hand = in_hand l c.args.relation.at c.args.rows.now c.atoms-atoms.result.now c.as_slice-patterns.result.now
     c.atoms-atoms.ensures c.as_slice-patterns.ensures.value can in
     let of = tuples_as c.args.relation.at c.args.rows.now c.atoms-atoms.result.now c.as_slice-patterns.result.now
-    (batch_in c.args.rows.now c.in-Ok.batch.items) (batch_in c.args.rows.now c.as_slice-tuples.result.now)
-    (ap (batch_in c.args.rows.now) c.as_slice-tuples.ensures.value) c.in-Ok.ensures in
-    let take = hand.takes (batch_in c.args.rows.now c.as_slice-tuples.result.now) of in
+    (batch_tuples c.args.rows.now c.in-Ok.batch.items) (batch_tuples c.args.rows.now c.as_slice-tuples.result.now)
+    (ap (batch_tuples c.args.rows.now) c.as_slice-tuples.ensures.value) c.in-Ok.ensures in
+    let take = hand.takes (batch_tuples c.args.rows.now c.as_slice-tuples.result.now) of in
     take.long
 
 pub give_all_from_leaves-requires-clause-end : goal.give_all_from_leaves-requires-clause-end
@@ -162,7 +162,7 @@ give_all_from_leaves-requires-clause-end g c =
 
 pub give_all_from_leaves-requires-clause-there : goal.give_all_from_leaves-requires-clause-there
 give_all_from_leaves-requires-clause-there g c =
-    all_there c.args.relation.at c.atoms-atoms.result.now (batch_in c.args.rows.now c.as_slice-tuples.result.now)
+    all_there c.args.relation.at c.atoms-atoms.result.now (batch_tuples c.args.rows.now c.as_slice-tuples.result.now)
     c.add_all_to_leaves-done.result c.self.inside.reducts c.add_all_to_leaves-done.new.reducts
     c.add_all_to_leaves-done.ensures.gained
 
@@ -177,11 +177,11 @@ returns-clause-refused g c =
     let hand = in_hand l c.args.relation.at c.args.rows.now c.atoms-atoms.result.now c.as_slice-patterns.result.now
     c.atoms-atoms.ensures c.as_slice-patterns.ensures.value can in
     let of = tuples_as c.args.relation.at c.args.rows.now c.atoms-atoms.result.now c.as_slice-patterns.result.now
-    (batch_in c.args.rows.now c.in-Ok.batch.items) (batch_in c.args.rows.now c.as_slice-tuples.result.now)
-    (ap (batch_in c.args.rows.now) c.as_slice-tuples.ensures.value) c.in-Ok.ensures in
-    let take = hand.takes (batch_in c.args.rows.now c.as_slice-tuples.result.now) of in
+    (batch_tuples c.args.rows.now c.in-Ok.batch.items) (batch_tuples c.args.rows.now c.as_slice-tuples.result.now)
+    (ap (batch_tuples c.args.rows.now) c.as_slice-tuples.ensures.value) c.in-Ok.ensures in
+    let take = hand.takes (batch_tuples c.args.rows.now c.as_slice-tuples.result.now) of in
     batch_kept l c.args.self.now c.add_all_to_leaves-done.new.reducts c.give_all_from_leaves.new.reducts
-    c.args.relation.at c.atoms-atoms.result.now (batch_in c.args.rows.now c.as_slice-tuples.result.now)
+    c.args.relation.at c.atoms-atoms.result.now (batch_tuples c.args.rows.now c.as_slice-tuples.result.now)
     c.add_all_to_leaves-done.result c.self.view_is can.kept.over.reducts take
     c.add_all_to_leaves-done.ensures.gained c.give_all_from_leaves.ensures.lost
 
@@ -192,11 +192,11 @@ returns-clause-tables g c =
     let hand = in_hand l c.args.relation.at c.args.rows.now c.atoms-atoms.result.now c.as_slice-patterns.result.now
     c.atoms-atoms.ensures c.as_slice-patterns.ensures.value can in
     let of = tuples_as c.args.relation.at c.args.rows.now c.atoms-atoms.result.now c.as_slice-patterns.result.now
-    (batch_in c.args.rows.now c.in-Ok.batch.items) (batch_in c.args.rows.now c.as_slice-tuples.result.now)
-    (ap (batch_in c.args.rows.now) c.as_slice-tuples.ensures.value) c.in-Ok.ensures in
-    let take = hand.takes (batch_in c.args.rows.now c.as_slice-tuples.result.now) of in
+    (batch_tuples c.args.rows.now c.in-Ok.batch.items) (batch_tuples c.args.rows.now c.as_slice-tuples.result.now)
+    (ap (batch_tuples c.args.rows.now) c.as_slice-tuples.ensures.value) c.in-Ok.ensures in
+    let take = hand.takes (batch_tuples c.args.rows.now c.as_slice-tuples.result.now) of in
     batch_same l c.args.self.now c.add_all_to_leaves-done.new.reducts c.give_all_from_leaves.new.reducts
-    c.args.relation.at c.atoms-atoms.result.now (batch_in c.args.rows.now c.as_slice-tuples.result.now)
+    c.args.relation.at c.atoms-atoms.result.now (batch_tuples c.args.rows.now c.as_slice-tuples.result.now)
     c.add_all_to_leaves-done.result c.self.view_is can.kept.over.reducts take
     c.add_all_to_leaves-done.ensures.gained c.give_all_from_leaves.ensures.lost
 
@@ -210,10 +210,10 @@ pub returns-clause-counted : goal.returns-clause-counted
 returns-clause-counted g c =
     let l = live_of c.self.inside in
     let of = tuples_as c.args.relation.at c.args.rows.now c.atoms-atoms.result.now c.as_slice-patterns.result.now
-    (batch_in c.args.rows.now c.in-Ok.batch.items) (batch_in c.args.rows.now c.as_slice-tuples.result.now)
-    (ap (batch_in c.args.rows.now) c.as_slice-tuples.ensures.value) c.in-Ok.ensures in
+    (batch_tuples c.args.rows.now c.in-Ok.batch.items) (batch_tuples c.args.rows.now c.as_slice-tuples.result.now)
+    (ap (batch_tuples c.args.rows.now) c.as_slice-tuples.ensures.value) c.in-Ok.ensures in
     let gains = all_gains c.args.relation.at c.args.rows.now c.atoms-atoms.result.now c.as_slice-patterns.result.now
-    (batch_in c.args.rows.now c.as_slice-tuples.result.now) c.add_all_to_leaves-done.result c.self.inside.reducts
+    (batch_tuples c.args.rows.now c.as_slice-tuples.result.now) c.add_all_to_leaves-done.result c.self.inside.reducts
     c.add_all_to_leaves-done.new.reducts of c.add_all_to_leaves-done.ensures.gained in
     subst (λ (n : ℕ). CountsDelta c.args.wanted (λ x y. CameAll x y c.args.relation.at c.args.rows.now) c.args.self.now
     c.args.relation.at c.args.steps.now.listing n) (sym c.give_all_from_leaves.ensures.listing)
@@ -228,8 +228,8 @@ returns-clause-refusal g c =
     let l = live_of c.self.inside in
     let can = can_add_all l c.args.self.now c.args.relation.at c.args.rows.now c.self.view_is c.requires in
     let of = tuples_as c.args.relation.at c.args.rows.now c.atoms-atoms.result.now c.as_slice-patterns.result.now
-    (batch_in c.args.rows.now c.in-Ok.batch.items) (batch_in c.args.rows.now c.as_slice-tuples.result.now)
-    (ap (batch_in c.args.rows.now) c.as_slice-tuples.ensures.value) c.in-Ok.ensures in
+    (batch_tuples c.args.rows.now c.in-Ok.batch.items) (batch_tuples c.args.rows.now c.as_slice-tuples.result.now)
+    (ap (batch_tuples c.args.rows.now) c.as_slice-tuples.ensures.value) c.in-Ok.ensures in
     let stopped : c.add_all_to_leaves-done.result < length c.atoms-atoms.result.now =
     (let e = c.if-done-atoms.false in let d = c.add_all_to_leaves-done.ensures.done in omega arith) in
     batch_back l c.args.self.now c.add_all_to_leaves-done.new.reducts c.args.relation.at c.atoms-atoms.result.now

@@ -1,6 +1,6 @@
 -- A text's cell is below the count of texts, which fits in 32 bits; the text at that place is the value.
 use Rattle.std.proofs.Common.{◌<◌, ◌∙◌, length, sym, subst, arith}
-use Rattle.djq_rows.specs.Cells.{StandsFor, IsCell}
+use Rattle.djq_rows.specs.Cells.{CellStandsFor, IsCell}
 use Rattle.djq_rows.specs.Catalog.{Catalog}
 use Rattle.djq_rows.proofs.Encoding.{cell_within, stands_back}
 use Rattle.djq_rows.proofs.Interning.{text_below, text_lent}
@@ -25,5 +25,5 @@ pub returns-in-Text : goal.returns-in-Text
 returns-in-Text c = λ v s.
     let texts = c.self.inside.texts in
     text_lent texts c.args.column c.args.cell c.text.result.now c.in-Text.is c.text.ensures
-    ∙ stands_back texts c.args.column c.args.cell v (subst (λ (k : Catalog). StandsFor k.texts
+    ∙ stands_back texts c.args.column c.args.cell v (subst (λ (k : Catalog). CellStandsFor k.texts
     c.args.column c.args.cell v) (sym c.self.view_is) s)

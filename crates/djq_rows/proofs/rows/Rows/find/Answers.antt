@@ -3,13 +3,13 @@ use Rattle.std.proofs.Common.{◌≡◌, ap, subst, List}
 use Rattle.std.specs.Prelude.{MatchOption}
 use Rattle.djq_index.specs.Entries.{Entry, count_of}
 use Rattle.djq_index.specs.Table.{IsAt}
-use Rattle.djq_rows.specs.Rows.{Rows, place}
+use Rattle.djq_rows.specs.Rows.{Rows, row_place}
 use Rattle.djq_rows.proofs.Slotted.{finds}
 use Rattle.djq_rows.proofs.rows.Rows.find.Goals as goal
 
 pub returns-clause-found : goal.returns-clause-found
 returns-clause-found g c =
     subst (λ (es : List Entry). MatchOption c.find.result (count_of es c.args.cells.now ≡ 0)
-    (λ slot. IsAt es (place slot) c.args.cells.now)) (ap (λ (r : Rows). r.entries) c.self.view_is)
+    (λ slot. IsAt es (row_place slot) c.args.cells.now)) (ap (λ (r : Rows). r.entries) c.self.view_is)
     (finds c.self.inside.copies.items c.self.inside.arena.rows c.args.cells.now c.find.result
     c.find.ensures)

@@ -1,12 +1,12 @@
 -- The entries are the arena's rows in the same order, so the oldest row is the first entry.
 use Rattle.std.proofs.Common.{◌∙◌, ap}
 use Rattle.djq_index.specs.Entries.{head_at}
-use Rattle.djq_rows.specs.Rows.{Rows, place_of}
+use Rattle.djq_rows.specs.Rows.{Rows, row_place_of}
 use Rattle.djq_rows.proofs.Slotted.{first_place}
 use Rattle.djq_rows.proofs.rows.Rows.first.Goals as goal
 
 pub returns-clause-first : goal.returns-clause-first
 returns-clause-first g c =
-    ap place_of c.first.ensures
+    ap row_place_of c.first.ensures
     ∙ first_place c.self.inside.copies.items c.self.inside.arena.rows
     ∙ ap (λ (r : Rows). head_at r.entries) c.self.view_is

@@ -2,7 +2,7 @@
 use Rattle.std.proofs.Common.{◌≡◌, ◌∙◌, ℕ, List, [], ap, ap₂}
 use Rattle.djq_arena.specs.Rows.{SlotRows}
 use Rattle.djq_index.specs.Entries.{Entry}
-use Rattle.djq_rows.specs.Rows.{Rows, entries_in}
+use Rattle.djq_rows.specs.Rows.{Rows, entries_with_copies}
 use Rattle.djq_rows.proofs.Slotted.{entries_nil, none_kept}
 use Rattle.djq_rows.proofs.rows.Rows.new.Goals as goal
 
@@ -13,8 +13,8 @@ invariant_of-result c = none_kept c.in_ok-arena.arena c.new-2.result.items c.law
 
 pub returns : goal.returns
 returns c =
-    let none : entries_in c.new-2.result.items c.in_ok-arena.arena.rows ≡ [] =
-    ap (λ (s : SlotRows). entries_in c.new-2.result.items s.rows) c.in_ok-arena.ensures
+    let none : entries_with_copies c.new-2.result.items c.in_ok-arena.arena.rows ≡ [] =
+    ap (λ (s : SlotRows). entries_with_copies c.new-2.result.items s.rows) c.in_ok-arena.ensures
     ∙ entries_nil c.new-2.result.items in
     let made : Rows → Rows = λ r. r in
     ap₂ (λ (n : ℕ) (es : List Entry). made (record { width = n; entries = es }))

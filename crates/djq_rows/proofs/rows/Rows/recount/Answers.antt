@@ -1,9 +1,9 @@
 -- Slots differ, so only the entry in this one has other supports; the tuples stay, and none stands twice.
 use Rattle.std.proofs.Common.{subst, sym, arith, slice_set}
 use Rattle.djq_index.specs.Entries.{supports_of}
-use Rattle.djq_index.specs.Table.{IsAt, IsLive}
+use Rattle.djq_index.specs.Table.{IsAt, IsOccupied}
 use Rattle.djq_index.specs.Changes.{Supported}
-use Rattle.djq_rows.specs.Rows.{Rows, place, entries_in, AreKept}
+use Rattle.djq_rows.specs.Rows.{Rows, row_place, entries_with_copies, CopiesAreKept}
 use Rattle.djq_rows.proofs.Slotted.{live_below, recounted, recounted_kept}
 use Rattle.djq_rows.proofs.rows.Rows.recount.Goals as goal
 
@@ -13,32 +13,32 @@ index_mut-requires g c =
       arith,
       c.self.inside.copies.ok.0,
       live_below c.self.inside.arena
-          c.self.inside.copies.items c.args.slot c.self.invariant (subst (λ (r : Rows). IsLive r.entries
-          (place c.args.slot)) (sym c.self.view_is) c.requires),
+          c.self.inside.copies.items c.args.slot c.self.invariant (subst (λ (r : Rows). IsOccupied r.entries
+          (row_place c.args.slot)) (sym c.self.view_is) c.requires),
     )
 
 pub invariant_of-self : goal.invariant_of-self
 invariant_of-self g c =
     recounted_kept c.self.inside.arena c.self.inside.copies.items c.args.slot c.args.copies
     c.self.invariant
-    (subst (λ (r : Rows). IsLive r.entries (place c.args.slot)) (sym c.self.view_is) c.requires)
+    (subst (λ (r : Rows). IsOccupied r.entries (row_place c.args.slot)) (sym c.self.view_is) c.requires)
 
 pub returns-clause-apart : goal.returns-clause-apart
 returns-clause-apart g c =
-    let k : AreKept c.self.inside.arena
+    let k : CopiesAreKept c.self.inside.arena
     (slice_set c.self.inside.copies.items c.args.slot c.args.copies) =
     recounted_kept c.self.inside.arena c.self.inside.copies.items c.args.slot c.args.copies
     c.self.invariant
-    (subst (λ (r : Rows). IsLive r.entries (place c.args.slot)) (sym c.self.view_is) c.requires) in
+    (subst (λ (r : Rows). IsOccupied r.entries (row_place c.args.slot)) (sym c.self.view_is) c.requires) in
     k.apart
 
 pub returns-clause-recounted : goal.returns-clause-recounted
 returns-clause-recounted g c = λ u at.
-    subst (λ (r : Rows). Supported r.entries (entries_in
+    subst (λ (r : Rows). Supported r.entries (entries_with_copies
     (slice_set c.self.inside.copies.items c.args.slot c.args.copies) c.self.inside.arena.rows) u
     (supports_of r.entries u) c.args.copies) c.self.view_is
     (recounted c.self.inside.arena c.self.inside.copies.items c.args.slot c.args.copies u
     c.self.invariant
     (live_below c.self.inside.arena c.self.inside.copies.items c.args.slot c.self.invariant
-    (subst (λ (r : Rows). IsLive r.entries (place c.args.slot)) (sym c.self.view_is) c.requires))
-    (subst (λ (r : Rows). IsAt r.entries (place c.args.slot) u) (sym c.self.view_is) at))
+    (subst (λ (r : Rows). IsOccupied r.entries (row_place c.args.slot)) (sym c.self.view_is) c.requires))
+    (subst (λ (r : Rows). IsAt r.entries (row_place c.args.slot) u) (sym c.self.view_is) at))

@@ -1,6 +1,6 @@
 -- By the invariant the walk stands at the first entry that is left, or at none where none is left.
 use Rattle.std.proofs.Common.{ℕ, List, ◌∷◌, ◌-◌, ◌+◌, take, drop, length, ◌∙◌, ap, sym, arith}
-use Rattle.djq_rows.specs.Rows.{place, place_of}
+use Rattle.djq_rows.specs.Rows.{row_place, row_place_of}
 use Rattle.djq_rows.specs.Walking.{tuples_left}
 use Rattle.djq_rows.proofs.Stepping.{
   stands,
@@ -17,24 +17,24 @@ pub cells-cells-requires : goal.cells-cells-requires
 cells-cells-requires g c =
     let t = c.self.inside.rows.now in
     let n = c.self.inside.left in
-    stands_live t n c.in-Some.slot (stands t n c.in-Some.slot (ap place_of (sym c.in-Some.is) ∙
+    stands_live t n c.in-Some.slot (stands t n c.in-Some.slot (ap row_place_of (sym c.in-Some.is) ∙
     c.self.invariant.at))
 
 pub next-self-inside-requires : goal.next-self-inside-requires
 next-self-inside-requires g c =
     let t = c.self.inside.rows.now in
     let n = c.self.inside.left in
-    stands_live t n c.in-Some.slot (stands t n c.in-Some.slot (ap place_of (sym c.in-Some.is) ∙
+    stands_live t n c.in-Some.slot (stands t n c.in-Some.slot (ap row_place_of (sym c.in-Some.is) ∙
     c.self.invariant.at))
 
 pub overflow_sub-self : goal.overflow_sub-self
 overflow_sub-self g c =
     let t = c.self.inside.rows.now in
     let n = c.self.inside.left in
-    let p = place c.in-Some.slot in
+    let p = row_place c.in-Some.slot in
     omega (
       arith,
-      some_left t n p (stands t n c.in-Some.slot (ap place_of (sym c.in-Some.is) ∙
+      some_left t n p (stands t n c.in-Some.slot (ap row_place_of (sym c.in-Some.is) ∙
           c.self.invariant.at)),
     )
 
@@ -43,14 +43,14 @@ invariant_of-self g c =
     let t = c.self.inside.rows.now in
     let n = c.self.inside.left in
     let slot = c.in-Some.slot in
-    let a = stands t n slot (ap place_of (sym c.in-Some.is) ∙ c.self.invariant.at) in
+    let a = stands t n slot (ap row_place_of (sym c.in-Some.is) ∙ c.self.invariant.at) in
     steps t n slot c.next-self-inside.result a c.self.invariant.within
     (c.next-self-inside.ensures.next (take (length t.entries - n) t.entries) a.entry (drop
     (length t.entries - n + 1) t.entries) a.is a.at)
 
 pub returns-in-None-clause-tells : goal.returns-in-None-clause-tells
 returns-in-None-clause-tells g c =
-    let empty = sym c.self.view_is ∙ none_left c.self.inside.rows.now c.self.inside.left (ap place_of
+    let empty = sym c.self.view_is ∙ none_left c.self.inside.rows.now c.self.inside.left (ap row_place_of
     (sym c.in-None.is) ∙ c.self.invariant.at) in
     (empty, empty)
 
@@ -59,6 +59,6 @@ returns-in-Some-clause-tells g c =
     let t = c.self.inside.rows.now in
     let n = c.self.inside.left in
     let slot = c.in-Some.slot in
-    let a = stands t n slot (ap place_of (sym c.in-Some.is) ∙ c.self.invariant.at) in
-    sym c.self.view_is ∙ step_left t n (place slot) a c.self.invariant.within ∙ ap (λ (u : List ℕ). u
+    let a = stands t n slot (ap row_place_of (sym c.in-Some.is) ∙ c.self.invariant.at) in
+    sym c.self.view_is ∙ step_left t n (row_place slot) a c.self.invariant.within ∙ ap (λ (u : List ℕ). u
     ∷ tuples_left t (n - 1)) (sym (c.cells-cells.ensures a.entry.tuple (stands_at t n slot a)))

@@ -3,7 +3,7 @@ use Rattle.std.proofs.Common.{arith, ◌≡◌, ◌++◌, ◌∷◌, [], false, 
 use Rattle.std.proofs.lemmas.List.Quantifiers.{all_pairs_push}
 use Rattle.djq_model.specs.Data.{bytes_eq}
 use Rattle.djq_session.specs.declared.named.NamedCursor.{NamedCursor}
-use Rattle.djq_session.specs.Dialog.{named, is_named}
+use Rattle.djq_session.specs.Dialog.{named, cursor_is_named}
 use Rattle.djq_session.proofs.Finding.{none_passes}
 use Rattle.djq_session.proofs.session.Session.add_cursor.Goals as goal
 
@@ -19,5 +19,5 @@ invariant_of-self-2 g c =
       few = rw grown (omega
           (arith, c.requires.few, length-append names (added ∷ []), ap (λ d. length d.cursors) c.self.view_is));
       different = rw grown (all_pairs_push (λ a b. bytes_eq a.name b.name ≡ false) names added
-          c.self.invariant.different (none_passes (is_named c.args.name.now) names absent));
+          c.self.invariant.different (none_passes (cursor_is_named c.args.name.now) names absent));
     }

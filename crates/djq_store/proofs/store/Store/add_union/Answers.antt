@@ -9,7 +9,7 @@ use Rattle.djq_live.proofs.AtPlaces.{are_kept}
 use Rattle.djq_machine.specs.Union.{RegistersUnion}
 use Rattle.djq_engine.specs.Kept.{Kept, SameCursors}
 use Rattle.djq_united.specs.United.{AreMembers}
-use Rattle.djq_store.specs.Places.{seen}
+use Rattle.djq_store.specs.Places.{store_seen}
 use Rattle.djq_store.specs.Registering.{EnrolsUnion, EnrolsUnionTelling}
 use Rattle.djq_store.specs.Whole.{IsListed}
 use Rattle.djq_store.proofs.Chosen.{are_fit, are_known}
@@ -21,7 +21,8 @@ use Rattle.djq_store.proofs.store.Store.add_union.Goals as goal
 pub places_of-requires : goal.places_of-requires
 places_of-requires c =
     let old = c.self.inside.parts in
-    let fit = are_fit (seen old.engine old.unions.items old.order.items old.sessions.items old.affected.items).store
+    let fit = are_fit
+    (store_seen old.engine old.unions.items old.order.items old.sessions.items old.affected.items).store
     c.args.name c.args.members.now (sym c.judge_union.ensures ∙ c.in_default.is) in
     are_known old.engine c.engine_laws.ensures.engine c.head_types_are.ensures old.unions.items old.order.items
     old.sessions.items old.affected.items c.self.invariant.listed c.args.members.now fit.known fit.queries
@@ -80,12 +81,13 @@ returns-in-Ok-fill_slot c =
     c.args.name c.args.members.now c.requires free c.in-Ok.places c.in-Ok.ensures in
     record {
       registers = subst (λ (k : Kept). RegistersUnion k.store c.args.name c.args.members.now (Ok c.most_of-most.result)
-          (seen old.engine c.fill_slot.new.unions.items c.push_reserved.new.self.items old.sessions.items
+          (store_seen old.engine c.fill_slot.new.unions.items c.push_reserved.new.self.items old.sessions.items
           old.affected.items).store) c.self.view_is
           (subst (λ (xs : List ℕ). RegistersUnion
-          (seen old.engine old.unions.items old.order.items old.sessions.items old.affected.items).store c.args.name
+          (store_seen old.engine old.unions.items old.order.items old.sessions.items
+          old.affected.items).store c.args.name
           c.args.members.now (Ok c.most_of-most.result)
-          (seen old.engine c.fill_slot.new.unions.items xs old.sessions.items old.affected.items).store)
+          (store_seen old.engine c.fill_slot.new.unions.items xs old.sessions.items old.affected.items).store)
           (sym c.push_reserved.ensures.items)
           (joining_registers old.engine c.engine_laws.ensures.engine c.head_types_are.ensures old.unions.items
           old.order.items
@@ -98,7 +100,7 @@ returns-in-Ok-fill_slot c =
           ≡ answer_steps (a_union c.args.name (map (λ l. l.query) (queries_at c.places.result.now ps))))
           c.as_slice.ensures (c.most_of-most.ensures c.args.name)))));
       cursors = subst (λ (k : Kept). SameCursors k.cursors
-          (seen old.engine c.fill_slot.new.unions.items c.push_reserved.new.self.items old.sessions.items
+          (store_seen old.engine c.fill_slot.new.unions.items c.push_reserved.new.self.items old.sessions.items
           old.affected.items).cursors) c.self.view_is
           (joining_cursors old.engine c.engine_laws.ensures.engine c.head_types_are.ensures old.unions.items
           old.order.items
@@ -106,12 +108,12 @@ returns-in-Ok-fill_slot c =
           c.args.name c.args.members.now c.requires free c.in-Ok.places c.in-Ok.ensures c.fill_slot.new.unions.items
           c.in-Ok-fill_slot.slot _ c.in-Ok-fill_slot.ensures.ok c.new.ensures.is refl);
       enrols = subst (λ (k : Kept). EnrolsUnion k c.args.name c.args.members.now (Ok c.most_of-most.result)
-          (seen old.engine c.fill_slot.new.unions.items c.push_reserved.new.self.items old.sessions.items
+          (store_seen old.engine c.fill_slot.new.unions.items c.push_reserved.new.self.items old.sessions.items
           old.affected.items)) c.self.view_is
           (subst (λ (xs : List ℕ). EnrolsUnion
-          (seen old.engine old.unions.items old.order.items old.sessions.items old.affected.items) c.args.name
+          (store_seen old.engine old.unions.items old.order.items old.sessions.items old.affected.items) c.args.name
           c.args.members.now (Ok c.most_of-most.result)
-          (seen old.engine c.fill_slot.new.unions.items xs old.sessions.items old.affected.items))
+          (store_seen old.engine c.fill_slot.new.unions.items xs old.sessions.items old.affected.items))
           (sym c.push_reserved.ensures.items)
           (joining_enrols old.engine c.engine_laws.ensures.engine c.head_types_are.ensures old.unions.items
           old.order.items
@@ -119,12 +121,12 @@ returns-in-Ok-fill_slot c =
           c.args.name c.args.members.now c.requires free c.in-Ok.places c.in-Ok.ensures c.fill_slot.new.unions.items
           c.in-Ok-fill_slot.slot _ c.in-Ok-fill_slot.ensures.ok c.new.ensures.is refl c.most_of-most.result));
       tellings = subst (λ (k : Kept). EnrolsUnionTelling k c.args.name (Ok c.most_of-most.result)
-          (seen old.engine c.fill_slot.new.unions.items c.push_reserved.new.self.items old.sessions.items
+          (store_seen old.engine c.fill_slot.new.unions.items c.push_reserved.new.self.items old.sessions.items
           old.affected.items)) c.self.view_is
           (subst (λ (xs : List ℕ). EnrolsUnionTelling
-          (seen old.engine old.unions.items old.order.items old.sessions.items old.affected.items) c.args.name
+          (store_seen old.engine old.unions.items old.order.items old.sessions.items old.affected.items) c.args.name
           (Ok c.most_of-most.result)
-          (seen old.engine c.fill_slot.new.unions.items xs old.sessions.items old.affected.items))
+          (store_seen old.engine c.fill_slot.new.unions.items xs old.sessions.items old.affected.items))
           (sym c.push_reserved.ensures.items)
           (joining_tells old.engine c.engine_laws.ensures.engine c.head_types_are.ensures old.unions.items
           old.order.items

@@ -2,7 +2,7 @@
 use Rattle.std.proofs.Common.{ℕ, ◌-◌, sym, subst}
 use Rattle.djq_engine.specs.declared.cursor.CursorId.{CursorId}
 use Rattle.djq_engine.specs.Kept.{Kept, ClosesCursor, IsHeld}
-use Rattle.djq_store.specs.Places.{seen}
+use Rattle.djq_store.specs.Places.{store_seen}
 use Rattle.djq_store.proofs.Given.{close_over, closed_same, whole_over}
 use Rattle.djq_store.proofs.Moved.{cursor_of}
 use Rattle.djq_store.proofs.Standing.{id_is, held_in_engine, closable}
@@ -34,7 +34,7 @@ returns-then-id-lt-QUERIES c =
     let rests = rests_with old.engine e' c.engine_laws.ensures.engine c.engine_laws-then-id-lt-QUERIES.ensures.engine
     c.engine_laws.ensures.staying c.close.ensures.places same.0 in
     subst (λ (k : Kept). ClosesCursor k c.args.id
-    (seen e' old.unions.items old.order.items old.sessions.items old.affected.items)) c.self.view_is
+    (store_seen e' old.unions.items old.order.items old.sessions.items old.affected.items)) c.self.view_is
     (close_over old.engine e' rests old.unions.items old.order.items old.sessions.items old.affected.items
     c.self.invariant.listed c.args.id c.if-id-lt-QUERIES.true c.close.ensures.closes)
 
@@ -63,10 +63,10 @@ returns c =
     let old = c.self.inside.parts in
     let at = c.args.id.query.at - 256 in
     subst (λ (id : CursorId). ClosesCursor c.args.self.now id
-    (seen old.engine c.close_at.new.unions.items old.order.items old.sessions.items old.affected.items))
+    (store_seen old.engine c.close_at.new.unions.items old.order.items old.sessions.items old.affected.items))
     (id_is c.args.id c.if-id-lt-QUERIES.false)
     (subst (λ (k : Kept). ClosesCursor k (cursor_of at c.args.id.cursor)
-    (seen old.engine c.close_at.new.unions.items old.order.items old.sessions.items old.affected.items))
+    (store_seen old.engine c.close_at.new.unions.items old.order.items old.sessions.items old.affected.items))
     c.self.view_is
     (close_union old.engine c.engine_laws.ensures.engine old.unions.items old.order.items old.sessions.items
     old.affected.items c.self.invariant.listed at c.args.id.cursor c.close_at.new.unions.items c.close_at.ensures))

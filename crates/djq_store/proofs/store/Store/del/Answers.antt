@@ -5,7 +5,7 @@ use Rattle.djq_machine.specs.Store.{DeletesRow}
 use Rattle.djq_machine.specs.Changes.{row_out, delete_outcome, tried}
 use Rattle.djq_engine.specs.Kept.{Kept, Outdates, IsUnwatched}
 use Rattle.djq_engine.specs.Watching.{CountsUpdates, delete_times}
-use Rattle.djq_store.specs.Places.{kept_in}
+use Rattle.djq_store.specs.Places.{store_kept_in}
 use Rattle.djq_store.specs.Watching.{TellsChange}
 use Rattle.djq_store.proofs.Counting.{counts_seen}
 use Rattle.djq_store.proofs.Doing.{members_behind, order_few, unions_unwatched, engine_unwatched}
@@ -80,15 +80,15 @@ returns g c =
     (delete_known p.engine e' c.args.name.now c.args.row.now r a.deletes) c.follow_one.ensures.follows
     c.follow_one.ensures.counted in
     record {
-      deletes = subst (λ (k : Kept). DeletesRow k.store c.args.name.now c.args.row.now r (kept_in q).store)
+      deletes = subst (λ (k : Kept). DeletesRow k.store c.args.name.now c.args.row.now r (store_kept_in q).store)
           c.self.view_is (store_deletes p q e' c.args.name.now c.args.row.now r a.deletes comes.store);
       outdates = subst (λ (k : Kept). Outdates k
           (tried (delete_outcome (row_out (k.store).relations c.args.name.now c.args.row.now) r))
-          (kept_in q)) c.self.view_is comes.outdates;
-      watches = subst (λ (k : Kept). (kept_in q).registered ≡ k.registered) c.self.view_is comes.registered;
+          (store_kept_in q)) c.self.view_is comes.outdates;
+      watches = subst (λ (k : Kept). (store_kept_in q).registered ≡ k.registered) c.self.view_is comes.registered;
       tells = subst (λ (k : Kept). TellsChange k
           (delete_outcome (row_out (k.store).relations c.args.name.now c.args.row.now) r)
-          (kept_in q) from to) c.self.view_is comes.tells;
+          (store_kept_in q) from to) c.self.view_is comes.tells;
       unlisted = λ none. let quiet = subst IsUnwatched (sym c.self.view_is) none in
           c.follow_one.ensures.unlisted (unions_unwatched p b c.self.invariant quiet)
           ∙ a.unlisted (engine_unwatched p b c.self.invariant quiet);
@@ -96,6 +96,6 @@ returns g c =
           (row_out (k.store).relations c.args.name.now c.args.row.now) c.args.steps.now.update
           c.del-outcome.new.steps.update) c.self.view_is
           (counts_seen p.engine b p.unions.items p.order.items c.self.invariant.listed p.sessions.items
-          (delete_times r) change (kept_in p) c.args.steps.now.update c.del-outcome.new.steps.update refl refl
+          (delete_times r) change (store_kept_in p) c.args.steps.now.update c.del-outcome.new.steps.update refl refl
           a.updates);
     }

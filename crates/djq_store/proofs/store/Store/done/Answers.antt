@@ -5,7 +5,7 @@ use Rattle.djq_machine.specs.Changes.{RowsOutcome, tried}
 use Rattle.djq_machine.specs.Batch.{SuitAll, AddsBatch, batch_outcome}
 use Rattle.djq_engine.specs.Kept.{Kept, Outdates, IsUnwatched}
 use Rattle.djq_engine.specs.Watching.{CountsBatch, batch_times}
-use Rattle.djq_store.specs.Places.{kept_in}
+use Rattle.djq_store.specs.Places.{store_kept_in}
 use Rattle.djq_store.specs.Watching.{TellsChange}
 use Rattle.djq_store.specs.declared.settling.Turn.{Turn}
 use Rattle.djq_store.specs.Batches.{grown_of}
@@ -57,7 +57,7 @@ invariant_of-self g c =
     let mid = c.done-outcome.new.steps.listing in
     let q = c.follow_batch.new.parts in
     let to = c.follow_batch.new.listing in
-    let suit = suit_lifted ((kept_in p).store).queries (p.engine).store held
+    let suit = suit_lifted ((store_kept_in p).store).queries (p.engine).store held
     (subst (λ (k : Kept). SuitAll k.store held) (sym c.self.view_is) c.requires.suit) in
     let names = grown_of turn ((p.engine).store).relations (e'.store).relations held in
     let known = batch_known p.engine e' held r names suit a.adds
@@ -86,7 +86,7 @@ returns g c =
     let mid = c.done-outcome.new.steps.listing in
     let q = c.follow_batch.new.parts in
     let to = c.follow_batch.new.listing in
-    let suit = suit_lifted ((kept_in p).store).queries (p.engine).store held
+    let suit = suit_lifted ((store_kept_in p).store).queries (p.engine).store held
     (subst (λ (k : Kept). SuitAll k.store held) (sym c.self.view_is) c.requires.suit) in
     let names = grown_of turn ((p.engine).store).relations (e'.store).relations held in
     let known = batch_known p.engine e' held r names suit a.adds
@@ -96,21 +96,23 @@ returns g c =
     c.engine_laws.ensures.staying did a.tells known
     (c.follow_batch.ensures.follows ((p.engine).store).relations c.count_rows-counts.ensures)
     (c.follow_batch.ensures.counted ((p.engine).store).relations c.count_rows-counts.ensures) in
-    let same = sym (outcome_lifted ((kept_in p).store).queries (p.engine).store held r) in
+    let same = sym (outcome_lifted ((store_kept_in p).store).queries (p.engine).store held r) in
     record {
-      adds = subst (λ (k : Kept). AddsBatch k.store held r (kept_in q).store) c.self.view_is
+      adds = subst (λ (k : Kept). AddsBatch k.store held r (store_kept_in q).store) c.self.view_is
           (store_batches p q e' held r a.adds comes.store);
-      outdates = subst (λ (k : Kept). Outdates k (tried (batch_outcome k.store held r)) (kept_in q)) c.self.view_is
-          (subst (λ (o : RowsOutcome). Outdates (kept_in p) (tried o) (kept_in q)) same comes.outdates);
-      watches = subst (λ (k : Kept). (kept_in q).registered ≡ k.registered) c.self.view_is comes.registered;
-      tells = subst (λ (k : Kept). TellsChange k (batch_outcome k.store held r) (kept_in q) from to) c.self.view_is
-          (subst (λ (o : RowsOutcome). TellsChange (kept_in p) o (kept_in q) from to) same comes.tells);
+      outdates = subst (λ (k : Kept). Outdates k (tried (batch_outcome k.store held r)) (store_kept_in q))
+          c.self.view_is
+          (subst (λ (o : RowsOutcome). Outdates (store_kept_in p) (tried o) (store_kept_in q)) same comes.outdates);
+      watches = subst (λ (k : Kept). (store_kept_in q).registered ≡ k.registered) c.self.view_is comes.registered;
+      tells = subst (λ (k : Kept). TellsChange k (batch_outcome k.store held r) (store_kept_in q) from to)
+          c.self.view_is
+          (subst (λ (o : RowsOutcome). TellsChange (store_kept_in p) o (store_kept_in q) from to) same comes.tells);
       unlisted = λ none. let quiet = subst IsUnwatched (sym c.self.view_is) none in
           c.follow_batch.ensures.unlisted (unions_unwatched p b c.self.invariant quiet)
           ∙ a.unlisted (engine_unwatched p b c.self.invariant quiet);
       updates = subst (λ (k : Kept). CountsBatch (batch_times held r) k held c.args.steps.now.update
           c.done-outcome.new.steps.update) c.self.view_is
           (counts_batch_seen p.engine b p.unions.items p.order.items c.self.invariant.listed p.sessions.items
-          (batch_times held r) held (kept_in p) c.args.steps.now.update c.done-outcome.new.steps.update
-          refl refl (rows_lifted ((kept_in p).store).queries (p.engine).store held) a.updates);
+          (batch_times held r) held (store_kept_in p) c.args.steps.now.update c.done-outcome.new.steps.update
+          refl refl (rows_lifted ((store_kept_in p).store).queries (p.engine).store held) a.updates);
     }

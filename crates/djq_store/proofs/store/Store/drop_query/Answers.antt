@@ -6,10 +6,10 @@ use Rattle.djq_lines.specs.declared.answer.Refusal.{Refusal}
 use Rattle.djq_lines.specs.declared.answer.Refusal.TheVariants.{NoQuery, InUse}
 use Rattle.djq_lines.specs.declared.limits.TheConstants.{QUERIES}
 use Rattle.djq_engine.specs.Kept.{Kept, DropGives, DropsPlace}
-use Rattle.djq_engine.specs.Places.{left}
+use Rattle.djq_engine.specs.Places.{places_without}
 use Rattle.djq_united.specs.Slots.{are_vacant}
 use Rattle.djq_store.specs.declared.joined.Joined.{Joined}
-use Rattle.djq_store.specs.Places.{joined_at, seen}
+use Rattle.djq_store.specs.Places.{joined_at, store_seen}
 use Rattle.djq_store.specs.Whole.{IsListed}
 use Rattle.djq_store.proofs.Named.{no_union, found_union}
 use Rattle.djq_store.proofs.Dropping.{named_seat, unknown_name, member_slot, no_member_slot}
@@ -43,8 +43,9 @@ returns-then-joined-gt0 c =
     (same_joined old.unions.items c.as_slice-in-Some.result.now c.in-Some.slot f.union c.joined_in-joined.result.now
     f.there c.joined_in-joined.ensures c.as_slice-in-Some.ensures.value) c.if-joined-gt0.true in
     subst (λ (k : Kept). DropGives k name (Err InUse) k) c.self.view_is
-    (subst (λ (n : Bytes). DropGives (seen e old.unions.items old.order.items old.sessions.items old.affected.items) n
-    (Err InUse) (seen e old.unions.items old.order.items old.sessions.items old.affected.items)) f.called
+    (subst (λ (n : Bytes). DropGives
+    (store_seen e old.unions.items old.order.items old.sessions.items old.affected.items) n
+    (Err InUse) (store_seen e old.unions.items old.order.items old.sessions.items old.affected.items)) f.called
     (drop_watched e b old.unions.items old.order.items old.sessions.items old.affected.items w c.in-Some.slot
     f.union f.there some))
 
@@ -62,8 +63,9 @@ returns-then-not-is_idle c =
     c.joined_in-joined.result.now f.there c.joined_in-joined.ensures c.as_slice-in-Some.ensures.value)))
     ∙ sym c.is_idle.ensures ∙ c.if-not-is_idle.true in
     subst (λ (k : Kept). DropGives k name (Err InUse) k) c.self.view_is
-    (subst (λ (n : Bytes). DropGives (seen e old.unions.items old.order.items old.sessions.items old.affected.items) n
-    (Err InUse) (seen e old.unions.items old.order.items old.sessions.items old.affected.items)) f.called
+    (subst (λ (n : Bytes). DropGives
+    (store_seen e old.unions.items old.order.items old.sessions.items old.affected.items) n
+    (Err InUse) (store_seen e old.unions.items old.order.items old.sessions.items old.affected.items)) f.called
     (drop_held e b old.unions.items old.order.items old.sessions.items old.affected.items w c.in-Some.slot f.union
     f.there some))
 
@@ -117,17 +119,20 @@ returns-in-Some c =
     ∙ sym c.is_idle.ensures ∙ c.if-not-is_idle.false in
     let us' = set old.unions.items c.in-Some.slot None in
     subst (λ (k : Kept). DropGives k name (Ok tt)
-    (seen e us' c.leave_out.new.places.items old.sessions.items c.leave_out-in-Some.new.places.items))
+    (store_seen e us' c.leave_out.new.places.items old.sessions.items c.leave_out-in-Some.new.places.items))
     c.self.view_is
-    (subst (λ (xs : List ℕ). DropGives (seen e old.unions.items old.order.items old.sessions.items old.affected.items)
-    name (Ok tt) (seen e us' xs old.sessions.items c.leave_out-in-Some.new.places.items))
+    (subst (λ (xs : List ℕ). DropGives
+    (store_seen e old.unions.items old.order.items old.sessions.items old.affected.items)
+    name (Ok tt) (store_seen e us' xs old.sessions.items c.leave_out-in-Some.new.places.items))
     (sym c.leave_out.ensures.items)
-    (subst (λ (xs : List ℕ). DropGives (seen e old.unions.items old.order.items old.sessions.items old.affected.items)
-    name (Ok tt) (seen e us' (left (QUERIES + c.in-Some.slot) old.order.items) old.sessions.items xs))
+    (subst (λ (xs : List ℕ). DropGives
+    (store_seen e old.unions.items old.order.items old.sessions.items old.affected.items)
+    name (Ok tt) (store_seen e us' (places_without (QUERIES + c.in-Some.slot) old.order.items) old.sessions.items xs))
     (sym c.leave_out-in-Some.ensures.items)
-    (subst (λ (n : Bytes). DropGives (seen e old.unions.items old.order.items old.sessions.items old.affected.items) n
-    (Ok tt) (seen e us' (left (QUERIES + c.in-Some.slot) old.order.items) old.sessions.items
-    (left (QUERIES + c.in-Some.slot) old.affected.items))) f.called
+    (subst (λ (n : Bytes). DropGives
+    (store_seen e old.unions.items old.order.items old.sessions.items old.affected.items) n
+    (Ok tt) (store_seen e us' (places_without (QUERIES + c.in-Some.slot) old.order.items) old.sessions.items
+    (places_without (QUERIES + c.in-Some.slot) old.affected.items))) f.called
     (undone_gives e b old.unions.items old.order.items old.sessions.items old.affected.items w c.in-Some.slot f.union
     f.there unwatched idle))))
 
@@ -232,17 +237,20 @@ returns-then-is_ok c =
     c.engine_laws-2.ensures.engine g p in
     let at = c.in-Some-query_id.id.at in
     subst (λ (k : Kept). DropGives k name result
-    (seen e' old.unions.items c.leave_out-then-is_ok.new.places.items old.sessions.items
+    (store_seen e' old.unions.items c.leave_out-then-is_ok.new.places.items old.sessions.items
     c.leave_out-then-is_ok-2.new.places.items)) c.self.view_is
-    (subst (λ (xs : List ℕ). DropGives (seen e old.unions.items old.order.items old.sessions.items old.affected.items)
-    name result (seen e' old.unions.items xs old.sessions.items c.leave_out-then-is_ok-2.new.places.items))
+    (subst (λ (xs : List ℕ). DropGives
+    (store_seen e old.unions.items old.order.items old.sessions.items old.affected.items)
+    name result (store_seen e' old.unions.items xs old.sessions.items c.leave_out-then-is_ok-2.new.places.items))
     (sym c.leave_out-then-is_ok.ensures.items)
-    (subst (λ (xs : List ℕ). DropGives (seen e old.unions.items old.order.items old.sessions.items old.affected.items)
-    name result (seen e' old.unions.items (left at old.order.items) old.sessions.items xs))
+    (subst (λ (xs : List ℕ). DropGives
+    (store_seen e old.unions.items old.order.items old.sessions.items old.affected.items)
+    name result (store_seen e' old.unions.items (places_without at old.order.items) old.sessions.items xs))
     (sym c.leave_out-then-is_ok-2.ensures.items)
     (subst (λ (y : Result ⊤ Refusal). DropGives
-    (seen e old.unions.items old.order.items old.sessions.items old.affected.items) name y
-    (seen e' old.unions.items (left at old.order.items) old.sessions.items (left at old.affected.items))) (sym is)
+    (store_seen e old.unions.items old.order.items old.sessions.items old.affected.items) name y
+    (store_seen e' old.unions.items (places_without at old.order.items) old.sessions.items
+    (places_without at old.affected.items))) (sym is)
     (drop_gives e b old.unions.items old.order.items old.sessions.items old.affected.items w c.self.invariant.counted
     name none c.in-Some-query_id.id.at s.seat s.called alone e' v g))))
 
@@ -265,9 +273,9 @@ returns-else-is_ok c =
     let p = subst (λ (y : Result ⊤ Refusal). DropsPlace e name y e') x.is c.drop_query-dropped.ensures.places in
     let r = drop_rests e e' b c.engine_laws-2.ensures.engine c.engine_laws.ensures.staying name x.refusal g p in
     subst (λ (k : Kept). DropGives k name result
-    (seen e' old.unions.items old.order.items old.sessions.items old.affected.items)) c.self.view_is
+    (store_seen e' old.unions.items old.order.items old.sessions.items old.affected.items)) c.self.view_is
     (subst (λ (y : Result ⊤ Refusal). DropGives
-    (seen e old.unions.items old.order.items old.sessions.items old.affected.items) name y
-    (seen e' old.unions.items old.order.items old.sessions.items old.affected.items)) (sym x.is)
+    (store_seen e old.unions.items old.order.items old.sessions.items old.affected.items) name y
+    (store_seen e' old.unions.items old.order.items old.sessions.items old.affected.items)) (sym x.is)
     (drop_refused e b old.unions.items old.order.items old.sessions.items old.affected.items w
     c.self.invariant.counted name none c.in-Some-query_id.id.at s.seat s.called alone e' x.refusal r g))

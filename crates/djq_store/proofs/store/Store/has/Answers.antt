@@ -5,7 +5,7 @@ use Rattle.djq_model.specs.Listed.{a_union, listed_of}
 use Rattle.djq_machine.specs.Store.{TellsWhether, atoms_of, has_steps}
 use Rattle.djq_engine.specs.Kept.{Kept}
 use Rattle.djq_united.specs.United.{AreMembers}
-use Rattle.djq_store.specs.Asking.{TellsOf, asked_in}
+use Rattle.djq_store.specs.Asking.{TellsMembership, asked_in}
 use Rattle.djq_store.specs.declared.joined.Joined.{Joined}
 use Rattle.djq_store.specs.Places.{joined_at}
 use Rattle.djq_store.proofs.Answering.{same_slot}
@@ -74,7 +74,7 @@ returns g c =
           (union_tells old.engine c.engine_laws.ensures.engine old.unions.items old.order.items old.sessions.items
           old.affected.items c.self.invariant.listed
           c.args.name.now c.args.tuple.now c.some_has.result c.in-Some.slot f
-          (subst (λ (ks : List ℕ). TellsOf (old.engine.store).relations
+          (subst (λ (ks : List ℕ). TellsMembership (old.engine.store).relations
           (a_union f.union.union.name (asked_in old.engine.places ks)) c.args.tuple.now c.some_has.result) same
           (c.some_has.ensures.tells f.union.union.name)));
       counted = subst (λ (k : Kept). c.some_has.new.listing ≤ c.args.listing.now + has_steps

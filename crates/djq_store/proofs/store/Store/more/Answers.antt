@@ -5,8 +5,8 @@ use Rattle.djq_engine.specs.Kept.{Kept, MoreGives, IsFresh}
 use Rattle.std.specs.Prelude.{Option, IsSomeAnd}
 use Rattle.djq_live.specs.Live.{Live}
 use Rattle.djq_united.specs.United.{AreKept}
-use Rattle.djq_store.specs.Moving.{MovesUnion, TellsUnion, IsFreshly}
-use Rattle.djq_store.specs.Places.{joined_at, seen}
+use Rattle.djq_store.specs.Moving.{MovesUnion, TellsUnionMore, IsUnionFresh}
+use Rattle.djq_store.specs.Places.{joined_at, store_seen}
 use Rattle.djq_store.proofs.Given.{more_over, more_same, whole_over}
 use Rattle.djq_store.proofs.Moved.{cursor_of}
 use Rattle.djq_store.proofs.Standing.{id_is, fresh_in_engine, freshly}
@@ -40,7 +40,7 @@ returns-then-id-lt-QUERIES g c =
     let rests = rests_with old.engine e' c.engine_laws.ensures.engine c.engine_laws-then-id-lt-QUERIES.ensures.engine
     c.engine_laws.ensures.staying c.more-more.ensures.places same.0 in
     subst (λ (k : Kept). MoreGives k c.args.id c.more-more.result
-    (seen e' old.unions.items old.order.items old.sessions.items old.affected.items) c.args.listing.now
+    (store_seen e' old.unions.items old.order.items old.sessions.items old.affected.items) c.args.listing.now
     c.more-more.new.listing) c.self.view_is
     (more_over old.engine e' rests old.unions.items old.order.items old.sessions.items old.affected.items
     c.self.invariant.listed c.args.id c.if-id-lt-QUERIES.true c.more-more.result c.args.listing.now
@@ -50,7 +50,7 @@ pub more_at-requires-clause-fresh : goal.more_at-requires-clause-fresh
 more_at-requires-clause-fresh g c =
     let old = c.self.inside.parts in
     subst (λ (qs : List (Option Live)). IsSomeAnd (joined_at old.unions.items (c.args.id.query.at - 256))
-    (IsFreshly qs c.args.id.cursor)) (sym c.places-queries.ensures)
+    (IsUnionFresh qs c.args.id.cursor)) (sym c.places-queries.ensures)
     (freshly old.engine c.engine_laws.ensures.engine old.unions.items old.order.items old.sessions.items
     old.affected.items c.self.invariant.listed c.args.id c.if-id-lt-QUERIES.false
     (subst (λ (k : Kept). IsFresh k c.args.id) (sym c.self.view_is) c.requires))
@@ -72,14 +72,14 @@ invariant_of-self-2 g c =
           old.affected.items c.self.invariant.listed at c.args.id.cursor c.more_at.new.unions.items c.args.listing.now
           c.more_at.new.listing c.more_at.result
           (subst (λ (qs : List (Option Live)). MovesUnion
-          (TellsUnion qs c.args.id.cursor c.more_at.result c.args.listing.now c.more_at.new.listing)
+          (TellsUnionMore qs c.args.id.cursor c.more_at.result c.args.listing.now c.more_at.new.listing)
           (c.args.id.query.at - 256) c.self.inside.parts.unions.items c.more_at.new.unions.items)
           c.places-queries.ensures c.more_at.ensures);
       counted = looked_counted old.engine c.engine_laws.ensures.engine old.unions.items old.order.items
           old.sessions.items old.affected.items c.self.invariant.listed at c.args.id.cursor c.more_at.new.unions.items
           c.args.listing.now c.more_at.new.listing c.more_at.result
           (subst (λ (qs : List (Option Live)). MovesUnion
-          (TellsUnion qs c.args.id.cursor c.more_at.result c.args.listing.now c.more_at.new.listing)
+          (TellsUnionMore qs c.args.id.cursor c.more_at.result c.args.listing.now c.more_at.new.listing)
           (c.args.id.query.at - 256) c.self.inside.parts.unions.items c.more_at.new.unions.items)
           c.places-queries.ensures c.more_at.ensures) c.self.invariant.counted;
       roomy = record { order = c.self.invariant.roomy.order; affected = c.self.invariant.roomy.affected };
@@ -90,15 +90,15 @@ returns g c =
     let old = c.self.inside.parts in
     let at = c.args.id.query.at - 256 in
     subst (λ (id : CursorId). MoreGives c.args.self.now id c.more_at.result
-    (seen old.engine c.more_at.new.unions.items old.order.items old.sessions.items old.affected.items)
+    (store_seen old.engine c.more_at.new.unions.items old.order.items old.sessions.items old.affected.items)
     c.args.listing.now c.more_at.new.listing) (id_is c.args.id c.if-id-lt-QUERIES.false)
     (subst (λ (k : Kept). MoreGives k (cursor_of at c.args.id.cursor) c.more_at.result
-    (seen old.engine c.more_at.new.unions.items old.order.items old.sessions.items old.affected.items)
+    (store_seen old.engine c.more_at.new.unions.items old.order.items old.sessions.items old.affected.items)
     c.args.listing.now c.more_at.new.listing) c.self.view_is
     (more_union old.engine c.engine_laws.ensures.engine old.unions.items old.order.items old.sessions.items
     old.affected.items c.self.invariant.listed at c.args.id.cursor c.more_at.new.unions.items c.args.listing.now
     c.more_at.new.listing c.more_at.result
     (subst (λ (qs : List (Option Live)). MovesUnion
-    (TellsUnion qs c.args.id.cursor c.more_at.result c.args.listing.now c.more_at.new.listing)
+    (TellsUnionMore qs c.args.id.cursor c.more_at.result c.args.listing.now c.more_at.new.listing)
     (c.args.id.query.at - 256) c.self.inside.parts.unions.items c.more_at.new.unions.items) c.places-queries.ensures
     c.more_at.ensures)))

@@ -5,8 +5,8 @@ use Rattle.djq_engine.specs.Kept.{Kept, IsHeld}
 use Rattle.std.specs.Prelude.{Option, IsSomeAnd}
 use Rattle.djq_live.specs.Live.{Live}
 use Rattle.djq_united.specs.United.{AreKept}
-use Rattle.djq_store.specs.Moving.{MovesUnion, ReadsUnion, IsReadable}
-use Rattle.djq_store.specs.Places.{joined_at, seen}
+use Rattle.djq_store.specs.Moving.{MovesUnion, ReadsUnion, IsUnionReadable}
+use Rattle.djq_store.specs.Places.{joined_at, store_seen}
 use Rattle.djq_store.specs.Reading.{NextGives}
 use Rattle.djq_store.proofs.Given.{next_over, next_same, whole_over}
 use Rattle.djq_store.proofs.Moved.{cursor_of}
@@ -41,7 +41,7 @@ returns-then-id-lt-QUERIES g c =
     let rests = rests_with old.engine e' c.engine_laws.ensures.engine c.engine_laws-then-id-lt-QUERIES.ensures.engine
     c.engine_laws.ensures.staying c.next-next.ensures.places same.0 in
     subst (λ (k : Kept). NextGives k c.args.id c.next-next.result c.next-next.new.answer
-    (seen e' old.unions.items old.order.items old.sessions.items old.affected.items) c.args.listing.now
+    (store_seen e' old.unions.items old.order.items old.sessions.items old.affected.items) c.args.listing.now
     c.next-next.new.listing) c.self.view_is
     (next_over old.engine e' rests old.unions.items old.order.items old.sessions.items old.affected.items
     c.self.invariant.listed c.args.id c.if-id-lt-QUERIES.true c.next-next.result c.next-next.new.answer
@@ -51,7 +51,7 @@ pub next_at-requires-clause-readable : goal.next_at-requires-clause-readable
 next_at-requires-clause-readable g c =
     let old = c.self.inside.parts in
     subst (λ (qs : List (Option Live)). IsSomeAnd (joined_at old.unions.items (c.args.id.query.at - 256))
-    (IsReadable qs c.args.id.cursor)) (sym c.places-queries.ensures)
+    (IsUnionReadable qs c.args.id.cursor)) (sym c.places-queries.ensures)
     (readable old.engine c.engine_laws.ensures.engine old.unions.items old.order.items old.sessions.items
     old.affected.items c.self.invariant.listed c.args.id c.if-id-lt-QUERIES.false
     (subst (λ (k : Kept). IsHeld k c.args.id) (sym c.self.view_is) c.requires))
@@ -91,10 +91,10 @@ returns g c =
     let old = c.self.inside.parts in
     let at = c.args.id.query.at - 256 in
     subst (λ (id : CursorId). NextGives c.args.self.now id c.next_at.result c.next_at.new.answer
-    (seen old.engine c.next_at.new.unions.items old.order.items old.sessions.items old.affected.items)
+    (store_seen old.engine c.next_at.new.unions.items old.order.items old.sessions.items old.affected.items)
     c.args.listing.now c.next_at.new.listing) (id_is c.args.id c.if-id-lt-QUERIES.false)
     (subst (λ (k : Kept). NextGives k (cursor_of at c.args.id.cursor) c.next_at.result c.next_at.new.answer
-    (seen old.engine c.next_at.new.unions.items old.order.items old.sessions.items old.affected.items)
+    (store_seen old.engine c.next_at.new.unions.items old.order.items old.sessions.items old.affected.items)
     c.args.listing.now c.next_at.new.listing) c.self.view_is
     (next_union old.engine c.engine_laws.ensures.engine old.unions.items old.order.items old.sessions.items
     old.affected.items c.self.invariant.listed at c.args.id.cursor c.next_at.new.unions.items c.args.listing.now

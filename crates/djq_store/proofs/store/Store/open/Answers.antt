@@ -1,7 +1,7 @@
 -- Where no union has the name the engine's cursor is the store's; else it comes to the union in the slot.
 use Rattle.std.proofs.Common.{sym, subst, ap, refl}
-use Rattle.djq_engine.specs.Kept.{Kept, OpenGives}
-use Rattle.djq_store.specs.Places.{kept_in, seen}
+use Rattle.djq_engine.specs.Kept.{Kept, CursorOpenGives}
+use Rattle.djq_store.specs.Places.{store_kept_in, store_seen}
 use Rattle.djq_store.proofs.Moved.{cursor_of}
 use Rattle.djq_store.proofs.Unions.{open_union, open_lacks, opened_listed, opened_counted}
 use Rattle.djq_store.proofs.Given.{open_over, opened_rests, whole_opened}
@@ -24,7 +24,8 @@ returns-in_default c =
     let rests = opened_rests old.engine e' c.engine_laws.ensures.engine c.engine_laws-in_default.ensures.engine
     c.engine_laws.ensures.staying
     c.open-opened.ensures.places c.args.name.now c.open-opened.result c.open-opened.ensures.gives in
-    subst (λ (k : Kept). OpenGives k c.args.name.now c.open-opened.result (kept_in (record old { engine = e' })))
+    subst (λ (k : Kept). CursorOpenGives k c.args.name.now c.open-opened.result
+    (store_kept_in (record old { engine = e' })))
     c.self.view_is
     (open_over old.engine e' rests old.unions.items old.order.items old.sessions.items old.affected.items
     c.self.invariant.listed c.args.name.now c.open-opened.result
@@ -56,8 +57,8 @@ returns c =
     let old = c.self.inside.parts in
     let f = found_union old.unions.items c.as_slice.result.now c.args.name.now c.in-Some.slot c.as_slice.ensures.value
     c.in-Some.ensures in
-    subst (λ (k : Kept). OpenGives k c.args.name.now (Ok (cursor_of c.in-Some.slot c.in-Ok.cursor))
-    (seen old.engine c.open_at.new.unions.items old.order.items old.sessions.items old.affected.items))
+    subst (λ (k : Kept). CursorOpenGives k c.args.name.now (Ok (cursor_of c.in-Some.slot c.in-Ok.cursor))
+    (store_seen old.engine c.open_at.new.unions.items old.order.items old.sessions.items old.affected.items))
     c.self.view_is
     (open_union old.engine c.engine_laws.ensures.engine old.unions.items old.order.items old.sessions.items
     old.affected.items c.self.invariant.listed c.in-Some.slot c.args.name.now f c.in-Ok.cursor
@@ -68,8 +69,8 @@ returns-in_default-open_at c =
     let old = c.self.inside.parts in
     let f = found_union old.unions.items c.as_slice.result.now c.args.name.now c.in-Some.slot c.as_slice.ensures.value
     c.in-Some.ensures in
-    subst (λ (k : Kept). OpenGives k c.args.name.now (Err NoMemory)
-    (seen old.engine c.open_at.new.unions.items old.order.items old.sessions.items old.affected.items))
+    subst (λ (k : Kept). CursorOpenGives k c.args.name.now (Err NoMemory)
+    (store_seen old.engine c.open_at.new.unions.items old.order.items old.sessions.items old.affected.items))
     c.self.view_is
     (open_lacks old.engine c.engine_laws.ensures.engine old.unions.items old.order.items old.sessions.items
     old.affected.items c.self.invariant.listed c.in-Some.slot c.args.name.now f c.open_at.new.unions.items

@@ -8,7 +8,7 @@ use Rattle.djq_lines.specs.declared.limits.TheConstants.{QUERIES}
 use Rattle.djq_machine.specs.Store.{RegistersQuery}
 use Rattle.djq_engine.specs.Kept.{Kept, SameCursors}
 use Rattle.djq_engine.specs.Watching.{Enrols, EnrolsTelling}
-use Rattle.djq_store.specs.Places.{seen, cursors_in}
+use Rattle.djq_store.specs.Places.{store_seen, cursors_in}
 use Rattle.djq_store.specs.Whole.{IsListed}
 use Rattle.djq_store.proofs.Registered.{query_rests, full_unwraps, taken_refusal, refused}
 use Rattle.djq_store.proofs.Registered.{outcome_of, registered_listed, registered_counted}
@@ -100,15 +100,16 @@ returns-in-Some met c =
     let t = subst (λ (x : Result QueryOutcome Refusal). EnrolsTelling e q x e') o.is c.query-outcome.ensures.tellings in
     record {
       registers = subst (λ (k : Kept). RegistersQuery k.store q result
-          (seen e' old.unions.items c.push_reserved.new.self.items (set old.sessions.items c.in-Some.id.at 0)
+          (store_seen e' old.unions.items c.push_reserved.new.self.items (set old.sessions.items c.in-Some.id.at 0)
           old.affected.items).store) c.self.view_is
           (subst (λ (xs : List ℕ). RegistersQuery
-          (seen e old.unions.items old.order.items old.sessions.items old.affected.items).store q result
-          (seen e' old.unions.items xs (set old.sessions.items c.in-Some.id.at 0) old.affected.items).store)
+          (store_seen e old.unions.items old.order.items old.sessions.items old.affected.items).store q result
+          (store_seen e' old.unions.items xs (set old.sessions.items c.in-Some.id.at 0) old.affected.items).store)
           (sym c.push_reserved.ensures.items)
           (subst (λ (x : Result QueryOutcome Refusal). RegistersQuery
-          (seen e old.unions.items old.order.items old.sessions.items old.affected.items).store q x
-          (seen e' old.unions.items (old.order.items ++ c.in-Some.id.at ∷ []) (set old.sessions.items c.in-Some.id.at 0)
+          (store_seen e old.unions.items old.order.items old.sessions.items old.affected.items).store q x
+          (store_seen e' old.unions.items (old.order.items ++ c.in-Some.id.at ∷ [])
+          (set old.sessions.items c.in-Some.id.at 0)
           old.affected.items).store) (sym o.is)
           (registered_registers e e' r old.unions.items old.order.items old.sessions.items old.affected.items w q none
           less
@@ -117,28 +118,30 @@ returns-in-Some met c =
           (cursors_over e e' r old.unions.items old.order.items old.sessions.items old.affected.items w
           c.query-outcome.ensures.cursors);
       enrols = subst (λ (k : Kept). Enrols k.registered q result
-          (seen e' old.unions.items c.push_reserved.new.self.items (set old.sessions.items c.in-Some.id.at 0)
+          (store_seen e' old.unions.items c.push_reserved.new.self.items (set old.sessions.items c.in-Some.id.at 0)
           old.affected.items).registered) c.self.view_is
           (subst (λ (xs : List ℕ). Enrols
-          (seen e old.unions.items old.order.items old.sessions.items old.affected.items).registered q result
-          (seen e' old.unions.items xs (set old.sessions.items c.in-Some.id.at 0) old.affected.items).registered)
+          (store_seen e old.unions.items old.order.items old.sessions.items old.affected.items).registered q result
+          (store_seen e' old.unions.items xs (set old.sessions.items c.in-Some.id.at 0) old.affected.items).registered)
           (sym c.push_reserved.ensures.items)
           (subst (λ (x : Result QueryOutcome Refusal). Enrols
-          (seen e old.unions.items old.order.items old.sessions.items old.affected.items).registered q x
-          (seen e' old.unions.items (old.order.items ++ c.in-Some.id.at ∷ []) (set old.sessions.items c.in-Some.id.at 0)
+          (store_seen e old.unions.items old.order.items old.sessions.items old.affected.items).registered q x
+          (store_seen e' old.unions.items (old.order.items ++ c.in-Some.id.at ∷ [])
+          (set old.sessions.items c.in-Some.id.at 0)
           old.affected.items).registered) (sym o.is)
           (registered_enrols e e' r old.unions.items old.order.items old.sessions.items old.affected.items w q none less
           o.most g en c.in-Some.id c.in-Some.ensures c.self.invariant.counted.long)));
       tellings = subst (λ (k : Kept). EnrolsTelling k q result
-          (seen e' old.unions.items c.push_reserved.new.self.items (set old.sessions.items c.in-Some.id.at 0)
+          (store_seen e' old.unions.items c.push_reserved.new.self.items (set old.sessions.items c.in-Some.id.at 0)
           old.affected.items)) c.self.view_is
           (subst (λ (xs : List ℕ). EnrolsTelling
-          (seen e old.unions.items old.order.items old.sessions.items old.affected.items) q result
-          (seen e' old.unions.items xs (set old.sessions.items c.in-Some.id.at 0) old.affected.items))
+          (store_seen e old.unions.items old.order.items old.sessions.items old.affected.items) q result
+          (store_seen e' old.unions.items xs (set old.sessions.items c.in-Some.id.at 0) old.affected.items))
           (sym c.push_reserved.ensures.items)
           (subst (λ (x : Result QueryOutcome Refusal). EnrolsTelling
-          (seen e old.unions.items old.order.items old.sessions.items old.affected.items) q x
-          (seen e' old.unions.items (old.order.items ++ c.in-Some.id.at ∷ []) (set old.sessions.items c.in-Some.id.at 0)
+          (store_seen e old.unions.items old.order.items old.sessions.items old.affected.items) q x
+          (store_seen e' old.unions.items (old.order.items ++ c.in-Some.id.at ∷ [])
+          (set old.sessions.items c.in-Some.id.at 0)
           old.affected.items)) (sym o.is)
           (registered_tells e e' r old.unions.items old.order.items old.sessions.items old.affected.items w q none
           less o.most
@@ -184,18 +187,19 @@ returns-else-is_registered met c =
     let not_registered = sym c.is_registered.ensures ∙ c.if-is_registered.false in
     record {
       registers = subst (λ (k : Kept). RegistersQuery k.store q result
-          (seen e' old.unions.items old.order.items old.sessions.items old.affected.items).store) c.self.view_is
+          (store_seen e' old.unions.items old.order.items old.sessions.items old.affected.items).store) c.self.view_is
           (unregistered e e' r old.unions.items old.order.items old.sessions.items old.affected.items w q none less
           old.sessions.items old.affected.items result not_registered c.query-outcome.ensures.registers);
       cursors = subst (λ (k : Kept). SameCursors k.cursors (cursors_in e' old.unions.items)) c.self.view_is
           (cursors_over e e' r old.unions.items old.order.items old.sessions.items old.affected.items w
           c.query-outcome.ensures.cursors);
       enrols = subst (λ (k : Kept). Enrols k.registered q result
-          (seen e' old.unions.items old.order.items old.sessions.items old.affected.items).registered) c.self.view_is
+          (store_seen e' old.unions.items old.order.items old.sessions.items old.affected.items).registered)
+          c.self.view_is
           (unregistered_enrols e e' r old.unions.items old.order.items old.sessions.items old.affected.items w q none
           less old.sessions.items old.affected.items result not_registered);
       tellings = subst (λ (k : Kept). EnrolsTelling k q result
-          (seen e' old.unions.items old.order.items old.sessions.items old.affected.items)) c.self.view_is
+          (store_seen e' old.unions.items old.order.items old.sessions.items old.affected.items)) c.self.view_is
           (unregistered_tells e e' r old.unions.items old.order.items old.sessions.items old.affected.items w q none
           less old.sessions.items old.affected.items result not_registered c.query-outcome.ensures.tellings);
       counted = c.query-outcome.ensures.counted;

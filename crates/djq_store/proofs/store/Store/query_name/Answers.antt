@@ -3,7 +3,7 @@ use Rattle.std.proofs.Common.{◌≡◌, ◌-◌, List, sym, subst}
 use Rattle.std.specs.Prelude.{Option, Some, IsSomeAnd, ⊤}
 use Rattle.djq_model.specs.Data.{Bytes}
 use Rattle.djq_store.specs.declared.joined.Joined.{Joined}
-use Rattle.djq_store.specs.Places.{joined_at, seen}
+use Rattle.djq_store.specs.Places.{joined_at, store_seen}
 use Rattle.djq_model.specs.Listed.{listed_name}
 use Rattle.djq_engine.specs.Kept.{Kept, IsRegistered, registered_at}
 use Rattle.djq_store.proofs.Answering.{engine_registered, engine_named_by, joined_some, union_named_by}
@@ -43,7 +43,7 @@ returns c =
     subst (λ (k : Kept). IsSomeAnd (registered_at k.registered c.args.id) (λ r. c.name.result ≡ listed_name r.query))
     c.self.view_is
     (subst (λ (n : Bytes). IsSomeAnd
-    (registered_at (seen old.engine old.unions.items old.order.items old.sessions.items
+    (registered_at (store_seen old.engine old.unions.items old.order.items old.sessions.items
     old.affected.items).registered c.args.id) (λ r. n ≡ listed_name r.query)) (sym c.name.ensures)
     (union_named_by old.engine c.engine_laws.ensures.engine old.unions.items old.order.items old.sessions.items
     old.affected.items c.self.invariant.listed c.args.id

@@ -2,7 +2,7 @@
 use Rattle.std.proofs.Common.{◌≡◌, subst}
 use Rattle.djq_machine.specs.Store.{MakesRelation}
 use Rattle.djq_engine.specs.Kept.{Kept, SameCursors, SameTellings}
-use Rattle.djq_store.specs.Places.{kept_in}
+use Rattle.djq_store.specs.Places.{store_kept_in}
 use Rattle.djq_store.proofs.Given.{whole_over}
 use Rattle.djq_store.proofs.Related.{made_rests, store_makes}
 use Rattle.djq_store.proofs.Staying.{cursors_over, registered_over, tellings_over}
@@ -24,17 +24,19 @@ returns c =
     c.engine_laws-2.ensures.engine c.engine_laws.ensures.staying c.rel-made.ensures.makes c.rel-made.ensures.places in
     record {
       makes = subst (λ (k : Kept). MakesRelation k.store c.args.name c.args.types c.rel-made.result
-          (kept_in (record p { engine = e' })).store)
+          (store_kept_in (record p { engine = e' })).store)
           c.self.view_is
           (store_makes p e' c.args.name c.args.types c.rel-made.result rests c.self.invariant c.rel-made.ensures.makes);
-      cursors = subst (λ (k : Kept). SameCursors k.cursors (kept_in (record p { engine = e' })).cursors) c.self.view_is
+      cursors = subst (λ (k : Kept). SameCursors k.cursors (store_kept_in (record p { engine = e' })).cursors)
+          c.self.view_is
           (cursors_over p.engine e' rests p.unions.items p.order.items p.sessions.items p.affected.items
           c.self.invariant.listed
           c.rel-made.ensures.cursors);
-      registered = subst (λ (k : Kept). (kept_in (record p { engine = e' })).registered ≡ k.registered) c.self.view_is
+      registered =
+          subst (λ (k : Kept). (store_kept_in (record p { engine = e' })).registered ≡ k.registered) c.self.view_is
           (registered_over p.engine e' rests p.unions.items p.order.items p.sessions.items p.affected.items
           c.self.invariant.listed);
-      tellings = subst (λ (k : Kept). SameTellings k (kept_in (record p { engine = e' }))) c.self.view_is
+      tellings = subst (λ (k : Kept). SameTellings k (store_kept_in (record p { engine = e' }))) c.self.view_is
           (tellings_over p.engine e' rests p.unions.items p.order.items p.sessions.items p.affected.items
           c.self.invariant.listed
           c.rel-made.ensures.tellings);

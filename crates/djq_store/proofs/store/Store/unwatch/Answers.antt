@@ -5,7 +5,7 @@ use Rattle.std.specs.Prelude.{Option, IsSomeAnd}
 use Rattle.djq_lines.specs.declared.limits.TheConstants.{SESSIONS}
 use Rattle.djq_engine.specs.Kept.{Kept, registered_at, with_watchers}
 use Rattle.djq_engine.specs.Places.{id_at}
-use Rattle.djq_store.specs.Places.{kept_in, seen}
+use Rattle.djq_store.specs.Places.{store_kept_in, store_seen}
 use Rattle.djq_store.specs.Whole.{IsListed, IsCounted}
 use Rattle.djq_store.proofs.Counted.{query_listed, query_counted, query_seen, room_to_watch}
 use Rattle.djq_store.proofs.Counted.{some_watch, read_here, sessions_are}
@@ -69,12 +69,12 @@ returns-then-id-lt-QUERIES c =
     c.index_mut.ensures.value in
     let some : 0 < m = omega (arith, has.1, are) in
     let few : m - 1 ≤ SESSIONS = omega (arith, are, c.self.invariant.counted.few c.args.id.at) in
-    subst (λ (k : Kept). seen c.unwatch.new.self old.unions.items old.order.items
+    subst (λ (k : Kept). store_seen c.unwatch.new.self old.unions.items old.order.items
     (set old.sessions.items c.args.id.at (m - 1)) old.affected.items
     ≡ record k { registered = with_watchers c.args.id (λ n. n - 1) k.registered }) c.self.view_is
-    (subst (λ (x : Kept). seen x old.unions.items old.order.items (set old.sessions.items c.args.id.at (m - 1))
-    old.affected.items ≡ record (kept_in old)
-    { registered = with_watchers c.args.id (λ n. n - 1) (kept_in old).registered }) (sym c.unwatch.ensures)
+    (subst (λ (x : Kept). store_seen x old.unions.items old.order.items (set old.sessions.items c.args.id.at (m - 1))
+    old.affected.items ≡ record (store_kept_in old)
+    { registered = with_watchers c.args.id (λ n. n - 1) (store_kept_in old).registered }) (sym c.unwatch.ensures)
     (query_seen old.engine c.engine_laws.ensures.engine old.unions.items old.order.items old.sessions.items
     old.affected.items c.self.invariant.listed c.self.invariant.counted c.args.id c.if-id-lt-QUERIES.true has.0
     (λ n. n - 1) (m - 1) (ap (λ k. k - 1) read) few (λ k. omega (arith, some, read))))
@@ -109,8 +109,9 @@ pub returns : goal.returns
 returns c =
     let old = c.self.inside.parts in
     let new = c.unwatch_union.new.parts in
-    subst (λ (k : Kept). kept_in new ≡ record k { registered = with_watchers c.args.id (λ n. n - 1) k.registered })
+    subst (λ (k : Kept). store_kept_in new
+    ≡ record k { registered = with_watchers c.args.id (λ n. n - 1) k.registered })
     c.self.view_is
-    (subst (λ (n : ℕ). kept_in new
-    ≡ record (kept_in old) { registered = with_watchers (id_at n) (λ n. n - 1) (kept_in old).registered })
+    (subst (λ (n : ℕ). store_kept_in new
+    ≡ record (store_kept_in old) { registered = with_watchers (id_at n) (λ n. n - 1) (store_kept_in old).registered })
     (add-sub_of_le c.if-id-lt-QUERIES.false) c.unwatch_union.ensures.watches)
