@@ -128,6 +128,46 @@ def a_session_in_one_piece():
     expect_run(lines_of(SESSION), replies_of(SESSION))
 
 
+def dialogues():
+    """The dialogues of dialogues.txt: the command, the name, the lines that are said and those that are told."""
+    with open(os.path.join(os.path.dirname(os.path.abspath(__file__)), "dialogues.txt"), "rb") as file:
+        for dialogue in file.read().split(b"\n## ")[1:]:
+            title, *rows = dialogue.split(b"\n")
+            command, name = title.decode().split(": ", 1)
+            said = [row[2:] for row in rows if row.startswith(b"> ")]
+            yield command, name, said, [row for row in rows if row and not row.startswith(b"> ")]
+
+
+def in_any_order(told):
+    """What is told, with answers and lines of a delta that stand together in order."""
+    ordered, block = [], []
+    for line in told + [b""]:
+        if line.split(b"< ")[-1][:2] in (b"= ", b"+ ", b"- "):
+            block.append(line)
+        else:
+            ordered += sorted(block) + [line]
+            block = []
+    return ordered
+
+
+@test
+def dialogues_go_as_written():
+    for command, name, said, told in dialogues():
+        output, status = run(b"".join(line + b"\n" for line in said), (command,))
+        expect((in_any_order(output.splitlines()), status), (in_any_order(told), 0), name)
+
+
+@test
+def a_long_listing_is_whole_while_another_session_stops():
+    rows = b"".join(b"say 1 add r %d\n" % number for number in range(1000, 2000))
+    text = b"open 1\nopen 2\nsay 1 rel r int\nsay 1 query q(x) <- r(x)\n" + rows + b"say 1 open c q\nsay 1 next c 1000\nsay 2 stop\n"
+    output, status = run(text, ("replay",))
+    expect(status, 0)
+    behind = output.splitlines()[1003:]
+    expect(sorted(behind[:1000]), [b"1< = %d" % number for number in range(1000, 2000)])
+    expect(behind[1000:], [b"1< end", b"2< bye"])
+
+
 @test
 def a_session_with_cr_before_each_lf():
     expect_run(lines_of(SESSION, b"\r\n"), replies_of(SESSION))

@@ -1,25 +1,21 @@
-ghost use Rattle.std.specs.Prelude.{◌<◌};
+ghost use Rattle.std.specs.Prelude.{◌≡◌};
 
-use crate::tests::run_words;
+use crate::program::run_program;
 use djq_disk::{DiskCall, DiskDid, MemDisk};
 use djq_io::{MemHub, MemSink, MemSource};
 use djq_run::Status;
+use djq_steps::{Blanks, Ledgers, Steps};
+use std::marker::Brand;
 use std::test::Fail;
 
-/// What is replayed over a file, and what comes of it.
-struct Logged {
-    name: &'static str,
-    // the file before and behind
-    before: &'static [u8],
-    after: &'static [u8],
-    schedule: &'static [u8],
-    lines: &'static [u8],
-    // behind how many of these lines each group of lines is kept
-    kept: &'static [usize],
-    // lines whose answers tell how many groups a file has, and these answers by that number
-    probe: &'static [u8],
-    probed: &'static [&'static [u8]],
-}
+/// Three lines that are kept, and one that isn't.
+const ROW: &[u8] = b"open 1\nsay 1 rel r int\nsay 1 add r 7\nsay 1 add r 7\nsay 1 del r 9\n";
+
+/// What they are answered.
+const ROW_LINES: &[u8] = b"1< ok\n1< ok added 1 1\n1< ok added 1 2\n1< ok absent 1\n";
+
+/// The file behind them.
+const ROW_FILE: &[u8] = b"DJQLOG1\n\x01\0\x09rel r int\x01\0\x07add r 7\x01\0\x07add r 7\0";
 
 /// Lines whose answers tell how many lines of the row were found.
 const PROBE: &[u8] = b"open 1\nsay 1 del r 7\nsay 1 del r 7\nsay 1 del r 7\n";
@@ -32,10 +28,18 @@ const PROBED: [&[u8]; 4] = [
     b"1< ok removed 1 1\n1< ok removed 2 0\n1< ok absent 2\n",
 ];
 
-/// The file of a row and its copy.
-const ROW_FILE: &[u8] = b"DJQLOG1\n\x01\0\x09rel r int\x01\0\x07add r 7\x01\0\x07add r 7\0";
+/// A line that is kept, and a batch of two rows.
+const BATCH: &[u8] =
+    b"open 1\nsay 1 rel r int\nsay 1 batch\nsay 1 add r 7\nsay 1 add r 8\nsay 1 done\n";
 
-/// Lines whose answers tell which groups of a batch were found: none, the first, or both.
+/// What they are answered.
+const BATCH_LINES: &[u8] = b"1< ok\n1< ok batch\n1< ok held 1\n1< ok held 2\n1< ok done 1 2\n";
+
+/// The file behind them.
+const BATCH_FILE: &[u8] =
+    b"DJQLOG1\n\x01\0\x09rel r int\x01\0\x05batch\x01\0\x07add r 7\x01\0\x07add r 8\x01\0\x04done\0";
+
+/// Lines whose answers tell which of them were found: none, the first, or all.
 const BATCH_PROBE: &[u8] = b"open 1\nsay 1 del r 7\nsay 1 del r 8\n";
 
 /// These answers.
@@ -48,65 +52,38 @@ const BATCH_PROBED: [&[u8]; 3] = [
 /// A file that ends within a batch.
 const OPEN_FILE: &[u8] = b"DJQLOG1\n\x01\0\x09rel r int\x01\0\x05batch\x01\0\x07add r 7\0";
 
+/// Lines that change nothing behind it.
+const OPEN_PROBE: &[u8] = b"open 1\nsay 1 del r 7\nsay 1 done\n";
+
 /// The same file, once it was opened.
 const ENDED_FILE: &[u8] =
     b"DJQLOG1\n\x01\0\x09rel r int\x01\0\x05batch\x01\0\x07add r 7\x01\0\x07abandon\0";
 
-const LOGGED: [Logged; 5] = [
-    // Three lines are kept, and one isn't.
-    Logged {
-        name: "a row and its copy",
-        before: b"",
-        after: ROW_FILE,
-        schedule: b"open 1\nsay 1 rel r int\nsay 1 add r 7\nsay 1 add r 7\nsay 1 del r 9\n",
-        lines: b"1< ok\n1< ok added 1 1\n1< ok added 1 2\n1< ok absent 1\n",
-        kept: &[1, 2, 3],
-        probe: PROBE,
-        probed: &PROBED,
-    },
-    // A batch is kept with its last line, whole.
-    Logged {
-        name: "a batch",
-        before: b"",
-        after: b"DJQLOG1\n\x01\0\x09rel r int\x01\0\x05batch\x01\0\x07add r 7\x01\0\x07add r 8\x01\0\x04done\0",
-        schedule: b"open 1\nsay 1 rel r int\nsay 1 batch\nsay 1 add r 7\nsay 1 add r 8\nsay 1 done\n",
-        lines: b"1< ok\n1< ok batch\n1< ok held 1\n1< ok held 2\n1< ok done 1 2\n",
-        kept: &[1, 5],
-        probe: BATCH_PROBE,
-        probed: &BATCH_PROBED,
-    },
-    // The line that ends a batch which a file leaves open is kept before anything is served, once.
-    Logged {
-        name: "a file that ends within a batch",
-        before: OPEN_FILE,
-        after: ENDED_FILE,
-        schedule: b"open 1\nsay 1 del r 7\n",
-        lines: b"1< ok absent 0\n",
-        kept: &[0],
-        probe: BATCH_PROBE,
-        probed: &BATCH_PROBED,
-    },
-    Logged {
-        name: "no batch is open behind that file",
-        before: OPEN_FILE,
-        after: ENDED_FILE,
-        schedule: b"open 1\nsay 1 done\n",
-        lines: b"1< err 18 batch\n",
-        kept: &[0],
-        probe: BATCH_PROBE,
-        probed: &BATCH_PROBED,
-    },
-    Logged {
-        name: "a batch that was ended",
-        before: ENDED_FILE,
-        after: ENDED_FILE,
-        schedule: b"open 1\nsay 1 done\n",
-        lines: b"1< err 18 batch\n",
-        kept: &[0],
-        probe: BATCH_PROBE,
-        probed: &BATCH_PROBED,
-    },
-];
+fn counted<L: Ledgers>(
+    rt: &HostRuntime,
+    blanks: Blanks,
+    schedule: Vec<u8>,
+    sink: &mut MemSink,
+    disk: &mut MemDisk,
+) -> Status
+    requires listing { blanks.listing.name ≡ L.listing }
+    requires update { blanks.update.name ≡ L.update }
+    requires rows { blanks.rows.name ≡ L.rows }
+{
+    let mut hub = MemHub::new(rt.alloc());
+    let mut source = MemSource::new(schedule, 8192);
+    let mut steps = Steps::<L>::new(rt, blanks);
+    let words = ["djq", "replay", "--log", "j"];
+    run_program(
+        rt.alloc(),
+        &words,
+        &mut source,
+        sink,
+        &mut hub,
+        disk,
+        &mut steps,
+    )
+}
 
 /// Replays a schedule with the log on the disk, and gives the status and what was written.
 fn replay_logged(
@@ -114,11 +91,9 @@ fn replay_logged(
     disk: &mut MemDisk,
     schedule: &[u8],
 ) -> Result<(Status, Vec<u8>), Fail> {
-    let mut source = MemSource::new(schedule.to_vec(rt.alloc())?, 8192);
     let mut sink = MemSink::new(rt.alloc());
-    let mut hub = MemHub::new(rt.alloc());
-    let words = ["djq", "replay", "--log", "j"];
-    let status = run_words(rt, &words, &mut source, &mut sink, &mut hub, disk);
+    let schedule = schedule.to_vec(rt.alloc())?;
+    let status = counted::<Brand>(rt, Blanks::new(rt), schedule, &mut sink, disk);
     let taken = sink.taken().ok_or("the record is lost")?;
     Ok((status, taken.to_vec(rt.alloc())?))
 }
@@ -130,6 +105,19 @@ fn row_file(rt: &HostRuntime, place: usize, byte: u8) -> Result<Vec<u8>, Fail> {
         *slot = byte;
     }
     Ok(bytes)
+}
+
+#[test]
+fn a_log_keeps_what_changes_rows(rt: HostRuntime) -> Result<(), Fail> {
+    let mut disk = MemDisk::of(rt.alloc(), b"")?;
+    let (status, lines) = replay_logged(&rt, &mut disk, ROW)?;
+    assert_eq!(rt; status, Status::Done);
+    assert_eq!(rt; lines.as_slice(), ROW_LINES);
+    assert_eq!(rt; disk.bytes(), ROW_FILE);
+    let (status, lines) = replay_logged(&rt, &mut disk, b"open 1\nsay 1 del r 7")?;
+    assert_eq!(rt; status, Status::Done);
+    assert_eq!(rt; lines.as_slice(), b"1< ok removed 1 1\n".as_slice());
+    Ok(())
 }
 
 /// A closed gate ends the list of lines; a length past the end of the file is no line.
@@ -158,19 +146,22 @@ fn groups_found(
     bytes: &[u8],
     probe: &[u8],
     probed: &[&[u8]],
-) -> Result<Option<usize>, Fail> {
+) -> Result<Option<u64>, Fail> {
     let mut disk = MemDisk::of(rt.alloc(), bytes)?;
     let (_, lines) = replay_logged(rt, &mut disk, probe)?;
-    Ok(
-        probed
-            .iter()
-            .position(|answers| *answers == lines.as_slice()),
-    )
+    let mut found = 0u64;
+    for answers in probed {
+        if *answers == lines.as_slice() {
+            return Ok(Some(found));
+        }
+        found = found.saturating_add(1);
+    }
+    Ok(None)
 }
 
 /// How many syncs were done.
-fn syncs(calls: &[DiskCall]) -> usize {
-    let mut done = 0usize;
+fn syncs(calls: &[DiskCall]) -> u64 {
+    let mut done = 0u64;
     for call in calls {
         if let DiskCall::Syncing(DiskDid::Done) = call {
             done = done.saturating_add(1);
@@ -182,7 +173,7 @@ fn syncs(calls: &[DiskCall]) -> usize {
 /// The bytes behind these calls, with what was written since the last sync or without it.
 fn image(rt: &HostRuntime, calls: &[DiskCall], unsynced: bool) -> Result<Vec<u8>, Fail> {
     let all = syncs(calls);
-    let mut done = 0usize;
+    let mut done = 0u64;
     let mut bytes = Vec::new(rt.alloc());
     for call in calls {
         match call {
@@ -233,64 +224,98 @@ fn first_loss(
     Ok(None)
 }
 
-/// A stop at any call leaves whole groups of lines, those that were answered among them.
+/// A stop leaves whole lines.
 #[test]
-fn a_log_keeps_what_changes_rows(rt: HostRuntime) -> Result<(), Fail> {
-    for logged in &LOGGED {
-        let name = logged.name;
-        let mut disk = MemDisk::of(rt.alloc(), logged.before)?;
-        let (status, lines) = replay_logged(&rt, &mut disk, logged.schedule)?;
-        assert_eq!(rt; status, Status::Done, "{name}");
-        assert_eq!(rt; lines.as_slice(), logged.lines, "{name}");
-        assert_eq!(rt; disk.bytes(), logged.after, "{name}");
-        let found = groups_found(&rt, disk.bytes(), logged.probe, logged.probed)?;
-        assert_eq!(rt; found, Some(logged.kept.len()), "{name}");
-        if logged.before.is_empty() {
-            let calls = disk.calls().ok_or("the record is lost")?;
-            assert_eq!(rt; syncs(calls), 2 * logged.kept.len() + 2, "{name}");
-            assert_eq!(rt;
-                first_loss(&rt, calls, logged.probe, logged.probed)?,
-                None,
-                "{name}"
-            );
-        }
+fn a_stop_at_each_call_leaves_what_was_answered(rt: HostRuntime) -> Result<(), Fail> {
+    let mut disk = MemDisk::of(rt.alloc(), b"")?;
+    let (status, _) = replay_logged(&rt, &mut disk, ROW)?;
+    assert_eq!(rt; status, Status::Done);
+    let calls = disk.calls().ok_or("the record is lost")?;
+    assert!(rt; syncs(calls) == 8);
+    assert_eq!(rt; first_loss(&rt, calls, PROBE, &PROBED)?, None);
+    Ok(())
+}
+
+/// A stop leaves both rows of a batch or none.
+#[test]
+fn a_stop_at_each_call_leaves_whole_batches(rt: HostRuntime) -> Result<(), Fail> {
+    let mut disk = MemDisk::of(rt.alloc(), b"")?;
+    let (status, lines) = replay_logged(&rt, &mut disk, BATCH)?;
+    assert_eq!(rt; status, Status::Done);
+    assert_eq!(rt; lines.as_slice(), BATCH_LINES);
+    assert_eq!(rt; disk.bytes(), BATCH_FILE);
+    let calls = disk.calls().ok_or("the record is lost")?;
+    assert!(rt; syncs(calls) == 6);
+    assert_eq!(rt; first_loss(&rt, calls, BATCH_PROBE, &BATCH_PROBED)?, None);
+    Ok(())
+}
+
+/// Where a call fails nothing is answered that isn't kept, and all that was answered is found.
+#[test]
+fn a_call_that_fails_ends_the_program(rt: HostRuntime) -> Result<(), Fail> {
+    for n in 1..40 {
+        let mut disk = MemDisk::of(rt.alloc(), b"")?;
+        disk.fail_at(n)?;
+        let (status, lines) = replay_logged(&rt, &mut disk, ROW)?;
+        let made = disk.calls().ok_or("the record is lost")?.len();
+        let failed = n <= made as u64;
+        assert!(rt; (status == Status::DiskFault) == failed, "at {n}");
+        assert!(rt; ROW_LINES.starts_with(lines.as_slice()), "at {n}");
+        let answered = lines.iter().filter(|byte| **byte == b'\n').count() as u64;
+        let found = groups_found(&rt, disk.bytes(), PROBE, &PROBED)?.ok_or("the log is bad")?;
+        assert!(rt; answered.min(3) <= found, "at {n}");
     }
     Ok(())
 }
 
-/// How many groups of lines were answered, by the lines that were told.
-fn groups_answered(kept: &[usize], lines: &[u8]) -> usize {
-    let told = lines.iter().filter(|byte| **byte == b'\n').count();
-    kept.iter().filter(|behind| **behind <= told).count()
-}
-
-/// Whether nothing is answered that isn't kept, and all that was answered is found, where the call of this number
-/// fails; the program ends by it then, and never answers all.
-fn is_kept(rt: &HostRuntime, logged: &Logged, call: u64) -> Result<bool, Fail>
-    requires { 0 < call }
-{
-    let mut disk = MemDisk::of(rt.alloc(), logged.before)?;
-    disk.fail_at(call)?;
-    let (status, lines) = replay_logged(rt, &mut disk, logged.schedule)?;
-    let made = disk.calls().ok_or("the record is lost")?.len();
-    let failed = call <= made as u64;
-    let found = groups_found(rt, disk.bytes(), logged.probe, logged.probed)?;
-    let groups = found.ok_or("the log is bad")?;
-    Ok(
-        (status == Status::DiskFault) == failed
-            && (lines.as_slice() == logged.lines) != failed
-            && logged.lines.starts_with(lines.as_slice())
-            && groups >= groups_answered(logged.kept, &lines)
-            && groups <= logged.kept.len(),
-    )
-}
-
+/// So it is with a batch, which is answered by its last line.
 #[test]
-fn a_call_that_fails_ends_the_program(rt: HostRuntime) -> Result<(), Fail> {
-    for logged in &LOGGED {
-        for call in 1..40 {
-            assert!(rt; is_kept(&rt, logged, call)?, "{} at {call}", logged.name);
-        }
+fn a_call_that_fails_leaves_whole_batches(rt: HostRuntime) -> Result<(), Fail> {
+    for n in 1..40 {
+        let mut disk = MemDisk::of(rt.alloc(), b"")?;
+        disk.fail_at(n)?;
+        let (status, lines) = replay_logged(&rt, &mut disk, BATCH)?;
+        let made = disk.calls().ok_or("the record is lost")?.len();
+        let failed = n <= made as u64;
+        assert!(rt; (status == Status::DiskFault) == failed, "at {n}");
+        assert!(rt; BATCH_LINES.starts_with(lines.as_slice()), "at {n}");
+        let found = groups_found(&rt, disk.bytes(), BATCH_PROBE, &BATCH_PROBED)?;
+        let groups = found.ok_or("the log is bad")?;
+        let answered = lines.as_slice() == BATCH_LINES;
+        assert!(rt; groups == 2 || !answered, "at {n}");
+    }
+    Ok(())
+}
+
+/// The line that ends a batch which a file leaves open is kept before anything is served, once.
+#[test]
+fn a_log_that_ends_within_a_batch_is_ended(rt: HostRuntime) -> Result<(), Fail> {
+    let mut disk = MemDisk::of(rt.alloc(), OPEN_FILE)?;
+    for _ in 0..2 {
+        let (status, lines) = replay_logged(&rt, &mut disk, OPEN_PROBE)?;
+        assert_eq!(rt; status, Status::Done);
+        assert_eq!(rt;
+            lines.as_slice(),
+            b"1< ok absent 0\n1< err 18 batch\n".as_slice()
+        );
+        assert_eq!(rt; disk.bytes(), ENDED_FILE);
+    }
+    Ok(())
+}
+
+/// Where a call fails as that line is kept, nothing is served, and the file loads at the next start.
+#[test]
+fn a_batch_that_cant_be_ended_ends_the_program(rt: HostRuntime) -> Result<(), Fail> {
+    for n in 1..40 {
+        let mut disk = MemDisk::of(rt.alloc(), OPEN_FILE)?;
+        disk.fail_at(n)?;
+        let (status, lines) = replay_logged(&rt, &mut disk, BATCH_PROBE)?;
+        let made = disk.calls().ok_or("the record is lost")?.len();
+        let failed = n <= made as u64;
+        assert!(rt; (status == Status::DiskFault) == failed, "at {n}");
+        assert!(rt; lines.is_empty() == failed, "at {n}");
+        let found = groups_found(&rt, disk.bytes(), BATCH_PROBE, &BATCH_PROBED)?;
+        assert_eq!(rt; found, Some(1), "at {n}");
     }
     Ok(())
 }
