@@ -1,7 +1,7 @@
-ghost use Rattle.std.specs.Prelude.{◌≡◌, IsSome, IfOk, OnOk, length};
+ghost use Rattle.std.specs.Prelude.{◌≡◌, IsSome, IfOk};
 ghost use Rattle.djq_reduct.specs.Answers.{IsAnswerOf};
 ghost use Rattle.djq_live.specs.Cursors.{slot_at};
-ghost use Rattle.djq_live.specs.Live.{IsKeptSomewhere, IsLive, IsShowable};
+ghost use Rattle.djq_live.specs.Live.{IsLive};
 
 use super::*;
 use djq_index::CELLS;
@@ -17,12 +17,9 @@ use djq_tree::Lines;
 use std::alloc::Global;
 use std::marker::Brand;
 use std::test::Fail;
-use updates::walk;
 
-mod scenes;
+mod comparisons;
 mod updates;
-
-use scenes::{SCENES, Scene};
 
 /// A term of one letter: a hole, a digit or a variable.
 fn read_term(letter: u8) -> Term {
@@ -82,15 +79,6 @@ fn compared(
         constant,
         behind,
     })?;
-    Ok(query)
-}
-
-/// The query of a scene.
-fn query_of(alloc: Global, scene: &Scene) -> Result<Query, Fail> {
-    let mut query = read(alloc, scene.head, scene.bodies)?;
-    for (variable, operator, constant) in scene.comparisons {
-        query = compared(query, *variable, *operator, Value::Int(*constant))?;
-    }
     Ok(query)
 }
 
@@ -156,27 +144,6 @@ fn build<L: Ledgers>(
     Ok(LiveQuery::build(alloc, query, planned, catalog, steps)?)
 }
 
-/// Makes the relations of a scene.
-fn make_all(alloc: Global, catalog: &mut Catalog, scene: &Scene) -> Result<(), Fail> {
-    for (name, columns) in scene.relations {
-        let _id = make(alloc, catalog, *name, *columns)?;
-    }
-    Ok(())
-}
-
-/// Puts the rows in that a scene begins with.
-fn fill_all<L: Ledgers>(
-    alloc: Global,
-    catalog: &mut Catalog,
-    scene: &Scene,
-    steps: &mut Steps<L>,
-) -> Result<(), Fail> {
-    for (at, numbers) in scene.rows {
-        let _ = fill(alloc, catalog, RelationId { at: *at }, numbers, steps)?;
-    }
-    Ok(())
-}
-
 /// The number that is lent.
 fn number(lent: ValueRef<'_>) -> i64 {
     match lent {
@@ -185,35 +152,26 @@ fn number(lent: ValueRef<'_>) -> i64 {
     }
 }
 
-/// The digits of an answer of integers.
-fn digits(live: &LiveQuery, catalog: &Catalog, answer: &Answer) -> i64
-    requires kept { IsKeptSomewhere live.now }
-    requires showable { IsShowable catalog.now.texts live.now answer.now }
-{
-    let mut digits = 0i64;
-    for at in 0..live.width() {
-        let next = number(live.value(catalog, answer, at));
-        digits = digits.wrapping_mul(10).wrapping_add(next);
-    }
-    digits
-}
-
-/// The digits of an answer that is listed.
-fn listed_digits(live: &LiveQuery, catalog: &Catalog, answer: &Answer) -> i64
+/// An answer of two integers.
+fn read_pair(live: &LiveQuery, catalog: &Catalog, answer: &Answer) -> Option<(i64, i64)>
     requires live { IsLive catalog.now live.now }
     requires answer { IsAnswerOf live.now.reducts answer.now }
 {
+    if live.width() != 2 {
+        return None;
+    }
     answers_are_showable();
-    digits(live, catalog, answer)
+    let first = number(live.value(catalog, answer, 0));
+    Some((first, number(live.value(catalog, answer, 1))))
 }
 
-/// Reads a cursor: the digits of a further answer, where there is one.
-fn next_digits<L: Ledgers>(
+/// Reads a cursor: a further answer of two integers, where there is one.
+fn next_pair<L: Ledgers>(
     live: &mut LiveQuery,
     catalog: &Catalog,
     slot: usize,
     listing: &mut Tally<Listing<L>>,
-) -> Option<i64>
+) -> Option<(i64, i64)>
     requires live { IsLive catalog.now live.old }
     requires there { IsSome (slot_at live.old.cursors slot) }
     ensures live { IsLive catalog.now live.new }
@@ -221,31 +179,9 @@ fn next_digits<L: Ledgers>(
 {
     let mut answer = Answer::new(0);
     match live.next(slot, &mut answer, listing) {
-        Next::Given => Some(listed_digits(live, catalog, &answer)),
+        Next::Given => read_pair(live, catalog, &answer),
         _ => None,
     }
-}
-
-/// What a cursor lists, at most a hundred answers, in rising order.
-fn list<L: Ledgers>(
-    alloc: Global,
-    live: &mut LiveQuery,
-    catalog: &Catalog,
-    listing: &mut Tally<Listing<L>>,
-) -> Result<Vec<i64>, Fail>
-    requires live { IsLive catalog.now live.old }
-    ensures live { OnOk result (IsLive catalog.now live.new) }
-{
-    let mut listed = Vec::new(alloc);
-    let slot = live.open()?;
-    'answers: for _ in 0..100 {
-        let Some(digits) = next_digits(live, catalog, slot, listing) else {
-            break;
-        };
-        listed.push(digits)?;
-    }
-    listed.sort()?;
-    Ok(listed)
 }
 
 /// Whether a fresh cursor has an answer left.
@@ -260,114 +196,115 @@ fn is_left<L: Ledgers>(
     Ok(live.more(slot, listing))
 }
 
-/// Whether these numbers are an answer.
-fn holds<L: Ledgers>(
+/// Registers `q(z,x) <- r(x,x,_), s(x,z,3)` over rows of which `5 5 7` and `5 5 8` with `5 9 3`
+/// give one answer, and `6 6 1` with `6 2 3` gives another.
+fn join<L: Ledgers>(
     alloc: Global,
-    live: &LiveQuery,
-    catalog: &Catalog,
-    numbers: &[i64],
-    listing: &mut Tally<Listing<L>>,
-) -> Result<bool, Fail>
-    requires live { IsLive catalog.now live.now }
+    catalog: &mut Catalog,
+    steps: &mut Steps<L>,
+) -> Result<LiveQuery, Fail>
+    ensures { IfOk result (λ l. IsLive catalog.new l) }
 {
-    let tuple = row(alloc, numbers)?;
-    match live.suits(tuple.as_slice()) {
-        Ok(()) => Ok(live.has(catalog, tuple.as_slice(), listing)),
-        Err(_refusal) => Err(NoMem)?,
+    let r = make(alloc, catalog, b'r', 3)?;
+    let s = make(alloc, catalog, b's', 3)?;
+    for numbers in [[5, 5, 7], [5, 5, 8], [6, 6, 1], [1, 2, 3]] {
+        let _ = fill(alloc, catalog, r, &numbers, steps)?;
     }
+    for numbers in [[5, 9, 3], [5, 8, 4], [6, 2, 3], [7, 1, 3]] {
+        let _ = fill(alloc, catalog, s, &numbers, steps)?;
+    }
+    let query = read(alloc, b"zx", &[b"rxx_", b"sxz3"])?;
+    build(alloc, catalog, query, steps)
 }
 
-/// Whether it is of each tuple as a scene says.
-fn holds_all<L: Ledgers>(
-    alloc: Global,
-    live: &LiveQuery,
-    catalog: &Catalog,
-    scene: &Scene,
-    listing: &mut Tally<Listing<L>>,
-) -> Result<bool, Fail>
-    requires live { IsLive catalog.now live.now }
-{
-    for (numbers, wanted) in scene.held {
-        if holds(alloc, live, catalog, numbers, listing)? != *wanted {
-            return Ok(false);
-        }
-    }
-    Ok(true)
-}
-
-/// What is seen of a scene: what logs tell, what a cursor lists, whether a fresh one has an answer left, and whether
-/// each tuple is an answer that is to be one and no other; and the tree.
+/// What is seen of `q(z,x) <- r(x,x,_), s(x,z,3)`.
 #[derive(Drop)]
 struct Seen {
-    told: Vec<i64>,
-    listed: Vec<i64>,
+    first: Option<(i64, i64)>,
+    second: Option<(i64, i64)>,
+    third: Option<(i64, i64)>,
     more: bool,
-    held: bool,
-    tree: Lines,
 }
 
-/// Looks at a query once a scene has been played.
-fn look<L: Ledgers>(
-    alloc: Global,
+fn list<L: Ledgers>(
     live: &mut LiveQuery,
     catalog: &Catalog,
-    scene: &Scene,
-    told: Vec<i64>,
     listing: &mut Tally<Listing<L>>,
-) -> Result<Seen, Fail>
-    requires live { IsLive catalog.now live.old }
+) -> Result<Seen, NoMem>
+    requires { IsLive catalog.now live.old }
 {
-    let held = holds_all(alloc, live, catalog, scene, listing)?;
-    let tree = live.explain(alloc)?;
-    let listed = list(alloc, live, catalog, listing)?;
+    let slot = live.open()?;
+    let first = next_pair(live, catalog, slot, listing);
+    let second = next_pair(live, catalog, slot, listing);
+    let third = next_pair(live, catalog, slot, listing);
     let more = is_left(live, catalog, listing)?;
     Ok(Seen {
-        told,
-        listed,
+        first,
+        second,
+        third,
         more,
-        held,
-        tree,
     })
 }
 
-/// Plays a scene over an empty catalog.
-fn play<L: Ledgers>(
+fn has_more<L: Ledgers>(
     alloc: Global,
     catalog: &mut Catalog,
-    scene: &Scene,
     steps: &mut Steps<L>,
 ) -> Result<Seen, Fail> {
-    make_all(alloc, catalog, scene)?;
-    fill_all(alloc, catalog, scene, steps)?;
-    let query = query_of(alloc, scene)?;
-    let mut live = build(alloc, catalog, query, steps)?;
-    let told = walk(alloc, catalog, &mut live, scene.moves, steps)?;
-    look(alloc, &mut live, catalog, scene, told, &mut steps.listing)
+    let mut live = join(alloc, catalog, steps)?;
+    Ok(list(&mut live, catalog, &mut steps.listing)?)
 }
 
-fn see<L: Ledgers>(rt: &HostRuntime, scene: &Scene, blanks: Blanks) -> Result<Seen, Fail>
+fn see<L: Ledgers>(rt: &HostRuntime, catalog: &mut Catalog, blanks: Blanks) -> Result<Seen, Fail>
+    requires listing { blanks.listing.name ≡ L.listing }
+    requires update { blanks.update.name ≡ L.update }
+    requires rows { blanks.rows.name ≡ L.rows }
+{
+    let mut steps = Steps::<L>::new(rt, blanks);
+    has_more(rt.alloc(), catalog, &mut steps)
+}
+
+/// Whether these are two answers, in either order.
+fn are_these(
+    first: Option<(i64, i64)>,
+    second: Option<(i64, i64)>,
+    one: (i64, i64),
+    other: (i64, i64),
+) -> bool {
+    if first == Some(one) {
+        return second == Some(other);
+    }
+    first == Some(other) && second == Some(one)
+}
+
+#[test]
+fn lists_a_join(rt: HostRuntime) -> Result<(), Fail> {
+    let mut catalog = Catalog::new(rt.alloc())?;
+    let seen = see::<Brand>(&rt, &mut catalog, Blanks::new(&rt))?;
+    assert!(rt; are_these(seen.first, seen.second, (9, 5), (2, 6)));
+    assert!(rt; seen.third.is_none() && seen.more);
+    Ok(())
+}
+
+/// What explains `q(x) <- r(x,y)`.
+fn explained<L: Ledgers>(rt: &HostRuntime, blanks: Blanks) -> Result<Lines, Fail>
     requires listing { blanks.listing.name ≡ L.listing }
     requires update { blanks.update.name ≡ L.update }
     requires rows { blanks.rows.name ≡ L.rows }
 {
     let mut steps = Steps::<L>::new(rt, blanks);
     let mut catalog = Catalog::new(rt.alloc())?;
-    play(rt.alloc(), &mut catalog, scene, &mut steps)
+    let _r = make(rt.alloc(), &mut catalog, b'r', 2)?;
+    let query = read(rt.alloc(), b"x", &[b"rxy"])?;
+    let live = build(rt.alloc(), &mut catalog, query, &mut steps)?;
+    Ok(live.explain(rt.alloc())?)
 }
 
 #[test]
-fn answers_are_told_and_listed(rt: HostRuntime) -> Result<(), Fail> {
-    for scene in &SCENES {
-        let name = scene.name;
-        let seen = see::<Brand>(&rt, scene, Blanks::new(&rt))?;
-        assert_eq!(rt; seen.told.as_slice(), scene.told, "{name}");
-        assert_eq!(rt; seen.listed.as_slice(), scene.listed, "{name}");
-        assert!(rt; seen.more != scene.listed.is_empty() && seen.held, "{name}");
-        assert!(rt;
-            scene.tree.is_empty() || seen.tree.as_bytes() == scene.tree,
-            "{name}"
-        );
-    }
+fn explains_a_tree(rt: HostRuntime) -> Result<(), Fail> {
+    let lines = explained::<Brand>(&rt, Blanks::new(&rt))?;
+    let want: &[u8] = b"n 0 leaf r x,y\nn 1 trim 0 x out\nn 2 trim 1 - out\n";
+    assert_eq!(rt; lines.as_bytes(), want);
     Ok(())
 }
 
@@ -395,53 +332,16 @@ fn planned(alloc: Global, query: &Query) -> Result<(usize, usize), Fail> {
     }
 }
 
-/// Queries that have no tree, and how many edges their rests have.
-const TREELESS: [(&[u8], &[&[u8]], (usize, usize)); 2] = [
-    (b"xyz", &[b"rxy", b"syz", b"tzx"], (3, 0)),
-    (b"xz", &[b"rxy", b"syz"], (0, 3)),
-];
-
 #[test]
-fn tells_why_a_query_has_no_tree(rt: HostRuntime) -> Result<(), Fail> {
-    for (head, bodies, edges) in TREELESS {
-        let query = read(rt.alloc(), head, bodies)?;
-        assert!(rt; planned(rt.alloc(), &query)? == edges);
-    }
+fn tells_that_a_triangle_is_cyclic(rt: HostRuntime) -> Result<(), Fail> {
+    let query = read(rt.alloc(), b"xyz", &[b"rxy", b"syz", b"tzx"])?;
+    assert!(rt; planned(rt.alloc(), &query)? == (3, 0));
     Ok(())
 }
 
-/// A text of one byte.
-fn letter(alloc: Global, byte: u8) -> Result<Value, Fail> {
-    let bytes = vec![in alloc; byte; 1]?;
-    Ok(Value::Text(Text::new(bytes)))
-}
-
-/// The query `q(x) <- x != "a", t("b",x), x != "c"`.
-fn mixed(alloc: Global) -> Result<Query, Fail> {
-    let mut terms = Sequence::new(alloc);
-    terms.push(Term::Constant(letter(alloc, b'b')?))?;
-    terms.push(Term::Variable(Name::new(b"x")))?;
-    let mut query = read(alloc, b"x", &[])?;
-    query.comparisons.push(Comparison {
-        variable: Name::new(b"x"),
-        operator: Operator::NotEqual,
-        constant: letter(alloc, b'a')?,
-        behind: 0,
-    })?;
-    query.atoms.push(Atom {
-        relation: Name::new(b"t"),
-        terms,
-    })?;
-    Ok(compared(query, b'x', Operator::NotEqual, letter(alloc, b'c')?)?)
-}
-
 #[test]
-fn learns_texts_in_the_order_of_the_body(rt: HostRuntime) -> Result<(), Fail> {
-    let mut catalog = Catalog::new(rt.alloc())?;
-    let query = mixed(rt.alloc())?;
-    intern_constants(&mut catalog, &query)?;
-    assert!(rt; catalog.cell(&letter(rt.alloc(), b'a')?) == Some(0));
-    assert!(rt; catalog.cell(&letter(rt.alloc(), b'b')?) == Some(1));
-    assert!(rt; catalog.cell(&letter(rt.alloc(), b'c')?) == Some(2));
+fn tells_that_ends_of_a_path_are_not_connex(rt: HostRuntime) -> Result<(), Fail> {
+    let query = read(rt.alloc(), b"xz", &[b"rxy", b"syz"])?;
+    assert!(rt; planned(rt.alloc(), &query)? == (0, 3));
     Ok(())
 }

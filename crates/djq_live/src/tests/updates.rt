@@ -10,10 +10,26 @@ use djq_cursor::{DeltaLog, Line};
 use djq_index::Cells;
 use djq_lines::DeleteOutcome;
 
+/// The digits of an answer of three integers.
+fn digits(live: &LiveQuery, catalog: &Catalog, answer: &Answer) -> i64
+    requires kept { IsKeptSomewhere live.now }
+    requires showable { IsShowable catalog.now.texts live.now answer.now }
+    requires wide { 2 < length live.now.query.head }
+{
+    let first = number(live.value(catalog, answer, 0));
+    let second = number(live.value(catalog, answer, 1));
+    let third = number(live.value(catalog, answer, 2));
+    first
+        .wrapping_mul(100)
+        .wrapping_add(second.wrapping_mul(10))
+        .wrapping_add(third)
+}
+
 /// The digits of the answer of a line, behind a one where it went.
 fn line_digits(live: &LiveQuery, catalog: &Catalog, line: &Line) -> i64
     requires kept { IsKeptSomewhere live.now }
     requires showable { IsShowable catalog.now.texts live.now line.now.answer }
+    requires wide { 2 < length live.now.query.head }
 {
     let digits = digits(live, catalog, &line.answer);
     if line.came {
@@ -33,7 +49,7 @@ fn told(
     requires showable { log.now.lost ≡ false → All (λ k. IsShowable catalog.now.texts live.now
         k.answer) log.now.lines }
 {
-    if log.lost() {
+    if log.lost() || live.width() != 3 {
         return Err(NoMem)?;
     }
     let lines = log.lines();
@@ -176,25 +192,141 @@ fn change<L: Ledgers>(
     take(alloc, catalog, live, id, row.as_slice(), steps)
 }
 
-/// What is told of rows of two digits that come to the first relation, or go where the sign is minus.
-pub(super) fn walk<L: Ledgers>(
+/// The query `q(x,y,z) <- r(x,y), r(y,z)`.
+pub(super) fn paths(alloc: Global) -> Result<Query, NoMem> {
+    read(alloc, b"xyz", &[b"rxy", b"ryz"])
+}
+
+/// Registers a query over a relation `r` of two columns and no rows.
+fn build_over_pairs<L: Ledgers>(
     alloc: Global,
     catalog: &mut Catalog,
-    live: &mut LiveQuery,
+    query: Query,
+    steps: &mut Steps<L>,
+) -> Result<LiveQuery, Fail>
+    ensures { IfOk result (λ l. IsLive catalog.new l) }
+{
+    let _r = make(alloc, catalog, b'r', 2)?;
+    build(alloc, catalog, query, steps)
+}
+
+/// What is told of rows of two digits that come, or go where the sign is minus.
+fn walk<L: Ledgers>(
+    alloc: Global,
+    catalog: &mut Catalog,
+    query: Query,
     moves: &[i64],
     steps: &mut Steps<L>,
-) -> Result<Vec<i64>, Fail>
-    requires live { IsLive catalog.old live.old }
-    ensures live { OnOk result (IsLive catalog.new live.new) }
-{
+) -> Result<Vec<i64>, Fail> {
+    let mut live = build_over_pairs(alloc, catalog, query, steps)?;
     let mut trace = Vec::new(alloc);
     let r = RelationId { at: 0 };
     'moves: for i in 0..moves.len() {
         let came = moves[i] > 0;
         let digits = moves[i].unsigned_abs();
         let row = [(digits / 10) as i64, (digits % 10) as i64];
-        let told = change(alloc, catalog, live, r, came, &row, steps)?;
+        let told = change(alloc, catalog, &mut live, r, came, &row, steps)?;
         trace.extend_from_slice(&told)?;
     }
     Ok(trace)
+}
+
+/// What is told of such rows from none on.
+pub(super) fn trace<L: Ledgers>(
+    rt: &HostRuntime,
+    query: Query,
+    moves: &[i64],
+    blanks: Blanks,
+) -> Result<Vec<i64>, Fail>
+    requires listing { blanks.listing.name ≡ L.listing }
+    requires update { blanks.update.name ≡ L.update }
+    requires rows { blanks.rows.name ≡ L.rows }
+{
+    let mut steps = Steps::<L>::new(rt, blanks);
+    let mut catalog = Catalog::new(rt.alloc())?;
+    walk(rt.alloc(), &mut catalog, query, moves, &mut steps)
+}
+
+#[test]
+fn tells_what_comes_to_a_self_join(rt: HostRuntime) -> Result<(), Fail> {
+    let query = paths(rt.alloc())?;
+    let told = trace::<Brand>(&rt, query, &[12, 23, 31, 22, 23], Blanks::new(&rt))?;
+    let want: &[i64] = &[0, 123, 0, 231, 312, 0, 122, 222, 223, 0, 0];
+    assert_eq!(rt; told.as_slice(), want);
+    Ok(())
+}
+
+#[test]
+fn tells_what_goes_from_a_self_join(rt: HostRuntime) -> Result<(), Fail> {
+    let query = paths(rt.alloc())?;
+    let told = trace::<Brand>(&rt, query, &[12, 22, 23, -23, -99, -22], Blanks::new(&rt))?;
+    let want: &[i64] = &[0, 122, 222, 0, 123, 223, 0, 1123, 1223, 0, 0, 1122, 1222, 0];
+    assert_eq!(rt; told.as_slice(), want);
+    Ok(())
+}
+
+#[test]
+fn tells_nothing_of_further_copies(rt: HostRuntime) -> Result<(), Fail> {
+    let query = paths(rt.alloc())?;
+    let told = trace::<Brand>(&rt, query, &[12, 23, 23, -23, -23], Blanks::new(&rt))?;
+    let want: &[i64] = &[0, 123, 0, 0, 0, 1123, 0];
+    assert_eq!(rt; told.as_slice(), want);
+    Ok(())
+}
+
+/// Whether these numbers are an answer.
+pub(super) fn holds<L: Ledgers>(
+    alloc: Global,
+    live: &LiveQuery,
+    catalog: &Catalog,
+    digits: &[i64],
+    listing: &mut Tally<Listing<L>>,
+) -> Result<bool, Fail>
+    requires live { IsLive catalog.now live.now }
+{
+    let tuple = row(alloc, digits)?;
+    match live.suits(tuple.as_slice()) {
+        Ok(()) => Ok(live.has(catalog, tuple.as_slice(), listing)),
+        Err(_refusal) => Err(NoMem)?,
+    }
+}
+
+/// Whether 1 2 3 is an answer once 1 2 and 2 3 have come, and once 2 3 has gone.
+#[derive(Drop)]
+struct Held {
+    before: bool,
+    after: bool,
+}
+
+fn hold<L: Ledgers>(
+    alloc: Global,
+    catalog: &mut Catalog,
+    steps: &mut Steps<L>,
+) -> Result<Held, Fail> {
+    let mut live = build_over_pairs(alloc, catalog, paths(alloc)?, steps)?;
+    let r = RelationId { at: 0 };
+    let _came = change(alloc, catalog, &mut live, r, true, &[1, 2], steps)?;
+    let _more = change(alloc, catalog, &mut live, r, true, &[2, 3], steps)?;
+    let before = holds(alloc, &live, catalog, &[1, 2, 3], &mut steps.listing)?;
+    let _went = change(alloc, catalog, &mut live, r, false, &[2, 3], steps)?;
+    let after = holds(alloc, &live, catalog, &[1, 2, 3], &mut steps.listing)?;
+    Ok(Held { before, after })
+}
+
+fn watch<L: Ledgers>(rt: &HostRuntime, blanks: Blanks) -> Result<Held, Fail>
+    requires listing { blanks.listing.name ≡ L.listing }
+    requires update { blanks.update.name ≡ L.update }
+    requires rows { blanks.rows.name ≡ L.rows }
+{
+    let mut steps = Steps::<L>::new(rt, blanks);
+    let mut catalog = Catalog::new(rt.alloc())?;
+    hold(rt.alloc(), &mut catalog, &mut steps)
+}
+
+#[test]
+fn has_an_answer_until_its_row_goes(rt: HostRuntime) -> Result<(), Fail> {
+    let held = watch::<Brand>(&rt, Blanks::new(&rt))?;
+    assert!(rt; held.before);
+    assert!(rt; !held.after);
+    Ok(())
 }

@@ -1,6 +1,0 @@
--- The counters stand on the ledgers that the blanks are of.
-use Rattle.djq_live.proofs.tests.answers_are_told_and_listed.Given as goal
-
-abbrev pub ghosts-see : goal.ghosts-see
-ghosts-see g a =
-    record { listing = a.blanks.listing.name; update = a.blanks.update.name; rows = a.blanks.rows.name }
