@@ -154,8 +154,8 @@ fn run_line<L: Ledgers>(
     }
 }
 
-/// The same of a line that isn't one of a row, where no batch is open. It stands apart so that a row's line clears no room for
-/// a command.
+/// The same of a line that isn't one of a row, where no batch is open. It stands apart so that a
+/// row's line clears no room for a command.
 #[inline(never)]
 fn run_other<L: Ledgers>(
     alloc: Global,
