@@ -14,7 +14,7 @@ use Rattle.djq_rows.specs.Cells.{HaveCells, StandFor}
 use Rattle.djq_rows.specs.Laws.{CellsStay}
 use Rattle.djq_rows.specs.Catalog.{Catalog, IsCatalog, IsKeptRelation, no_relation, relation_at, counted_at}
 use Rattle.djq_rows.specs.Catalog.{rows_at, with_rows_at}
-use Rattle.djq_live.specs.Changes.{HasSameRows, StandForRows}
+use Rattle.djq_leaves.specs.Changes.{HasSameRows, StandForRows}
 use Rattle.djq_reach.specs.declared.group.Group.{Group}
 use Rattle.djq_reach.specs.Places.{is_reader, AreOnce}
 use Rattle.djq_reach.specs.Grouping.{group_relations, ComesBy}

@@ -19,7 +19,7 @@ use Rattle.djq_machine.specs.Batch.{with_all, has_come, first_read, rows_held, b
 use Rattle.djq_machine.specs.Delta.{Change, IsDelta}
 use Rattle.djq_machine.specs.Watch.{delta_steps}
 use Rattle.djq_rows.specs.Catalog.{Catalog, relation_at, rows_at}
-use Rattle.djq_live.specs.Changes.{HasSameRows}
+use Rattle.djq_leaves.specs.Changes.{HasSameRows}
 use Rattle.djq_live.specs.Live.{Live, IsKept}
 use Rattle.djq_live.specs.Staying.{StaysOver, LiveStays}
 use Rattle.djq_reach.specs.declared.group.Group.{Group}

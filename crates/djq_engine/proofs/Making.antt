@@ -16,8 +16,8 @@ use Rattle.djq_rows.specs.declared.refusal.RowsRefusal.{RowsRefusal}
 use Rattle.djq_rows.specs.declared.refusal.RowsRefusal.TheVariants.{NameTaken, Full, NoMem}
 use Rattle.djq_rows.specs.Catalog.{Catalog, IsCatalog, no_relation, relation_at, rows_at}
 use Rattle.djq_rows.specs.Changes.{MakesRelationAt}
-use Rattle.djq_live.specs.Asked.{AreAtomsOf}
-use Rattle.djq_live.specs.Changes.{HasSameRows}
+use Rattle.djq_planned.specs.Asked.{AreAtomsOf}
+use Rattle.djq_leaves.specs.Changes.{HasSameRows}
 use Rattle.djq_live.specs.Live.{Live}
 use Rattle.djq_live.specs.Staying.{LiveStays}
 use Rattle.djq_reach.specs.Places.{place_at, is_reader, readers_at, reads_place}

@@ -25,7 +25,7 @@ use Rattle.djq_rows.specs.Cells.{StandFor}
 use Rattle.djq_rows.specs.Laws.{NamesTell, TextsStay, CellsStay}
 use Rattle.djq_rows.specs.Catalog.{Catalog, IsCatalog, StandForRow, no_relation, relation_at}
 use Rattle.djq_rows.specs.Catalog.{counted_at, rows_at, with_rows_at}
-use Rattle.djq_live.specs.Changes.{StandForRows}
+use Rattle.djq_leaves.specs.Changes.{StandForRows}
 use Rattle.djq_reach.specs.declared.group.Group.{Group}
 use Rattle.djq_reach.specs.Places.{is_reader}
 use Rattle.djq_reach.specs.Grouping.{group_relations}

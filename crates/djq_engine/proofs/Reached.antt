@@ -21,7 +21,7 @@ use Rattle.djq_machine.specs.Delta.{Change, IsDelta, HasChanged}
 use Rattle.djq_query.specs.declared.numbered.NumberedAtom.{NumberedAtom}
 use Rattle.djq_query.specs.declared.numbered.Variable.{Variable}
 use Rattle.djq_rows.specs.Catalog.{Catalog, relation_at, rows_at}
-use Rattle.djq_live.specs.Asked.{AreAtomsOf}
+use Rattle.djq_planned.specs.Asked.{AreAtomsOf}
 use Rattle.djq_live.specs.Live.{Live}
 use Rattle.djq_reach.specs.declared.group.Group.{Group}
 use Rattle.djq_reach.specs.Places.{place_at, reads_place, is_reader, readers_at}

@@ -29,7 +29,7 @@ use Rattle.djq_machine.specs.Store.{most_steps, LearnsAll, LearnsFirst, FindsNoP
 use Rattle.djq_rows.specs.Catalog.{Catalog, IsCatalog}
 use Rattle.djq_rows.specs.Laws.{TextsStay}
 use Rattle.djq_live.specs.Cursors.{Progress, slot_at, are_vacant}
-use Rattle.djq_live.specs.Planning.{InternsConstants}
+use Rattle.djq_planned.specs.Planning.{InternsConstants}
 use Rattle.djq_cursor.specs.Log.{Log}
 use Rattle.djq_live.specs.Live.{Live, IsLive, ShowableStays}
 use Rattle.djq_live.specs.Staying.{StaysOver, LiveStays}

@@ -35,7 +35,7 @@ use Rattle.djq_rows.specs.Laws.{NamesTell, TextsStay}
 use Rattle.djq_model.specs.Known.{texts_in, all_learned}
 use Rattle.djq_rows.specs.Catalog.{Catalog, relation_at, counted_at, with_rows_at}
 use Rattle.djq_deltas.specs.Finite.{DeltasExist}
-use Rattle.djq_live.specs.Asked.{AreAtomsOf}
+use Rattle.djq_planned.specs.Asked.{AreAtomsOf}
 use Rattle.djq_live.specs.Body.{HeadsAreBound}
 use Rattle.djq_live.specs.Live.{Live, IsKept, ShowableStays}
 use Rattle.djq_live.specs.Updating.{atoms_over, delta_bound, change_of}

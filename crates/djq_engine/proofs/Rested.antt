@@ -18,7 +18,7 @@ use Rattle.djq_machine.specs.Store.{LearnsFirst}
 use Rattle.djq_machine.specs.Batch.{AddsBatch, RefusesBatch, HavePlaces, BatchStopsAt, is_there}
 use Rattle.djq_machine.specs.Batch.{with_held, with_all, has_come, count_came, first_read, store_behind}
 use Rattle.djq_rows.specs.Catalog.{Catalog, IsCatalog, relation_at, rows_at}
-use Rattle.djq_live.specs.Changes.{HasSameRows}
+use Rattle.djq_leaves.specs.Changes.{HasSameRows}
 use Rattle.djq_live.specs.Live.{Live, ShowableStays}
 use Rattle.djq_live.specs.Staying.{LiveStays}
 use Rattle.djq_reach.specs.declared.group.Group.{Group}

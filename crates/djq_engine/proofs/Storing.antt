@@ -25,10 +25,10 @@ use Rattle.djq_rows.specs.Catalog.{Catalog, IsCatalog, StandForRow, no_relation,
 use Rattle.djq_rows.specs.Catalog.{counted_at, rows_at, with_rows_at}
 use Rattle.djq_rows.specs.Changes.{AddsRowAt, DeletesRowAt, HasNoPlace, InternsRow}
 use Rattle.djq_rows.specs.Laws.{TextsStay}
-use Rattle.djq_live.specs.Changes.{HasSameRows, Came, Went, AddedCame, DeletedWent, CopiesKeepRows}
+use Rattle.djq_leaves.specs.Changes.{HasSameRows, Came, Went, AddedCame, DeletedWent, CopiesKeepRows}
 use Rattle.djq_live.specs.Live.{Live, IsKept}
 use Rattle.djq_live.specs.Staying.{StaysOver, LiveStays, CamePasses, WentPasses}
-use Rattle.djq_live.proofs.Members.{in_last}
+use Rattle.djq_planned.proofs.Members.{in_last}
 use Rattle.djq_engine.specs.declared.parts.Parts.{Parts}
 use Rattle.djq_reach.specs.Places.{place_at, readers_at, AreOnce}
 use Rattle.djq_engine.specs.Sound.{QueriesAreSound}

@@ -13,7 +13,7 @@ use Rattle.djq_machine.specs.Batch.{count_came, has_come}
 use Rattle.djq_rows.specs.Cells.{HaveCells, cells_of}
 use Rattle.djq_rows.specs.Catalog.{Catalog, relation_at, counted_at, rows_at, with_rows_at}
 use Rattle.djq_rows.specs.declared.relation_id.RelationId.{RelationId}
-use Rattle.djq_live.specs.Changes.{StandForRows}
+use Rattle.djq_leaves.specs.Changes.{StandForRows}
 use Rattle.djq_reach.specs.declared.group.Group.{Group}
 use Rattle.djq_reach.specs.Places.{is_reader, AreOnce}
 use Rattle.djq_reach.specs.Grouping.{group_relations, rows_of_groups}

@@ -17,10 +17,9 @@ use crate::places::{find_query, leave_all, leave_out, unaffect, vacant_place};
 use djq_dict::InternRefusal;
 use djq_lines::limits::QUERIES;
 use djq_lines::{QueryOutcome, Refusal};
-use djq_live::{
-    LiveQuery, Unplanned, intern_constants, live_stays, plan_query, query_fault_of, showable_stays,
-};
+use djq_live::{LiveQuery, live_stays, showable_stays};
 use djq_model::{Name, NoMem, Query, Sequence};
+use djq_planned::{Unplanned, intern_constants, plan_query, query_fault_of};
 use djq_reach::is_watched;
 use djq_rows::{Catalog, RelationId, texts_stay};
 use djq_steps::{Ledgers, Steps};

@@ -63,7 +63,7 @@ use Rattle.djq_live.specs.Live.{Live, IsShowable}
 use Rattle.djq_live.specs.Member.{has_cells, head_types, in_tree, query_at, queries_at}
 use Rattle.djq_live.specs.Updating.{change_of}
 use Rattle.djq_live.proofs.AtPlaces.{as_many}
-use Rattle.djq_live.proofs.Listings.{in_image, image_of}
+use Rattle.djq_leaves.proofs.Listings.{in_image, image_of}
 use Rattle.djq_engine.specs.Lending.{sign_of}
 use Rattle.djq_engine.specs.Kept.{Kept}
 use Rattle.djq_gains.specs.Told.{GoOneWay, StandsIn, IsTold, AreTold}

@@ -45,7 +45,7 @@ use Rattle.djq_live.specs.Member.{
   AreAlike,
 }
 use Rattle.djq_live.proofs.AtPlaces.{as_many}
-use Rattle.djq_live.proofs.Listings.{in_image, image_of}
+use Rattle.djq_leaves.proofs.Listings.{in_image, image_of}
 use Rattle.djq_engine.specs.Kept.{Kept, PlacesAreKept, CellsAre}
 use Rattle.djq_engine.specs.Kept.{ToldCellsFit as AreShown}
 use Rattle.djq_gains.specs.Told.{StandsIn}

@@ -40,7 +40,7 @@ use Rattle.djq_arena.specs.Rows.{Row, SlotRows, AreRows, AreWideRows, IsAbsent, 
 use Rattle.djq_arena.proofs.Lists.{different_here, out_front, out_back, below_here}
 use Rattle.djq_arena.proofs.RowLemmas.{slots-append}
 use Rattle.djq_union.proofs.Lists.{head_or_tail}
-use Rattle.djq_live.proofs.Listings.{in_image, image_of}
+use Rattle.djq_leaves.proofs.Listings.{in_image, image_of}
 use Rattle.djq_gains.specs.Gathered.{
   Gain,
   Stand,

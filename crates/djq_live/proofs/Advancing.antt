@@ -69,7 +69,7 @@ use Rattle.djq_live.specs.Reading.{
   QueryMoreGivesAt,
   next_steps,
 }
-use Rattle.djq_live.proofs.Members.{in_last}
+use Rattle.djq_planned.proofs.Members.{in_last}
 use Rattle.djq_live.proofs.Showing.{query_answer, tree_answer, differ}
 
 last_at : {A : Type 0} (us : List A) (u d : A)

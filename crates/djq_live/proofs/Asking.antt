@@ -90,14 +90,14 @@ use Rattle.djq_rows.specs.Cells.{cells_of, HaveCells, CellStandsFor}
 use Rattle.djq_rows.specs.Parts.{value_of}
 use Rattle.djq_rows.specs.Catalog.{Catalog, IsCatalog, relation_at}
 use Rattle.djq_rows.proofs.Encoding.{value_back, unknown_row}
-use Rattle.djq_live.specs.Asked.{column_of, TermsSuit, IsAtomOf, AreAtomsOf}
-use Rattle.djq_live.specs.Leaves.{IsOver}
+use Rattle.djq_planned.specs.Asked.{column_of, TermsSuit, IsAtomOf, AreAtomsOf}
+use Rattle.djq_leaves.specs.Leaves.{IsOver}
 use Rattle.djq_live.specs.Live.{Live, IsLive, IsKeptSomewhere, IsShowable}
 use Rattle.djq_live.specs.Order.{cell_of_variable, AreCellsOfAnswer}
 use Rattle.djq_live.specs.Shown.{value_at, shown, AreShownAs}
 use Rattle.djq_reduct.proofs.Readings.{IsSimple, Within, simple_of, cell_there, row_same, reading_row, member_on}
 use Rattle.djq_hyper.proofs.Rising.{member_here}
-use Rattle.djq_live.proofs.Heads.{in_atom}
+use Rattle.djq_leaves.proofs.Heads.{in_atom}
 use Rattle.djq_live.proofs.Picking.{member_at}
 use Rattle.djq_live.proofs.Rows.{found_at}
 use Rattle.djq_live.proofs.Showable.{stands_at}

@@ -43,8 +43,8 @@ use Rattle.djq_query.specs.Numbered.{labels, is_number}
 use Rattle.djq_query.specs.Meaning.{TermIsShown, TermsAreShown, Rise, holes_among, holes_in}
 use Rattle.djq_rows.specs.Cells.{cell_for, HasCell, HaveCells, CellStandsFor, IsCell}
 use Rattle.djq_rows.specs.Catalog.{Catalog, IsCatalog, relation_at, rows_at}
-use Rattle.djq_live.specs.Cells.{IsSatisfied}
-use Rattle.djq_live.specs.Asked.{column_of, TermSuits, TermsSuit, AreAtomsOf}
+use Rattle.djq_leaves.specs.Cells.{IsSatisfied}
+use Rattle.djq_planned.specs.Asked.{column_of, TermSuits, TermsSuit, AreAtomsOf}
 use Rattle.djq_live.proofs.Rows.{rows_are, row_fits, row_cells}
 use Rattle.djq_live.proofs.Terms.{HasOne, value_by, stand_terms, cell_among}
 use Rattle.djq_live.proofs.Holes.{

@@ -21,15 +21,15 @@ use Rattle.djq_query.specs.declared.numbered.NumberedAtom.{NumberedAtom}
 use Rattle.djq_query.specs.Pattern.{Shape}
 use Rattle.djq_rows.specs.Catalog.{Catalog, IsCatalog, no_relation, relation_at, rows_at}
 use Rattle.djq_rows.proofs.Lawful.{differ as cells_differ}
-use Rattle.djq_live.specs.Changes.{CameAll, StandForRows}
+use Rattle.djq_leaves.specs.Changes.{CameAll, StandForRows}
 use Rattle.djq_live.specs.Live.{Live, IsKept}
 use Rattle.djq_live.specs.Updating.{CanAddAll}
-use Rattle.djq_live.specs.Stepping.{ChangesBelow}
-use Rattle.djq_live.specs.Batching.{AreDistinct, AreTuples, RowsFit, CanTake, GainsTuples, LosesTuples}
-use Rattle.djq_live.proofs.Batched.{times_in}
+use Rattle.djq_leaves.specs.Stepping.{ChangesBelow}
+use Rattle.djq_leaves.specs.Batching.{AreDistinct, AreTuples, RowsFit, CanTake, GainsTuples, LosesTuples}
+use Rattle.djq_leaves.proofs.Batched.{times_in}
 use Rattle.djq_live.proofs.Changing.{stands_in}
-use Rattle.djq_live.proofs.Heads.{has_at}
-use Rattle.djq_live.proofs.Members.{first_different}
+use Rattle.djq_leaves.proofs.Heads.{has_at}
+use Rattle.djq_planned.proofs.Members.{first_different}
 use Rattle.djq_live.proofs.Living.{inside, rows_few}
 use Rattle.djq_live.proofs.Rowing.{leaves_of, none_there, same_kept}
 use Rattle.djq_live.proofs.Small.{leaf_few}

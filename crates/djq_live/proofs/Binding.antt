@@ -43,10 +43,10 @@ use Rattle.djq_query.specs.Pattern.{
 }
 use Rattle.djq_rows.specs.Cells.{cell_for, cells_of}
 use Rattle.djq_rows.specs.Catalog.{Catalog}
-use Rattle.djq_live.specs.Asked.{constants_in}
-use Rattle.djq_live.specs.Cells.{AreRowOf, cell_under, IsPassed, IsSatisfied}
-use Rattle.djq_live.specs.Leaves.{AreCellsOfTerms, GivesOne, IsPatternOf, IsLeafOf}
-use Rattle.djq_live.proofs.Members.{in_cons, in_rest}
+use Rattle.djq_planned.specs.Asked.{constants_in}
+use Rattle.djq_leaves.specs.Cells.{AreRowOf, cell_under, IsPassed, IsSatisfied}
+use Rattle.djq_leaves.specs.Leaves.{AreCellsOfTerms, GivesOne, IsPatternOf, IsLeafOf}
+use Rattle.djq_planned.proofs.Members.{in_cons, in_rest}
 
 place_on : (y : ℕ) (l : List ℕ) (x : ℕ) → (y ≡ x → ⊥)
     → position_or_len (λ z. z == x) (y ∷ l) ≡ suc (position_or_len (λ z. z == x) l)

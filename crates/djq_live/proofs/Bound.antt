@@ -18,12 +18,12 @@ use Rattle.djq_query.specs.declared.numbered.NumberedAtom.{NumberedAtom}
 use Rattle.djq_query.specs.Numbered.{labels, is_number}
 use Rattle.djq_query.specs.Meaning.{TermIsShown, TermsAreShown}
 use Rattle.djq_rows.specs.Catalog.{Catalog}
-use Rattle.djq_live.specs.Asked.{AreAtomsOf}
+use Rattle.djq_planned.specs.Asked.{AreAtomsOf}
 use Rattle.djq_live.specs.Body.{HeadsAreBound}
 use Rattle.djq_reduct.proofs.Readings.{member_on}
 use Rattle.djq_hyper.proofs.Rising.{member_here}
-use Rattle.djq_live.proofs.Heads.{in_atom}
-use Rattle.djq_live.proofs.Members.{in_cons, in_rest}
+use Rattle.djq_leaves.proofs.Heads.{in_atom}
+use Rattle.djq_planned.proofs.Members.{in_cons, in_rest}
 use Rattle.djq_live.proofs.Showing.{first_label, rest_labels}
 
 -- a number of the head has the name

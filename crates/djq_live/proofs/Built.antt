@@ -48,8 +48,8 @@ use Rattle.djq_query.specs.Numbered.{
 use Rattle.djq_query.specs.Pattern.{Shape}
 use Rattle.djq_rows.specs.Cells.{HaveCells}
 use Rattle.djq_rows.specs.Catalog.{Catalog, IsCatalog, no_relation, relation_at}
-use Rattle.djq_live.specs.Asked.{HaveConstants, IsAsked, constants_in}
-use Rattle.djq_live.specs.Building.{
+use Rattle.djq_planned.specs.Asked.{HaveConstants, IsAsked, constants_in}
+use Rattle.djq_leaves.specs.Building.{
   AreBindable,
   AreFilled,
   ArePatternsOf,
@@ -59,14 +59,15 @@ use Rattle.djq_live.specs.Building.{
 use Rattle.djq_slots.specs.declared.progress.Progress.TheVariants.{Open}
 use Rattle.djq_live.specs.Cursors.{Progress, slot_at}
 use Rattle.djq_live.specs.Live.{IsLive}
-use Rattle.djq_live.specs.Planning.{Planned, IsPlanned}
-use Rattle.djq_live.specs.Leaves.{IsOver, IsPatternOf}
-use Rattle.djq_live.proofs.Constants.{HaveFrom, compared_have, have_parts}
-use Rattle.djq_live.proofs.Graphs.{count_labels, edges_long, head_numbers, high_head}
-use Rattle.djq_live.proofs.Heads.{has_at}
+use Rattle.djq_planned.specs.Planning.{IsPlanned}
+use Rattle.djq_planned.specs.declared.plan.PlannedQuery.{PlannedQuery}
+use Rattle.djq_leaves.specs.Leaves.{IsOver, IsPatternOf}
+use Rattle.djq_planned.proofs.Constants.{HaveFrom, compared_have, have_parts}
+use Rattle.djq_planned.proofs.Graphs.{count_labels, edges_long, head_numbers, high_head}
+use Rattle.djq_leaves.proofs.Heads.{has_at}
 use Rattle.djq_live.proofs.Later.{atom_at}
-use Rattle.djq_live.proofs.Patterns.{bound_long, cells_long}
-use Rattle.djq_live.proofs.Sets.{set_has, set_lacks}
+use Rattle.djq_leaves.proofs.Patterns.{bound_long, cells_long}
+use Rattle.djq_planned.proofs.Sets.{set_has, set_lacks}
 use Rattle.djq_live.proofs.Trees.{
   edge_says,
   label_few,
@@ -274,7 +275,7 @@ none_filled c atoms ps r empty = record {
 
 -- ---- as the calls say it
 
-pub given_of : (c : Catalog) (q : Query) (n : Numbered) (t : Tree) (p : Planned) → IsCatalog c
+pub given_of : (c : Catalog) (q : Query) (n : Numbered) (t : Tree) (p : PlannedQuery) → IsCatalog c
     → query_fault c.relations q ≡ None → IsPlanned c.relations q p
     → n ≡ p.numbered → t ≡ p.tree → IsWithin n → IsTree t
     → HaveCells c.texts (constants_of q) → IsGiven c q n t

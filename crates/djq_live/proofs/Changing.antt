@@ -48,9 +48,9 @@ use Rattle.djq_rows.specs.Catalog.{
   rows_at,
 }
 use Rattle.djq_rows.proofs.Lawful.{differ as cells_differ}
-use Rattle.djq_live.specs.Cells.{AreRowOf}
-use Rattle.djq_live.specs.Leaves.{Holds, IsLeafOf, IsOver}
-use Rattle.djq_live.specs.Changes.{
+use Rattle.djq_leaves.specs.Cells.{AreRowOf}
+use Rattle.djq_leaves.specs.Leaves.{Holds, IsLeafOf, IsOver}
+use Rattle.djq_leaves.specs.Changes.{
   IsLater,
   CameAll,
   StandForRows,
@@ -62,8 +62,8 @@ use Rattle.djq_live.specs.Changes.{
   OverGains,
   OverLoses,
 }
-use Rattle.djq_live.proofs.Giving.{gives_once, gives_same, one_as}
-use Rattle.djq_live.proofs.Members.{in_rest, in_cons, in_without, still_in}
+use Rattle.djq_leaves.proofs.Giving.{gives_once, gives_same, one_as}
+use Rattle.djq_planned.proofs.Members.{in_rest, in_cons, in_without, still_in}
 use Rattle.djq_live.proofs.Later.{asked_later, atom_at, pattern_later, cells_later, constants_have}
 
 have_cells : (c : Catalog) (at : ℕ) (row : Tuple) → IsCatalog c → at < length c.relations

@@ -40,17 +40,17 @@ use Rattle.djq_rows.specs.Cells.{cell_for, HasCell, CellStandsFor}
 use Rattle.djq_rows.specs.Parts.{value_of}
 use Rattle.djq_rows.specs.Catalog.{Catalog, IsCatalog}
 use Rattle.djq_rows.proofs.Encoding.{value_back, stands_back}
-use Rattle.djq_live.specs.Asked.{
+use Rattle.djq_planned.specs.Asked.{
   column_of,
   is_in,
   AreAtomsOf,
   IsComparisonOf,
   AreComparisonsOf,
 }
-use Rattle.djq_live.specs.Cells.{IsPassed}
+use Rattle.djq_leaves.specs.Cells.{IsPassed}
 use Rattle.djq_live.proofs.Atoms.{AreSatisfied, AreRowsFor, cell_at, value_in}
 use Rattle.djq_live.proofs.Holes.{HasNames}
-use Rattle.djq_live.proofs.Members.{in_cons, in_rest}
+use Rattle.djq_planned.proofs.Members.{in_cons, in_rest}
 use Rattle.djq_live.proofs.Terms.{HasOne, value_by, value_by_is}
 
 -- ---- one comparison

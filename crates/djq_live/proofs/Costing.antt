@@ -33,11 +33,11 @@ use Rattle.djq_query.specs.Numbered.{Numbered, labels, is_number}
 use Rattle.djq_query.specs.Meaning.{TermIsShown, TermsAreShown}
 use Rattle.djq_query.specs.Pattern.{Shape}
 use Rattle.djq_rows.specs.Catalog.{Catalog}
-use Rattle.djq_live.specs.Asked.{IsAsked}
-use Rattle.djq_live.specs.Leaves.{IsOver}
+use Rattle.djq_planned.specs.Asked.{IsAsked}
+use Rattle.djq_leaves.specs.Leaves.{IsOver}
 use Rattle.djq_live.specs.Live.{Live, IsKept, IsKeptSomewhere}
-use Rattle.djq_live.specs.Stepping.{GrowsByOne, CountsLeaves, BoundsLeaf, atoms_below}
-use Rattle.djq_live.specs.Batching.{GrowsBy, CountsMany, CountsGiven}
+use Rattle.djq_leaves.specs.Stepping.{GrowsByOne, CountsLeaves, BoundsLeaf, atoms_below}
+use Rattle.djq_leaves.specs.Batching.{GrowsBy, CountsMany, CountsGiven}
 use Rattle.djq_live.specs.Updating.{
   CountsBatchAt,
   CountsUpdate,
@@ -47,12 +47,12 @@ use Rattle.djq_live.specs.Updating.{
   update_bound,
   flat_bound,
 }
-use Rattle.djq_live.proofs.Heads.{InAtom, leaf_with, leaf_atom}
+use Rattle.djq_leaves.proofs.Heads.{InAtom, leaf_with, leaf_atom}
 use Rattle.djq_live.proofs.Later.{atom_at}
-use Rattle.djq_live.proofs.Passing.{part_few}
-use Rattle.djq_live.proofs.Sets.{below_has}
-use Rattle.djq_live.proofs.Crowding.{one_larger, all_grown as many_grown}
-use Rattle.djq_live.proofs.Sizing.{all_grown}
+use Rattle.djq_leaves.proofs.Passing.{part_few}
+use Rattle.djq_planned.proofs.Sets.{below_has}
+use Rattle.djq_leaves.proofs.Crowding.{one_larger, all_grown as many_grown}
+use Rattle.djq_leaves.proofs.Sizing.{all_grown}
 
 -- ---- paths are no longer than there are atoms and variables
 

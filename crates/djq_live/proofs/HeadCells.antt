@@ -13,8 +13,8 @@ use Rattle.djq_live.specs.declared.headed.HeadCell.{HeadCell}
 use Rattle.djq_live.specs.Headed.{head_cell, head_set, head_cells}
 use Rattle.djq_live.specs.Live.{Live, IsKeptSomewhere, IsShowable}
 use Rattle.djq_live.proofs.Asking.{ReadsValue, head_long, reads_value}
-use Rattle.djq_live.proofs.Graphs.{high_head}
-use Rattle.djq_live.proofs.Sets.{is_set}
+use Rattle.djq_planned.proofs.Graphs.{high_head}
+use Rattle.djq_planned.proofs.Sets.{is_set}
 
 -- a rising list of the head's variables is their set
 pub is_head_set : (n : Numbered) (e : List ℕ) → IsWithin n → IsVariableSet e

@@ -47,7 +47,7 @@ use Rattle.djq_query.specs.declared.numbered.NumberedTerm.TheVariants.{
 }
 use Rattle.djq_query.specs.Meaning.{TermsAreShown, Rise, hole_of, holes_among}
 use Rattle.djq_rows.specs.Cells.{cell_for, cells_of}
-use Rattle.djq_live.specs.Cells.{cell_under}
+use Rattle.djq_leaves.specs.Cells.{cell_under}
 
 -- ---- rising numbers
 

@@ -56,7 +56,7 @@ use Rattle.djq_live.specs.Live.{Live, IsKeptSomewhere}
 use Rattle.djq_live.specs.Member.{in_head, all_answers, has_cells, cells_given, FitsKept}
 use Rattle.djq_live.specs.Order.{cell_of_variable, AreCellsOfAnswer}
 use Rattle.djq_live.proofs.Asking.{head_narrow, leaves_long}
-use Rattle.djq_live.proofs.Members.{in_last}
+use Rattle.djq_planned.proofs.Members.{in_last}
 use Rattle.djq_live.proofs.Picking.{member_at}
 
 -- ---- writing an answer's cells

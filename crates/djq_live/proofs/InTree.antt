@@ -45,7 +45,7 @@ use Rattle.djq_query.proofs.Numbers.{not_false}
 use Rattle.djq_rows.specs.Cells.{cell_for, cells_of, HaveCells}
 use Rattle.djq_rows.specs.Parts.{value_of}
 use Rattle.djq_rows.proofs.Encoding.{value_back}
-use Rattle.djq_live.specs.Asked.{column_of}
+use Rattle.djq_planned.specs.Asked.{column_of}
 use Rattle.djq_live.specs.Live.{values_of}
 use Rattle.djq_live.specs.Member.{in_tree, CellsInTreeStand}
 use Rattle.djq_live.specs.Order.{cell_of_variable}

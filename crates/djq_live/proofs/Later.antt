@@ -21,7 +21,7 @@ use Rattle.djq_query.specs.Pattern.{Shape, tests_of}
 use Rattle.djq_rows.specs.Cells.{cells_of, HaveCells}
 use Rattle.djq_rows.specs.Catalog.{Catalog, relation_at}
 use Rattle.djq_rows.proofs.Lawful.{stay}
-use Rattle.djq_live.specs.Asked.{
+use Rattle.djq_planned.specs.Asked.{
   TermsSuit,
   IsAtomOf,
   AreAtomsOf,
@@ -29,9 +29,9 @@ use Rattle.djq_live.specs.Asked.{
   IsAsked,
   constants_in,
 }
-use Rattle.djq_live.specs.Leaves.{AreCellsOfTerms, IsPatternOf}
-use Rattle.djq_live.specs.Changes.{IsLater}
-use Rattle.djq_live.proofs.Members.{in_rest}
+use Rattle.djq_leaves.specs.Leaves.{AreCellsOfTerms, IsPatternOf}
+use Rattle.djq_leaves.specs.Changes.{IsLater}
+use Rattle.djq_planned.proofs.Members.{in_rest}
 use Rattle.djq_rows.proofs.Encoding.{has_more, cell_more}
 
 suited_later : (texts more : List Bytes) (vs : List Variable) (ns : List NumberedTerm)

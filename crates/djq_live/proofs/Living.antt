@@ -23,8 +23,8 @@ use Rattle.djq_query.specs.declared.numbered.NumberedAtom.{NumberedAtom}
 use Rattle.djq_query.specs.Numbered.{Numbered}
 use Rattle.djq_query.specs.Pattern.{Shape}
 use Rattle.djq_rows.specs.Catalog.{Catalog, IsCatalog, no_relation, rows_at}
-use Rattle.djq_live.specs.Leaves.{IsOver}
-use Rattle.djq_live.specs.Changes.{IsLater, Came, CameAll, Went, GainsTuple, GainsAll, Loses}
+use Rattle.djq_leaves.specs.Leaves.{IsOver}
+use Rattle.djq_leaves.specs.Changes.{IsLater, Came, CameAll, Went, GainsTuple, GainsAll, Loses}
 use Rattle.djq_live.specs.Shown.{shown}
 use Rattle.djq_live.specs.Live.{Live, IsKept, SameQuery, values_of}
 use Rattle.djq_live.specs.Updating.{
@@ -37,7 +37,7 @@ use Rattle.djq_live.specs.Updating.{
   atoms_over,
   change_of,
 }
-use Rattle.djq_live.specs.Stepping.{
+use Rattle.djq_leaves.specs.Stepping.{
   LacksCells,
   Has,
   HasMore,
@@ -48,12 +48,12 @@ use Rattle.djq_live.specs.Stepping.{
   atoms_below,
   answer_lines,
 }
-use Rattle.djq_live.proofs.Giving.{one_of}
-use Rattle.djq_live.proofs.Members.{in_cons, in_rest}
+use Rattle.djq_leaves.proofs.Giving.{one_of}
+use Rattle.djq_planned.proofs.Members.{in_cons, in_rest}
 use Rattle.djq_hyper.proofs.Rising.{member_here}
 use Rattle.djq_reduct.proofs.Readings.{member_on}
-use Rattle.djq_live.proofs.Listings.{few}
-use Rattle.djq_live.proofs.Passing.{part_few}
+use Rattle.djq_leaves.proofs.Listings.{few}
+use Rattle.djq_leaves.proofs.Passing.{part_few}
 use Rattle.djq_live.proofs.Showing.{tree_answer}
 use Rattle.djq_live.proofs.Small.{leaf_few}
 use Rattle.djq_live.proofs.Showable.{new_lines, old_lines}

@@ -15,7 +15,7 @@ use Rattle.djq_rows.specs.Catalog.{Catalog, counted_at, with_rows_at}
 use Rattle.djq_rows.specs.Changes.{AddsRowAt}
 use Rattle.djq_live.specs.Live.{Live, IsKept, IsShowable}
 use Rattle.djq_live.specs.Updating.{LogsDelta}
-use Rattle.djq_live.proofs.Members.{in_rest}
+use Rattle.djq_planned.proofs.Members.{in_rest}
 use Rattle.djq_live.proofs.Showable.{stays_showable}
 
 pub same_catalog : (c d : Catalog) → d.relations ≡ c.relations → d.texts ≡ c.texts → d ≡ c

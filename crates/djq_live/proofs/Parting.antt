@@ -35,21 +35,21 @@ use Rattle.djq_query.specs.Numbered.{Numbered, labels}
 use Rattle.djq_query.specs.Pattern.{Shape}
 use Rattle.djq_rows.specs.Cells.{cell_for, CellStandsFor, IsCell}
 use Rattle.djq_rows.specs.Catalog.{Catalog, rows_at}
-use Rattle.djq_live.specs.Asked.{IsAsked, column_of}
-use Rattle.djq_live.specs.Cells.{AreRowOf, IsSatisfied}
-use Rattle.djq_live.specs.Leaves.{GivesOne, IsOver}
-use Rattle.djq_live.specs.Changes.{IsLater, CameAll, GainsAll}
+use Rattle.djq_planned.specs.Asked.{IsAsked, column_of}
+use Rattle.djq_leaves.specs.Cells.{AreRowOf, IsSatisfied}
+use Rattle.djq_leaves.specs.Leaves.{GivesOne, IsOver}
+use Rattle.djq_leaves.specs.Changes.{IsLater, CameAll, GainsAll}
 use Rattle.djq_live.specs.Shown.{value_at, shown}
-use Rattle.djq_live.specs.Stepping.{ChangesBelow}
+use Rattle.djq_leaves.specs.Stepping.{ChangesBelow}
 use Rattle.djq_reduct.proofs.Readings.{cell_there, row_same}
-use Rattle.djq_live.proofs.Filling.{assigned_of}
-use Rattle.djq_live.proofs.Tabling.{IsIn}
-use Rattle.djq_live.proofs.Giving.{one_as}
+use Rattle.djq_leaves.proofs.Filling.{assigned_of}
+use Rattle.djq_leaves.proofs.Tabling.{IsIn}
+use Rattle.djq_leaves.proofs.Giving.{one_as}
 use Rattle.djq_live.proofs.Binding.{ArePassedIn, given_both}
 use Rattle.djq_live.proofs.Compared.{ArePassed, hold_all, passed_all}
 use Rattle.djq_live.proofs.Terms.{value_by, value_by_is}
 use Rattle.djq_live.proofs.Atoms.{AreSatisfied, satisfies_all, cell_at}
-use Rattle.djq_live.proofs.Heads.{InAtom, has_at, in_atom}
+use Rattle.djq_leaves.proofs.Heads.{InAtom, has_at, in_atom}
 use Rattle.djq_live.proofs.Later.{asked_later, atom_at, constants_have, pattern_later}
 use Rattle.djq_live.proofs.Changing.{row_on, row_new}
 use Rattle.djq_live.proofs.Showing.{satisfied, passed, row_value, heads_same, value_stands, maps_at}

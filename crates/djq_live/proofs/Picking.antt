@@ -30,7 +30,7 @@ use Rattle.djq_model.specs.Typed.{fits}
 use Rattle.djq_query.specs.declared.numbered.Variable.{Variable}
 use Rattle.djq_reduct.specs.Columns.{column}
 use Rattle.djq_reduct.proofs.Placing.{column_here, column_on, column_none, column_within}
-use Rattle.djq_live.specs.Asked.{column_of}
+use Rattle.djq_planned.specs.Asked.{column_of}
 use Rattle.djq_reduct.proofs.Readings.{member_on}
 use Rattle.djq_hyper.proofs.Rising.{member_here}
 

@@ -43,7 +43,7 @@ use Rattle.djq_rows.specs.Catalog.{
   rows_at,
   with_rows_at,
 }
-use Rattle.djq_live.specs.Changes.{
+use Rattle.djq_leaves.specs.Changes.{
   IsLater,
   CameAll,
   StandForRows,

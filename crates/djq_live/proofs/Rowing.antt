@@ -19,13 +19,13 @@ use Rattle.std.proofs.Common.{
   arith,
 }
 use Rattle.std.specs.Prelude.{◌↔◌, Some, Contains, slice_get}
-use Rattle.std.proofs.lemmas.Bool.{cases_lt, cases_eq, false≢true, and_parts}
+use Rattle.std.proofs.lemmas.Bool.{cases_lt, cases_eq}
 use Rattle.std.proofs.lemmas.List.{length-map}
 use Rattle.std.proofs.lemmas.Option.{slice_get_within}
 use Rattle.djq_model.specs.declared.relation.ColumnType.{ColumnType}
 use Rattle.djq_model.specs.declared.query.Query.{Query}
 use Rattle.djq_model.specs.Data.{Bytes, Tuple}
-use Rattle.djq_model.specs.Typed.{is_of, fits}
+use Rattle.djq_model.specs.Typed.{fits}
 use Rattle.djq_model.specs.Answer.{AreDifferent}
 use Rattle.djq_hyper.specs.Hypergraph.{member}
 use Rattle.djq_lines.specs.Hypergraph.{edges_of, head_of}
@@ -45,29 +45,22 @@ use Rattle.djq_query.specs.Numbered.{Numbered}
 use Rattle.djq_query.specs.Pattern.{Shape, bound}
 use Rattle.djq_rows.specs.Catalog.{Catalog, StandForRow, no_relation, relation_at, rows_at}
 use Rattle.djq_rows.proofs.Lawful.{differ as cells_differ}
-use Rattle.djq_live.specs.Asked.{TermsSuit}
-use Rattle.djq_live.specs.Leaves.{AreCellsOfTerms, IsLeafOf, IsOver}
-use Rattle.djq_live.specs.Changes.{IsLater, CameAll, Went, GainsTuple, GainsAll, Loses, EachLeafChanges}
+use Rattle.djq_planned.specs.Asked.{TermsSuit}
+use Rattle.djq_leaves.specs.Leaves.{AreCellsOfTerms, IsLeafOf, IsOver}
+use Rattle.djq_leaves.specs.Changes.{IsLater, CameAll, Went, GainsTuple, GainsAll, Loses, EachLeafChanges}
 use Rattle.djq_live.specs.Live.{Live, IsKept}
-use Rattle.djq_live.specs.Stepping.{LacksCells, LacksAll, Has, ChangesBelow, AreLeaves, HoldBelow}
-use Rattle.djq_live.proofs.Heads.{has_at}
+use Rattle.djq_leaves.specs.Stepping.{LacksCells, LacksAll, Has, ChangesBelow, AreLeaves, HoldBelow}
+use Rattle.djq_leaves.proofs.Heads.{has_at}
+use Rattle.djq_leaves.proofs.Taking.{fits_long}
 use Rattle.djq_live.proofs.Rows.{row_fits, row_cells}
 use Rattle.djq_live.proofs.Later.{asked_later, atom_at, cells_later}
 use Rattle.djq_live.proofs.Changing.{stands_in, leaves_after_insert, over_loses}
-use Rattle.djq_live.proofs.Listings.{late_differs}
-use Rattle.djq_live.proofs.Members.{in_left}
-use Rattle.djq_live.proofs.Giving.{gives_once, one_of, only_one}
+use Rattle.djq_leaves.proofs.Listings.{late_differs}
+use Rattle.djq_planned.proofs.Members.{in_left}
+use Rattle.djq_leaves.proofs.Giving.{gives_once, one_of, only_one}
 use Rattle.djq_query.specs.declared.pattern.Slot.{Slot}
 
 -- ---- lengths
-
-pub fits_long : (types : List ColumnType) (row : Tuple) → fits types row ≡ true
-    → length row ≡ length types
-fits_long [] [] h = refl
-fits_long [] (v ∷ row) h = absurd (false≢true h)
-fits_long (t ∷ types) [] h = absurd (false≢true h)
-fits_long (t ∷ types) (v ∷ row) h =
-    ap suc (fits_long types row (and_parts (is_of t v) (fits types row) h).1)
 
 pub suited_long : (texts : List Bytes) (vs : List Variable) (ns : List NumberedTerm)
     (cs : List ColumnType) → TermsSuit texts vs ns cs → length ns ≡ length cs

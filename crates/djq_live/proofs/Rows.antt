@@ -36,7 +36,7 @@ use Rattle.djq_query.specs.declared.numbered.NumberedAtom.{NumberedAtom}
 use Rattle.djq_rows.specs.Cells.{HaveCells}
 use Rattle.djq_rows.specs.Catalog.{Catalog, IsCatalog, no_relation, relation_at, rows_at}
 use Rattle.djq_rows.proofs.Learning.{eq_refl, eq_other}
-use Rattle.djq_live.specs.Asked.{IsAtomOf}
+use Rattle.djq_planned.specs.Asked.{IsAtomOf}
 
 -- the relation of a name is the one at a place that has the name
 pub found_at : (rs : List Relation) (name : Bytes) (at : ℕ)

@@ -35,11 +35,11 @@ use Rattle.djq_rows.specs.Cells.{CellStandsFor}
 use Rattle.djq_rows.specs.Parts.{value_of}
 use Rattle.djq_rows.specs.Catalog.{Catalog}
 use Rattle.djq_rows.proofs.Encoding.{value_back, cell_more, has_more}
-use Rattle.djq_live.specs.Asked.{column_of}
-use Rattle.djq_live.specs.Changes.{IsLater}
+use Rattle.djq_planned.specs.Asked.{column_of}
+use Rattle.djq_leaves.specs.Changes.{IsLater}
 use Rattle.djq_live.specs.Shown.{value_at, shown, AreShownAs}
 use Rattle.djq_live.specs.Live.{Live, IsKept, IsShowable, AnswersAreShowable, ShowableStays}
-use Rattle.djq_live.specs.Stepping.{answer_lines}
+use Rattle.djq_leaves.specs.Stepping.{answer_lines}
 use Rattle.djq_live.proofs.Showing.{stand}
 
 pub answer_showable : AnswersAreShowable

@@ -41,8 +41,8 @@ use Rattle.djq_rows.specs.Cells.{cell_for, CellStandsFor, IsCell}
 use Rattle.djq_rows.specs.Parts.{value_of}
 use Rattle.djq_rows.specs.Catalog.{Catalog}
 use Rattle.djq_rows.proofs.Encoding.{value_back}
-use Rattle.djq_live.specs.Asked.{column_of}
-use Rattle.djq_live.specs.Leaves.{IsOver}
+use Rattle.djq_planned.specs.Asked.{column_of}
+use Rattle.djq_leaves.specs.Leaves.{IsOver}
 use Rattle.djq_live.specs.Shown.{
   value_at,
   shown,
@@ -55,8 +55,8 @@ use Rattle.djq_live.specs.Shown.{
 }
 use Rattle.djq_reduct.proofs.Readings.{cell_there, row_same, member_on}
 use Rattle.djq_hyper.proofs.Rising.{member_here}
-use Rattle.djq_live.proofs.Filling.{assigned_of, answer_of}
-use Rattle.djq_live.proofs.Tabling.{IsIn}
+use Rattle.djq_leaves.proofs.Filling.{assigned_of, answer_of}
+use Rattle.djq_leaves.proofs.Tabling.{IsIn}
 use Rattle.djq_live.proofs.Binding.{leaf_says}
 use Rattle.djq_live.proofs.Compared.{ArePassed, hold_all, pass_all, passed_all}
 use Rattle.djq_live.proofs.Terms.{value_by, value_by_is}
@@ -71,7 +71,7 @@ use Rattle.djq_live.proofs.Atoms.{
   in_unnamed,
   value_in,
 }
-use Rattle.djq_live.proofs.Heads.{has_at, in_atom}
+use Rattle.djq_leaves.proofs.Heads.{has_at, in_atom}
 
 -- ---- leaves and atoms
 

@@ -45,17 +45,17 @@ use Rattle.djq_query.specs.Numbered.{is_number}
 use Rattle.djq_query.specs.Pattern.{Shape, filled}
 use Rattle.djq_rows.specs.Cells.{cells_of}
 use Rattle.djq_rows.specs.Catalog.{Catalog, rows_at}
-use Rattle.djq_live.specs.Cells.{AreRowOf, cell_under}
-use Rattle.djq_live.specs.Leaves.{IsPatternOf, GivesOne, IsLeafOf}
+use Rattle.djq_leaves.specs.Cells.{AreRowOf, cell_under}
+use Rattle.djq_leaves.specs.Leaves.{IsPatternOf, GivesOne, IsLeafOf}
 use Rattle.djq_live.specs.Live.{Live, IsKept}
 use Rattle.djq_live.specs.Updating.{LeavesAreSmall}
 use Rattle.djq_live.proofs.Binding.{pattern_row}
 use Rattle.djq_reduct.proofs.Readings.{IsSimple, simple_of, reading, reading_row, row_same}
-use Rattle.djq_live.proofs.Filled.{in_row}
-use Rattle.djq_live.proofs.Heads.{has_at}
+use Rattle.djq_leaves.proofs.Filled.{in_row}
+use Rattle.djq_leaves.proofs.Heads.{has_at}
 use Rattle.djq_live.proofs.Later.{atom_at}
-use Rattle.djq_live.proofs.Listings.{few, image_of, images_differ}
-use Rattle.djq_live.proofs.Members.{in_cons}
+use Rattle.djq_leaves.proofs.Listings.{few, image_of, images_differ}
+use Rattle.djq_planned.proofs.Members.{in_cons}
 use Rattle.djq_live.proofs.Rows.{rows_are}
 use Rattle.djq_live.proofs.Terms.{heads, tails}
 

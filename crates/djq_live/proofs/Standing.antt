@@ -25,7 +25,7 @@ use Rattle.djq_query.specs.declared.numbered.Variable.{Variable}
 use Rattle.djq_rows.specs.Cells.{cells_of, StandFor}
 use Rattle.djq_rows.specs.Catalog.{Catalog}
 use Rattle.djq_rows.proofs.Lawful.{differ}
-use Rattle.djq_live.specs.Asked.{column_of}
+use Rattle.djq_planned.specs.Asked.{column_of}
 use Rattle.djq_live.specs.Live.{Live, IsKept, values_of}
 use Rattle.djq_live.specs.Member.{
   in_head,

@@ -21,8 +21,8 @@ use Rattle.djq_query.specs.Meaning.{TermIsShown, TermsAreShown}
 use Rattle.djq_rows.specs.Cells.{cell_for, cells_of, HasCell, HaveCells, IsCell}
 use Rattle.djq_rows.specs.Parts.{value_of}
 use Rattle.djq_rows.proofs.Encoding.{value_back}
-use Rattle.djq_live.specs.Cells.{cell_under}
-use Rattle.djq_live.specs.Asked.{column_of, TermSuits, TermsSuit}
+use Rattle.djq_leaves.specs.Cells.{cell_under}
+use Rattle.djq_planned.specs.Asked.{column_of, TermSuits, TermsSuit}
 
 pub heads : (x y : ℕ) (xs ys : List ℕ) → x ∷ xs ≡ y ∷ ys → x ≡ y
 heads x y xs ys e = ap (λ (l : List ℕ). slice_index l 0) e

@@ -40,8 +40,8 @@ use Rattle.djq_query.specs.declared.numbered.NumberedTerm.TheVariants.{
 use Rattle.djq_query.specs.declared.numbered.NumberedAtom.{NumberedAtom}
 use Rattle.djq_query.specs.Numbered.{AreNumbered, are_below, is_number, numbered_terms}
 use Rattle.djq_reduct.proofs.Readings.{within_of}
-use Rattle.djq_live.proofs.Graphs.{numbers_same, high_terms, edges_long}
-use Rattle.djq_live.proofs.Sets.{set_has, set_lacks}
+use Rattle.djq_planned.proofs.Graphs.{numbers_same, high_terms, edges_long}
+use Rattle.djq_planned.proofs.Sets.{set_has, set_lacks}
 use Rattle.std.proofs.lemmas.Option.{same_Some}
 
 -- ---- the leaves' labels

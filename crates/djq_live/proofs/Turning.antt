@@ -30,9 +30,9 @@ use Rattle.djq_union.proofs.Lists.{all_of}
 use Rattle.djq_union.specs.Answers.{AreDistinctAnswers}
 use Rattle.djq_live.specs.Live.{Live, values_of}
 use Rattle.djq_live.specs.Updating.{change_of}
-use Rattle.djq_live.specs.Stepping.{HasMore, answer_lines}
-use Rattle.djq_live.proofs.Gaining.{more_answers}
-use Rattle.djq_live.proofs.Listings.{few, in_image, image_of, images_differ}
+use Rattle.djq_leaves.specs.Stepping.{HasMore, answer_lines}
+use Rattle.djq_leaves.proofs.Gaining.{more_answers}
+use Rattle.djq_leaves.proofs.Listings.{few, in_image, image_of, images_differ}
 
 -- what the reducts' answers show are answers, and different ones show different tuples
 pub record Shows (Answer : Tuple → Type 0) (r : Reducts) (show : List ℕ → Tuple) : Type 0 where

@@ -107,7 +107,7 @@ use Rattle.djq_query.proofs.Showing.{shown_by}
 use Rattle.djq_rows.specs.Cells.{HaveCells}
 use Rattle.djq_rows.specs.Catalog.{Catalog, IsCatalog, no_relation, relation_at}
 use Rattle.djq_rows.proofs.Learning.{eq_refl}
-use Rattle.djq_live.specs.Asked.{
+use Rattle.djq_planned.specs.Asked.{
   column_in,
   column_of,
   TermSuits,

@@ -28,10 +28,10 @@ use Rattle.djq_rows.proofs.Encoding.{stands_back}
 use Rattle.djq_rows.proofs.Lawful.{stay}
 use Rattle.djq_slots.specs.declared.progress.Progress.TheVariants.{Open, Stale}
 use Rattle.djq_live.specs.Cursors.{Progress, slot_at}
-use Rattle.djq_live.specs.Asked.{AreAtomsOf, column_of}
-use Rattle.djq_live.specs.Leaves.{IsOver}
+use Rattle.djq_planned.specs.Asked.{AreAtomsOf, column_of}
+use Rattle.djq_leaves.specs.Leaves.{IsOver}
 use Rattle.djq_live.specs.Shown.{value_at}
-use Rattle.djq_live.specs.Changes.{IsLater, GainsAll, Loses, EachLeafChanges}
+use Rattle.djq_leaves.specs.Changes.{IsLater, GainsAll, Loses, EachLeafChanges}
 use Rattle.djq_live.specs.Live.{Live, IsKept, IsLive, given_by, position_of, values_of}
 use Rattle.djq_live.specs.Staying.{StaysOver, LiveStays, CamePasses, CameAllPasses, WentPasses}
 use Rattle.djq_reduct.proofs.Readings.{member_on}

@@ -5,7 +5,7 @@ use Rattle.djq_reduct.specs.Columns.{column}
 use Rattle.djq_query.specs.declared.numbered.Variable.{Variable}
 use Rattle.djq_query.specs.Numbered.{Numbered}
 use Rattle.djq_live.specs.declared.headed.HeadCell.{HeadCell}
-use Rattle.djq_live.specs.Asked.{column_of}
+use Rattle.djq_planned.specs.Asked.{column_of}
 
 -- the type of a variable's values, and its place among the variables F
 abbrev pub head_cell : List Variable → List ℕ → ℕ → HeadCell

@@ -13,7 +13,7 @@ use Rattle.djq_cursor.specs.Given.{given, Fits}
 use Rattle.djq_query.specs.Numbered.{Numbered}
 use Rattle.djq_query.specs.Pattern.{Shape}
 use Rattle.djq_rows.specs.Catalog.{Catalog}
-use Rattle.djq_live.specs.Leaves.{IsOver}
+use Rattle.djq_leaves.specs.Leaves.{IsOver}
 use Rattle.djq_live.specs.Shown.{shown, AreShownAs}
 use Rattle.djq_slots.specs.declared.progress.Progress.TheVariants.{Open, Stale}
 use Rattle.djq_live.specs.Cursors.{Progress, slot_at}

@@ -36,7 +36,7 @@ use Rattle.djq_cursor.specs.Walk.{all_given}
 use Rattle.djq_cursor.specs.Given.{has_root, given, Fits}
 use Rattle.djq_rows.specs.Cells.{StandFor}
 use Rattle.djq_rows.specs.Catalog.{Catalog}
-use Rattle.djq_live.specs.Asked.{column_of}
+use Rattle.djq_planned.specs.Asked.{column_of}
 use Rattle.djq_live.specs.Live.{Live, IsKept, IsKeptSomewhere, IsShowable, values_of}
 use Rattle.djq_live.specs.Order.{cell_of_variable}
 

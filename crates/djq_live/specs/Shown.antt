@@ -26,8 +26,8 @@ use Rattle.djq_reduct.specs.Answers.{IsAnswerOf}
 use Rattle.djq_rows.specs.Cells.{CellStandsFor}
 use Rattle.djq_rows.specs.Parts.{value_of}
 use Rattle.djq_rows.specs.Catalog.{Catalog}
-use Rattle.djq_live.specs.Asked.{column_of}
-use Rattle.djq_live.specs.Leaves.{IsOver}
+use Rattle.djq_planned.specs.Asked.{column_of}
+use Rattle.djq_leaves.specs.Leaves.{IsOver}
 
 -- the value of the variable x in a tuple over the variables F
 abbrev pub value_at : List Bytes → List Variable → List ℕ → List ℕ → ℕ → Value

@@ -4,7 +4,7 @@ use Rattle.djq_model.specs.Data.{Tuple}
 use Rattle.djq_machine.specs.Stale.{reads}
 use Rattle.djq_rows.specs.Catalog.{Catalog, relation_at}
 use Rattle.djq_live.specs.Cursors.{Progress, slot_at}
-use Rattle.djq_live.specs.Changes.{Came, CameAll, Went, HasSameRows}
+use Rattle.djq_leaves.specs.Changes.{Came, CameAll, Went, HasSameRows}
 use Rattle.djq_live.specs.Live.{Live, IsLive, position_of}
 
 -- A query is the same with the same tables.

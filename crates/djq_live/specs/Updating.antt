@@ -14,7 +14,7 @@ use Rattle.djq_propagate.specs.Updates.{HasAtMost}
 use Rattle.djq_cursor.specs.declared.log.Line.{Line}
 use Rattle.djq_cursor.specs.Log.{Log}
 use Rattle.djq_rows.specs.Catalog.{Catalog, rows_at}
-use Rattle.djq_live.specs.Changes.{Came, CameAll, Went}
+use Rattle.djq_leaves.specs.Changes.{Came, CameAll, Went}
 use Rattle.djq_live.specs.Live.{Live, IsKept, IsShowable, values_of}
 
 -- A row with these cells came into a relation, whose catalog the query was kept over.

@@ -1,6 +1,6 @@
-ghost use Rattle.djq_live.specs.Changes.{OverGains, OverLoses};
-ghost use Rattle.djq_live.specs.Changes.{AddedCame, DeletedWent, CopiesKeepRows};
-ghost use Rattle.djq_live.specs.Changes.{LeafIsEmpty, LeafGains, LeafIsFilled};
+ghost use Rattle.djq_leaves.specs.Changes.{OverGains, OverLoses};
+ghost use Rattle.djq_leaves.specs.Changes.{AddedCame, DeletedWent, CopiesKeepRows};
+ghost use Rattle.djq_leaves.specs.Changes.{LeafIsEmpty, LeafGains, LeafIsFilled};
 
 /// Where rows came into a relation, the reducts are those of the query once each leaf over the
 /// relation has gained the tuples that put into its atom give one of them.

@@ -1,4 +1,4 @@
-ghost use Rattle.djq_live.specs.Asked.{NumberedIsAsked};
+ghost use Rattle.djq_planned.specs.Asked.{NumberedIsAsked};
 ghost use Rattle.djq_live.specs.Shown.{AnswersAreShown, AnswersAreListed};
 ghost use Rattle.djq_live.specs.Shown.{AnswersDiffer, AnswersStand};
 ghost use Rattle.djq_live.specs.Live.{AnswersAreShowable, ShowableStays};

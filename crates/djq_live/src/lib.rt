@@ -1,9 +1,9 @@
 //! One registered query, kept answerable while the rows below it change.
 //!
-//! [`plan_query`] judges a query: it is free-connex and has a tree, or a rest shows why it isn't.
-//! [`LiveQuery::build`] fills the tree's tables from a catalog's rows; [`LiveQuery::add`],
-//! [`LiveQuery::add_many`] and [`LiveQuery::delete`] keep them as rows come and go, and log how the
-//! answers changed where that is wanted; cursors list the answers, one a call, each at a bounded cost.
+//! [`LiveQuery::build`] fills the tables of a planned query's tree from a catalog's rows;
+//! [`LiveQuery::add`], [`LiveQuery::add_many`] and [`LiveQuery::delete`] keep them as rows come and
+//! go, and log how the answers changed where that is wanted; cursors list the answers, one a call,
+//! each at a bounded cost.
 //!
 //! ```text
 //! q(z,x) <- r(x,_), s(x,z,3)     x is 0, _ is 1, z is 2; the head is 2, 0
@@ -24,22 +24,20 @@
 //! relations that are read twice.
 //!
 //! Inside, it is the algorithm of Idris, Ugarte and Vansummeren (*The dynamic Yannakakis
-//! algorithm*, SIGMOD 2017) between a catalog and a list of answers: the planner's tree, its
-//! reducts, their updates and their cursors are djq_plan's, djq_reduct's, djq_propagate's and
+//! algorithm*, SIGMOD 2017) between a catalog and a list of answers: the query's tree is
+//! djq_planned's, its leaves are djq_leaves', and its reducts and cursors djq_reduct's and
 //! djq_cursor's. The functions with empty bodies are laws between tables and answers. An answer
 //! goes through an assignment of cells to numbers. From a node of `out` down to the leaves it is
 //! extended trim by trim, by a tuple of the trim's child: what the trim drops is in no label above
 //! it, so nothing that was settled changes. From values to cells each hole takes the cell of the
-//! row where it stands. A row goes into its leaves, or out of them, one after another, and what is
-//! listed leaf by leaf is the change of the answers: they only grow, or only shrink.
+//! row where it stands. What is listed leaf by leaf as a row comes or goes is the change of the answers:
+//! they only grow, or only shrink.
 #![tactic(auto)]
 
-pub use build::intern_constants;
 pub use changes::{
     added_came, copies_keep_rows, deleted_went, leaf_gains, leaf_is_empty, leaf_is_filled,
     leaves_after_insert, over_loses,
 };
-pub use fault::query_fault_of;
 pub use laws::{
     answers_are_listed, answers_are_showable, answers_are_shown, answers_differ, answers_stand,
     flat_meets_are_equal, heads_are_bound, leaves_are_small, numbered_is_asked, showable_stays,
@@ -50,27 +48,18 @@ pub use member::{
     QueriesAt, answers_are_had, answers_have_cells, cells_in_head_stand, cells_in_tree_stand,
     cells_tell_values, had_cells_stand, head_types_are, queries_are_kept, showable_cells_stand,
 };
-pub use plan::{PlannedQuery, Unplanned, plan_query};
 pub use staying::{came_all_passes, live_stays, other_queries_stay, went_passes};
 
-mod batch;
-mod bind;
 mod build;
 mod changes;
-mod fault;
-mod fill;
 mod headed;
 mod laws;
 mod listing;
 mod live;
 mod lookup;
 mod member;
-mod names;
-mod plan;
 mod reads;
-mod rest;
 mod staying;
-mod stepping;
 #[cfg(test)]
 mod tests;
 mod update;

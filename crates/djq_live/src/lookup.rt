@@ -3,7 +3,7 @@ ghost use Rattle.std.specs.List.{list_all};
 ghost use Rattle.djq_model.specs.Typed.{fits};
 ghost use Rattle.djq_reduct.specs.Columns.{column};
 ghost use Rattle.djq_hyper.specs.Hypergraph.{member};
-ghost use Rattle.djq_live.specs.Asked.{column_of};
+ghost use Rattle.djq_planned.specs.Asked.{column_of};
 ghost use Rattle.djq_live.specs.Order.{cell_of_variable, AreCellsOfAnswer};
 ghost use Rattle.djq_index.specs.declared.cells.TheConstants.{CELLS};
 

@@ -3,7 +3,7 @@ ghost use Rattle.std.specs.Prelude.{◌≡◌, ◌≤◌, ⊤, ℕ, true, nat_lt
 ghost use Rattle.std.specs.List.{list_all};
 ghost use Rattle.djq_hyper.specs.Hypergraph.{member};
 ghost use Rattle.djq_machine.specs.Union.{same_types};
-ghost use Rattle.djq_live.specs.Asked.{column_of};
+ghost use Rattle.djq_planned.specs.Asked.{column_of};
 ghost use Rattle.djq_live.specs.Live.{IsKeptSomewhere};
 ghost use Rattle.djq_live.specs.Order.{cell_of_variable};
 ghost use Rattle.djq_live.specs.Member.{

@@ -3,11 +3,11 @@ ghost use Rattle.std.specs.Prelude.{◌≡◌, ℕ, false, length, OnOk, OnErr};
 ghost use Rattle.djq_model.specs.Data.{Tuple};
 ghost use Rattle.djq_reduct.specs.Reducts.{SameTables};
 ghost use Rattle.djq_rows.specs.Catalog.{Catalog as CatalogModel};
-ghost use Rattle.djq_live.specs.Batching.{GrowsBy};
-ghost use Rattle.djq_live.specs.Changes.{Came, CameAll, Went};
+ghost use Rattle.djq_leaves.specs.Batching.{GrowsBy};
+ghost use Rattle.djq_leaves.specs.Changes.{Came, CameAll, Went};
 ghost use Rattle.djq_live.specs.Cursors.{outdated_slots};
 ghost use Rattle.djq_live.specs.Live.{IsKept, IsLive, SameQuery};
-ghost use Rattle.djq_live.specs.Stepping.{GrowsByOne, HasMore};
+ghost use Rattle.djq_leaves.specs.Stepping.{GrowsByOne, HasMore};
 ghost use Rattle.djq_live.specs.Updating.{
   CanAdd,
   CanAddAll,
@@ -21,10 +21,11 @@ ghost use Rattle.djq_live.specs.Updating.{
   CountsUpdate,
 };
 
-use crate::batch::{add_all_to_leaves, give_all_from_leaves, tuples_of_all};
 use crate::live::LiveQuery;
-use crate::stepping::{add_to_leaves, delete_from_leaves};
 use djq_cursor::DeltaLog;
+use djq_leaves::{
+    add_all_to_leaves, add_to_leaves, delete_from_leaves, give_all_from_leaves, tuples_of_all,
+};
 use djq_model::{Name, NoMem};
 use djq_reduct::Cells;
 use djq_rows::RelationId;

@@ -16,14 +16,14 @@ use Rattle.djq_propagate.proofs.Measuring.{length_even}
 use Rattle.djq_query.specs.Numbered.{Numbered}
 use Rattle.djq_cursor.specs.Log.{Log}
 use Rattle.djq_rows.specs.Catalog.{Catalog}
-use Rattle.djq_live.specs.Batching.{GrowsBy}
-use Rattle.djq_live.specs.Changes.{HasSameRows, Went}
+use Rattle.djq_leaves.specs.Batching.{GrowsBy}
+use Rattle.djq_leaves.specs.Changes.{HasSameRows, Went}
 use Rattle.djq_live.specs.Live.{Live, IsKept, SameQuery}
-use Rattle.djq_live.specs.Stepping.{HasMore}
+use Rattle.djq_leaves.specs.Stepping.{HasMore}
 use Rattle.djq_live.specs.Updating.{CanAddAll, CanDelete, CountsBatchAt, CountsUpdate, KeptAfter, atoms_over}
 use Rattle.djq_live.specs.Updating.{update_bound}
 use Rattle.djq_live.proofs.Changing.{over_stays}
-use Rattle.djq_live.proofs.Sizing.{fewer_stay}
+use Rattle.djq_leaves.proofs.Sizing.{fewer_stay}
 use Rattle.djq_reach.specs.Places.{place_at, is_reader, log_at, no_log, AreOnce}
 use Rattle.djq_reach.specs.Reaching.{DoneAt, Reach, AllAt}
 use Rattle.djq_reach.specs.Tending.{Tends, TendedAt, work_of, work_at}

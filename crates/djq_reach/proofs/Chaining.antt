@@ -12,14 +12,14 @@ use Rattle.djq_machine.specs.Stale.{reads}
 use Rattle.djq_model.specs.Answer.{IsAnswer}
 use Rattle.djq_query.specs.Numbered.{Numbered}
 use Rattle.djq_rows.specs.Catalog.{Catalog, relation_at}
-use Rattle.djq_live.specs.Asked.{IsAsked}
-use Rattle.djq_live.specs.Changes.{CameAll, Went, IsLater}
+use Rattle.djq_planned.specs.Asked.{IsAsked}
+use Rattle.djq_leaves.specs.Changes.{CameAll, Went, IsLater}
 use Rattle.djq_live.specs.Live.{Live, IsKept, IsLive, SameQuery}
 use Rattle.djq_live.specs.Staying.{StaysOver}
 use Rattle.djq_live.specs.Updating.{KeptAfter}
 use Rattle.djq_propagate.specs.Updates.{HasAtMost}
 use Rattle.djq_live.proofs.Later.{asked_later}
-use Rattle.djq_live.proofs.Sizing.{fewer_stay}
+use Rattle.djq_leaves.proofs.Sizing.{fewer_stay}
 use Rattle.djq_live.proofs.Untouched.{came_all_lives, went_lives}
 use Rattle.djq_reach.specs.declared.group.Group.{Group}
 use Rattle.djq_reach.specs.Places.{place_at, reads_place, is_reader, readers_at}

@@ -19,7 +19,7 @@ use Rattle.djq_propagate.specs.Updates.{HasAtMost}
 use Rattle.djq_query.specs.declared.numbered.NumberedAtom.{NumberedAtom}
 use Rattle.djq_query.specs.Numbered.{Numbered}
 use Rattle.djq_rows.specs.Catalog.{Catalog}
-use Rattle.djq_live.specs.Changes.{CameAll}
+use Rattle.djq_leaves.specs.Changes.{CameAll}
 use Rattle.djq_live.specs.Live.{Live, IsKept, SameQuery}
 use Rattle.djq_live.specs.Updating.{IsDeltaOf, atoms_over, update_bound}
 use Rattle.djq_reach.specs.declared.group.Group.{Group}

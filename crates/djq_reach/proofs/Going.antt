@@ -17,8 +17,8 @@ use Rattle.djq_rows.specs.Cells.{HaveCells, StandFor}
 use Rattle.djq_rows.specs.Catalog.{Catalog, IsCatalog, IsKeptRelation, CopiesAreInRange}
 use Rattle.djq_rows.specs.Catalog.{StandForRow, no_relation, relation_at, counted_at, rows_at}
 use Rattle.djq_rows.specs.Catalog.{with_rows_at}
-use Rattle.djq_live.specs.Changes.{IsLater, CameAll, Went, StandForRows, HasSameRows}
-use Rattle.djq_live.proofs.Members.{in_last}
+use Rattle.djq_leaves.specs.Changes.{IsLater, CameAll, Went, StandForRows, HasSameRows}
+use Rattle.djq_planned.proofs.Members.{in_last}
 use Rattle.djq_reach.specs.Batching.{RowsCameIn}
 
 -- ---- lists and their last item

@@ -17,8 +17,8 @@ use Rattle.djq_query.specs.declared.numbered.Variable.{Variable}
 use Rattle.djq_query.specs.declared.numbered.NumberedAtom.{NumberedAtom}
 use Rattle.djq_query.specs.Numbered.{Numbered}
 use Rattle.djq_rows.specs.Catalog.{Catalog, IsCatalog, relation_at, rows_at}
-use Rattle.djq_live.specs.Asked.{IsAtomOf, AreAtomsOf, IsAsked}
-use Rattle.djq_live.specs.Changes.{IsLater, CameAll}
+use Rattle.djq_planned.specs.Asked.{IsAtomOf, AreAtomsOf, IsAsked}
+use Rattle.djq_leaves.specs.Changes.{IsLater, CameAll}
 use Rattle.djq_live.proofs.Rows.{found_at, rows_are}
 use Rattle.djq_reach.specs.Growing.{Grows}
 

@@ -17,7 +17,7 @@ use Rattle.djq_cursor.specs.declared.log.Line.{Line}
 use Rattle.djq_cursor.specs.Log.{Log}
 use Rattle.djq_rows.specs.Catalog.{Catalog, relation_at}
 use Rattle.djq_live.specs.Shown.{shown, AreShownAs}
-use Rattle.djq_live.specs.Changes.{CameAll}
+use Rattle.djq_leaves.specs.Changes.{CameAll}
 use Rattle.djq_live.specs.Live.{Live, IsKept, IsShowable, SameQuery}
 use Rattle.djq_live.specs.Updating.{IsDeltaOf, LogsDelta, LogsWhere, change_of}
 use Rattle.djq_reach.specs.declared.group.Group.{Group}

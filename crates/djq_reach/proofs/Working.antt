@@ -11,7 +11,7 @@ use Rattle.djq_lines.specs.Hypergraph.{edges_of, head_of}
 use Rattle.djq_query.specs.Numbered.{Numbered}
 use Rattle.djq_live.specs.Live.{Live}
 use Rattle.djq_live.specs.Updating.{atoms_over, flat_bound, update_bound}
-use Rattle.djq_live.proofs.Sizing.{all_grown}
+use Rattle.djq_leaves.proofs.Sizing.{all_grown}
 use Rattle.djq_reach.specs.Places.{place_at, is_reader, AreOnce}
 use Rattle.djq_reach.specs.Reaching.{DoneAt, Reach, TakesIn, Remains}
 use Rattle.djq_reach.specs.Tending.{IsBounded, CountsEither, Works, work_of, work_at}

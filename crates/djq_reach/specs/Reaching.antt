@@ -3,9 +3,9 @@ use Rattle.std.specs.Prelude.{ℕ, List, ◌≡◌, Bool, true, false, Option, N
 use Rattle.djq_model.specs.Data.{Bytes, Tuple}
 use Rattle.djq_rows.specs.Catalog.{Catalog, rows_at}
 use Rattle.djq_live.specs.Cursors.{outdated_slots}
-use Rattle.djq_live.specs.Changes.{Came, Went}
+use Rattle.djq_leaves.specs.Changes.{Came, Went}
 use Rattle.djq_live.specs.Live.{Live, IsKept, IsLive, SameQuery}
-use Rattle.djq_live.specs.Stepping.{GrowsByOne}
+use Rattle.djq_leaves.specs.Stepping.{GrowsByOne}
 use Rattle.djq_live.specs.Updating.{KeptAfter}
 use Rattle.djq_live.specs.Staying.{StaysOver}
 use Rattle.djq_reach.specs.Places.{place_at, is_reader}

@@ -1,7 +1,7 @@
 //! What a change does to the queries that read its relation, one after another. No other query is
 //! looked at.
 ghost use Rattle.std.specs.Prelude.{◌≡◌, ◌<◌, [], ◌∷◌, ⊤, false, IsSomeAnd, OnOk, OnErr, length};
-ghost use Rattle.djq_live.specs.Changes.{Came, Went};
+ghost use Rattle.djq_leaves.specs.Changes.{Came, Went};
 ghost use Rattle.djq_live.specs.Updating.{CanAdd, CanDelete};
 ghost use Rattle.djq_reach.specs.Places.{place_at, watched_at, AreOnce};
 ghost use Rattle.djq_reach.specs.Tending.{Readies, Tends, LogTellsAt, LogShows, Costs};

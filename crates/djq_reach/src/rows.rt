@@ -1,7 +1,7 @@
 //! What many rows that come into a relation at once do to the queries that read it, one query after
 //! another. Where they are given back, it is row by row from the last one, which takes no memory.
 ghost use Rattle.std.specs.Prelude.{◌≡◌, ◌<◌, ◌+◌, [], ◌∷◌, false, IsSomeAnd, OnOk, OnErr, length};
-ghost use Rattle.djq_live.specs.Changes.{CameAll};
+ghost use Rattle.djq_leaves.specs.Changes.{CameAll};
 ghost use Rattle.djq_live.specs.Updating.{CanAddAll, CountsUpdate};
 ghost use Rattle.djq_reach.specs.Places.{place_at, watched_at, AreOnce};
 ghost use Rattle.djq_reach.specs.Reaching.{Reach};

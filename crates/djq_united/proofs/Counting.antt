@@ -30,7 +30,7 @@ use Rattle.djq_union.specs.Steps.{union_most}
 use Rattle.djq_union.proofs.Lists.{at_head, all_of}
 use Rattle.djq_rows.specs.Catalog.{Catalog}
 use Rattle.djq_live.specs.Live.{Live, IsKept}
-use Rattle.djq_live.specs.Asked.{column_of}
+use Rattle.djq_planned.specs.Asked.{column_of}
 use Rattle.djq_live.specs.Member.{has_cells, head_types}
 use Rattle.djq_live.specs.Order.{cell_of_variable}
 use Rattle.djq_live.proofs.InHead.{had_from}

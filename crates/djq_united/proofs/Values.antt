@@ -18,7 +18,7 @@ use Rattle.djq_live.specs.Live.{Live, IsKept, IsShowable, values_of}
 use Rattle.djq_live.specs.Member.{has_cells, in_tree, AreAlike}
 use Rattle.djq_live.proofs.InTree.{tree_stand}
 use Rattle.djq_live.proofs.Standing.{are_had, cells_tell, had_stand, have_cells, head_are}
-use Rattle.djq_live.proofs.Listings.{in_image, image_of}
+use Rattle.djq_leaves.proofs.Listings.{in_image, image_of}
 use Rattle.djq_united.specs.United.{first_of_members, AtFirst, shown_cells}
 use Rattle.djq_united.specs.Reading.{IsShownBy}
 use Rattle.djq_united.proofs.Lists.{has_one, one_has, some_one, one_there}

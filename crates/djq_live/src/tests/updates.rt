@@ -2,7 +2,7 @@
 ghost use Rattle.std.specs.Prelude.{◌≡◌, ◌<◌, false, All, Contains, IfOk, OnOk, length};
 ghost use Rattle.djq_model.specs.Data.{Tuple};
 ghost use Rattle.djq_rows.specs.Catalog.{Catalog as CatalogModel, StandForRow, rows_at};
-ghost use Rattle.djq_live.specs.Changes.{Came, Went};
+ghost use Rattle.djq_leaves.specs.Changes.{Came, Went};
 ghost use Rattle.djq_live.specs.Live.{IsKept, IsKeptSomewhere, IsLive, IsShowable};
 
 use super::*;

@@ -5,7 +5,7 @@ use Rattle.djq_model.specs.Data.{Bytes, Tuple, without_copies}
 use Rattle.djq_lines.specs.declared.answer.DeleteOutcome.{DeleteOutcome}
 use Rattle.djq_rows.specs.Catalog.{Catalog, StandForRow, counted_at}
 use Rattle.djq_rows.specs.Changes.{DeletesRowAt}
-use Rattle.djq_live.specs.Changes.{Went}
+use Rattle.djq_leaves.specs.Changes.{Went}
 use Rattle.djq_live.specs.Live.{IsKept}
 use Rattle.djq_engine.specs.Changing.{IsOld}
 use Rattle.djq_reach.specs.Places.{is_reader, watched_at}

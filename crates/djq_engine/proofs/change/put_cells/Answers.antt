@@ -6,7 +6,7 @@ use Rattle.djq_lines.specs.declared.answer.AddOutcome.{AddOutcome}
 use Rattle.djq_rows.specs.declared.refusal.RowsRefusal.{RowsRefusal}
 use Rattle.djq_rows.specs.Catalog.{Catalog, StandForRow, counted_at}
 use Rattle.djq_rows.specs.Changes.{AddsRowAt}
-use Rattle.djq_live.specs.Changes.{Came}
+use Rattle.djq_leaves.specs.Changes.{Came}
 use Rattle.djq_live.specs.Live.{IsKept}
 use Rattle.djq_reach.specs.Places.{is_reader, watched_at}
 use Rattle.djq_reach.specs.Reaching.{AllAt}

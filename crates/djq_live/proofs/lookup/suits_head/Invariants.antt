@@ -1,6 +1,6 @@
 use Rattle.std.proofs.Common.{◌≡◌, map}
 use Rattle.djq_model.specs.Typed.{fits}
-use Rattle.djq_live.specs.Asked.{column_of}
+use Rattle.djq_planned.specs.Asked.{column_of}
 use Rattle.djq_live.proofs.Picking.{fits_from}
 use Rattle.djq_live.proofs.lookup.suits_head.Given as goal
 

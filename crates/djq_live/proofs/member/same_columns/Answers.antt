@@ -4,7 +4,7 @@ use Rattle.std.specs.Prelude.{◌&&◌}
 use Rattle.djq_model.specs.declared.relation.ColumnType.{ColumnType}
 use Rattle.djq_model.specs.Typed.{same_type}
 use Rattle.djq_machine.specs.Union.{same_types}
-use Rattle.djq_live.specs.Asked.{column_of}
+use Rattle.djq_planned.specs.Asked.{column_of}
 use Rattle.djq_live.proofs.member.same_columns.Goals as goal
 
 last_false : (a b : Bool) → false ≡ b → false ≡ (a && b)

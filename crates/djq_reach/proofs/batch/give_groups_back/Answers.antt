@@ -4,7 +4,7 @@ use Rattle.std.specs.Prelude.{slice_index_or, sum_by}
 use Rattle.std.proofs.lemmas.List.Sums.{sum_by_more}
 use Rattle.djq_propagate.specs.Updates.{HasAtMost}
 use Rattle.djq_live.specs.Live.{SameQuery}
-use Rattle.djq_live.proofs.Sizing.{fewer_stay}
+use Rattle.djq_leaves.proofs.Sizing.{fewer_stay}
 use Rattle.djq_reach.specs.declared.group.Group.{Group}
 use Rattle.djq_reach.specs.Batching.{LetsOutAll}
 use Rattle.djq_reach.specs.Places.{AreOnce, is_reader, readers_at}

@@ -3,7 +3,7 @@
 use Rattle.std.proofs.Common.{◌∙◌, subst, Bool}
 use Rattle.djq_model.specs.Data.{Tuple}
 use Rattle.djq_rows.specs.Catalog.{Catalog}
-use Rattle.djq_live.specs.Changes.{Went}
+use Rattle.djq_leaves.specs.Changes.{Went}
 use Rattle.djq_live.specs.Updating.{CanDelete}
 use Rattle.djq_reach.specs.Reaching.{LetsOut}
 use Rattle.djq_reach.specs.Tending.{LogTellsAt, TellsWhere}

@@ -1,5 +1,5 @@
 use Rattle.std.proofs.Common.{take, ◌≡◌}
-use Rattle.djq_live.specs.Changes.{Went}
+use Rattle.djq_leaves.specs.Changes.{Went}
 use Rattle.djq_reach.specs.Reaching.{Reach, LetsOut}
 use Rattle.djq_reach.specs.Tending.{AreUnwatched, Tends, LogTellsAt, Costs, Works}
 use Rattle.djq_reach.proofs.reach.delete_from_readers.Given as goal

@@ -1,5 +1,5 @@
 use Rattle.std.proofs.Common.{take, ◌≡◌}
-use Rattle.djq_live.specs.Changes.{Came}
+use Rattle.djq_leaves.specs.Changes.{Came}
 use Rattle.djq_reach.specs.Reaching.{Reach, TakesIn}
 use Rattle.djq_reach.specs.Tending.{AreUnwatched, Tends, LogTellsAt, Costs, Works}
 use Rattle.djq_reach.proofs.reach.insert_into_readers.Given as goal

@@ -4,7 +4,7 @@ use Rattle.djq_propagate.specs.Updates.{HasAtMost}
 use Rattle.djq_reach.proofs.Batching.{Among, all_gone, counts_as_one, counts_gone, fewer_then}
 use Rattle.djq_reach.proofs.Batching.{last_goes, last_gone, left_none, left_one}
 use Rattle.djq_reach.proofs.Reaching.{same_then}
-use Rattle.djq_live.proofs.Sizing.{fewer_stay}
+use Rattle.djq_leaves.proofs.Sizing.{fewer_stay}
 use Rattle.djq_reach.proofs.rows.give_rows_back.Goals as goal
 
 pub give_back-requires : goal.give_back-requires

@@ -2,7 +2,7 @@ use Rattle.std.proofs.Common.{ℕ, ◌≡◌, ◌≤◌, ◌-◌, length, take, 
 use Rattle.djq_model.specs.Data.{Tuple}
 use Rattle.djq_rows.specs.Catalog.{Catalog}
 use Rattle.djq_live.specs.Live.{IsKept, SameQuery}
-use Rattle.djq_live.specs.Stepping.{HasMore}
+use Rattle.djq_leaves.specs.Stepping.{HasMore}
 use Rattle.djq_live.specs.Updating.{CountsUpdate}
 use Rattle.djq_reach.specs.Batching.{RowsCameIn}
 use Rattle.djq_reach.proofs.Batching.{Among}

@@ -1,7 +1,7 @@
 -- No place stands twice, so the next query is as it was; where it refuses, those in front have rows to give.
 use Rattle.std.proofs.Common.{◌+◌, arith, take, ◌∙◌, refl, false, length}
 use Rattle.djq_propagate.specs.Updates.{HasAtMost}
-use Rattle.djq_live.specs.Changes.{CameAll}
+use Rattle.djq_leaves.specs.Changes.{CameAll}
 use Rattle.djq_live.specs.Updating.{CanAddAll}
 use Rattle.djq_reach.specs.Batching.{LogsAt, TakesInAll}
 use Rattle.djq_reach.specs.Tending.{work_of}

@@ -1,5 +1,5 @@
 use Rattle.std.proofs.Common.{take, ◌≡◌, length}
-use Rattle.djq_live.specs.Changes.{CameAll}
+use Rattle.djq_leaves.specs.Changes.{CameAll}
 use Rattle.djq_reach.specs.Reaching.{Reach}
 use Rattle.djq_reach.specs.Tending.{AreUnwatched, Tends, Costs}
 use Rattle.djq_reach.specs.Batching.{LogsAt, OtherLogsStay, TakesInAll, WorksBatch}

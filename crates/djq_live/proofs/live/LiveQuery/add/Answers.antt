@@ -1,11 +1,11 @@
 -- The row is new, so its leaves lack its tuple and have room; what was put in can be given back.
 use Rattle.std.proofs.Common.{ℕ, [], ◌∷◌, ◌<◌, length, sym, subst, ◌∙◌, arith}
-use Rattle.djq_live.specs.Changes.{Came, GainsTuple}
+use Rattle.djq_leaves.specs.Changes.{Came, GainsTuple}
 use Rattle.djq_live.specs.Live.{Live}
 use Rattle.djq_live.proofs.Inside.{live_of}
-use Rattle.djq_live.specs.Stepping.{GrowsByOne}
+use Rattle.djq_leaves.specs.Stepping.{GrowsByOne}
 use Rattle.djq_live.specs.Updating.{CountsDelta}
-use Rattle.djq_live.proofs.Below.{below_at}
+use Rattle.djq_leaves.proofs.Below.{below_at}
 use Rattle.djq_live.proofs.Costing.{counts_all, counts_back, counts_flat, flat_back}
 use Rattle.djq_live.proofs.Rowing.{leaves_as, put_there}
 use Rattle.djq_live.proofs.Living.{

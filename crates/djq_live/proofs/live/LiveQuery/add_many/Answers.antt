@@ -1,14 +1,14 @@
 -- Rows that came at once differ and are new, so leaves lack their tuples; those put in can be given back.
 use Rattle.std.proofs.Common.{ℕ, List, ◌<◌, length, ap, sym, subst, ◌∙◌, arith}
 use Rattle.djq_tree.specs.Tree.{Tree}
-use Rattle.djq_live.specs.Batching.{GrowsBy, batch_tuples}
-use Rattle.djq_live.specs.Changes.{CameAll, GainsAll}
+use Rattle.djq_leaves.specs.Batching.{GrowsBy, batch_tuples}
+use Rattle.djq_leaves.specs.Changes.{CameAll, GainsAll}
 use Rattle.djq_live.specs.Live.{Live}
 use Rattle.djq_live.proofs.Inside.{live_of}
 use Rattle.djq_live.specs.Updating.{CountsDelta}
-use Rattle.djq_live.proofs.Batched.{all_gains, all_there}
+use Rattle.djq_leaves.proofs.Batched.{all_gains, all_there}
 use Rattle.djq_live.proofs.Batches.{can_add_all, came_distinct, in_hand, tuples_as, batch_kept, batch_same}
-use Rattle.djq_live.proofs.Below.{below_at}
+use Rattle.djq_leaves.proofs.Below.{below_at}
 use Rattle.djq_live.proofs.Costing.{counts_batch, batch_back}
 use Rattle.djq_live.proofs.Living.{follows_came, same_query, logs_came, counts_came}
 use Rattle.djq_live.proofs.live.LiveQuery.add_many.Goals as goal

@@ -2,7 +2,7 @@
 use Rattle.std.proofs.Common.{length, arith, subst}
 use Rattle.djq_live.specs.Live.{Live}
 use Rattle.djq_live.proofs.Inside.{live_of}
-use Rattle.djq_live.specs.Stepping.{HasMore}
+use Rattle.djq_leaves.specs.Stepping.{HasMore}
 use Rattle.djq_live.proofs.Costing.{counts_all, counts_flat}
 use Rattle.djq_live.proofs.Living.{
   can_delete,

@@ -1,6 +1,6 @@
 -- The log was empty, so its lines are what the row brought; the later query has the same tree to show them.
 use Rattle.std.proofs.Common.{ap, ◌∙◌}
-use Rattle.djq_live.specs.Changes.{Came}
+use Rattle.djq_leaves.specs.Changes.{Came}
 use Rattle.djq_live.specs.Live.{Live}
 use Rattle.djq_live.proofs.Moving.{lines_show_now}
 use Rattle.djq_live.proofs.tests.updates.come.Goals as goal

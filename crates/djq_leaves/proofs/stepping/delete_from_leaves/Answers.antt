@@ -1,0 +1,135 @@
+-- Leaves from the index on still have the tuple, and what goes with each stands in the log behind the last.
+use Rattle.std.proofs.Common.{false, ◌+◌, ◌<◌, length, ℕ, sym, subst, ◌∙◌}
+use Rattle.djq_leaves.specs.Changes.{Loses}
+use Rattle.djq_leaves.specs.Stepping.{Has, atoms_below}
+use Rattle.djq_leaves.proofs.Below.{below_skip, below_step, loses_stable, loses_more, leaves_stay}
+use Rattle.djq_leaves.proofs.Gaining.{more_both}
+use Rattle.djq_leaves.proofs.Passing.{
+  got,
+  on_as,
+  off_as,
+  below_end,
+  counts_over,
+  counts_past,
+  calls_as,
+  lists_lost,
+  has_stay,
+  wide_stays,
+}
+use Rattle.djq_leaves.proofs.Sizing.{counts_as, counts_fewer}
+use Rattle.djq_cursor.specs.Changed.{IsGained}
+use Rattle.djq_leaves.proofs.stepping.delete_from_leaves.Goals as goal
+
+pub leaves-preserved-then-atoms-leaf : goal.leaves-preserved-then-atoms-leaf
+leaves-preserved-then-atoms-leaf g c = record {
+  changed = below_skip (λ p old new. Loses p c.args.cells.now old new) c.args.relation
+      c.args.atoms.now c.args.patterns.now c.leaves.leaf c.index-atoms-leaf.result
+      c.args.reducts.now c.leaves.reducts
+      (got c.args.atoms.now c.leaves.leaf c.index-atoms-leaf.result (below_end c.leaves.leaf
+      c.args.end (length c.args.atoms.now) c.leaves-test.true c.requires.end)
+      c.index-atoms-leaf.is)
+      (off_as c.index-atoms-leaf.result _ c.args.relation c.index-atoms-leaf.is
+      c.if-atoms-leaf.true) c.leaves.invariant.changed;
+  more = c.leaves.invariant.more;
+  listed = calls_as c.args.wanted false (IsGained c.args.reducts.now c.leaves.reducts)
+      (length c.args.reducts.now.tree.head)
+      (atoms_below c.args.relation c.args.atoms.now c.leaves.leaf) _ c.args.log.now c.leaves.log
+      c.args.steps.now.listing c.leaves.steps.listing
+      (counts_past c.args.relation c.args.atoms.now c.leaves.leaf c.index-atoms-leaf.result
+      (below_end c.leaves.leaf c.args.end (length c.args.atoms.now) c.leaves-test.true
+      c.requires.end) c.index-atoms-leaf.is (off_as c.index-atoms-leaf.result _ c.args.relation
+      c.index-atoms-leaf.is c.if-atoms-leaf.true))
+      c.leaves.invariant.listed;
+  updates = counts_as c.args.reducts.now
+      (atoms_below c.args.relation c.args.atoms.now c.leaves.leaf) _ c.args.steps.now.update
+      c.leaves.steps.update
+      (counts_past c.args.relation c.args.atoms.now c.leaves.leaf c.index-atoms-leaf.result
+      (below_end c.leaves.leaf c.args.end (length c.args.atoms.now) c.leaves-test.true
+      c.requires.end) c.index-atoms-leaf.is (off_as c.index-atoms-leaf.result _ c.args.relation
+      c.index-atoms-leaf.is c.if-atoms-leaf.true))
+      c.leaves.invariant.updates;
+  rows = c.leaves.invariant.rows;
+}
+
+pub delete_from_leaf-requires-clause-wide : goal.delete_from_leaf-requires-clause-wide
+delete_from_leaf-requires-clause-wide g c =
+    wide_stays c.args.reducts.now c.leaves.reducts c.leaves.leaf c.index-patterns-leaf.result
+    c.leaves.invariant.changed.tree
+    (c.requires.leaves.wide c.leaves.leaf c.index-patterns-leaf.result
+    (got c.args.patterns.now c.leaves.leaf c.index-patterns-leaf.result (subst (λ (n : ℕ).
+    c.leaves.leaf < n) (sym c.requires.leaves.patterns) (below_end c.leaves.leaf c.args.end
+    (length c.args.atoms.now) c.leaves-test.true c.requires.end))
+    c.index-patterns-leaf.is))
+
+pub delete_from_leaf-requires-clause-long : goal.delete_from_leaf-requires-clause-long
+delete_from_leaf-requires-clause-long g c =
+    c.requires.leaves.fits c.leaves.leaf c.index-atoms-leaf.result c.index-patterns-leaf.result
+    (got c.args.atoms.now c.leaves.leaf c.index-atoms-leaf.result (below_end c.leaves.leaf
+    c.args.end (length c.args.atoms.now) c.leaves-test.true c.requires.end)
+    c.index-atoms-leaf.is)
+    (got c.args.patterns.now c.leaves.leaf c.index-patterns-leaf.result (subst (λ (n : ℕ).
+    c.leaves.leaf < n) (sym c.requires.leaves.patterns) (below_end c.leaves.leaf c.args.end
+    (length c.args.atoms.now) c.leaves-test.true c.requires.end))
+    c.index-patterns-leaf.is)
+    (on_as c.index-atoms-leaf.result _ c.args.relation c.index-atoms-leaf.is c.if-atoms-leaf.false)
+
+pub delete_from_leaf-requires-clause-there : goal.delete_from_leaf-requires-clause-there
+delete_from_leaf-requires-clause-there g c =
+    leaves_stay (λ p old new. Loses p c.args.cells.now old new)
+    (λ p es. Has c.args.cells.now p es) c.args.relation c.args.atoms.now c.args.patterns.now
+    c.leaves.leaf c.args.end c.index-atoms-leaf.result
+    c.index-patterns-leaf.result c.args.reducts.now c.leaves.reducts
+    (has_stay c.args.cells.now c.index-patterns-leaf.result) c.leaves-test.true
+    c.requires.there c.leaves.invariant.changed
+    (got c.args.atoms.now c.leaves.leaf c.index-atoms-leaf.result (below_end c.leaves.leaf
+    c.args.end (length c.args.atoms.now) c.leaves-test.true c.requires.end)
+    c.index-atoms-leaf.is)
+    (got c.args.patterns.now c.leaves.leaf c.index-patterns-leaf.result (subst (λ (n : ℕ).
+    c.leaves.leaf < n) (sym c.requires.leaves.patterns) (below_end c.leaves.leaf c.args.end
+    (length c.args.atoms.now) c.leaves-test.true c.requires.end))
+    c.index-patterns-leaf.is)
+    (on_as c.index-atoms-leaf.result _ c.args.relation c.index-atoms-leaf.is c.if-atoms-leaf.false)
+
+pub leaves-preserved : goal.leaves-preserved
+leaves-preserved g c =
+    let more = loses_more c.args.cells.now c.index-patterns-leaf.result c.leaves.leaf
+    c.leaves.reducts c.delete_from_leaf.new.reducts c.delete_from_leaf.ensures.lost in
+    record {
+      changed = below_step (λ p old new. Loses p c.args.cells.now old new) c.args.relation
+          c.args.atoms.now c.args.patterns.now c.leaves.leaf c.index-atoms-leaf.result
+          c.index-patterns-leaf.result c.args.reducts.now c.leaves.reducts
+          c.delete_from_leaf.new.reducts (loses_stable c.args.cells.now) c.requires.leaves.long
+          (got c.args.atoms.now c.leaves.leaf c.index-atoms-leaf.result (below_end c.leaves.leaf
+          c.args.end (length c.args.atoms.now) c.leaves-test.true c.requires.end)
+          c.index-atoms-leaf.is)
+          (got c.args.patterns.now c.leaves.leaf c.index-patterns-leaf.result (subst (λ (n : ℕ).
+          c.leaves.leaf < n) (sym c.requires.leaves.patterns) (below_end c.leaves.leaf
+          c.args.end (length c.args.atoms.now) c.leaves-test.true c.requires.end))
+          c.index-patterns-leaf.is)
+          (on_as c.index-atoms-leaf.result _ c.args.relation c.index-atoms-leaf.is
+          c.if-atoms-leaf.false) c.leaves.invariant.changed c.delete_from_leaf.ensures.lost;
+      more = more_both c.delete_from_leaf.new.reducts c.leaves.reducts c.args.reducts.now
+          more c.leaves.invariant.more;
+      listed = lists_lost c.args.wanted c.args.reducts.now c.leaves.reducts
+          c.delete_from_leaf.new.reducts (atoms_below c.args.relation c.args.atoms.now c.leaves.leaf)
+          (atoms_below c.args.relation c.args.atoms.now (c.leaves.leaf + 1)) c.args.log.now
+          c.leaves.log c.delete_from_leaf.new.log c.args.steps.now.listing c.leaves.steps.listing
+          c.delete_from_leaf.new.steps.listing c.laws.ensures.sound c.leaves.invariant.changed.sound
+          c.delete_from_leaf.ensures.lost.sound c.leaves.invariant.more more
+          (counts_over c.args.relation c.args.atoms.now c.leaves.leaf c.index-atoms-leaf.result
+          (below_end c.leaves.leaf c.args.end (length c.args.atoms.now) c.leaves-test.true
+          c.requires.end) c.index-atoms-leaf.is (on_as c.index-atoms-leaf.result _
+          c.args.relation c.index-atoms-leaf.is c.if-atoms-leaf.false))
+          c.leaves.invariant.listed c.delete_from_leaf.ensures.listed;
+      updates = counts_fewer c.args.reducts.now c.leaves.reducts
+          (atoms_below c.args.relation c.args.atoms.now c.leaves.leaf)
+          (atoms_below c.args.relation c.args.atoms.now (c.leaves.leaf + 1))
+          c.args.steps.now.update c.leaves.steps.update c.delete_from_leaf.new.steps.update
+          c.leaves.invariant.changed.sound c.leaves.invariant.more
+          (counts_over c.args.relation c.args.atoms.now c.leaves.leaf c.index-atoms-leaf.result
+          (below_end c.leaves.leaf c.args.end (length c.args.atoms.now) c.leaves-test.true
+          c.requires.end) c.index-atoms-leaf.is (on_as c.index-atoms-leaf.result _
+          c.args.relation c.index-atoms-leaf.is c.if-atoms-leaf.false))
+          c.leaves.invariant.updates c.delete_from_leaf.ensures.updates;
+      rows = c.delete_from_leaf.ensures.rows ∙ c.leaves.invariant.rows;
+    }

@@ -1,0 +1,24 @@
+use Rattle.std.proofs.Common.{◌≡◌, false, length}
+use Rattle.djq_cursor.specs.Changed.{IsGained}
+use Rattle.djq_leaves.specs.Changes.{Loses}
+use Rattle.djq_leaves.specs.Stepping.{
+  HasMore,
+  ChangesBelow,
+  ListsWhere,
+  CountsLeaves,
+  atoms_below,
+}
+use Rattle.djq_leaves.proofs.stepping.delete_from_leaves.Given as goal
+
+abbrev pub invariant-leaves : goal.invariant-leaves
+invariant-leaves g l = record {
+  changed : ChangesBelow (λ p old new. Loses p l.cells old new) l.relation l.atoms l.patterns l.leaf
+      l.fn.reducts l.reducts;
+  more : HasMore l.reducts l.fn.reducts;
+  listed : ListsWhere l.wanted false (IsGained l.fn.reducts l.reducts) (length
+      l.fn.reducts.tree.head)
+      (atoms_below l.relation l.atoms l.leaf) l.fn.log l.log l.fn.steps.listing l.steps.listing;
+  updates : CountsLeaves l.fn.reducts (atoms_below l.relation l.atoms l.leaf) l.fn.steps.update
+      l.steps.update;
+  rows : l.steps.rows ≡ l.fn.steps.rows;
+}

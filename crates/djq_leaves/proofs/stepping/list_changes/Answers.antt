@@ -1,0 +1,54 @@
+-- Each answer told leaves fewer to tell; the log tells what the cursor has told, at its end all that changed.
+use Rattle.std.proofs.Common.{sym, subst, ◌∙◌, List, ℕ, length, []}
+use Rattle.std.specs.Prelude.{◌∷◌}
+use Rattle.djq_machine.specs.Store.{most_steps}
+use Rattle.djq_cursor.specs.Listing.{ListsTuples, AreSome}
+use Rattle.djq_cursor.specs.Changed.{IsChanged, IsGained}
+use Rattle.djq_cursor.specs.Told.{told_so_far}
+use Rattle.djq_leaves.specs.Stepping.{LogTellsOf}
+use Rattle.djq_leaves.proofs.Gaining.{listing_as}
+use Rattle.djq_leaves.proofs.Telling.{tells_both, tells_one, counts_one, counts_more}
+use Rattle.djq_leaves.proofs.Ending.{told_fewer}
+use Rattle.djq_leaves.proofs.stepping.list_changes.Goals as goal
+
+pub answers-smaller : goal.answers-smaller
+answers-smaller g c = told_fewer c.args.reducts.now c.args.leaf
+    (told_so_far c.args.reducts.now c.answers.cursor) (told_so_far c.args.reducts.now c.step.new.self)
+    (c.step.new.self.cursor).answer c.laws.ensures.sound c.requires.leaf c.requires.marks
+    c.answers-test.ensures.one
+    (subst (λ (a : ℕ). AreSome (IsChanged c.args.reducts.now a) (told_so_far c.args.reducts.now
+    c.step.new.self))
+    c.answers.invariant.leaf c.step.ensures.answers)
+
+pub answers-preserved : goal.answers-preserved
+answers-preserved g c = record {
+  leaf = c.step.ensures.leaf ∙ c.answers.invariant.leaf;
+  fits = c.step.ensures.fits;
+  tells = subst (λ (us : List (List ℕ)). LogTellsOf c.args.came us c.args.log.now c.push.new.self)
+      (sym c.answers-test.ensures.one)
+      (tells_both c.args.came (told_so_far c.args.reducts.now c.answers.cursor)
+      ((c.step.new.self.cursor).answer ∷ []) c.args.log.now c.answers.log c.push.new.self
+      c.answers.invariant.tells
+      (tells_one c.args.came (c.step.new.self.cursor).answer c.answers.log c.push.new.self c.push.ensures.kept
+      c.push.ensures.lost));
+  counted = counts_more c.args.listing.now c.answers.listing c.step.new.listing
+      (told_so_far c.args.reducts.now c.answers.cursor) (told_so_far c.args.reducts.now c.step.new.self)
+      (c.step.new.self.cursor).answer (most_steps (length c.args.reducts.now.tree.head))
+      c.answers-test.ensures.one c.answers.invariant.counted c.step.ensures.counted;
+}
+
+pub returns : goal.returns
+returns g c = λ small sound without. record {
+  answers = told_so_far c.args.reducts.now c.answers.cursor;
+  listing = listing_as (IsChanged c.args.reducts.now c.args.leaf)
+      (IsGained c.args.reducts.now small) (told_so_far c.args.reducts.now c.answers.cursor)
+      (c.changes_are.ensures small sound without)
+      (subst (λ (a : ℕ). ListsTuples (IsChanged c.args.reducts.now a)
+      (told_so_far c.args.reducts.now c.answers.cursor)) c.answers.invariant.leaf
+      (c.step.ensures.end.0 c.answers-test.false));
+  tells = c.answers.invariant.tells;
+  counted = counts_one c.args.listing.now c.answers.listing c.step.new.listing
+      (length (told_so_far c.args.reducts.now c.answers.cursor))
+      (most_steps (length c.args.reducts.now.tree.head))
+      c.answers.invariant.counted c.step.ensures.counted;
+}

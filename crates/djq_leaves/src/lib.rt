@@ -1,0 +1,33 @@
+//! The leaves of a query's tree, as rows come and go.
+//!
+//! A leaf holds the tuples that put into its atom give a row of the atom's relation and pass the
+//! comparisons of the atom's variables. [`bind_atoms`] makes the patterns by which rows give tuples,
+//! and [`fill_leaves`] fills the leaves from a catalog. [`add_to_leaves`] takes a row in leaf after
+//! leaf, [`delete_from_leaves`] takes it out, and [`add_all_to_leaves`] takes in many at once; each
+//! lists, leaf by leaf, which answers of the tree came or went, where that is wanted.
+//!
+//! ```text
+//! q(x,y) <- r(x,z,3), s(z,y)   x is 0, z is 1, y is 2
+//! the row 5 7 3 of r           the tuple 5 7 of leaf 0, over 0,1
+//! the row 5 7 4 of r           no tuple
+//! ```
+//!
+//! It knows no cursors, and not what an answer shows: that is djq_live's. Out of memory what went in
+//! stays in, up to the leaf that is told, and whoever called takes it out again.
+//!
+//! What surprises: a relation that is read twice has two leaves, and a row goes into one after the
+//! other, so that what the second lists is over what the first has taken in.
+//!
+//! Inside, the updates of a leaf and of the tables above it are djq_propagate's, and what they change
+//! is listed by djq_cursor's cursor over marked tuples.
+#![tactic(auto)]
+
+pub use batch::{add_all_to_leaves, give_all_from_leaves, tuples_of_all};
+pub use bind::bind_atoms;
+pub use fill::fill_leaves;
+pub use stepping::{add_to_leaves, delete_from_leaves};
+
+mod batch;
+mod bind;
+mod fill;
+mod stepping;

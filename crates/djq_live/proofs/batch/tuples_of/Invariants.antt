@@ -1,6 +1,0 @@
-use Rattle.std.proofs.Common.{take}
-use Rattle.djq_live.specs.Batching.{AreTuplesOf}
-use Rattle.djq_live.proofs.batch.tuples_of.Given as goal
-
-abbrev pub invariant-rows : goal.invariant-rows
-invariant-rows l = AreTuplesOf (take l.i l.rows) l.pattern l.tuples

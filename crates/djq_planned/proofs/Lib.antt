@@ -1,0 +1,5 @@
+pub mod Members
+pub mod Ordering
+pub mod Sets
+pub mod Graphs
+pub mod Constants
