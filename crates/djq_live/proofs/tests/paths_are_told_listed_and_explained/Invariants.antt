@@ -1,5 +1,5 @@
 -- The counters stand on the ledgers that the blanks are of.
-use Rattle.djq_live.proofs.tests.lists_a_join.Given as goal
+use Rattle.djq_live.proofs.tests.paths_are_told_listed_and_explained.Given as goal
 
 abbrev pub ghosts-see : goal.ghosts-see
 ghosts-see g a =
