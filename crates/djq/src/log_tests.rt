@@ -14,9 +14,6 @@ const ROW: &[u8] = b"open 1\nsay 1 rel r int\nsay 1 add r 7\nsay 1 add r 7\nsay 
 /// What they are answered.
 const ROW_LINES: &[u8] = b"1< ok\n1< ok added 1 1\n1< ok added 1 2\n1< ok absent 1\n";
 
-/// The file behind them.
-const ROW_FILE: &[u8] = b"DJQLOG1\n\x01\0\x09rel r int\x01\0\x07add r 7\x01\0\x07add r 7\0";
-
 /// Lines whose answers tell how many lines of the row were found.
 const PROBE: &[u8] = b"open 1\nsay 1 del r 7\nsay 1 del r 7\nsay 1 del r 7\n";
 
@@ -48,16 +45,6 @@ const BATCH_PROBED: [&[u8]; 3] = [
     b"1< ok absent 0\n1< ok absent 0\n",
     b"1< ok removed 2 0\n1< ok removed 3 0\n",
 ];
-
-/// A file that ends within a batch.
-const OPEN_FILE: &[u8] = b"DJQLOG1\n\x01\0\x09rel r int\x01\0\x05batch\x01\0\x07add r 7\0";
-
-/// Lines that change nothing behind it.
-const OPEN_PROBE: &[u8] = b"open 1\nsay 1 del r 7\nsay 1 done\n";
-
-/// The same file, once it was opened.
-const ENDED_FILE: &[u8] =
-    b"DJQLOG1\n\x01\0\x09rel r int\x01\0\x05batch\x01\0\x07add r 7\x01\0\x07abandon\0";
 
 fn counted<L: Ledgers>(
     rt: &HostRuntime,
@@ -96,47 +83,6 @@ fn replay_logged(
     let status = counted::<Brand>(rt, Blanks::new(rt), schedule, &mut sink, disk);
     let taken = sink.taken().ok_or("the record is lost")?;
     Ok((status, taken.to_vec(rt.alloc())?))
-}
-
-/// The file of the row with one byte set.
-fn row_file(rt: &HostRuntime, place: usize, byte: u8) -> Result<Vec<u8>, Fail> {
-    let mut bytes = ROW_FILE.to_vec(rt.alloc())?;
-    if let Some(slot) = bytes.get_mut(place) {
-        *slot = byte;
-    }
-    Ok(bytes)
-}
-
-#[test]
-fn a_log_keeps_what_changes_rows(rt: HostRuntime) -> Result<(), Fail> {
-    let mut disk = MemDisk::of(rt.alloc(), b"")?;
-    let (status, lines) = replay_logged(&rt, &mut disk, ROW)?;
-    assert_eq!(rt; status, Status::Done);
-    assert_eq!(rt; lines.as_slice(), ROW_LINES);
-    assert_eq!(rt; disk.bytes(), ROW_FILE);
-    let (status, lines) = replay_logged(&rt, &mut disk, b"open 1\nsay 1 del r 7")?;
-    assert_eq!(rt; status, Status::Done);
-    assert_eq!(rt; lines.as_slice(), b"1< ok removed 1 1\n".as_slice());
-    Ok(())
-}
-
-/// A closed gate ends the list of lines; a length past the end of the file is no line.
-#[test]
-fn a_log_with_a_byte_set_is_empty_or_bad(rt: HostRuntime) -> Result<(), Fail> {
-    let rows = [
-        (8, 0, Status::Done, b"1< err 3 no relation\n".as_slice()),
-        (10, 255, Status::BadLog(8), b""),
-        (7, 0, Status::BadLog(0), b""),
-        (11, b'x', Status::BadLog(8), b""),
-        (30, 4, Status::Done, b"1< ok removed 2 0\n"),
-    ];
-    for (place, byte, wanted, text) in rows {
-        let mut disk = MemDisk::of(rt.alloc(), &row_file(&rt, place, byte)?)?;
-        let (status, lines) = replay_logged(&rt, &mut disk, b"open 1\nsay 1 del r 7")?;
-        assert_eq!(rt; status, wanted, "byte {place}");
-        assert_eq!(rt; lines.as_slice(), text, "byte {place}");
-    }
-    Ok(())
 }
 
 /// How many groups of lines were found on a disk with these bytes, by what it answers to a probe; or
@@ -224,18 +170,6 @@ fn first_loss(
     Ok(None)
 }
 
-/// A stop leaves whole lines.
-#[test]
-fn a_stop_at_each_call_leaves_what_was_answered(rt: HostRuntime) -> Result<(), Fail> {
-    let mut disk = MemDisk::of(rt.alloc(), b"")?;
-    let (status, _) = replay_logged(&rt, &mut disk, ROW)?;
-    assert_eq!(rt; status, Status::Done);
-    let calls = disk.calls().ok_or("the record is lost")?;
-    assert!(rt; syncs(calls) == 8);
-    assert_eq!(rt; first_loss(&rt, calls, PROBE, &PROBED)?, None);
-    Ok(())
-}
-
 /// A stop leaves both rows of a batch or none.
 #[test]
 fn a_stop_at_each_call_leaves_whole_batches(rt: HostRuntime) -> Result<(), Fail> {
@@ -264,58 +198,6 @@ fn a_call_that_fails_ends_the_program(rt: HostRuntime) -> Result<(), Fail> {
         let answered = lines.iter().filter(|byte| **byte == b'\n').count() as u64;
         let found = groups_found(&rt, disk.bytes(), PROBE, &PROBED)?.ok_or("the log is bad")?;
         assert!(rt; answered.min(3) <= found, "at {n}");
-    }
-    Ok(())
-}
-
-/// So it is with a batch, which is answered by its last line.
-#[test]
-fn a_call_that_fails_leaves_whole_batches(rt: HostRuntime) -> Result<(), Fail> {
-    for n in 1..40 {
-        let mut disk = MemDisk::of(rt.alloc(), b"")?;
-        disk.fail_at(n)?;
-        let (status, lines) = replay_logged(&rt, &mut disk, BATCH)?;
-        let made = disk.calls().ok_or("the record is lost")?.len();
-        let failed = n <= made as u64;
-        assert!(rt; (status == Status::DiskFault) == failed, "at {n}");
-        assert!(rt; BATCH_LINES.starts_with(lines.as_slice()), "at {n}");
-        let found = groups_found(&rt, disk.bytes(), BATCH_PROBE, &BATCH_PROBED)?;
-        let groups = found.ok_or("the log is bad")?;
-        let answered = lines.as_slice() == BATCH_LINES;
-        assert!(rt; groups == 2 || !answered, "at {n}");
-    }
-    Ok(())
-}
-
-/// The line that ends a batch which a file leaves open is kept before anything is served, once.
-#[test]
-fn a_log_that_ends_within_a_batch_is_ended(rt: HostRuntime) -> Result<(), Fail> {
-    let mut disk = MemDisk::of(rt.alloc(), OPEN_FILE)?;
-    for _ in 0..2 {
-        let (status, lines) = replay_logged(&rt, &mut disk, OPEN_PROBE)?;
-        assert_eq!(rt; status, Status::Done);
-        assert_eq!(rt;
-            lines.as_slice(),
-            b"1< ok absent 0\n1< err 18 batch\n".as_slice()
-        );
-        assert_eq!(rt; disk.bytes(), ENDED_FILE);
-    }
-    Ok(())
-}
-
-/// Where a call fails as that line is kept, nothing is served, and the file loads at the next start.
-#[test]
-fn a_batch_that_cant_be_ended_ends_the_program(rt: HostRuntime) -> Result<(), Fail> {
-    for n in 1..40 {
-        let mut disk = MemDisk::of(rt.alloc(), OPEN_FILE)?;
-        disk.fail_at(n)?;
-        let (status, lines) = replay_logged(&rt, &mut disk, BATCH_PROBE)?;
-        let made = disk.calls().ok_or("the record is lost")?.len();
-        let failed = n <= made as u64;
-        assert!(rt; (status == Status::DiskFault) == failed, "at {n}");
-        assert!(rt; lines.is_empty() == failed, "at {n}");
-        let found = groups_found(&rt, disk.bytes(), BATCH_PROBE, &BATCH_PROBED)?;
-        assert_eq!(rt; found, Some(1), "at {n}");
     }
     Ok(())
 }

@@ -93,21 +93,3 @@ pub(crate) fn has_cells<L: Ledger>(
     let answer = rising_cells(reducts.tree().head(), head, cells);
     agrees(head, cells) && djq_cursor::has(reducts, &answer, listing)
 }
-
-#[cfg(test)]
-mod tests {
-    use super::*;
-
-    #[test]
-    fn finds_places(rt: HostRuntime) {
-        assert_eq!(rt; place_of(&[4, 2, 4], 4), 0);
-        assert_eq!(rt; place_of(&[4, 2, 4], 2), 1);
-        assert_eq!(rt; place_of(&[4, 2, 4], 3), 3);
-    }
-
-    #[test]
-    fn compares_cells_of_a_repeated_variable(rt: HostRuntime) {
-        assert!(rt; agrees(&[4, 2, 4], &Cells::from_slice(&[9, 5, 9])));
-        assert!(rt; !agrees(&[4, 2, 4], &Cells::from_slice(&[9, 5, 5])));
-    }
-}

@@ -1,15 +1,19 @@
-ghost use Rattle.std.specs.Prelude.{◌≡◌, IsSome, IfOk};
+ghost use Rattle.std.specs.Prelude.{◌≡◌, ◌<◌, false, All, Contains, IfOk, IsSome, OnOk, length};
+ghost use Rattle.djq_model.specs.Data.{Tuple};
 ghost use Rattle.djq_reduct.specs.Answers.{IsAnswerOf};
+ghost use Rattle.djq_rows.specs.Catalog.{Catalog as CatalogModel, StandForRow, rows_at};
+ghost use Rattle.djq_leaves.specs.Changes.{Came, Went};
 ghost use Rattle.djq_live.specs.Cursors.{slot_at};
-ghost use Rattle.djq_live.specs.Live.{IsLive};
+ghost use Rattle.djq_live.specs.Live.{IsKept, IsKeptSomewhere, IsLive, IsShowable};
 
 use super::*;
-use djq_index::CELLS;
-use djq_lines::AddOutcome;
+use djq_cursor::{DeltaLog, Line};
+use djq_index::{CELLS, Cells};
+use djq_lines::{AddOutcome, DeleteOutcome};
 use djq_model::{
-    Atom, ColumnType, Comparison, Name, NoMem, Operator, Query, Row, Sequence, Term, Text, Types,
-    Value, ValueRef,
+    Atom, ColumnType, Name, NoMem, Query, Row, Sequence, Term, Types, Value, ValueRef,
 };
+use djq_planned::{intern_constants, plan_query, query_fault_of};
 use djq_reduct::Answer;
 use djq_rows::{Catalog, RelationId};
 use djq_steps::{Blanks, Ledgers, Listing, Steps, Tally};
@@ -18,44 +22,26 @@ use std::alloc::Global;
 use std::marker::Brand;
 use std::test::Fail;
 
-mod comparisons;
-mod updates;
-
-/// A term of one letter: a hole, a digit or a variable.
-fn read_term(letter: u8) -> Term {
-    if letter == b'_' {
-        return Term::Hole;
-    }
-    if letter >= b'0' && letter <= b'9' {
-        return Term::Constant(Value::Int((letter - b'0') as i64));
-    }
-    Term::Variable(Name::new(&[letter]))
-}
-
-/// An atom, whose first letter is its relation.
-fn read_atom(alloc: Global, letters: &[u8]) -> Result<Atom, NoMem> {
-    let mut relation = Name::new(b"");
+/// An atom over `r` of two variables of a letter each.
+fn edge(alloc: Global, from: u8, to: u8) -> Result<Atom, NoMem> {
     let mut terms = Sequence::new(alloc);
-    for i in 0..letters.len() {
-        if i == 0 {
-            relation = Name::new(&letters[..1]);
-        } else {
-            terms.push(read_term(letters[i]))?;
-        }
-    }
-    Ok(Atom { relation, terms })
+    terms.push(Term::Variable(Name::new(&[from])))?;
+    terms.push(Term::Variable(Name::new(&[to])))?;
+    Ok(Atom {
+        relation: Name::new(b"r"),
+        terms,
+    })
 }
 
-/// A query whose head is letters, over one atom or two.
-fn read(alloc: Global, letters: &[u8], bodies: &[&[u8]]) -> Result<Query, NoMem> {
+/// The query `q(x,y,z) <- r(x,y), r(y,z)`.
+fn paths(alloc: Global) -> Result<Query, NoMem> {
     let mut head = Sequence::new(alloc);
-    for letter in letters {
-        head.push(Name::new(&[*letter]))?;
+    for letter in [b'x', b'y', b'z'] {
+        head.push(Name::new(&[letter]))?;
     }
     let mut atoms = Sequence::new(alloc);
-    for i in 0..bodies.len() {
-        atoms.push(read_atom(alloc, bodies[i])?)?;
-    }
+    atoms.push(edge(alloc, b'x', b'y')?)?;
+    atoms.push(edge(alloc, b'y', b'z')?)?;
     Ok(Query {
         name: Name::new(b"q"),
         head,
@@ -64,39 +50,16 @@ fn read(alloc: Global, letters: &[u8], bodies: &[&[u8]]) -> Result<Query, NoMem>
     })
 }
 
-/// The query with a comparison more, behind its atoms.
-fn compared(
-    query: Query,
-    variable: u8,
-    operator: Operator,
-    constant: Value,
-) -> Result<Query, NoMem> {
-    let mut query = query;
-    let behind = query.atoms.len();
-    query.comparisons.push(Comparison {
-        variable: Name::new(&[variable]),
-        operator,
-        constant,
-        behind,
-    })?;
-    Ok(query)
-}
-
-/// Makes a relation of a letter with so many columns of integers, at most three.
-fn make(
-    alloc: Global,
-    catalog: &mut Catalog,
-    name: u8,
-    columns: usize,
-) -> Result<RelationId, Fail> {
+/// Makes the relation `r` of two columns of integers.
+fn make(alloc: Global, catalog: &mut Catalog) -> Result<RelationId, Fail> {
     let mut types = Types::new(alloc);
-    for _column in 0..columns {
+    for _column in 0..2 {
         types.push(ColumnType::Int)?;
     }
     if types.is_empty() || types.len() > 3 {
         return Err(NoMem)?;
     }
-    Ok(catalog.relation(Name::new(&[name]), types)?)
+    Ok(catalog.relation(Name::new(b"r"), types)?)
 }
 
 /// A row of integers.
@@ -108,34 +71,16 @@ fn row(alloc: Global, numbers: &[i64]) -> Result<Row, NoMem> {
     Ok(row)
 }
 
-/// Puts a row into a relation before a query is built.
-fn fill<L: Ledgers>(
-    alloc: Global,
-    catalog: &mut Catalog,
-    id: RelationId,
-    numbers: &[i64],
-    steps: &mut Steps<L>,
-) -> Result<AddOutcome, Fail> {
-    let row = row(alloc, numbers)?;
-    if id.at >= catalog.len() || row.len() > CELLS {
-        return Err(NoMem)?;
-    }
-    if !catalog.suits(id, row.as_slice()) {
-        return Err(NoMem)?;
-    }
-    let cells = catalog.intern_row(row.as_slice())?;
-    Ok(catalog.add_row(id, cells.as_slice(), &mut steps.rows)?)
-}
-
-/// Registers a query; one that can't be asked or planned stops the test.
+/// Registers the paths over a relation `r` without rows.
 fn build<L: Ledgers>(
     alloc: Global,
     catalog: &mut Catalog,
-    query: Query,
     steps: &mut Steps<L>,
 ) -> Result<LiveQuery, Fail>
     ensures { IfOk result (λ l. IsLive catalog.new l) }
 {
+    let _r = make(alloc, catalog)?;
+    let query = paths(alloc)?;
     intern_constants(catalog, &query)?;
     if query.atoms.is_empty() || query_fault_of(catalog, &query).is_some() {
         return Err(NoMem)?;
@@ -152,26 +97,207 @@ fn number(lent: ValueRef<'_>) -> i64 {
     }
 }
 
-/// An answer of two integers.
-fn read_pair(live: &LiveQuery, catalog: &Catalog, answer: &Answer) -> Option<(i64, i64)>
+/// The digits of an answer of three integers.
+fn digits(live: &LiveQuery, catalog: &Catalog, answer: &Answer) -> i64
+    requires kept { IsKeptSomewhere live.now }
+    requires showable { IsShowable catalog.now.texts live.now answer.now }
+    requires wide { 2 < length live.now.query.head }
+{
+    let first = number(live.value(catalog, answer, 0));
+    let second = number(live.value(catalog, answer, 1));
+    let third = number(live.value(catalog, answer, 2));
+    first
+        .wrapping_mul(100)
+        .wrapping_add(second.wrapping_mul(10))
+        .wrapping_add(third)
+}
+
+/// The digits of the answer of a line, behind a one where it went.
+fn line_digits(live: &LiveQuery, catalog: &Catalog, line: &Line) -> i64
+    requires kept { IsKeptSomewhere live.now }
+    requires showable { IsShowable catalog.now.texts live.now line.now.answer }
+    requires wide { 2 < length live.now.query.head }
+{
+    let digits = digits(live, catalog, &line.answer);
+    if line.came {
+        return digits;
+    }
+    digits.wrapping_add(1000)
+}
+
+/// What a log tells, in rising order, and a zero.
+fn told(
+    alloc: Global,
+    live: &LiveQuery,
+    catalog: &Catalog,
+    log: &DeltaLog,
+) -> Result<Vec<i64>, Fail>
+    requires kept { IsKeptSomewhere live.now }
+    requires showable { log.now.lost ≡ false → All (λ k. IsShowable catalog.now.texts live.now
+        k.answer) log.now.lines }
+{
+    if log.lost() || live.width() != 3 {
+        return Err(NoMem)?;
+    }
+    let lines = log.lines();
+    let mut told = Vec::new(alloc);
+    'lines: for i in 0..lines.len() {
+        told.push(line_digits(live, catalog, &lines[i]))?;
+    }
+    told.sort()?;
+    told.push(0)?;
+    Ok(told)
+}
+
+/// The cells of a row of integers that suits a relation.
+fn cells(catalog: &Catalog, id: RelationId, row: &[Value]) -> Result<Cells, Fail>
+    ensures there { OnOk result (id.at < length catalog.now.relations) }
+    ensures stand { IfOk result (λ cells. StandForRow catalog.now id.at cells row.now) }
+{
+    if id.at >= catalog.len() || row.len() > CELLS {
+        return Err(NoMem)?;
+    }
+    if !catalog.suits(id, row) {
+        return Err(NoMem)?;
+    }
+    match catalog.cells(row) {
+        Some(cells) => Ok(cells),
+        None => Err(NoMem)?,
+    }
+}
+
+/// Takes a row that came into the query over its relation, and tells of it.
+fn come<L: Ledgers>(
+    alloc: Global,
+    catalog: &Catalog,
+    live: &mut LiveQuery,
+    id: RelationId,
+    cells: &[u64],
+    steps: &mut Steps<L>,
+) -> Result<Vec<i64>, Fail>
+    requires there { id.at < length catalog.now.relations }
+    requires can { (c : CatalogModel) × (row : Tuple) × IsKept c live.old
+        × Came c catalog.now id.at cells.now row }
+    ensures live { OnOk result (IsLive catalog.now live.new) }
+{
+    showable_stays();
+    let mut log = DeltaLog::new(alloc);
+    live.add(id, cells, true, &mut log, steps)?;
+    live.outdate(catalog.name(id), 1);
+    told(alloc, live, catalog, &log)
+}
+
+/// Puts a row into a relation and into the query over it, and tells what came.
+fn put<L: Ledgers>(
+    alloc: Global,
+    catalog: &mut Catalog,
+    live: &mut LiveQuery,
+    id: RelationId,
+    row: &[Value],
+    steps: &mut Steps<L>,
+) -> Result<Vec<i64>, Fail>
+    requires live { IsLive catalog.old live.old }
+    ensures live { OnOk result (IsLive catalog.new live.new) }
+{
+    added_came();
+    copies_keep_rows();
+    live_stays();
+    let cells = cells(catalog, id, row)?;
+    catalog.laws();
+    let outcome = catalog.add_row(id, cells.as_slice(), &mut steps.rows)?;
+    catalog.laws();
+    match outcome {
+        AddOutcome::More(_copies) => Ok(vec![in alloc; 0]?),
+        AddOutcome::First => come(alloc, catalog, live, id, cells.as_slice(), steps),
+    }
+}
+
+/// Takes a row that went out of the query over its relation, and tells of it.
+fn go<L: Ledgers>(
+    alloc: Global,
+    catalog: &Catalog,
+    live: &mut LiveQuery,
+    id: RelationId,
+    cells: &[u64],
+    steps: &mut Steps<L>,
+) -> Result<Vec<i64>, Fail>
+    requires there { id.at < length catalog.now.relations }
+    requires can { (c : CatalogModel) × (row : Tuple) × IsKept c live.old
+        × Contains (rows_at c.relations id.at) row × Went c catalog.now id.at cells.now row }
+    ensures live { OnOk result (IsLive catalog.now live.new) }
+{
+    showable_stays();
+    let mut log = DeltaLog::new(alloc);
+    live.delete(id, cells, true, &mut log, steps);
+    live.outdate(catalog.name(id), 1);
+    told(alloc, live, catalog, &log)
+}
+
+/// Takes a row out of a relation and out of the query over it, and tells what went.
+fn take<L: Ledgers>(
+    alloc: Global,
+    catalog: &mut Catalog,
+    live: &mut LiveQuery,
+    id: RelationId,
+    row: &[Value],
+    steps: &mut Steps<L>,
+) -> Result<Vec<i64>, Fail>
+    requires live { IsLive catalog.old live.old }
+    ensures live { OnOk result (IsLive catalog.new live.new) }
+{
+    deleted_went();
+    copies_keep_rows();
+    live_stays();
+    let cells = cells(catalog, id, row)?;
+    catalog.laws();
+    let outcome = catalog.delete_row(id, cells.as_slice(), &mut steps.rows);
+    catalog.laws();
+    match outcome {
+        DeleteOutcome::Absent => Ok(vec![in alloc; 0]?),
+        DeleteOutcome::Left(_copies) => Ok(vec![in alloc; 0]?),
+        DeleteOutcome::Last => go(alloc, catalog, live, id, cells.as_slice(), steps),
+    }
+}
+
+/// Puts a row in, or takes it out, and tells of it.
+fn change<L: Ledgers>(
+    alloc: Global,
+    catalog: &mut Catalog,
+    live: &mut LiveQuery,
+    id: RelationId,
+    came: bool,
+    numbers: &[i64],
+    steps: &mut Steps<L>,
+) -> Result<Vec<i64>, Fail>
+    requires live { IsLive catalog.old live.old }
+    ensures live { OnOk result (IsLive catalog.new live.new) }
+{
+    let row = row(alloc, numbers)?;
+    if came {
+        return put(alloc, catalog, live, id, row.as_slice(), steps);
+    }
+    take(alloc, catalog, live, id, row.as_slice(), steps)
+}
+
+/// The digits of an answer that a cursor gave.
+fn listed_digits(live: &LiveQuery, catalog: &Catalog, answer: &Answer) -> Option<i64>
     requires live { IsLive catalog.now live.now }
     requires answer { IsAnswerOf live.now.reducts answer.now }
 {
-    if live.width() != 2 {
+    if live.width() != 3 {
         return None;
     }
     answers_are_showable();
-    let first = number(live.value(catalog, answer, 0));
-    Some((first, number(live.value(catalog, answer, 1))))
+    Some(digits(live, catalog, answer))
 }
 
-/// Reads a cursor: a further answer of two integers, where there is one.
-fn next_pair<L: Ledgers>(
+/// Reads a cursor: the digits of a further answer, where there is one.
+fn next_digits<L: Ledgers>(
     live: &mut LiveQuery,
     catalog: &Catalog,
     slot: usize,
     listing: &mut Tally<Listing<L>>,
-) -> Option<(i64, i64)>
+) -> Option<i64>
     requires live { IsLive catalog.now live.old }
     requires there { IsSome (slot_at live.old.cursors slot) }
     ensures live { IsLive catalog.now live.new }
@@ -179,7 +305,7 @@ fn next_pair<L: Ledgers>(
 {
     let mut answer = Answer::new(0);
     match live.next(slot, &mut answer, listing) {
-        Next::Given => read_pair(live, catalog, &answer),
+        Next::Given => listed_digits(live, catalog, &answer),
         _ => None,
     }
 }
@@ -196,152 +322,102 @@ fn is_left<L: Ledgers>(
     Ok(live.more(slot, listing))
 }
 
-/// Registers `q(z,x) <- r(x,x,_), s(x,z,3)` over rows of which `5 5 7` and `5 5 8` with `5 9 3`
-/// give one answer, and `6 6 1` with `6 2 3` gives another.
-fn join<L: Ledgers>(
+/// Whether these numbers are an answer.
+fn holds<L: Ledgers>(
     alloc: Global,
-    catalog: &mut Catalog,
-    steps: &mut Steps<L>,
-) -> Result<LiveQuery, Fail>
-    ensures { IfOk result (λ l. IsLive catalog.new l) }
+    live: &LiveQuery,
+    catalog: &Catalog,
+    digits: &[i64],
+    listing: &mut Tally<Listing<L>>,
+) -> Result<bool, Fail>
+    requires live { IsLive catalog.now live.now }
 {
-    let r = make(alloc, catalog, b'r', 3)?;
-    let s = make(alloc, catalog, b's', 3)?;
-    for numbers in [[5, 5, 7], [5, 5, 8], [6, 6, 1], [1, 2, 3]] {
-        let _ = fill(alloc, catalog, r, &numbers, steps)?;
+    let tuple = row(alloc, digits)?;
+    match live.suits(tuple.as_slice()) {
+        Ok(()) => Ok(live.has(catalog, tuple.as_slice(), listing)),
+        Err(_refusal) => Err(NoMem)?,
     }
-    for numbers in [[5, 9, 3], [5, 8, 4], [6, 2, 3], [7, 1, 3]] {
-        let _ = fill(alloc, catalog, s, &numbers, steps)?;
-    }
-    let query = read(alloc, b"zx", &[b"rxx_", b"sxz3"])?;
-    build(alloc, catalog, query, steps)
 }
 
-/// What is seen of `q(z,x) <- r(x,x,_), s(x,z,3)`.
+/// What is seen of the paths: what was told of each change, whether 1 2 2 and 1 2 3 are answers, the tree's lines, what
+/// a cursor lists, and whether a fresh one has an answer left.
 #[derive(Drop)]
 struct Seen {
-    first: Option<(i64, i64)>,
-    second: Option<(i64, i64)>,
-    third: Option<(i64, i64)>,
+    told: Vec<i64>,
+    held: (bool, bool),
+    tree: Lines,
+    listed: (Option<i64>, Option<i64>, Option<i64>),
     more: bool,
 }
 
-fn list<L: Ledgers>(
+fn look<L: Ledgers>(
+    alloc: Global,
     live: &mut LiveQuery,
     catalog: &Catalog,
+    told: Vec<i64>,
     listing: &mut Tally<Listing<L>>,
-) -> Result<Seen, NoMem>
-    requires { IsLive catalog.now live.old }
+) -> Result<Seen, Fail>
+    requires live { IsLive catalog.now live.old }
 {
+    let stays = holds(alloc, live, catalog, &[1, 2, 2], listing)?;
+    let stays_no_more = holds(alloc, live, catalog, &[1, 2, 3], listing)?;
+    let tree = live.explain(alloc)?;
     let slot = live.open()?;
-    let first = next_pair(live, catalog, slot, listing);
-    let second = next_pair(live, catalog, slot, listing);
-    let third = next_pair(live, catalog, slot, listing);
+    let first = next_digits(live, catalog, slot, listing);
+    let second = next_digits(live, catalog, slot, listing);
+    let third = next_digits(live, catalog, slot, listing);
     let more = is_left(live, catalog, listing)?;
     Ok(Seen {
-        first,
-        second,
-        third,
+        told,
+        held: (stays, stays_no_more),
+        tree,
+        listed: (first, second, third),
         more,
     })
 }
 
-fn has_more<L: Ledgers>(
+/// Takes rows of two digits in, or out where the sign is minus, and looks at the paths then.
+fn walk<L: Ledgers>(
     alloc: Global,
     catalog: &mut Catalog,
+    moves: &[i64],
     steps: &mut Steps<L>,
 ) -> Result<Seen, Fail> {
-    let mut live = join(alloc, catalog, steps)?;
-    Ok(list(&mut live, catalog, &mut steps.listing)?)
-}
-
-fn see<L: Ledgers>(rt: &HostRuntime, catalog: &mut Catalog, blanks: Blanks) -> Result<Seen, Fail>
-    requires listing { blanks.listing.name ≡ L.listing }
-    requires update { blanks.update.name ≡ L.update }
-    requires rows { blanks.rows.name ≡ L.rows }
-{
-    let mut steps = Steps::<L>::new(rt, blanks);
-    has_more(rt.alloc(), catalog, &mut steps)
-}
-
-/// Whether these are two answers, in either order.
-fn are_these(
-    first: Option<(i64, i64)>,
-    second: Option<(i64, i64)>,
-    one: (i64, i64),
-    other: (i64, i64),
-) -> bool {
-    if first == Some(one) {
-        return second == Some(other);
+    let mut live = build(alloc, catalog, steps)?;
+    let mut trace = Vec::new(alloc);
+    let r = RelationId { at: 0 };
+    'moves: for i in 0..moves.len() {
+        let came = moves[i] > 0;
+        let digits = moves[i].unsigned_abs();
+        let row = [(digits / 10) as i64, (digits % 10) as i64];
+        let told = change(alloc, catalog, &mut live, r, came, &row, steps)?;
+        trace.extend_from_slice(&told)?;
     }
-    first == Some(other) && second == Some(one)
+    look(alloc, &mut live, catalog, trace, &mut steps.listing)
 }
 
-#[test]
-fn lists_a_join(rt: HostRuntime) -> Result<(), Fail> {
-    let mut catalog = Catalog::new(rt.alloc())?;
-    let seen = see::<Brand>(&rt, &mut catalog, Blanks::new(&rt))?;
-    assert!(rt; are_these(seen.first, seen.second, (9, 5), (2, 6)));
-    assert!(rt; seen.third.is_none() && seen.more);
-    Ok(())
-}
-
-/// What explains `q(x) <- r(x,y)`.
-fn explained<L: Ledgers>(rt: &HostRuntime, blanks: Blanks) -> Result<Lines, Fail>
+/// What is seen of the paths behind such rows.
+fn see<L: Ledgers>(rt: &HostRuntime, moves: &[i64], blanks: Blanks) -> Result<Seen, Fail>
     requires listing { blanks.listing.name ≡ L.listing }
     requires update { blanks.update.name ≡ L.update }
     requires rows { blanks.rows.name ≡ L.rows }
 {
     let mut steps = Steps::<L>::new(rt, blanks);
     let mut catalog = Catalog::new(rt.alloc())?;
-    let _r = make(rt.alloc(), &mut catalog, b'r', 2)?;
-    let query = read(rt.alloc(), b"x", &[b"rxy"])?;
-    let live = build(rt.alloc(), &mut catalog, query, &mut steps)?;
-    Ok(live.explain(rt.alloc())?)
+    walk(rt.alloc(), &mut catalog, moves, &mut steps)
 }
 
 #[test]
-fn explains_a_tree(rt: HostRuntime) -> Result<(), Fail> {
-    let lines = explained::<Brand>(&rt, Blanks::new(&rt))?;
-    let want: &[u8] = b"n 0 leaf r x,y\nn 1 trim 0 x out\nn 2 trim 1 - out\n";
-    assert_eq!(rt; lines.as_bytes(), want);
-    Ok(())
-}
-
-/// How many edges the rest of a cyclic query has, and the rest of one that isn't connex.
-fn rests(unplanned: &Unplanned) -> (usize, usize) {
-    match unplanned {
-        Unplanned::Cyclic(rest) => (rest.edges.len(), 0),
-        Unplanned::NotConnex(rest) => (0, rest.edges.len()),
-        Unplanned::NoMem => (0, 0),
-    }
-}
-
-/// What planning says of a query over `r`, `s` and `t`, each of two columns.
-fn planned(alloc: Global, query: &Query) -> Result<(usize, usize), Fail> {
-    let mut catalog = Catalog::new(alloc)?;
-    for name in [b'r', b's', b't'] {
-        let _id = make(alloc, &mut catalog, name, 2)?;
-    }
-    if query.atoms.is_empty() || query_fault_of(&catalog, query).is_some() {
-        return Err(NoMem)?;
-    }
-    match plan_query(alloc, &catalog, query) {
-        Ok(_planned) => Ok((0, 0)),
-        Err(unplanned) => Ok(rests(&unplanned)),
-    }
-}
-
-#[test]
-fn tells_that_a_triangle_is_cyclic(rt: HostRuntime) -> Result<(), Fail> {
-    let query = read(rt.alloc(), b"xyz", &[b"rxy", b"syz", b"tzx"])?;
-    assert!(rt; planned(rt.alloc(), &query)? == (3, 0));
-    Ok(())
-}
-
-#[test]
-fn tells_that_ends_of_a_path_are_not_connex(rt: HostRuntime) -> Result<(), Fail> {
-    let query = read(rt.alloc(), b"xz", &[b"rxy", b"syz"])?;
-    assert!(rt; planned(rt.alloc(), &query)? == (0, 3));
+fn paths_are_told_listed_and_explained(rt: HostRuntime) -> Result<(), Fail> {
+    let moves = [12, 23, 22, 23, -23, -23, -99];
+    let seen = see::<Brand>(&rt, &moves, Blanks::new(&rt))?;
+    let told: &[i64] = &[0, 123, 0, 122, 222, 223, 0, 0, 0, 1123, 1223, 0, 0];
+    assert_eq!(rt; seen.told.as_slice(), told);
+    assert!(rt; seen.held == (true, false) && seen.more);
+    let tree: &[u8] =
+        b"n 0 leaf r x,y out\nn 1 leaf r y,z out\nn 2 trim 0 y out\nn 3 trim 1 y out\nn 4 meet 2 3 y out\nn 5 trim 4 - out\n";
+    assert_eq!(rt; seen.tree.as_bytes(), tree);
+    let listed = seen.listed;
+    assert!(rt; listed == (Some(122), Some(222), None) || listed == (Some(222), Some(122), None));
     Ok(())
 }

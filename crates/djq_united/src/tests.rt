@@ -8,8 +8,9 @@ ghost use Rattle.djq_united.specs.United.{IsUnited, AreKept};
 
 use super::*;
 use djq_index::CELLS;
-use djq_live::{LiveQuery, Next, plan_query, query_fault_of};
+use djq_live::{LiveQuery, Next};
 use djq_model::{Atom, ColumnType, Name, NoMem, Query, Row, Sequence, Term, Types, Value};
+use djq_planned::{plan_query, query_fault_of};
 use djq_reduct::{Answer, Cells};
 use djq_rows::Catalog;
 use djq_steps::{Blanks, Ledgers, Listing, Steps, Tally};

@@ -10,7 +10,7 @@ use Rattle.djq_live.specs.declared.listing.Next.TheVariants.{Given, End, Stale a
 use Rattle.djq_live.specs.Cursors.{Progress, slot_at}
 use Rattle.djq_live.specs.Live.{Live, IsLive, position_of}
 use Rattle.djq_live.specs.Reading.{QueryCursorMoves, QueryNextGivesAt}
-use Rattle.djq_live.proofs.tests.next_pair.Goals as goal
+use Rattle.djq_live.proofs.tests.next_digits.Goals as goal
 
 record Stays (c : Catalog) (k : ℕ) (new : Live) : Type 0 where
   pub live : IsLive c new

@@ -1,8 +1,8 @@
 -- The counters stand on the ledgers that the blanks are of.
-use Rattle.djq_live.proofs.tests.explains_a_tree.Given as goal
+use Rattle.djq_live.proofs.tests.paths_are_told_listed_and_explained.Given as goal
 
-abbrev pub ghosts-explained : goal.ghosts-explained
-ghosts-explained g a =
+abbrev pub ghosts-see : goal.ghosts-see
+ghosts-see g a =
     record {
       listing = a.blanks.listing.name;
       update = a.blanks.update.name;

@@ -3,7 +3,7 @@ use Rattle.std.proofs.Common.{ap, ◌∙◌}
 use Rattle.djq_leaves.specs.Changes.{Came}
 use Rattle.djq_live.specs.Live.{Live}
 use Rattle.djq_live.proofs.Moving.{lines_show_now}
-use Rattle.djq_live.proofs.tests.updates.come.Goals as goal
+use Rattle.djq_live.proofs.tests.come.Goals as goal
 
 pub add-requires : goal.add-requires
 add-requires g c = record {

@@ -3,7 +3,7 @@ use Rattle.std.proofs.Common.{rules, ap, ◌∙◌}
 use Rattle.djq_leaves.specs.Changes.{Went}
 use Rattle.djq_live.specs.Live.{Live, IsLive}
 use Rattle.djq_live.proofs.Moving.{lines_show_now}
-use Rattle.djq_live.proofs.tests.updates.go.Goals as goal
+use Rattle.djq_live.proofs.tests.go.Goals as goal
 
 pub delete-requires : goal.delete-requires
 delete-requires g c = record {

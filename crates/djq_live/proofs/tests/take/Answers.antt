@@ -3,7 +3,7 @@ use Rattle.std.proofs.Common.{◌≡◌, ℕ, List, sym, subst}
 use Rattle.djq_rows.specs.Catalog.{Catalog, StandForRow, rows_at}
 use Rattle.djq_live.specs.Live.{IsLive}
 use Rattle.djq_live.proofs.Moving.{same_catalog, has_contains}
-use Rattle.djq_live.proofs.tests.updates.take.Goals as goal
+use Rattle.djq_live.proofs.tests.take.Goals as goal
 
 pub go-requires-clause-can : goal.go-requires-clause-can
 go-requires-clause-can g c =

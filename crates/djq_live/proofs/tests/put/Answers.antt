@@ -3,7 +3,7 @@ use Rattle.std.proofs.Common.{◌≡◌, ℕ, List, sym, subst}
 use Rattle.djq_rows.specs.Catalog.{Catalog, StandForRow}
 use Rattle.djq_live.specs.Live.{IsLive}
 use Rattle.djq_live.proofs.Moving.{row_added, copy_added}
-use Rattle.djq_live.proofs.tests.updates.put.Goals as goal
+use Rattle.djq_live.proofs.tests.put.Goals as goal
 
 pub come-requires-clause-can : goal.come-requires-clause-can
 come-requires-clause-can g c =
