@@ -62,7 +62,7 @@ use Rattle.djq_live.specs.Live.{IsLive}
 use Rattle.djq_planned.specs.Planning.{IsPlanned}
 use Rattle.djq_planned.specs.declared.plan.PlannedQuery.{PlannedQuery}
 use Rattle.djq_leaves.specs.Leaves.{IsOver, IsPatternOf}
-use Rattle.djq_planned.proofs.Constants.{HaveFrom, compared_have, have_parts}
+use Rattle.djq_planned.proofs.Interning.{HaveFrom, compared_have, have_parts}
 use Rattle.djq_planned.proofs.Graphs.{count_labels, edges_long, head_numbers, high_head}
 use Rattle.djq_leaves.proofs.Heads.{has_at}
 use Rattle.djq_live.proofs.Later.{atom_at}

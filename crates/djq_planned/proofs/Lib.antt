@@ -2,4 +2,4 @@ pub mod Members
 pub mod Ordering
 pub mod Sets
 pub mod Graphs
-pub mod Constants
+pub mod Interning

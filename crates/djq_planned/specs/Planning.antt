@@ -1,5 +1,5 @@
 -- What the planning of a query answers, and what registering it needs.
-use Rattle.std.specs.Prelude.{ℕ, List, ◌≡◌, Some, Result, Ok, Err, slice_get, ⊤}
+use Rattle.std.specs.Prelude.{ℕ, List, Result, Ok, Err, ⊤}
 use Rattle.djq_model.specs.declared.relation.Relation.{Relation}
 use Rattle.djq_model.specs.declared.query.Query.{Query}
 use Rattle.djq_model.specs.Data.{Bytes, Tuple}
@@ -8,7 +8,6 @@ use Rattle.djq_hyper.specs.JoinTree.{IsFreeConnex}
 use Rattle.djq_hyper.specs.Refusing.{IsCyclic, IsNotConnex}
 use Rattle.djq_tree.specs.Growing.{IsTreeOf}
 use Rattle.djq_lines.specs.Hypergraph.{edges_of, head_of}
-use Rattle.djq_query.specs.declared.numbered.NumberedAtom.{NumberedAtom}
 use Rattle.djq_query.specs.Numbered.{IsNumbered}
 use Rattle.djq_lines.specs.Rest.{IsNamedRest}
 use Rattle.djq_dict.specs.declared.refusal.InternRefusal.{InternRefusal}
@@ -18,7 +17,6 @@ use Rattle.djq_dict.specs.declared.refusal.InternRefusal.TheVariants.{
 }
 use Rattle.djq_rows.specs.Cells.{HaveCells}
 use Rattle.djq_machine.specs.Store.{LearnsFirst, FindsNoPlace, LearnsAll}
-use Rattle.djq_planned.specs.Asked.{HaveConstants}
 use Rattle.djq_planned.specs.declared.plan.PlannedQuery.{PlannedQuery}
 use Rattle.djq_planned.specs.declared.plan.Unplanned.{Unplanned}
 use Rattle.djq_planned.specs.declared.plan.Unplanned.TheVariants.{Cyclic, NotConnex, NoMem}

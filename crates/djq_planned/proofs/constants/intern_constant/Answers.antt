@@ -1,5 +1,5 @@
 -- A value that is refused is so as the only one of a list.
-use Rattle.djq_planned.proofs.Constants.{one_refused}
+use Rattle.djq_planned.proofs.Interning.{one_refused}
 use Rattle.djq_planned.proofs.constants.intern_constant.Goals as goal
 
 pub returns-in-Err-clause-interns : goal.returns-in-Err-clause-interns

@@ -1,11 +1,11 @@
 -- The body's constants go atom by atom, each behind the comparisons before it, and end with the last ones.
-use Rattle.std.proofs.Common.{◌≡◌, List, subst, ◌∙◌, arith}
-use Rattle.std.specs.Prelude.{Ok, Err}
+use Rattle.std.proofs.Common.{List, subst, ◌∙◌, arith}
+use Rattle.std.specs.Prelude.{Err}
 use Rattle.djq_model.specs.declared.query.Atom.{Atom}
 use Rattle.djq_model.specs.declared.query.Comparison.{Comparison}
 use Rattle.djq_lines.specs.Variables.{constants_from}
 use Rattle.djq_planned.specs.Planning.{InternsConstants}
-use Rattle.djq_planned.proofs.Constants.{body_known, body_refused, body_whole}
+use Rattle.djq_planned.proofs.Interning.{body_known, body_refused, body_whole}
 use Rattle.djq_planned.proofs.constants.intern_constants.Goals as goal
 
 pub returns-in-Err-clause-interns : goal.returns-in-Err-clause-interns

@@ -1,7 +1,7 @@
 use Rattle.std.proofs.Common.{◌≡◌, take}
 use Rattle.std.specs.Prelude.{Ok}
 use Rattle.djq_planned.specs.Planning.{InternsConstants}
-use Rattle.djq_planned.proofs.Constants.{constants_up}
+use Rattle.djq_planned.proofs.Interning.{constants_up}
 use Rattle.djq_planned.proofs.constants.intern_constants.Given as goal
 
 abbrev pub invariant-atoms : goal.invariant-atoms

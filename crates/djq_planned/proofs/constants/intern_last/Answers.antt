@@ -2,7 +2,7 @@
 use Rattle.std.proofs.Common.{[], ◌∷◌, ◌∙◌, refl}
 use Rattle.std.specs.Prelude.{nat_le, if◌then◌else◌}
 use Rattle.djq_model.specs.declared.query.Comparison.{Comparison}
-use Rattle.djq_planned.proofs.Constants.{step_known, step_refused}
+use Rattle.djq_planned.proofs.Interning.{step_known, step_refused}
 use Rattle.djq_planned.proofs.constants.intern_last.Goals as goal
 
 pub returns-in-Err-clause-interns : goal.returns-in-Err-clause-interns

@@ -1,7 +1,7 @@
 -- Texts known for the terms seen and then for the next one are those of one more; a refusal is one of all.
 use Rattle.std.proofs.Common.{◌∙◌}
 use Rattle.djq_lines.specs.Variables.{constant_of}
-use Rattle.djq_planned.proofs.Constants.{step_known, step_refused}
+use Rattle.djq_planned.proofs.Interning.{step_known, step_refused}
 use Rattle.djq_planned.proofs.constants.intern_terms.Goals as goal
 
 pub returns-in-Err-clause-interns : goal.returns-in-Err-clause-interns

@@ -4,7 +4,7 @@ use Rattle.std.specs.List.{flat_map}
 use Rattle.djq_model.specs.declared.query.Term.{Term}
 use Rattle.djq_lines.specs.Variables.{compared_behind, constant_of}
 use Rattle.djq_planned.specs.Planning.{InternsConstants}
-use Rattle.djq_planned.proofs.Constants.{known_more, refused_more}
+use Rattle.djq_planned.proofs.Interning.{known_more, refused_more}
 use Rattle.djq_planned.proofs.constants.intern_up_to.Goals as goal
 
 pub returns-in-Ok-clause-interns : goal.returns-in-Ok-clause-interns
