@@ -1,7 +1,7 @@
 -- Clearing the marks keeps all tuples, so what the marks listed is what the reducts gained since the start.
-use Rattle.std.proofs.Common.{true, length}
+use Rattle.std.proofs.Common.{true}
 use Rattle.djq_propagate.proofs.Updating.{inserted_gained_all}
-use Rattle.djq_leaves.proofs.Crowding.{insertions_count, refusals_count}
+use Rattle.djq_leaves.proofs.Crowding.{insertions_count}
 use Rattle.djq_leaves.proofs.Leafing.{kept_lists}
 use Rattle.djq_leaves.proofs.batch.add_all_and_tell.Goals as goal
 

@@ -1,13 +1,13 @@
 -- Leaves from the index on hold what they held, so their tuples are new; a refused leaf keeps all tables.
-use Rattle.std.proofs.Common.{true, ◌+◌, ◌<◌, length, ℕ, List, refl, sym, subst, ◌∙◌}
-use Rattle.djq_leaves.specs.Batching.{batch_tuples, GainsTuples, GrowsBy, CountsMany}
+use Rattle.std.proofs.Common.{true, ◌+◌, ◌<◌, length, ℕ, refl, sym, subst, ◌∙◌}
+use Rattle.djq_leaves.specs.Batching.{batch_tuples, GainsTuples}
 use Rattle.djq_leaves.specs.Stepping.{atoms_below}
 use Rattle.djq_tree.specs.Tree.{Tree}
 use Rattle.djq_cursor.specs.Changed.{IsGained}
 use Rattle.djq_leaves.proofs.Batched.{got_in, all_gained, adds_stable, adds_more, next_fresh, next_room}
-use Rattle.djq_leaves.proofs.Below.{below_none, below_skip, below_step, below_kept, below_at}
-use Rattle.djq_leaves.proofs.Crowding.{grown_none, grown_next, grown_kept, counted_none, counted_as, counted_more}
-use Rattle.djq_leaves.proofs.Gaining.{more_both, same_more}
+use Rattle.djq_leaves.proofs.Below.{below_skip, below_step, below_kept, below_at}
+use Rattle.djq_leaves.proofs.Crowding.{grown_next, grown_kept, counted_as, counted_more}
+use Rattle.djq_leaves.proofs.Gaining.{more_both}
 use Rattle.djq_leaves.proofs.Passing.{got, on_as, off_as, counts_over, counts_past, calls_as}
 use Rattle.djq_leaves.proofs.Passing.{lists_gained, lists_refused, kept_more}
 use Rattle.djq_leaves.proofs.Sizing.{one_more}

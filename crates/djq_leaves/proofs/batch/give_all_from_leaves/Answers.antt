@@ -1,5 +1,5 @@
 -- Leaves from the index on hold what they held, so their tuples are still there; the tables only shrink.
-use Rattle.std.proofs.Common.{◌+◌, ◌<◌, length, ℕ, List, sym, subst, ◌∙◌}
+use Rattle.std.proofs.Common.{◌+◌, ◌<◌, length, ℕ, List, sym, subst}
 use Rattle.djq_tree.specs.Tree.{Tree}
 use Rattle.djq_propagate.specs.Batches.{AreThere}
 use Rattle.djq_leaves.specs.Batching.{batch_tuples, LosesTuples}

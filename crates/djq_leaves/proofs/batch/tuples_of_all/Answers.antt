@@ -1,5 +1,5 @@
 -- Up to the index each atom over the relation has its rows' tuples, whether they were made or are the rows.
-use Rattle.std.proofs.Common.{List, [], ◌∷◌, ap, ℕ, ◌<◌, ◌+◌, length, subst, sym, ◌∙◌, arith}
+use Rattle.std.proofs.Common.{List, [], ◌∷◌, ap, ℕ, ◌<◌, ◌+◌, subst, sym, ◌∙◌, arith}
 use Rattle.std.specs.Prelude.{Option}
 use Rattle.std.proofs.lemmas.List.{map-append}
 use Rattle.djq_leaves.specs.Batching.{row_tuples, batch_tuples}

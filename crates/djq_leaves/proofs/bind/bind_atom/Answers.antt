@@ -1,9 +1,8 @@
 -- Each term has one cell and each comparison one, so there are as many cells as terms and as comparisons.
-use Rattle.std.proofs.Common.{◌≡◌, List, ℕ, length, sym, subst, ap, ◌∙◌}
+use Rattle.std.proofs.Common.{List, ℕ, length, ap, ◌∙◌}
 use Rattle.std.proofs.lemmas.List.{length-map}
 use Rattle.djq_query.specs.declared.numbered.NumberedTerm.{NumberedTerm}
 use Rattle.djq_query.specs.declared.numbered.NumberedComparison.{NumberedComparison}
-use Rattle.djq_query.specs.Pattern.{tests_of}
 use Rattle.djq_rows.specs.Cells.{cell_for}
 use Rattle.djq_planned.specs.Asked.{constants_in}
 use Rattle.djq_leaves.proofs.Patterns.{cells_long}
