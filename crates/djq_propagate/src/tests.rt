@@ -93,15 +93,13 @@ fn has_marked<L: Ledger>(
     }
 }
 
-/// Puts two tuples of one cell into a leaf at once, and keeps them or takes them back; says whether both
-/// were marked in between.
+/// Puts two tuples of one cell into a leaf at once; says whether both were marked before the update's end.
 fn put_both<L: Ledger>(
     alloc: Global,
     reducts: &mut Reducts,
     leaf: usize,
     first: u64,
     second: u64,
-    keep: bool,
     tally: &mut Tally<L>,
 ) -> Result<bool, AllocError>
     requires { IsBare reducts.old.tables }
@@ -128,11 +126,7 @@ fn put_both<L: Ledger>(
     insert_leaf_many(reducts, leaf, &tuples, tally)?;
     let one = has_marked(reducts, leaf, &[first], tally);
     let other = has_marked(reducts, leaf, &[second], tally);
-    if keep {
-        finish_insertion(reducts, leaf, tally);
-        return Ok(one && other);
-    }
-    undo_insertion(reducts, leaf, tally);
+    finish_insertion(reducts, leaf, tally);
     Ok(one && other)
 }
 
@@ -154,24 +148,6 @@ fn take<L: Ledger>(reducts: &mut Reducts, leaf: usize, tuple: &[u64], tally: &mu
     }
 }
 
-/// A number that looks random.
-fn mixed(seed: u64) -> u64 {
-    let a = seed ^ (seed << 13);
-    let b = a ^ (a >> 7);
-    b ^ (b << 17)
-}
-
-/// The cells of a tuple with this width that has this number, of cells below 3.
-fn numbered(alloc: Global, width: usize, number: u64) -> Result<Vec<u64>, AllocError> {
-    let mut tuple = Vec::new(alloc);
-    let mut rest = number;
-    for _cell in 0..width {
-        tuple.push(rest % 3)?;
-        rest /= 3;
-    }
-    Ok(tuple)
-}
-
 /// How many supports a tuple has at a node, 0 where it isn't there.
 fn supports<L: Ledger>(reducts: &Reducts, node: usize, tuple: &[u64], tally: &mut Tally<L>) -> u32 {
     if node >= reducts.tree().len() {
@@ -184,201 +160,77 @@ fn supports<L: Ledger>(reducts: &Reducts, node: usize, tuple: &[u64], tally: &mu
     }
 }
 
-/// Whether two reducts of one tree have the same supports for each tuple of small cells.
-fn are_same<L: Ledger>(
-    alloc: Global,
-    one: &Reducts,
-    other: &Reducts,
-    tally: &mut Tally<L>,
-) -> Result<bool, AllocError> {
-    for node in 0..one.tree().len() {
-        let width = one.tree().label(node).len();
-        for number in 0..27u64 {
-            let tuple = numbered(alloc, width, number)?;
-            let first = supports(one, node, &tuple, tally);
-            if first != supports(other, node, &tuple, tally) {
-                return Ok(false);
-            }
-        }
-    }
-    Ok(true)
+/// The supports of 5 in y's trim, of 5 and 7 in the meet, and of the tuple without cells in the root.
+fn seen<L: Ledger>(reducts: &Reducts, tally: &mut Tally<L>) -> [u32; 4] {
+    [
+        supports(reducts, 2, &[5], tally),
+        supports(reducts, 3, &[5], tally),
+        supports(reducts, 3, &[7], tally),
+        supports(reducts, 4, &[], tally),
+    ]
 }
 
-/// Reducts made anew from the tuples of the leaves.
-fn fill<L: Ledger>(
-    alloc: Global,
-    from: &Reducts,
-    into: &mut Reducts,
-    tally: &mut Tally<L>,
-) -> Result<(), AllocError>
-    requires { IsBare into.old.tables }
-    ensures { IsBare into.new.tables }
-{
-    for leaf in 0..from.tree().leaves() {
-        for number in 0..27u64 {
-            if leaf < from.tree().len() {
-                let tuple = numbered(alloc, from.tree().label(leaf).len(), number)?;
-                if supports(from, leaf, &tuple, tally) > 0 {
-                    let _came = put(into, leaf, &tuple, true, tally)?;
-                }
-            }
-        }
-    }
-    Ok(())
-}
-
-/// A list of insertions, undone insertions and removals that looks random.
-fn change<L: Ledger>(
-    alloc: Global,
-    reducts: &mut Reducts,
-    tally: &mut Tally<L>,
-) -> Result<(), AllocError>
+/// Puts three rows into r and two into s.
+fn fill<L: Ledger>(reducts: &mut Reducts, tally: &mut Tally<L>) -> Result<bool, AllocError>
     requires { IsBare reducts.old.tables }
     ensures { IsBare reducts.new.tables }
 {
-    let mut seed = 88172645463325252;
-    for _step in 0..200u64 {
-        seed = mixed(seed);
-        let leaf = (seed % 5) as usize;
-        if leaf < reducts.tree().leaves() && leaf < reducts.tree().len() {
-            let width = reducts.tree().label(leaf).len();
-            let tuple = numbered(alloc, width, (seed >> 8) % 27)?;
-            if (seed >> 32) % 3 == 0 {
-                let _went = take(reducts, leaf, &tuple, tally);
-            } else {
-                let _came = put(reducts, leaf, &tuple, (seed >> 40) % 4 != 0, tally)?;
-            }
-        }
-    }
-    Ok(())
+    let one = put(reducts, 0, &[1, 5], true, tally)?;
+    let two = put(reducts, 0, &[2, 7], true, tally)?;
+    let three = put(reducts, 0, &[3, 5], true, tally)?;
+    let five = put(reducts, 1, &[5], true, tally)?;
+    let nine = put(reducts, 1, &[9], true, tally)?;
+    Ok(one && two && three && five && nine)
 }
 
-/// Puts each tuple of small cells that a leaf lacks into it, and takes it back.
-fn undo_each<L: Ledger>(
+/// What is seen as the rows come, as 7 comes to s and is taken back, as it comes with 8, and as 5 goes from s.
+fn updated<L: Ledger>(
     alloc: Global,
     reducts: &mut Reducts,
     tally: &mut Tally<L>,
-) -> Result<(), AllocError>
+) -> Result<(bool, [[u32; 4]; 4]), AllocError>
     requires { IsBare reducts.old.tables }
-    ensures { IsBare reducts.new.tables }
 {
-    for leaf in 0..reducts.tree().leaves() {
-        for number in 0..27u64 {
-            if leaf < reducts.tree().len() {
-                let tuple = numbered(alloc, reducts.tree().label(leaf).len(), number)?;
-                let _came = put(reducts, leaf, &tuple, false, tally)?;
-            }
-        }
-    }
-    Ok(())
+    let filled = fill(reducts, tally)?;
+    let before = seen(reducts, tally);
+    let came = put(reducts, 1, &[7], false, tally)?;
+    let undone = seen(reducts, tally);
+    let both = put_both(alloc, reducts, 1, 7, 8, tally)?;
+    let kept = seen(reducts, tally);
+    let went = take(reducts, 1, &[5], tally);
+    let after = seen(reducts, tally);
+    Ok((
+        filled && came && both && went,
+        [before, undone, kept, after],
+    ))
 }
 
-/// Whether the reducts after many changes are those made anew, also after an undone insertion of each
-/// tuple, and hold a tuple.
-fn agree<L: Ledger>(
-    alloc: Global,
-    edges: &Edges,
-    head: VarSet,
-    tally: &mut Tally<L>,
-) -> Result<bool, AllocError> {
-    let (Some(mut reducts), Some(mut anew)) = (
-        planned(alloc, edges, head)?,
-        planned(alloc, edges, head)?,
-    ) else {
-        return Ok(false);
-    };
-    change(alloc, &mut reducts, tally)?;
-    fill(alloc, &reducts, &mut anew, tally)?;
-    undo_each(alloc, &mut reducts, tally)?;
-    let some = supports(&reducts, reducts.tree().len() - 1, &[], tally) > 0;
-    Ok(some && are_same(alloc, &reducts, &anew, tally)?)
-}
-
-/// The set of these variables, each below 8.
-fn set(variables: &[usize]) -> VarSet {
-    let mut set = VarSet::new();
-    for variable in variables {
-        if *variable < 8 {
-            set = set.insert(*variable);
-        }
-    }
-    set
-}
-
-/// A path of three atoms, a star, a product, a self-join, and an atom with a single variable.
-fn all_agree<L: Ledger>(alloc: Global, tally: &mut Tally<L>) -> Result<bool, AllocError> {
-    let mut path = Edges::new(alloc);
-    path.push(set(&[0, 1]))?;
-    path.push(set(&[1, 2]))?;
-    path.push(set(&[2, 3]))?;
-    let mut star = Edges::new(alloc);
-    star.push(set(&[0, 1]))?;
-    star.push(set(&[0, 2]))?;
-    star.push(set(&[0, 3]))?;
-    let mut product = Edges::new(alloc);
-    product.push(set(&[0, 1]))?;
-    product.push(set(&[2]))?;
-    let mut twice = Edges::new(alloc);
-    twice.push(set(&[0, 1]))?;
-    twice.push(set(&[0, 1]))?;
-    twice.push(set(&[1]))?;
-    Ok(
-        agree(alloc, &path, set(&[0, 1]), tally)?
-            && agree(alloc, &path, set(&[]), tally)?
-            && agree(alloc, &star, set(&[0, 1, 2, 3]), tally)?
-            && agree(alloc, &product, set(&[0, 2]), tally)?
-            && agree(alloc, &twice, set(&[1]), tally)?,
-    )
-}
-
-/// Atoms with constants, whose leaves have fewer columns than the atom: one whose tuples share a variable
-/// with another atom's, and one of constants alone.
-fn constants_agree<L: Ledger>(alloc: Global, tally: &mut Tally<L>) -> Result<bool, AllocError> {
-    let mut some = Edges::new(alloc);
-    some.push(set(&[0, 1]))?;
-    some.push(set(&[0]))?;
-    some.push(set(&[1, 2]))?;
-    let mut all = Edges::new(alloc);
-    all.push(set(&[0, 1]))?;
-    all.push(set(&[]))?;
-    Ok(
-        agree(alloc, &some, set(&[0, 1, 2]), tally)?
-            && agree(alloc, &some, set(&[2]), tally)?
-            && agree(alloc, &all, set(&[1]), tally)?,
-    )
-}
-
-/// Two tuples of a leaf at once: taken back they are gone, and kept they are there.
-fn both_come<L: Ledger>(alloc: Global, tally: &mut Tally<L>) -> Result<bool, AllocError> {
-    let mut edges = Edges::new(alloc);
-    edges.push(set(&[0, 1]))?;
-    edges.push(set(&[1]))?;
-    let Some(mut reducts) = planned(alloc, &edges, set(&[0]))? else {
-        return Ok(false);
-    };
-    let undone = put_both(alloc, &mut reducts, 1, 5, 7, false, tally)?;
-    let gone = supports(&reducts, 1, &[5], tally) == 0 && supports(&reducts, 1, &[7], tally) == 0;
-    let kept = put_both(alloc, &mut reducts, 1, 5, 7, true, tally)?;
-    let there = supports(&reducts, 1, &[5], tally) == 1 && supports(&reducts, 1, &[7], tally) == 1;
-    Ok(undone && gone && kept && there)
-}
-
-fn on_ledgers<L: Ledgers>(rt: &HostRuntime, blanks: Blanks) -> Result<bool, AllocError>
+/// The updates of `q(x,y) <- r(x,y), s(y)`, whose tables the crate's documentation shows.
+fn on_ledgers<L: Ledgers>(
+    rt: &HostRuntime,
+    blanks: Blanks,
+) -> Result<(bool, [[u32; 4]; 4]), AllocError>
     requires listing { blanks.listing.name ≡ L.listing }
     requires update { blanks.update.name ≡ L.update }
     requires rows { blanks.rows.name ≡ L.rows }
 {
     let mut steps = Steps::<L>::new(rt, blanks);
-    Ok(
-        all_agree(rt.alloc(), &mut steps.update)?
-            && constants_agree(rt.alloc(), &mut steps.update)?
-            && both_come(rt.alloc(), &mut steps.update)?,
-    )
+    let y = VarSet::new().insert(1);
+    let mut edges = Edges::new(rt.alloc());
+    edges.push(y.insert(0))?;
+    edges.push(y)?;
+    match planned(rt.alloc(), &edges, y.insert(0))? {
+        Some(mut reducts) => updated(rt.alloc(), &mut reducts, &mut steps.update),
+        None => Ok((false, [[0; 4]; 4])),
+    }
 }
 
 #[test]
 fn keeps_reducts(rt: HostRuntime) -> Result<(), Fail> {
-    let agree = on_ledgers::<Brand>(&rt, Blanks::new(&rt))?;
-    assert!(rt; agree);
+    let (done, tables) = on_ledgers::<Brand>(&rt, Blanks::new(&rt))?;
+    assert!(rt; done);
+    let [before, undone, kept, after] = tables;
+    assert!(rt; before == [2, 1, 0, 1] && undone == [2, 1, 0, 1]);
+    assert!(rt; kept == [2, 1, 1, 2] && after == [2, 0, 1, 1]);
     Ok(())
 }

@@ -1,4 +1,4 @@
-ghost use Rattle.std.specs.Prelude.{◌≡◌, true, IfOk, length};
+ghost use Rattle.std.specs.Prelude.{◌≡◌, true};
 ghost use Rattle.djq_model.specs.Typed.{is_of};
 
 use super::*;
@@ -24,15 +24,6 @@ fn pair(alloc: Global, number: i64, byte: u8) -> Result<Row, Fail> {
     row.push(Value::Int(number))?;
     row.push(letter(alloc, byte)?)?;
     Ok(row)
-}
-
-/// One column of integers.
-fn column(alloc: Global) -> Result<Types, Fail>
-    ensures { IfOk result (λ types. length types ≡ 1) }
-{
-    let mut types = Types::new(alloc);
-    types.push(ColumnType::Int)?;
-    Ok(types)
 }
 
 /// Makes a relation of such rows, where its name is short enough.
@@ -89,36 +80,25 @@ fn delete<L: Ledger>(
     }
 }
 
-/// Whether a row is there.
-fn has<L: Ledger>(catalog: &Catalog, id: RelationId, row: &[Value], tally: &mut Tally<L>) -> bool {
-    if id.at >= catalog.len() {
-        return false;
-    }
-    if row.len() > CELLS {
-        return false;
-    }
-    match catalog.cells(row) {
-        Some(cells) => catalog.has_row(id, cells.as_slice(), tally),
-        None => false,
-    }
-}
-
-/// How many copies of a row are there.
-fn copies<L: Ledger>(
+/// Whether a row is there, and how many copies of it.
+fn held<L: Ledger>(
     catalog: &Catalog,
     id: RelationId,
     row: &[Value],
     tally: &mut Tally<L>,
-) -> u32 {
+) -> (bool, u32) {
     if id.at >= catalog.len() {
-        return 0;
+        return (false, 0);
     }
     if row.len() > CELLS {
-        return 0;
+        return (false, 0);
     }
     match catalog.cells(row) {
-        Some(cells) => catalog.copies(id, cells.as_slice(), tally),
-        None => 0,
+        Some(cells) => (
+            catalog.has_row(id, cells.as_slice(), tally),
+            catalog.copies(id, cells.as_slice(), tally),
+        ),
+        None => (false, 0),
     }
 }
 
@@ -161,79 +141,37 @@ fn read_back<'a>(catalog: &'a Catalog, value: &Value) -> Option<ValueRef<'a>> {
     }
 }
 
-/// Adds two rows, and the first of them again.
-fn add_rows<L: Ledger>(
-    catalog: &mut Catalog,
-    id: RelationId,
-    low: &[Value],
-    high: &[Value],
-    tally: &mut Tally<L>,
-) -> Result<(Option<AddOutcome>, Option<AddOutcome>, Option<AddOutcome>), Fail> {
-    let first = add(catalog, id, low, tally)?;
-    let second = add(catalog, id, high, tally)?;
-    let third = add(catalog, id, low, tally)?;
-    Ok((first, second, third))
-}
-
-/// Both ends of 64 bits, and two texts: the cells, and what adding and deleting answers.
+/// What adding and deleting answers, and what is there in between.
 #[derive(Drop)]
 struct Kept {
-    added: (Option<AddOutcome>, Option<AddOutcome>, Option<AddOutcome>),
+    added: [Option<AddOutcome>; 3],
     cells: Vec<u64>,
-    there: (bool, bool),
-    copies: (u32, u32, u32),
-    deleted: (
-        Option<DeleteOutcome>,
-        Option<DeleteOutcome>,
-        Option<DeleteOutcome>,
-    ),
+    held: (bool, u32),
+    deleted: [Option<DeleteOutcome>; 2],
 }
 
+/// Adds two rows, of both ends of 64 bits, and the first of them again, and deletes it twice.
 fn keep_rows<L: Ledger>(
     alloc: Global,
     catalog: &mut Catalog,
-    ids: (RelationId, RelationId),
     tally: &mut Tally<L>,
 ) -> Result<Kept, Fail> {
+    let id = make(alloc, catalog, b"r")?;
     let low = pair(alloc, i64::MIN, b'a')?;
     let high = pair(alloc, i64::MAX, b'b')?;
-    let added = add_rows(catalog, ids.0, low.as_slice(), high.as_slice(), tally)?;
-    let cells = all_cells(alloc, catalog, ids.0, tally)?;
-    let there = (
-        has(catalog, ids.0, low.as_slice(), tally),
-        has(catalog, ids.1, low.as_slice(), tally),
-    );
-    let copies = (
-        copies(catalog, ids.0, low.as_slice(), tally),
-        copies(catalog, ids.0, high.as_slice(), tally),
-        copies(catalog, ids.1, low.as_slice(), tally),
-    );
-    let deleted = (
-        delete(catalog, ids.0, low.as_slice(), tally),
-        delete(catalog, ids.0, low.as_slice(), tally),
-        delete(catalog, ids.0, low.as_slice(), tally),
-    );
+    let first = add(catalog, id, low.as_slice(), tally)?;
+    let second = add(catalog, id, high.as_slice(), tally)?;
+    let third = add(catalog, id, low.as_slice(), tally)?;
+    let cells = all_cells(alloc, catalog, id, tally)?;
+    let held = held(catalog, id, low.as_slice(), tally);
+    let left = delete(catalog, id, low.as_slice(), tally);
+    let last = delete(catalog, id, low.as_slice(), tally);
     Ok(Kept {
-        added,
+        added: [first, second, third],
         cells,
-        there,
-        copies,
-        deleted,
+        held,
+        deleted: [left, last],
     })
-}
-
-/// The number of a text whose row was never added, before its row was asked for and after.
-fn keep_text(
-    catalog: &mut Catalog,
-    row: &[Value],
-    text: &Value,
-) -> Result<(Option<u64>, u64, Option<u64>), Fail> {
-    let before = catalog.cell(text);
-    if row.len() <= CELLS {
-        let _cells = catalog.intern_row(row)?;
-    }
-    let again = catalog.intern(text)?;
-    Ok((before, again, catalog.cell(text)))
 }
 
 /// Makes as many relations as there may be, and says how many stand at their places.
@@ -273,230 +211,31 @@ fn finds(catalog: &Catalog, name: &[u8], at: usize) -> bool {
     }
 }
 
-/// The rows that a relation should have, in order, with their copies.
-#[derive(Drop)]
-struct Plain {
-    rows: Vec<(i64, u8, u32)>,
-}
-
-impl Plain {
-    /// Where a row stands.
-    fn position(&self, number: i64, byte: u8) -> Option<usize> {
-        for at in 0..self.rows.len() {
-            let (n, b, _copies) = self.rows[at];
-            if n == number && b == byte {
-                return Some(at);
-            }
-        }
-        None
-    }
-
-    /// Puts a row or a copy of it in, and says which.
-    fn add(&mut self, number: i64, byte: u8) -> Result<AddOutcome, Fail> {
-        if let Some(at) = self.position(number, byte) {
-            if at < self.rows.len() {
-                let more = self.rows[at].2.wrapping_add(1);
-                self.rows[at].2 = more;
-                return Ok(AddOutcome::More(more));
-            }
-        }
-        self.rows.push((number, byte, 1))?;
-        Ok(AddOutcome::First)
-    }
-
-    /// Takes a copy of a row out, and says what is left.
-    fn delete(&mut self, number: i64, byte: u8) -> DeleteOutcome {
-        let Some(at) = self.position(number, byte) else {
-            return DeleteOutcome::Absent;
-        };
-        if at >= self.rows.len() {
-            return DeleteOutcome::Absent;
-        }
-        let less = self.rows[at].2.wrapping_sub(1);
-        if less > 0 {
-            self.rows[at].2 = less;
-            return DeleteOutcome::Left(less);
-        }
-        let _row = self.rows.remove(at);
-        DeleteOutcome::Last
-    }
-}
-
-/// A number that looks random.
-fn mixed(seed: u64) -> u64 {
-    let a = seed ^ (seed << 13);
-    let b = a ^ (a >> 7);
-    b ^ (b << 17)
-}
-
-/// One change of both, chosen by a number, and whether they answer alike.
-fn change<L: Ledger>(
-    alloc: Global,
-    catalog: &mut Catalog,
-    id: RelationId,
-    plain: &mut Plain,
-    seed: u64,
-    tally: &mut Tally<L>,
-) -> Result<bool, Fail> {
-    let number = (seed % 7) as i64 - 3;
-    let byte = b'a' + (seed / 7 % 5) as u8;
-    let row = pair(alloc, number, byte)?;
-    if seed / 35 % 5 < 3 {
-        Ok(add(catalog, id, row.as_slice(), tally)? == Some(plain.add(number, byte)?))
-    } else {
-        Ok(delete(catalog, id, row.as_slice(), tally) == Some(plain.delete(number, byte)))
-    }
-}
-
-/// Whether a relation has exactly these rows, in order, with these copies.
-fn agrees<L: Ledger>(
-    alloc: Global,
-    catalog: &Catalog,
-    id: RelationId,
-    plain: &Plain,
-    tally: &mut Tally<L>,
-) -> Result<bool, Fail> {
-    let mut cells = Vec::new(alloc);
-    for at in 0..plain.rows.len() {
-        let (number, byte, many) = plain.rows[at];
-        let row = pair(alloc, number, byte)?;
-        if copies(catalog, id, row.as_slice(), tally) != many {
-            return Ok(false);
-        }
-        if row.len() > CELLS {
-            return Ok(false);
-        }
-        match catalog.cells(row.as_slice()) {
-            Some(some) => cells.extend_from_slice(some.as_slice())?,
-            None => return Ok(false),
-        }
-    }
-    Ok(all_cells(alloc, catalog, id, tally)?.as_slice() == cells.as_slice())
-}
-
-/// Whether a relation and a plain list agree through many changes.
-fn agree_long<L: Ledger>(
-    alloc: Global,
-    catalog: &mut Catalog,
-    id: RelationId,
-    tally: &mut Tally<L>,
-) -> Result<bool, Fail> {
-    let mut plain = Plain {
-        rows: Vec::new(alloc),
-    };
-    let mut seed = 88_172_645_463_325_252;
-    for _step in 0..200 {
-        seed = mixed(seed);
-        if !change(alloc, catalog, id, &mut plain, seed, tally)? {
-            return Ok(false);
-        }
-        if !agrees(alloc, catalog, id, &plain, tally)? {
-            return Ok(false);
-        }
-    }
-    Ok(true)
-}
-
-/// A relation of as many columns of integers as may be.
-fn make_wide(alloc: Global, catalog: &mut Catalog) -> Result<RelationId, Fail> {
-    let mut types = Types::new(alloc);
-    for _column in 0..COLUMNS {
-        types.push(ColumnType::Int)?;
-    }
-    if types.len() != COLUMNS {
-        return Err(RowsRefusal::Full)?;
-    }
-    Ok(catalog.relation(Name::new(b"wide"), types)?)
-}
-
-/// A row of so many integers, from zero on.
-fn counting(alloc: Global, count: usize) -> Result<Row, Fail> {
-    let mut row = Row::new(alloc);
-    let mut number: i64 = 0;
-    for _column in 0..count {
-        row.push(Value::Int(number))?;
-        number = number.wrapping_add(1);
-    }
-    Ok(row)
-}
-
-/// What adding a row to the widest relation answers, and one without its last value; and the cells.
-fn keep_wide<L: Ledger>(
-    alloc: Global,
-    catalog: &mut Catalog,
-    tally: &mut Tally<L>,
-) -> Result<(Option<AddOutcome>, Option<AddOutcome>, Vec<u64>), Fail> {
-    let id = make_wide(alloc, catalog)?;
-    let whole = counting(alloc, COLUMNS)?;
-    let short = counting(alloc, COLUMNS - 1)?;
-    let added = add(catalog, id, whole.as_slice(), tally)?;
-    let unfit = add(catalog, id, short.as_slice(), tally)?;
-    Ok((added, unfit, all_cells(alloc, catalog, id, tally)?))
-}
-
-#[derive(Drop)]
-struct Seen {
-    kept: Kept,
-    text: (Option<u64>, u64, Option<u64>),
-    long: bool,
-    wide: (Option<AddOutcome>, Option<AddOutcome>, Vec<u64>),
-}
-
-fn see<L: Ledger>(
-    alloc: Global,
-    catalog: &mut Catalog,
-    tally: &mut Tally<L>,
-) -> Result<Seen, Fail> {
-    let r = make(alloc, catalog, b"r")?;
-    let s = make(alloc, catalog, b"s")?;
-    let kept = keep_rows(alloc, catalog, (r, s), tally)?;
-    let row = pair(alloc, 7, b'q')?;
-    let text = letter(alloc, b'q')?;
-    let text = keep_text(catalog, row.as_slice(), &text)?;
-    let long = agree_long(alloc, catalog, s, tally)?;
-    let wide = keep_wide(alloc, catalog, tally)?;
-    Ok(Seen {
-        kept,
-        text,
-        long,
-        wide,
-    })
-}
-
 fn on_ledgers<L: Ledgers>(
     rt: &HostRuntime,
     catalog: &mut Catalog,
     blanks: Blanks,
-) -> Result<Seen, Fail>
+) -> Result<Kept, Fail>
     requires listing { blanks.listing.name ≡ L.listing }
     requires update { blanks.update.name ≡ L.update }
     requires rows { blanks.rows.name ≡ L.rows }
 {
     let mut steps = Steps::<L>::new(rt, blanks);
-    see(rt.alloc(), catalog, &mut steps.rows)
+    keep_rows(rt.alloc(), catalog, &mut steps.rows)
 }
 
 #[test]
 fn keeps_rows_and_texts(rt: HostRuntime) -> Result<(), Fail> {
     let mut catalog = Catalog::new(rt.alloc())?;
-    let seen = on_ledgers::<Brand>(&rt, &mut catalog, Blanks::new(&rt))?;
+    let kept = on_ledgers::<Brand>(&rt, &mut catalog, Blanks::new(&rt))?;
     let added = Some(AddOutcome::First);
-    assert!(rt; seen.kept.added == (added, added, Some(AddOutcome::More(2))));
+    assert!(rt; kept.added == [added, added, Some(AddOutcome::More(2))]);
     assert_eq!(rt;
-        seen.kept.cells.as_slice(),
+        kept.cells.as_slice(),
         [0x8000_0000_0000_0000, 0, 0x7fff_ffff_ffff_ffff, 1].as_slice()
     );
-    assert!(rt; seen.kept.there == (true, false));
-    assert!(rt; seen.kept.copies == (2, 1, 0));
-    let (left, last) = (DeleteOutcome::Left(1), DeleteOutcome::Last);
-    assert!(rt; seen.kept.deleted == (Some(left), Some(last), Some(DeleteOutcome::Absent)));
-    assert!(rt; seen.text == (None, 2, Some(2)));
-    assert!(rt; seen.long);
-    assert!(rt; seen.wide.0 == Some(AddOutcome::First) && seen.wide.1.is_none());
-    assert_eq!(rt;
-        seen.wide.2.as_slice(),
-        [0, 1, 2, 3, 4, 5, 6, 7, 8, 9, 10, 11, 12, 13, 14, 15].as_slice()
-    );
+    assert!(rt; kept.held == (true, 2));
+    assert!(rt; kept.deleted == [Some(DeleteOutcome::Left(1)), Some(DeleteOutcome::Last)]);
     Ok(())
 }
 
@@ -521,11 +260,6 @@ fn finds_relations_by_name(rt: HostRuntime) -> Result<(), Fail> {
     let mut catalog = Catalog::new(rt.alloc())?;
     assert_eq!(rt; make_many(rt.alloc(), &mut catalog)?, 256);
     assert!(rt; finds(&catalog, &9u16.to_be_bytes(), 9));
-    assert!(rt; !finds(&catalog, &300u16.to_be_bytes(), 300));
-    let full = catalog.relation(Name::new(b"r"), column(rt.alloc())?);
-    assert!(rt; full == Err(RowsRefusal::Full));
-    let taken = catalog.relation(Name::new(&7u16.to_be_bytes()), column(rt.alloc())?);
-    assert!(rt; taken == Err(RowsRefusal::NameTaken));
     catalog.laws();
     Ok(())
 }
