@@ -4,10 +4,8 @@ ghost use Rattle.djq_model.specs.Data.{bytes_eq};
 use super::*;
 use crate::edges::variables_of;
 use djq_index::Cells;
-use djq_lines::Refusal;
 use djq_model::{
-    Atom, Atoms, ColumnType, Comparison, Comparisons, Name, NoMem, Operator, Query, Relation,
-    Sequence, Term, Text, Value,
+    Atom, ColumnType, Comparison, Name, NoMem, Operator, Query, Relation, Sequence, Term, Value,
 };
 use std::alloc::Global;
 use std::test::Fail;
@@ -37,15 +35,11 @@ fn find(relations: &[Relation], name: &Name) -> Option<usize>
     relations.iter().position(|relation| relation.name == *name)
 }
 
-/// A relation of one letter; `i` is an integer's column, any other letter a text's.
-fn lettered(alloc: Global, name: u8, columns: &[u8]) -> Result<Relation, NoMem> {
+/// A relation of one letter with so many columns of integers.
+fn lettered(alloc: Global, name: u8, columns: usize) -> Result<Relation, NoMem> {
     let mut types = Sequence::new(alloc);
-    for column in columns {
-        if *column == b'i' {
-            types.push(ColumnType::Int)?;
-        } else {
-            types.push(ColumnType::Text)?;
-        }
+    for _ in 0..columns {
+        types.push(ColumnType::Int)?;
     }
     Ok(Relation {
         name: Name::new(&[name]),
@@ -54,98 +48,52 @@ fn lettered(alloc: Global, name: u8, columns: &[u8]) -> Result<Relation, NoMem> 
     })
 }
 
-/// `r int text`, `s int`, `t text` and `u int int int`.
-fn four_relations(alloc: Global) -> Result<Listed, NoMem> {
+/// `r int int` and `s int int int`.
+fn two_relations(alloc: Global) -> Result<Listed, NoMem> {
     let mut relations = Sequence::new(alloc);
-    relations.push(lettered(alloc, b'r', b"it")?)?;
-    relations.push(lettered(alloc, b's', b"i")?)?;
-    relations.push(lettered(alloc, b't', b"t")?)?;
-    relations.push(lettered(alloc, b'u', b"iii")?)?;
+    relations.push(lettered(alloc, b'r', 2)?)?;
+    relations.push(lettered(alloc, b's', 3)?)?;
     Ok(Listed { relations })
 }
 
-/// A term of one letter: a hole, a digit, a text of a capital letter, or a variable.
-fn read_term(alloc: Global, letter: u8) -> Result<Term, NoMem> {
+/// A term of one letter: a hole, a digit or a variable.
+fn read_term(letter: u8) -> Term {
     if letter == b'_' {
-        return Ok(Term::Hole);
+        return Term::Hole;
     }
     if letter >= b'0' && letter <= b'9' {
-        return Ok(Term::Constant(Value::Int((letter - b'0') as i64)));
+        return Term::Constant(Value::Int((letter - b'0') as i64));
     }
-    if letter >= b'A' && letter <= b'Z' {
-        let text = Text::new(Vec::from_slice(alloc, &[letter])?);
-        return Ok(Term::Constant(Value::Text(text)));
-    }
-    Ok(Term::Variable(Name::new(&[letter])))
+    Term::Variable(Name::new(&[letter]))
 }
 
-/// An atom, whose first letter is its relation.
-fn read_atom(alloc: Global, letters: &[u8]) -> Result<Atom, NoMem> {
-    let mut relation = Name::new(b"");
+/// An atom of a relation, whose terms are letters.
+fn read_atom(alloc: Global, relation: u8, letters: &[u8]) -> Result<Atom, NoMem> {
     let mut terms = Sequence::new(alloc);
-    for i in 0..letters.len() {
-        if i == 0 {
-            relation = Name::new(&letters[..1]);
-        } else {
-            terms.push(read_term(alloc, letters[i])?)?;
-        }
-    }
-    Ok(Atom { relation, terms })
-}
-
-/// The operator of a letter: `[` is `<=`, `]` is `>=` and `!` is `!=`.
-fn read_operator(letter: u8) -> Option<Operator> {
-    match letter {
-        b'<' => Some(Operator::Less),
-        b'[' => Some(Operator::LessOrEqual),
-        b'>' => Some(Operator::Greater),
-        b']' => Some(Operator::GreaterOrEqual),
-        b'=' => Some(Operator::Equal),
-        b'!' => Some(Operator::NotEqual),
-        _ => None,
-    }
-}
-
-/// An item of a body: a comparison where its second letter is an operator, else an atom.
-fn push_item(
-    alloc: Global,
-    atoms: &mut Atoms,
-    comparisons: &mut Comparisons,
-    item: &[u8],
-) -> Result<(), NoMem> {
-    if item.len() == 3 {
-        if let Some(operator) = read_operator(item[1]) {
-            if let Term::Constant(constant) = read_term(alloc, item[2])? {
-                return comparisons.push(Comparison {
-                    variable: Name::new(&item[..1]),
-                    operator,
-                    constant,
-                    behind: atoms.len(),
-                });
-            }
-        }
-    }
-    atoms.push(read_atom(alloc, item)?)
-}
-
-/// A query whose head is letters, over atoms and comparisons with a space between.
-fn read(alloc: Global, letters: &[u8], body: &[u8]) -> Result<Query, NoMem> {
-    let mut head = Sequence::new(alloc);
     for letter in letters {
-        head.push(Name::new(&[*letter]))?;
+        terms.push(read_term(*letter))?;
     }
+    Ok(Atom {
+        relation: Name::new(&[relation]),
+        terms,
+    })
+}
+
+/// `q(z,x) <- r(x,_), s(x,z,3), z > 6`.
+fn worked(alloc: Global) -> Result<Query, NoMem> {
+    let mut head = Sequence::new(alloc);
+    head.push(Name::new(b"z"))?;
+    head.push(Name::new(b"x"))?;
     let mut atoms = Sequence::new(alloc);
+    atoms.push(read_atom(alloc, b'r', b"x_")?)?;
+    atoms.push(read_atom(alloc, b's', b"xz3")?)?;
     let mut comparisons = Sequence::new(alloc);
-    let mut from = 0;
-    for i in 0..body.len() {
-        if body[i] == b' ' && from <= i {
-            push_item(alloc, &mut atoms, &mut comparisons, &body[from..i])?;
-            from = i + 1;
-        }
-    }
-    if from <= body.len() {
-        push_item(alloc, &mut atoms, &mut comparisons, &body[from..])?;
-    }
+    comparisons.push(Comparison {
+        variable: Name::new(b"z"),
+        operator: Operator::Greater,
+        constant: Value::Int(6),
+        behind: 2,
+    })?;
     Ok(Query {
         name: Name::new(b"q"),
         head,
@@ -154,112 +102,7 @@ fn read(alloc: Global, letters: &[u8], body: &[u8]) -> Result<Query, NoMem> {
     })
 }
 
-/// What is wrong with a query over the listed relations.
-fn fault_of(alloc: Global, head: &[u8], body: &[u8]) -> Result<Option<Refusal>, NoMem> {
-    let relations = four_relations(alloc)?;
-    let query = read(alloc, head, body)?;
-    Ok(query_fault(&relations, &query))
-}
-
-/// Whether this is what is wrong with a query over the listed relations.
-fn is_refused(alloc: Global, head: &[u8], body: &[u8], refusal: Refusal) -> Result<bool, NoMem> {
-    Ok(fault_of(alloc, head, body)? == Some(refusal))
-}
-
-#[test]
-fn finds_no_fault(rt: HostRuntime) -> Result<(), Fail> {
-    assert_eq!(rt; fault_of(rt.alloc(), b"xy", b"rxy sx ty")?, None);
-    assert_eq!(rt; fault_of(rt.alloc(), b"xy", b"x<3 rxy y!A x]0 y=B")?, None);
-    Ok(())
-}
-
-// In each test one query with the fault alone, and one with the next fault in the order beside it.
-
-#[test]
-fn refuses_unknown_relations(rt: HostRuntime) -> Result<(), Fail> {
-    assert!(rt; is_refused(rt.alloc(), b"x", b"zx", Refusal::NoRelation)?);
-    assert!(rt; is_refused(rt.alloc(), b"x", b"rx zx", Refusal::NoRelation)?);
-    Ok(())
-}
-
-#[test]
-fn refuses_wrong_arities(rt: HostRuntime) -> Result<(), Fail> {
-    assert!(rt; is_refused(rt.alloc(), b"x", b"rx", Refusal::Arity)?);
-    assert!(rt; is_refused(rt.alloc(), b"x", b"rAx sxy", Refusal::Arity)?);
-    Ok(())
-}
-
-#[test]
-fn refuses_constants_of_other_types(rt: HostRuntime) -> Result<(), Fail> {
-    assert!(rt; is_refused(rt.alloc(), b"x", b"rAx", Refusal::WrongType)?);
-    assert!(rt; is_refused(rt.alloc(), b"x", b"rxx sA", Refusal::WrongType)?);
-    Ok(())
-}
-
-#[test]
-fn refuses_variables_of_two_types(rt: HostRuntime) -> Result<(), Fail> {
-    assert!(rt; is_refused(rt.alloc(), b"x", b"sx ry_ tx", Refusal::VariableType)?);
-    assert!(rt; is_refused(rt.alloc(), b"x", b"rxx z<1", Refusal::VariableType)?);
-    Ok(())
-}
-
-#[test]
-fn refuses_comparisons_of_unbound_variables(rt: HostRuntime) -> Result<(), Fail> {
-    assert!(rt; is_refused(rt.alloc(), b"x", b"rx_ z<1", Refusal::Unbound)?);
-    assert!(rt; is_refused(rt.alloc(), b"x", b"rx_ x=A z<1", Refusal::Unbound)?);
-    Ok(())
-}
-
-#[test]
-fn refuses_comparisons_of_other_types(rt: HostRuntime) -> Result<(), Fail> {
-    assert!(rt; is_refused(rt.alloc(), b"x", b"rx_ x=A", Refusal::WrongType)?);
-    assert!(rt; is_refused(rt.alloc(), b"y", b"r_y y<A", Refusal::WrongType)?);
-    assert!(rt; is_refused(rt.alloc(), b"xx", b"rx_ x!A", Refusal::WrongType)?);
-    Ok(())
-}
-
-#[test]
-fn refuses_repeated_heads(rt: HostRuntime) -> Result<(), Fail> {
-    assert!(rt; is_refused(rt.alloc(), b"xx", b"rx_", Refusal::HeadRepeated)?);
-    assert!(rt; is_refused(rt.alloc(), b"xzz", b"rx_", Refusal::HeadRepeated)?);
-    Ok(())
-}
-
-#[test]
-fn refuses_unbound_heads(rt: HostRuntime) -> Result<(), Fail> {
-    assert!(rt; is_refused(rt.alloc(), b"z", b"rx_", Refusal::HeadUnbound)?);
-    Ok(())
-}
-
-#[test]
-fn refuses_too_many_atoms(rt: HostRuntime) -> Result<(), Fail> {
-    let body: &[u8] =
-        b"s_ s_ s_ s_ s_ s_ s_ s_ s_ s_ s_ s_ s_ s_ s_ s_ s_ s_ s_ s_ s_ s_ s_ s_ s_ s_ s_ s_ s_ s_ s_ s_ s_";
-    assert_eq!(rt; fault_of(rt.alloc(), b"", &body[3..])?, None);
-    assert!(rt; is_refused(rt.alloc(), b"", body, Refusal::Limit)?);
-    assert!(rt; is_refused(rt.alloc(), b"x", body, Refusal::HeadUnbound)?);
-    Ok(())
-}
-
-/// What is wrong with a query of so many comparisons.
-fn fault_of_many(alloc: Global, count: usize) -> Result<Option<Refusal>, NoMem> {
-    let relations = four_relations(alloc)?;
-    let mut query = read(alloc, b"x", b"sx")?;
-    for _ in 0..count {
-        push_item(alloc, &mut query.atoms, &mut query.comparisons, b"x<1")?;
-    }
-    Ok(query_fault(&relations, &query))
-}
-
-#[test]
-fn refuses_too_many_comparisons(rt: HostRuntime) -> Result<(), Fail> {
-    assert_eq!(rt; fault_of_many(rt.alloc(), 32)?, None);
-    assert_eq!(rt; fault_of_many(rt.alloc(), 33)?, Some(Refusal::Limit));
-    Ok(())
-}
-
-/// The number of the variable at a term of an atom; none for a constant and where there is no such
-/// term.
+/// The number of the variable at a term of an atom; none for a constant.
 fn number_at(query: &NumberedQuery, atom: usize, term: usize) -> Option<usize> {
     match query.atoms().get(atom)?.terms.get(term)? {
         NumberedTerm::Variable(number) => Some(*number),
@@ -267,78 +110,25 @@ fn number_at(query: &NumberedQuery, atom: usize, term: usize) -> Option<usize> {
     }
 }
 
-/// Whether the first two terms of an atom have these numbers.
-fn are_numbers(
-    query: &NumberedQuery,
-    atom: usize,
-    first: Option<usize>,
-    second: Option<usize>,
-) -> bool {
-    number_at(query, atom, 0) == first && number_at(query, atom, 1) == second
-}
-
 #[test]
-fn numbers_by_first_occurrence(rt: HostRuntime) -> Result<(), Fail> {
+fn numbers_the_worked_query(rt: HostRuntime) -> Result<(), Fail> {
     let alloc = rt.alloc();
-    let relations = four_relations(alloc)?;
-    let query = read(alloc, b"yx", b"rx_ s2 r_y rxy")?;
+    let relations = two_relations(alloc)?;
+    let query = worked(alloc)?;
+    assert_eq!(rt; query_fault(&relations, &query), None);
     let Ok(numbered) = number(alloc, &relations, &query) else {
-        assert!(rt; false);
-        return Ok(());
+        panic!(rt; "the query has no fault");
     };
-    assert_eq!(rt; numbered.head(), [3, 0].as_slice());
-    assert!(rt; are_numbers(&numbered, 0, Some(0), Some(1)));
-    assert!(rt; are_numbers(&numbered, 1, None, None));
-    assert!(rt; are_numbers(&numbered, 2, Some(2), Some(3)));
-    assert!(rt; are_numbers(&numbered, 3, Some(0), Some(3)));
-    Ok(())
-}
-
-#[test]
-fn numbers_comparisons_by_the_atoms(rt: HostRuntime) -> Result<(), Fail> {
-    let alloc = rt.alloc();
-    let relations = four_relations(alloc)?;
-    let query = read(alloc, b"y", b"y=A x<3 rxy")?;
-    let Ok(numbered) = number(alloc, &relations, &query) else {
-        assert!(rt; false);
-        return Ok(());
-    };
+    assert_eq!(rt; numbered.head(), [2, 0].as_slice());
+    assert!(rt; number_at(&numbered, 0, 0) == Some(0) && number_at(&numbered, 0, 1) == Some(1));
+    assert!(rt; number_at(&numbered, 1, 1) == Some(2) && number_at(&numbered, 1, 2).is_none());
     let comparisons = numbered.comparisons();
-    assert_eq!(rt; comparisons.len(), 2);
-    assert!(rt; comparisons[0].variable == 1 && comparisons[0].operator == Operator::Equal);
-    assert!(rt; comparisons[1].variable == 0 && comparisons[1].operator == Operator::Less);
-    Ok(())
-}
-
-#[test]
-fn gives_the_hypergraph(rt: HostRuntime) -> Result<(), Fail> {
-    let alloc = rt.alloc();
-    let relations = four_relations(alloc)?;
-    let query = read(alloc, b"yx", b"rx_ s2 rxy")?;
-    let Ok(numbered) = number(alloc, &relations, &query) else {
-        assert!(rt; false);
-        return Ok(());
-    };
-    let edges = numbered.edges(alloc)?;
-    assert_eq!(rt; edges.len(), 3);
-    assert_eq!(rt; numbered.head_variables().len(), 2);
-    Ok(())
-}
-
-#[test]
-fn gives_each_variable_its_name_and_type(rt: HostRuntime) -> Result<(), Fail> {
-    let alloc = rt.alloc();
-    let relations = four_relations(alloc)?;
-    let query = read(alloc, b"y", b"r_y")?;
-    let Ok(numbered) = number(alloc, &relations, &query) else {
-        assert!(rt; false);
-        return Ok(());
-    };
+    assert!(rt; comparisons.len() == 1 && comparisons[0].variable == 2);
     let variables = numbered.variables();
-    assert_eq!(rt; variables.len(), 2);
-    assert!(rt; variables[0].name.is_none() && variables[0].column == ColumnType::Int);
-    assert!(rt; variables[1].name == Some(Name::new(b"y")));
-    assert!(rt; variables[1].column == ColumnType::Text);
+    assert!(rt; variables.len() == 3 && variables[1].name.is_none());
+    assert!(rt; variables[2].name == Some(Name::new(b"z")));
+    assert_eq!(rt; numbered.edges(alloc)?.len(), 2);
+    assert_eq!(rt; numbered.head_variables().len(), 2);
     Ok(())
 }
 
@@ -381,107 +171,17 @@ fn first_cell(pattern: &Pattern, row: &[u64]) -> Option<u64> {
 #[test]
 fn matches_rows(rt: HostRuntime) -> Result<(), Fail> {
     let alloc = rt.alloc();
-    let relations = four_relations(alloc)?;
-    let query = read(alloc, b"x", b"uxx3")?;
+    let relations = two_relations(alloc)?;
+    let query = worked(alloc)?;
     let Ok(numbered) = number(alloc, &relations, &query) else {
-        assert!(rt; false);
-        return Ok(());
+        panic!(rt; "the query has no fault");
     };
-    let Some(pattern) = pattern_at(alloc, &numbered, 0, &[0, 0, 3], &[])? else {
-        assert!(rt; false);
-        return Ok(());
+    let Some(pattern) = pattern_at(alloc, &numbered, 1, &[0, 0, 3], &[6])? else {
+        panic!(rt; "there is such an atom");
     };
-    assert_eq!(rt; pattern.width(), 1);
-    assert_eq!(rt; first_cell(&pattern, &[1, 1, 3]), Some(1));
-    assert_eq!(rt; first_cell(&pattern, &[1, 2, 3]), None);
-    assert_eq!(rt; first_cell(&pattern, &[2, 2, 4]), None);
-    assert_eq!(rt; first_cell(&pattern, &[5, 5, 3]), Some(5));
-    Ok(())
-}
-
-/// Whether an atom's pattern matches a row of one cell, given the cells of the comparisons.
-fn takes(
-    alloc: Global,
-    body: &[u8],
-    at: usize,
-    constants: &[u64],
-    cell: u64,
-) -> Result<bool, NoMem> {
-    let relations = four_relations(alloc)?;
-    let query = read(alloc, b"x", body)?;
-    let Ok(numbered) = number(alloc, &relations, &query) else {
-        return Ok(false);
-    };
-    match pattern_at(alloc, &numbered, at, &[0], constants)? {
-        Some(pattern) => Ok(first_cell(&pattern, &[cell]).is_some()),
-        None => Ok(false),
-    }
-}
-
-/// The cells of -2^63, of 2^63 - 1 and of -1.
-const LEAST: u64 = 0x8000_0000_0000_0000;
-
-const GREATEST: u64 = 0x7fff_ffff_ffff_ffff;
-
-const MINUS_ONE: u64 = 0xffff_ffff_ffff_ffff;
-
-#[test]
-fn compares_at_the_least_integer(rt: HostRuntime) -> Result<(), Fail> {
-    let alloc = rt.alloc();
-    assert!(rt; !takes(alloc, b"sx x<0", 0, &[LEAST], LEAST)?);
-    assert!(rt; !takes(alloc, b"sx x<0", 0, &[LEAST], GREATEST)?);
-    assert!(rt; takes(alloc, b"sx x[0", 0, &[LEAST], LEAST)?);
-    assert!(rt; !takes(alloc, b"sx x[0", 0, &[LEAST], LEAST + 1)?);
-    assert!(rt; takes(alloc, b"sx x>0", 0, &[LEAST], LEAST + 1)?);
-    assert!(rt; !takes(alloc, b"sx x>0", 0, &[LEAST], LEAST)?);
-    assert!(rt; takes(alloc, b"sx x]0", 0, &[LEAST], GREATEST)?);
-    Ok(())
-}
-
-#[test]
-fn compares_at_the_greatest_integer(rt: HostRuntime) -> Result<(), Fail> {
-    let alloc = rt.alloc();
-    assert!(rt; takes(alloc, b"sx x<0", 0, &[GREATEST], LEAST)?);
-    assert!(rt; !takes(alloc, b"sx x<0", 0, &[GREATEST], GREATEST)?);
-    assert!(rt; takes(alloc, b"sx x[0", 0, &[GREATEST], GREATEST)?);
-    assert!(rt; !takes(alloc, b"sx x>0", 0, &[GREATEST], LEAST)?);
-    assert!(rt; takes(alloc, b"sx x]0", 0, &[GREATEST], GREATEST)?);
-    assert!(rt; !takes(alloc, b"sx x]0", 0, &[GREATEST], GREATEST - 1)?);
-    Ok(())
-}
-
-#[test]
-fn compares_across_zero(rt: HostRuntime) -> Result<(), Fail> {
-    let alloc = rt.alloc();
-    assert!(rt; takes(alloc, b"sx x<0", 0, &[0], MINUS_ONE)?);
-    assert!(rt; !takes(alloc, b"sx x<0", 0, &[0], 0)?);
-    assert!(rt; takes(alloc, b"sx x>0", 0, &[MINUS_ONE], 0)?);
-    assert!(rt; !takes(alloc, b"sx x>0 x<5", 0, &[0, 5], 5)?);
-    assert!(rt; takes(alloc, b"sx x>0 x<5", 0, &[0, 5], 4)?);
-    Ok(())
-}
-
-#[test]
-fn compares_texts_by_their_numbers(rt: HostRuntime) -> Result<(), Fail> {
-    let alloc = rt.alloc();
-    assert!(rt; takes(alloc, b"tx x=A", 0, &[7], 7)?);
-    assert!(rt; !takes(alloc, b"tx x=A", 0, &[7], 8)?);
-    assert!(rt; !takes(alloc, b"tx x!A", 0, &[7], 7)?);
-    assert!(rt; takes(alloc, b"tx x!A", 0, &[7], 8)?);
-    Ok(())
-}
-
-#[test]
-fn tests_each_atom_that_has_the_variable(rt: HostRuntime) -> Result<(), Fail> {
-    let alloc = rt.alloc();
-    // both atoms of a self-join have x
-    assert!(rt; !takes(alloc, b"sx sx x<5", 0, &[5], 5)?);
-    assert!(rt; !takes(alloc, b"sx sx x<5", 1, &[5], 5)?);
-    // the second atom doesn't have it
-    assert!(rt; !takes(alloc, b"sx sy x<5", 0, &[5], 5)?);
-    assert!(rt; takes(alloc, b"sx sy x<5", 1, &[5], 5)?);
-    // two atoms over two relations have it
-    assert!(rt; !takes(alloc, b"ux_3 sx x<5", 1, &[5], 5)?);
-    assert!(rt; takes(alloc, b"ux_3 sx x<5", 1, &[5], 4)?);
+    assert_eq!(rt; pattern.width(), 2);
+    assert_eq!(rt; first_cell(&pattern, &[5, 9, 3]), Some(5));
+    assert_eq!(rt; first_cell(&pattern, &[5, 9, 4]), None);
+    assert_eq!(rt; first_cell(&pattern, &[5, 6, 3]), None);
     Ok(())
 }
