@@ -1,5 +1,5 @@
 -- The counters stand on the ledgers that the blanks are of.
-use Rattle.djq_listing_bench.proofs.tests.example.lists_the_example.Given as goal
+use Rattle.djq_listing_bench.proofs.tests.lists_the_example.Given as goal
 
 abbrev pub ghosts-look : goal.ghosts-look
 ghosts-look g a = record {
