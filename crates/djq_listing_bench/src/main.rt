@@ -18,8 +18,7 @@
 //! best of three tries. `told` is an answer of a delta, listed while its update is unfinished.
 //!
 //! Inside, `load` says which tuples there are, `phases` fills and changes, `listing` lists, and
-//! `updates` has the tree and one update from its first call to its last. Its tests compare
-//! listings, deltas and lookups over random updates with brute force.
+//! `updates` has the tree and one update from its first call to its last. Its test is a worked example.
 #![tactic(auto)]
 
 mod listing;

@@ -2,7 +2,7 @@
 use Rattle.std.proofs.Common.{◌≡◌, ℕ, ◌+◌, ◌*◌, ◌<◌, ◌≤◌, Bool, true, false, List, [], ◌∷◌, length}
 use Rattle.std.proofs.Common.{map, refl, ap, sym, subst, ◌∙◌, inl, inr, arith, length-append}
 use Rattle.std.specs.Prelude.{◌==◌, Contains}
-use Rattle.std.proofs.lemmas.Bool.{cases_lt, false≢true, or_cases, eqb-true}
+use Rattle.std.proofs.lemmas.Bool.{cases_lt}
 use Rattle.std.proofs.lemmas.List.{get_or_past}
 use Rattle.std.proofs.lemmas.Nat.{mul-le}
 use Rattle.djq_hyper.specs.Hypergraph.{member}
@@ -49,10 +49,9 @@ use Rattle.djq_leaves.specs.Stepping.{
   answer_lines,
 }
 use Rattle.djq_leaves.proofs.Giving.{one_of}
-use Rattle.djq_planned.proofs.Members.{in_cons, in_rest}
+use Rattle.djq_planned.proofs.Members.{in_cons}
 use Rattle.djq_hyper.proofs.Rising.{member_here}
 use Rattle.djq_reduct.proofs.Readings.{member_on}
-use Rattle.djq_leaves.proofs.Listings.{few}
 use Rattle.djq_leaves.proofs.Passing.{part_few}
 use Rattle.djq_live.proofs.Showing.{tree_answer}
 use Rattle.djq_live.proofs.Small.{leaf_few}

@@ -14,13 +14,12 @@ use Rattle.std.proofs.Common.{
   subst,
   ◌∙◌,
 }
-use Rattle.std.specs.Prelude.{◌↔◌, ◌&&◌, Bool}
+use Rattle.std.specs.Prelude.{◌&&◌, Bool}
 use Rattle.djq_model.specs.declared.relation.ColumnType.{ColumnType}
 use Rattle.djq_model.specs.Data.{Bytes, Tuple}
 use Rattle.djq_model.specs.Answer.{IsAnswer}
-use Rattle.djq_model.specs.Typed.{is_of, fits}
+use Rattle.djq_model.specs.Typed.{fits}
 use Rattle.djq_machine.specs.Store.{answer_types}
-use Rattle.djq_reduct.specs.Answers.{IsAnswerOf}
 use Rattle.djq_query.specs.declared.numbered.Variable.{Variable}
 use Rattle.djq_rows.specs.Cells.{cells_of, StandFor}
 use Rattle.djq_rows.specs.Catalog.{Catalog}
@@ -40,7 +39,7 @@ use Rattle.djq_live.specs.Member.{
 }
 use Rattle.djq_live.specs.Shown.{AreShownAs}
 use Rattle.djq_live.proofs.Asking.{shown_have, types_are}
-use Rattle.djq_live.proofs.InHead.{kept_head, had_from, had_by}
+use Rattle.djq_live.proofs.InHead.{had_from, had_by}
 use Rattle.djq_live.proofs.Showing.{query_answer, tree_answer, stand}
 
 -- what cells show suits the variables' columns

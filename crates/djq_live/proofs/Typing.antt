@@ -25,16 +25,7 @@ use Rattle.std.proofs.Common.{
 }
 use Rattle.std.specs.Prelude.{◌&&◌, ◌==◌, not, Option, None, Some, is_none, slice_get}
 use Rattle.std.specs.List.{fold, list_any}
-use Rattle.std.proofs.lemmas.Bool.{
-  cases_Bool,
-  eq-eqb,
-  eqb-true,
-  false≢true,
-  or_cases,
-  or_left,
-  or_right,
-  and_parts,
-}
+use Rattle.std.proofs.lemmas.Bool.{cases_Bool, eq-eqb, false≢true, or_cases, or_left, or_right, and_parts}
 use Rattle.std.proofs.lemmas.Option.{same_Some, slice_get_within, get_or_from_slice_get}
 use Rattle.djq_model.specs.declared.value.Value.{Value}
 use Rattle.djq_model.specs.declared.relation.ColumnType.{ColumnType}

@@ -1,20 +1,5 @@
 -- Up to the index the cells are those of the head's first variables, each of which the tree's head has.
-use Rattle.std.proofs.Common.{
-  ◌≡◌,
-  ◌<◌,
-  [],
-  ◌∷◌,
-  ◌++◌,
-  List,
-  ℕ,
-  length,
-  map,
-  ap,
-  ap₂,
-  ◌∙◌,
-  rules,
-  arith,
-}
+use Rattle.std.proofs.Common.{◌<◌, [], ◌∷◌, ◌++◌, List, ℕ, length, map, ap, ap₂, ◌∙◌, rules, arith}
 use Rattle.std.specs.Prelude.{slice_index}
 use Rattle.std.proofs.lemmas.List.{take_all}
 use Rattle.djq_live.specs.Order.{cell_of_variable}

@@ -1,5 +1,5 @@
 -- Rows that came at once differ and are new, so leaves lack their tuples; those put in can be given back.
-use Rattle.std.proofs.Common.{ℕ, List, ◌<◌, length, ap, sym, subst, ◌∙◌, arith}
+use Rattle.std.proofs.Common.{ℕ, ◌<◌, length, ap, sym, subst, ◌∙◌, arith}
 use Rattle.djq_tree.specs.Tree.{Tree}
 use Rattle.djq_leaves.specs.Batching.{GrowsBy, batch_tuples}
 use Rattle.djq_leaves.specs.Changes.{CameAll, GainsAll}

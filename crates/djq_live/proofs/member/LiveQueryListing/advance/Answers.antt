@@ -1,6 +1,5 @@
 -- Different answers of the tree have different cells in the head's order, so both listings end together.
-use Rattle.std.proofs.Common.{◌≤◌, ◌+◌, ◌*◌, ◌∙◌, length, refl, sym, arith}
-use Rattle.djq_live.specs.Live.{Live}
+use Rattle.std.proofs.Common.{sym, arith}
 use Rattle.djq_live.proofs.Inside.{live_of}
 use Rattle.djq_live.proofs.InHead.{
   fits_outside,

@@ -1,5 +1,5 @@
 -- Cells are listed exactly where they are those of an answer of the tree, and then as many as the head.
-use Rattle.std.proofs.Common.{◌≡◌, ◌≤◌, ◌+◌, ◌∙◌, List, ℕ, length, ap, sym, arith}
+use Rattle.std.proofs.Common.{◌∙◌, length, arith}
 use Rattle.std.proofs.lemmas.Bool.{ne_eqb}
 use Rattle.djq_live.proofs.InHead.{tells_had, none_had, kept_leaves}
 use Rattle.djq_live.proofs.member.LiveQueryListing.has.Goals as goal

@@ -1,5 +1,5 @@
 -- Cells in the head's order are all given exactly where the tree's answers are; its head is no longer.
-use Rattle.std.proofs.Common.{◌≤◌, ◌+◌, ◌*◌, length, arith}
+use Rattle.std.proofs.Common.{arith}
 use Rattle.djq_live.proofs.InHead.{left_same, kept_narrow}
 use Rattle.djq_live.proofs.member.LiveQueryListing.is_left.Goals as goal
 
