@@ -267,7 +267,7 @@ impl Catalog {
         }
     }
 
-    /// The cells of a row, whose unknown texts become known, in order.
+    /// Writes the cells of a row, whose unknown texts become known, in order.
     ///
     /// # Errors
     ///
@@ -275,23 +275,6 @@ impl Catalog {
     /// [`MOST_TEXTS`](djq_dict::MOST_TEXTS); [`InternRefusal::NoMem`] for want of memory. The texts
     /// before the one that was refused are known. Since a text of it wasn't, the row is in no
     /// relation.
-    pub fn intern_row(&mut self, row: &[Value]) -> Result<Cells, InternRefusal>
-        requires { length row.now ≤ CELLS }
-        ensures interns { InternsRow self.old.texts row.now result self.new.texts }
-        ensures absent { OnErr result ((at : ℕ) → at < length self.old.relations
-            → has_row (rows_at self.old.relations at) row.now ≡ false) }
-        ensures relations { self.new.relations ≡ self.old.relations }
-    {
-        let mut cells = Cells::new(0);
-        self.intern_cells(row, &mut cells)?;
-        Ok(cells)
-    }
-
-    /// Writes the cells of a row, whose unknown texts become known, in order.
-    ///
-    /// # Errors
-    ///
-    /// As of [`Catalog::intern_row`].
     pub fn intern_cells(&mut self, row: &[Value], cells: &mut Cells) -> Result<(), InternRefusal>
         requires { length row.now ≤ CELLS }
         ensures interns { InternsRow self.old.texts row.now (given_cells result cells.new) self.new.texts }

@@ -8,7 +8,7 @@
 //! It evaluates no query, and it checks no more of a row than [`Catalog::suits`] tells. It has no
 //! order of rows but the one in which they came, and no relation is ever dropped.
 //!
-//! What surprises: a row is added and deleted by its cells, which [`Catalog::intern_row`] gives and
+//! What surprises: a row is added and deleted by its cells, which [`Catalog::intern_cells`] gives and
 //! [`Catalog::cells`] finds. So a row's texts become known before it is added, and stay known where
 //! it isn't. The cells of a row stay the same however many texts become known later
 //! ([`cells_stay`]), and different rows have different cells ([`cells_differ`]): who holds cells

@@ -2,7 +2,7 @@ ghost use Rattle.std.specs.Prelude.{◌≡◌, true};
 ghost use Rattle.djq_model.specs.Typed.{is_of};
 
 use super::*;
-use djq_index::CELLS;
+use djq_index::{CELLS, Cells};
 use djq_lines::limits::COLUMNS;
 use djq_lines::{AddOutcome, DeleteOutcome};
 use djq_model::{ColumnType, Name, Row, Text, Types, Value, ValueRef};
@@ -53,7 +53,8 @@ fn add<L: Ledger>(
     if !catalog.suits(id, row) {
         return Ok(None);
     }
-    let cells = catalog.intern_row(row)?;
+    let mut cells = Cells::new(0);
+    catalog.intern_cells(row, &mut cells)?;
     let outcome = catalog.add_row(id, cells.as_slice(), tally)?;
     Ok(Some(outcome))
 }

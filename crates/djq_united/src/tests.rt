@@ -36,7 +36,8 @@ fn fill<L: Ledgers>(
         if id.at >= catalog.len() || row.len() > CELLS || !catalog.suits(id, row.as_slice()) {
             return Err(NoMem)?;
         }
-        let cells = catalog.intern_row(row.as_slice())?;
+        let mut cells = Cells::new(0);
+        catalog.intern_cells(row.as_slice(), &mut cells)?;
         let _ = catalog.add_row(id, cells.as_slice(), &mut steps.rows)?;
     }
     Ok(())
