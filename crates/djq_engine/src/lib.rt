@@ -12,7 +12,8 @@
 //! record, `Kept` (`specs/Kept.antt`).
 //!
 //! It knows no session, no bytes and no names of cursors, and it sends nothing. It counts how many
-//! watch a query, and not who. How a query is judged, kept and listed is djq_live's.
+//! watch a query, and not who. How a query is judged is djq_planned's, and how it is kept and listed
+//! djq_live's.
 //!
 //! What surprises: an `add` that finds no memory leaves all rows as they were, yet the cursors over
 //! its relation are stale behind it, the logs of the queries that read it are empty, and texts that

@@ -7,13 +7,14 @@
 //! lists, leaf by leaf, which answers of the tree came or went, where that is wanted.
 //!
 //! ```text
-//! q(x,y) <- r(x,z,3), s(z,y)   x is 0, z is 1, y is 2
+//! q(x,z) <- r(x,z,3), s(z,y)   x is 0, z is 1, y is 2
 //! the row 5 7 3 of r           the tuple 5 7 of leaf 0, over 0,1
 //! the row 5 7 4 of r           no tuple
 //! ```
 //!
-//! It knows no cursors, and not what an answer shows: that is djq_live's. Out of memory what went in
-//! stays in, up to the leaf that is told, and whoever called takes it out again.
+//! It keeps nothing, and it knows neither what an answer shows nor the cursors that are open: these
+//! are djq_live's. Out of memory a row stays in the leaves that took it in, which are told, and
+//! whoever called takes it out of them again.
 //!
 //! What surprises: a relation that is read twice has two leaves, and a row goes into one after the
 //! other, so that what the second lists is over what the first has taken in.

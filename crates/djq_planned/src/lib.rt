@@ -7,7 +7,7 @@
 //! ```text
 //! q(x,y) <- r(x,z), s(z,y)     r int int, s int int
 //! the fault                    none
-//! the plan                     none: x,y and x,z and z,y are left
+//! the plan                     none: x,z and x,y and z,y are left
 //!
 //! p(x) <- r(x,z), s(z,3)       x is 0, z is 1
 //! the plan                     leaf 0 over 0,1; leaf 1 over 1; the head is 0
