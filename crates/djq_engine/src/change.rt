@@ -16,11 +16,9 @@ ghost use Rattle.djq_engine.specs.Whole.{EngineIsWhole, IsTended};
 use crate::parts::Parts;
 use djq_dict::InternRefusal;
 use djq_index::Cells;
+use djq_leaves::{added_came, copies_keep_rows, deleted_went};
 use djq_lines::{AddOutcome, DeleteOutcome};
-use djq_live::{
-    added_came, copies_keep_rows, deleted_went, live_stays, other_queries_stay, showable_stays,
-    went_passes,
-};
+use djq_live::{live_stays, other_queries_stay, showable_stays, went_passes};
 use djq_model::Value;
 use djq_reach::{delete_from_readers, insert_into_readers};
 use djq_rows::{RelationId, RowsRefusal, texts_stay};

@@ -16,3 +16,4 @@ pub mod Patterns
 pub mod Taking
 pub mod Batched
 pub mod Crowding
+pub mod Placing

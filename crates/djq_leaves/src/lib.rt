@@ -25,10 +25,14 @@
 
 pub use batch::{add_all_to_leaves, give_all_from_leaves, tuples_of_all};
 pub use bind::bind_atoms;
+pub use changes::{
+    added_came, copies_keep_rows, deleted_went, leaf_gains, leaf_is_empty, leaf_is_filled,
+};
 pub use fill::fill_leaves;
 pub use stepping::{add_to_leaves, delete_from_leaves};
 
 mod batch;
 mod bind;
+mod changes;
 mod fill;
 mod stepping;

@@ -10,7 +10,6 @@ pub mod Showable
 pub mod Bound
 pub mod Moving
 pub mod Changing
-pub mod Placing
 pub mod Typing
 pub mod Untouched
 pub mod Advancing

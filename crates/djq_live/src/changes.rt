@@ -1,6 +1,4 @@
 ghost use Rattle.djq_leaves.specs.Changes.{OverGains, OverLoses};
-ghost use Rattle.djq_leaves.specs.Changes.{AddedCame, DeletedWent, CopiesKeepRows};
-ghost use Rattle.djq_leaves.specs.Changes.{LeafIsEmpty, LeafGains, LeafIsFilled};
 
 /// Where rows came into a relation, the reducts are those of the query once each leaf over the
 /// relation has gained the tuples that put into its atom give one of them.
@@ -11,35 +9,4 @@ pub fn leaves_after_insert()
 /// Where a row went, they are once each such leaf has lost that tuple.
 pub fn over_loses()
     ensures { OverLoses }
-{}
-
-/// A row that a catalog added, with one copy, came.
-pub fn added_came()
-    ensures { AddedCame }
-{}
-
-/// A row that a catalog deleted, with its last copy, went.
-pub fn deleted_went()
-    ensures { DeletedWent }
-{}
-
-/// Where a catalog added a further copy of a row, or deleted one of several, no relation has other
-/// rows.
-pub fn copies_keep_rows()
-    ensures { CopiesKeepRows }
-{}
-
-/// A leaf without tuples holds those of no rows.
-pub fn leaf_is_empty()
-    ensures { LeafIsEmpty }
-{}
-
-/// A leaf that gains the tuples of further rows holds those of the rows before and of these.
-pub fn leaf_gains()
-    ensures { LeafGains }
-{}
-
-/// A leaf that holds the tuples of all rows of a relation holds what it should.
-pub fn leaf_is_filled()
-    ensures { LeafIsFilled }
 {}

@@ -34,10 +34,7 @@
 //! they only grow, or only shrink.
 #![tactic(auto)]
 
-pub use changes::{
-    added_came, copies_keep_rows, deleted_went, leaf_gains, leaf_is_empty, leaf_is_filled,
-    leaves_after_insert, over_loses,
-};
+pub use changes::{leaves_after_insert, over_loses};
 pub use laws::{
     answers_are_listed, answers_are_showable, answers_are_shown, answers_differ, answers_stand,
     flat_meets_are_equal, heads_are_bound, leaves_are_small, numbered_is_asked, showable_stays,

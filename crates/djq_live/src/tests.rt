@@ -9,6 +9,7 @@ ghost use Rattle.djq_live.specs.Live.{IsKept, IsKeptSomewhere, IsLive, IsShowabl
 use super::*;
 use djq_cursor::{DeltaLog, Line};
 use djq_index::{CELLS, Cells};
+use djq_leaves::{added_came, copies_keep_rows, deleted_went};
 use djq_lines::{AddOutcome, DeleteOutcome};
 use djq_model::{
     Atom, ColumnType, Name, NoMem, Query, Row, Sequence, Term, Types, Value, ValueRef,

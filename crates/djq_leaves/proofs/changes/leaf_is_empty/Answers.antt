@@ -1,6 +1,6 @@
 -- There is no row in an empty list, so no tuple gives one.
 use Rattle.djq_leaves.proofs.Filled.{leaf_empty}
-use Rattle.djq_live.proofs.changes.leaf_is_empty.Goals as goal
+use Rattle.djq_leaves.proofs.changes.leaf_is_empty.Goals as goal
 
 pub returns : goal.returns
 returns c = leaf_empty

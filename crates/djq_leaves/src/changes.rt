@@ -1,0 +1,34 @@
+//! What calls of a catalog come to as changes, and what leaves hold behind them.
+ghost use Rattle.djq_leaves.specs.Changes.{AddedCame, DeletedWent, CopiesKeepRows};
+ghost use Rattle.djq_leaves.specs.Changes.{LeafIsEmpty, LeafGains, LeafIsFilled};
+
+/// A row that a catalog added, with one copy, came.
+pub fn added_came()
+    ensures { AddedCame }
+{}
+
+/// A row that a catalog deleted, with its last copy, went.
+pub fn deleted_went()
+    ensures { DeletedWent }
+{}
+
+/// Where a catalog added a further copy of a row, or deleted one of several, no relation has other
+/// rows.
+pub fn copies_keep_rows()
+    ensures { CopiesKeepRows }
+{}
+
+/// A leaf without tuples holds those of no rows.
+pub fn leaf_is_empty()
+    ensures { LeafIsEmpty }
+{}
+
+/// A leaf that gains the tuples of further rows holds those of the rows before and of these.
+pub fn leaf_gains()
+    ensures { LeafGains }
+{}
+
+/// A leaf that holds the tuples of all rows of a relation holds what it should.
+pub fn leaf_is_filled()
+    ensures { LeafIsFilled }
+{}
