@@ -11,6 +11,7 @@ pub mod Outdating
 pub mod Registering
 pub mod Watching
 pub mod Lending
+pub mod Laws
 pub mod Putting
 pub mod Taking
 pub mod Cursors

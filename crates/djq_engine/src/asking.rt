@@ -10,7 +10,7 @@ use crate::engine::Engine;
 use crate::lent::LentAnswer;
 use crate::places::find_query;
 use djq_lines::{Refusal, Shape};
-use djq_live::{LiveQuery, answers_are_shown};
+use djq_live::LiveQuery;
 use djq_model::{Name, Value};
 use djq_reduct::Answer;
 use djq_steps::{Ledgers, Listing, Tally};
@@ -23,7 +23,6 @@ impl Engine {
         requires { IsRegistered self.now id }
         ensures { LendsQuery self.now id result.now }
     {
-        answers_are_shown();
         match &self.parts.queries[id.at] {
             Some(live) => live,
             None => unreachable!(),

@@ -17,12 +17,9 @@ use crate::judge::relation_for_row;
 use crate::outdating::{affect_reached, give_up, outdate_came};
 use crate::parts::Parts;
 use crate::putting::{Came, put_all, take_back};
-use djq_deltas::deltas_exist;
 use djq_lines::{HeldRow, Refusal};
-use djq_live::{heads_are_bound, leaves_are_small, live_stays, showable_stays};
 use djq_model::{Name, NoMem, Value};
 use djq_reach::{Group, insert_batch_into_readers};
-use djq_rows::cells_stay;
 use djq_steps::{Ledgers, Steps};
 
 /// The queries that read a relation of the groups take the rows in that came, in the catalog already.
@@ -116,12 +113,6 @@ impl Engine {
         ensures places { KeepsPlaces (is_tried (tried (batch_outcome self.old.store held.now result)))
             self.old self.new }
     {
-        deltas_exist();
-        heads_are_bound();
-        leaves_are_small();
-        showable_stays();
-        live_stays();
-        cells_stay();
         self.parts.catalog.laws();
         let put = put_all(
             &mut self.parts.catalog,

@@ -16,12 +16,10 @@ ghost use Rattle.djq_engine.specs.Whole.{EngineIsWhole, IsTended};
 use crate::parts::Parts;
 use djq_dict::InternRefusal;
 use djq_index::Cells;
-use djq_leaves::{added_came, copies_keep_rows, deleted_went};
 use djq_lines::{AddOutcome, DeleteOutcome};
-use djq_live::{live_stays, other_queries_stay, showable_stays, went_passes};
 use djq_model::Value;
 use djq_reach::{delete_from_readers, insert_into_readers};
-use djq_rows::{RelationId, RowsRefusal, texts_stay};
+use djq_rows::{RelationId, RowsRefusal};
 use djq_steps::{Ledgers, Steps};
 
 /// Why a row that suits its relation isn't added.
@@ -85,11 +83,6 @@ fn put_cells<L: Ledgers>(
         steps.old.update steps.new.update) }
     ensures unmoved { IfStill result (steps.new.update ≤ steps.old.update) }
 {
-    added_came();
-    deleted_went();
-    copies_keep_rows();
-    live_stays();
-    other_queries_stay();
     parts.catalog.laws();
     match parts.catalog.add_row(id, cells, &mut steps.rows) {
         Ok(AddOutcome::First) => {}
@@ -162,9 +155,6 @@ pub fn put_row<L: Ledgers>(
         steps.old.update steps.new.update) }
     ensures unmoved { IfStill result (steps.new.update ≤ steps.old.update) }
 {
-    live_stays();
-    texts_stay();
-    showable_stays();
     parts.catalog.laws();
     let mut cells = Cells::new(0);
     match parts.catalog.intern_cells(row, &mut cells) {
@@ -210,10 +200,6 @@ pub fn drop_cells<L: Ledgers>(
         steps.old.update steps.new.update) }
     ensures unmoved { IfNoneWent result (steps.new.update ≤ steps.old.update) }
 {
-    deleted_went();
-    copies_keep_rows();
-    live_stays();
-    went_passes();
     parts.catalog.laws();
     match parts.catalog.delete_row(id, cells, &mut steps.rows) {
         DeleteOutcome::Last => {}

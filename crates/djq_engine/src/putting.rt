@@ -15,7 +15,7 @@ use djq_index::Cells;
 use djq_lines::{AddOutcome, HeldRow, Refusal};
 use djq_model::{NoMem, Sequence};
 use djq_reach::Group;
-use djq_rows::{Catalog, RelationId, RowsRefusal, cells_stay, rows_by_name_or_place, texts_stay};
+use djq_rows::{Catalog, RelationId, RowsRefusal};
 use djq_steps::Tally;
 use std::alloc::Global;
 use std::sync::ledger::Ledger;
@@ -107,7 +107,6 @@ fn take_row_back<L: Ledger>(catalog: &mut Catalog, held: &HeldRow, tally: &mut T
         → catalog.new.relations ≡ st.relations }
     ensures texts { catalog.new.texts ≡ catalog.old.texts }
 {
-    rows_by_name_or_place();
     catalog.laws();
     let Some(id) = catalog.id(&held.relation) else {
         unreachable!()
@@ -154,8 +153,6 @@ fn put_one<L: Ledger>(
         BatchStopsAt (bare_of catalog.old seq) held.now catalog.new.texts r) }
     ensures stays { OnErr result (catalog.new.relations ≡ catalog.old.relations) }
 {
-    rows_by_name_or_place();
-    texts_stay();
     catalog.laws();
     let relation = match put_row(catalog, held, cells, seq, tally) {
         Ok(Some(relation)) => relation,
@@ -208,9 +205,6 @@ pub fn put_all<L: Ledger>(
     ensures stays { OnErr result (catalog.new.relations ≡ catalog.old.relations) }
     ensures learned { (more : List Bytes) × (catalog.new.texts ≡ catalog.old.texts ++ more) }
 {
-    rows_by_name_or_place();
-    texts_stay();
-    cells_stay();
     catalog.laws();
     let mut groups = Vec::new(alloc);
     let mut count = 0;

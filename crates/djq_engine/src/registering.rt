@@ -17,11 +17,11 @@ use crate::places::{find_query, leave_all, leave_out, unaffect, vacant_place};
 use djq_dict::InternRefusal;
 use djq_lines::limits::QUERIES;
 use djq_lines::{QueryOutcome, Refusal};
-use djq_live::{LiveQuery, live_stays, showable_stays};
+use djq_live::LiveQuery;
 use djq_model::{Name, NoMem, Query, Sequence};
 use djq_planned::{Unplanned, intern_constants, plan_query, query_fault_of};
 use djq_reach::is_watched;
-use djq_rows::{Catalog, RelationId, texts_stay};
+use djq_rows::{Catalog, RelationId};
 use djq_steps::{Ledgers, Steps};
 
 /// Whether a query reads a relation.
@@ -162,9 +162,6 @@ impl Engine {
         ensures counted { steps.new.listing ≡ steps.old.listing }
         ensures places { KeepsTables self.old self.new }
     {
-        live_stays();
-        texts_stay();
-        showable_stays();
         if let Some(refusal) = judge_query(&self.parts, &query) {
             return Err(refusal);
         }

@@ -14,14 +14,13 @@ use crate::change::{AddRefusal, drop_cells, put_row};
 use crate::engine::Engine;
 use crate::judge::{check_add, check_delete};
 use crate::parts::Parts;
-use djq_deltas::deltas_exist;
 use djq_index::Cells;
 use djq_lines::limits::{COLUMNS, RELATIONS};
 use djq_lines::{AddOutcome, DeleteOutcome, Refusal};
-use djq_live::{LiveQuery, heads_are_bound, leaves_are_small, live_stays, showable_stays};
+use djq_live::LiveQuery;
 use djq_model::{Name, NoMem, Sequence, Types, Value};
 use djq_reach::{empty_logs, outdate};
-use djq_rows::{RelationId, rows_by_name_or_place, texts_stay};
+use djq_rows::RelationId;
 use djq_steps::{Ledgers, Steps};
 
 /// The queries that read a relation are the affected ones from now on. They are few, so that a loop costs less
@@ -98,7 +97,6 @@ impl Engine {
         ensures tellings { SameTellings self.old self.new }
         ensures places { self.new.places ≡ self.old.places }
     {
-        live_stays();
         if self.parts.catalog.id(&name).is_some() {
             return Err(Refusal::Taken);
         }
@@ -157,12 +155,6 @@ impl Engine {
             (tried (add_outcome (row_in self.old.store.relations name.now row.now) result)))
             self.old self.new }
     {
-        rows_by_name_or_place();
-        deltas_exist();
-        heads_are_bound();
-        leaves_are_small();
-        texts_stay();
-        showable_stays();
         self.parts.catalog.laws();
         let id = check_add(
             &self.parts.catalog,
@@ -218,11 +210,6 @@ impl Engine {
             (tried (delete_outcome (row_out self.old.store.relations name.now row.now) result)))
             self.old self.new }
     {
-        rows_by_name_or_place();
-        deltas_exist();
-        heads_are_bound();
-        leaves_are_small();
-        showable_stays();
         self.parts.catalog.laws();
         let mut cells = Cells::new(0);
         let judged = check_delete(

@@ -1,12 +1,10 @@
 //! Those that watch queries, and how the answers of these changed last.
-ghost use Rattle.std.specs.Prelude.{◌≡◌, ◌<◌, ◌≤◌, ◌+◌, ◌-◌, Some, IsSomeAnd, option_map, false, map, AllPairs};
+ghost use Rattle.std.specs.Prelude.{◌≡◌, ◌<◌, ◌+◌, ◌-◌, Some, IsSomeAnd, option_map};
 ghost use Rattle.std.specs.Prelude.{length, slice_get};
-ghost use Rattle.djq_model.specs.Data.{bytes_eq};
 ghost use Rattle.djq_model.specs.Listed.{listed_name};
-ghost use Rattle.djq_lines.specs.declared.limits.TheConstants.{QUERIES};
-ghost use Rattle.djq_engine.specs.Kept.{registered_of, registered_at, same_query, IsRegistered, with_watchers};
-ghost use Rattle.djq_engine.specs.Kept.{told_at, PlacesAreKept, IdsArePlaced, PlacesAreRegistered};
-ghost use Rattle.djq_engine.specs.Kept.{CursorsAreRegistered, ToldCellsFit, TellsChangeCells};
+ghost use Rattle.djq_engine.specs.Kept.{registered_of, registered_at, IsRegistered, with_watchers};
+ghost use Rattle.djq_engine.specs.Kept.{told_at, TellsChangeCells};
+ghost use Rattle.djq_engine.specs.Laws.{IsEngine};
 ghost use Rattle.djq_engine.specs.Lending.{sign_of};
 
 use crate::cursor::QueryId;
@@ -15,7 +13,6 @@ use crate::lent::LentAnswer;
 use crate::places::find_query;
 use djq_cursor::{DeltaLog, Line};
 use djq_lines::Sign;
-use djq_live::showable_cells_stand;
 use djq_model::Name;
 use djq_reduct::Cells;
 
@@ -61,20 +58,9 @@ impl Engine {
 
     /// What holds of an engine between any two calls. It does nothing.
     pub fn laws(&self)
-        ensures queries { map (λ r. r.query) self.now.registered ≡ self.now.store.queries }
-        ensures apart { AllPairs (λ r s. same_query r.id s.id ≡ false) self.now.registered }
-        ensures named { AllPairs (λ r s. bytes_eq (listed_name r.query) (listed_name s.query) ≡ false)
-            self.now.registered }
-        ensures few { length self.now.places ≤ QUERIES }
-        ensures long { length self.now.told ≡ length self.now.places }
-        ensures over { PlacesAreKept self.now }
-        ensures placed { IdsArePlaced self.now }
-        ensures listed { PlacesAreRegistered self.now }
-        ensures held { CursorsAreRegistered self.now }
-        ensures shown { ToldCellsFit self.now }
+        ensures { IsEngine self.now }
     {
         let _parts = &self.parts;
-        showable_cells_stand();
     }
 
     /// One more watches a query: a session, or a union for those that watch it. Its changes are told
@@ -162,7 +148,6 @@ impl Engine {
         requires within { IsSomeAnd (told_at self.now id) (λ changes. nth < length changes) }
         ensures { TellsChangeCells self.now id nth (sign_of result) cells.new }
     {
-        showable_cells_stand();
         let line = line_at(&self.parts.logs[id.at], nth);
         match &self.parts.queries[id.at] {
             Some(live) => {

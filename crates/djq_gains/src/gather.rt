@@ -22,7 +22,7 @@ ghost use Rattle.djq_index.specs.declared.cells.TheConstants.{CELLS};
 
 use crate::gains::Gains;
 use djq_engine::{Cells, Engine, QueryId};
-use djq_live::{QueriesAt, head_types_are};
+use djq_live::QueriesAt;
 use djq_union::Members;
 use std::alloc::{AllocError, Global};
 
@@ -81,7 +81,6 @@ pub fn gather(
     ensures narrow { IfOk result (λ g. g.width ≤ CELLS) }
     ensures gathers { IfOk result (λ g. GathersGains engine.now members.now touched.now g.gains) }
 {
-    head_types_are();
     engine.laws();
     let group = QueriesAt {
         queries: engine.places(),

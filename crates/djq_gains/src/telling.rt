@@ -29,9 +29,7 @@ use crate::gains::Gains;
 use crate::gather::gather;
 use djq_cursor::DeltaLog;
 use djq_engine::{Answer, Cells, Engine};
-use djq_live::{
-    QueriesAt, answers_are_had, cells_in_tree_stand, cells_tell_values, head_types_are,
-};
+use djq_live::QueriesAt;
 use djq_steps::Tally;
 use djq_union::{Listing, Members};
 use std::alloc::Global;
@@ -156,10 +154,6 @@ pub fn tell_gains<L: Ledger>(
     ensures counted { listing.new ≤ listing.old + sum_by (count_in engine.now) touched.now
         * atoms_of (members_at engine.now members.now) }
 {
-    head_types_are();
-    cells_in_tree_stand();
-    answers_are_had();
-    cells_tell_values();
     engine.laws();
     log.clear();
     let group = QueriesAt {

@@ -17,7 +17,7 @@ use Rattle.djq_engine.specs.Places.{query_in, id_at}
 use Rattle.djq_united.specs.Slots.{slot_at}
 use Rattle.djq_united.specs.United.{United, IsUnited, first_of_members}
 use Rattle.djq_store.specs.declared.joined.Joined.{Joined}
-use Rattle.djq_store.specs.Below.{IsEngine}
+use Rattle.djq_engine.specs.Laws.{IsEngine}
 use Rattle.djq_store.specs.Places.{joined_at, listed_in, listed_at, union_watchers, sessions_at}
 use Rattle.djq_store.specs.Places.{registered_as, held_union_cursor, union_cursor_of, told_of_union, lender_in}
 use Rattle.djq_store.specs.Places.{in_places}

@@ -36,7 +36,7 @@ use Rattle.djq_united.specs.United.{union_of, members_in, first_of_members}
 use Rattle.djq_store.specs.declared.explained.Explained.{Explained}
 use Rattle.djq_store.specs.declared.explained.Explained.TheVariants.{Tree, Members}
 use Rattle.djq_store.specs.declared.joined.Joined.{Joined}
-use Rattle.djq_store.specs.Below.{IsEngine}
+use Rattle.djq_engine.specs.Laws.{IsEngine}
 use Rattle.djq_store.specs.Explaining.{ExplainGives, Explains, ExplainTakesMemory, HasMember}
 use Rattle.djq_store.specs.Lending.{LendsEngine}
 use Rattle.djq_store.specs.Places.{joined_at, listed_at, union_watchers, sessions_at, registered_as, lender_in}

@@ -28,7 +28,8 @@ use Rattle.djq_store.specs.declared.joined.Joined.{Joined}
 use Rattle.djq_store.specs.declared.parts.Parts.{Parts}
 use Rattle.djq_store.specs.declared.settling.Turn.{Turn}
 use Rattle.djq_store.specs.declared.settling.Turn.TheVariants.{Came, Went, Lacked}
-use Rattle.djq_store.specs.Below.{IsEngine, StayingLaws}
+use Rattle.djq_engine.specs.Laws.{IsEngine}
+use Rattle.djq_store.proofs.Below.{StayingLaws}
 use Rattle.djq_store.specs.Places.{joined_at, first_member, listed_at, registered_as, sessions_at}
 use Rattle.djq_store.specs.Settling.{first_read_by, touched_in, outdated_union, TellsUnionLog}
 use Rattle.djq_store.specs.Settling.{TellsWatched, SettlesLog, SettlesLogBy, Settles, SettlesAt}

@@ -16,7 +16,7 @@ use Rattle.djq_reach.specs.Places.{is_reader}
 use Rattle.djq_engine.specs.Kept.{Kept}
 use Rattle.djq_engine.proofs.Listing.{here, behind}
 use Rattle.djq_store.specs.declared.joined.Joined.{Joined}
-use Rattle.djq_store.specs.Below.{IsEngine}
+use Rattle.djq_engine.specs.Laws.{IsEngine}
 use Rattle.djq_store.specs.Places.{joined_at, listed_at}
 use Rattle.djq_store.specs.Whole.{IsListed}
 use Rattle.djq_store.proofs.Departed.{none_any, one_any}

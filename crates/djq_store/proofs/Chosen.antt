@@ -23,7 +23,7 @@ use Rattle.djq_deltas.proofs.Lists.{nothing_there, first_or_later}
 use Rattle.djq_engine.specs.Kept.{Kept, Registered, registered_of}
 use Rattle.djq_united.specs.United.{AreMembers}
 use Rattle.djq_store.specs.declared.joined.Joined.{Joined}
-use Rattle.djq_store.specs.Below.{IsEngine}
+use Rattle.djq_engine.specs.Laws.{IsEngine}
 use Rattle.djq_store.specs.Judging.{ArePlacesOf}
 use Rattle.djq_store.specs.Places.{store_seen}
 use Rattle.djq_store.specs.Whole.{IsListed}

@@ -36,7 +36,7 @@ use Rattle.djq_deltas.proofs.Lists.{hold_each, kept_there}
 use Rattle.djq_store.specs.declared.joined.Joined.{Joined}
 use Rattle.djq_store.specs.declared.settling.Turn.{Turn}
 use Rattle.djq_store.specs.declared.settling.Turn.TheVariants.{Came, Went, Lacked}
-use Rattle.djq_store.specs.Below.{IsEngine}
+use Rattle.djq_engine.specs.Laws.{IsEngine}
 use Rattle.djq_store.specs.Places.{joined_at, first_member, told_of_union, listed_at, registered_as, union_watchers}
 use Rattle.djq_store.specs.Places.{store_seen}
 use Rattle.djq_store.specs.Settling.{first_read_by, touched_in, is_settled, outdated_union, TellsUnionLog}

@@ -16,7 +16,7 @@ use Rattle.djq_engine.specs.declared.cursor.QueryId.{QueryId}
 use Rattle.djq_engine.specs.Kept.{Kept, Registered, registered_at, with_watchers}
 use Rattle.djq_engine.proofs.Listing.{map_members}
 use Rattle.djq_store.specs.declared.joined.Joined.{Joined}
-use Rattle.djq_store.specs.Below.{IsEngine}
+use Rattle.djq_engine.specs.Laws.{IsEngine}
 use Rattle.djq_store.specs.Places.{joined_at, union_watchers, sessions_at, registered_as, store_seen}
 use Rattle.djq_store.specs.Whole.{IsListed, IsCounted, wants}
 use Rattle.djq_store.proofs.Found.{found_passes}

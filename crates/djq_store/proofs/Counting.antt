@@ -25,7 +25,7 @@ use Rattle.djq_engine.proofs.Listing.{reader_filter}
 use Rattle.djq_deltas.proofs.Lists.{nothing_there, first_or_later, first_there, later_there}
 use Rattle.djq_deltas.proofs.Lists.{kept_there, mapped_there, hold_each, pairs_head, pairs_tail}
 use Rattle.djq_store.specs.declared.joined.Joined.{Joined}
-use Rattle.djq_store.specs.Below.{IsEngine}
+use Rattle.djq_engine.specs.Laws.{IsEngine}
 use Rattle.djq_store.specs.Places.{listed_at, registered_as}
 use Rattle.djq_store.specs.Whole.{IsListed, query_places}
 use Rattle.djq_store.proofs.Ordered.{seat_of, listed_seat, listed_low, seat_order, registered_is}

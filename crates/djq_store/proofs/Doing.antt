@@ -28,7 +28,8 @@ use Rattle.djq_store.specs.declared.parts.Parts.{Parts}
 use Rattle.djq_store.specs.declared.settling.Turn.{Turn}
 use Rattle.djq_store.specs.declared.settling.Turn.TheVariants.{Came, Went, Lacked}
 use Rattle.djq_store.specs.Affecting.{is_reached_id, is_member_reached, is_affected}
-use Rattle.djq_store.specs.Below.{IsEngine, StayingLaws}
+use Rattle.djq_engine.specs.Laws.{IsEngine}
+use Rattle.djq_store.proofs.Below.{StayingLaws}
 use Rattle.djq_store.specs.Following.{AffectsAll, FollowsAffected, UnionsFollow, FollowsBy, following_steps}
 use Rattle.djq_store.specs.Places.{joined_at, listed_at, registered_as, sessions_at, union_watchers, store_seen}
 use Rattle.djq_store.specs.Places.{store_kept_in}

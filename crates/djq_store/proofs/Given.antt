@@ -24,7 +24,8 @@ use Rattle.djq_engine.proofs.Conditions.{answers_as, done_of}
 use Rattle.djq_united.specs.Staying.{MembersStay, UnionsStay}
 use Rattle.djq_store.specs.declared.joined.Joined.{Joined}
 use Rattle.djq_store.specs.declared.parts.Parts.{Parts}
-use Rattle.djq_store.specs.Below.{IsEngine, StayingLaws}
+use Rattle.djq_engine.specs.Laws.{IsEngine}
+use Rattle.djq_store.proofs.Below.{StayingLaws}
 use Rattle.djq_store.specs.Places.{in_places, listed_at, lender_in, store_seen}
 use Rattle.djq_store.specs.Reading as store
 use Rattle.djq_store.specs.Whole.{IsListed, StoreIsWhole}

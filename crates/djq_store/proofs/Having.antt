@@ -26,7 +26,7 @@ use Rattle.djq_deltas.proofs.Lists.{nothing_there, first_or_later, mapped_there,
 use Rattle.djq_gains.proofs.Members.{got, member_at}
 use Rattle.djq_store.specs.declared.joined.Joined.{Joined}
 use Rattle.djq_store.specs.Asking.{TellsMembership, asked_in}
-use Rattle.djq_store.specs.Below.{IsEngine}
+use Rattle.djq_engine.specs.Laws.{IsEngine}
 use Rattle.djq_store.specs.Places.{store_seen}
 use Rattle.djq_store.specs.Whole.{IsListed}
 use Rattle.djq_store.proofs.Answering.{called_listed}

@@ -16,7 +16,7 @@ use Rattle.djq_engine.specs.Places.{id_at}
 use Rattle.djq_united.specs.Slots.{UnionProgress, slot_at}
 use Rattle.djq_united.specs.United.{United}
 use Rattle.djq_store.specs.declared.joined.Joined.{Joined}
-use Rattle.djq_store.specs.Below.{IsEngine}
+use Rattle.djq_engine.specs.Laws.{IsEngine}
 use Rattle.djq_store.specs.Places.{joined_at, held_union_cursor, union_cursors_in, union_cursors_from, union_cursor_of}
 use Rattle.djq_store.specs.Places.{cursors_in}
 use Rattle.djq_store.proofs.Ordered.{seat}

@@ -17,7 +17,7 @@ use Rattle.djq_engine.specs.Kept.{Kept, Registered, SameCursors, TellsOfQuery, r
 use Rattle.djq_engine.specs.Places.{id_at}
 use Rattle.djq_united.specs.United.{United, AreMembers, IsUnited, union_of}
 use Rattle.djq_store.specs.declared.joined.Joined.{Joined}
-use Rattle.djq_store.specs.Below.{IsEngine}
+use Rattle.djq_engine.specs.Laws.{IsEngine}
 use Rattle.djq_store.specs.Filling.{FillsSlot}
 use Rattle.djq_store.specs.Judging.{ArePlacesOf}
 use Rattle.djq_store.specs.Places.{store_seen, listed_at}

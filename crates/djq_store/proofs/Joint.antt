@@ -21,7 +21,7 @@ use Rattle.djq_engine.specs.Places.{id_at, query_in}
 use Rattle.djq_engine.proofs.Listing.{here, behind, map_members}
 use Rattle.djq_united.specs.United.{IsUnited}
 use Rattle.djq_store.specs.declared.joined.Joined.{Joined}
-use Rattle.djq_store.specs.Below.{IsEngine}
+use Rattle.djq_engine.specs.Laws.{IsEngine}
 use Rattle.djq_store.specs.Counting.{HasWatchers, with_watchers_at}
 use Rattle.djq_store.specs.Places.{joined_at, listed_in, listed_at, union_watchers, sessions_at}
 use Rattle.djq_store.specs.Places.{registered_as, union_cursors_in, union_cursors_from, told_of_union, lender_in}

@@ -12,7 +12,7 @@ use Rattle.djq_live.specs.Member.{head_types, query_at, HeadTypesAre}
 use Rattle.djq_engine.specs.declared.cursor.QueryId.{QueryId}
 use Rattle.djq_engine.specs.Kept.{Kept, Registered, AtPlace, registered_at, registered_of}
 use Rattle.djq_store.specs.declared.joined.Joined.{Joined}
-use Rattle.djq_store.specs.Below.{IsEngine}
+use Rattle.djq_engine.specs.Laws.{IsEngine}
 use Rattle.djq_store.specs.Places.{store_seen}
 use Rattle.djq_store.specs.Whole.{IsListed}
 use Rattle.djq_store.proofs.Answering.{called_listed}

@@ -56,3 +56,4 @@ pub mod Joining
 pub mod Fresh
 pub mod Most
 pub mod Alone
+pub mod Below

@@ -28,7 +28,7 @@ use Rattle.djq_united.specs.Slots.{UnionProgress, slot_at}
 use Rattle.djq_united.specs.Reading as united
 use Rattle.djq_united.specs.United.{United, IsUnited, AtFirst, members_in, first_of_members, union_position, union_of}
 use Rattle.djq_store.specs.declared.joined.Joined.{Joined}
-use Rattle.djq_store.specs.Below.{IsEngine}
+use Rattle.djq_engine.specs.Laws.{IsEngine}
 use Rattle.djq_store.specs.Moving.{MovesUnion, OpensUnion, ClosesUnion, ReadsUnion, TellsUnionMore}
 use Rattle.djq_store.specs.Places.{joined_at, listed_at, registered_as, held_union_cursor, union_cursor_of}
 use Rattle.djq_store.specs.Places.{told_of_union}

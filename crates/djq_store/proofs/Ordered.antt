@@ -19,7 +19,7 @@ use Rattle.djq_engine.specs.Places.{id_at, query_in}
 use Rattle.djq_engine.proofs.Listing.{reader_filter}
 use Rattle.djq_united.specs.United.{union_of}
 use Rattle.djq_store.specs.declared.joined.Joined.{Joined}
-use Rattle.djq_store.specs.Below.{IsEngine}
+use Rattle.djq_engine.specs.Laws.{IsEngine}
 use Rattle.djq_store.specs.Places.{by_place, joined_at, listed_in, listed_at, registered_as}
 use Rattle.djq_store.specs.Whole.{IsListed, query_places}
 use Rattle.djq_store.proofs.Found.{found_passes, found_all, find_filtered, found_at, reader_mapped}

@@ -26,7 +26,8 @@ use Rattle.djq_engine.specs.Watching.{Enrols, EnrolsTelling}
 use Rattle.djq_engine.proofs.Conditions.{answers_refused, answers_done, done_of, first_false}
 use Rattle.djq_engine.proofs.Conditions.{front_refuses, front_passes}
 use Rattle.djq_store.specs.declared.joined.Joined.{Joined}
-use Rattle.djq_store.specs.Below.{IsEngine, StayingLaws}
+use Rattle.djq_engine.specs.Laws.{IsEngine}
+use Rattle.djq_store.proofs.Below.{StayingLaws}
 use Rattle.djq_store.specs.Registering.{is_registered}
 use Rattle.djq_store.specs.Places.{listed_at, registered_as, store_seen}
 use Rattle.djq_store.specs.Whole.{IsListed, IsCounted, query_places}

@@ -13,7 +13,8 @@ use Rattle.djq_live.specs.Live.{Live}
 use Rattle.djq_reach.specs.Places.{place_at}
 use Rattle.djq_engine.specs.Kept.{Kept, KeepsTables, KeepsQuery}
 use Rattle.djq_store.specs.declared.parts.Parts.{Parts}
-use Rattle.djq_store.specs.Below.{IsEngine, StayingLaws}
+use Rattle.djq_engine.specs.Laws.{IsEngine}
+use Rattle.djq_store.proofs.Below.{StayingLaws}
 use Rattle.djq_store.specs.Places.{store_kept_in, listed_at}
 use Rattle.djq_store.specs.Whole.{StoreIsWhole}
 use Rattle.djq_store.proofs.Lifting.{with_queries, makes_lifted}

@@ -10,7 +10,7 @@ use Rattle.djq_engine.specs.declared.cursor.QueryId.{QueryId}
 use Rattle.djq_engine.specs.Kept.{Kept, Registered, held_at, told_at}
 use Rattle.djq_engine.specs.Places.{id_at, query_in}
 use Rattle.djq_store.specs.declared.joined.Joined.{Joined}
-use Rattle.djq_store.specs.Below.{IsEngine}
+use Rattle.djq_engine.specs.Laws.{IsEngine}
 use Rattle.djq_store.specs.Places.{joined_at, listed_in, listed_at, union_watchers, sessions_at}
 use Rattle.djq_store.specs.Places.{registered_as, union_cursor_of, told_of_union, cursors_in, store_seen}
 use Rattle.djq_store.proofs.Held.{held_low, held_high}

@@ -13,7 +13,7 @@ use Rattle.djq_slots.specs.declared.progress.Progress.TheVariants.{Open, Stale}
 use Rattle.djq_united.specs.Slots.{UnionProgress, slot_at}
 use Rattle.djq_united.specs.United.{United, members_in, union_position}
 use Rattle.djq_store.specs.declared.joined.Joined.{Joined}
-use Rattle.djq_store.specs.Below.{IsEngine}
+use Rattle.djq_engine.specs.Laws.{IsEngine}
 use Rattle.djq_store.specs.Moving.{IsUnionReadable, IsUnionFresh}
 use Rattle.djq_store.specs.Places.{joined_at, held_union_cursor, union_cursor_of, cursors_in, store_seen}
 use Rattle.djq_store.specs.Whole.{IsListed}

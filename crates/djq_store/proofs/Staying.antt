@@ -19,7 +19,8 @@ use Rattle.djq_united.specs.Slots.{UnionProgress, slot_at}
 use Rattle.djq_united.specs.United.{United, IsUnited, AreKept, members_in, union_position}
 use Rattle.djq_united.specs.Staying.{MembersStay, UnionsStay, AreUntouched}
 use Rattle.djq_store.specs.declared.joined.Joined.{Joined}
-use Rattle.djq_store.specs.Below.{IsEngine, StayingLaws}
+use Rattle.djq_engine.specs.Laws.{IsEngine}
+use Rattle.djq_store.proofs.Below.{StayingLaws}
 use Rattle.djq_store.specs.Places.{in_places, joined_at, listed_in, listed_at, registered_as}
 use Rattle.djq_store.specs.Places.{held_union_cursor, union_cursor_of, told_of_union, cursors_in, store_seen}
 use Rattle.djq_store.specs.Whole.{IsListed, IsCounted}

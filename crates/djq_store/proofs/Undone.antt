@@ -26,7 +26,7 @@ use Rattle.djq_engine.proofs.Listing.{map_members, drop_listed, filter_twice, on
 use Rattle.djq_united.specs.Slots.{UnionProgress, slot_at, are_vacant}
 use Rattle.djq_united.specs.United.{IsUnited, union_of}
 use Rattle.djq_store.specs.declared.joined.Joined.{Joined}
-use Rattle.djq_store.specs.Below.{IsEngine}
+use Rattle.djq_engine.specs.Laws.{IsEngine}
 use Rattle.djq_store.specs.Places.{joined_at, listed_at, union_watchers, sessions_at, registered_as}
 use Rattle.djq_store.specs.Places.{held_union_cursor, union_cursor_of, told_of_union, store_seen}
 use Rattle.djq_store.specs.Whole.{IsListed, IsCounted, IsShownByFirst, wants, query_places}

@@ -21,7 +21,7 @@ use Rattle.djq_engine.proofs.Firsts.{first_of_position, none_of_position}
 use Rattle.djq_engine.proofs.Listing.{map_members, once_push}
 use Rattle.djq_united.specs.United.{IsUnited, union_of}
 use Rattle.djq_store.specs.declared.joined.Joined.{Joined}
-use Rattle.djq_store.specs.Below.{IsEngine}
+use Rattle.djq_engine.specs.Laws.{IsEngine}
 use Rattle.djq_store.specs.Filling.{FillsSlot}
 use Rattle.djq_store.specs.Places.{joined_at, listed_at, union_watchers, sessions_at, registered_as}
 use Rattle.djq_store.specs.Places.{union_cursor_of, told_of_union, store_seen}

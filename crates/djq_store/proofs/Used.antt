@@ -26,7 +26,8 @@ use Rattle.djq_engine.proofs.Listing.{reader_filter}
 use Rattle.djq_united.specs.Slots.{UnionProgress, slot_at}
 use Rattle.djq_engine.proofs.Conditions.{answers_refused, answers_done, refused_as, done_of}
 use Rattle.djq_store.specs.declared.joined.Joined.{Joined}
-use Rattle.djq_store.specs.Below.{IsEngine, StayingLaws}
+use Rattle.djq_engine.specs.Laws.{IsEngine}
+use Rattle.djq_store.proofs.Below.{StayingLaws}
 use Rattle.djq_store.specs.Places.{joined_at, listed_at, union_watchers, registered_as, held_union_cursor}
 use Rattle.djq_store.specs.Places.{union_cursor_of, store_seen}
 use Rattle.djq_store.specs.Whole.{IsListed, IsCounted, wants, query_places}

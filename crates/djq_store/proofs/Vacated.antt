@@ -23,7 +23,7 @@ use Rattle.djq_engine.proofs.Listing.{map_members, drop_listed, reader_filter, f
 use Rattle.djq_united.specs.United.{United, IsUnited, CursorsFit, members_in, first_of_members, union_position}
 use Rattle.djq_united.specs.Slots.{slot_at}
 use Rattle.djq_store.specs.declared.joined.Joined.{Joined}
-use Rattle.djq_store.specs.Below.{IsEngine}
+use Rattle.djq_engine.specs.Laws.{IsEngine}
 use Rattle.djq_store.specs.Places.{joined_at, listed_in, listed_at, registered_as, union_cursor_of, told_of_union}
 use Rattle.djq_store.specs.Places.{store_seen}
 use Rattle.djq_store.specs.Whole.{IsListed, IsCounted, IsShownByFirst, wants, query_places}

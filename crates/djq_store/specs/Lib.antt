@@ -1,4 +1,3 @@
-pub mod Below
 pub mod Places
 pub mod Whole
 pub mod Finding

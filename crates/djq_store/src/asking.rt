@@ -9,13 +9,11 @@ ghost use Rattle.djq_united.specs.United.{AreMembers};
 ghost use Rattle.djq_store.specs.Asking.{TellsMembership, asked_in};
 ghost use Rattle.djq_store.specs.Explaining.{ExplainGives, HasMember};
 
-use crate::below::engine_laws;
 use crate::explained::Explained;
 use crate::finding::{find_union, joined_in};
 use crate::store::Store;
 use djq_engine::{Engine, QueryId};
 use djq_lines::{Refusal, Shape};
-use djq_live::head_types_are;
 use djq_model::{Name, Value};
 use djq_steps::{Ledgers, Listing, Tally};
 
@@ -32,7 +30,7 @@ fn has_at<L: Ledgers>(
     ensures counted { IsSomeAnd (query_at engine.now.places at)
         (λ l. listing.new ≤ listing.old + length l.query.atoms) }
 {
-    engine_laws(engine);
+    engine.laws();
     let name = engine.query_name(QueryId { at });
     engine.has(&name, tuple, listing)
 }
@@ -49,8 +47,7 @@ fn some_has<L: Ledgers>(
         (a_union name (asked_in engine.now.places members.now)) tuple.now result }
     ensures counted { listing.new ≤ listing.old + atoms_of (asked_in engine.now.places members.now) }
 {
-    engine_laws(engine);
-    head_types_are();
+    engine.laws();
     for nth in 0..members.len() {
         match has_at(engine, members[nth], tuple, listing) {
             Ok(true) => return Ok(true),
@@ -79,7 +76,7 @@ impl Store {
         ensures counted { listing.new ≤ listing.old
             + has_steps (listed_of self.now.store.queries name.now) }
     {
-        engine_laws(&self.parts.engine);
+        self.parts.engine.laws();
         let Some(slot) = find_union(self.parts.unions.as_slice(), name) else {
             return self.parts.engine.has(name, tuple, listing);
         };
@@ -95,7 +92,7 @@ impl Store {
     pub fn explain(&self, name: &Name) -> Result<Explained, Refusal>
         ensures { ExplainGives self.now.store name.now result }
     {
-        engine_laws(&self.parts.engine);
+        self.parts.engine.laws();
         if let Some(slot) = find_union(self.parts.unions.as_slice(), name) {
             let joined = joined_in(self.parts.unions.as_slice(), slot);
             return Ok(Explained::Members(joined.union.members().len()));
@@ -112,7 +109,7 @@ impl Store {
         ensures { IsSomeAnd (listed_of self.now.store.queries union.now)
             (λ q. slice_get (map (λ m. m.name) (members_of q)) nth ≡ Some result) }
     {
-        engine_laws(&self.parts.engine);
+        self.parts.engine.laws();
         let Some(slot) = find_union(self.parts.unions.as_slice(), union) else {
             unreachable!()
         };
@@ -131,7 +128,7 @@ impl Store {
     pub fn shape(&self, name: &Name) -> Result<Shape, Refusal>
         ensures { TellsShape self.now.store name.now result }
     {
-        engine_laws(&self.parts.engine);
+        self.parts.engine.laws();
         if let Some(_slot) = find_union(self.parts.unions.as_slice(), name) {
             return Ok(Shape::Union);
         }

@@ -10,12 +10,10 @@ ghost use Rattle.djq_engine.specs.Watching.{add_times, batch_times, delete_times
 ghost use Rattle.djq_store.specs.Watching.{TellsChange};
 
 use crate::batches::count_rows;
-use crate::below::engine_laws;
 use crate::following::{add_turn, batch_turn, delete_turn, follow_batch, follow_one, has_union};
 use crate::store::Store;
 use djq_lines::{AddOutcome, DeleteOutcome, HeldRow, Refusal};
 use djq_model::{Name, Types, Value};
-use djq_rows::texts_stay;
 use djq_steps::{Ledgers, Steps};
 
 impl Store {
@@ -33,9 +31,9 @@ impl Store {
         ensures registered { self.new.registered ≡ self.old.registered }
         ensures tellings { SameTellings self.old self.new }
     {
-        engine_laws(&self.parts.engine);
+        self.parts.engine.laws();
         let made = self.parts.engine.rel(name, types);
-        engine_laws(&self.parts.engine);
+        self.parts.engine.laws();
         made
     }
 
@@ -74,10 +72,9 @@ impl Store {
             (row_in self.old.store.relations name.now row.now)
             steps.old.update steps.new.update }
     {
-        texts_stay();
-        engine_laws(&self.parts.engine);
+        self.parts.engine.laws();
         let outcome = self.parts.engine.add(name, row, steps);
-        engine_laws(&self.parts.engine);
+        self.parts.engine.laws();
         let turn = add_turn(&outcome);
         follow_one(&mut self.parts, name, turn, &mut steps.listing);
         outcome
@@ -111,10 +108,9 @@ impl Store {
             (row_out self.old.store.relations name.now row.now)
             steps.old.update steps.new.update }
     {
-        texts_stay();
-        engine_laws(&self.parts.engine);
+        self.parts.engine.laws();
         let outcome = self.parts.engine.del(name, row, steps);
-        engine_laws(&self.parts.engine);
+        self.parts.engine.laws();
         let turn = delete_turn(&outcome);
         follow_one(&mut self.parts, name, turn, &mut steps.listing);
         outcome
@@ -151,12 +147,11 @@ impl Store {
         ensures updates { CountsBatch (batch_times held.now result) self.old held.now
             steps.old.update steps.new.update }
     {
-        texts_stay();
-        engine_laws(&self.parts.engine);
+        self.parts.engine.laws();
         let joined = has_union(&self.parts);
         let counts = count_rows(&self.parts.engine, held, joined);
         let outcome = self.parts.engine.done(held, steps);
-        engine_laws(&self.parts.engine);
+        self.parts.engine.laws();
         let turn = batch_turn(&outcome);
         follow_batch(
             &mut self.parts,

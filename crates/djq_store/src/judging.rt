@@ -10,13 +10,12 @@ ghost use Rattle.djq_store.specs.Places.{store_kept_in};
 ghost use Rattle.djq_store.specs.Judging.{AreQueries, ArePlacesOf};
 ghost use Rattle.djq_store.specs.Whole.{StoreIsWhole};
 
-use crate::below::engine_laws;
 use crate::finding::find_union;
 use crate::parts::Parts;
 use djq_engine::Engine;
 use djq_lines::Refusal;
 use djq_lines::limits::{MEMBERS, QUERIES};
-use djq_live::{LiveQuery, head_types_are};
+use djq_live::LiveQuery;
 use djq_model::{Name, NoMem, Sequence};
 use std::alloc::Global;
 
@@ -25,7 +24,7 @@ fn is_unknown(parts: &Parts, name: &Name) -> bool
     requires { StoreIsWhole parts.now }
     ensures { result ≡ is_none (listed_of (store_kept_in parts.now).store.queries name.now) }
 {
-    engine_laws(&parts.engine);
+    parts.engine.laws();
     find_union(parts.unions.as_slice(), name).is_none() && parts.engine.query_id(name).is_none()
 }
 
@@ -34,7 +33,7 @@ fn is_union(parts: &Parts, name: &Name) -> bool
     requires { StoreIsWhole parts.now }
     ensures { result ≡ is_union (listed_of (store_kept_in parts.now).store.queries name.now) }
 {
-    engine_laws(&parts.engine);
+    parts.engine.laws();
     find_union(parts.unions.as_slice(), name).is_some()
 }
 
@@ -80,8 +79,7 @@ fn query_of<'a>(parts: &'a Parts, name: &Name) -> &'a LiveQuery
     requires query { is_union (listed_of (store_kept_in parts.now).store.queries name.now) ≡ false }
     ensures { head_types result.now ≡ types_under (store_kept_in parts.now).store name.now }
 {
-    engine_laws(&parts.engine);
-    head_types_are();
+    parts.engine.laws();
     match parts.engine.query_id(name) {
         Some(id) => parts.engine.live(id),
         None => unreachable!(),

@@ -29,7 +29,6 @@ pub use store::Store;
 mod affecting;
 mod asking;
 mod batches;
-mod below;
 mod change;
 mod explained;
 mod filling;

@@ -9,7 +9,6 @@ ghost use Rattle.djq_store.specs.Moving.{IsUnionReadable, IsUnionFresh};
 ghost use Rattle.djq_engine.specs.Kept.{CursorOpenGives, MoreGives, ClosesCursor, IsHeld, IsFresh, IsShown, AnswerIs};
 ghost use Rattle.djq_store.specs.Reading.{NextGives};
 
-use crate::below::engine_laws;
 use crate::finding::{find_union, joined_in};
 use crate::joined::Joined;
 use crate::store::Store;
@@ -92,10 +91,10 @@ impl Store {
     pub fn open(&mut self, name: &Name) -> Result<CursorId, Refusal>
         ensures { CursorOpenGives self.old name.now result self.new }
     {
-        engine_laws(&self.parts.engine);
+        self.parts.engine.laws();
         let Some(slot) = find_union(self.parts.unions.as_slice(), name) else {
             let opened = self.parts.engine.open(name);
-            engine_laws(&self.parts.engine);
+            self.parts.engine.laws();
             return opened;
         };
         let Ok(cursor) = open_at(&mut self.parts.unions, slot) else {
@@ -118,10 +117,10 @@ impl Store {
         requires { IsHeld self.old id }
         ensures { NextGives self.old id result answer.new self.new listing.old listing.new }
     {
-        engine_laws(&self.parts.engine);
+        self.parts.engine.laws();
         if id.query.at < QUERIES {
             let next = self.parts.engine.next(id, answer, listing);
-            engine_laws(&self.parts.engine);
+            self.parts.engine.laws();
             return next;
         }
         let slot = id.query.at - QUERIES;
@@ -142,10 +141,10 @@ impl Store {
         requires { IsFresh self.old id }
         ensures { MoreGives self.old id result self.new listing.old listing.new }
     {
-        engine_laws(&self.parts.engine);
+        self.parts.engine.laws();
         if id.query.at < QUERIES {
             let more = self.parts.engine.more(id, listing);
-            engine_laws(&self.parts.engine);
+            self.parts.engine.laws();
             return more;
         }
         let slot = id.query.at - QUERIES;
@@ -158,10 +157,10 @@ impl Store {
         requires { IsHeld self.old id }
         ensures { ClosesCursor self.old id self.new }
     {
-        engine_laws(&self.parts.engine);
+        self.parts.engine.laws();
         if id.query.at < QUERIES {
             self.parts.engine.close(id);
-            engine_laws(&self.parts.engine);
+            self.parts.engine.laws();
             return;
         }
         close_at(&mut self.parts.unions, id.query.at - QUERIES, id.cursor);
@@ -172,7 +171,7 @@ impl Store {
         requires { IsShown self.now id answer.now }
         ensures { AnswerIs self.now id answer.now result }
     {
-        engine_laws(&self.parts.engine);
+        self.parts.engine.laws();
         if id.query.at < QUERIES {
             return self.parts.engine.answer(id, answer);
         }

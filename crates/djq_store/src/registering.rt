@@ -12,7 +12,6 @@ ghost use Rattle.djq_engine.specs.Kept.{SameCursors, DropGives};
 ghost use Rattle.djq_engine.specs.Watching.{Enrols, EnrolsTelling};
 ghost use Rattle.djq_store.specs.Registering.{is_registered, EnrolsUnion, EnrolsUnionTelling};
 
-use crate::below::engine_laws;
 use crate::filling::fill_slot;
 use crate::finding::{find_union, joined_in};
 use crate::joined::Joined;
@@ -22,7 +21,7 @@ use crate::store::Store;
 use djq_cursor::DeltaLog;
 use djq_lines::limits::QUERIES;
 use djq_lines::{QueryOutcome, Refusal};
-use djq_live::{LiveQuery, head_types_are};
+use djq_live::LiveQuery;
 use djq_model::{Name, Query};
 use djq_steps::{Ledgers, Steps};
 use djq_united::LiveUnion;
@@ -97,7 +96,7 @@ impl Store {
         ensures tellings { EnrolsTelling self.old query result self.new }
         ensures counted { steps.new.listing ≡ steps.old.listing }
     {
-        engine_laws(&self.parts.engine);
+        self.parts.engine.laws();
         let name = query.name;
         if find_union(self.parts.unions.as_slice(), &name).is_some() {
             return Err(Refusal::Taken);
@@ -107,7 +106,7 @@ impl Store {
             return Err(fault.unwrap_or(Refusal::Limit));
         }
         let outcome = self.parts.engine.query(query, steps);
-        engine_laws(&self.parts.engine);
+        self.parts.engine.laws();
         if is_registered(&outcome) {
             let Some(id) = self.parts.engine.query_id(&name) else {
                 unreachable!()
@@ -134,8 +133,7 @@ impl Store {
         ensures enrols { EnrolsUnion self.old name members.now result self.new }
         ensures tellings { EnrolsUnionTelling self.old name result self.new }
     {
-        engine_laws(&self.parts.engine);
-        head_types_are();
+        self.parts.engine.laws();
         if let Some(refusal) = judge_union(&self.parts, &name, members) {
             return Err(refusal);
         }
@@ -167,7 +165,7 @@ impl Store {
     pub fn drop_query(&mut self, name: &Name) -> Result<(), Refusal>
         ensures { DropGives self.old name.now result self.new }
     {
-        engine_laws(&self.parts.engine);
+        self.parts.engine.laws();
         if let Some(slot) = find_union(self.parts.unions.as_slice(), name) {
             let joined = joined_in(self.parts.unions.as_slice(), slot);
             if joined.watchers > 0 {
@@ -188,7 +186,7 @@ impl Store {
             return Err(Refusal::InUse);
         }
         let dropped = self.parts.engine.drop_query(name);
-        engine_laws(&self.parts.engine);
+        self.parts.engine.laws();
         if dropped.is_ok() {
             leave_out(&mut self.parts.order, id.at);
             leave_out(&mut self.parts.affected, id.at);

@@ -5,7 +5,6 @@ ghost use Rattle.djq_machine.specs.State.{opening};
 ghost use Rattle.djq_engine.specs.Kept.{registered_of, registered_at, same_query, IsRegistered};
 ghost use Rattle.djq_store.specs.Lending.{LendsEngine};
 
-use crate::below::engine_laws;
 use crate::finding::{find_union, joined_in};
 use crate::parts::Parts;
 use djq_engine::{Engine, QueryId};
@@ -76,7 +75,7 @@ impl Store {
     pub fn engine(&self) -> &Engine
         ensures { LendsEngine self.now result.now }
     {
-        engine_laws(&self.parts.engine);
+        self.parts.engine.laws();
         &self.parts.engine
     }
 
@@ -84,7 +83,7 @@ impl Store {
     pub fn query_id(&self, name: &Name) -> Option<QueryId>
         ensures { result ≡ option_map (λ r. r.id) (registered_of self.now.registered name.now) }
     {
-        engine_laws(&self.parts.engine);
+        self.parts.engine.laws();
         if let Some(slot) = find_union(self.parts.unions.as_slice(), name) {
             return Some(QueryId { at: QUERIES + slot });
         }
@@ -96,7 +95,7 @@ impl Store {
         requires { IsRegistered self.now id }
         ensures { IsSomeAnd (registered_at self.now.registered id) (λ r. result ≡ listed_name r.query) }
     {
-        engine_laws(&self.parts.engine);
+        self.parts.engine.laws();
         if id.at < QUERIES {
             return self.parts.engine.query_name(id);
         }
@@ -112,6 +111,6 @@ impl Store {
         ensures named { AllPairs (λ r s. bytes_eq (listed_name r.query) (listed_name s.query) ≡ false)
             self.now.registered }
     {
-        engine_laws(&self.parts.engine);
+        self.parts.engine.laws();
     }
 }

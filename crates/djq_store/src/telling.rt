@@ -2,7 +2,6 @@
 ghost use Rattle.std.specs.Prelude.{◌≡◌, ◌<◌, None, Some, IsSomeAnd, if◌then◌else◌, option_map, length, slice_get};
 ghost use Rattle.djq_engine.specs.Kept.{IsRegistered, told_at};
 
-use crate::below::engine_laws;
 use crate::finding::joined_in;
 use crate::joined::Joined;
 use crate::store::Store;
@@ -54,7 +53,7 @@ impl Store {
         requires { IsRegistered self.now id }
         ensures { result ≡ option_map (λ changes. length changes) (told_at self.now id) }
     {
-        engine_laws(&self.parts.engine);
+        self.parts.engine.laws();
         if id.at < QUERIES {
             return self.parts.engine.delta_len(id);
         }
@@ -68,7 +67,7 @@ impl Store {
         ensures { IsSomeAnd (told_at self.now id) (λ changes. IsSomeAnd (slice_get changes nth)
             (λ c. (result.0 ≡ c.sign) × (result.1 ≡ c.answer))) }
     {
-        engine_laws(&self.parts.engine);
+        self.parts.engine.laws();
         if id.at < QUERIES {
             return self.parts.engine.delta_line(id, nth);
         }

@@ -8,7 +8,6 @@ ghost use Rattle.djq_store.specs.Places.{joined_at, store_kept_in};
 ghost use Rattle.djq_store.specs.Whole.{StoreIsWhole};
 ghost use Rattle.djq_engine.specs.declared.watching.TheConstants.{WATCHERS};
 
-use crate::below::engine_laws;
 use crate::finding::joined_in;
 use crate::joined::Joined;
 use crate::parts::Parts;
@@ -74,7 +73,7 @@ fn watch_union(parts: &mut Parts, slot: usize)
       registered = with_watchers (id_at (QUERIES + slot)) (λ n. n + 1) (store_kept_in parts.old).registered;
     } }
 {
-    engine_laws(&parts.engine);
+    parts.engine.laws();
     let joined = joined_in(parts.unions.as_slice(), slot);
     if joined.watchers > 0 {
         listen(&mut parts.unions, slot);
@@ -93,7 +92,7 @@ fn unwatch_union(parts: &mut Parts, slot: usize)
       registered = with_watchers (id_at (QUERIES + slot)) (λ n. n - 1) (store_kept_in parts.old).registered;
     } }
 {
-    engine_laws(&parts.engine);
+    parts.engine.laws();
     let joined = joined_in(parts.unions.as_slice(), slot);
     if joined.watchers > 1 {
         ignore(&mut parts.unions, slot);
@@ -113,7 +112,7 @@ impl Store {
           registered = with_watchers id (λ n. n + 1) self.old.registered;
         } }
     {
-        engine_laws(&self.parts.engine);
+        self.parts.engine.laws();
         if id.at < QUERIES {
             self.parts.engine.watch(id);
             self.parts.sessions[id.at] += 1;
@@ -129,7 +128,7 @@ impl Store {
           registered = with_watchers id (λ n. n - 1) self.old.registered;
         } }
     {
-        engine_laws(&self.parts.engine);
+        self.parts.engine.laws();
         if id.at < QUERIES {
             self.parts.engine.unwatch(id);
             self.parts.sessions[id.at] -= 1;
@@ -143,7 +142,7 @@ impl Store {
         requires { IsRegistered self.now id }
         ensures { IsSomeAnd (registered_at self.now.registered id) (λ r. result ≡ r.watchers) }
     {
-        engine_laws(&self.parts.engine);
+        self.parts.engine.laws();
         if id.at < QUERIES {
             return self.parts.sessions[id.at];
         }

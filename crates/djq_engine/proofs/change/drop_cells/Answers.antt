@@ -16,6 +16,10 @@ use Rattle.djq_reach.proofs.Tending.{tells_show, tends_quiet}
 use Rattle.djq_engine.proofs.Tending.{counts_rows, shown_tended, tells_rows}
 use Rattle.djq_engine.proofs.Storing.{has_copies, places_read, gone_once, can_go, drop_carries}
 use Rattle.djq_live.proofs.Moving.{same_catalog}
+use Rattle.djq_leaves.proofs.Placing.{copies_keep_rows}
+use Rattle.djq_leaves.proofs.Placing.{deleted_went}
+use Rattle.djq_live.proofs.Untouched.{stays_lives as live_stays}
+use Rattle.djq_live.proofs.Untouched.{went_lives as went_passes}
 use Rattle.djq_engine.proofs.change.drop_cells.Goals as goal
 
 pub returns-in-Left-clause-deletes : goal.returns-in-Left-clause-deletes
@@ -26,7 +30,7 @@ returns-in-Left-clause-deletes g c row stand =
       gone.0,
       gone.1,
       gone.2,
-      has_copies c.copies_keep_rows.ensures c.live_stays.ensures old _ c.args.id.at row c.in-Left.copies
+      has_copies copies_keep_rows live_stays old _ c.args.id.at row c.in-Left.copies
           c.requires.whole c.laws-in-Left.ensures c.requires.there c.delete_row.ensures.texts gone.3 refl refl,
     )
 
@@ -58,7 +62,7 @@ delete_from_readers-requires-clause-once g c =
     let was : IsOld old.catalog c.args.id.at c.args.cells.now row =
     record { stand = c.requires.row.1; there = gone.0 } in
     gone_once old.catalog d c.args.id.at c.requires.there c.args.cells.now row was c.laws-2.ensures
-    c.delete_row.ensures.texts gone.2 c.deleted_went.ensures old.queries.items old.order old.readers.items
+    c.delete_row.ensures.texts gone.2 deleted_went old.queries.items old.order old.readers.items
     c.requires.whole c.as_slice-places.result.now
     (places_read old.readers.items c.args.id.at c.index.result.now c.as_slice-places.result.now
     (omega (arith, c.requires.there, c.requires.whole.long)) c.index.ensures c.as_slice-places.ensures)
@@ -74,7 +78,7 @@ delete_from_readers-requires-clause-can g c =
     let was : IsOld old.catalog c.args.id.at c.args.cells.now row =
     record { stand = c.requires.row.1; there = gone.0 } in
     can_go old.catalog d c.args.id.at c.requires.there c.args.cells.now row was c.laws-2.ensures
-    c.delete_row.ensures.texts gone.2 c.deleted_went.ensures old.queries.items old.order old.readers.items
+    c.delete_row.ensures.texts gone.2 deleted_went old.queries.items old.order old.readers.items
     c.requires.whole c.as_slice-places.result.now
     (places_read old.readers.items c.args.id.at c.index.result.now c.as_slice-places.result.now
     (omega (arith, c.requires.there, c.requires.whole.long)) c.index.ensures c.as_slice-places.ensures)
@@ -97,7 +101,7 @@ returns g c =
     subst (λ (o : DeleteOutcome). DeletesRowAt old.catalog.relations at row o d.relations) c.in-Last.is
     (c.delete_row.ensures.deletes row stand) in
     let goes = λ (row : Tuple) (stand : StandForRow old.catalog at cells row).
-    c.deleted_went.ensures old.catalog d at cells row c.laws-2.ensures low stand texts (gone row stand).2 in
+    deleted_went old.catalog d at cells row c.laws-2.ensures low stand texts (gone row stand).2 in
     let kept = subst (λ (ps : List ℕ). AllAt ps old.queries.items (λ l. IsKept old.catalog l)) (sym places)
     (readers_kept old.catalog old.queries.items old.order old.readers.items whole at low) in
     let tends = subst (λ (ws : List ℕ). Tends xs (LogTellsAt ws did) old.queries.items old.logs.items logs)
@@ -112,8 +116,8 @@ returns g c =
             relations = (gone row stand).2;
             carries = drop_carries old.catalog d at low cells row
                 (record { stand = stand; there = (gone row stand).0 }) c.laws-2.ensures texts (gone row stand).2
-                c.deleted_went.ensures old.queries.items old.order old.readers.items whole xs places
-                c.went_passes.ensures c.delete_from_readers.new.queries.items c.delete_from_readers.ensures.reach;
+                deleted_went old.queries.items old.order old.readers.items whole xs places
+                went_passes c.delete_from_readers.new.queries.items c.delete_from_readers.ensures.reach;
           };
         },
       );

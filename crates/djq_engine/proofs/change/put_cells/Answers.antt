@@ -17,6 +17,11 @@ use Rattle.djq_engine.proofs.Tending.{counts_rows, shown_tended, tells_rows}
 use Rattle.djq_engine.proofs.Storing.{came, came_new, can_come, catalog_back, has_copies, places_once, places_read}
 use Rattle.djq_engine.proofs.Storing.{put_carries, stand_now, unput_carries, wait_carries}
 use Rattle.djq_live.proofs.Moving.{same_catalog}
+use Rattle.djq_leaves.proofs.Placing.{added_came}
+use Rattle.djq_leaves.proofs.Placing.{copies_keep_rows}
+use Rattle.djq_leaves.proofs.Placing.{deleted_went}
+use Rattle.djq_live.proofs.Untouched.{stays_lives as live_stays}
+use Rattle.djq_live.proofs.Untouched.{came_lives as other_queries_stay}
 use Rattle.djq_engine.proofs.change.put_cells.Goals as goal
 
 pub unreachable-requires : goal.unreachable-requires
@@ -34,7 +39,7 @@ returns-in-Ok-More-clause-adds g c row stand =
       there = adds.0;
       more = adds.1;
       few = adds.2;
-      has = has_copies c.copies_keep_rows.ensures c.live_stays.ensures old _ c.args.id.at row c.in-Ok-More.copies
+      has = has_copies copies_keep_rows live_stays old _ c.args.id.at row c.in-Ok-More.copies
           c.requires.whole c.laws-in-Ok-More.ensures c.requires.there c.add_row.ensures.texts adds.3 refl refl;
     }
 
@@ -113,7 +118,7 @@ insert_into_readers-requires-clause-can g c =
     old.queries.items old.order old.readers.items c.requires.whole c.as_slice-places.result.now
     (places_read old.readers.items c.args.id.at c.index.result.now c.as_slice-places.result.now
     (omega (arith, c.requires.there, c.requires.whole.long)) c.index.ensures c.as_slice-places.ensures)
-    c.added_came.ensures c.deleted_went.ensures
+    added_came deleted_went
 
 pub returns-in-Ok : goal.returns-in-Ok
 returns-in-Ok g c =
@@ -136,7 +141,7 @@ returns-in-Ok g c =
     came_new old.catalog at cells row d.relations stand (adds row stand) in
     let comes = λ (row : Tuple) (stand : StandForRow old.catalog at cells row).
     came old.catalog d at low cells row (new row stand) c.laws.ensures c.laws-2.ensures texts (adds row stand).2
-    c.added_came.ensures in
+    added_came in
     let kept = subst (λ (ps : List ℕ). AllAt ps old.queries.items (λ l. IsKept old.catalog l)) (sym places)
     (readers_kept old.catalog old.queries.items old.order old.readers.items whole at low) in
     let shown = shown_tended did old.catalog d old.queries.items xs old.logs.items logs c.requires.row.0 kept
@@ -154,8 +159,8 @@ returns-in-Ok g c =
           has = record {
             relations = (adds row stand).2;
             carries = put_carries old.catalog d at low cells row (new row stand) c.laws.ensures c.laws-2.ensures texts
-                (adds row stand).2 old.queries.items old.order old.readers.items whole xs places c.added_came.ensures
-                c.other_queries_stay.ensures c.insert_into_readers.new.queries.items c.in-Ok.ensures.taken;
+                (adds row stand).2 old.queries.items old.order old.readers.items whole xs places added_came
+                other_queries_stay c.insert_into_readers.new.queries.items c.in-Ok.ensures.taken;
           };
         },
       );
@@ -210,7 +215,7 @@ returns-in-Err g c =
     came_new old.catalog at cells row d.relations stand (adds row stand) in
     let comes = λ (row : Tuple) (stand : StandForRow old.catalog at cells row).
     came old.catalog d at low cells row (new row stand) c.laws.ensures c.laws-2.ensures texts (adds row stand).2
-    c.added_came.ensures in
+    added_came in
     let kept = subst (λ (ps : List ℕ). AllAt ps old.queries.items (λ l. IsKept old.catalog l)) (sym places)
     (readers_kept old.catalog old.queries.items old.order old.readers.items whole at low) in
     let shown = shown_tended did old.catalog d old.queries.items xs old.logs.items logs c.requires.row.0 kept
@@ -229,8 +234,8 @@ returns-in-Err g c =
         record {
           catalog = back row stand;
           carries = wait_carries old.catalog d at low cells row (new row stand) c.laws.ensures c.laws-2.ensures texts
-              (adds row stand).2 old.queries.items old.order old.readers.items whole xs places c.added_came.ensures
-              c.deleted_went.ensures c.insert_into_readers.new.queries.items c.in-Err.ensures.given
+              (adds row stand).2 old.queries.items old.order old.readers.items whole xs places added_came
+              deleted_went c.insert_into_readers.new.queries.items c.in-Err.ensures.given
               c.delete_row.new.self
               (back row stand);
         },

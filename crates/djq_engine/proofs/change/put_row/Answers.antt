@@ -24,6 +24,9 @@ use Rattle.djq_engine.proofs.Storing.{
   learned_rows,
   same_stand,
 }
+use Rattle.djq_live.proofs.Untouched.{stays_lives as live_stays}
+use Rattle.djq_live.proofs.Showable.{stays_showable as showable_stays}
+use Rattle.djq_rows.proofs.Lawful.{texts as texts_stay}
 use Rattle.djq_engine.proofs.change.put_row.Goals as goal
 
 pub intern_cells-requires : goal.intern_cells-requires
@@ -39,9 +42,9 @@ returns-in-Err-clause-adds g c =
     rw c.for_text.ensures
     (lacks_of c.args.id.at c.args.row.now old _ c.in-Err.refusal
     c.in-Err.ensures.interns c.intern_cells.ensures.relations refl refl c.laws-in-Err.ensures.many
-    (all_stay c.live_stays.ensures old.catalog c.intern_cells.new.self old.queries.items old.order old.readers.items
+    (all_stay live_stays old.catalog c.intern_cells.new.self old.queries.items old.order old.readers.items
     c.requires.whole
-    (learned_rows c.texts_stay.ensures old.catalog c.intern_cells.new.self
+    (learned_rows texts_stay old.catalog c.intern_cells.new.self
     (interned old.catalog.texts c.args.row.now (given_cells c.intern_cells.result c.intern_cells.new.cells)
     c.intern_cells.new.self.texts c.intern_cells.ensures.interns).0
     c.laws-in-Err.ensures c.intern_cells.ensures.relations
@@ -52,13 +55,13 @@ returns-in-Err-clause-adds g c =
 pub returns-in-Err-clause-shown : goal.returns-in-Err-clause-shown
 returns-in-Err-clause-shown g c =
     let old = c.args.parts.now in
-    (shown_more c.showable_stays.ensures old.catalog.texts
-    (c.texts_stay.ensures old.catalog.texts
+    (shown_more showable_stays old.catalog.texts
+    (texts_stay old.catalog.texts
     (interned old.catalog.texts c.args.row.now (given_cells c.intern_cells.result c.intern_cells.new.cells)
     c.intern_cells.new.self.texts c.intern_cells.ensures.interns).0).0 c.intern_cells.new.self.texts
     ((interned old.catalog.texts c.args.row.now (given_cells c.intern_cells.result c.intern_cells.new.cells)
     c.intern_cells.new.self.texts c.intern_cells.ensures.interns).1
-    ∙ (c.texts_stay.ensures old.catalog.texts
+    ∙ (texts_stay old.catalog.texts
     (interned old.catalog.texts c.args.row.now (given_cells c.intern_cells.result c.intern_cells.new.cells)
     c.intern_cells.new.self.texts c.intern_cells.ensures.interns).0).1) old.queries.items old.logs.items
     c.requires.tended.shown)
@@ -83,9 +86,9 @@ put_cells-requires-clause-whole g c =
     let old = c.args.parts.now in
     sound_texts old.catalog c.intern_cells.new.self old.queries.items old.order old.readers.items
     c.intern_cells.ensures.relations
-    (all_stay c.live_stays.ensures old.catalog c.intern_cells.new.self old.queries.items old.order old.readers.items
+    (all_stay live_stays old.catalog c.intern_cells.new.self old.queries.items old.order old.readers.items
     c.requires.whole
-    (learned_rows c.texts_stay.ensures old.catalog c.intern_cells.new.self
+    (learned_rows texts_stay old.catalog c.intern_cells.new.self
     (interned old.catalog.texts c.args.row.now (given_cells c.intern_cells.result c.intern_cells.new.cells)
     c.intern_cells.new.self.texts c.intern_cells.ensures.interns).0
     c.laws-2.ensures c.intern_cells.ensures.relations
@@ -99,13 +102,13 @@ put_cells-requires-clause-tended g c =
       watched = c.requires.tended.watched;
       logged = c.requires.tended.logged;
       room = c.requires.tended.room;
-      shown = (shown_more c.showable_stays.ensures old.catalog.texts
-          (c.texts_stay.ensures old.catalog.texts
+      shown = (shown_more showable_stays old.catalog.texts
+          (texts_stay old.catalog.texts
           (interned old.catalog.texts c.args.row.now (given_cells c.intern_cells.result c.intern_cells.new.cells)
           c.intern_cells.new.self.texts c.intern_cells.ensures.interns).0).0 c.intern_cells.new.self.texts
           ((interned old.catalog.texts c.args.row.now (given_cells c.intern_cells.result c.intern_cells.new.cells)
           c.intern_cells.new.self.texts c.intern_cells.ensures.interns).1
-          ∙ (c.texts_stay.ensures old.catalog.texts
+          ∙ (texts_stay old.catalog.texts
           (interned old.catalog.texts c.args.row.now (given_cells c.intern_cells.result c.intern_cells.new.cells)
           c.intern_cells.new.self.texts c.intern_cells.ensures.interns).0).1) old.queries.items old.logs.items
           c.requires.tended.shown);
@@ -126,9 +129,9 @@ returns-clause-adds g c =
     adds_to old c.put_cells.new.parts c.intern_cells.new.self c.args.id.at c.args.row.now c.laws.ensures
     c.requires.there
     c.intern_cells.ensures.relations c.in-Ok.ensures.interns.0 c.laws-2.ensures.many
-    (all_stay c.live_stays.ensures old.catalog c.intern_cells.new.self old.queries.items old.order old.readers.items
+    (all_stay live_stays old.catalog c.intern_cells.new.self old.queries.items old.order old.readers.items
     c.requires.whole
-    (learned_rows c.texts_stay.ensures old.catalog c.intern_cells.new.self
+    (learned_rows texts_stay old.catalog c.intern_cells.new.self
     (interned old.catalog.texts c.args.row.now (given_cells c.intern_cells.result c.intern_cells.new.cells)
     c.intern_cells.new.self.texts c.intern_cells.ensures.interns).0
     c.laws-2.ensures c.intern_cells.ensures.relations

@@ -23,6 +23,9 @@ use Rattle.djq_engine.proofs.Put.{
   suit_next,
   went_front,
 }
+use Rattle.djq_rows.proofs.Lawful.{stay as cells_stay}
+use Rattle.djq_rows.proofs.Lawful.{names as rows_by_name_or_place}
+use Rattle.djq_rows.proofs.Lawful.{texts as texts_stay}
 use Rattle.djq_engine.proofs.putting.put_all.Goals as goal
 
 -- the store of the catalog as it was
@@ -67,7 +70,7 @@ loop-at-preserved g c =
           subst (λ (xs : List HeldRow). PutsAll st xs c.put_one.new.catalog (c.loop-at.count + c.in-Ok.came)
           c.put_one.new.groups.items)
           (sym (next_row c.args.held.now c.loop-at.at x low c.index-held-at.is))
-          (put_more c.rows_by_name_or_place.ensures c.texts_stay.ensures c.cells_stay.ensures st
+          (put_more rows_by_name_or_place texts_stay cells_stay st
           (take c.loop-at.at c.args.held.now) c.loop-at.catalog c.loop-at.count c.loop-at.groups.items
           (c.loop-at.invariant.puts st s) x c.args.seq s.seq c.laws-in-loop-at.ensures c.in-Ok.came
           c.put_one.new.catalog c.put_one.new.groups.items one);
@@ -88,7 +91,7 @@ loop-at-preserved g c =
           c.reach-first.result reached
           c.in-Ok.came one (c.loop-at.invariant.first st s);
       learned =
-          let more = one_learned c.texts_stay.ensures c.loop-at.catalog c.loop-at.groups.items x c.args.seq c.in-Ok.came
+          let more = one_learned texts_stay c.loop-at.catalog c.loop-at.groups.items x c.args.seq c.in-Ok.came
           c.put_one.new.catalog c.put_one.new.groups.items one in
           let was = c.loop-at.invariant.learned in (
             was.0 ++ more.0,
@@ -135,7 +138,7 @@ returns-in-Err-clause-refused g c st s =
 
 pub returns-in-Err-clause-learned : goal.returns-in-Err-clause-learned
 returns-in-Err-clause-learned g c =
-    let more = stops_learned c.texts_stay.ensures (bare_of c.loop-at.catalog c.args.seq) c.index-held-at.result
+    let more = stops_learned texts_stay (bare_of c.loop-at.catalog c.args.seq) c.index-held-at.result
     c.put_one.new.catalog.texts c.in-Err.refusal c.in-Err.ensures.err in
     let was = c.loop-at.invariant.learned in (
       was.0 ++ more.0,

@@ -9,6 +9,8 @@ use Rattle.djq_rows.specs.Catalog.{Catalog}
 use Rattle.djq_rows.specs.declared.relation_id.RelationId.{RelationId}
 use Rattle.djq_engine.specs.Putting.{bare_of, placed, Placed, PutsNew, PutsHeldRow}
 use Rattle.djq_engine.proofs.Put.{one_in, one_stops}
+use Rattle.djq_rows.proofs.Lawful.{names as rows_by_name_or_place}
+use Rattle.djq_rows.proofs.Lawful.{texts as texts_stay}
 use Rattle.djq_engine.proofs.putting.put_one.Goals as goal
 
 -- the row came
@@ -24,7 +26,7 @@ take_row_back-requires g c =
     let p = came old c.args.held.now c.args.seq c.in-Ok-Some.field-0 c.put_row.new.cells c.put_row.new.catalog
     c.in-Ok-Some.relation c.in-Ok-Some.ensures.ok c.in-Ok-Some.field-0-is in (
       bare_of old c.args.seq,
-      one_in c.rows_by_name_or_place.ensures c.texts_stay.ensures old c.args.seq c.args.held.now c.laws.ensures
+      one_in rows_by_name_or_place texts_stay old c.args.seq c.args.held.now c.laws.ensures
           c.requires
           c.put_row.new.catalog q p,
     )
@@ -37,7 +39,7 @@ returns-in-Err-join_group-clause-err g c =
     c.in-Ok-Some.relation c.in-Ok-Some.ensures.ok c.in-Ok-Some.field-0-is in
     subst (λ (ts : List Bytes). BatchStopsAt (bare_of old c.args.seq) c.args.held.now ts NoMemory)
     (sym c.take_row_back.ensures.texts)
-    (one_stops c.rows_by_name_or_place.ensures c.texts_stay.ensures old c.args.seq c.args.held.now c.laws.ensures
+    (one_stops rows_by_name_or_place texts_stay old c.args.seq c.args.held.now c.laws.ensures
     c.put_row.new.catalog q p)
 
 pub returns-in-Err-join_group-clause-stays : goal.returns-in-Err-join_group-clause-stays
@@ -47,6 +49,6 @@ returns-in-Err-join_group-clause-stays g c =
     let p = came old c.args.held.now c.args.seq c.in-Ok-Some.field-0 c.put_row.new.cells c.put_row.new.catalog
     c.in-Ok-Some.relation c.in-Ok-Some.ensures.ok c.in-Ok-Some.field-0-is in
     c.take_row_back.ensures.back (bare_of old c.args.seq)
-    (one_in c.rows_by_name_or_place.ensures c.texts_stay.ensures old c.args.seq c.args.held.now c.laws.ensures
+    (one_in rows_by_name_or_place texts_stay old c.args.seq c.args.held.now c.laws.ensures
     c.requires
     c.put_row.new.catalog q p)

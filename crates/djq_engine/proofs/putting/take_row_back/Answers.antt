@@ -12,6 +12,7 @@ use Rattle.djq_engine.proofs.GivenUp.{suits_found}
 use Rattle.djq_engine.proofs.Judged.{suited_none}
 use Rattle.djq_live.proofs.Rowing.{fits_long}
 use Rattle.djq_engine.proofs.TakenBack.{held_back, last_suits, row_there, suits_last}
+use Rattle.djq_rows.proofs.Lawful.{names as rows_by_name_or_place}
 use Rattle.djq_engine.proofs.putting.take_row_back.Goals as goal
 
 pub unreachable-requires : goal.unreachable-requires
@@ -75,7 +76,7 @@ returns-clause-back g c st w =
           ∙ ap (cells_of c.args.catalog.now.texts) c.as_slice.ensures;
     } in
     held_back st h at now c.delete_row-outcome.new.self.relations c.delete_row-outcome.result
-    c.rows_by_name_or_place.ensures
+    rows_by_name_or_place
     c.laws.ensures.names
     (suits_found st h w.suits) c.in-Some.ensures.0 c.in-Some.ensures.1 c.in-Some.ensures.2 w.counted w.are
     (c.delete_row-outcome.ensures.deletes h.row stand)

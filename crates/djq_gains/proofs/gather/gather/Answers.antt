@@ -9,6 +9,7 @@ use Rattle.djq_gains.specs.Gathered.{Gathered}
 use Rattle.djq_gains.proofs.Collecting.{Collects, collects_none, collects_touched, collects_other, collects_all}
 use Rattle.djq_gains.proofs.Members.{and_so, all_got, all_kept, wide_member}
 use Rattle.djq_gains.proofs.gather.gather.Goals as goal
+use Rattle.djq_live.proofs.Standing.{head_are as head_types_are}
 use Rattle.djq_gains.proofs.gather.gather.Goals.{then-is_among+in_ok-gather_from, else-is_among}
 
 pub member-requires-clause-within : goal.member-requires-clause-within
@@ -41,7 +42,7 @@ loop-nth-init c =
 pub gather_from-requires-clause-query : goal.gather_from-requires-clause-query
 gather_from-requires-clause-query c =
     wide_member c.args.engine.now c.args.members.now c.loop-nth.nth c.loop-nth.gains.width
-    c.head_types_are.ensures c.laws.ensures.over c.requires.queries c.requires.alike
+    head_types_are c.laws.ensures.over c.requires.queries c.requires.alike
     c.loop-nth.invariant.wide c.loop-nth-test.true
 
 pub loop-nth-preserved : goal.loop-nth-preserved

@@ -11,6 +11,10 @@ use Rattle.djq_gains.specs.Gathering.{asks_of, gain_lines, AtFirstQuery}
 use Rattle.djq_gains.proofs.Among.{there_among, count_within}
 use Rattle.djq_gains.proofs.Members.{all_kept, member_at, and_so}
 use Rattle.djq_gains.proofs.Delta.{tells_union, atoms_are, counts_at_most}
+use Rattle.djq_live.proofs.Standing.{are_had as answers_are_had}
+use Rattle.djq_live.proofs.InTree.{tree_stand as cells_in_tree_stand}
+use Rattle.djq_live.proofs.Standing.{cells_tell as cells_tell_values}
+use Rattle.djq_live.proofs.Standing.{head_are as head_types_are}
 use Rattle.djq_gains.proofs.telling.tell_gains.Goals as goal
 
 pub tell-requires-clause-ready : goal.tell-requires-clause-ready
@@ -39,10 +43,10 @@ returns-in-Ok-clause-tells g c kept =
       gathers = c.in-Ok.ensures.gathers;
       apart = c.laws-in-Ok.ensures.apart;
       somewhere = c.laws-in-Ok.ensures.some;
-      types = c.head_types_are.ensures;
-      shows = c.cells_in_tree_stand.ensures;
-      had = c.answers_are_had.ensures;
-      tell = c.cells_tell_values.ensures;
+      types = head_types_are;
+      shows = cells_in_tree_stand;
+      had = answers_are_had;
+      tell = cells_tell_values;
     })))
 
 pub returns-in-Ok-clause-lost : goal.returns-in-Ok-clause-lost

@@ -13,7 +13,7 @@ use Rattle.djq_store.proofs.asking.has_at.Goals as goal
 pub query_name-name-requires : goal.query_name-name-requires
 query_name-name-requires g c =
     let q = some_there (query_at c.args.engine.now.places c.args.at) _ c.requires in
-    let s = seat_here c.args.engine.now c.engine_laws.ensures.engine c.args.at q.0 q.1 in
+    let s = seat_here c.args.engine.now c.laws.ensures c.args.at q.0 q.1 in
     ap is_some s.found
 
 pub returns-clause-tells : goal.returns-clause-tells
@@ -22,7 +22,7 @@ returns-clause-tells g c =
     let q = some_there (query_at e.places c.args.at) _ c.requires in
     and_so (query_at e.places c.args.at)
     (λ l. TellsMembership (e.store).relations (a_query l.query) c.args.tuple.now c.has.result) q.0 q.1
-    (told_there e c.engine_laws.ensures.engine c.args.at q.0 q.1 c.query_name-name.result c.query_name-name.ensures
+    (told_there e c.laws.ensures c.args.at q.0 q.1 c.query_name-name.result c.query_name-name.ensures
     c.args.tuple.now c.has.result c.has.ensures.tells)
 
 pub returns-clause-counted : goal.returns-clause-counted
@@ -31,5 +31,5 @@ returns-clause-counted g c =
     let q = some_there (query_at e.places c.args.at) _ c.requires in
     and_so (query_at e.places c.args.at) (λ l. c.has.new.listing ≤ c.args.listing.now + length l.query.atoms) q.0 q.1
     (subst (λ (n : ℕ). c.has.new.listing ≤ c.args.listing.now + n)
-    (steps_there e c.engine_laws.ensures.engine c.args.at q.0 q.1 c.query_name-name.result c.query_name-name.ensures)
+    (steps_there e c.laws.ensures c.args.at q.0 q.1 c.query_name-name.result c.query_name-name.ensures)
     c.has.ensures.counted)

@@ -8,6 +8,7 @@ use Rattle.djq_store.specs.Asking.{TellsMembership}
 use Rattle.djq_store.proofs.Having.{asked_more, atoms_part, counted_more, counted_part}
 use Rattle.djq_deltas.proofs.Cases.{some_there}
 use Rattle.djq_store.proofs.Having.{one_has, one_refuses, all_lack, all_there}
+use Rattle.djq_live.proofs.Standing.{head_are as head_types_are}
 use Rattle.djq_store.proofs.asking.some_has.Goals as goal
 
 pub loop-nth-init : goal.loop-nth-init
@@ -28,7 +29,7 @@ returns-in-Ok-true-clause-tells g c = λ name.
     (subst (λ (r : Result Bool Refusal). IsSomeAnd (query_at e.places (get_or c.args.members.now c.loop-nth.nth 0))
     (λ l. TellsMembership (e.store).relations (a_query l.query) c.args.tuple.now r))
     (c.in-Ok-true.is ∙ ap (λ (b : Bool). Ok b) c.in-Ok-true.field-0-test) c.has_at.ensures.tells) in
-    one_has e c.engine_laws.ensures.engine.over c.head_types_are.ensures c.args.members.now c.requires name
+    one_has e c.laws.ensures.over head_types_are c.args.members.now c.requires name
     c.args.tuple.now
     c.loop-nth.nth c.loop-nth-test.true q.0 q.1 q.2
 
@@ -41,7 +42,7 @@ pub returns-in-Err-clause-tells : goal.returns-in-Err-clause-tells
 returns-in-Err-clause-tells g c = λ name.
     let e = c.args.engine.now in
     let q = some_there (query_at e.places (get_or c.args.members.now c.loop-nth.nth 0)) _ c.in-Err.ensures.tells in
-    one_refuses e c.engine_laws.ensures.engine.over c.head_types_are.ensures c.args.members.now c.requires name
+    one_refuses e c.laws.ensures.over head_types_are c.args.members.now c.requires name
     c.args.tuple.now
     c.loop-nth.nth c.loop-nth-test.true q.0 q.1 c.in-Err.refusal q.2
 
@@ -66,7 +67,7 @@ loop-nth-preserved g c = record {
 
 pub returns-clause-tells : goal.returns-clause-tells
 returns-clause-tells g c = λ name.
-    all_lack c.args.engine.now c.engine_laws.ensures.engine.over c.head_types_are.ensures c.args.members.now c.requires
+    all_lack c.args.engine.now c.laws.ensures.over head_types_are c.args.members.now c.requires
     name c.args.tuple.now
     (λ i low. c.loop-nth.invariant.told i (omega (arith, low, c.loop-nth-test.false)))
 

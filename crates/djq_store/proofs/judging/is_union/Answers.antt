@@ -16,11 +16,11 @@ returns c = by_found c.is_some.result refl
         let p = c.args.parts.now in
         let u = sought_some p.unions.items c.as_slice.result.now c.args.name.now c.as_slice.ensures.value
         c.find_union.result c.find_union.ensures (sym c.is_some.ensures ∙ f) in
-        f ∙ sym (union_there p.engine c.engine_laws.ensures.engine p.unions.items p.order.items p.sessions.items
+        f ∙ sym (union_there p.engine c.laws.ensures p.unions.items p.order.items p.sessions.items
         p.affected.items c.requires.listed c.args.name.now u.0 u.1)
     by_found false f =
         let p = c.args.parts.now in
-        f ∙ sym (no_union_there p.engine c.engine_laws.ensures.engine p.unions.items p.order.items p.sessions.items
+        f ∙ sym (no_union_there p.engine c.laws.ensures p.unions.items p.order.items p.sessions.items
         p.affected.items c.requires.listed c.args.name.now
         (sought_none p.unions.items c.as_slice.result.now c.args.name.now c.as_slice.ensures.value c.find_union.result
         c.find_union.ensures (sym c.is_some.ensures ∙ f)))

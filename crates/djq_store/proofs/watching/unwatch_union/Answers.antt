@@ -77,7 +77,7 @@ unwatch_members-requires c =
           (let below : i < length j.union.members = omega (arith, low, ap length c.members.ensures) in
           subst (λ (at : ℕ). IsSomeAnd (registered_at old.engine.registered (id_at at)) (λ r. 0 < r.watchers))
           (get_or_default j.union.members i 0 d below)
-          (member_heard old.engine c.engine_laws.ensures.engine old.unions.items old.order.items old.sessions.items
+          (member_heard old.engine c.laws.ensures old.unions.items old.order.items old.sessions.items
           c.requires.whole.listed c.requires.whole.counted c.args.slot j found i below some));
     }
 

@@ -68,7 +68,7 @@ watch_members-requires c i d low =
     (let below : i < length j.union.members = omega (arith, low, ap length c.members.ensures) in
     subst (λ (at : ℕ). IsSomeAnd (registered_at old.engine.registered (id_at at))
     (λ r. r.watchers + length j.union.members ≤ 4294967295)) (get_or_default j.union.members i 0 d below)
-    (member_roomy old.engine c.engine_laws.ensures.engine old.unions.items old.order.items old.sessions.items
+    (member_roomy old.engine c.laws.ensures old.unions.items old.order.items old.sessions.items
     c.requires.whole.listed c.requires.whole.counted c.args.slot j found i below))
 
 pub returns : goal.returns

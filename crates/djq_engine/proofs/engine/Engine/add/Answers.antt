@@ -67,6 +67,12 @@ use Rattle.djq_engine.proofs.Storing.{places_read}
 use Rattle.djq_engine.proofs.Tending.{shown_emptied}
 use Rattle.djq_engine.proofs.Working.{counts_updates}
 use Rattle.djq_engine.proofs.Enlisted.{unwatched_readers}
+use Rattle.djq_deltas.proofs.Finite.{deltas_exist}
+use Rattle.djq_live.proofs.Bound.{heads_bound as heads_are_bound}
+use Rattle.djq_live.proofs.Small.{leaves_small as leaves_are_small}
+use Rattle.djq_rows.proofs.Lawful.{names as rows_by_name_or_place}
+use Rattle.djq_live.proofs.Showable.{stays_showable as showable_stays}
+use Rattle.djq_rows.proofs.Lawful.{texts as texts_stay}
 use Rattle.djq_engine.proofs.engine.Engine.add.Goals as goal
 
 pub returns-in_err-id-clause-tells : goal.returns-in_err-id-clause-tells
@@ -126,7 +132,7 @@ returns-in-Err-Full g c =
       outdates = rested_cursors old put full.rests;
       watches = registered_still old put rest full.rests.queries;
       tells = tells_nothing (kept_in old) (kept_in put) from to idle (affected_same old put rest.affected)
-          (λ id h. told_full c.showable_stays.ensures c.texts_stay.ensures old put at row full t id.at);
+          (λ id h. told_full showable_stays texts_stay old put at row full t id.at);
       unlisted = λ none. c.put_row.ensures.unlisted (unwatched_readers old.catalog old.queries.items old.order
           old.readers.items old.watchers.items s at m.relation.below none);
       updates = record { counted = λ n flat few. omega (arith, still) };
@@ -242,8 +248,8 @@ returns-in-Err-NoMem g c =
       adds = add_lacking old name row at m put new lacks.0 lacks.1 ages.catalog (ages.rest.seq ∙ rest.seq) now.queries;
       outdates = now.cursors;
       watches = registered_now old mid new at name lacks.1.carries rest.watchers rest.order long ages;
-      tells = adds_refused old s name row at m.relation c.deltas_exist.ensures c.heads_are_bound.ensures
-          c.rows_by_name_or_place.ensures c.laws.ensures.names from to
+      tells = adds_refused old s name row at m.relation deltas_exist heads_are_bound
+          rows_by_name_or_place c.laws.ensures.names from to
           (subst (λ (r : AddRefusal). IfLacking (Err r)
           (CountsRows at (with_row (counted_at old.catalog.relations at) row) old from to))
           c.in-Err-NoMem.field-0-is c.in-Err-NoMem.ensures.listed) new
@@ -253,10 +259,10 @@ returns-in-Err-NoMem g c =
           c.in-Err-NoMem.field-0-is c.in-Err-NoMem.ensures.apart)
           (subst (λ (ls : List Log). Empties (readers_at put.readers.items at) put.logs.items ls) (sym ages.logs)
           empties) alike)
-          (told_lacking c.showable_stays.ensures c.texts_stay.ensures old put new at row lacks.1 ages.catalog t alike);
+          (told_lacking showable_stays texts_stay old put new at row lacks.1 ages.catalog t alike);
       unlisted = λ none. c.put_row.ensures.unlisted (unwatched_readers old.catalog old.queries.items old.order
           old.readers.items old.watchers.items s at m.relation.below none);
-      updates = counts_updates old s at m.relation.below name m.relation.named _ c.leaves_are_small.ensures 3
+      updates = counts_updates old s at m.relation.below name m.relation.named _ leaves_are_small 3
           c.args.steps.now.update c.put_row.new.steps.update (subst (λ (r : AddRefusal). IfLacking (Err r)
           (WorksRows at 3 old c.args.steps.now.update c.put_row.new.steps.update)) c.in-Err-NoMem.field-0-is
           c.in-Err-NoMem.ensures.refusal);
@@ -299,7 +305,7 @@ returns-in-Ok-More g c =
     let still = subst (λ (o : AddOutcome). IfStill (Ok o) (c.put_row.new.steps.update ≤ c.args.steps.now.update))
     c.in-Ok-More.field-0-is c.in-Ok-More.ensures.unmoved in
     rw (← c.self.view_is) (record {
-      adds = add_further old name row at m c.rows_by_name_or_place.ensures c.laws.ensures.names put
+      adds = add_further old name row at m rows_by_name_or_place c.laws.ensures.names put
           c.in-Ok-More.copies more rest.order rest.seq;
       outdates = copied_cursors old put at row c.in-Ok-More.copies more.has;
       watches = registered_still old put rest more.has.queries;
@@ -402,17 +408,17 @@ returns g c =
     m.relation.named ages in
     let alike = alike_now old mid new at name came.1.has.carries rest.watchers rest.order rest.long ages in
     rw (← c.self.view_is) (record {
-      adds = add_done old name row at m c.rows_by_name_or_place.ensures c.laws.ensures.names put new came.0 came.1
+      adds = add_done old name row at m rows_by_name_or_place c.laws.ensures.names put new came.0 came.1
           ages.catalog (ages.rest.seq ∙ ap (λ n. n + 1) rest.seq) now.queries;
       outdates = now.cursors;
       watches = registered_now old mid new at name came.1.has.carries rest.watchers rest.order rest.long ages;
-      tells = adds_done old s name row at m.relation c.deltas_exist.ensures c.heads_are_bound.ensures
-          c.rows_by_name_or_place.ensures c.laws.ensures.names from to mid new ages.logs ages.catalog alike
+      tells = adds_done old s name row at m.relation deltas_exist heads_are_bound
+          rows_by_name_or_place c.laws.ensures.names from to mid new ages.logs ages.catalog alike
           (ages.rest.affected ∙ c.affect.ensures.items
           ∙ ap (λ (rs : List (List ℕ)). readers_at rs at) rest.readers)
           (subst (λ (o : AddOutcome). IfCame (Ok o) (KeepsLogs (tells_at old at) old put)) c.in-Ok-First.field-0-is
           c.in-Ok-First.ensures.quiet)
-          (told_put c.showable_stays.ensures c.texts_stay.ensures old put new at row came.1 ages.catalog t alike)
+          (told_put showable_stays texts_stay old put new at row came.1 ages.catalog t alike)
           (subst (λ (o : AddOutcome). IfCame (Ok o)
           (CountsRows at (with_row (counted_at old.catalog.relations at) row) old from to)) c.in-Ok-First.field-0-is
           c.in-Ok-First.ensures.counted)
@@ -421,7 +427,7 @@ returns g c =
           c.in-Ok-First.ensures.tells);
       unlisted = λ none. c.put_row.ensures.unlisted (unwatched_readers old.catalog old.queries.items old.order
           old.readers.items old.watchers.items s at m.relation.below none);
-      updates = counts_updates old s at m.relation.below name m.relation.named _ c.leaves_are_small.ensures 1
+      updates = counts_updates old s at m.relation.below name m.relation.named _ leaves_are_small 1
           c.args.steps.now.update c.put_row.new.steps.update (subst (λ (o : AddOutcome). IfCame (Ok o)
           (WorksRows at 1 old c.args.steps.now.update c.put_row.new.steps.update)) c.in-Ok-First.field-0-is
           c.in-Ok-First.ensures.updates);

@@ -55,6 +55,11 @@ use Rattle.djq_engine.proofs.Reporting.{
 }
 use Rattle.djq_engine.proofs.Working.{counts_updates}
 use Rattle.djq_engine.proofs.Enlisted.{unwatched_readers}
+use Rattle.djq_deltas.proofs.Finite.{deltas_exist}
+use Rattle.djq_live.proofs.Bound.{heads_bound as heads_are_bound}
+use Rattle.djq_live.proofs.Small.{leaves_small as leaves_are_small}
+use Rattle.djq_rows.proofs.Lawful.{names as rows_by_name_or_place}
+use Rattle.djq_live.proofs.Showable.{stays_showable as showable_stays}
 use Rattle.djq_engine.proofs.engine.Engine.del.Goals as goal
 
 pub returns-in_err-judged-clause-tells : goal.returns-in_err-judged-clause-tells
@@ -128,7 +133,7 @@ returns-in-Left g c =
     rw (← c.self.view_is) (record {
       deletes = delete_one old c.args.name.now c.args.row.now
           (record { relation = c.in-Some.relation; cells = c.check_delete.new.cells }) may
-          c.rows_by_name_or_place.ensures c.laws.ensures.names gone c.in-Left.copies left rest.order rest.seq;
+          rows_by_name_or_place c.laws.ensures.names gone c.in-Left.copies left rest.order rest.seq;
       outdates = copied_cursors old gone at c.args.row.now c.in-Left.copies left.3;
       watches = registered_still old gone rest left.3.queries;
       tells = tells_nothing (kept_in old) (kept_in gone) from to idle (affected_same old gone rest.affected)
@@ -305,17 +310,17 @@ returns g c =
     let alike = alike_now old mid new at name went.2.has.carries rest.watchers rest.order rest.long ages in
     rw (← c.self.view_is) (record {
       deletes = delete_done old name row (record { relation = c.in-Some.relation; cells = c.check_delete.new.cells })
-          may c.rows_by_name_or_place.ensures c.laws.ensures.names gone new went ages.catalog
+          may rows_by_name_or_place c.laws.ensures.names gone new went ages.catalog
           (ages.rest.seq ∙ ap (λ n. n + 1) rest.seq) now.queries;
       outdates = now.cursors;
       watches = registered_now old mid new at name went.2.has.carries rest.watchers rest.order rest.long ages;
-      tells = deletes_done old s name row at may.relation c.deltas_exist.ensures c.heads_are_bound.ensures
-          c.rows_by_name_or_place.ensures c.laws.ensures.names from to mid new ages.logs ages.catalog alike
+      tells = deletes_done old s name row at may.relation deltas_exist heads_are_bound
+          rows_by_name_or_place c.laws.ensures.names from to mid new ages.logs ages.catalog alike
           (ages.rest.affected ∙ c.affect.ensures.items
           ∙ ap (λ (rs : List (List ℕ)). readers_at rs at) rest.readers)
           (subst (λ (o : DeleteOutcome). IfWent o (KeepsLogs (tells_at old at) old gone)) c.in-Last.is
           c.drop_cells.ensures.quiet)
-          (told_drop c.showable_stays.ensures old gone new at row went.2 ages.catalog t alike)
+          (told_drop showable_stays old gone new at row went.2 ages.catalog t alike)
           ((subst (λ (o : DeleteOutcome). IfWent o
           ((r : Tuple) → StandForRow old.catalog at c.as_slice.result.now r
           → CountsRows at (without_copies (counted_at old.catalog.relations at) r) old from to)) c.in-Last.is
@@ -326,7 +331,7 @@ returns g c =
           c.drop_cells.ensures.tells) row stand);
       unlisted = λ none. c.drop_cells.ensures.unlisted (unwatched_readers old.catalog old.queries.items old.order
           old.readers.items old.watchers.items s at may.relation.below none);
-      updates = counts_updates old s at may.relation.below name may.relation.named _ c.leaves_are_small.ensures 1
+      updates = counts_updates old s at may.relation.below name may.relation.named _ leaves_are_small 1
           c.args.steps.now.update c.drop_cells.new.steps.update (subst (λ (o : DeleteOutcome). IfWent o
           (WorksRows at 1 old c.args.steps.now.update c.drop_cells.new.steps.update)) c.in-Last.is
           c.drop_cells.ensures.updates);

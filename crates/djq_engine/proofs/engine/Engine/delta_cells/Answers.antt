@@ -12,6 +12,7 @@ use Rattle.djq_engine.specs.Whole.{kept_in}
 use Rattle.djq_engine.proofs.Naming.{There}
 use Rattle.djq_reach.proofs.Reaching.{place_read}
 use Rattle.djq_reach.proofs.Tending.{log_read}
+use Rattle.djq_live.proofs.Standing.{showable_stand as showable_cells_stand}
 use Rattle.djq_engine.proofs.engine.Engine.delta_cells.Goals as goal
 
 pub index-requires : goal.index-requires
@@ -102,5 +103,5 @@ returns c =
       refl,
       subst (λ (cells : List ℕ). StandFor p.catalog.texts (head_types c.in-Some.live) cells
           (values_of p.catalog.texts c.in-Some.live c.line_at-line.result.now.answer)) (sym c.put_in_head.ensures)
-          (c.showable_cells_stand.ensures p.catalog.texts c.in-Some.live c.line_at-line.result.now.answer shown),
+          (showable_cells_stand p.catalog.texts c.in-Some.live c.line_at-line.result.now.answer shown),
     )))

@@ -45,6 +45,12 @@ use Rattle.djq_engine.proofs.Worked.{came_few, counts_all, rows_each}
 use Rattle.djq_engine.specs.Kept.{Kept, Outdates, KeepsPlaces, is_tried}
 use Rattle.djq_engine.specs.Watching.{EngineTellsChange}
 use Rattle.djq_machine.specs.Changes.{tried}
+use Rattle.djq_rows.proofs.Lawful.{stay as cells_stay}
+use Rattle.djq_deltas.proofs.Finite.{deltas_exist}
+use Rattle.djq_live.proofs.Bound.{heads_bound as heads_are_bound}
+use Rattle.djq_live.proofs.Small.{leaves_small as leaves_are_small}
+use Rattle.djq_live.proofs.Untouched.{stays_lives as live_stays}
+use Rattle.djq_live.proofs.Showable.{stays_showable as showable_stays}
 use Rattle.djq_engine.proofs.engine.Engine.done.Goals as goal
 
 -- the store of the engine is that of its catalog
@@ -91,7 +97,7 @@ give_up-requires-clause-readers g c =
     let d = c.put_all-put.new.catalog in
     let learned = c.put_all-put.ensures.learned in
     let mid : Parts = record old { catalog = d } in
-    let k = lacks_rows old s held d c.live_stays.ensures c.laws-2.ensures c.in-Err.ensures.stays learned.0 learned.1 in
+    let k = lacks_rows old s held d live_stays c.laws-2.ensures c.in-Err.ensures.stays learned.0 learned.1 in
     lacks_readers old mid s t held [] k
 
 pub give_up-requires-clause-logged : goal.give_up-requires-clause-logged
@@ -103,7 +109,7 @@ give_up-requires-clause-logged g c =
     let d = c.put_all-put.new.catalog in
     let learned = c.put_all-put.ensures.learned in
     let mid : Parts = record old { catalog = d } in
-    let k = lacks_rows old s held d c.live_stays.ensures c.laws-2.ensures c.in-Err.ensures.stays learned.0 learned.1 in
+    let k = lacks_rows old s held d live_stays c.laws-2.ensures c.in-Err.ensures.stays learned.0 learned.1 in
     lacks_logged old mid s t held [] k
 
 pub invariant_of-self : goal.invariant_of-self
@@ -115,11 +121,11 @@ invariant_of-self g c =
     let d = c.put_all-put.new.catalog in
     let learned = c.put_all-put.ensures.learned in
     let mid : Parts = record old { catalog = d } in
-    let k = lacks_rows old s held d c.live_stays.ensures c.laws-2.ensures c.in-Err.ensures.stays learned.0 learned.1 in
+    let k = lacks_rows old s held d live_stays c.laws-2.ensures c.in-Err.ensures.stays learned.0 learned.1 in
     let new = c.give_up.new.parts in
     let gives = c.give_up.ensures in (
       lacks_whole old mid s t held [] k new gives,
-      lacks_tended old mid s t held [] k new gives c.showable_stays.ensures,
+      lacks_tended old mid s t held [] k new gives showable_stays,
     )
 
 pub returns-in-NoMemory : goal.returns-in-NoMemory
@@ -131,7 +137,7 @@ returns-in-NoMemory g c =
     let d = c.put_all-put.new.catalog in
     let learned = c.put_all-put.ensures.learned in
     let mid : Parts = record old { catalog = d } in
-    let k = lacks_rows old s held d c.live_stays.ensures c.laws-2.ensures c.in-Err.ensures.stays learned.0 learned.1 in
+    let k = lacks_rows old s held d live_stays c.laws-2.ensures c.in-Err.ensures.stays learned.0 learned.1 in
     let new = c.give_up.new.parts in
     let gives = c.give_up.ensures in
     rw (← c.self.view_is) (record {
@@ -140,8 +146,8 @@ returns-in-NoMemory g c =
           (c.in-Err.ensures.refused (kept_in old).store (agrees old)));
       outdates = lacks_cursors old mid s t held [] k new gives;
       watches = lacks_registered old mid s t held [] k new gives;
-      tells = lacks_tells old mid s t held [] k new gives c.showable_stays.ensures
-          (have c.deltas_exist.ensures c.heads_are_bound.ensures old s (with_all (kept_in old).store held).relations)
+      tells = lacks_tells old mid s t held [] k new gives showable_stays
+          (have deltas_exist heads_are_bound old s (with_all (kept_in old).store held).relations)
           c.args.steps.now.listing c.args.steps.now.listing (λ f h. omega arith);
       unlisted = λ none. refl;
       updates = record { counted = λ n few. omega arith };
@@ -158,8 +164,8 @@ invariant_of-self-in_default g c =
     let same = same_rows old.catalog d c.laws-2.ensures c.in-Err.ensures.stays learned.0 learned.1 in
     let long = ap (λ (rs : List Relation). length rs) c.in-Err.ensures.stays in
     let names = (λ (r : ℕ). ap (λ (rs : List Relation). (relation_at rs r).name) c.in-Err.ensures.stays) in
-    let live = c.live_stays.ensures in
-    let law = c.showable_stays.ensures in
+    let live = live_stays in
+    let law = showable_stays in
     (rests_whole old s t d same long names live law, rests_tended old s t d same long names live law)
 
 pub returns-in_default : goal.returns-in_default
@@ -173,8 +179,8 @@ returns-in_default g c =
     let same = same_rows old.catalog d c.laws-2.ensures c.in-Err.ensures.stays learned.0 learned.1 in
     let long = ap (λ (rs : List Relation). length rs) c.in-Err.ensures.stays in
     let names = (λ (r : ℕ). ap (λ (rs : List Relation). (relation_at rs r).name) c.in-Err.ensures.stays) in
-    let live = c.live_stays.ensures in
-    let law = c.showable_stays.ensures in
+    let live = live_stays in
+    let law = showable_stays in
     rw (← c.self.view_is) (record {
       adds = refuses_batch (kept_in old).store held d.texts Limit
           (as_limit (kept_in old).store held d.texts c.in-Err.refusal
@@ -209,12 +215,12 @@ invariant_of-self-then-count-eq0 g c =
     let p = c.in-Ok.ensures.put (kept_in old).store (agrees old) in
     let groups = c.in-Ok.came.groups.items in
     let none = no_groups (kept_in old).store held d c.in-Ok.came.count groups p (omega (arith, c.if-count-eq0.true)) in
-    let same = same_none old.catalog d c.laws.ensures c.laws-2.ensures c.cells_stay.ensures learned.0 learned.1
+    let same = same_none old.catalog d c.laws.ensures c.laws-2.ensures cells_stay learned.0 learned.1
     p.grouped.long p.grouped.names p.grouped.types groups none p.grouped in
     let long = p.grouped.long in
     let names = p.grouped.names in
-    let live = c.live_stays.ensures in
-    let law = c.showable_stays.ensures in
+    let live = live_stays in
+    let law = showable_stays in
     (rests_whole old s t d same long names live law, rests_tended old s t d same long names live law)
 
 pub returns-then-count-eq0 : goal.returns-then-count-eq0
@@ -228,12 +234,12 @@ returns-then-count-eq0 g c =
     let p = c.in-Ok.ensures.put (kept_in old).store (agrees old) in
     let groups = c.in-Ok.came.groups.items in
     let none = no_groups (kept_in old).store held d c.in-Ok.came.count groups p (omega (arith, c.if-count-eq0.true)) in
-    let same = same_none old.catalog d c.laws.ensures c.laws-2.ensures c.cells_stay.ensures learned.0 learned.1
+    let same = same_none old.catalog d c.laws.ensures c.laws-2.ensures cells_stay learned.0 learned.1
     p.grouped.long p.grouped.names p.grouped.types groups none p.grouped in
     let long = p.grouped.long in
     let names = p.grouped.names in
-    let live = c.live_stays.ensures in
-    let law = c.showable_stays.ensures in
+    let live = live_stays in
+    let law = showable_stays in
     rw (← c.self.view_is) (record {
       adds = none_adds (kept_in old).store held d c.in-Ok.came.count groups p (omega (arith, c.if-count-eq0.true));
       outdates = rests_cursors old s t d same long names live law;
@@ -258,7 +264,7 @@ take_groups-requires-clause-differ g c =
     let groups = c.as_slice-came.result.now in
     let count = c.in-Ok.came.count in
     let w = went_in old c.args.self.now c.self.view_is held c.requires.suit d count c.in-Ok.came.groups.items groups
-    c.as_slice-came.ensures.value c.cells_stay.ensures c.laws.ensures c.laws-2.ensures
+    c.as_slice-came.ensures.value cells_stay c.laws.ensures c.laws-2.ensures
     c.put_all-put.ensures.learned c.in-Ok.ensures.put in
     w.put.grouped.differ
 
@@ -271,10 +277,10 @@ take_groups-requires-clause-can g c =
     let groups = c.as_slice-came.result.now in
     let count = c.in-Ok.came.count in
     let w = went_in old c.args.self.now c.self.view_is held c.requires.suit d count c.in-Ok.came.groups.items groups
-    c.as_slice-came.ensures.value c.cells_stay.ensures c.laws.ensures c.laws-2.ensures
+    c.as_slice-came.ensures.value cells_stay c.laws.ensures c.laws-2.ensures
     c.put_all-put.ensures.learned c.in-Ok.ensures.put in
     let some : count ≡ 0 → ⊥ = λ e. omega (arith, e, c.if-count-eq0.false) in
-    (start_here old s held d groups count w, leads_here old s held d groups count w c.live_stays.ensures some)
+    (start_here old s held d groups count w, leads_here old s held d groups count w live_stays some)
 
 pub take_back-requires : goal.take_back-requires
 take_back-requires g c =
@@ -284,7 +290,7 @@ take_back-requires g c =
     let groups = c.as_slice-came.result.now in
     let count = c.in-Ok.came.count in
     let w = went_in old c.args.self.now c.self.view_is held c.requires.suit d count c.in-Ok.came.groups.items groups
-    c.as_slice-came.ensures.value c.cells_stay.ensures c.laws.ensures c.laws-2.ensures
+    c.as_slice-came.ensures.value cells_stay c.laws.ensures c.laws-2.ensures
     c.put_all-put.ensures.learned c.in-Ok.ensures.put in
     let went : WentInAll (kept_in old).store held c.take_groups.new.parts.catalog.relations = record {
       suits = w.suit;
@@ -302,7 +308,7 @@ give_up-requires-in-Err-take_groups g c =
     let groups = c.as_slice-came.result.now in
     let count = c.in-Ok.came.count in
     let w = went_in old c.args.self.now c.self.view_is held c.requires.suit d count c.in-Ok.came.groups.items groups
-    c.as_slice-came.ensures.value c.cells_stay.ensures c.laws.ensures c.laws-2.ensures
+    c.as_slice-came.ensures.value cells_stay c.laws.ensures c.laws-2.ensures
     c.put_all-put.ensures.learned c.in-Ok.ensures.put in
     let some : count ≡ 0 → ⊥ = λ e. omega (arith, e, c.if-count-eq0.false) in
     let went : WentInAll (kept_in old).store held c.take_groups.new.parts.catalog.relations = record {
@@ -311,7 +317,7 @@ give_up-requires-in-Err-take_groups g c =
       are = ap (λ (x : Catalog). x.relations) c.take_groups.ensures.catalog ∙ w.put.relations;
     } in
     let t = c.self.invariant.1 in
-    let live = c.live_stays.ensures in
+    let live = live_stays in
     let after = c.take_back.new.catalog in
     let mid : Parts = record c.take_groups.new.parts { catalog = after } in
     let places = reached old.readers.items groups in
@@ -338,7 +344,7 @@ invariant_of-self-in-Err-take_groups g c =
     let groups = c.as_slice-came.result.now in
     let count = c.in-Ok.came.count in
     let w = went_in old c.args.self.now c.self.view_is held c.requires.suit d count c.in-Ok.came.groups.items groups
-    c.as_slice-came.ensures.value c.cells_stay.ensures c.laws.ensures c.laws-2.ensures
+    c.as_slice-came.ensures.value cells_stay c.laws.ensures c.laws-2.ensures
     c.put_all-put.ensures.learned c.in-Ok.ensures.put in
     let some : count ≡ 0 → ⊥ = λ e. omega (arith, e, c.if-count-eq0.false) in
     let went : WentInAll (kept_in old).store held c.take_groups.new.parts.catalog.relations = record {
@@ -347,7 +353,7 @@ invariant_of-self-in-Err-take_groups g c =
       are = ap (λ (x : Catalog). x.relations) c.take_groups.ensures.catalog ∙ w.put.relations;
     } in
     let t = c.self.invariant.1 in
-    let live = c.live_stays.ensures in
+    let live = live_stays in
     let after = c.take_back.new.catalog in
     let mid : Parts = record c.take_groups.new.parts { catalog = after } in
     let places = reached old.readers.items groups in
@@ -362,7 +368,7 @@ invariant_of-self-in-Err-take_groups g c =
     let new = c.give_up-in-Err-take_groups.new.parts in
     let gives = c.give_up-in-Err-take_groups.ensures in (
       lacks_whole old mid s t held places k new gives,
-      lacks_tended old mid s t held places k new gives c.showable_stays.ensures,
+      lacks_tended old mid s t held places k new gives showable_stays,
     )
 
 pub returns-in-Err-take_groups : goal.returns-in-Err-take_groups
@@ -374,7 +380,7 @@ returns-in-Err-take_groups g c =
     let groups = c.as_slice-came.result.now in
     let count = c.in-Ok.came.count in
     let w = went_in old c.args.self.now c.self.view_is held c.requires.suit d count c.in-Ok.came.groups.items groups
-    c.as_slice-came.ensures.value c.cells_stay.ensures c.laws.ensures c.laws-2.ensures
+    c.as_slice-came.ensures.value cells_stay c.laws.ensures c.laws-2.ensures
     c.put_all-put.ensures.learned c.in-Ok.ensures.put in
     let some : count ≡ 0 → ⊥ = λ e. omega (arith, e, c.if-count-eq0.false) in
     let went : WentInAll (kept_in old).store held c.take_groups.new.parts.catalog.relations = record {
@@ -383,7 +389,7 @@ returns-in-Err-take_groups g c =
       are = ap (λ (x : Catalog). x.relations) c.take_groups.ensures.catalog ∙ w.put.relations;
     } in
     let t = c.self.invariant.1 in
-    let live = c.live_stays.ensures in
+    let live = live_stays in
     let after = c.take_back.new.catalog in
     let mid : Parts = record c.take_groups.new.parts { catalog = after } in
     let places = reached old.readers.items groups in
@@ -406,15 +412,15 @@ returns-in-Err-take_groups g c =
           (lacks_last (kept_in old).store held d count groups w.put some after.texts same);
       outdates = lacks_cursors old mid s t held places k new gives;
       watches = lacks_registered old mid s t held places k new gives;
-      tells = lacks_tells old mid s t held places k new gives c.showable_stays.ensures
-          (have c.deltas_exist.ensures c.heads_are_bound.ensures old s (with_all (kept_in old).store held).relations)
+      tells = lacks_tells old mid s t held places k new gives showable_stays
+          (have deltas_exist heads_are_bound old s (with_all (kept_in old).store held).relations)
           c.args.steps.now.listing c.take_groups.new.steps.listing
           (lacks_counts old s held start d groups count begin live c.args.steps.now.listing
           c.take_groups.new.steps.listing c.take_groups.ensures.counted);
       unlisted = λ none. c.take_groups.ensures.unlisted
           (unwatched_reached old s none groups (came_within old s held d groups count w));
       updates = record {
-        counted = counts_all old s held start d groups count begin c.leaves_are_small.ensures fits (length held + 2)
+        counted = counts_all old s held start d groups count begin leaves_are_small fits (length held + 2)
             times_back (rows_each groups (length held) fits) c.args.steps.now.update c.take_groups.new.steps.update
             c.in-Err-take_groups.ensures.refusal;
       };
@@ -430,7 +436,7 @@ overflow_add-self g c =
     let groups = c.as_slice-came.result.now in
     let count = c.in-Ok.came.count in
     let w = went_in old c.args.self.now c.self.view_is held c.requires.suit d count c.in-Ok.came.groups.items groups
-    c.as_slice-came.ensures.value c.cells_stay.ensures c.laws.ensures c.laws-2.ensures
+    c.as_slice-came.ensures.value cells_stay c.laws.ensures c.laws-2.ensures
     c.put_all-put.ensures.learned c.in-Ok.ensures.put in
     let some : count ≡ 0 → ⊥ = λ e. omega (arith, e, c.if-count-eq0.false) in
     let low = came_seq old s held d groups count w some in
@@ -445,7 +451,7 @@ affect_reached-requires-clause-within g c =
     let groups = c.as_slice-came.result.now in
     let count = c.in-Ok.came.count in
     let w = went_in old c.args.self.now c.self.view_is held c.requires.suit d count c.in-Ok.came.groups.items groups
-    c.as_slice-came.ensures.value c.cells_stay.ensures c.laws.ensures c.laws-2.ensures
+    c.as_slice-came.ensures.value cells_stay c.laws.ensures c.laws-2.ensures
     c.put_all-put.ensures.learned c.in-Ok.ensures.put in
     came_here old s held d groups count w c.take_groups.new.parts.readers.items c.take_groups.ensures.rest.readers
 
@@ -458,10 +464,10 @@ outdate_came-requires g c =
     let groups = c.as_slice-came.result.now in
     let count = c.in-Ok.came.count in
     let w = went_in old c.args.self.now c.self.view_is held c.requires.suit d count c.in-Ok.came.groups.items groups
-    c.as_slice-came.ensures.value c.cells_stay.ensures c.laws.ensures c.laws-2.ensures
+    c.as_slice-came.ensures.value cells_stay c.laws.ensures c.laws-2.ensures
     c.put_all-put.ensures.learned c.in-Ok.ensures.put in
     let some : count ≡ 0 → ⊥ = λ e. omega (arith, e, c.if-count-eq0.false) in
-    let live = c.live_stays.ensures in
+    let live = live_stays in
     let mid = c.take_groups.new.parts in
     let rest = c.take_groups.ensures.rest in
     let taken = c.in-Ok-take_groups.ensures.taken in
@@ -482,16 +488,16 @@ invariant_of-self-2 g c =
     let groups = c.as_slice-came.result.now in
     let count = c.in-Ok.came.count in
     let w = went_in old c.args.self.now c.self.view_is held c.requires.suit d count c.in-Ok.came.groups.items groups
-    c.as_slice-came.ensures.value c.cells_stay.ensures c.laws.ensures c.laws-2.ensures
+    c.as_slice-came.ensures.value cells_stay c.laws.ensures c.laws-2.ensures
     c.put_all-put.ensures.learned c.in-Ok.ensures.put in
     let some : count ≡ 0 → ⊥ = λ e. omega (arith, e, c.if-count-eq0.false) in
-    let live = c.live_stays.ensures in
+    let live = live_stays in
     let mid = c.take_groups.new.parts in
     let rest = c.take_groups.ensures.rest in
     let taken = c.in-Ok-take_groups.ensures.taken in
     let is = c.take_groups.ensures.catalog in
     let t = c.self.invariant.1 in
-    let law = c.showable_stays.ensures in
+    let law = showable_stays in
     let start = start_here old s held d groups count w in
     let filled = filled_mid old s held d groups count w live some mid taken is in
     let takes = came_takes old s held d groups count w live some mid taken is in
@@ -529,16 +535,16 @@ returns g c =
     let groups = c.as_slice-came.result.now in
     let count = c.in-Ok.came.count in
     let w = went_in old c.args.self.now c.self.view_is held c.requires.suit d count c.in-Ok.came.groups.items groups
-    c.as_slice-came.ensures.value c.cells_stay.ensures c.laws.ensures c.laws-2.ensures
+    c.as_slice-came.ensures.value cells_stay c.laws.ensures c.laws-2.ensures
     c.put_all-put.ensures.learned c.in-Ok.ensures.put in
     let some : count ≡ 0 → ⊥ = λ e. omega (arith, e, c.if-count-eq0.false) in
-    let live = c.live_stays.ensures in
+    let live = live_stays in
     let mid = c.take_groups.new.parts in
     let rest = c.take_groups.ensures.rest in
     let taken = c.in-Ok-take_groups.ensures.taken in
     let is = c.take_groups.ensures.catalog in
     let t = c.self.invariant.1 in
-    let law = c.showable_stays.ensures in
+    let law = showable_stays in
     let start = start_here old s held d groups count w in
     let filled = filled_mid old s held d groups count w live some mid taken is in
     let takes = came_takes old s held d groups count w live some mid taken is in
@@ -576,12 +582,12 @@ returns g c =
       tells = subst (λ (k : Kept). EngineTellsChange k (batch_outcome k.store held (Ok count)) (kept_in new)
           c.args.steps.now.listing c.take_groups.new.steps.listing) c.self.view_is
           (taken_tells old mid new s t held start groups count filled takes x live law
-          (have c.deltas_exist.ensures c.heads_are_bound.ensures old s (with_all (kept_in old).store held).relations)
+          (have deltas_exist heads_are_bound old s (with_all (kept_in old).store held).relations)
           c.args.steps.now.listing c.take_groups.new.steps.listing c.take_groups.ensures.counted);
       unlisted = rw (← c.self.view_is) (λ none. c.take_groups.ensures.unlisted
           (unwatched_reached old s none groups (came_within old s held d groups count w)));
       updates = rw (← c.self.view_is) (record {
-        counted = counts_all old s held start mid.catalog groups count filled c.leaves_are_small.ensures fits
+        counted = counts_all old s held start mid.catalog groups count filled leaves_are_small fits
             1 (λ x. 1) (λ k e low. omega arith) c.args.steps.now.update c.take_groups.new.steps.update
             c.in-Ok-take_groups.ensures.updates;
       });

@@ -4,6 +4,7 @@ use Rattle.djq_engine.proofs.Attending.{below_queries, query_kept_there, there_n
 use Rattle.djq_reach.proofs.Reaching.{place_read}
 use Rattle.djq_engine.proofs.Telling.{lends}
 use Rattle.djq_engine.specs.Kept.{Kept, IsRegistered}
+use Rattle.djq_live.proofs.Showing.{are_shown as answers_are_shown}
 use Rattle.djq_engine.proofs.engine.Engine.live.Goals as goal
 
 pub index-requires : goal.index-requires
@@ -30,4 +31,4 @@ returns c =
     let t = query_kept_there p c.self.invariant.0 c.args.id registered in
     let there = place_read p.queries.items c.args.id.at c.index.result.now c.in-Some.live
     (below_queries p c.self.invariant.0 c.args.id t) c.index.ensures c.in-Some.is in
-    rw (← c.self.view_is) (lends p c.self.invariant.0 c.args.id c.in-Some.live there c.answers_are_shown.ensures)
+    rw (← c.self.view_is) (lends p c.self.invariant.0 c.args.id c.in-Some.live there answers_are_shown)

@@ -27,6 +27,9 @@ use Rattle.djq_engine.proofs.Refusing.{same_queries, same_whole}
 use Rattle.djq_engine.proofs.Lasting.{other_place}
 use Rattle.djq_engine.proofs.Placed.{keeps_added, keeps_equal, keeps_same}
 use Rattle.djq_engine.proofs.Told.{alike_same, told_empty, told_is}
+use Rattle.djq_live.proofs.Untouched.{stays_lives as live_stays}
+use Rattle.djq_live.proofs.Showable.{stays_showable as showable_stays}
+use Rattle.djq_rows.proofs.Lawful.{texts as texts_stay}
 use Rattle.djq_engine.proofs.engine.Engine.query.Goals as goal
 
 pub invariant_of-self : goal.invariant_of-self
@@ -34,7 +37,7 @@ invariant_of-self g c =
     let old = c.self.inside.parts in (
       sound_texts c.self.inside.parts.catalog c.intern_constants-known.new.catalog c.self.inside.parts.queries.items
           c.self.inside.parts.order c.self.inside.parts.readers.items c.intern_constants-known.ensures.relations
-          (constants_stay c.live_stays.ensures c.texts_stay.ensures c.self.inside.parts.catalog
+          (constants_stay live_stays texts_stay c.self.inside.parts.catalog
           c.intern_constants-known.new.catalog c.self.inside.parts.queries.items c.self.inside.parts.order
           c.self.inside.parts.readers.items c.self.invariant.0 c.laws.ensures
           c.intern_constants-known.ensures.relations (constants_of c.args.query) c.intern_constants-known.result
@@ -43,7 +46,7 @@ invariant_of-self g c =
         watched = c.self.invariant.1.watched;
         logged = c.self.invariant.1.logged;
         room = c.self.invariant.1.room;
-        shown = mid_shown c.showable_stays.ensures c.texts_stay.ensures old.catalog.texts
+        shown = mid_shown showable_stays texts_stay old.catalog.texts
             c.intern_constants-known.new.catalog.texts (constants_of c.args.query) c.intern_constants-known.result
             c.intern_constants-known.ensures.interns old.queries.items old.logs.items c.self.invariant.1.shown;
       },
@@ -53,7 +56,7 @@ pub returns-in-Err-Full-clause-cursors : goal.returns-in-Err-Full-clause-cursors
 returns-in-Err-Full-clause-cursors g c =
     rw (← c.self.view_is)
     (rested_held c.self.inside.parts.catalog c.intern_constants-known.new.catalog c.self.inside.parts.queries.items
-    (constants_stay c.live_stays.ensures c.texts_stay.ensures c.self.inside.parts.catalog
+    (constants_stay live_stays texts_stay c.self.inside.parts.catalog
     c.intern_constants-known.new.catalog c.self.inside.parts.queries.items c.self.inside.parts.order
     c.self.inside.parts.readers.items c.self.invariant.0 c.laws.ensures
     c.intern_constants-known.ensures.relations (constants_of c.args.query) c.intern_constants-known.result
@@ -64,7 +67,7 @@ invariant_of-self-in-Err-NoMem-known g c =
     let old = c.self.inside.parts in (
       sound_texts c.self.inside.parts.catalog c.intern_constants-known.new.catalog c.self.inside.parts.queries.items
           c.self.inside.parts.order c.self.inside.parts.readers.items c.intern_constants-known.ensures.relations
-          (constants_stay c.live_stays.ensures c.texts_stay.ensures c.self.inside.parts.catalog
+          (constants_stay live_stays texts_stay c.self.inside.parts.catalog
           c.intern_constants-known.new.catalog c.self.inside.parts.queries.items c.self.inside.parts.order
           c.self.inside.parts.readers.items c.self.invariant.0 c.laws.ensures
           c.intern_constants-known.ensures.relations (constants_of c.args.query) c.intern_constants-known.result
@@ -73,7 +76,7 @@ invariant_of-self-in-Err-NoMem-known g c =
         watched = c.self.invariant.1.watched;
         logged = c.self.invariant.1.logged;
         room = c.self.invariant.1.room;
-        shown = mid_shown c.showable_stays.ensures c.texts_stay.ensures old.catalog.texts
+        shown = mid_shown showable_stays texts_stay old.catalog.texts
             c.intern_constants-known.new.catalog.texts (constants_of c.args.query) c.intern_constants-known.result
             c.intern_constants-known.ensures.interns old.queries.items old.logs.items c.self.invariant.1.shown;
       },
@@ -83,7 +86,7 @@ pub returns-in-Err-NoMem-known-clause-cursors : goal.returns-in-Err-NoMem-known-
 returns-in-Err-NoMem-known-clause-cursors g c =
     rw (← c.self.view_is)
     (rested_held c.self.inside.parts.catalog c.intern_constants-known.new.catalog c.self.inside.parts.queries.items
-    (constants_stay c.live_stays.ensures c.texts_stay.ensures c.self.inside.parts.catalog
+    (constants_stay live_stays texts_stay c.self.inside.parts.catalog
     c.intern_constants-known.new.catalog c.self.inside.parts.queries.items c.self.inside.parts.order
     c.self.inside.parts.readers.items c.self.invariant.0 c.laws.ensures
     c.intern_constants-known.ensures.relations (constants_of c.args.query) c.intern_constants-known.result
@@ -94,7 +97,7 @@ invariant_of-self-in_default-build g c =
     let old = c.self.inside.parts in (
       sound_texts c.self.inside.parts.catalog c.intern_constants-known.new.catalog c.self.inside.parts.queries.items
           c.self.inside.parts.order c.self.inside.parts.readers.items c.intern_constants-known.ensures.relations
-          (constants_stay c.live_stays.ensures c.texts_stay.ensures c.self.inside.parts.catalog
+          (constants_stay live_stays texts_stay c.self.inside.parts.catalog
           c.intern_constants-known.new.catalog c.self.inside.parts.queries.items c.self.inside.parts.order
           c.self.inside.parts.readers.items c.self.invariant.0 c.laws.ensures
           c.intern_constants-known.ensures.relations (constants_of c.args.query) c.intern_constants-known.result
@@ -103,7 +106,7 @@ invariant_of-self-in_default-build g c =
         watched = c.self.invariant.1.watched;
         logged = c.self.invariant.1.logged;
         room = c.self.invariant.1.room;
-        shown = mid_shown c.showable_stays.ensures c.texts_stay.ensures old.catalog.texts
+        shown = mid_shown showable_stays texts_stay old.catalog.texts
             c.intern_constants-known.new.catalog.texts (constants_of c.args.query) c.intern_constants-known.result
             c.intern_constants-known.ensures.interns old.queries.items old.logs.items c.self.invariant.1.shown;
       },
@@ -113,7 +116,7 @@ pub returns-in_default-build-clause-cursors : goal.returns-in_default-build-clau
 returns-in_default-build-clause-cursors g c =
     rw (← c.self.view_is)
     (rested_held c.self.inside.parts.catalog c.intern_constants-known.new.catalog c.self.inside.parts.queries.items
-    (constants_stay c.live_stays.ensures c.texts_stay.ensures c.self.inside.parts.catalog
+    (constants_stay live_stays texts_stay c.self.inside.parts.catalog
     c.intern_constants-known.new.catalog c.self.inside.parts.queries.items c.self.inside.parts.order
     c.self.inside.parts.readers.items c.self.invariant.0 c.laws.ensures
     c.intern_constants-known.ensures.relations (constants_of c.args.query) c.intern_constants-known.result
@@ -143,7 +146,7 @@ register-requires g c =
     record {
       whole = sound_texts old.catalog c.intern_constants-known.new.catalog old.queries.items old.order old.readers.items
           c.intern_constants-known.ensures.relations
-          (constants_stay c.live_stays.ensures c.texts_stay.ensures old.catalog c.intern_constants-known.new.catalog
+          (constants_stay live_stays texts_stay old.catalog c.intern_constants-known.new.catalog
           old.queries.items old.order old.readers.items c.self.invariant.0 c.laws.ensures
           c.intern_constants-known.ensures.relations (constants_of c.args.query) c.intern_constants-known.result
           c.intern_constants-known.ensures.interns) c.self.invariant.0;
@@ -151,7 +154,7 @@ register-requires g c =
         watched = c.self.invariant.1.watched;
         logged = c.self.invariant.1.logged;
         room = c.self.invariant.1.room;
-        shown = mid_shown c.showable_stays.ensures c.texts_stay.ensures old.catalog.texts
+        shown = mid_shown showable_stays texts_stay old.catalog.texts
             c.intern_constants-known.new.catalog.texts (constants_of c.args.query) c.intern_constants-known.result
             c.intern_constants-known.ensures.interns old.queries.items old.logs.items c.self.invariant.1.shown;
       };
@@ -167,7 +170,7 @@ invariant_of-self-2 g c =
     let whole : EngineIsWhole mid =
     sound_texts old.catalog c.intern_constants-known.new.catalog old.queries.items old.order
     old.readers.items c.intern_constants-known.ensures.relations
-    (constants_stay c.live_stays.ensures c.texts_stay.ensures old.catalog c.intern_constants-known.new.catalog
+    (constants_stay live_stays texts_stay old.catalog c.intern_constants-known.new.catalog
     old.queries.items old.order old.readers.items c.self.invariant.0 c.laws.ensures
     c.intern_constants-known.ensures.relations (constants_of c.args.query) c.intern_constants-known.result
     c.intern_constants-known.ensures.interns) c.self.invariant.0 in
@@ -187,7 +190,7 @@ invariant_of-self-2 g c =
             (shown_enrolled c.intern_constants-known.new.catalog.texts old.queries.items new.queries.items
             old.logs.items
             new.logs.items r.place r.others r.empty.lines r.logs
-            (mid_shown c.showable_stays.ensures c.texts_stay.ensures old.catalog.texts
+            (mid_shown showable_stays texts_stay old.catalog.texts
             c.intern_constants-known.new.catalog.texts (constants_of c.args.query) c.intern_constants-known.result
             c.intern_constants-known.ensures.interns old.queries.items old.logs.items c.self.invariant.1.shown));
       },
@@ -200,7 +203,7 @@ returns-clause-registers g c =
     let whole : EngineIsWhole mid =
     sound_texts old.catalog c.intern_constants-known.new.catalog old.queries.items old.order
     old.readers.items c.intern_constants-known.ensures.relations
-    (constants_stay c.live_stays.ensures c.texts_stay.ensures old.catalog c.intern_constants-known.new.catalog
+    (constants_stay live_stays texts_stay old.catalog c.intern_constants-known.new.catalog
     old.queries.items old.order old.readers.items c.self.invariant.0 c.laws.ensures
     c.intern_constants-known.ensures.relations (constants_of c.args.query) c.intern_constants-known.result
     c.intern_constants-known.ensures.interns) c.self.invariant.0 in
@@ -228,7 +231,7 @@ returns-clause-cursors g c =
     let whole : EngineIsWhole mid =
     sound_texts old.catalog c.intern_constants-known.new.catalog old.queries.items old.order
     old.readers.items c.intern_constants-known.ensures.relations
-    (constants_stay c.live_stays.ensures c.texts_stay.ensures old.catalog c.intern_constants-known.new.catalog
+    (constants_stay live_stays texts_stay old.catalog c.intern_constants-known.new.catalog
     old.queries.items old.order old.readers.items c.self.invariant.0 c.laws.ensures
     c.intern_constants-known.ensures.relations (constants_of c.args.query) c.intern_constants-known.result
     c.intern_constants-known.ensures.interns) c.self.invariant.0 in
@@ -241,7 +244,7 @@ returns-clause-cursors g c =
     let r = c.in-Ok-register.ensures.ok in
     enrolled_cursors mid new whole l c.in-Ok-build.ensures.live c.in-Ok-build.ensures.cursors r fresh passes.few id
     ∙ rested_held old.catalog c.intern_constants-known.new.catalog old.queries.items
-    (constants_stay c.live_stays.ensures c.texts_stay.ensures old.catalog c.intern_constants-known.new.catalog
+    (constants_stay live_stays texts_stay old.catalog c.intern_constants-known.new.catalog
     old.queries.items old.order old.readers.items c.self.invariant.0 c.laws.ensures
     c.intern_constants-known.ensures.relations (constants_of c.args.query) c.intern_constants-known.result
     c.intern_constants-known.ensures.interns) id)
@@ -253,7 +256,7 @@ invariant_of-self-in_default-register g c =
     let whole : EngineIsWhole mid =
     sound_texts old.catalog c.intern_constants-known.new.catalog old.queries.items old.order
     old.readers.items c.intern_constants-known.ensures.relations
-    (constants_stay c.live_stays.ensures c.texts_stay.ensures old.catalog c.intern_constants-known.new.catalog
+    (constants_stay live_stays texts_stay old.catalog c.intern_constants-known.new.catalog
     old.queries.items old.order old.readers.items c.self.invariant.0 c.laws.ensures
     c.intern_constants-known.ensures.relations (constants_of c.args.query) c.intern_constants-known.result
     c.intern_constants-known.ensures.interns) c.self.invariant.0 in
@@ -268,7 +271,7 @@ invariant_of-self-in_default-register g c =
             (shown_places c.intern_constants-known.new.catalog.texts old.queries.items new.queries.items
             old.logs.items
             new.logs.items r.queries r.logs
-            (mid_shown c.showable_stays.ensures c.texts_stay.ensures old.catalog.texts
+            (mid_shown showable_stays texts_stay old.catalog.texts
             c.intern_constants-known.new.catalog.texts (constants_of c.args.query) c.intern_constants-known.result
             c.intern_constants-known.ensures.interns old.queries.items old.logs.items c.self.invariant.1.shown));
       },
@@ -281,7 +284,7 @@ returns-in_default-register-clause-registers g c =
     let whole : EngineIsWhole mid =
     sound_texts old.catalog c.intern_constants-known.new.catalog old.queries.items old.order
     old.readers.items c.intern_constants-known.ensures.relations
-    (constants_stay c.live_stays.ensures c.texts_stay.ensures old.catalog c.intern_constants-known.new.catalog
+    (constants_stay live_stays texts_stay old.catalog c.intern_constants-known.new.catalog
     old.queries.items old.order old.readers.items c.self.invariant.0 c.laws.ensures
     c.intern_constants-known.ensures.relations (constants_of c.args.query) c.intern_constants-known.result
     c.intern_constants-known.ensures.interns) c.self.invariant.0 in
@@ -306,7 +309,7 @@ returns-in_default-register-clause-cursors g c =
     let whole : EngineIsWhole mid =
     sound_texts old.catalog c.intern_constants-known.new.catalog old.queries.items old.order
     old.readers.items c.intern_constants-known.ensures.relations
-    (constants_stay c.live_stays.ensures c.texts_stay.ensures old.catalog c.intern_constants-known.new.catalog
+    (constants_stay live_stays texts_stay old.catalog c.intern_constants-known.new.catalog
     old.queries.items old.order old.readers.items c.self.invariant.0 c.laws.ensures
     c.intern_constants-known.ensures.relations (constants_of c.args.query) c.intern_constants-known.result
     c.intern_constants-known.ensures.interns) c.self.invariant.0 in
@@ -314,7 +317,7 @@ returns-in_default-register-clause-cursors g c =
     let r = c.in_default-register.ensures.err in
     same_cursors mid new whole r id
     ∙ rested_held old.catalog c.intern_constants-known.new.catalog old.queries.items
-    (constants_stay c.live_stays.ensures c.texts_stay.ensures old.catalog c.intern_constants-known.new.catalog
+    (constants_stay live_stays texts_stay old.catalog c.intern_constants-known.new.catalog
     old.queries.items old.order old.readers.items c.self.invariant.0 c.laws.ensures
     c.intern_constants-known.ensures.relations (constants_of c.args.query) c.intern_constants-known.result
     c.intern_constants-known.ensures.interns) id)
@@ -351,7 +354,7 @@ returns-in-Err-Full-clause-tellings g c =
     let old = c.self.inside.parts in
     rw (← c.self.view_is) (
       refl,
-      λ id. mid_told c.showable_stays.ensures c.texts_stay.ensures old.catalog.texts
+      λ id. mid_told showable_stays texts_stay old.catalog.texts
           c.intern_constants-known.new.catalog.texts (constants_of c.args.query) c.intern_constants-known.result
           c.intern_constants-known.ensures.interns old.queries.items old.queries.items old.logs.items old.logs.items
           c.self.invariant.1.shown (λ i l there. refl) id.at refl,
@@ -362,7 +365,7 @@ returns-in-Err-NoMem-known-clause-tellings g c =
     let old = c.self.inside.parts in
     rw (← c.self.view_is) (
       refl,
-      λ id. mid_told c.showable_stays.ensures c.texts_stay.ensures old.catalog.texts
+      λ id. mid_told showable_stays texts_stay old.catalog.texts
           c.intern_constants-known.new.catalog.texts (constants_of c.args.query) c.intern_constants-known.result
           c.intern_constants-known.ensures.interns old.queries.items old.queries.items old.logs.items old.logs.items
           c.self.invariant.1.shown (λ i l there. refl) id.at refl,
@@ -373,7 +376,7 @@ returns-in_default-build-clause-tellings g c =
     let old = c.self.inside.parts in
     rw (← c.self.view_is) (
       refl,
-      λ id. mid_told c.showable_stays.ensures c.texts_stay.ensures old.catalog.texts
+      λ id. mid_told showable_stays texts_stay old.catalog.texts
           c.intern_constants-known.new.catalog.texts (constants_of c.args.query) c.intern_constants-known.result
           c.intern_constants-known.ensures.interns old.queries.items old.queries.items old.logs.items old.logs.items
           c.self.invariant.1.shown (λ i l there. refl) id.at refl,
@@ -400,7 +403,7 @@ returns-clause-tellings g c =
             others = λ other d. ap
                 (λ (x : Catalog). slice_index_or (told_from x.texts new.queries.items new.logs.items) other.at None)
                 r.catalog
-                ∙ mid_told c.showable_stays.ensures c.texts_stay.ensures old.catalog.texts
+                ∙ mid_told showable_stays texts_stay old.catalog.texts
                 c.intern_constants-known.new.catalog.texts (constants_of c.args.query)
                 c.intern_constants-known.result c.intern_constants-known.ensures.interns old.queries.items
                 new.queries.items old.logs.items new.logs.items c.self.invariant.1.shown r.logs other.at
@@ -417,7 +420,7 @@ returns-in_default-register-clause-tellings g c =
       ap (map id_at) r.affected,
       λ id. ap (λ (x : Catalog). slice_index_or (told_from x.texts new.queries.items new.logs.items) id.at None)
           r.catalog
-          ∙ mid_told c.showable_stays.ensures c.texts_stay.ensures old.catalog.texts
+          ∙ mid_told showable_stays texts_stay old.catalog.texts
           c.intern_constants-known.new.catalog.texts (constants_of c.args.query) c.intern_constants-known.result
           c.intern_constants-known.ensures.interns old.queries.items new.queries.items old.logs.items new.logs.items
           c.self.invariant.1.shown r.logs id.at (r.queries id.at),

@@ -6,11 +6,12 @@ use Rattle.djq_reach.specs.Tending.{LogsCanBeShown}
 use Rattle.djq_engine.specs.Whole.{watches_in}
 use Rattle.djq_engine.proofs.Lasting.{made_tellings}
 use Rattle.djq_engine.proofs.Making.{made_sound, unmade_sound}
+use Rattle.djq_live.proofs.Untouched.{stays_lives as live_stays}
 use Rattle.djq_engine.proofs.engine.Engine.rel.Goals as goal
 
 pub invariant_of-self-in-Ok-relation : goal.invariant_of-self-in-Ok-relation
 invariant_of-self-in-Ok-relation c = (
-  made_sound c.live_stays.ensures c.self.inside.parts.catalog c.relation.new.self
+  made_sound live_stays c.self.inside.parts.catalog c.relation.new.self
       c.self.inside.parts.queries.items c.self.inside.parts.order c.self.inside.parts.readers.items
       c.push_reserved.new.self.items
       (record { name = c.args.name; types = c.args.types; rows = [] }) c.self.invariant.0 c.laws.ensures

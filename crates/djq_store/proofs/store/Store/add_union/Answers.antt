@@ -16,6 +16,7 @@ use Rattle.djq_store.proofs.Chosen.{are_fit, are_known}
 use Rattle.djq_store.proofs.Joining.{joining_members, joining_registers, joining_enrols}
 use Rattle.djq_store.proofs.Joining.{joining_cursors, joining_counted, joining_listed}
 use Rattle.djq_store.proofs.Joining.{joining_tells}
+use Rattle.djq_live.proofs.Standing.{head_are as head_types_are}
 use Rattle.djq_store.proofs.store.Store.add_union.Goals as goal
 
 pub places_of-requires : goal.places_of-requires
@@ -24,17 +25,17 @@ places_of-requires c =
     let fit = are_fit
     (store_seen old.engine old.unions.items old.order.items old.sessions.items old.affected.items).store
     c.args.name c.args.members.now (sym c.judge_union.ensures ∙ c.in_default.is) in
-    are_known old.engine c.engine_laws.ensures.engine c.head_types_are.ensures old.unions.items old.order.items
+    are_known old.engine c.laws.ensures head_types_are old.unions.items old.order.items
     old.sessions.items old.affected.items c.self.invariant.listed c.args.members.now fit.known fit.queries
 
 pub most_of-most-requires : goal.most_of-most-requires
 most_of-most-requires c =
     let old = c.self.inside.parts in
-    let over = c.engine_laws.ensures.engine.over in
+    let over = c.laws.ensures.over in
     record {
       members = subst (λ (gs : _). AreMembers gs c.as_slice.result.now) (sym c.places.ensures)
           (subst (λ (ps : List ℕ). AreMembers old.engine.places ps) (sym c.as_slice.ensures)
-          (joining_members old.engine c.engine_laws.ensures.engine c.head_types_are.ensures old.unions.items
+          (joining_members old.engine c.laws.ensures head_types_are old.unions.items
           old.order.items
           old.sessions.items old.affected.items c.self.invariant.listed
           c.args.name c.args.members.now c.requires (sym c.judge_union.ensures ∙ c.in_default.is) c.in-Ok.places
@@ -50,18 +51,18 @@ pub invariant_of-self : goal.invariant_of-self
 invariant_of-self c =
     let old = c.self.inside.parts in
     let free = sym c.judge_union.ensures ∙ c.in_default.is in
-    let members = joining_members old.engine c.engine_laws.ensures.engine c.head_types_are.ensures old.unions.items
+    let members = joining_members old.engine c.laws.ensures head_types_are old.unions.items
     old.order.items old.sessions.items old.affected.items c.self.invariant.listed
     c.args.name c.args.members.now c.requires free c.in-Ok.places c.in-Ok.ensures in
     record {
       listed = subst (λ (xs : List ℕ). IsListed old.engine c.fill_slot.new.unions.items xs)
           (sym c.push_reserved.ensures.items)
-          (joining_listed old.engine c.engine_laws.ensures.engine c.head_types_are.ensures old.unions.items
+          (joining_listed old.engine c.laws.ensures head_types_are old.unions.items
           old.order.items old.sessions.items old.affected.items c.self.invariant.listed
           c.args.name c.args.members.now c.requires free c.in-Ok.places c.in-Ok.ensures c.fill_slot.new.unions.items
           c.in-Ok-fill_slot.slot _ c.in-Ok-fill_slot.ensures.ok c.new.ensures.is refl
           (c.new.ensures.united old.engine.places members) c.new-2.ensures.kept c.new-2.ensures.lines);
-      counted = joining_counted old.engine c.engine_laws.ensures.engine c.head_types_are.ensures old.unions.items
+      counted = joining_counted old.engine c.laws.ensures head_types_are old.unions.items
           old.order.items old.sessions.items old.affected.items c.self.invariant.listed
           c.args.name c.args.members.now c.requires free c.in-Ok.places c.in-Ok.ensures c.fill_slot.new.unions.items
           c.in-Ok-fill_slot.slot _ c.in-Ok-fill_slot.ensures.ok c.new.ensures.is refl c.self.invariant.counted;
@@ -76,7 +77,7 @@ pub returns-in-Ok-fill_slot : goal.returns-in-Ok-fill_slot
 returns-in-Ok-fill_slot c =
     let old = c.self.inside.parts in
     let free = sym c.judge_union.ensures ∙ c.in_default.is in
-    let members = joining_members old.engine c.engine_laws.ensures.engine c.head_types_are.ensures old.unions.items
+    let members = joining_members old.engine c.laws.ensures head_types_are old.unions.items
     old.order.items old.sessions.items old.affected.items c.self.invariant.listed
     c.args.name c.args.members.now c.requires free c.in-Ok.places c.in-Ok.ensures in
     record {
@@ -89,7 +90,7 @@ returns-in-Ok-fill_slot c =
           c.args.members.now (Ok c.most_of-most.result)
           (store_seen old.engine c.fill_slot.new.unions.items xs old.sessions.items old.affected.items).store)
           (sym c.push_reserved.ensures.items)
-          (joining_registers old.engine c.engine_laws.ensures.engine c.head_types_are.ensures old.unions.items
+          (joining_registers old.engine c.laws.ensures head_types_are old.unions.items
           old.order.items
           old.sessions.items old.affected.items c.self.invariant.listed
           c.args.name c.args.members.now c.requires free c.in-Ok.places c.in-Ok.ensures c.fill_slot.new.unions.items
@@ -102,7 +103,7 @@ returns-in-Ok-fill_slot c =
       cursors = subst (λ (k : Kept). SameCursors k.cursors
           (store_seen old.engine c.fill_slot.new.unions.items c.push_reserved.new.self.items old.sessions.items
           old.affected.items).cursors) c.self.view_is
-          (joining_cursors old.engine c.engine_laws.ensures.engine c.head_types_are.ensures old.unions.items
+          (joining_cursors old.engine c.laws.ensures head_types_are old.unions.items
           old.order.items
           old.sessions.items old.affected.items c.self.invariant.listed
           c.args.name c.args.members.now c.requires free c.in-Ok.places c.in-Ok.ensures c.fill_slot.new.unions.items
@@ -115,7 +116,7 @@ returns-in-Ok-fill_slot c =
           c.args.members.now (Ok c.most_of-most.result)
           (store_seen old.engine c.fill_slot.new.unions.items xs old.sessions.items old.affected.items))
           (sym c.push_reserved.ensures.items)
-          (joining_enrols old.engine c.engine_laws.ensures.engine c.head_types_are.ensures old.unions.items
+          (joining_enrols old.engine c.laws.ensures head_types_are old.unions.items
           old.order.items
           old.sessions.items old.affected.items c.self.invariant.listed
           c.args.name c.args.members.now c.requires free c.in-Ok.places c.in-Ok.ensures c.fill_slot.new.unions.items
@@ -128,7 +129,7 @@ returns-in-Ok-fill_slot c =
           (Ok c.most_of-most.result)
           (store_seen old.engine c.fill_slot.new.unions.items xs old.sessions.items old.affected.items))
           (sym c.push_reserved.ensures.items)
-          (joining_tells old.engine c.engine_laws.ensures.engine c.head_types_are.ensures old.unions.items
+          (joining_tells old.engine c.laws.ensures head_types_are old.unions.items
           old.order.items
           old.sessions.items old.affected.items c.self.invariant.listed
           c.args.name c.args.members.now c.requires free c.in-Ok.places c.in-Ok.ensures c.fill_slot.new.unions.items

@@ -12,7 +12,7 @@ use Rattle.djq_store.proofs.store.Store.answer.Goals as goal
 pub answer-requires : goal.answer-requires
 answer-requires c =
     let old = c.self.inside.parts in
-    shown_low old.engine c.engine_laws.ensures.engine old.unions.items old.order.items old.sessions.items
+    shown_low old.engine c.laws.ensures old.unions.items old.order.items old.sessions.items
     old.affected.items c.self.invariant.listed c.args.id c.args.answer.now c.if-id-lt-QUERIES.true
     (subst (λ (k : Kept). IsShown k c.args.id c.args.answer.now) (sym c.self.view_is) c.requires)
 
@@ -21,7 +21,7 @@ joined_in-joined-requires c =
     let old = c.self.inside.parts in
     subst (λ (us : List (Option Joined)). IsSomeAnd (joined_at us (c.args.id.query.at - 256)) (λ j. ⊤))
     (sym c.as_slice.ensures.value)
-    (lender_there old.engine c.engine_laws.ensures.engine old.unions.items old.order.items old.sessions.items
+    (lender_there old.engine c.laws.ensures old.unions.items old.order.items old.sessions.items
     old.affected.items c.self.invariant.listed c.args.id c.if-id-lt-QUERIES.false c.args.answer.now
     (subst (λ (k : Kept). IsShown k c.args.id c.args.answer.now) (sym c.self.view_is) c.requires))
 
@@ -33,7 +33,7 @@ answer-requires-2 c =
     c.as_slice.ensures.value c.joined_in-joined.ensures in
     subst (λ (ks : List ℕ). AtPlace old.engine (id_at (get_or ks 0 0))
     (λ l. IsShowable (old.engine.store).texts l c.args.answer.now)) (sym c.members.ensures)
-    (shown_high old.engine c.engine_laws.ensures.engine old.unions.items old.order.items old.sessions.items
+    (shown_high old.engine c.laws.ensures old.unions.items old.order.items old.sessions.items
     old.affected.items c.self.invariant.listed c.args.id c.if-id-lt-QUERIES.false j found c.args.answer.now
     (subst (λ (k : Kept). IsShown k c.args.id c.args.answer.now) (sym c.self.view_is) c.requires))
 
@@ -41,7 +41,7 @@ pub returns-then-id-lt-QUERIES : goal.returns-then-id-lt-QUERIES
 returns-then-id-lt-QUERIES c =
     let old = c.self.inside.parts in
     subst (λ (k : Kept). AnswerIs k c.args.id c.args.answer.now c.answer.result) c.self.view_is
-    (answer_low old.engine c.engine_laws.ensures.engine old.unions.items old.order.items old.sessions.items
+    (answer_low old.engine c.laws.ensures old.unions.items old.order.items old.sessions.items
     old.affected.items c.self.invariant.listed c.args.id c.args.answer.now c.answer.result c.if-id-lt-QUERIES.true
     c.answer.ensures)
 
@@ -55,6 +55,6 @@ returns c =
     (λ l. c.answer-2.result ≡ values_of (old.engine.store).texts l c.args.answer.now)) c.members.ensures
     c.answer-2.ensures in
     subst (λ (k : Kept). AnswerIs k c.args.id c.args.answer.now c.answer-2.result) c.self.view_is
-    (answer_high old.engine c.engine_laws.ensures.engine old.unions.items old.order.items old.sessions.items
+    (answer_high old.engine c.laws.ensures old.unions.items old.order.items old.sessions.items
     old.affected.items c.self.invariant.listed c.args.id c.if-id-lt-QUERIES.false j found c.args.answer.now
     c.answer-2.result lent)

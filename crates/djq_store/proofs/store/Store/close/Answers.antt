@@ -8,12 +8,13 @@ use Rattle.djq_store.proofs.Moved.{cursor_of}
 use Rattle.djq_store.proofs.Standing.{id_is, held_in_engine, closable}
 use Rattle.djq_store.proofs.Staying.{rests_with}
 use Rattle.djq_store.proofs.Unions.{close_union, closed_listed, closed_counted}
+use Rattle.djq_store.proofs.Below.{staying_laws}
 use Rattle.djq_store.proofs.store.Store.close.Goals as goal
 
 pub close-requires : goal.close-requires
 close-requires c =
     let old = c.self.inside.parts in
-    held_in_engine old.engine c.engine_laws.ensures.engine old.unions.items old.order.items old.sessions.items
+    held_in_engine old.engine c.laws.ensures old.unions.items old.order.items old.sessions.items
     old.affected.items c.self.invariant.listed c.args.id c.if-id-lt-QUERIES.true
     (subst (λ (k : Kept). IsHeld k c.args.id) (sym c.self.view_is) c.requires)
 
@@ -22,8 +23,8 @@ invariant_of-self c =
     let old = c.self.inside.parts in
     let e' = c.close.new.self in
     let same = closed_same old.engine e' c.args.id c.close.ensures.closes in
-    whole_over old e' (rests_with old.engine e' c.engine_laws.ensures.engine
-    c.engine_laws-then-id-lt-QUERIES.ensures.engine c.engine_laws.ensures.staying c.close.ensures.places same.0)
+    whole_over old e' (rests_with old.engine e' c.laws.ensures
+    c.laws-then-id-lt-QUERIES.ensures staying_laws c.close.ensures.places same.0)
     same.1 c.self.invariant
 
 pub returns-then-id-lt-QUERIES : goal.returns-then-id-lt-QUERIES
@@ -31,8 +32,8 @@ returns-then-id-lt-QUERIES c =
     let old = c.self.inside.parts in
     let e' = c.close.new.self in
     let same = closed_same old.engine e' c.args.id c.close.ensures.closes in
-    let rests = rests_with old.engine e' c.engine_laws.ensures.engine c.engine_laws-then-id-lt-QUERIES.ensures.engine
-    c.engine_laws.ensures.staying c.close.ensures.places same.0 in
+    let rests = rests_with old.engine e' c.laws.ensures c.laws-then-id-lt-QUERIES.ensures
+    staying_laws c.close.ensures.places same.0 in
     subst (λ (k : Kept). ClosesCursor k c.args.id
     (store_seen e' old.unions.items old.order.items old.sessions.items old.affected.items)) c.self.view_is
     (close_over old.engine e' rests old.unions.items old.order.items old.sessions.items old.affected.items
@@ -41,7 +42,7 @@ returns-then-id-lt-QUERIES c =
 pub close_at-requires : goal.close_at-requires
 close_at-requires c =
     let old = c.self.inside.parts in
-    closable old.engine c.engine_laws.ensures.engine old.unions.items old.order.items old.sessions.items
+    closable old.engine c.laws.ensures old.unions.items old.order.items old.sessions.items
     old.affected.items c.self.invariant.listed c.args.id c.if-id-lt-QUERIES.false
     (subst (λ (k : Kept). IsHeld k c.args.id) (sym c.self.view_is) c.requires)
 
@@ -50,9 +51,9 @@ invariant_of-self-2 c =
     let old = c.self.inside.parts in
     let at = c.args.id.query.at - 256 in
     record {
-      listed = closed_listed old.engine c.engine_laws.ensures.engine old.unions.items old.order.items old.sessions.items
+      listed = closed_listed old.engine c.laws.ensures old.unions.items old.order.items old.sessions.items
           old.affected.items c.self.invariant.listed at c.args.id.cursor c.close_at.new.unions.items c.close_at.ensures;
-      counted = closed_counted old.engine c.engine_laws.ensures.engine old.unions.items old.order.items
+      counted = closed_counted old.engine c.laws.ensures old.unions.items old.order.items
           old.sessions.items old.affected.items c.self.invariant.listed at c.args.id.cursor c.close_at.new.unions.items
           c.close_at.ensures c.self.invariant.counted;
       roomy = record { order = c.self.invariant.roomy.order; affected = c.self.invariant.roomy.affected };
@@ -68,5 +69,5 @@ returns c =
     (subst (λ (k : Kept). ClosesCursor k (cursor_of at c.args.id.cursor)
     (store_seen old.engine c.close_at.new.unions.items old.order.items old.sessions.items old.affected.items))
     c.self.view_is
-    (close_union old.engine c.engine_laws.ensures.engine old.unions.items old.order.items old.sessions.items
+    (close_union old.engine c.laws.ensures old.unions.items old.order.items old.sessions.items
     old.affected.items c.self.invariant.listed at c.args.id.cursor c.close_at.new.unions.items c.close_at.ensures))

@@ -11,6 +11,7 @@ use Rattle.djq_store.proofs.Counting.{counts_seen}
 use Rattle.djq_store.proofs.Doing.{members_behind, order_few, unions_unwatched, engine_unwatched}
 use Rattle.djq_store.proofs.Rowed.{did_by, turn_low, turn_few, turn_comes, store_deletes}
 use Rattle.djq_store.proofs.Rowing.{delete_known, delete_turns, delete_grows}
+use Rattle.djq_store.proofs.Below.{staying_laws}
 use Rattle.djq_store.proofs.store.Store.del.Goals as goal
 
 pub follow_one-requires : goal.follow_one-requires
@@ -21,15 +22,15 @@ follow_one-requires g c =
     let a = c.del-outcome.ensures in
     let change = row_out (p.engine.store).relations c.args.name.now c.args.row.now in
     let outcome = delete_outcome change r in
-    let b = c.engine_laws.ensures.engine in
-    let did = did_by p.engine e' outcome b c.engine_laws-2.ensures.engine a.watches a.outdates a.places
+    let b = c.laws.ensures in
+    let did = did_by p.engine e' outcome b c.laws-2.ensures a.watches a.outdates a.places
     (delete_grows (p.engine).store e'.store c.args.name.now c.args.row.now r a.deletes) in
     let turn = c.delete_turn-turn.result in
     let is = c.delete_turn-turn.ensures ∙ delete_turns change r in
     let from = c.args.steps.now.listing in
     let mid = c.del-outcome.new.steps.listing in
     record {
-      members = members_behind p e' c.self.invariant c.engine_laws.ensures.staying (tried outcome) did;
+      members = members_behind p e' c.self.invariant staying_laws (tried outcome) did;
       low = turn_low p e' b false outcome turn is from mid a.tells;
       few = turn_few p e' c.self.invariant false outcome turn is from mid a.tells;
       room = order_few p c.self.invariant;
@@ -43,8 +44,8 @@ invariant_of-self g c =
     let a = c.del-outcome.ensures in
     let change = row_out (p.engine.store).relations c.args.name.now c.args.row.now in
     let outcome = delete_outcome change r in
-    let b = c.engine_laws.ensures.engine in
-    let did = did_by p.engine e' outcome b c.engine_laws-2.ensures.engine a.watches a.outdates a.places
+    let b = c.laws.ensures in
+    let did = did_by p.engine e' outcome b c.laws-2.ensures a.watches a.outdates a.places
     (delete_grows (p.engine).store e'.store c.args.name.now c.args.row.now r a.deletes) in
     let turn = c.delete_turn-turn.result in
     let is = c.delete_turn-turn.ensures ∙ delete_turns change r in
@@ -53,7 +54,7 @@ invariant_of-self g c =
     let q = c.follow_one.new.parts in
     let to = c.follow_one.new.listing in
     let comes = turn_comes p q e' false (c.args.name.now ∷ []) outcome turn is from mid to c.self.invariant
-    c.engine_laws.ensures.staying did a.tells
+    staying_laws did a.tells
     (delete_known p.engine e' c.args.name.now c.args.row.now r a.deletes) c.follow_one.ensures.follows
     c.follow_one.ensures.counted in
     comes.whole
@@ -66,8 +67,8 @@ returns g c =
     let a = c.del-outcome.ensures in
     let change = row_out (p.engine.store).relations c.args.name.now c.args.row.now in
     let outcome = delete_outcome change r in
-    let b = c.engine_laws.ensures.engine in
-    let did = did_by p.engine e' outcome b c.engine_laws-2.ensures.engine a.watches a.outdates a.places
+    let b = c.laws.ensures in
+    let did = did_by p.engine e' outcome b c.laws-2.ensures a.watches a.outdates a.places
     (delete_grows (p.engine).store e'.store c.args.name.now c.args.row.now r a.deletes) in
     let turn = c.delete_turn-turn.result in
     let is = c.delete_turn-turn.ensures ∙ delete_turns change r in
@@ -76,7 +77,7 @@ returns g c =
     let q = c.follow_one.new.parts in
     let to = c.follow_one.new.listing in
     let comes = turn_comes p q e' false (c.args.name.now ∷ []) outcome turn is from mid to c.self.invariant
-    c.engine_laws.ensures.staying did a.tells
+    staying_laws did a.tells
     (delete_known p.engine e' c.args.name.now c.args.row.now r a.deletes) c.follow_one.ensures.follows
     c.follow_one.ensures.counted in
     record {

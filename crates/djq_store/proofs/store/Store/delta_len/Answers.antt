@@ -12,7 +12,7 @@ use Rattle.djq_store.proofs.store.Store.delta_len.Goals as goal
 pub delta_len-requires : goal.delta_len-requires
 delta_len-requires c =
     let p = c.self.inside.parts in
-    engine_registered p.engine c.engine_laws.ensures.engine p.unions.items p.order.items p.sessions.items
+    engine_registered p.engine c.laws.ensures p.unions.items p.order.items p.sessions.items
     p.affected.items
     c.self.invariant.listed c.args.id (subst (λ (k : Kept). IsRegistered k c.args.id) (sym c.self.view_is) c.requires)
     c.if-id-lt-QUERIES.true
@@ -24,7 +24,7 @@ returns-then-id-lt-QUERIES c =
     ≡ option_map (λ (changes : List Change). length changes) (told_at k c.args.id))
     c.self.view_is
     (c.delta_len.ensures ∙ ap (option_map (λ (changes : List Change). length changes))
-    (sym (told_query p.engine c.engine_laws.ensures.engine p.unions.items p.order.items p.sessions.items
+    (sym (told_query p.engine c.laws.ensures p.unions.items p.order.items p.sessions.items
     p.affected.items
     c.self.invariant.listed c.args.id c.if-id-lt-QUERIES.true)))
 
@@ -33,7 +33,7 @@ joined_in-requires c =
     let p = c.self.inside.parts in
     subst (λ (us : List (Option Joined)). IsSomeAnd (joined_at us (c.args.id.at - 256)) (λ j. ⊤))
     (sym c.as_slice.ensures.value)
-    (joined_some p.engine c.engine_laws.ensures.engine p.unions.items p.order.items p.sessions.items p.affected.items
+    (joined_some p.engine c.laws.ensures p.unions.items p.order.items p.sessions.items p.affected.items
     c.self.invariant.listed c.args.id (subst (λ (k : Kept). IsRegistered k c.args.id) (sym c.self.view_is) c.requires)
     c.if-id-lt-QUERIES.false)
 
@@ -46,5 +46,5 @@ returns c =
     subst (λ (k : Kept). c.told_len.result
     ≡ option_map (λ (changes : List Change). length changes) (told_at k c.args.id))
     c.self.view_is
-    (told_count p.engine c.engine_laws.ensures.engine p.unions.items p.order.items p.sessions.items p.affected.items
+    (told_count p.engine c.laws.ensures p.unions.items p.order.items p.sessions.items p.affected.items
     c.self.invariant.listed c.args.id c.if-id-lt-QUERIES.false j found c.told_len.result c.told_len.ensures)

@@ -14,7 +14,7 @@ use Rattle.djq_store.proofs.store.Store.delta_line.Goals as goal
 pub delta_line-requires-clause-registered : goal.delta_line-requires-clause-registered
 delta_line-requires-clause-registered c =
     let p = c.self.inside.parts in
-    engine_registered p.engine c.engine_laws.ensures.engine p.unions.items p.order.items p.sessions.items
+    engine_registered p.engine c.laws.ensures p.unions.items p.order.items p.sessions.items
     p.affected.items
     c.self.invariant.listed c.args.id
     (subst (λ (k : Kept). IsRegistered k c.args.id) (sym c.self.view_is) c.requires.registered)
@@ -24,7 +24,7 @@ pub delta_line-requires-clause-within : goal.delta_line-requires-clause-within
 delta_line-requires-clause-within c =
     let p = c.self.inside.parts in
     subst (λ (o : Option (List Change)). IsSomeAnd o (λ changes. c.args.nth < length changes))
-    (told_query p.engine c.engine_laws.ensures.engine p.unions.items p.order.items p.sessions.items p.affected.items
+    (told_query p.engine c.laws.ensures p.unions.items p.order.items p.sessions.items p.affected.items
     c.self.invariant.listed c.args.id c.if-id-lt-QUERIES.true)
     (subst (λ (k : Kept). IsSomeAnd (told_at k c.args.id) (λ changes. c.args.nth < length changes)) (sym c.self.view_is)
     c.requires.within)
@@ -36,7 +36,7 @@ returns-then-id-lt-QUERIES c =
     (λ d. (c.delta_line.result.0 ≡ d.sign) × (c.delta_line.result.1 ≡ d.answer)))) c.self.view_is
     (subst (λ (o : Option (List Change)). IsSomeAnd o (λ changes. IsSomeAnd (slice_get changes c.args.nth)
     (λ d. (c.delta_line.result.0 ≡ d.sign) × (c.delta_line.result.1 ≡ d.answer))))
-    (sym (told_query p.engine c.engine_laws.ensures.engine p.unions.items p.order.items p.sessions.items
+    (sym (told_query p.engine c.laws.ensures p.unions.items p.order.items p.sessions.items
     p.affected.items
     c.self.invariant.listed c.args.id c.if-id-lt-QUERIES.true))
     c.delta_line.ensures)
@@ -46,7 +46,7 @@ joined_in-joined-requires c =
     let p = c.self.inside.parts in
     subst (λ (us : List (Option Joined)). IsSomeAnd (joined_at us (c.args.id.at - 256)) (λ j. ⊤))
     (sym c.as_slice.ensures.value)
-    (joined_some p.engine c.engine_laws.ensures.engine p.unions.items p.order.items p.sessions.items p.affected.items
+    (joined_some p.engine c.laws.ensures p.unions.items p.order.items p.sessions.items p.affected.items
     c.self.invariant.listed c.args.id
     (subst (λ (k : Kept). IsRegistered k c.args.id) (sym c.self.view_is) c.requires.registered)
     c.if-id-lt-QUERIES.false)
@@ -57,7 +57,7 @@ told_line-line-requires c =
     let j = c.joined_in-joined.result.now in
     let found = subst (λ (us : List (Option Joined)). joined_at us (c.args.id.at - 256) ≡ Some j)
     c.as_slice.ensures.value c.joined_in-joined.ensures in
-    line_there p.engine c.engine_laws.ensures.engine p.unions.items p.order.items p.sessions.items p.affected.items
+    line_there p.engine c.laws.ensures p.unions.items p.order.items p.sessions.items p.affected.items
     c.self.invariant.listed c.args.id c.if-id-lt-QUERIES.false j found c.args.nth
     (subst (λ (k : Kept). IsSomeAnd (told_at k c.args.id) (λ changes. c.args.nth < length changes)) (sym c.self.view_is)
     c.requires.within)
@@ -72,7 +72,7 @@ answer-requires c =
     subst (λ (ks : List ℕ). AtPlace p.engine (id_at (get_or ks 0 0))
     (λ l. IsShowable (p.engine.store).texts l line.answer))
     (sym c.members.ensures)
-    (line_shown p.engine c.engine_laws.ensures.engine p.unions.items p.order.items p.sessions.items p.affected.items
+    (line_shown p.engine c.laws.ensures p.unions.items p.order.items p.sessions.items p.affected.items
     c.self.invariant.listed c.args.id c.if-id-lt-QUERIES.false j found c.args.nth
     (subst (λ (k : Kept). IsSomeAnd (told_at k c.args.id) (λ changes. c.args.nth < length changes)) (sym c.self.view_is)
     c.requires.within) line c.told_line-line.ensures)
@@ -86,7 +86,7 @@ returns c =
     let line = c.told_line-line.result.now in
     subst (λ (k : Kept). IsSomeAnd (told_at k c.args.id) (λ changes. IsSomeAnd (slice_get changes c.args.nth)
     (λ d. (c.sign_of.result ≡ d.sign) × (c.answer.result ≡ d.answer)))) c.self.view_is
-    (line_told p.engine c.engine_laws.ensures.engine p.unions.items p.order.items p.sessions.items p.affected.items
+    (line_told p.engine c.laws.ensures p.unions.items p.order.items p.sessions.items p.affected.items
     c.self.invariant.listed c.args.id c.if-id-lt-QUERIES.false j found c.args.nth
     (subst (λ (k : Kept). IsSomeAnd (told_at k c.args.id) (λ changes. c.args.nth < length changes)) (sym c.self.view_is)
     c.requires.within) line c.told_line-line.ensures c.sign_of.result c.answer.result c.sign_of.ensures

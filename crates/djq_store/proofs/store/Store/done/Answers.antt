@@ -14,6 +14,8 @@ use Rattle.djq_store.proofs.Counting.{counts_batch_seen}
 use Rattle.djq_store.proofs.Doing.{members_behind, order_few, unions_unwatched, engine_unwatched}
 use Rattle.djq_store.proofs.Rowed.{did_by, turn_low, turn_few, turn_comes}
 use Rattle.djq_store.proofs.Batched.{batch_known, batch_turns, batch_grows, store_batches}
+use Rattle.djq_rows.proofs.Lawful.{texts as texts_stay}
+use Rattle.djq_store.proofs.Below.{staying_laws}
 use Rattle.djq_store.proofs.store.Store.done.Goals as goal
 
 pub follow_batch-requires : goal.follow_batch-requires
@@ -24,9 +26,9 @@ follow_batch-requires g c =
     let a = c.done-outcome.ensures in
     let held = c.args.held.now in
     let outcome = batch_outcome (p.engine).store held r in
-    let b = c.engine_laws.ensures.engine in
-    let did = did_by p.engine e' outcome b c.engine_laws-2.ensures.engine a.watches a.outdates a.places
-    (batch_grows c.texts_stay.ensures (p.engine).store e'.store held r a.adds) in
+    let b = c.laws.ensures in
+    let did = did_by p.engine e' outcome b c.laws-2.ensures a.watches a.outdates a.places
+    (batch_grows texts_stay (p.engine).store e'.store held r a.adds) in
     let turn = c.batch_turn-turn.result in
     let is = c.batch_turn-turn.ensures ∙ batch_turns (p.engine).store held r in
     let from = c.args.steps.now.listing in
@@ -34,7 +36,7 @@ follow_batch-requires g c =
     record {
       batch = c.requires.few;
       joined = c.has_union-joined.ensures;
-      members = members_behind p e' c.self.invariant c.engine_laws.ensures.staying (tried outcome) did;
+      members = members_behind p e' c.self.invariant staying_laws (tried outcome) did;
       low = turn_low p e' b true outcome turn is from mid a.tells;
       few = turn_few p e' c.self.invariant true outcome turn is from mid a.tells;
       room = order_few p c.self.invariant;
@@ -48,9 +50,9 @@ invariant_of-self g c =
     let a = c.done-outcome.ensures in
     let held = c.args.held.now in
     let outcome = batch_outcome (p.engine).store held r in
-    let b = c.engine_laws.ensures.engine in
-    let did = did_by p.engine e' outcome b c.engine_laws-2.ensures.engine a.watches a.outdates a.places
-    (batch_grows c.texts_stay.ensures (p.engine).store e'.store held r a.adds) in
+    let b = c.laws.ensures in
+    let did = did_by p.engine e' outcome b c.laws-2.ensures a.watches a.outdates a.places
+    (batch_grows texts_stay (p.engine).store e'.store held r a.adds) in
     let turn = c.batch_turn-turn.result in
     let is = c.batch_turn-turn.ensures ∙ batch_turns (p.engine).store held r in
     let from = c.args.steps.now.listing in
@@ -64,7 +66,7 @@ invariant_of-self g c =
     (ap (λ (t : Option Turn). grown_of t ((p.engine).store).relations (e'.store).relations held)
     c.batch_turn-turn.ensures) in
     let comes = turn_comes p q e' true names outcome turn is from mid to c.self.invariant
-    c.engine_laws.ensures.staying did a.tells known
+    staying_laws did a.tells known
     (c.follow_batch.ensures.follows ((p.engine).store).relations c.count_rows-counts.ensures)
     (c.follow_batch.ensures.counted ((p.engine).store).relations c.count_rows-counts.ensures) in
     comes.whole
@@ -77,9 +79,9 @@ returns g c =
     let a = c.done-outcome.ensures in
     let held = c.args.held.now in
     let outcome = batch_outcome (p.engine).store held r in
-    let b = c.engine_laws.ensures.engine in
-    let did = did_by p.engine e' outcome b c.engine_laws-2.ensures.engine a.watches a.outdates a.places
-    (batch_grows c.texts_stay.ensures (p.engine).store e'.store held r a.adds) in
+    let b = c.laws.ensures in
+    let did = did_by p.engine e' outcome b c.laws-2.ensures a.watches a.outdates a.places
+    (batch_grows texts_stay (p.engine).store e'.store held r a.adds) in
     let turn = c.batch_turn-turn.result in
     let is = c.batch_turn-turn.ensures ∙ batch_turns (p.engine).store held r in
     let from = c.args.steps.now.listing in
@@ -93,7 +95,7 @@ returns g c =
     (ap (λ (t : Option Turn). grown_of t ((p.engine).store).relations (e'.store).relations held)
     c.batch_turn-turn.ensures) in
     let comes = turn_comes p q e' true names outcome turn is from mid to c.self.invariant
-    c.engine_laws.ensures.staying did a.tells known
+    staying_laws did a.tells known
     (c.follow_batch.ensures.follows ((p.engine).store).relations c.count_rows-counts.ensures)
     (c.follow_batch.ensures.counted ((p.engine).store).relations c.count_rows-counts.ensures) in
     let same = sym (outcome_lifted ((store_kept_in p).store).queries (p.engine).store held r) in

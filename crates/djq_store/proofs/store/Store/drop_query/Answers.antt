@@ -18,6 +18,7 @@ use Rattle.djq_store.proofs.Staying.{listed_over, counts_stay}
 use Rattle.djq_store.proofs.Undone.{drop_watched, drop_held, undone_listed, undone_counted, undone_gives}
 use Rattle.djq_store.proofs.Used.{drop_unknown, drop_member, drop_done, drop_gives, drop_refused, drop_rests}
 use Rattle.djq_store.proofs.Vacated.{vacated_listed, vacated_counted}
+use Rattle.djq_store.proofs.Below.{staying_laws}
 use Rattle.djq_store.proofs.store.Store.drop_query.Goals as goal
 
 pub joined_in-joined-requires : goal.joined_in-joined-requires
@@ -34,7 +35,7 @@ pub returns-then-joined-gt0 : goal.returns-then-joined-gt0
 returns-then-joined-gt0 c =
     let old = c.self.inside.parts in
     let e = old.engine in
-    let b = c.engine_laws.ensures.engine in
+    let b = c.laws.ensures in
     let w = c.self.invariant.listed in
     let name = c.args.name.now in
     let f = found_union old.unions.items c.as_slice.result.now name c.in-Some.slot c.as_slice.ensures.value
@@ -53,7 +54,7 @@ pub returns-then-not-is_idle : goal.returns-then-not-is_idle
 returns-then-not-is_idle c =
     let old = c.self.inside.parts in
     let e = old.engine in
-    let b = c.engine_laws.ensures.engine in
+    let b = c.laws.ensures in
     let w = c.self.invariant.listed in
     let name = c.args.name.now in
     let f = found_union old.unions.items c.as_slice.result.now name c.in-Some.slot c.as_slice.ensures.value
@@ -73,7 +74,7 @@ pub invariant_of-self : goal.invariant_of-self
 invariant_of-self c =
     let old = c.self.inside.parts in
     let e = old.engine in
-    let b = c.engine_laws.ensures.engine in
+    let b = c.laws.ensures in
     let w = c.self.invariant.listed in
     let name = c.args.name.now in
     let f = found_union old.unions.items c.as_slice.result.now name c.in-Some.slot c.as_slice.ensures.value
@@ -104,7 +105,7 @@ pub returns-in-Some : goal.returns-in-Some
 returns-in-Some c =
     let old = c.self.inside.parts in
     let e = old.engine in
-    let b = c.engine_laws.ensures.engine in
+    let b = c.laws.ensures in
     let w = c.self.invariant.listed in
     let name = c.args.name.now in
     let f = found_union old.unions.items c.as_slice.result.now name c.in-Some.slot c.as_slice.ensures.value
@@ -140,7 +141,7 @@ pub returns-in_default-query_id : goal.returns-in_default-query_id
 returns-in_default-query_id c =
     let old = c.self.inside.parts in
     let e = old.engine in
-    let b = c.engine_laws.ensures.engine in
+    let b = c.laws.ensures in
     let w = c.self.invariant.listed in
     let name = c.args.name.now in
     let none = no_union old.unions.items c.as_slice.result.now name c.as_slice.ensures.value c.in_default.ensures in
@@ -152,7 +153,7 @@ pub returns-then-is_member : goal.returns-then-is_member
 returns-then-is_member c =
     let old = c.self.inside.parts in
     let e = old.engine in
-    let b = c.engine_laws.ensures.engine in
+    let b = c.laws.ensures in
     let w = c.self.invariant.listed in
     let name = c.args.name.now in
     let none = no_union old.unions.items c.as_slice.result.now name c.as_slice.ensures.value c.in_default.ensures in
@@ -168,7 +169,7 @@ pub invariant_of-self-then-is_ok : goal.invariant_of-self-then-is_ok
 invariant_of-self-then-is_ok c =
     let old = c.self.inside.parts in
     let e = old.engine in
-    let b = c.engine_laws.ensures.engine in
+    let b = c.laws.ensures in
     let w = c.self.invariant.listed in
     let name = c.args.name.now in
     let none = no_union old.unions.items c.as_slice.result.now name c.as_slice.ensures.value c.in_default.ensures in
@@ -183,7 +184,7 @@ invariant_of-self-then-is_ok c =
     let p = subst (λ (x : Result ⊤ Refusal). DropsPlace e name x e') is c.drop_query-dropped.ensures.places in
     let v = drop_done e b old.unions.items old.order.items old.sessions.items old.affected.items w
     c.self.invariant.counted name none c.in-Some-query_id.id.at s.seat s.called alone e'
-    c.engine_laws-2.ensures.engine g p in
+    c.laws-2.ensures g p in
     record {
       listed = subst (λ (xs : List ℕ). IsListed e' old.unions.items xs) (sym c.leave_out-then-is_ok.ensures.items)
           (vacated_listed e e' old.unions.items old.order.items old.sessions.items old.affected.items w name
@@ -200,7 +201,7 @@ pub invariant_of-self-else-is_ok : goal.invariant_of-self-else-is_ok
 invariant_of-self-else-is_ok c =
     let old = c.self.inside.parts in
     let e = old.engine in
-    let b = c.engine_laws.ensures.engine in
+    let b = c.laws.ensures in
     let w = c.self.invariant.listed in
     let name = c.args.name.now in
     let e' = c.drop_query-dropped.new.self in
@@ -208,7 +209,7 @@ invariant_of-self-else-is_ok c =
     let x = was_refused result (sym c.is_ok.ensures.value ∙ c.if-is_ok.false) in
     let g = subst (λ (y : Result ⊤ Refusal). DropGives e name y e') x.is c.drop_query-dropped.ensures.gives in
     let p = subst (λ (y : Result ⊤ Refusal). DropsPlace e name y e') x.is c.drop_query-dropped.ensures.places in
-    let r = drop_rests e e' b c.engine_laws-2.ensures.engine c.engine_laws.ensures.staying name x.refusal g p in
+    let r = drop_rests e e' b c.laws-2.ensures staying_laws name x.refusal g p in
     record {
       listed = listed_over e e' r old.unions.items old.order.items old.sessions.items old.affected.items w g.registered;
       counted = counts_stay e e' old.unions.items old.sessions.items g.registered c.self.invariant.counted;
@@ -219,7 +220,7 @@ pub returns-then-is_ok : goal.returns-then-is_ok
 returns-then-is_ok c =
     let old = c.self.inside.parts in
     let e = old.engine in
-    let b = c.engine_laws.ensures.engine in
+    let b = c.laws.ensures in
     let w = c.self.invariant.listed in
     let name = c.args.name.now in
     let none = no_union old.unions.items c.as_slice.result.now name c.as_slice.ensures.value c.in_default.ensures in
@@ -234,7 +235,7 @@ returns-then-is_ok c =
     let p = subst (λ (x : Result ⊤ Refusal). DropsPlace e name x e') is c.drop_query-dropped.ensures.places in
     let v = drop_done e b old.unions.items old.order.items old.sessions.items old.affected.items w
     c.self.invariant.counted name none c.in-Some-query_id.id.at s.seat s.called alone e'
-    c.engine_laws-2.ensures.engine g p in
+    c.laws-2.ensures g p in
     let at = c.in-Some-query_id.id.at in
     subst (λ (k : Kept). DropGives k name result
     (store_seen e' old.unions.items c.leave_out-then-is_ok.new.places.items old.sessions.items
@@ -258,7 +259,7 @@ pub returns-else-is_ok : goal.returns-else-is_ok
 returns-else-is_ok c =
     let old = c.self.inside.parts in
     let e = old.engine in
-    let b = c.engine_laws.ensures.engine in
+    let b = c.laws.ensures in
     let w = c.self.invariant.listed in
     let name = c.args.name.now in
     let none = no_union old.unions.items c.as_slice.result.now name c.as_slice.ensures.value c.in_default.ensures in
@@ -271,7 +272,7 @@ returns-else-is_ok c =
     let x = was_refused result (sym c.is_ok.ensures.value ∙ c.if-is_ok.false) in
     let g = subst (λ (y : Result ⊤ Refusal). DropGives e name y e') x.is c.drop_query-dropped.ensures.gives in
     let p = subst (λ (y : Result ⊤ Refusal). DropsPlace e name y e') x.is c.drop_query-dropped.ensures.places in
-    let r = drop_rests e e' b c.engine_laws-2.ensures.engine c.engine_laws.ensures.staying name x.refusal g p in
+    let r = drop_rests e e' b c.laws-2.ensures staying_laws name x.refusal g p in
     subst (λ (k : Kept). DropGives k name result
     (store_seen e' old.unions.items old.order.items old.sessions.items old.affected.items)) c.self.view_is
     (subst (λ (y : Result ⊤ Refusal). DropGives

@@ -9,5 +9,5 @@ pub returns : goal.returns
 returns c =
     let old = c.self.inside.parts in
     subst (λ (k : Kept). LendsEngine k old.engine) c.self.view_is
-    (lends old.engine c.engine_laws.ensures.engine old.unions.items old.order.items old.sessions.items
+    (lends old.engine c.laws.ensures old.unions.items old.order.items old.sessions.items
     old.affected.items c.self.invariant.listed)

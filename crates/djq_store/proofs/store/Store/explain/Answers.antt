@@ -28,7 +28,7 @@ returns-in-Some c =
     c.as_slice-in-Some.ensures.value c.joined_in-joined.ensures in
     subst (λ (k : Kept). ExplainGives k.store c.args.name.now (Ok (Members (length c.members.result.now))))
     c.self.view_is
-    (union_explained old.engine c.engine_laws.ensures.engine old.unions.items old.order.items old.sessions.items
+    (union_explained old.engine c.laws.ensures old.unions.items old.order.items old.sessions.items
     old.affected.items c.self.invariant.listed c.args.name.now c.in-Some.slot f (length c.members.result.now)
     (ap length c.members.ensures
     ∙ ap (λ (j : Joined). length j.union.members)
@@ -40,7 +40,7 @@ pub returns-in-Ok : goal.returns-in-Ok
 returns-in-Ok c =
     let old = c.self.inside.parts in
     subst (λ (k : Kept). ExplainGives k.store c.args.name.now (Ok (Tree c.in-Ok.lines))) c.self.view_is
-    (lines_explained old.engine c.engine_laws.ensures.engine old.unions.items old.order.items old.sessions.items
+    (lines_explained old.engine c.laws.ensures old.unions.items old.order.items old.sessions.items
     old.affected.items c.self.invariant.listed c.args.name.now
     (no_union old.unions.items c.as_slice.result.now c.args.name.now c.as_slice.ensures.value c.in_default.ensures)
     c.in-Ok.lines c.in-Ok.ensures)
@@ -49,7 +49,7 @@ pub returns-in-Err : goal.returns-in-Err
 returns-in-Err c =
     let old = c.self.inside.parts in
     subst (λ (k : Kept). ExplainGives k.store c.args.name.now (Err c.in-Err.refusal)) c.self.view_is
-    (none_explained old.engine c.engine_laws.ensures.engine old.unions.items old.order.items old.sessions.items
+    (none_explained old.engine c.laws.ensures old.unions.items old.order.items old.sessions.items
     old.affected.items c.self.invariant.listed c.args.name.now
     (no_union old.unions.items c.as_slice.result.now c.args.name.now c.as_slice.ensures.value c.in_default.ensures)
     c.in-Err.refusal c.in-Err.ensures)

@@ -18,7 +18,7 @@ returns-in_default g c =
     let old = c.self.inside.parts in
     record {
       tells = subst (λ (k : Kept). TellsWhether k.store c.args.name.now c.args.tuple.now c.has.result) c.self.view_is
-          (query_tells old.engine c.engine_laws.ensures.engine old.unions.items old.order.items old.sessions.items
+          (query_tells old.engine c.laws.ensures old.unions.items old.order.items old.sessions.items
           old.affected.items c.self.invariant.listed
           c.args.name.now c.args.tuple.now c.has.result
           (no_union old.unions.items c.as_slice.result.now c.args.name.now c.as_slice.ensures.value
@@ -28,7 +28,7 @@ returns-in_default g c =
           c.args.name.now))
           c.self.view_is
           (subst (λ (n : ℕ). c.has.new.listing ≤ c.args.listing.now + n)
-          (sym (query_steps old.engine c.engine_laws.ensures.engine old.unions.items old.order.items old.sessions.items
+          (sym (query_steps old.engine c.laws.ensures old.unions.items old.order.items old.sessions.items
           old.affected.items c.self.invariant.listed
           c.args.name.now c.args.tuple.now c.has.result
           (no_union old.unions.items c.as_slice.result.now c.args.name.now c.as_slice.ensures.value
@@ -71,7 +71,7 @@ returns g c =
     record {
       tells = subst (λ (k : Kept). TellsWhether k.store c.args.name.now c.args.tuple.now c.some_has.result)
           c.self.view_is
-          (union_tells old.engine c.engine_laws.ensures.engine old.unions.items old.order.items old.sessions.items
+          (union_tells old.engine c.laws.ensures old.unions.items old.order.items old.sessions.items
           old.affected.items c.self.invariant.listed
           c.args.name.now c.args.tuple.now c.some_has.result c.in-Some.slot f
           (subst (λ (ks : List ℕ). TellsMembership (old.engine.store).relations
@@ -81,7 +81,7 @@ returns g c =
           (listed_of k.store.queries c.args.name.now)) c.self.view_is
           (subst (λ (n : ℕ). c.some_has.new.listing ≤ c.args.listing.now + n)
           (ap (λ (ks : List ℕ). atoms_of (asked_in old.engine.places ks)) same
-          ∙ sym (union_steps old.engine c.engine_laws.ensures.engine old.unions.items old.order.items old.sessions.items
+          ∙ sym (union_steps old.engine c.laws.ensures old.unions.items old.order.items old.sessions.items
           old.affected.items c.self.invariant.listed
           c.args.name.now c.args.tuple.now c.some_has.result c.in-Some.slot f)) c.some_has.ensures.counted);
     }

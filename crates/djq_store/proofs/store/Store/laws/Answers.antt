@@ -11,19 +11,19 @@ pub returns-clause-queries : goal.returns-clause-queries
 returns-clause-queries c =
     let old = c.self.inside.parts in
     subst (λ (k : Kept). map (λ r. r.query) k.registered ≡ k.store.queries) c.self.view_is
-    (queries_are old.engine c.engine_laws.ensures.engine old.unions.items old.order.items old.sessions.items
+    (queries_are old.engine c.laws.ensures old.unions.items old.order.items old.sessions.items
     old.affected.items c.self.invariant.listed)
 
 pub returns-clause-apart : goal.returns-clause-apart
 returns-clause-apart c =
     let old = c.self.inside.parts in
     subst (λ (k : Kept). AllPairs (λ r s. same_query r.id s.id ≡ false) k.registered) c.self.view_is
-    (ids_apart old.engine c.engine_laws.ensures.engine old.unions.items old.order.items old.sessions.items
+    (ids_apart old.engine c.laws.ensures old.unions.items old.order.items old.sessions.items
     old.affected.items c.self.invariant.listed)
 
 pub returns-clause-named : goal.returns-clause-named
 returns-clause-named c =
     let old = c.self.inside.parts in
     subst (λ (k : Kept). AllPairs (λ r s. bytes_eq (listed_name r.query) (listed_name s.query) ≡ false) k.registered)
-    c.self.view_is (names_apart old.engine c.engine_laws.ensures.engine old.unions.items old.order.items
+    c.self.view_is (names_apart old.engine c.laws.ensures old.unions.items old.order.items
     old.sessions.items old.affected.items c.self.invariant.listed)

@@ -14,7 +14,7 @@ use Rattle.djq_store.proofs.store.Store.member_name.Goals as goal
 pub unreachable-requires : goal.unreachable-requires
 unreachable-requires c =
     let old = c.self.inside.parts in
-    no_member old.engine c.engine_laws.ensures.engine old.unions.items old.order.items old.sessions.items
+    no_member old.engine c.laws.ensures old.unions.items old.order.items old.sessions.items
     old.affected.items c.self.invariant.listed c.args.union.now c.args.nth
     (no_union old.unions.items c.as_slice.result.now c.args.union.now c.as_slice.ensures.value c.in_default.ensures)
     (subst (λ (k : Kept). HasMember k.store c.args.union.now c.args.nth) (sym c.self.view_is) c.requires)
@@ -38,7 +38,7 @@ bounds-members-nth c =
     let same : c.members.result.now ≡ f.union.union.members = c.members.ensures
     ∙ ap (λ (j : Joined). j.union.members)
     (same_slot old.unions.items c.in-Some.slot c.joined_in-joined.result.now f.union found f.there) in
-    let low = member_below old.engine c.engine_laws.ensures.engine old.unions.items old.order.items old.sessions.items
+    let low = member_below old.engine c.laws.ensures old.unions.items old.order.items old.sessions.items
     old.affected.items c.self.invariant.listed c.args.union.now c.args.nth c.in-Some.slot f
     (subst (λ (k : Kept). HasMember k.store c.args.union.now c.args.nth) (sym c.self.view_is) c.requires) in
     subst (λ (ks : List ℕ). c.args.nth < length ks) (sym same) low
@@ -53,7 +53,7 @@ offset_bounds-members-nth c =
     let same : c.members.result.now ≡ f.union.union.members = c.members.ensures
     ∙ ap (λ (j : Joined). j.union.members)
     (same_slot old.unions.items c.in-Some.slot c.joined_in-joined.result.now f.union found f.there) in
-    let low = member_below old.engine c.engine_laws.ensures.engine old.unions.items old.order.items old.sessions.items
+    let low = member_below old.engine c.laws.ensures old.unions.items old.order.items old.sessions.items
     old.affected.items c.self.invariant.listed c.args.union.now c.args.nth c.in-Some.slot f
     (subst (λ (k : Kept). HasMember k.store c.args.union.now c.args.nth) (sym c.self.view_is) c.requires) in
     let few = (c.self.invariant.listed.united c.in-Some.slot f.union f.there).members.have.few in omega
@@ -69,11 +69,11 @@ query_name-requires c =
     let same : c.members.result.now ≡ f.union.union.members = c.members.ensures
     ∙ ap (λ (j : Joined). j.union.members)
     (same_slot old.unions.items c.in-Some.slot c.joined_in-joined.result.now f.union found f.there) in
-    let low = member_below old.engine c.engine_laws.ensures.engine old.unions.items old.order.items old.sessions.items
+    let low = member_below old.engine c.laws.ensures old.unions.items old.order.items old.sessions.items
     old.affected.items c.self.invariant.listed c.args.union.now c.args.nth c.in-Some.slot f
     (subst (λ (k : Kept). HasMember k.store c.args.union.now c.args.nth) (sym c.self.view_is) c.requires) in
     subst (λ (ks : List ℕ). IsRegistered old.engine (id_at (get_or ks c.args.nth 0))) (sym same)
-    (member_registered old.engine c.engine_laws.ensures.engine old.unions.items old.order.items old.sessions.items
+    (member_registered old.engine c.laws.ensures old.unions.items old.order.items old.sessions.items
     old.affected.items c.self.invariant.listed c.args.union.now c.args.nth c.in-Some.slot f low)
 
 pub returns : goal.returns
@@ -86,12 +86,12 @@ returns c =
     let same : c.members.result.now ≡ f.union.union.members = c.members.ensures
     ∙ ap (λ (j : Joined). j.union.members)
     (same_slot old.unions.items c.in-Some.slot c.joined_in-joined.result.now f.union found f.there) in
-    let low = member_below old.engine c.engine_laws.ensures.engine old.unions.items old.order.items old.sessions.items
+    let low = member_below old.engine c.laws.ensures old.unions.items old.order.items old.sessions.items
     old.affected.items c.self.invariant.listed c.args.union.now c.args.nth c.in-Some.slot f
     (subst (λ (k : Kept). HasMember k.store c.args.union.now c.args.nth) (sym c.self.view_is) c.requires) in
     subst (λ (k : Kept). IsSomeAnd (listed_of k.store.queries c.args.union.now)
     (λ q. slice_get (map (λ m. m.name) (members_of q)) c.args.nth ≡ Some c.query_name.result)) c.self.view_is
-    (member_named old.engine c.engine_laws.ensures.engine old.unions.items old.order.items old.sessions.items
+    (member_named old.engine c.laws.ensures old.unions.items old.order.items old.sessions.items
     old.affected.items c.self.invariant.listed c.args.union.now c.args.nth c.in-Some.slot f c.query_name.result low
     (subst (λ (ks : List ℕ). IsSomeAnd (registered_at old.engine.registered (id_at (get_or ks c.args.nth 0)))
     (λ r. c.query_name.result ≡ listed_name r.query)) same c.query_name.ensures))

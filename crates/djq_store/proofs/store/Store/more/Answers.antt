@@ -12,12 +12,13 @@ use Rattle.djq_store.proofs.Moved.{cursor_of}
 use Rattle.djq_store.proofs.Standing.{id_is, fresh_in_engine, freshly}
 use Rattle.djq_store.proofs.Staying.{rests_with, kept_over}
 use Rattle.djq_store.proofs.Unions.{more_union, looked_listed, looked_counted}
+use Rattle.djq_store.proofs.Below.{staying_laws}
 use Rattle.djq_store.proofs.store.Store.more.Goals as goal
 
 pub more-more-requires : goal.more-more-requires
 more-more-requires g c =
     let old = c.self.inside.parts in
-    fresh_in_engine old.engine c.engine_laws.ensures.engine old.unions.items old.order.items old.sessions.items
+    fresh_in_engine old.engine c.laws.ensures old.unions.items old.order.items old.sessions.items
     old.affected.items c.self.invariant.listed c.args.id c.if-id-lt-QUERIES.true
     (subst (λ (k : Kept). IsFresh k c.args.id) (sym c.self.view_is) c.requires)
 
@@ -27,8 +28,8 @@ invariant_of-self g c =
     let e' = c.more-more.new.self in
     let same = more_same old.engine e' c.args.id c.more-more.result c.args.listing.now c.more-more.new.listing
     c.more-more.ensures.gives in
-    whole_over old e' (rests_with old.engine e' c.engine_laws.ensures.engine
-    c.engine_laws-then-id-lt-QUERIES.ensures.engine c.engine_laws.ensures.staying c.more-more.ensures.places same.0)
+    whole_over old e' (rests_with old.engine e' c.laws.ensures
+    c.laws-then-id-lt-QUERIES.ensures staying_laws c.more-more.ensures.places same.0)
     same.1 c.self.invariant
 
 pub returns-then-id-lt-QUERIES : goal.returns-then-id-lt-QUERIES
@@ -37,8 +38,8 @@ returns-then-id-lt-QUERIES g c =
     let e' = c.more-more.new.self in
     let same = more_same old.engine e' c.args.id c.more-more.result c.args.listing.now c.more-more.new.listing
     c.more-more.ensures.gives in
-    let rests = rests_with old.engine e' c.engine_laws.ensures.engine c.engine_laws-then-id-lt-QUERIES.ensures.engine
-    c.engine_laws.ensures.staying c.more-more.ensures.places same.0 in
+    let rests = rests_with old.engine e' c.laws.ensures c.laws-then-id-lt-QUERIES.ensures
+    staying_laws c.more-more.ensures.places same.0 in
     subst (λ (k : Kept). MoreGives k c.args.id c.more-more.result
     (store_seen e' old.unions.items old.order.items old.sessions.items old.affected.items) c.args.listing.now
     c.more-more.new.listing) c.self.view_is
@@ -51,16 +52,16 @@ more_at-requires-clause-fresh g c =
     let old = c.self.inside.parts in
     subst (λ (qs : List (Option Live)). IsSomeAnd (joined_at old.unions.items (c.args.id.query.at - 256))
     (IsUnionFresh qs c.args.id.cursor)) (sym c.places-queries.ensures)
-    (freshly old.engine c.engine_laws.ensures.engine old.unions.items old.order.items old.sessions.items
+    (freshly old.engine c.laws.ensures old.unions.items old.order.items old.sessions.items
     old.affected.items c.self.invariant.listed c.args.id c.if-id-lt-QUERIES.false
     (subst (λ (k : Kept). IsFresh k c.args.id) (sym c.self.view_is) c.requires))
 
 pub more_at-requires-clause-kept : goal.more_at-requires-clause-kept
 more_at-requires-clause-kept g c = (
-  c.engine_laws.ensures.engine.over.catalog,
+  c.laws.ensures.over.catalog,
   subst
-      (λ (qs : List (Option Live)). AreKept c.engine_laws.ensures.engine.over.catalog qs) (sym c.places-queries.ensures)
-      (kept_over c.self.inside.parts.engine c.engine_laws.ensures.engine.over),
+      (λ (qs : List (Option Live)). AreKept c.laws.ensures.over.catalog qs) (sym c.places-queries.ensures)
+      (kept_over c.self.inside.parts.engine c.laws.ensures.over),
 )
 
 pub invariant_of-self-2 : goal.invariant_of-self-2
@@ -68,14 +69,14 @@ invariant_of-self-2 g c =
     let old = c.self.inside.parts in
     let at = c.args.id.query.at - 256 in
     record {
-      listed = looked_listed old.engine c.engine_laws.ensures.engine old.unions.items old.order.items old.sessions.items
+      listed = looked_listed old.engine c.laws.ensures old.unions.items old.order.items old.sessions.items
           old.affected.items c.self.invariant.listed at c.args.id.cursor c.more_at.new.unions.items c.args.listing.now
           c.more_at.new.listing c.more_at.result
           (subst (λ (qs : List (Option Live)). MovesUnion
           (TellsUnionMore qs c.args.id.cursor c.more_at.result c.args.listing.now c.more_at.new.listing)
           (c.args.id.query.at - 256) c.self.inside.parts.unions.items c.more_at.new.unions.items)
           c.places-queries.ensures c.more_at.ensures);
-      counted = looked_counted old.engine c.engine_laws.ensures.engine old.unions.items old.order.items
+      counted = looked_counted old.engine c.laws.ensures old.unions.items old.order.items
           old.sessions.items old.affected.items c.self.invariant.listed at c.args.id.cursor c.more_at.new.unions.items
           c.args.listing.now c.more_at.new.listing c.more_at.result
           (subst (λ (qs : List (Option Live)). MovesUnion
@@ -95,7 +96,7 @@ returns g c =
     (subst (λ (k : Kept). MoreGives k (cursor_of at c.args.id.cursor) c.more_at.result
     (store_seen old.engine c.more_at.new.unions.items old.order.items old.sessions.items old.affected.items)
     c.args.listing.now c.more_at.new.listing) c.self.view_is
-    (more_union old.engine c.engine_laws.ensures.engine old.unions.items old.order.items old.sessions.items
+    (more_union old.engine c.laws.ensures old.unions.items old.order.items old.sessions.items
     old.affected.items c.self.invariant.listed at c.args.id.cursor c.more_at.new.unions.items c.args.listing.now
     c.more_at.new.listing c.more_at.result
     (subst (λ (qs : List (Option Live)). MovesUnion

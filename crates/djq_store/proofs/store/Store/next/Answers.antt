@@ -13,12 +13,13 @@ use Rattle.djq_store.proofs.Moved.{cursor_of}
 use Rattle.djq_store.proofs.Standing.{id_is, held_in_engine, readable}
 use Rattle.djq_store.proofs.Staying.{rests_with, kept_over}
 use Rattle.djq_store.proofs.Unions.{next_union, read_listed, read_counted}
+use Rattle.djq_store.proofs.Below.{staying_laws}
 use Rattle.djq_store.proofs.store.Store.next.Goals as goal
 
 pub next-next-requires : goal.next-next-requires
 next-next-requires g c =
     let old = c.self.inside.parts in
-    held_in_engine old.engine c.engine_laws.ensures.engine old.unions.items old.order.items old.sessions.items
+    held_in_engine old.engine c.laws.ensures old.unions.items old.order.items old.sessions.items
     old.affected.items c.self.invariant.listed c.args.id c.if-id-lt-QUERIES.true
     (subst (λ (k : Kept). IsHeld k c.args.id) (sym c.self.view_is) c.requires)
 
@@ -28,8 +29,8 @@ invariant_of-self g c =
     let e' = c.next-next.new.self in
     let same = next_same old.engine e' c.args.id c.next-next.result c.next-next.new.answer c.args.listing.now
     c.next-next.new.listing c.next-next.ensures.gives in
-    whole_over old e' (rests_with old.engine e' c.engine_laws.ensures.engine
-    c.engine_laws-then-id-lt-QUERIES.ensures.engine c.engine_laws.ensures.staying c.next-next.ensures.places same.0)
+    whole_over old e' (rests_with old.engine e' c.laws.ensures
+    c.laws-then-id-lt-QUERIES.ensures staying_laws c.next-next.ensures.places same.0)
     same.1 c.self.invariant
 
 pub returns-then-id-lt-QUERIES : goal.returns-then-id-lt-QUERIES
@@ -38,8 +39,8 @@ returns-then-id-lt-QUERIES g c =
     let e' = c.next-next.new.self in
     let same = next_same old.engine e' c.args.id c.next-next.result c.next-next.new.answer c.args.listing.now
     c.next-next.new.listing c.next-next.ensures.gives in
-    let rests = rests_with old.engine e' c.engine_laws.ensures.engine c.engine_laws-then-id-lt-QUERIES.ensures.engine
-    c.engine_laws.ensures.staying c.next-next.ensures.places same.0 in
+    let rests = rests_with old.engine e' c.laws.ensures c.laws-then-id-lt-QUERIES.ensures
+    staying_laws c.next-next.ensures.places same.0 in
     subst (λ (k : Kept). NextGives k c.args.id c.next-next.result c.next-next.new.answer
     (store_seen e' old.unions.items old.order.items old.sessions.items old.affected.items) c.args.listing.now
     c.next-next.new.listing) c.self.view_is
@@ -52,16 +53,16 @@ next_at-requires-clause-readable g c =
     let old = c.self.inside.parts in
     subst (λ (qs : List (Option Live)). IsSomeAnd (joined_at old.unions.items (c.args.id.query.at - 256))
     (IsUnionReadable qs c.args.id.cursor)) (sym c.places-queries.ensures)
-    (readable old.engine c.engine_laws.ensures.engine old.unions.items old.order.items old.sessions.items
+    (readable old.engine c.laws.ensures old.unions.items old.order.items old.sessions.items
     old.affected.items c.self.invariant.listed c.args.id c.if-id-lt-QUERIES.false
     (subst (λ (k : Kept). IsHeld k c.args.id) (sym c.self.view_is) c.requires))
 
 pub next_at-requires-clause-kept : goal.next_at-requires-clause-kept
 next_at-requires-clause-kept g c = (
-  c.engine_laws.ensures.engine.over.catalog,
+  c.laws.ensures.over.catalog,
   subst
-      (λ (qs : List (Option Live)). AreKept c.engine_laws.ensures.engine.over.catalog qs) (sym c.places-queries.ensures)
-      (kept_over c.self.inside.parts.engine c.engine_laws.ensures.engine.over),
+      (λ (qs : List (Option Live)). AreKept c.laws.ensures.over.catalog qs) (sym c.places-queries.ensures)
+      (kept_over c.self.inside.parts.engine c.laws.ensures.over),
 )
 
 pub invariant_of-self-2 : goal.invariant_of-self-2
@@ -69,14 +70,14 @@ invariant_of-self-2 g c =
     let old = c.self.inside.parts in
     let at = c.args.id.query.at - 256 in
     record {
-      listed = read_listed old.engine c.engine_laws.ensures.engine old.unions.items old.order.items old.sessions.items
+      listed = read_listed old.engine c.laws.ensures old.unions.items old.order.items old.sessions.items
           old.affected.items c.self.invariant.listed at c.args.id.cursor c.next_at.new.unions.items c.args.listing.now
           c.next_at.new.listing c.next_at.result c.next_at.new.answer
           (subst (λ (qs : List (Option Live)). MovesUnion
           (ReadsUnion qs c.args.id.cursor c.next_at.result c.next_at.new.answer c.args.listing.now
           c.next_at.new.listing) (c.args.id.query.at - 256) c.self.inside.parts.unions.items c.next_at.new.unions.items)
           c.places-queries.ensures c.next_at.ensures);
-      counted = read_counted old.engine c.engine_laws.ensures.engine old.unions.items old.order.items old.sessions.items
+      counted = read_counted old.engine c.laws.ensures old.unions.items old.order.items old.sessions.items
           old.affected.items c.self.invariant.listed at c.args.id.cursor c.next_at.new.unions.items c.args.listing.now
           c.next_at.new.listing c.next_at.result c.next_at.new.answer
           (subst (λ (qs : List (Option Live)). MovesUnion
@@ -96,7 +97,7 @@ returns g c =
     (subst (λ (k : Kept). NextGives k (cursor_of at c.args.id.cursor) c.next_at.result c.next_at.new.answer
     (store_seen old.engine c.next_at.new.unions.items old.order.items old.sessions.items old.affected.items)
     c.args.listing.now c.next_at.new.listing) c.self.view_is
-    (next_union old.engine c.engine_laws.ensures.engine old.unions.items old.order.items old.sessions.items
+    (next_union old.engine c.laws.ensures old.unions.items old.order.items old.sessions.items
     old.affected.items c.self.invariant.listed at c.args.id.cursor c.next_at.new.unions.items c.args.listing.now
     c.next_at.new.listing c.next_at.result c.next_at.new.answer
     (subst (λ (qs : List (Option Live)). MovesUnion

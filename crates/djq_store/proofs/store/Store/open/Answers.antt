@@ -9,20 +9,21 @@ use Rattle.std.specs.Prelude.{Option, IsSomeAnd, Ok, Err, ⊤}
 use Rattle.djq_lines.specs.declared.answer.Refusal.TheVariants.{NoMemory}
 use Rattle.djq_store.specs.declared.joined.Joined.{Joined}
 use Rattle.djq_store.proofs.Named.{no_union, found_union}
+use Rattle.djq_store.proofs.Below.{staying_laws}
 use Rattle.djq_store.proofs.store.Store.open.Goals as goal
 
 pub invariant_of-self : goal.invariant_of-self
 invariant_of-self c =
-    whole_opened c.self.inside.parts c.open-opened.new.self c.engine_laws.ensures.engine
-    c.engine_laws-in_default.ensures.engine c.engine_laws.ensures.staying
+    whole_opened c.self.inside.parts c.open-opened.new.self c.laws.ensures
+    c.laws-in_default.ensures staying_laws
     c.open-opened.ensures.places c.args.name.now c.open-opened.result c.open-opened.ensures.gives c.self.invariant
 
 pub returns-in_default : goal.returns-in_default
 returns-in_default c =
     let old = c.self.inside.parts in
     let e' = c.open-opened.new.self in
-    let rests = opened_rests old.engine e' c.engine_laws.ensures.engine c.engine_laws-in_default.ensures.engine
-    c.engine_laws.ensures.staying
+    let rests = opened_rests old.engine e' c.laws.ensures c.laws-in_default.ensures
+    staying_laws
     c.open-opened.ensures.places c.args.name.now c.open-opened.result c.open-opened.ensures.gives in
     subst (λ (k : Kept). CursorOpenGives k c.args.name.now c.open-opened.result
     (store_kept_in (record old { engine = e' })))
@@ -43,10 +44,10 @@ pub invariant_of-self-2 : goal.invariant_of-self-2
 invariant_of-self-2 c =
     let old = c.self.inside.parts in
     record {
-      listed = opened_listed old.engine c.engine_laws.ensures.engine old.unions.items old.order.items old.sessions.items
+      listed = opened_listed old.engine c.laws.ensures old.unions.items old.order.items old.sessions.items
           old.affected.items c.self.invariant.listed c.in-Some.slot c.in-Ok.cursor c.open_at.new.unions.items
           c.in-Ok.ensures.ok;
-      counted = opened_counted old.engine c.engine_laws.ensures.engine old.unions.items old.order.items
+      counted = opened_counted old.engine c.laws.ensures old.unions.items old.order.items
           old.sessions.items old.affected.items c.self.invariant.listed c.in-Some.slot c.in-Ok.cursor
           c.open_at.new.unions.items c.in-Ok.ensures.ok c.self.invariant.counted;
       roomy = record { order = c.self.invariant.roomy.order; affected = c.self.invariant.roomy.affected };
@@ -60,7 +61,7 @@ returns c =
     subst (λ (k : Kept). CursorOpenGives k c.args.name.now (Ok (cursor_of c.in-Some.slot c.in-Ok.cursor))
     (store_seen old.engine c.open_at.new.unions.items old.order.items old.sessions.items old.affected.items))
     c.self.view_is
-    (open_union old.engine c.engine_laws.ensures.engine old.unions.items old.order.items old.sessions.items
+    (open_union old.engine c.laws.ensures old.unions.items old.order.items old.sessions.items
     old.affected.items c.self.invariant.listed c.in-Some.slot c.args.name.now f c.in-Ok.cursor
     c.open_at.new.unions.items c.in-Ok.ensures.ok)
 
@@ -72,6 +73,6 @@ returns-in_default-open_at c =
     subst (λ (k : Kept). CursorOpenGives k c.args.name.now (Err NoMemory)
     (store_seen old.engine c.open_at.new.unions.items old.order.items old.sessions.items old.affected.items))
     c.self.view_is
-    (open_lacks old.engine c.engine_laws.ensures.engine old.unions.items old.order.items old.sessions.items
+    (open_lacks old.engine c.laws.ensures old.unions.items old.order.items old.sessions.items
     old.affected.items c.self.invariant.listed c.in-Some.slot c.args.name.now f c.open_at.new.unions.items
     c.in_default-open_at.ensures.err)

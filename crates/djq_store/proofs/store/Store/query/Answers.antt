@@ -17,6 +17,7 @@ use Rattle.djq_store.proofs.Registered.{unregistered, unregistered_same, unregis
 use Rattle.djq_store.proofs.Registered.{unregistered_tells}
 use Rattle.djq_store.proofs.Sought.{sought_none, sought_some}
 use Rattle.djq_store.proofs.Staying.{listed_over, counts_stay, cursors_over}
+use Rattle.djq_store.proofs.Below.{staying_laws}
 use Rattle.djq_store.proofs.store.Store.query.Goals as goal
 
 pub returns-then-is_some-clause-registers : goal.returns-then-is_some-clause-registers
@@ -27,8 +28,8 @@ returns-then-is_some-clause-registers g c =
     let f = sought_some old.unions.items c.as_slice.result.now c.args.query.name c.as_slice.ensures.value
     c.find_union.result c.find_union.ensures (sym c.is_some.ensures ∙ c.if-is_some.true) in
     subst (λ (k : Kept). RegistersQuery k.store c.args.query (Err Taken) k.store) c.self.view_is
-    (refused e c.engine_laws.ensures.engine old.unions.items old.order.items old.sessions.items old.affected.items w
-    c.args.query Taken (taken_refusal e c.engine_laws.ensures.engine old.unions.items old.order.items
+    (refused e c.laws.ensures old.unions.items old.order.items old.sessions.items old.affected.items w
+    c.args.query Taken (taken_refusal e c.laws.ensures old.unions.items old.order.items
     old.sessions.items old.affected.items w c.args.query f.0 f.1))
 
 pub returns-then-len-ge-QUERIES-clause-registers : goal.returns-then-len-ge-QUERIES-clause-registers
@@ -43,9 +44,9 @@ returns-then-len-ge-QUERIES-clause-registers g c =
     (sym c.unwrap_or.ensures)
     (subst (λ (k : Kept). RegistersQuery k.store c.args.query (Err (unwrap_or c.query_fault-fault.result Limit))
     k.store) c.self.view_is
-    (refused e c.engine_laws.ensures.engine old.unions.items old.order.items old.sessions.items old.affected.items w
+    (refused e c.laws.ensures old.unions.items old.order.items old.sessions.items old.affected.items w
     c.args.query (unwrap_or c.query_fault-fault.result Limit)
-    (full_unwraps e c.engine_laws.ensures.engine old.unions.items old.order.items old.sessions.items old.affected.items
+    (full_unwraps e c.laws.ensures old.unions.items old.order.items old.sessions.items old.affected.items
     w c.args.query none full c.query_fault-fault.result c.query_fault-fault.ensures)))
 
 pub invariant_of-self : goal.invariant_of-self
@@ -59,7 +60,7 @@ invariant_of-self met c =
     let e' = c.query-outcome.new.self in
     let q = c.args.query in
     let result = c.query-outcome.result in
-    let r = query_rests e e' c.engine_laws.ensures.engine c.engine_laws-2.ensures.engine c.engine_laws.ensures.staying
+    let r = query_rests e e' c.laws.ensures c.laws-2.ensures staying_laws
     c.query-outcome.ensures.places q result c.query-outcome.ensures.registers in
     let o = outcome_of result (sym c.is_registered.ensures ∙ c.if-is_registered.true) in
     let g = subst (λ (x : Result QueryOutcome Refusal). RegistersQuery e.store q x e'.store) o.is
@@ -90,7 +91,7 @@ returns-in-Some met c =
     let e' = c.query-outcome.new.self in
     let q = c.args.query in
     let result = c.query-outcome.result in
-    let r = query_rests e e' c.engine_laws.ensures.engine c.engine_laws-2.ensures.engine c.engine_laws.ensures.staying
+    let r = query_rests e e' c.laws.ensures c.laws-2.ensures staying_laws
     c.query-outcome.ensures.places q result c.query-outcome.ensures.registers in
     let o = outcome_of result (sym c.is_registered.ensures ∙ c.if-is_registered.true) in
     let g = subst (λ (x : Result QueryOutcome Refusal). RegistersQuery e.store q x e'.store) o.is
@@ -160,7 +161,7 @@ invariant_of-self-else-is_registered met c =
     let e' = c.query-outcome.new.self in
     let q = c.args.query in
     let result = c.query-outcome.result in
-    let r = query_rests e e' c.engine_laws.ensures.engine c.engine_laws-2.ensures.engine c.engine_laws.ensures.staying
+    let r = query_rests e e' c.laws.ensures c.laws-2.ensures staying_laws
     c.query-outcome.ensures.places q result c.query-outcome.ensures.registers in
     let not_registered = sym c.is_registered.ensures ∙ c.if-is_registered.false in
     let same = unregistered_same e e' r old.unions.items old.order.items old.sessions.items old.affected.items w q none
@@ -182,7 +183,7 @@ returns-else-is_registered met c =
     let e' = c.query-outcome.new.self in
     let q = c.args.query in
     let result = c.query-outcome.result in
-    let r = query_rests e e' c.engine_laws.ensures.engine c.engine_laws-2.ensures.engine c.engine_laws.ensures.staying
+    let r = query_rests e e' c.laws.ensures c.laws-2.ensures staying_laws
     c.query-outcome.ensures.places q result c.query-outcome.ensures.registers in
     let not_registered = sym c.is_registered.ensures ∙ c.if-is_registered.false in
     record {

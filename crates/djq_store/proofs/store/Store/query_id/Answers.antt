@@ -12,7 +12,7 @@ returns-in-Some c =
     let old = c.self.inside.parts in
     subst (λ (k : Kept). Some (id_at (256 + c.in-Some.slot))
     ≡ option_map (λ r. r.id) (registered_of k.registered c.args.name.now)) c.self.view_is
-    (sym (union_id old.engine c.engine_laws.ensures.engine old.unions.items old.order.items old.sessions.items
+    (sym (union_id old.engine c.laws.ensures old.unions.items old.order.items old.sessions.items
     old.affected.items c.self.invariant.listed c.args.name.now c.in-Some.slot
     (found_union old.unions.items c.as_slice.result.now c.args.name.now c.in-Some.slot c.as_slice.ensures.value
     c.in-Some.ensures)))
@@ -23,7 +23,7 @@ returns c =
     subst (λ (k : Kept). c.query_id.result ≡ option_map (λ r. r.id) (registered_of k.registered c.args.name.now))
     c.self.view_is
     (c.query_id.ensures ∙ sym
-    (query_id_same old.engine c.engine_laws.ensures.engine old.unions.items old.order.items old.sessions.items
+    (query_id_same old.engine c.laws.ensures old.unions.items old.order.items old.sessions.items
     old.affected.items c.self.invariant.listed c.args.name.now
     (no_union old.unions.items c.as_slice.result.now c.args.name.now c.as_slice.ensures.value
     c.in_default.ensures)))

@@ -12,7 +12,7 @@ use Rattle.djq_store.proofs.store.Store.query_name.Goals as goal
 pub query_name-requires : goal.query_name-requires
 query_name-requires c =
     let old = c.self.inside.parts in
-    engine_registered old.engine c.engine_laws.ensures.engine old.unions.items old.order.items old.sessions.items
+    engine_registered old.engine c.laws.ensures old.unions.items old.order.items old.sessions.items
     old.affected.items c.self.invariant.listed c.args.id
     (subst (λ (k : Kept). IsRegistered k c.args.id) (sym c.self.view_is) c.requires) c.if-id-lt-QUERIES.true
 
@@ -21,7 +21,7 @@ returns-then-id-lt-QUERIES c =
     let old = c.self.inside.parts in
     subst (λ (k : Kept). IsSomeAnd (registered_at k.registered c.args.id)
     (λ r. c.query_name.result ≡ listed_name r.query)) c.self.view_is
-    (engine_named_by old.engine c.engine_laws.ensures.engine old.unions.items old.order.items old.sessions.items
+    (engine_named_by old.engine c.laws.ensures old.unions.items old.order.items old.sessions.items
     old.affected.items c.self.invariant.listed c.args.id
     (subst (λ (k : Kept). IsRegistered k c.args.id) (sym c.self.view_is) c.requires) c.query_name.result
     c.if-id-lt-QUERIES.true c.query_name.ensures)
@@ -31,7 +31,7 @@ joined_in-requires c =
     let old = c.self.inside.parts in
     subst (λ (us : List (Option Joined)). IsSomeAnd (joined_at us (c.args.id.at - 256)) (λ j. ⊤))
     (sym c.as_slice.ensures.value)
-    (joined_some old.engine c.engine_laws.ensures.engine old.unions.items old.order.items old.sessions.items
+    (joined_some old.engine c.laws.ensures old.unions.items old.order.items old.sessions.items
     old.affected.items c.self.invariant.listed c.args.id
     (subst (λ (k : Kept). IsRegistered k c.args.id) (sym c.self.view_is) c.requires) c.if-id-lt-QUERIES.false)
 
@@ -45,7 +45,7 @@ returns c =
     (subst (λ (n : Bytes). IsSomeAnd
     (registered_at (store_seen old.engine old.unions.items old.order.items old.sessions.items
     old.affected.items).registered c.args.id) (λ r. n ≡ listed_name r.query)) (sym c.name.ensures)
-    (union_named_by old.engine c.engine_laws.ensures.engine old.unions.items old.order.items old.sessions.items
+    (union_named_by old.engine c.laws.ensures old.unions.items old.order.items old.sessions.items
     old.affected.items c.self.invariant.listed c.args.id
     (subst (λ (k : Kept). IsRegistered k c.args.id) (sym c.self.view_is) c.requires) c.if-id-lt-QUERIES.false
     c.joined_in.result.now found))

@@ -6,22 +6,23 @@ use Rattle.djq_store.specs.Places.{store_kept_in}
 use Rattle.djq_store.proofs.Given.{whole_over}
 use Rattle.djq_store.proofs.Related.{made_rests, store_makes}
 use Rattle.djq_store.proofs.Staying.{cursors_over, registered_over, tellings_over}
+use Rattle.djq_store.proofs.Below.{staying_laws}
 use Rattle.djq_store.proofs.store.Store.rel.Goals as goal
 
 pub invariant_of-self : goal.invariant_of-self
 invariant_of-self c =
     let p = c.self.inside.parts in
     let e' = c.rel-made.new.self in
-    let rests = made_rests p.engine e' c.args.name c.args.types c.rel-made.result c.engine_laws.ensures.engine
-    c.engine_laws-2.ensures.engine c.engine_laws.ensures.staying c.rel-made.ensures.makes c.rel-made.ensures.places in
+    let rests = made_rests p.engine e' c.args.name c.args.types c.rel-made.result c.laws.ensures
+    c.laws-2.ensures staying_laws c.rel-made.ensures.makes c.rel-made.ensures.places in
     whole_over p e' rests c.rel-made.ensures.registered c.self.invariant
 
 pub returns : goal.returns
 returns c =
     let p = c.self.inside.parts in
     let e' = c.rel-made.new.self in
-    let rests = made_rests p.engine e' c.args.name c.args.types c.rel-made.result c.engine_laws.ensures.engine
-    c.engine_laws-2.ensures.engine c.engine_laws.ensures.staying c.rel-made.ensures.makes c.rel-made.ensures.places in
+    let rests = made_rests p.engine e' c.args.name c.args.types c.rel-made.result c.laws.ensures
+    c.laws-2.ensures staying_laws c.rel-made.ensures.makes c.rel-made.ensures.places in
     record {
       makes = subst (λ (k : Kept). MakesRelation k.store c.args.name c.args.types c.rel-made.result
           (store_kept_in (record p { engine = e' })).store)

@@ -12,7 +12,7 @@ pub returns-in-Some : goal.returns-in-Some
 returns-in-Some c =
     let old = c.self.inside.parts in
     subst (λ (k : Kept). TellsShape k.store c.args.name.now (Ok Union)) c.self.view_is
-    (union_shape old.engine c.engine_laws.ensures.engine old.unions.items old.order.items old.sessions.items
+    (union_shape old.engine c.laws.ensures old.unions.items old.order.items old.sessions.items
     old.affected.items c.self.invariant.listed c.args.name.now c.in-Some._slot
     (found_union old.unions.items c.as_slice.result.now c.args.name.now c.in-Some._slot c.as_slice.ensures.value
     c.in-Some.ensures))
@@ -21,7 +21,7 @@ pub returns : goal.returns
 returns c =
     let old = c.self.inside.parts in
     subst (λ (k : Kept). TellsShape k.store c.args.name.now c.shape.result) c.self.view_is
-    (query_shape old.engine c.engine_laws.ensures.engine old.unions.items old.order.items old.sessions.items
+    (query_shape old.engine c.laws.ensures old.unions.items old.order.items old.sessions.items
     old.affected.items c.self.invariant.listed c.args.name.now c.shape.result
     (no_union old.unions.items c.as_slice.result.now c.args.name.now c.as_slice.ensures.value c.in_default.ensures)
     c.shape.ensures)

@@ -16,38 +16,38 @@ use Rattle.djq_store.proofs.store.Store.unwatch.Goals as goal
 pub unwatch-requires : goal.unwatch-requires
 unwatch-requires c =
     let old = c.self.inside.parts in
-    let has = registered_has old.engine c.engine_laws.ensures.engine old.unions.items old.order.items
+    let has = registered_has old.engine c.laws.ensures old.unions.items old.order.items
     c.self.invariant.listed old.sessions.items c.args.id (λ r. 0 < r.watchers)
     (subst (λ (k : Kept). IsSomeAnd (registered_at k.registered c.args.id) (λ r. 0 < r.watchers))
     (sym c.self.view_is) c.requires) in
-    some_watch old.engine c.engine_laws.ensures.engine old.unions.items old.order.items old.sessions.items
+    some_watch old.engine c.laws.ensures old.unions.items old.order.items old.sessions.items
     old.affected.items c.self.invariant.listed c.self.invariant.counted c.args.id c.if-id-lt-QUERIES.true has.0
     has.1
 
 pub invariant_of-self : goal.invariant_of-self
 invariant_of-self c =
     let old = c.self.inside.parts in
-    let has = registered_has old.engine c.engine_laws.ensures.engine old.unions.items old.order.items
+    let has = registered_has old.engine c.laws.ensures old.unions.items old.order.items
     c.self.invariant.listed old.sessions.items c.args.id (λ r. 0 < r.watchers)
     (subst (λ (k : Kept). IsSomeAnd (registered_at k.registered c.args.id) (λ r. 0 < r.watchers))
     (sym c.self.view_is) c.requires) in
     let m = c.index_mut.result.now in
-    let read = read_here old.engine c.engine_laws.ensures.engine old.unions.items old.order.items old.sessions.items
+    let read = read_here old.engine c.laws.ensures old.unions.items old.order.items old.sessions.items
     old.affected.items c.self.invariant.listed c.self.invariant.counted c.args.id c.if-id-lt-QUERIES.true m
     c.index_mut.ensures.value in
-    let are = sessions_are old.engine c.engine_laws.ensures.engine old.unions.items old.order.items old.sessions.items
+    let are = sessions_are old.engine c.laws.ensures old.unions.items old.order.items old.sessions.items
     old.affected.items c.self.invariant.listed c.self.invariant.counted c.args.id c.if-id-lt-QUERIES.true m
     c.index_mut.ensures.value in
     let some : 0 < m = omega (arith, has.1, are) in
     let few : m - 1 ≤ SESSIONS = omega (arith, are, c.self.invariant.counted.few c.args.id.at) in
     record {
       listed = subst (λ (k : Kept). IsListed k old.unions.items old.order.items) (sym c.unwatch.ensures)
-          (query_listed old.engine c.engine_laws.ensures.engine old.unions.items old.order.items old.sessions.items
+          (query_listed old.engine c.laws.ensures old.unions.items old.order.items old.sessions.items
           old.affected.items c.self.invariant.listed c.self.invariant.counted c.args.id c.if-id-lt-QUERIES.true has.0
           (λ n. n - 1) (m - 1) (ap (λ k. k - 1) read) few (λ k. omega (arith, some, read)));
       counted = subst (λ (k : Kept). IsCounted k old.unions.items (set old.sessions.items c.args.id.at (m - 1)))
           (sym c.unwatch.ensures)
-          (query_counted old.engine c.engine_laws.ensures.engine old.unions.items old.order.items old.sessions.items
+          (query_counted old.engine c.laws.ensures old.unions.items old.order.items old.sessions.items
           old.affected.items c.self.invariant.listed c.self.invariant.counted c.args.id c.if-id-lt-QUERIES.true has.0
           (λ n. n - 1) (m - 1) (ap (λ k. k - 1) read) few (λ k. omega (arith, some, read)));
       roomy = record { order = c.self.invariant.roomy.order; affected = c.self.invariant.roomy.affected };
@@ -56,15 +56,15 @@ invariant_of-self c =
 pub returns-then-id-lt-QUERIES : goal.returns-then-id-lt-QUERIES
 returns-then-id-lt-QUERIES c =
     let old = c.self.inside.parts in
-    let has = registered_has old.engine c.engine_laws.ensures.engine old.unions.items old.order.items
+    let has = registered_has old.engine c.laws.ensures old.unions.items old.order.items
     c.self.invariant.listed old.sessions.items c.args.id (λ r. 0 < r.watchers)
     (subst (λ (k : Kept). IsSomeAnd (registered_at k.registered c.args.id) (λ r. 0 < r.watchers))
     (sym c.self.view_is) c.requires) in
     let m = c.index_mut.result.now in
-    let read = read_here old.engine c.engine_laws.ensures.engine old.unions.items old.order.items old.sessions.items
+    let read = read_here old.engine c.laws.ensures old.unions.items old.order.items old.sessions.items
     old.affected.items c.self.invariant.listed c.self.invariant.counted c.args.id c.if-id-lt-QUERIES.true m
     c.index_mut.ensures.value in
-    let are = sessions_are old.engine c.engine_laws.ensures.engine old.unions.items old.order.items old.sessions.items
+    let are = sessions_are old.engine c.laws.ensures old.unions.items old.order.items old.sessions.items
     old.affected.items c.self.invariant.listed c.self.invariant.counted c.args.id c.if-id-lt-QUERIES.true m
     c.index_mut.ensures.value in
     let some : 0 < m = omega (arith, has.1, are) in
@@ -75,22 +75,22 @@ returns-then-id-lt-QUERIES c =
     (subst (λ (x : Kept). store_seen x old.unions.items old.order.items (set old.sessions.items c.args.id.at (m - 1))
     old.affected.items ≡ record (store_kept_in old)
     { registered = with_watchers c.args.id (λ n. n - 1) (store_kept_in old).registered }) (sym c.unwatch.ensures)
-    (query_seen old.engine c.engine_laws.ensures.engine old.unions.items old.order.items old.sessions.items
+    (query_seen old.engine c.laws.ensures old.unions.items old.order.items old.sessions.items
     old.affected.items c.self.invariant.listed c.self.invariant.counted c.args.id c.if-id-lt-QUERIES.true has.0
     (λ n. n - 1) (m - 1) (ap (λ k. k - 1) read) few (λ k. omega (arith, some, read))))
 
 pub overflow_sub-index_mut : goal.overflow_sub-index_mut
 overflow_sub-index_mut c =
     let old = c.self.inside.parts in
-    let has = registered_has old.engine c.engine_laws.ensures.engine old.unions.items old.order.items
+    let has = registered_has old.engine c.laws.ensures old.unions.items old.order.items
     c.self.invariant.listed old.sessions.items c.args.id (λ r. 0 < r.watchers)
     (subst (λ (k : Kept). IsSomeAnd (registered_at k.registered c.args.id) (λ r. 0 < r.watchers))
     (sym c.self.view_is) c.requires) in
     let m = c.index_mut.result.now in
-    let read = read_here old.engine c.engine_laws.ensures.engine old.unions.items old.order.items old.sessions.items
+    let read = read_here old.engine c.laws.ensures old.unions.items old.order.items old.sessions.items
     old.affected.items c.self.invariant.listed c.self.invariant.counted c.args.id c.if-id-lt-QUERIES.true m
     c.index_mut.ensures.value in
-    let are = sessions_are old.engine c.engine_laws.ensures.engine old.unions.items old.order.items old.sessions.items
+    let are = sessions_are old.engine c.laws.ensures old.unions.items old.order.items old.sessions.items
     old.affected.items c.self.invariant.listed c.self.invariant.counted c.args.id c.if-id-lt-QUERIES.true m
     c.index_mut.ensures.value in
     omega (arith, has.1, are)
@@ -98,11 +98,11 @@ overflow_sub-index_mut c =
 pub unwatch_union-requires-clause-some : goal.unwatch_union-requires-clause-some
 unwatch_union-requires-clause-some c =
     let old = c.self.inside.parts in
-    let has = registered_has old.engine c.engine_laws.ensures.engine old.unions.items old.order.items
+    let has = registered_has old.engine c.laws.ensures old.unions.items old.order.items
     c.self.invariant.listed old.sessions.items c.args.id (λ r. 0 < r.watchers)
     (subst (λ (k : Kept). IsSomeAnd (registered_at k.registered c.args.id) (λ r. 0 < r.watchers))
     (sym c.self.view_is) c.requires) in
-    union_has old.engine c.engine_laws.ensures.engine old.unions.items old.order.items old.sessions.items
+    union_has old.engine c.laws.ensures old.unions.items old.order.items old.sessions.items
     c.self.invariant.listed c.args.id c.if-id-lt-QUERIES.false has.0 (λ n. 0 < n) has.1
 
 pub returns : goal.returns

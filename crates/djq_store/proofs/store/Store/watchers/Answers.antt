@@ -13,7 +13,7 @@ returns-then-id-lt-QUERIES c =
     let old = c.self.inside.parts in
     subst (λ (k : Kept). IsSomeAnd (registered_at k.registered c.args.id) (λ r. c.index.result.now ≡ r.watchers))
     c.self.view_is
-    (sessions_watching old.engine c.engine_laws.ensures.engine old.unions.items old.order.items old.sessions.items
+    (sessions_watching old.engine c.laws.ensures old.unions.items old.order.items old.sessions.items
     old.affected.items c.self.invariant.listed c.args.id
     (subst (λ (k : Kept). IsRegistered k c.args.id) (sym c.self.view_is) c.requires) c.if-id-lt-QUERIES.true
     c.index.result.now (c.index.ensures
@@ -25,7 +25,7 @@ joined_in-requires c =
     let old = c.self.inside.parts in
     subst (λ (us : List (Option Joined)). IsSomeAnd (joined_at us (c.args.id.at - 256)) (λ j. ⊤))
     (sym c.as_slice.ensures.value)
-    (joined_some old.engine c.engine_laws.ensures.engine old.unions.items old.order.items old.sessions.items
+    (joined_some old.engine c.laws.ensures old.unions.items old.order.items old.sessions.items
     old.affected.items c.self.invariant.listed c.args.id
     (subst (λ (k : Kept). IsRegistered k c.args.id) (sym c.self.view_is) c.requires) c.if-id-lt-QUERIES.false)
 
@@ -36,7 +36,7 @@ returns c =
     c.as_slice.ensures.value c.joined_in.ensures in
     subst (λ (k : Kept). IsSomeAnd (registered_at k.registered c.args.id)
     (λ r. c.joined_in.result.now.watchers ≡ r.watchers)) c.self.view_is
-    (union_watching old.engine c.engine_laws.ensures.engine old.unions.items old.order.items old.sessions.items
+    (union_watching old.engine c.laws.ensures old.unions.items old.order.items old.sessions.items
     old.affected.items c.self.invariant.listed c.args.id
     (subst (λ (k : Kept). IsRegistered k c.args.id) (sym c.self.view_is) c.requires) c.if-id-lt-QUERIES.false
     c.joined_in.result.now found)

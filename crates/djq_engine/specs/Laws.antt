@@ -1,10 +1,8 @@
--- What holds of the engine below a store, as one.
+-- What holds of an engine between any two calls.
 use Rattle.std.specs.Prelude.{◌≡◌, ◌≤◌, false, length, map, AllPairs}
 use Rattle.djq_model.specs.Data.{bytes_eq}
 use Rattle.djq_model.specs.Listed.{listed_name}
 use Rattle.djq_lines.specs.declared.limits.TheConstants.{QUERIES}
-use Rattle.djq_live.specs.Live.{ShowableStays, AnswersAreShowable}
-use Rattle.djq_united.specs.Staying.{MembersStay, UnionsStay}
 use Rattle.djq_engine.specs.Kept.{Kept, same_query, PlacesAreKept, IdsArePlaced, PlacesAreRegistered}
 use Rattle.djq_engine.specs.Kept.{CursorsAreRegistered, ToldCellsFit}
 
@@ -21,10 +19,3 @@ pub record IsEngine (e : Kept) : Type 0 where
   pub listed : PlacesAreRegistered e
   pub held : CursorsAreRegistered e
   pub shown : ToldCellsFit e
-
--- What stays of queries and unions as the engine changes, and what can be shown.
-pub record StayingLaws : Type 0 where
-  pub members : MembersStay
-  pub unions : UnionsStay
-  pub showable : ShowableStays
-  pub answers : AnswersAreShowable
