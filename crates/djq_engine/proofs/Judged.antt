@@ -20,7 +20,7 @@ use Rattle.djq_rows.specs.Catalog.{relation_at, counted_at, rows_at}
 use Rattle.djq_engine.specs.Judging.{bare_store, RowSuits}
 use Rattle.djq_engine.proofs.Conditions.{front_refuses, front_passes}
 use Rattle.djq_reach.proofs.Among.{apart}
-use Rattle.djq_live.proofs.Rowing.{fits_long}
+use Rattle.djq_leaves.proofs.Taking.{fits_long}
 
 module _ (rs : List Relation) (name : Bytes) (row : Tuple) where
   pub suited_none : relation_of rs name ≡ None

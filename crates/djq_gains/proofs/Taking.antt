@@ -44,7 +44,7 @@ use Rattle.djq_lines.specs.declared.answer.Sign.TheVariants.{Came}
 use Rattle.djq_machine.specs.Delta.{Change}
 use Rattle.djq_rows.specs.Cells.{cell_for, cells_of, StandFor}
 use Rattle.djq_live.specs.Member.{head_types, query_at}
-use Rattle.djq_live.proofs.Rowing.{fits_long}
+use Rattle.djq_leaves.proofs.Taking.{fits_long}
 use Rattle.djq_engine.specs.Kept.{Kept, TellsChangeCells, CellsAre}
 use Rattle.djq_gains.specs.Gains.{told_of_member, changes_in, count_in}
 use Rattle.djq_gains.specs.Gathered.{Gain, Stand}

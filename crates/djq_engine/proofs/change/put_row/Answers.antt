@@ -11,7 +11,7 @@ use Rattle.djq_reach.specs.Places.{is_reader, log_at, place_at, readers_at, watc
 use Rattle.djq_engine.specs.Changing.{CountsRows, IsDeltaWith}
 use Rattle.djq_engine.proofs.Tending.{shown_more}
 use Rattle.djq_engine.proofs.Carrying.{sound_texts}
-use Rattle.djq_live.proofs.Rowing.{fits_long}
+use Rattle.djq_leaves.proofs.Taking.{fits_long}
 use Rattle.djq_engine.proofs.Storing.{
   adds_to,
   all_stay,

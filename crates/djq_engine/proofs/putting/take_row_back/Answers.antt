@@ -10,7 +10,7 @@ use Rattle.djq_rows.specs.Catalog.{StandForRow, no_relation, relation_at, rows_a
 use Rattle.djq_engine.specs.Judging.{bare_store, RowSuits}
 use Rattle.djq_engine.proofs.GivenUp.{suits_found}
 use Rattle.djq_engine.proofs.Judged.{suited_none}
-use Rattle.djq_live.proofs.Rowing.{fits_long}
+use Rattle.djq_leaves.proofs.Taking.{fits_long}
 use Rattle.djq_engine.proofs.TakenBack.{held_back, last_suits, row_there, suits_last}
 use Rattle.djq_rows.proofs.Lawful.{names as rows_by_name_or_place}
 use Rattle.djq_engine.proofs.putting.take_row_back.Goals as goal
