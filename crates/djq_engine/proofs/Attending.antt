@@ -15,7 +15,7 @@ use Rattle.djq_engine.specs.Places.{told_of, query_registered_as, kept_of}
 use Rattle.djq_engine.specs.Whole.{kept_in, watches_in, EngineIsWhole, IsTended}
 use Rattle.djq_engine.proofs.Enlisted.{registered_has, registered_there, registered_gives, watchers_with}
 use Rattle.djq_engine.proofs.Naming.{There}
-use Rattle.djq_reach.proofs.Reaching.{place_below, place_read}
+use Rattle.djq_reach.proofs.Reaching.{place_below}
 use Rattle.djq_engine.proofs.Told.{told_is}
 
 pub there_not_none : (gs : List (Option Live)) (i : ℕ) → There gs i → (o : Option Live) → o ≡ get_or gs i o → o ≡ None

@@ -1,6 +1,6 @@
 -- How an answer to a command is put together, and read in other words.
 use Rattle.std.proofs.Common.{◌≡◌, List, [], ◌∷◌, ◌++◌, Bool, true, false, refl, sym, subst}
-use Rattle.std.specs.Prelude.{Option, None, Some, Result, Ok, Err, OnErr, cond, not, ◌&&◌}
+use Rattle.std.specs.Prelude.{Option, None, Some, Result, Ok, Err, cond, not}
 use Rattle.djq_lines.specs.declared.answer.Refusal.{Refusal}
 use Rattle.djq_lines.specs.declared.answer.Refusal.TheVariants.{NoMemory}
 use Rattle.djq_machine.specs.Conditions.{first_refusal, Answers, OutOfMemoryWhere}

@@ -2,7 +2,7 @@
 use Rattle.std.proofs.Common.{ℕ, zero, List, [], ◌∷◌, ◌++◌, ◌+◌, ◌≡◌, ◌≤◌, Bool, true, false, refl}
 use Rattle.std.proofs.Common.{sym, ap, ◌∙◌, subst, length, get_or, set}
 use Rattle.std.specs.Prelude.{Option, None, Some, is_none, IsSome, IsSomeAnd, option_map, position}
-use Rattle.std.specs.Prelude.{map, Result, Ok, Err, IfOk, ⊤}
+use Rattle.std.specs.Prelude.{map, Ok, Err}
 use Rattle.std.proofs.lemmas.List.{set-get_or}
 use Rattle.djq_model.specs.declared.query.Query.{Query}
 use Rattle.djq_model.specs.Data.{Bytes}
@@ -17,7 +17,7 @@ use Rattle.djq_live.specs.Cursors.{Progress, slot_at}
 use Rattle.djq_slots.specs.declared.progress.Progress.TheVariants.{Open, Stale}
 use Rattle.djq_live.specs.declared.listing.Next.{Next}
 use Rattle.djq_live.specs.declared.listing.Next.TheVariants.{Given, End, Stale as StaleNext}
-use Rattle.djq_live.specs.Live.{Live, IsLive, position_of, values_of}
+use Rattle.djq_live.specs.Live.{Live, position_of, values_of}
 use Rattle.djq_live.specs.Reading as live
 use Rattle.djq_engine.specs.declared.cursor.CursorId.{CursorId}
 use Rattle.djq_engine.specs.Kept.{HeldCursor, Kept, held_at, MovesCursor, OpensCursor, CursorOpenGives}

@@ -1,14 +1,13 @@
 -- What the place of the first that passes tells of lookups and changes.
-use Rattle.std.proofs.Common.{ℕ, zero, suc, List, [], ◌∷◌, ◌++◌, ◌≡◌, ◌<◌, ◌⊎◌, inl, inr, Bool}
-use Rattle.std.proofs.Common.{true, false, refl, ap, ◌∙◌, length, get_or, set, arith, length-append}
+use Rattle.std.proofs.Common.{ℕ, suc, List, [], ◌∷◌, ◌++◌, ◌≡◌, Bool}
+use Rattle.std.proofs.Common.{true, false, refl, ap, ◌∙◌, length, arith, length-append}
 use Rattle.std.specs.Prelude.{None, Some, find, position, cond, map, option_map, nat_lt}
 use Rattle.std.specs.List.{position_or_len}
-use Rattle.std.proofs.lemmas.Bool.{ltb-false, cases_order}
+use Rattle.std.proofs.lemmas.Bool.{ltb-false}
 use Rattle.std.proofs.lemmas.Option.{slice_get_past}
-use Rattle.std.proofs.lemmas.List.{get_or_append_left, get_or-map, length-map}
+use Rattle.std.proofs.lemmas.List.{get_or_append_left}
 use Rattle.std.proofs.lemmas.List.Folds.{find_at}
 use Rattle.std.proofs.lemmas.List.Quantifiers.{position-Some}
-use Rattle.djq_model.specs.Data.{change_first}
 use Rattle.djq_engine.specs.Finding.{IsFirstPassing}
 use Rattle.djq_query.proofs.Numbers.{number_none}
 

@@ -3,7 +3,7 @@ use Rattle.std.proofs.Common.{Bool, true, false, cond, ℕ, List, [], ◌∷◌,
 use Rattle.std.proofs.Common.{◌⊎◌, inl, inr, sym, ap, ◌∙◌, subst, length, get_or, set, arith}
 use Rattle.std.proofs.Common.{length-set}
 use Rattle.std.proofs.lemmas.Bool.{cases_lt, cases_order}
-use Rattle.std.proofs.lemmas.List.{get_or-set_same, get_or-set_other, get_or_default, get_or_past, get_or_append_left}
+use Rattle.std.proofs.lemmas.List.{get_or-set_same, get_or-set_other, get_or_default, get_or_past}
 use Rattle.std.specs.Prelude.{Option, None, Some}
 use Rattle.djq_cursor.specs.Log.{Log}
 use Rattle.djq_live.specs.Live.{Live}
@@ -14,7 +14,6 @@ use Rattle.djq_model.specs.declared.query.Query.{Query}
 use Rattle.djq_machine.specs.Stale.{reads}
 use Rattle.djq_rows.specs.Catalog.{relation_at}
 use Rattle.djq_engine.specs.Placing.{LeavesAll, JoinsReaders, JoinsSome, SameLogs}
-use Rattle.djq_reach.proofs.Reaching.{place_below}
 
 -- a list, as the code reads it
 pub list_read : (now old : List (List ℕ)) (k : ℕ) (p : List ℕ) → k < length now → p ≡ get_or now k p → readers_at now k

@@ -21,7 +21,6 @@ use Rattle.djq_live.specs.Live.{Live}
 use Rattle.djq_live.specs.Updating.{IsEmpty}
 use Rattle.djq_reach.specs.Places.{place_at, reads_place, is_reader, readers_at, log_at}
 use Rattle.djq_reach.specs.Reaching.{DoneAt, Reach, Ages}
-use Rattle.djq_reach.specs.Tending.{Empties}
 use Rattle.djq_reach.specs.declared.group.Group.{Group}
 use Rattle.djq_reach.specs.Grouping.{group_relations}
 use Rattle.djq_engine.specs.Outdating.{AreReaders, AgesBy, AgesAt, AgesAll, ClearsLogs, reads_held, by_tested}
