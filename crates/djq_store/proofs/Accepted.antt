@@ -1,19 +1,17 @@
 -- What unions tell of a change that was made, and what that counts.
-use Rattle.std.specs.Prelude.{ℕ, zero, suc, List, [], ◌∷◌, ◌≡◌, ◌↔◌, ◌+◌, ◌*◌, ◌<◌, ◌≤◌, ◌&&◌, ◌⊎◌}
-use Rattle.std.specs.Prelude.{nat_lt, Bool, true, false, cond, Option, None, Some, is_some}
-use Rattle.std.specs.Prelude.{filter, find, map, length, sum_by, slice_get, unwrap_or}
-use Rattle.std.specs.Prelude.{option_to_list, ◌++◌, All, Contains}
+use Rattle.std.specs.Prelude.{ℕ, List, [], ◌∷◌, ◌≡◌, ◌↔◌, ◌*◌, ◌<◌, ◌≤◌, ◌⊎◌}
+use Rattle.std.specs.Prelude.{Bool, true, false, Option, None, Some}
+use Rattle.std.specs.Prelude.{filter, map, length, sum_by, unwrap_or}
+use Rattle.std.specs.Prelude.{option_to_list, ◌++◌, Contains}
 use Rattle.std.specs.List.{list_any}
 use Rattle.std.proofs.Common.{refl, sym, ap, ap₂, ◌∙◌, subst, inl, inr, arith}
-use Rattle.std.proofs.lemmas.Bool.{false≢true, lt-ltb, ltb-true}
 use Rattle.std.proofs.lemmas.Nat.{mul-le}
 use Rattle.std.proofs.lemmas.List.Elements.{All-contains}
 use Rattle.djq_model.specs.declared.relation.Relation.{Relation}
 use Rattle.djq_model.specs.declared.query.Query.{Query}
-use Rattle.djq_model.specs.Data.{Bytes, Tuple}
+use Rattle.djq_model.specs.Data.{Bytes}
 use Rattle.djq_model.specs.Answer.{IsAnswer}
 use Rattle.djq_model.specs.Listed.{Listed, a_query, a_union, AnswersOf}
-use Rattle.djq_lines.specs.declared.limits.TheConstants.{QUERIES}
 use Rattle.djq_machine.specs.Stale.{reads}
 use Rattle.djq_machine.specs.Store.{atoms_of}
 use Rattle.djq_machine.specs.Changes.{RowsChange, is_outdated}
@@ -22,29 +20,25 @@ use Rattle.djq_machine.specs.Watch.{Delta, is_touched, AreDeltas}
 use Rattle.djq_live.specs.Live.{Live}
 use Rattle.djq_live.specs.Member.{query_at, queries_at}
 use Rattle.djq_live.specs.Updating.{change_of}
-use Rattle.djq_reach.specs.Places.{is_reader}
 use Rattle.djq_cursor.specs.declared.log.Line.{Line}
 use Rattle.djq_engine.specs.Kept.{Kept, Registered, SameShape, affected_of, told_at}
-use Rattle.djq_engine.specs.Places.{told_of}
 use Rattle.djq_engine.specs.Watching.{LogsTell}
-use Rattle.djq_united.specs.United.{IsUnited, union_of, first_of_members}
+use Rattle.djq_united.specs.United.{IsUnited, union_of}
 use Rattle.djq_gains.specs.Told.{GoOneWay}
-use Rattle.djq_gains.specs.Gains.{members_at, count_in, HaveChanged, IsUnionDelta, TellUnion}
+use Rattle.djq_gains.specs.Gains.{members_at, count_in, HaveChanged, TellUnion}
 use Rattle.djq_deltas.specs.Growing.{HaveRows, SparesOthers}
 use Rattle.djq_deltas.proofs.Growing.{answer_stays, answers_rest}
 use Rattle.djq_deltas.proofs.Lists.{first_there, later_there, kept_there, hold_each}
 use Rattle.djq_store.specs.declared.joined.Joined.{Joined}
 use Rattle.djq_store.specs.declared.settling.Turn.{Turn}
-use Rattle.djq_store.specs.declared.settling.Turn.TheVariants.{Came, Went, Lacked}
-use Rattle.djq_store.specs.Places.{joined_at, first_member, told_of_union}
-use Rattle.djq_store.specs.Settling.{first_read_by, touched_in, TellsUnionLog, asking_steps}
+use Rattle.djq_store.specs.Places.{joined_at}
+use Rattle.djq_store.specs.Settling.{touched_in, asking_steps}
 use Rattle.djq_store.specs.Whole.{IsListed, IsCounted}
 use Rattle.djq_store.proofs.Behind.{Behind, grows, member_there, member_same, union_is}
 use Rattle.djq_store.proofs.Counting.{mapped_was}
-use Rattle.djq_store.proofs.Deltas.{changes_in, ByPlace}
-use Rattle.djq_store.proofs.ReadBy.{the_query, all_queries, touched_are, filter_same}
-use Rattle.djq_store.proofs.Summing.{sum_times, sum_fewer, sum_same, kept_was}
-use Rattle.djq_store.proofs.Wanted.{ers, places, q_at, f, by_places, deltas, member_listed}
+use Rattle.djq_store.proofs.ReadBy.{the_query, touched_are, filter_same}
+use Rattle.djq_store.proofs.Summing.{sum_times, sum_fewer, kept_was}
+use Rattle.djq_store.proofs.Wanted.{places, f, by_places, deltas, member_listed}
 use Rattle.djq_deltas.proofs.Cases.{some_there}
 
 -- rows came, or they went

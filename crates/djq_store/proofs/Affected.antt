@@ -1,14 +1,13 @@
 -- What a change affects, in order of registration: the queries that the engine's change affects, and the unions of
 -- them.
-use Rattle.std.specs.Prelude.{ℕ, zero, suc, List, [], ◌∷◌, ◌≡◌, ◌==◌, ◌+◌, ◌-◌, ◌<◌, ◌&&◌, ◌||◌}
-use Rattle.std.specs.Prelude.{◌⊎◌, nat_lt, Bool, true, false, cond, Option, None, Some, is_some}
-use Rattle.std.specs.Prelude.{filter, find, map, AllPairs, Contains}
+use Rattle.std.specs.Prelude.{ℕ, zero, suc, List, [], ◌∷◌, ◌≡◌, ◌==◌, ◌<◌, ◌||◌}
+use Rattle.std.specs.Prelude.{◌⊎◌, nat_lt, Bool, true, false, cond, Option, Some, is_some}
+use Rattle.std.specs.Prelude.{filter, map, AllPairs, Contains}
 use Rattle.std.specs.List.{list_any}
-use Rattle.std.proofs.Common.{refl, sym, ap, ap₂, ◌∙◌, subst, inl, inr}
+use Rattle.std.proofs.Common.{refl, sym, ap, ◌∙◌, subst, inl, inr}
 use Rattle.std.proofs.lemmas.Bool.{eqb-true, eq-eqb, false≢true, lt-ltb, or_parts}
-use Rattle.djq_model.specs.declared.query.Query.{Query}
 use Rattle.djq_model.specs.Data.{Bytes}
-use Rattle.djq_model.specs.Listed.{Listed, a_query}
+use Rattle.djq_model.specs.Listed.{a_query}
 use Rattle.djq_lines.specs.declared.limits.TheConstants.{QUERIES}
 use Rattle.djq_machine.specs.Changes.{RowsChange, is_outdated}
 use Rattle.djq_live.specs.Member.{query_at}
@@ -16,19 +15,17 @@ use Rattle.djq_reach.specs.Places.{is_reader}
 use Rattle.djq_engine.specs.declared.cursor.QueryId.{QueryId}
 use Rattle.djq_engine.specs.Kept.{Kept, Registered, same_query, registered_at, readers_of}
 use Rattle.djq_engine.specs.Places.{id_at}
-use Rattle.djq_engine.proofs.Listing.{filter_members, reader_filter}
+use Rattle.djq_engine.proofs.Listing.{filter_members}
 use Rattle.djq_united.specs.United.{union_of}
-use Rattle.djq_deltas.proofs.Lists.{nothing_there, first_or_later, first_there, later_there}
-use Rattle.djq_deltas.proofs.Lists.{kept_there, mapped_there, pairs_head, pairs_tail}
+use Rattle.djq_deltas.proofs.Lists.{kept_there, mapped_there}
 use Rattle.djq_store.specs.declared.joined.Joined.{Joined}
 use Rattle.djq_store.specs.declared.settling.Turn.{Turn}
 use Rattle.djq_store.specs.Affecting.{is_reached_id, is_member_reached, is_affected}
-use Rattle.djq_store.specs.Places.{joined_at, listed_at, registered_as}
-use Rattle.djq_store.specs.Settling.{first_read_by, is_settled}
-use Rattle.djq_store.specs.Whole.{IsListed, query_places}
-use Rattle.djq_store.proofs.Alike.{SameUnions}
+use Rattle.djq_store.specs.Places.{joined_at, listed_at}
+use Rattle.djq_store.specs.Settling.{is_settled}
+use Rattle.djq_store.specs.Whole.{IsListed}
 use Rattle.djq_store.proofs.Behind.{Behind, h, member_there, outdated_member, first_outdates}
-use Rattle.djq_store.proofs.Counting.{mapped_was, in_order, order_has, engine_listed}
+use Rattle.djq_store.proofs.Counting.{mapped_was, engine_listed}
 use Rattle.djq_gains.proofs.Delta.{twice_mapped}
 use Rattle.djq_store.proofs.Ordered.{Seat, seat_here, order_seat, order_joint, listed_seat, listed_joint}
 use Rattle.djq_store.proofs.ReadBy.{the_query, any_same, filter_same, any_there, passing}

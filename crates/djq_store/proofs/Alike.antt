@@ -1,9 +1,9 @@
 -- What is seen of unions, but for their cursors and their logs, is the same where slot by slot they have the same name,
 -- the same members and as many watchers.
-use Rattle.std.proofs.Common.{ℕ, zero, suc, List, [], ◌∷◌, ◌++◌, ◌+◌, ◌-◌, ◌≡◌, ◌≢◌, ◌<◌, ◌≤◌, ◌⊎◌}
-use Rattle.std.proofs.Common.{inl, inr, Bool, true, false, refl, sym, ap, ap₂, ◌∙◌, subst, length}
+use Rattle.std.proofs.Common.{ℕ, List, [], ◌∷◌, ◌+◌, ◌-◌, ◌≡◌, ◌<◌, ◌⊎◌}
+use Rattle.std.proofs.Common.{inl, inr, refl, sym, ap, ap₂, ◌∙◌, subst, length}
 use Rattle.std.proofs.Common.{get_or, set, arith, length-set}
-use Rattle.std.specs.Prelude.{Option, None, Some, ⊤, is_some, IsSomeAnd, cond, count_by, map, nat_lt, option_map}
+use Rattle.std.specs.Prelude.{Option, None, Some, ⊤, is_some, cond, count_by, map, nat_lt}
 use Rattle.std.proofs.lemmas.Bool.{cases_order}
 use Rattle.std.proofs.lemmas.List.{get_or-set_same, get_or-set_other}
 use Rattle.djq_model.specs.Data.{Bytes}
@@ -11,20 +11,13 @@ use Rattle.djq_model.specs.Listed.{Listed, listed_name}
 use Rattle.djq_lines.specs.declared.limits.TheConstants.{QUERIES}
 use Rattle.djq_live.specs.Live.{Live}
 use Rattle.djq_live.specs.Member.{query_at, queries_at}
-use Rattle.djq_engine.specs.declared.cursor.CursorId.{CursorId}
-use Rattle.djq_engine.specs.Kept.{Kept, Registered, held_at, SameTellings}
+use Rattle.djq_engine.specs.Kept.{Kept, Registered}
 use Rattle.djq_engine.specs.Places.{query_in, id_at}
-use Rattle.djq_united.specs.Slots.{slot_at}
-use Rattle.djq_united.specs.United.{United, IsUnited, first_of_members}
+use Rattle.djq_united.specs.United.{IsUnited, first_of_members}
 use Rattle.djq_store.specs.declared.joined.Joined.{Joined}
-use Rattle.djq_engine.specs.Laws.{IsEngine}
 use Rattle.djq_store.specs.Places.{joined_at, listed_in, listed_at, union_watchers, sessions_at}
-use Rattle.djq_store.specs.Places.{registered_as, held_union_cursor, union_cursor_of, told_of_union, lender_in}
-use Rattle.djq_store.specs.Places.{in_places}
-use Rattle.djq_store.specs.Places.{cursors_in, store_seen}
+use Rattle.djq_store.specs.Places.{registered_as, lender_in}
 use Rattle.djq_store.specs.Whole.{IsListed, IsCounted, IsShownByFirst, wants}
-use Rattle.djq_store.proofs.Held.{held_low, held_high}
-use Rattle.djq_store.proofs.Seats.{Slot, cases_place}
 use Rattle.djq_store.proofs.Slots.{slot_below, map_each, count_each}
 
 -- two unions in a slot have the same name and members, and as many watchers

@@ -1,10 +1,10 @@
 -- What is asked of a store, by name and by id.
 use Rattle.std.proofs.Common.{ℕ, zero, suc, List, [], ◌∷◌, ◌++◌, ◌+◌, ◌-◌, ◌≡◌, ◌<◌, ◌≤◌, ◌⊎◌, inl}
-use Rattle.std.proofs.Common.{inr, Bool, true, false, refl, sym, ap, ap₂, ◌∙◌, subst, length, get_or, arith}
-use Rattle.std.specs.Prelude.{◌==◌, ◌&&◌, Option, None, Some, IsSome, IsSomeAnd, is_some, is_none}
-use Rattle.std.specs.Prelude.{nat_lt, option_map, cond, map, All, AllPairs, Result, Ok, Err}
+use Rattle.std.proofs.Common.{inr, Bool, true, false, refl, sym, ap, ◌∙◌, subst, length, get_or, arith}
+use Rattle.std.specs.Prelude.{◌==◌, Option, None, Some, IsSomeAnd, is_some, is_none}
+use Rattle.std.specs.Prelude.{option_map, cond, map, All, AllPairs, Result, Ok, Err}
 use Rattle.std.specs.Prelude.{option_to_list, slice_get, ⊤}
-use Rattle.std.proofs.lemmas.Bool.{cases_lt, eqb-true, eq-eqb, lt-ltb, false≢true}
+use Rattle.std.proofs.lemmas.Bool.{cases_lt, eqb-true, false≢true}
 use Rattle.std.proofs.lemmas.List.Kept.{AllPairs-cons}
 use Rattle.std.proofs.lemmas.List.{get_or-map, get_or_past, length-map}
 use Rattle.std.proofs.lemmas.List.Elements.{All-from_recursion}
@@ -32,7 +32,7 @@ use Rattle.djq_engine.specs.Kept.{same_query, registered_at, registered_of, held
 use Rattle.djq_engine.specs.Places.{id_at}
 use Rattle.djq_engine.proofs.Conditions.{answers_done}
 use Rattle.djq_engine.proofs.Listing.{here, behind}
-use Rattle.djq_united.specs.United.{union_of, members_in, first_of_members}
+use Rattle.djq_united.specs.United.{union_of, members_in}
 use Rattle.djq_store.specs.declared.explained.Explained.{Explained}
 use Rattle.djq_store.specs.declared.explained.Explained.TheVariants.{Tree, Members}
 use Rattle.djq_store.specs.declared.joined.Joined.{Joined}
@@ -42,18 +42,17 @@ use Rattle.djq_store.specs.Lending.{LendsEngine}
 use Rattle.djq_store.specs.Places.{joined_at, listed_at, union_watchers, sessions_at, registered_as, lender_in}
 use Rattle.djq_store.specs.Places.{store_seen}
 use Rattle.djq_store.specs.Whole.{IsListed}
-use Rattle.djq_store.proofs.Found.{found_passes, found_all}
+use Rattle.djq_store.proofs.Found.{found_all}
 use Rattle.djq_engine.proofs.Firsts.{find_mapped}
 use Rattle.djq_gains.proofs.Delta.{twice_mapped}
 use Rattle.djq_store.proofs.Held.{held_low}
 use Rattle.djq_store.proofs.Members.{first_there}
 use Rattle.djq_store.proofs.Named.{Called}
-use Rattle.djq_store.proofs.Ordered.{Seat, Joint, NoUnion, place_named, listed_low, listed_joint}
+use Rattle.djq_store.proofs.Ordered.{Seat, Joint, NoUnion, listed_joint}
 use Rattle.djq_store.proofs.Ordered.{listed_seat, order_seat, seat_order, seat_of, seat_here}
-use Rattle.djq_store.proofs.Ordered.{order_joint, registered_is, registered_has, registered_gives}
+use Rattle.djq_store.proofs.Ordered.{order_joint, registered_is, registered_gives}
 use Rattle.djq_store.proofs.Ordered.{registered_there, registered_by_name, named_joint, engine_named, engine_listed}
 use Rattle.djq_store.proofs.Seats.{low_place, high_place, places_low, places_high}
-use Rattle.djq_store.proofs.Slots.{slot_below}
 use Rattle.djq_store.proofs.Unions.{union_listed}
 
 -- pairs of different places

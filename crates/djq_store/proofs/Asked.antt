@@ -1,37 +1,19 @@
 -- What telling unions counts: as much as is asked of their members for what is told of these.
-use Rattle.std.specs.Prelude.{ℕ, zero, suc, List, [], ◌∷◌, ◌≡◌, ◌+◌, ◌-◌, ◌*◌, ◌<◌, ◌≤◌, ◌&&◌, ◌⊎◌}
-use Rattle.std.specs.Prelude.{nat_lt, Bool, true, false, cond, Option, None, Some, is_some, filter}
-use Rattle.std.specs.Prelude.{map, length, sum_by, unwrap_or, All, AllPairs, Contains}
-use Rattle.std.specs.List.{list_any}
+use Rattle.std.specs.Prelude.{ℕ, zero, suc, List, [], ◌∷◌, ◌≡◌, ◌+◌, ◌<◌, ◌≤◌, ◌⊎◌}
+use Rattle.std.specs.Prelude.{nat_lt, false, Option, None, filter}
+use Rattle.std.specs.Prelude.{map, sum_by, AllPairs, Contains}
 use Rattle.std.proofs.Common.{refl, sym, ap, ap₂, ◌∙◌, subst, inl, inr, arith}
-use Rattle.std.proofs.lemmas.Bool.{false≢true, lt-ltb, ltb-true, cases_lt}
-use Rattle.std.proofs.lemmas.Nat.{mul-le}
+use Rattle.std.proofs.lemmas.Bool.{false≢true, lt-ltb, ltb-true}
 use Rattle.std.proofs.lemmas.List.Kept.{AllPairs-cons, AllPairs-filter}
 use Rattle.std.proofs.lemmas.List.Sums.{sum_by-cons}
-use Rattle.djq_model.specs.declared.query.Query.{Query}
-use Rattle.djq_model.specs.Data.{Bytes}
 use Rattle.djq_lines.specs.declared.limits.TheConstants.{QUERIES}
-use Rattle.djq_machine.specs.Stale.{reads}
-use Rattle.djq_machine.specs.Store.{atoms_of}
-use Rattle.djq_machine.specs.Changes.{RowsChange, is_outdated}
-use Rattle.djq_machine.specs.Delta.{Change}
-use Rattle.djq_machine.specs.Watch.{is_touched}
-use Rattle.djq_live.specs.Live.{Live}
-use Rattle.djq_live.specs.Member.{query_at, queries_at}
-use Rattle.djq_reach.specs.Places.{is_reader}
-use Rattle.djq_engine.specs.Kept.{Kept, Registered, is_watched, told_at}
-use Rattle.djq_united.specs.Staying.{MembersStay}
-use Rattle.djq_united.specs.United.{IsUnited, union_of}
-use Rattle.djq_gains.specs.Gains.{members_at, count_in, told_of_member}
-use Rattle.djq_deltas.proofs.Lists.{nothing_there, first_or_later, first_there, later_there}
-use Rattle.djq_deltas.proofs.Lists.{kept_there, mapped_there, hold_each}
+use Rattle.djq_engine.specs.Kept.{Registered}
+use Rattle.djq_deltas.proofs.Lists.{nothing_there, first_or_later}
+use Rattle.djq_deltas.proofs.Lists.{mapped_there, hold_each}
 use Rattle.djq_store.specs.declared.joined.Joined.{Joined}
-use Rattle.djq_store.specs.declared.settling.Turn.{Turn}
-use Rattle.djq_store.specs.declared.settling.Turn.TheVariants.{Came, Went, Lacked}
-use Rattle.djq_store.specs.Places.{by_place, joined_at, listed_at, registered_as, sessions_at, union_watchers}
-use Rattle.djq_store.specs.Settling.{first_read_by, touched_in, is_settled, asking_steps, telling_steps, settling_steps}
+use Rattle.djq_store.specs.Places.{by_place, joined_at}
 use Rattle.djq_store.proofs.Seats.{Slot, cases_place, behind_queries, low_place, high_place}
-use Rattle.djq_store.proofs.Summing.{sum_covered, sum_kept, sum_mapped, sum_fewer, sum_times, kept_was}
+use Rattle.djq_store.proofs.Summing.{sum_covered, sum_kept, sum_mapped, sum_fewer, kept_was}
 
 -- ---- slots as places
 

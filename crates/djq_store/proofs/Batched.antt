@@ -1,18 +1,17 @@
 -- What `done` comes to in a store.
-use Rattle.std.specs.Prelude.{ℕ, zero, suc, List, [], ◌∷◌, ◌++◌, ◌≡◌, ◌==◌, ◌+◌, ◌≤◌, ◌&&◌, ◌||◌}
-use Rattle.std.specs.Prelude.{◌⊎◌, Bool, true, false, not, cond, Option, None, Some, is_some}
-use Rattle.std.specs.Prelude.{is_none, find, filter, map, length, Result, Ok, Err, All, Contains, ⊤}
+use Rattle.std.specs.Prelude.{ℕ, zero, suc, List, [], ◌∷◌, ◌++◌, ◌≡◌, ◌==◌, ◌+◌, ◌&&◌, ◌||◌}
+use Rattle.std.specs.Prelude.{Bool, true, false, not, cond, Option, None, Some, is_some}
+use Rattle.std.specs.Prelude.{is_none, find, filter, map, length, Result, Ok, Err, All, Contains}
 use Rattle.std.specs.List.{list_any}
 use Rattle.std.proofs.Common.{refl, sym, ap, ◌∙◌, subst, inl, inr, append-nil, append_assoc}
 use Rattle.std.proofs.lemmas.Bool.{false≢true, and_parts, and_from}
-use Rattle.std.proofs.lemmas.List.Elements.{All-weaker, All-contains}
+use Rattle.std.proofs.lemmas.List.Elements.{All-weaker}
 use Rattle.djq_model.specs.declared.relation.Relation.{Relation}
 use Rattle.djq_model.specs.declared.query.Query.{Query}
 use Rattle.djq_model.specs.declared.query.Atom.{Atom}
 use Rattle.djq_model.specs.Data.{Bytes, bytes_eq, relation_of, counted_of, with_row}
 use Rattle.djq_model.specs.Equality.{bytes_eq-decides}
 use Rattle.djq_model.specs.Known.{texts_in, all_learned}
-use Rattle.djq_model.specs.Listed.{Listed, a_query}
 use Rattle.djq_lines.specs.declared.held.HeldRow.{HeldRow}
 use Rattle.djq_lines.specs.declared.answer.Refusal.{Refusal}
 use Rattle.djq_lines.specs.Columns.{types_of}
@@ -22,24 +21,23 @@ use Rattle.djq_lines.specs.declared.answer.Refusal.TheVariants.{Limit, NoMemory,
 use Rattle.djq_machine.specs.Store.{with_rows, copies_of, with_copies_of}
 use Rattle.djq_machine.specs.State.{Store}
 use Rattle.djq_machine.specs.Stale.{reads, listed_reads}
-use Rattle.djq_machine.specs.Changes.{RowsChange, is_outdated}
 use Rattle.djq_machine.specs.Batch.{suit_refusal, SuitAll, is_there, with_held, with_all}
-use Rattle.djq_machine.specs.Batch.{count_came, has_come, store_behind, BatchStopsAt, RefusesBatch}
-use Rattle.djq_machine.specs.Batch.{AddsBatch, rows_held, rows_tried, batch_outcome}
+use Rattle.djq_machine.specs.Batch.{count_came, has_come, store_behind, BatchStopsAt}
+use Rattle.djq_machine.specs.Batch.{AddsBatch, rows_held, batch_outcome}
 use Rattle.djq_machine.specs.Watch.{is_touched}
 use Rattle.djq_machine.proofs.Reading.{reads_atom}
 use Rattle.djq_rows.specs.Laws.{TextsStay}
 use Rattle.djq_engine.specs.Kept.{Kept}
 use Rattle.djq_deltas.proofs.Growing.{rows_come, batch_spares}
-use Rattle.djq_deltas.proofs.Lists.{nothing_there, first_or_later, first_there, later_there, kept_there}
+use Rattle.djq_deltas.proofs.Lists.{first_there, later_there, kept_there}
 use Rattle.djq_store.specs.declared.parts.Parts.{Parts}
 use Rattle.djq_store.specs.Batches.{has_grown, is_lacked}
 use Rattle.djq_store.specs.Following.{batch_turn}
 use Rattle.djq_store.specs.Places.{store_kept_in}
-use Rattle.djq_store.proofs.Doing.{IsMade, IsTried, IsKnown, turn_by}
+use Rattle.djq_store.proofs.Doing.{IsKnown, turn_by}
 use Rattle.djq_store.proofs.Grown.{HasRelation, grown_is}
 use Rattle.djq_store.proofs.Lifting.{with_queries, batch_lifted}
-use Rattle.djq_store.proofs.ReadBy.{any_there, Passing, passing, found_any, filter_same}
+use Rattle.djq_store.proofs.ReadBy.{any_there, passing, found_any, filter_same}
 use Rattle.djq_store.proofs.Rowing.{Grown}
 use Rattle.djq_store.proofs.Summing.{kept_was}
 use Rattle.djq_deltas.proofs.Cases.{same_tests}

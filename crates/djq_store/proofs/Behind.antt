@@ -1,7 +1,7 @@
 -- A store behind a command of rows: what its engine did, and how its unions were settled.
-use Rattle.std.specs.Prelude.{ℕ, List, [], ◌∷◌, ◌++◌, ◌≡◌, ◌+◌, ◌<◌, ◌≤◌, ◌⊎◌, ◌&&◌, ◌||◌, nat_lt}
-use Rattle.std.specs.Prelude.{Bool, true, false, Option, None, Some, is_some, IsSomeAnd, option_map}
-use Rattle.std.specs.Prelude.{find, filter, map, length, count_by, slice_get, vec_capacity, All, Contains, ⊤}
+use Rattle.std.specs.Prelude.{ℕ, List, [], ◌∷◌, ◌++◌, ◌≡◌, ◌+◌, ◌≤◌, ◌⊎◌, ◌||◌, nat_lt}
+use Rattle.std.specs.Prelude.{Bool, true, false, Option, None, Some, is_some, IsSomeAnd}
+use Rattle.std.specs.Prelude.{find, map, length, slice_get, All, Contains, ⊤}
 use Rattle.std.specs.List.{list_any, AllByRecursion}
 use Rattle.std.proofs.Common.{refl, sym, ap, ap₂, ◌∙◌, subst, inl, inr, arith}
 use Rattle.std.proofs.lemmas.Bool.{false≢true}
@@ -11,34 +11,33 @@ use Rattle.djq_model.specs.Data.{Bytes}
 use Rattle.djq_model.specs.Listed.{Listed, a_query, a_union, listed_name}
 use Rattle.djq_lines.specs.declared.limits.TheConstants.{QUERIES}
 use Rattle.djq_machine.specs.Stale.{listed_reads}
-use Rattle.djq_machine.specs.Changes.{RowsChange, RowsOutcome, accepted, out_of_memory, unchanged, tried, is_outdated}
+use Rattle.djq_machine.specs.Changes.{RowsChange}
 use Rattle.djq_cursor.specs.Log.{Log}
 use Rattle.djq_cursor.specs.declared.log.Line.{Line}
 use Rattle.djq_live.specs.Live.{Live, IsShowable}
-use Rattle.djq_live.specs.Member.{query_at, queries_at, HaveQueries}
-use Rattle.djq_live.specs.Staying.{HasSameShape, HasSameTables}
+use Rattle.djq_live.specs.Member.{query_at, queries_at}
+use Rattle.djq_live.specs.Staying.{HasSameTables}
 use Rattle.djq_reach.specs.Places.{is_reader}
 use Rattle.djq_engine.specs.Kept.{Kept, Registered, Outdates, KeepsPlaces, KeepsQuery, SameShape, is_tried}
 use Rattle.djq_engine.proofs.Listing.{map_members}
-use Rattle.djq_united.specs.Staying.{KeepMembers, AreUntouched}
-use Rattle.djq_united.specs.United.{United, IsUnited, union_of, members_in, first_of_members}
-use Rattle.djq_gains.specs.Gains.{AtFirstMember, TellUnion}
+use Rattle.djq_united.specs.Staying.{AreUntouched}
+use Rattle.djq_united.specs.United.{United, IsUnited, union_of, first_of_members}
+use Rattle.djq_gains.specs.Gains.{TellUnion}
 use Rattle.djq_deltas.proofs.Lists.{first_or_later}
 use Rattle.djq_store.specs.declared.joined.Joined.{Joined}
-use Rattle.djq_store.specs.declared.parts.Parts.{Parts}
 use Rattle.djq_store.specs.declared.settling.Turn.{Turn}
 use Rattle.djq_store.specs.declared.settling.Turn.TheVariants.{Came, Went, Lacked}
 use Rattle.djq_engine.specs.Laws.{IsEngine}
 use Rattle.djq_store.proofs.Below.{StayingLaws}
-use Rattle.djq_store.specs.Places.{joined_at, first_member, listed_at, registered_as, sessions_at}
+use Rattle.djq_store.specs.Places.{joined_at, first_member, listed_at, registered_as}
 use Rattle.djq_store.specs.Settling.{first_read_by, touched_in, outdated_union, TellsUnionLog}
 use Rattle.djq_store.specs.Settling.{TellsWatched, SettlesLog, SettlesLogBy, Settles, SettlesAt}
-use Rattle.djq_store.specs.Whole.{IsListed, IsCounted, IsRoomy, StoreIsWhole, IsShownByFirst, wants}
-use Rattle.djq_store.proofs.Alike.{SameUnion, SameUnions, listed_alike, sessions_alike}
-use Rattle.djq_store.proofs.Alike.{registered_alike, unions_alike, wants_alike, counted_kept}
-use Rattle.djq_store.proofs.Members.{Grows, kept_shapes, grown_members, SameFirst, same_first, log_stays}
+use Rattle.djq_store.specs.Whole.{IsListed, IsCounted, IsShownByFirst}
+use Rattle.djq_store.proofs.Alike.{SameUnion, SameUnions, listed_alike}
+use Rattle.djq_store.proofs.Alike.{registered_alike, unions_alike, counted_kept}
+use Rattle.djq_store.proofs.Members.{Grows, kept_shapes, grown_members, same_first, log_stays}
 use Rattle.djq_store.proofs.ReadBy.{the_query, all_queries, first_is, union_reads, any_there}
-use Rattle.djq_store.proofs.Settled.{settled_same, all_same, Turned, turned, Before, turned_back}
+use Rattle.djq_store.proofs.Settled.{settled_same, all_same, turned_back}
 use Rattle.djq_store.proofs.Slots.{count_each}
 use Rattle.djq_store.proofs.Staying.{listed_stays, registered_stay, counts_stay, kept_over}
 use Rattle.djq_deltas.proofs.Cases.{some_there, some_as}

@@ -1,7 +1,7 @@
 -- The queries that a new union is made of, by their names and in their places.
 use Rattle.std.proofs.Common.{ℕ, suc, List, [], ◌∷◌, ◌++◌, ◌≡◌, ◌<◌, ◌≤◌, ◌⊎◌, inl, inr, Bool, true}
 use Rattle.std.proofs.Common.{false, refl, sym, ap, ap₂, subst, ◌∙◌, length, arith}
-use Rattle.std.specs.Prelude.{◌&&◌, ◌||◌, not, nat_le, nat_lt, Option, None, Some, is_some, is_none}
+use Rattle.std.specs.Prelude.{◌||◌, not, nat_le, nat_lt, Option, None, Some, is_some, is_none}
 use Rattle.std.specs.Prelude.{IsSome, IsSomeAnd, option_map, option_to_list, All, AllPairs, Contains, map, ⊤}
 use Rattle.std.specs.List.{list_any, AllByRecursion}
 use Rattle.std.proofs.lemmas.Bool.{ltb-false, leb-false, false≢true, or_parts}

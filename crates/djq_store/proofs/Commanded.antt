@@ -1,21 +1,17 @@
 -- What a store tells behind a command of rows.
-use Rattle.std.specs.Prelude.{ℕ, zero, suc, List, [], ◌∷◌, ◌≡◌, ◌+◌, ◌<◌, ◌≤◌, ◌&&◌, ◌⊎◌, nat_lt}
+use Rattle.std.specs.Prelude.{ℕ, zero, suc, List, [], ◌∷◌, ◌≡◌, ◌+◌, ◌<◌, ◌≤◌, ◌⊎◌}
 use Rattle.std.specs.Prelude.{Bool, true, false, cond, Option, None, Some, is_some, IsSomeAnd}
-use Rattle.std.specs.Prelude.{filter, map, length, sum_by, All, Contains, ⊤}
-use Rattle.std.specs.List.{list_any}
+use Rattle.std.specs.Prelude.{map, length, All}
 use Rattle.std.proofs.Common.{refl, sym, ap, ap₂, ◌∙◌, subst, inl, inr, arith, get_or}
-use Rattle.std.proofs.lemmas.Bool.{false≢true, lt-ltb, ltb-true}
+use Rattle.std.proofs.lemmas.Bool.{false≢true}
 use Rattle.std.proofs.lemmas.List.Elements.{All-map}
-use Rattle.std.proofs.lemmas.List.Sums.{sum_by-cons}
 use Rattle.djq_model.specs.declared.relation.Relation.{Relation}
 use Rattle.djq_model.specs.declared.query.Query.{Query}
 use Rattle.djq_model.specs.Data.{Bytes}
-use Rattle.djq_model.specs.Listed.{Listed, a_query, a_union, AnswersOf}
+use Rattle.djq_model.specs.Listed.{Listed, a_union, AnswersOf}
 use Rattle.djq_lines.specs.declared.limits.TheConstants.{QUERIES}
-use Rattle.djq_machine.specs.Stale.{reads}
-use Rattle.djq_machine.specs.Changes.{RowsChange, RowsOutcome, accepted, out_of_memory, unchanged, tried, is_outdated}
+use Rattle.djq_machine.specs.Changes.{RowsChange, is_outdated}
 use Rattle.djq_machine.specs.Delta.{Change, IsDelta}
-use Rattle.djq_machine.specs.Watch.{Delta, is_touched, AreDeltas, delta_steps}
 use Rattle.djq_cursor.specs.Log.{Log}
 use Rattle.djq_cursor.specs.declared.log.Line.{Line}
 use Rattle.djq_live.specs.Live.{Live}
@@ -24,39 +20,29 @@ use Rattle.djq_live.specs.Updating.{change_of}
 use Rattle.djq_live.proofs.Bound.{heads_bound}
 use Rattle.djq_reach.specs.Places.{is_reader}
 use Rattle.djq_engine.specs.declared.cursor.QueryId.{QueryId}
-use Rattle.djq_engine.specs.Kept.{Kept, Registered, registered_at, told_at, affected_of, readers_of, is_watched}
+use Rattle.djq_engine.specs.Kept.{Kept, Registered, registered_at, told_at}
 use Rattle.djq_engine.specs.Places.{id_at, told_of}
-use Rattle.djq_engine.specs.Watching.{LogsTell, Affects}
 use Rattle.djq_united.specs.United.{United, IsUnited, union_of, first_of_members}
-use Rattle.djq_gains.specs.Gains.{TellUnion}
 use Rattle.djq_deltas.specs.Finite.{IsBound}
-use Rattle.djq_deltas.specs.Growing.{SparesOthers}
 use Rattle.djq_deltas.proofs.Finite.{deltas_exist}
-use Rattle.djq_deltas.proofs.Lists.{hold_each, kept_there}
+use Rattle.djq_deltas.proofs.Lists.{hold_each}
 use Rattle.djq_store.specs.declared.joined.Joined.{Joined}
 use Rattle.djq_store.specs.declared.settling.Turn.{Turn}
-use Rattle.djq_store.specs.declared.settling.Turn.TheVariants.{Came, Went, Lacked}
+use Rattle.djq_store.specs.declared.settling.Turn.TheVariants.{Lacked}
 use Rattle.djq_engine.specs.Laws.{IsEngine}
-use Rattle.djq_store.specs.Places.{joined_at, first_member, told_of_union, listed_at, registered_as, union_watchers}
+use Rattle.djq_store.specs.Places.{joined_at, first_member, told_of_union, listed_at, registered_as}
 use Rattle.djq_store.specs.Places.{store_seen}
-use Rattle.djq_store.specs.Settling.{first_read_by, touched_in, is_settled, outdated_union, TellsUnionLog}
-use Rattle.djq_store.specs.Settling.{SettlesLog, SettlesLogBy, Settles, settling_steps, telling_steps}
-use Rattle.djq_store.specs.Watching.{TellsChange, is_reached}
-use Rattle.djq_store.specs.Whole.{IsListed, IsCounted}
-use Rattle.djq_store.proofs.Accepted.{GoRows, told_place, union_delta, asked_few}
-use Rattle.djq_store.proofs.Affected.{filter_mapped}
-use Rattle.djq_store.proofs.Asked.{slots_few}
+use Rattle.djq_store.specs.Settling.{first_read_by, outdated_union}
+use Rattle.djq_store.specs.Settling.{SettlesLog, SettlesLogBy}
+use Rattle.djq_store.specs.Watching.{is_reached}
+use Rattle.djq_store.specs.Whole.{IsListed}
 use Rattle.djq_store.proofs.Behind.{Behind, outdater_by, grows, member_there, union_is, first_outdates}
-use Rattle.djq_store.proofs.Deltas.{Lists, logs_tell, asking, steps_at}
-use Rattle.djq_gains.proofs.Delta.{twice_mapped}
 use Rattle.djq_store.proofs.Members.{SameFirst, same_first, log_tells}
-use Rattle.djq_store.proofs.Ordered.{Seat, Joint, order_seat, order_joint, joint_order, listed_seat}
+use Rattle.djq_store.proofs.Ordered.{order_seat, order_joint, listed_seat}
 use Rattle.djq_store.proofs.Ordered.{listed_joint, registered_has}
 use Rattle.djq_store.proofs.ReadBy.{the_query}
 use Rattle.djq_store.proofs.Seats.{Slot, cases_place, places_low, places_high}
 use Rattle.djq_store.proofs.Settled.{settled_same, Turned, turned}
-use Rattle.djq_store.proofs.Summing.{sum_mapped}
-use Rattle.djq_store.proofs.Wanted.{rs, ers, places, f, members_at, by_places, deltas, all_lists}
 
 -- ---- what is told, by place
 

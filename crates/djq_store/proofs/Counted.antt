@@ -1,15 +1,13 @@
 -- One more session watches a query, or one less: who is counted, and what is seen.
-use Rattle.std.proofs.Common.{ℕ, zero, suc, List, [], ◌∷◌, ◌++◌, ◌+◌, ◌-◌, ◌≡◌, ◌≢◌, ◌<◌, ◌≤◌, ◌⊎◌}
+use Rattle.std.proofs.Common.{ℕ, suc, List, [], ◌∷◌, ◌+◌, ◌-◌, ◌≡◌, ◌≢◌, ◌<◌, ◌≤◌, ◌⊎◌}
 use Rattle.std.proofs.Common.{inl, inr, Bool, true, false, refl, sym, ap, ap₂, ◌∙◌, subst, length}
 use Rattle.std.proofs.Common.{get_or, set, arith, length-set}
-use Rattle.std.specs.Prelude.{◌==◌, ◌||◌, Option, None, Some, IsSome, IsSomeAnd, is_some, nat_lt}
+use Rattle.std.specs.Prelude.{◌==◌, ◌||◌, Option, None, Some, IsSomeAnd, is_some, nat_lt}
 use Rattle.std.specs.Prelude.{option_map, cond, count_by, find, map}
 use Rattle.std.proofs.lemmas.Bool.{cases_order, eqb-true, eq-eqb, false≢true}
 use Rattle.std.proofs.lemmas.List.{get_or-set_same, get_or-set_other, get_or_default}
 use Rattle.std.proofs.lemmas.List.Sums.{count_by-le-length}
-use Rattle.djq_model.specs.Data.{change_first}
 use Rattle.djq_lines.specs.declared.limits.TheConstants.{QUERIES, SESSIONS}
-use Rattle.djq_live.specs.Live.{Live}
 use Rattle.djq_reach.specs.Places.{is_reader, AreOnce}
 use Rattle.djq_reach.proofs.Among.{apart}
 use Rattle.djq_engine.specs.declared.cursor.QueryId.{QueryId}

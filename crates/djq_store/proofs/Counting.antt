@@ -1,6 +1,6 @@
 -- What updates count: the queries among what is registered are the engine's.
-use Rattle.std.specs.Prelude.{ℕ, suc, List, [], ◌∷◌, ◌≡◌, ◌≢◌, ◌==◌, ◌+◌, ◌*◌, ◌<◌, ◌≤◌, ◌&&◌, ◌||◌}
-use Rattle.std.specs.Prelude.{◌⊎◌, Bool, true, false, cond, None, Some, IsSomeAnd, filter, map}
+use Rattle.std.specs.Prelude.{ℕ, List, [], ◌∷◌, ◌≡◌, ◌==◌, ◌+◌, ◌*◌, ◌<◌, ◌≤◌, ◌&&◌, ◌||◌}
+use Rattle.std.specs.Prelude.{◌⊎◌, Bool, true, false, cond, None, Some, IsSomeAnd, map}
 use Rattle.std.specs.Prelude.{length, sum_by, All, AllPairs, Contains, nat_lt, Option}
 use Rattle.std.specs.Prelude.{slice_index_or}
 use Rattle.std.proofs.Common.{refl, sym, ap, ◌∙◌, subst, inl, inr, arith}
@@ -13,13 +13,10 @@ use Rattle.djq_lines.specs.declared.limits.TheConstants.{QUERIES}
 use Rattle.djq_lines.specs.declared.held.HeldRow.{HeldRow}
 use Rattle.djq_machine.specs.Changes.{RowsChange, is_outdated}
 use Rattle.djq_machine.specs.Batch.{rows_held}
-use Rattle.djq_live.specs.Live.{Live}
 use Rattle.djq_live.specs.Member.{query_at}
 use Rattle.djq_reach.specs.Places.{is_reader}
 use Rattle.djq_reach.proofs.Reaching.{place_below}
-use Rattle.djq_engine.specs.declared.cursor.QueryId.{QueryId}
 use Rattle.djq_engine.specs.Kept.{Kept, Registered, AtPlace, same_query, registered_at, readers_of}
-use Rattle.djq_engine.specs.Places.{id_at}
 use Rattle.djq_engine.specs.Watching.{AreBounded, IsBoundedBy, CountsUpdates, CountsBatch, bounded_steps, update_steps}
 use Rattle.djq_engine.proofs.Listing.{reader_filter}
 use Rattle.djq_deltas.proofs.Lists.{nothing_there, first_or_later, first_there, later_there}
@@ -27,7 +24,7 @@ use Rattle.djq_deltas.proofs.Lists.{kept_there, mapped_there, hold_each, pairs_h
 use Rattle.djq_store.specs.declared.joined.Joined.{Joined}
 use Rattle.djq_engine.specs.Laws.{IsEngine}
 use Rattle.djq_store.specs.Places.{listed_at, registered_as}
-use Rattle.djq_store.specs.Whole.{IsListed, query_places}
+use Rattle.djq_store.specs.Whole.{IsListed}
 use Rattle.djq_store.proofs.Ordered.{seat_of, listed_seat, listed_low, seat_order, registered_is}
 use Rattle.djq_store.proofs.Summing.{sum_covered, sum_mapped, sum_same, kept_was}
 

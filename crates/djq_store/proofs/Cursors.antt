@@ -1,33 +1,31 @@
 -- Cursors behind a change of rows, of queries and of unions.
-use Rattle.std.specs.Prelude.{ℕ, zero, suc, List, [], ◌∷◌, ◌≡◌, ◌==◌, ◌+◌, ◌<◌, ◌&&◌, ◌⊎◌, Option}
-use Rattle.std.specs.Prelude.{None, Some, IsSomeAnd, option_map, find, map, is_some, slice_index_or}
-use Rattle.std.proofs.Common.{refl, sym, ap, ap₂, ◌∙◌, subst, inl, inr, get_or}
-use Rattle.djq_model.specs.declared.query.Query.{Query}
+use Rattle.std.specs.Prelude.{ℕ, zero, suc, List, [], ◌∷◌, ◌≡◌, ◌<◌, ◌⊎◌, Option}
+use Rattle.std.specs.Prelude.{None, Some, IsSomeAnd, option_map, map}
+use Rattle.std.proofs.Common.{refl, sym, ap, ◌∙◌, subst, inl, inr}
 use Rattle.djq_model.specs.Data.{Bytes}
-use Rattle.djq_model.specs.Listed.{Listed, a_query, listed_name, listed_of}
+use Rattle.djq_model.specs.Listed.{Listed, listed_name, listed_of}
 use Rattle.djq_lines.specs.declared.limits.TheConstants.{QUERIES}
 use Rattle.djq_machine.specs.State.{Position}
-use Rattle.djq_machine.specs.Stale.{outdated, outdater_of}
+use Rattle.djq_machine.specs.Stale.{outdated}
 use Rattle.djq_machine.specs.Changes.{RowsChange}
 use Rattle.djq_engine.specs.declared.cursor.CursorId.{CursorId}
 use Rattle.djq_engine.specs.Kept.{Kept, HeldCursor, Registered, same_id, held_at, registered_at}
 use Rattle.djq_engine.specs.Kept.{outdated_held, cursors_behind, Outdates}
-use Rattle.djq_engine.specs.Places.{id_at}
 use Rattle.djq_slots.specs.declared.progress.Progress.TheVariants.{Open, Stale}
-use Rattle.djq_united.specs.Slots.{UnionProgress, slot_at, outdated_progress, outdated_slots}
+use Rattle.djq_united.specs.Slots.{UnionProgress, slot_at, outdated_progress}
 use Rattle.djq_united.specs.United.{United, IsUnited, union_of, members_in, union_position}
 use Rattle.djq_store.specs.declared.joined.Joined.{Joined}
 use Rattle.djq_store.specs.declared.settling.Turn.{Turn}
 use Rattle.djq_store.specs.Places.{joined_at, listed_at, held_union_cursor, union_cursor_of, cursors_in, store_seen}
 use Rattle.djq_store.specs.Settling.{first_read_by, outdated_union}
 use Rattle.djq_store.specs.Whole.{IsListed}
-use Rattle.djq_store.proofs.Behind.{Behind, outdater_by, first_outdates, untouched, queries_behind}
+use Rattle.djq_store.proofs.Behind.{Behind, outdater_by, first_outdates, untouched}
 use Rattle.djq_engine.proofs.Firsts.{find_mapped}
 use Rattle.djq_store.proofs.Held.{held_low, held_high}
-use Rattle.djq_store.proofs.Ordered.{Seat, seat_of, seat_no_union, engine_listed, listed_is}
+use Rattle.djq_store.proofs.Ordered.{seat_of, seat_no_union, engine_listed, listed_is}
 use Rattle.djq_store.proofs.Ordered.{named_joint, listed_joint, Joint}
 use Rattle.djq_store.proofs.Seats.{Slot, cases_place}
-use Rattle.djq_store.proofs.Settled.{Turned, turned, vacant_turned}
+use Rattle.djq_store.proofs.Settled.{turned, vacant_turned}
 
 -- a cursor behind a change that was made or tried, where there was one
 abbrev pub aged : List Listed → Option RowsChange → ℕ → HeldCursor → HeldCursor

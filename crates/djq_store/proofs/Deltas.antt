@@ -1,5 +1,5 @@
 -- The deltas of queries and unions, made of those that the engine lists for the queries that are wanted.
-use Rattle.std.specs.Prelude.{ℕ, List, [], ◌∷◌, ◌==◌, ◌≡◌, ◌+◌, ◌*◌, ◌≤◌, ◌++◌, ◌⊎◌, Bool, true}
+use Rattle.std.specs.Prelude.{ℕ, List, [], ◌∷◌, ◌==◌, ◌≡◌, ◌+◌, ◌*◌, ◌≤◌, ◌⊎◌, Bool, true}
 use Rattle.std.specs.Prelude.{false, cond, Option, None, Some, filter, map, length, sum_by, All}
 use Rattle.std.specs.Prelude.{AllPairs, Contains, ⊤}
 use Rattle.std.proofs.Common.{refl, sym, ap, ap₂, ◌∙◌, subst, inl, inr, arith}
@@ -11,7 +11,7 @@ use Rattle.djq_model.specs.declared.relation.Relation.{Relation}
 use Rattle.djq_model.specs.declared.query.Query.{Query}
 use Rattle.djq_model.specs.Data.{Bytes}
 use Rattle.djq_model.specs.Answer.{IsAnswer}
-use Rattle.djq_model.specs.Listed.{Listed, a_query, a_union, members_of, AnswersOf}
+use Rattle.djq_model.specs.Listed.{Listed, a_query, a_union, AnswersOf}
 use Rattle.djq_machine.specs.Store.{atoms_of}
 use Rattle.djq_machine.specs.Changes.{RowsChange}
 use Rattle.djq_machine.specs.Delta.{Change, IsDelta}
@@ -19,7 +19,7 @@ use Rattle.djq_machine.specs.Watch.{Part, Delta, is_touched, ArePartsOf, AreDelt
 use Rattle.djq_machine.specs.Watch.{parts_steps, listed_steps, delta_steps}
 use Rattle.djq_engine.specs.Kept.{Kept, Registered, same_query, told_at}
 use Rattle.djq_engine.specs.Watching.{LogTells, LogsTell}
-use Rattle.djq_deltas.proofs.Lists.{nothing_there, first_or_later, first_there, later_there}
+use Rattle.djq_deltas.proofs.Lists.{first_there, later_there}
 use Rattle.djq_deltas.proofs.Lists.{pairs_head, pairs_tail, hold_each}
 use Rattle.djq_store.proofs.Summing.{sum_same, sum_covered, sum_kept, kept_was, sum_plus, all_of, sum_all_of, in_all_of}
 

@@ -1,20 +1,18 @@
 -- A command of rows, as a store's engine did it and its unions followed: what it is to the store.
-use Rattle.std.specs.Prelude.{ℕ, zero, suc, List, [], ◌∷◌, ◌≡◌, ◌+◌, ◌-◌, ◌<◌, ◌≤◌, ◌&&◌, ◌⊎◌}
-use Rattle.std.specs.Prelude.{nat_lt, Bool, true, false, cond, Option, None, Some, is_some, find}
-use Rattle.std.specs.Prelude.{filter, map, length, count_by, slice_index_or, vec_capacity, All, Contains, ⊤}
+use Rattle.std.specs.Prelude.{ℕ, zero, suc, List, [], ◌≡◌, ◌+◌, ◌-◌, ◌<◌, ◌≤◌, ◌&&◌}
+use Rattle.std.specs.Prelude.{nat_lt, Bool, true, false, cond, Option, None, Some, find}
+use Rattle.std.specs.Prelude.{filter, map, length, slice_index_or, vec_capacity, All, Contains, ⊤}
 use Rattle.std.specs.List.{list_any}
-use Rattle.std.proofs.Common.{refl, sym, ap, ap₂, ◌∙◌, subst, inl, inr, arith}
+use Rattle.std.proofs.Common.{refl, sym, ap, ◌∙◌, subst, inl, inr, arith}
 use Rattle.std.proofs.lemmas.Bool.{false≢true, lt-ltb, le-ltb}
 use Rattle.std.proofs.lemmas.List.Elements.{All-contains}
 use Rattle.djq_model.specs.declared.query.Query.{Query}
 use Rattle.djq_model.specs.Data.{Bytes}
 use Rattle.djq_model.specs.Listed.{Listed, a_query}
 use Rattle.djq_lines.specs.declared.limits.TheConstants.{QUERIES}
-use Rattle.djq_machine.specs.State.{Store}
 use Rattle.djq_machine.specs.Stale.{reads, listed_reads}
 use Rattle.djq_machine.specs.Changes.{RowsChange, RowsOutcome, accepted, out_of_memory, unchanged, tried, is_outdated}
 use Rattle.djq_machine.specs.Watch.{is_touched}
-use Rattle.djq_live.specs.Live.{Live}
 use Rattle.djq_live.specs.Member.{query_at}
 use Rattle.djq_reach.specs.Places.{is_reader}
 use Rattle.djq_reach.proofs.Reaching.{place_below}
@@ -26,20 +24,20 @@ use Rattle.djq_deltas.proofs.Lists.{hold_each}
 use Rattle.djq_store.specs.declared.joined.Joined.{Joined}
 use Rattle.djq_store.specs.declared.parts.Parts.{Parts}
 use Rattle.djq_store.specs.declared.settling.Turn.{Turn}
-use Rattle.djq_store.specs.declared.settling.Turn.TheVariants.{Came, Went, Lacked}
+use Rattle.djq_store.specs.declared.settling.Turn.TheVariants.{Lacked}
 use Rattle.djq_store.specs.Affecting.{is_reached_id, is_member_reached, is_affected}
 use Rattle.djq_engine.specs.Laws.{IsEngine}
 use Rattle.djq_store.proofs.Below.{StayingLaws}
-use Rattle.djq_store.specs.Following.{AffectsAll, FollowsAffected, UnionsFollow, FollowsBy, following_steps}
+use Rattle.djq_store.specs.Following.{AffectsAll, FollowsAffected, FollowsBy, following_steps}
 use Rattle.djq_store.specs.Places.{joined_at, listed_at, registered_as, sessions_at, union_watchers, store_seen}
 use Rattle.djq_store.specs.Places.{store_kept_in}
 use Rattle.djq_store.specs.Settling.{SettlesAt, AreUnionsUnwatched}
 use Rattle.djq_store.specs.Watching.{TellsChange}
-use Rattle.djq_store.specs.Whole.{IsListed, IsCounted, IsRoomy, StoreIsWhole, wants}
+use Rattle.djq_store.specs.Whole.{IsListed, IsCounted, StoreIsWhole, wants}
 use Rattle.djq_store.proofs.Accepted.{GoRows}
 use Rattle.djq_store.proofs.Affected.{affected_order, affected_queries}
-use Rattle.djq_store.proofs.Alike.{SameUnion, SameIn, SameUnions}
-use Rattle.djq_store.proofs.Behind.{Behind, Did, outdater_by, same, all_listed, all_counted}
+use Rattle.djq_store.proofs.Alike.{SameIn, SameUnions}
+use Rattle.djq_store.proofs.Behind.{Behind, Did, same, all_listed, all_counted}
 use Rattle.djq_store.proofs.Behind.{registered_behind, queries_behind}
 use Rattle.djq_store.proofs.Counting.{mapped_was, seen_there, engine_ordered}
 use Rattle.djq_store.proofs.Members.{grown_members, kept_shapes}

@@ -1,15 +1,15 @@
 -- A store without relations, queries and unions.
-use Rattle.std.proofs.Common.{ℕ, zero, suc, List, [], ◌+◌, ◌-◌, ◌≡◌, ◌<◌, ◌≤◌, ◌⊎◌, inl, inr, true}
-use Rattle.std.proofs.Common.{false, refl, sym, ap, ◌∙◌, subst, length, get_or, arith}
-use Rattle.std.specs.Prelude.{Option, None, Some, is_some, map, replicate, vec_capacity}
+use Rattle.std.proofs.Common.{ℕ, List, [], ◌+◌, ◌≡◌, ◌<◌, ◌≤◌, ◌⊎◌, inl, inr}
+use Rattle.std.proofs.Common.{sym, ap, ◌∙◌, subst, length, get_or, arith}
+use Rattle.std.specs.Prelude.{Option, None, is_some, map, replicate, vec_capacity}
 use Rattle.std.proofs.lemmas.Bool.{cases_lt}
 use Rattle.std.proofs.lemmas.List.{get_or-replicate, get_or_past, length-replicate}
-use Rattle.djq_lines.specs.declared.limits.TheConstants.{QUERIES, SESSIONS}
+use Rattle.djq_lines.specs.declared.limits.TheConstants.{QUERIES}
 use Rattle.djq_engine.specs.Kept.{Kept, Registered, registered_at}
 use Rattle.djq_store.specs.declared.joined.Joined.{Joined}
 use Rattle.djq_store.specs.declared.parts.Parts.{Parts}
 use Rattle.djq_store.specs.Places.{joined_at, union_watchers, sessions_at}
-use Rattle.djq_store.specs.Whole.{IsListed, IsCounted, IsRoomy, StoreIsWhole}
+use Rattle.djq_store.specs.Whole.{IsListed, IsCounted, StoreIsWhole}
 use Rattle.djq_store.proofs.Seats.{low_place, high_place, Slot, cases_place}
 
 -- no slot has a union

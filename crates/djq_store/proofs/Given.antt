@@ -1,37 +1,34 @@
 -- What the engine gives of the cursors of its queries is what the store gives.
 use Rattle.std.proofs.Common.{ℕ, List, [], ◌∷◌, ◌++◌, ◌+◌, ◌≡◌, ◌<◌, ◌≤◌, Bool, true, false, refl}
-use Rattle.std.proofs.Common.{sym, ap, ◌∙◌, subst, length, arith, append-nil}
-use Rattle.std.specs.Prelude.{Option, None, Some, IsSome, IsSomeAnd, is_some, is_none, Result, Ok, Err, map, ⊤}
-use Rattle.djq_model.specs.Data.{Bytes, Tuple}
-use Rattle.djq_model.specs.Listed.{Listed, a_query, listed_name, listed_of}
+use Rattle.std.proofs.Common.{sym, ap, ◌∙◌, subst}
+use Rattle.std.specs.Prelude.{Option, None, Some, IsSomeAnd, is_some, is_none, Result, Ok, Err, map, ⊤}
+use Rattle.djq_model.specs.Data.{Bytes}
+use Rattle.djq_model.specs.Listed.{Listed, listed_name, listed_of}
 use Rattle.djq_lines.specs.declared.answer.Refusal.{Refusal}
 use Rattle.djq_lines.specs.declared.answer.Refusal.TheVariants.{NoQuery}
 use Rattle.djq_lines.specs.declared.limits.TheConstants.{QUERIES}
 use Rattle.djq_machine.specs.Conditions.{first_refusal, OutOfMemoryWhere}
-use Rattle.djq_machine.specs.State.{Store, Position, open_at, stale}
+use Rattle.djq_machine.specs.State.{Position, open_at, stale}
 use Rattle.djq_machine.specs.Store.{answer_steps}
 use Rattle.djq_reduct.specs.Answers.{IsAnswerOf}
 use Rattle.djq_live.specs.declared.listing.Next.{Next}
 use Rattle.djq_live.specs.declared.listing.Next.TheVariants.{Given, End, Stale}
-use Rattle.djq_live.specs.Live.{Live, IsShowable, ShowableStays, AnswersAreShowable, values_of}
+use Rattle.djq_live.specs.Live.{Live, IsShowable, values_of}
 use Rattle.djq_live.specs.Member.{query_at}
 use Rattle.djq_engine.specs.declared.cursor.CursorId.{CursorId}
-use Rattle.djq_engine.specs.declared.cursor.QueryId.{QueryId}
 use Rattle.djq_engine.specs.Kept as kept
 use Rattle.djq_engine.specs.Kept.{Kept, HeldCursor, Registered, registered_at, held_at, KeepsTables}
 use Rattle.djq_engine.specs.Kept.{MovesCursor, IsHeld, IsFresh, IsShown, AnswerIs, read_steps}
 use Rattle.djq_engine.proofs.Conditions.{answers_as, done_of}
-use Rattle.djq_united.specs.Staying.{MembersStay, UnionsStay}
 use Rattle.djq_store.specs.declared.joined.Joined.{Joined}
 use Rattle.djq_store.specs.declared.parts.Parts.{Parts}
 use Rattle.djq_engine.specs.Laws.{IsEngine}
 use Rattle.djq_store.proofs.Below.{StayingLaws}
-use Rattle.djq_store.specs.Places.{in_places, listed_at, lender_in, store_seen}
+use Rattle.djq_store.specs.Places.{lender_in, store_seen}
 use Rattle.djq_store.specs.Reading as store
 use Rattle.djq_store.specs.Whole.{IsListed, StoreIsWhole}
 use Rattle.djq_store.proofs.Held.{held_low}
-use Rattle.djq_store.proofs.Ordered.{NoUnion, Seat, engine_listed, seat, seat_no_union, seat_order}
-use Rattle.djq_store.proofs.Ordered.{joint_order, listed_seat, listed_joint}
+use Rattle.djq_store.proofs.Ordered.{NoUnion, Seat, engine_listed, seat, seat_no_union}
 use Rattle.djq_store.proofs.Seats.{places_low}
 use Rattle.djq_store.proofs.Staying.{Rests, rests_with, listed_over, counts_stay, cursor_over}
 use Rattle.djq_store.proofs.Staying.{registered_over, store_over, tellings_over}

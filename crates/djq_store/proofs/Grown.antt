@@ -1,38 +1,25 @@
 -- Of which relations rows come in a batch: those that have more rows behind it.
-use Rattle.std.specs.Prelude.{ℕ, zero, suc, List, [], ◌∷◌, ◌++◌, ◌≡◌, ◌+◌, ◌<◌, ◌≤◌, ◌&&◌, ◌||◌}
-use Rattle.std.specs.Prelude.{◌⊎◌, nat_lt, Bool, true, false, not, cond, Option, None, Some}
-use Rattle.std.specs.Prelude.{is_some, is_none, option_map, find, filter, map, length, Result, Ok}
-use Rattle.std.specs.Prelude.{Err, All, Contains, ⊤}
-use Rattle.std.specs.List.{list_any}
-use Rattle.std.proofs.Common.{refl, sym, ap, ap₂, ◌∙◌, subst, inl, inr, arith}
+use Rattle.std.specs.Prelude.{ℕ, zero, suc, List, [], ◌∷◌, ◌≡◌, ◌+◌, ◌&&◌, ◌||◌}
+use Rattle.std.specs.Prelude.{nat_lt, Bool, true, false, not, cond, Option, None, Some}
+use Rattle.std.specs.Prelude.{is_some, option_map, length}
+use Rattle.std.specs.Prelude.{All}
+use Rattle.std.proofs.Common.{refl, sym, ap, ◌∙◌, subst, arith}
 use Rattle.std.proofs.lemmas.Bool.{false≢true, lt-ltb, le-ltb}
 use Rattle.std.proofs.lemmas.List.{length_push}
-use Rattle.std.proofs.lemmas.List.Elements.{All-nil, All-cons, All-head, All-tail, All-weaker, All-contains}
+use Rattle.std.proofs.lemmas.List.Elements.{All-head, All-tail, All-weaker}
 use Rattle.djq_model.specs.declared.relation.Relation.{Relation}
 use Rattle.djq_model.specs.declared.relation.CountedRow.{CountedRow}
-use Rattle.djq_model.specs.declared.query.Query.{Query}
-use Rattle.djq_model.specs.declared.query.Atom.{Atom}
 use Rattle.djq_model.specs.Data.{Bytes, Tuple, bytes_eq, relation_of, plain_of, counted_in}
 use Rattle.djq_model.specs.Data.{counted_of, rows_of, with_row, with_copies}
 use Rattle.djq_model.specs.Equality.{bytes_eq-decides}
 use Rattle.djq_model.specs.Known.{texts_in, all_learned}
-use Rattle.djq_model.specs.Listed.{Listed, a_query}
 use Rattle.djq_model.proofs.Counted.{tuples_with_row}
 use Rattle.djq_lines.specs.declared.held.HeldRow.{HeldRow}
-use Rattle.djq_lines.specs.declared.answer.Refusal.{Refusal}
-use Rattle.djq_lines.specs.declared.answer.Refusal.TheVariants.{Limit, NoMemory}
 use Rattle.djq_machine.specs.State.{Store}
 use Rattle.djq_machine.specs.Store.{with_rows, copies_of, with_copies_of}
-use Rattle.djq_machine.specs.Stale.{reads, listed_reads}
-use Rattle.djq_machine.specs.Changes.{RowsChange, is_outdated}
-use Rattle.djq_machine.specs.Batch.{suit_refusal, SuitAll, is_there, with_held, with_all, has_come}
-use Rattle.djq_machine.specs.Batch.{rows_held, rows_tried, first_read}
-use Rattle.djq_machine.specs.Watch.{is_touched}
+use Rattle.djq_machine.specs.Batch.{is_there, with_held, with_all, has_come}
 use Rattle.djq_machine.proofs.Copies.{relation_here, relation_apart, rows_apart, copies_rows}
-use Rattle.djq_deltas.proofs.Lists.{nothing_there, first_or_later, first_there, later_there, mapped_there}
 use Rattle.djq_store.specs.Batches.{has_grown}
-use Rattle.djq_store.proofs.ReadBy.{any_there, Passing, passing, found_any, filter_same}
-use Rattle.djq_store.proofs.Summing.{kept_was}
 
 -- how many rows of a relation of this name come
 abbrev came_of : Store → List HeldRow → Bytes → ℕ

@@ -1,6 +1,6 @@
 -- A cursor is found among all by the place of its query or union, and its slot.
-use Rattle.std.proofs.Common.{ℕ, zero, suc, List, [], ◌∷◌, ◌+◌, ◌≡◌, ◌<◌, ◌⊎◌, inl, inr, true}
-use Rattle.std.proofs.Common.{refl, sym, ap, ap₂, ◌∙◌, subst, arith}
+use Rattle.std.proofs.Common.{ℕ, zero, suc, List, [], ◌∷◌, ◌+◌, ◌≡◌, ◌<◌, true}
+use Rattle.std.proofs.Common.{refl, sym, ap, ap₂, ◌∙◌, arith}
 use Rattle.std.specs.Prelude.{◌==◌, ◌&&◌, Option, None, Some, IsSomeAnd, is_some, option_map, cond}
 use Rattle.std.specs.Option.{option_or}
 use Rattle.std.proofs.lemmas.Bool.{eq-eqb, and_from, and_right}
@@ -20,7 +20,6 @@ use Rattle.djq_engine.specs.Laws.{IsEngine}
 use Rattle.djq_store.specs.Places.{joined_at, held_union_cursor, union_cursors_in, union_cursors_from, union_cursor_of}
 use Rattle.djq_store.specs.Places.{cursors_in}
 use Rattle.djq_store.proofs.Ordered.{seat}
-use Rattle.djq_store.proofs.Seats.{Slot, cases_place}
 use Rattle.djq_deltas.proofs.Cases.{or_none}
 
 -- the slots of one union

@@ -2,7 +2,7 @@
 use Rattle.std.proofs.Common.{ℕ, zero, suc, List, [], ◌∷◌, ◌++◌, ◌+◌, ◌-◌, ◌≡◌, ◌≢◌, ◌<◌, ◌≤◌, ◌⊎◌}
 use Rattle.std.proofs.Common.{inl, inr, Bool, true, false, refl, sym, ap, ap₂, ◌∙◌, subst, length}
 use Rattle.std.proofs.Common.{get_or, set, arith, length-set}
-use Rattle.std.specs.Prelude.{◌==◌, ◌||◌, ◌&&◌, Option, None, Some, IsSome, IsSomeAnd, is_some}
+use Rattle.std.specs.Prelude.{◌==◌, ◌||◌, ◌&&◌, Option, None, Some, IsSomeAnd, is_some}
 use Rattle.std.specs.Prelude.{nat_lt, option_map, cond, count_by, find, map, AllPairs, ⊤}
 use Rattle.std.proofs.lemmas.Bool.{cases_order, eqb-true, eq-eqb, false≢true, lt-ltb}
 use Rattle.std.proofs.lemmas.List.{get_or-set_other}

@@ -20,9 +20,9 @@ use Rattle.djq_machine.specs.Conditions.{Answers, OutOfMemoryWhere}
 use Rattle.djq_machine.specs.Store.{with_rows, copies_of, with_copies_of, RefusedByTexts}
 use Rattle.djq_machine.specs.Store.{MakesRelation, rel_refusal, AddsAs, AddsRow, add_refusal}
 use Rattle.djq_machine.specs.Store.{DeletesAs, DeletesRow, delete_refusal}
-use Rattle.djq_machine.specs.Changes.{RowsChange, RowsOutcome, accepted, out_of_memory}
+use Rattle.djq_machine.specs.Changes.{RowsChange, accepted, out_of_memory}
 use Rattle.djq_machine.specs.Batch.{SuitAll, is_there, with_held, with_all, count_came, has_come}
-use Rattle.djq_machine.specs.Batch.{store_behind, place_refusal, HavePlaces, BatchStopsAt, RefusesBatch}
+use Rattle.djq_machine.specs.Batch.{store_behind, HavePlaces, BatchStopsAt}
 use Rattle.djq_machine.specs.Batch.{AddsBatch, first_read, rows_held, rows_tried, batch_outcome}
 
 -- a store with other queries registered

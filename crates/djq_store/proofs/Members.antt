@@ -1,8 +1,7 @@
 -- The members of a union, as the engine below changes: the first of them, and what they are together.
-use Rattle.std.proofs.Common.{ℕ, suc, List, [], ◌∷◌, ◌++◌, ◌≡◌, ◌≤◌, Bool, true, false, refl, sym}
+use Rattle.std.proofs.Common.{ℕ, List, [], ◌∷◌, ◌++◌, ◌≡◌, ◌≤◌, Bool, true, false, refl, sym}
 use Rattle.std.proofs.Common.{ap, ◌∙◌, subst, length, get_or, arith}
-use Rattle.std.specs.Prelude.{Option, None, Some, IsSomeAnd, cond, map, All, Contains, option_to_list, ⊤}
-use Rattle.std.specs.List.{AllByRecursion}
+use Rattle.std.specs.Prelude.{Option, None, Some, IsSomeAnd, cond, map, All, option_to_list, ⊤}
 use Rattle.std.proofs.lemmas.List.Elements.{All-head, All-tail}
 use Rattle.djq_model.specs.Data.{Bytes}
 use Rattle.djq_machine.specs.Delta.{Change}
@@ -11,9 +10,9 @@ use Rattle.djq_live.specs.Live.{Live, IsShowable, ShowableStays, values_of}
 use Rattle.djq_live.specs.Member.{query_at, queries_at, HaveQueries}
 use Rattle.djq_live.specs.Updating.{change_of}
 use Rattle.djq_live.specs.Staying.{HasSameShape, HasSameTables}
-use Rattle.djq_engine.specs.Kept.{Kept, SameShape, SameLiveTables, KeepsPlaces, KeepsQuery, KeepsTables}
+use Rattle.djq_engine.specs.Kept.{Kept, SameShape, KeepsPlaces, KeepsQuery, KeepsTables}
 use Rattle.djq_engine.specs.Places.{told_of}
-use Rattle.djq_united.specs.United.{United, IsUnited, members_in, first_of_members, union_of}
+use Rattle.djq_united.specs.United.{United, IsUnited, first_of_members, union_of}
 use Rattle.djq_united.specs.Staying.{MembersStay, KeepMembers}
 use Rattle.djq_store.specs.declared.joined.Joined.{Joined}
 use Rattle.djq_store.specs.Places.{first_member, told_of_union}

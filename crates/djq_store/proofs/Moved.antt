@@ -1,47 +1,35 @@
 -- The union in one slot has other cursors, and nothing else changes.
-use Rattle.std.proofs.Common.{ℕ, zero, suc, List, [], ◌∷◌, ◌++◌, ◌+◌, ◌≡◌, ◌≢◌, ◌<◌, ◌≤◌, ◌⊎◌, inl}
+use Rattle.std.proofs.Common.{ℕ, List, [], ◌+◌, ◌≡◌, ◌≢◌, ◌<◌, ◌⊎◌, inl}
 use Rattle.std.proofs.Common.{inr, Bool, true, false, refl, sym, ap, ap₂, ◌∙◌, subst, length}
 use Rattle.std.proofs.Common.{get_or, set, arith}
-use Rattle.std.specs.Prelude.{◌==◌, ◌&&◌, Option, None, Some, IsSome, IsSomeAnd, is_some, is_none}
-use Rattle.std.specs.Prelude.{IfOk, Result, Ok, Err, option_map, cond, map, ⊤}
+use Rattle.std.specs.Prelude.{◌==◌, ◌&&◌, Option, None, Some, IsSomeAnd}
+use Rattle.std.specs.Prelude.{option_map}
 use Rattle.std.proofs.lemmas.Bool.{cases_order, eq-eqb, false≢true}
-use Rattle.std.proofs.lemmas.List.{get_or-set_same, get_or-set_other}
-use Rattle.djq_model.specs.Data.{Bytes, Tuple}
-use Rattle.djq_model.specs.Listed.{Listed, AnswersOf, listed_name, listed_of}
-use Rattle.djq_lines.specs.declared.answer.Refusal.{Refusal}
-use Rattle.djq_lines.specs.declared.answer.Refusal.TheVariants.{NoQuery, NoMemory}
+use Rattle.std.proofs.lemmas.List.{get_or-set_other}
+use Rattle.djq_model.specs.Data.{Bytes}
+use Rattle.djq_model.specs.Listed.{Listed}
 use Rattle.djq_lines.specs.declared.limits.TheConstants.{QUERIES}
-use Rattle.djq_machine.specs.Conditions.{first_refusal, Answers, OutOfMemoryWhere}
-use Rattle.djq_machine.specs.State.{Store, Position, open_at, stale}
-use Rattle.djq_machine.specs.Store.{answer_steps}
-use Rattle.djq_live.specs.declared.listing.Next.{Next}
-use Rattle.djq_live.specs.declared.listing.Next.TheVariants.{Given, End, Stale}
-use Rattle.djq_live.specs.Live.{Live, IsShowable, values_of}
-use Rattle.djq_live.specs.Member.{query_at, queries_at}
+use Rattle.djq_machine.specs.State.{Store}
+use Rattle.djq_live.specs.Live.{Live, IsShowable}
+use Rattle.djq_live.specs.Member.{queries_at}
 use Rattle.djq_engine.specs.declared.cursor.CursorId.{CursorId}
-use Rattle.djq_engine.specs.declared.cursor.QueryId.{QueryId}
-use Rattle.djq_engine.specs.Kept.{Kept, HeldCursor, OpensCursor, CursorOpenGives, ClosesCursor, MovesCursor}
-use Rattle.djq_engine.specs.Kept.{MoreGives, MoreGivesAt, IsShown, AnswerIs, AtQuery, SameTellings}
-use Rattle.djq_engine.specs.Kept.{held_at, same_id, read_steps}
+use Rattle.djq_engine.specs.Kept.{Kept}
+use Rattle.djq_engine.specs.Kept.{SameTellings}
+use Rattle.djq_engine.specs.Kept.{held_at, same_id}
 use Rattle.djq_engine.specs.Places.{id_at}
-use Rattle.djq_united.specs.Slots.{UnionProgress, slot_at}
-use Rattle.djq_united.specs.Reading as united
-use Rattle.djq_united.specs.United.{United, IsUnited, AtFirst, members_in, first_of_members, union_position, union_of}
+use Rattle.djq_united.specs.Slots.{slot_at}
+use Rattle.djq_united.specs.United.{United, IsUnited, first_of_members}
 use Rattle.djq_store.specs.declared.joined.Joined.{Joined}
 use Rattle.djq_engine.specs.Laws.{IsEngine}
-use Rattle.djq_store.specs.Moving.{MovesUnion, OpensUnion, ClosesUnion, ReadsUnion, TellsUnionMore}
-use Rattle.djq_store.specs.Places.{joined_at, listed_at, registered_as, held_union_cursor, union_cursor_of}
+use Rattle.djq_store.specs.Places.{joined_at, held_union_cursor, union_cursor_of}
 use Rattle.djq_store.specs.Places.{told_of_union}
-use Rattle.djq_store.specs.Places.{lender_in, in_places, first_member, cursors_in, store_seen}
-use Rattle.djq_store.specs.Reading as store
+use Rattle.djq_store.specs.Places.{in_places, first_member, cursors_in, store_seen}
 use Rattle.djq_store.specs.Whole.{IsListed, IsCounted, IsShownByFirst}
-use Rattle.djq_store.proofs.Alike.{SameUnions, SameUnion, set_same, set_all, listed_kept}
+use Rattle.djq_store.proofs.Alike.{SameUnions, set_same, set_all, listed_kept}
 use Rattle.djq_store.proofs.Alike.{counted_kept, queries_alike, registered_alike}
 use Rattle.djq_store.proofs.Held.{held_low, held_high}
-use Rattle.djq_store.proofs.Named.{Called}
-use Rattle.djq_store.proofs.Ordered.{Joint, listed_is, listed_joint, named_joint}
-use Rattle.djq_store.proofs.Seats.{Slot, cases_place, places_high}
-use Rattle.djq_store.proofs.Slots.{slot_below, set_here, map_each}
+use Rattle.djq_store.proofs.Seats.{Slot, cases_place}
+use Rattle.djq_store.proofs.Slots.{set_here, map_each}
 
 -- the cursor of a union in a slot
 abbrev pub cursor_of : ℕ → ℕ → CursorId

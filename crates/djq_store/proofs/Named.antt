@@ -1,7 +1,7 @@
 -- A union is found by its name in its slot.
-use Rattle.std.proofs.Common.{ℕ, List, [], ◌∷◌, ◌≡◌, ◌<◌, true, refl, sym, ap, ◌∙◌}
+use Rattle.std.proofs.Common.{ℕ, List, ◌≡◌, true, refl, sym, ap, ◌∙◌}
 use Rattle.std.specs.Prelude.{Option, None, Some, position}
-use Rattle.djq_model.specs.Data.{Bytes, bytes_eq}
+use Rattle.djq_model.specs.Data.{Bytes}
 use Rattle.djq_model.specs.Equality.{bytes_eq-decides}
 use Rattle.djq_engine.proofs.Firsts.{first_of_position, none_of_position}
 use Rattle.djq_store.specs.declared.joined.Joined.{Joined}

@@ -1,13 +1,12 @@
 -- What an id or a name stands for, among all that is registered.
 use Rattle.std.proofs.Common.{ℕ, suc, List, [], ◌∷◌, ◌+◌, ◌≡◌, ◌<◌, ◌⊎◌, inl, inr, Bool, true}
-use Rattle.std.proofs.Common.{false, refl, sym, ap, ◌∙◌, subst, length, get_or, arith}
+use Rattle.std.proofs.Common.{false, refl, sym, ap, ◌∙◌, subst, get_or, arith}
 use Rattle.std.specs.Prelude.{◌==◌, ◌&&◌, Option, None, Some, is_some, IsSome, IsSomeAnd}
-use Rattle.std.specs.Prelude.{option_map, nat_lt, cond, find, filter, map, All}
-use Rattle.std.proofs.lemmas.Bool.{eqb-true, lt-ltb, ltb-true, false≢true}
-use Rattle.std.proofs.lemmas.List.{get_or_past}
+use Rattle.std.specs.Prelude.{option_map, nat_lt, cond, find, map, All}
+use Rattle.std.proofs.lemmas.Bool.{eqb-true, lt-ltb, false≢true}
 use Rattle.djq_model.specs.Data.{Bytes, bytes_eq}
 use Rattle.djq_model.specs.Equality.{bytes_eq-decides}
-use Rattle.djq_model.specs.Listed.{Listed, a_query, listed_name, listed_of}
+use Rattle.djq_model.specs.Listed.{a_query, listed_name, listed_of}
 use Rattle.djq_lines.specs.declared.limits.TheConstants.{QUERIES}
 use Rattle.djq_live.specs.Live.{Live}
 use Rattle.djq_live.specs.Member.{query_at}
@@ -20,10 +19,10 @@ use Rattle.djq_engine.proofs.Listing.{reader_filter}
 use Rattle.djq_united.specs.United.{union_of}
 use Rattle.djq_store.specs.declared.joined.Joined.{Joined}
 use Rattle.djq_engine.specs.Laws.{IsEngine}
-use Rattle.djq_store.specs.Places.{by_place, joined_at, listed_in, listed_at, registered_as}
+use Rattle.djq_store.specs.Places.{joined_at, listed_in, listed_at, registered_as}
 use Rattle.djq_store.specs.Whole.{IsListed, query_places}
 use Rattle.djq_store.proofs.Found.{found_passes, found_all, find_filtered, found_at, reader_mapped}
-use Rattle.djq_engine.proofs.Enlisted.{no_place, find_place}
+use Rattle.djq_engine.proofs.Enlisted.{find_place}
 use Rattle.djq_engine.proofs.Firsts.{find_mapped}
 use Rattle.djq_gains.proofs.Delta.{twice_mapped}
 use Rattle.djq_engine.proofs.Told.{map_as}

@@ -1,18 +1,16 @@
 -- Which of some relations queries and unions read, by the places of the queries.
-use Rattle.std.specs.Prelude.{ℕ, List, [], ◌∷◌, ◌++◌, ◌≡◌, ◌&&◌, ◌||◌, ◌⊎◌, Bool, true, false, cond}
+use Rattle.std.specs.Prelude.{ℕ, List, [], ◌∷◌, ◌++◌, ◌≡◌, ◌||◌, ◌⊎◌, Bool, true, false, cond}
 use Rattle.std.specs.Prelude.{Option, None, Some, is_some, IsSomeAnd, option_to_list, find, filter}
-use Rattle.std.specs.Prelude.{map, All, Contains, ⊤}
+use Rattle.std.specs.Prelude.{map, Contains, ⊤}
 use Rattle.std.specs.List.{list_any, AllByRecursion}
-use Rattle.std.proofs.Common.{refl, sym, ap, ap₂, ◌∙◌, subst, inl, inr}
+use Rattle.std.proofs.Common.{refl, sym, ap, ap₂, ◌∙◌, inl, inr}
 use Rattle.djq_model.specs.declared.query.Query.{Query}
 use Rattle.djq_model.specs.Data.{Bytes}
-use Rattle.djq_model.specs.Listed.{Listed, a_query, a_union}
+use Rattle.djq_model.specs.Listed.{a_query, a_union}
 use Rattle.djq_machine.specs.Stale.{reads, listed_reads}
 use Rattle.djq_live.specs.Live.{Live}
-use Rattle.djq_live.specs.Member.{query_at, queries_at, HaveQueries}
+use Rattle.djq_live.specs.Member.{query_at, queries_at}
 use Rattle.djq_reach.specs.Places.{reads_place}
-use Rattle.djq_engine.specs.Places.{no_query, query_in}
-use Rattle.djq_united.specs.United.{United, union_of}
 use Rattle.djq_deltas.proofs.Lists.{nothing_there, first_or_later, first_there, later_there}
 use Rattle.djq_store.specs.Settling.{reads_some, some_read, first_read_by, touched_in}
 

@@ -1,5 +1,5 @@
 -- A relation that is made changes nothing but that.
-use Rattle.std.specs.Prelude.{ℕ, List, [], ◌∷◌, ◌++◌, ◌≡◌, Option, None, Some, IsSomeAnd, false}
+use Rattle.std.specs.Prelude.{List, [], ◌∷◌, ◌++◌, ◌≡◌, Option, None, Some, IsSomeAnd, false}
 use Rattle.std.specs.Prelude.{map, Result, Ok, Err, OnErr, ⊤}
 use Rattle.std.proofs.Common.{refl, sym, ap, ◌∙◌, subst, append-nil}
 use Rattle.djq_model.specs.declared.relation.ColumnType.{ColumnType}

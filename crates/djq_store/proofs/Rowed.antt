@@ -1,7 +1,7 @@
 -- What `add` and `del` come to in a store.
-use Rattle.std.specs.Prelude.{ℕ, List, [], ◌∷◌, ◌++◌, ◌≡◌, ◌+◌, ◌<◌, ◌≤◌, Bool, true, false, Option}
-use Rattle.std.specs.Prelude.{None, Some, length, vec_capacity, Result, All, ⊤}
-use Rattle.std.proofs.Common.{refl, sym, subst}
+use Rattle.std.specs.Prelude.{ℕ, List, ◌≡◌, ◌+◌, ◌<◌, ◌≤◌, Bool, true, false, Option}
+use Rattle.std.specs.Prelude.{length, vec_capacity, Result, All}
+use Rattle.std.proofs.Common.{sym, subst}
 use Rattle.djq_model.specs.Data.{Bytes, Tuple}
 use Rattle.djq_lines.specs.declared.limits.TheConstants.{QUERIES}
 use Rattle.djq_lines.specs.declared.answer.Refusal.{Refusal}
@@ -9,24 +9,22 @@ use Rattle.djq_lines.specs.declared.answer.AddOutcome.{AddOutcome}
 use Rattle.djq_lines.specs.declared.answer.DeleteOutcome.{DeleteOutcome}
 use Rattle.djq_machine.specs.State.{Store}
 use Rattle.djq_machine.specs.Store.{AddsRow, DeletesRow}
-use Rattle.djq_machine.specs.Changes.{RowsChange, RowsOutcome, accepted, out_of_memory, unchanged}
-use Rattle.djq_machine.specs.Changes.{tried, row_in, row_out, add_outcome, delete_outcome}
-use Rattle.djq_rows.specs.Laws.{TextsStay}
+use Rattle.djq_machine.specs.Changes.{RowsOutcome, accepted, out_of_memory, unchanged}
+use Rattle.djq_machine.specs.Changes.{tried}
 use Rattle.djq_engine.specs.declared.cursor.QueryId.{QueryId}
 use Rattle.djq_engine.specs.Kept.{Kept, Outdates, KeepsPlaces, is_tried}
 use Rattle.djq_engine.specs.Watching as watching
-use Rattle.djq_store.specs.declared.joined.Joined.{Joined}
 use Rattle.djq_store.specs.declared.parts.Parts.{Parts}
 use Rattle.djq_store.specs.declared.settling.Turn.{Turn}
 use Rattle.djq_engine.specs.Laws.{IsEngine}
 use Rattle.djq_store.proofs.Below.{StayingLaws}
-use Rattle.djq_store.specs.Following.{IfMade, FollowsBy, following_steps, add_turn, delete_turn}
+use Rattle.djq_store.specs.Following.{IfMade, FollowsBy, following_steps}
 use Rattle.djq_store.specs.Places.{store_kept_in}
 use Rattle.djq_store.specs.Whole.{StoreIsWhole}
 use Rattle.djq_store.proofs.Behind.{Did}
 use Rattle.djq_store.proofs.Doing.{Comes, IsKnown, turn_by, over, comes_to, affected_low, affected_few}
 use Rattle.djq_store.proofs.Lifting.{with_queries, adds_lifted, deletes_lifted}
-use Rattle.djq_store.proofs.Rowing.{Grown, add_known, add_turns, add_grows, delete_known, delete_turns, delete_grows}
+use Rattle.djq_store.proofs.Rowing.{Grown}
 
 -- ---- what following asks for
 

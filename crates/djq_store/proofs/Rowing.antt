@@ -1,13 +1,11 @@
 -- What `add`, `del` and `done` of an engine say of its change, as a store needs to know it.
-use Rattle.std.specs.Prelude.{ℕ, zero, suc, List, [], ◌∷◌, ◌++◌, ◌≡◌, ◌+◌, ◌≤◌, ◌&&◌, ◌||◌, ◌⊎◌}
-use Rattle.std.specs.Prelude.{Bool, true, false, cond, Option, None, Some, is_some, find, length}
-use Rattle.std.specs.Prelude.{Result, Ok, Err, OnErr, ⊤}
-use Rattle.std.specs.List.{list_any}
-use Rattle.std.proofs.Common.{refl, sym, ap, ◌∙◌, subst, inl, inr, append-nil}
+use Rattle.std.specs.Prelude.{List, [], ◌∷◌, ◌++◌, ◌≡◌}
+use Rattle.std.specs.Prelude.{Bool, true, false, cond, Option, None, Some, is_some}
+use Rattle.std.specs.Prelude.{Result, Ok, Err, OnErr}
+use Rattle.std.proofs.Common.{refl, sym, ap, ◌∙◌, append-nil}
 use Rattle.djq_model.specs.declared.query.Query.{Query}
 use Rattle.djq_model.specs.Data.{Bytes, Tuple, rows_of, has_row}
 use Rattle.djq_model.specs.Known.{texts_in, all_learned}
-use Rattle.djq_model.specs.Listed.{Listed, a_query}
 use Rattle.djq_lines.specs.declared.answer.Refusal.{Refusal}
 use Rattle.djq_lines.specs.declared.answer.Refusal.TheVariants.{Limit, NoMemory}
 use Rattle.djq_lines.specs.declared.answer.AddOutcome.{AddOutcome}
@@ -17,14 +15,13 @@ use Rattle.djq_lines.specs.declared.answer.DeleteOutcome.TheVariants.{Last, Left
 use Rattle.djq_machine.specs.State.{Store}
 use Rattle.djq_machine.specs.Conditions.{Answers, OutOfMemoryWhere}
 use Rattle.djq_machine.specs.Store.{AddsRow, AddsAs, add_refusal, RefusedByTexts, DeletesRow, DeletesAs, delete_refusal}
-use Rattle.djq_machine.specs.Stale.{reads, listed_reads}
+use Rattle.djq_machine.specs.Stale.{reads}
 use Rattle.djq_machine.specs.Changes.{RowsChange, row_in, row_out, add_outcome, delete_outcome}
 use Rattle.djq_rows.specs.Laws.{TextsStay}
 use Rattle.djq_engine.specs.Kept.{Kept}
 use Rattle.djq_deltas.proofs.Growing.{row_comes, row_goes, one_spares}
-use Rattle.djq_store.specs.declared.settling.Turn.{Turn}
 use Rattle.djq_store.specs.Following.{add_turn, delete_turn}
-use Rattle.djq_store.proofs.Doing.{IsMade, IsTried, IsKnown, turn_by}
+use Rattle.djq_store.proofs.Doing.{IsKnown, turn_by}
 use Rattle.djq_deltas.proofs.Cases.{or_false}
 
 -- a query that reads the one relation of a change is outdated by it

@@ -1,7 +1,7 @@
 -- What stands in the places of queries, and behind them in those of unions.
 use Rattle.std.proofs.Common.{ℕ, zero, suc, List, [], ◌∷◌, ◌++◌, ◌+◌, ◌-◌, ◌≡◌, ◌<◌, ◌≤◌, ◌⊎◌, inl}
-use Rattle.std.proofs.Common.{inr, Bool, true, false, refl, sym, ap, ◌∙◌, subst, length, get_or, arith}
-use Rattle.std.specs.Prelude.{Option, None, Some, nat_lt, cond}
+use Rattle.std.proofs.Common.{inr, refl, sym, ap, ◌∙◌, length, get_or, arith}
+use Rattle.std.specs.Prelude.{Option, None, cond}
 use Rattle.std.proofs.lemmas.Bool.{lt-ltb, le-ltb, cases_lt}
 use Rattle.std.proofs.Math.Nat.{add-sub_cancel_left, add-sub_of_le}
 use Rattle.djq_lines.specs.declared.limits.TheConstants.{QUERIES}

@@ -1,6 +1,6 @@
 -- Unions that a change has settled: they have the names, the members and the watchers that they had.
 use Rattle.std.specs.Prelude.{ℕ, List, ◌≡◌, Option, None, Some, length}
-use Rattle.std.proofs.Common.{refl, sym, ap, ◌∙◌, subst}
+use Rattle.std.proofs.Common.{refl, ap, ◌∙◌, subst}
 use Rattle.djq_model.specs.Data.{Bytes}
 use Rattle.djq_engine.specs.Kept.{Kept}
 use Rattle.djq_united.specs.United.{United}

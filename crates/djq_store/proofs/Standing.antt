@@ -1,17 +1,14 @@
 -- A cursor that isn't a query's stands in a slot of a union, and can be read there.
-use Rattle.std.proofs.Common.{ℕ, List, ◌+◌, ◌-◌, ◌≡◌, ◌<◌, ◌≤◌, Bool, true, false, refl, sym, ap, ◌∙◌, subst, arith}
+use Rattle.std.proofs.Common.{ℕ, List, ◌-◌, ◌≡◌, ◌<◌, ◌≤◌, Bool, refl, sym, ap, subst}
 use Rattle.std.specs.Prelude.{Option, None, Some, IsSome, IsSomeAnd, option_map}
 use Rattle.std.proofs.Math.Nat.{add-sub_of_le}
-use Rattle.djq_model.specs.Data.{Bytes}
 use Rattle.djq_lines.specs.declared.limits.TheConstants.{QUERIES}
 use Rattle.djq_cursor.specs.declared.cursor.Cursor.{Cursor}
-use Rattle.djq_live.specs.Live.{Live}
 use Rattle.djq_engine.specs.declared.cursor.CursorId.{CursorId}
 use Rattle.djq_engine.specs.Kept.{Kept, HeldCursor, IsHeld, IsFresh, IsOpenAt, held_at}
 use Rattle.djq_engine.specs.Places.{id_at}
 use Rattle.djq_slots.specs.declared.progress.Progress.TheVariants.{Open, Stale}
 use Rattle.djq_united.specs.Slots.{UnionProgress, slot_at}
-use Rattle.djq_united.specs.United.{United, members_in, union_position}
 use Rattle.djq_store.specs.declared.joined.Joined.{Joined}
 use Rattle.djq_engine.specs.Laws.{IsEngine}
 use Rattle.djq_store.specs.Moving.{IsUnionReadable, IsUnionFresh}

@@ -1,19 +1,17 @@
 -- A store stays whole and shows the same, as the engine below it changes nothing of what unions are made of.
-use Rattle.std.proofs.Common.{ℕ, zero, suc, List, [], ◌∷◌, ◌++◌, ◌+◌, ◌≡◌, ◌<◌, ◌⊎◌, inl, inr, Bool}
-use Rattle.std.proofs.Common.{true, false, refl, sym, ap, ap₂, ◌∙◌, subst, length, get_or, arith, append-nil}
-use Rattle.std.specs.Prelude.{Option, None, Some, is_some, option_map, map, filter, All, count_by, find, ◌==◌}
+use Rattle.std.proofs.Common.{ℕ, zero, suc, List, [], ◌∷◌, ◌++◌, ◌+◌, ◌≡◌, ◌<◌, ◌⊎◌, inl, inr}
+use Rattle.std.proofs.Common.{true, false, refl, sym, ap, ap₂, ◌∙◌, subst, length, append-nil}
+use Rattle.std.specs.Prelude.{Option, None, Some, is_some, option_map, map, count_by, find, ◌==◌}
 use Rattle.djq_model.specs.Data.{Bytes}
 use Rattle.djq_model.specs.Listed.{Listed, a_query, listed_name}
 use Rattle.djq_lines.specs.declared.limits.TheConstants.{QUERIES}
-use Rattle.djq_machine.specs.Delta.{Change}
 use Rattle.djq_machine.specs.State.{Store}
-use Rattle.djq_live.specs.Live.{Live, ShowableStays}
+use Rattle.djq_live.specs.Live.{ShowableStays}
 use Rattle.djq_live.specs.Member.{query_at}
 use Rattle.djq_reach.specs.Places.{is_reader}
 use Rattle.djq_engine.specs.declared.cursor.CursorId.{CursorId}
-use Rattle.djq_engine.specs.Kept.{Kept, HeldCursor, Registered, SameCursors, SameTellings, SameShape}
-use Rattle.djq_engine.specs.Kept.{KeepsTables, MovesCursor, PlacesAreKept, held_at, same_id}
-use Rattle.djq_engine.specs.Places.{id_at, query_in}
+use Rattle.djq_engine.specs.Kept.{Kept, Registered, SameCursors, SameTellings, SameShape}
+use Rattle.djq_engine.specs.Kept.{KeepsTables, PlacesAreKept, held_at}
 use Rattle.djq_engine.proofs.Listing.{map_members}
 use Rattle.djq_united.specs.Slots.{UnionProgress, slot_at}
 use Rattle.djq_united.specs.United.{United, IsUnited, AreKept, members_in, union_position}
@@ -21,12 +19,12 @@ use Rattle.djq_united.specs.Staying.{MembersStay, UnionsStay, AreUntouched}
 use Rattle.djq_store.specs.declared.joined.Joined.{Joined}
 use Rattle.djq_engine.specs.Laws.{IsEngine}
 use Rattle.djq_store.proofs.Below.{StayingLaws}
-use Rattle.djq_store.specs.Places.{in_places, joined_at, listed_in, listed_at, registered_as}
+use Rattle.djq_store.specs.Places.{in_places, joined_at, listed_at, registered_as}
 use Rattle.djq_store.specs.Places.{held_union_cursor, union_cursor_of, told_of_union, cursors_in, store_seen}
 use Rattle.djq_store.specs.Whole.{IsListed, IsCounted}
 use Rattle.djq_store.proofs.Held.{held_low, held_high}
-use Rattle.djq_store.proofs.Members.{Grows, grown_members, kept_members, kept_shapes, union_stays, log_stays, log_tells}
-use Rattle.djq_store.proofs.Ordered.{Seat, Joint, listed_low, listed_joint, listed_seat, order_seat, order_joint}
+use Rattle.djq_store.proofs.Members.{Grows, kept_members, kept_shapes, union_stays, log_stays, log_tells}
+use Rattle.djq_store.proofs.Ordered.{listed_low, listed_joint, listed_seat, order_seat, order_joint}
 use Rattle.djq_store.proofs.Seats.{Slot, cases_place}
 use Rattle.djq_deltas.proofs.Cases.{some_there}
 

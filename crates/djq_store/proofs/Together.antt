@@ -1,7 +1,7 @@
 -- Several queries that are watched once more, or once less, one after another.
 use Rattle.std.proofs.Common.{ℕ, zero, suc, List, [], ◌∷◌, ◌++◌, ◌+◌, ◌-◌, ◌≡◌, ◌<◌, ◌≤◌, Bool}
 use Rattle.std.proofs.Common.{true, false, refl, sym, ap, ◌∙◌, subst, length, get_or, take, arith}
-use Rattle.std.specs.Prelude.{◌==◌, ◌||◌, Option, None, Some, IsSome, IsSomeAnd, is_some, option_map, cond, AllPairs}
+use Rattle.std.specs.Prelude.{◌==◌, ◌||◌, Option, None, Some, IsSome, IsSomeAnd, option_map, cond, AllPairs}
 use Rattle.std.proofs.lemmas.Bool.{eqb-true, eq-eqb, false≢true}
 use Rattle.std.proofs.lemmas.List.{get_or-take, length-take, take_more}
 use Rattle.djq_reach.specs.Places.{is_reader}

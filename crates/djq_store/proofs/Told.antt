@@ -1,23 +1,22 @@
 -- A change that was made, one for which memory was refused, and none: what a store makes known of it.
-use Rattle.std.specs.Prelude.{ℕ, List, [], ◌∷◌, ◌≡◌, ◌+◌, ◌*◌, ◌<◌, ◌≤◌, ◌&&◌, ◌⊎◌, nat_lt, Bool}
+use Rattle.std.specs.Prelude.{ℕ, List, [], ◌∷◌, ◌≡◌, ◌+◌, ◌<◌, ◌≤◌, ◌&&◌, ◌⊎◌, nat_lt, Bool}
 use Rattle.std.specs.Prelude.{true, false, cond, Option, None, Some, is_some, IsSomeAnd, filter}
-use Rattle.std.specs.Prelude.{map, length, sum_by, slice_index_or, All, Contains, ⊤}
+use Rattle.std.specs.Prelude.{map, sum_by, slice_index_or, Contains, ⊤}
 use Rattle.std.specs.List.{list_any}
 use Rattle.std.proofs.Common.{refl, sym, ap, ap₂, ◌∙◌, subst, inl, inr, arith}
 use Rattle.std.proofs.lemmas.Bool.{false≢true, lt-ltb, ltb-true, and_from}
 use Rattle.std.proofs.lemmas.List.Sums.{sum_by-cons}
 use Rattle.djq_model.specs.declared.query.Query.{Query}
 use Rattle.djq_model.specs.Data.{Bytes}
-use Rattle.djq_model.specs.Listed.{Listed, a_query, AnswersOf}
+use Rattle.djq_model.specs.Listed.{a_query, AnswersOf}
 use Rattle.djq_lines.specs.declared.limits.TheConstants.{QUERIES}
 use Rattle.djq_machine.specs.Stale.{reads}
-use Rattle.djq_machine.specs.Store.{atoms_of}
-use Rattle.djq_machine.specs.Changes.{RowsChange, RowsOutcome, accepted, out_of_memory, unchanged, is_outdated}
+use Rattle.djq_machine.specs.Changes.{RowsChange, accepted, out_of_memory, unchanged, is_outdated}
 use Rattle.djq_machine.specs.Delta.{Change, IsDelta}
-use Rattle.djq_machine.specs.Watch.{Delta, is_touched, AreDeltas, delta_steps}
+use Rattle.djq_machine.specs.Watch.{Delta, is_touched, delta_steps}
 use Rattle.djq_cursor.specs.Log.{Log}
 use Rattle.djq_live.specs.Live.{Live}
-use Rattle.djq_live.specs.Member.{query_at, queries_at}
+use Rattle.djq_live.specs.Member.{queries_at}
 use Rattle.djq_live.specs.Updating.{change_of}
 use Rattle.djq_reach.specs.Places.{is_reader}
 use Rattle.djq_engine.specs.declared.cursor.QueryId.{QueryId}
@@ -28,14 +27,14 @@ use Rattle.djq_engine.specs.Watching as engine
 use Rattle.djq_united.specs.United.{union_of, first_of_members}
 use Rattle.djq_gains.specs.Gains.{TellUnion}
 use Rattle.djq_deltas.specs.Growing.{SparesOthers}
-use Rattle.djq_deltas.proofs.Lists.{kept_there, mapped_there, first_there, later_there}
+use Rattle.djq_deltas.proofs.Lists.{kept_there}
 use Rattle.djq_store.specs.declared.joined.Joined.{Joined}
 use Rattle.djq_store.specs.declared.settling.Turn.{Turn}
 use Rattle.djq_store.specs.declared.settling.Turn.TheVariants.{Came, Went, Lacked}
-use Rattle.djq_store.specs.Places.{joined_at, told_of_union, listed_at, registered_as, sessions_at, union_watchers}
+use Rattle.djq_store.specs.Places.{joined_at, listed_at, registered_as, union_watchers}
 use Rattle.djq_store.specs.Places.{store_seen}
 use Rattle.djq_store.specs.Settling.{first_read_by, touched_in, is_settled, TellsUnionLog, TellsWatched}
-use Rattle.djq_store.specs.Settling.{SettlesLog, SettlesLogBy, settling_steps, telling_steps, asking_steps}
+use Rattle.djq_store.specs.Settling.{SettlesLogBy, settling_steps, asking_steps}
 use Rattle.djq_store.specs.Watching.{TellsChange, is_reached}
 use Rattle.djq_store.specs.Whole.{IsListed, IsCounted}
 use Rattle.djq_store.proofs.Accepted.{GoRows, told_place, union_delta, asked_few}
@@ -46,11 +45,11 @@ use Rattle.djq_store.proofs.Commanded.{told_low, told_high, now, first, told_now
 use Rattle.djq_store.proofs.Counting.{mapped_was, seen_there}
 use Rattle.djq_store.proofs.Deltas.{Lists, logs_tell, asking, steps_at}
 use Rattle.djq_gains.proofs.Delta.{twice_mapped}
-use Rattle.djq_store.proofs.Ordered.{Seat, Joint, order_seat, order_joint, joint_order, listed_seat}
+use Rattle.djq_store.proofs.Ordered.{Joint, order_seat, order_joint, joint_order, listed_seat}
 use Rattle.djq_store.proofs.Ordered.{listed_joint, registered_has}
 use Rattle.djq_store.proofs.Seats.{Slot, cases_place, high_place}
 use Rattle.djq_store.proofs.Summing.{sum_mapped, kept_was}
-use Rattle.djq_store.proofs.Wanted.{rs, ers, places, f, q_at, members_at, members_in_slot}
+use Rattle.djq_store.proofs.Wanted.{rs, places, f, q_at, members_at, members_in_slot}
 use Rattle.djq_store.proofs.Wanted.{by_places, deltas, all_lists, low_of}
 use Rattle.djq_deltas.proofs.Cases.{some_as}
 

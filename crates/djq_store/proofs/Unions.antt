@@ -1,13 +1,12 @@
 -- What the cursors of a union in its slot give is what the store gives.
-use Rattle.std.proofs.Common.{ℕ, zero, suc, List, [], ◌∷◌, ◌++◌, ◌+◌, ◌-◌, ◌≡◌, ◌≢◌, ◌<◌, ◌≤◌, ◌⊎◌}
+use Rattle.std.proofs.Common.{ℕ, zero, suc, List, [], ◌∷◌, ◌++◌, ◌+◌, ◌≡◌, ◌<◌, ◌≤◌, ◌⊎◌}
 use Rattle.std.proofs.Common.{inl, inr, Bool, true, false, refl, sym, ap, ap₂, ◌∙◌, subst, length, get_or, set, arith}
-use Rattle.std.specs.Prelude.{◌==◌, ◌&&◌, Option, None, Some, IsSome, IsSomeAnd, is_some, is_none}
-use Rattle.std.specs.Prelude.{Result, Ok, Err, option_map, cond, map, ⊤}
+use Rattle.std.specs.Prelude.{Option, None, Some, IsSomeAnd, is_none}
+use Rattle.std.specs.Prelude.{Ok, Err, option_map, map, ⊤}
 use Rattle.std.proofs.lemmas.Bool.{cases_lt}
-use Rattle.std.proofs.lemmas.List.{get_or-set_same, get_or-set_other, get_or_past, get_or-map, set-get_or}
+use Rattle.std.proofs.lemmas.List.{get_or-set_same, get_or-set_other, get_or-map, set-get_or}
 use Rattle.djq_model.specs.Data.{Bytes, Tuple}
 use Rattle.djq_model.specs.Listed.{Listed, AnswersOf, listed_of}
-use Rattle.djq_lines.specs.declared.answer.Refusal.{Refusal}
 use Rattle.djq_lines.specs.declared.answer.Refusal.TheVariants.{NoQuery, NoMemory}
 use Rattle.djq_lines.specs.declared.limits.TheConstants.{QUERIES}
 use Rattle.djq_machine.specs.Conditions.{first_refusal, OutOfMemoryWhere}
@@ -19,10 +18,8 @@ use Rattle.djq_live.specs.declared.listing.Next.TheVariants.{Given, End, Stale}
 use Rattle.djq_rows.specs.Catalog.{Catalog}
 use Rattle.djq_live.specs.Live.{Live, IsShowable, values_of}
 use Rattle.djq_live.specs.Member.{queries_at}
-use Rattle.djq_engine.specs.declared.cursor.CursorId.{CursorId}
 use Rattle.djq_engine.specs.Kept.{Kept, HeldCursor, OpensCursor, CursorOpenGives, ClosesCursor, MovesCursor}
-use Rattle.djq_engine.specs.Kept.{MoreGives, MoreGivesAt, IsShown, AnswerIs, AtQuery, held_at, same_id, read_steps}
-use Rattle.djq_engine.specs.Places.{id_at}
+use Rattle.djq_engine.specs.Kept.{MoreGives, MoreGivesAt, AtQuery, held_at, read_steps}
 use Rattle.djq_engine.proofs.Conditions.{answers_done, answers_lacking}
 use Rattle.djq_united.specs.Slots.{UnionProgress, slot_at}
 use Rattle.djq_united.specs.Reading as united
@@ -30,8 +27,8 @@ use Rattle.djq_united.specs.United.{United, IsUnited, members_in, first_of_membe
 use Rattle.djq_store.specs.declared.joined.Joined.{Joined}
 use Rattle.djq_engine.specs.Laws.{IsEngine}
 use Rattle.djq_store.specs.Moving.{MovesUnion, OpensUnion, ClosesUnion, ReadsUnion, TellsUnionMore}
-use Rattle.djq_store.specs.Places.{joined_at, listed_at, held_union_cursor, union_cursor_of, lender_in, first_member}
-use Rattle.djq_store.specs.Places.{cursors_in, store_seen}
+use Rattle.djq_store.specs.Places.{joined_at, listed_at, held_union_cursor, union_cursor_of, lender_in}
+use Rattle.djq_store.specs.Places.{store_seen}
 use Rattle.djq_store.specs.Reading as store
 use Rattle.djq_store.specs.Whole.{IsListed, IsCounted}
 use Rattle.djq_store.proofs.Held.{held_high}

@@ -1,27 +1,25 @@
 -- What is told of queries and unions behind a change of rows, by what the engine tells of its queries.
 use Rattle.std.specs.Prelude.{ℕ, zero, suc, List, [], ◌∷◌, ◌≡◌, ◌↔◌, ◌==◌, ◌+◌, ◌-◌, ◌*◌, ◌<◌, ◌≤◌}
 use Rattle.std.specs.Prelude.{◌&&◌, ◌||◌, ◌⊎◌, nat_lt, Bool, true, false, cond, Option, None, Some}
-use Rattle.std.specs.Prelude.{is_some, IsSomeAnd, filter, find, map, length, count_by, sum_by}
-use Rattle.std.specs.Prelude.{slice_index_or, unwrap_or, All, AllPairs, Contains, ⊤}
+use Rattle.std.specs.Prelude.{is_some, IsSomeAnd, filter, map, length, count_by}
+use Rattle.std.specs.Prelude.{slice_index_or, AllPairs, Contains}
 use Rattle.std.specs.List.{list_any}
 use Rattle.std.proofs.Common.{refl, sym, ap, ap₂, ◌∙◌, subst, inl, inr, arith, get_or}
-use Rattle.std.proofs.lemmas.Bool.{eqb-true, eq-eqb, false≢true, lt-ltb, ltb-true, le-ltb, cases_lt, and_parts}
-use Rattle.std.proofs.lemmas.List.Elements.{All-nil, All-cons, All-head, All-tail, All-contains}
-use Rattle.std.proofs.lemmas.List.Kept.{AllPairs-cons, AllPairs-filter}
+use Rattle.std.proofs.lemmas.Bool.{eq-eqb, false≢true, lt-ltb, ltb-true, cases_lt, and_parts}
+use Rattle.std.proofs.lemmas.List.Elements.{All-head, All-contains}
+use Rattle.std.proofs.lemmas.List.Kept.{AllPairs-filter}
 use Rattle.std.proofs.lemmas.List.Sums.{sum_by-cons}
-use Rattle.djq_model.specs.declared.relation.Relation.{Relation}
 use Rattle.djq_model.specs.declared.query.Query.{Query}
 use Rattle.djq_model.specs.declared.query.Atom.{Atom}
 use Rattle.djq_model.specs.Data.{Bytes, Tuple}
 use Rattle.djq_model.specs.Answer.{IsAnswer}
-use Rattle.djq_model.specs.Listed.{Listed, a_query, a_union, AnswersOf}
+use Rattle.djq_model.specs.Listed.{Listed, a_query, AnswersOf}
 use Rattle.djq_lines.specs.declared.limits.TheConstants.{QUERIES}
 use Rattle.djq_lines.specs.declared.answer.Sign.{Sign}
 use Rattle.djq_lines.specs.declared.answer.Sign.TheVariants.{Came, Went}
 use Rattle.djq_machine.specs.Changes.{RowsChange, is_outdated}
 use Rattle.djq_machine.specs.Delta.{Change, HasChanged, IsDelta}
-use Rattle.djq_machine.specs.Watch.{Delta, is_touched, AreDeltas, delta_steps}
-use Rattle.djq_live.specs.Live.{Live}
+use Rattle.djq_machine.specs.Watch.{Delta, is_touched, AreDeltas}
 use Rattle.djq_live.specs.Member.{query_at}
 use Rattle.djq_reach.specs.Places.{is_reader}
 use Rattle.djq_reach.proofs.Reaching.{place_below}
@@ -35,19 +33,19 @@ use Rattle.djq_deltas.proofs.Lists.{nothing_there, first_or_later, first_there, 
 use Rattle.djq_deltas.proofs.Lists.{kept_there, mapped_there, hold_each, pairs_head, pairs_tail}
 use Rattle.djq_store.specs.declared.joined.Joined.{Joined}
 use Rattle.djq_store.specs.declared.settling.Turn.{Turn}
-use Rattle.djq_store.specs.Places.{joined_at, listed_at, registered_as, sessions_at, union_watchers}
+use Rattle.djq_store.specs.Places.{joined_at, registered_as, sessions_at, union_watchers}
 use Rattle.djq_store.specs.Whole.{IsListed, IsCounted, wants}
-use Rattle.djq_store.proofs.Behind.{Behind, h, member_there, union_is, outdated_member}
+use Rattle.djq_store.proofs.Behind.{Behind, member_there, union_is, outdated_member}
 use Rattle.djq_store.proofs.Counting.{mapped_was, pairs_mapped, pairs_weaker, in_order, order_has}
 use Rattle.djq_store.proofs.Counting.{engine_listed, engine_ordered, seen_there}
-use Rattle.djq_store.proofs.Deltas.{changes_in, ByPlace, all_by_place, touched, asked, asked_of}
-use Rattle.djq_store.proofs.Deltas.{asking, steps_at, IsListedAs, HasDelta, Lists, lists}
+use Rattle.djq_store.proofs.Deltas.{changes_in, ByPlace, all_by_place, asked, asked_of}
+use Rattle.djq_store.proofs.Deltas.{steps_at, IsListedAs, HasDelta, Lists, lists}
 use Rattle.djq_store.proofs.Ordered.{Seat, seat_here, listed_seat, listed_joint, order_seat}
 use Rattle.djq_store.proofs.Ordered.{order_joint, joint_order, Joint}
 use Rattle.djq_store.proofs.ReadBy.{the_query, any_there}
 use Rattle.djq_store.proofs.Seats.{Slot, cases_place, low_place, high_place}
 use Rattle.djq_store.proofs.Slots.{slot_below, count_positive}
-use Rattle.djq_store.proofs.Summing.{sum_covered, sum_kept, sum_mapped, sum_fewer, kept_was}
+use Rattle.djq_store.proofs.Summing.{kept_was}
 use Rattle.std.proofs.lemmas.Bool.{and_from}
 
 -- ---- lists

@@ -1,5 +1,5 @@
 -- What explains a query or a union.
-use Rattle.std.specs.Prelude.{ℕ, ◌<◌, List, [], ◌∷◌, ◌≡◌, None, is_none, IsSomeAnd, Result, length, ⊤}
+use Rattle.std.specs.Prelude.{ℕ, ◌<◌, [], ◌∷◌, ◌≡◌, is_none, IsSomeAnd, Result, length}
 use Rattle.djq_model.specs.Data.{Bytes}
 use Rattle.djq_model.specs.Listed.{Listed, a_query, a_union, listed_of, members_of}
 use Rattle.djq_lines.specs.declared.answer.Refusal.{Refusal}

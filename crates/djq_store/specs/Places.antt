@@ -1,5 +1,5 @@
 -- Queries and unions in their places, and what contracts see of them.
-use Rattle.std.specs.Prelude.{ℕ, zero, suc, List, [], ◌∷◌, ◌++◌, ◌+◌, ◌-◌, nat_lt, Option, None}
+use Rattle.std.specs.Prelude.{ℕ, zero, suc, List, [], ◌∷◌, ◌++◌, ◌-◌, nat_lt, Option, None}
 use Rattle.std.specs.Prelude.{Some, option_map, if◌then◌else◌, length, map, slice_index_or}
 use Rattle.djq_model.specs.Data.{Bytes}
 use Rattle.djq_model.specs.Listed.{Listed}

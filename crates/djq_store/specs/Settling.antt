@@ -1,6 +1,6 @@
 -- What a change of rows does to unions.
-use Rattle.std.specs.Prelude.{ℕ, List, [], ◌≡◌, ◌*◌, ◌&&◌, nat_lt, Bool, true, false, Option, None}
-use Rattle.std.specs.Prelude.{Some, is_some, find, filter, if◌then◌else◌, sum_by, ⊤}
+use Rattle.std.specs.Prelude.{ℕ, List, [], ◌≡◌, ◌*◌, nat_lt, Bool, true, false, Option, None}
+use Rattle.std.specs.Prelude.{Some, is_some, find, filter, if◌then◌else◌, sum_by}
 use Rattle.std.specs.List.{list_any}
 use Rattle.djq_model.specs.Data.{Bytes}
 use Rattle.djq_machine.specs.Store.{atoms_of}

@@ -4,4 +4,4 @@ pub mod Heads
 mod Values
 mod Advancing
 mod Counting
-mod Staying
+pub mod Staying

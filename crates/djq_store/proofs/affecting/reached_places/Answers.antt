@@ -1,5 +1,5 @@
 -- Each place's flag says whether an affected query up to the index is there; all these places are below 256.
-use Rattle.std.proofs.Common.{ℕ, true, refl, sym, subst, arith, length, length-set, ◌<◌, ◌∙◌}
+use Rattle.std.proofs.Common.{ℕ, true, refl, sym, subst, length-set, ◌<◌, ◌∙◌}
 use Rattle.std.proofs.lemmas.List.Elements.{All-contains}
 use Rattle.djq_engine.specs.declared.cursor.QueryId.{QueryId}
 use Rattle.djq_lines.specs.declared.limits.TheConstants.{QUERIES}

@@ -1,5 +1,5 @@
 -- No member reads a relation before the index, so the first that one reads is the one at the index.
-use Rattle.std.proofs.Common.{sym, ap, ◌∙◌}
+use Rattle.std.proofs.Common.{sym, ◌∙◌}
 use Rattle.djq_store.specs.Settling.{some_read}
 use Rattle.djq_store.proofs.Walking.{find_here, find_further}
 use Rattle.djq_store.proofs.settling.first_read.Goals as goal

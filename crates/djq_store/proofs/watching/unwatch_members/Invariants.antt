@@ -1,5 +1,4 @@
-use Rattle.std.proofs.Common.{◌≡◌, ◌+◌, ◌-◌, ℕ, take}
-use Rattle.djq_engine.specs.Kept.{Kept}
+use Rattle.std.proofs.Common.{◌≡◌, ◌-◌, take}
 use Rattle.djq_store.specs.Counting.{with_watchers_at}
 use Rattle.djq_store.proofs.watching.unwatch_members.Given as goal
 

@@ -1,9 +1,8 @@
 -- A watched union is counted once with each of its members, so the last session has one to take from each.
-use Rattle.std.proofs.Common.{◌≡◌, ◌+◌, ◌-◌, ◌<◌, ◌≤◌, ◌∙◌, ℕ, List, [], length, get_or, sym, subst, ap, arith}
+use Rattle.std.proofs.Common.{◌≡◌, ◌+◌, ◌-◌, ◌<◌, ◌∙◌, ℕ, List, [], length, get_or, sym, subst, ap, arith}
 use Rattle.std.proofs.lemmas.List.{get_or_default}
-use Rattle.std.specs.Prelude.{Option, Some, IsSomeAnd, AllPairs, ⊤}
-use Rattle.djq_lines.specs.declared.limits.TheConstants.{SESSIONS}
-use Rattle.djq_engine.specs.Kept.{Kept, Registered, registered_at, with_watchers}
+use Rattle.std.specs.Prelude.{Option, Some, IsSomeAnd, AllPairs}
+use Rattle.djq_engine.specs.Kept.{Kept, registered_at, with_watchers}
 use Rattle.djq_engine.specs.Places.{id_at}
 use Rattle.djq_store.specs.declared.joined.Joined.{Joined}
 use Rattle.djq_store.specs.Counting.{with_watchers_at}

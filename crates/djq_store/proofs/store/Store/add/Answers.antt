@@ -1,6 +1,5 @@
 -- What the engine did is what the store does, and its unions follow one relation's change, by Rowed.
-use Rattle.std.proofs.Common.{ℕ, [], ◌∷◌, ◌≡◌, ◌∙◌, refl, sym, subst, true, false}
-use Rattle.djq_machine.specs.State.{Store}
+use Rattle.std.proofs.Common.{[], ◌∷◌, ◌≡◌, ◌∙◌, refl, sym, subst, true}
 use Rattle.djq_machine.specs.Store.{AddsRow}
 use Rattle.djq_machine.specs.Changes.{row_in, add_outcome, tried}
 use Rattle.djq_engine.specs.Kept.{Kept, Outdates, IsUnwatched}

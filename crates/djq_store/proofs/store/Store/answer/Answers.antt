@@ -1,11 +1,11 @@
 -- An id below 256 is that of a query in its place, any other a union's, whose answers its first member lends.
-use Rattle.std.proofs.Common.{◌≡◌, ◌-◌, ◌∙◌, ℕ, List, get_or, sym, subst, ap, refl}
+use Rattle.std.proofs.Common.{◌≡◌, ◌-◌, ℕ, List, get_or, sym, subst}
 use Rattle.std.specs.Prelude.{Option, Some, IsSomeAnd, ⊤}
 use Rattle.djq_live.specs.Live.{IsShowable, values_of}
 use Rattle.djq_engine.specs.Kept.{Kept, AtPlace, IsShown, AnswerIs}
 use Rattle.djq_engine.specs.Places.{id_at}
 use Rattle.djq_store.specs.declared.joined.Joined.{Joined}
-use Rattle.djq_store.specs.Places.{joined_at, store_seen}
+use Rattle.djq_store.specs.Places.{joined_at}
 use Rattle.djq_store.proofs.Answering.{shown_low, answer_low, lender_there, shown_high, answer_high}
 use Rattle.djq_store.proofs.store.Store.answer.Goals as goal
 

@@ -1,5 +1,5 @@
 -- A held cursor is the engine's where its place is below 256, and else one of the union in its slot.
-use Rattle.std.proofs.Common.{ℕ, ◌-◌, sym, subst}
+use Rattle.std.proofs.Common.{◌-◌, sym, subst}
 use Rattle.djq_engine.specs.declared.cursor.CursorId.{CursorId}
 use Rattle.djq_engine.specs.Kept.{Kept, ClosesCursor, IsHeld}
 use Rattle.djq_store.specs.Places.{store_seen}

@@ -1,6 +1,5 @@
 -- What the engine took is what the store does, and its unions follow one relation's change, by Rowed.
-use Rattle.std.proofs.Common.{ℕ, [], ◌∷◌, ◌≡◌, ◌∙◌, refl, sym, subst, true, false}
-use Rattle.djq_machine.specs.State.{Store}
+use Rattle.std.proofs.Common.{[], ◌∷◌, ◌≡◌, ◌∙◌, refl, sym, subst, false}
 use Rattle.djq_machine.specs.Store.{DeletesRow}
 use Rattle.djq_machine.specs.Changes.{row_out, delete_outcome, tried}
 use Rattle.djq_engine.specs.Kept.{Kept, Outdates, IsUnwatched}

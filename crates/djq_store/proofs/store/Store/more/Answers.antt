@@ -1,5 +1,5 @@
 -- A fresh cursor is the engine's where its place is below 256, and else its union can be asked for more.
-use Rattle.std.proofs.Common.{ℕ, List, ◌-◌, sym, subst}
+use Rattle.std.proofs.Common.{List, ◌-◌, sym, subst}
 use Rattle.djq_engine.specs.declared.cursor.CursorId.{CursorId}
 use Rattle.djq_engine.specs.Kept.{Kept, MoreGives, IsFresh}
 use Rattle.std.specs.Prelude.{Option, IsSomeAnd}

@@ -1,5 +1,5 @@
 -- A held cursor is the engine's or stands in its union's slot, and reading it leaves all others as they were.
-use Rattle.std.proofs.Common.{ℕ, List, ◌-◌, sym, subst}
+use Rattle.std.proofs.Common.{List, ◌-◌, sym, subst}
 use Rattle.djq_engine.specs.declared.cursor.CursorId.{CursorId}
 use Rattle.djq_engine.specs.Kept.{Kept, IsHeld}
 use Rattle.std.specs.Prelude.{Option, IsSomeAnd}

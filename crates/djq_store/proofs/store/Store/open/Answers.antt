@@ -1,5 +1,5 @@
 -- Where no union has the name the engine's cursor is the store's; else it comes to the union in the slot.
-use Rattle.std.proofs.Common.{sym, subst, ap, refl}
+use Rattle.std.proofs.Common.{sym, subst}
 use Rattle.djq_engine.specs.Kept.{Kept, CursorOpenGives}
 use Rattle.djq_store.specs.Places.{store_kept_in, store_seen}
 use Rattle.djq_store.proofs.Moved.{cursor_of}

@@ -1,5 +1,5 @@
 -- A union found in its slot is what is registered under the name; where none is, only a query may be.
-use Rattle.std.proofs.Common.{sym, subst}
+use Rattle.std.proofs.Common.{subst}
 use Rattle.std.specs.Prelude.{Ok}
 use Rattle.djq_lines.specs.declared.answer.Shape.TheVariants.{Union}
 use Rattle.djq_machine.specs.Store.{TellsShape}

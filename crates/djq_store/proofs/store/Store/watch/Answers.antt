@@ -1,14 +1,14 @@
 -- The engine counts a query's sessions, 64 at most, and its watched unions, 256 at most, so one more fits.
-use Rattle.std.proofs.Common.{◌≡◌, ◌+◌, ◌-◌, ◌<◌, ◌≤◌, ◌∙◌, ℕ, List, set, sym, subst, ap, arith}
+use Rattle.std.proofs.Common.{◌≡◌, ◌+◌, ◌<◌, ◌≤◌, ℕ, set, sym, subst, ap, arith}
 use Rattle.std.proofs.Math.Nat.{add-sub_of_le}
-use Rattle.std.specs.Prelude.{Option, IsSomeAnd, is_some}
+use Rattle.std.specs.Prelude.{IsSomeAnd, is_some}
 use Rattle.djq_lines.specs.declared.limits.TheConstants.{SESSIONS}
 use Rattle.djq_engine.specs.Kept.{Kept, registered_at, with_watchers}
 use Rattle.djq_engine.specs.Places.{id_at}
 use Rattle.djq_store.specs.Places.{store_kept_in, store_seen}
 use Rattle.djq_store.specs.Whole.{IsListed, IsCounted}
 use Rattle.djq_store.proofs.Counted.{query_listed, query_counted, query_seen, room_to_watch}
-use Rattle.djq_store.proofs.Counted.{some_watch, read_here, sessions_are}
+use Rattle.djq_store.proofs.Counted.{read_here, sessions_are}
 use Rattle.djq_store.proofs.Joint.{union_has}
 use Rattle.djq_store.proofs.Ordered.{order_seat, registered_has}
 use Rattle.djq_store.proofs.store.Store.watch.Goals as goal

@@ -4,7 +4,7 @@ use Rattle.std.proofs.lemmas.List.{get_or_default}
 use Rattle.std.specs.Prelude.{Option, Some, IsSomeAnd, ⊤}
 use Rattle.djq_engine.specs.Kept.{Kept, IsRegistered, registered_at}
 use Rattle.djq_store.specs.declared.joined.Joined.{Joined}
-use Rattle.djq_store.specs.Places.{joined_at, store_seen}
+use Rattle.djq_store.specs.Places.{joined_at}
 use Rattle.djq_store.proofs.Answering.{sessions_watching, joined_some, union_watching}
 use Rattle.djq_store.proofs.store.Store.watchers.Goals as goal
 
