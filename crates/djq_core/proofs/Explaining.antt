@@ -1,7 +1,7 @@
 -- The reply to `explain`, whole or cut.
 use Rattle.std.proofs.Common.{ℕ, suc, ◌+◌, ◌≤◌, ◌≡◌, ◌++◌, true, false, List, [], ◌∷◌, length, take}
 use Rattle.std.proofs.Common.{map, Option, None, Some, Result, Ok, Err, codes, refl, sym, ap, ◌∙◌}
-use Rattle.std.proofs.Common.{subst, arith, inl, inr, append_assoc, append-nil}
+use Rattle.std.proofs.Common.{subst, arith, inl, inr, append_assoc}
 use Rattle.std.specs.Prelude.{⊤, MatchOption, IsSomeAnd, is_none, slice_get}
 use Rattle.std.specs.Result.{is_err}
 use Rattle.std.proofs.lemmas.List.{map-append, length-map, take_all}
@@ -24,10 +24,9 @@ use Rattle.djq_machine.specs.Conditions.{first_refusal, Answers, OutOfMemoryWher
 use Rattle.djq_machine.specs.Effect.{Effect, RefusedStep}
 use Rattle.djq_machine.specs.Command.{explain_lines, union_lines, ExplainStepOf}
 use Rattle.djq_machine.proofs.Explaining.{explained}
-use Rattle.djq_session.specs.Dialog.{Replies, Queues, MayQueue}
+use Rattle.djq_session.specs.Dialog.{Replies, Queues}
 use Rattle.djq_engine.specs.Kept.{Kept, HasTree}
 use Rattle.djq_store.specs.declared.explained.Explained.{Explained}
-use Rattle.djq_store.specs.declared.explained.Explained.TheVariants.{Tree, Members}
 use Rattle.djq_store.specs.Explaining.{Explains, ExplainGives, ExplainTakesMemory}
 use Rattle.djq_core.specs.Views.{Talk}
 use Rattle.djq_core.specs.Ends.{CutsOff}
