@@ -166,6 +166,24 @@ def churn(connection, first, until):
     return sent, told
 
 
+def one_by_one(connection, first):
+    """Sends changes from this number on, each once the one before it is answered, until the connection ends. Gives what was
+    told. A server that ends with lines unread resets the connection, and the reset may overtake replies."""
+    connection.settimeout(PATIENCE)
+    told, number = b"", first
+    try:
+        while True:
+            connection.sendall(change(number))
+            while answered(told, first - 1) < number:
+                piece = connection.recv(65536)
+                if not piece:
+                    return told
+                told += piece
+            number += 1
+    except OSError:
+        return told
+
+
 def drain(connection, told):
     """What still comes, until the connection ends."""
     connection.settimeout(PATIENCE)
@@ -382,10 +400,9 @@ def a_disk_that_becomes_full(program, folder, options):
     for limit in (600, 1200, 1201, 1202, 1203, 1204, 1205, 1206, 1207, 1208):
         serving = Serving(program, log, limit)
         with serving.connect() as connection:
-            sent, told = churn(connection, count + 1, time.monotonic() + PATIENCE)
+            least = answered(one_by_one(connection, count + 1), count)
             status, said = serving.end()
             expect((status, bool(said)), (9, True), f"a limit of {limit} bytes")
-            least = answered(drain(connection, told), count)
         seq, rows = state(program, log)
         if not least <= seq <= least + 1:
             raise AssertionError(f"a limit of {limit} bytes: {seq} changes, where {least} were answered")
