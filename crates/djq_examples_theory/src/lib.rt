@@ -1,9 +1,8 @@
 //! Examples of the libraries of hypergraphs, join trees, plans, the data model and step counters.
 //!
-//! Each public call of these libraries is made at least once, with ample memory, and a comment or an
-//! `assert` says what it returns. The examples are tests and have a crate of their own, since a crate
-//! with tests is proved twice: so no library is proved again for its examples. Nothing here is public,
-//! and no other crate stands on this one.
+//! Each module calls one library as its users do, with ample memory, and asserts what the calls return.
+//! The examples are tests, and stand in a crate of their own so that no library is proved twice: a crate
+//! with tests is. Nothing here is public, and no crate stands on this one.
 //!
 //! ```text
 //! module   library       examples of
