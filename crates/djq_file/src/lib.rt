@@ -20,7 +20,5 @@
 #![tactic(auto)]
 
 mod file_disk;
-#[cfg(test)]
-mod tests;
 
 pub use file_disk::FileDisk;

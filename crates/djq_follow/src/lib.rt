@@ -22,7 +22,5 @@
 mod command;
 mod follower;
 mod reading;
-#[cfg(test)]
-mod tests;
 
 pub use command::{Mirrored, mirror};

@@ -30,6 +30,3 @@ mod load;
 
 pub use line::LINE_BYTES;
 pub use load::Load;
-
-#[cfg(test)]
-mod tests;

@@ -53,25 +53,3 @@ pub fn is_flat(edges: &[VarSet], head: &VarSet) -> bool
     }
     true
 }
-
-#[cfg(test)]
-mod tests {
-    use super::*;
-
-    #[test]
-    fn tells_flat_queries(rt: HostRuntime) {
-        let (x, y, z) = (
-            VarSet::new().insert(3),
-            VarSet::new().insert(9),
-            VarSet::new().insert(63),
-        );
-        let edges = [x.union(y), y];
-        assert!(rt; is_flat(&edges, &x.union(y)) && is_flat(&edges, &y));
-        assert!(rt; !is_flat(&edges, &x) && !is_flat(&edges, &z));
-        let chain = [x, x.union(y), y];
-        assert!(rt; !is_flat(&chain, &x.union(y)) && !is_flat(&chain, &VarSet::new()));
-        let star = [x, x.union(y), x.union(z)];
-        assert!(rt; is_flat(&star, &x.union(z)) && !is_flat(&star, &y));
-        assert!(rt; is_flat(&[], &x) && is_flat(&[x, y.union(z), x], &y));
-    }
-}

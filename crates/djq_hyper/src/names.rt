@@ -61,20 +61,3 @@ impl Names {
         &self.texts[position]
     }
 }
-
-#[cfg(test)]
-mod tests {
-    use super::*;
-    use std::test::Fail;
-
-    #[test]
-    fn keeps_names(rt: HostRuntime) -> Result<(), Fail> {
-        let mut names = Names::new(rt.alloc());
-        assert!(rt; names.is_empty());
-        names.push(rt.alloc(), b"r")?;
-        names.push(rt.alloc(), b"item")?;
-        assert_eq!(rt; names.len(), 2);
-        assert_eq!(rt; names.get(1), b"item".as_slice());
-        Ok(())
-    }
-}

@@ -149,39 +149,3 @@ impl VarSet {
         let _mask = &self.mask;
     }
 }
-
-#[cfg(test)]
-mod tests {
-    use super::*;
-
-    #[test]
-    fn walks_in_rising_order(rt: HostRuntime) {
-        let set = VarSet::new()
-            .insert(127)
-            .insert(5)
-            .insert(64)
-            .insert(9)
-            .insert(5);
-        assert_eq!(rt; set.len(), 4);
-        assert_eq!(rt; set.first(), Some(5));
-        assert!(rt; set.without(VARIABLES) == set);
-        let mut rest = set.without(9);
-        assert_eq!(rt; rest.pop(), Some(5));
-        assert_eq!(rt; rest.pop(), Some(64));
-        assert_eq!(rt; rest.pop(), Some(127));
-        assert_eq!(rt; rest.pop(), None);
-        assert!(rt; rest.is_empty());
-        set.rises();
-    }
-
-    #[test]
-    fn compares_and_combines(rt: HostRuntime) {
-        let left = VarSet::new().insert(0).insert(1);
-        let right = VarSet::new().insert(1).insert(2);
-        assert!(rt; left.contains(0) && !left.contains(2) && !left.contains(VARIABLES));
-        assert!(rt; left.intersection(right) == VarSet::new().insert(1));
-        assert!(rt; left.difference(right) == VarSet::new().insert(0));
-        assert_eq!(rt; left.union(right).len(), 3);
-        assert!(rt; left.intersection(right).is_subset(left) && !left.is_subset(right));
-    }
-}

@@ -61,6 +61,3 @@ pub use source::{Read, Source};
 pub use std_sink::StdSink;
 pub use std_source::StdSource;
 pub use steady_hub::SteadyHub;
-
-#[cfg(test)]
-mod tests;

@@ -39,8 +39,6 @@ mod line;
 mod log;
 mod one_line;
 mod reading;
-#[cfg(test)]
-mod tests;
 
 ghost use Rattle.std.specs.Prelude.{ℕ, List};
 ghost use Rattle.djq_journal.specs.Format.{FileOpensOnce, OneOfThree};

@@ -35,8 +35,6 @@ mod forms;
 mod mirror;
 mod mode;
 mod parts;
-#[cfg(test)]
-mod tests;
 mod texts;
 mod told;
 mod turn;

@@ -41,7 +41,5 @@ mod name;
 mod query;
 mod relation;
 mod sequence;
-#[cfg(test)]
-mod tests;
 mod value;
 mod value_ref;

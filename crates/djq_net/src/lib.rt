@@ -34,6 +34,3 @@ mod listening;
 mod tcp_hub;
 
 pub use tcp_hub::{PLACES, TcpHub};
-
-#[cfg(test)]
-mod tests;

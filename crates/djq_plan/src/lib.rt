@@ -29,6 +29,3 @@ mod refusal;
 
 pub use planner::plan;
 pub use refusal::PlanRefusal;
-
-#[cfg(test)]
-mod tests;

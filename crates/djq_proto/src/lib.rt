@@ -44,5 +44,3 @@ mod query;
 mod refusal;
 mod row;
 mod splitter;
-#[cfg(test)]
-mod tests;

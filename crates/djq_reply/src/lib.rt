@@ -45,5 +45,3 @@ mod growing;
 mod refusal;
 mod registered;
 mod short;
-#[cfg(test)]
-mod tests;

@@ -29,8 +29,6 @@ mod line;
 mod schedule;
 mod sent;
 mod sessions_so_far;
-#[cfg(test)]
-mod tests;
 
 pub use line::Keyword;
 pub use schedule::{ScheduleRefusal, count_lines, schedule_hub};

@@ -31,5 +31,3 @@ pub use session::Session;
 
 mod named;
 mod session;
-#[cfg(test)]
-mod tests;

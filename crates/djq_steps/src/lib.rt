@@ -9,7 +9,7 @@
 //! its own in place of those that it was given.
 //!
 //! `main` and a test pick the ledgers where they call a function that is generic in them, as
-//! `counted` of this crate's tests does:
+//! `counted` of djq_examples_theory does:
 //!
 //! ```text
 //! fn counted<L: Ledgers>(rt: &HostRuntime, blanks: Blanks) -> u64
@@ -40,6 +40,3 @@ mod tally;
 
 pub use steps::{Blanks, Ledgers, Listing, Rows, Steps, Update};
 pub use tally::Tally;
-
-#[cfg(test)]
-mod tests;

@@ -51,7 +51,5 @@ mod output;
 mod print;
 mod quoted;
 mod reading;
-#[cfg(test)]
-mod tests;
 mod word;
 mod write;

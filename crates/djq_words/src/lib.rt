@@ -26,7 +26,5 @@
 #![tactic(auto)]
 
 mod commands;
-#[cfg(test)]
-mod tests;
 
 pub use commands::{Asked, LAST_SEED, MOST_CHANGES, MOST_TURNS, read_words};

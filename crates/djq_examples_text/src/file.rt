@@ -1,0 +1,31 @@
+use djq_disk::{Disk, DiskDid, DiskLen, DiskOpen, DiskRead};
+use djq_file::FileDisk;
+use std::test::Fail;
+use std::{env, fs, process};
+
+/// What is written outlives the disk that wrote it, and while that one has the file no other opens it.
+#[test]
+fn a_file_is_written_and_read_by_one_at_a_time(rt: HostRuntime) -> Result<(), Fail> {
+    let name = format!(in rt.alloc(); "djq-file-{}", process::id(rt.process()))?;
+    let path = env::temp_dir(&rt)?
+        .join(rt.alloc(), name.as_str())?
+        .into_string();
+    let mut disk = FileDisk::new(rt);
+    assert_eq!(rt; disk.sync(), DiskDid::Failed, "no file is open");
+    assert_eq!(rt; disk.open(path.as_str()), DiskOpen::Ready);
+    assert_eq!(rt; disk.len(), DiskLen::Len(0), "a new file");
+    assert_eq!(rt; disk.write_at(2, b"abc"), DiskDid::Done);
+    assert_eq!(rt; disk.sync(), DiskDid::Done);
+    let mut other = FileDisk::new(rt);
+    assert_eq!(rt; other.open(path.as_str()), DiskOpen::Failed, "it is taken");
+    drop(disk);
+    assert_eq!(rt; other.open(path.as_str()), DiskOpen::Ready);
+    assert_eq!(rt; other.len(), DiskLen::Len(5));
+    let mut buf = [7; 8];
+    assert_eq!(rt; other.read(1, &mut buf), DiskRead::Got(4));
+    assert_eq!(rt; buf, *b"\0abc\x07\x07\x07\x07");
+    assert_eq!(rt; other.read(5, &mut buf), DiskRead::End);
+    drop(other);
+    fs::remove_file(&rt, path.as_str())?;
+    Ok(())
+}

@@ -1,0 +1,66 @@
+use djq_lines::Command;
+use djq_model::{Operator, Term};
+use djq_proto::{Front, RowLine, Splitter, is_blank, read_command, read_row};
+use std::alloc::{AllocError, Global};
+use std::test::Fail;
+
+#[test]
+fn keeps_what_a_query_says(rt: HostRuntime) {
+    let read = read_command(rt.alloc(), b"query q(z,x)<-edge(x, _ ,z, \"a\"),z>=-6");
+    let Ok(Command::Query { query }) = read else {
+        panic!(rt; "the line says a query");
+    };
+    assert_eq!(rt; query.name.as_bytes(), b"q".as_slice());
+    assert_eq!(rt; query.head.len(), 2);
+    assert_eq!(rt; query.atoms.len(), 1);
+    for atom in query.atoms.as_slice() {
+        assert_eq!(rt; atom.relation.as_bytes(), b"edge".as_slice());
+        assert_eq!(rt; atom.terms.len(), 4);
+        assert!(rt; matches!(atom.terms.get(0), Some(Term::Variable(_))));
+    }
+    let Some(comparison) = query.comparisons.get(0) else {
+        panic!(rt; "the body has a comparison");
+    };
+    assert_eq!(rt; comparison.variable.as_bytes(), b"z".as_slice());
+    assert_eq!(rt; comparison.operator, Operator::GreaterOrEqual);
+    assert_eq!(rt; comparison.behind, 1);
+}
+
+/// A line that adds a row of so many values.
+fn long_line(alloc: Global, count: usize) -> Result<Vec<u8>, AllocError> {
+    let mut line = Vec::from_slice(alloc, b"add r")?;
+    for _ in 0..count {
+        line.extend_from_slice(b" 12")?;
+    }
+    Ok(line)
+}
+
+#[test]
+fn reads_rows(rt: HostRuntime) -> Result<(), Fail> {
+    let mut row = Vec::new(rt.alloc());
+    let line = long_line(rt.alloc(), 1000)?;
+    assert!(rt; matches!(read_row(rt.alloc(), &line, &mut row), RowLine::Add(_)));
+    assert_eq!(rt; row.len(), 1000);
+    let Ok(Command::Add { row: values, .. }) = read_command(rt.alloc(), &line) else {
+        panic!(rt; "the line adds a row");
+    };
+    assert_eq!(rt; values.len(), 1000);
+    let RowLine::Del(name) = read_row(rt.alloc(), b" del r -2  \"a b\" ", &mut row) else {
+        panic!(rt; "the line deletes a row");
+    };
+    assert_eq!(rt; name, b"r".as_slice());
+    assert_eq!(rt; row.len(), 2);
+    assert!(rt; matches!(read_row(rt.alloc(), b"drop r", &mut row), RowLine::Other));
+    Ok(())
+}
+
+#[test]
+fn cuts_lines(rt: HostRuntime) {
+    let Front::Line { end, rest } = Splitter::front(b"add r 1\r\nquit") else {
+        panic!(rt; "a line is in front");
+    };
+    assert_eq!(rt; end, 7);
+    assert_eq!(rt; rest, 9);
+    assert!(rt; matches!(Splitter::front(b"quit"), Front::Dry));
+    assert!(rt; is_blank(b"  ") && !is_blank(b" \t"));
+}

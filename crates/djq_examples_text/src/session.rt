@@ -1,0 +1,168 @@
+use djq_lines::limits::{CURSORS, REPLY_BYTES};
+use djq_lines::{AddOutcome, DeleteOutcome, EndCause, EndLine, HeldRow, QueryOutcome, Refusal};
+use djq_model::{Name, NoMem, Row, Sequence, Value};
+use djq_proto::Front;
+use djq_session::Session;
+use std::alloc::Global;
+use std::test::Fail;
+
+/// What is kept for a cursor and for a watch is a number in each test.
+type Numbered = Session<u32, u32>;
+
+/// What stands in front of the bytes that are held: the bytes of a line and where the rest begins.
+fn line_in_front(session: &Numbered) -> Option<(usize, usize)> {
+    match session.front() {
+        Front::Line { end, rest } => Some((end, rest)),
+        _ => None,
+    }
+}
+
+/// Takes bytes in front, where so many are held.
+fn take(session: &mut Numbered, count: usize) -> bool {
+    let there = session.held().len() >= count;
+    if there {
+        session.take_line(count);
+    }
+    there
+}
+
+/// Takes bytes that are pending, where there are so many.
+fn took(session: &mut Numbered, count: usize) -> bool {
+    let there = session.pending().len() >= count;
+    if there {
+        session.took(count);
+    }
+    there
+}
+
+#[test]
+fn lines_come_and_bytes_go(rt: HostRuntime) -> Result<(), Fail> {
+    let mut session = Numbered::new(rt.alloc())?;
+    session.feed(b"add r")?;
+    session.feed(b" 1\r\nst")?;
+    assert!(rt; line_in_front(&session) == Some((7, 9)));
+    assert!(rt; take(&mut session, 9));
+    assert_eq!(rt; session.held(), b"st".as_slice());
+    assert!(rt; matches!(session.front(), Front::Dry));
+    session.feed(&[b'a'; 8000])?;
+    assert_eq!(rt; session.held().len(), 8002);
+    for _ in 0..3000 {
+        session.queue(b"= 12345\n")?;
+    }
+    assert!(rt; took(&mut session, 23_988));
+    assert_eq!(rt; session.pending(), b"345\n= 12345\n".as_slice());
+    Ok(())
+}
+
+#[test]
+fn sessions_end(rt: HostRuntime) -> Result<(), Fail> {
+    let mut session = Numbered::new(rt.alloc())?;
+    session.end_cut();
+    assert!(rt; session.cause() == Some(EndCause::Input));
+    assert_eq!(rt; session.pending(), b"err 13 cut\n".as_slice());
+    let mut session = Numbered::new(rt.alloc())?;
+    session.end_by(EndLine::Slow, EndCause::Slow);
+    assert_eq!(rt; session.pending(), b"end slow\n".as_slice());
+    let mut session = Numbered::new(rt.alloc())?;
+    session.keep(REPLY_BYTES)?;
+    session.end_bye(EndCause::Quit);
+    assert_eq!(rt; session.pending(), b"bye\n".as_slice());
+    let mut session = Numbered::new(rt.alloc())?;
+    session.end(EndCause::Stop);
+    assert!(rt; session.cause() == Some(EndCause::Stop) && session.pending().is_empty());
+    Ok(())
+}
+
+/// Puts a reply of each kind behind the others.
+fn answers(session: &mut Numbered) -> Result<(), NoMem> {
+    session.keep(REPLY_BYTES)?;
+    session.refuse(Refusal::Arity);
+    session.keep(REPLY_BYTES)?;
+    session.answer_done(Ok(()));
+    session.keep(REPLY_BYTES)?;
+    session.answer_added(Ok(AddOutcome::More(2)), 7);
+    session.keep(REPLY_BYTES)?;
+    session.answer_deleted(Ok(DeleteOutcome::Absent), 8);
+    session.keep(REPLY_BYTES)?;
+    session.answer_registered(&Ok(QueryOutcome::Registered(5)))?;
+    session.keep(REPLY_BYTES)?;
+    session.answer_united(Ok(12));
+    session.keep(REPLY_BYTES)?;
+    session.answer_opened(Ok(()));
+    session.keep(REPLY_BYTES)?;
+    session.answer_stale(&Name::new(b"c"), &Name::new(b"rel"), 3);
+    Ok(())
+}
+
+#[test]
+fn commands_are_answered(rt: HostRuntime) -> Result<(), Fail> {
+    let mut session = Numbered::new(rt.alloc())?;
+    answers(&mut session)?;
+    let mut row = Row::new(rt.alloc());
+    row.push(Value::Int(-2))?;
+    row.push(Value::Int(1))?;
+    session.queue_answer(&row)?;
+    session.queue_last(true)?;
+    session.queue_explained(b"n 0 leaf r - out\n")?;
+    assert_eq!(rt;
+        session.pending(),
+        b"err 6 arity\nok\nok added 7 2\nok absent 8\nok query 5\nok union 12\nok open\n\
+            stale c rel 3\n= -2 1\nend\nn 0 leaf r - out\nend\n"
+            .as_slice()
+    );
+    Ok(())
+}
+
+/// The name of a cursor of a test.
+fn name_of(number: u8) -> Name {
+    Name::new(&[b'c', number])
+}
+
+/// Names a cursor, where that is allowed.
+fn add(session: &mut Numbered, name: &Name, cursor: u32) -> Result<bool, NoMem> {
+    if session.cursor(name).is_some() || session.cursors() >= CURSORS {
+        return Ok(false);
+    }
+    session.add_cursor(name, cursor)?;
+    Ok(true)
+}
+
+/// Watches a query, where it isn't watched.
+fn watch(session: &mut Numbered, query: u32) -> Result<bool, NoMem> {
+    if session.watches(query) {
+        return Ok(false);
+    }
+    session.watch(query)?;
+    Ok(true)
+}
+
+/// A row that a batch holds, of no values.
+fn empty_row(alloc: Global, relation: &Name) -> Result<HeldRow, NoMem> {
+    let mut line = Sequence::new(alloc);
+    line.push(b'a')?;
+    Ok(HeldRow {
+        line,
+        relation: *relation,
+        row: Row::new(alloc),
+    })
+}
+
+#[test]
+fn what_a_session_keeps_is_found(rt: HostRuntime) -> Result<(), Fail> {
+    let mut session = Numbered::new(rt.alloc())?;
+    for number in 0..16 {
+        assert!(rt; add(&mut session, &name_of(number), 100 + number as u32)?);
+    }
+    session.drop_cursor(&name_of(5));
+    assert!(rt; session.cursor(&name_of(5)).is_none() && session.cursors() == 15);
+    assert!(rt; session.cursor(&name_of(6)) == Some(106) && session.pop_cursor() == Some(115));
+    assert!(rt; watch(&mut session, 3)? && watch(&mut session, 4)?);
+    session.unwatch(3);
+    assert!(rt; !session.watches(3) && session.watch_near(4, 1) == Some(0));
+    assert!(rt; session.pop_watch() == Some(4));
+    session.open_batch();
+    session.hold(empty_row(rt.alloc(), &name_of(1))?)?;
+    assert!(rt; session.has_batch() && session.rows_held() == 1);
+    assert!(rt; session.take_batch().is_some() && !session.has_batch());
+    Ok(())
+}
