@@ -141,11 +141,14 @@ fn pattern_at(
 ) -> Result<Option<Pattern>, NoMem> {
     query.within();
     let edges = query.edges(alloc)?;
+    if at >= edges.len() {
+        return Ok(None);
+    }
+    let label = edges.get(at);
     let atoms = query.atoms();
     if at >= atoms.len() {
         return Ok(None);
     }
-    let label = edges.get(at);
     let atom = &atoms[at];
     let comparisons = query.comparisons();
     if cells.len() != atom.terms.len() || constants.len() != comparisons.len() {
