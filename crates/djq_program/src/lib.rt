@@ -19,11 +19,11 @@
 //! `main` makes the real source, sink, hub and disk. A server of another kind is another
 //! [`run_program`] over the crates below.
 //!
-//! Inside, `program` has an arm for each command, `replay` and `load` what two of them do, `log` opens
-//! and loads the file, and `laws` says of whole runs what the definitions of the machine come to.
+//! Inside, `program` has an arm for each command, `replay` and `load` what two of them do, and `log` opens
+//! and loads the file. What the contracts say of whole runs, and the laws of that, stand in
+//! djq_program_laws.
 #![tactic(auto)]
 
-mod laws;
 mod load;
 mod log;
 mod program;
@@ -31,9 +31,5 @@ mod replay;
 mod telling;
 
 pub use djq_run::Status;
-pub use laws::{
-    finished_cursors_have_listed, logs_reopen, run_is_read_back, run_stays_live,
-    serve_is_read_back, serve_stays_live,
-};
 pub use program::run_program;
 pub use telling::Telling;

@@ -1,7 +1,7 @@
 ghost use Rattle.std.specs.Prelude.{◌≡◌, ◌++◌, IfOk, OnOk, OnErr, decimal};
 ghost use Rattle.djq_machine.specs.State.{opening};
 ghost use Rattle.djq_machine.specs.Call.{counts};
-ghost use Rattle.djq_program.specs.Gen.{summary, Generates, LoadsUntold, GenEnds};
+ghost use Rattle.djq_program_laws.specs.Gen.{summary, Generates, LoadsUntold, GenEnds};
 
 use crate::replay::write_text;
 use djq_core::Core;

@@ -5,9 +5,9 @@ ghost use Rattle.djq_machine.specs.Call.{Counts, counts};
 ghost use Rattle.djq_laws.specs.Course.{outside};
 ghost use Rattle.djq_value.specs.Literal.{is_name};
 ghost use Rattle.djq_serve.specs.Told.{hub_shown};
-ghost use Rattle.djq_program.specs.Logged.{disk_seen, log_seen, served_status};
-ghost use Rattle.djq_program.specs.Mirror.{mirror_status, MirrorsSource};
-ghost use Rattle.djq_program.specs.Ends.{ProgramEnds, AsksToServe, AsksForLog, Serves, HubEnds, WritesUsage, hub_seen};
+ghost use Rattle.djq_program_laws.specs.Logged.{disk_seen, log_seen, served_status};
+ghost use Rattle.djq_program_laws.specs.Mirror.{mirror_status, MirrorsSource};
+ghost use Rattle.djq_program_laws.specs.Ends.{ProgramEnds, AsksToServe, AsksForLog, Serves, HubEnds, WritesUsage, hub_seen};
 
 use crate::load::generate;
 use crate::log::open_log;

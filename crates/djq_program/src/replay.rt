@@ -5,10 +5,10 @@ ghost use Rattle.djq_laws.specs.Course.{outside};
 ghost use Rattle.djq_schedule.specs.Schedule.{schedule_lines};
 ghost use Rattle.djq_schedule.specs.Made.{turns_of, ScheduleIsMade};
 ghost use Rattle.djq_schedule.specs.Sent.{outside_line};
-ghost use Rattle.djq_program.specs.Logged.{disk_seen, log_seen};
-ghost use Rattle.djq_program.specs.Parts.{TellsWhole, TellsNone};
-ghost use Rattle.djq_program.specs.Replay.{SourceReadsWhole, StopsReading, ReplayComesTo, ComesToNothing, first_fault};
-ghost use Rattle.djq_program.specs.Replay.{Wrote, WritesFor, ReplayEnds};
+ghost use Rattle.djq_program_laws.specs.Logged.{disk_seen, log_seen};
+ghost use Rattle.djq_program_laws.specs.Parts.{TellsWhole, TellsNone};
+ghost use Rattle.djq_program_laws.specs.Replay.{SourceReadsWhole, StopsReading, ReplayComesTo, ComesToNothing, first_fault};
+ghost use Rattle.djq_program_laws.specs.Replay.{Wrote, WritesFor, ReplayEnds};
 
 use crate::log::open_log;
 use crate::program::ended_status;

@@ -19,8 +19,8 @@ use Rattle.djq_machine.specs.declared.machine.Loaded.TheVariants.{Ran}
 use Rattle.djq_machine.specs.Loading.{Loading, LoadStep, Loads}
 use Rattle.djq_kept.proofs.Reloading.{abandon_runs}
 use Rattle.djq_run.specs.declared.status.Status.TheVariants.{DiskFault, LogFull}
-use Rattle.djq_program.specs.Logged.{DiskSeen, abandoning, first_kept}
-use Rattle.djq_program.specs.Parts.{EndsBatch, CantEnd}
+use Rattle.djq_program_laws.specs.Logged.{DiskSeen, abandoning, first_kept}
+use Rattle.djq_program_laws.specs.Parts.{EndsBatch, CantEnd}
 
 -- what an append of `abandon` came to, behind whatever lines
 abbrev pub Kept : Appended → ℕ → DiskSeen → DiskSeen → Type 0

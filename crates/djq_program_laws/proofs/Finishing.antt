@@ -8,7 +8,7 @@ use Rattle.djq_model.specs.Answer.{IsListing}
 use Rattle.djq_model.specs.Listed.{Listed, AnswersOf, listed_of}
 use Rattle.djq_machine.specs.State.{Position, open_at, Session, Cursor}
 use Rattle.djq_machine.specs.Gives.{PositionGives}
-use Rattle.djq_program.specs.Finished.{FinishedCursors}
+use Rattle.djq_program_laws.specs.Finished.{FinishedCursors}
 
 listed : (relations : List Relation) (o : Option Listed) (given : List Tuple)
     → PositionGives relations o (open_at given true) → IsSomeAnd o (λ q. IsListing (AnswersOf relations q) given)

@@ -9,8 +9,8 @@ use Rattle.djq_laws.specs.Sound.{IsStart}
 use Rattle.djq_laws.proofs.Live.{listings_stay_live}
 use Rattle.djq_laws.proofs.Listing.{nothing_given}
 use Rattle.djq_kept.proofs.Starting.{found_is_start}
-use Rattle.djq_program.specs.Logged.{LogSeen, Begins}
-use Rattle.djq_program.specs.Live.{RunIsLive, ServeIsLive}
+use Rattle.djq_program_laws.specs.Logged.{LogSeen, Begins}
+use Rattle.djq_program_laws.specs.Live.{RunIsLive, ServeIsLive}
 
 pub run_is_live : RunIsLive
 run_is_live start status before now serves mid passed = listings_stay_live mid ((serves.headline).cursors mid passed)

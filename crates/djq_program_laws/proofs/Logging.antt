@@ -27,11 +27,11 @@ use Rattle.djq_serve.specs.declared.served.Served.{Served}
 use Rattle.djq_serve.specs.declared.served.Served.TheVariants.{Stopped, Over, TurnsUsed, HubFault, DiskFault, LogFull}
 use Rattle.djq_serve.specs.Logged.{AllKept, LastLost, LastLeft, KeepsBy, DiskCounts, IsNotOfDisk}
 use Rattle.djq_laws.proofs.Courses.{walk_then}
-use Rattle.djq_program.specs.Logged.{DiskSeen, LogSeen, log_seen_at, log_seen, SinceOpened, first_kept, FindsLines}
-use Rattle.djq_program.specs.Logged.{KeptAs, Logs, FoundIn, Begins, LeavesUnloaded, UnloadedFor, Unloaded}
-use Rattle.djq_program.specs.Logged.{NeverBegins}
-use Rattle.djq_program.specs.Parts.{OpensJournal, LoadsLines, StopsLoading, ReadsLog, EndsBatch, CantEnd}
-use Rattle.djq_program.proofs.Opening.{told_end, opened_finds, opened_leaves}
+use Rattle.djq_program_laws.specs.Logged.{DiskSeen, LogSeen, log_seen_at, log_seen, SinceOpened, first_kept, FindsLines}
+use Rattle.djq_program_laws.specs.Logged.{KeptAs, Logs, FoundIn, Begins, LeavesUnloaded, UnloadedFor, Unloaded}
+use Rattle.djq_program_laws.specs.Logged.{NeverBegins}
+use Rattle.djq_program_laws.specs.Parts.{OpensJournal, LoadsLines, StopsLoading, ReadsLog, EndsBatch, CantEnd}
+use Rattle.djq_program_laws.proofs.Opening.{told_end, opened_finds, opened_leaves}
 
 -- A journal that keeps on, whatever it began with, is there.
 still_there : (gate' : Option ℕ) (found : List Bytes) (first all : List Group) (gate : ℕ) (since m n : History)

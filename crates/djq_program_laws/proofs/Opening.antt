@@ -15,8 +15,8 @@ use Rattle.djq_journal.specs.declared.line.Line.TheVariants.{Got, End, BadLog as
 use Rattle.djq_journal.proofs.Going.{keeps_on}
 use Rattle.djq_journal.proofs.Once.{opens_once}
 use Rattle.djq_model.specs.Data.{Bytes}
-use Rattle.djq_program.specs.Logged.{asked_for, LogIsMade, FindsLines, LeavesUnloaded}
-use Rattle.djq_program.specs.Parts.{HasFile, IsOpened}
+use Rattle.djq_program_laws.specs.Logged.{asked_for, LogIsMade, FindsLines, LeavesUnloaded}
+use Rattle.djq_program_laws.specs.Parts.{HasFile, IsOpened}
 
 -- What is told in the end, by what was told before, if it matters.
 pub told_end : (old new : Option History) (P : History → History → Type 0) (Q : History → Type 0)

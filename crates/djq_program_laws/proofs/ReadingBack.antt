@@ -37,7 +37,7 @@ use Rattle.djq_told.specs.Mirrored.{HoldsTextsOf}
 use Rattle.djq_told.specs.Whole.{ReadsSinceOpened}
 use Rattle.djq_told.proofs.Alone.{held_alone}
 use Rattle.djq_told.proofs.Opening.{opened_are_read_back, front}
-use Rattle.djq_program.specs.Mirrored.{WritesAnswers, IsMirroredBack}
+use Rattle.djq_program_laws.specs.Mirrored.{WritesAnswers, IsMirroredBack}
 
 -- ---- one mirror
 

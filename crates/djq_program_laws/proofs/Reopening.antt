@@ -17,10 +17,10 @@ use Rattle.djq_kept.proofs.Reloading.{stops_reload}
 use Rattle.djq_serve.specs.declared.served.Served.{Served}
 use Rattle.djq_serve.specs.declared.served.Served.TheVariants.{Stopped, Over, TurnsUsed, HubFault, DiskFault, LogFull}
 use Rattle.djq_serve.specs.Server.{all_done}
-use Rattle.djq_program.specs.Logged.{SinceOpened, KeptAs}
-use Rattle.djq_program.specs.Reopened.{answered, Reopens, LogsReopen}
-use Rattle.djq_program.proofs.Living.{starts}
-use Rattle.djq_program.proofs.Opening.{told_end}
+use Rattle.djq_program_laws.specs.Logged.{SinceOpened, KeptAs}
+use Rattle.djq_program_laws.specs.Reopened.{answered, Reopens, LogsReopen}
+use Rattle.djq_program_laws.proofs.Living.{starts}
+use Rattle.djq_program_laws.proofs.Opening.{told_end}
 
 -- What opens within some groups does within more behind them.
 within_more : (found : List Bytes) (whole : List Group) (last : Group) (groups : List Group) (least : ℕ)

@@ -35,10 +35,10 @@ use Rattle.djq_serve.specs.Told.{turn_is_failed, by_turn, has_over, turn_failed,
 use Rattle.djq_serve.specs.Server.{all_told, all_done}
 use Rattle.djq_serve.specs.Logged.{UnkeptIsSilent}
 use Rattle.djq_serve.specs.Ends.{FaultsCount, ServeEnds}
-use Rattle.djq_program.specs.Logged.{DiskSeen, LogSeen, log_seen, IsUnasked, served_status, Begins, Logs}
-use Rattle.djq_program.specs.Replay.{hub_of, ServedWhole, Plays, ReplayComesTo, ComesToNothing, first_fault}
-use Rattle.djq_program.specs.Parts.{TellsWhole, TellsNone}
-use Rattle.djq_program.proofs.Logging.{never_began}
+use Rattle.djq_program_laws.specs.Logged.{DiskSeen, LogSeen, log_seen, IsUnasked, served_status, Begins, Logs}
+use Rattle.djq_program_laws.specs.Replay.{hub_of, ServedWhole, Plays, ReplayComesTo, ComesToNothing, first_fault}
+use Rattle.djq_program_laws.specs.Parts.{TellsWhole, TellsNone}
+use Rattle.djq_program_laws.proofs.Logging.{never_began}
 use Rattle.std.proofs.lemmas.Bool.{or_parts}
 
 -- the next turn of a script is gone, and those that are left are short too

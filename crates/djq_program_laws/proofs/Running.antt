@@ -18,7 +18,7 @@ use Rattle.djq_words.specs.declared.commands.Asked.{Asked}
 use Rattle.djq_words.specs.declared.commands.Asked.TheVariants.{Mirror}
 use Rattle.djq_words.specs.Commands.{djq_app}
 use Rattle.djq_words.specs.Asks.{SubcommandAsks, WordsAsk}
-use Rattle.djq_program.specs.Ends.{Serves}
+use Rattle.djq_program_laws.specs.Ends.{Serves}
 
 -- The machine was at the start, and no session is open there.
 pub serves : (status : Status) (before now : Outside) (machine start state : State) → machine ≡ start → start.sessions

@@ -26,10 +26,10 @@ use Rattle.djq_serve.specs.Ends.{ServeEnds, FaultsCount}
 use Rattle.djq_words.specs.declared.commands.Asked.{Asked}
 use Rattle.djq_words.specs.declared.commands.Asked.TheVariants.{Run, Serve, Replay, Gen, Mirror}
 use Rattle.djq_words.specs.Asks.{Asks, WordsAsk}
-use Rattle.djq_program.specs.Logged.{DiskSeen, LogSeen, log_seen, served_status, Begins, Logs, FoundIn, NeverBegins}
-use Rattle.djq_program.specs.Gen.{GenEnds}
-use Rattle.djq_program.specs.Replay.{ReplayEnds}
-use Rattle.djq_program.specs.Mirror.{MirrorsSource}
+use Rattle.djq_program_laws.specs.Logged.{DiskSeen, LogSeen, log_seen, served_status, Begins, Logs, FoundIn, NeverBegins}
+use Rattle.djq_program_laws.specs.Gen.{GenEnds}
+use Rattle.djq_program_laws.specs.Replay.{ReplayEnds}
+use Rattle.djq_program_laws.specs.Mirror.{MirrorsSource}
 
 -- the line that tells the commands
 abbrev pub usage_line : Bytes

@@ -7,7 +7,7 @@ use Rattle.djq_machine.specs.State.{State, Session, Cursor, open_at}
 use Rattle.djq_laws.specs.Course.{Outside}
 use Rattle.djq_laws.specs.Given.{PassedThrough}
 use Rattle.djq_run.specs.declared.status.Status.{Status}
-use Rattle.djq_program.specs.Ends.{Serves}
+use Rattle.djq_program_laws.specs.Ends.{Serves}
 
 -- However `run` ends: at each moment of it, a cursor that was open and had been told the end had
 -- given a listing of its query: each answer over the rows that were there then, once, and nothing

@@ -8,7 +8,7 @@ use Rattle.djq_run.specs.declared.status.Status.{Status}
 use Rattle.djq_run.specs.declared.status.Status.TheVariants.{Done, NoMemory}
 use Rattle.djq_load.specs.declared.loading.Totals.{Totals}
 use Rattle.djq_load.specs.Totals.{RunsLoad, RunsOut}
-use Rattle.djq_program.specs.Replay.{Wrote}
+use Rattle.djq_program_laws.specs.Replay.{Wrote}
 
 -- the number of different rows of a relation
 abbrev pub row_count : State → Bytes → ℕ

@@ -10,8 +10,8 @@ use Rattle.djq_laws.specs.Live.{LiveFrom}
 use Rattle.djq_run.specs.declared.status.Status.{Status}
 use Rattle.djq_serve.specs.Server.{all_done}
 use Rattle.djq_serve.specs.Ends.{RunsThrough}
-use Rattle.djq_program.specs.Logged.{LogSeen}
-use Rattle.djq_program.specs.Ends.{Serves, HubSeen, ServesHub}
+use Rattle.djq_program_laws.specs.Logged.{LogSeen}
+use Rattle.djq_program_laws.specs.Ends.{Serves, HubSeen, ServesHub}
 
 -- However `run` ends: from each state that it passed through a listing stays live.
 abbrev pub RunIsLive : Type 0

@@ -18,9 +18,9 @@ use Rattle.djq_machine.specs.Loading.{Loading, loading, Loads}
 use Rattle.djq_run.specs.declared.status.Status.{Status}
 use Rattle.djq_run.specs.declared.status.Status.TheVariants.{NoMemory, DiskFault, LogFull}
 use Rattle.djq_schedule.specs.Sent.{sent_text}
-use Rattle.djq_program.specs.Logged.{DiskSeen, LogSeen, asked_for, LogIsMade, abandoning, first_kept, FindsLines}
-use Rattle.djq_program.specs.Logged.{IsUnmade, UnloadedFor, Begins, FoundIn, NeverBegins}
-use Rattle.djq_program.specs.Replay.{first_fault}
+use Rattle.djq_program_laws.specs.Logged.{DiskSeen, LogSeen, asked_for, LogIsMade, abandoning, first_kept, FindsLines}
+use Rattle.djq_program_laws.specs.Logged.{IsUnmade, UnloadedFor, Begins, FoundIn, NeverBegins}
+use Rattle.djq_program_laws.specs.Replay.{first_fault}
 
 -- A file was opened, and where it had no bytes a journal without lines was made in it.
 abbrev pub HasFile : Bytes → History → History → Type 0

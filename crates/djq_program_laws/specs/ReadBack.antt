@@ -13,9 +13,9 @@ use Rattle.djq_io.specs.Calls.{sent_to}
 use Rattle.djq_serve.specs.Server.{all_told, all_done}
 use Rattle.djq_serve.specs.Ends.{RunsThrough}
 use Rattle.djq_told.specs.Whole.{ReadsSinceOpened}
-use Rattle.djq_program.specs.Logged.{LogSeen}
-use Rattle.djq_program.specs.Mirrored.{IsMirroredBack}
-use Rattle.djq_program.specs.Ends.{Serves, HubSeen, ServesHub}
+use Rattle.djq_program_laws.specs.Logged.{LogSeen}
+use Rattle.djq_program_laws.specs.Mirrored.{IsMirroredBack}
+use Rattle.djq_program_laws.specs.Ends.{Serves, HubSeen, ServesHub}
 
 -- However `run` ends: where session 1 waited, watched a query, and read it through one cursor at a time,
 -- and all that was queued to it was written, the sink's bytes are refused nowhere by `mirror` of the query;

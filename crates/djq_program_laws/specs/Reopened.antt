@@ -12,7 +12,7 @@ use Rattle.djq_serve.specs.declared.served.Served.TheVariants.{DiskFault, LogFul
 use Rattle.djq_serve.specs.Told.{Shown}
 use Rattle.djq_serve.specs.Server.{all_done}
 use Rattle.djq_serve.specs.Ends.{ServeEnds}
-use Rattle.djq_program.specs.Logged.{LogSeen, Begins, Logs}
+use Rattle.djq_program_laws.specs.Logged.{LogSeen, Begins, Logs}
 
 -- How many of the groups that a run kept were answered: all, or all but the last, where the log failed
 -- there.

@@ -30,7 +30,7 @@ use Rattle.djq_serve.specs.Told.{Shown, hub_shown}
 use Rattle.djq_serve.specs.Server.{all_done}
 use Rattle.djq_serve.specs.Logged.{UnkeptIsSilent}
 use Rattle.djq_serve.specs.Ends.{ServeEnds}
-use Rattle.djq_program.specs.Logged.{LogSeen, IsUnasked, served_status, Begins, Logs, NeverBegins}
+use Rattle.djq_program_laws.specs.Logged.{LogSeen, IsUnasked, served_status, Begins, Logs, NeverBegins}
 
 -- It gave these bytes, has nothing left, and no read failed.
 pub record SourceReadsWhole (before now : Option SourceReading) (faults faults' : ℕ) (bytes : Bytes)

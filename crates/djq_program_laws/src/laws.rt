@@ -1,14 +1,13 @@
-ghost use Rattle.djq_program.specs.Finished.{FinishedCursors};
-ghost use Rattle.djq_program.specs.Live.{RunIsLive, ServeIsLive};
-ghost use Rattle.djq_program.specs.ReadBack.{RunIsReadBack, ServeIsReadBack, RunMomentsAreReadBack, ServeMomentsAreReadBack};
-ghost use Rattle.djq_program.specs.Reopened.{LogsReopen};
+ghost use Rattle.djq_program_laws.specs.Finished.{FinishedCursors};
+ghost use Rattle.djq_program_laws.specs.Live.{RunIsLive, ServeIsLive};
+ghost use Rattle.djq_program_laws.specs.ReadBack.{RunIsReadBack, ServeIsReadBack, RunMomentsAreReadBack, ServeMomentsAreReadBack};
+ghost use Rattle.djq_program_laws.specs.Reopened.{LogsReopen};
 
 /// At each moment of a run of the program, a cursor that was open and had been told the end had
 /// listed every answer of its query over the rows that were there then, each once, and nothing
 /// else.
 ///
-/// It is empty: its contract is a law of what [`run_program`](crate::run_program) promises of its
-/// end.
+/// It is empty: its contract is a law of what the program promises of its end.
 pub fn finished_cursors_have_listed()
     ensures { FinishedCursors }
 {}

@@ -6,9 +6,9 @@ use Rattle.djq_model.specs.Data.{Bytes}
 use Rattle.djq_machine.specs.State.{State}
 use Rattle.djq_machine.specs.Call.{counts}
 use Rattle.djq_core.specs.Views.{loading_in}
-use Rattle.djq_program.specs.Logged.{disk_seen, log_seen}
-use Rattle.djq_program.specs.Parts.{OpensLog}
-use Rattle.djq_program.proofs.Logging.{begins_empty, ended_begins, unended_begins}
+use Rattle.djq_program_laws.specs.Logged.{disk_seen, log_seen}
+use Rattle.djq_program_laws.specs.Parts.{OpensLog}
+use Rattle.djq_program_laws.proofs.Logging.{begins_empty, ended_begins, unended_begins}
 use Rattle.djq_program.proofs.log.open_log.Goals as goal
 
 pub returns-in_default : goal.returns-in_default

@@ -3,8 +3,8 @@ use Rattle.std.proofs.Common.{List, ℕ, sym, subst}
 use Rattle.std.specs.Prelude.{Result, MatchResult}
 use Rattle.djq_io.specs.declared.hub.Coming.{Coming}
 use Rattle.djq_machine.specs.Call.{counts}
-use Rattle.djq_program.specs.Logged.{disk_seen, log_seen}
-use Rattle.djq_program.specs.Replay.{ReplayComesTo, ComesToNothing}
+use Rattle.djq_program_laws.specs.Logged.{disk_seen, log_seen}
+use Rattle.djq_program_laws.specs.Replay.{ReplayComesTo, ComesToNothing}
 use Rattle.djq_program.proofs.replay.make_text.Goals as goal
 
 pub returns-in-Ok : goal.returns-in-Ok

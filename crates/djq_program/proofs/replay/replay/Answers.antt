@@ -1,6 +1,6 @@
 -- The bytes that are replayed are those that were read to the end of the source.
 use Rattle.std.proofs.Common.{ℕ, List, sym, subst, inl}
-use Rattle.djq_program.specs.Replay.{SourceReadsWhole}
+use Rattle.djq_program_laws.specs.Replay.{SourceReadsWhole}
 use Rattle.djq_program.proofs.replay.replay.Goals as goal
 
 pub returns-in-Ok : goal.returns-in-Ok

@@ -3,9 +3,9 @@ use Rattle.std.proofs.Common.{ℕ, ◌+◌, ap, inl}
 use Rattle.std.specs.Prelude.{Ok}
 use Rattle.djq_machine.specs.State.{State}
 use Rattle.djq_machine.specs.Call.{counts}
-use Rattle.djq_program.specs.Logged.{disk_seen, log_seen}
-use Rattle.djq_program.proofs.Logging.{logs_kept, begins_still}
-use Rattle.djq_program.proofs.Replaying.{made_steady, schedule_served, nothing_comes}
+use Rattle.djq_program_laws.specs.Logged.{disk_seen, log_seen}
+use Rattle.djq_program_laws.proofs.Logging.{logs_kept, begins_still}
+use Rattle.djq_program_laws.proofs.Replaying.{made_steady, schedule_served, nothing_comes}
 use Rattle.djq_program.proofs.replay.serve_schedule.Goals as goal
 
 pub returns-in_default : goal.returns-in_default
