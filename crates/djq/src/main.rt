@@ -4,55 +4,30 @@
 //! told. With `--log PATH` the second and the third begin with what the lines of that file give, and
 //! keep in it what changes that.
 //!
-//! [`run_program`] is the program over any source, sink, hub and disk. Its contract says what was
-//! written: the replies of a run of the join machine, so it is the theorem of the whole product. And
-//! it says what a stop at any moment leaves of the log.
-//! `main` makes the real ones, which tell no bytes, and calls it.
+//! `main` makes the real source, sink, hub and disk, which tell no bytes, and calls [`run_program`],
+//! which is the program over any of them.
 //!
-//! It isn't a library: what others may call stands in the crates below, and a server of another kind
-//! is another [`run_program`] over them.
-//!
-//! What surprises: help and version words are no command, and are answered by the usage line. What the
-//! theorem says of bytes it says where the source, sink or hub tells them; of the real ones it says
-//! which calls were made and what their answers did.
+//! What surprises: a failed call of the system is said on standard error, with the system's reason, by
+//! the stream or the hub that it failed. Why the program ends otherwise `main` says there.
 //!
 //! ```text
 //! djq run < stdin > stdout          one session, status 0 at its end, at `quit` and at `stop`
 //! djq serve 127.0.0.1:7007          up to 64 sessions
 //! djq replay < schedule             what each of several sessions is sent, line by line
 //! ```
-//!
-//! Inside, `program` has an arm for each command, `replay` and `load` what two of them do, `log` opens
-//! and loads the file, and `laws` says of whole runs what the definitions of the machine come to.
 #![tactic(auto)]
-
-#[cfg(test)]
-mod hub_tests;
-mod laws;
-mod load;
-mod log;
-#[cfg(test)]
-mod log_tests;
-mod program;
-mod replay;
-mod telling;
-#[cfg(test)]
-mod tests;
 
 ghost use Rattle.std.specs.Prelude.{◌≡◌};
 
 use djq_file::FileDisk;
 use djq_io::{StdSink, StdSource};
 use djq_net::TcpHub;
-pub use djq_run::Status;
+use djq_program::{Status, Telling, run_program};
 use djq_steps::{Blanks, Ledgers, Steps};
-pub use laws::{finished_cursors_have_listed, logs_reopen, run_stays_live, serve_stays_live};
-pub use program::run_program;
 use std::alloc::AllocError;
 use std::marker::Brand;
 use std::process::ExitCode;
 use std::{env, io};
-use telling::Telling;
 
 fn main(rt: HostRuntime) -> ExitCode {
     let status = start::<Brand>(&rt, Blanks::new(&rt)).unwrap_or(Status::NoMemory);

@@ -36,6 +36,3 @@ pub use arena::Arena;
 pub use chain::{Ends, Pair, ends_after_push, enter, leave, pair_of};
 pub use link::{Link, SLOTS};
 pub use store::hash_of;
-
-#[cfg(test)]
-mod tests;

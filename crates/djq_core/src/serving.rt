@@ -26,8 +26,6 @@ use std::alloc::Global;
 use std::marker::Model;
 
 mod load;
-#[cfg(test)]
-mod tests;
 
 /// The join machine: a store, and the open sessions. Contracts see its state, the lines that its
 /// last step kept, and what the batch of the loaded lines holds.

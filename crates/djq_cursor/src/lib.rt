@@ -62,6 +62,3 @@ pub use log::{DeltaLog, Line};
 pub use lookup::has;
 pub use places::{Choice, Places};
 pub use walk::advance_by;
-
-#[cfg(test)]
-mod tests;

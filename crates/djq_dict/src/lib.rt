@@ -34,6 +34,3 @@ mod texts;
 
 pub use dict::{Dict, MOST_TEXTS};
 pub use refusal::InternRefusal;
-
-#[cfg(test)]
-mod tests;

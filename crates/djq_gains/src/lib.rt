@@ -34,6 +34,3 @@ mod gather;
 mod telling;
 
 pub use telling::tell_gains;
-
-#[cfg(test)]
-mod tests;

@@ -43,6 +43,3 @@ mod walk;
 pub use cells::{CELLS, Cells};
 pub use place::Place;
 pub use table::{SUPPORTS, TUPLES, Table};
-
-#[cfg(test)]
-mod tests;

@@ -57,6 +57,4 @@ mod lookup;
 mod member;
 mod reads;
 mod staying;
-#[cfg(test)]
-mod tests;
 mod update;

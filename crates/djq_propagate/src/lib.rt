@@ -53,6 +53,3 @@ pub use update::{
     add_leaf, counts_add_up, drop_leaf, finish_insertion, finish_removal, insert_leaf,
     mark_removal, undo_insertion,
 };
-
-#[cfg(test)]
-mod tests;

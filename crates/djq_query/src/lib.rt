@@ -45,6 +45,4 @@ mod numbering;
 mod pattern;
 mod places;
 mod relations;
-#[cfg(test)]
-mod tests;
 mod variables;

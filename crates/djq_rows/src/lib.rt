@@ -39,6 +39,3 @@ pub use laws::{cells_differ, cells_stay, rows_by_name_or_place, texts_stay};
 pub use refusal::RowsRefusal;
 pub use relation_id::RelationId;
 pub use walk::Walk;
-
-#[cfg(test)]
-mod tests;

@@ -107,20 +107,3 @@ impl<C: Drop> Cursors<C> {
         });
     }
 }
-
-#[cfg(test)]
-mod tests {
-    use super::*;
-    use std::test::Fail;
-
-    #[test]
-    fn keeps_cursors_in_slots(rt: HostRuntime) -> Result<(), Fail> {
-        let mut cursors: Cursors<u64> = Cursors::new(rt.alloc());
-        assert!(rt; cursors.is_empty());
-        let slot = cursors.open(7)?;
-        assert!(rt; !cursors.is_empty());
-        cursors.close(slot);
-        assert!(rt; cursors.is_empty());
-        Ok(())
-    }
-}

@@ -45,9 +45,6 @@ pub use cursor::UnionCursor;
 pub use listing::Listing;
 pub use members::Members;
 
-#[cfg(test)]
-mod tests;
-
 /// What a union has given: what its first member has given that no later member has, and what the
 /// union of the later ones has given.
 pub fn a_union_gives_what_its_members_give<M: Listing>()

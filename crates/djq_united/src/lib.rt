@@ -27,8 +27,6 @@
 mod alike;
 mod laws;
 mod reads;
-#[cfg(test)]
-mod tests;
 mod union;
 
 pub use alike::heads_differ;

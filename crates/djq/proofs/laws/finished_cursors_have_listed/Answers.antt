@@ -1,6 +1,0 @@
--- What a finished cursor gave is a listing: the headline says of each open cursor what it has given.
-use Rattle.djq.proofs.Finishing.{finished_cursors}
-use Rattle.djq.proofs.laws.finished_cursors_have_listed.Goals as goal
-
-pub returns : goal.returns
-returns c = finished_cursors

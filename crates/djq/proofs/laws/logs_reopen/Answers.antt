@@ -1,6 +1,0 @@
--- A stop leaves whole groups, all answered ones among them, and a run's groups load to where it stood.
-use Rattle.djq.proofs.Reopening.{logs_reopen}
-use Rattle.djq.proofs.laws.logs_reopen.Goals as goal
-
-pub returns : goal.returns
-returns c = logs_reopen

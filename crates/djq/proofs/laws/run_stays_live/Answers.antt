@@ -1,6 +1,0 @@
--- At each moment the headline says what cursors gave; from there listings stay live, by djq_laws.
-use Rattle.djq.proofs.Living.{run_is_live}
-use Rattle.djq.proofs.laws.run_stays_live.Goals as goal
-
-pub returns : goal.returns
-returns c = run_is_live

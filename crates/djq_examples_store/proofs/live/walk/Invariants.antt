@@ -1,0 +1,5 @@
+use Rattle.djq_live.specs.Live.{IsLive}
+use Rattle.djq_examples_store.proofs.live.walk.Given as goal
+
+abbrev pub invariant-moves : goal.invariant-moves
+invariant-moves g l = record { live : IsLive l.catalog l.live }

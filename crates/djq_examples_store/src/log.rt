@@ -1,0 +1,175 @@
+use crate::program::run_counted;
+use djq_disk::{DiskCall, DiskDid, MemDisk};
+use djq_io::{MemHub, MemSink, MemSource};
+use djq_program::Status;
+use std::test::Fail;
+
+/// Three lines that are kept, and one that isn't.
+const ROW: &[u8] = b"open 1\nsay 1 rel r int\nsay 1 add r 7\nsay 1 add r 7\nsay 1 del r 9\n";
+
+/// What they are answered.
+const ROW_LINES: &[u8] = b"1< ok\n1< ok added 1 1\n1< ok added 1 2\n1< ok absent 1\n";
+
+/// Lines whose answers tell how many lines of the row were found.
+const PROBE: &[u8] = b"open 1\nsay 1 del r 7\nsay 1 del r 7\nsay 1 del r 7\n";
+
+/// These answers, by that number.
+const PROBED: [&[u8]; 4] = [
+    b"1< err 3 no relation\n1< err 3 no relation\n1< err 3 no relation\n",
+    b"1< ok absent 0\n1< ok absent 0\n1< ok absent 0\n",
+    b"1< ok removed 2 0\n1< ok absent 2\n1< ok absent 2\n",
+    b"1< ok removed 1 1\n1< ok removed 2 0\n1< ok absent 2\n",
+];
+
+/// A line that is kept, and a batch of two rows.
+const BATCH: &[u8] =
+    b"open 1\nsay 1 rel r int\nsay 1 batch\nsay 1 add r 7\nsay 1 add r 8\nsay 1 done\n";
+
+/// What they are answered.
+const BATCH_LINES: &[u8] = b"1< ok\n1< ok batch\n1< ok held 1\n1< ok held 2\n1< ok done 1 2\n";
+
+/// The file behind them.
+const BATCH_FILE: &[u8] =
+    b"DJQLOG1\n\x01\0\x09rel r int\x01\0\x05batch\x01\0\x07add r 7\x01\0\x07add r 8\x01\0\x04done\0";
+
+/// Lines whose answers tell which of them were found: none, the first, or all.
+const BATCH_PROBE: &[u8] = b"open 1\nsay 1 del r 7\nsay 1 del r 8\n";
+
+/// These answers.
+const BATCH_PROBED: [&[u8]; 3] = [
+    b"1< err 3 no relation\n1< err 3 no relation\n",
+    b"1< ok absent 0\n1< ok absent 0\n",
+    b"1< ok removed 2 0\n1< ok removed 3 0\n",
+];
+
+/// Replays a schedule with the log on the disk, and gives the status and what was written.
+fn replay_logged(
+    rt: &HostRuntime,
+    disk: &mut MemDisk,
+    schedule: &[u8],
+) -> Result<(Status, Vec<u8>), Fail> {
+    let mut hub = MemHub::new(rt.alloc());
+    let mut source = MemSource::new(schedule.to_vec(rt.alloc())?, 8192);
+    let mut sink = MemSink::new(rt.alloc());
+    let words = ["djq", "replay", "--log", "j"];
+    let status = run_counted(rt, &words, &mut source, &mut sink, &mut hub, disk);
+    let taken = sink.taken().ok_or("the record is lost")?;
+    Ok((status, taken.to_vec(rt.alloc())?))
+}
+
+/// How many groups of lines were found on a disk with these bytes, by what it answers to a probe; or
+/// `None` where it is none of these answers.
+fn groups_found(
+    rt: &HostRuntime,
+    bytes: &[u8],
+    probe: &[u8],
+    probed: &[&[u8]],
+) -> Result<Option<u64>, Fail> {
+    let mut disk = MemDisk::of(rt.alloc(), bytes)?;
+    let (_, lines) = replay_logged(rt, &mut disk, probe)?;
+    let mut found = 0u64;
+    for answers in probed {
+        if *answers == lines.as_slice() {
+            return Ok(Some(found));
+        }
+        found = found.saturating_add(1);
+    }
+    Ok(None)
+}
+
+/// How many syncs were done.
+fn syncs(calls: &[DiskCall]) -> u64 {
+    let mut done = 0u64;
+    for call in calls {
+        if let DiskCall::Syncing(DiskDid::Done) = call {
+            done = done.saturating_add(1);
+        }
+    }
+    done
+}
+
+/// The bytes behind these calls, with what was written since the last sync or without it.
+fn image(rt: &HostRuntime, calls: &[DiskCall], unsynced: bool) -> Result<Vec<u8>, Fail> {
+    let all = syncs(calls);
+    let mut done = 0u64;
+    let mut bytes = Vec::new(rt.alloc());
+    for call in calls {
+        match call {
+            DiskCall::Writing(at, piece, _) => {
+                if unsynced || done < all {
+                    put(&mut bytes, *at as usize, piece.as_slice())?;
+                }
+            }
+            DiskCall::Syncing(DiskDid::Done) => done = done.saturating_add(1),
+            _ => {}
+        }
+    }
+    Ok(bytes)
+}
+
+/// Writes a piece into bytes, behind zeros where they ended earlier.
+fn put(bytes: &mut Vec<u8>, at: usize, piece: &[u8]) -> Result<(), Fail> {
+    for (i, byte) in piece.iter().enumerate() {
+        let place = at.saturating_add(i);
+        if bytes.len() <= place {
+            bytes.resize(place.saturating_add(1), 0)?;
+        }
+        if let Some(slot) = bytes.get_mut(place) {
+            *slot = *byte;
+        }
+    }
+    Ok(())
+}
+
+/// The first call at which a stop leaves other than the groups that were answered and at most one more.
+/// Two syncs make and open the journal, and two more keep each group, behind which it is answered.
+fn first_loss(
+    rt: &HostRuntime,
+    calls: &[DiskCall],
+    probe: &[u8],
+    probed: &[&[u8]],
+) -> Result<Option<usize>, Fail> {
+    for n in 0..calls.len() {
+        let answered = syncs(&calls[..n]).saturating_sub(2) / 2;
+        for unsynced in [false, true] {
+            let bytes = image(rt, &calls[..n], unsynced)?;
+            let found = groups_found(rt, &bytes, probe, probed)?.ok_or("the log is bad")?;
+            if found < answered || answered.saturating_add(1) < found {
+                return Ok(Some(n));
+            }
+        }
+    }
+    Ok(None)
+}
+
+/// A stop leaves both rows of a batch or none.
+#[test]
+fn a_stop_at_each_call_leaves_whole_batches(rt: HostRuntime) -> Result<(), Fail> {
+    let mut disk = MemDisk::of(rt.alloc(), b"")?;
+    let (status, lines) = replay_logged(&rt, &mut disk, BATCH)?;
+    assert_eq!(rt; status, Status::Done);
+    assert_eq!(rt; lines.as_slice(), BATCH_LINES);
+    assert_eq!(rt; disk.bytes(), BATCH_FILE);
+    let calls = disk.calls().ok_or("the record is lost")?;
+    assert!(rt; syncs(calls) == 6);
+    assert_eq!(rt; first_loss(&rt, calls, BATCH_PROBE, &BATCH_PROBED)?, None);
+    Ok(())
+}
+
+/// Where a call fails nothing is answered that isn't kept, and all that was answered is found.
+#[test]
+fn a_call_that_fails_ends_the_program(rt: HostRuntime) -> Result<(), Fail> {
+    for n in 1..40 {
+        let mut disk = MemDisk::of(rt.alloc(), b"")?;
+        disk.fail_at(n)?;
+        let (status, lines) = replay_logged(&rt, &mut disk, ROW)?;
+        let made = disk.calls().ok_or("the record is lost")?.len();
+        let failed = n <= made as u64;
+        assert!(rt; (status == Status::DiskFault) == failed, "at {n}");
+        assert!(rt; ROW_LINES.starts_with(lines.as_slice()), "at {n}");
+        let answered = lines.iter().filter(|byte| **byte == b'\n').count() as u64;
+        let found = groups_found(&rt, disk.bytes(), PROBE, &PROBED)?.ok_or("the log is bad")?;
+        assert!(rt; answered.min(3) <= found, "at {n}");
+    }
+    Ok(())
+}

@@ -1,0 +1,92 @@
+ghost use Rattle.std.specs.Prelude.{◌≡◌, length, IfOk};
+
+use djq_cursor::{Choice, Cursor, DeltaLog, Places, has};
+use djq_hyper::VarSet;
+use djq_reduct::{Answer, Reducts};
+use djq_steps::{Blanks, Ledgers, Steps};
+use djq_tree::{Node, Tree};
+use std::alloc::{AllocError, Global};
+use std::marker::Brand;
+use std::test::Fail;
+
+/// The reducts of a query of one atom without variables, which has no row.
+fn no_rows(alloc: Global) -> Result<Reducts, AllocError>
+    ensures { IfOk result (λ r. length r.tree.head ≡ 0) }
+{
+    let mut nodes = Vec::new(alloc);
+    nodes.push(Node::Leaf { atom: 0 })?;
+    let mut labels = Vec::new(alloc);
+    labels.push(VarSet::new())?;
+    let mut out = Vec::new(alloc);
+    out.push(true)?;
+    let tree = Tree::new(nodes, labels, out, VarSet::new(), 1, 1);
+    Reducts::new(alloc, tree)
+}
+
+/// Whether the tuple without cells is an answer of these reducts, whether a cursor says that one is
+/// left, and whether it gives one, and another.
+fn asked<L: Ledgers>(
+    rt: &HostRuntime,
+    blanks: Blanks,
+    reducts: &Reducts,
+) -> (bool, bool, bool, bool)
+    requires listing { blanks.listing.name ≡ L.listing }
+    requires update { blanks.update.name ≡ L.update }
+    requires rows { blanks.rows.name ≡ L.rows }
+    requires empty { length reducts.now.tree.head ≡ 0 }
+{
+    let mut steps = Steps::<L>::new(rt, blanks);
+    let mut answer = Answer::new(0);
+    let is_answer = has(reducts, &answer, &mut steps.listing);
+    let mut cursor = Cursor::start();
+    let left = cursor.is_left(reducts, &mut steps.listing);
+    let first = cursor.advance(reducts, &mut answer, &mut steps.listing);
+    let second = cursor.advance(reducts, &mut answer, &mut steps.listing);
+    (is_answer, left, first, second)
+}
+
+/// Reducts with rows are tested where rows come in.
+#[test]
+fn lists_nothing_where_there_is_no_row(rt: HostRuntime) -> Result<(), Fail> {
+    let reducts = no_rows(rt.alloc())?;
+    let (is_answer, left, first, second) = asked::<Brand>(&rt, Blanks::new(&rt), &reducts);
+    assert!(rt; !is_answer && !left);
+    assert!(rt; !first && !second);
+    Ok(())
+}
+
+#[test]
+fn keeps_choices_in_order(rt: HostRuntime) {
+    let mut places = Places::new();
+    places.push(Choice {
+        level: 4,
+        ..Choice::default()
+    });
+    places.push(Choice {
+        level: 2,
+        ..Choice::default()
+    });
+    assert_eq!(rt; places.len(), 2);
+    assert_eq!(rt; places.as_slice()[0].level, 4);
+    assert_eq!(rt; places.pop().unwrap().level, 2);
+    assert_eq!(rt; places.pop().unwrap().level, 4);
+    assert!(rt; places.pop().is_none());
+}
+
+#[test]
+fn logs_lines_in_order(rt: HostRuntime) -> Result<(), Fail> {
+    let mut log = DeltaLog::new(rt.alloc());
+    let mut answer = Answer::new(2);
+    answer.set(1, 7);
+    log.push(true, &answer);
+    answer.set(0, 5);
+    log.push(false, &answer);
+    assert!(rt; !log.lost());
+    assert_eq!(rt; log.lines().len(), 2);
+    assert!(rt; log.lines()[0].came && !log.lines()[1].came);
+    assert_eq!(rt; log.lines()[0].answer.as_slice(), [0, 7].as_slice());
+    assert_eq!(rt; log.lines()[1].answer.as_slice(), [5, 7].as_slice());
+    log.clear();
+    assert!(rt; log.lines().is_empty());
+    Ok(())
+}

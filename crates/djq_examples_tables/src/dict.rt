@@ -1,0 +1,42 @@
+use djq_dict::Dict;
+use std::test::Fail;
+
+#[test]
+fn numbers_texts_in_order(rt: HostRuntime) -> Result<(), Fail> {
+    let mut dict = Dict::new(rt.alloc())?;
+    assert!(rt; dict.is_empty());
+    assert_eq!(rt; dict.intern(b"one")?, 0);
+    assert_eq!(rt; dict.intern(b"")?, 1);
+    assert_eq!(rt; dict.intern(b"one")?, 0);
+    assert_eq!(rt; dict.len(), 2);
+    assert_eq!(rt; dict.find(b"on"), None);
+    assert_eq!(rt; dict.text(1), b"".as_slice());
+    Ok(())
+}
+
+#[test]
+fn keeps_long_texts(rt: HostRuntime) -> Result<(), Fail> {
+    let longest = [b'a'; 255];
+    let mut dict = Dict::new(rt.alloc())?;
+    assert_eq!(rt; dict.intern(&longest)?, 0);
+    assert_eq!(rt; dict.find(&longest[1..]), None);
+    assert_eq!(rt; dict.find(&longest), Some(0));
+    assert_eq!(rt; dict.len(), 1);
+    assert_eq!(rt; dict.text(0), longest.as_slice());
+    Ok(())
+}
+
+/// So many texts take the buffers and the buckets past several growths.
+#[test]
+fn keeps_numbers_while_it_grows(rt: HostRuntime) -> Result<(), Fail> {
+    let mut dict = Dict::new(rt.alloc())?;
+    for number in 0..5000u32 {
+        assert_eq!(rt; dict.intern(&number.to_be_bytes())?, number);
+    }
+    assert_eq!(rt; dict.len(), 5000);
+    for number in 0..5000u32 {
+        assert_eq!(rt; dict.find(&number.to_be_bytes()), Some(number));
+        assert_eq!(rt; dict.text(number), number.to_be_bytes().as_slice());
+    }
+    Ok(())
+}

@@ -1,6 +1,0 @@
-use Rattle.djq_index.specs.Entries.{group_of}
-use Rattle.djq_index.proofs.Walking.{Backing}
-use Rattle.djq_index.proofs.tests.group_back.Given as goal
-
-abbrev pub invariant-loop-step : goal.invariant-loop-step
-invariant-loop-step g l = Backing (group_of l.table.key l.table.entries l.cells) l.at

@@ -1,5 +1,0 @@
-use Rattle.djq_live.specs.Live.{IsLive}
-use Rattle.djq_live.proofs.tests.walk.Given as goal
-
-abbrev pub invariant-moves : goal.invariant-moves
-invariant-moves g l = record { live : IsLive l.catalog l.live }

@@ -1,0 +1,64 @@
+-- Without a path nothing is loaded; with one, its lines are loaded before the batch they leave open is ended.
+use Rattle.std.proofs.Common.{[], Bor, refl, sym, ap, subst}
+use Rattle.std.specs.Prelude.{Option, Ok, Err}
+use Rattle.std.proofs.lemmas.Result.{MatchResult-weaker}
+use Rattle.djq_model.specs.Data.{Bytes}
+use Rattle.djq_machine.specs.State.{State}
+use Rattle.djq_machine.specs.Call.{counts}
+use Rattle.djq_core.specs.Views.{loading_in}
+use Rattle.djq_program_laws.specs.Logged.{disk_seen, log_seen}
+use Rattle.djq_program_laws.specs.Parts.{OpensLog}
+use Rattle.djq_program_laws.proofs.Logging.{begins_empty, ended_begins, unended_begins}
+use Rattle.djq_program.proofs.log.open_log.Goals as goal
+
+pub returns-in_default : goal.returns-in_default
+returns-in_default g c =
+    let seen = disk_seen (g.D.Disk.told c.args.disk.now) (g.D.Disk.faults c.args.disk.now) in
+    let before = c.args.steps.now in
+    let counted = counts before.listing before.update before.rows in
+    subst
+    (λ (path : Option (Bor Bytes)). OpensLog (log_seen path seen seen) (Ok c.nowhere.result) c.args.machine.now.state
+    counted counted) (sym c.in_default.is)
+    ([], [], begins_empty counted c.args.machine.now.state c.requires.fresh, c.nowhere.ensures)
+
+pub end_batch-requires : goal.end_batch-requires
+end_batch-requires g c = record { none = ap (λ (st : State). st.sessions) c.in-Ok.ensures.fresh }
+
+pub returns-in-Ok : goal.returns-in-Ok
+returns-in-Ok g c =
+    let told = g.D.Disk.told in
+    let faults = g.D.Disk.faults in
+    let before = c.args.steps.now in
+    let then = c.read_log.new.steps in
+    let now = c.end_batch.new.steps in
+    let counted = counts before.listing before.update before.rows in
+    let loaded = counts now.listing now.update now.rows in
+    let first = disk_seen (told c.args.disk.now) (faults c.args.disk.now) in
+    let mid = disk_seen (told c.read_log.new.disk) (faults c.read_log.new.disk) in
+    let last = disk_seen (told c.end_batch.new.disk) (faults c.end_batch.new.disk) in
+    let state = c.read_log.new.machine.state in
+    let start = c.end_batch.new.machine.state in
+    let end = loading_in c.read_log.new.machine in
+    let new = loading_in c.end_batch.new.machine in
+    let path = c.in-Some.path.now in
+    let ended = c.end_batch.ensures in
+    subst (λ (path : Option (Bor Bytes)). OpensLog (log_seen path first last) c.end_batch.result start counted loaded)
+    (sym c.in-Some.is)
+    (MatchResult-weaker c.end_batch.result
+    ended.ends
+    (λ log ends. ended_begins path first mid last c.in-Ok.journal log end new state start counted loaded then.listing
+    c.in-Ok.ensures ends refl ended.rest ended.listing)
+    (λ status cant. unended_begins path first mid last c.in-Ok.journal status end state counted loaded then.listing
+    c.in-Ok.ensures cant ended.listing))
+
+pub returns-in-Err : goal.returns-in-Err
+returns-in-Err g c =
+    let told = g.D.Disk.told in
+    let faults = g.D.Disk.faults in
+    let before = c.args.steps.now in
+    let now = c.read_log.new.steps in
+    let first = disk_seen (told c.args.disk.now) (faults c.args.disk.now) in
+    let last = disk_seen (told c.read_log.new.disk) (faults c.read_log.new.disk) in
+    subst (λ (path : Option (Bor Bytes)). OpensLog (log_seen path first last) (Err c.in-Err.status)
+    c.read_log.new.machine.state (counts before.listing before.update before.rows)
+    (counts now.listing now.update now.rows)) (sym c.in-Some.is) c.in-Err.ensures

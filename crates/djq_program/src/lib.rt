@@ -1,0 +1,35 @@
+//! The program as a library: what the words of a command line do to any source, sink, hub and disk.
+//!
+//! [`run_program`] is the whole of it. Its contract says what was written: the replies of a run of the
+//! join machine, so it is the theorem of the whole product. And it says what a stop at any moment leaves
+//! of the log. [`Telling`] is a standard stream that says why the system failed it.
+//!
+//! ```text
+//! run_program(alloc, ["djq", "run"], source, sink, hub, disk, steps)
+//!
+//! source  rel r int, add r 7       what comes is read, run and answered line by line
+//! sink    ok, ok added 1 1         and at the source's end the status is Done
+//! ```
+//!
+//! What surprises: help and version words are no command, and are answered by the usage line. What the
+//! theorem says of bytes it says where the source, sink or hub tells them; of the real ones it says
+//! which calls were made and what their answers did.
+//!
+//! What this crate is not: it opens no file and no socket, and reads no command line. The program's
+//! `main` makes the real source, sink, hub and disk. A server of another kind is another
+//! [`run_program`] over the crates below.
+//!
+//! Inside, `program` has an arm for each command, `replay` and `load` what two of them do, and `log` opens
+//! and loads the file. What the contracts say of whole runs, and the laws of that, stand in
+//! djq_program_laws.
+#![tactic(auto)]
+
+mod load;
+mod log;
+mod program;
+mod replay;
+mod telling;
+
+pub use djq_run::Status;
+pub use program::run_program;
+pub use telling::Telling;

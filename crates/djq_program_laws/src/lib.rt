@@ -1,0 +1,26 @@
+//! What a whole run of the program does, and what follows from it.
+//!
+//! `specs/Ends.antt` says what a run reads, writes and logs, for each command: `ProgramEnds` is the promise
+//! of the program's top call. The functions here are empty, and their contracts are laws of that promise:
+//! a finished cursor has listed every answer, a subscribed session stays live, what a session was sent is
+//! read back by the mirror, and what a stop leaves of a log opens again.
+//!
+//! ```text
+//! ProgramEnds  ->  FinishedCursors, RunIsLive, ServeIsLive, RunIsReadBack, ServeIsReadBack, LogsReopen
+//! ```
+//!
+//! What surprises: no law needs to know how the join machine is made. So this crate stands on the
+//! machine's contract, and on no store.
+//!
+//! What this crate is not: it runs nothing. djq_program has the calls that keep the promise, and cites the
+//! lemmas in `proofs/` of how logs open and how runs go on.
+//!
+//! Inside, `laws` has the laws.
+#![tactic(auto)]
+
+mod laws;
+
+pub use laws::{
+    finished_cursors_have_listed, logs_reopen, run_is_read_back, run_stays_live,
+    serve_is_read_back, serve_stays_live,
+};

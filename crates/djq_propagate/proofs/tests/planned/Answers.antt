@@ -1,6 +1,0 @@
--- Tables that hold no tuple have no marked one.
-use Rattle.djq_propagate.proofs.Updating.{bare_empty}
-use Rattle.djq_propagate.proofs.tests.planned.Goals as goal
-
-pub returns : goal.returns
-returns c = bare_empty c.in_ok-reducts.reducts.tables c.in_ok-reducts.ensures.empty

@@ -1,8 +1,0 @@
-use Rattle.djq_rows.proofs.tests.keeps_rows_and_texts.Given as goal
-
-abbrev pub ghosts-on_ledgers : goal.ghosts-on_ledgers
-ghosts-on_ledgers g a = record {
-  listing = a.blanks.listing.name;
-  update = a.blanks.update.name;
-  rows = a.blanks.rows.name;
-}
