@@ -19,9 +19,9 @@
 
 ghost use Rattle.std.specs.Prelude.{◌≡◌};
 
-use djq_file::FileDisk;
-use djq_io::{StdSink, StdSource};
-use djq_net::TcpHub;
+use djq_system::FileDisk;
+use djq_system::{StdSink, StdSource};
+use djq_system::TcpHub;
 use djq_program::{Status, Telling, run_program};
 use djq_steps::{Blanks, Ledgers, Steps};
 use std::alloc::AllocError;

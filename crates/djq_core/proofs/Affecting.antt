@@ -10,19 +10,20 @@ use Rattle.djq_model.specs.Data.{Bytes}
 use Rattle.djq_model.specs.Listed.{Listed, listed_name}
 use Rattle.djq_lines.specs.Reply.{text_of}
 use Rattle.djq_machine.specs.Walk.{Walk}
-use Rattle.djq_machine.specs.Delta.{Change, delta_lines}
-use Rattle.djq_machine.specs.Watch.{Delta, Telling, TellsDelta}
+use Rattle.djq_store_spec.specs.Delta.{Change, delta_lines}
+use Rattle.djq_store_spec.specs.DeltaCost.{Delta}
+use Rattle.djq_machine.specs.Watch.{Telling, TellsDelta}
 use Rattle.djq_engine.specs.declared.cursor.QueryId.{QueryId}
-use Rattle.djq_machine.specs.State.{Store}
+use Rattle.djq_store_spec.specs.Store.{Store}
 use Rattle.djq_engine.specs.Kept.{Kept, Registered, IsRegistered, is_watched, registered_at, same_query, told_at}
 use Rattle.djq_engine.specs.Watching.{LogTells, LogsTell}
-use Rattle.djq_core.specs.declared.open.OpenSession.{OpenSession}
-use Rattle.djq_core.specs.Sound.{IsSound, watchers_in, without_watchers}
-use Rattle.djq_core.specs.Telling.{KeepsTold, Prints, GoesOnTelling, TellsQuery, AreAffected, TellsAffected}
+use Rattle.djq_commands.specs.declared.open.OpenSession.{OpenSession}
+use Rattle.djq_commands.specs.Sound.{IsSound, watchers_in, without_watchers}
+use Rattle.djq_commands.specs.Telling.{KeepsTold, Prints, GoesOnTelling, TellsQuery, AreAffected, TellsAffected}
 use Rattle.djq_core.proofs.Spreading.{Reaches, reaches_on, TellsSoFar, told_all, nobody_reaches}
 use Rattle.djq_core.proofs.Spreading.{goes_on_on, goes_on_same}
 use Rattle.djq_store.proofs.Wanted.{found_there}
-use Rattle.djq_core.proofs.Replying.{is_watched_none}
+use Rattle.djq_commands.proofs.Replying.{is_watched_none}
 
 -- what was printed is the delta, where the log tells it
 pub printed : (k : Kept) (id : QueryId) (q : Bytes) (whole : Bool) (text : Bytes) (d : Delta)

@@ -15,22 +15,23 @@ use Rattle.djq_lines.specs.Reply.{end_memory}
 use Rattle.djq_machine.specs.State.{Session, State, session_of, with_session, ended_by}
 use Rattle.djq_machine.specs.Effect.{Effect, says, nothing, EndsWith, queue, queue_all}
 use Rattle.djq_machine.specs.Walk.{Walk}
-use Rattle.djq_machine.specs.Watch.{Delta, Telling, says_more, ends_more, TellsDelta, RepliesLast}
+use Rattle.djq_store_spec.specs.DeltaCost.{Delta}
+use Rattle.djq_machine.specs.Watch.{Telling, says_more, ends_more, TellsDelta, RepliesLast}
 use Rattle.djq_model.specs.declared.memory.NoMem.{NoMem}
 use Rattle.djq_session.specs.Dialog.{Replies, KeepsFor}
 use Rattle.std.specs.Result.{is_err}
 use Rattle.djq_engine.specs.Kept.{Kept, Registered}
-use Rattle.djq_core.specs.declared.open.OpenSession.{OpenSession}
-use Rattle.djq_core.specs.Views.{Talk, session_in, state_in}
-use Rattle.djq_core.specs.Sound.{IsSound}
-use Rattle.djq_core.specs.Performs.{among, to_keep, unqueued, Performs}
-use Rattle.djq_core.specs.Telling.{AnswersLast, KeepsUntold, ToldSoFar, GoesOnTelling, AreAffected}
-use Rattle.djq_core.specs.Telling.{TellsAffected, TellsAll}
-use Rattle.djq_core.proofs.Around.{parts, found, ids_are}
+use Rattle.djq_commands.specs.declared.open.OpenSession.{OpenSession}
+use Rattle.djq_commands.specs.Views.{Talk, session_in, state_in}
+use Rattle.djq_commands.specs.Sound.{IsSound}
+use Rattle.djq_commands.specs.Performs.{among, to_keep, unqueued, Performs}
+use Rattle.djq_commands.specs.Telling.{AnswersLast, KeepsUntold, ToldSoFar, GoesOnTelling, AreAffected}
+use Rattle.djq_commands.specs.Telling.{TellsAffected, TellsAll}
+use Rattle.djq_commands.proofs.Around.{parts, found, ids_are}
 use Rattle.djq_core.proofs.Lifting.{queued}
 use Rattle.djq_core.proofs.Places.{cut_at, set_at}
-use Rattle.djq_core.proofs.Replying.{refused}
-use Rattle.djq_core.proofs.Taking.{with_room}
+use Rattle.djq_commands.proofs.Replying.{refused}
+use Rattle.djq_commands.proofs.Taking.{with_room}
 use Rattle.djq_core.proofs.Spreading.{goes_on_same}
 use Rattle.djq_core.proofs.Queueing.{has_part, queue_last, end_queued, is_of, pushed}
 

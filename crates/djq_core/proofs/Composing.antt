@@ -21,16 +21,20 @@ use Rattle.djq_lines.specs.declared.answer.DeleteOutcome.TheVariants.{Last, Left
 use Rattle.djq_lines.specs.Grammar.{Reading, reading_of}
 use Rattle.djq_lines.specs.Reply.{add_reply, delete_reply, done_reply}
 use Rattle.djq_machine.specs.Keeping.{Keeping, kept_where, is_done, is_removal, kept_batch}
-use Rattle.djq_machine.specs.Batch.{batch_outcome}
+use Rattle.djq_store_spec.specs.Batch.{batch_outcome}
 use Rattle.djq_machine.specs.Run.{groups_in}
-use Rattle.djq_machine.specs.State.{Store, Session, State, with_session}
-use Rattle.djq_machine.specs.Changes.{RowsChange, RowsOutcome, accepted, out_of_memory, unchanged}
-use Rattle.djq_machine.specs.Changes.{row_in, row_out, add_outcome, delete_outcome}
-use Rattle.djq_machine.specs.Changes.{is_made, tried, is_outdated, sessions_behind}
-use Rattle.djq_machine.specs.Changes.{changed}
+use Rattle.djq_store_spec.specs.Store.{Store}
+use Rattle.djq_machine.specs.State.{Session, State, with_session}
+use Rattle.djq_store_spec.specs.Changes.{RowsChange, RowsOutcome, accepted, out_of_memory, unchanged}
+use Rattle.djq_store_spec.specs.Changes.{row_in, row_out, add_outcome, delete_outcome}
+use Rattle.djq_store_spec.specs.Changes.{is_made, tried, is_outdated}
+use Rattle.djq_machine.specs.Outdating.{sessions_behind}
+use Rattle.djq_machine.specs.Outdating.{changed}
 use Rattle.djq_machine.specs.Effect.{Effect, queue_all}
-use Rattle.djq_machine.specs.Watch.{Delta, Telling, AreDeltas, ListsDeltas, ChangeStep, affected}
-use Rattle.djq_machine.specs.Watch.{is_watching, deltas_steps}
+use Rattle.djq_store_spec.specs.DeltaCost.{Delta, AreDeltas, ListsDeltas}
+use Rattle.djq_machine.specs.Watch.{Telling, ChangeStep, affected}
+use Rattle.djq_machine.specs.Watch.{is_watching}
+use Rattle.djq_store_spec.specs.DeltaCost.{deltas_steps}
 use Rattle.djq_machine.specs.LineStep.{run, behind_line, FrontStep, ReadStep}
 use Rattle.djq_machine.specs.Call.{Counts, KeepsGroup, StepGives}
 use Rattle.djq_machine.specs.Command.{AddStep, HoldStep, DoneStep, CommandStep, is_misplaced, without_batch}
@@ -39,22 +43,22 @@ use Rattle.djq_engine.specs.declared.cursor.CursorId.{CursorId}
 use Rattle.djq_engine.specs.Kept.{Kept, HeldCursor, Registered, held_at, outdated_held, Outdates}
 use Rattle.djq_engine.specs.Kept.{registered_at, is_watched, readers_of, affected_of}
 use Rattle.djq_engine.specs.Watching.{LogsTell, queries_affected}
-use Rattle.djq_core.specs.declared.open.OpenSession.{OpenSession}
-use Rattle.djq_core.specs.declared.change.Outcome.{Outcome}
-use Rattle.djq_core.specs.declared.change.Outcome.TheVariants.{Added, Deleted, Done}
-use Rattle.djq_core.specs.Views.{Talk, session_in, session_seen, state_in, lines_of_step}
-use Rattle.djq_core.specs.Sound.{ids_of_cursors, all_ids, AreHeld, IsSound, is_among_watches, watchers_in}
-use Rattle.djq_core.specs.Performs.{among}
-use Rattle.djq_core.specs.Changing.{EngineChanged, IsChange, LeavesChange, is_accepted, reply_of, is_kept, lines_kept}
-use Rattle.djq_core.specs.Stepping.{Copies}
-use Rattle.djq_core.specs.Telling.{AreAffected, TellsAll}
-use Rattle.djq_core.proofs.Ids.{agree_same, agree_held, agree_open, outdated_find, outdated_all_held, outdated_open}
-use Rattle.djq_core.proofs.Around.{parts, whole, becomes, looks}
-use Rattle.djq_core.proofs.Carrying.{carried_out}
-use Rattle.djq_core.proofs.Replying.{around_held, around_batch, around_bytes, sound_batch}
+use Rattle.djq_commands.specs.declared.open.OpenSession.{OpenSession}
+use Rattle.djq_commands.specs.declared.change.Outcome.{Outcome}
+use Rattle.djq_commands.specs.declared.change.Outcome.TheVariants.{Added, Deleted, Done}
+use Rattle.djq_commands.specs.Views.{Talk, session_in, session_seen, state_in, lines_of_step}
+use Rattle.djq_commands.specs.Sound.{ids_of_cursors, all_ids, AreHeld, IsSound, is_among_watches, watchers_in}
+use Rattle.djq_commands.specs.Performs.{among}
+use Rattle.djq_commands.specs.Changing.{EngineChanged, IsChange, LeavesChange, is_accepted, reply_of, is_kept, lines_kept}
+use Rattle.djq_commands.specs.Stepping.{Copies}
+use Rattle.djq_commands.specs.Telling.{AreAffected, TellsAll}
+use Rattle.djq_commands.proofs.Ids.{agree_same, agree_held, agree_open, outdated_find, outdated_all_held, outdated_open}
+use Rattle.djq_commands.proofs.Around.{parts, whole, becomes, looks}
+use Rattle.djq_commands.proofs.Carrying.{carried_out}
+use Rattle.djq_commands.proofs.Replying.{around_held, around_batch, around_bytes, sound_batch}
 use Rattle.djq_core.proofs.Lifting.{at_session, one_front, same_relations}
-use Rattle.djq_core.proofs.Taking.{sound_bytes}
-use Rattle.djq_core.proofs.Watching.{recount, stays_same, at_its_id}
+use Rattle.djq_commands.proofs.Taking.{sound_bytes}
+use Rattle.djq_commands.proofs.Watching.{recount, stays_same, at_its_id}
 
 -- ---- the cursors behind a change
 

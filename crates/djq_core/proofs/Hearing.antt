@@ -8,13 +8,13 @@ use Rattle.djq_machine.specs.State.{Session}
 use Rattle.djq_machine.specs.Effect.{EndsWith}
 use Rattle.djq_session.specs.Dialog.{Replies}
 use Rattle.djq_engine.specs.Kept.{Kept}
-use Rattle.djq_core.specs.Views.{Talk}
-use Rattle.djq_core.specs.Sound.{IsOwn}
-use Rattle.djq_core.specs.Performs.{Performs}
-use Rattle.djq_core.specs.Telling.{HearsDelta}
-use Rattle.djq_core.proofs.Replying.{replied}
-use Rattle.djq_core.proofs.Watching.{stays_same}
-use Rattle.djq_core.proofs.Taking.{with_room}
+use Rattle.djq_commands.specs.Views.{Talk}
+use Rattle.djq_commands.specs.Sound.{IsOwn}
+use Rattle.djq_commands.specs.Performs.{Performs}
+use Rattle.djq_commands.specs.Telling.{HearsDelta}
+use Rattle.djq_commands.proofs.Replying.{replied}
+use Rattle.djq_commands.proofs.Watching.{stays_same}
+use Rattle.djq_commands.proofs.Taking.{with_room}
 
 -- too much was pending
 pub hears_slow : (whole : Bool) (text : Bytes) (old : Kept) (before : Talk) (new : Kept) (after : Talk)

@@ -1,25 +1,3 @@
-pub mod Ids
-pub mod Around
-pub mod Watching
-pub mod Replying
-pub mod Cursors
-pub mod Naming
-pub mod GivingUp
-pub mod Unwatching
-pub mod Rewatching
-pub mod Enrolling
-pub mod Cutting
-pub mod Telling
-pub mod Continuing
-pub mod Carrying
-pub mod Taking
-mod Unkept
-mod Lines
-pub mod Batching
-pub mod Saying
-pub mod Fronting
-pub mod Leaving
-pub mod Holding
 pub mod Lifting
 pub mod Places
 pub mod Queueing
@@ -35,6 +13,4 @@ pub mod Composing
 pub mod Stepping
 pub mod Seen
 pub mod Owing
-pub mod Keeping
 pub mod Loading
-pub mod Explaining

@@ -19,14 +19,14 @@ use Rattle.djq_machine.specs.Step.{Event, stepped, Acts, Step, SameRelations, is
 use Rattle.djq_machine.specs.Call.{Counts, MakesCounted, RanStep, KeepsGroup, groups_by}
 use Rattle.djq_machine.specs.Call.{EndedStepAs, StepGives, cause_of, cause_in, held_of, held_in}
 use Rattle.djq_engine.specs.Kept.{Kept}
-use Rattle.djq_core.specs.declared.open.OpenSession.{OpenSession}
-use Rattle.djq_core.specs.Changing.{line_where}
-use Rattle.djq_core.specs.Views.{Talk, session_in, state_in, lines_of_step}
-use Rattle.djq_core.specs.Sound.{IsSound}
-use Rattle.djq_core.specs.Performs.{among, to_one, to_keep, with_text_behind, unqueued, Performs}
-use Rattle.djq_core.specs.Stepping.{Fronts, FrontsKeeping, EndsBefore, Unchanged, StepsTo, Copies, line_kept}
-use Rattle.djq_core.proofs.Around.{parts, found, becomes}
-use Rattle.djq_core.proofs.Replying.{around_bytes}
+use Rattle.djq_commands.specs.declared.open.OpenSession.{OpenSession}
+use Rattle.djq_commands.specs.Changing.{line_where}
+use Rattle.djq_commands.specs.Views.{Talk, session_in, state_in, lines_of_step}
+use Rattle.djq_commands.specs.Sound.{IsSound}
+use Rattle.djq_commands.specs.Performs.{among, to_one, to_keep, with_text_behind, unqueued, Performs}
+use Rattle.djq_commands.specs.Stepping.{Fronts, FrontsKeeping, EndsBefore, Unchanged, StepsTo, Copies, line_kept}
+use Rattle.djq_commands.proofs.Around.{parts, found, becomes}
+use Rattle.djq_commands.proofs.Replying.{around_bytes}
 
 -- the same relations, in the same order
 pub same_relations : (rs : List Relation) → SameRelations rs rs

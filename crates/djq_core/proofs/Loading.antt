@@ -18,12 +18,13 @@ use Rattle.djq_lines.specs.declared.held.HeldRow.{HeldRow}
 use Rattle.djq_lines.specs.Grammar.{Reading, outside, past_limit, says_command, command_of, reading_of}
 use Rattle.djq_lines.specs.declared.rest.QueryOutcome.{QueryOutcome}
 use Rattle.djq_lines.specs.declared.rest.QueryOutcome.TheVariants.{Registered as HasRegistered, Cyclic, NotConnex}
-use Rattle.djq_machine.specs.State.{Store, State}
-use Rattle.djq_machine.specs.Store.{DropsQuery}
-use Rattle.djq_machine.specs.Changes.{RowsChange}
+use Rattle.djq_store_spec.specs.Store.{Store}
+use Rattle.djq_machine.specs.State.{State}
+use Rattle.djq_store_spec.specs.Registering.{DropsQuery}
+use Rattle.djq_store_spec.specs.Changes.{RowsChange}
 use Rattle.djq_machine.specs.declared.machine.Loaded.{Loaded}
 use Rattle.djq_machine.specs.declared.machine.Loaded.TheVariants.{Ran as ran, Refused as refused, NoMem as no_memory}
-use Rattle.djq_machine.specs.Batch.{AddsBatch, hold_refusal}
+use Rattle.djq_store_spec.specs.Batch.{AddsBatch, hold_refusal}
 use Rattle.djq_machine.specs.Command.{is_misplaced}
 use Rattle.djq_machine.specs.Keeping.{is_done}
 use Rattle.djq_machine.specs.LineStep.{past_limit_refusal}
@@ -36,15 +37,15 @@ use Rattle.djq_engine.specs.Kept.{Kept, HeldCursor, Registered, held_at, is_watc
 use Rattle.djq_engine.specs.Kept.{Outdates, outdated_held, Uses, DropGives, DropsRegistered}
 use Rattle.djq_engine.specs.Watching.{Enrols}
 use Rattle.djq_store.specs.Registering.{EnrolsUnion}
-use Rattle.djq_core.specs.declared.open.OpenSession.{OpenSession}
-use Rattle.djq_core.specs.Views.{session_seen, state_in}
-use Rattle.djq_core.specs.Sound.{BatchSuits, BatchesSuit, batches_of, IsSound, IsCore}
-use Rattle.djq_core.specs.Stepping.{refused_as}
-use Rattle.djq_core.specs.Batching.{MakesRow, RefusedBy, held_row_of}
+use Rattle.djq_commands.specs.declared.open.OpenSession.{OpenSession}
+use Rattle.djq_commands.specs.Views.{session_seen, state_in}
+use Rattle.djq_commands.specs.Sound.{BatchSuits, BatchesSuit, batches_of, IsSound, IsCore}
+use Rattle.djq_commands.specs.Stepping.{refused_as}
+use Rattle.djq_commands.specs.Batching.{MakesRow, RefusedBy, held_row_of}
 use Rattle.djq_core.specs.Loading.{IsUnused, LoadsRow, comes_to, is_batch, loading_by}
-use Rattle.djq_core.proofs.Ids.{outdated_find}
+use Rattle.djq_commands.proofs.Ids.{outdated_find}
 use Rattle.djq_core.proofs.Lifting.{same_relations}
-use Rattle.djq_core.proofs.Saying.{in_any_batch, in_memory, in_outside, in_range_past, late_alone, reads_as}
+use Rattle.djq_commands.proofs.Saying.{in_any_batch, in_memory, in_outside, in_range_past, late_alone, reads_as}
 use Rattle.djq_core.proofs.Suiting.{holds}
 
 -- ---- the core without sessions

@@ -8,9 +8,9 @@ use Rattle.djq_machine.specs.Run.{pending_in}
 use Rattle.djq_machine.specs.Call.{cause_in, first_due}
 use Rattle.djq_session.specs.Dialog.{dialog_is_due}
 use Rattle.djq_engine.specs.Kept.{Kept, HeldCursor}
-use Rattle.djq_core.specs.declared.open.OpenSession.{OpenSession}
-use Rattle.djq_core.specs.Views.{session_seen, state_in}
-use Rattle.djq_core.specs.Sound.{IsBelowAll, Rises, IsCore}
+use Rattle.djq_commands.specs.declared.open.OpenSession.{OpenSession}
+use Rattle.djq_commands.specs.Views.{session_seen, state_in}
+use Rattle.djq_commands.specs.Sound.{IsBelowAll, Rises, IsCore}
 
 -- the session of an id
 abbrev at_id : List HeldCursor → List OpenSession → ℕ → Option Session

@@ -25,21 +25,21 @@ use Rattle.djq_machine.specs.Run.{pending_of, pending_in}
 use Rattle.djq_machine.specs.Call.{Counts, Makes, IsOpen, FedGives, StepGives, cause_of, held_of, state_ids}
 use Rattle.djq_engine.specs.declared.cursor.CursorId.{CursorId}
 use Rattle.djq_engine.specs.Kept.{Kept, HeldCursor}
-use Rattle.djq_core.specs.declared.open.OpenSession.{OpenSession}
+use Rattle.djq_commands.specs.declared.open.OpenSession.{OpenSession}
 use Rattle.djq_session.specs.Dialog.{IsNewDialog}
-use Rattle.djq_core.specs.Views.{Talk, cursor_in, session_in, session_seen, state_in, lines_of_step}
-use Rattle.djq_core.specs.Sound.{IsBelowAll, Rises, IsSound, IsOwn, IsCore, ids_of_cursors, all_ids, AreHeld}
-use Rattle.djq_core.specs.Sound.{CursorsDiffer, NoneOnceEnded, AreOwned}
-use Rattle.djq_core.specs.Ends.{SessionGivesUp, EndsQuietly}
-use Rattle.djq_core.specs.Performs.{among, to_keep, Performs}
-use Rattle.djq_core.specs.Stepping.{StepsTo, Copies, line_kept}
-use Rattle.djq_core.proofs.Watching.{has_count, count_left, count_more}
-use Rattle.djq_core.proofs.Ids.{Agree, held_join, apart_split, agree_open, agree_held, owned_without}
-use Rattle.djq_core.proofs.Around.{ended_join, parts, ids_are, cursors_are, open_are, found}
-use Rattle.djq_core.proofs.Around.{becomes, rises_push, rises_without, IsAbove, above_front}
-use Rattle.djq_core.proofs.Around.{map_append}
-use Rattle.djq_core.proofs.Taking.{sound_bytes}
-use Rattle.djq_core.proofs.GivingUp.{agree_apart, apart_fronts, apart_backs, apart_rest, without}
+use Rattle.djq_commands.specs.Views.{Talk, cursor_in, session_in, session_seen, state_in, lines_of_step}
+use Rattle.djq_commands.specs.Sound.{IsBelowAll, Rises, IsSound, IsOwn, IsCore, ids_of_cursors, all_ids, AreHeld}
+use Rattle.djq_commands.specs.Sound.{CursorsDiffer, NoneOnceEnded, AreOwned}
+use Rattle.djq_commands.specs.Ends.{SessionGivesUp, EndsQuietly}
+use Rattle.djq_commands.specs.Performs.{among, to_keep, Performs}
+use Rattle.djq_commands.specs.Stepping.{StepsTo, Copies, line_kept}
+use Rattle.djq_commands.proofs.Watching.{has_count, count_left, count_more}
+use Rattle.djq_commands.proofs.Ids.{Agree, held_join, apart_split, agree_open, agree_held, owned_without}
+use Rattle.djq_commands.proofs.Around.{ended_join, parts, ids_are, cursors_are, open_are, found}
+use Rattle.djq_commands.proofs.Around.{becomes, rises_push, rises_without, IsAbove, above_front}
+use Rattle.djq_commands.proofs.Around.{map_append}
+use Rattle.djq_commands.proofs.Taking.{sound_bytes}
+use Rattle.djq_commands.proofs.GivingUp.{agree_apart, apart_fronts, apart_backs, apart_rest, without}
 use Rattle.djq_core.proofs.Lifting.{same_relations, makes_step, at_session, cause_is, held_is, step_gives, step_sound}
 
 ids : List OpenSession → List ℕ

@@ -11,8 +11,8 @@ use Rattle.djq_model.specs.Data.{Bytes, Tuple}
 use Rattle.djq_value.specs.Output.{Puts}
 use Rattle.djq_lines.specs.declared.answer.Sign.{Sign}
 use Rattle.djq_lines.specs.Reply.{text_of, change_line, at_line}
-use Rattle.djq_machine.specs.Delta.{Change, change_lines, delta_lines}
-use Rattle.djq_core.proofs.Lines.{take_next, text_last}
+use Rattle.djq_store_spec.specs.Delta.{Change, change_lines, delta_lines}
+use Rattle.djq_commands.proofs.Lines.{take_next, text_last}
 
 -- So many lines of a delta are printed.
 abbrev pub PrintsSoFar : Option (List Change) → Bytes → ℕ → ℕ → Bytes → Bytes → Type 0

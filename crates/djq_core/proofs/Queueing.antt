@@ -11,10 +11,11 @@ use Rattle.djq_lines.specs.declared.answer.EndCause.TheVariants.{Slow, Memory}
 use Rattle.djq_lines.specs.Reply.{text_of, end_slow, end_memory}
 use Rattle.djq_machine.specs.State.{Session, State, state_ids, session_of, with_session, ended_by}
 use Rattle.djq_machine.specs.Effect.{Effect, queue, queue_all}
-use Rattle.djq_machine.specs.Delta.{delta_lines}
-use Rattle.djq_machine.specs.Watch.{Delta, Telling, is_watching, says_more, ends_more, watching}
+use Rattle.djq_store_spec.specs.Delta.{delta_lines}
+use Rattle.djq_store_spec.specs.DeltaCost.{Delta}
+use Rattle.djq_machine.specs.Watch.{Telling, is_watching, says_more, ends_more, watching}
 use Rattle.djq_machine.specs.Watch.{watcher_of, TellsWatcher, TellsSession}
-use Rattle.djq_core.specs.Telling.{HearsDelta}
+use Rattle.djq_commands.specs.Telling.{HearsDelta}
 
 -- whether a part is queued to a session
 abbrev pub has_part : ℕ → List (ℕ × Bytes) → Bool

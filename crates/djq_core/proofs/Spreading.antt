@@ -10,20 +10,21 @@ use Rattle.djq_model.specs.Listed.{listed_name}
 use Rattle.djq_lines.specs.Reply.{text_of}
 use Rattle.djq_machine.specs.State.{Session, State, state_ids, session_of}
 use Rattle.djq_machine.specs.Walk.{Walk}
-use Rattle.djq_machine.specs.Delta.{delta_lines}
-use Rattle.djq_machine.specs.Watch.{Delta, Telling, is_watching, watching, watcher_of, TellsWatcher}
+use Rattle.djq_store_spec.specs.Delta.{delta_lines}
+use Rattle.djq_store_spec.specs.DeltaCost.{Delta}
+use Rattle.djq_machine.specs.Watch.{Telling, is_watching, watching, watcher_of, TellsWatcher}
 use Rattle.djq_machine.specs.Watch.{TellsSession, TellsDelta}
 use Rattle.djq_engine.specs.Kept.{Kept}
-use Rattle.djq_core.specs.declared.open.OpenSession.{OpenSession}
-use Rattle.djq_core.specs.Views.{Talk, session_in, session_seen, state_in}
-use Rattle.djq_core.specs.Performs.{among, to_keep, unqueued, Performs}
-use Rattle.djq_core.specs.Sound.{IsSound, IsOwn, times_in, watchers_in, is_among_watches, all_ids}
-use Rattle.djq_core.specs.Sound.{ids_of_cursors}
-use Rattle.djq_core.specs.Telling.{KeepsTold, HearsDelta, WatchesOn, KeepsUntold, ToldSoFar, GoesOnTelling}
-use Rattle.djq_core.proofs.Around.{parts, found, ids_are}
+use Rattle.djq_commands.specs.declared.open.OpenSession.{OpenSession}
+use Rattle.djq_commands.specs.Views.{Talk, session_in, session_seen, state_in}
+use Rattle.djq_commands.specs.Performs.{among, to_keep, unqueued, Performs}
+use Rattle.djq_commands.specs.Sound.{IsSound, IsOwn, times_in, watchers_in, is_among_watches, all_ids}
+use Rattle.djq_commands.specs.Sound.{ids_of_cursors}
+use Rattle.djq_commands.specs.Telling.{KeepsTold, HearsDelta, WatchesOn, KeepsUntold, ToldSoFar, GoesOnTelling}
+use Rattle.djq_commands.proofs.Around.{parts, found, ids_are}
 use Rattle.djq_core.proofs.Lifting.{queued}
 use Rattle.djq_core.proofs.Places.{cut_at, set_at, ids_seen, apart_of}
-use Rattle.djq_core.proofs.Watching.{count_among, none_watching, unwatched, has_count, goes_on_watching, quiet_split}
+use Rattle.djq_commands.proofs.Watching.{count_among, none_watching, unwatched, has_count, goes_on_watching, quiet_split}
 use Rattle.djq_core.proofs.Queueing.{bridged, has_part, part_stays, ids_queued}
 
 -- What stays, step by step.

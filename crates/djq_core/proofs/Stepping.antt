@@ -9,19 +9,19 @@ use Rattle.djq_lines.specs.declared.held.HeldRow.{HeldRow}
 use Rattle.djq_machine.specs.declared.machine.Stepped.{Stepped}
 use Rattle.djq_machine.specs.declared.machine.Stepped.TheVariants.{Ran, Dry, Ended}
 use Rattle.djq_machine.specs.Call.{Counts}
-use Rattle.djq_machine.specs.Changes.{RowsChange, RowsOutcome, row_in, row_out, add_outcome}
-use Rattle.djq_machine.specs.Changes.{delete_outcome, is_made, tried}
-use Rattle.djq_machine.specs.Batch.{batch_outcome}
+use Rattle.djq_store_spec.specs.Changes.{RowsChange, RowsOutcome, row_in, row_out, add_outcome}
+use Rattle.djq_store_spec.specs.Changes.{delete_outcome, is_made, tried}
+use Rattle.djq_store_spec.specs.Batch.{batch_outcome}
 use Rattle.djq_engine.specs.declared.cursor.QueryId.{QueryId}
 use Rattle.djq_engine.specs.Kept.{Kept, Registered, Outdates, IsRegistered}
-use Rattle.djq_core.specs.declared.open.OpenSession.{OpenSession}
-use Rattle.djq_core.specs.declared.change.Outcome.{Outcome}
-use Rattle.djq_core.specs.declared.change.Left.TheVariants.{Telling}
-use Rattle.djq_core.specs.Views.{Talk}
-use Rattle.djq_core.specs.Sound.{IsSound}
-use Rattle.djq_core.specs.Performs.{among}
-use Rattle.djq_core.specs.Changing.{EngineChanged, IsChange, LeavesChange, is_accepted, is_kept}
-use Rattle.djq_core.specs.Stepping.{LeavesTo}
+use Rattle.djq_commands.specs.declared.open.OpenSession.{OpenSession}
+use Rattle.djq_commands.specs.declared.change.Outcome.{Outcome}
+use Rattle.djq_commands.specs.declared.change.Left.TheVariants.{Telling}
+use Rattle.djq_commands.specs.Views.{Talk}
+use Rattle.djq_commands.specs.Sound.{IsSound}
+use Rattle.djq_commands.specs.Performs.{among}
+use Rattle.djq_commands.specs.Changing.{EngineChanged, IsChange, LeavesChange, is_accepted, is_kept}
+use Rattle.djq_commands.specs.Stepping.{LeavesTo}
 use Rattle.djq_core.proofs.Composing.{sound_changed, add_made, delete_made, batch_made, readers_by, affected_logs}
 
 -- Only a line that was run leaves one.

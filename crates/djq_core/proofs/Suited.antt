@@ -4,13 +4,13 @@ use Rattle.std.proofs.Common.{get_or, Option, None, refl, sym, ap, subst, arith}
 use Rattle.std.specs.List.{remove}
 use Rattle.djq_model.specs.Data.{Bytes}
 use Rattle.djq_lines.specs.declared.held.HeldRow.{HeldRow}
-use Rattle.djq_machine.specs.State.{Store}
+use Rattle.djq_store_spec.specs.Store.{Store}
 use Rattle.djq_machine.specs.Call.{Counts, StepGives}
 use Rattle.djq_machine.specs.declared.machine.Stepped.{Stepped}
 use Rattle.djq_engine.specs.Kept.{Kept, HeldCursor}
-use Rattle.djq_core.specs.declared.open.OpenSession.{OpenSession}
-use Rattle.djq_core.specs.Sound.{BatchSuits, BatchesSuit, batches_of}
-use Rattle.djq_core.specs.Views.{session_seen, state_in}
+use Rattle.djq_commands.specs.declared.open.OpenSession.{OpenSession}
+use Rattle.djq_commands.specs.Sound.{BatchSuits, BatchesSuit, batches_of}
+use Rattle.djq_commands.specs.Views.{session_seen, state_in}
 use Rattle.djq_core.proofs.Suiting.{batches, batch_still, given_goes}
 
 -- the batches of sessions

@@ -40,13 +40,16 @@ use Rattle.djq_lines.specs.declared.rest.QueryOutcome.TheVariants.{Registered, C
 use Rattle.djq_lines.specs.declared.held.HeldRow.{HeldRow}
 use Rattle.djq_machine.specs.declared.machine.Stepped.{Stepped}
 use Rattle.djq_machine.specs.declared.machine.Stepped.TheVariants.{Ran, Dry, Ended}
-use Rattle.djq_machine.specs.State.{Store, Position, open_at, stale, Cursor, Session, State}
+use Rattle.djq_store_spec.specs.Store.{Store, Position, open_at, stale}
+use Rattle.djq_machine.specs.State.{Cursor, Session, State}
 use Rattle.djq_machine.specs.State.{session_of, with_session, cursor_of, ended_by, state_ids}
-use Rattle.djq_machine.specs.Stale.{outdated_sessions}
-use Rattle.djq_machine.specs.Changes.{RowsChange, RowsOutcome, tried, changed}
+use Rattle.djq_machine.specs.Outdating.{outdated_sessions}
+use Rattle.djq_store_spec.specs.Changes.{RowsChange, RowsOutcome, tried}
+use Rattle.djq_machine.specs.Outdating.{changed}
 use Rattle.djq_machine.specs.Effect.{Effect, queue, queue_all, RefusedStep}
 use Rattle.djq_machine.specs.Walk.{Walk}
-use Rattle.djq_machine.specs.Watch.{Delta, Telling, says_more, ends_more, watcher_of, TellsWatcher}
+use Rattle.djq_store_spec.specs.DeltaCost.{Delta}
+use Rattle.djq_machine.specs.Watch.{Telling, says_more, ends_more, watcher_of, TellsWatcher}
 use Rattle.djq_machine.specs.Watch.{TellsSession, TellsDelta, RepliesLast, ChangeStep}
 use Rattle.djq_machine.specs.Command.{uses, AddStep, NextStepAt, CloseStep, OpensTo, with_cursor}
 use Rattle.djq_machine.specs.Command.{BecomesWhere, with_watch, without_watch, TellsLines}
@@ -55,15 +58,20 @@ use Rattle.djq_machine.specs.Command.{without_batch, HoldStep, DoneStep, is_misp
 use Rattle.djq_machine.specs.LineStep.{LineOutcome, long, blank, slow, no_room, run, behind_line, FrontStep, ReadStep}
 use Rattle.djq_machine.specs.Step.{SameRelations, Step, stepped, with_relations}
 use Rattle.djq_machine.specs.Call.{Counts, StepGives, RanStep, EndedStepAs, cause_of}
-use Rattle.djq_machine.specs.Union.{union_refusal, AreUnder, RegistersUnion}
-use Rattle.djq_machine.specs.Store.{answer_steps, with_rows, with_copies_of, copies_of, rel_refusal}
-use Rattle.djq_machine.specs.Store.{add_refusal, delete_refusal, query_refusal, drop_refusal}
-use Rattle.djq_machine.specs.Store.{MakesRelation, AddsAs, AddsRow, DeletesAs, DeletesRow}
-use Rattle.djq_machine.specs.Store.{RefusedByTexts, RegistersAs, RefusedLate, RegistersQuery, DropsQuery}
-use Rattle.djq_core.specs.Sound.{BatchSuits, BatchesSuit}
-use Rattle.djq_core.proofs.Carrying.{CarriedOut}
-use Rattle.djq_machine.specs.Batch.{suit_refusal, hold_refusal, SuitAll, is_there, with_held}
-use Rattle.djq_machine.specs.Batch.{with_all, count_came, AddsBatch}
+use Rattle.djq_store_spec.specs.Union.{union_refusal, AreUnder, RegistersUnion}
+use Rattle.djq_store_spec.specs.Registering.{answer_steps}
+use Rattle.djq_store_spec.specs.Relations.{with_rows, rel_refusal}
+use Rattle.djq_store_spec.specs.Rows.{with_copies_of, copies_of}
+use Rattle.djq_store_spec.specs.Rows.{add_refusal, delete_refusal}
+use Rattle.djq_store_spec.specs.Registering.{query_refusal, drop_refusal}
+use Rattle.djq_store_spec.specs.Relations.{MakesRelation}
+use Rattle.djq_store_spec.specs.Rows.{AddsAs, AddsRow, DeletesAs, DeletesRow}
+use Rattle.djq_store_spec.specs.Relations.{RefusedByTexts}
+use Rattle.djq_store_spec.specs.Registering.{RegistersAs, RefusedLate, RegistersQuery, DropsQuery}
+use Rattle.djq_commands.specs.Sound.{BatchSuits, BatchesSuit}
+use Rattle.djq_commands.proofs.Carrying.{CarriedOut}
+use Rattle.djq_store_spec.specs.Batch.{suit_refusal, hold_refusal, SuitAll, is_there, with_held}
+use Rattle.djq_store_spec.specs.Batch.{with_all, count_came, AddsBatch}
 use Rattle.djq_engine.proofs.HeldRows.{refusal_by}
 
 -- ---- relations stay, with their types

@@ -6,12 +6,13 @@ use Rattle.std.proofs.lemmas.Bool.{cases_lt, cond-false}
 use Rattle.std.proofs.lemmas.List.Elements.{All-head, All-tail}
 use Rattle.std.proofs.lemmas.Option.{slice_get_within}
 use Rattle.djq_machine.specs.Walk.{Walk}
-use Rattle.djq_machine.specs.Watch.{Delta, TellsDelta}
+use Rattle.djq_store_spec.specs.DeltaCost.{Delta}
+use Rattle.djq_machine.specs.Watch.{TellsDelta}
 use Rattle.djq_engine.specs.declared.cursor.QueryId.{QueryId}
 use Rattle.djq_engine.specs.Kept.{Kept, Registered, is_watched, registered_at}
-use Rattle.djq_core.specs.declared.open.OpenSession.{OpenSession}
-use Rattle.djq_core.specs.Sound.{IsSound}
-use Rattle.djq_core.specs.Telling.{TellsAffected}
+use Rattle.djq_commands.specs.declared.open.OpenSession.{OpenSession}
+use Rattle.djq_commands.specs.Sound.{IsSound}
+use Rattle.djq_commands.specs.Telling.{TellsAffected}
 use Rattle.djq_core.specs.Unwatched.{AffectsUnwatched}
 use Rattle.djq_core.proofs.Spreading.{goes_on_same}
 

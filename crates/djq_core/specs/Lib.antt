@@ -1,14 +1,2 @@
-pub mod Views
-pub mod Sound
 pub mod Loading
-pub mod Performs
-pub mod Opens
-pub mod Ends
-pub mod Listing
-pub mod Watches
-pub mod Changing
-pub mod Telling
-pub mod Stepping
-pub mod Batching
-pub mod Explaining
 pub mod Unwatched

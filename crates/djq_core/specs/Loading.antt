@@ -27,7 +27,7 @@ use Rattle.djq_machine.specs.declared.machine.Loaded.TheVariants.{Ran, Refused, 
 use Rattle.djq_machine.specs.Loading.{Loading, ReadingLoads, refused_by}
 use Rattle.djq_engine.specs.declared.cursor.CursorId.{CursorId}
 use Rattle.djq_engine.specs.Kept.{Kept, held_at, IsUnwatched}
-use Rattle.djq_core.specs.Sound.{BatchSuits}
+use Rattle.djq_commands.specs.Sound.{BatchSuits}
 
 -- The engine holds no cursor, and nobody watches a query.
 pub record IsUnused (k : Kept) : Type 0 where

@@ -17,39 +17,21 @@
 //!                                 ok added 1 1
 //! ```
 //!
-//! Every command is a command of *a session among others*. Each function that runs one is handed
-//! the store and that session alone, and promises a step of the machine whatever sessions there
-//! are besides (`specs/Performs.antt`); so none of them can read or write another session, and a
-//! step costs nothing that grows with their number but the binary search for its id. A change is
-//! told afterwards, by a pass over the sessions for each watched query or union that it affected.
+//! One line of one session is run by djq_commands, which is handed the store and that session alone; so
+//! a step costs nothing that grows with the number of sessions but the binary search for its id. A
+//! change is published afterwards, by a pass over the sessions for each watched query or union that it
+//! affected.
 //!
 //! What is kept of a step is its line, where the line is one that, loaded into a core without
 //! sessions, does there what it did here: `accepted` lends it, from a copy that was made before the
 //! session let go of it; `load` takes it in again. Of a batch that is done its lines are kept, which
 //! stay where they were held until the next step.
 //!
-//! Inside: `serving` has the sessions by id and the calls; `line` the order of checks before a line
-//! is run, and tells a row's line apart: its values are read into memory that is used again, and any
-//! other command is made anew; `commands`, `watch`, `listing` and `ending` what commands do, `next`
-//! line by line, and a session's end; `tell` what a command on rows leaves to do, each delta printed
-//! once, and then its answer. While a session has a batch open, `reading` says what its line is to
-//! the batch, `held` makes the rows that are held, and `batch` runs it. `copied` is where a line is
-//! copied, and `kept` what a step kept.
+//! Inside: `serving` has the sessions by id and the calls, `serving/load` the lines that are loaded, and
+//! `tell` what a command on rows leaves to do: each delta printed once, and then its answer.
 #![tactic(auto)]
 
 pub use serving::Core;
 
-mod batch;
-mod change;
-mod commands;
-mod copied;
-mod ending;
-mod held;
-mod kept;
-mod line;
-mod listing;
-mod open;
-mod reading;
 mod serving;
 mod tell;
-mod watch;

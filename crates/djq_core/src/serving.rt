@@ -3,16 +3,16 @@ ghost use Rattle.std.specs.Prelude.{length, slice_index, Contains};
 ghost use Rattle.djq_model.specs.Data.{rows_of};
 ghost use Rattle.djq_machine.specs.State.{opening};
 ghost use Rattle.djq_session.specs.Dialog.{dialog_is_due};
-ghost use Rattle.djq_core.specs.Sound.{Rises};
-ghost use Rattle.djq_core.specs.Changing.{line_where};
-ghost use Rattle.djq_core.specs.Stepping.{line_kept};
+ghost use Rattle.djq_commands.specs.Sound.{Rises};
+ghost use Rattle.djq_commands.specs.Changing.{line_where};
+ghost use Rattle.djq_commands.specs.Stepping.{line_kept};
 
-use crate::change::Left;
-use crate::copied::Copied;
-use crate::ending::{end_by, end_input, give_up};
-use crate::kept::KeptLines;
-use crate::line::step_session;
-use crate::open::OpenSession;
+use djq_commands::Left;
+use djq_commands::Copied;
+use djq_commands::{end_by, end_input, give_up};
+use djq_commands::KeptLines;
+use djq_commands::step_session;
+use djq_commands::OpenSession;
 use crate::tell::tell_change;
 use bytes::BytesMut;
 use djq_lines::limits::{COLUMNS, SESSIONS};
@@ -54,13 +54,13 @@ pub struct Core {
 }
 
 impl Model for Core {
-    ghost use Rattle.djq_core.specs.Views.{Visible};
+    ghost use Rattle.djq_commands.specs.Views.{Visible};
 
     ghost Value = { Visible };
 
     ghost use Rattle.std.specs.Prelude.{vec_capacity};
-    ghost use Rattle.djq_core.specs.Views.{seen_in};
-    ghost use Rattle.djq_core.specs.Sound.{IsCore, BatchesSuit, batches_of};
+    ghost use Rattle.djq_commands.specs.Views.{seen_in};
+    ghost use Rattle.djq_commands.specs.Sound.{IsCore, BatchesSuit, batches_of};
 
     ghost view = { λ c. seen_in c.engine c.stopped c.sessions.items c.kept c.copied c.batch };
 

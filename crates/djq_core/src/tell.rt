@@ -3,10 +3,10 @@ ghost use Rattle.std.specs.Prelude.{◌≡◌, ◌+◌, ◌≤◌, ◌<◌, [], 
 ghost use Rattle.djq_model.specs.Listed.{listed_name};
 ghost use Rattle.djq_lines.specs.declared.limits.TheConstants.{LAST_LINE_BYTES, REPLY_BYTES};
 ghost use Rattle.djq_engine.specs.Kept.{IsRegistered, Registered, registered_at};
-ghost use Rattle.djq_core.specs.Changing.{is_accepted, reply_of};
-ghost use Rattle.djq_core.specs.Performs.{Performs};
-ghost use Rattle.djq_core.specs.Sound.{IsOwn, IsSound};
-ghost use Rattle.djq_core.specs.Telling.{
+ghost use Rattle.djq_commands.specs.Changing.{is_accepted, reply_of};
+ghost use Rattle.djq_commands.specs.Performs.{Performs};
+ghost use Rattle.djq_commands.specs.Sound.{IsOwn, IsSound};
+ghost use Rattle.djq_commands.specs.Telling.{
   AnswersLast,
   HearsDelta,
   KeepsTold,
@@ -18,9 +18,9 @@ ghost use Rattle.djq_core.specs.Telling.{
 };
 ghost use Rattle.djq_core.specs.Unwatched.{AffectsUnwatched};
 
-use crate::change::Outcome;
-use crate::ending::{cut_off, end_by};
-use crate::open::OpenSession;
+use djq_commands::Outcome;
+use djq_commands::{cut_off, end_by};
+use djq_commands::OpenSession;
 use bytes::BytesMut;
 use djq_lines::limits::{PENDING_BYTES, REPLY_BYTES};
 use djq_lines::{AddOutcome, DeleteOutcome, EndCause, EndLine};

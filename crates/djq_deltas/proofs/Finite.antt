@@ -21,7 +21,7 @@ use Rattle.djq_model.specs.Answer.{IsAnswer, IsListing, AreDifferent}
 use Rattle.djq_model.specs.Listed.{a_query, a_union, AnswersOf}
 use Rattle.djq_lines.specs.declared.answer.Sign.{Sign}
 use Rattle.djq_lines.specs.declared.answer.Sign.TheVariants.{Came, Went}
-use Rattle.djq_machine.specs.Delta.{Change, HasChanged, IsDelta}
+use Rattle.djq_store_spec.specs.Delta.{Change, HasChanged, IsDelta}
 use Rattle.djq_deltas.specs.Finite.{IsBound, AnswersAreFinite, DeltasExist}
 use Rattle.djq_deltas.proofs.Lists.{
   nothing_there,

@@ -18,11 +18,12 @@ use Rattle.djq_model.proofs.Counted.{tuples_with_row, tuples_without}
 use Rattle.djq_lines.specs.declared.answer.Sign.{Sign}
 use Rattle.djq_lines.specs.declared.answer.Sign.TheVariants.{Came, Went}
 use Rattle.djq_lines.specs.declared.held.HeldRow.{HeldRow}
-use Rattle.djq_machine.specs.State.{Store}
-use Rattle.djq_machine.specs.Store.{with_rows, with_copies_of, copies_of}
-use Rattle.djq_machine.specs.Batch.{is_there, with_held, with_all, has_come}
-use Rattle.djq_machine.specs.Delta.{HasChanged}
-use Rattle.djq_machine.proofs.Copies.{relation_here, rows_apart, copies_rows}
+use Rattle.djq_store_spec.specs.Store.{Store}
+use Rattle.djq_store_spec.specs.Relations.{with_rows}
+use Rattle.djq_store_spec.specs.Rows.{with_copies_of, copies_of}
+use Rattle.djq_store_spec.specs.Batch.{is_there, with_held, with_all, has_come}
+use Rattle.djq_store_spec.specs.Delta.{HasChanged}
+use Rattle.djq_store_spec.proofs.Copies.{relation_here, rows_apart, copies_rows}
 use Rattle.djq_model.specs.Known.{texts_in, all_learned}
 use Rattle.djq_deltas.specs.Growing.{HaveRows, AnswersStay, AnswersCome, AnswersGo, RowComes}
 use Rattle.djq_deltas.specs.Growing.{RowsCome, RowGoes, ChangesSpareOthers, BatchesSpareOthers, AnswersRest}

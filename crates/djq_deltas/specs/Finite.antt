@@ -6,7 +6,7 @@ use Rattle.djq_model.specs.Data.{Bytes, Tuple}
 use Rattle.djq_model.specs.Answer.{IsListing}
 use Rattle.djq_model.specs.Listed.{Listed, a_query, a_union, AnswersOf}
 use Rattle.djq_lines.specs.Variables.{IsInBody}
-use Rattle.djq_machine.specs.Delta.{Change, IsDelta}
+use Rattle.djq_store_spec.specs.Delta.{Change, IsDelta}
 
 -- Each variable of the head stands in an atom.
 abbrev pub IsBound : Query → Type 0

@@ -7,11 +7,11 @@ use Rattle.djq_model.specs.Answer.{IsAnswer}
 use Rattle.djq_model.specs.Listed.{Listed, AnswersOf}
 use Rattle.djq_lines.specs.declared.answer.Sign.TheVariants.{Came, Went}
 use Rattle.djq_lines.specs.declared.held.HeldRow.{HeldRow}
-use Rattle.djq_machine.specs.State.{Store}
-use Rattle.djq_machine.specs.Changes.{RowsChange, row_in, row_out}
-use Rattle.djq_machine.specs.Batch.{rows_held}
-use Rattle.djq_machine.specs.Delta.{Change, IsDelta}
-use Rattle.djq_machine.specs.Watch.{is_touched}
+use Rattle.djq_store_spec.specs.Store.{Store}
+use Rattle.djq_store_spec.specs.Changes.{RowsChange, row_in, row_out}
+use Rattle.djq_store_spec.specs.Batch.{rows_held}
+use Rattle.djq_store_spec.specs.Delta.{Change, IsDelta}
+use Rattle.djq_store_spec.specs.DeltaCost.{is_touched}
 
 -- The rows of each relation are among those that it has in the other.
 abbrev pub HaveRows : List Relation → List Relation → Type 0

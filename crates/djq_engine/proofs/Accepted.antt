@@ -8,11 +8,11 @@ use Rattle.djq_model.specs.Data.{Bytes}
 use Rattle.djq_model.specs.Answer.{IsAnswer}
 use Rattle.djq_model.specs.Listed.{Listed}
 use Rattle.djq_lines.specs.declared.held.HeldRow.{HeldRow}
-use Rattle.djq_machine.specs.State.{Store}
-use Rattle.djq_machine.specs.Changes.{RowsChange, RowsOutcome, is_outdated, tried}
-use Rattle.djq_machine.specs.Batch.{AddsBatch, with_all, has_come, first_read, rows_held, batch_outcome}
-use Rattle.djq_machine.specs.Delta.{Change, IsDelta}
-use Rattle.djq_machine.specs.Watch.{delta_steps}
+use Rattle.djq_store_spec.specs.Store.{Store}
+use Rattle.djq_store_spec.specs.Changes.{RowsChange, RowsOutcome, is_outdated, tried}
+use Rattle.djq_store_spec.specs.Batch.{AddsBatch, with_all, has_come, first_read, rows_held, batch_outcome}
+use Rattle.djq_store_spec.specs.Delta.{Change, IsDelta}
+use Rattle.djq_store_spec.specs.DeltaCost.{delta_steps}
 use Rattle.djq_cursor.specs.Log.{Log}
 use Rattle.djq_rows.specs.Catalog.{Catalog}
 use Rattle.djq_live.specs.Live.{Live, IsKept, IsShowable, ShowableStays}

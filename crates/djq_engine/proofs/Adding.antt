@@ -14,17 +14,18 @@ use Rattle.djq_lines.specs.declared.answer.Refusal.{Refusal}
 use Rattle.djq_lines.specs.declared.answer.Refusal.TheVariants.{Limit, NoMemory}
 use Rattle.djq_lines.specs.declared.answer.AddOutcome.TheVariants.{First, More}
 use Rattle.djq_lines.specs.declared.answer.DeleteOutcome.TheVariants.{Last, Left, Absent}
-use Rattle.djq_machine.specs.State.{Store}
-use Rattle.djq_machine.specs.Conditions.{Answers}
-use Rattle.djq_machine.specs.Store.{AddsRow, AddsAs, add_refusal, DeletesRow, DeletesAs}
-use Rattle.djq_machine.specs.Store.{delete_refusal, copies_of, with_rows, with_copies_of}
-use Rattle.djq_machine.specs.Store.{LearnsFirst, RefusedByTexts}
+use Rattle.djq_store_spec.specs.Store.{Store}
+use Rattle.djq_lines.specs.Conditions.{Answers}
+use Rattle.djq_store_spec.specs.Rows.{AddsRow, AddsAs, add_refusal, DeletesRow, DeletesAs}
+use Rattle.djq_store_spec.specs.Rows.{delete_refusal, copies_of, with_copies_of}
+use Rattle.djq_store_spec.specs.Relations.{with_rows}
+use Rattle.djq_store_spec.specs.Relations.{LearnsFirst, RefusedByTexts}
 use Rattle.djq_rows.specs.Laws.{NamesTell}
 use Rattle.djq_rows.specs.Catalog.{Catalog, StandForRow, relation_at, counted_at, rows_at, with_rows_at}
 use Rattle.djq_live.specs.Live.{Live}
 use Rattle.djq_engine.specs.declared.cursor.CursorId.{CursorId}
 use Rattle.djq_engine.specs.declared.parts.Parts.{Parts}
-use Rattle.djq_machine.specs.Stale.{by_relation}
+use Rattle.djq_store_spec.specs.Stale.{by_relation}
 use Rattle.djq_engine.specs.Kept.{held_at, outdated_held}
 use Rattle.djq_reach.specs.Places.{readers_at, AreOnce}
 use Rattle.djq_engine.specs.Places.{queries_in, store_of, query_cursors_from}

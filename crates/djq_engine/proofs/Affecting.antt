@@ -10,9 +10,9 @@ use Rattle.djq_model.specs.declared.relation.Relation.{Relation}
 use Rattle.djq_model.specs.Data.{Bytes}
 use Rattle.djq_model.specs.Answer.{IsAnswer}
 use Rattle.djq_model.specs.Listed.{AnswersOf}
-use Rattle.djq_machine.specs.Changes.{RowsChange, accepted, out_of_memory, is_outdated}
-use Rattle.djq_machine.specs.Delta.{Change, IsDelta}
-use Rattle.djq_machine.specs.Watch.{Delta, AreDeltas, ArePartsOf, delta_steps}
+use Rattle.djq_store_spec.specs.Changes.{RowsChange, accepted, out_of_memory, is_outdated}
+use Rattle.djq_store_spec.specs.Delta.{Change, IsDelta}
+use Rattle.djq_store_spec.specs.DeltaCost.{Delta, AreDeltas, ArePartsOf, delta_steps}
 use Rattle.djq_cursor.specs.Log.{Log}
 use Rattle.djq_rows.specs.Catalog.{Catalog}
 use Rattle.djq_live.specs.Live.{Live}

@@ -8,7 +8,7 @@ use Rattle.djq_model.specs.Data.{Bytes, Tuple, plain_of, tuple_eq, has_row, with
 use Rattle.djq_model.specs.Equality.{tuple_eq-decides}
 use Rattle.djq_model.specs.declared.relation.Relation.{Relation}
 use Rattle.djq_model.specs.declared.relation.CountedRow.{CountedRow}
-use Rattle.djq_machine.specs.Stale.{reads}
+use Rattle.djq_store_spec.specs.Stale.{reads}
 use Rattle.djq_rows.specs.Catalog.{Catalog, no_relation, relation_at, counted_at, with_rows_at}
 use Rattle.djq_leaves.specs.Changes.{Came, Went}
 use Rattle.djq_live.specs.Live.{Live, IsKept, IsLive}

@@ -11,8 +11,8 @@ use Rattle.djq_model.specs.declared.relation.Relation.{Relation}
 use Rattle.djq_model.specs.Data.{Bytes, bytes_eq}
 use Rattle.djq_model.specs.Listed.{Listed, a_query, listed_name}
 use Rattle.djq_model.specs.Equality.{bytes_eq-decides}
-use Rattle.djq_machine.specs.Stale.{listed_reads, by_relation}
-use Rattle.djq_machine.specs.Changes.{one_change}
+use Rattle.djq_store_spec.specs.Stale.{listed_reads, by_relation}
+use Rattle.djq_store_spec.specs.Changes.{one_change}
 use Rattle.djq_rows.specs.Catalog.{Catalog, relation_at}
 use Rattle.djq_live.specs.Live.{Live}
 use Rattle.djq_engine.specs.declared.cursor.QueryId.{QueryId}

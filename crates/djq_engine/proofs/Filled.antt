@@ -12,12 +12,13 @@ use Rattle.djq_model.specs.Data.{Bytes, Tuple, relation_of}
 use Rattle.djq_model.specs.Answer.{IsAnswer}
 use Rattle.djq_model.specs.Listed.{a_query}
 use Rattle.djq_lines.specs.declared.held.HeldRow.{HeldRow}
-use Rattle.djq_machine.specs.State.{Store}
-use Rattle.djq_machine.specs.Changes.{RowsChange, accepted, is_outdated}
-use Rattle.djq_machine.specs.Store.{most_steps}
-use Rattle.djq_machine.specs.Batch.{with_all, has_come, first_read, rows_held, batch_outcome, store_behind, count_came}
-use Rattle.djq_machine.specs.Delta.{Change, IsDelta}
-use Rattle.djq_machine.specs.Watch.{delta_steps}
+use Rattle.djq_store_spec.specs.Store.{Store}
+use Rattle.djq_store_spec.specs.Changes.{RowsChange, accepted, is_outdated}
+use Rattle.djq_store_spec.specs.Registering.{most_steps}
+use Rattle.djq_store_spec.specs.Batch.{with_all, has_come, first_read, rows_held, batch_outcome, store_behind}
+use Rattle.djq_store_spec.specs.Batch.{count_came}
+use Rattle.djq_store_spec.specs.Delta.{Change, IsDelta}
+use Rattle.djq_store_spec.specs.DeltaCost.{delta_steps}
 use Rattle.djq_rows.specs.Catalog.{Catalog, relation_at, rows_at}
 use Rattle.djq_leaves.specs.Changes.{HasSameRows}
 use Rattle.djq_live.specs.Live.{Live, IsKept}

@@ -12,12 +12,12 @@ use Rattle.djq_model.specs.Answer.{IsAnswer}
 use Rattle.djq_model.specs.Listed.{Listed}
 use Rattle.djq_lines.specs.declared.held.HeldRow.{HeldRow}
 use Rattle.djq_lines.specs.declared.answer.Refusal.TheVariants.{NoRelation}
-use Rattle.djq_machine.specs.State.{Store}
-use Rattle.djq_machine.specs.Stale.{reads}
-use Rattle.djq_machine.specs.Changes.{RowsChange, out_of_memory, is_outdated}
-use Rattle.djq_machine.specs.Batch.{suit_refusal, SuitAll, first_read, rows_tried}
-use Rattle.djq_machine.specs.Delta.{Change, IsDelta}
-use Rattle.djq_machine.specs.Watch.{delta_steps}
+use Rattle.djq_store_spec.specs.Store.{Store}
+use Rattle.djq_store_spec.specs.Stale.{reads}
+use Rattle.djq_store_spec.specs.Changes.{RowsChange, out_of_memory, is_outdated}
+use Rattle.djq_store_spec.specs.Batch.{suit_refusal, SuitAll, first_read, rows_tried}
+use Rattle.djq_store_spec.specs.Delta.{Change, IsDelta}
+use Rattle.djq_store_spec.specs.DeltaCost.{delta_steps}
 use Rattle.djq_cursor.specs.Log.{Log}
 use Rattle.djq_rows.specs.Catalog.{Catalog, relation_at}
 use Rattle.djq_live.specs.Live.{Live, IsShowable, ShowableStays}

@@ -15,11 +15,11 @@ use Rattle.djq_lines.specs.declared.limits.TheConstants.{TEXTS}
 use Rattle.djq_lines.specs.declared.answer.Refusal.{Refusal}
 use Rattle.djq_lines.specs.declared.answer.Refusal.TheVariants.{NoRelation, Arity, WrongType}
 use Rattle.djq_lines.specs.declared.held.HeldRow.{HeldRow}
-use Rattle.djq_machine.specs.State.{Store}
-use Rattle.djq_machine.specs.Conditions.{first_refusal}
-use Rattle.djq_machine.specs.Store.{with_rows}
-use Rattle.djq_machine.specs.Batch.{suit_refusal, is_there, with_held, with_all, count_came}
-use Rattle.djq_machine.specs.Batch.{has_come, place_refusal, HavePlaces}
+use Rattle.djq_store_spec.specs.Store.{Store}
+use Rattle.djq_lines.specs.Conditions.{first_refusal}
+use Rattle.djq_store_spec.specs.Relations.{with_rows}
+use Rattle.djq_store_spec.specs.Batch.{suit_refusal, is_there, with_held, with_all, count_came}
+use Rattle.djq_store_spec.specs.Batch.{has_come, place_refusal, HavePlaces}
 use Rattle.djq_rows.specs.Laws.{NamesTell}
 use Rattle.djq_rows.specs.Catalog.{counted_at, rows_at, with_rows_at}
 use Rattle.djq_engine.specs.Judging.{RowSuits}

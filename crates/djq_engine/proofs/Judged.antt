@@ -13,9 +13,9 @@ use Rattle.djq_lines.specs.declared.limits.TheConstants.{ROWS, COPIES, LAST_SEQ}
 use Rattle.djq_lines.specs.declared.answer.Refusal.{Refusal}
 use Rattle.djq_lines.specs.declared.answer.Refusal.TheVariants.{NoRelation, Arity, WrongType, Limit}
 use Rattle.djq_lines.specs.Columns.{types_of}
-use Rattle.djq_machine.specs.Conditions.{first_refusal}
-use Rattle.djq_machine.specs.Store.{row_refusals, add_refusal, delete_refusal}
-use Rattle.djq_machine.specs.Batch.{suit_refusal}
+use Rattle.djq_lines.specs.Conditions.{first_refusal}
+use Rattle.djq_store_spec.specs.Rows.{row_refusals, add_refusal, delete_refusal}
+use Rattle.djq_store_spec.specs.Batch.{suit_refusal}
 use Rattle.djq_rows.specs.Catalog.{relation_at, counted_at, rows_at}
 use Rattle.djq_engine.specs.Judging.{bare_store, RowSuits}
 use Rattle.djq_engine.proofs.Conditions.{front_refuses, front_passes}

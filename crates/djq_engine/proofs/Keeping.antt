@@ -1,7 +1,7 @@
 -- Reading a cursor leaves watches as they are.
 use Rattle.std.proofs.Common.{ℕ, List, ◌≡◌, Bool, true, false, ap, ◌∙◌, length, length-set}
 use Rattle.std.specs.Prelude.{Option, None, Some, IsSomeAnd}
-use Rattle.djq_machine.specs.State.{Position, open_at, stale}
+use Rattle.djq_store_spec.specs.Store.{Position, open_at, stale}
 use Rattle.djq_cursor.specs.Log.{Log}
 use Rattle.djq_rows.specs.Catalog.{Catalog}
 use Rattle.djq_live.specs.Cursors.{Progress}

@@ -11,7 +11,7 @@ use Rattle.djq_reach.specs.Places.{place_at, readers_at, no_log}
 use Rattle.djq_engine.specs.Places.{places_without}
 use Rattle.djq_model.specs.declared.relation.Relation.{Relation}
 use Rattle.djq_model.specs.declared.query.Query.{Query}
-use Rattle.djq_machine.specs.Stale.{reads}
+use Rattle.djq_store_spec.specs.Stale.{reads}
 use Rattle.djq_rows.specs.Catalog.{relation_at}
 use Rattle.djq_engine.specs.Placing.{LeavesAll, JoinsReaders, JoinsSome, SameLogs}
 

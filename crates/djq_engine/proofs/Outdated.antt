@@ -10,8 +10,8 @@ use Rattle.djq_model.specs.declared.query.Query.{Query}
 use Rattle.djq_model.specs.Data.{Bytes}
 use Rattle.djq_model.specs.Listed.{Listed, a_query}
 use Rattle.djq_lines.specs.declared.held.HeldRow.{HeldRow}
-use Rattle.djq_machine.specs.Stale.{reads, listed_reads, by_relation}
-use Rattle.djq_machine.specs.Batch.{first_read}
+use Rattle.djq_store_spec.specs.Stale.{reads, listed_reads, by_relation}
+use Rattle.djq_store_spec.specs.Batch.{first_read}
 use Rattle.djq_cursor.specs.Log.{Log}
 use Rattle.djq_rows.specs.Catalog.{relation_at}
 use Rattle.djq_live.specs.Cursors.{Progress}

@@ -6,8 +6,8 @@ use Rattle.std.proofs.lemmas.List.{get_or-set_same, get_or-set_other}
 use Rattle.djq_model.specs.Data.{Bytes}
 use Rattle.djq_model.specs.declared.relation.Relation.{Relation}
 use Rattle.djq_model.specs.Listed.{Listed, a_query}
-use Rattle.djq_machine.specs.Changes.{is_outdated, one_change}
-use Rattle.djq_machine.specs.Stale.{reads}
+use Rattle.djq_store_spec.specs.Changes.{is_outdated, one_change}
+use Rattle.djq_store_spec.specs.Stale.{reads}
 use Rattle.djq_reduct.specs.Reducts.{Reducts}
 use Rattle.djq_rows.specs.Catalog.{relation_at}
 use Rattle.djq_live.specs.Live.{Live}

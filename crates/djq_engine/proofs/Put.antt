@@ -16,10 +16,10 @@ use Rattle.djq_model.proofs.Counted.{tuples_with_row, tuples_with_copies}
 use Rattle.djq_lines.specs.declared.answer.Refusal.{Refusal}
 use Rattle.djq_lines.specs.declared.answer.Refusal.TheVariants.{Limit, NoMemory}
 use Rattle.djq_lines.specs.declared.held.HeldRow.{HeldRow}
-use Rattle.djq_machine.specs.State.{Store}
-use Rattle.djq_machine.specs.Store.{LearnsFirst, FindsNoPlace}
-use Rattle.djq_machine.specs.Batch.{suit_refusal, SuitAll, is_there, with_held, with_all, has_come}
-use Rattle.djq_machine.specs.Batch.{place_refusal, HavePlaces, BatchStopsAt}
+use Rattle.djq_store_spec.specs.Store.{Store}
+use Rattle.djq_store_spec.specs.Relations.{LearnsFirst, FindsNoPlace}
+use Rattle.djq_store_spec.specs.Batch.{suit_refusal, SuitAll, is_there, with_held, with_all, has_come}
+use Rattle.djq_store_spec.specs.Batch.{place_refusal, HavePlaces, BatchStopsAt}
 use Rattle.djq_model.specs.Typed.{fits}
 use Rattle.djq_rows.specs.Cells.{StandFor}
 use Rattle.djq_rows.specs.Laws.{NamesTell, TextsStay, CellsStay}

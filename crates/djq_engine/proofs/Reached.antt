@@ -14,10 +14,10 @@ use Rattle.djq_model.specs.Equality.{bytes_eq-decides}
 use Rattle.djq_lines.specs.declared.held.HeldRow.{HeldRow}
 use Rattle.djq_lines.specs.declared.answer.Sign.{Sign}
 use Rattle.djq_lines.specs.declared.answer.Sign.TheVariants.{Came, Went}
-use Rattle.djq_machine.specs.State.{Store}
-use Rattle.djq_machine.specs.Stale.{reads, listed_reads}
-use Rattle.djq_machine.specs.Batch.{is_there, with_held, has_come, first_read}
-use Rattle.djq_machine.specs.Delta.{Change, IsDelta, HasChanged}
+use Rattle.djq_store_spec.specs.Store.{Store}
+use Rattle.djq_store_spec.specs.Stale.{reads, listed_reads}
+use Rattle.djq_store_spec.specs.Batch.{is_there, with_held, has_come, first_read}
+use Rattle.djq_store_spec.specs.Delta.{Change, IsDelta, HasChanged}
 use Rattle.djq_query.specs.declared.numbered.NumberedAtom.{NumberedAtom}
 use Rattle.djq_query.specs.declared.numbered.Variable.{Variable}
 use Rattle.djq_rows.specs.Catalog.{Catalog, relation_at, rows_at}

@@ -22,10 +22,11 @@ use Rattle.djq_lines.specs.declared.rest.QueryOutcome.TheVariants.{Registered}
 use Rattle.djq_lines.specs.Hypergraph.{edges_of, head_of}
 use Rattle.djq_lines.specs.QueryFault.{query_fault, query_faults}
 use Rattle.djq_lines.specs.Variables.{constants_of}
-use Rattle.djq_machine.specs.State.{Store}
-use Rattle.djq_machine.specs.Conditions.{first_refusal, Answers}
-use Rattle.djq_machine.specs.Store.{query_refusal, RegistersQuery, RegistersAs, RefusedLate}
-use Rattle.djq_machine.specs.Store.{most_steps, LearnsAll, LearnsFirst, FindsNoPlace, drop_refusal, is_member}
+use Rattle.djq_store_spec.specs.Store.{Store}
+use Rattle.djq_lines.specs.Conditions.{first_refusal, Answers}
+use Rattle.djq_store_spec.specs.Registering.{query_refusal, RegistersQuery, RegistersAs, RefusedLate}
+use Rattle.djq_store_spec.specs.Registering.{most_steps, drop_refusal, is_member}
+use Rattle.djq_store_spec.specs.Relations.{LearnsAll, LearnsFirst, FindsNoPlace}
 use Rattle.djq_rows.specs.Catalog.{Catalog, IsCatalog}
 use Rattle.djq_rows.specs.Laws.{TextsStay}
 use Rattle.djq_live.specs.Cursors.{Progress, slot_at, are_vacant}

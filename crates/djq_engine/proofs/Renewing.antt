@@ -6,8 +6,8 @@ use Rattle.std.proofs.lemmas.Bool.{false≢true}
 use Rattle.djq_model.specs.declared.query.Query.{Query}
 use Rattle.djq_model.specs.Data.{Bytes}
 use Rattle.djq_model.specs.Listed.{Listed, a_query}
-use Rattle.djq_machine.specs.State.{Position, stale}
-use Rattle.djq_machine.specs.Stale.{reads, outdated, outdater_of}
+use Rattle.djq_store_spec.specs.Store.{Position, stale}
+use Rattle.djq_store_spec.specs.Stale.{reads, outdated, outdater_of}
 use Rattle.djq_rows.specs.Catalog.{Catalog, relation_at}
 use Rattle.djq_live.specs.Cursors.{Progress}
 use Rattle.djq_slots.specs.declared.progress.Progress.TheVariants.{Open, Stale}

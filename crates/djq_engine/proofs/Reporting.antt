@@ -19,15 +19,18 @@ use Rattle.djq_lines.specs.declared.answer.Refusal.{Refusal}
 use Rattle.djq_lines.specs.declared.answer.Refusal.TheVariants.{NoRelation, Arity, WrongType, Limit}
 use Rattle.djq_lines.specs.declared.answer.AddOutcome.{AddOutcome}
 use Rattle.djq_lines.specs.declared.answer.DeleteOutcome.{DeleteOutcome}
-use Rattle.djq_machine.specs.Changes.{RowsChange, RowsOutcome, accepted, out_of_memory, unchanged}
-use Rattle.djq_machine.specs.Changes.{one_change, new_rows, row_in, row_out, add_outcome, delete_outcome, is_outdated}
+use Rattle.djq_store_spec.specs.Changes.{RowsChange, RowsOutcome, accepted, out_of_memory, unchanged}
+use Rattle.djq_store_spec.specs.Changes.{one_change, new_rows, row_in, row_out, add_outcome, delete_outcome}
+use Rattle.djq_store_spec.specs.Changes.{is_outdated}
 use Rattle.djq_model.specs.Answer.{IsAnswer}
 use Rattle.djq_model.specs.Listed.{a_query}
 use Rattle.djq_model.specs.Equality.{bytes_eq-decides}
-use Rattle.djq_machine.specs.Delta.{Change, IsDelta}
-use Rattle.djq_machine.specs.Stale.{reads, listed_reads}
-use Rattle.djq_machine.specs.Store.{most_steps, with_rows, add_refusal}
-use Rattle.djq_machine.specs.Watch.{delta_steps}
+use Rattle.djq_store_spec.specs.Delta.{Change, IsDelta}
+use Rattle.djq_store_spec.specs.Stale.{reads, listed_reads}
+use Rattle.djq_store_spec.specs.Registering.{most_steps}
+use Rattle.djq_store_spec.specs.Relations.{with_rows}
+use Rattle.djq_store_spec.specs.Rows.{add_refusal}
+use Rattle.djq_store_spec.specs.DeltaCost.{delta_steps}
 use Rattle.djq_query.specs.declared.numbered.NumberedAtom.{NumberedAtom}
 use Rattle.djq_query.specs.declared.numbered.Variable.{Variable}
 use Rattle.djq_cursor.specs.Log.{Log}

@@ -11,13 +11,13 @@ use Rattle.djq_model.specs.Answer.{IsAnswer}
 use Rattle.djq_lines.specs.declared.limits.TheConstants.{COPIES, ROWS, LAST_SEQ}
 use Rattle.djq_lines.specs.declared.answer.Refusal.TheVariants.{Limit, NoMemory}
 use Rattle.djq_lines.specs.declared.held.HeldRow.{HeldRow}
-use Rattle.djq_machine.specs.State.{Store}
-use Rattle.djq_machine.specs.Changes.{out_of_memory}
-use Rattle.djq_machine.specs.Store.{copies_of}
-use Rattle.djq_machine.specs.Batch.{SuitAll, RefusesBatch, HavePlaces, is_there, with_held}
-use Rattle.djq_machine.specs.Batch.{with_all, has_come, count_came, first_read, rows_tried}
-use Rattle.djq_machine.specs.Delta.{Change, IsDelta}
-use Rattle.djq_machine.specs.Watch.{delta_steps}
+use Rattle.djq_store_spec.specs.Store.{Store}
+use Rattle.djq_store_spec.specs.Changes.{out_of_memory}
+use Rattle.djq_store_spec.specs.Rows.{copies_of}
+use Rattle.djq_store_spec.specs.Batch.{SuitAll, RefusesBatch, HavePlaces, is_there, with_held}
+use Rattle.djq_store_spec.specs.Batch.{with_all, has_come, count_came, first_read, rows_tried}
+use Rattle.djq_store_spec.specs.Delta.{Change, IsDelta}
+use Rattle.djq_store_spec.specs.DeltaCost.{delta_steps}
 use Rattle.djq_rows.specs.Laws.{CellsStay}
 use Rattle.djq_rows.specs.Catalog.{Catalog, IsCatalog, relation_at, rows_at}
 use Rattle.djq_live.specs.Live.{Live, IsKept, ShowableStays}

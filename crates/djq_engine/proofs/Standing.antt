@@ -10,7 +10,7 @@ use Rattle.djq_lines.specs.declared.answer.Refusal.TheVariants.{Limit, NoMemory}
 use Rattle.djq_lines.specs.declared.held.HeldRow.{HeldRow}
 use Rattle.djq_lines.specs.declared.limits.TheConstants.{ROWS, COPIES, TEXTS}
 use Rattle.djq_dict.specs.declared.refusal.InternRefusal.TheVariants.{Full as TextsFull, NoMem as NoMemForTexts}
-use Rattle.djq_machine.specs.Batch.{is_there, BatchStopsAt}
+use Rattle.djq_store_spec.specs.Batch.{is_there, BatchStopsAt}
 use Rattle.djq_rows.specs.declared.refusal.RowsRefusal.TheVariants.{Full, NoMem}
 use Rattle.djq_rows.specs.declared.relation_id.RelationId.{RelationId}
 use Rattle.djq_rows.specs.Cells.{HaveCells, cells_of}

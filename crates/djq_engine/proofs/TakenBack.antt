@@ -15,9 +15,9 @@ use Rattle.djq_model.proofs.Counted.{tuples_with_row, tuples_with_copies, copies
 use Rattle.djq_lines.specs.declared.answer.DeleteOutcome.{DeleteOutcome}
 use Rattle.djq_lines.specs.declared.answer.DeleteOutcome.TheVariants.{Last, Left, Absent}
 use Rattle.djq_lines.specs.declared.held.HeldRow.{HeldRow}
-use Rattle.djq_machine.specs.State.{Store}
-use Rattle.djq_machine.specs.Store.{with_rows}
-use Rattle.djq_machine.specs.Batch.{suit_refusal, is_there, with_held, with_all}
+use Rattle.djq_store_spec.specs.Store.{Store}
+use Rattle.djq_store_spec.specs.Relations.{with_rows}
+use Rattle.djq_store_spec.specs.Batch.{suit_refusal, is_there, with_held, with_all}
 use Rattle.djq_rows.specs.Laws.{NamesTell}
 use Rattle.djq_rows.specs.Catalog.{Catalog, IsCatalog, relation_at, counted_at, rows_at, with_rows_at}
 use Rattle.djq_rows.specs.Changes.{DeletesRowAt}

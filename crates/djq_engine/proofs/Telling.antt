@@ -11,9 +11,9 @@ use Rattle.djq_lines.specs.declared.answer.Refusal.TheVariants.{NoQuery, Arity, 
 use Rattle.djq_lines.specs.declared.answer.Shape.{Shape}
 use Rattle.djq_lines.specs.Hypergraph.{variable_names}
 use Rattle.djq_tree.specs.Explaining.{explain_of}
-use Rattle.djq_machine.specs.Conditions.{first_refusal}
-use Rattle.djq_machine.specs.Store.{TellsWhether, Tells, has_refusal, has_steps, answer_types}
-use Rattle.djq_machine.specs.Store.{listed_types, misfit, TellsShape, IsShapeOf}
+use Rattle.djq_lines.specs.Conditions.{first_refusal}
+use Rattle.djq_store_spec.specs.Asking.{TellsWhether, Tells, has_refusal, has_steps, answer_types}
+use Rattle.djq_store_spec.specs.Asking.{listed_types, misfit, TellsShape, IsShapeOf}
 use Rattle.djq_rows.specs.Catalog.{Catalog}
 use Rattle.djq_live.specs.Cursors.{Progress, slot_at}
 use Rattle.djq_live.specs.Live.{Live, IsKeptSomewhere, position_of}

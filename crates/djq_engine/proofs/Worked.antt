@@ -6,11 +6,11 @@ use Rattle.std.proofs.lemmas.Bool.{eqb-true, eq-eqb, false≢true, and_parts}
 use Rattle.std.proofs.lemmas.List.Sums.{sum_by-cons}
 use Rattle.std.proofs.lemmas.Nat.{mul-le}
 use Rattle.djq_lines.specs.declared.held.HeldRow.{HeldRow}
-use Rattle.djq_machine.specs.State.{Store}
-use Rattle.djq_machine.specs.Stale.{listed_reads}
-use Rattle.djq_machine.specs.Changes.{RowsChange, is_outdated}
-use Rattle.djq_machine.specs.Batch.{is_there, with_held, has_come, count_came, first_read, rows_held}
-use Rattle.djq_machine.proofs.Reading.{reads_atom}
+use Rattle.djq_store_spec.specs.Store.{Store}
+use Rattle.djq_store_spec.specs.Stale.{listed_reads}
+use Rattle.djq_store_spec.specs.Changes.{RowsChange, is_outdated}
+use Rattle.djq_store_spec.specs.Batch.{is_there, with_held, has_come, count_came, first_read, rows_held}
+use Rattle.djq_store_spec.proofs.Reading.{reads_atom}
 use Rattle.djq_propagate.specs.Updates.{HasAtMost}
 use Rattle.djq_query.specs.declared.numbered.NumberedAtom.{NumberedAtom}
 use Rattle.djq_rows.specs.Catalog.{Catalog}

@@ -11,10 +11,10 @@ use Rattle.djq_model.specs.declared.query.Query.{Query}
 use Rattle.djq_model.specs.Listed.{Listed, a_query}
 use Rattle.djq_lines.specs.Variables.{Label, variables_of}
 use Rattle.djq_lines.specs.declared.answer.Shape.TheVariants.{Flat}
-use Rattle.djq_machine.specs.Stale.{reads, listed_reads, by_relation}
-use Rattle.djq_machine.specs.Changes.{one_change}
-use Rattle.djq_machine.specs.Store.{IsShapeOf}
-use Rattle.djq_machine.proofs.Reading.{reads_atom}
+use Rattle.djq_store_spec.specs.Stale.{reads, listed_reads, by_relation}
+use Rattle.djq_store_spec.specs.Changes.{one_change}
+use Rattle.djq_store_spec.specs.Asking.{IsShapeOf}
+use Rattle.djq_store_spec.proofs.Reading.{reads_atom}
 use Rattle.djq_query.specs.declared.numbered.Variable.{Variable}
 use Rattle.djq_rows.specs.Catalog.{Catalog, relation_at}
 use Rattle.djq_live.specs.Live.{Live, IsKept}

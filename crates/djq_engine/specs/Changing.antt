@@ -11,14 +11,14 @@ use Rattle.djq_lines.specs.declared.answer.AddOutcome.TheVariants.{First, More}
 use Rattle.djq_lines.specs.declared.answer.DeleteOutcome.{DeleteOutcome}
 use Rattle.djq_lines.specs.declared.answer.DeleteOutcome.TheVariants.{Last, Left, Absent}
 use Rattle.djq_lines.specs.declared.limits.TheConstants.{ROWS, COPIES, TEXTS}
-use Rattle.djq_machine.specs.Store.{LearnsAll, LearnsFirst, FindsNoPlace}
+use Rattle.djq_store_spec.specs.Relations.{LearnsAll, LearnsFirst, FindsNoPlace}
 use Rattle.djq_dict.specs.declared.refusal.InternRefusal.{InternRefusal}
 use Rattle.djq_dict.specs.declared.refusal.InternRefusal.TheVariants.{Full as TextsFull, NoMem as NoMemForText}
 use Rattle.djq_engine.specs.declared.change.AddRefusal.{AddRefusal}
 use Rattle.djq_engine.specs.declared.change.AddRefusal.TheVariants.{Full, NoMem}
 use Rattle.djq_rows.specs.Catalog.{Catalog, StandForRow, counted_at, rows_at, with_rows_at}
 use Rattle.djq_rows.specs.Changes.{HasNoPlace}
-use Rattle.djq_machine.specs.Delta.{Change, IsDelta}
+use Rattle.djq_store_spec.specs.Delta.{Change, IsDelta}
 use Rattle.djq_live.specs.Live.{Live}
 use Rattle.djq_live.specs.Updating.{change_of}
 use Rattle.djq_live.specs.Staying.{StaysOver}

@@ -5,9 +5,9 @@ use Rattle.djq_model.specs.Data.{Bytes, Tuple, relation_of, rows_of, has_row, co
 use Rattle.djq_model.specs.Typed.{fits}
 use Rattle.djq_lines.specs.declared.limits.TheConstants.{ROWS, LAST_SEQ}
 use Rattle.djq_lines.specs.declared.held.HeldRow.{HeldRow}
-use Rattle.djq_machine.specs.State.{Store}
-use Rattle.djq_machine.specs.Store.{delete_refusal}
-use Rattle.djq_machine.specs.Batch.{place_refusal}
+use Rattle.djq_store_spec.specs.Store.{Store}
+use Rattle.djq_store_spec.specs.Rows.{delete_refusal}
+use Rattle.djq_store_spec.specs.Batch.{place_refusal}
 use Rattle.djq_rows.specs.Cells.{HaveCells, cells_of}
 use Rattle.djq_rows.specs.Catalog.{Catalog, relation_at, counted_at, rows_at}
 use Rattle.djq_rows.specs.declared.relation_id.RelationId.{RelationId}

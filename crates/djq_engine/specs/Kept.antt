@@ -12,12 +12,13 @@ use Rattle.djq_lines.specs.Hypergraph.{edges_of, head_of, variable_names}
 use Rattle.djq_tree.specs.Tree.{Tree}
 use Rattle.djq_tree.specs.Growing.{IsTreeOf}
 use Rattle.djq_tree.specs.Explaining.{explain_of}
-use Rattle.djq_machine.specs.State.{Store, Position, open_at, stale}
-use Rattle.djq_machine.specs.Conditions.{first_refusal, Answers, OutOfMemoryWhere}
-use Rattle.djq_machine.specs.Store.{DropsQuery, IsLeft, AreAll, answer_steps}
-use Rattle.djq_machine.specs.Stale.{outdated, outdater_of}
-use Rattle.djq_machine.specs.Changes.{RowsChange, is_outdated}
-use Rattle.djq_machine.specs.Delta.{Change}
+use Rattle.djq_store_spec.specs.Store.{Store, Position, open_at, stale}
+use Rattle.djq_lines.specs.Conditions.{first_refusal, Answers, OutOfMemoryWhere}
+use Rattle.djq_store_spec.specs.Registering.{DropsQuery, answer_steps}
+use Rattle.djq_store_spec.specs.Listing.{IsLeft, AreAll}
+use Rattle.djq_store_spec.specs.Stale.{outdated, outdater_of}
+use Rattle.djq_store_spec.specs.Changes.{RowsChange, is_outdated}
+use Rattle.djq_store_spec.specs.Delta.{Change}
 use Rattle.djq_reduct.specs.Answers.{IsAnswerOf}
 use Rattle.djq_live.specs.declared.listing.Next.{Next}
 use Rattle.djq_live.specs.declared.listing.Next.TheVariants.{Given, End, Stale}

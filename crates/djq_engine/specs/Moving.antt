@@ -1,6 +1,6 @@
 -- What is done to one query.
 use Rattle.std.specs.Prelude.{ℕ, List, ◌≡◌, ◌+◌, ◌≤◌, Bool, Option, Some, None, IsSome, length, slice_set}
-use Rattle.djq_machine.specs.Store.{most_steps}
+use Rattle.djq_store_spec.specs.Registering.{most_steps}
 use Rattle.djq_rows.specs.Catalog.{Catalog}
 use Rattle.djq_live.specs.declared.listing.Next.{Next}
 use Rattle.djq_live.specs.Cursors.{slot_at}

@@ -6,8 +6,8 @@ use Rattle.djq_model.specs.Data.{Bytes}
 use Rattle.djq_model.specs.Listed.{Listed, a_query}
 use Rattle.djq_lines.specs.declared.held.HeldRow.{HeldRow}
 use Rattle.djq_cursor.specs.Log.{Log}
-use Rattle.djq_machine.specs.Stale.{by_relation}
-use Rattle.djq_machine.specs.Batch.{first_read}
+use Rattle.djq_store_spec.specs.Stale.{by_relation}
+use Rattle.djq_store_spec.specs.Batch.{first_read}
 use Rattle.djq_rows.specs.Catalog.{relation_at}
 use Rattle.djq_live.specs.Live.{Live}
 use Rattle.djq_live.specs.Updating.{IsEmpty}

@@ -6,10 +6,10 @@ use Rattle.djq_model.specs.Data.{Bytes, Tuple, has_row, copies_among, with_row, 
 use Rattle.djq_model.specs.Known.{texts_in}
 use Rattle.djq_lines.specs.declared.answer.Refusal.{Refusal}
 use Rattle.djq_lines.specs.declared.held.HeldRow.{HeldRow}
-use Rattle.djq_machine.specs.State.{Store}
-use Rattle.djq_machine.specs.Store.{LearnsAll}
-use Rattle.djq_machine.specs.Batch.{suit_refusal, SuitAll, HavePlaces, BatchStopsAt, with_held, with_all}
-use Rattle.djq_machine.specs.Batch.{count_came, has_come}
+use Rattle.djq_store_spec.specs.Store.{Store}
+use Rattle.djq_store_spec.specs.Relations.{LearnsAll}
+use Rattle.djq_store_spec.specs.Batch.{suit_refusal, SuitAll, HavePlaces, BatchStopsAt, with_held, with_all}
+use Rattle.djq_store_spec.specs.Batch.{count_came, has_come}
 use Rattle.djq_rows.specs.Cells.{HaveCells, cells_of}
 use Rattle.djq_rows.specs.Catalog.{Catalog, relation_at, counted_at, rows_at, with_rows_at}
 use Rattle.djq_rows.specs.declared.relation_id.RelationId.{RelationId}

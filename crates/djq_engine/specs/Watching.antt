@@ -17,11 +17,12 @@ use Rattle.djq_lines.specs.declared.answer.Shape.TheVariants.{Flat}
 use Rattle.djq_lines.specs.declared.held.HeldRow.{HeldRow}
 use Rattle.djq_lines.specs.declared.rest.QueryOutcome.{QueryOutcome}
 use Rattle.djq_lines.specs.declared.rest.QueryOutcome.TheVariants.{Registered as HasRegistered}
-use Rattle.djq_machine.specs.Stale.{listed_reads}
-use Rattle.djq_machine.specs.Changes.{RowsChange, RowsOutcome, accepted, out_of_memory, unchanged, tried, is_outdated}
-use Rattle.djq_machine.specs.Batch.{rows_held}
-use Rattle.djq_machine.specs.Store.{IsShapeOf}
-use Rattle.djq_machine.specs.Watch.{Delta, ListsDeltas, deltas_steps}
+use Rattle.djq_store_spec.specs.Stale.{listed_reads}
+use Rattle.djq_store_spec.specs.Changes.{RowsChange, RowsOutcome, accepted, out_of_memory, unchanged, tried}
+use Rattle.djq_store_spec.specs.Changes.{is_outdated}
+use Rattle.djq_store_spec.specs.Batch.{rows_held}
+use Rattle.djq_store_spec.specs.Asking.{IsShapeOf}
+use Rattle.djq_store_spec.specs.DeltaCost.{Delta, ListsDeltas, deltas_steps}
 use Rattle.djq_engine.specs.declared.cursor.QueryId.{QueryId}
 use Rattle.djq_engine.specs.Kept.{Kept, Registered, registered_at, registered_of, TellsOfQuery}
 use Rattle.djq_engine.specs.Kept.{is_watched, readers_of, affected_of, told_at}

@@ -1,7 +1,7 @@
 //! What is asked of registered queries without changing them.
 ghost use Rattle.std.specs.Prelude.{◌+◌, ◌≤◌};
 ghost use Rattle.djq_model.specs.Listed.{listed_of};
-ghost use Rattle.djq_machine.specs.Store.{TellsShape, TellsWhether, has_steps};
+ghost use Rattle.djq_store_spec.specs.Asking.{TellsShape, TellsWhether, has_steps};
 ghost use Rattle.djq_engine.specs.Kept.{QueryExplainGives, IsRegistered, IsShown, AnswerIs};
 ghost use Rattle.djq_engine.specs.Lending.{LendsQuery};
 

@@ -1,8 +1,8 @@
 //! Batches: rows that are held until they go in, all at once.
 ghost use Rattle.std.specs.Prelude.{◌≡◌, ◌≤◌, ℕ, length, OnOk, OnErr};
 ghost use Rattle.djq_lines.specs.declared.limits.TheConstants.{HELD};
-ghost use Rattle.djq_machine.specs.Changes.{tried};
-ghost use Rattle.djq_machine.specs.Batch.{TellsSuits, SuitAll, AddsBatch, batch_outcome};
+ghost use Rattle.djq_store_spec.specs.Changes.{tried};
+ghost use Rattle.djq_store_spec.specs.Batch.{TellsSuits, SuitAll, AddsBatch, batch_outcome};
 ghost use Rattle.djq_rows.specs.Catalog.{Catalog as CatalogModel};
 ghost use Rattle.djq_reach.specs.Places.{readers_at, AreOnce};
 ghost use Rattle.djq_reach.specs.Tending.{AreUnwatched};

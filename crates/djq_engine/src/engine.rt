@@ -1,6 +1,6 @@
 ghost use Rattle.std.specs.Prelude.{◌≡◌, [], length, IfOk};
 ghost use Rattle.djq_model.specs.Data.{rows_of};
-ghost use Rattle.djq_machine.specs.State.{opening};
+ghost use Rattle.djq_store_spec.specs.Store.{empty_store};
 
 use crate::parts::Parts;
 use djq_live::LiveQuery;
@@ -35,7 +35,7 @@ impl Engine {
     ///
     /// `NoMem` out of memory.
     pub fn new(alloc: Global) -> Result<Engine, NoMem>
-        ensures store { IfOk result (λ e. e.store ≡ opening.store) }
+        ensures store { IfOk result (λ e. e.store ≡ empty_store) }
         ensures cursors { IfOk result (λ e. e.cursors ≡ []) }
         ensures registered { IfOk result (λ e. e.registered ≡ []) }
         ensures affected { IfOk result (λ e. e.affected ≡ []) }

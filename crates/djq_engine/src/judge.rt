@@ -2,9 +2,9 @@
 ghost use Rattle.std.specs.Prelude.{◌≡◌, ◌<◌, ◌≤◌, ◌+◌, true, None, Some, IfOk, IfErr, length};
 ghost use Rattle.djq_model.specs.Data.{has_row};
 ghost use Rattle.djq_model.specs.Typed.{fits};
-ghost use Rattle.djq_machine.specs.Conditions.{first_refusal};
-ghost use Rattle.djq_machine.specs.Store.{row_refusals, add_refusal, delete_refusal};
-ghost use Rattle.djq_machine.specs.Batch.{suit_refusal, place_refusal};
+ghost use Rattle.djq_lines.specs.Conditions.{first_refusal};
+ghost use Rattle.djq_store_spec.specs.Rows.{row_refusals, add_refusal, delete_refusal};
+ghost use Rattle.djq_store_spec.specs.Batch.{suit_refusal, place_refusal};
 ghost use Rattle.djq_rows.specs.Catalog.{relation_at, rows_at};
 ghost use Rattle.djq_engine.specs.Judging.{bare_store, RowSuits, MayCome, JudgesDelete};
 

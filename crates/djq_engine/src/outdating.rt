@@ -4,8 +4,8 @@ ghost use Rattle.std.specs.Prelude.{◌≡◌, ◌<◌, ◌≤◌, ◌==◌, ℕ
 ghost use Rattle.std.specs.Prelude.{length, filter, vec_capacity};
 ghost use Rattle.std.specs.List.{list_any};
 ghost use Rattle.djq_model.specs.Data.{Bytes, relation_of};
-ghost use Rattle.djq_machine.specs.Stale.{by_relation};
-ghost use Rattle.djq_machine.specs.Batch.{first_read};
+ghost use Rattle.djq_store_spec.specs.Stale.{by_relation};
+ghost use Rattle.djq_store_spec.specs.Batch.{first_read};
 ghost use Rattle.djq_live.specs.Live.{Live};
 ghost use Rattle.djq_reach.specs.Places.{place_at, reads_place, is_reader, readers_at};
 ghost use Rattle.djq_reach.specs.Grouping.{reached};

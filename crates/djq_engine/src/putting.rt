@@ -3,8 +3,8 @@ ghost use Rattle.std.specs.Prelude.{◌≡◌, ◌<◌, ◌≤◌, ◌+◌, ◌+
 ghost use Rattle.std.specs.Prelude.{IfOk, IfErr, OnOk, OnErr, position, ◌==◌};
 ghost use Rattle.djq_model.specs.Data.{Bytes};
 ghost use Rattle.djq_lines.specs.declared.limits.TheConstants.{HELD};
-ghost use Rattle.djq_machine.specs.State.{Store};
-ghost use Rattle.djq_machine.specs.Batch.{suit_refusal, SuitAll, BatchStopsAt};
+ghost use Rattle.djq_store_spec.specs.Store.{Store};
+ghost use Rattle.djq_store_spec.specs.Batch.{suit_refusal, SuitAll, BatchStopsAt};
 ghost use Rattle.djq_engine.specs.Judging.{bare_store};
 ghost use Rattle.djq_engine.specs.Putting.{bare_of, placed, IsStoreOf, PutsHeldRow, PutsOne, JoinsGroup, PutsAll};
 ghost use Rattle.djq_engine.specs.Putting.{ComeFirst, RefusesAll, WentIn, WentInAll};

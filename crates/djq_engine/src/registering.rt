@@ -1,8 +1,8 @@
 //! Queries that are registered and dropped.
 ghost use Rattle.std.specs.Prelude.{◌≡◌, [], ◌∷◌, ◌++◌, ◌<◌, ⊤, OnOk, OnErr, IsSomeAnd, if◌then◌else◌, length};
 ghost use Rattle.djq_lines.specs.declared.limits.TheConstants.{QUERIES};
-ghost use Rattle.djq_machine.specs.Stale.{reads};
-ghost use Rattle.djq_machine.specs.Store.{RegistersQuery, query_refusal};
+ghost use Rattle.djq_store_spec.specs.Stale.{reads};
+ghost use Rattle.djq_store_spec.specs.Registering.{RegistersQuery, query_refusal};
 ghost use Rattle.djq_live.specs.Cursors.{are_vacant};
 ghost use Rattle.djq_engine.specs.Kept.{SameCursors, DropGives, DropsPlace, KeepsTables};
 ghost use Rattle.djq_reach.specs.Places.{place_at};

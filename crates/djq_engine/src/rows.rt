@@ -1,8 +1,10 @@
 //! Rows that are added and deleted, and relations that are made.
 ghost use Rattle.std.specs.Prelude.{◌≡◌, ◌<◌, ◌≤◌, ⊤, length, vec_capacity};
 ghost use Rattle.std.specs.List.{list_any};
-ghost use Rattle.djq_machine.specs.Store.{MakesRelation, AddsRow, DeletesRow};
-ghost use Rattle.djq_machine.specs.Changes.{row_in, row_out, add_outcome, delete_outcome, tried};
+ghost use Rattle.djq_store_spec.specs.Relations.{MakesRelation};
+ghost use Rattle.djq_store_spec.specs.Rows.{AddsRow, DeletesRow};
+ghost use Rattle.djq_store_spec.specs.Changes.{row_in, row_out, add_outcome, delete_outcome};
+ghost use Rattle.djq_store_spec.specs.Changes.{tried};
 ghost use Rattle.djq_engine.specs.Kept.{IsUnwatched, Outdates, SameCursors, SameTellings, KeepsPlaces, is_tried};
 ghost use Rattle.djq_reach.specs.Places.{place_at, readers_at, AreOnce};
 ghost use Rattle.djq_reach.specs.Reaching.{AllAt};

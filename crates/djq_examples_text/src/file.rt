@@ -1,5 +1,5 @@
 use djq_disk::{Disk, DiskDid, DiskLen, DiskOpen, DiskRead};
-use djq_file::FileDisk;
+use djq_system::FileDisk;
 use std::test::Fail;
 use std::{env, fs, process};
 

@@ -1,6 +1,6 @@
 ghost use Rattle.std.specs.Prelude.{◌<◌};
 
-use djq_follow::{Mirrored, mirror};
+use djq_mirror::{Mirrored, mirror};
 use djq_io::{MemSink, MemSource};
 use djq_model::Name;
 use std::test::Fail;

@@ -2,8 +2,9 @@ ghost use Rattle.std.specs.Prelude.{◌<◌, length};
 
 use djq_io::{
     Coming, Hub, HubCall, IdList, Incoming, Listened, MemHub, MemSink, MemSource, Piece, Read,
-    Sent, Sink, Source, StdSink, StdSource, Turn, Written, Wrote, write_all,
+    Sent, Sink, Source, Turn, Written, Wrote, write_all,
 };
+use djq_system::{StdSink, StdSource};
 use std::alloc::AllocError;
 use std::test::Fail;
 

@@ -12,13 +12,13 @@
 //! reply      djq_reply      replies and end lines
 //! session    djq_session    what is held for a session
 //! mirror     djq_mirror     answers that follow the lines of a session
-//! follow     djq_follow     the loop of a mirror
+//! follow     djq_mirror     the loop of a mirror
 //! schedule   djq_schedule   schedules of a hub, and what a hub sent
-//! load       djq_gen        the lines of a generated load
+//! load       djq_load        the lines of a generated load
 //! io         djq_io         sources, sinks and hubs in memory
 //! journal    djq_journal    files of lines, and what a crash leaves of them
-//! file       djq_file       a file as a disk
-//! net        djq_net        a hub over TCP
+//! file       djq_system       a file as a disk
+//! net        djq_system        a hub over TCP
 //! ```
 #![tactic(auto)]
 

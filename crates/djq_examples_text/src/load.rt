@@ -1,4 +1,4 @@
-use djq_gen::{LINE_BYTES, Load};
+use djq_load::{LINE_BYTES, Load};
 use std::test::Fail;
 
 /// The lines of five changes with the seed 1.

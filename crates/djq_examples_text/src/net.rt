@@ -1,7 +1,7 @@
 ghost use Rattle.std.specs.Prelude.{◌<◌, length, Contains};
 
 use djq_io::{Hub, Listened, Sent, Turn};
-use djq_net::TcpHub;
+use djq_system::TcpHub;
 use std::io::{self, Read, Write};
 use std::net::{Shutdown, TcpStream};
 use std::test::Fail;

@@ -1,5 +1,5 @@
 use crate::shapes::edges_of;
-use djq_gyo::{Step, reduce, rest_is_lean, turn_join_tree};
+use djq_plan::{Step, reduce, rest_is_lean, turn_join_tree};
 use djq_hyper::{Edges, VarSet};
 use std::test::Fail;
 

@@ -7,7 +7,7 @@
 //! ```text
 //! module   library       examples of
 //! hyper    djq_hyper     sets of variables, names, flat queries, join trees
-//! gyo      djq_gyo       reductions, and the rests that they leave
+//! gyo      djq_plan       reductions, and the rests that they leave
 //! tree     djq_tree      the tree of one leaf
 //! plan     djq_plan      trees of queries, and refused queries
 //! model    djq_model     names

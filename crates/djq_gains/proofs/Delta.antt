@@ -55,8 +55,8 @@ use Rattle.djq_model.specs.Answer.{IsAnswer, AreDifferent}
 use Rattle.djq_model.specs.Listed.{a_union, AnswersOf}
 use Rattle.djq_lines.specs.declared.answer.Sign.{Sign}
 use Rattle.djq_lines.specs.declared.answer.Sign.TheVariants.{Came, Went}
-use Rattle.djq_machine.specs.Delta.{Change, HasChanged, IsDelta}
-use Rattle.djq_machine.specs.Store.{atoms_of}
+use Rattle.djq_store_spec.specs.Delta.{Change, HasChanged, IsDelta}
+use Rattle.djq_store_spec.specs.Registering.{atoms_of}
 use Rattle.djq_union.proofs.Lists.{head_or_tail, all_of}
 use Rattle.djq_rows.specs.Cells.{cells_of, StandFor}
 use Rattle.djq_live.specs.Live.{Live, IsShowable}

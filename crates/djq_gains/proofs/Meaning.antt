@@ -27,7 +27,7 @@ use Rattle.djq_model.specs.declared.relation.Relation.{Relation}
 use Rattle.djq_model.specs.declared.relation.ColumnType.{ColumnType}
 use Rattle.djq_model.specs.Data.{Bytes, Tuple}
 use Rattle.djq_model.specs.Answer.{IsAnswer}
-use Rattle.djq_machine.specs.Delta.{Change}
+use Rattle.djq_store_spec.specs.Delta.{Change}
 use Rattle.djq_rows.specs.Cells.{cells_of, StandFor}
 use Rattle.djq_live.specs.Live.{Live, IsKept, values_of}
 use Rattle.djq_live.specs.Member.{

@@ -3,7 +3,7 @@ use Rattle.std.proofs.Common.{◌≡◌, ℕ, ◌<◌, List, length, sym, ap, �
 use Rattle.std.specs.Prelude.{Option, Some, IsSomeAnd, All, Contains, slice_get, slice_index_or}
 use Rattle.std.proofs.lemmas.Option.{slice_get_within, get_or_from_slice_get, same_Some}
 use Rattle.std.proofs.lemmas.List.{length-map}
-use Rattle.djq_machine.specs.Store.{variable_type}
+use Rattle.djq_store_spec.specs.Asking.{variable_type}
 use Rattle.djq_rows.specs.Catalog.{Catalog}
 use Rattle.djq_live.specs.Live.{Live, IsKept, IsKeptSomewhere}
 use Rattle.djq_live.specs.Member.{

@@ -41,7 +41,7 @@ use Rattle.djq_model.specs.declared.relation.ColumnType.{ColumnType}
 use Rattle.djq_model.specs.Data.{Bytes, Tuple}
 use Rattle.djq_lines.specs.declared.answer.Sign.{Sign}
 use Rattle.djq_lines.specs.declared.answer.Sign.TheVariants.{Came}
-use Rattle.djq_machine.specs.Delta.{Change}
+use Rattle.djq_store_spec.specs.Delta.{Change}
 use Rattle.djq_rows.specs.Cells.{cell_for, cells_of, StandFor}
 use Rattle.djq_live.specs.Member.{head_types, query_at}
 use Rattle.djq_leaves.proofs.Taking.{fits_long}

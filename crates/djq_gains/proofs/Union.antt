@@ -6,7 +6,7 @@ use Rattle.std.proofs.lemmas.List.Elements.{All-contains, All-weaker, All-map, C
 use Rattle.djq_lines.specs.declared.answer.Sign.{Sign}
 use Rattle.djq_lines.specs.declared.answer.Sign.TheVariants.{Came, Went}
 use Rattle.djq_model.specs.Data.{Tuple}
-use Rattle.djq_machine.specs.Delta.{Change, HasChanged, IsDelta}
+use Rattle.djq_store_spec.specs.Delta.{Change, HasChanged, IsDelta}
 use Rattle.djq_gains.specs.Told.{GoOneWay, StandsIn, IsTold, AreTold}
 
 -- what holds of one that is there holds of some

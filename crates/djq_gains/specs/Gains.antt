@@ -21,7 +21,7 @@ use Rattle.djq_model.specs.declared.query.Query.{Query}
 use Rattle.djq_model.specs.Data.{Bytes, Tuple}
 use Rattle.djq_model.specs.Answer.{IsAnswer}
 use Rattle.djq_model.specs.Listed.{a_union, AnswersOf}
-use Rattle.djq_machine.specs.Delta.{Change, IsDelta}
+use Rattle.djq_store_spec.specs.Delta.{Change, IsDelta}
 use Rattle.djq_cursor.specs.declared.log.Line.{Line}
 use Rattle.djq_live.specs.Live.{Live, IsShowable}
 use Rattle.djq_live.specs.Updating.{change_of}

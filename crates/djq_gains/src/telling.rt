@@ -17,7 +17,7 @@ ghost use Rattle.std.specs.Prelude.{
   length,
   sum_by,
 };
-ghost use Rattle.djq_machine.specs.Store.{atoms_of};
+ghost use Rattle.djq_store_spec.specs.Registering.{atoms_of};
 ghost use Rattle.djq_live.specs.Live.{IsKeptSomewhere};
 ghost use Rattle.djq_live.specs.Member.{queries_at, HaveQueries, AreAlike};
 ghost use Rattle.djq_gains.specs.Gains.{AtFirstMember, TellUnion, members_at, told_of_member, count_in};

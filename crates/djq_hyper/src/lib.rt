@@ -7,7 +7,7 @@
 //!
 //! This crate has the definitions (`specs/`), also of what refuses a query that isn't free-connex,
 //! the types, and [`check_join_tree`], which tells exactly whether a proposed tree is a join tree.
-//! It makes no tree: `djq_gyo` decides whether there is one. It isn't for atoms, relations or values
+//! It makes no tree: `djq_plan` decides whether there is one. It isn't for atoms, relations or values
 //! either: a query is nothing but its sets of variables here.
 //!
 //! What surprises: a join tree is a list of links, in which the first link's parent is never read,

@@ -16,5 +16,3 @@ pub mod MemSource
 pub mod MemSink
 pub mod MemHub
 pub mod SteadyHub
-pub mod StdSource
-pub mod StdSink

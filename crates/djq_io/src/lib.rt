@@ -22,9 +22,8 @@
 //! goes on, and claims nothing from then on. A turn of a script that can't come reads as nothing.
 //!
 //! [`MemSource`], [`MemSink`] and [`MemHub`] stand in memory, tell everything, and fail only at the
-//! calls that they were told to; a [`SteadyHub`] never fails. [`StdSource`] and [`StdSink`] are a
-//! few lines over `std::io`, tell nothing, and are the trusted edge. [`Sessions`] keeps the ids and
-//! counts that every hub shows.
+//! calls that they were told to; a [`SteadyHub`] never fails. Those over the operating system are
+//! djq_system's. [`Sessions`] keeps the ids and counts that every hub shows.
 //!
 //! How it works inside: a record is a list or lost; the calls that are to fail are counted down,
 //! and those at 0 are the faults so far; a script is a queue, before which stands the rest of a
@@ -34,6 +33,7 @@
 mod failing;
 mod hub;
 mod id_list;
+pub mod limits;
 mod mem_hub;
 mod mem_sink;
 mod mem_source;
@@ -43,8 +43,6 @@ mod script;
 mod sessions;
 mod sink;
 mod source;
-mod std_sink;
-mod std_source;
 mod steady_hub;
 
 pub use failing::{Failing, FailingSend};
@@ -58,6 +56,4 @@ pub use recording::Recording;
 pub use sessions::Sessions;
 pub use sink::{Sink, Write, Written, Wrote, write_all};
 pub use source::{Read, Source};
-pub use std_sink::StdSink;
-pub use std_source::StdSource;
 pub use steady_hub::SteadyHub;

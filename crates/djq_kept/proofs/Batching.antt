@@ -8,10 +8,11 @@ use Rattle.djq_lines.specs.declared.limits.TheConstants.{TEXTS}
 use Rattle.djq_lines.specs.declared.answer.Refusal.{Refusal}
 use Rattle.djq_lines.specs.declared.answer.Refusal.TheVariants.{Limit, NoMemory}
 use Rattle.djq_lines.specs.declared.held.HeldRow.{HeldRow}
-use Rattle.djq_machine.specs.State.{Store}
-use Rattle.djq_machine.specs.Store.{with_rows, copies_of, with_copies_of}
-use Rattle.djq_machine.specs.Batch.{is_there, with_held, with_all, count_came, store_behind}
-use Rattle.djq_machine.specs.Batch.{place_refusal, HavePlaces, BatchStopsAt, RefusesBatch}
+use Rattle.djq_store_spec.specs.Store.{Store}
+use Rattle.djq_store_spec.specs.Relations.{with_rows}
+use Rattle.djq_store_spec.specs.Rows.{copies_of, with_copies_of}
+use Rattle.djq_store_spec.specs.Batch.{is_there, with_held, with_all, count_came, store_behind}
+use Rattle.djq_store_spec.specs.Batch.{place_refusal, HavePlaces, BatchStopsAt, RefusesBatch}
 use Rattle.djq_machine.specs.declared.machine.Loaded.{Loaded}
 use Rattle.djq_machine.specs.declared.machine.Loaded.TheVariants.{NoMem as no_memory}
 use Rattle.djq_machine.specs.Loading.{refused_by}

@@ -11,20 +11,11 @@ use Rattle.djq_lines.specs.declared.answer.Refusal.{Refusal}
 use Rattle.djq_lines.specs.declared.answer.AddOutcome.TheVariants.{First, More}
 use Rattle.djq_lines.specs.declared.answer.DeleteOutcome.TheVariants.{Last, Left, Absent}
 use Rattle.djq_lines.specs.declared.command.Command.TheVariants.{Add, Del}
-use Rattle.djq_machine.specs.Conditions.{OutOfMemoryWhere}
-use Rattle.djq_machine.specs.State.{Store}
-use Rattle.djq_machine.specs.Store.{
-  with_rows,
-  copies_of,
-  with_copies_of,
-  RefusedByTexts,
-  add_refusal,
-  AddsAs,
-  AddsRow,
-  delete_refusal,
-  DeletesAs,
-  DeletesRow,
-}
+use Rattle.djq_lines.specs.Conditions.{OutOfMemoryWhere}
+use Rattle.djq_store_spec.specs.Store.{Store}
+use Rattle.djq_store_spec.specs.Relations.{with_rows, RefusedByTexts}
+use Rattle.djq_store_spec.specs.Rows.{copies_of, with_copies_of, add_refusal, AddsAs, AddsRow, delete_refusal}
+use Rattle.djq_store_spec.specs.Rows.{DeletesAs, DeletesRow}
 use Rattle.djq_laws.proofs.Forms.{done_of, none_holds}
 use Rattle.djq_model.proofs.Counted.{
   tuples_with_row,

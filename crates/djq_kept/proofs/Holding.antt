@@ -14,9 +14,10 @@ use Rattle.djq_lines.specs.declared.command.Command.{Command}
 use Rattle.djq_lines.specs.declared.command.Command.TheVariants.{Add, Batch, Done, Abandon}
 use Rattle.djq_lines.specs.declared.held.HeldRow.{HeldRow}
 use Rattle.djq_lines.specs.Grammar.{says_command, reading_of}
-use Rattle.djq_machine.specs.Conditions.{first_refusal, OutOfMemoryWhere}
-use Rattle.djq_machine.specs.State.{Store}
-use Rattle.djq_machine.specs.Batch.{suit_refusal, hold_refusal, SuitAll, with_all, count_came, store_behind, HavePlaces}
+use Rattle.djq_lines.specs.Conditions.{first_refusal, OutOfMemoryWhere}
+use Rattle.djq_store_spec.specs.Store.{Store}
+use Rattle.djq_store_spec.specs.Batch.{suit_refusal, hold_refusal, SuitAll, with_all, count_came, store_behind}
+use Rattle.djq_store_spec.specs.Batch.{HavePlaces}
 use Rattle.djq_machine.specs.Run.{Group}
 use Rattle.djq_machine.specs.declared.machine.Loaded.{Loaded}
 use Rattle.djq_machine.specs.Loading.{Loading, loading, CommandLoads}

@@ -38,34 +38,15 @@ use Rattle.djq_lines.specs.declared.command.Command.TheVariants.{
 }
 use Rattle.djq_lines.specs.declared.held.HeldRow.{HeldRow}
 use Rattle.djq_lines.specs.Variables.{constants_of}
-use Rattle.djq_machine.specs.Conditions.{Answers, OutOfMemoryWhere}
-use Rattle.djq_machine.specs.State.{Store, State, Session, Cursor, Position, open_at, stale, with_session, cursor_of}
-use Rattle.djq_machine.specs.Store.{
-  RefusedByTexts,
-  MakesRelation,
-  add_refusal,
-  AddsAs,
-  AddsRow,
-  delete_refusal,
-  DeletesAs,
-  DeletesRow,
-  query_refusal,
-  RegistersAs,
-  RefusedLate,
-  RegistersQuery,
-  DropsQuery,
-}
-use Rattle.djq_machine.specs.Union.{RegistersUnion}
-use Rattle.djq_machine.specs.Batch.{
-  is_there,
-  with_held,
-  with_all,
-  store_behind,
-  HavePlaces,
-  BatchStopsAt,
-  RefusesBatch,
-  AddsBatch,
-}
+use Rattle.djq_lines.specs.Conditions.{Answers, OutOfMemoryWhere}
+use Rattle.djq_store_spec.specs.Store.{Store, Position, open_at, stale}
+use Rattle.djq_machine.specs.State.{State, Session, Cursor, with_session, cursor_of}
+use Rattle.djq_store_spec.specs.Relations.{RefusedByTexts, MakesRelation}
+use Rattle.djq_store_spec.specs.Rows.{add_refusal, AddsAs, AddsRow, delete_refusal, DeletesAs, DeletesRow}
+use Rattle.djq_store_spec.specs.Registering.{query_refusal, RegistersAs, RefusedLate, RegistersQuery, DropsQuery}
+use Rattle.djq_store_spec.specs.Union.{RegistersUnion}
+use Rattle.djq_store_spec.specs.Batch.{is_there, with_held, with_all, store_behind, HavePlaces, BatchStopsAt}
+use Rattle.djq_store_spec.specs.Batch.{RefusesBatch, AddsBatch}
 use Rattle.djq_machine.specs.Keeping.{
   Keeping,
   no_line,

@@ -10,7 +10,7 @@ use Rattle.djq_model.specs.Data.{Bytes, bytes_eq}
 use Rattle.djq_model.specs.Equality.{bytes_eq-decides}
 use Rattle.djq_model.specs.Known.{knows, learned, all_learned}
 use Rattle.djq_lines.specs.declared.limits.TheConstants.{TEXTS}
-use Rattle.djq_machine.specs.Store.{LearnsFirst, FindsNoPlace}
+use Rattle.djq_store_spec.specs.Relations.{LearnsFirst, FindsNoPlace}
 use Rattle.djq_laws.specs.Sound.{AreApart}
 use Rattle.djq_laws.proofs.Apart.{texts_apart}
 use Rattle.djq_kept.specs.Kept.{AreKnown}

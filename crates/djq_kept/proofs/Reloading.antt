@@ -33,9 +33,10 @@ use Rattle.djq_lines.specs.declared.command.Command.TheVariants.{
 }
 use Rattle.djq_lines.specs.declared.held.HeldRow.{HeldRow}
 use Rattle.djq_lines.specs.Grammar.{Reading, outside, past_limit, says_command, reading_of}
-use Rattle.djq_machine.specs.Conditions.{OutOfMemoryWhere}
-use Rattle.djq_machine.specs.State.{Store, State, opening}
-use Rattle.djq_machine.specs.Batch.{hold_refusal}
+use Rattle.djq_lines.specs.Conditions.{OutOfMemoryWhere}
+use Rattle.djq_store_spec.specs.Store.{Store}
+use Rattle.djq_machine.specs.State.{State, opening}
+use Rattle.djq_store_spec.specs.Batch.{hold_refusal}
 use Rattle.djq_machine.specs.Keeping.{Keeping, no_line, the_line, the_batch}
 use Rattle.djq_machine.specs.LineStep.{run}
 use Rattle.djq_machine.specs.Step.{Event, stepped}

@@ -37,22 +37,12 @@ use Rattle.djq_lines.specs.declared.rest.QueryOutcome.TheVariants.{Registered, C
 use Rattle.djq_lines.specs.declared.command.Command.{Command}
 use Rattle.djq_lines.specs.declared.command.Command.TheVariants.{Rel, Query as Register, Union, Drop}
 use Rattle.djq_lines.specs.Variables.{constants_of}
-use Rattle.djq_machine.specs.Conditions.{first_refusal, Answers, OutOfMemoryWhere}
-use Rattle.djq_machine.specs.State.{Store}
-use Rattle.djq_machine.specs.Store.{
-  RefusedByTexts,
-  rel_refusal,
-  MakesRelation,
-  query_refusal,
-  RegistersAs,
-  RefusedLate,
-  RegistersQuery,
-  is_member,
-  drop_refusal,
-  DropsQuery,
-  answer_steps,
-}
-use Rattle.djq_machine.specs.Union.{union_refusal, AreUnder, RegistersUnion}
+use Rattle.djq_lines.specs.Conditions.{first_refusal, Answers, OutOfMemoryWhere}
+use Rattle.djq_store_spec.specs.Store.{Store}
+use Rattle.djq_store_spec.specs.Relations.{RefusedByTexts, rel_refusal, MakesRelation}
+use Rattle.djq_store_spec.specs.Registering.{query_refusal, RegistersAs, RefusedLate, RegistersQuery, is_member}
+use Rattle.djq_store_spec.specs.Registering.{drop_refusal, DropsQuery, answer_steps}
+use Rattle.djq_store_spec.specs.Union.{union_refusal, AreUnder, RegistersUnion}
 use Rattle.djq_laws.proofs.Forms.{done_of, none_holds}
 use Rattle.djq_laws.proofs.Apart.{nothing_apart, texts_apart}
 use Rattle.djq_machine.specs.declared.machine.Loaded.{Loaded}

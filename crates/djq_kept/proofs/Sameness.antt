@@ -108,22 +108,14 @@ use Rattle.djq_lines.specs.QueryFault.{
   has_unbound_head,
   is_too_large,
 }
-use Rattle.djq_machine.specs.Conditions.{first_refusal}
-use Rattle.djq_machine.specs.State.{Store}
-use Rattle.djq_machine.specs.Store.{
-  with_rows,
-  copies_of,
-  rel_refusal,
-  add_refusal,
-  delete_refusal,
-  query_refusal,
-  type_among,
-  variable_type,
-  answer_types,
-  listed_types,
-}
-use Rattle.djq_machine.specs.Union.{stands_twice, is_union, same_types, types_under, types_differ, union_refusal}
-use Rattle.djq_machine.specs.Batch.{hold_refusal}
+use Rattle.djq_lines.specs.Conditions.{first_refusal}
+use Rattle.djq_store_spec.specs.Store.{Store}
+use Rattle.djq_store_spec.specs.Relations.{with_rows, rel_refusal}
+use Rattle.djq_store_spec.specs.Rows.{copies_of, add_refusal, delete_refusal}
+use Rattle.djq_store_spec.specs.Registering.{query_refusal}
+use Rattle.djq_store_spec.specs.Asking.{type_among, variable_type, answer_types, listed_types}
+use Rattle.djq_store_spec.specs.Union.{stands_twice, is_union, same_types, types_under, types_differ, union_refusal}
+use Rattle.djq_store_spec.specs.Batch.{hold_refusal}
 use Rattle.djq_machine.specs.Step.{SameRelations}
 use Rattle.djq_model.proofs.Counted.{tuples_moved, has_moved, differ_moved, copies_moved}
 use Rattle.djq_laws.proofs.Apart.{nothing_apart}

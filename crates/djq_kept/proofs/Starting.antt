@@ -17,10 +17,11 @@ use Rattle.djq_lines.specs.declared.command.Command.TheVariants.{
 }
 use Rattle.djq_lines.specs.declared.held.HeldRow.{HeldRow}
 use Rattle.djq_lines.specs.Grammar.{Reading, outside, past_limit, says_command, reading_of}
-use Rattle.djq_machine.specs.Conditions.{OutOfMemoryWhere}
-use Rattle.djq_machine.specs.State.{Store, opening}
-use Rattle.djq_machine.specs.Changes.{row_in, row_out, add_outcome, delete_outcome}
-use Rattle.djq_machine.specs.Batch.{hold_refusal, suit_refusal, batch_outcome}
+use Rattle.djq_lines.specs.Conditions.{OutOfMemoryWhere}
+use Rattle.djq_store_spec.specs.Store.{Store}
+use Rattle.djq_machine.specs.State.{opening}
+use Rattle.djq_store_spec.specs.Changes.{row_in, row_out, add_outcome, delete_outcome}
+use Rattle.djq_store_spec.specs.Batch.{hold_refusal, suit_refusal, batch_outcome}
 use Rattle.djq_machine.specs.declared.machine.Loaded.{Loaded}
 use Rattle.djq_machine.specs.declared.machine.Loaded.TheVariants.{Ran as ran}
 use Rattle.djq_machine.specs.Loading.{Loading, loading, StoreLoads, CommandLoads, ReadingLoads, LoadStep}

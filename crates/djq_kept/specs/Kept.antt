@@ -4,8 +4,9 @@ use Rattle.djq_model.specs.declared.relation.Relation.{Relation}
 use Rattle.djq_model.specs.Data.{Bytes, Tuple, tuples_in}
 use Rattle.djq_model.specs.Answer.{AreDifferent}
 use Rattle.djq_model.specs.Known.{knows}
-use Rattle.djq_machine.specs.State.{Store, State, opening}
-use Rattle.djq_machine.specs.Store.{copies_of}
+use Rattle.djq_store_spec.specs.Store.{Store}
+use Rattle.djq_machine.specs.State.{State, opening}
+use Rattle.djq_store_spec.specs.Rows.{copies_of}
 use Rattle.djq_machine.specs.Step.{SameRelations}
 use Rattle.djq_machine.specs.Run.{Did, Run, Group, groups_of, lines_in}
 use Rattle.djq_laws.specs.Sound.{AreApart, IsSoundState, IsStart}

@@ -11,7 +11,7 @@ use Rattle.djq_model.specs.Answer.{IsListing}
 use Rattle.djq_model.specs.Listed.{AnswersOf}
 use Rattle.djq_lines.specs.declared.answer.Sign.{Sign}
 use Rattle.djq_lines.specs.declared.answer.Sign.TheVariants.{Came, Went}
-use Rattle.djq_machine.specs.Delta.{Change, HasChanged, IsDelta}
+use Rattle.djq_store_spec.specs.Delta.{Change, HasChanged, IsDelta}
 use Rattle.djq_laws.specs.Added.{same_sign, of_sign, added_up, DeltasAddUp}
 use Rattle.djq_deltas.specs.Decided.{Decided}
 use Rattle.djq_deltas.proofs.Lists.{nothing_there, first_or_later, first_there, later_there}

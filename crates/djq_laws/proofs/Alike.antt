@@ -28,9 +28,11 @@ use Rattle.djq_lines.specs.declared.answer.EndCause.{EndCause}
 use Rattle.djq_lines.specs.declared.answer.EndCause.TheVariants.{Memory}
 use Rattle.djq_lines.specs.Grammar.{reading_of}
 use Rattle.djq_lines.specs.Reply.{refusal_line}
-use Rattle.djq_machine.specs.State.{Store, State, Session, session_of, with_session, ended_by}
-use Rattle.djq_machine.specs.Stale.{outdated_cursor}
-use Rattle.djq_machine.specs.Changes.{RowsChange, RowsOutcome, tried, changed}
+use Rattle.djq_store_spec.specs.Store.{Store}
+use Rattle.djq_machine.specs.State.{State, Session, session_of, with_session, ended_by}
+use Rattle.djq_machine.specs.Outdating.{outdated_cursor}
+use Rattle.djq_store_spec.specs.Changes.{RowsChange, RowsOutcome, tried}
+use Rattle.djq_machine.specs.Outdating.{changed}
 use Rattle.djq_machine.specs.Watch.{Telling, ChangeStep}
 use Rattle.djq_machine.specs.Keeping.{Keeping, no_line}
 use Rattle.djq_machine.specs.Effect.{Effect, nothing, says}

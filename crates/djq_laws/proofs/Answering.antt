@@ -29,15 +29,15 @@ use Rattle.djq_model.specs.Answer.{IsAnswer}
 use Rattle.djq_model.specs.Data.{Bytes, Tuple, bytes_eq, relation_of, plain_of, counted_in, counted_of, rows_of}
 use Rattle.djq_model.specs.Listed.{Listed, a_query, a_union, AnswersOf}
 use Rattle.djq_model.specs.Equality.{bytes_eq-decides}
-use Rattle.djq_machine.specs.Store.{with_rows}
-use Rattle.djq_machine.specs.Stale.{reads, listed_reads}
-use Rattle.djq_machine.specs.Changes.{RowsChange, new_rows}
+use Rattle.djq_store_spec.specs.Relations.{with_rows}
+use Rattle.djq_store_spec.specs.Stale.{reads, listed_reads}
+use Rattle.djq_store_spec.specs.Changes.{RowsChange, new_rows}
 use Rattle.djq_machine.specs.Step.{SameRelations}
 use Rattle.djq_machine.specs.Gives.{Gives}
-use Rattle.djq_machine.proofs.Reading.{reads_atom}
+use Rattle.djq_store_spec.proofs.Reading.{reads_atom}
 use Rattle.djq_deltas.proofs.Lists.{nothing_there, first_or_later, some_one, one_there}
 use Rattle.djq_model.proofs.Counted.{tuples_moved}
-use Rattle.djq_machine.proofs.Copies.{rows_apart}
+use Rattle.djq_store_spec.proofs.Copies.{rows_apart}
 
 pub apart_from : (r name n : Bytes) (b : Bool) → bytes_eq r n ≡ b → bytes_eq n name ≡ false → bytes_eq r name ≡ true → b
     ≡ false

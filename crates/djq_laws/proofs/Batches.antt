@@ -43,26 +43,14 @@ use Rattle.djq_lines.specs.declared.answer.Refusal.{Refusal}
 use Rattle.djq_lines.specs.declared.answer.Refusal.TheVariants.{Limit, NoMemory}
 use Rattle.djq_lines.specs.declared.held.HeldRow.{HeldRow}
 use Rattle.djq_lines.specs.Conditions.{first_refusal}
-use Rattle.djq_machine.specs.State.{Store}
-use Rattle.djq_machine.specs.Store.{with_rows, copies_of, with_copies_of}
-use Rattle.djq_machine.specs.Stale.{listed_reads}
-use Rattle.djq_machine.specs.Batch.{
-  suit_refusal,
-  SuitAll,
-  is_there,
-  with_held,
-  with_all,
-  count_came,
-  has_come,
-  store_behind,
-  place_refusal,
-  HavePlaces,
-  BatchStopsAt,
-  RefusesBatch,
-  AddsBatch,
-  batch_outcome,
-}
-use Rattle.djq_machine.proofs.Copies.{copies_rows, rows_apart}
+use Rattle.djq_store_spec.specs.Store.{Store}
+use Rattle.djq_store_spec.specs.Relations.{with_rows}
+use Rattle.djq_store_spec.specs.Rows.{copies_of, with_copies_of}
+use Rattle.djq_store_spec.specs.Stale.{listed_reads}
+use Rattle.djq_store_spec.specs.Batch.{suit_refusal, SuitAll, is_there, with_held, with_all, count_came, has_come}
+use Rattle.djq_store_spec.specs.Batch.{store_behind, place_refusal, HavePlaces, BatchStopsAt, RefusesBatch, AddsBatch}
+use Rattle.djq_store_spec.specs.Batch.{batch_outcome}
+use Rattle.djq_store_spec.proofs.Copies.{copies_rows, rows_apart}
 use Rattle.djq_laws.specs.Sound.{AreApart, IsSoundRelation, IsCopyCount}
 use Rattle.djq_laws.specs.Form.{LearnsTexts, rows_come}
 use Rattle.djq_laws.proofs.Answering.{SameAnswers, read_same}

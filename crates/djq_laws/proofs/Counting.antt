@@ -56,19 +56,11 @@ use Rattle.djq_lines.specs.declared.answer.AddOutcome.{AddOutcome}
 use Rattle.djq_lines.specs.declared.answer.AddOutcome.TheVariants.{First, More}
 use Rattle.djq_lines.specs.declared.answer.DeleteOutcome.{DeleteOutcome}
 use Rattle.djq_lines.specs.declared.answer.DeleteOutcome.TheVariants.{Last, Left, Absent}
-use Rattle.djq_machine.specs.State.{Store}
-use Rattle.djq_machine.specs.Store.{
-  copies_of,
-  with_rows,
-  with_copies_of,
-  add_refusal,
-  AddsAs,
-  AddsRow,
-  delete_refusal,
-  DeletesAs,
-  DeletesRow,
-}
-use Rattle.djq_machine.proofs.Copies.{counted_here, counted_apart}
+use Rattle.djq_store_spec.specs.Store.{Store}
+use Rattle.djq_store_spec.specs.Rows.{copies_of, with_copies_of, add_refusal, AddsAs, AddsRow, delete_refusal}
+use Rattle.djq_store_spec.specs.Rows.{DeletesAs, DeletesRow}
+use Rattle.djq_store_spec.specs.Relations.{with_rows}
+use Rattle.djq_store_spec.proofs.Copies.{counted_here, counted_apart}
 use Rattle.djq_laws.specs.Sound.{IsCopyCount, IsSoundRelation, IsSoundStore}
 use Rattle.djq_laws.specs.Copies.{RowsHaveCopies, LeavesCopies, copies_added, copies_left, AddsCopy, TakesCopy}
 use Rattle.djq_laws.proofs.Apart.{nothing_apart}

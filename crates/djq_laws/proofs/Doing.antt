@@ -2,11 +2,12 @@
 use Rattle.std.specs.Prelude.{ℕ, List, [], ◌∷◌, ◌==◌, ◌≡◌, Bool, true, false, cond}
 use Rattle.std.proofs.Common.{refl, sym, ap, subst}
 use Rattle.djq_model.specs.Data.{Bytes, change_first}
-use Rattle.djq_machine.specs.State.{Store, State, Session, with_session}
+use Rattle.djq_store_spec.specs.Store.{Store}
+use Rattle.djq_machine.specs.State.{State, Session, with_session}
 use Rattle.djq_machine.specs.Effect.{Effect}
-use Rattle.djq_machine.specs.Changes.{RowsOutcome, row_in, row_out, add_outcome, delete_outcome}
+use Rattle.djq_store_spec.specs.Changes.{RowsOutcome, row_in, row_out, add_outcome, delete_outcome}
 use Rattle.djq_machine.specs.Watch.{ChangeStep}
-use Rattle.djq_machine.specs.Batch.{batch_outcome}
+use Rattle.djq_store_spec.specs.Batch.{batch_outcome}
 use Rattle.djq_machine.specs.Command.{without_batch}
 use Rattle.djq_laws.specs.Form.{RowCommand, row_comes, row_goes, rows_come, RowsChanged}
 use Rattle.djq_laws.proofs.Rows.{RowsMade, added, deleted}

@@ -105,35 +105,15 @@ use Rattle.djq_lines.specs.Reply.{
   bye,
   end_memory,
 }
-use Rattle.djq_machine.specs.State.{
-  Store,
-  State,
-  Session,
-  Cursor,
-  Position,
-  open_at,
-  stale,
-  with_session,
-  cursor_of,
-  with_position,
-}
+use Rattle.djq_store_spec.specs.Store.{Store, Position, open_at, stale}
+use Rattle.djq_machine.specs.State.{State, Session, Cursor, with_session, cursor_of, with_position}
 use Rattle.djq_machine.specs.Keeping.{Keeping, no_line, kept_where, is_registration}
 use Rattle.djq_machine.specs.Effect.{Effect, says, answers, RefusedStep}
-use Rattle.djq_machine.specs.Store.{
-  RefusedByTexts,
-  RefusedLate,
-  RegistersAs,
-  MakesRelation,
-  RegistersQuery,
-  DropsQuery,
-  rel_refusal,
-  query_refusal,
-  drop_refusal,
-  is_member,
-  has_steps,
-  answer_steps,
-}
-use Rattle.djq_machine.specs.Union.{union_refusal, AreUnder, RegistersUnion}
+use Rattle.djq_store_spec.specs.Relations.{RefusedByTexts, MakesRelation, rel_refusal}
+use Rattle.djq_store_spec.specs.Registering.{RefusedLate, RegistersAs, RegistersQuery, DropsQuery, query_refusal}
+use Rattle.djq_store_spec.specs.Registering.{drop_refusal, is_member, answer_steps}
+use Rattle.djq_store_spec.specs.Asking.{has_steps}
+use Rattle.djq_store_spec.specs.Union.{union_refusal, AreUnder, RegistersUnion}
 use Rattle.djq_machine.specs.Command.{
   open_refusal,
   OpensTo,
@@ -158,7 +138,7 @@ use Rattle.djq_machine.specs.Command.{
   explain_lines,
   union_lines,
 }
-use Rattle.djq_machine.specs.Batch.{hold_refusal}
+use Rattle.djq_store_spec.specs.Batch.{hold_refusal}
 use Rattle.djq_machine.specs.LineStep.{ReadStep, past_limit_refusal}
 use Rattle.djq_laws.specs.Form.{
   form_of,

@@ -37,24 +37,14 @@ use Rattle.djq_lines.specs.declared.answer.EndCause.TheVariants.{Input, Memory}
 use Rattle.djq_lines.specs.declared.limits.TheConstants.{SESSIONS}
 use Rattle.djq_lines.specs.Grammar.{reading_of}
 use Rattle.djq_lines.specs.Reply.{end_memory}
-use Rattle.djq_machine.specs.State.{
-  Store,
-  State,
-  Session,
-  Cursor,
-  Position,
-  open_at,
-  stale,
-  fresh,
-  session_of,
-  with_session,
-  cursor_of,
-  with_position,
-  ended_by,
-}
-use Rattle.djq_machine.specs.Store.{TellsAnswers}
-use Rattle.djq_machine.specs.Stale.{outdated, outdater_of, outdated_cursor, outdated_sessions}
-use Rattle.djq_machine.specs.Changes.{RowsOutcome, accepted, out_of_memory, unchanged, tried, changed}
+use Rattle.djq_store_spec.specs.Store.{Store, Position, open_at, stale}
+use Rattle.djq_machine.specs.State.{State, Session, Cursor, fresh, session_of, with_session, cursor_of, with_position}
+use Rattle.djq_machine.specs.State.{ended_by}
+use Rattle.djq_store_spec.specs.Listing.{TellsAnswers}
+use Rattle.djq_store_spec.specs.Stale.{outdated, outdater_of}
+use Rattle.djq_machine.specs.Outdating.{outdated_cursor, outdated_sessions}
+use Rattle.djq_store_spec.specs.Changes.{RowsOutcome, accepted, out_of_memory, unchanged, tried}
+use Rattle.djq_machine.specs.Outdating.{changed}
 use Rattle.djq_machine.specs.Watch.{Telling, ChangeStep}
 use Rattle.djq_machine.specs.Effect.{Effect, nothing, EndsWith, queue_all, queue}
 use Rattle.djq_machine.specs.Command.{uses, with_cursor, with_watch, without_watch, with_batch, without_batch}

@@ -78,23 +78,13 @@ use Rattle.djq_lines.specs.Grammar.{
   takes_memory_to_read,
 }
 use Rattle.djq_lines.specs.Reply.{line, refusal_line, ok_reply, text_of, listing_lines, end_memory}
-use Rattle.djq_machine.specs.State.{
-  Store,
-  State,
-  Session,
-  Cursor,
-  Position,
-  open_at,
-  stale,
-  fresh,
-  session_of,
-  with_session,
-  cursor_of,
-  with_position,
-  ended_by,
-}
-use Rattle.djq_machine.specs.Stale.{outdated, outdater_of, outdated_cursor}
-use Rattle.djq_machine.specs.Changes.{RowsChange, RowsOutcome, tried, changed}
+use Rattle.djq_store_spec.specs.Store.{Store, Position, open_at, stale}
+use Rattle.djq_machine.specs.State.{State, Session, Cursor, fresh, session_of, with_session, cursor_of, with_position}
+use Rattle.djq_machine.specs.State.{ended_by}
+use Rattle.djq_store_spec.specs.Stale.{outdated, outdater_of}
+use Rattle.djq_machine.specs.Outdating.{outdated_cursor}
+use Rattle.djq_store_spec.specs.Changes.{RowsChange, RowsOutcome, tried}
+use Rattle.djq_machine.specs.Outdating.{changed}
 use Rattle.djq_machine.specs.Watch.{Telling, ChangeStep}
 use Rattle.djq_machine.specs.Effect.{Effect, nothing, says, EndsWith, RefusedStep, queue, queue_all}
 use Rattle.djq_machine.specs.Command.{

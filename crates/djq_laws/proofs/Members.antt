@@ -114,17 +114,10 @@ use Rattle.djq_lines.specs.Grammar.{
   reading_of,
 }
 use Rattle.djq_model.specs.Typed.{same_type}
-use Rattle.djq_machine.specs.State.{Store}
-use Rattle.djq_machine.specs.Store.{answer_types, listed_types}
-use Rattle.djq_machine.specs.Union.{
-  stands_twice,
-  is_union,
-  same_types,
-  types_under,
-  types_differ,
-  union_refusal,
-  AreUnder,
-}
+use Rattle.djq_store_spec.specs.Store.{Store}
+use Rattle.djq_store_spec.specs.Asking.{answer_types, listed_types}
+use Rattle.djq_store_spec.specs.Union.{stands_twice, is_union, same_types, types_under, types_differ, union_refusal}
+use Rattle.djq_store_spec.specs.Union.{AreUnder}
 use Rattle.djq_laws.specs.Sound.{AreApart, IsSoundUnion}
 use Rattle.djq_deltas.proofs.Growing.{none_any}
 use Rattle.djq_laws.proofs.Apart.{nothing_apart, other_name}

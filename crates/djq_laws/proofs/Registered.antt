@@ -24,8 +24,9 @@ use Rattle.djq_model.specs.declared.query.Atom.{Atom}
 use Rattle.djq_model.specs.Data.{Bytes, bytes_eq, drop_first, relation_of}
 use Rattle.djq_model.specs.Listed.{Listed, a_query, a_union, listed_name, members_of, listed_of}
 use Rattle.djq_lines.specs.QueryFault.{reads_unknown}
-use Rattle.djq_machine.specs.State.{Store}
-use Rattle.djq_machine.specs.Store.{type_among, variable_type, answer_types, listed_types, is_member}
+use Rattle.djq_store_spec.specs.Store.{Store}
+use Rattle.djq_store_spec.specs.Asking.{type_among, variable_type, answer_types, listed_types}
+use Rattle.djq_store_spec.specs.Registering.{is_member}
 use Rattle.djq_deltas.proofs.Lists.{first_there, hold_each}
 use Rattle.djq_laws.specs.Sound.{IsConnex, IsSoundListed}
 use Rattle.djq_laws.specs.Form.{MayRegister}

@@ -36,32 +36,14 @@ use Rattle.djq_lines.specs.declared.answer.AddOutcome.{AddOutcome}
 use Rattle.djq_lines.specs.declared.answer.AddOutcome.TheVariants.{First, More}
 use Rattle.djq_lines.specs.declared.answer.DeleteOutcome.{DeleteOutcome}
 use Rattle.djq_lines.specs.declared.answer.DeleteOutcome.TheVariants.{Last, Left, Absent}
-use Rattle.djq_machine.specs.State.{Store}
-use Rattle.djq_machine.specs.Store.{
-  RefusedByTexts,
-  AddsRow,
-  AddsAs,
-  DeletesRow,
-  DeletesAs,
-  with_rows,
-  copies_of,
-  with_copies_of,
-  add_refusal,
-  delete_refusal,
-}
-use Rattle.djq_machine.specs.Stale.{by_relation}
-use Rattle.djq_machine.specs.Changes.{
-  RowsChange,
-  RowsOutcome,
-  accepted,
-  out_of_memory,
-  unchanged,
-  row_in,
-  row_out,
-  add_outcome,
-  delete_outcome,
-}
-use Rattle.djq_machine.specs.Batch.{SuitAll, first_read, has_come}
+use Rattle.djq_store_spec.specs.Store.{Store}
+use Rattle.djq_store_spec.specs.Relations.{RefusedByTexts, with_rows}
+use Rattle.djq_store_spec.specs.Rows.{AddsRow, AddsAs, DeletesRow, DeletesAs, copies_of, with_copies_of, add_refusal}
+use Rattle.djq_store_spec.specs.Rows.{delete_refusal}
+use Rattle.djq_store_spec.specs.Stale.{by_relation}
+use Rattle.djq_store_spec.specs.Changes.{RowsChange, RowsOutcome, accepted, out_of_memory, unchanged, row_in, row_out}
+use Rattle.djq_store_spec.specs.Changes.{add_outcome, delete_outcome}
+use Rattle.djq_store_spec.specs.Batch.{SuitAll, first_read, has_come}
 use Rattle.djq_laws.specs.Sound.{AreApart, IsCopyCount, IsSoundRelation}
 use Rattle.djq_laws.specs.Form.{RowCommand, row_comes, row_goes, rows_come, LearnsTexts}
 use Rattle.djq_model.proofs.Counted.{
@@ -73,7 +55,7 @@ use Rattle.djq_model.proofs.Counted.{
   all_with_copies,
   all_without,
 }
-use Rattle.djq_machine.proofs.Copies.{copies_rows}
+use Rattle.djq_store_spec.proofs.Copies.{copies_rows}
 use Rattle.djq_laws.proofs.Suiting.{SameTypes, types_with_rows}
 use Rattle.djq_laws.proofs.Changing.{all_changed, all_found, all_dropped}
 use Rattle.djq_laws.proofs.Answering.{SameAnswers, rows_same, Spares, one_spares}

@@ -38,8 +38,10 @@ use Rattle.djq_lines.specs.declared.held.HeldRow.{HeldRow}
 use Rattle.djq_lines.specs.declared.limits.TheConstants.{SESSIONS}
 use Rattle.djq_lines.specs.Grammar.{says_command, reading_of}
 use Rattle.djq_lines.specs.Reply.{end_memory}
-use Rattle.djq_machine.specs.State.{Store, State, Session, Cursor, fresh, session_of, with_session, ended_by}
-use Rattle.djq_machine.specs.Changes.{RowsChange, RowsOutcome, tried, changed}
+use Rattle.djq_store_spec.specs.Store.{Store}
+use Rattle.djq_machine.specs.State.{State, Session, Cursor, fresh, session_of, with_session, ended_by}
+use Rattle.djq_store_spec.specs.Changes.{RowsChange, RowsOutcome, tried}
+use Rattle.djq_machine.specs.Outdating.{changed}
 use Rattle.djq_machine.specs.Watch.{is_watching, Telling, ChangeStep}
 use Rattle.djq_machine.specs.Effect.{Effect, nothing, EndsWith}
 use Rattle.djq_machine.specs.Command.{uses, with_cursor, with_watch, without_watch, with_batch, without_batch}

@@ -10,10 +10,11 @@ use Rattle.djq_lines.specs.declared.command.Command.TheVariants.{Add, Done, Quit
 use Rattle.djq_lines.specs.declared.held.HeldRow.{HeldRow}
 use Rattle.djq_lines.specs.Grammar.{says_command, reading_of}
 use Rattle.djq_lines.specs.Reply.{end_memory}
-use Rattle.djq_machine.specs.State.{Store, State, Session, fresh, session_of, with_session, ended_by}
+use Rattle.djq_store_spec.specs.Store.{Store}
+use Rattle.djq_machine.specs.State.{State, Session, fresh, session_of, with_session, ended_by}
 use Rattle.djq_machine.specs.Keeping.{no_line}
 use Rattle.djq_machine.specs.Effect.{Effect, nothing, says, EndsWith, queue, queue_all}
-use Rattle.djq_machine.specs.Changes.{RowsOutcome}
+use Rattle.djq_store_spec.specs.Changes.{RowsOutcome}
 use Rattle.djq_machine.specs.Watch.{Telling, ChangeStep}
 use Rattle.djq_machine.specs.Command.{CommandStep}
 use Rattle.djq_machine.specs.LineStep.{LineOutcome, long, blank, slow, no_room, run, behind_line, FrontStep, ReadStep}

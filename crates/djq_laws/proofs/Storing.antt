@@ -9,8 +9,8 @@ use Rattle.djq_model.specs.Data.{Bytes, tuples_in, bytes_eq}
 use Rattle.djq_model.specs.Listed.{Listed, listed_name}
 use Rattle.djq_model.specs.Typed.{fits}
 use Rattle.djq_lines.specs.declared.limits.TheConstants.{TEXTS}
-use Rattle.djq_machine.specs.State.{Store}
-use Rattle.djq_machine.specs.Changes.{RowsOutcome, accepted, out_of_memory, unchanged}
+use Rattle.djq_store_spec.specs.Store.{Store}
+use Rattle.djq_store_spec.specs.Changes.{RowsOutcome, accepted, out_of_memory, unchanged}
 use Rattle.djq_machine.specs.Step.{SameRelations}
 use Rattle.djq_laws.specs.Sound.{AreApart, IsCopyCount, IsSoundRelation, IsConnex, IsSoundStore}
 use Rattle.djq_laws.specs.Form.{

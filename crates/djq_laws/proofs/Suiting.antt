@@ -36,11 +36,12 @@ use Rattle.djq_lines.specs.declared.limits.TheConstants.{HELD}
 use Rattle.djq_lines.specs.declared.held.HeldRow.{HeldRow}
 use Rattle.djq_lines.specs.Columns.{types_of}
 use Rattle.djq_lines.specs.Conditions.{first_refusal}
-use Rattle.djq_machine.specs.State.{Store}
-use Rattle.djq_machine.specs.Store.{with_rows, row_refusals}
-use Rattle.djq_machine.specs.Batch.{suit_refusal, hold_refusal, SuitAll}
+use Rattle.djq_store_spec.specs.Store.{Store}
+use Rattle.djq_store_spec.specs.Relations.{with_rows}
+use Rattle.djq_store_spec.specs.Rows.{row_refusals}
+use Rattle.djq_store_spec.specs.Batch.{suit_refusal, hold_refusal, SuitAll}
 use Rattle.djq_machine.specs.Step.{SameRelations}
-use Rattle.djq_machine.proofs.Copies.{relation_here, relation_apart}
+use Rattle.djq_store_spec.proofs.Copies.{relation_here, relation_apart}
 use Rattle.djq_laws.specs.Sound.{IsHeldBySaying, IsSoundBatch}
 use Rattle.djq_laws.proofs.Forms.{none_first}
 

@@ -44,18 +44,11 @@ use Rattle.djq_lines.specs.Conditions.{first_refusal}
 use Rattle.djq_lines.specs.Columns.{types_of}
 use Rattle.djq_lines.specs.declared.answer.Refusal.TheVariants.{NoRelation, Arity, WrongType}
 use Rattle.djq_lines.specs.declared.held.HeldRow.{HeldRow}
-use Rattle.djq_machine.specs.State.{Store}
-use Rattle.djq_machine.specs.Store.{with_rows, copies_of, with_copies_of}
-use Rattle.djq_machine.specs.Batch.{
-  suit_refusal,
-  SuitAll,
-  is_there,
-  with_held,
-  with_all,
-  count_came,
-  HavePlaces,
-}
-use Rattle.djq_machine.proofs.Copies.{copies_rows}
+use Rattle.djq_store_spec.specs.Store.{Store}
+use Rattle.djq_store_spec.specs.Relations.{with_rows}
+use Rattle.djq_store_spec.specs.Rows.{copies_of, with_copies_of}
+use Rattle.djq_store_spec.specs.Batch.{suit_refusal, SuitAll, is_there, with_held, with_all, count_came, HavePlaces}
+use Rattle.djq_store_spec.proofs.Copies.{copies_rows}
 use Rattle.djq_laws.specs.Copies.{times_held, AddsHeld}
 use Rattle.djq_laws.proofs.Forms.{none_first}
 use Rattle.djq_laws.proofs.Counting.{its_copies, other_copies}

@@ -11,14 +11,17 @@ use Rattle.djq_model.specs.Listed.{Listed, listed_name, AnswersOf, listed_of}
 use Rattle.djq_lines.specs.declared.answer.EndCause.{EndCause}
 use Rattle.djq_lines.specs.declared.answer.EndCause.TheVariants.{Slow, Memory}
 use Rattle.djq_lines.specs.Reply.{text_of}
-use Rattle.djq_machine.specs.State.{Store, State, Session, session_of, with_session, ended_by, state_ids}
+use Rattle.djq_store_spec.specs.Store.{Store}
+use Rattle.djq_machine.specs.State.{State, Session, session_of, with_session, ended_by, state_ids}
 use Rattle.djq_machine.specs.Effect.{Effect}
-use Rattle.djq_machine.specs.Delta.{Change, IsDelta, delta_lines}
-use Rattle.djq_machine.specs.Stale.{outdated_cursor}
-use Rattle.djq_machine.specs.Changes.{RowsChange, accepted, is_outdated, changed}
+use Rattle.djq_store_spec.specs.Delta.{Change, IsDelta, delta_lines}
+use Rattle.djq_machine.specs.Outdating.{outdated_cursor}
+use Rattle.djq_store_spec.specs.Changes.{RowsChange, accepted, is_outdated}
+use Rattle.djq_machine.specs.Outdating.{changed}
 use Rattle.djq_machine.specs.Run.{Walk, to_session}
 use Rattle.djq_machine.specs.Call.{IsOpen, cause_of, cause_in}
-use Rattle.djq_machine.specs.Watch.{is_watching, affected, Delta, Telling, says_more, ends_more}
+use Rattle.djq_machine.specs.Watch.{is_watching, affected, Telling, says_more, ends_more}
+use Rattle.djq_store_spec.specs.DeltaCost.{Delta}
 use Rattle.djq_machine.specs.Watch.{watching, watcher_of, TellsWatcher, TellsSession, TellsDelta, ChangeStep}
 use Rattle.djq_machine.proofs.Walks.{walk_keeps}
 use Rattle.djq_deltas.proofs.Lists.{nothing_there, first_or_later, first_there, kept_there, mapped_there}

@@ -10,7 +10,8 @@ use Rattle.std.proofs.lemmas.List.Kept.{AllPairs-cons}
 use Rattle.djq_model.specs.Data.{Bytes, Tuple}
 use Rattle.djq_model.specs.Answer.{IsListing}
 use Rattle.djq_model.specs.Listed.{Listed, listed_name, AnswersOf}
-use Rattle.djq_machine.specs.State.{Store, State}
+use Rattle.djq_store_spec.specs.Store.{Store}
+use Rattle.djq_machine.specs.State.{State}
 use Rattle.djq_machine.specs.Step.{Event}
 use Rattle.djq_machine.specs.Run.{Did, to_session, out}
 use Rattle.djq_deltas.proofs.Lists.{nothing_there, first_or_later, kept_there, mapped_there}

@@ -6,7 +6,7 @@ use Rattle.djq_model.specs.Answer.{IsListing}
 use Rattle.djq_model.specs.Listed.{Listed, AnswersOf}
 use Rattle.djq_lines.specs.declared.answer.Sign.{Sign}
 use Rattle.djq_lines.specs.declared.answer.Sign.TheVariants.{Came, Went}
-use Rattle.djq_machine.specs.Delta.{Change, IsDelta}
+use Rattle.djq_store_spec.specs.Delta.{Change, IsDelta}
 
 -- whether two signs are the same
 abbrev pub same_sign : Sign → Sign → Bool

@@ -7,9 +7,9 @@ use Rattle.djq_lines.specs.declared.answer.AddOutcome.TheVariants.{First, More}
 use Rattle.djq_lines.specs.declared.answer.DeleteOutcome.{DeleteOutcome}
 use Rattle.djq_lines.specs.declared.answer.DeleteOutcome.TheVariants.{Last, Left, Absent}
 use Rattle.djq_lines.specs.declared.held.HeldRow.{HeldRow}
-use Rattle.djq_machine.specs.State.{Store}
-use Rattle.djq_machine.specs.Store.{copies_of, AddsRow, DeletesRow}
-use Rattle.djq_machine.specs.Batch.{SuitAll, is_there, AddsBatch}
+use Rattle.djq_store_spec.specs.Store.{Store}
+use Rattle.djq_store_spec.specs.Rows.{copies_of, AddsRow, DeletesRow}
+use Rattle.djq_store_spec.specs.Batch.{SuitAll, is_there, AddsBatch}
 use Rattle.djq_laws.specs.Sound.{IsSoundStore}
 
 -- A row is there exactly where it has a copy.

@@ -9,7 +9,7 @@ use Rattle.djq_machine.specs.State.{State, Session, session_of}
 use Rattle.djq_machine.specs.Step.{Event, opened, fed, stepped, took, ended, closed, Step, is_dry}
 use Rattle.djq_machine.specs.Run.{Did, pieces_of, cost_of, pending_of}
 use Rattle.djq_machine.specs.Call.{Counts}
-use Rattle.djq_laws.specs.declared.limits.TheConstants.{READ_BYTES}
+use Rattle.djq_io.specs.declared.limits.TheConstants.{READ_BYTES}
 
 -- Nothing is pending, no line can be run, and input may come.
 pub record AwaitsInput (x : Session) : Type 0 where

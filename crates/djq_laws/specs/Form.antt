@@ -47,11 +47,13 @@ use Rattle.djq_lines.specs.declared.command.Command.TheVariants.{
   Stop,
 }
 use Rattle.djq_lines.specs.Variables.{constants_of}
-use Rattle.djq_machine.specs.State.{Store, Session, Cursor, open_at, State, with_session, cursor_of}
+use Rattle.djq_store_spec.specs.Store.{Store, open_at}
+use Rattle.djq_machine.specs.State.{Session, Cursor, State, with_session, cursor_of}
 use Rattle.djq_machine.specs.State.{with_position, ended_by}
 use Rattle.djq_machine.specs.Keeping.{Keeping}
 use Rattle.djq_machine.specs.Effect.{Effect}
-use Rattle.djq_machine.specs.Store.{TellsAnswers, is_member}
+use Rattle.djq_store_spec.specs.Listing.{TellsAnswers}
+use Rattle.djq_store_spec.specs.Registering.{is_member}
 use Rattle.djq_machine.specs.Command.{
   uses,
   with_cursor,
@@ -63,7 +65,7 @@ use Rattle.djq_machine.specs.Command.{
   DeleteStep,
   DoneStep,
 }
-use Rattle.djq_machine.specs.Batch.{hold_refusal}
+use Rattle.djq_store_spec.specs.Batch.{hold_refusal}
 use Rattle.djq_laws.specs.Moved.{EndsByRun}
 use Rattle.djq_laws.specs.Sound.{IsConnex, IsSoundListed}
 

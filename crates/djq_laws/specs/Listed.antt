@@ -28,7 +28,8 @@ use Rattle.djq_lines.specs.declared.command.Command.TheVariants.{Open, Next}
 use Rattle.djq_lines.specs.Grammar.{Reading, says_command, reading_of}
 use Rattle.djq_lines.specs.declared.answer.Refusal.TheVariants.{Misplaced}
 use Rattle.djq_lines.specs.Reply.{line, text_of, listing_lines, refusal_line}
-use Rattle.djq_machine.specs.State.{State, Session, Cursor, Position, open_at, session_of, cursor_of}
+use Rattle.djq_machine.specs.State.{State, Session, Cursor, session_of, cursor_of}
+use Rattle.djq_store_spec.specs.Store.{Position, open_at}
 use Rattle.djq_machine.specs.LineStep.{run}
 use Rattle.djq_machine.specs.Step.{Event, stepped}
 use Rattle.djq_machine.specs.Run.{Did, Run, to_session}

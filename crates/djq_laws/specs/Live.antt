@@ -4,7 +4,8 @@ use Rattle.std.specs.List.{flat_map}
 use Rattle.djq_model.specs.Data.{Tuple}
 use Rattle.djq_model.specs.Answer.{IsListing}
 use Rattle.djq_model.specs.Listed.{Listed, listed_name, AnswersOf, listed_of}
-use Rattle.djq_machine.specs.State.{State, Session, Cursor, open_at, session_of}
+use Rattle.djq_machine.specs.State.{State, Session, Cursor, session_of}
+use Rattle.djq_store_spec.specs.Store.{open_at}
 use Rattle.djq_machine.specs.Run.{Did, Run, out}
 use Rattle.djq_machine.specs.Gives.{CursorsGive}
 use Rattle.djq_laws.specs.Watched.{

@@ -29,9 +29,11 @@ use Rattle.djq_lines.specs.declared.command.Command.TheVariants.{Add}
 use Rattle.djq_lines.specs.Grammar.{says_command, reading_of}
 use Rattle.djq_lines.specs.Hypergraph.{edges_of, head_of}
 use Rattle.djq_lines.specs.QueryFault.{reads_unknown}
-use Rattle.djq_machine.specs.Batch.{SuitAll}
-use Rattle.djq_machine.specs.Store.{IsFreeConnex, answer_types, listed_types}
-use Rattle.djq_machine.specs.State.{Store, State, Session, Cursor, Position, open_at, stale, opening}
+use Rattle.djq_store_spec.specs.Batch.{SuitAll}
+use Rattle.djq_hyper.specs.JoinTree.{IsFreeConnex}
+use Rattle.djq_store_spec.specs.Asking.{answer_types, listed_types}
+use Rattle.djq_store_spec.specs.Store.{Store, Position, open_at, stale}
+use Rattle.djq_machine.specs.State.{State, Session, Cursor, opening}
 use Rattle.djq_machine.specs.Run.{Did, Run}
 use Rattle.djq_laws.specs.Rising.{AreRising}
 

@@ -10,10 +10,11 @@ use Rattle.djq_lines.specs.declared.held.HeldRow.{HeldRow}
 use Rattle.djq_lines.specs.declared.command.Command.TheVariants.{Add, Del, Done}
 use Rattle.djq_lines.specs.Grammar.{Reading, says_command, reading_of}
 use Rattle.djq_lines.specs.Reply.{text_of}
-use Rattle.djq_machine.specs.State.{Store, State, Session, session_of}
-use Rattle.djq_machine.specs.Stale.{by_relation}
-use Rattle.djq_machine.specs.Batch.{first_read, has_come}
-use Rattle.djq_machine.specs.Delta.{Change, delta_lines}
+use Rattle.djq_store_spec.specs.Store.{Store}
+use Rattle.djq_machine.specs.State.{State, Session, session_of}
+use Rattle.djq_store_spec.specs.Stale.{by_relation}
+use Rattle.djq_store_spec.specs.Batch.{first_read, has_come}
+use Rattle.djq_store_spec.specs.Delta.{Change, delta_lines}
 use Rattle.djq_machine.specs.Watch.{is_watching}
 use Rattle.djq_machine.specs.LineStep.{run}
 use Rattle.djq_machine.specs.Step.{Event, stepped, Step}

@@ -26,8 +26,6 @@
 //! rests.
 #![tactic(auto)]
 
-pub mod limits;
-
 ghost use Rattle.djq_laws.specs.Moved.{StaysOpen, BytesCome, BytesAreTaken, InputEnds, LineIsTaken};
 ghost use Rattle.djq_laws.specs.Rising.{IdsRise};
 ghost use Rattle.djq_laws.specs.Sent.{SentBytes, SentInOrder};

@@ -24,7 +24,7 @@ use Rattle.std.proofs.Common.{
 use Rattle.std.specs.Prelude.{◌↔◌, Option, None, Some}
 use Rattle.std.proofs.lemmas.Option.{same_Some, none-some}
 use Rattle.std.proofs.lemmas.List.{length-append}
-use Rattle.djq_machine.specs.Store.{most_steps}
+use Rattle.djq_store_spec.specs.Registering.{most_steps}
 use Rattle.djq_index.specs.Tuple.{same}
 use Rattle.djq_index.proofs.Apart.{cnt_once}
 use Rattle.djq_index.proofs.Tuples.{same_cases, is_same, one_true, one_other}

@@ -23,7 +23,7 @@ use Rattle.std.specs.Prelude.{
   Contains,
   slice_get,
 }
-use Rattle.djq_machine.specs.Store.{most_steps}
+use Rattle.djq_store_spec.specs.Registering.{most_steps}
 use Rattle.djq_index.specs.Entries.{Entry, count_of}
 use Rattle.djq_tree.specs.Flat.{HasEqualMeets}
 use Rattle.djq_tree.specs.Labels.{label_at}

@@ -45,8 +45,8 @@ use Rattle.std.proofs.lemmas.List.Elements.{All-contains}
 use Rattle.djq_model.specs.Data.{Bytes, Tuple}
 use Rattle.djq_model.specs.Answer.{IsAnswer}
 use Rattle.djq_model.specs.declared.memory.NoMem.{NoMem}
-use Rattle.djq_machine.specs.State.{Position, open_at}
-use Rattle.djq_machine.specs.Store.{IsLeft, AreAll}
+use Rattle.djq_store_spec.specs.Store.{Position, open_at}
+use Rattle.djq_store_spec.specs.Listing.{IsLeft, AreAll}
 use Rattle.djq_reduct.specs.Reducts.{Reducts}
 use Rattle.djq_reduct.specs.Answers.{IsAnswerOf}
 use Rattle.djq_cursor.specs.declared.cursor.Cursor.{Cursor}

@@ -70,7 +70,7 @@ use Rattle.djq_lines.specs.Columns.{types_of}
 use Rattle.djq_lines.specs.Variables.{Label}
 use Rattle.djq_lines.specs.declared.answer.Refusal.{Refusal}
 use Rattle.djq_lines.specs.declared.answer.Refusal.TheVariants.{Arity, WrongType}
-use Rattle.djq_machine.specs.Store.{type_among, variable_type, answer_types, misfit, Tells}
+use Rattle.djq_store_spec.specs.Asking.{type_among, variable_type, answer_types, misfit, Tells}
 use Rattle.djq_tree.proofs.Trimming.{has_times, no_longer}
 use Rattle.djq_reduct.specs.Columns.{column}
 use Rattle.djq_reduct.specs.Reducts.{Reducts}

@@ -11,8 +11,8 @@ use Rattle.djq_model.specs.Data.{Bytes, Tuple, tuples_in}
 use Rattle.djq_model.specs.declared.relation.Relation.{Relation}
 use Rattle.djq_model.specs.Answer.{IsAnswer}
 use Rattle.djq_lines.specs.declared.answer.Sign.TheVariants.{Came as HasCome, Went as HasGone}
-use Rattle.djq_machine.specs.Delta.{Change}
-use Rattle.djq_machine.specs.Store.{most_steps}
+use Rattle.djq_store_spec.specs.Delta.{Change}
+use Rattle.djq_store_spec.specs.Registering.{most_steps}
 use Rattle.djq_tree.specs.Tree.{Tree}
 use Rattle.djq_reduct.specs.Reducts.{Reducts, SameTables}
 use Rattle.djq_cursor.specs.Listing.{ListsTuples}

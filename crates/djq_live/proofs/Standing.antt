@@ -19,7 +19,7 @@ use Rattle.djq_model.specs.declared.relation.ColumnType.{ColumnType}
 use Rattle.djq_model.specs.Data.{Bytes, Tuple}
 use Rattle.djq_model.specs.Answer.{IsAnswer}
 use Rattle.djq_model.specs.Typed.{fits}
-use Rattle.djq_machine.specs.Store.{answer_types}
+use Rattle.djq_store_spec.specs.Asking.{answer_types}
 use Rattle.djq_query.specs.declared.numbered.Variable.{Variable}
 use Rattle.djq_rows.specs.Cells.{cells_of, StandFor}
 use Rattle.djq_rows.specs.Catalog.{Catalog}

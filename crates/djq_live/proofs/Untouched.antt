@@ -11,8 +11,8 @@ use Rattle.djq_model.specs.declared.value.Value.{Value}
 use Rattle.djq_model.specs.declared.query.Atom.{Atom}
 use Rattle.djq_model.specs.Data.{Bytes, Tuple, bytes_eq}
 use Rattle.djq_model.specs.Equality.{bytes_eq-decides}
-use Rattle.djq_machine.specs.State.{open_at}
-use Rattle.djq_machine.specs.Stale.{reads}
+use Rattle.djq_store_spec.specs.Store.{open_at}
+use Rattle.djq_store_spec.specs.Stale.{reads}
 use Rattle.djq_index.specs.Entries.{Entry}
 use Rattle.djq_reduct.specs.Columns.{column}
 use Rattle.djq_reduct.specs.Answers.{IsAnswerOf}

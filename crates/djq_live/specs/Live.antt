@@ -3,7 +3,7 @@ use Rattle.std.specs.Prelude.{ℕ, List, ◌++◌, length, ◌≡◌, Bool, Opti
 use Rattle.djq_model.specs.declared.query.Query.{Query}
 use Rattle.djq_model.specs.Data.{Bytes, Tuple}
 use Rattle.djq_lines.specs.Hypergraph.{edges_of, head_of}
-use Rattle.djq_machine.specs.State.{Position, open_at, stale}
+use Rattle.djq_store_spec.specs.Store.{Position, open_at, stale}
 use Rattle.djq_tree.specs.Growing.{IsTreeOf}
 use Rattle.djq_reduct.specs.Reducts.{Reducts}
 use Rattle.djq_reduct.specs.Marks.{IsBare}

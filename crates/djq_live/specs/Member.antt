@@ -26,7 +26,7 @@ use Rattle.std.specs.List.{AllByRecursion}
 use Rattle.djq_model.specs.declared.relation.ColumnType.{ColumnType}
 use Rattle.djq_model.specs.Data.{Bytes, Tuple}
 use Rattle.djq_model.specs.Answer.{IsAnswer}
-use Rattle.djq_machine.specs.Store.{answer_types}
+use Rattle.djq_store_spec.specs.Asking.{answer_types}
 use Rattle.djq_reduct.specs.Reducts.{Reducts}
 use Rattle.djq_reduct.specs.Answers.{IsAnswerOf}
 use Rattle.djq_cursor.specs.declared.cursor.Cursor.{Cursor}

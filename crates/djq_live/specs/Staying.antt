@@ -1,7 +1,7 @@
 -- What stays of a registered query as others change, and where rows change that it doesn't read.
 use Rattle.std.specs.Prelude.{ℕ, List, ◌≡◌, ◌<◌, false, Some, length}
 use Rattle.djq_model.specs.Data.{Tuple}
-use Rattle.djq_machine.specs.Stale.{reads}
+use Rattle.djq_store_spec.specs.Stale.{reads}
 use Rattle.djq_rows.specs.Catalog.{Catalog, relation_at}
 use Rattle.djq_live.specs.Cursors.{Progress, slot_at}
 use Rattle.djq_leaves.specs.Changes.{Came, CameAll, Went, HasSameRows}

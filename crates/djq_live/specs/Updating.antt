@@ -5,8 +5,8 @@ use Rattle.djq_model.specs.declared.query.Atom.{Atom}
 use Rattle.djq_model.specs.Data.{Bytes, Tuple, rows_of}
 use Rattle.djq_model.specs.Answer.{IsAnswer}
 use Rattle.djq_lines.specs.declared.answer.Sign.TheVariants.{Came as HasCome, Went as HasGone}
-use Rattle.djq_machine.specs.Delta.{Change, IsDelta}
-use Rattle.djq_machine.specs.Store.{most_steps}
+use Rattle.djq_store_spec.specs.Delta.{Change, IsDelta}
+use Rattle.djq_store_spec.specs.Registering.{most_steps}
 use Rattle.djq_hyper.specs.Flat.{IsFlat}
 use Rattle.djq_lines.specs.Hypergraph.{edges_of, head_of}
 use Rattle.djq_tree.specs.Flat.{HasEqualMeets}

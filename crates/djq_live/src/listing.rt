@@ -17,7 +17,8 @@ ghost use Rattle.std.specs.Prelude.{
 };
 ghost use Rattle.djq_model.specs.Answer.{IsAnswer};
 ghost use Rattle.djq_model.specs.ValueRef.{value_lent};
-ghost use Rattle.djq_machine.specs.Store.{most_steps, Tells, answer_types, misfit};
+ghost use Rattle.djq_store_spec.specs.Registering.{most_steps};
+ghost use Rattle.djq_store_spec.specs.Asking.{Tells, answer_types, misfit};
 ghost use Rattle.djq_rows.specs.Catalog.{Catalog as CatalogModel};
 ghost use Rattle.djq_live.specs.Cursors.{slot_at, are_vacant, HasOpen};
 ghost use Rattle.djq_live.specs.Live.{IsLive, IsKeptSomewhere, IsShowable, FitsAt, values_of};

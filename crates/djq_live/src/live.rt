@@ -1,6 +1,6 @@
 ghost use Rattle.std.specs.Prelude.{◌≡◌};
 ghost use Rattle.djq_model.specs.Listed.{a_query};
-ghost use Rattle.djq_machine.specs.Store.{IsShapeOf};
+ghost use Rattle.djq_store_spec.specs.Asking.{IsShapeOf};
 ghost use Rattle.djq_live.specs.Live.{IsKeptSomewhere};
 
 use crate::headed::HeadedQuery;

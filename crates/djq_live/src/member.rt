@@ -2,7 +2,7 @@
 ghost use Rattle.std.specs.Prelude.{◌≡◌, ◌≤◌, ⊤, ℕ, true, nat_lt, length, map, Some, IsSomeAnd};
 ghost use Rattle.std.specs.List.{list_all};
 ghost use Rattle.djq_hyper.specs.Hypergraph.{member};
-ghost use Rattle.djq_machine.specs.Union.{same_types};
+ghost use Rattle.djq_store_spec.specs.Union.{same_types};
 ghost use Rattle.djq_planned.specs.Asked.{column_of};
 ghost use Rattle.djq_live.specs.Live.{IsKeptSomewhere};
 ghost use Rattle.djq_live.specs.Order.{cell_of_variable};
@@ -108,7 +108,7 @@ impl LiveQuery {
 
 impl Listing for LiveQuery {
     ghost use Rattle.std.specs.Prelude.{length};
-    ghost use Rattle.djq_machine.specs.Store.{most_steps};
+    ghost use Rattle.djq_store_spec.specs.Registering.{most_steps};
     ghost use Rattle.djq_live.specs.Live.{IsKeptSomewhere};
     ghost use Rattle.djq_live.specs.Member.{has_cells, cells_given, FitsKept};
 

@@ -1,6 +1,6 @@
 //! How one cursor of a query goes on.
 ghost use Rattle.std.specs.Prelude.{◌+◌, ◌≤◌, length};
-ghost use Rattle.djq_machine.specs.Store.{most_steps};
+ghost use Rattle.djq_store_spec.specs.Registering.{most_steps};
 ghost use Rattle.djq_live.specs.Cursors.{IsOpen};
 ghost use Rattle.djq_live.specs.Reading.{next_steps};
 ghost use Rattle.djq_live.specs.Advancing.{ProgressFits, CursorReads, CursorLooks};

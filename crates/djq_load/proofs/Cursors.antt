@@ -70,19 +70,10 @@ use Rattle.djq_lines.specs.Conditions.{Answers}
 use Rattle.djq_lines.specs.Reply.{refusal_line, end_memory, listing_lines, text_of, ok_reply}
 use Rattle.djq_value.specs.Token.{tokens}
 use Rattle.djq_value.proofs.Utf8.{ascii_utf8}
-use Rattle.djq_machine.specs.State.{
-  Store,
-  State,
-  Session,
-  Cursor,
-  open_at,
-  session_of,
-  with_session,
-  cursor_of,
-  with_position,
-  ended_by,
-}
-use Rattle.djq_machine.specs.Store.{IsLeft}
+use Rattle.djq_store_spec.specs.Store.{Store, open_at}
+use Rattle.djq_machine.specs.State.{State, Session, Cursor, session_of, with_session, cursor_of, with_position}
+use Rattle.djq_machine.specs.State.{ended_by}
+use Rattle.djq_store_spec.specs.Listing.{IsLeft}
 use Rattle.djq_machine.specs.Effect.{Effect, nothing, says, EndsWith, RefusedStep}
 use Rattle.djq_machine.specs.Command.{
   open_refusal,

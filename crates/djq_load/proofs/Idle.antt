@@ -21,7 +21,7 @@ use Rattle.djq_machine.specs.declared.machine.Stepped.{Stepped}
 use Rattle.djq_machine.specs.declared.machine.Stepped.TheVariants.{Ran, Dry, Ended as HadEnded}
 use Rattle.djq_machine.specs.Call.{IsOpen, Makes, MakesCounted, RanStep, EndedStepAs, StepGives}
 use Rattle.djq_machine.specs.Call.{Counts, cause_of, cause_in, held_of, held_in}
-use Rattle.djq_laws.specs.declared.limits.TheConstants.{READ_BYTES}
+use Rattle.djq_io.specs.declared.limits.TheConstants.{READ_BYTES}
 use Rattle.djq_laws.specs.Course.{RunNext, AwaitsInput}
 use Rattle.djq_laws.specs.Sent.{gone_by}
 use Rattle.djq_laws.specs.Moved.{SessionTakes, InputComes, is_held, out_of_memory, is_dropped, StepsLine}

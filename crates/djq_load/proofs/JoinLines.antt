@@ -22,8 +22,8 @@ use Rattle.djq_laws.specs.Course.{MayRun, RunNext}
 use Rattle.djq_laws.proofs.Cutting.{in_order, line_in_front}
 use Rattle.djq_laws.proofs.Giving.{step_gives}
 use Rattle.djq_laws.proofs.Sending.{next_runs}
-use Rattle.djq_gen.specs.Draws.{next, drawn}
-use Rattle.djq_gen.specs.Load.{reading_lines, relation, change, pause, changes, value_count, load}
+use Rattle.djq_load.specs.Draws.{next, drawn}
+use Rattle.djq_load.specs.Load.{reading_lines, relation, change, pause, changes, value_count, load}
 use Rattle.djq_load.specs.Joins.{join, GivesFew}
 use Rattle.djq_load.specs.Lines.{FeedsLines}
 use Rattle.djq_load.specs.Totals.{open_line, next_line}

@@ -95,28 +95,14 @@ use Rattle.djq_lines.specs.Conditions.{first_refusal, OutOfMemoryWhere}
 use Rattle.djq_lines.specs.Grammar.{says_command, reading_of}
 use Rattle.djq_lines.specs.Variables.{constants_of}
 use Rattle.djq_model.specs.Known.{texts_in}
-use Rattle.djq_machine.specs.State.{Store, State, Session, session_of, with_session}
+use Rattle.djq_store_spec.specs.Store.{Store}
+use Rattle.djq_machine.specs.State.{State, Session, session_of, with_session}
 use Rattle.djq_machine.specs.Effect.{Effect}
-use Rattle.djq_machine.specs.Store.{
-  with_rows,
-  copies_of,
-  with_copies_of,
-  MakesRelation,
-  RegistersQuery,
-  DropsQuery,
-  AddsRow,
-  AddsAs,
-  DeletesRow,
-  DeletesAs,
-  RefusedByTexts,
-  RefusedLate,
-  RegistersAs,
-  rel_refusal,
-  add_refusal,
-  delete_refusal,
-  query_refusal,
-  drop_refusal,
-}
+use Rattle.djq_store_spec.specs.Relations.{with_rows, MakesRelation, RefusedByTexts, rel_refusal}
+use Rattle.djq_store_spec.specs.Rows.{copies_of, with_copies_of, AddsRow, AddsAs, DeletesRow, DeletesAs, add_refusal}
+use Rattle.djq_store_spec.specs.Rows.{delete_refusal}
+use Rattle.djq_store_spec.specs.Registering.{RegistersQuery, DropsQuery, RefusedLate, RegistersAs, query_refusal}
+use Rattle.djq_store_spec.specs.Registering.{drop_refusal}
 use Rattle.djq_machine.specs.Command.{AddStep, BecomesWhere, CommandStep, HoldStep, QueryStep, QueryCutStep, with_batch}
 use Rattle.djq_machine.specs.LineStep.{LineOutcome, long, blank, slow, no_room, run, FrontStep, behind_line}
 use Rattle.djq_machine.specs.Step.{

@@ -4,8 +4,9 @@ use Rattle.std.proofs.Common.{sym, ap, ◌∙◌, subst, arith, append-nil}
 use Rattle.djq_model.specs.declared.relation.Relation.{Relation}
 use Rattle.djq_model.specs.Data.{Tuple}
 use Rattle.djq_model.specs.Listed.{Listed, AnswersOf}
-use Rattle.djq_machine.specs.State.{Store, State}
-use Rattle.djq_machine.specs.Store.{IsLeft, AreAll}
+use Rattle.djq_store_spec.specs.Store.{Store}
+use Rattle.djq_machine.specs.State.{State}
+use Rattle.djq_store_spec.specs.Listing.{IsLeft, AreAll}
 use Rattle.djq_machine.specs.Effect.{Effect}
 use Rattle.djq_machine.specs.Step.{Event, with_relations, Step}
 use Rattle.djq_laws.proofs.Answering.{SameAnswers, reordered_same}

@@ -8,3 +8,4 @@ mod Joining
 mod JoinLines
 mod Few
 mod Whole
+pub mod Changing

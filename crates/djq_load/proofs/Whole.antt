@@ -16,7 +16,7 @@ use Rattle.djq_machine.specs.Call.{IsOpen, Makes, Counts, OpenGives, cause_of, h
 use Rattle.djq_machine.specs.declared.machine.OpenRefusal.{OpenRefusal}
 use Rattle.djq_laws.proofs.Sending.{step_bytes}
 use Rattle.djq_laws.proofs.Queueing.{stepped_cause, stepped_held}
-use Rattle.djq_gen.specs.Load.{load}
+use Rattle.djq_load.specs.Load.{load}
 use Rattle.djq_load.specs.declared.loading.Totals.{Totals}
 use Rattle.djq_load.specs.declared.reading.Reading.{Reading}
 use Rattle.djq_load.specs.Replies.{read_bytes}

@@ -5,7 +5,8 @@ use Rattle.djq_model.specs.declared.query.Query.{Query}
 use Rattle.djq_model.specs.declared.query.Term.TheVariants.{Variable}
 use Rattle.djq_model.specs.Listed.{Listed, a_query}
 use Rattle.djq_lines.specs.declared.limits.TheConstants.{ROWS}
-use Rattle.djq_machine.specs.State.{Store, State}
+use Rattle.djq_store_spec.specs.Store.{Store}
+use Rattle.djq_machine.specs.State.{State}
 use Rattle.djq_machine.specs.Gives.{CursorsGive}
 
 -- the query that a load's lines say

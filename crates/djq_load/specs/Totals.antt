@@ -8,10 +8,11 @@ use Rattle.djq_model.specs.Answer.{IsListing}
 use Rattle.djq_model.specs.Listed.{Listed, AnswersOf, listed_of}
 use Rattle.djq_value.specs.Literal.{integer_of}
 use Rattle.djq_value.specs.ValueText.{value_text}
-use Rattle.djq_machine.specs.State.{Store, State}
-use Rattle.djq_machine.specs.Store.{IsLeft}
+use Rattle.djq_store_spec.specs.Store.{Store}
+use Rattle.djq_machine.specs.State.{State}
+use Rattle.djq_store_spec.specs.Listing.{IsLeft}
 use Rattle.djq_machine.specs.Call.{Counts, cause_of}
-use Rattle.djq_gen.specs.Load.{load}
+use Rattle.djq_load.specs.Load.{load}
 use Rattle.djq_load.specs.declared.loading.Totals.{Totals}
 use Rattle.djq_load.specs.declared.reading.Place.TheVariants.{Front}
 use Rattle.djq_load.specs.declared.reading.Reading.{Reading}

@@ -24,9 +24,34 @@
 //! Inside, `loading` is the loop, a function for each of its three parts, and `reading` reads a
 //! reply byte by byte: it keeps where it stands in a line, how many answers were read and their
 //! sum.
+//!
+//! # The generated lines
+//!
+//! A [`Load`] is made from a number of changes and a seed, and gives its lines one after another: a
+//! session that fills two relations and reads their join now and then. Two loads of the same two
+//! numbers are the same lines, on any machine and in any version, so that runs can be compared. The
+//! numbers are drawn by a linear congruential generator with the constants of the C standard's
+//! example. They are no good for anything but filling tables.
+//!
+//! ```text
+//! rel r int int                          add s 1 1
+//! rel s int int                          add r 1 0
+//! query q(x,y,z) <- r(x,y), s(y,z)       add r 1 1
+//! add r 0 1                              add r 0 1        (5 changes, seed 1)
+//! ```
+//!
+//! A row may be added twice, or deleted where it isn't there: a load asks nothing of what a line is
+//! answered. It ends with its last change, or with the cursor's lines after it. It is four numbers
+//! and what is due next: three draws make a change, and after each hundredth a cursor is opened, read
+//! and closed. It takes no memory: a line is written into a buffer of the caller's, with its line end.
 #![tactic(auto)]
 
+mod draw;
+mod line;
+mod load;
 mod loading;
 mod reading;
 
+pub use line::LINE_BYTES;
+pub use load::Load;
 pub use loading::{Totals, run_load};

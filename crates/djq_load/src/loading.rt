@@ -1,11 +1,11 @@
 ghost use Rattle.std.specs.Prelude.{◌≡◌, ℕ, [], ◌∷◌, ◌+◌, ◌*◌, ◌<◌, ◌≤◌, true, false, None, Some};
 ghost use Rattle.std.specs.Prelude.{IfOk, OnOk, OnErr, length, replicate};
-ghost use Rattle.djq_gen.specs.Load.{load};
+ghost use Rattle.djq_load.specs.Load.{load};
 ghost use Rattle.djq_lines.specs.Line.{behind_lf};
 ghost use Rattle.djq_machine.specs.State.{opening};
 ghost use Rattle.djq_machine.specs.Call.{IsOpen, cause_of, counts};
 ghost use Rattle.djq_machine.specs.Run.{pending_of};
-ghost use Rattle.djq_laws.specs.declared.limits.TheConstants.{READ_BYTES};
+ghost use Rattle.djq_io.specs.declared.limits.TheConstants.{READ_BYTES};
 ghost use Rattle.djq_load.specs.Lines.{FeedsLines, Feeds, LoadBreaksOff, SessionIsIdle, LineRuns, TakesAll};
 ghost use Rattle.djq_load.specs.Lines.{CursorStands};
 ghost use Rattle.djq_load.specs.Joins.{GivesFew};
@@ -13,7 +13,7 @@ ghost use Rattle.djq_load.specs.Totals.{ReadsSoFar, TotalsAreTold, open_line, ne
 ghost use Rattle.djq_load.specs.Totals.{RunsOut};
 
 use crate::reading::Reading;
-use djq_gen::{LINE_BYTES, Load};
+use crate::{LINE_BYTES, Load};
 use djq_machine::{Fed, Machine, Stepped};
 use djq_model::NoMem;
 use djq_steps::{Ledgers, Steps};

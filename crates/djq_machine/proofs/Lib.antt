@@ -1,4 +1,2 @@
 pub mod Walks
 pub mod Explaining
-pub mod Reading
-pub mod Copies

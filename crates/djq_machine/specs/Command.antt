@@ -99,37 +99,18 @@ use Rattle.djq_tree.specs.Tree.{Tree}
 use Rattle.djq_tree.specs.Growing.{IsTreeOf}
 use Rattle.djq_tree.specs.Explaining.{line_text}
 use Rattle.djq_lines.specs.Hypergraph.{edges_of, head_of, variable_names}
-use Rattle.djq_machine.specs.State.{
-  Store,
-  Position,
-  open_at,
-  stale,
-  Cursor,
-  Session,
-  State,
-  with_session,
-  cursor_of,
-  with_position,
-  ended_by,
-}
-use Rattle.djq_machine.specs.Conditions.{first_refusal, Answers, OutOfMemoryWhere}
-use Rattle.djq_machine.specs.Store.{
-  MakesRelation,
-  AddsRow,
-  DeletesRow,
-  RegistersQuery,
-  DropsQuery,
-  TellsWhether,
-  has_steps,
-  TellsShape,
-  TellsAnswers,
-  IsLeft,
-  answer_steps,
-}
-use Rattle.djq_machine.specs.Union.{RegistersUnion}
-use Rattle.djq_machine.specs.Changes.{row_in, row_out, add_outcome, delete_outcome}
+use Rattle.djq_store_spec.specs.Store.{Store, Position, open_at, stale}
+use Rattle.djq_machine.specs.State.{Cursor, Session, State, with_session, cursor_of, with_position, ended_by}
+use Rattle.djq_lines.specs.Conditions.{first_refusal, Answers, OutOfMemoryWhere}
+use Rattle.djq_store_spec.specs.Relations.{MakesRelation}
+use Rattle.djq_store_spec.specs.Rows.{AddsRow, DeletesRow}
+use Rattle.djq_store_spec.specs.Registering.{RegistersQuery, DropsQuery, answer_steps}
+use Rattle.djq_store_spec.specs.Asking.{TellsWhether, has_steps, TellsShape}
+use Rattle.djq_store_spec.specs.Listing.{TellsAnswers, IsLeft}
+use Rattle.djq_store_spec.specs.Union.{RegistersUnion}
+use Rattle.djq_store_spec.specs.Changes.{row_in, row_out, add_outcome, delete_outcome}
 use Rattle.djq_machine.specs.Watch.{is_watching, ChangeStep}
-use Rattle.djq_machine.specs.Batch.{hold_refusal, AddsBatch, batch_outcome}
+use Rattle.djq_store_spec.specs.Batch.{hold_refusal, AddsBatch, batch_outcome}
 use Rattle.djq_machine.specs.Keeping.{no_line, kept_where, is_done, is_removal, is_registration, kept_batch}
 use Rattle.djq_machine.specs.Effect.{Effect, says, answers, EndsWith, EndsAnswering, RefusedStep}
 

@@ -4,7 +4,8 @@ use Rattle.djq_model.specs.declared.relation.Relation.{Relation}
 use Rattle.djq_model.specs.Data.{Tuple}
 use Rattle.djq_model.specs.Answer.{IsListing, AreDifferent}
 use Rattle.djq_model.specs.Listed.{Listed, AnswersOf, listed_of}
-use Rattle.djq_machine.specs.State.{State, Position, open_at, stale}
+use Rattle.djq_machine.specs.State.{State}
+use Rattle.djq_store_spec.specs.Store.{Position, open_at, stale}
 
 -- A cursor has given different answers, and once its last answer was `end` all of them.
 pub record Gives (Answer : Tuple → Type 0) (given : List Tuple) (finished : Bool) : Type 0 where

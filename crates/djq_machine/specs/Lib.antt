@@ -1,12 +1,8 @@
 pub mod State
-pub mod Conditions
-pub mod Store
-pub mod Union
-pub mod Stale
-pub mod Changes
+pub mod Outdating
 pub mod Keeping
-pub mod Batch
 pub mod Effect
+pub mod Watch
 pub mod Command
 pub mod LineStep
 pub mod Step
@@ -15,5 +11,3 @@ pub mod Loading
 pub mod Run
 pub mod Gives
 pub mod Call
-pub mod Delta
-pub mod Watch

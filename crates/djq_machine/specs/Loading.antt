@@ -49,11 +49,13 @@ use Rattle.djq_lines.specs.Grammar.{
 use Rattle.djq_machine.specs.declared.machine.Loaded.{Loaded}
 use Rattle.djq_machine.specs.declared.machine.Loaded.TheVariants.{Ran as ran, Refused as refused, NoMem as no_memory}
 use Rattle.djq_lines.specs.declared.held.HeldRow.{HeldRow}
-use Rattle.djq_machine.specs.State.{Store}
-use Rattle.djq_machine.specs.Conditions.{Answers, OutOfMemoryWhere}
-use Rattle.djq_machine.specs.Store.{MakesRelation, AddsRow, DeletesRow, RegistersQuery, DropsQuery}
-use Rattle.djq_machine.specs.Union.{RegistersUnion}
-use Rattle.djq_machine.specs.Batch.{hold_refusal, AddsBatch}
+use Rattle.djq_store_spec.specs.Store.{Store}
+use Rattle.djq_lines.specs.Conditions.{Answers, OutOfMemoryWhere}
+use Rattle.djq_store_spec.specs.Relations.{MakesRelation}
+use Rattle.djq_store_spec.specs.Rows.{AddsRow, DeletesRow}
+use Rattle.djq_store_spec.specs.Registering.{RegistersQuery, DropsQuery}
+use Rattle.djq_store_spec.specs.Union.{RegistersUnion}
+use Rattle.djq_store_spec.specs.Batch.{hold_refusal, AddsBatch}
 use Rattle.djq_machine.specs.Command.{is_misplaced}
 use Rattle.djq_machine.specs.Keeping.{is_done, is_removal, is_registration}
 use Rattle.djq_machine.specs.Step.{SameRelations}

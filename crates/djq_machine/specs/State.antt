@@ -1,27 +1,9 @@
 -- The state of the join machine.
 use Rattle.std.specs.Prelude.{ℕ, List, [], ◌==◌, Bool, false, Option, None, Some, find, map}
-use Rattle.djq_model.specs.declared.relation.Relation.{Relation}
-use Rattle.djq_model.specs.Data.{Bytes, Tuple, bytes_eq, change_first}
-use Rattle.djq_model.specs.Listed.{Listed}
+use Rattle.djq_model.specs.Data.{Bytes, bytes_eq, change_first}
 use Rattle.djq_lines.specs.declared.answer.EndCause.{EndCause}
 use Rattle.djq_lines.specs.declared.held.HeldRow.{HeldRow}
-
--- What is kept of the data, whoever changes it.
-pub record Store : Type 0 where
-  pub relations : List Relation
-  -- the texts that are known
-  pub texts : List Bytes
-  -- in order of registration
-  pub queries : List Listed
-  -- the number of accepted changes of rows
-  pub seq : ℕ
-
--- How far a cursor has come.
-pub data Position : Type 0 where
-  -- the answers that it has given, and whether it was answered `end` last
-  open_at : List Tuple → Bool → Position
-  -- the relation whose change made it stale, and the number of that change
-  stale : Bytes → ℕ → Position
+use Rattle.djq_store_spec.specs.Store.{Store, Position, empty_store}
 
 -- A cursor of a session, over the answers of a query.
 pub record Cursor : Type 0 where
@@ -55,7 +37,7 @@ pub record State : Type 0 where
 -- The state in which nothing has happened.
 abbrev pub opening : State
 opening = record {
-  store = record { relations = []; texts = []; queries = []; seq = 0 };
+  store = empty_store;
   stopped = false;
   sessions = [];
 }

@@ -8,3 +8,5 @@ pub mod Finding
 pub mod Turning
 pub mod Sets
 pub mod Writing
+pub mod Following
+pub mod Leaving

@@ -5,3 +5,5 @@ pub mod Parts
 pub mod Cells
 pub mod Reading
 pub mod Acting
+pub mod Follow
+pub mod Ends

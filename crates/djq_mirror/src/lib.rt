@@ -25,16 +25,37 @@
 //!
 //! Inside, `parts` cuts bytes at a sign, `words` and `cells` read what stands between, `forms` and
 //! `told` read a line, `turn` is the table of what it does, and `texts` the set.
+//!
+//! # The loop of `djq mirror`
+//!
+//! [`mirror`] reads what a session was sent from a source, piece by piece, to the source's end or to
+//! the first line that a mirror can't follow, and writes what that leaves. Its contract says so of the
+//! bytes that were read, however they are cut into pieces.
+//!
+//! ```text
+//! read    ok watch 0, ok open, = 2, = 1, e     the front of a line is kept
+//! read    nd, + q 3                            the last line lacks its LF
+//! end
+//! write   mirror 6                             Mirrored::Outside(6)
+//! ```
+//!
+//! Lines are lent from the buffer that was read into. Only a line that a piece leaves unfinished is
+//! copied, and of one that is too long no more is kept than a piece above the limit; the source isn't
+//! read on then.
 #![tactic(auto)]
 
+pub use command::{Mirrored, mirror};
 pub use mirror::{Mirror, MirrorRefusal};
 pub use mode::{Mode, REPLY_LINE_BYTES};
 
 mod cells;
+mod command;
+mod follower;
 mod forms;
 mod mirror;
 mod mode;
 mod parts;
+mod reading;
 mod texts;
 mod told;
 mod turn;

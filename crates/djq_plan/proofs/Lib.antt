@@ -14,3 +14,7 @@ pub mod Deciding
 pub mod Pairs
 pub mod Evening
 pub mod Flat
+pub mod ReductionPlaces
+pub mod ReductionStepping
+pub mod Finding
+pub mod Leaning

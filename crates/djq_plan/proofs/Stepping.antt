@@ -19,7 +19,7 @@ use Rattle.djq_plan.proofs.Places.{bag_remove, bag_both}
 use Rattle.djq_plan.proofs.Says.{Trims, Meets, Says, choose_says}
 use Rattle.djq_plan.proofs.Leading.{removed_says, after_trim, after_meet, grown_current}
 use Rattle.djq_plan.proofs.Growths.{first_of}
-use Rattle.djq_gyo.proofs.Stepping.{filter_most}
+use Rattle.djq_plan.proofs.ReductionStepping.{filter_most}
 
 -- ---- places that the rule names
 

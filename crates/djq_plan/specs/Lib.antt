@@ -1,2 +1,4 @@
 pub mod Stages
 pub mod Plan
+pub mod Search
+pub mod Reduced

@@ -3,7 +3,7 @@ ghost use Rattle.std.specs.Prelude.{◌≡◌, ℕ, ◌∷◌, ◌++◌, IfOk};
 ghost use Rattle.djq_hyper.specs.JoinTree.{IsFreeConnex};
 ghost use Rattle.djq_plan.specs.Plan.{IsRefusal};
 
-use djq_gyo::reduce;
+use crate::reduce;
 use djq_hyper::{Edges, VarSet};
 use std::alloc::{AllocError, Global};
 use thiserror::Error;

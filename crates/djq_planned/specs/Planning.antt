@@ -16,7 +16,7 @@ use Rattle.djq_dict.specs.declared.refusal.InternRefusal.TheVariants.{
   NoMem as NoMemForTexts,
 }
 use Rattle.djq_rows.specs.Cells.{HaveCells}
-use Rattle.djq_machine.specs.Store.{LearnsFirst, FindsNoPlace, LearnsAll}
+use Rattle.djq_store_spec.specs.Relations.{LearnsFirst, FindsNoPlace, LearnsAll}
 use Rattle.djq_planned.specs.declared.plan.PlannedQuery.{PlannedQuery}
 use Rattle.djq_planned.specs.declared.plan.Unplanned.{Unplanned}
 use Rattle.djq_planned.specs.declared.plan.Unplanned.TheVariants.{Cyclic, NotConnex, NoMem}

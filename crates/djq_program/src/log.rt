@@ -4,7 +4,7 @@ ghost use Rattle.djq_journal.specs.Standing.{IsAtGate};
 ghost use Rattle.djq_machine.specs.State.{opening};
 ghost use Rattle.djq_machine.specs.Call.{counts};
 ghost use Rattle.djq_program_laws.specs.Logged.{LeavesUnloaded, UnloadedFor, Unloaded, disk_seen, log_seen_at, log_seen};
-ghost use Rattle.djq_core.specs.Views.{loading_in};
+ghost use Rattle.djq_commands.specs.Views.{loading_in};
 ghost use Rattle.djq_program_laws.specs.Parts.{OpensLog, OpensFile, OpensJournal, LoadsLines, StopsLoading};
 ghost use Rattle.djq_program_laws.specs.Parts.{ReadsLog, EndsBatch, CantEnd};
 

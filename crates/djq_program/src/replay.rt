@@ -15,7 +15,7 @@ use crate::program::ended_status;
 use djq_core::Core;
 use djq_disk::Disk;
 use djq_io::{MemHub, Read, Sink, Source, SteadyHub, Written, write_all};
-use djq_laws::limits::{MOST_READS, READ_BYTES};
+use djq_io::limits::{MOST_READS, READ_BYTES};
 use djq_run::Status;
 use djq_schedule::{ScheduleRefusal, count_lines, outside_line, schedule_hub, sent_text};
 use djq_serve::serve_logged;

@@ -6,7 +6,8 @@ use Rattle.djq_model.specs.declared.relation.Relation.{Relation}
 use Rattle.djq_model.specs.Data.{Tuple}
 use Rattle.djq_model.specs.Answer.{IsListing}
 use Rattle.djq_model.specs.Listed.{Listed, AnswersOf, listed_of}
-use Rattle.djq_machine.specs.State.{Position, open_at, Session, Cursor}
+use Rattle.djq_store_spec.specs.Store.{Position, open_at}
+use Rattle.djq_machine.specs.State.{Session, Cursor}
 use Rattle.djq_machine.specs.Gives.{PositionGives}
 use Rattle.djq_program_laws.specs.Finished.{FinishedCursors}
 

@@ -11,7 +11,8 @@ use Rattle.djq_journal.specs.Keeping.{IsKeeping}
 use Rattle.djq_journal.specs.Logging.{HasKeptGroups, Overfull}
 use Rattle.djq_model.specs.Data.{Bytes}
 use Rattle.djq_lines.specs.declared.held.HeldRow.{HeldRow}
-use Rattle.djq_machine.specs.State.{Store, State, opening}
+use Rattle.djq_store_spec.specs.Store.{Store}
+use Rattle.djq_machine.specs.State.{State, opening}
 use Rattle.djq_machine.specs.Run.{Group, lines_in}
 use Rattle.djq_machine.specs.Call.{Counts}
 use Rattle.djq_machine.specs.declared.machine.Loaded.TheVariants.{Ran}

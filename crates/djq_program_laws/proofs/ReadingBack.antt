@@ -28,10 +28,10 @@ use Rattle.djq_io.specs.Calls.{sent_to}
 use Rattle.djq_serve.specs.Told.{Shown}
 use Rattle.djq_serve.specs.Server.{all_told, all_done}
 use Rattle.djq_serve.specs.Ends.{RunsThrough, ServeEnds}
-use Rattle.djq_follow.specs.declared.command.Mirrored.{Mirrored}
-use Rattle.djq_follow.specs.declared.command.Mirrored.TheVariants.{Done, Outside as Halted}
-use Rattle.djq_follow.specs.declared.command.Mirrored.TheVariants.{ReadFault, WriteFault, TooMany, NoMemory}
-use Rattle.djq_follow.specs.Ends.{ComesTo, StopsFor, WritesOf, MirrorEnds}
+use Rattle.djq_mirror.specs.declared.command.Mirrored.{Mirrored}
+use Rattle.djq_mirror.specs.declared.command.Mirrored.TheVariants.{Done, Outside as Halted}
+use Rattle.djq_mirror.specs.declared.command.Mirrored.TheVariants.{ReadFault, WriteFault, TooMany, NoMemory}
+use Rattle.djq_mirror.specs.Ends.{ComesTo, StopsFor, WritesOf, MirrorEnds}
 use Rattle.djq_told.specs.Sayable.{IsSayableStore}
 use Rattle.djq_told.specs.Mirrored.{HoldsTextsOf}
 use Rattle.djq_told.specs.Whole.{ReadsSinceOpened}

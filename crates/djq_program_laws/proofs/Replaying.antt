@@ -21,7 +21,7 @@ use Rattle.djq_model.specs.Data.{Bytes}
 use Rattle.djq_machine.specs.State.{State}
 use Rattle.djq_machine.specs.Run.{Walk, Group, groups_of}
 use Rattle.djq_machine.specs.Call.{Counts}
-use Rattle.djq_laws.specs.declared.limits.TheConstants.{READ_BYTES}
+use Rattle.djq_io.specs.declared.limits.TheConstants.{READ_BYTES}
 use Rattle.djq_run.specs.declared.status.Status.{Status}
 use Rattle.djq_run.specs.declared.status.Status.TheVariants.{NoMemory}
 use Rattle.djq_schedule.specs.Schedule.{schedule_lines}

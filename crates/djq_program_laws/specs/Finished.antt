@@ -3,7 +3,8 @@ use Rattle.std.specs.Prelude.{List, ◌≡◌, true, IsSomeAnd, Contains}
 use Rattle.djq_model.specs.Data.{Tuple}
 use Rattle.djq_model.specs.Answer.{IsListing}
 use Rattle.djq_model.specs.Listed.{AnswersOf, listed_of}
-use Rattle.djq_machine.specs.State.{State, Session, Cursor, open_at}
+use Rattle.djq_machine.specs.State.{State, Session, Cursor}
+use Rattle.djq_store_spec.specs.Store.{open_at}
 use Rattle.djq_laws.specs.Course.{Outside}
 use Rattle.djq_laws.specs.Given.{PassedThrough}
 use Rattle.djq_run.specs.declared.status.Status.{Status}

@@ -2,13 +2,13 @@
 use Rattle.std.specs.Prelude.{◌≡◌}
 use Rattle.djq_model.specs.Data.{Bytes}
 use Rattle.djq_laws.specs.Course.{Outside}
-use Rattle.djq_follow.specs.declared.command.Mirrored.{Mirrored}
-use Rattle.djq_follow.specs.declared.command.Mirrored.TheVariants.{Done as Followed}
-use Rattle.djq_follow.specs.declared.command.Mirrored.TheVariants.{Outside as Halted}
-use Rattle.djq_follow.specs.declared.command.Mirrored.TheVariants.{ReadFault as FailedRead}
-use Rattle.djq_follow.specs.declared.command.Mirrored.TheVariants.{WriteFault as FailedWrite}
-use Rattle.djq_follow.specs.declared.command.Mirrored.TheVariants.{TooMany, NoMemory as Lacking}
-use Rattle.djq_follow.specs.Ends.{MirrorEnds}
+use Rattle.djq_mirror.specs.declared.command.Mirrored.{Mirrored}
+use Rattle.djq_mirror.specs.declared.command.Mirrored.TheVariants.{Done as Followed}
+use Rattle.djq_mirror.specs.declared.command.Mirrored.TheVariants.{Outside as Halted}
+use Rattle.djq_mirror.specs.declared.command.Mirrored.TheVariants.{ReadFault as FailedRead}
+use Rattle.djq_mirror.specs.declared.command.Mirrored.TheVariants.{WriteFault as FailedWrite}
+use Rattle.djq_mirror.specs.declared.command.Mirrored.TheVariants.{TooMany, NoMemory as Lacking}
+use Rattle.djq_mirror.specs.Ends.{MirrorEnds}
 use Rattle.djq_run.specs.declared.status.Status.{Status}
 use Rattle.djq_run.specs.declared.status.Status.TheVariants.{Done, ReadFault, WriteFault, TurnsUsed, NoMemory, Mirror}
 

@@ -9,9 +9,9 @@ use Rattle.djq_mirror.specs.declared.mode.Mode.TheVariants.{Live}
 use Rattle.djq_mirror.specs.Mirror.{Held, written}
 use Rattle.djq_machine.specs.State.{State}
 use Rattle.djq_told.specs.Mirrored.{HoldsTextsOf}
-use Rattle.djq_follow.specs.declared.command.Mirrored.{Mirrored}
-use Rattle.djq_follow.specs.declared.command.Mirrored.TheVariants.{Done, Outside}
-use Rattle.djq_follow.specs.Ends.{MirrorEnds}
+use Rattle.djq_mirror.specs.declared.command.Mirrored.{Mirrored}
+use Rattle.djq_mirror.specs.declared.command.Mirrored.TheVariants.{Done, Outside}
+use Rattle.djq_mirror.specs.Ends.{MirrorEnds}
 
 -- A mirror's last answers are written; and where it is live, they are the query's answers over the rows
 -- of a state, in byte order.

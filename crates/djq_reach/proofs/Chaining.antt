@@ -8,7 +8,7 @@ use Rattle.std.proofs.lemmas.List.{take_more, length-append}
 use Rattle.std.proofs.lemmas.List.Elements.{All-cons, All-head, All-tail}
 use Rattle.djq_model.specs.declared.query.Query.{Query}
 use Rattle.djq_model.specs.Data.{Bytes, Tuple}
-use Rattle.djq_machine.specs.Stale.{reads}
+use Rattle.djq_store_spec.specs.Stale.{reads}
 use Rattle.djq_model.specs.Answer.{IsAnswer}
 use Rattle.djq_query.specs.Numbered.{Numbered}
 use Rattle.djq_rows.specs.Catalog.{Catalog, relation_at}

@@ -9,7 +9,7 @@ use Rattle.djq_model.specs.declared.query.Query.{Query}
 use Rattle.djq_model.specs.Data.{Bytes, Tuple}
 use Rattle.djq_model.specs.Answer.{IsAnswer}
 use Rattle.djq_model.specs.Listed.{a_query}
-use Rattle.djq_machine.specs.Delta.{Change, IsDelta}
+use Rattle.djq_store_spec.specs.Delta.{Change, IsDelta}
 use Rattle.djq_deltas.proofs.Deciding.{answers_are_decided}
 use Rattle.djq_tree.specs.Tree.{Tree}
 use Rattle.djq_query.specs.Numbered.{Numbered}

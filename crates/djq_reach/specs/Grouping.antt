@@ -3,8 +3,8 @@ use Rattle.std.specs.Prelude.{ℕ, List, [], ◌∷◌, ◌++◌, ◌≡◌, ◌
 use Rattle.std.specs.Prelude.{false, Option, None, Some, All, if◌then◌else◌, length, map, filter}
 use Rattle.std.specs.Prelude.{sum_by, ⊤}
 use Rattle.djq_model.specs.Data.{Tuple}
-use Rattle.djq_machine.specs.Delta.{Change}
-use Rattle.djq_machine.specs.Store.{most_steps}
+use Rattle.djq_store_spec.specs.Delta.{Change}
+use Rattle.djq_store_spec.specs.Registering.{most_steps}
 use Rattle.djq_propagate.specs.Updates.{HasAtMost}
 use Rattle.djq_cursor.specs.Log.{Log}
 use Rattle.djq_rows.specs.Catalog.{Catalog, relation_at}

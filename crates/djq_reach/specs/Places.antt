@@ -3,7 +3,7 @@ use Rattle.std.specs.Prelude.{ℕ, List, [], ◌∷◌, ◌==◌, ◌≡◌, nat
 use Rattle.std.specs.Prelude.{Some, slice_index_or, ⊤}
 use Rattle.std.specs.List.{list_any}
 use Rattle.djq_model.specs.Data.{Bytes}
-use Rattle.djq_machine.specs.Stale.{reads}
+use Rattle.djq_store_spec.specs.Stale.{reads}
 use Rattle.djq_cursor.specs.Log.{Log}
 use Rattle.djq_live.specs.Live.{Live}
 

@@ -3,7 +3,7 @@ use Rattle.std.specs.Prelude.{ℕ, List, [], ◌≡◌, ◌<◌, ◌≤◌, ◌+
 use Rattle.std.specs.Prelude.{None, Some, IsSomeAnd, min, if◌then◌else◌, length, map, sum_by, All}
 use Rattle.std.specs.Prelude.{⊤}
 use Rattle.djq_model.specs.Data.{Bytes, Tuple}
-use Rattle.djq_machine.specs.Delta.{Change}
+use Rattle.djq_store_spec.specs.Delta.{Change}
 use Rattle.djq_hyper.specs.Flat.{IsFlat}
 use Rattle.djq_lines.specs.Hypergraph.{edges_of, head_of}
 use Rattle.djq_propagate.specs.Updates.{HasAtMost}

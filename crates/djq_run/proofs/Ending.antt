@@ -15,7 +15,7 @@ use Rattle.djq_machine.specs.Effect.{Effect}
 use Rattle.djq_machine.specs.Step.{opened, is_dry}
 use Rattle.djq_machine.specs.Run.{Did, all_fed, fed_by, pending_of, to_session}
 use Rattle.djq_machine.specs.Call.{IsOpen, Makes, OpenGives, cause_of, cause_in, held_of}
-use Rattle.djq_laws.specs.declared.limits.TheConstants.{MOST_READS}
+use Rattle.djq_io.specs.declared.limits.TheConstants.{MOST_READS}
 use Rattle.djq_laws.proofs.Queueing.{stepped_held, stepped_cause}
 use Rattle.djq_laws.proofs.Sending.{step_bytes}
 use Rattle.djq_laws.specs.Course.{Outside, Course, AwaitsInput}

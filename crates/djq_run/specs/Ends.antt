@@ -9,7 +9,7 @@ use Rattle.djq_machine.specs.State.{State, session_of}
 use Rattle.djq_machine.specs.Step.{is_dry}
 use Rattle.djq_machine.specs.Run.{pending_of, all_fed}
 use Rattle.djq_machine.specs.Call.{cause_of, held_of}
-use Rattle.djq_laws.specs.declared.limits.TheConstants.{MOST_READS}
+use Rattle.djq_io.specs.declared.limits.TheConstants.{MOST_READS}
 use Rattle.djq_laws.specs.Course.{Outside, Course, AwaitsInput}
 use Rattle.djq_run.specs.declared.status.Status.{Status}
 use Rattle.djq_run.specs.declared.status.Status.TheVariants.{Done, Usage, ReadFault, WriteFault}

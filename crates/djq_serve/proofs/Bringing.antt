@@ -18,7 +18,7 @@ use Rattle.djq_machine.specs.State.{State, Session}
 use Rattle.djq_machine.specs.Effect.{nothing}
 use Rattle.djq_machine.specs.Step.{opened, fed, ended, SameRelations, Step}
 use Rattle.djq_machine.specs.Call.{IsOpen, Makes, OpenGives, Counts}
-use Rattle.djq_laws.specs.declared.limits.TheConstants.{READ_BYTES}
+use Rattle.djq_io.specs.declared.limits.TheConstants.{READ_BYTES}
 use Rattle.djq_serve.specs.declared.served.Served.TheVariants.{HubFault}
 use Rattle.djq_serve.specs.Told.{Shown, HubTells, turns_in}
 use Rattle.djq_serve.specs.Server.{next_turn, no_turn, waiting, lines, flushing, closing, server}

@@ -21,7 +21,7 @@ use Rattle.djq_machine.specs.LineStep.{LineOutcome, long, blank, slow, no_room, 
 use Rattle.djq_machine.specs.Step.{Event, opened, fed, stepped, took, ended, closed, Step, is_dry}
 use Rattle.djq_machine.specs.Run.{Did, Group, kept_group, pending_of}
 use Rattle.djq_machine.specs.Call.{IsOpen, cause_of, held_of, state_ids, first_due}
-use Rattle.djq_laws.specs.declared.limits.TheConstants.{READ_BYTES}
+use Rattle.djq_io.specs.declared.limits.TheConstants.{READ_BYTES}
 use Rattle.djq_serve.specs.declared.served.Served.{Served}
 use Rattle.djq_serve.specs.declared.served.Served.TheVariants.{Stopped, Over, TurnsUsed, HubFault, DiskFault, LogFull}
 

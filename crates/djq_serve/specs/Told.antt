@@ -10,7 +10,7 @@ use Rattle.djq_io.specs.declared.hub.Told.{Told}
 use Rattle.djq_io.specs.declared.hub.Told.TheVariants.{Listening, Turning, Sending, Closing}
 use Rattle.djq_model.specs.Data.{Bytes}
 use Rattle.djq_machine.specs.Run.{Walk}
-use Rattle.djq_laws.specs.declared.limits.TheConstants.{READ_BYTES}
+use Rattle.djq_io.specs.declared.limits.TheConstants.{READ_BYTES}
 
 -- What a hub shows: its past and its script, where it tells them, and its ids.
 pub record Shown : Type 0 where

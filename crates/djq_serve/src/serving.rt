@@ -1,7 +1,7 @@
 ghost use Rattle.std.specs.Prelude.{◌≡◌, [], None, Some, false, length};
 ghost use Rattle.djq_io.specs.Faults.{Counted};
 ghost use Rattle.djq_machine.specs.Call.{counts, state_ids};
-ghost use Rattle.djq_laws.specs.declared.limits.TheConstants.{READ_BYTES};
+ghost use Rattle.djq_io.specs.declared.limits.TheConstants.{READ_BYTES};
 ghost use Rattle.djq_laws.specs.Holding.{HoldLines};
 ghost use Rattle.djq_serve.specs.Told.{hub_shown};
 ghost use Rattle.djq_serve.specs.Server.{closing, server};

@@ -12,11 +12,11 @@ use Rattle.djq_model.specs.declared.query.Query.{Query}
 use Rattle.djq_model.specs.Data.{Bytes}
 use Rattle.djq_model.specs.Answer.{IsAnswer}
 use Rattle.djq_model.specs.Listed.{Listed, a_query, a_union, AnswersOf}
-use Rattle.djq_machine.specs.Stale.{reads}
-use Rattle.djq_machine.specs.Store.{atoms_of}
-use Rattle.djq_machine.specs.Changes.{RowsChange, is_outdated}
-use Rattle.djq_machine.specs.Delta.{Change, IsDelta}
-use Rattle.djq_machine.specs.Watch.{Delta, is_touched, AreDeltas}
+use Rattle.djq_store_spec.specs.Stale.{reads}
+use Rattle.djq_store_spec.specs.Registering.{atoms_of}
+use Rattle.djq_store_spec.specs.Changes.{RowsChange, is_outdated}
+use Rattle.djq_store_spec.specs.Delta.{Change, IsDelta}
+use Rattle.djq_store_spec.specs.DeltaCost.{Delta, is_touched, AreDeltas}
 use Rattle.djq_live.specs.Live.{Live}
 use Rattle.djq_live.specs.Member.{query_at, queries_at}
 use Rattle.djq_live.specs.Updating.{change_of}

@@ -18,8 +18,8 @@ use Rattle.djq_lines.specs.declared.answer.Refusal.TheVariants.{NoQuery, NoMemor
 use Rattle.djq_lines.specs.declared.answer.Shape.{Shape}
 use Rattle.djq_lines.specs.declared.answer.Shape.TheVariants.{Union}
 use Rattle.djq_lines.specs.declared.limits.TheConstants.{QUERIES}
-use Rattle.djq_machine.specs.Conditions.{first_refusal, Answers, OutOfMemoryWhere}
-use Rattle.djq_machine.specs.Store.{TellsShape, IsShapeOf}
+use Rattle.djq_lines.specs.Conditions.{first_refusal, Answers, OutOfMemoryWhere}
+use Rattle.djq_store_spec.specs.Asking.{TellsShape, IsShapeOf}
 use Rattle.djq_live.specs.Live.{Live, IsShowable, values_of}
 use Rattle.std.specs.List.{AllByRecursion}
 use Rattle.djq_live.specs.Member.{query_at, queries_at}

@@ -18,14 +18,15 @@ use Rattle.djq_lines.specs.Columns.{types_of}
 use Rattle.djq_lines.specs.Conditions.{first_refusal}
 use Rattle.djq_model.specs.Typed.{fits}
 use Rattle.djq_lines.specs.declared.answer.Refusal.TheVariants.{Limit, NoMemory, NoRelation, Arity, WrongType}
-use Rattle.djq_machine.specs.Store.{with_rows, copies_of, with_copies_of}
-use Rattle.djq_machine.specs.State.{Store}
-use Rattle.djq_machine.specs.Stale.{reads, listed_reads}
-use Rattle.djq_machine.specs.Batch.{suit_refusal, SuitAll, is_there, with_held, with_all}
-use Rattle.djq_machine.specs.Batch.{count_came, has_come, store_behind, BatchStopsAt}
-use Rattle.djq_machine.specs.Batch.{AddsBatch, rows_held, batch_outcome}
-use Rattle.djq_machine.specs.Watch.{is_touched}
-use Rattle.djq_machine.proofs.Reading.{reads_atom}
+use Rattle.djq_store_spec.specs.Relations.{with_rows}
+use Rattle.djq_store_spec.specs.Rows.{copies_of, with_copies_of}
+use Rattle.djq_store_spec.specs.Store.{Store}
+use Rattle.djq_store_spec.specs.Stale.{reads, listed_reads}
+use Rattle.djq_store_spec.specs.Batch.{suit_refusal, SuitAll, is_there, with_held, with_all}
+use Rattle.djq_store_spec.specs.Batch.{count_came, has_come, store_behind, BatchStopsAt}
+use Rattle.djq_store_spec.specs.Batch.{AddsBatch, rows_held, batch_outcome}
+use Rattle.djq_store_spec.specs.DeltaCost.{is_touched}
+use Rattle.djq_store_spec.proofs.Reading.{reads_atom}
 use Rattle.djq_rows.specs.Laws.{TextsStay}
 use Rattle.djq_engine.specs.Kept.{Kept}
 use Rattle.djq_deltas.proofs.Growing.{rows_come, batch_spares}

@@ -9,7 +9,7 @@ use Rattle.djq_model.specs.Data.{Bytes, bytes_eq}
 use Rattle.djq_model.specs.Equality.{bytes_eq-decides}
 use Rattle.djq_model.specs.Listed.{listed_name, members_of}
 use Rattle.djq_lines.specs.declared.limits.TheConstants.{QUERIES}
-use Rattle.djq_machine.specs.Store.{is_member}
+use Rattle.djq_store_spec.specs.Registering.{is_member}
 use Rattle.djq_live.specs.Live.{Live}
 use Rattle.djq_live.specs.Member.{query_at, queries_at}
 use Rattle.djq_reach.specs.Places.{is_reader}

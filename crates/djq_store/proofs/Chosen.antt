@@ -13,10 +13,10 @@ use Rattle.djq_model.specs.Equality.{bytes_eq-decides}
 use Rattle.djq_model.specs.Listed.{Listed, a_query, listed_name, listed_of}
 use Rattle.djq_lines.specs.declared.answer.Refusal.TheVariants.{Taken, NoQuery, Member, Limit}
 use Rattle.djq_lines.specs.declared.limits.TheConstants.{MEMBERS, QUERIES}
-use Rattle.djq_machine.specs.Conditions.{first_refusal}
-use Rattle.djq_machine.specs.State.{Store}
-use Rattle.djq_machine.specs.Union.{AreUnder, is_union, same_types, stands_twice}
-use Rattle.djq_machine.specs.Union.{types_differ, types_under, union_refusal}
+use Rattle.djq_lines.specs.Conditions.{first_refusal}
+use Rattle.djq_store_spec.specs.Store.{Store}
+use Rattle.djq_store_spec.specs.Union.{AreUnder, is_union, same_types, stands_twice}
+use Rattle.djq_store_spec.specs.Union.{types_differ, types_under, union_refusal}
 use Rattle.djq_live.specs.Live.{Live}
 use Rattle.djq_live.specs.Member.{head_types, query_at, queries_at, HeadTypesAre, AreAlike}
 use Rattle.djq_deltas.proofs.Lists.{nothing_there, first_or_later}

@@ -10,8 +10,8 @@ use Rattle.djq_model.specs.declared.query.Query.{Query}
 use Rattle.djq_model.specs.Data.{Bytes}
 use Rattle.djq_model.specs.Listed.{Listed, a_union, AnswersOf}
 use Rattle.djq_lines.specs.declared.limits.TheConstants.{QUERIES}
-use Rattle.djq_machine.specs.Changes.{RowsChange, is_outdated}
-use Rattle.djq_machine.specs.Delta.{Change, IsDelta}
+use Rattle.djq_store_spec.specs.Changes.{RowsChange, is_outdated}
+use Rattle.djq_store_spec.specs.Delta.{Change, IsDelta}
 use Rattle.djq_cursor.specs.Log.{Log}
 use Rattle.djq_cursor.specs.declared.log.Line.{Line}
 use Rattle.djq_live.specs.Live.{Live}

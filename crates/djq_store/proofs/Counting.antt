@@ -11,8 +11,8 @@ use Rattle.djq_model.specs.declared.relation.Relation.{Relation}
 use Rattle.djq_model.specs.Listed.{Listed, a_query}
 use Rattle.djq_lines.specs.declared.limits.TheConstants.{QUERIES}
 use Rattle.djq_lines.specs.declared.held.HeldRow.{HeldRow}
-use Rattle.djq_machine.specs.Changes.{RowsChange, is_outdated}
-use Rattle.djq_machine.specs.Batch.{rows_held}
+use Rattle.djq_store_spec.specs.Changes.{RowsChange, is_outdated}
+use Rattle.djq_store_spec.specs.Batch.{rows_held}
 use Rattle.djq_live.specs.Member.{query_at}
 use Rattle.djq_reach.specs.Places.{is_reader}
 use Rattle.djq_reach.proofs.Reaching.{place_below}

@@ -5,9 +5,9 @@ use Rattle.std.proofs.Common.{refl, sym, ap, ◌∙◌, subst, inl, inr}
 use Rattle.djq_model.specs.Data.{Bytes}
 use Rattle.djq_model.specs.Listed.{Listed, listed_name, listed_of}
 use Rattle.djq_lines.specs.declared.limits.TheConstants.{QUERIES}
-use Rattle.djq_machine.specs.State.{Position}
-use Rattle.djq_machine.specs.Stale.{outdated}
-use Rattle.djq_machine.specs.Changes.{RowsChange}
+use Rattle.djq_store_spec.specs.Store.{Position}
+use Rattle.djq_store_spec.specs.Stale.{outdated}
+use Rattle.djq_store_spec.specs.Changes.{RowsChange}
 use Rattle.djq_engine.specs.declared.cursor.CursorId.{CursorId}
 use Rattle.djq_engine.specs.Kept.{Kept, HeldCursor, Registered, same_id, held_at, registered_at}
 use Rattle.djq_engine.specs.Kept.{outdated_held, cursors_behind, Outdates}

@@ -12,11 +12,11 @@ use Rattle.djq_model.specs.declared.query.Query.{Query}
 use Rattle.djq_model.specs.Data.{Bytes}
 use Rattle.djq_model.specs.Answer.{IsAnswer}
 use Rattle.djq_model.specs.Listed.{Listed, a_query, a_union, AnswersOf}
-use Rattle.djq_machine.specs.Store.{atoms_of}
-use Rattle.djq_machine.specs.Changes.{RowsChange}
-use Rattle.djq_machine.specs.Delta.{Change, IsDelta}
-use Rattle.djq_machine.specs.Watch.{Part, Delta, is_touched, ArePartsOf, AreDeltas, changes_steps}
-use Rattle.djq_machine.specs.Watch.{parts_steps, listed_steps, delta_steps}
+use Rattle.djq_store_spec.specs.Registering.{atoms_of}
+use Rattle.djq_store_spec.specs.Changes.{RowsChange}
+use Rattle.djq_store_spec.specs.Delta.{Change, IsDelta}
+use Rattle.djq_store_spec.specs.DeltaCost.{Part, Delta, is_touched, ArePartsOf, AreDeltas, changes_steps}
+use Rattle.djq_store_spec.specs.DeltaCost.{parts_steps, listed_steps, delta_steps}
 use Rattle.djq_engine.specs.Kept.{Kept, Registered, same_query, told_at}
 use Rattle.djq_engine.specs.Watching.{LogTells, LogsTell}
 use Rattle.djq_deltas.proofs.Lists.{first_there, later_there}

@@ -10,9 +10,10 @@ use Rattle.djq_model.specs.declared.query.Query.{Query}
 use Rattle.djq_model.specs.Data.{Bytes}
 use Rattle.djq_model.specs.Listed.{Listed, a_query}
 use Rattle.djq_lines.specs.declared.limits.TheConstants.{QUERIES}
-use Rattle.djq_machine.specs.Stale.{reads, listed_reads}
-use Rattle.djq_machine.specs.Changes.{RowsChange, RowsOutcome, accepted, out_of_memory, unchanged, tried, is_outdated}
-use Rattle.djq_machine.specs.Watch.{is_touched}
+use Rattle.djq_store_spec.specs.Stale.{reads, listed_reads}
+use Rattle.djq_store_spec.specs.Changes.{RowsChange, RowsOutcome, accepted, out_of_memory, unchanged, tried}
+use Rattle.djq_store_spec.specs.Changes.{is_outdated}
+use Rattle.djq_store_spec.specs.DeltaCost.{is_touched}
 use Rattle.djq_live.specs.Member.{query_at}
 use Rattle.djq_reach.specs.Places.{is_reader}
 use Rattle.djq_reach.proofs.Reaching.{place_below}

@@ -15,10 +15,11 @@ use Rattle.djq_model.specs.Equality.{bytes_eq-decides}
 use Rattle.djq_model.specs.Known.{texts_in, all_learned}
 use Rattle.djq_model.proofs.Counted.{tuples_with_row}
 use Rattle.djq_lines.specs.declared.held.HeldRow.{HeldRow}
-use Rattle.djq_machine.specs.State.{Store}
-use Rattle.djq_machine.specs.Store.{with_rows, copies_of, with_copies_of}
-use Rattle.djq_machine.specs.Batch.{is_there, with_held, with_all, has_come}
-use Rattle.djq_machine.proofs.Copies.{relation_here, relation_apart, rows_apart, copies_rows}
+use Rattle.djq_store_spec.specs.Store.{Store}
+use Rattle.djq_store_spec.specs.Relations.{with_rows}
+use Rattle.djq_store_spec.specs.Rows.{copies_of, with_copies_of}
+use Rattle.djq_store_spec.specs.Batch.{is_there, with_held, with_all, has_come}
+use Rattle.djq_store_spec.proofs.Copies.{relation_here, relation_apart, rows_apart, copies_rows}
 use Rattle.djq_store.specs.Batches.{has_grown}
 
 -- how many rows of a relation of this name come

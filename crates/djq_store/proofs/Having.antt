@@ -13,8 +13,10 @@ use Rattle.djq_model.specs.Equality.{bytes_eq-decides}
 use Rattle.djq_model.specs.Listed.{Listed, a_query, a_union, AnswersOf, listed_name, listed_of}
 use Rattle.djq_lines.specs.declared.answer.Refusal.{Refusal}
 use Rattle.djq_lines.specs.declared.answer.Refusal.TheVariants.{NoQuery, Arity, WrongType}
-use Rattle.djq_machine.specs.Conditions.{first_refusal, Answers, OutOfMemoryWhere}
-use Rattle.djq_machine.specs.Store.{Tells, TellsWhether, answer_types, atoms_of, has_steps, fits, listed_types, misfit}
+use Rattle.djq_lines.specs.Conditions.{first_refusal, Answers, OutOfMemoryWhere}
+use Rattle.djq_store_spec.specs.Asking.{Tells, TellsWhether, answer_types, has_steps, listed_types, misfit}
+use Rattle.djq_store_spec.specs.Registering.{atoms_of}
+use Rattle.djq_model.specs.Typed.{fits}
 use Rattle.djq_live.specs.Live.{Live}
 use Rattle.djq_live.specs.Member.{HaveQueries, HeadTypesAre, head_types, query_at, queries_at}
 use Rattle.djq_live.proofs.AtPlaces.{nth_is}

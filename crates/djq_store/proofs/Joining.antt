@@ -8,10 +8,10 @@ use Rattle.djq_model.specs.Data.{Bytes}
 use Rattle.djq_model.specs.Listed.{Listed, a_union, listed_of}
 use Rattle.djq_lines.specs.declared.answer.Refusal.{Refusal}
 use Rattle.djq_lines.specs.declared.limits.TheConstants.{QUERIES}
-use Rattle.djq_machine.specs.Conditions.{Answers, OutOfMemoryWhere}
-use Rattle.djq_machine.specs.State.{Store}
-use Rattle.djq_machine.specs.Store.{answer_steps}
-use Rattle.djq_machine.specs.Union.{AreUnder, RegistersUnion, union_refusal}
+use Rattle.djq_lines.specs.Conditions.{Answers, OutOfMemoryWhere}
+use Rattle.djq_store_spec.specs.Store.{Store}
+use Rattle.djq_store_spec.specs.Registering.{answer_steps}
+use Rattle.djq_store_spec.specs.Union.{AreUnder, RegistersUnion, union_refusal}
 use Rattle.djq_live.specs.Member.{queries_at, HeadTypesAre}
 use Rattle.djq_engine.specs.Kept.{Kept, Registered, SameCursors, TellsOfQuery, registered_of}
 use Rattle.djq_engine.specs.Places.{id_at}

@@ -15,7 +15,7 @@ use Rattle.djq_live.specs.Live.{Live}
 use Rattle.djq_live.specs.Member.{query_at}
 use Rattle.djq_reach.specs.Places.{is_reader, AreOnce}
 use Rattle.djq_engine.specs.declared.cursor.QueryId.{QueryId}
-use Rattle.djq_machine.specs.Delta.{Change}
+use Rattle.djq_store_spec.specs.Delta.{Change}
 use Rattle.djq_engine.specs.Kept.{Kept, HeldCursor, Registered, registered_at, with_watchers}
 use Rattle.djq_engine.specs.Places.{id_at, query_in}
 use Rattle.djq_engine.proofs.Listing.{here, behind, map_members}

@@ -5,8 +5,8 @@ use Rattle.std.proofs.lemmas.Bool.{false≢true}
 use Rattle.djq_model.specs.Data.{Bytes, bytes_eq}
 use Rattle.djq_model.specs.Equality.{bytes_eq-decides}
 use Rattle.djq_model.specs.Listed.{Listed, a_query, listed_name, listed_of}
-use Rattle.djq_machine.specs.Store.{answer_types, listed_types}
-use Rattle.djq_machine.specs.Union.{is_union, types_under}
+use Rattle.djq_store_spec.specs.Asking.{answer_types, listed_types}
+use Rattle.djq_store_spec.specs.Union.{is_union, types_under}
 use Rattle.djq_live.specs.Live.{Live}
 use Rattle.djq_live.specs.Member.{head_types, query_at, HeadTypesAre}
 use Rattle.djq_engine.specs.declared.cursor.QueryId.{QueryId}

@@ -15,15 +15,17 @@ use Rattle.djq_lines.specs.declared.answer.AddOutcome.TheVariants.{First, More}
 use Rattle.djq_lines.specs.declared.answer.DeleteOutcome.{DeleteOutcome}
 use Rattle.djq_lines.specs.declared.answer.DeleteOutcome.TheVariants.{Last, Left, Absent}
 use Rattle.djq_lines.specs.declared.held.HeldRow.{HeldRow}
-use Rattle.djq_machine.specs.State.{Store}
-use Rattle.djq_machine.specs.Conditions.{Answers, OutOfMemoryWhere}
-use Rattle.djq_machine.specs.Store.{with_rows, copies_of, with_copies_of, RefusedByTexts}
-use Rattle.djq_machine.specs.Store.{MakesRelation, rel_refusal, AddsAs, AddsRow, add_refusal}
-use Rattle.djq_machine.specs.Store.{DeletesAs, DeletesRow, delete_refusal}
-use Rattle.djq_machine.specs.Changes.{RowsChange, accepted, out_of_memory}
-use Rattle.djq_machine.specs.Batch.{SuitAll, is_there, with_held, with_all, count_came, has_come}
-use Rattle.djq_machine.specs.Batch.{store_behind, HavePlaces, BatchStopsAt}
-use Rattle.djq_machine.specs.Batch.{AddsBatch, first_read, rows_held, rows_tried, batch_outcome}
+use Rattle.djq_store_spec.specs.Store.{Store}
+use Rattle.djq_lines.specs.Conditions.{Answers, OutOfMemoryWhere}
+use Rattle.djq_store_spec.specs.Relations.{with_rows, RefusedByTexts}
+use Rattle.djq_store_spec.specs.Rows.{copies_of, with_copies_of}
+use Rattle.djq_store_spec.specs.Relations.{MakesRelation, rel_refusal}
+use Rattle.djq_store_spec.specs.Rows.{AddsAs, AddsRow, add_refusal}
+use Rattle.djq_store_spec.specs.Rows.{DeletesAs, DeletesRow, delete_refusal}
+use Rattle.djq_store_spec.specs.Changes.{RowsChange, accepted, out_of_memory}
+use Rattle.djq_store_spec.specs.Batch.{SuitAll, is_there, with_held, with_all, count_came, has_come}
+use Rattle.djq_store_spec.specs.Batch.{store_behind, HavePlaces, BatchStopsAt}
+use Rattle.djq_store_spec.specs.Batch.{AddsBatch, first_read, rows_held, rows_tried, batch_outcome}
 
 -- a store with other queries registered
 abbrev pub with_queries : List Listed → Store → Store

@@ -10,7 +10,7 @@ use Rattle.std.proofs.Math.Nat.{add-sub_of_le}
 use Rattle.djq_model.specs.Data.{Tuple}
 use Rattle.djq_lines.specs.declared.answer.Sign.{Sign}
 use Rattle.djq_lines.specs.declared.limits.TheConstants.{QUERIES}
-use Rattle.djq_machine.specs.Delta.{Change}
+use Rattle.djq_store_spec.specs.Delta.{Change}
 use Rattle.djq_cursor.specs.declared.log.Line.{Line}
 use Rattle.djq_live.specs.Live.{Live, IsShowable, values_of}
 use Rattle.djq_live.specs.Updating.{change_of}

@@ -4,7 +4,7 @@ use Rattle.std.proofs.Common.{ap, ◌∙◌, subst, length, get_or, arith}
 use Rattle.std.specs.Prelude.{Option, None, Some, IsSomeAnd, cond, map, All, option_to_list, ⊤}
 use Rattle.std.proofs.lemmas.List.Elements.{All-head, All-tail}
 use Rattle.djq_model.specs.Data.{Bytes}
-use Rattle.djq_machine.specs.Delta.{Change}
+use Rattle.djq_store_spec.specs.Delta.{Change}
 use Rattle.djq_cursor.specs.declared.log.Line.{Line}
 use Rattle.djq_live.specs.Live.{Live, IsShowable, ShowableStays, values_of}
 use Rattle.djq_live.specs.Member.{query_at, queries_at, HaveQueries}

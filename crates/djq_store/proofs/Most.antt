@@ -4,7 +4,7 @@ use Rattle.std.proofs.Common.{length, map, Option, Some, sym, ap, ap₂, ◌∙�
 use Rattle.std.specs.Prelude.{take, slice_get, slice_index_or}
 use Rattle.std.proofs.lemmas.Option.{same_Some}
 use Rattle.std.proofs.lemmas.Nat.{mul-le}
-use Rattle.djq_machine.specs.Store.{most_steps, width_of, atoms_of}
+use Rattle.djq_store_spec.specs.Registering.{most_steps, width_of, atoms_of}
 use Rattle.djq_live.specs.Live.{Live}
 use Rattle.djq_live.specs.Member.{query_at, queries_at, HaveQueries}
 use Rattle.djq_live.proofs.AtPlaces.{nth_is}

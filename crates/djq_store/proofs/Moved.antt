@@ -9,7 +9,7 @@ use Rattle.std.proofs.lemmas.List.{get_or-set_other}
 use Rattle.djq_model.specs.Data.{Bytes}
 use Rattle.djq_model.specs.Listed.{Listed}
 use Rattle.djq_lines.specs.declared.limits.TheConstants.{QUERIES}
-use Rattle.djq_machine.specs.State.{Store}
+use Rattle.djq_store_spec.specs.Store.{Store}
 use Rattle.djq_live.specs.Live.{Live, IsShowable}
 use Rattle.djq_live.specs.Member.{queries_at}
 use Rattle.djq_engine.specs.declared.cursor.CursorId.{CursorId}

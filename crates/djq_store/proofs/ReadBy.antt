@@ -7,7 +7,7 @@ use Rattle.std.proofs.Common.{refl, sym, ap, ap₂, ◌∙◌, inl, inr}
 use Rattle.djq_model.specs.declared.query.Query.{Query}
 use Rattle.djq_model.specs.Data.{Bytes}
 use Rattle.djq_model.specs.Listed.{a_query, a_union}
-use Rattle.djq_machine.specs.Stale.{reads, listed_reads}
+use Rattle.djq_store_spec.specs.Stale.{reads, listed_reads}
 use Rattle.djq_live.specs.Live.{Live}
 use Rattle.djq_live.specs.Member.{query_at, queries_at}
 use Rattle.djq_reach.specs.Places.{reads_place}

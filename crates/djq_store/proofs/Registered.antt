@@ -15,9 +15,10 @@ use Rattle.djq_lines.specs.declared.answer.Refusal.{Refusal}
 use Rattle.djq_lines.specs.declared.answer.Refusal.TheVariants.{Taken, Limit, NoMemory}
 use Rattle.djq_lines.specs.declared.limits.TheConstants.{QUERIES}
 use Rattle.djq_lines.specs.QueryFault.{query_faults}
-use Rattle.djq_machine.specs.Conditions.{first_refusal, Answers}
-use Rattle.djq_machine.specs.State.{Store}
-use Rattle.djq_machine.specs.Store.{RegistersQuery, RegistersAs, RefusedLate, RefusedByTexts, query_refusal}
+use Rattle.djq_lines.specs.Conditions.{first_refusal, Answers}
+use Rattle.djq_store_spec.specs.Store.{Store}
+use Rattle.djq_store_spec.specs.Registering.{RegistersQuery, RegistersAs, RefusedLate, query_refusal}
+use Rattle.djq_store_spec.specs.Relations.{RefusedByTexts}
 use Rattle.djq_rows.proofs.Learning.{Grown, all_grown, grown_is}
 use Rattle.djq_engine.specs.declared.cursor.QueryId.{QueryId}
 use Rattle.djq_engine.specs.Kept.{Kept, Registered, KeepsTables, registered_at, registered_of, told_at}

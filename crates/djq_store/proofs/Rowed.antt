@@ -7,10 +7,10 @@ use Rattle.djq_lines.specs.declared.limits.TheConstants.{QUERIES}
 use Rattle.djq_lines.specs.declared.answer.Refusal.{Refusal}
 use Rattle.djq_lines.specs.declared.answer.AddOutcome.{AddOutcome}
 use Rattle.djq_lines.specs.declared.answer.DeleteOutcome.{DeleteOutcome}
-use Rattle.djq_machine.specs.State.{Store}
-use Rattle.djq_machine.specs.Store.{AddsRow, DeletesRow}
-use Rattle.djq_machine.specs.Changes.{RowsOutcome, accepted, out_of_memory, unchanged}
-use Rattle.djq_machine.specs.Changes.{tried}
+use Rattle.djq_store_spec.specs.Store.{Store}
+use Rattle.djq_store_spec.specs.Rows.{AddsRow, DeletesRow}
+use Rattle.djq_store_spec.specs.Changes.{RowsOutcome, accepted, out_of_memory, unchanged}
+use Rattle.djq_store_spec.specs.Changes.{tried}
 use Rattle.djq_engine.specs.declared.cursor.QueryId.{QueryId}
 use Rattle.djq_engine.specs.Kept.{Kept, Outdates, KeepsPlaces, is_tried}
 use Rattle.djq_engine.specs.Watching as watching

@@ -12,11 +12,12 @@ use Rattle.djq_lines.specs.declared.answer.AddOutcome.{AddOutcome}
 use Rattle.djq_lines.specs.declared.answer.AddOutcome.TheVariants.{First, More}
 use Rattle.djq_lines.specs.declared.answer.DeleteOutcome.{DeleteOutcome}
 use Rattle.djq_lines.specs.declared.answer.DeleteOutcome.TheVariants.{Last, Left, Absent}
-use Rattle.djq_machine.specs.State.{Store}
-use Rattle.djq_machine.specs.Conditions.{Answers, OutOfMemoryWhere}
-use Rattle.djq_machine.specs.Store.{AddsRow, AddsAs, add_refusal, RefusedByTexts, DeletesRow, DeletesAs, delete_refusal}
-use Rattle.djq_machine.specs.Stale.{reads}
-use Rattle.djq_machine.specs.Changes.{RowsChange, row_in, row_out, add_outcome, delete_outcome}
+use Rattle.djq_store_spec.specs.Store.{Store}
+use Rattle.djq_lines.specs.Conditions.{Answers, OutOfMemoryWhere}
+use Rattle.djq_store_spec.specs.Rows.{AddsRow, AddsAs, add_refusal, DeletesRow, DeletesAs, delete_refusal}
+use Rattle.djq_store_spec.specs.Relations.{RefusedByTexts}
+use Rattle.djq_store_spec.specs.Stale.{reads}
+use Rattle.djq_store_spec.specs.Changes.{RowsChange, row_in, row_out, add_outcome, delete_outcome}
 use Rattle.djq_rows.specs.Laws.{TextsStay}
 use Rattle.djq_engine.specs.Kept.{Kept}
 use Rattle.djq_deltas.proofs.Growing.{row_comes, row_goes, one_spares}

@@ -5,7 +5,7 @@ use Rattle.std.specs.Prelude.{Option, None, Some, is_some, option_map, map, coun
 use Rattle.djq_model.specs.Data.{Bytes}
 use Rattle.djq_model.specs.Listed.{Listed, a_query, listed_name}
 use Rattle.djq_lines.specs.declared.limits.TheConstants.{QUERIES}
-use Rattle.djq_machine.specs.State.{Store}
+use Rattle.djq_store_spec.specs.Store.{Store}
 use Rattle.djq_live.specs.Live.{ShowableStays}
 use Rattle.djq_live.specs.Member.{query_at}
 use Rattle.djq_reach.specs.Places.{is_reader}

@@ -10,10 +10,10 @@ use Rattle.djq_model.specs.declared.query.Query.{Query}
 use Rattle.djq_model.specs.Data.{Bytes}
 use Rattle.djq_model.specs.Listed.{a_query, AnswersOf}
 use Rattle.djq_lines.specs.declared.limits.TheConstants.{QUERIES}
-use Rattle.djq_machine.specs.Stale.{reads}
-use Rattle.djq_machine.specs.Changes.{RowsChange, accepted, out_of_memory, unchanged, is_outdated}
-use Rattle.djq_machine.specs.Delta.{Change, IsDelta}
-use Rattle.djq_machine.specs.Watch.{Delta, is_touched, delta_steps}
+use Rattle.djq_store_spec.specs.Stale.{reads}
+use Rattle.djq_store_spec.specs.Changes.{RowsChange, accepted, out_of_memory, unchanged, is_outdated}
+use Rattle.djq_store_spec.specs.Delta.{Change, IsDelta}
+use Rattle.djq_store_spec.specs.DeltaCost.{Delta, is_touched, delta_steps}
 use Rattle.djq_cursor.specs.Log.{Log}
 use Rattle.djq_live.specs.Live.{Live}
 use Rattle.djq_live.specs.Member.{queries_at}

@@ -9,9 +9,10 @@ use Rattle.djq_model.specs.Data.{Bytes, Tuple}
 use Rattle.djq_model.specs.Listed.{Listed, AnswersOf, listed_of}
 use Rattle.djq_lines.specs.declared.answer.Refusal.TheVariants.{NoQuery, NoMemory}
 use Rattle.djq_lines.specs.declared.limits.TheConstants.{QUERIES}
-use Rattle.djq_machine.specs.Conditions.{first_refusal, OutOfMemoryWhere}
-use Rattle.djq_machine.specs.State.{Position, open_at, stale}
-use Rattle.djq_machine.specs.Store.{answer_steps, IsLeft, AreAll}
+use Rattle.djq_lines.specs.Conditions.{first_refusal, OutOfMemoryWhere}
+use Rattle.djq_store_spec.specs.Store.{Position, open_at, stale}
+use Rattle.djq_store_spec.specs.Registering.{answer_steps}
+use Rattle.djq_store_spec.specs.Listing.{IsLeft, AreAll}
 use Rattle.djq_model.specs.declared.relation.Relation.{Relation}
 use Rattle.djq_live.specs.declared.listing.Next.{Next}
 use Rattle.djq_live.specs.declared.listing.Next.TheVariants.{Given, End, Stale}

@@ -5,8 +5,8 @@ use Rattle.djq_model.specs.declared.query.Query.{Query}
 use Rattle.djq_model.specs.Data.{Tuple}
 use Rattle.djq_model.specs.Listed.{Listed, AnswersOf}
 use Rattle.djq_lines.specs.declared.answer.Refusal.{Refusal}
-use Rattle.djq_machine.specs.Conditions.{Answers, OutOfMemoryWhere}
-use Rattle.djq_machine.specs.Store.{Tells, listed_types, misfit}
+use Rattle.djq_lines.specs.Conditions.{Answers, OutOfMemoryWhere}
+use Rattle.djq_store_spec.specs.Asking.{Tells, listed_types, misfit}
 use Rattle.djq_live.specs.Live.{Live}
 use Rattle.djq_live.specs.Member.{queries_at}
 

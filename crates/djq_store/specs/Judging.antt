@@ -2,8 +2,8 @@
 use Rattle.std.specs.Prelude.{ℕ, List, ◌≡◌, All, Some, true, false, is_some, map, option_map}
 use Rattle.djq_model.specs.Data.{Bytes}
 use Rattle.djq_model.specs.Listed.{listed_of}
-use Rattle.djq_machine.specs.State.{Store}
-use Rattle.djq_machine.specs.Union.{is_union}
+use Rattle.djq_store_spec.specs.Store.{Store}
+use Rattle.djq_store_spec.specs.Union.{is_union}
 use Rattle.djq_engine.specs.Kept.{Kept, registered_of}
 
 -- these names are those of registered queries

@@ -1,6 +1,6 @@
 -- What is done to one union.
 use Rattle.std.specs.Prelude.{ℕ, List, ◌≡◌, ◌≤◌, ◌+◌, Bool, Option, None, Some, IsSome, slice_set}
-use Rattle.djq_machine.specs.Store.{answer_steps}
+use Rattle.djq_store_spec.specs.Registering.{answer_steps}
 use Rattle.djq_rows.specs.Catalog.{Catalog}
 use Rattle.djq_live.specs.declared.listing.Next.{Next}
 use Rattle.djq_live.specs.Live.{Live}

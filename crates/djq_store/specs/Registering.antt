@@ -6,7 +6,7 @@ use Rattle.djq_model.specs.Listed.{a_union}
 use Rattle.djq_lines.specs.declared.rest.QueryOutcome.{QueryOutcome}
 use Rattle.djq_lines.specs.declared.rest.QueryOutcome.TheVariants.{Registered as HasRegistered}
 use Rattle.djq_lines.specs.declared.answer.Refusal.{Refusal}
-use Rattle.djq_machine.specs.Union.{AreUnder}
+use Rattle.djq_store_spec.specs.Union.{AreUnder}
 use Rattle.djq_engine.specs.declared.cursor.QueryId.{QueryId}
 use Rattle.djq_engine.specs.Kept.{Kept, SameTellings, TellsOfQuery, registered_at, registered_of}
 

@@ -3,7 +3,7 @@ use Rattle.std.specs.Prelude.{ℕ, List, [], ◌≡◌, ◌*◌, nat_lt, Bool, t
 use Rattle.std.specs.Prelude.{Some, is_some, find, filter, if◌then◌else◌, sum_by}
 use Rattle.std.specs.List.{list_any}
 use Rattle.djq_model.specs.Data.{Bytes}
-use Rattle.djq_machine.specs.Store.{atoms_of}
+use Rattle.djq_store_spec.specs.Registering.{atoms_of}
 use Rattle.djq_cursor.specs.Log.{Log}
 use Rattle.djq_live.specs.Live.{Live}
 use Rattle.djq_live.specs.Member.{query_at}

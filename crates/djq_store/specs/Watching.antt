@@ -1,7 +1,7 @@
 -- What a store says of the queries and unions that sessions watch.
 use Rattle.std.specs.Prelude.{ℕ, List, [], ◌≡◌, ◌≤◌, ◌+◌, Bool, true, false, Option, None, Some, IsSomeAnd}
-use Rattle.djq_machine.specs.Changes.{RowsChange, RowsOutcome, tried, is_outdated}
-use Rattle.djq_machine.specs.Watch.{Delta, ListsDeltas, deltas_steps}
+use Rattle.djq_store_spec.specs.Changes.{RowsChange, RowsOutcome, tried, is_outdated}
+use Rattle.djq_store_spec.specs.DeltaCost.{Delta, ListsDeltas, deltas_steps}
 use Rattle.djq_engine.specs.declared.cursor.QueryId.{QueryId}
 use Rattle.djq_engine.specs.Kept.{Kept, Registered, registered_at, affected_of, told_at}
 use Rattle.djq_engine.specs.Watching.{Affects, IfAccepted, IfOutOfMemory, LogsTell, queries_affected}

@@ -2,8 +2,9 @@
 ghost use Rattle.std.specs.Prelude.{◌≡◌, ◌+◌, ◌≤◌, ⊤, Some, length, map, IsSomeAnd, slice_get};
 ghost use Rattle.djq_model.specs.Data.{Bytes};
 ghost use Rattle.djq_model.specs.Listed.{a_query, a_union, listed_of, members_of};
-ghost use Rattle.djq_machine.specs.Store.{TellsShape, TellsWhether, atoms_of, has_steps};
-ghost use Rattle.djq_machine.specs.Batch.{TellsSuits};
+ghost use Rattle.djq_store_spec.specs.Asking.{TellsShape, TellsWhether, has_steps};
+ghost use Rattle.djq_store_spec.specs.Registering.{atoms_of};
+ghost use Rattle.djq_store_spec.specs.Batch.{TellsSuits};
 ghost use Rattle.djq_live.specs.Member.{query_at};
 ghost use Rattle.djq_united.specs.United.{AreMembers};
 ghost use Rattle.djq_store.specs.Asking.{TellsMembership, asked_in};

@@ -1,9 +1,11 @@
 //! Changes of relations and of their rows, and what they do to unions.
 ghost use Rattle.std.specs.Prelude.{◌≡◌, ◌<◌, ◌≤◌, length};
 ghost use Rattle.djq_lines.specs.declared.limits.TheConstants.{HELD};
-ghost use Rattle.djq_machine.specs.Store.{MakesRelation, AddsRow, DeletesRow};
-ghost use Rattle.djq_machine.specs.Changes.{row_in, row_out, add_outcome, delete_outcome, tried};
-ghost use Rattle.djq_machine.specs.Batch.{SuitAll, AddsBatch, batch_outcome};
+ghost use Rattle.djq_store_spec.specs.Relations.{MakesRelation};
+ghost use Rattle.djq_store_spec.specs.Rows.{AddsRow, DeletesRow};
+ghost use Rattle.djq_store_spec.specs.Changes.{row_in, row_out, add_outcome, delete_outcome};
+ghost use Rattle.djq_store_spec.specs.Changes.{tried};
+ghost use Rattle.djq_store_spec.specs.Batch.{SuitAll, AddsBatch, batch_outcome};
 ghost use Rattle.djq_engine.specs.Kept.{SameCursors, SameTellings, Outdates, IsUnwatched};
 ghost use Rattle.djq_engine.specs.Watching.{CountsUpdates, CountsBatch};
 ghost use Rattle.djq_engine.specs.Watching.{add_times, batch_times, delete_times};

@@ -3,7 +3,8 @@ ghost use Rattle.std.specs.Prelude.{◌≡◌, ◌||◌, true, false, All, IfOk,
 ghost use Rattle.std.specs.List.{list_any};
 ghost use Rattle.djq_model.specs.Data.{bytes_eq};
 ghost use Rattle.djq_model.specs.Listed.{listed_of};
-ghost use Rattle.djq_machine.specs.Union.{union_refusal, stands_twice, types_differ, types_under, is_union};
+ghost use Rattle.djq_store_spec.specs.Union.{union_refusal, stands_twice, types_differ};
+ghost use Rattle.djq_store_spec.specs.Union.{types_under, is_union};
 ghost use Rattle.djq_live.specs.Member.{head_types};
 ghost use Rattle.djq_engine.specs.Kept.{registered_of};
 ghost use Rattle.djq_store.specs.Places.{store_kept_in};

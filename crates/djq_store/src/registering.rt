@@ -2,12 +2,12 @@
 ghost use Rattle.std.specs.Prelude.{◌≡◌, ◌≤◌, ◌<◌, ◌^◌, ⊤, All, Some, IsSomeAnd, map, length};
 ghost use Rattle.djq_model.specs.Data.{Bytes};
 ghost use Rattle.djq_model.specs.Listed.{a_union};
-ghost use Rattle.djq_machine.specs.Store.{answer_steps};
+ghost use Rattle.djq_store_spec.specs.Registering.{answer_steps};
 ghost use Rattle.djq_live.specs.Live.{IsKeptSomewhere};
 ghost use Rattle.djq_live.specs.Member.{query_at, queries_at};
 ghost use Rattle.djq_united.specs.United.{AreMembers};
-ghost use Rattle.djq_machine.specs.Store.{RegistersQuery};
-ghost use Rattle.djq_machine.specs.Union.{RegistersUnion};
+ghost use Rattle.djq_store_spec.specs.Registering.{RegistersQuery};
+ghost use Rattle.djq_store_spec.specs.Union.{RegistersUnion};
 ghost use Rattle.djq_engine.specs.Kept.{SameCursors, DropGives};
 ghost use Rattle.djq_engine.specs.Watching.{Enrols, EnrolsTelling};
 ghost use Rattle.djq_store.specs.Registering.{is_registered, EnrolsUnion, EnrolsUnionTelling};

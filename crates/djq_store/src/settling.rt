@@ -2,7 +2,7 @@
 ghost use Rattle.std.specs.Prelude.{◌≡◌, ◌+◌, ◌≤◌, ℕ, Some, length, take, sum_by};
 ghost use Rattle.std.specs.List.{list_any};
 ghost use Rattle.djq_lines.specs.declared.limits.TheConstants.{MEMBERS};
-ghost use Rattle.djq_machine.specs.Stale.{reads};
+ghost use Rattle.djq_store_spec.specs.Stale.{reads};
 ghost use Rattle.djq_live.specs.Member.{query_at};
 ghost use Rattle.djq_reach.specs.Places.{reads_place};
 ghost use Rattle.djq_united.specs.United.{AreMembers};

@@ -1,7 +1,7 @@
 ghost use Rattle.std.specs.Prelude.{◌≡◌, [], false, map, option_map, length, AllPairs, IfOk, IsSomeAnd};
 ghost use Rattle.djq_model.specs.Data.{bytes_eq, rows_of};
 ghost use Rattle.djq_model.specs.Listed.{listed_name};
-ghost use Rattle.djq_machine.specs.State.{opening};
+ghost use Rattle.djq_store_spec.specs.Store.{empty_store};
 ghost use Rattle.djq_engine.specs.Kept.{registered_of, registered_at, same_query, IsRegistered};
 ghost use Rattle.djq_store.specs.Lending.{LendsEngine};
 
@@ -40,7 +40,7 @@ impl Store {
     ///
     /// `NoMem` out of memory.
     pub fn new(alloc: Global) -> Result<Store, NoMem>
-        ensures store { IfOk result (λ s. s.store ≡ opening.store) }
+        ensures store { IfOk result (λ s. s.store ≡ empty_store) }
         ensures cursors { IfOk result (λ s. s.cursors ≡ []) }
         ensures registered { IfOk result (λ s. s.registered ≡ []) }
         ensures affected { IfOk result (λ s. s.affected ≡ []) }

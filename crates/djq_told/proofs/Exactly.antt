@@ -38,9 +38,10 @@ use Rattle.djq_model.specs.Equality.{bytes_eq-decides}
 use Rattle.djq_model.specs.Listed.{Listed, listed_name, AnswersOf, listed_of}
 use Rattle.djq_mirror.specs.Replies.{Reply, changed as changes_answer, counted}
 use Rattle.djq_machine.specs.State.{State, Session, session_of}
-use Rattle.djq_machine.specs.Delta.{Change, IsDelta}
-use Rattle.djq_machine.specs.Changes.{RowsChange, is_outdated}
-use Rattle.djq_machine.specs.Watch.{is_watching, affected, Delta, AreDeltas}
+use Rattle.djq_store_spec.specs.Delta.{Change, IsDelta}
+use Rattle.djq_store_spec.specs.Changes.{RowsChange, is_outdated}
+use Rattle.djq_machine.specs.Watch.{is_watching, affected}
+use Rattle.djq_store_spec.specs.DeltaCost.{Delta, AreDeltas}
 use Rattle.djq_deltas.proofs.Lists.{
   nothing_there,
   first_or_later,

@@ -14,10 +14,13 @@ use Rattle.djq_lines.specs.declared.command.Command.TheVariants.{Add, Done, Open
 use Rattle.djq_lines.specs.declared.held.HeldRow.{HeldRow}
 use Rattle.djq_lines.specs.Grammar.{Reading, says_command, reading_of}
 use Rattle.djq_lines.specs.Reply.{end_memory}
-use Rattle.djq_machine.specs.State.{Store, State, Session, Cursor, Position, open_at, stale, fresh}
+use Rattle.djq_store_spec.specs.Store.{Store, Position, open_at, stale}
+use Rattle.djq_machine.specs.State.{State, Session, Cursor, fresh}
 use Rattle.djq_machine.specs.State.{session_of, with_session, ended_by}
-use Rattle.djq_machine.specs.Stale.{outdated, outdater_of, outdated_cursor}
-use Rattle.djq_machine.specs.Changes.{RowsChange, RowsOutcome, tried, changed}
+use Rattle.djq_store_spec.specs.Stale.{outdated, outdater_of}
+use Rattle.djq_machine.specs.Outdating.{outdated_cursor}
+use Rattle.djq_store_spec.specs.Changes.{RowsChange, RowsOutcome, tried}
+use Rattle.djq_machine.specs.Outdating.{changed}
 use Rattle.djq_machine.specs.Watch.{Telling, ChangeStep}
 use Rattle.djq_machine.specs.Effect.{Effect, nothing, EndsWith, queue, queue_all}
 use Rattle.djq_machine.specs.Command.{with_watch, without_watch, with_batch, without_batch}

@@ -13,14 +13,17 @@ use Rattle.djq_lines.specs.declared.answer.EndCause.{EndCause}
 use Rattle.djq_lines.specs.declared.answer.EndCause.TheVariants.{Slow, Memory}
 use Rattle.djq_lines.specs.Reply.{text_of, end_slow, end_memory}
 use Rattle.djq_mirror.specs.Replies.{Reply, changed as changes_answer, reply_text}
-use Rattle.djq_machine.specs.State.{Store, State, Session, session_of, with_session, ended_by, state_ids}
+use Rattle.djq_store_spec.specs.Store.{Store}
+use Rattle.djq_machine.specs.State.{State, Session, session_of, with_session, ended_by, state_ids}
 use Rattle.djq_machine.specs.Effect.{Effect, queue_all}
-use Rattle.djq_machine.specs.Delta.{Change, change_lines, delta_lines}
-use Rattle.djq_machine.specs.Stale.{outdated_cursor}
-use Rattle.djq_machine.specs.Changes.{RowsChange, RowsOutcome, is_made, tried, changed}
+use Rattle.djq_store_spec.specs.Delta.{Change, change_lines, delta_lines}
+use Rattle.djq_machine.specs.Outdating.{outdated_cursor}
+use Rattle.djq_store_spec.specs.Changes.{RowsChange, RowsOutcome, is_made, tried}
+use Rattle.djq_machine.specs.Outdating.{changed}
 use Rattle.djq_machine.specs.Run.{Walk, to_session}
 use Rattle.djq_machine.specs.Call.{IsOpen, cause_of, cause_in}
-use Rattle.djq_machine.specs.Watch.{Delta, Telling, says_more, ends_more, watching, watcher_of}
+use Rattle.djq_store_spec.specs.DeltaCost.{Delta}
+use Rattle.djq_machine.specs.Watch.{Telling, says_more, ends_more, watching, watcher_of}
 use Rattle.djq_machine.specs.Watch.{TellsWatcher, TellsSession, TellsDelta, RepliesLast, ChangeStep}
 use Rattle.djq_deltas.proofs.Lists.{nothing_there, first_or_later, mapped_there, pairs_head, pairs_tail}
 use Rattle.djq_laws.specs.Moved.{EndsByRun}

@@ -18,7 +18,8 @@ use Rattle.djq_lines.specs.declared.command.Command.TheVariants.{
 }
 use Rattle.djq_lines.specs.declared.held.HeldRow.{HeldRow}
 use Rattle.djq_lines.specs.Grammar.{Reading, outside, past_limit, says_command, reading_of}
-use Rattle.djq_machine.specs.State.{Store, opening}
+use Rattle.djq_store_spec.specs.Store.{Store}
+use Rattle.djq_machine.specs.State.{opening}
 use Rattle.djq_machine.specs.declared.machine.Loaded.{Loaded}
 use Rattle.djq_machine.specs.declared.machine.Loaded.TheVariants.{Ran as ran}
 use Rattle.djq_machine.specs.Loading.{Loading, loading, StoreLoads, CommandLoads, HoldsLoaded, ReadingLoads, LoadStep}

@@ -24,7 +24,8 @@ use Rattle.djq_mirror.specs.declared.mode.Mode.TheVariants.{Idle, Listing, Live}
 use Rattle.djq_mirror.specs.Replies.{Reply, opened as cursor_opened, answer, more as more_line}
 use Rattle.djq_mirror.specs.Replies.{last as last_line, stale as gone_stale, refused, reply_text}
 use Rattle.djq_mirror.specs.Mirror.{Held, at_first, keep, turn_of}
-use Rattle.djq_machine.specs.State.{State, Session, Cursor, Position, open_at, stale, session_of}
+use Rattle.djq_machine.specs.State.{State, Session, Cursor, session_of}
+use Rattle.djq_store_spec.specs.Store.{Position, open_at, stale}
 use Rattle.djq_machine.specs.State.{with_session, cursor_of, with_position, ended_by}
 use Rattle.djq_machine.specs.Effect.{Effect, says, RefusedStep}
 use Rattle.djq_machine.specs.Watch.{is_watching}

@@ -20,7 +20,7 @@ use Rattle.djq_mirror.specs.Replies.{Reply, opened, answer, more as more_line, l
 use Rattle.djq_mirror.specs.Replies.{stale, changed, counted}
 use Rattle.djq_mirror.specs.Mirror.{Held, keep, put, take_out, turn_of, turn_of_change}
 use Rattle.djq_mirror.specs.Mirror.{turn_of_count, may_turn, has_text, IsInOrder, Turned}
-use Rattle.djq_machine.specs.Delta.{Change, HasChanged, IsDelta}
+use Rattle.djq_store_spec.specs.Delta.{Change, HasChanged, IsDelta}
 use Rattle.djq_deltas.specs.Decided.{Decided}
 use Rattle.djq_deltas.proofs.Lists.{nothing_there, first_or_later, first_there, later_there}
 use Rattle.djq_deltas.proofs.Lists.{mapped_there, pairs_head, pairs_tail}

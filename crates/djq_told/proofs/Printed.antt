@@ -18,9 +18,9 @@ use Rattle.djq_lines.specs.declared.answer.Sign.{Sign}
 use Rattle.djq_lines.specs.declared.answer.Sign.TheVariants.{Came, Went}
 use Rattle.djq_lines.specs.declared.answer.AddOutcome.TheVariants.{More}
 use Rattle.djq_lines.specs.declared.answer.DeleteOutcome.TheVariants.{Left}
-use Rattle.djq_machine.specs.State.{Store}
-use Rattle.djq_machine.specs.Store.{AddsRow, AddsAs, DeletesRow, DeletesAs, copies_of, add_refusal, delete_refusal}
-use Rattle.djq_machine.specs.Delta.{Change, HasChanged}
+use Rattle.djq_store_spec.specs.Store.{Store}
+use Rattle.djq_store_spec.specs.Rows.{AddsRow, AddsAs, DeletesRow, DeletesAs, copies_of, add_refusal, delete_refusal}
+use Rattle.djq_store_spec.specs.Delta.{Change, HasChanged}
 use Rattle.djq_mirror.specs.Replies.{Reply, answer, changed, counted, is_cell, are_cells, IsNumber, IsPrinted}
 use Rattle.djq_deltas.proofs.Lists.{some_one}
 use Rattle.djq_laws.specs.Sound.{IsCopyCount, IsSoundStore}

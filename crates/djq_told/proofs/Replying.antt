@@ -145,10 +145,12 @@ use Rattle.djq_mirror.specs.Replies.{
   label_of,
   node_of,
 }
-use Rattle.djq_machine.specs.State.{Store, State, Session, Cursor, Position, open_at, stale, cursor_of}
+use Rattle.djq_store_spec.specs.Store.{Store, Position, open_at, stale}
+use Rattle.djq_machine.specs.State.{State, Session, Cursor, cursor_of}
 use Rattle.djq_machine.specs.Effect.{Effect, RefusedStep}
-use Rattle.djq_machine.specs.Batch.{hold_refusal, AddsBatch}
-use Rattle.djq_machine.specs.Store.{row_refusals, RegistersQuery, RegistersAs, RefusedLate, query_refusal}
+use Rattle.djq_store_spec.specs.Batch.{hold_refusal, AddsBatch}
+use Rattle.djq_store_spec.specs.Rows.{row_refusals}
+use Rattle.djq_store_spec.specs.Registering.{RegistersQuery, RegistersAs, RefusedLate, query_refusal}
 use Rattle.djq_machine.specs.Command.{
   AddStep,
   HoldStep,

@@ -80,31 +80,12 @@ use Rattle.djq_lines.specs.declared.command.Command.TheVariants.{
 use Rattle.djq_lines.specs.declared.held.HeldRow.{HeldRow}
 use Rattle.djq_lines.specs.Grammar.{says_command, reading_of}
 use Rattle.djq_lines.specs.Reply.{end_memory}
-use Rattle.djq_machine.specs.State.{
-  Store,
-  State,
-  Session,
-  Cursor,
-  Position,
-  open_at,
-  stale,
-  fresh,
-  session_of,
-  with_session,
-  with_position,
-  ended_by,
-}
-use Rattle.djq_machine.specs.Stale.{outdated, outdater_of, outdated_cursor, by_relation, listed_reads}
-use Rattle.djq_machine.specs.Changes.{
-  RowsChange,
-  RowsOutcome,
-  tried,
-  changed,
-  row_in,
-  row_out,
-  add_outcome,
-  delete_outcome,
-}
+use Rattle.djq_store_spec.specs.Store.{Store, Position, open_at, stale}
+use Rattle.djq_machine.specs.State.{State, Session, Cursor, fresh, session_of, with_session, with_position, ended_by}
+use Rattle.djq_store_spec.specs.Stale.{outdated, outdater_of, by_relation, listed_reads}
+use Rattle.djq_machine.specs.Outdating.{outdated_cursor}
+use Rattle.djq_store_spec.specs.Changes.{RowsChange, RowsOutcome, tried, row_in, row_out, add_outcome, delete_outcome}
+use Rattle.djq_machine.specs.Outdating.{changed}
 use Rattle.djq_machine.specs.Watch.{is_watching, Telling, ChangeStep}
 use Rattle.djq_machine.specs.Effect.{Effect, nothing, EndsWith, queue, queue_all}
 use Rattle.djq_machine.specs.Command.{
@@ -119,7 +100,7 @@ use Rattle.djq_machine.specs.Command.{
   DoneStep,
   CommandStep,
 }
-use Rattle.djq_machine.specs.Batch.{has_come, first_read, batch_outcome}
+use Rattle.djq_store_spec.specs.Batch.{has_come, first_read, batch_outcome}
 use Rattle.djq_machine.specs.LineStep.{LineOutcome, long, blank, slow, no_room, run, ReadStep, FrontStep, behind_line}
 use Rattle.djq_machine.specs.Step.{
   Event,

@@ -100,34 +100,14 @@ use Rattle.djq_lines.specs.declared.answer.DeleteOutcome.{DeleteOutcome}
 use Rattle.djq_lines.specs.declared.answer.DeleteOutcome.TheVariants.{Last, Left, Absent}
 use Rattle.djq_deltas.specs.Finite.{IsBound}
 use Rattle.djq_deltas.proofs.Lists.{nothing_there, first_or_later, first_there, later_there, hold_each, some_one}
-use Rattle.djq_machine.specs.State.{Store}
-use Rattle.djq_machine.specs.Store.{
-  RefusedByTexts,
-  RefusedLate,
-  RegistersAs,
-  MakesRelation,
-  RegistersQuery,
-  DropsQuery,
-  AddsRow,
-  AddsAs,
-  DeletesRow,
-  DeletesAs,
-  with_rows,
-  with_copies_of,
-  copies_of,
-  row_refusals,
-  rel_refusal,
-  query_refusal,
-  drop_refusal,
-  add_refusal,
-  delete_refusal,
-  answer_steps,
-  most_steps,
-  width_of,
-  atoms_of,
-}
-use Rattle.djq_machine.specs.Union.{stands_twice, is_union, types_differ, union_refusal, AreUnder, RegistersUnion}
-use Rattle.djq_machine.specs.Batch.{is_there, with_held, with_all, count_came, HavePlaces, AddsBatch}
+use Rattle.djq_store_spec.specs.Store.{Store}
+use Rattle.djq_store_spec.specs.Relations.{RefusedByTexts, MakesRelation, with_rows, rel_refusal}
+use Rattle.djq_store_spec.specs.Registering.{RefusedLate, RegistersAs, RegistersQuery, DropsQuery, query_refusal}
+use Rattle.djq_store_spec.specs.Registering.{drop_refusal, answer_steps, most_steps, width_of, atoms_of}
+use Rattle.djq_store_spec.specs.Rows.{AddsRow, AddsAs, DeletesRow, DeletesAs, with_copies_of, copies_of, row_refusals}
+use Rattle.djq_store_spec.specs.Rows.{add_refusal, delete_refusal}
+use Rattle.djq_store_spec.specs.Union.{stands_twice, is_union, types_differ, union_refusal, AreUnder, RegistersUnion}
+use Rattle.djq_store_spec.specs.Batch.{is_there, with_held, with_all, count_came, HavePlaces, AddsBatch}
 use Rattle.djq_machine.specs.Step.{SameRelations}
 use Rattle.djq_lines.specs.declared.held.HeldRow.{HeldRow}
 use Rattle.djq_laws.specs.Form.{LearnsTexts}

@@ -54,20 +54,22 @@ use Rattle.djq_lines.specs.declared.command.Command.TheVariants.{Add, Del, Done}
 use Rattle.djq_lines.specs.Grammar.{Reading, outside, past_limit, says_command, reading_of}
 use Rattle.djq_lines.specs.Reply.{add_reply, delete_reply, done_reply, end_long, end_slow, end_memory, input_cut}
 use Rattle.djq_mirror.specs.Replies.{Reply, changed as changes_answer, counted, ended as is_ended, cut, IsNumber}
-use Rattle.djq_machine.specs.State.{Store, State, Session, session_of, with_session, ended_by}
-use Rattle.djq_machine.specs.Store.{AddsRow, DeletesRow}
+use Rattle.djq_store_spec.specs.Store.{Store}
+use Rattle.djq_machine.specs.State.{State, Session, session_of, with_session, ended_by}
+use Rattle.djq_store_spec.specs.Rows.{AddsRow, DeletesRow}
 use Rattle.djq_machine.specs.Effect.{Effect, nothing, says, EndsWith}
-use Rattle.djq_machine.specs.Delta.{Change, HasChanged, IsDelta}
-use Rattle.djq_machine.specs.Changes.{RowsOutcome, accepted, out_of_memory, unchanged, is_made}
-use Rattle.djq_machine.specs.Changes.{is_outdated, row_in, row_out, add_outcome, delete_outcome}
-use Rattle.djq_machine.specs.Batch.{AddsBatch, batch_outcome}
+use Rattle.djq_store_spec.specs.Delta.{Change, HasChanged, IsDelta}
+use Rattle.djq_store_spec.specs.Changes.{RowsOutcome, accepted, out_of_memory, unchanged, is_made}
+use Rattle.djq_store_spec.specs.Changes.{is_outdated, row_in, row_out, add_outcome, delete_outcome}
+use Rattle.djq_store_spec.specs.Batch.{AddsBatch, batch_outcome}
 use Rattle.djq_machine.specs.Command.{without_batch, AddStep, HoldStep, DoneStep, CommandStep}
 use Rattle.djq_machine.specs.LineStep.{LineOutcome, long, blank, slow, no_room, run, ReadStep, FrontStep, behind_line}
 use Rattle.djq_machine.specs.Step.{Event, opened, fed, stepped, took, ended, closed, FedStep}
 use Rattle.djq_machine.specs.Step.{TookStep, EndedStep, Acts, with_relations, Step}
 use Rattle.djq_machine.specs.Run.{Did, to_session, out}
 use Rattle.djq_machine.specs.Call.{cause_of, cause_in}
-use Rattle.djq_machine.specs.Watch.{is_watching, Delta, ChangeStep}
+use Rattle.djq_machine.specs.Watch.{is_watching, ChangeStep}
+use Rattle.djq_store_spec.specs.DeltaCost.{Delta}
 use Rattle.djq_laws.specs.Added.{added_up}
 use Rattle.djq_laws.specs.Rising.{AreRising}
 use Rattle.djq_laws.specs.Form.{RowCommand, row_comes, row_goes, rows_come}

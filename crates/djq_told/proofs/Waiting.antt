@@ -32,12 +32,14 @@ use Rattle.djq_lines.specs.Grammar.{Reading, outside, past_limit, says_command, 
 use Rattle.djq_lines.specs.Reply.{end_long, end_slow, end_memory}
 use Rattle.djq_mirror.specs.Replies.{Reply, ended as is_ended}
 use Rattle.djq_mirror.specs.Mirror.{Held, at_first}
-use Rattle.djq_machine.specs.State.{Store, State, Session, session_of, with_session}
+use Rattle.djq_store_spec.specs.Store.{Store}
+use Rattle.djq_machine.specs.State.{State, Session, session_of, with_session}
 use Rattle.djq_machine.specs.Effect.{Effect}
-use Rattle.djq_machine.specs.Changes.{RowsOutcome, is_made, row_in, row_out, add_outcome, delete_outcome}
-use Rattle.djq_machine.specs.Watch.{Delta, ChangeStep}
+use Rattle.djq_store_spec.specs.Changes.{RowsOutcome, is_made, row_in, row_out, add_outcome, delete_outcome}
+use Rattle.djq_store_spec.specs.DeltaCost.{Delta}
+use Rattle.djq_machine.specs.Watch.{ChangeStep}
 use Rattle.djq_machine.specs.LineStep.{LineOutcome, long, blank, slow, no_room, run, ReadStep, FrontStep, behind_line}
-use Rattle.djq_machine.specs.Batch.{batch_outcome}
+use Rattle.djq_store_spec.specs.Batch.{batch_outcome}
 use Rattle.djq_machine.specs.Command.{without_batch, AddStep, HoldStep, DoneStep, CommandStep}
 use Rattle.djq_machine.specs.Step.{Event, opened, fed, stepped, took, ended, closed, FedStep}
 use Rattle.djq_machine.specs.Step.{TookStep, EndedStep, Acts, Step}

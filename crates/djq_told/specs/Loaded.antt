@@ -1,7 +1,8 @@
 -- Lines that are loaded keep to what lines can say.
 use Rattle.std.specs.Prelude.{List}
 use Rattle.djq_model.specs.Data.{Bytes}
-use Rattle.djq_machine.specs.State.{Store, opening}
+use Rattle.djq_store_spec.specs.Store.{Store}
+use Rattle.djq_machine.specs.State.{opening}
 use Rattle.djq_machine.specs.Loading.{loading, Loads}
 use Rattle.djq_told.specs.Sayable.{IsSayableStore}
 

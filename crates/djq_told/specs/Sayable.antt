@@ -15,7 +15,8 @@ use Rattle.djq_value.specs.Literal.{IsName, is_small_value}
 use Rattle.djq_lines.specs.declared.limits.TheConstants.{LAST_SEQ, ATOMS, HEAD_VARIABLES}
 use Rattle.djq_lines.specs.declared.held.HeldRow.{HeldRow}
 use Rattle.djq_deltas.specs.Finite.{IsBound}
-use Rattle.djq_machine.specs.State.{Store, State, Session, Cursor, Position, open_at, stale, opening}
+use Rattle.djq_store_spec.specs.Store.{Store, Position, open_at, stale}
+use Rattle.djq_machine.specs.State.{State, Session, Cursor, opening}
 use Rattle.djq_machine.specs.Run.{Did, Run}
 use Rattle.djq_laws.specs.Sound.{IsStart}
 

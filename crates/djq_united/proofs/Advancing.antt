@@ -44,7 +44,7 @@ use Rattle.std.proofs.lemmas.List.{map-append}
 use Rattle.std.proofs.lemmas.List.Elements.{All-contains, Contains-push, Contains-append_left}
 use Rattle.djq_model.specs.declared.memory.NoMem.{NoMem}
 use Rattle.djq_model.specs.Data.{Bytes}
-use Rattle.djq_machine.specs.State.{Position, open_at}
+use Rattle.djq_store_spec.specs.Store.{Position, open_at}
 use Rattle.djq_cursor.specs.declared.cursor.Cursor.{Cursor}
 use Rattle.djq_union.specs.Answers.{AreSomeCells, AreAllCells}
 use Rattle.djq_union.specs.Union.{some_has}

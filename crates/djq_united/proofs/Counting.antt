@@ -25,7 +25,8 @@ use Rattle.std.proofs.lemmas.List.{length-map}
 use Rattle.std.proofs.lemmas.List.Sums.{sum_by-cons}
 use Rattle.djq_model.specs.declared.relation.ColumnType.{ColumnType}
 use Rattle.djq_model.specs.declared.query.Query.{Query}
-use Rattle.djq_machine.specs.Store.{most_steps, width_of, atoms_of, variable_type}
+use Rattle.djq_store_spec.specs.Registering.{most_steps, width_of, atoms_of}
+use Rattle.djq_store_spec.specs.Asking.{variable_type}
 use Rattle.djq_union.specs.Steps.{union_most}
 use Rattle.djq_union.proofs.Lists.{at_head, all_of}
 use Rattle.djq_rows.specs.Catalog.{Catalog}

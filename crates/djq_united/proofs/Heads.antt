@@ -48,7 +48,7 @@ use Rattle.std.proofs.lemmas.Option.{same_Some}
 use Rattle.djq_model.specs.declared.relation.ColumnType.{ColumnType}
 use Rattle.djq_model.specs.declared.relation.ColumnType.TheVariants.{Int, Text}
 use Rattle.djq_model.specs.Typed.{same_type}
-use Rattle.djq_machine.specs.Union.{same_types}
+use Rattle.djq_store_spec.specs.Union.{same_types}
 use Rattle.djq_union.proofs.Lists.{at_head, in_tail}
 use Rattle.djq_live.specs.Live.{Live}
 use Rattle.djq_live.specs.Member.{head_types, query_at, queries_at, AreAlike}

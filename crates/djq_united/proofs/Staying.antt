@@ -23,7 +23,7 @@ use Rattle.std.specs.List.{AllZip}
 use Rattle.djq_model.specs.declared.query.Query.{Query}
 use Rattle.djq_model.specs.Data.{Bytes, Tuple}
 use Rattle.djq_model.specs.Listed.{a_union}
-use Rattle.djq_machine.specs.State.{open_at}
+use Rattle.djq_store_spec.specs.Store.{open_at}
 use Rattle.djq_query.specs.Numbered.{Numbered}
 use Rattle.djq_reduct.specs.Reducts.{Reducts}
 use Rattle.djq_cursor.specs.declared.cursor.Cursor.{Cursor}

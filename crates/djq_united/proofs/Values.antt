@@ -8,7 +8,8 @@ use Rattle.djq_model.specs.declared.relation.ColumnType.{ColumnType}
 use Rattle.djq_model.specs.declared.query.Query.{Query}
 use Rattle.djq_model.specs.Data.{Tuple}
 use Rattle.djq_model.specs.Answer.{IsAnswer}
-use Rattle.djq_machine.specs.Store.{answer_types, IsLeft, AreAll}
+use Rattle.djq_store_spec.specs.Asking.{answer_types}
+use Rattle.djq_store_spec.specs.Listing.{IsLeft, AreAll}
 use Rattle.djq_union.specs.Answers.{AreAllCells}
 use Rattle.djq_union.specs.Union.{some_has}
 use Rattle.djq_union.proofs.Lists.{none_contained, at_head}

@@ -13,7 +13,7 @@ use Rattle.std.specs.Prelude.{
   Option,
 }
 use Rattle.djq_model.specs.Listed.{a_union}
-use Rattle.djq_machine.specs.Store.{answer_steps}
+use Rattle.djq_store_spec.specs.Registering.{answer_steps}
 use Rattle.djq_cursor.specs.declared.cursor.Cursor.{Cursor}
 use Rattle.djq_union.specs.Answers.{AreSomeCells, AreAllCells, IsListingOfCells}
 use Rattle.djq_union.specs.Union.{some_has, union_given}

@@ -17,8 +17,9 @@ use Rattle.std.specs.Prelude.{
 }
 use Rattle.djq_model.specs.Data.{Bytes, Tuple}
 use Rattle.djq_model.specs.Listed.{Listed, AnswersOf}
-use Rattle.djq_machine.specs.State.{Position, open_at, stale}
-use Rattle.djq_machine.specs.Store.{IsLeft, AreAll, answer_steps}
+use Rattle.djq_store_spec.specs.Store.{Position, open_at, stale}
+use Rattle.djq_store_spec.specs.Listing.{IsLeft, AreAll}
+use Rattle.djq_store_spec.specs.Registering.{answer_steps}
 use Rattle.djq_rows.specs.Catalog.{Catalog}
 use Rattle.djq_live.specs.declared.listing.Next.{Next}
 use Rattle.djq_live.specs.declared.listing.Next.TheVariants.{Given, End, Stale}

@@ -1,7 +1,7 @@
 -- What becomes of unions as the queries in their places change.
 use Rattle.std.specs.Prelude.{◌≡◌, ℕ, List, ◌++◌, Contains, Option, Some, IsSomeAnd}
 use Rattle.djq_model.specs.Data.{Bytes}
-use Rattle.djq_machine.specs.Stale.{outdated}
+use Rattle.djq_store_spec.specs.Stale.{outdated}
 use Rattle.djq_rows.specs.Catalog.{Catalog}
 use Rattle.djq_live.specs.Live.{Live}
 use Rattle.djq_live.specs.Member.{query_at}

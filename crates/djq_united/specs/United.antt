@@ -21,8 +21,8 @@ use Rattle.std.specs.Prelude.{
 use Rattle.std.specs.List.{list_any}
 use Rattle.djq_model.specs.Data.{Bytes, Tuple}
 use Rattle.djq_model.specs.Listed.{Listed, a_union}
-use Rattle.djq_machine.specs.State.{Position, open_at, stale}
-use Rattle.djq_machine.specs.Union.{same_types}
+use Rattle.djq_store_spec.specs.Store.{Position, open_at, stale}
+use Rattle.djq_store_spec.specs.Union.{same_types}
 use Rattle.djq_cursor.specs.declared.cursor.Cursor.{Cursor}
 use Rattle.djq_union.specs.Union.{union_given, UnionFits}
 use Rattle.djq_rows.specs.Catalog.{Catalog}

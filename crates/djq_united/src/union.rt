@@ -12,7 +12,7 @@ ghost use Rattle.std.specs.Prelude.{
   Option,
   slice_set,
 };
-ghost use Rattle.djq_machine.specs.Store.{answer_steps};
+ghost use Rattle.djq_store_spec.specs.Registering.{answer_steps};
 ghost use Rattle.djq_rows.specs.Catalog.{Catalog as CatalogModel};
 ghost use Rattle.djq_live.specs.Live.{Live};
 ghost use Rattle.djq_united.specs.Slots.{slot_at, are_vacant, IsOpenIn, outdated_slots};

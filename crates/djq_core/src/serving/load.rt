@@ -1,16 +1,16 @@
 //! Lines that were kept, loaded while no session is open: nobody is answered or told.
 ghost use Rattle.std.specs.Prelude.{◌≡◌, [], is_some, None, Some};
 ghost use Rattle.djq_machine.specs.Loading.{LoadStep, StoreLoads, refused_by};
-ghost use Rattle.djq_core.specs.Views.{loading_in};
+ghost use Rattle.djq_commands.specs.Views.{loading_in};
 ghost use Rattle.djq_core.specs.Loading.{IsUnused, LoadsRow, LoadsLine, comes_to, is_batch};
-ghost use Rattle.djq_core.specs.Sound.{BatchSuits};
-ghost use Rattle.djq_core.specs.Stepping.{IsRunnable};
+ghost use Rattle.djq_commands.specs.Sound.{BatchSuits};
+ghost use Rattle.djq_commands.specs.Stepping.{IsRunnable};
 
 use super::Core;
-use crate::change::is_removal;
-use crate::commands::is_registered;
-use crate::held::new_row;
-use crate::reading::{BatchLine, read_in_batch};
+use djq_commands::is_removal;
+use djq_commands::is_registered;
+use djq_commands::new_row;
+use djq_commands::{BatchLine, read_in_batch};
 use djq_lines::{Command, HeldRow, Refusal};
 use djq_machine::Loaded;
 use djq_model::{Name, Sequence, Value};

@@ -4,10 +4,10 @@ use Rattle.djq_lines.specs.declared.answer.EndCause.{EndCause}
 use Rattle.djq_lines.specs.declared.limits.TheConstants.{REPLY_BYTES, LAST_LINE_BYTES}
 use Rattle.djq_lines.specs.Reply.{add_reply, delete_reply, done_reply}
 use Rattle.djq_session.specs.Dialog.{Replies}
-use Rattle.djq_core.specs.declared.change.Outcome.{Outcome}
-use Rattle.djq_core.specs.Changing.{reply_of}
-use Rattle.djq_core.specs.Performs.{Performs}
-use Rattle.djq_core.specs.Telling.{AnswersLast}
+use Rattle.djq_commands.specs.declared.change.Outcome.{Outcome}
+use Rattle.djq_commands.specs.Changing.{reply_of}
+use Rattle.djq_commands.specs.Performs.{Performs}
+use Rattle.djq_commands.specs.Telling.{AnswersLast}
 use Rattle.djq_core.proofs.Hearing.{owns_roomy}
 use Rattle.djq_core.proofs.Closing.{answers_reply, answers_end, none_of, was_small, not_roomy}
 use Rattle.djq_core.proofs.tell.answer_last.Goals as goal

@@ -2,12 +2,12 @@
 use Rattle.std.proofs.Common.{ℕ, ◌≤◌, ◌∙◌, List, Option, sym, ap, subst, nat_le, ◌+◌, set, false}
 use Rattle.std.specs.Prelude.{IsSomeAnd}
 use Rattle.djq_lines.specs.declared.limits.TheConstants.{REPLY_BYTES, LAST_LINE_BYTES}
-use Rattle.djq_machine.specs.State.{Store}
+use Rattle.djq_store_spec.specs.Store.{Store}
 use Rattle.djq_engine.specs.Kept.{Kept}
-use Rattle.djq_core.specs.declared.open.OpenSession.{OpenSession}
-use Rattle.djq_core.specs.Changing.{is_accepted, reply_of}
-use Rattle.djq_core.specs.Performs.{Performs}
-use Rattle.djq_core.specs.Telling.{AnswersLast, TellsAll}
+use Rattle.djq_commands.specs.declared.open.OpenSession.{OpenSession}
+use Rattle.djq_commands.specs.Changing.{is_accepted, reply_of}
+use Rattle.djq_commands.specs.Performs.{Performs}
+use Rattle.djq_commands.specs.Telling.{AnswersLast, TellsAll}
 use Rattle.djq_core.proofs.Closing.{Spread, spread_all, spread_none, told_and_answered, place_still, at_slice}
 use Rattle.djq_core.proofs.Spreading.{owned_at}
 use Rattle.djq_core.proofs.tell.tell_change.Goals.{then-is_accepted, else-is_accepted}

@@ -4,10 +4,10 @@ use Rattle.std.specs.Option.{is_some}
 use Rattle.djq_model.specs.Data.{Bytes}
 use Rattle.djq_model.specs.Listed.{listed_name}
 use Rattle.djq_engine.specs.Kept.{Kept}
-use Rattle.djq_core.specs.declared.open.OpenSession.{OpenSession}
-use Rattle.djq_core.specs.Sound.{watchers_in, is_among_watches}
-use Rattle.djq_core.specs.Performs.{Performs}
-use Rattle.djq_core.specs.Telling.{HearsDelta, Prints, TellsQuery}
+use Rattle.djq_commands.specs.declared.open.OpenSession.{OpenSession}
+use Rattle.djq_commands.specs.Sound.{watchers_in, is_among_watches}
+use Rattle.djq_commands.specs.Performs.{Performs}
+use Rattle.djq_commands.specs.Telling.{HearsDelta, Prints, TellsQuery}
 use Rattle.djq_core.proofs.Spreading.{TellsSoFar, telling_starts, told_one, untold_one}
 use Rattle.djq_core.proofs.Spreading.{length_still, owned_at, runs_at, same_place, next_place}
 use Rattle.djq_core.proofs.Affecting.{query_told, query_untold, watchers_of, name_of}

@@ -1,6 +1,6 @@
 use Rattle.std.proofs.Common.{Bool, take}
 use Rattle.djq_model.specs.Data.{Bytes}
-use Rattle.djq_machine.specs.Batch.{first_read}
+use Rattle.djq_store_spec.specs.Batch.{first_read}
 use Rattle.djq_engine.specs.Outdating.{AgesAll, AreTested}
 use Rattle.djq_engine.proofs.outdating.outdate_came.Given as goal
 

@@ -1,6 +1,6 @@
 use Rattle.std.proofs.Common.{take}
 use Rattle.std.specs.Prelude.{true}
-use Rattle.djq_machine.specs.Batch.{first_read}
+use Rattle.djq_store_spec.specs.Batch.{first_read}
 use Rattle.djq_engine.specs.Outdating.{AgesAll}
 use Rattle.djq_engine.proofs.outdating.outdate_held.Given as goal
 

@@ -5,7 +5,7 @@ use Rattle.std.specs.Prelude.{◌==◌, cond}
 use Rattle.std.proofs.lemmas.List.{take_all}
 use Rattle.djq_model.specs.Data.{Bytes}
 use Rattle.djq_lines.specs.declared.held.HeldRow.{HeldRow}
-use Rattle.djq_machine.specs.Batch.{BatchStopsAt, with_all, has_come}
+use Rattle.djq_store_spec.specs.Batch.{BatchStopsAt, with_all, has_come}
 use Rattle.djq_rows.specs.Catalog.{Catalog}
 use Rattle.djq_reach.specs.declared.group.Group.{Group}
 use Rattle.djq_engine.specs.Putting.{bare_of, IsStoreOf, PutsAll}

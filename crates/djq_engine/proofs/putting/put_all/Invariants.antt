@@ -1,7 +1,7 @@
 use Rattle.std.proofs.Common.{◌≡◌, ◌≤◌, ◌++◌, List, true, take}
 use Rattle.djq_model.specs.Data.{Bytes}
-use Rattle.djq_machine.specs.State.{Store}
-use Rattle.djq_machine.specs.Batch.{has_come}
+use Rattle.djq_store_spec.specs.Store.{Store}
+use Rattle.djq_store_spec.specs.Batch.{has_come}
 use Rattle.djq_engine.specs.Putting.{IsStoreOf, PutsAll}
 use Rattle.djq_engine.proofs.putting.put_all.Given as goal
 

@@ -4,7 +4,7 @@ use Rattle.std.specs.Prelude.{Some, Option}
 use Rattle.djq_model.specs.Data.{Bytes}
 use Rattle.djq_lines.specs.declared.answer.Refusal.TheVariants.{NoMemory}
 use Rattle.djq_lines.specs.declared.held.HeldRow.{HeldRow}
-use Rattle.djq_machine.specs.Batch.{BatchStopsAt}
+use Rattle.djq_store_spec.specs.Batch.{BatchStopsAt}
 use Rattle.djq_rows.specs.Catalog.{Catalog}
 use Rattle.djq_rows.specs.declared.relation_id.RelationId.{RelationId}
 use Rattle.djq_engine.specs.Putting.{bare_of, placed, Placed, PutsNew, PutsHeldRow}

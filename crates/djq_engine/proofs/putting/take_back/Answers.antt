@@ -2,8 +2,8 @@
 use Rattle.std.proofs.Common.{◌≡◌, ◌<◌, ◌≤◌, ◌+◌, ◌-◌, ◌∙◌, ℕ, List, sym, ap, subst, arith, take, get_or, length}
 use Rattle.djq_model.specs.declared.relation.Relation.{Relation}
 use Rattle.djq_lines.specs.declared.held.HeldRow.{HeldRow}
-use Rattle.djq_machine.specs.State.{Store}
-use Rattle.djq_machine.specs.Batch.{with_all}
+use Rattle.djq_store_spec.specs.Store.{Store}
+use Rattle.djq_store_spec.specs.Batch.{with_all}
 use Rattle.djq_engine.specs.Putting.{WentIn, WentInAll}
 use Rattle.djq_engine.proofs.TakenBack.{last_in}
 use Rattle.djq_engine.proofs.putting.take_back.Goals as goal

@@ -1,6 +1,6 @@
 use Rattle.std.proofs.Common.{◌≡◌, ◌≤◌, length, take}
-use Rattle.djq_machine.specs.State.{Store}
-use Rattle.djq_machine.specs.Batch.{with_all}
+use Rattle.djq_store_spec.specs.Store.{Store}
+use Rattle.djq_store_spec.specs.Batch.{with_all}
 use Rattle.djq_engine.specs.Putting.{WentInAll}
 use Rattle.djq_engine.proofs.putting.take_back.Given as goal
 

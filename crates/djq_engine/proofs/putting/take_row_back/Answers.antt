@@ -4,7 +4,7 @@ use Rattle.std.specs.Prelude.{Some, None}
 use Rattle.std.proofs.lemmas.Bool.{false≢true}
 use Rattle.djq_model.specs.Data.{Tuple, has_row}
 use Rattle.djq_lines.specs.declared.answer.Refusal.TheVariants.{NoRelation}
-use Rattle.djq_machine.specs.Batch.{suit_refusal}
+use Rattle.djq_store_spec.specs.Batch.{suit_refusal}
 use Rattle.djq_rows.specs.Cells.{HaveCells, cells_of}
 use Rattle.djq_rows.specs.Catalog.{StandForRow, no_relation, relation_at, rows_at}
 use Rattle.djq_engine.specs.Judging.{bare_store, RowSuits}

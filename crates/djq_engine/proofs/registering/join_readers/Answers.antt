@@ -1,6 +1,6 @@
 -- The lists behind the index are as they were, so a place comes last once in each list that it joins.
 use Rattle.std.proofs.Common.{◌∙◌, ◌<◌, ◌++◌, ◌∷◌, [], ap, arith, cond, length, List, ℕ}
-use Rattle.djq_machine.specs.Stale.{reads}
+use Rattle.djq_store_spec.specs.Stale.{reads}
 use Rattle.djq_model.specs.Data.{Bytes}
 use Rattle.djq_rows.specs.Catalog.{relation_at}
 use Rattle.djq_engine.proofs.Lists.{join_more, join_whole, joined_some, list_read}

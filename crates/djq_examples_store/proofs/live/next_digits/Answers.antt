@@ -1,7 +1,7 @@
 -- A cursor that was read is still in its slot.
 use Rattle.std.proofs.Common.{◌≡◌, ℕ, List, refl, ap, sym, subst, ◌∙◌}
 use Rattle.std.specs.Prelude.{Option, None, Some, IsSome, IsSomeAnd, is_some}
-use Rattle.djq_machine.specs.State.{Position}
+use Rattle.djq_store_spec.specs.Store.{Position}
 use Rattle.djq_rows.specs.Catalog.{Catalog}
 use Rattle.djq_slots.proofs.Slots.{set_there}
 use Rattle.djq_slots.specs.declared.progress.Progress.TheVariants.{Open, Stale}

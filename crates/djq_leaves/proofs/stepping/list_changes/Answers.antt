@@ -1,7 +1,7 @@
 -- Each answer told leaves fewer to tell; the log tells what the cursor has told, at its end all that changed.
 use Rattle.std.proofs.Common.{sym, subst, ◌∙◌, List, ℕ, length, []}
 use Rattle.std.specs.Prelude.{◌∷◌}
-use Rattle.djq_machine.specs.Store.{most_steps}
+use Rattle.djq_store_spec.specs.Registering.{most_steps}
 use Rattle.djq_cursor.specs.Listing.{ListsTuples, AreSome}
 use Rattle.djq_cursor.specs.Changed.{IsChanged, IsGained}
 use Rattle.djq_cursor.specs.Told.{told_so_far}

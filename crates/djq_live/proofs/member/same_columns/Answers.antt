@@ -3,7 +3,7 @@ use Rattle.std.proofs.Common.{◌≡◌, ℕ, Bool, true, false, List, [], ◌�
 use Rattle.std.specs.Prelude.{◌&&◌}
 use Rattle.djq_model.specs.declared.relation.ColumnType.{ColumnType}
 use Rattle.djq_model.specs.Typed.{same_type}
-use Rattle.djq_machine.specs.Union.{same_types}
+use Rattle.djq_store_spec.specs.Union.{same_types}
 use Rattle.djq_planned.specs.Asked.{column_of}
 use Rattle.djq_live.proofs.member.same_columns.Goals as goal
 

@@ -1,6 +1,6 @@
 use Rattle.std.proofs.Common.{◌≡◌, map}
 use Rattle.std.specs.Prelude.{drop}
-use Rattle.djq_machine.specs.Union.{same_types}
+use Rattle.djq_store_spec.specs.Union.{same_types}
 use Rattle.djq_planned.specs.Asked.{column_of}
 use Rattle.djq_live.proofs.member.same_columns.Given as goal
 

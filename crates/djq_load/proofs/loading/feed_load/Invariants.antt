@@ -1,5 +1,5 @@
 use Rattle.std.proofs.Common.{◌≡◌, List, ℕ, ◌++◌, length}
-use Rattle.djq_gen.specs.Load.{load}
+use Rattle.djq_load.specs.Load.{load}
 use Rattle.djq_machine.specs.Call.{counts}
 use Rattle.djq_load.specs.Lines.{FeedsLines, SessionIsIdle}
 use Rattle.djq_load.proofs.LoadLines.{AreOnes}

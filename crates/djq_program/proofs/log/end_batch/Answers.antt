@@ -1,7 +1,7 @@
 -- Where a batch is open, `abandon` ends it, and what the append did to the journal says how it is kept.
 use Rattle.std.proofs.Common.{rules}
 use Rattle.std.specs.Prelude.{IsSome}
-use Rattle.djq_core.specs.Views.{loading_in}
+use Rattle.djq_commands.specs.Views.{loading_in}
 use Rattle.djq_program_laws.specs.Logged.{disk_seen}
 use Rattle.djq_program_laws.proofs.Abandoning.{batch_ended, fails_to_end, has_no_room}
 use Rattle.djq_program.proofs.log.end_batch.Goals as goal

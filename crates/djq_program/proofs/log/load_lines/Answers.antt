@@ -10,7 +10,7 @@ use Rattle.djq_lines.specs.declared.held.HeldRow.{HeldRow}
 use Rattle.djq_machine.specs.State.{State, opening}
 use Rattle.djq_machine.specs.declared.machine.Loaded.TheVariants.{Ran}
 use Rattle.djq_machine.specs.Loading.{Loading, loading, LoadStep}
-use Rattle.djq_core.specs.Views.{loading_in}
+use Rattle.djq_commands.specs.Views.{loading_in}
 use Rattle.djq_machine.proofs.Walks.{walk_more}
 use Rattle.djq_program_laws.proofs.Opening.{read_line, read_end, read_bad, read_still, stands_behind, same_both}
 use Rattle.djq_program.proofs.log.load_lines.Goals as goal

@@ -5,7 +5,7 @@ use Rattle.djq_journal.specs.Standing.{IsAtGate}
 use Rattle.djq_model.specs.Data.{Bytes}
 use Rattle.djq_machine.specs.State.{opening}
 use Rattle.djq_machine.specs.Loading.{loading, Loads}
-use Rattle.djq_core.specs.Views.{loading_in}
+use Rattle.djq_commands.specs.Views.{loading_in}
 use Rattle.djq_program.proofs.log.load_lines.Given as goal
 
 -- The lines so far were found, and are loaded.

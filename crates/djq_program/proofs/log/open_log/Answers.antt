@@ -5,7 +5,7 @@ use Rattle.std.proofs.lemmas.Result.{MatchResult-weaker}
 use Rattle.djq_model.specs.Data.{Bytes}
 use Rattle.djq_machine.specs.State.{State}
 use Rattle.djq_machine.specs.Call.{counts}
-use Rattle.djq_core.specs.Views.{loading_in}
+use Rattle.djq_commands.specs.Views.{loading_in}
 use Rattle.djq_program_laws.specs.Logged.{disk_seen, log_seen}
 use Rattle.djq_program_laws.specs.Parts.{OpensLog}
 use Rattle.djq_program_laws.proofs.Logging.{begins_empty, ended_begins, unended_begins}

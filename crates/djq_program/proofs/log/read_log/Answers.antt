@@ -1,6 +1,6 @@
 -- What opening the journal did and what loading its lines did come together to what reading the log does.
 use Rattle.djq_machine.specs.Call.{counts}
-use Rattle.djq_core.specs.Views.{loading_in}
+use Rattle.djq_commands.specs.Views.{loading_in}
 use Rattle.djq_program_laws.specs.Logged.{disk_seen, log_seen_at}
 use Rattle.djq_program_laws.proofs.Logging.{read_whole, unloaded_begins}
 use Rattle.std.proofs.lemmas.Result.{MatchResult-weaker}

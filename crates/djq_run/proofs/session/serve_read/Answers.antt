@@ -2,7 +2,7 @@
 use Rattle.std.proofs.Common.{◌<◌, ◌≤◌, true, false, length, take, refl, sym, subst, length-take, arith}
 use Rattle.std.specs.Prelude.{Option}
 use Rattle.djq_machine.specs.Call.{counts}
-use Rattle.djq_laws.specs.declared.limits.TheConstants.{READ_BYTES}
+use Rattle.djq_io.specs.declared.limits.TheConstants.{READ_BYTES}
 use Rattle.djq_laws.specs.Course.{outside}
 use Rattle.djq_laws.proofs.Moving.{fed_facts, ended_facts}
 use Rattle.djq_run.specs.declared.status.Status.{Status}

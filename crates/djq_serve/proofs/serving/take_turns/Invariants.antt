@@ -1,7 +1,7 @@
 use Rattle.std.proofs.Common.{◌≡◌, length}
 use Rattle.std.specs.Prelude.{None}
 use Rattle.djq_machine.specs.Call.{counts}
-use Rattle.djq_laws.specs.declared.limits.TheConstants.{READ_BYTES}
+use Rattle.djq_io.specs.declared.limits.TheConstants.{READ_BYTES}
 use Rattle.djq_serve.specs.Told.{hub_shown}
 use Rattle.djq_serve.specs.Kept.{Agrees, AllSettled}
 use Rattle.djq_serve.proofs.Ending.{Taking}

@@ -1,7 +1,7 @@
 -- A union that is found in a slot by its name is registered under it; where none is, no union is.
 use Rattle.std.proofs.Common.{◌≡◌, Bool, true, false, refl, sym, ◌∙◌}
 use Rattle.djq_model.specs.Listed.{listed_of}
-use Rattle.djq_machine.specs.Union.{is_union}
+use Rattle.djq_store_spec.specs.Union.{is_union}
 use Rattle.djq_store.specs.Places.{store_kept_in}
 use Rattle.djq_store.proofs.Judged.{union_there, no_union_there}
 use Rattle.djq_store.proofs.Sought.{sought_none, sought_some}

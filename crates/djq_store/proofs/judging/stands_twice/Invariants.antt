@@ -1,5 +1,5 @@
 use Rattle.std.proofs.Common.{◌≡◌, drop}
-use Rattle.djq_machine.specs.Union.{stands_twice}
+use Rattle.djq_store_spec.specs.Union.{stands_twice}
 use Rattle.djq_store.proofs.judging.stands_twice.Given as goal
 
 abbrev pub invariant-loop-nth : goal.invariant-loop-nth

@@ -1,5 +1,5 @@
 use Rattle.std.proofs.Common.{◌≡◌, false, take}
-use Rattle.djq_machine.specs.Union.{types_differ}
+use Rattle.djq_store_spec.specs.Union.{types_differ}
 use Rattle.djq_store.specs.Places.{store_kept_in}
 use Rattle.djq_store.proofs.judging.types_differ.Given as goal
 

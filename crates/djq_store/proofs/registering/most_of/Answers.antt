@@ -2,7 +2,7 @@
 use Rattle.std.proofs.Common.{◌≡◌, ◌≤◌, ◌<◌, ◌+◌, ◌-◌, ◌*◌, ◌^◌, ◌∙◌, Some, List, length, map, ap, sym, arith}
 use Rattle.std.specs.Prelude.{slice_get}
 use Rattle.std.proofs.lemmas.List.{length-map, take_all}
-use Rattle.djq_machine.specs.Store.{atoms_of}
+use Rattle.djq_store_spec.specs.Registering.{atoms_of}
 use Rattle.djq_live.specs.Live.{Live, IsKeptSomewhere}
 use Rattle.djq_live.specs.Member.{queries_at}
 use Rattle.djq_live.proofs.AtPlaces.{as_many}

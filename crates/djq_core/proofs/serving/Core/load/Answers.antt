@@ -2,8 +2,8 @@
 use Rattle.std.proofs.Common.{◌∙◌, sym, ap, subst, Option, List}
 use Rattle.djq_lines.specs.declared.held.HeldRow.{HeldRow}
 use Rattle.djq_machine.specs.Loading.{Loading, LoadStep}
-use Rattle.djq_core.specs.Sound.{BatchSuits}
-use Rattle.djq_core.specs.Views.{Visible, loading_in}
+use Rattle.djq_commands.specs.Sound.{BatchSuits}
+use Rattle.djq_commands.specs.Views.{Visible, loading_in}
 use Rattle.djq_core.proofs.Loading.{core_idle, idle_core, none_open, step_loads, suits_loaded}
 use Rattle.djq_core.proofs.serving.Core.load.Goals as goal
 

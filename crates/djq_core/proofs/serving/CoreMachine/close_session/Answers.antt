@@ -2,12 +2,12 @@
 use Rattle.std.proofs.Common.{List, map, ◌∙◌, sym, ap, subst, set, arith}
 use Rattle.std.specs.List.{remove}
 use Rattle.djq_machine.specs.State.{State}
-use Rattle.djq_core.specs.declared.open.OpenSession.{OpenSession}
+use Rattle.djq_commands.specs.declared.open.OpenSession.{OpenSession}
 use Rattle.djq_machine.specs.Step.{closed}
 use Rattle.djq_machine.specs.Run.{pending_of}
 use Rattle.djq_machine.specs.Call.{Makes}
-use Rattle.djq_core.specs.Sound.{BatchSuits, IsSound}
-use Rattle.djq_core.specs.Views.{Talk, state_in, Visible}
+use Rattle.djq_commands.specs.Sound.{BatchSuits, IsSound}
+use Rattle.djq_commands.specs.Views.{Talk, state_in, Visible}
 use Rattle.djq_core.proofs.Suited.{suits_at, suited_gone, suited_set}
 use Rattle.djq_core.proofs.Places.{here_by, is_there_in, ids_rise_in, owns, within_by, closes}
 use Rattle.djq_core.proofs.serving.CoreMachine.close_session.Goals as goal

@@ -2,8 +2,8 @@
 use Rattle.std.proofs.Common.{List, ◌&&◌, ◌∙◌, nat_le, find, ap}
 use Rattle.std.specs.Prelude.{option_map}
 use Rattle.djq_session.specs.Dialog.{dialog_is_due}
-use Rattle.djq_core.specs.declared.open.OpenSession.{OpenSession}
-use Rattle.djq_core.specs.Views.{Visible}
+use Rattle.djq_commands.specs.declared.open.OpenSession.{OpenSession}
+use Rattle.djq_commands.specs.Views.{Visible}
 use Rattle.djq_core.proofs.Owing.{first_is_due}
 use Rattle.djq_core.proofs.serving.CoreMachine.due.Goals as goal
 

@@ -1,10 +1,10 @@
 -- The session is at its id's place with cursors of its own, and the machine ends it or had ended it before.
 use Rattle.std.proofs.Common.{List, sym, subst, set, ap}
 use Rattle.djq_machine.specs.State.{State}
-use Rattle.djq_core.specs.declared.open.OpenSession.{OpenSession}
+use Rattle.djq_commands.specs.declared.open.OpenSession.{OpenSession}
 use Rattle.djq_machine.specs.Step.{ended}
 use Rattle.djq_machine.specs.Call.{Makes}
-use Rattle.djq_core.specs.Views.{state_in, Visible}
+use Rattle.djq_commands.specs.Views.{state_in, Visible}
 use Rattle.djq_core.proofs.Places.{here_by, is_there_in, ids_rise_in, owns, ended_now, ended_had, dry_here, same_list}
 use Rattle.djq_core.proofs.Suited.{suits_none, suited_set}
 use Rattle.djq_core.proofs.serving.CoreMachine.end_session.Goals as goal

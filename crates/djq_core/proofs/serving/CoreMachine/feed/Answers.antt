@@ -1,17 +1,17 @@
 -- The session at its id's place gets the bytes, had ended, or ends for want of memory; all others stay.
 use Rattle.std.proofs.Common.{List, ◌∙◌, false, refl, sym, subst, set, ap}
 use Rattle.djq_machine.specs.State.{State}
-use Rattle.djq_core.specs.declared.open.OpenSession.{OpenSession}
+use Rattle.djq_commands.specs.declared.open.OpenSession.{OpenSession}
 use Rattle.djq_lines.specs.declared.answer.EndCause.TheVariants.{Memory}
 use Rattle.djq_lines.specs.Reply.{end_memory}
 use Rattle.djq_machine.specs.Effect.{EndsWith}
 use Rattle.djq_machine.specs.declared.machine.Fed.TheVariants.{Ended}
 use Rattle.djq_machine.specs.Step.{fed}
 use Rattle.djq_machine.specs.Call.{Makes, FedGives}
-use Rattle.djq_core.specs.Views.{Talk, state_in, Visible}
-use Rattle.djq_core.specs.Sound.{BatchSuits, IsOwn}
+use Rattle.djq_commands.specs.Views.{Talk, state_in, Visible}
+use Rattle.djq_commands.specs.Sound.{BatchSuits, IsOwn}
 use Rattle.djq_core.proofs.Suited.{suits_at, suits_none, suited_set}
-use Rattle.djq_core.specs.Performs.{Performs}
+use Rattle.djq_commands.specs.Performs.{Performs}
 use Rattle.djq_core.proofs.Places.{here_by, is_there_in, ids_rise_in, owns, fed_ended, fed_held}
 use Rattle.djq_core.proofs.Places.{fed_lacking, same_list, within_by}
 use Rattle.djq_core.proofs.serving.CoreMachine.feed.Goals as goal

@@ -1,7 +1,7 @@
 -- The ids that are kept are those of the sessions, by the invariant, and so those that the machine sees.
 use Rattle.std.proofs.Common.{◌∙◌, sym, ap}
 use Rattle.djq_machine.specs.Call.{state_ids}
-use Rattle.djq_core.specs.Views.{Visible}
+use Rattle.djq_commands.specs.Views.{Visible}
 use Rattle.djq_core.proofs.Places.{ids_seen}
 use Rattle.djq_core.proofs.serving.CoreMachine.ids.Goals as goal
 

@@ -1,11 +1,11 @@
 -- The new id is above all, so ids still rise; a new session has no cursors, no watches and no batch.
 use Rattle.std.proofs.Common.{List, map, ◌<◌, ◌∙◌, sym, ap, subst, length, arith}
-use Rattle.djq_core.specs.declared.open.OpenSession.{OpenSession}
+use Rattle.djq_commands.specs.declared.open.OpenSession.{OpenSession}
 use Rattle.djq_lines.specs.declared.limits.TheConstants.{SESSIONS}
 use Rattle.djq_machine.specs.Step.{opened}
 use Rattle.djq_machine.specs.Call.{Makes, IsOpen}
-use Rattle.djq_core.specs.Views.{state_in, Visible}
-use Rattle.djq_core.specs.Sound.{IsSound}
+use Rattle.djq_commands.specs.Views.{state_in, Visible}
+use Rattle.djq_commands.specs.Sound.{IsSound}
 use Rattle.djq_core.proofs.Places.{opens}
 use Rattle.djq_core.proofs.Suited.{suited_more}
 use Rattle.djq_core.proofs.serving.CoreMachine.open_session.Goals as goal

@@ -5,8 +5,8 @@ use Rattle.djq_machine.specs.State.{State}
 use Rattle.djq_machine.specs.Step.{took}
 use Rattle.djq_machine.specs.Run.{pending_of}
 use Rattle.djq_machine.specs.Call.{Makes}
-use Rattle.djq_core.specs.Sound.{BatchSuits}
-use Rattle.djq_core.specs.Views.{Talk, state_in, Visible}
+use Rattle.djq_commands.specs.Sound.{BatchSuits}
+use Rattle.djq_commands.specs.Views.{Talk, state_in, Visible}
 use Rattle.djq_core.proofs.Places.{here_by, is_there_in, ids_rise_in, pending_at, takes, within_by}
 use Rattle.djq_core.proofs.Suited.{suits_at, suited_set}
 use Rattle.djq_core.proofs.serving.CoreMachine.took.Goals as goal

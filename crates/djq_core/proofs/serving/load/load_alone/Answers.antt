@@ -7,7 +7,7 @@ use Rattle.djq_proto.specs.declared.refusal.LineRefusal.{LineRefusal}
 use Rattle.djq_proto.specs.declared.refusal.LineRefusal.TheVariants.{Syntax, Range, NoMem}
 use Rattle.djq_proto.specs.Reading.{LineReadsAs}
 use Rattle.djq_core.proofs.Loading.{opens_batch, said_alone, unread_alone}
-use Rattle.djq_core.proofs.Saying.{runnable}
+use Rattle.djq_commands.proofs.Saying.{runnable}
 use Rattle.djq_core.proofs.Suiting.{none_held}
 use Rattle.djq_core.proofs.serving.load.load_alone.Goals as goal
 

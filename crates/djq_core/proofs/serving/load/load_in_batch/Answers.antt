@@ -4,16 +4,16 @@ use Rattle.djq_model.specs.Data.{Bytes}
 use Rattle.djq_lines.specs.declared.held.HeldRow.{HeldRow}
 use Rattle.djq_lines.specs.declared.limits.TheConstants.{HELD}
 use Rattle.djq_lines.specs.Grammar.{reading_of}
-use Rattle.djq_machine.specs.Batch.{AddsBatch, SuitAll}
+use Rattle.djq_store_spec.specs.Batch.{AddsBatch, SuitAll}
 use Rattle.djq_machine.specs.Loading.{ReadingLoads}
 use Rattle.djq_machine.specs.declared.machine.Loaded.{Loaded}
 use Rattle.djq_machine.specs.Keeping.{is_done}
-use Rattle.djq_core.specs.Batching.{MakesRow, ReadsInBatch}
+use Rattle.djq_commands.specs.Batching.{MakesRow, ReadsInBatch}
 use Rattle.djq_core.specs.Loading.{loading_by}
-use Rattle.djq_core.specs.declared.reading.BatchLine.{BatchLine}
+use Rattle.djq_commands.specs.declared.reading.BatchLine.{BatchLine}
 use Rattle.djq_core.proofs.Loading.{comes_by, idle_outdated, said_abandon, said_done, said_hold}
 use Rattle.djq_core.proofs.Loading.{said_nothing, said_quit, said_stop}
-use Rattle.djq_core.proofs.Replying.{ok_done}
+use Rattle.djq_commands.proofs.Replying.{ok_done}
 use Rattle.djq_core.proofs.serving.load.load_in_batch.Goals as goal
 
 pub returns-in-Abandon-clause-loads : goal.returns-in-Abandon-clause-loads

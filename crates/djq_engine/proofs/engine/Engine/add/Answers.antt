@@ -4,10 +4,10 @@ use Rattle.std.specs.Prelude.{IfErr, Some, Ok, Err}
 use Rattle.djq_model.specs.Data.{with_row}
 use Rattle.djq_lines.specs.declared.answer.Refusal.{Refusal}
 use Rattle.djq_lines.specs.declared.answer.AddOutcome.{AddOutcome}
-use Rattle.djq_machine.specs.Store.{add_refusal}
+use Rattle.djq_store_spec.specs.Rows.{add_refusal}
 use Rattle.djq_engine.specs.declared.change.AddRefusal.{AddRefusal}
 use Rattle.djq_rows.specs.Catalog.{counted_at}
-use Rattle.djq_machine.specs.Changes.{row_in}
+use Rattle.djq_store_spec.specs.Changes.{row_in}
 use Rattle.djq_engine.specs.declared.parts.Parts.{Parts}
 use Rattle.djq_engine.specs.Judging.{bare_store}
 use Rattle.djq_engine.specs.Changing.{

@@ -5,7 +5,7 @@ use Rattle.djq_model.specs.Data.{Tuple, without_copies}
 use Rattle.djq_lines.specs.declared.answer.DeleteOutcome.{DeleteOutcome}
 use Rattle.djq_rows.specs.Catalog.{Catalog, StandForRow, counted_at}
 use Rattle.djq_live.specs.Live.{Live}
-use Rattle.djq_machine.specs.Changes.{row_out}
+use Rattle.djq_store_spec.specs.Changes.{row_out}
 use Rattle.djq_engine.proofs.Placed.{keeps_changed, keeps_equal}
 use Rattle.djq_rows.specs.declared.relation_id.RelationId.{RelationId}
 use Rattle.djq_engine.specs.Kept.{held_at}

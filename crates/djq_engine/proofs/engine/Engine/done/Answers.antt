@@ -9,9 +9,9 @@ use Rattle.djq_model.specs.Listed.{a_query}
 use Rattle.djq_lines.specs.declared.answer.Refusal.{Refusal}
 use Rattle.djq_lines.specs.declared.answer.Refusal.TheVariants.{Limit, NoMemory}
 use Rattle.djq_lines.specs.declared.held.HeldRow.{HeldRow}
-use Rattle.djq_machine.specs.State.{Store}
-use Rattle.djq_machine.specs.Batch.{with_all, has_come, SuitAll, batch_outcome}
-use Rattle.djq_machine.specs.Delta.{Change, IsDelta}
+use Rattle.djq_store_spec.specs.Store.{Store}
+use Rattle.djq_store_spec.specs.Batch.{with_all, has_come, SuitAll, batch_outcome}
+use Rattle.djq_store_spec.specs.Delta.{Change, IsDelta}
 use Rattle.djq_deltas.specs.Finite.{DeltasExist}
 use Rattle.djq_rows.specs.Catalog.{Catalog, IsCatalog, relation_at}
 use Rattle.djq_rows.specs.Laws.{CellsStay}
@@ -44,7 +44,7 @@ use Rattle.djq_engine.proofs.TakenBack.{catalog_counted}
 use Rattle.djq_engine.proofs.Worked.{came_few, counts_all, rows_each}
 use Rattle.djq_engine.specs.Kept.{Kept, Outdates, KeepsPlaces, is_tried}
 use Rattle.djq_engine.specs.Watching.{EngineTellsChange}
-use Rattle.djq_machine.specs.Changes.{tried}
+use Rattle.djq_store_spec.specs.Changes.{tried}
 use Rattle.djq_rows.proofs.Lawful.{stay as cells_stay}
 use Rattle.djq_deltas.proofs.Finite.{deltas_exist}
 use Rattle.djq_live.proofs.Bound.{heads_bound as heads_are_bound}

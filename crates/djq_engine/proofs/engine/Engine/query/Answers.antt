@@ -9,7 +9,7 @@ use Rattle.djq_engine.proofs.Carrying.{sound_texts}
 use Rattle.djq_model.specs.declared.query.Query.{Query}
 use Rattle.djq_model.specs.Listed.{a_query, listed_of}
 use Rattle.djq_lines.specs.declared.limits.TheConstants.{TEXTS}
-use Rattle.djq_machine.specs.Store.{LearnsAll, LearnsFirst}
+use Rattle.djq_store_spec.specs.Relations.{LearnsAll, LearnsFirst}
 use Rattle.djq_rows.specs.Catalog.{Catalog}
 use Rattle.djq_engine.specs.declared.parts.Parts.{Parts}
 use Rattle.djq_engine.specs.Kept.{Registered, TellsOfQuery}

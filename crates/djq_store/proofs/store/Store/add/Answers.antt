@@ -1,7 +1,7 @@
 -- What the engine did is what the store does, and its unions follow one relation's change, by Rowed.
 use Rattle.std.proofs.Common.{[], ◌∷◌, ◌≡◌, ◌∙◌, refl, sym, subst, true}
-use Rattle.djq_machine.specs.Store.{AddsRow}
-use Rattle.djq_machine.specs.Changes.{row_in, add_outcome, tried}
+use Rattle.djq_store_spec.specs.Rows.{AddsRow}
+use Rattle.djq_store_spec.specs.Changes.{row_in, add_outcome, tried}
 use Rattle.djq_engine.specs.Kept.{Kept, Outdates, IsUnwatched}
 use Rattle.djq_engine.specs.Watching.{CountsUpdates, add_times}
 use Rattle.djq_store.specs.Places.{store_kept_in}

@@ -3,10 +3,10 @@ use Rattle.std.proofs.Common.{◌≡◌, List, ℕ, sym, subst, refl, ◌∙◌,
 use Rattle.std.specs.Prelude.{Ok, Option, Some}
 use Rattle.djq_model.specs.Listed.{a_union}
 use Rattle.djq_live.specs.Member.{query_at, queries_at}
-use Rattle.djq_machine.specs.Store.{answer_steps}
+use Rattle.djq_store_spec.specs.Registering.{answer_steps}
 use Rattle.djq_live.specs.Live.{Live}
 use Rattle.djq_live.proofs.AtPlaces.{are_kept}
-use Rattle.djq_machine.specs.Union.{RegistersUnion}
+use Rattle.djq_store_spec.specs.Union.{RegistersUnion}
 use Rattle.djq_engine.specs.Kept.{Kept, SameCursors}
 use Rattle.djq_united.specs.United.{AreMembers}
 use Rattle.djq_store.specs.Places.{store_seen}

@@ -1,7 +1,7 @@
 -- What the engine took is what the store does, and its unions follow one relation's change, by Rowed.
 use Rattle.std.proofs.Common.{[], ◌∷◌, ◌≡◌, ◌∙◌, refl, sym, subst, false}
-use Rattle.djq_machine.specs.Store.{DeletesRow}
-use Rattle.djq_machine.specs.Changes.{row_out, delete_outcome, tried}
+use Rattle.djq_store_spec.specs.Rows.{DeletesRow}
+use Rattle.djq_store_spec.specs.Changes.{row_out, delete_outcome, tried}
 use Rattle.djq_engine.specs.Kept.{Kept, Outdates, IsUnwatched}
 use Rattle.djq_engine.specs.Watching.{CountsUpdates, delete_times}
 use Rattle.djq_store.specs.Places.{store_kept_in}

@@ -1,7 +1,7 @@
 -- A place below 256 has the engine's delta of its query, any other the lines of its union's log, by Lined.
 use Rattle.std.proofs.Common.{◌≡◌, ◌-◌, ◌∙◌, List, length, sym, subst, ap}
 use Rattle.std.specs.Prelude.{Option, Some, IsSomeAnd, option_map, ⊤}
-use Rattle.djq_machine.specs.Delta.{Change}
+use Rattle.djq_store_spec.specs.Delta.{Change}
 use Rattle.djq_engine.specs.Kept.{Kept, IsRegistered, told_at}
 use Rattle.djq_store.specs.declared.joined.Joined.{Joined}
 use Rattle.djq_store.specs.Places.{joined_at}

@@ -1,7 +1,7 @@
 -- By the invariant a union's first member can show each line of its log; a query's line is the engine's.
 use Rattle.std.proofs.Common.{◌≡◌, ◌<◌, ◌-◌, ℕ, List, get_or, length, sym, subst}
 use Rattle.std.specs.Prelude.{Option, Some, IsSomeAnd, slice_get, ⊤}
-use Rattle.djq_machine.specs.Delta.{Change}
+use Rattle.djq_store_spec.specs.Delta.{Change}
 use Rattle.djq_live.specs.Live.{IsShowable, values_of}
 use Rattle.djq_engine.specs.Kept.{Kept, AtPlace, IsRegistered, told_at}
 use Rattle.djq_engine.specs.Places.{id_at}

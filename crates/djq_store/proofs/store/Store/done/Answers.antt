@@ -1,8 +1,8 @@
 -- Rows suit the store where they suit its engine, whose batch is the store's, with unions behind, by Batched.
 use Rattle.std.proofs.Common.{◌≡◌, ◌∙◌, refl, sym, ap, subst, true}
 use Rattle.std.specs.Prelude.{Option}
-use Rattle.djq_machine.specs.Changes.{RowsOutcome, tried}
-use Rattle.djq_machine.specs.Batch.{SuitAll, AddsBatch, batch_outcome}
+use Rattle.djq_store_spec.specs.Changes.{RowsOutcome, tried}
+use Rattle.djq_store_spec.specs.Batch.{SuitAll, AddsBatch, batch_outcome}
 use Rattle.djq_engine.specs.Kept.{Kept, Outdates, IsUnwatched}
 use Rattle.djq_engine.specs.Watching.{CountsBatch, batch_times}
 use Rattle.djq_store.specs.Places.{store_kept_in}

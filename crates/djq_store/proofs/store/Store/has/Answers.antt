@@ -2,7 +2,8 @@
 use Rattle.std.proofs.Common.{◌≡◌, ◌+◌, ◌≤◌, ◌∙◌, ℕ, List, sym, subst, ap}
 use Rattle.std.specs.Prelude.{Option, Some, IsSomeAnd, ⊤}
 use Rattle.djq_model.specs.Listed.{a_union, listed_of}
-use Rattle.djq_machine.specs.Store.{TellsWhether, atoms_of, has_steps}
+use Rattle.djq_store_spec.specs.Asking.{TellsWhether, has_steps}
+use Rattle.djq_store_spec.specs.Registering.{atoms_of}
 use Rattle.djq_engine.specs.Kept.{Kept}
 use Rattle.djq_united.specs.United.{AreMembers}
 use Rattle.djq_store.specs.Asking.{TellsMembership, asked_in}

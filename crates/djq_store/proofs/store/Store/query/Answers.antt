@@ -5,7 +5,7 @@ use Rattle.djq_lines.specs.declared.answer.Refusal.{Refusal}
 use Rattle.djq_lines.specs.declared.answer.Refusal.TheVariants.{Taken, Limit}
 use Rattle.djq_lines.specs.declared.rest.QueryOutcome.{QueryOutcome}
 use Rattle.djq_lines.specs.declared.limits.TheConstants.{QUERIES}
-use Rattle.djq_machine.specs.Store.{RegistersQuery}
+use Rattle.djq_store_spec.specs.Registering.{RegistersQuery}
 use Rattle.djq_engine.specs.Kept.{Kept, SameCursors}
 use Rattle.djq_engine.specs.Watching.{Enrols, EnrolsTelling}
 use Rattle.djq_store.specs.Places.{store_seen, cursors_in}

@@ -1,6 +1,6 @@
 -- A new relation leaves queries and texts as they are, so what is made of them is seen as before, by Related.
 use Rattle.std.proofs.Common.{◌≡◌, subst}
-use Rattle.djq_machine.specs.Store.{MakesRelation}
+use Rattle.djq_store_spec.specs.Relations.{MakesRelation}
 use Rattle.djq_engine.specs.Kept.{Kept, SameCursors, SameTellings}
 use Rattle.djq_store.specs.Places.{store_kept_in}
 use Rattle.djq_store.proofs.Given.{whole_over}

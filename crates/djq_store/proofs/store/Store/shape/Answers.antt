@@ -2,7 +2,7 @@
 use Rattle.std.proofs.Common.{subst}
 use Rattle.std.specs.Prelude.{Ok}
 use Rattle.djq_lines.specs.declared.answer.Shape.TheVariants.{Union}
-use Rattle.djq_machine.specs.Store.{TellsShape}
+use Rattle.djq_store_spec.specs.Asking.{TellsShape}
 use Rattle.djq_engine.specs.Kept.{Kept}
 use Rattle.djq_store.proofs.Answering.{union_shape, query_shape}
 use Rattle.djq_store.proofs.Named.{found_union, no_union}

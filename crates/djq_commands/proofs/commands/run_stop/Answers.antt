@@ -1,0 +1,10 @@
+-- A session that gave up all may end among any others with `bye`, and the machine is stopped by that.
+use Rattle.std.proofs.Common.{Some, refl}
+use Rattle.djq_lines.specs.Reply.{bye}
+use Rattle.djq_lines.specs.declared.answer.EndCause.TheVariants.{Stop}
+use Rattle.djq_commands.proofs.GivingUp.{ends}
+use Rattle.djq_commands.proofs.commands.run_stop.Goals as goal
+
+pub returns : goal.returns
+returns c = ends _ _ c.args.engine.now c.give_up.new.engine c.args.session.now c.give_up.new.session c.end_bye.new.self
+    (Some bye) Stop c.give_up.ensures.gives_up c.end_bye.ensures (λ st s x. (refl, refl))

@@ -1,0 +1,19 @@
+-- A line that gives a row says an `add` with a name of 32 bytes at most, and a refused one is refused so.
+use Rattle.std.proofs.Common.{Some, [], sym, subst}
+use Rattle.djq_lines.specs.Grammar.{reading_of}
+use Rattle.djq_lines.specs.declared.answer.Refusal.{Refusal}
+use Rattle.djq_lines.specs.declared.command.Command.TheVariants.{Add}
+use Rattle.djq_commands.specs.Batching.{RefusedBy}
+use Rattle.djq_commands.proofs.Saying.{reads_as, refused_row, short_to_add}
+use Rattle.djq_commands.proofs.reading.read_in_batch.Goals as goal
+
+pub returns-in-Add : goal.returns-in-Add
+returns-in-Add c =
+    let name = c.in-Add.name.now in
+    let row = c.read_row.new.row.items in
+    (reads_as c.args.line.now (Add name row) c.in-Add.ensures, short_to_add c.args.line.now name row c.in-Add.ensures)
+
+pub returns-in-Refused : goal.returns-in-Refused
+returns-in-Refused c =
+    subst (λ (r : Refusal). RefusedBy (Some []) (reading_of c.args.line.now) r) (sym c.row_refusal_of.ensures)
+    (refused_row c.args.line.now c.in-Refused.verb c.in-Refused.refusal c.in-Refused.ensures.0 c.in-Refused.ensures.1)

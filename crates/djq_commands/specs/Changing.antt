@@ -1,0 +1,139 @@
+-- A command on a row, which a session says and which all who watch are told.
+use Rattle.std.specs.Prelude.{
+  ℕ,
+  zero,
+  suc,
+  List,
+  ◌≡◌,
+  ◌+◌,
+  ◌≤◌,
+  Bool,
+  true,
+  false,
+  Option,
+  None,
+  Some,
+  Result,
+  Ok,
+  Err,
+  AllPairs,
+  length,
+  map,
+  if◌then◌else◌,
+}
+use Rattle.djq_model.specs.Data.{Bytes, Tuple}
+use Rattle.djq_lines.specs.declared.limits.TheConstants.{PENDING_BYTES, REPLY_BYTES, LAST_LINE_BYTES}
+use Rattle.djq_lines.specs.declared.answer.Refusal.{Refusal}
+use Rattle.djq_lines.specs.declared.answer.AddOutcome.{AddOutcome}
+use Rattle.djq_lines.specs.declared.answer.AddOutcome.TheVariants.{First, More}
+use Rattle.djq_lines.specs.declared.answer.DeleteOutcome.{DeleteOutcome}
+use Rattle.djq_lines.specs.declared.answer.DeleteOutcome.TheVariants.{Last, Left, Absent}
+use Rattle.djq_lines.specs.declared.command.Command.{Command}
+use Rattle.djq_lines.specs.declared.command.Command.TheVariants.{Add, Del, Done as SayDone}
+use Rattle.djq_lines.specs.declared.held.HeldRow.{HeldRow}
+use Rattle.djq_lines.specs.Line.{a_line, front_of, is_blank}
+use Rattle.djq_lines.specs.Grammar.{says_command, reading_of}
+use Rattle.djq_lines.specs.Reply.{add_reply, delete_reply, done_reply}
+use Rattle.djq_machine.specs.Keeping.{is_done, is_removal}
+use Rattle.djq_store_spec.specs.Batch.{AddsBatch, batch_outcome}
+use Rattle.djq_store_spec.specs.Rows.{AddsRow, DeletesRow}
+use Rattle.djq_store_spec.specs.Changes.{RowsOutcome, row_in, row_out, add_outcome, delete_outcome, tried}
+use Rattle.djq_engine.specs.Kept.{Kept, Outdates, same_query}
+use Rattle.djq_store.specs.Watching.{TellsChange}
+use Rattle.djq_commands.specs.declared.change.Outcome.{Outcome}
+use Rattle.djq_commands.specs.declared.change.Outcome.TheVariants.{Added, Deleted, Done}
+use Rattle.djq_commands.specs.declared.kept.KeptLines.{KeptLines}
+use Rattle.djq_commands.specs.declared.kept.KeptLines.TheVariants.{Nothing, Line, Batch}
+use Rattle.djq_commands.specs.Views.{Talk}
+
+-- whether the change was accepted; a copy of a row that stays is none
+abbrev pub is_accepted : Outcome → Bool
+is_accepted (Added (Ok First)) = true
+is_accepted (Added (Ok (More copies))) = false
+is_accepted (Added (Err r)) = false
+is_accepted (Deleted (Ok Last)) = true
+is_accepted (Deleted (Ok (Left copies))) = false
+is_accepted (Deleted (Ok Absent)) = false
+is_accepted (Deleted (Err r)) = false
+is_accepted (Done (Ok zero) held) = false
+is_accepted (Done (Ok (suc n)) held) = true
+is_accepted (Done (Err r) held) = false
+
+-- whether its line is kept, alone or with the batch that it ends
+abbrev pub is_kept : Outcome → Bool
+is_kept (Added result) = is_done result
+is_kept (Deleted result) = is_removal result
+is_kept (Done result held) = is_done result
+
+-- what is kept of it
+abbrev pub line_where : Bool → KeptLines
+line_where kept = if kept then Line else Nothing
+
+-- what is kept of an outcome: its line, the batch that it ends, or nothing
+abbrev pub lines_kept : Outcome → KeptLines
+lines_kept (Added result) = line_where (is_done result)
+lines_kept (Deleted result) = line_where (is_removal result)
+lines_kept (Done result held) = if is_done result then Batch held else Nothing
+
+-- its reply, at a number of changes
+abbrev pub reply_of : Outcome → ℕ → Bytes
+reply_of (Added result) n = add_reply result n
+reply_of (Deleted result) n = delete_reply result n
+reply_of (Done result held) n = done_reply result n
+
+-- What the engine did of a change, whoever watches. Its registered queries are those of the store, and their ids
+-- differ.
+pub record EngineChanged (old : Kept) (outcome : RowsOutcome) (new : Kept) (was now : ℕ) : Type 0 where
+  pub outdated : Outdates old (tried outcome) new
+  pub registered : new.registered ≡ old.registered
+  pub queries : map (λ r. r.query) old.registered ≡ (old.store).queries
+  pub apart : AllPairs (λ r s. same_query r.id s.id ≡ false) old.registered
+  pub tells : TellsChange old outcome new was now
+
+-- A row was to be added.
+pub record TriesToAdd (old : Kept) (name : Bytes) (row : Tuple) (outcome : Outcome) (new : Kept)
+    (was now : ℕ) : Type 0 where
+  pub result : Result AddOutcome Refusal
+  pub is : outcome ≡ Added result
+  pub done : AddsRow old.store name row result new.store
+  pub changed : EngineChanged old (add_outcome (row_in (old.store).relations name row) result) new was now
+
+-- A row was to be deleted.
+pub record Deletes (old : Kept) (name : Bytes) (row : Tuple) (outcome : Outcome) (new : Kept) (was now : ℕ) : Type 0
+  where
+    pub result : Result DeleteOutcome Refusal
+    pub is : outcome ≡ Deleted result
+    pub done : DeletesRow old.store name row result new.store
+    pub changed : EngineChanged old (delete_outcome (row_out (old.store).relations name row) result) new was now
+
+-- The rows that a batch held were to be added, at once.
+pub record AddsAll (old : Kept) (held : List HeldRow) (outcome : Outcome) (new : Kept) (was now : ℕ) : Type 0
+  where
+    pub result : Result ℕ Refusal
+    pub is : outcome ≡ Done result held
+    pub done : AddsBatch old.store held result new.store
+    pub changed : EngineChanged old (batch_outcome old.store held result) new was now
+
+-- What a command that may change rows comes to, of a session with this batch open, or with none.
+abbrev pub IsChange : Command → Option (List HeldRow) → Kept → Outcome → Kept → ℕ → ℕ → Type 0
+IsChange (Add name row) None old outcome new was now = TriesToAdd old name row outcome new was now
+IsChange (Del name row) None old outcome new was now = Deletes old name row outcome new was now
+IsChange SayDone (Some held) old outcome new was now = AddsAll old held outcome new was now
+IsChange _ _ old outcome new was now = ⊥
+
+-- A session's line was taken and its command done. What is left is to tell the change and to answer, for which there
+-- is room.
+pub record LeavesChange (outcome : Outcome) (old : Kept) (before : Talk) (new : Kept) (after : Talk) (was now : ℕ) :
+    Type 0 where
+  pub running : before.cause ≡ None
+  pub line : Bytes
+  pub rest : Bytes
+  pub front : front_of before.held ≡ a_line line rest
+  pub said : is_blank line ≡ false
+  pub few : length before.pending ≤ PENDING_BYTES
+  pub command : Command
+  pub reads : reading_of line ≡ says_command command
+  pub changes : IsChange command before.batch old outcome new was now
+  -- a batch that is open is closed
+  pub taken : after ≡ record before { held = rest; room = after.room; batch = None }
+  pub room : REPLY_BYTES + LAST_LINE_BYTES ≤ after.room

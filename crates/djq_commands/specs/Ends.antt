@@ -1,0 +1,55 @@
+-- What a session's end does to the engine and to the session.
+use Rattle.std.specs.Prelude.{ℕ, [], ◌∷◌, ◌≡◌, true, Option, None, Some}
+use Rattle.djq_model.specs.Data.{Bytes}
+use Rattle.djq_lines.specs.declared.answer.EndCause.TheVariants.{Input}
+use Rattle.djq_lines.specs.declared.answer.EndCause.TheVariants.{Memory}
+use Rattle.djq_lines.specs.Reply.{input_cut, end_memory}
+use Rattle.djq_machine.specs.State.{State, with_session, ended_by}
+use Rattle.djq_machine.specs.Effect.{Effect}
+use Rattle.djq_session.specs.Dialog.{DialogEndsWith}
+use Rattle.djq_engine.specs.declared.cursor.CursorId.{CursorId}
+use Rattle.djq_engine.specs.Kept.{Kept, held_at}
+use Rattle.djq_commands.specs.Views.{Talk}
+use Rattle.djq_commands.specs.Sound.{ids_of_cursors, is_cursor_among, IsApart, StaysCounted, without_watchers}
+use Rattle.djq_commands.specs.Performs.{to_one}
+
+-- The cursors of a session are gone, and nothing else.
+pub record GivesUpCursors (old : Kept) (before : Talk) (new : Kept) (after : Talk) : Type 0 where
+  pub store : new.store ≡ old.store
+  pub gone : (c : CursorId) → is_cursor_among c (ids_of_cursors before.cursors) ≡ true → held_at new.cursors c ≡ None
+  pub others : (c : CursorId) → IsApart c (ids_of_cursors before.cursors) → held_at new.cursors c ≡ held_at
+      old.cursors c
+  pub session : after ≡ record before { cursors = [] }
+  pub registered : new.registered ≡ old.registered
+  pub affected : new.affected ≡ old.affected
+  pub told : new.told ≡ old.told
+
+-- The watches of a session are gone, and nothing else.
+pub record GivesUpWatches (old : Kept) (before : Talk) (new : Kept) (after : Talk) : Type 0 where
+  pub rest : new ≡ record old { registered = new.registered }
+  pub session : after ≡ record before { watches = [] }
+  pub counted : StaysCounted old.registered before.watches new.registered []
+  pub listed : without_watchers new.registered ≡ without_watchers old.registered
+
+-- Both are gone, and nothing else.
+pub record SessionGivesUp (old : Kept) (before : Talk) (new : Kept) (after : Talk) : Type 0 where
+  pub store : new.store ≡ old.store
+  pub gone : (c : CursorId) → is_cursor_among c (ids_of_cursors before.cursors) ≡ true → held_at new.cursors c ≡ None
+  pub others : (c : CursorId) → IsApart c (ids_of_cursors before.cursors) → held_at new.cursors c ≡ held_at
+      old.cursors c
+  pub session : after ≡ record before { cursors = []; watches = [] }
+  pub counted : StaysCounted old.registered before.watches new.registered []
+
+-- Out of memory in the midst of a reply: the cursors and watches of a session are gone, and it is told so and ends.
+pub record CutsOff (old : Kept) (before : Talk) (new : Kept) (after : Talk) : Type 0 where
+  pub gives_up : SessionGivesUp old before new (record before { cursors = []; watches = [] })
+  pub ends : DialogEndsWith (record before { cursors = []; watches = [] }) after end_memory Memory
+
+-- that bytes are held which no line end follows
+abbrev pub cut_text : Bytes → Option Bytes
+cut_text [] = None
+cut_text (b ∷ bs) = Some input_cut
+
+-- A session ends with its input.
+abbrev pub EndsQuietly : Bytes → State → ℕ → Effect → State → Type 0
+EndsQuietly held old s e new = (e ≡ to_one s (cut_text held) 0) × (new ≡ with_session old s (ended_by Input))

@@ -1,0 +1,76 @@
+-- What the join machine sees of what the core keeps.
+use Rattle.std.specs.Prelude.{ℕ, List, [], ◌∷◌, ◌++◌, Bool, Option, None, Some, map, codes}
+use Rattle.djq_model.specs.Data.{Bytes}
+use Rattle.djq_lines.specs.declared.held.HeldRow.{HeldRow}
+use Rattle.djq_session.specs.declared.named.NamedCursor.{NamedCursor}
+use Rattle.djq_session.specs.Dialog.{Dialog}
+use Rattle.djq_engine.specs.declared.cursor.CursorId.{CursorId}
+use Rattle.djq_engine.specs.Kept.{Kept, HeldCursor, held_at}
+use Rattle.djq_machine.specs.Loading.{Loading}
+use Rattle.djq_store_spec.specs.Store.{Position, stale}
+use Rattle.djq_machine.specs.State.{Cursor, Session, State}
+use Rattle.djq_commands.specs.declared.kept.KeptLines.{KeptLines}
+use Rattle.djq_commands.specs.declared.kept.KeptLines.TheVariants.{Nothing, Line, Batch}
+use Rattle.djq_commands.specs.declared.open.OpenSession.{OpenSession}
+
+-- A session over the engine: its cursors are the engine's, and it watches queries by name.
+abbrev pub Talk : Type 0
+Talk = Dialog CursorId Bytes
+
+-- the query and the position of a cursor that the engine holds; it holds each that a session has
+abbrev pub cursor_query : Option HeldCursor → Bytes
+cursor_query None = []
+cursor_query (Some h) = h.query
+
+-- the position of a cursor that the engine holds
+abbrev pub cursor_position : Option HeldCursor → Position
+cursor_position None = stale [] 0
+cursor_position (Some h) = h.position
+
+-- a cursor of a session
+abbrev pub cursor_in : List HeldCursor → NamedCursor CursorId → Cursor
+cursor_in hs n = record
+    { name = n.name; query = cursor_query (held_at hs n.cursor); position = cursor_position (held_at hs n.cursor) }
+
+-- a session of this id
+abbrev pub session_in : List HeldCursor → ℕ → Talk → Session
+session_in hs s d = record {
+  id = s;
+  held = d.held;
+  pending = d.pending;
+  cause = d.cause;
+  cursors = map (cursor_in hs) d.cursors;
+  watches = d.watches;
+  batch = d.batch;
+}
+
+-- an open session
+abbrev pub session_seen : List HeldCursor → OpenSession → Session
+session_seen hs x = session_in hs x.id x.session
+
+-- the state of the join machine
+abbrev pub state_in : Kept → Bool → List OpenSession → State
+state_in k stopped xs = record { store = k.store; stopped = stopped; sessions = map (session_seen k.cursors) xs }
+
+-- What contracts see of the core: the state of the join machine, the lines that its last step kept, and
+-- the rows that the batch of the loaded lines holds, where one is open.
+pub record Visible : Type 0 where
+  pub state : State
+  pub kept : List Bytes
+  pub batch : Option (List HeldRow)
+
+-- where the loading of lines has come to
+abbrev pub loading_in : Visible → Loading
+loading_in c = record { store = (c.state).store; batch = c.batch }
+
+-- the lines that a step kept: none, the one that it ran, or the batch that this one ended, whole
+abbrev pub lines_of_step : KeptLines → Bytes → List Bytes
+lines_of_step Nothing line = []
+lines_of_step Line line = line ∷ []
+lines_of_step (Batch held) line = codes "batch" ∷ map (λ h. h.line) held ++ codes "done" ∷ []
+
+-- a core with this engine, these sessions, what its last step kept, of which this is the line, and the
+-- batch of the loaded lines
+abbrev pub seen_in : Kept → Bool → List OpenSession → KeptLines → Bytes → Option (List HeldRow) → Visible
+seen_in k stopped xs kept line batch =
+    record { state = state_in k stopped xs; kept = lines_of_step kept line; batch = batch }

@@ -1,0 +1,94 @@
+//! A session's end: its cursors are given up, and its last line is queued.
+ghost use Rattle.std.specs.Prelude.{◌≡◌, [], false, None, Some};
+ghost use Rattle.djq_lines.specs.Reply.{end_line, input_cut};
+ghost use Rattle.djq_lines.specs.declared.answer.EndCause.TheVariants.{Input};
+ghost use Rattle.djq_machine.specs.Effect.{EndsWith};
+ghost use Rattle.djq_commands.specs.Ends.{CutsOff, SessionGivesUp, GivesUpCursors, GivesUpWatches, EndsQuietly};
+ghost use Rattle.djq_commands.specs.Performs.{Performs};
+ghost use Rattle.djq_commands.specs.Telling.{KeepsTold};
+ghost use Rattle.djq_commands.specs.Sound.{IsOwn, HasCount};
+
+use djq_lines::{EndCause, EndLine};
+use djq_model::Name;
+use djq_session::Session;
+use djq_store::{CursorId, Store};
+
+/// The store gives up the cursors of a session, and nothing else.
+fn give_up_cursors(engine: &mut Store, session: &mut Session<CursorId, Name>)
+    requires { IsOwn engine.old session.old }
+    ensures { GivesUpCursors engine.old session.old engine.new session.new }
+{
+    while let Some(id) = session.pop_cursor() {
+        engine.close(id);
+    }
+}
+
+/// The store counts a session no more among those that watch its queries.
+fn give_up_watches(engine: &mut Store, session: &mut Session<CursorId, Name>)
+    requires { HasCount engine.old.registered session.old.watches }
+    ensures { GivesUpWatches engine.old session.old engine.new session.new }
+{
+    while let Some(query) = session.pop_watch() {
+        engine.laws();
+        if let Some(id) = engine.query_id(&query) {
+            engine.unwatch(id);
+        }
+    }
+}
+
+/// The store gives up the cursors and the watches of a session, and nothing else.
+pub fn give_up(engine: &mut Store, session: &mut Session<CursorId, Name>)
+    requires { IsOwn engine.old session.old }
+    ensures gives_up { SessionGivesUp engine.old session.old engine.new session.new }
+    ensures told { KeepsTold engine.old engine.new }
+{
+    give_up_cursors(engine, session);
+    give_up_watches(engine, session);
+}
+
+/// Out of memory in the midst of a reply, a session ends, and is told so.
+pub fn cut_off(engine: &mut Store, session: &mut Session<CursorId, Name>)
+    requires own { IsOwn engine.old session.old }
+    requires running { session.old.cause ≡ None }
+    ensures { CutsOff engine.old session.old engine.new session.new }
+{
+    give_up(engine, session);
+    session.end_by(EndLine::Memory, EndCause::Memory);
+}
+
+/// A session ends with a line that tells why.
+pub fn end_by(
+    engine: &mut Store,
+    session: &mut Session<CursorId, Name>,
+    line: EndLine,
+    cause: EndCause,
+)
+    requires own { IsOwn engine.old session.old }
+    requires running { session.old.cause ≡ None }
+    ensures performs { Performs (λ st s x e st'. EndsWith (end_line line) cause st s e st') false
+        engine.old session.old engine.new session.new 0 0 }
+    ensures ended { session.new.cause ≡ Some cause }
+    ensures told { KeepsTold engine.old engine.new }
+    ensures watches { session.new.watches ≡ [] }
+    ensures closed { session.new.batch ≡ None }
+{
+    give_up(engine, session);
+    session.end_by(line, cause);
+}
+
+/// A session's input has ended: where bytes are held, which no line end follows, that is said.
+pub fn end_input(engine: &mut Store, session: &mut Session<CursorId, Name>)
+    requires own { IsOwn engine.old session.old }
+    requires running { session.old.cause ≡ None }
+    ensures performs { Performs (λ st s x e st'. EndsQuietly session.old.held st s e st') false
+        engine.old session.old engine.new session.new 0 0 }
+    ensures told { KeepsTold engine.old engine.new }
+    ensures closed { session.new.batch ≡ None }
+{
+    give_up(engine, session);
+    if session.held().is_empty() {
+        session.end(EndCause::Input);
+    } else {
+        session.end_cut();
+    }
+}

@@ -1,0 +1,47 @@
+//! One line of one session, run over a store.
+//!
+//! [`step_session`] takes the next line of a session and runs it: the order of checks before a line is
+//! run, then the command. It is handed the store and that session alone, and promises a step of the
+//! machine whatever sessions there are besides (`specs/Performs.antt`); so no command can read or write
+//! another session. What a command on rows leaves to do is returned ([`Left`]): publishing it to all
+//! who watch is djq_core's.
+//!
+//! ```text
+//! the session holds   add r 7      Left::Telling: one row came, and is to be published and answered
+//!                     watch q      Left::Nothing: `ok watch 1` is queued
+//!                     stop         Left::Stopping: `bye` is queued, and the session has ended
+//! ```
+//!
+//! What this crate is not: it knows no other session, sends nothing, and looks no session up.
+//!
+//! What surprises: a cursor's name belongs to its session, and stands for a cursor of the store. A line
+//! of a row is read into memory that is used again, and any other command is made anew.
+//!
+//! Inside: `line` has the order of checks and the dispatch; `commands`, `watch`, `listing` and `ending`
+//! what commands do, `next` line by line, and a session's end. While a session has a batch open,
+//! `reading` says what its line is to the batch, `held` makes the rows that are held, and `batch` runs
+//! it. `copied` is where a line is copied, and `kept` what a step is to log.
+#![tactic(auto)]
+
+mod batch;
+mod change;
+mod commands;
+mod copied;
+mod ending;
+mod held;
+mod kept;
+mod line;
+mod listing;
+mod open;
+mod reading;
+mod watch;
+
+pub use change::{Left, Outcome, is_removal};
+pub use commands::is_registered;
+pub use copied::Copied;
+pub use ending::{cut_off, end_by, end_input, give_up};
+pub use held::new_row;
+pub use kept::KeptLines;
+pub use line::step_session;
+pub use open::OpenSession;
+pub use reading::{BatchLine, read_in_batch};

@@ -1,0 +1,287 @@
+//! The order of checks before a line is run, and which command it says.
+ghost use Rattle.std.specs.Prelude.{◌≡◌, ◌≤◌, ◌||◌, None, Bool, false, length, take, drop, ⊤};
+ghost use Rattle.djq_lines.specs.Line.{a_line, front_of, is_blank as is_blank_line};
+ghost use Rattle.djq_lines.specs.declared.limits.TheConstants.{PENDING_BYTES};
+ghost use Rattle.djq_machine.specs.Call.{counts};
+ghost use Rattle.djq_proto.specs.RowReading.{begins_row};
+ghost use Rattle.djq_value.specs.Token.{tokens};
+ghost use Rattle.djq_machine.specs.Command.{is_misplaced};
+ghost use Rattle.djq_commands.specs.Sound.{BatchSuits, IsOwn, CommandIsReady};
+ghost use Rattle.djq_commands.specs.Stepping.{Copies, IsRunnable, LeavesTo, LineLeaves, Obeys, is_on_row};
+
+use crate::batch::{run_batch, run_in_batch};
+use crate::change::{Left, Outcome};
+use crate::commands::{
+    run_close, run_drop, run_explain, run_has, run_open, run_query, run_quit, run_rel, run_shape,
+    run_stop, run_union,
+};
+use crate::copied::Copied;
+use crate::ending::end_by;
+use crate::listing::run_next;
+use crate::reading::refusal_of;
+use crate::watch::{run_unwatch, run_watch};
+use djq_lines::limits::{PENDING_BYTES, REPLY_BYTES};
+use djq_lines::{Command, EndCause, EndLine, Refusal};
+use djq_machine::Stepped;
+use djq_model::{Name, Value};
+use djq_proto::{Front, RowLine, is_blank, read_command, read_row};
+use djq_session::Session;
+use djq_steps::{Ledgers, Steps};
+use djq_store::{CursorId, Store};
+use std::alloc::Global;
+
+/// Runs a command that isn't on a row, and tells what is left to do.
+fn run_command<L: Ledgers>(
+    alloc: Global,
+    engine: &mut Store,
+    session: &mut Session<CursorId, Name>,
+    command: Command,
+    steps: &mut Steps<L>,
+) -> Left
+    requires ready { CommandIsReady engine.old session.old }
+    requires runnable { IsRunnable command }
+    requires other { is_on_row command ≡ false }
+    requires alone { is_misplaced {A = ⊤} None command ≡ false }
+    ensures { Obeys command result engine.old session.old engine.new session.new
+        steps.old.listing steps.new.listing }
+{
+    match command {
+        Command::Rel { name, types } => Left::Nothing {
+            kept: run_rel(engine, session, name, types),
+        },
+        Command::Add { .. } => unreachable!(),
+        Command::Del { .. } => unreachable!(),
+        Command::Query { query } => Left::Nothing {
+            kept: run_query(engine, session, query, steps),
+        },
+        Command::Union { name, members } => Left::Nothing {
+            kept: run_union(engine, session, name, &members),
+        },
+        Command::Open { cursor, query } => {
+            run_open(engine, session, &cursor, &query);
+            Left::Nothing { kept: false }
+        }
+        Command::Next { cursor, count } => {
+            run_next(engine, session, &cursor, count, &mut steps.listing);
+            Left::Nothing { kept: false }
+        }
+        Command::Close { cursor } => {
+            run_close(engine, session, &cursor);
+            Left::Nothing { kept: false }
+        }
+        Command::Drop { query } => Left::Nothing {
+            kept: run_drop(engine, session, &query),
+        },
+        Command::Has { query, row } => {
+            run_has(engine, session, &query, row.as_slice(), &mut steps.listing);
+            Left::Nothing { kept: false }
+        }
+        Command::Watch { query } => {
+            run_watch(engine, session, &query);
+            Left::Nothing { kept: false }
+        }
+        Command::Unwatch { query } => {
+            run_unwatch(engine, session, &query);
+            Left::Nothing { kept: false }
+        }
+        Command::Explain { query } => {
+            run_explain(alloc, engine, session, &query);
+            Left::Nothing { kept: false }
+        }
+        Command::Shape { query } => {
+            run_shape(engine, session, &query);
+            Left::Nothing { kept: false }
+        }
+        Command::Batch => {
+            run_batch(engine, session);
+            Left::Nothing { kept: false }
+        }
+        Command::Done | Command::Abandon => unreachable!(),
+        Command::Quit => {
+            run_quit(engine, session);
+            Left::Nothing { kept: false }
+        }
+        Command::Stop => {
+            run_stop(engine, session);
+            Left::Stopping
+        }
+    }
+}
+
+/// Takes the line in front of a session, with a batch open or without, runs what it says, and tells
+/// what is left to do. Room for a reply was kept.
+fn run_line<L: Ledgers>(
+    alloc: Global,
+    engine: &mut Store,
+    session: &mut Session<CursorId, Name>,
+    end: usize,
+    rest: usize,
+    row: &mut Vec<Value>,
+    steps: &mut Steps<L>,
+) -> Left
+    requires ready { CommandIsReady engine.old session.old }
+    requires suits { BatchSuits engine.old.store session.old.batch }
+    requires front { front_of session.old.held ≡ a_line (take end session.old.held)
+        (drop rest session.old.held) }
+    requires within { (end ≤ length session.old.held) × (rest ≤ length session.old.held) }
+    requires said { is_blank_line (take end session.old.held) ≡ false }
+    requires few { length session.old.pending ≤ PENDING_BYTES }
+    ensures { LineLeaves (take end session.old.held) result
+        engine.old session.old engine.new session.new steps.old.listing steps.new.listing }
+{
+    if session.has_batch() {
+        return run_in_batch(alloc, engine, session, end, rest, row, steps);
+    }
+    match read_row(alloc, &session.held()[..end], row) {
+        RowLine::Add(name) => {
+            engine.laws();
+            let outcome = engine.add(&Name::new(name), row.as_slice(), steps);
+            session.take_line(rest);
+            Left::Telling(Outcome::Added(outcome))
+        }
+        RowLine::Del(name) => {
+            engine.laws();
+            let outcome = engine.del(&Name::new(name), row.as_slice(), steps);
+            session.take_line(rest);
+            Left::Telling(Outcome::Deleted(outcome))
+        }
+        RowLine::Refused(_verb, refusal) => {
+            session.take_line(rest);
+            session.refuse(refusal_of(refusal));
+            Left::Nothing { kept: false }
+        }
+        RowLine::Other => run_other(alloc, engine, session, end, rest, steps),
+    }
+}
+
+/// The same of a line that isn't one of a row, where no batch is open. It stands apart so that a
+/// row's line clears no room for a command.
+#[inline(never)]
+fn run_other<L: Ledgers>(
+    alloc: Global,
+    engine: &mut Store,
+    session: &mut Session<CursorId, Name>,
+    end: usize,
+    rest: usize,
+    steps: &mut Steps<L>,
+) -> Left
+    requires ready { CommandIsReady engine.old session.old }
+    requires front { front_of session.old.held ≡ a_line (take end session.old.held)
+        (drop rest session.old.held) }
+    requires within { (end ≤ length session.old.held) × (rest ≤ length session.old.held) }
+    requires said { is_blank_line (take end session.old.held) ≡ false }
+    requires few { length session.old.pending ≤ PENDING_BYTES }
+    requires alone { session.old.batch ≡ None }
+    requires other { begins_row (tokens (take end session.old.held)) ≡ false }
+    ensures { LineLeaves (take end session.old.held) result
+        engine.old session.old engine.new session.new steps.old.listing steps.new.listing }
+{
+    let command = read_command(alloc, &session.held()[..end]);
+    session.take_line(rest);
+    match command {
+        Ok(command) => {
+            if is_for_batch(&command) {
+                session.refuse(Refusal::Misplaced);
+                return Left::Nothing { kept: false };
+            }
+            run_command(alloc, engine, session, command, steps)
+        }
+        Err(refusal) => {
+            session.refuse(refusal_of(refusal));
+            Left::Nothing { kept: false }
+        }
+    }
+}
+
+/// Whether a command is only for a session with a batch open.
+fn is_for_batch(command: &Command) -> bool
+    ensures { result ≡ is_misplaced {A = ⊤} None command.now }
+{
+    matches!(command, Command::Done | Command::Abandon)
+}
+
+/// Runs the line in front of a session that goes on, in the order of checks, and tells what is left
+/// to do.
+fn step_line<L: Ledgers>(
+    alloc: Global,
+    engine: &mut Store,
+    session: &mut Session<CursorId, Name>,
+    end: usize,
+    rest: usize,
+    row: &mut Vec<Value>,
+    steps: &mut Steps<L>,
+) -> (Stepped, Left)
+    requires own { IsOwn engine.old session.old }
+    requires suits { BatchSuits engine.old.store session.old.batch }
+    requires running { session.old.cause ≡ None }
+    requires front { front_of session.old.held ≡ a_line (take end session.old.held)
+        (drop rest session.old.held) }
+    requires within { (end ≤ length session.old.held) × (rest ≤ length session.old.held) }
+    ensures { LeavesTo result.0 result.1 engine.old session.old engine.new session.new
+        (counts steps.old.listing steps.old.update steps.old.rows)
+        (counts steps.new.listing steps.new.update steps.new.rows) }
+{
+    if is_blank(&session.held()[..end]) {
+        session.take_line(rest);
+        return (Stepped::Ran { kept: false }, Left::Nothing { kept: false });
+    }
+    if session.pending().len() > PENDING_BYTES {
+        session.take_line(rest);
+        end_by(engine, session, EndLine::Slow, EndCause::Slow);
+        return (
+            Stepped::Ended(EndCause::Slow),
+            Left::Nothing { kept: false },
+        );
+    }
+    match session.keep(REPLY_BYTES) {
+        Ok(()) => {
+            let left = run_line(alloc, engine, session, end, rest, row, steps);
+            let kept = left.is_kept();
+            (Stepped::Ran { kept }, left)
+        }
+        Err(_) => {
+            session.take_line(rest);
+            end_by(engine, session, EndLine::Memory, EndCause::Memory);
+            (
+                Stepped::Ended(EndCause::Memory),
+                Left::Nothing { kept: false },
+            )
+        }
+    }
+}
+
+/// Runs the line in front of a session, unless it has ended, and tells what is left to do. The line
+/// is copied before.
+pub fn step_session<L: Ledgers>(
+    alloc: Global,
+    engine: &mut Store,
+    session: &mut Session<CursorId, Name>,
+    copied: &mut Copied,
+    row: &mut Vec<Value>,
+    steps: &mut Steps<L>,
+) -> (Stepped, Left)
+    requires own { IsOwn engine.old session.old }
+    requires suits { BatchSuits engine.old.store session.old.batch }
+    ensures leaves { LeavesTo result.0 result.1 engine.old session.old engine.new session.new
+        (counts steps.old.listing steps.old.update steps.old.rows)
+        (counts steps.new.listing steps.new.update steps.new.rows) }
+    ensures copies { Copies result.0 session.old.held copied.new }
+{
+    if let Some(cause) = session.cause() {
+        return (Stepped::Ended(cause), Left::Nothing { kept: false });
+    }
+    match session.front() {
+        Front::Dry => (Stepped::Dry, Left::Nothing { kept: false }),
+        Front::Long => {
+            end_by(engine, session, EndLine::Long, EndCause::Long);
+            (
+                Stepped::Ended(EndCause::Long),
+                Left::Nothing { kept: false },
+            )
+        }
+        Front::Line { end, rest } => {
+            copied.copy(&session.held()[..end]);
+            step_line(alloc, engine, session, end, rest, row, steps)
+        }
+    }
+}

@@ -1,0 +1,101 @@
+//! What a line says while a batch is open: few commands are for one.
+ghost use Rattle.std.specs.Prelude.{◌≡◌, false};
+ghost use Rattle.djq_model.specs.Data.{Tuple};
+ghost use Rattle.djq_proto.specs.RowReading.{begins_row};
+ghost use Rattle.djq_value.specs.Token.{tokens};
+ghost use Rattle.djq_commands.specs.Batching.{ReadsInBatch, in_batch, misplaced_as, row_refused_as};
+ghost use Rattle.djq_commands.specs.Stepping.{refused_as};
+
+use djq_lines::{Command, Refusal};
+use djq_model::Value;
+use djq_proto::{LineRefusal, RowLine, RowWord, read_command, read_row};
+use std::alloc::Global;
+
+/// What a line says while a batch is open. A name is bytes of the line.
+#[derive(Clone, Copy, Debug)]
+pub enum BatchLine<'a> {
+    /// The row that was read is to be held for the relation of this name.
+    Hold(&'a [u8]),
+    /// The batch is done.
+    Done,
+    /// It is dropped.
+    Abandon,
+    /// The session ends.
+    Quit,
+    /// The whole server ends.
+    Stop,
+    /// The line is refused.
+    Refused(Refusal),
+}
+
+/// What a line says while a batch is open. The values of a row are put in place of those that are
+/// there.
+pub fn read_in_batch<'a>(
+    alloc: Global,
+    line: &'a [u8],
+    row: &mut Vec<Value>,
+) -> BatchLine<'a>
+    ensures { ReadsInBatch line.now result row.new.items }
+{
+    match read_row(alloc, line, row) {
+        RowLine::Add(name) => BatchLine::Hold(name),
+        RowLine::Del(_name) => BatchLine::Refused(Refusal::Misplaced),
+        RowLine::Refused(verb, refusal) => BatchLine::Refused(row_refusal_of(verb, refusal)),
+        RowLine::Other => read_other(alloc, line),
+    }
+}
+
+/// The same of a line that isn't one of a row.
+fn read_other<'a>(alloc: Global, line: &[u8]) -> BatchLine<'a>
+    requires { begins_row (tokens line.now) ≡ false }
+    ensures { (row : Tuple) → ReadsInBatch line.now result row }
+{
+    match read_command(alloc, line) {
+        Ok(command) => line_of(&command),
+        Err(refusal) => BatchLine::Refused(misplaced_of(refusal)),
+    }
+}
+
+/// What a command that isn't one of a row comes to in a batch.
+fn line_of<'a>(command: &Command) -> BatchLine<'a>
+    ensures { result ≡ in_batch command.now }
+{
+    match command {
+        Command::Done => BatchLine::Done,
+        Command::Abandon => BatchLine::Abandon,
+        Command::Quit => BatchLine::Quit,
+        Command::Stop => BatchLine::Stop,
+        _ => BatchLine::Refused(Refusal::Misplaced),
+    }
+}
+
+/// What a line of a row that gives none is answered in a batch.
+fn row_refusal_of(verb: RowWord, refusal: LineRefusal) -> Refusal
+    ensures { result ≡ row_refused_as verb refusal }
+{
+    match verb {
+        RowWord::Add => refusal_of(refusal),
+        RowWord::Del => misplaced_of(refusal),
+    }
+}
+
+/// What a line that gives no command is answered, where its command isn't misplaced.
+pub fn refusal_of(refusal: LineRefusal) -> Refusal
+    ensures { result ≡ refused_as refusal }
+{
+    match refusal {
+        LineRefusal::Syntax => Refusal::Syntax,
+        LineRefusal::Range => Refusal::WrongType,
+        LineRefusal::NoMem => Refusal::NoMemory,
+    }
+}
+
+/// What it is answered where its command would be.
+fn misplaced_of(refusal: LineRefusal) -> Refusal
+    ensures { result ≡ misplaced_as refusal }
+{
+    match refusal {
+        LineRefusal::Syntax => Refusal::Syntax,
+        LineRefusal::Range | LineRefusal::NoMem => Refusal::Misplaced,
+    }
+}

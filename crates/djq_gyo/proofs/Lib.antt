@@ -1,4 +1,0 @@
-pub mod Places
-pub mod Stepping
-pub mod Finding
-pub mod Leaning

@@ -1,7 +1,0 @@
-use Rattle.std.specs.Prelude.{ℕ, ◌<◌}
-use Rattle.djq_hyper.specs.declared.step.Step.TheVariants.{Edge}
-use Rattle.djq_hyper.specs.Gyo.{IsStep}
-use Rattle.djq_gyo.proofs.find.find_edge.Given as goal
-
-abbrev pub invariant-sets : goal.invariant-sets
-invariant-sets l = (i j : ℕ) → i < l.edge → IsStep l.sets (Edge i j) → ⊥

@@ -1,6 +1,0 @@
-use Rattle.std.specs.Prelude.{◌≡◌, ℕ, take}
-use Rattle.djq_hyper.specs.Hypergraph.{degree}
-use Rattle.djq_gyo.proofs.find.find_variable.Given as goal
-
-abbrev pub invariant-sets : goal.invariant-sets
-invariant-sets l = (x : ℕ) → degree x (take l.i l.sets) ≡ 0

@@ -1,9 +1,0 @@
-use Rattle.djq_hyper.specs.Gyo.{Leads}
-use Rattle.djq_gyo.proofs.Stepping.{size}
-use Rattle.djq_gyo.proofs.reducing.reduce.Given as goal
-
-abbrev pub invariant-steps : goal.invariant-steps
-invariant-steps l = Leads l.edges l.steps.items l.sets.items
-
-abbrev pub decreases-steps : goal.decreases-steps
-decreases-steps l = size l.sets.items

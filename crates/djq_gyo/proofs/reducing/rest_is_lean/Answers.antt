@@ -1,6 +1,0 @@
--- An empty edge lies within another, and equal ones in each other, so a step applies; steps add no variable.
-use Rattle.djq_gyo.proofs.Leaning.{lean_of}
-use Rattle.djq_gyo.proofs.reducing.rest_is_lean.Goals as goal
-
-pub returns : goal.returns
-returns c = lean_of c.args.edges.now c.args.rest.now

@@ -1,6 +1,0 @@
--- Any edge of a join tree can be made its root, by the turning that djq_hyper has in Linking.
-use Rattle.djq_hyper.proofs.Linking.{join_tree_turned}
-use Rattle.djq_gyo.proofs.reducing.turn_join_tree.Goals as goal
-
-pub returns : goal.returns
-returns c = join_tree_turned c.args.first c.args.edges.now

@@ -1,2 +1,0 @@
-pub mod Tcp
-pub mod Found

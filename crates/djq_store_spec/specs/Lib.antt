@@ -1,0 +1,12 @@
+pub mod Store
+pub mod Relations
+pub mod Rows
+pub mod Registering
+pub mod Asking
+pub mod Listing
+pub mod Union
+pub mod Stale
+pub mod Changes
+pub mod Batch
+pub mod Delta
+pub mod DeltaCost

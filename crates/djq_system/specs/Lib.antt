@@ -1,0 +1,4 @@
+pub mod StdSink
+pub mod StdSource
+pub mod Tcp
+pub mod Found

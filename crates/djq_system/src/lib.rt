@@ -1,0 +1,53 @@
+//! What must be believed without a proof: the operating system, as the traits of djq_io and djq_disk
+//! see it.
+//!
+//! [`TcpHub`] is a hub of sessions over TCP, [`FileDisk`] a file as a disk, [`StdSource`] and
+//! [`StdSink`] a reader and a writer of `std::io`. Each is a few lines over std or `mio`. None tells
+//! what bytes it was given (its record is `None`), and each counts its faults.
+//!
+//! What this crate is not: it reads no lines, has no authentication and no encryption, buffers and
+//! retries nothing. What a client doesn't read stays with the server, which ends such a session by its
+//! own rule.
+//!
+//! # Sockets
+//!
+//! A hub accepts connections at an address, and each is a session: what a client sends are its bytes,
+//! and the end of what it sends is the end of its input. One thread takes all turns, over sockets that
+//! never wait. The system says by `epoll` which sockets have changed ([`mio`]), and the hub keeps for
+//! each whether it may have bytes. A turn goes round these places, from behind the last one that it
+//! served, and waits only where none has anything. So a busy client delays the others by one piece at
+//! a time, an idle server sleeps, and no reply waits for a clock: a client that takes bytes again wakes
+//! the hub.
+//!
+//! Nothing that a client does is a fault of the hub, only of its session. A read that fails is
+//! returned as the end of the input, and a send that fails as a session that is gone. A connection that
+//! can't be accepted is only counted. One that begins with a request of HTTP is returned as one whose
+//! input ended: a web page can send such a request to any port of its reader's machine.
+//!
+//! ```text
+//! a client connects              Opened(1)
+//! it sends rel r int             Bytes(1, 10), with the line's end
+//! it sends no more               Ended(1)
+//! another sends GET / HTTP/1.1   Opened(2), and then Ended(2)
+//! nobody sends anything          Idle, after a quarter of a second
+//! ```
+//!
+//! # Files
+//!
+//! A disk's `open` makes an absent file, takes the lock on it, so that a second server on the same file
+//! fails, and syncs the folder, so that a file that was made outlives a crash. It holds one file at a
+//! time. The lock is advisory: a program that doesn't ask for it isn't stopped. Where a sync failed,
+//! what a read gives needn't be on the disk: a caller that goes on has to open the file anew.
+#![tactic(auto)]
+
+mod conn;
+mod file_disk;
+mod listening;
+mod std_sink;
+mod std_source;
+mod tcp_hub;
+
+pub use file_disk::FileDisk;
+pub use std_sink::StdSink;
+pub use std_source::StdSource;
+pub use tcp_hub::{PLACES, TcpHub};

@@ -1,0 +1,327 @@
+ghost use Rattle.std.specs.Prelude.{◌≡◌, ◌<◌, ◌≤◌, true, false, IfOk, IfSome, Contains, length};
+ghost use Rattle.djq_io.specs.Faults.{Counted};
+ghost use Rattle.djq_io.specs.Hub.{no_ids, Turns};
+ghost use Rattle.djq_io.specs.HubFaults.{CountsListen, SameCounts, CountsInTurn};
+ghost use Rattle.djq_io.specs.Sessions.{faults_of};
+ghost use Rattle.djq_system.specs.Tcp.{TurnsAway};
+
+use crate::conn::{self, Conn, Found};
+use crate::listening::{LISTENER, Listening};
+use djq_io::{Hub, Listened, Sent, Sessions, Turn};
+use mio::{Events, Token};
+use std::alloc::{AllocError, Global};
+use std::io::{self, Eprint, ErrorKind};
+use std::marker::Model;
+use std::net::{self, Net};
+
+/// How many connections a hub holds at once: those of the 64 sessions that may be open, and one more
+/// that is told so and closed.
+pub const PLACES: usize = 65;
+
+/// For how many milliseconds a turn waits at most.
+const LONGEST_WAIT: u64 = 250;
+
+/// A hub over TCP. It tells no bytes, and shows the ids of its sessions and its counts of faults.
+///
+/// Each call is a few lines over the system's. On standard error it says where it listens, or why it can't, and
+/// once that connections can't be accepted, which it counts. A turn waits at most a quarter of a second, and then
+/// nothing came. After the id 18446744073709551615 no connection is accepted any more.
+#[derive(Drop)]
+pub struct TcpHub<R: Net<Listener = net::TcpListener, Stream = net::TcpStream> + Eprint + Drop> {
+    rt: R,
+    listening: Option<Listening>,
+    events: Events,
+    conns: Vec<Conn>,
+    sessions: Sessions,
+    /// The place that is looked at next: of a connection, or behind them all of the listener.
+    at: usize,
+    /// Whether the listener may have a connection.
+    knocks: bool,
+    /// Whether the last turn had something without asking the system, which may have more to tell.
+    busy: bool,
+    /// Whether it was said that no connection can be accepted, and none has been since.
+    said: bool,
+    /// How many connections couldn't be accepted.
+    turned_away: u64,
+    faults: u64,
+}
+
+impl<R: Net<Listener = net::TcpListener, Stream = net::TcpStream> + Eprint + Drop> Model
+    for TcpHub<R> {
+    ghost use Rattle.std.specs.Prelude.{is_some};
+    ghost use Rattle.djq_system.specs.Tcp.{ShownByTcp};
+
+    ghost Value = { ShownByTcp };
+
+    ghost view = { λ h. record {
+      listens = is_some h.listening;
+      ids = h.sessions.ids;
+      faults = h.faults;
+      turned_away = h.turned_away;
+      counts = h.sessions.counts;
+    } };
+}
+
+impl<R: Net<Listener = net::TcpListener, Stream = net::TcpStream> + Eprint + Drop> TcpHub<R> {
+    /// A hub that doesn't listen yet, over the runtime. It takes the memory for all places.
+    pub fn new(rt: R, alloc: Global) -> Result<Self, AllocError>
+        ensures listens { IfOk result (λ hub. hub.listens ≡ false) }
+        ensures ids { IfOk result (λ hub. hub.ids ≡ no_ids) }
+        ensures faults { IfOk result (λ hub. hub.faults ≡ 0) }
+        ensures turned_away { IfOk result (λ hub. hub.turned_away ≡ 0) }
+    {
+        let mut sessions = Sessions::new(alloc);
+        sessions.reserve(PLACES)?;
+        Ok(TcpHub {
+            rt,
+            listening: None,
+            events: Events::with_capacity(alloc, PLACES + 1)?,
+            conns: Vec::with_capacity(alloc, PLACES)?,
+            sessions,
+            at: 0,
+            knocks: false,
+            busy: false,
+            said: false,
+            turned_away: 0,
+            faults: 0,
+        })
+    }
+
+    /// The port at which it listens, which the system chose where the address says 0, or `None`
+    /// where it doesn't listen.
+    pub fn port(&self) -> Option<u16>
+        ensures { IfSome result (λ _. self.now.listens ≡ true) }
+    {
+        match &self.listening {
+            Some(listening) => listening.address().ok().map(|address| address.port()),
+            None => None,
+        }
+    }
+
+    /// How many connections couldn't be accepted so far.
+    pub fn turned_away(&self) -> u64
+        ensures { result ≡ self.now.turned_away }
+    {
+        self.turned_away
+    }
+
+    /// Opens a session where a connection has come and there is a place for it. One that can't be
+    /// accepted is left to the system: it may be gone, or the system may be out of descriptors. That
+    /// has a count of its own, since a fault of the hub would end the serving of all others.
+    fn accept(&mut self) -> Turn
+        ensures ids { Turns result 0 self.old.ids self.new.ids }
+        ensures faults { self.new.faults ≡ self.old.faults }
+        ensures counts { CountsInTurn result self.old.ids.open_ids (faults_of self.old.counts)
+            (faults_of self.new.counts) }
+        ensures idle { result ≡ Turn.Idle → self.new ≡ record self.old { turned_away = self.new.turned_away } }
+        ensures turned_away { TurnsAway result self.old.turned_away self.new.turned_away }
+        ensures works { result ≡ Turn.Failed → ⊥ }
+    {
+        let Some(listening) = &self.listening else {
+            return Turn::Idle;
+        };
+        if !self.knocks || self.conns.len() >= PLACES || !self.sessions.has_room() {
+            return Turn::Idle;
+        }
+        let Some(id) = self.sessions.next_id() else {
+            return Turn::Idle;
+        };
+        match listening.accept(id as usize) {
+            Ok(stream) => {
+                let conn = Conn {
+                    id,
+                    stream,
+                    ready: true,
+                    heard: false,
+                };
+                if self.conns.push(conn).is_err() {
+                    return Turn::Idle;
+                }
+                self.sessions.open(id);
+                self.said = false;
+                Turn::Opened(id)
+            }
+            Err(error) => {
+                match error.kind() {
+                    ErrorKind::WouldBlock => self.knocks = false,
+                    ErrorKind::Interrupted => {}
+                    _ => self.turn_away(error),
+                }
+                Turn::Idle
+            }
+        }
+    }
+
+    /// Counts a connection that can't be accepted, and says why for the first since one was.
+    fn turn_away(&mut self, error: io::Error)
+        ensures shown { self.new ≡ record self.old { turned_away = self.new.turned_away } }
+        ensures counted { Counted self.old.turned_away self.new.turned_away }
+    {
+        if !self.said {
+            self.said = true;
+            let _ = eprintln!(self.rt; "djq: a connection can't be accepted: {error}");
+        }
+        self.turned_away = self.turned_away.saturating_add(1);
+    }
+
+    /// Looks at the next place.
+    fn look(&mut self, buf: &mut [u8]) -> Turn
+        requires { 0 < length buf.old }
+        ensures ids { Turns result (length buf.new) self.old.ids self.new.ids }
+        ensures faults { self.new.faults ≡ self.old.faults }
+        ensures counts { CountsInTurn result self.old.ids.open_ids (faults_of self.old.counts)
+            (faults_of self.new.counts) }
+        ensures idle { result ≡ Turn.Idle → self.new ≡ record self.old { turned_away = self.new.turned_away } }
+        ensures turned_away { TurnsAway result self.old.turned_away self.new.turned_away }
+        ensures works { result ≡ Turn.Failed → ⊥ }
+    {
+        if self.at >= self.conns.len() {
+            self.at = 0;
+            return self.accept();
+        }
+        let conn = &mut self.conns[self.at];
+        self.at += 1;
+        let id = conn.id;
+        if !conn.ready || !self.sessions.is_running(id) {
+            return Turn::Idle;
+        }
+        match conn.read(buf) {
+            Found::Bytes(n) => Turn::Bytes(id, n),
+            Found::Nothing => Turn::Idle,
+            Found::End => {
+                self.sessions.end(id);
+                Turn::Ended(id)
+            }
+            Found::Broken => {
+                self.sessions.count_fault(id);
+                self.sessions.end(id);
+                Turn::Ended(id)
+            }
+        }
+    }
+
+    /// Goes round the places until one has something, each once.
+    fn go_round(&mut self, buf: &mut [u8]) -> Turn
+        requires { 0 < length buf.old }
+        ensures ids { Turns result (length buf.new) self.old.ids self.new.ids }
+        ensures faults { self.new.faults ≡ self.old.faults }
+        ensures counts { CountsInTurn result self.old.ids.open_ids (faults_of self.old.counts)
+            (faults_of self.new.counts) }
+        ensures idle { result ≡ Turn.Idle → self.new ≡ record self.old { turned_away = self.new.turned_away } }
+        ensures turned_away { self.old.turned_away ≤ self.new.turned_away }
+        ensures works { result ≡ Turn.Failed → ⊥ }
+    {
+        for _ in 0..=self.conns.len() {
+            match self.look(buf) {
+                Turn::Idle => {}
+                turn => return turn,
+            }
+        }
+        Turn::Idle
+    }
+
+    /// Counts a fault of the hub itself, says it, and answers so.
+    fn fail(&mut self, error: io::Error) -> Turn
+        ensures failed { result ≡ Turn.Failed }
+        ensures shown { self.new ≡ record self.old { faults = self.new.faults } }
+        ensures counted { Counted self.old.faults self.new.faults }
+    {
+        let _ = eprintln!(self.rt; "djq: the listener failed: {error}");
+        self.faults = self.faults.saturating_add(1);
+        Turn::Failed
+    }
+
+    /// Waits until the system tells something of a socket, or for so many milliseconds, and notes it.
+    fn wait(&mut self, millis: u64) -> io::Result<()>
+        ensures { self.new ≡ self.old }
+    {
+        let Some(listening) = &mut self.listening else {
+            return Ok(());
+        };
+        listening.wait(&mut self.events, millis)?;
+        for event in self.events.iter() {
+            let Token(token) = event.token();
+            if token == LISTENER {
+                self.knocks = true;
+            } else {
+                conn::note(&mut self.conns, token as u64, event);
+            }
+        }
+        Ok(())
+    }
+}
+
+impl<R: Net<Listener = net::TcpListener, Stream = net::TcpStream> + Eprint + Drop> Hub
+    for TcpHub<R> {
+    ghost use Rattle.std.specs.Prelude.{None};
+    ghost use Rattle.djq_io.specs.Sessions.{faults_of};
+
+    ghost script = { λ _. None };
+
+    ghost past = { λ _. None };
+
+    ghost ids = { λ h. h.ids };
+
+    ghost faults = { λ h. h.faults };
+
+    ghost session_faults = { λ h. faults_of h.counts };
+
+    fn listen(&mut self, addr: &str) -> Listened
+        ensures listens { result ≡ Listened.Ready → self.new.listens ≡ true }
+        ensures ids { self.new.ids ≡ self.old.ids }
+        ensures faults { CountsListen result self.old.faults self.new.faults }
+        ensures sessions { SameCounts self.old.ids.open_ids (faults_of self.old.counts) (faults_of self.new.counts) }
+    {
+        match Listening::at(&self.rt, addr) {
+            Ok(listening) => {
+                if let Ok(address) = listening.address() {
+                    let _ = eprintln!(self.rt; "djq: listening on {address}");
+                }
+                self.listening = Some(listening);
+                self.knocks = true;
+                Listened::Ready
+            }
+            Err(error) => {
+                let _ = eprintln!(self.rt; "djq: can't listen on {addr}: {error}");
+                self.faults = self.faults.saturating_add(1);
+                Listened::Failed
+            }
+        }
+    }
+
+    fn turn(&mut self, buf: &mut [u8]) -> Turn {
+        // A client that always has bytes doesn't keep the others from being heard.
+        if self.busy {
+            if let Err(error) = self.wait(0) {
+                return self.fail(error);
+            }
+        }
+        match self.go_round(buf) {
+            Turn::Idle => self.busy = false,
+            turn => {
+                self.busy = true;
+                return turn;
+            }
+        }
+        if self.listening.is_none() {
+            return Turn::Over;
+        }
+        if let Err(error) = self.wait(LONGEST_WAIT) {
+            return self.fail(error);
+        }
+        self.go_round(buf)
+    }
+
+    fn send(&mut self, id: u64, piece: &[u8]) -> Sent {
+        let sent = conn::send(&mut self.conns, id, piece);
+        if sent == Sent::Gone {
+            self.sessions.count_fault(id);
+        }
+        sent
+    }
+
+    fn close(&mut self, id: u64) {
+        conn::close(&mut self.conns, id);
+        self.sessions.close(id);
+    }
+}
