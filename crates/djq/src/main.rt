@@ -23,7 +23,7 @@ use djq_system::FileDisk;
 use djq_system::{StdSink, StdSource};
 use djq_system::TcpHub;
 use djq_program::{Status, Telling, run_program};
-use djq_steps::{Blanks, Ledgers, Steps};
+use djq_counters::{Blanks, Ledgers, Steps};
 use std::alloc::AllocError;
 use std::marker::Brand;
 use std::process::ExitCode;

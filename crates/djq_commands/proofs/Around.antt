@@ -5,7 +5,7 @@ use Rattle.std.proofs.Common.{append_assoc, length-append}
 use Rattle.std.specs.Prelude.{⊤}
 use Rattle.std.proofs.lemmas.Bool.{cond-true, cond-false, eq-eqb, eqb-true}
 use Rattle.djq_model.specs.Data.{change_first}
-use Rattle.djq_lines.specs.declared.limits.TheConstants.{SESSIONS}
+use Rattle.djq_protocol.specs.declared.limits.TheConstants.{SESSIONS}
 use Rattle.djq_engine.specs.declared.cursor.CursorId.{CursorId}
 use Rattle.djq_engine.specs.Kept.{Kept, HeldCursor}
 use Rattle.djq_machine.specs.State.{Session, State, session_of, with_session}

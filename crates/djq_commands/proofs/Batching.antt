@@ -4,12 +4,12 @@ use Rattle.std.proofs.Common.{Result, Ok, Err, codes, refl, sym, ap, ◌∙◌, 
 use Rattle.std.proofs.Common.{length-append}
 use Rattle.std.specs.Prelude.{⊤, IsSome, MatchOption}
 use Rattle.djq_model.specs.Data.{Bytes, Tuple}
-use Rattle.djq_lines.specs.Conditions.{Answers, OutOfMemoryWhere}
-use Rattle.djq_lines.specs.Reply.{ok_reply, held_reply, refusal_line}
-use Rattle.djq_lines.specs.declared.answer.Refusal.{Refusal}
-use Rattle.djq_lines.specs.declared.answer.Refusal.TheVariants.{NoMemory}
-use Rattle.djq_lines.specs.declared.command.Command.TheVariants.{Add, Batch, Abandon}
-use Rattle.djq_lines.specs.declared.held.HeldRow.{HeldRow}
+use Rattle.djq_protocol.specs.Conditions.{Answers, OutOfMemoryWhere}
+use Rattle.djq_protocol.specs.Reply.{ok_reply, held_reply, refusal_line}
+use Rattle.djq_protocol.specs.declared.answer.Refusal.{Refusal}
+use Rattle.djq_protocol.specs.declared.answer.Refusal.TheVariants.{NoMemory}
+use Rattle.djq_protocol.specs.declared.command.Command.TheVariants.{Add, Batch, Abandon}
+use Rattle.djq_protocol.specs.declared.held.HeldRow.{HeldRow}
 use Rattle.djq_store_spec.specs.Store.{Store}
 use Rattle.djq_machine.specs.State.{Session, State, with_session}
 use Rattle.djq_store_spec.specs.Batch.{hold_refusal}

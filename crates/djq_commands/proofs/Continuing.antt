@@ -5,10 +5,10 @@ use Rattle.std.proofs.Common.{append_assoc, inl, inr}
 use Rattle.std.specs.Prelude.{IsSomeAnd, All, IsSome}
 use Rattle.djq_model.specs.Data.{Bytes, Tuple, bytes_eq, change_first}
 use Rattle.djq_model.specs.Listed.{Listed, AnswersOf, listed_of}
-use Rattle.djq_lines.specs.declared.answer.Refusal.TheVariants.{NoCursor}
-use Rattle.djq_lines.specs.declared.answer.EndCause.TheVariants.{Memory}
-use Rattle.djq_lines.specs.declared.command.Command.TheVariants.{Next}
-use Rattle.djq_lines.specs.Reply.{refusal_line, stale_line, answer_line, listing_lines, text_of, end_memory}
+use Rattle.djq_protocol.specs.declared.answer.Refusal.TheVariants.{NoCursor}
+use Rattle.djq_protocol.specs.declared.answer.EndCause.TheVariants.{Memory}
+use Rattle.djq_protocol.specs.declared.command.Command.TheVariants.{Next}
+use Rattle.djq_protocol.specs.Reply.{refusal_line, stale_line, answer_line, listing_lines, text_of, end_memory}
 use Rattle.djq_machine.specs.Keeping.{no_line}
 use Rattle.djq_machine.specs.State.{Session, State, Cursor, with_session}
 use Rattle.djq_store_spec.specs.Store.{Position, open_at, stale}

@@ -5,11 +5,11 @@ use Rattle.std.proofs.Common.{is_some, is_none, nat_le}
 use Rattle.std.proofs.lemmas.List.{length-map}
 use Rattle.djq_model.specs.Data.{Bytes, bytes_eq, drop_first, change_first}
 use Rattle.djq_model.specs.Listed.{listed_of}
-use Rattle.djq_lines.specs.declared.limits.TheConstants.{CURSORS}
-use Rattle.djq_lines.specs.declared.answer.Refusal.TheVariants.{Taken, NoQuery, Limit}
+use Rattle.djq_protocol.specs.declared.limits.TheConstants.{CURSORS}
+use Rattle.djq_protocol.specs.declared.answer.Refusal.TheVariants.{Taken, NoQuery, Limit}
 use Rattle.djq_store_spec.specs.Store.{Store}
 use Rattle.djq_machine.specs.State.{Session, Cursor, cursor_of, with_session}
-use Rattle.djq_lines.specs.Conditions.{first_refusal}
+use Rattle.djq_protocol.specs.Conditions.{first_refusal}
 use Rattle.djq_machine.specs.Command.{open_refusal}
 use Rattle.djq_session.specs.declared.named.NamedCursor.{NamedCursor}
 use Rattle.djq_session.specs.Dialog.{named}

@@ -2,11 +2,11 @@
 use Rattle.std.proofs.Common.{ℕ, ◌≡◌, false, List, [], None, Some, Result, refl, sym, ap, ◌∙◌, subst, arith, inr}
 use Rattle.djq_model.specs.Data.{Bytes}
 use Rattle.djq_model.specs.declared.query.Query.{Query}
-use Rattle.djq_lines.specs.declared.answer.Refusal.{Refusal}
-use Rattle.djq_lines.specs.declared.answer.EndCause.TheVariants.{Memory}
-use Rattle.djq_lines.specs.declared.rest.QueryOutcome.{QueryOutcome}
-use Rattle.djq_lines.specs.declared.command.Command.TheVariants.{Query as Register}
-use Rattle.djq_lines.specs.Reply.{query_reply, end_memory}
+use Rattle.djq_protocol.specs.declared.answer.Refusal.{Refusal}
+use Rattle.djq_protocol.specs.declared.answer.EndCause.TheVariants.{Memory}
+use Rattle.djq_protocol.specs.declared.rest.QueryOutcome.{QueryOutcome}
+use Rattle.djq_protocol.specs.declared.command.Command.TheVariants.{Query as Register}
+use Rattle.djq_protocol.specs.Reply.{query_reply, end_memory}
 use Rattle.djq_machine.specs.Keeping.{Keeping, kept_where, is_registration}
 use Rattle.djq_machine.specs.State.{Session, State, with_session, ended_by}
 use Rattle.djq_store_spec.specs.Registering.{RegistersQuery}

@@ -9,13 +9,13 @@ use Rattle.std.proofs.lemmas.List.Elements.{All-contains, Contains-append_right,
 use Rattle.djq_model.specs.declared.query.Query.{Query}
 use Rattle.djq_model.specs.Data.{Bytes, bytes_eq}
 use Rattle.djq_model.specs.Listed.{a_query, a_union, listed_name, listed_of}
-use Rattle.djq_lines.specs.declared.limits.TheConstants.{CURSORS}
-use Rattle.djq_lines.specs.declared.answer.Refusal.{Refusal}
-use Rattle.djq_lines.specs.declared.answer.Refusal.TheVariants.{Taken, NoQuery, Limit}
-use Rattle.djq_lines.specs.declared.rest.QueryOutcome.{QueryOutcome}
-use Rattle.djq_lines.specs.declared.rest.QueryOutcome.TheVariants.{Registered as HasRegistered, Cyclic, NotConnex}
+use Rattle.djq_protocol.specs.declared.limits.TheConstants.{CURSORS}
+use Rattle.djq_protocol.specs.declared.answer.Refusal.{Refusal}
+use Rattle.djq_protocol.specs.declared.answer.Refusal.TheVariants.{Taken, NoQuery, Limit}
+use Rattle.djq_protocol.specs.declared.rest.QueryOutcome.{QueryOutcome}
+use Rattle.djq_protocol.specs.declared.rest.QueryOutcome.TheVariants.{Registered as HasRegistered, Cyclic, NotConnex}
 use Rattle.djq_store_spec.specs.Store.{Store}
-use Rattle.djq_lines.specs.Conditions.{first_refusal, Answers, OutOfMemoryWhere}
+use Rattle.djq_protocol.specs.Conditions.{first_refusal, Answers, OutOfMemoryWhere}
 use Rattle.djq_session.specs.declared.named.NamedCursor.{NamedCursor}
 use Rattle.djq_session.specs.Dialog.{named}
 use Rattle.djq_engine.specs.declared.cursor.CursorId.{CursorId}
@@ -26,7 +26,8 @@ use Rattle.djq_store.specs.Registering.{EnrolsUnion}
 use Rattle.djq_commands.specs.Views.{Talk}
 use Rattle.djq_commands.specs.Sound.{times_in, StaysCounted}
 use Rattle.djq_commands.specs.Opens.{SessionOpens}
-use Rattle.djq_deltas.proofs.Lists.{nothing_there, first_or_later, first_there, later_there, pairs_head, pairs_tail}
+use Rattle.djq_answer_laws.proofs.Lists.{nothing_there, first_or_later, first_there, later_there, pairs_head}
+use Rattle.djq_answer_laws.proofs.Lists.{pairs_tail}
 use Rattle.djq_commands.proofs.Watching.{NamesApart, stays_same}
 use Rattle.djq_commands.proofs.Rewatching.{is_there, not_there}
 

@@ -10,18 +10,19 @@ use Rattle.djq_model.specs.Data.{Bytes}
 use Rattle.djq_model.specs.Listed.{Listed, a_query, a_union, listed_of, members_of}
 use Rattle.djq_model.specs.declared.query.Query.{Query}
 use Rattle.djq_model.specs.declared.memory.NoMem.{NoMem}
-use Rattle.djq_lines.specs.declared.answer.Refusal.{Refusal}
-use Rattle.djq_lines.specs.declared.answer.Refusal.TheVariants.{Syntax, Taken, NoRelation, NoQuery}
-use Rattle.djq_lines.specs.declared.answer.Refusal.TheVariants.{NoCursor, Arity, WrongType, HeadUnbound, HeadRepeated}
-use Rattle.djq_lines.specs.declared.answer.Refusal.TheVariants.{VariableType, Unbound, Member}
-use Rattle.djq_lines.specs.declared.answer.Refusal.TheVariants.{Limit, NoMemory, InUse, Misplaced}
-use Rattle.djq_lines.specs.declared.answer.EndCause.TheVariants.{Memory}
-use Rattle.djq_lines.specs.declared.command.Command.TheVariants.{Explain}
-use Rattle.djq_lines.specs.Reply.{line, member_line, refusal_line, text_of, end_memory}
+use Rattle.djq_protocol.specs.declared.answer.Refusal.{Refusal}
+use Rattle.djq_protocol.specs.declared.answer.Refusal.TheVariants.{Syntax, Taken, NoRelation, NoQuery}
+use Rattle.djq_protocol.specs.declared.answer.Refusal.TheVariants.{NoCursor, Arity, WrongType, HeadUnbound}
+use Rattle.djq_protocol.specs.declared.answer.Refusal.TheVariants.{HeadRepeated}
+use Rattle.djq_protocol.specs.declared.answer.Refusal.TheVariants.{VariableType, Unbound, Member}
+use Rattle.djq_protocol.specs.declared.answer.Refusal.TheVariants.{Limit, NoMemory, InUse, Misplaced}
+use Rattle.djq_protocol.specs.declared.answer.EndCause.TheVariants.{Memory}
+use Rattle.djq_protocol.specs.declared.command.Command.TheVariants.{Explain}
+use Rattle.djq_protocol.specs.Reply.{line, member_line, refusal_line, text_of, end_memory}
 use Rattle.djq_machine.specs.Keeping.{no_line}
 use Rattle.djq_store_spec.specs.Store.{Store}
 use Rattle.djq_machine.specs.State.{State, with_session, ended_by}
-use Rattle.djq_lines.specs.Conditions.{first_refusal, Answers, OutOfMemoryWhere}
+use Rattle.djq_protocol.specs.Conditions.{first_refusal, Answers, OutOfMemoryWhere}
 use Rattle.djq_machine.specs.Effect.{Effect, RefusedStep}
 use Rattle.djq_machine.specs.Command.{explain_lines, union_lines, ExplainStepOf}
 use Rattle.djq_machine.proofs.Explaining.{explained}

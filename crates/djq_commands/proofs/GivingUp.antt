@@ -5,8 +5,8 @@ use Rattle.std.proofs.Common.{append-nil, is_some, eqb, length}
 use Rattle.std.specs.Prelude.{⊤}
 use Rattle.std.proofs.lemmas.Bool.{eqb-true}
 use Rattle.djq_model.specs.Data.{Bytes}
-use Rattle.djq_lines.specs.declared.answer.EndCause.{EndCause}
-use Rattle.djq_lines.specs.Reply.{input_cut}
+use Rattle.djq_protocol.specs.declared.answer.EndCause.{EndCause}
+use Rattle.djq_protocol.specs.Reply.{input_cut}
 use Rattle.djq_machine.specs.Keeping.{no_line}
 use Rattle.djq_machine.specs.State.{Session, State, with_session, ended_by}
 use Rattle.djq_machine.specs.Effect.{Effect}

@@ -3,14 +3,14 @@ use Rattle.std.proofs.Common.{ℕ, ◌+◌, ◌≤◌, ◌≡◌, true, false, l
 use Rattle.std.proofs.Common.{Result, refl, sym, ap, ◌∙◌, subst, arith}
 use Rattle.std.specs.Prelude.{IsSome}
 use Rattle.djq_model.specs.Data.{Bytes, Tuple}
-use Rattle.djq_lines.specs.declared.limits.TheConstants.{PENDING_BYTES, REPLY_BYTES, LAST_LINE_BYTES}
-use Rattle.djq_lines.specs.declared.answer.Refusal.{Refusal}
-use Rattle.djq_lines.specs.declared.command.Command.{Command}
-use Rattle.djq_lines.specs.declared.command.Command.TheVariants.{Add, Done}
-use Rattle.djq_lines.specs.declared.held.HeldRow.{HeldRow}
-use Rattle.djq_lines.specs.Line.{a_line, front_of, is_blank}
-use Rattle.djq_lines.specs.Grammar.{says_command, reading_of}
-use Rattle.djq_lines.specs.Reply.{refusal_line}
+use Rattle.djq_protocol.specs.declared.limits.TheConstants.{PENDING_BYTES, REPLY_BYTES, LAST_LINE_BYTES}
+use Rattle.djq_protocol.specs.declared.answer.Refusal.{Refusal}
+use Rattle.djq_protocol.specs.declared.command.Command.{Command}
+use Rattle.djq_protocol.specs.declared.command.Command.TheVariants.{Add, Done}
+use Rattle.djq_protocol.specs.declared.held.HeldRow.{HeldRow}
+use Rattle.djq_protocol.specs.Line.{a_line, front_of, is_blank}
+use Rattle.djq_protocol.specs.Grammar.{says_command, reading_of}
+use Rattle.djq_protocol.specs.Reply.{refusal_line}
 use Rattle.djq_machine.specs.Command.{is_misplaced}
 use Rattle.djq_session.specs.Dialog.{Replies, batch_rows}
 use Rattle.djq_engine.specs.Kept.{Kept}

@@ -14,9 +14,10 @@ use Rattle.djq_store_spec.specs.Stale.{outdated, outdater_of}
 use Rattle.djq_machine.specs.Outdating.{outdated_cursor, outdated_sessions}
 use Rattle.djq_commands.specs.declared.open.OpenSession.{OpenSession}
 use Rattle.djq_commands.specs.Views.{cursor_query, cursor_position, cursor_in, session_seen}
-use Rattle.djq_commands.specs.Sound.{ids_of_cursors, all_ids, GivesApart, AreHeld, IsApart, CursorsDiffer, is_cursor_among}
+use Rattle.djq_commands.specs.Sound.{ids_of_cursors, all_ids, GivesApart, AreHeld, IsApart, CursorsDiffer}
+use Rattle.djq_commands.specs.Sound.{is_cursor_among}
 use Rattle.djq_commands.specs.Sound.{AreOwned}
-use Rattle.djq_deltas.proofs.Cases.{first_holds}
+use Rattle.djq_answer_laws.proofs.Cases.{first_holds}
 
 second_true : (a b : Bool) → (a && b) ≡ true → b ≡ true
 second_true true b h = h

@@ -6,9 +6,9 @@ use Rattle.std.specs.Prelude.{◌==◌, ◌&&◌, not, nat_le, take, slice_get, 
 use Rattle.std.proofs.lemmas.Bool.{cases_order, leb-true, leb-false, false≢true}
 use Rattle.std.proofs.lemmas.List.{length-take-le}
 use Rattle.djq_model.specs.Data.{Bytes}
-use Rattle.djq_lines.specs.declared.limits.TheConstants.{LINE_BYTES}
-use Rattle.djq_lines.specs.Line.{a_line, too_long, line_or_dry, front_of, before_lf, behind_lf, without_cr, is_long}
-use Rattle.djq_lines.specs.declared.held.HeldRow.{HeldRow}
+use Rattle.djq_protocol.specs.declared.limits.TheConstants.{LINE_BYTES}
+use Rattle.djq_protocol.specs.Line.{a_line, too_long, line_or_dry, front_of, before_lf, behind_lf, without_cr, is_long}
+use Rattle.djq_protocol.specs.declared.held.HeldRow.{HeldRow}
 use Rattle.djq_machine.specs.declared.machine.Stepped.{Stepped}
 use Rattle.djq_machine.specs.declared.machine.Stepped.TheVariants.{Ran, Dry, Ended}
 use Rattle.djq_commands.specs.Stepping.{Copies}

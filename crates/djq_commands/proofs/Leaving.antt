@@ -1,10 +1,10 @@
 -- What is left to do once a line was run.
 use Rattle.std.proofs.Common.{ℕ, ◌+◌, ◌≤◌, ◌≡◌, true, false, List, length, Option, None, refl, sym, ap, ◌∙◌, subst}
 use Rattle.djq_model.specs.Data.{Bytes}
-use Rattle.djq_lines.specs.declared.limits.TheConstants.{PENDING_BYTES, REPLY_BYTES, LAST_LINE_BYTES}
-use Rattle.djq_lines.specs.declared.command.Command.{Command}
-use Rattle.djq_lines.specs.Line.{a_line, front_of, is_blank}
-use Rattle.djq_lines.specs.Grammar.{says_command, reading_of}
+use Rattle.djq_protocol.specs.declared.limits.TheConstants.{PENDING_BYTES, REPLY_BYTES, LAST_LINE_BYTES}
+use Rattle.djq_protocol.specs.declared.command.Command.{Command}
+use Rattle.djq_protocol.specs.Line.{a_line, front_of, is_blank}
+use Rattle.djq_protocol.specs.Grammar.{says_command, reading_of}
 use Rattle.djq_machine.specs.Call.{Counts}
 use Rattle.djq_machine.specs.declared.machine.Stepped.TheVariants.{Ran}
 use Rattle.djq_engine.specs.Kept.{Kept}
@@ -13,8 +13,8 @@ use Rattle.djq_commands.specs.declared.change.Left.TheVariants.{Nothing, Stoppin
 use Rattle.djq_commands.specs.Views.{Talk}
 use Rattle.std.specs.Prelude.{⊤, IsSome}
 use Rattle.djq_machine.specs.Command.{is_misplaced}
-use Rattle.djq_lines.specs.declared.command.Command.TheVariants.{Done}
-use Rattle.djq_lines.specs.declared.held.HeldRow.{HeldRow}
+use Rattle.djq_protocol.specs.declared.command.Command.TheVariants.{Done}
+use Rattle.djq_protocol.specs.declared.held.HeldRow.{HeldRow}
 use Rattle.djq_session.specs.Dialog.{batch_rows}
 use Rattle.djq_commands.specs.declared.change.Outcome.{Outcome}
 use Rattle.djq_commands.specs.Changing.{AddsAll, IsChange}

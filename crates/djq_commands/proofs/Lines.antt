@@ -5,7 +5,7 @@ use Rattle.std.proofs.lemmas.List.{take_more}
 use Rattle.std.proofs.lemmas.List.Concat.{flat_map-append}
 use Rattle.std.proofs.lemmas.Option.{slice_get_within, get_or_from_slice_get}
 use Rattle.djq_model.specs.Data.{Bytes}
-use Rattle.djq_lines.specs.Reply.{text_of}
+use Rattle.djq_protocol.specs.Reply.{text_of}
 
 -- the text of a line more
 pub text_last : (ls : List Bytes) (l : Bytes) → text_of (ls ++ l ∷ []) ≡ text_of ls ++ l

@@ -4,14 +4,14 @@ use Rattle.std.proofs.Common.{None, Some, Result, Ok, Err, codes, refl, sym, ap,
 use Rattle.std.proofs.Common.{arith, append_assoc, is_some}
 use Rattle.std.specs.Prelude.{⊤, MatchOption}
 use Rattle.djq_model.specs.Data.{Bytes, bytes_eq, drop_first}
-use Rattle.djq_lines.specs.declared.answer.Refusal.{Refusal}
-use Rattle.djq_lines.specs.declared.answer.Refusal.TheVariants.{NoCursor}
-use Rattle.djq_lines.specs.declared.command.Command.TheVariants.{Open, Close}
-use Rattle.djq_lines.specs.Reply.{line, ok_reply, refusal_line}
+use Rattle.djq_protocol.specs.declared.answer.Refusal.{Refusal}
+use Rattle.djq_protocol.specs.declared.answer.Refusal.TheVariants.{NoCursor}
+use Rattle.djq_protocol.specs.declared.command.Command.TheVariants.{Open, Close}
+use Rattle.djq_protocol.specs.Reply.{line, ok_reply, refusal_line}
 use Rattle.djq_machine.specs.Keeping.{no_line}
 use Rattle.djq_store_spec.specs.Store.{Store, open_at}
 use Rattle.djq_machine.specs.State.{Session, State, Cursor, cursor_of, with_session}
-use Rattle.djq_lines.specs.Conditions.{Answers, OutOfMemoryWhere}
+use Rattle.djq_protocol.specs.Conditions.{Answers, OutOfMemoryWhere}
 use Rattle.djq_machine.specs.Effect.{Effect}
 use Rattle.djq_machine.specs.Command.{open_refusal, with_cursor, CommandStep}
 use Rattle.djq_session.specs.declared.named.NamedCursor.{NamedCursor}

@@ -14,15 +14,15 @@ use Rattle.djq_engine.specs.declared.cursor.CursorId.{CursorId}
 use Rattle.djq_machine.specs.Keeping.{Keeping, no_line, kept_where, is_done, is_registration}
 use Rattle.djq_machine.specs.Command.{uses}
 use Rattle.djq_model.specs.declared.relation.ColumnType.{ColumnType}
-use Rattle.djq_lines.specs.declared.answer.Refusal.{Refusal}
-use Rattle.djq_lines.specs.declared.held.HeldRow.{HeldRow}
-use Rattle.djq_lines.specs.declared.answer.Shape.{Shape}
-use Rattle.djq_lines.specs.declared.rest.QueryOutcome.{QueryOutcome}
-use Rattle.djq_lines.specs.declared.command.Command.TheVariants.{Rel, Query as Register, Union, Has}
-use Rattle.djq_lines.specs.declared.command.Command.TheVariants.{Shape as AskShape, Drop}
-use Rattle.djq_lines.specs.Reply.{ok_reply, query_reply, union_reply, has_reply, shape_reply}
-use Rattle.djq_lines.specs.declared.answer.Refusal.TheVariants.{NoQuery, InUse}
-use Rattle.djq_lines.specs.Conditions.{first_refusal, Answers, OutOfMemoryWhere}
+use Rattle.djq_protocol.specs.declared.answer.Refusal.{Refusal}
+use Rattle.djq_protocol.specs.declared.held.HeldRow.{HeldRow}
+use Rattle.djq_protocol.specs.declared.answer.Shape.{Shape}
+use Rattle.djq_protocol.specs.declared.rest.QueryOutcome.{QueryOutcome}
+use Rattle.djq_protocol.specs.declared.command.Command.TheVariants.{Rel, Query as Register, Union, Has}
+use Rattle.djq_protocol.specs.declared.command.Command.TheVariants.{Shape as AskShape, Drop}
+use Rattle.djq_protocol.specs.Reply.{ok_reply, query_reply, union_reply, has_reply, shape_reply}
+use Rattle.djq_protocol.specs.declared.answer.Refusal.TheVariants.{NoQuery, InUse}
+use Rattle.djq_protocol.specs.Conditions.{first_refusal, Answers, OutOfMemoryWhere}
 use Rattle.djq_store_spec.specs.Store.{Store}
 use Rattle.djq_machine.specs.State.{Session, State, Cursor}
 use Rattle.djq_store_spec.specs.Union.{RegistersUnion}

@@ -6,15 +6,15 @@ use Rattle.std.specs.Prelude.{◌-◌, ⊤, IsSome, IsSomeAnd, is_none, is_err, 
 use Rattle.djq_model.specs.Data.{Bytes, bytes_eq}
 use Rattle.djq_model.specs.Listed.{Listed, listed_name, listed_of}
 use Rattle.djq_model.specs.Equality.{bytes_eq-decides}
-use Rattle.djq_lines.specs.declared.limits.TheConstants.{SESSIONS}
-use Rattle.djq_lines.specs.declared.answer.Refusal.{Refusal}
-use Rattle.djq_lines.specs.declared.answer.EndCause.{EndCause}
-use Rattle.djq_lines.specs.declared.answer.Refusal.TheVariants.{NoQuery, NoMemory}
-use Rattle.djq_lines.specs.declared.command.Command.TheVariants.{Watch, Unwatch}
-use Rattle.djq_lines.specs.Reply.{ok_reply, watch_reply, refusal_line}
+use Rattle.djq_protocol.specs.declared.limits.TheConstants.{SESSIONS}
+use Rattle.djq_protocol.specs.declared.answer.Refusal.{Refusal}
+use Rattle.djq_protocol.specs.declared.answer.EndCause.{EndCause}
+use Rattle.djq_protocol.specs.declared.answer.Refusal.TheVariants.{NoQuery, NoMemory}
+use Rattle.djq_protocol.specs.declared.command.Command.TheVariants.{Watch, Unwatch}
+use Rattle.djq_protocol.specs.Reply.{ok_reply, watch_reply, refusal_line}
 use Rattle.djq_store_spec.specs.Store.{Store}
 use Rattle.djq_machine.specs.State.{Session, with_session}
-use Rattle.djq_lines.specs.Conditions.{first_refusal, Answers, OutOfMemoryWhere}
+use Rattle.djq_protocol.specs.Conditions.{first_refusal, Answers, OutOfMemoryWhere}
 use Rattle.djq_machine.specs.Command.{watch_refusal, with_watch, without_watch}
 use Rattle.djq_machine.specs.Watch.{is_watching}
 use Rattle.djq_session.specs.Dialog.{Replies}
@@ -23,7 +23,8 @@ use Rattle.djq_engine.specs.Kept.{Kept, HeldCursor, Registered, held_at, SameCur
 use Rattle.djq_engine.specs.Kept.{registered_at, with_watchers}
 use Rattle.djq_commands.specs.declared.open.OpenSession.{OpenSession}
 use Rattle.djq_commands.specs.Views.{Talk, session_in, state_in}
-use Rattle.djq_commands.specs.Sound.{all_ids, is_among_watches, times_in, NamesOnce, HasCount, StaysCounted, QuietOnceEnded}
+use Rattle.djq_commands.specs.Sound.{all_ids, is_among_watches, times_in, NamesOnce, HasCount, StaysCounted}
+use Rattle.djq_commands.specs.Sound.{QuietOnceEnded}
 use Rattle.djq_commands.specs.Performs.{among, to_one, Executes}
 use Rattle.djq_commands.specs.Watches.{Rewatches, BeginsWatch, CeasesWatch, with_query, without_query}
 use Rattle.djq_commands.proofs.Ids.{agree_same}

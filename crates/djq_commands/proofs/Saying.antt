@@ -9,46 +9,46 @@ use Rattle.djq_model.specs.declared.query.Query.{Query}
 use Rattle.djq_model.specs.Data.{Bytes, Tuple}
 use Rattle.djq_value.specs.Token.{Token, word, text, open_paren, close_paren, comma, arrow, operator, stray, tokens}
 use Rattle.djq_value.specs.Literal.{is_lower, is_name, natural_of, literal_of}
-use Rattle.djq_lines.specs.declared.answer.Refusal.{Refusal}
-use Rattle.djq_lines.specs.declared.answer.Refusal.TheVariants.{WrongType, Syntax, NoMemory, Misplaced}
-use Rattle.djq_lines.specs.declared.held.HeldRow.{HeldRow}
-use Rattle.djq_lines.specs.declared.command.Command.{Command}
-use Rattle.djq_lines.specs.declared.command.Command.TheVariants.{Rel, Add, Del, Query as Register}
-use Rattle.djq_lines.specs.declared.command.Command.TheVariants.{Union, Drop, Open, Next, Close}
-use Rattle.djq_lines.specs.declared.command.Command.TheVariants.{Has, Watch, Unwatch, Explain}
-use Rattle.djq_lines.specs.declared.command.Command.TheVariants.{Shape, Batch, Done, Abandon, Quit}
-use Rattle.djq_lines.specs.declared.command.Command.TheVariants.{Stop}
-use Rattle.djq_lines.specs.declared.keyword.Keyword.{Keyword}
-use Rattle.djq_lines.specs.declared.keyword.Keyword.TheVariants.{Rel as RelWord, Add as AddWord}
-use Rattle.djq_lines.specs.declared.keyword.Keyword.TheVariants.{Del as DelWord, Query as QueryWord}
-use Rattle.djq_lines.specs.declared.keyword.Keyword.TheVariants.{Union as UnionWord}
-use Rattle.djq_lines.specs.declared.keyword.Keyword.TheVariants.{Drop as DropWord, Open as OpenWord}
-use Rattle.djq_lines.specs.declared.keyword.Keyword.TheVariants.{Next as NextWord}
-use Rattle.djq_lines.specs.declared.keyword.Keyword.TheVariants.{Close as CloseWord, Has as HasWord}
-use Rattle.djq_lines.specs.declared.keyword.Keyword.TheVariants.{Watch as WatchWord}
-use Rattle.djq_lines.specs.declared.keyword.Keyword.TheVariants.{Unwatch as UnwatchWord}
-use Rattle.djq_lines.specs.declared.keyword.Keyword.TheVariants.{Explain as ExplainWord}
-use Rattle.djq_lines.specs.declared.keyword.Keyword.TheVariants.{Shape as ShapeWord}
-use Rattle.djq_lines.specs.declared.keyword.Keyword.TheVariants.{Batch as BatchWord}
-use Rattle.djq_lines.specs.declared.keyword.Keyword.TheVariants.{Done as DoneWord}
-use Rattle.djq_lines.specs.declared.keyword.Keyword.TheVariants.{Abandon as AbandonWord}
-use Rattle.djq_lines.specs.declared.keyword.Keyword.TheVariants.{Quit as QuitWord, Stop as StopWord}
-use Rattle.djq_lines.specs.Grammar.{Reading, outside, past_limit, says_command, reading_in, reading_of}
-use Rattle.djq_lines.specs.Grammar.{command_of, command_in, command_with, command_behind}
-use Rattle.djq_lines.specs.Grammar.{is_in_range, takes_memory_to_read, is_count, answer_count}
-use Rattle.djq_lines.specs.Grammar.{keyword_of, at_line_end, type_of, all_of, named_some, named_any}
-use Rattle.djq_lines.specs.Grammar.{query_of_tokens, query_of, Body, body_in, items_in, with_atoms}
-use Rattle.djq_lines.specs.Grammar.{in_front, list_in, name_of, one_name, two_names, name_and_count}
-use Rattle.djq_lines.specs.Grammar.{name_and_members}
-use Rattle.djq_proto.specs.declared.refusal.LineRefusal.{LineRefusal}
-use Rattle.djq_proto.specs.declared.refusal.LineRefusal.TheVariants.{Syntax as Outside, Range, NoMem}
-use Rattle.djq_proto.specs.Reading.{GivesCommand, LineReadsAs}
-use Rattle.djq_proto.specs.RowReading.{begins_row, row_word_in}
-use Rattle.djq_proto.specs.declared.row.RowWord.{RowWord}
-use Rattle.djq_proto.specs.declared.row.RowWord.TheVariants.{Add as Adds, Del as Deletes}
-use Rattle.djq_proto.proofs.RowWords.{row_word_for, begins_for}
-use Rattle.djq_proto.specs.Saying.{SaysCommand}
-use Rattle.djq_proto.proofs.Sayings.{commands_are_said}
+use Rattle.djq_protocol.specs.declared.answer.Refusal.{Refusal}
+use Rattle.djq_protocol.specs.declared.answer.Refusal.TheVariants.{WrongType, Syntax, NoMemory, Misplaced}
+use Rattle.djq_protocol.specs.declared.held.HeldRow.{HeldRow}
+use Rattle.djq_protocol.specs.declared.command.Command.{Command}
+use Rattle.djq_protocol.specs.declared.command.Command.TheVariants.{Rel, Add, Del, Query as Register}
+use Rattle.djq_protocol.specs.declared.command.Command.TheVariants.{Union, Drop, Open, Next, Close}
+use Rattle.djq_protocol.specs.declared.command.Command.TheVariants.{Has, Watch, Unwatch, Explain}
+use Rattle.djq_protocol.specs.declared.command.Command.TheVariants.{Shape, Batch, Done, Abandon, Quit}
+use Rattle.djq_protocol.specs.declared.command.Command.TheVariants.{Stop}
+use Rattle.djq_protocol.specs.declared.keyword.Keyword.{Keyword}
+use Rattle.djq_protocol.specs.declared.keyword.Keyword.TheVariants.{Rel as RelWord, Add as AddWord}
+use Rattle.djq_protocol.specs.declared.keyword.Keyword.TheVariants.{Del as DelWord, Query as QueryWord}
+use Rattle.djq_protocol.specs.declared.keyword.Keyword.TheVariants.{Union as UnionWord}
+use Rattle.djq_protocol.specs.declared.keyword.Keyword.TheVariants.{Drop as DropWord, Open as OpenWord}
+use Rattle.djq_protocol.specs.declared.keyword.Keyword.TheVariants.{Next as NextWord}
+use Rattle.djq_protocol.specs.declared.keyword.Keyword.TheVariants.{Close as CloseWord, Has as HasWord}
+use Rattle.djq_protocol.specs.declared.keyword.Keyword.TheVariants.{Watch as WatchWord}
+use Rattle.djq_protocol.specs.declared.keyword.Keyword.TheVariants.{Unwatch as UnwatchWord}
+use Rattle.djq_protocol.specs.declared.keyword.Keyword.TheVariants.{Explain as ExplainWord}
+use Rattle.djq_protocol.specs.declared.keyword.Keyword.TheVariants.{Shape as ShapeWord}
+use Rattle.djq_protocol.specs.declared.keyword.Keyword.TheVariants.{Batch as BatchWord}
+use Rattle.djq_protocol.specs.declared.keyword.Keyword.TheVariants.{Done as DoneWord}
+use Rattle.djq_protocol.specs.declared.keyword.Keyword.TheVariants.{Abandon as AbandonWord}
+use Rattle.djq_protocol.specs.declared.keyword.Keyword.TheVariants.{Quit as QuitWord, Stop as StopWord}
+use Rattle.djq_protocol.specs.Grammar.{Reading, outside, past_limit, says_command, reading_in, reading_of}
+use Rattle.djq_protocol.specs.Grammar.{command_of, command_in, command_with, command_behind}
+use Rattle.djq_protocol.specs.Grammar.{is_in_range, takes_memory_to_read, is_count, answer_count}
+use Rattle.djq_protocol.specs.Grammar.{keyword_of, at_line_end, type_of, all_of, named_some, named_any}
+use Rattle.djq_protocol.specs.Grammar.{query_of_tokens, query_of, Body, body_in, items_in, with_atoms}
+use Rattle.djq_protocol.specs.Grammar.{in_front, list_in, name_of, one_name, two_names, name_and_count}
+use Rattle.djq_protocol.specs.Grammar.{name_and_members}
+use Rattle.djq_parser.specs.declared.refusal.LineRefusal.{LineRefusal}
+use Rattle.djq_parser.specs.declared.refusal.LineRefusal.TheVariants.{Syntax as Outside, Range, NoMem}
+use Rattle.djq_parser.specs.Reading.{GivesCommand, LineReadsAs}
+use Rattle.djq_parser.specs.RowReading.{begins_row, row_word_in}
+use Rattle.djq_parser.specs.declared.row.RowWord.{RowWord}
+use Rattle.djq_parser.specs.declared.row.RowWord.TheVariants.{Add as Adds, Del as Deletes}
+use Rattle.djq_parser.proofs.RowWords.{row_word_for, begins_for}
+use Rattle.djq_parser.specs.Saying.{SaysCommand}
+use Rattle.djq_parser.proofs.Sayings.{commands_are_said}
 use Rattle.djq_machine.specs.Command.{is_misplaced}
 use Rattle.djq_machine.specs.LineStep.{past_limit_refusal}
 use Rattle.std.specs.Prelude.{IsSome}

@@ -1,12 +1,12 @@
 -- A line is taken of a session's bytes, and what is done behind it.
 use Rattle.std.proofs.Common.{ℕ, ◌≤◌, ◌≡◌, ◌||◌, Bool, false, List, length, Some, refl, sym, ap, subst, arith}
 use Rattle.djq_model.specs.Data.{Bytes}
-use Rattle.djq_lines.specs.declared.limits.TheConstants.{PENDING_BYTES}
-use Rattle.djq_lines.specs.declared.answer.Refusal.{Refusal}
-use Rattle.djq_lines.specs.declared.command.Command.{Command}
-use Rattle.djq_lines.specs.Line.{a_line, front_of, is_blank}
-use Rattle.djq_lines.specs.Grammar.{Reading, says_command, reading_of}
-use Rattle.djq_lines.specs.Reply.{refusal_line}
+use Rattle.djq_protocol.specs.declared.limits.TheConstants.{PENDING_BYTES}
+use Rattle.djq_protocol.specs.declared.answer.Refusal.{Refusal}
+use Rattle.djq_protocol.specs.declared.command.Command.{Command}
+use Rattle.djq_protocol.specs.Line.{a_line, front_of, is_blank}
+use Rattle.djq_protocol.specs.Grammar.{Reading, says_command, reading_of}
+use Rattle.djq_protocol.specs.Reply.{refusal_line}
 use Rattle.djq_machine.specs.State.{Session, State}
 use Rattle.djq_machine.specs.Keeping.{kept_where}
 use Rattle.djq_machine.specs.Effect.{Effect}

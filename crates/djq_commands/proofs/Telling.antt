@@ -12,16 +12,16 @@ use Rattle.djq_model.specs.declared.memory.NoMem.{NoMem}
 use Rattle.djq_model.specs.Data.{Bytes, Tuple}
 use Rattle.djq_model.specs.Answer.{AreDifferent}
 use Rattle.djq_model.specs.Listed.{Listed, AnswersOf, listed_of}
-use Rattle.djq_lines.specs.declared.limits.TheConstants.{REPLY_BYTES, LAST_LINE_BYTES}
-use Rattle.djq_lines.specs.Reply.{answer_line, last_line, text_of}
+use Rattle.djq_protocol.specs.declared.limits.TheConstants.{REPLY_BYTES, LAST_LINE_BYTES}
+use Rattle.djq_protocol.specs.Reply.{answer_line, last_line, text_of}
 use Rattle.djq_store_spec.specs.Store.{Position, open_at, stale}
 use Rattle.djq_store_spec.specs.Listing.{IsLeft, AreAll, TellsAnswers}
 use Rattle.djq_store_spec.specs.Registering.{answer_steps}
 use Rattle.djq_session.specs.Dialog.{Queues, DialogLacks, MayQueue}
 use Rattle.djq_engine.specs.declared.cursor.CursorId.{CursorId}
-use Rattle.djq_live.specs.declared.listing.Next.{Next}
-use Rattle.djq_live.specs.declared.listing.Next.TheVariants.{Given, End, Stale}
-use Rattle.djq_live.specs.Live.{Live, values_of}
+use Rattle.djq_live_query.specs.declared.listing.Next.{Next}
+use Rattle.djq_live_query.specs.declared.listing.Next.TheVariants.{Given, End, Stale}
+use Rattle.djq_live_query.specs.Live.{Live, values_of}
 use Rattle.djq_engine.specs.Kept.{Kept, HeldCursor, held_at, same_id, IsHeld, IsFresh, IsOpenAt}
 use Rattle.djq_engine.specs.Kept.{MovesCursor, read_steps, MoreGives, MoreGivesAt, AnswerIs, IsShown}
 use Rattle.djq_store.specs.Reading.{NextGives, NextGivesAt}

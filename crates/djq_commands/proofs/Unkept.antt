@@ -3,14 +3,14 @@ use Rattle.std.proofs.Common.{ℕ, List, ◌≡◌, Bool, true, false, Option, N
 use Rattle.std.specs.Prelude.{IsSomeAnd, MatchOption}
 use Rattle.djq_model.specs.Data.{Bytes}
 use Rattle.djq_model.specs.Listed.{Listed, a_query, a_union, listed_of}
-use Rattle.djq_lines.specs.declared.answer.Refusal.{Refusal}
-use Rattle.djq_lines.specs.declared.answer.Refusal.TheVariants.{NoQuery, NoCursor}
-use Rattle.djq_lines.specs.declared.command.Command.{Command}
-use Rattle.djq_lines.specs.declared.command.Command.TheVariants.{Rel, Add, Del, Query as Register}
-use Rattle.djq_lines.specs.declared.command.Command.TheVariants.{Union, Drop, Open, Next, Close}
-use Rattle.djq_lines.specs.declared.command.Command.TheVariants.{Has, Watch, Unwatch, Explain}
-use Rattle.djq_lines.specs.declared.command.Command.TheVariants.{Shape, Batch, Done, Abandon, Quit}
-use Rattle.djq_lines.specs.declared.command.Command.TheVariants.{Stop}
+use Rattle.djq_protocol.specs.declared.answer.Refusal.{Refusal}
+use Rattle.djq_protocol.specs.declared.answer.Refusal.TheVariants.{NoQuery, NoCursor}
+use Rattle.djq_protocol.specs.declared.command.Command.{Command}
+use Rattle.djq_protocol.specs.declared.command.Command.TheVariants.{Rel, Add, Del, Query as Register}
+use Rattle.djq_protocol.specs.declared.command.Command.TheVariants.{Union, Drop, Open, Next, Close}
+use Rattle.djq_protocol.specs.declared.command.Command.TheVariants.{Has, Watch, Unwatch, Explain}
+use Rattle.djq_protocol.specs.declared.command.Command.TheVariants.{Shape, Batch, Done, Abandon, Quit}
+use Rattle.djq_protocol.specs.declared.command.Command.TheVariants.{Stop}
 use Rattle.djq_machine.specs.State.{Session, State, Cursor, cursor_of}
 use Rattle.djq_store_spec.specs.Store.{Position, open_at, stale}
 use Rattle.djq_machine.specs.Keeping.{no_line}

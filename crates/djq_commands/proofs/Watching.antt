@@ -5,11 +5,12 @@ use Rattle.std.proofs.Common.{ap₂, ◌∙◌, subst, arith, inl, inr, length-a
 use Rattle.std.specs.Prelude.{◌-◌, IsSome, Contains, AllPairs, not}
 use Rattle.std.proofs.lemmas.Bool.{eq-eqb}
 use Rattle.std.proofs.lemmas.List.Elements.{All-contains}
-use Rattle.djq_deltas.proofs.Lists.{nothing_there, first_or_later, first_there, later_there, pairs_head, pairs_tail}
+use Rattle.djq_answer_laws.proofs.Lists.{nothing_there, first_or_later, first_there, later_there, pairs_head}
+use Rattle.djq_answer_laws.proofs.Lists.{pairs_tail}
 use Rattle.djq_model.specs.Data.{Bytes, bytes_eq}
 use Rattle.djq_model.specs.Listed.{listed_name}
 use Rattle.djq_model.specs.Equality.{bytes_eq-decides}
-use Rattle.djq_lines.specs.declared.answer.EndCause.{EndCause}
+use Rattle.djq_protocol.specs.declared.answer.EndCause.{EndCause}
 use Rattle.djq_engine.specs.declared.cursor.QueryId.{QueryId}
 use Rattle.djq_engine.specs.Kept.{Kept, Registered, registered_of, registered_at, same_query, with_watchers}
 use Rattle.djq_commands.specs.declared.open.OpenSession.{OpenSession}
@@ -18,7 +19,7 @@ use Rattle.djq_commands.specs.Sound.{is_among_watches, times_in, watchers_in, Na
 use Rattle.djq_commands.specs.Sound.{QuietOnceEnded, AreQuiet, WatchersAreCounted, SessionIsCounted, HasCount}
 use Rattle.djq_commands.specs.Sound.{StaysCounted, IsSound, without_watchers}
 use Rattle.djq_commands.specs.Performs.{among}
-use Rattle.djq_deltas.proofs.Cases.{or_false}
+use Rattle.djq_answer_laws.proofs.Cases.{or_false}
 use Rattle.djq_commands.proofs.Ids.{or_true}
 
 -- ---- counts

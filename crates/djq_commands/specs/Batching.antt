@@ -20,28 +20,28 @@ use Rattle.std.specs.Prelude.{
 }
 use Rattle.djq_model.specs.Data.{Bytes, Tuple}
 use Rattle.djq_model.specs.declared.name.TheConstants.{NAME_BYTES}
-use Rattle.djq_lines.specs.declared.answer.Refusal.{Refusal}
-use Rattle.djq_lines.specs.declared.answer.Refusal.TheVariants.{Syntax, NoMemory, Misplaced}
-use Rattle.djq_lines.specs.declared.command.Command.{Command}
-use Rattle.djq_lines.specs.declared.command.Command.TheVariants.{
+use Rattle.djq_protocol.specs.declared.answer.Refusal.{Refusal}
+use Rattle.djq_protocol.specs.declared.answer.Refusal.TheVariants.{Syntax, NoMemory, Misplaced}
+use Rattle.djq_protocol.specs.declared.command.Command.{Command}
+use Rattle.djq_protocol.specs.declared.command.Command.TheVariants.{
   Add,
   Done as SayDone,
   Abandon as SayAbandon,
   Quit as SayQuit,
   Stop as SayStop,
 }
-use Rattle.djq_lines.specs.Grammar.{Reading, outside, past_limit, says_command, reading_of, takes_memory_to_read}
-use Rattle.djq_lines.specs.Conditions.{Answers, OutOfMemoryWhere}
-use Rattle.djq_lines.specs.declared.held.HeldRow.{HeldRow}
-use Rattle.djq_lines.specs.Reply.{held_reply, refusal_line}
+use Rattle.djq_protocol.specs.Grammar.{Reading, outside, past_limit, says_command, reading_of, takes_memory_to_read}
+use Rattle.djq_protocol.specs.Conditions.{Answers, OutOfMemoryWhere}
+use Rattle.djq_protocol.specs.declared.held.HeldRow.{HeldRow}
+use Rattle.djq_protocol.specs.Reply.{held_reply, refusal_line}
 use Rattle.djq_store_spec.specs.Store.{Store}
 use Rattle.djq_store_spec.specs.Batch.{hold_refusal}
 use Rattle.djq_machine.specs.Command.{is_misplaced}
 use Rattle.djq_machine.specs.LineStep.{past_limit_refusal}
-use Rattle.djq_proto.specs.declared.refusal.LineRefusal.{LineRefusal}
-use Rattle.djq_proto.specs.declared.refusal.LineRefusal.TheVariants.{Syntax as Outside}
-use Rattle.djq_proto.specs.declared.row.RowWord.{RowWord}
-use Rattle.djq_proto.specs.declared.row.RowWord.TheVariants.{Add as Adds, Del as Deletes}
+use Rattle.djq_parser.specs.declared.refusal.LineRefusal.{LineRefusal}
+use Rattle.djq_parser.specs.declared.refusal.LineRefusal.TheVariants.{Syntax as Outside}
+use Rattle.djq_parser.specs.declared.row.RowWord.{RowWord}
+use Rattle.djq_parser.specs.declared.row.RowWord.TheVariants.{Add as Adds, Del as Deletes}
 use Rattle.djq_session.specs.Dialog.{Replies, batch_rows}
 use Rattle.djq_commands.specs.Stepping.{refused_as}
 use Rattle.djq_commands.specs.Views.{Talk}

@@ -1,9 +1,9 @@
 -- What a session's end does to the engine and to the session.
 use Rattle.std.specs.Prelude.{ℕ, [], ◌∷◌, ◌≡◌, true, Option, None, Some}
 use Rattle.djq_model.specs.Data.{Bytes}
-use Rattle.djq_lines.specs.declared.answer.EndCause.TheVariants.{Input}
-use Rattle.djq_lines.specs.declared.answer.EndCause.TheVariants.{Memory}
-use Rattle.djq_lines.specs.Reply.{input_cut, end_memory}
+use Rattle.djq_protocol.specs.declared.answer.EndCause.TheVariants.{Input}
+use Rattle.djq_protocol.specs.declared.answer.EndCause.TheVariants.{Memory}
+use Rattle.djq_protocol.specs.Reply.{input_cut, end_memory}
 use Rattle.djq_machine.specs.State.{State, with_session, ended_by}
 use Rattle.djq_machine.specs.Effect.{Effect}
 use Rattle.djq_session.specs.Dialog.{DialogEndsWith}

@@ -3,7 +3,7 @@ use Rattle.std.specs.Prelude.{List, ◌++◌, ◌≡◌, codes, Option, IsSomeAn
 use Rattle.djq_model.specs.Data.{Bytes}
 use Rattle.djq_model.specs.Listed.{Listed, a_query, a_union, members_of}
 use Rattle.djq_model.specs.declared.memory.NoMem.{NoMem}
-use Rattle.djq_lines.specs.Reply.{member_line, text_of}
+use Rattle.djq_protocol.specs.Reply.{member_line, text_of}
 use Rattle.djq_session.specs.Dialog.{Queues}
 use Rattle.djq_engine.specs.Kept.{ExplainsTree, HasTree}
 use Rattle.djq_commands.specs.Views.{Talk}

@@ -4,8 +4,8 @@ use Rattle.std.specs.Prelude.{Ok, Err, length, map, All}
 use Rattle.djq_model.specs.Data.{Bytes, Tuple}
 use Rattle.djq_model.specs.Answer.{AreDifferent}
 use Rattle.djq_model.specs.Listed.{Listed, AnswersOf, listed_of}
-use Rattle.djq_lines.specs.declared.limits.TheConstants.{REPLY_BYTES}
-use Rattle.djq_lines.specs.Reply.{answer_line, listing_lines, text_of}
+use Rattle.djq_protocol.specs.declared.limits.TheConstants.{REPLY_BYTES}
+use Rattle.djq_protocol.specs.Reply.{answer_line, listing_lines, text_of}
 use Rattle.djq_store_spec.specs.Store.{Position, open_at, stale}
 use Rattle.djq_store_spec.specs.Listing.{TellsAnswers}
 use Rattle.djq_store_spec.specs.Registering.{answer_steps}

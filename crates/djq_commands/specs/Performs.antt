@@ -1,7 +1,7 @@
 -- What the functions of the core do to one session and the engine, as the machine says it of all sessions.
 use Rattle.std.specs.Prelude.{ℕ, List, [], ◌∷◌, ◌≡◌, ◌+◌, ◌++◌, ◌≤◌, ◌||◌, Bool, Option, None, Some}
 use Rattle.djq_model.specs.Data.{Bytes}
-use Rattle.djq_lines.specs.declared.command.Command.{Command}
+use Rattle.djq_protocol.specs.declared.command.Command.{Command}
 use Rattle.djq_machine.specs.State.{Session, State}
 use Rattle.djq_machine.specs.Keeping.{Keeping, no_line, kept_where}
 use Rattle.djq_machine.specs.Effect.{Effect}

@@ -4,9 +4,9 @@ use Rattle.std.specs.Prelude.{Some, MatchOption, if◌then◌else◌, All, filte
 use Rattle.std.specs.List.{list_any}
 use Rattle.djq_model.specs.Data.{Bytes}
 use Rattle.djq_model.specs.Listed.{listed_name}
-use Rattle.djq_lines.specs.declared.limits.TheConstants.{PENDING_BYTES}
-use Rattle.djq_lines.specs.declared.answer.EndCause.TheVariants.{Slow, Memory}
-use Rattle.djq_lines.specs.Reply.{text_of, end_slow, end_memory}
+use Rattle.djq_protocol.specs.declared.limits.TheConstants.{PENDING_BYTES}
+use Rattle.djq_protocol.specs.declared.answer.EndCause.TheVariants.{Slow, Memory}
+use Rattle.djq_protocol.specs.Reply.{text_of, end_slow, end_memory}
 use Rattle.djq_machine.specs.State.{State, Session}
 use Rattle.djq_machine.specs.Effect.{Effect, says, nothing, EndsWith, queue_all}
 use Rattle.djq_store_spec.specs.Delta.{delta_lines}

@@ -1,8 +1,8 @@
 -- What beginning to watch a query, and ceasing to, does to the engine and to a session.
 use Rattle.std.specs.Prelude.{List, [], ◌∷◌, ◌≡◌, ◌++◌, false, Result, Ok, Err, if◌then◌else◌, ⊤}
 use Rattle.djq_model.specs.Data.{Bytes, bytes_eq, drop_first}
-use Rattle.djq_lines.specs.declared.answer.Refusal.{Refusal}
-use Rattle.djq_lines.specs.Conditions.{Answers, OutOfMemoryWhere}
+use Rattle.djq_protocol.specs.declared.answer.Refusal.{Refusal}
+use Rattle.djq_protocol.specs.Conditions.{Answers, OutOfMemoryWhere}
 use Rattle.djq_machine.specs.Command.{watch_refusal}
 use Rattle.djq_engine.specs.Kept.{Kept}
 use Rattle.djq_commands.specs.Views.{Talk}

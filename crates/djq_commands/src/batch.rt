@@ -1,8 +1,8 @@
 //! A session's batch: its rows are held, and go in at once where it is done.
 ghost use Rattle.std.specs.Prelude.{◌≡◌, ◌+◌, ◌≤◌, None, IsSome, false, length, take, drop};
-ghost use Rattle.djq_lines.specs.Line.{a_line, front_of, is_blank as is_blank_line};
-ghost use Rattle.djq_lines.specs.declared.command.Command.TheVariants.{Batch};
-ghost use Rattle.djq_lines.specs.declared.limits.TheConstants.{PENDING_BYTES, REPLY_BYTES, LAST_LINE_BYTES};
+ghost use Rattle.djq_protocol.specs.Line.{a_line, front_of, is_blank as is_blank_line};
+ghost use Rattle.djq_protocol.specs.declared.command.Command.TheVariants.{Batch};
+ghost use Rattle.djq_protocol.specs.declared.limits.TheConstants.{PENDING_BYTES, REPLY_BYTES, LAST_LINE_BYTES};
 ghost use Rattle.djq_session.specs.Dialog.{batch_rows};
 ghost use Rattle.djq_commands.specs.Batching.{HoldsMadeRow};
 ghost use Rattle.djq_commands.specs.Changing.{AddsAll};
@@ -14,10 +14,10 @@ use crate::change::{Left, Outcome};
 use crate::commands::{run_quit, run_stop};
 use crate::held::new_row;
 use crate::reading::{BatchLine, read_in_batch};
-use djq_lines::{HeldRow, Refusal};
+use djq_protocol::{HeldRow, Refusal};
 use djq_model::{Name, Value};
 use djq_session::Session;
-use djq_steps::{Ledgers, Steps};
+use djq_counters::{Ledgers, Steps};
 use djq_store::{CursorId, Store};
 use std::alloc::Global;
 

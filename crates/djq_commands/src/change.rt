@@ -2,7 +2,7 @@ ghost use Rattle.std.specs.Prelude.{◌≡◌};
 ghost use Rattle.djq_machine.specs.Keeping.{is_removal};
 ghost use Rattle.djq_commands.specs.Stepping.{is_kept_by};
 
-use djq_lines::{AddOutcome, DeleteOutcome, HeldRow, Refusal};
+use djq_protocol::{AddOutcome, DeleteOutcome, HeldRow, Refusal};
 use djq_model::Sequence;
 
 /// What a command that may change rows came to.

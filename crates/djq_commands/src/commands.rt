@@ -1,13 +1,13 @@
 //! Commands on the relations, the queries and a session's cursors.
 ghost use Rattle.std.specs.Prelude.{◌≡◌, ◌≤◌, ◌<◌, ◌++◌, false, true, length, IsSomeAnd, OnOk};
 ghost use Rattle.djq_model.specs.Listed.{listed_of, members_of};
-ghost use Rattle.djq_lines.specs.Reply.{text_of};
+ghost use Rattle.djq_protocol.specs.Reply.{text_of};
 ghost use Rattle.djq_store.specs.Explaining.{Explains};
 ghost use Rattle.djq_commands.specs.Explaining.{QueuesExplained, member_lines};
-ghost use Rattle.djq_lines.specs.declared.command.Command.TheVariants.{Rel};
-ghost use Rattle.djq_lines.specs.declared.command.Command.TheVariants.{Query as Register, Drop, Open};
-ghost use Rattle.djq_lines.specs.declared.command.Command.TheVariants.{Close, Has, Quit, Stop};
-ghost use Rattle.djq_lines.specs.declared.command.Command.TheVariants.{Explain, Shape, Union};
+ghost use Rattle.djq_protocol.specs.declared.command.Command.TheVariants.{Rel};
+ghost use Rattle.djq_protocol.specs.declared.command.Command.TheVariants.{Query as Register, Drop, Open};
+ghost use Rattle.djq_protocol.specs.declared.command.Command.TheVariants.{Close, Has, Quit, Stop};
+ghost use Rattle.djq_protocol.specs.declared.command.Command.TheVariants.{Explain, Shape, Union};
 ghost use Rattle.djq_commands.specs.Opens.{SessionOpens};
 ghost use Rattle.djq_machine.specs.Keeping.{is_registration};
 ghost use Rattle.djq_commands.specs.Performs.{Executes, ExecutesKeeping};
@@ -15,12 +15,12 @@ ghost use Rattle.djq_commands.specs.Sound.{CommandIsReady};
 
 use crate::ending::{cut_off, give_up};
 use bytes::BytesMut;
-use djq_lines::limits::CURSORS;
-use djq_lines::{EndCause, QueryOutcome, Refusal};
+use djq_protocol::limits::CURSORS;
+use djq_protocol::{EndCause, QueryOutcome, Refusal};
 use djq_model::{Name, Names, NoMem, Query, Types, Value};
 use djq_reply::put_member;
 use djq_session::Session;
-use djq_steps::{Ledgers, Listing, Steps, Tally};
+use djq_counters::{Ledgers, Listing, Steps, Tally};
 use djq_store::{CursorId, Explained, Store};
 use std::alloc::Global;
 

@@ -1,8 +1,8 @@
 ghost use Rattle.std.specs.Prelude.{◌≡◌, ◌≤◌, [], IfOk, length};
-ghost use Rattle.djq_lines.specs.declared.limits.TheConstants.{LINE_BYTES};
+ghost use Rattle.djq_protocol.specs.declared.limits.TheConstants.{LINE_BYTES};
 
 use bytes::BytesMut;
-use djq_lines::limits::LINE_BYTES;
+use djq_protocol::limits::LINE_BYTES;
 use djq_model::NoMem;
 use std::alloc::Global;
 use std::marker::Model;
@@ -16,7 +16,7 @@ pub struct Copied {
 
 impl Model for Copied {
     ghost use Rattle.std.specs.Prelude.{List, ℕ, ◌+◌, ◌≤◌, length};
-    ghost use Rattle.djq_lines.specs.declared.limits.TheConstants.{LINE_BYTES};
+    ghost use Rattle.djq_protocol.specs.declared.limits.TheConstants.{LINE_BYTES};
 
     ghost Value = { List ℕ };
 

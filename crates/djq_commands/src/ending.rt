@@ -1,14 +1,14 @@
 //! A session's end: its cursors are given up, and its last line is queued.
 ghost use Rattle.std.specs.Prelude.{◌≡◌, [], false, None, Some};
-ghost use Rattle.djq_lines.specs.Reply.{end_line, input_cut};
-ghost use Rattle.djq_lines.specs.declared.answer.EndCause.TheVariants.{Input};
+ghost use Rattle.djq_protocol.specs.Reply.{end_line, input_cut};
+ghost use Rattle.djq_protocol.specs.declared.answer.EndCause.TheVariants.{Input};
 ghost use Rattle.djq_machine.specs.Effect.{EndsWith};
 ghost use Rattle.djq_commands.specs.Ends.{CutsOff, SessionGivesUp, GivesUpCursors, GivesUpWatches, EndsQuietly};
 ghost use Rattle.djq_commands.specs.Performs.{Performs};
 ghost use Rattle.djq_commands.specs.Telling.{KeepsTold};
 ghost use Rattle.djq_commands.specs.Sound.{IsOwn, HasCount};
 
-use djq_lines::{EndCause, EndLine};
+use djq_protocol::{EndCause, EndLine};
 use djq_model::Name;
 use djq_session::Session;
 use djq_store::{CursorId, Store};

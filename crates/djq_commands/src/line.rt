@@ -1,9 +1,9 @@
 //! The order of checks before a line is run, and which command it says.
 ghost use Rattle.std.specs.Prelude.{◌≡◌, ◌≤◌, ◌||◌, None, Bool, false, length, take, drop, ⊤};
-ghost use Rattle.djq_lines.specs.Line.{a_line, front_of, is_blank as is_blank_line};
-ghost use Rattle.djq_lines.specs.declared.limits.TheConstants.{PENDING_BYTES};
+ghost use Rattle.djq_protocol.specs.Line.{a_line, front_of, is_blank as is_blank_line};
+ghost use Rattle.djq_protocol.specs.declared.limits.TheConstants.{PENDING_BYTES};
 ghost use Rattle.djq_machine.specs.Call.{counts};
-ghost use Rattle.djq_proto.specs.RowReading.{begins_row};
+ghost use Rattle.djq_parser.specs.RowReading.{begins_row};
 ghost use Rattle.djq_value.specs.Token.{tokens};
 ghost use Rattle.djq_machine.specs.Command.{is_misplaced};
 ghost use Rattle.djq_commands.specs.Sound.{BatchSuits, IsOwn, CommandIsReady};
@@ -20,13 +20,13 @@ use crate::ending::end_by;
 use crate::listing::run_next;
 use crate::reading::refusal_of;
 use crate::watch::{run_unwatch, run_watch};
-use djq_lines::limits::{PENDING_BYTES, REPLY_BYTES};
-use djq_lines::{Command, EndCause, EndLine, Refusal};
+use djq_protocol::limits::{PENDING_BYTES, REPLY_BYTES};
+use djq_protocol::{Command, EndCause, EndLine, Refusal};
 use djq_machine::Stepped;
 use djq_model::{Name, Value};
-use djq_proto::{Front, RowLine, is_blank, read_command, read_row};
+use djq_parser::{Front, RowLine, is_blank, read_command, read_row};
 use djq_session::Session;
-use djq_steps::{Ledgers, Steps};
+use djq_counters::{Ledgers, Steps};
 use djq_store::{CursorId, Store};
 use std::alloc::Global;
 

@@ -1,16 +1,16 @@
 //! `next`: one answer after another as the store gives it, and the last line.
 ghost use Rattle.std.specs.Prelude.{◌≡◌, ◌+◌, ◌≤◌, ◌∷◌, [], false};
-ghost use Rattle.djq_lines.specs.declared.limits.TheConstants.{LAST_LINE_BYTES, REPLY_BYTES};
-ghost use Rattle.djq_lines.specs.declared.command.Command.TheVariants.{Next as NextCommand};
+ghost use Rattle.djq_protocol.specs.declared.limits.TheConstants.{LAST_LINE_BYTES, REPLY_BYTES};
+ghost use Rattle.djq_protocol.specs.declared.command.Command.TheVariants.{Next as NextCommand};
 ghost use Rattle.djq_commands.specs.Listing.{Lists, Lasts};
 ghost use Rattle.djq_commands.specs.Performs.{Executes};
 ghost use Rattle.djq_commands.specs.Sound.{AreHeld, CommandIsReady};
 
 use crate::ending::cut_off;
-use djq_lines::Refusal;
+use djq_protocol::Refusal;
 use djq_model::{Name, NoMem};
 use djq_session::Session;
-use djq_steps::{Ledgers, Listing, Tally};
+use djq_counters::{Ledgers, Listing, Tally};
 use djq_store::{Answer, CursorId, Next, Store};
 
 /// How a listing came out.

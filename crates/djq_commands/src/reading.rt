@@ -1,14 +1,14 @@
 //! What a line says while a batch is open: few commands are for one.
 ghost use Rattle.std.specs.Prelude.{◌≡◌, false};
 ghost use Rattle.djq_model.specs.Data.{Tuple};
-ghost use Rattle.djq_proto.specs.RowReading.{begins_row};
+ghost use Rattle.djq_parser.specs.RowReading.{begins_row};
 ghost use Rattle.djq_value.specs.Token.{tokens};
 ghost use Rattle.djq_commands.specs.Batching.{ReadsInBatch, in_batch, misplaced_as, row_refused_as};
 ghost use Rattle.djq_commands.specs.Stepping.{refused_as};
 
-use djq_lines::{Command, Refusal};
+use djq_protocol::{Command, Refusal};
 use djq_model::Value;
-use djq_proto::{LineRefusal, RowLine, RowWord, read_command, read_row};
+use djq_parser::{LineRefusal, RowLine, RowWord, read_command, read_row};
 use std::alloc::Global;
 
 /// What a line says while a batch is open. A name is bytes of the line.

@@ -1,11 +1,11 @@
 //! Commands on what a session watches.
 ghost use Rattle.std.specs.Prelude.{◌≡◌, false};
-ghost use Rattle.djq_lines.specs.declared.command.Command.TheVariants.{Watch, Unwatch};
+ghost use Rattle.djq_protocol.specs.declared.command.Command.TheVariants.{Watch, Unwatch};
 ghost use Rattle.djq_commands.specs.Performs.{Executes};
 ghost use Rattle.djq_commands.specs.Sound.{IsOwn, CommandIsReady};
 ghost use Rattle.djq_commands.specs.Watches.{BeginsWatch, CeasesWatch};
 
-use djq_lines::Refusal;
+use djq_protocol::Refusal;
 use djq_model::Name;
 use djq_session::Session;
 use djq_store::{CursorId, Store};

@@ -5,10 +5,10 @@ use Rattle.std.proofs.Common.{refl, sym, ap, ◌∙◌, subst, arith, inl, inr}
 use Rattle.std.specs.Prelude.{All, MatchOption, Contains, IsSome, IsSomeAnd, slice_get, slice_index_or}
 use Rattle.std.proofs.lemmas.Bool.{cond-true, cond-false}
 use Rattle.std.proofs.lemmas.List.Elements.{All-contains, All-head, All-tail}
-use Rattle.djq_deltas.proofs.Lists.{first_there, later_there}
+use Rattle.djq_answer_laws.proofs.Lists.{first_there, later_there}
 use Rattle.djq_model.specs.Data.{Bytes}
 use Rattle.djq_model.specs.Listed.{Listed, listed_name}
-use Rattle.djq_lines.specs.Reply.{text_of}
+use Rattle.djq_protocol.specs.Reply.{text_of}
 use Rattle.djq_machine.specs.Walk.{Walk}
 use Rattle.djq_store_spec.specs.Delta.{Change, delta_lines}
 use Rattle.djq_store_spec.specs.DeltaCost.{Delta}

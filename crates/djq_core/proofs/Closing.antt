@@ -8,10 +8,10 @@ use Rattle.std.specs.List.{list_any}
 use Rattle.std.proofs.lemmas.Bool.{leb-true, le-leb}
 use Rattle.std.proofs.lemmas.List.{length-map}
 use Rattle.djq_model.specs.Data.{Bytes, change_first}
-use Rattle.djq_lines.specs.declared.limits.TheConstants.{REPLY_BYTES, LAST_LINE_BYTES}
-use Rattle.djq_lines.specs.declared.answer.EndCause.{EndCause}
-use Rattle.djq_lines.specs.declared.answer.EndCause.TheVariants.{Memory}
-use Rattle.djq_lines.specs.Reply.{end_memory}
+use Rattle.djq_protocol.specs.declared.limits.TheConstants.{REPLY_BYTES, LAST_LINE_BYTES}
+use Rattle.djq_protocol.specs.declared.answer.EndCause.{EndCause}
+use Rattle.djq_protocol.specs.declared.answer.EndCause.TheVariants.{Memory}
+use Rattle.djq_protocol.specs.Reply.{end_memory}
 use Rattle.djq_machine.specs.State.{Session, State, session_of, with_session, ended_by}
 use Rattle.djq_machine.specs.Effect.{Effect, says, nothing, EndsWith, queue, queue_all}
 use Rattle.djq_machine.specs.Walk.{Walk}

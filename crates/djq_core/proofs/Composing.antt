@@ -6,20 +6,20 @@ use Rattle.std.specs.Prelude.{◌&&◌, All, IsSome, MatchOption}
 use Rattle.std.specs.List.{list_any}
 use Rattle.std.proofs.lemmas.Bool.{lt-ltb}
 use Rattle.std.proofs.lemmas.List.Elements.{All-filter}
-use Rattle.djq_deltas.proofs.Lists.{hold_each}
+use Rattle.djq_answer_laws.proofs.Lists.{hold_each}
 use Rattle.djq_model.specs.Data.{Bytes}
 use Rattle.djq_model.specs.Listed.{Listed, listed_name}
-use Rattle.djq_lines.specs.declared.command.Command.{Command}
-use Rattle.djq_lines.specs.declared.command.Command.TheVariants.{Add, Del, Done as SayDone}
-use Rattle.djq_lines.specs.declared.held.HeldRow.{HeldRow}
-use Rattle.djq_lines.specs.declared.answer.Refusal.{Refusal}
-use Rattle.djq_lines.specs.declared.answer.Refusal.TheVariants.{NoMemory}
-use Rattle.djq_lines.specs.declared.answer.AddOutcome.{AddOutcome}
-use Rattle.djq_lines.specs.declared.answer.AddOutcome.TheVariants.{First, More}
-use Rattle.djq_lines.specs.declared.answer.DeleteOutcome.{DeleteOutcome}
-use Rattle.djq_lines.specs.declared.answer.DeleteOutcome.TheVariants.{Last, Left, Absent}
-use Rattle.djq_lines.specs.Grammar.{Reading, reading_of}
-use Rattle.djq_lines.specs.Reply.{add_reply, delete_reply, done_reply}
+use Rattle.djq_protocol.specs.declared.command.Command.{Command}
+use Rattle.djq_protocol.specs.declared.command.Command.TheVariants.{Add, Del, Done as SayDone}
+use Rattle.djq_protocol.specs.declared.held.HeldRow.{HeldRow}
+use Rattle.djq_protocol.specs.declared.answer.Refusal.{Refusal}
+use Rattle.djq_protocol.specs.declared.answer.Refusal.TheVariants.{NoMemory}
+use Rattle.djq_protocol.specs.declared.answer.AddOutcome.{AddOutcome}
+use Rattle.djq_protocol.specs.declared.answer.AddOutcome.TheVariants.{First, More}
+use Rattle.djq_protocol.specs.declared.answer.DeleteOutcome.{DeleteOutcome}
+use Rattle.djq_protocol.specs.declared.answer.DeleteOutcome.TheVariants.{Last, Left, Absent}
+use Rattle.djq_protocol.specs.Grammar.{Reading, reading_of}
+use Rattle.djq_protocol.specs.Reply.{add_reply, delete_reply, done_reply}
 use Rattle.djq_machine.specs.Keeping.{Keeping, kept_where, is_done, is_removal, kept_batch}
 use Rattle.djq_store_spec.specs.Batch.{batch_outcome}
 use Rattle.djq_machine.specs.Run.{groups_in}
@@ -49,7 +49,8 @@ use Rattle.djq_commands.specs.declared.change.Outcome.TheVariants.{Added, Delete
 use Rattle.djq_commands.specs.Views.{Talk, session_in, session_seen, state_in, lines_of_step}
 use Rattle.djq_commands.specs.Sound.{ids_of_cursors, all_ids, AreHeld, IsSound, is_among_watches, watchers_in}
 use Rattle.djq_commands.specs.Performs.{among}
-use Rattle.djq_commands.specs.Changing.{EngineChanged, IsChange, LeavesChange, is_accepted, reply_of, is_kept, lines_kept}
+use Rattle.djq_commands.specs.Changing.{EngineChanged, IsChange, LeavesChange, is_accepted, reply_of, is_kept}
+use Rattle.djq_commands.specs.Changing.{lines_kept}
 use Rattle.djq_commands.specs.Stepping.{Copies}
 use Rattle.djq_commands.specs.Telling.{AreAffected, TellsAll}
 use Rattle.djq_commands.proofs.Ids.{agree_same, agree_held, agree_open, outdated_find, outdated_all_held, outdated_open}

@@ -1,9 +1,9 @@
 -- What a watching session hears of a delta.
 use Rattle.std.proofs.Common.{◌<◌, ◌≤◌, ◌≡◌, Bool, true, false, refl, sym, ap, subst, length, inl, inr}
 use Rattle.djq_model.specs.Data.{Bytes}
-use Rattle.djq_lines.specs.declared.limits.TheConstants.{PENDING_BYTES}
-use Rattle.djq_lines.specs.declared.answer.EndCause.TheVariants.{Slow, Memory}
-use Rattle.djq_lines.specs.Reply.{end_slow, end_memory}
+use Rattle.djq_protocol.specs.declared.limits.TheConstants.{PENDING_BYTES}
+use Rattle.djq_protocol.specs.declared.answer.EndCause.TheVariants.{Slow, Memory}
+use Rattle.djq_protocol.specs.Reply.{end_slow, end_memory}
 use Rattle.djq_machine.specs.State.{Session}
 use Rattle.djq_machine.specs.Effect.{EndsWith}
 use Rattle.djq_session.specs.Dialog.{Replies}

@@ -5,19 +5,19 @@ use Rattle.std.proofs.Common.{nat_lt, refl, sym, ap, subst, arith, inl, inr}
 use Rattle.std.specs.Prelude.{⊤, All, IsSome, IsSomeAnd, find, not}
 use Rattle.std.proofs.lemmas.Bool.{false≢true, lt-ltb}
 use Rattle.std.proofs.lemmas.List.Elements.{All-append, All-cons, All-contains, All-filter, All-head, All-nil, All-tail}
-use Rattle.djq_deltas.proofs.Lists.{hold_each}
+use Rattle.djq_answer_laws.proofs.Lists.{hold_each}
 use Rattle.djq_model.specs.declared.query.Query.{Query}
 use Rattle.djq_model.specs.Data.{Bytes, Tuple, bytes_eq}
 use Rattle.djq_model.specs.Listed.{a_query, a_union, listed_name}
-use Rattle.djq_lines.specs.declared.answer.Refusal.{Refusal}
-use Rattle.djq_lines.specs.Conditions.{Answers, OutOfMemoryWhere}
-use Rattle.djq_lines.specs.declared.answer.Refusal.TheVariants.{NoMemory}
-use Rattle.djq_lines.specs.declared.command.Command.{Command}
-use Rattle.djq_lines.specs.declared.command.Command.TheVariants.{Add, Batch, Done, Abandon, Quit, Stop}
-use Rattle.djq_lines.specs.declared.held.HeldRow.{HeldRow}
-use Rattle.djq_lines.specs.Grammar.{Reading, outside, past_limit, says_command, command_of, reading_of}
-use Rattle.djq_lines.specs.declared.rest.QueryOutcome.{QueryOutcome}
-use Rattle.djq_lines.specs.declared.rest.QueryOutcome.TheVariants.{Registered as HasRegistered, Cyclic, NotConnex}
+use Rattle.djq_protocol.specs.declared.answer.Refusal.{Refusal}
+use Rattle.djq_protocol.specs.Conditions.{Answers, OutOfMemoryWhere}
+use Rattle.djq_protocol.specs.declared.answer.Refusal.TheVariants.{NoMemory}
+use Rattle.djq_protocol.specs.declared.command.Command.{Command}
+use Rattle.djq_protocol.specs.declared.command.Command.TheVariants.{Add, Batch, Done, Abandon, Quit, Stop}
+use Rattle.djq_protocol.specs.declared.held.HeldRow.{HeldRow}
+use Rattle.djq_protocol.specs.Grammar.{Reading, outside, past_limit, says_command, command_of, reading_of}
+use Rattle.djq_protocol.specs.declared.rest.QueryOutcome.{QueryOutcome}
+use Rattle.djq_protocol.specs.declared.rest.QueryOutcome.TheVariants.{Registered as HasRegistered, Cyclic, NotConnex}
 use Rattle.djq_store_spec.specs.Store.{Store}
 use Rattle.djq_machine.specs.State.{State}
 use Rattle.djq_store_spec.specs.Registering.{DropsQuery}
@@ -29,9 +29,9 @@ use Rattle.djq_machine.specs.Command.{is_misplaced}
 use Rattle.djq_machine.specs.Keeping.{is_done}
 use Rattle.djq_machine.specs.LineStep.{past_limit_refusal}
 use Rattle.djq_machine.specs.Loading.{CommandLoads, Loading, LoadStep, ReadingLoads, StoreLoads, loaded_by, refused_by}
-use Rattle.djq_proto.specs.declared.refusal.LineRefusal.{LineRefusal}
-use Rattle.djq_proto.specs.declared.refusal.LineRefusal.TheVariants.{Syntax as Outside, Range, NoMem}
-use Rattle.djq_proto.specs.Reading.{LineReadsAs}
+use Rattle.djq_parser.specs.declared.refusal.LineRefusal.{LineRefusal}
+use Rattle.djq_parser.specs.declared.refusal.LineRefusal.TheVariants.{Syntax as Outside, Range, NoMem}
+use Rattle.djq_parser.specs.Reading.{LineReadsAs}
 use Rattle.djq_engine.specs.declared.cursor.CursorId.{CursorId}
 use Rattle.djq_engine.specs.Kept.{Kept, HeldCursor, Registered, held_at, is_watched, SameCursors}
 use Rattle.djq_engine.specs.Kept.{Outdates, outdated_held, Uses, DropGives, DropsRegistered}

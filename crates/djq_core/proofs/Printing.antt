@@ -9,8 +9,8 @@ use Rattle.bytes.specs.Filled.{Filled}
 use Rattle.djq_model.specs.declared.memory.NoMem.{NoMem}
 use Rattle.djq_model.specs.Data.{Bytes, Tuple}
 use Rattle.djq_value.specs.Output.{Puts}
-use Rattle.djq_lines.specs.declared.answer.Sign.{Sign}
-use Rattle.djq_lines.specs.Reply.{text_of, change_line, at_line}
+use Rattle.djq_protocol.specs.declared.answer.Sign.{Sign}
+use Rattle.djq_protocol.specs.Reply.{text_of, change_line, at_line}
 use Rattle.djq_store_spec.specs.Delta.{Change, change_lines, delta_lines}
 use Rattle.djq_commands.proofs.Lines.{take_next, text_last}
 

@@ -6,9 +6,9 @@ use Rattle.std.specs.List.{list_any}
 use Rattle.std.proofs.lemmas.Bool.{cond-true, cond-false, eq-eqb}
 use Rattle.djq_model.specs.Data.{Bytes, change_first}
 use Rattle.djq_model.specs.Listed.{listed_name}
-use Rattle.djq_lines.specs.declared.answer.EndCause.{EndCause}
-use Rattle.djq_lines.specs.declared.answer.EndCause.TheVariants.{Slow, Memory}
-use Rattle.djq_lines.specs.Reply.{text_of, end_slow, end_memory}
+use Rattle.djq_protocol.specs.declared.answer.EndCause.{EndCause}
+use Rattle.djq_protocol.specs.declared.answer.EndCause.TheVariants.{Slow, Memory}
+use Rattle.djq_protocol.specs.Reply.{text_of, end_slow, end_memory}
 use Rattle.djq_machine.specs.State.{Session, State, state_ids, session_of, with_session, ended_by}
 use Rattle.djq_machine.specs.Effect.{Effect, queue, queue_all}
 use Rattle.djq_store_spec.specs.Delta.{delta_lines}

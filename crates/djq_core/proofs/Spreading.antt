@@ -7,7 +7,7 @@ use Rattle.std.proofs.lemmas.Bool.{cond-false}
 use Rattle.std.proofs.lemmas.List.{drop_all, length-map}
 use Rattle.djq_model.specs.Data.{Bytes}
 use Rattle.djq_model.specs.Listed.{listed_name}
-use Rattle.djq_lines.specs.Reply.{text_of}
+use Rattle.djq_protocol.specs.Reply.{text_of}
 use Rattle.djq_machine.specs.State.{Session, State, state_ids, session_of}
 use Rattle.djq_machine.specs.Walk.{Walk}
 use Rattle.djq_store_spec.specs.Delta.{delta_lines}
@@ -24,7 +24,8 @@ use Rattle.djq_commands.specs.Telling.{KeepsTold, HearsDelta, WatchesOn, KeepsUn
 use Rattle.djq_commands.proofs.Around.{parts, found, ids_are}
 use Rattle.djq_core.proofs.Lifting.{queued}
 use Rattle.djq_core.proofs.Places.{cut_at, set_at, ids_seen, apart_of}
-use Rattle.djq_commands.proofs.Watching.{count_among, none_watching, unwatched, has_count, goes_on_watching, quiet_split}
+use Rattle.djq_commands.proofs.Watching.{count_among, none_watching, unwatched, has_count, goes_on_watching}
+use Rattle.djq_commands.proofs.Watching.{quiet_split}
 use Rattle.djq_core.proofs.Queueing.{bridged, has_part, part_stays, ids_queued}
 
 -- What stays, step by step.

@@ -3,9 +3,9 @@ use Rattle.std.proofs.Common.{ℕ, zero, suc, ◌<◌, ◌≡◌, ◌∙◌, Boo
 use Rattle.std.proofs.Common.{Option, None, Some, refl, sym, ap, subst, arith}
 use Rattle.std.specs.Prelude.{All, IsSome, IsSomeAnd, slice_get}
 use Rattle.std.proofs.lemmas.List.Elements.{All-map}
-use Rattle.djq_lines.specs.declared.command.Command.{Command}
-use Rattle.djq_lines.specs.declared.command.Command.TheVariants.{Add, Del, Done}
-use Rattle.djq_lines.specs.declared.held.HeldRow.{HeldRow}
+use Rattle.djq_protocol.specs.declared.command.Command.{Command}
+use Rattle.djq_protocol.specs.declared.command.Command.TheVariants.{Add, Del, Done}
+use Rattle.djq_protocol.specs.declared.held.HeldRow.{HeldRow}
 use Rattle.djq_machine.specs.declared.machine.Stepped.{Stepped}
 use Rattle.djq_machine.specs.declared.machine.Stepped.TheVariants.{Ran, Dry, Ended}
 use Rattle.djq_machine.specs.Call.{Counts}

@@ -3,7 +3,7 @@ use Rattle.std.proofs.Common.{ℕ, zero, suc, ◌<◌, ◌≡◌, ◌++◌, Bool
 use Rattle.std.proofs.Common.{get_or, Option, None, refl, sym, ap, subst, arith}
 use Rattle.std.specs.List.{remove}
 use Rattle.djq_model.specs.Data.{Bytes}
-use Rattle.djq_lines.specs.declared.held.HeldRow.{HeldRow}
+use Rattle.djq_protocol.specs.declared.held.HeldRow.{HeldRow}
 use Rattle.djq_store_spec.specs.Store.{Store}
 use Rattle.djq_machine.specs.Call.{Counts, StepGives}
 use Rattle.djq_machine.specs.declared.machine.Stepped.{Stepped}

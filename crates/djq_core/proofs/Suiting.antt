@@ -15,29 +15,30 @@ use Rattle.djq_model.specs.Data.{counted_of, has_row, rows_of, with_row}
 use Rattle.djq_model.specs.Known.{texts_in, all_learned}
 use Rattle.djq_model.specs.Listed.{Listed, a_query, a_union, listed_name, listed_of}
 use Rattle.djq_model.specs.Typed.{fits}
-use Rattle.djq_lines.specs.Columns.{types_of}
-use Rattle.djq_lines.specs.Conditions.{first_refusal, Answers, OutOfMemoryWhere}
-use Rattle.djq_lines.specs.Grammar.{Reading, outside, past_limit, says_command, reading_of}
-use Rattle.djq_lines.specs.Reply.{end_memory}
-use Rattle.djq_lines.specs.Variables.{constants_of}
-use Rattle.djq_lines.specs.declared.limits.TheConstants.{HELD}
-use Rattle.djq_lines.specs.declared.answer.EndCause.{EndCause}
-use Rattle.djq_lines.specs.declared.answer.EndCause.TheVariants.{Quit as SaidQuit, Stop as SaidStop, Long, Slow, Memory}
-use Rattle.djq_lines.specs.declared.answer.Refusal.{Refusal}
-use Rattle.djq_lines.specs.declared.answer.Refusal.TheVariants.{NoRelation, NoQuery, NoCursor}
-use Rattle.djq_lines.specs.declared.answer.Refusal.TheVariants.{Arity, WrongType, Limit, NoMemory}
-use Rattle.djq_lines.specs.declared.answer.AddOutcome.{AddOutcome}
-use Rattle.djq_lines.specs.declared.answer.AddOutcome.TheVariants.{First, More}
-use Rattle.djq_lines.specs.declared.answer.DeleteOutcome.{DeleteOutcome}
-use Rattle.djq_lines.specs.declared.answer.DeleteOutcome.TheVariants.{Last, Left, Absent}
-use Rattle.djq_lines.specs.declared.command.Command.{Command}
-use Rattle.djq_lines.specs.declared.command.Command.TheVariants.{Rel, Add, Del, Query as Register}
-use Rattle.djq_lines.specs.declared.command.Command.TheVariants.{Union, Drop, Open, Next, Close}
-use Rattle.djq_lines.specs.declared.command.Command.TheVariants.{Has, Watch, Unwatch, Explain}
-use Rattle.djq_lines.specs.declared.command.Command.TheVariants.{Shape, Batch, Done, Abandon, Quit, Stop}
-use Rattle.djq_lines.specs.declared.rest.QueryOutcome.{QueryOutcome}
-use Rattle.djq_lines.specs.declared.rest.QueryOutcome.TheVariants.{Registered, Cyclic, NotConnex}
-use Rattle.djq_lines.specs.declared.held.HeldRow.{HeldRow}
+use Rattle.djq_protocol.specs.Columns.{types_of}
+use Rattle.djq_protocol.specs.Conditions.{first_refusal, Answers, OutOfMemoryWhere}
+use Rattle.djq_protocol.specs.Grammar.{Reading, outside, past_limit, says_command, reading_of}
+use Rattle.djq_protocol.specs.Reply.{end_memory}
+use Rattle.djq_protocol.specs.Variables.{constants_of}
+use Rattle.djq_protocol.specs.declared.limits.TheConstants.{HELD}
+use Rattle.djq_protocol.specs.declared.answer.EndCause.{EndCause}
+use Rattle.djq_protocol.specs.declared.answer.EndCause.TheVariants.{Quit as SaidQuit, Stop as SaidStop, Long, Slow}
+use Rattle.djq_protocol.specs.declared.answer.EndCause.TheVariants.{Memory}
+use Rattle.djq_protocol.specs.declared.answer.Refusal.{Refusal}
+use Rattle.djq_protocol.specs.declared.answer.Refusal.TheVariants.{NoRelation, NoQuery, NoCursor}
+use Rattle.djq_protocol.specs.declared.answer.Refusal.TheVariants.{Arity, WrongType, Limit, NoMemory}
+use Rattle.djq_protocol.specs.declared.answer.AddOutcome.{AddOutcome}
+use Rattle.djq_protocol.specs.declared.answer.AddOutcome.TheVariants.{First, More}
+use Rattle.djq_protocol.specs.declared.answer.DeleteOutcome.{DeleteOutcome}
+use Rattle.djq_protocol.specs.declared.answer.DeleteOutcome.TheVariants.{Last, Left, Absent}
+use Rattle.djq_protocol.specs.declared.command.Command.{Command}
+use Rattle.djq_protocol.specs.declared.command.Command.TheVariants.{Rel, Add, Del, Query as Register}
+use Rattle.djq_protocol.specs.declared.command.Command.TheVariants.{Union, Drop, Open, Next, Close}
+use Rattle.djq_protocol.specs.declared.command.Command.TheVariants.{Has, Watch, Unwatch, Explain}
+use Rattle.djq_protocol.specs.declared.command.Command.TheVariants.{Shape, Batch, Done, Abandon, Quit, Stop}
+use Rattle.djq_protocol.specs.declared.rest.QueryOutcome.{QueryOutcome}
+use Rattle.djq_protocol.specs.declared.rest.QueryOutcome.TheVariants.{Registered, Cyclic, NotConnex}
+use Rattle.djq_protocol.specs.declared.held.HeldRow.{HeldRow}
 use Rattle.djq_machine.specs.declared.machine.Stepped.{Stepped}
 use Rattle.djq_machine.specs.declared.machine.Stepped.TheVariants.{Ran, Dry, Ended}
 use Rattle.djq_store_spec.specs.Store.{Store, Position, open_at, stale}

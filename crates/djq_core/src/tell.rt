@@ -1,7 +1,7 @@
 //! A change that is told to all who watch, and answered last.
 ghost use Rattle.std.specs.Prelude.{◌≡◌, ◌+◌, ◌≤◌, ◌<◌, [], false, true, None, All, IsSomeAnd, nat_le, slice_get};
 ghost use Rattle.djq_model.specs.Listed.{listed_name};
-ghost use Rattle.djq_lines.specs.declared.limits.TheConstants.{LAST_LINE_BYTES, REPLY_BYTES};
+ghost use Rattle.djq_protocol.specs.declared.limits.TheConstants.{LAST_LINE_BYTES, REPLY_BYTES};
 ghost use Rattle.djq_engine.specs.Kept.{IsRegistered, Registered, registered_at};
 ghost use Rattle.djq_commands.specs.Changing.{is_accepted, reply_of};
 ghost use Rattle.djq_commands.specs.Performs.{Performs};
@@ -22,8 +22,8 @@ use djq_commands::Outcome;
 use djq_commands::{cut_off, end_by};
 use djq_commands::OpenSession;
 use bytes::BytesMut;
-use djq_lines::limits::{PENDING_BYTES, REPLY_BYTES};
-use djq_lines::{AddOutcome, DeleteOutcome, EndCause, EndLine};
+use djq_protocol::limits::{PENDING_BYTES, REPLY_BYTES};
+use djq_protocol::{AddOutcome, DeleteOutcome, EndCause, EndLine};
 use djq_model::Name;
 use djq_reply::{put_at, put_change};
 use djq_session::Session;

@@ -9,20 +9,20 @@ use Rattle.djq_model.specs.Data.{Bytes, Tuple, bytes_eq, change_first, counted_o
 use Rattle.djq_model.specs.Data.{copies_among, with_row, with_copies, without_copies}
 use Rattle.djq_model.specs.Listed.{Listed}
 use Rattle.djq_model.specs.Known.{texts_in, all_learned}
-use Rattle.djq_lines.specs.declared.limits.TheConstants.{TEXTS}
-use Rattle.djq_lines.specs.declared.answer.Refusal.{Refusal}
-use Rattle.djq_lines.specs.declared.answer.Refusal.TheVariants.{Limit, NoMemory}
-use Rattle.djq_lines.specs.declared.answer.AddOutcome.TheVariants.{First, More}
-use Rattle.djq_lines.specs.declared.answer.DeleteOutcome.TheVariants.{Last, Left, Absent}
+use Rattle.djq_protocol.specs.declared.limits.TheConstants.{TEXTS}
+use Rattle.djq_protocol.specs.declared.answer.Refusal.{Refusal}
+use Rattle.djq_protocol.specs.declared.answer.Refusal.TheVariants.{Limit, NoMemory}
+use Rattle.djq_protocol.specs.declared.answer.AddOutcome.TheVariants.{First, More}
+use Rattle.djq_protocol.specs.declared.answer.DeleteOutcome.TheVariants.{Last, Left, Absent}
 use Rattle.djq_store_spec.specs.Store.{Store}
-use Rattle.djq_lines.specs.Conditions.{Answers}
+use Rattle.djq_protocol.specs.Conditions.{Answers}
 use Rattle.djq_store_spec.specs.Rows.{AddsRow, AddsAs, add_refusal, DeletesRow, DeletesAs}
 use Rattle.djq_store_spec.specs.Rows.{delete_refusal, copies_of, with_copies_of}
 use Rattle.djq_store_spec.specs.Relations.{with_rows}
 use Rattle.djq_store_spec.specs.Relations.{LearnsFirst, RefusedByTexts}
-use Rattle.djq_rows.specs.Laws.{NamesTell}
-use Rattle.djq_rows.specs.Catalog.{Catalog, StandForRow, relation_at, counted_at, rows_at, with_rows_at}
-use Rattle.djq_live.specs.Live.{Live}
+use Rattle.djq_database.specs.Laws.{NamesTell}
+use Rattle.djq_database.specs.Catalog.{Catalog, StandForRow, relation_at, counted_at, rows_at, with_rows_at}
+use Rattle.djq_live_query.specs.Live.{Live}
 use Rattle.djq_engine.specs.declared.cursor.CursorId.{CursorId}
 use Rattle.djq_engine.specs.declared.parts.Parts.{Parts}
 use Rattle.djq_store_spec.specs.Stale.{by_relation}

@@ -13,10 +13,10 @@ use Rattle.djq_model.specs.Listed.{AnswersOf}
 use Rattle.djq_store_spec.specs.Changes.{RowsChange, accepted, out_of_memory, is_outdated}
 use Rattle.djq_store_spec.specs.Delta.{Change, IsDelta}
 use Rattle.djq_store_spec.specs.DeltaCost.{Delta, AreDeltas, ArePartsOf, delta_steps}
-use Rattle.djq_cursor.specs.Log.{Log}
-use Rattle.djq_rows.specs.Catalog.{Catalog}
-use Rattle.djq_live.specs.Live.{Live}
-use Rattle.djq_live.specs.Updating.{change_of}
+use Rattle.djq_enumeration.specs.Log.{Log}
+use Rattle.djq_database.specs.Catalog.{Catalog}
+use Rattle.djq_live_query.specs.Live.{Live}
+use Rattle.djq_live_query.specs.Updating.{change_of}
 use Rattle.djq_reach.specs.Places.{place_at, is_reader, watched_at, log_at}
 use Rattle.djq_engine.specs.declared.parts.Parts.{Parts}
 use Rattle.djq_engine.specs.Kept.{Kept, Registered, readers_of, affected_of, is_watched, told_at}

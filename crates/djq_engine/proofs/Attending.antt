@@ -4,9 +4,9 @@ use Rattle.std.proofs.Common.{ap, ◌∙◌, subst, length, get_or, set, arith, 
 use Rattle.std.specs.Prelude.{Option, None, Some, IsSomeAnd, is_some, option_map, cond, map, slice_get, All}
 use Rattle.std.proofs.lemmas.List.{get_or-set_same, get_or-set_other, get_or_default, length-map}
 use Rattle.djq_store_spec.specs.Delta.{Change}
-use Rattle.djq_cursor.specs.declared.log.Line.{Line}
-use Rattle.djq_live.specs.Live.{Live}
-use Rattle.djq_live.specs.Updating.{change_of}
+use Rattle.djq_enumeration.specs.declared.log.Line.{Line}
+use Rattle.djq_live_query.specs.Live.{Live}
+use Rattle.djq_live_query.specs.Updating.{change_of}
 use Rattle.djq_engine.specs.declared.cursor.QueryId.{QueryId}
 use Rattle.djq_engine.specs.declared.parts.Parts.{Parts}
 use Rattle.djq_engine.specs.Kept.{Kept, Registered, registered_at, IsRegistered, with_watchers, told_at}

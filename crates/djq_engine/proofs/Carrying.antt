@@ -9,10 +9,10 @@ use Rattle.djq_model.specs.Equality.{tuple_eq-decides}
 use Rattle.djq_model.specs.declared.relation.Relation.{Relation}
 use Rattle.djq_model.specs.declared.relation.CountedRow.{CountedRow}
 use Rattle.djq_store_spec.specs.Stale.{reads}
-use Rattle.djq_rows.specs.Catalog.{Catalog, no_relation, relation_at, counted_at, with_rows_at}
+use Rattle.djq_database.specs.Catalog.{Catalog, no_relation, relation_at, counted_at, with_rows_at}
 use Rattle.djq_leaves.specs.Changes.{Came, Went}
-use Rattle.djq_live.specs.Live.{Live, IsKept, IsLive}
-use Rattle.djq_live.specs.Staying.{StaysOver, CamePasses, WentPasses}
+use Rattle.djq_live_query.specs.Live.{Live, IsKept, IsLive}
+use Rattle.djq_live_query.specs.Staying.{StaysOver, CamePasses, WentPasses}
 use Rattle.djq_reach.specs.Places.{place_at, is_reader, readers_at, reads_place, AreOnce}
 use Rattle.djq_engine.specs.Places.{is_live}
 use Rattle.djq_engine.specs.Sound.{QueriesAreSound}

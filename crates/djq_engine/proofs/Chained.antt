@@ -9,11 +9,11 @@ use Rattle.djq_model.specs.declared.relation.ColumnType.{ColumnType}
 use Rattle.djq_model.specs.declared.relation.CountedRow.{CountedRow}
 use Rattle.djq_model.specs.Data.{Bytes, Tuple, plain_of, tuples_in}
 use Rattle.djq_model.specs.Typed.{fits}
-use Rattle.djq_lines.specs.declared.limits.TheConstants.{COPIES}
-use Rattle.djq_rows.specs.Cells.{HaveCells, StandFor}
-use Rattle.djq_rows.specs.Laws.{CellsStay}
-use Rattle.djq_rows.specs.Catalog.{Catalog, IsCatalog, IsKeptRelation, no_relation, relation_at, counted_at}
-use Rattle.djq_rows.specs.Catalog.{rows_at, with_rows_at}
+use Rattle.djq_protocol.specs.declared.limits.TheConstants.{COPIES}
+use Rattle.djq_database.specs.Cells.{HaveCells, StandFor}
+use Rattle.djq_database.specs.Laws.{CellsStay}
+use Rattle.djq_database.specs.Catalog.{Catalog, IsCatalog, IsKeptRelation, no_relation, relation_at, counted_at}
+use Rattle.djq_database.specs.Catalog.{rows_at, with_rows_at}
 use Rattle.djq_leaves.specs.Changes.{HasSameRows, StandForRows}
 use Rattle.djq_reach.specs.declared.group.Group.{Group}
 use Rattle.djq_reach.specs.Places.{is_reader, AreOnce}

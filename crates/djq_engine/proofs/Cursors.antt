@@ -7,18 +7,18 @@ use Rattle.std.proofs.lemmas.List.{set-get_or}
 use Rattle.djq_model.specs.declared.query.Query.{Query}
 use Rattle.djq_model.specs.Data.{Bytes}
 use Rattle.djq_model.specs.Listed.{Listed, a_query, listed_of}
-use Rattle.djq_lines.specs.declared.answer.Refusal.TheVariants.{NoQuery, NoMemory}
-use Rattle.djq_lines.specs.Conditions.{first_refusal}
+use Rattle.djq_protocol.specs.declared.answer.Refusal.TheVariants.{NoQuery, NoMemory}
+use Rattle.djq_protocol.specs.Conditions.{first_refusal}
 use Rattle.djq_store_spec.specs.Store.{Position, open_at, stale}
 use Rattle.djq_store_spec.specs.Registering.{answer_steps}
 use Rattle.djq_reduct.specs.Answers.{IsAnswerOf}
-use Rattle.djq_rows.specs.Catalog.{Catalog}
-use Rattle.djq_live.specs.Cursors.{Progress, slot_at}
-use Rattle.djq_slots.specs.declared.progress.Progress.TheVariants.{Open, Stale}
-use Rattle.djq_live.specs.declared.listing.Next.{Next}
-use Rattle.djq_live.specs.declared.listing.Next.TheVariants.{Given, End, Stale as StaleNext}
-use Rattle.djq_live.specs.Live.{Live, position_of, values_of}
-use Rattle.djq_live.specs.Reading as live
+use Rattle.djq_database.specs.Catalog.{Catalog}
+use Rattle.djq_live_query.specs.Cursors.{Progress, slot_at}
+use Rattle.djq_cursors.specs.declared.progress.Progress.TheVariants.{Open, Stale}
+use Rattle.djq_live_query.specs.declared.listing.Next.{Next}
+use Rattle.djq_live_query.specs.declared.listing.Next.TheVariants.{Given, End, Stale as StaleNext}
+use Rattle.djq_live_query.specs.Live.{Live, position_of, values_of}
+use Rattle.djq_live_query.specs.Reading as live
 use Rattle.djq_engine.specs.declared.cursor.CursorId.{CursorId}
 use Rattle.djq_engine.specs.Kept.{HeldCursor, Kept, held_at, MovesCursor, OpensCursor, CursorOpenGives}
 use Rattle.djq_engine.specs.Kept.{ClosesCursor, EngineNextGives, EngineNextGivesAt, read_steps, MoreGives}

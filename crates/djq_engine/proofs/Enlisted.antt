@@ -13,8 +13,8 @@ use Rattle.djq_model.specs.Listed.{Listed, a_query, listed_name}
 use Rattle.djq_model.specs.Equality.{bytes_eq-decides}
 use Rattle.djq_store_spec.specs.Stale.{listed_reads, by_relation}
 use Rattle.djq_store_spec.specs.Changes.{one_change}
-use Rattle.djq_rows.specs.Catalog.{Catalog, relation_at}
-use Rattle.djq_live.specs.Live.{Live}
+use Rattle.djq_database.specs.Catalog.{Catalog, relation_at}
+use Rattle.djq_live_query.specs.Live.{Live}
 use Rattle.djq_engine.specs.declared.cursor.QueryId.{QueryId}
 use Rattle.djq_engine.specs.Kept.{Registered, same_query, registered_at, registered_of}
 use Rattle.djq_engine.specs.Kept.{with_watchers, is_watched, readers_of, affected_of}

@@ -10,11 +10,11 @@ use Rattle.std.proofs.lemmas.List.Sums.{sum_by-cons}
 use Rattle.djq_model.specs.Data.{Bytes, bytes_eq, drop_first}
 use Rattle.djq_model.specs.Listed.{Listed, a_query, listed_name, listed_of}
 use Rattle.djq_model.specs.Equality.{bytes_eq-decides}
-use Rattle.djq_lines.specs.declared.limits.TheConstants.{QUERIES}
+use Rattle.djq_protocol.specs.declared.limits.TheConstants.{QUERIES}
 use Rattle.djq_store_spec.specs.Stale.{reads}
-use Rattle.djq_rows.specs.Catalog.{Catalog, relation_at}
-use Rattle.djq_live.specs.Cursors.{Progress, slot_at, are_vacant}
-use Rattle.djq_live.specs.Live.{Live, IsLive}
+use Rattle.djq_database.specs.Catalog.{Catalog, relation_at}
+use Rattle.djq_live_query.specs.Cursors.{Progress, slot_at, are_vacant}
+use Rattle.djq_live_query.specs.Live.{Live, IsLive}
 use Rattle.djq_engine.specs.Kept.{SameCursors}
 use Rattle.djq_reach.specs.Places.{place_at, is_reader, readers_at, reads_place, AreOnce}
 use Rattle.djq_engine.specs.Places.{is_live, query_in, queries_in, held_query_cursor, query_cursor_of}
@@ -23,7 +23,7 @@ use Rattle.djq_engine.specs.Sound.{QueriesAreSound}
 use Rattle.djq_engine.specs.Placing.{SamePlaces, SameLists, LeavesAll, JoinsReaders, JoinsSome, AllOnce}
 use Rattle.djq_engine.proofs.Holding.{held_is, slot_none}
 use Rattle.djq_reach.proofs.Among.{apart, reader_more, or_true}
-use Rattle.djq_deltas.proofs.Cases.{or_false}
+use Rattle.djq_answer_laws.proofs.Cases.{or_false}
 use Rattle.djq_engine.proofs.Listing.{reader_filter, once_filter, once_push, filter_members}
 use Rattle.djq_engine.proofs.Listing.{map_members, all_but, drop_listed, filter_twice, both_false}
 use Rattle.djq_engine.proofs.Naming.{query_there}

@@ -11,7 +11,7 @@ use Rattle.djq_model.specs.declared.relation.Relation.{Relation}
 use Rattle.djq_model.specs.Data.{Bytes, Tuple, relation_of}
 use Rattle.djq_model.specs.Answer.{IsAnswer}
 use Rattle.djq_model.specs.Listed.{a_query}
-use Rattle.djq_lines.specs.declared.held.HeldRow.{HeldRow}
+use Rattle.djq_protocol.specs.declared.held.HeldRow.{HeldRow}
 use Rattle.djq_store_spec.specs.Store.{Store}
 use Rattle.djq_store_spec.specs.Changes.{RowsChange, accepted, is_outdated}
 use Rattle.djq_store_spec.specs.Registering.{most_steps}
@@ -19,10 +19,10 @@ use Rattle.djq_store_spec.specs.Batch.{with_all, has_come, first_read, rows_held
 use Rattle.djq_store_spec.specs.Batch.{count_came}
 use Rattle.djq_store_spec.specs.Delta.{Change, IsDelta}
 use Rattle.djq_store_spec.specs.DeltaCost.{delta_steps}
-use Rattle.djq_rows.specs.Catalog.{Catalog, relation_at, rows_at}
+use Rattle.djq_database.specs.Catalog.{Catalog, relation_at, rows_at}
 use Rattle.djq_leaves.specs.Changes.{HasSameRows}
-use Rattle.djq_live.specs.Live.{Live, IsKept}
-use Rattle.djq_live.specs.Staying.{StaysOver, LiveStays}
+use Rattle.djq_live_query.specs.Live.{Live, IsKept}
+use Rattle.djq_live_query.specs.Staying.{StaysOver, LiveStays}
 use Rattle.djq_reach.specs.declared.group.Group.{Group}
 use Rattle.djq_reach.specs.Places.{place_at, reads_place, is_reader, watched_at}
 use Rattle.djq_reach.specs.Grouping.{GroupsLead, CostsBy, reached, group_relations, batch_cost, batch_cost_at}

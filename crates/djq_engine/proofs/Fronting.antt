@@ -9,12 +9,12 @@ use Rattle.djq_model.specs.declared.relation.Relation.{Relation}
 use Rattle.djq_model.specs.Data.{Bytes, bytes_eq, has_row}
 use Rattle.djq_model.specs.Equality.{bytes_eq-decides}
 use Rattle.djq_model.specs.Listed.{Listed, a_query}
-use Rattle.djq_lines.specs.declared.held.HeldRow.{HeldRow}
+use Rattle.djq_protocol.specs.declared.held.HeldRow.{HeldRow}
 use Rattle.djq_store_spec.specs.Store.{Store}
 use Rattle.djq_store_spec.specs.Stale.{listed_reads}
 use Rattle.djq_store_spec.specs.Batch.{is_there, with_held, with_all, has_come, first_read}
-use Rattle.djq_rows.specs.Catalog.{Catalog, rows_at}
-use Rattle.djq_live.specs.Live.{Live}
+use Rattle.djq_database.specs.Catalog.{Catalog, rows_at}
+use Rattle.djq_live_query.specs.Live.{Live}
 use Rattle.djq_reach.specs.declared.group.Group.{Group}
 use Rattle.djq_reach.specs.Places.{place_at}
 use Rattle.djq_engine.specs.Judging.{RowSuits}

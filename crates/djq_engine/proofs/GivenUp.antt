@@ -10,19 +10,19 @@ use Rattle.djq_model.specs.declared.relation.Relation.{Relation}
 use Rattle.djq_model.specs.Data.{Bytes, relation_of}
 use Rattle.djq_model.specs.Answer.{IsAnswer}
 use Rattle.djq_model.specs.Listed.{Listed}
-use Rattle.djq_lines.specs.declared.held.HeldRow.{HeldRow}
-use Rattle.djq_lines.specs.declared.answer.Refusal.TheVariants.{NoRelation}
+use Rattle.djq_protocol.specs.declared.held.HeldRow.{HeldRow}
+use Rattle.djq_protocol.specs.declared.answer.Refusal.TheVariants.{NoRelation}
 use Rattle.djq_store_spec.specs.Store.{Store}
 use Rattle.djq_store_spec.specs.Stale.{reads}
 use Rattle.djq_store_spec.specs.Changes.{RowsChange, out_of_memory, is_outdated}
 use Rattle.djq_store_spec.specs.Batch.{suit_refusal, SuitAll, first_read, rows_tried}
 use Rattle.djq_store_spec.specs.Delta.{Change, IsDelta}
 use Rattle.djq_store_spec.specs.DeltaCost.{delta_steps}
-use Rattle.djq_cursor.specs.Log.{Log}
-use Rattle.djq_rows.specs.Catalog.{Catalog, relation_at}
-use Rattle.djq_live.specs.Live.{Live, IsShowable, ShowableStays}
-use Rattle.djq_live.specs.Staying.{StaysOver}
-use Rattle.djq_live.specs.Updating.{IsEmpty}
+use Rattle.djq_enumeration.specs.Log.{Log}
+use Rattle.djq_database.specs.Catalog.{Catalog, relation_at}
+use Rattle.djq_live_query.specs.Live.{Live, IsShowable, ShowableStays}
+use Rattle.djq_live_query.specs.Staying.{StaysOver}
+use Rattle.djq_live_query.specs.Updating.{IsEmpty}
 use Rattle.djq_reach.specs.Places.{place_at, reads_place, is_reader, readers_at, log_at, AreOnce}
 use Rattle.djq_reach.specs.Reaching.{DoneAt, Reach, Renews}
 use Rattle.djq_reach.specs.Tending.{LogsCanBeShown}

@@ -10,18 +10,18 @@ use Rattle.djq_model.specs.Data.{Bytes, Tuple, bytes_eq, change_first, relation_
 use Rattle.djq_model.specs.Data.{counted_of, plain_of, has_row, copies_among, with_row, with_copies}
 use Rattle.djq_model.specs.Known.{texts_in, all_learned}
 use Rattle.djq_model.specs.Typed.{fits}
-use Rattle.djq_lines.specs.Columns.{types_of}
-use Rattle.djq_lines.specs.declared.limits.TheConstants.{TEXTS}
-use Rattle.djq_lines.specs.declared.answer.Refusal.{Refusal}
-use Rattle.djq_lines.specs.declared.answer.Refusal.TheVariants.{NoRelation, Arity, WrongType}
-use Rattle.djq_lines.specs.declared.held.HeldRow.{HeldRow}
+use Rattle.djq_protocol.specs.Columns.{types_of}
+use Rattle.djq_protocol.specs.declared.limits.TheConstants.{TEXTS}
+use Rattle.djq_protocol.specs.declared.answer.Refusal.{Refusal}
+use Rattle.djq_protocol.specs.declared.answer.Refusal.TheVariants.{NoRelation, Arity, WrongType}
+use Rattle.djq_protocol.specs.declared.held.HeldRow.{HeldRow}
 use Rattle.djq_store_spec.specs.Store.{Store}
-use Rattle.djq_lines.specs.Conditions.{first_refusal}
+use Rattle.djq_protocol.specs.Conditions.{first_refusal}
 use Rattle.djq_store_spec.specs.Relations.{with_rows}
 use Rattle.djq_store_spec.specs.Batch.{suit_refusal, is_there, with_held, with_all, count_came}
 use Rattle.djq_store_spec.specs.Batch.{has_come, place_refusal, HavePlaces}
-use Rattle.djq_rows.specs.Laws.{NamesTell}
-use Rattle.djq_rows.specs.Catalog.{counted_at, rows_at, with_rows_at}
+use Rattle.djq_database.specs.Laws.{NamesTell}
+use Rattle.djq_database.specs.Catalog.{counted_at, rows_at, with_rows_at}
 use Rattle.djq_engine.specs.Judging.{RowSuits}
 
 -- ---- one row

@@ -5,14 +5,14 @@ use Rattle.std.specs.Option.{option_or}
 use Rattle.std.proofs.lemmas.Bool.{eq-eqb, and_right, and_from}
 use Rattle.std.proofs.lemmas.List.Folds.{find-append}
 use Rattle.djq_model.specs.Data.{Bytes}
-use Rattle.djq_live.specs.Cursors.{Progress, slot_at}
-use Rattle.djq_live.specs.Live.{Live}
+use Rattle.djq_live_query.specs.Cursors.{Progress, slot_at}
+use Rattle.djq_live_query.specs.Live.{Live}
 use Rattle.djq_engine.specs.declared.cursor.CursorId.{CursorId}
 use Rattle.djq_engine.specs.Kept.{same_id, held_at}
 use Rattle.djq_reach.specs.Places.{place_at}
 use Rattle.djq_engine.specs.Places.{held_query_cursor, query_cursors_in, query_cursors_from, query_cursor_of}
 use Rattle.djq_reach.proofs.Among.{apart}
-use Rattle.djq_deltas.proofs.Cases.{or_none}
+use Rattle.djq_answer_laws.proofs.Cases.{or_none}
 
 -- the slots of one query
 

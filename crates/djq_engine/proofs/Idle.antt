@@ -5,13 +5,13 @@ use Rattle.std.specs.List.{list_any}
 use Rattle.std.proofs.lemmas.Bool.{eqb-true}
 use Rattle.std.proofs.lemmas.List.Sums.{sum_by-cons}
 use Rattle.djq_model.specs.Data.{Bytes}
-use Rattle.djq_live.specs.Cursors.{Progress, are_vacant, outdated_slots}
-use Rattle.djq_live.specs.Live.{Live}
+use Rattle.djq_live_query.specs.Cursors.{Progress, are_vacant, outdated_slots}
+use Rattle.djq_live_query.specs.Live.{Live}
 use Rattle.djq_reach.specs.Places.{place_at, is_reader}
 use Rattle.djq_reach.specs.Reaching.{DoneAt, Reach, Ages}
 use Rattle.djq_engine.specs.Cursors.{has_cursor}
 use Rattle.djq_engine.proofs.Enrolling.{all_empty}
-use Rattle.djq_deltas.proofs.Cases.{not_false}
+use Rattle.djq_answer_laws.proofs.Cases.{not_false}
 
 -- slots without a cursor are as they were
 none_outdated : (name : Bytes) (n : ℕ) (slots : List (Option Progress)) → count_by is_some slots ≡ 0

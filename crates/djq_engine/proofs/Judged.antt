@@ -9,14 +9,14 @@ use Rattle.djq_model.specs.Data.{Bytes, Tuple, relation_of, plain_of, counted_in
 use Rattle.djq_model.specs.Data.{rows_of, has_row, copies_among}
 use Rattle.djq_model.proofs.Counted.{no_copies}
 use Rattle.djq_model.specs.Typed.{fits}
-use Rattle.djq_lines.specs.declared.limits.TheConstants.{ROWS, COPIES, LAST_SEQ}
-use Rattle.djq_lines.specs.declared.answer.Refusal.{Refusal}
-use Rattle.djq_lines.specs.declared.answer.Refusal.TheVariants.{NoRelation, Arity, WrongType, Limit}
-use Rattle.djq_lines.specs.Columns.{types_of}
-use Rattle.djq_lines.specs.Conditions.{first_refusal}
+use Rattle.djq_protocol.specs.declared.limits.TheConstants.{ROWS, COPIES, LAST_SEQ}
+use Rattle.djq_protocol.specs.declared.answer.Refusal.{Refusal}
+use Rattle.djq_protocol.specs.declared.answer.Refusal.TheVariants.{NoRelation, Arity, WrongType, Limit}
+use Rattle.djq_protocol.specs.Columns.{types_of}
+use Rattle.djq_protocol.specs.Conditions.{first_refusal}
 use Rattle.djq_store_spec.specs.Rows.{row_refusals, add_refusal, delete_refusal}
 use Rattle.djq_store_spec.specs.Batch.{suit_refusal}
-use Rattle.djq_rows.specs.Catalog.{relation_at, counted_at, rows_at}
+use Rattle.djq_database.specs.Catalog.{relation_at, counted_at, rows_at}
 use Rattle.djq_engine.specs.Judging.{bare_store, RowSuits}
 use Rattle.djq_engine.proofs.Conditions.{front_refuses, front_passes}
 use Rattle.djq_reach.proofs.Among.{apart}

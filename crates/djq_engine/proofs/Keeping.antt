@@ -2,14 +2,14 @@
 use Rattle.std.proofs.Common.{ℕ, List, ◌≡◌, Bool, true, false, ap, ◌∙◌, length, length-set}
 use Rattle.std.specs.Prelude.{Option, None, Some, IsSomeAnd}
 use Rattle.djq_store_spec.specs.Store.{Position, open_at, stale}
-use Rattle.djq_cursor.specs.Log.{Log}
-use Rattle.djq_rows.specs.Catalog.{Catalog}
-use Rattle.djq_live.specs.Cursors.{Progress}
-use Rattle.djq_live.specs.declared.listing.Next.{Next}
-use Rattle.djq_live.specs.declared.listing.Next.TheVariants.{Given, End, Stale as StaleNext}
-use Rattle.djq_live.specs.Cursors.{slot_at}
-use Rattle.djq_live.specs.Live.{Live, position_of}
-use Rattle.djq_live.specs.Reading as live
+use Rattle.djq_enumeration.specs.Log.{Log}
+use Rattle.djq_database.specs.Catalog.{Catalog}
+use Rattle.djq_live_query.specs.Cursors.{Progress}
+use Rattle.djq_live_query.specs.declared.listing.Next.{Next}
+use Rattle.djq_live_query.specs.declared.listing.Next.TheVariants.{Given, End, Stale as StaleNext}
+use Rattle.djq_live_query.specs.Cursors.{slot_at}
+use Rattle.djq_live_query.specs.Live.{Live, position_of}
+use Rattle.djq_live_query.specs.Reading as live
 use Rattle.djq_engine.specs.Kept.{SameLiveTables}
 use Rattle.djq_engine.specs.Moving.{Moves, OpensAt, ClosesAt, ReadsAt, TellsMore}
 use Rattle.djq_reach.specs.Places.{place_at}

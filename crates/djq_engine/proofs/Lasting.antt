@@ -4,9 +4,9 @@ use Rattle.std.specs.Prelude.{Option, None, Some, All, map, slice_index_or}
 use Rattle.std.proofs.lemmas.Bool.{eq-eqb, false≢true}
 use Rattle.std.proofs.lemmas.List.{get_or-set_other, get_or-set_same}
 use Rattle.djq_model.specs.Data.{Bytes}
-use Rattle.djq_cursor.specs.Log.{Log}
-use Rattle.djq_rows.specs.Catalog.{Catalog}
-use Rattle.djq_live.specs.Live.{Live, IsShowable, ShowableStays}
+use Rattle.djq_enumeration.specs.Log.{Log}
+use Rattle.djq_database.specs.Catalog.{Catalog}
+use Rattle.djq_live_query.specs.Live.{Live, IsShowable, ShowableStays}
 use Rattle.djq_engine.specs.declared.cursor.QueryId.{QueryId}
 use Rattle.djq_engine.specs.Kept.{same_query, SameTellings}
 use Rattle.djq_reach.specs.Places.{place_at, no_log, log_at}

@@ -5,13 +5,13 @@ use Rattle.std.proofs.lemmas.List.Elements.{All-cons, All-head, All-nil, All-tai
 use Rattle.djq_model.specs.Data.{Bytes}
 use Rattle.djq_model.specs.Listed.{a_query, listed_name}
 use Rattle.djq_store_spec.specs.Delta.{Change}
-use Rattle.djq_cursor.specs.declared.log.Line.{Line}
-use Rattle.djq_cursor.specs.Log.{Log}
-use Rattle.djq_live.specs.Cursors.{Progress}
-use Rattle.djq_live.specs.Cursors.{slot_at}
-use Rattle.djq_live.specs.Live.{Live, IsShowable}
-use Rattle.djq_live.specs.Member.{in_head, ShowableCellsStand}
-use Rattle.djq_live.specs.Updating.{change_of}
+use Rattle.djq_enumeration.specs.declared.log.Line.{Line}
+use Rattle.djq_enumeration.specs.Log.{Log}
+use Rattle.djq_live_query.specs.Cursors.{Progress}
+use Rattle.djq_live_query.specs.Cursors.{slot_at}
+use Rattle.djq_live_query.specs.Live.{Live, IsShowable}
+use Rattle.djq_live_query.specs.Member.{in_head, ShowableCellsStand}
+use Rattle.djq_live_query.specs.Updating.{change_of}
 use Rattle.djq_reach.specs.Places.{place_at, log_at}
 use Rattle.djq_engine.specs.declared.cursor.CursorId.{CursorId}
 use Rattle.djq_engine.specs.declared.parts.Parts.{Parts}

@@ -7,7 +7,7 @@ use Rattle.djq_model.specs.Listed.{Listed, listed_name}
 use Rattle.djq_engine.specs.Finding.{IsFirstPassing}
 use Rattle.djq_reach.specs.Places.{is_reader, AreOnce}
 use Rattle.djq_reach.proofs.Among.{apart, reader_more, or_true}
-use Rattle.djq_deltas.proofs.Cases.{or_false}
+use Rattle.djq_answer_laws.proofs.Cases.{or_false}
 use Rattle.djq_engine.proofs.Firsts.{first_of_position, none_of_position}
 
 pub both_false : (b : Bool) → (b && false) ≡ false

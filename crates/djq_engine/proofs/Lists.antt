@@ -5,14 +5,14 @@ use Rattle.std.proofs.Common.{length-set}
 use Rattle.std.proofs.lemmas.Bool.{cases_lt, cases_order}
 use Rattle.std.proofs.lemmas.List.{get_or-set_same, get_or-set_other, get_or_default, get_or_past}
 use Rattle.std.specs.Prelude.{Option, None, Some}
-use Rattle.djq_cursor.specs.Log.{Log}
-use Rattle.djq_live.specs.Live.{Live}
+use Rattle.djq_enumeration.specs.Log.{Log}
+use Rattle.djq_live_query.specs.Live.{Live}
 use Rattle.djq_reach.specs.Places.{place_at, readers_at, no_log}
 use Rattle.djq_engine.specs.Places.{places_without}
 use Rattle.djq_model.specs.declared.relation.Relation.{Relation}
 use Rattle.djq_model.specs.declared.query.Query.{Query}
 use Rattle.djq_store_spec.specs.Stale.{reads}
-use Rattle.djq_rows.specs.Catalog.{relation_at}
+use Rattle.djq_database.specs.Catalog.{relation_at}
 use Rattle.djq_engine.specs.Placing.{LeavesAll, JoinsReaders, JoinsSome, SameLogs}
 
 -- a list, as the code reads it

@@ -12,19 +12,19 @@ use Rattle.djq_model.specs.declared.query.Atom.{Atom}
 use Rattle.djq_model.specs.Data.{Bytes, tuples_in, bytes_eq, relation_of}
 use Rattle.djq_query.specs.declared.numbered.Variable.{Variable}
 use Rattle.djq_query.specs.declared.numbered.NumberedAtom.{NumberedAtom}
-use Rattle.djq_rows.specs.declared.refusal.RowsRefusal.{RowsRefusal}
-use Rattle.djq_rows.specs.declared.refusal.RowsRefusal.TheVariants.{NameTaken, Full, NoMem}
-use Rattle.djq_rows.specs.Catalog.{Catalog, IsCatalog, no_relation, relation_at, rows_at}
-use Rattle.djq_rows.specs.Changes.{MakesRelationAt}
-use Rattle.djq_planned.specs.Asked.{AreAtomsOf}
+use Rattle.djq_database.specs.declared.refusal.RowsRefusal.{RowsRefusal}
+use Rattle.djq_database.specs.declared.refusal.RowsRefusal.TheVariants.{NameTaken, Full, NoMem}
+use Rattle.djq_database.specs.Catalog.{Catalog, IsCatalog, no_relation, relation_at, rows_at}
+use Rattle.djq_database.specs.Changes.{MakesRelationAt}
+use Rattle.djq_binder.specs.Asked.{AreAtomsOf}
 use Rattle.djq_leaves.specs.Changes.{HasSameRows}
-use Rattle.djq_live.specs.Live.{Live}
-use Rattle.djq_live.specs.Staying.{LiveStays}
+use Rattle.djq_live_query.specs.Live.{Live}
+use Rattle.djq_live_query.specs.Staying.{LiveStays}
 use Rattle.djq_reach.specs.Places.{place_at, is_reader, readers_at, reads_place}
 use Rattle.djq_engine.specs.Sound.{QueriesAreSound}
 use Rattle.djq_engine.proofs.Listing.{filter_members}
 use Rattle.djq_engine.proofs.Naming.{none_passes, order_there}
-use Rattle.djq_live.proofs.Moving.{same_catalog}
+use Rattle.djq_live_query.proofs.Moving.{same_catalog}
 
 -- no atom is over a relation that isn't there
 unread : (c : Catalog) (vs : List Variable) (atoms : List Atom) (ms : List NumberedAtom) (name : Bytes)

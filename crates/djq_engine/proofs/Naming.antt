@@ -5,8 +5,8 @@ use Rattle.std.specs.Prelude.{Option, None, Some, is_some, find, position, cond}
 use Rattle.djq_model.specs.Data.{Bytes, bytes_eq}
 use Rattle.djq_model.specs.Listed.{a_query, listed_name, listed_of}
 use Rattle.djq_model.specs.Equality.{bytes_eq-decides}
-use Rattle.djq_rows.specs.Catalog.{Catalog}
-use Rattle.djq_live.specs.Live.{Live}
+use Rattle.djq_database.specs.Catalog.{Catalog}
+use Rattle.djq_live_query.specs.Live.{Live}
 use Rattle.djq_reach.specs.Places.{place_at, is_reader}
 use Rattle.djq_engine.specs.Places.{is_live, is_query, query_in, queries_in}
 use Rattle.djq_engine.specs.Sound.{QueriesAreSound}

@@ -9,16 +9,16 @@ use Rattle.djq_model.specs.declared.relation.Relation.{Relation}
 use Rattle.djq_model.specs.declared.query.Query.{Query}
 use Rattle.djq_model.specs.Data.{Bytes}
 use Rattle.djq_model.specs.Listed.{Listed, a_query}
-use Rattle.djq_lines.specs.declared.held.HeldRow.{HeldRow}
+use Rattle.djq_protocol.specs.declared.held.HeldRow.{HeldRow}
 use Rattle.djq_store_spec.specs.Stale.{reads, listed_reads, by_relation}
 use Rattle.djq_store_spec.specs.Batch.{first_read}
-use Rattle.djq_cursor.specs.Log.{Log}
-use Rattle.djq_rows.specs.Catalog.{relation_at}
-use Rattle.djq_live.specs.Cursors.{Progress}
-use Rattle.djq_slots.specs.declared.progress.Progress.TheVariants.{Open, Stale}
-use Rattle.djq_live.specs.Cursors.{outdated_slots}
-use Rattle.djq_live.specs.Live.{Live}
-use Rattle.djq_live.specs.Updating.{IsEmpty}
+use Rattle.djq_enumeration.specs.Log.{Log}
+use Rattle.djq_database.specs.Catalog.{relation_at}
+use Rattle.djq_live_query.specs.Cursors.{Progress}
+use Rattle.djq_cursors.specs.declared.progress.Progress.TheVariants.{Open, Stale}
+use Rattle.djq_live_query.specs.Cursors.{outdated_slots}
+use Rattle.djq_live_query.specs.Live.{Live}
+use Rattle.djq_live_query.specs.Updating.{IsEmpty}
 use Rattle.djq_reach.specs.Places.{place_at, reads_place, is_reader, readers_at, log_at}
 use Rattle.djq_reach.specs.Reaching.{DoneAt, Reach, Ages}
 use Rattle.djq_reach.specs.declared.group.Group.{Group}

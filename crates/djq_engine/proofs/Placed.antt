@@ -9,8 +9,8 @@ use Rattle.djq_model.specs.Listed.{Listed, a_query}
 use Rattle.djq_store_spec.specs.Changes.{is_outdated, one_change}
 use Rattle.djq_store_spec.specs.Stale.{reads}
 use Rattle.djq_reduct.specs.Reducts.{Reducts}
-use Rattle.djq_rows.specs.Catalog.{relation_at}
-use Rattle.djq_live.specs.Live.{Live}
+use Rattle.djq_database.specs.Catalog.{relation_at}
+use Rattle.djq_live_query.specs.Live.{Live}
 use Rattle.djq_reach.specs.Places.{place_at, is_reader, readers_at}
 use Rattle.djq_reach.specs.Reaching.{DoneAt, Reach, Renews, Ages, Carries}
 use Rattle.djq_reach.proofs.Reaching.{everywhere, place_below}

@@ -13,18 +13,18 @@ use Rattle.djq_model.specs.Data.{Bytes, Tuple, bytes_eq, plain_of, has_row, copi
 use Rattle.djq_model.specs.Equality.{bytes_eq-decides}
 use Rattle.djq_model.specs.Known.{texts_in, all_learned}
 use Rattle.djq_model.proofs.Counted.{tuples_with_row, tuples_with_copies}
-use Rattle.djq_lines.specs.declared.answer.Refusal.{Refusal}
-use Rattle.djq_lines.specs.declared.answer.Refusal.TheVariants.{Limit, NoMemory}
-use Rattle.djq_lines.specs.declared.held.HeldRow.{HeldRow}
+use Rattle.djq_protocol.specs.declared.answer.Refusal.{Refusal}
+use Rattle.djq_protocol.specs.declared.answer.Refusal.TheVariants.{Limit, NoMemory}
+use Rattle.djq_protocol.specs.declared.held.HeldRow.{HeldRow}
 use Rattle.djq_store_spec.specs.Store.{Store}
 use Rattle.djq_store_spec.specs.Relations.{LearnsFirst, FindsNoPlace}
 use Rattle.djq_store_spec.specs.Batch.{suit_refusal, SuitAll, is_there, with_held, with_all, has_come}
 use Rattle.djq_store_spec.specs.Batch.{place_refusal, HavePlaces, BatchStopsAt}
 use Rattle.djq_model.specs.Typed.{fits}
-use Rattle.djq_rows.specs.Cells.{StandFor}
-use Rattle.djq_rows.specs.Laws.{NamesTell, TextsStay, CellsStay}
-use Rattle.djq_rows.specs.Catalog.{Catalog, IsCatalog, StandForRow, no_relation, relation_at}
-use Rattle.djq_rows.specs.Catalog.{counted_at, rows_at, with_rows_at}
+use Rattle.djq_database.specs.Cells.{StandFor}
+use Rattle.djq_database.specs.Laws.{NamesTell, TextsStay, CellsStay}
+use Rattle.djq_database.specs.Catalog.{Catalog, IsCatalog, StandForRow, no_relation, relation_at}
+use Rattle.djq_database.specs.Catalog.{counted_at, rows_at, with_rows_at}
 use Rattle.djq_leaves.specs.Changes.{StandForRows}
 use Rattle.djq_reach.specs.declared.group.Group.{Group}
 use Rattle.djq_reach.specs.Places.{is_reader}

@@ -11,23 +11,23 @@ use Rattle.djq_model.specs.Data.{Bytes, Tuple, bytes_eq, relation_of, counted_in
 use Rattle.djq_model.specs.Answer.{IsAnswer, Satisfies}
 use Rattle.djq_model.specs.Listed.{Listed, a_query}
 use Rattle.djq_model.specs.Equality.{bytes_eq-decides}
-use Rattle.djq_lines.specs.declared.held.HeldRow.{HeldRow}
-use Rattle.djq_lines.specs.declared.answer.Sign.{Sign}
-use Rattle.djq_lines.specs.declared.answer.Sign.TheVariants.{Came, Went}
+use Rattle.djq_protocol.specs.declared.held.HeldRow.{HeldRow}
+use Rattle.djq_protocol.specs.declared.answer.Sign.{Sign}
+use Rattle.djq_protocol.specs.declared.answer.Sign.TheVariants.{Came, Went}
 use Rattle.djq_store_spec.specs.Store.{Store}
 use Rattle.djq_store_spec.specs.Stale.{reads, listed_reads}
 use Rattle.djq_store_spec.specs.Batch.{is_there, with_held, has_come, first_read}
 use Rattle.djq_store_spec.specs.Delta.{Change, IsDelta, HasChanged}
 use Rattle.djq_query.specs.declared.numbered.NumberedAtom.{NumberedAtom}
 use Rattle.djq_query.specs.declared.numbered.Variable.{Variable}
-use Rattle.djq_rows.specs.Catalog.{Catalog, relation_at, rows_at}
-use Rattle.djq_planned.specs.Asked.{AreAtomsOf}
-use Rattle.djq_live.specs.Live.{Live}
+use Rattle.djq_database.specs.Catalog.{Catalog, relation_at, rows_at}
+use Rattle.djq_binder.specs.Asked.{AreAtomsOf}
+use Rattle.djq_live_query.specs.Live.{Live}
 use Rattle.djq_reach.specs.declared.group.Group.{Group}
 use Rattle.djq_reach.specs.Places.{place_at, reads_place, is_reader, readers_at}
 use Rattle.djq_reach.specs.Grouping.{group_relations, reached}
 use Rattle.djq_engine.specs.Outdating.{AreReaders}
-use Rattle.djq_deltas.proofs.Cases.{same_tests}
+use Rattle.djq_answer_laws.proofs.Cases.{same_tests}
 use Rattle.djq_reach.proofs.Clearing.{reader_both, reached_end}
 
 -- ---- readers of groups

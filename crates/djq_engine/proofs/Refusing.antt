@@ -12,28 +12,28 @@ use Rattle.djq_model.specs.declared.query.Query.{Query}
 use Rattle.djq_model.specs.Data.{Bytes, Tuple, bytes_eq, drop_first}
 use Rattle.djq_model.specs.Listed.{Listed, a_query, listed_name, listed_of, members_of}
 use Rattle.djq_model.specs.Known.{texts_in, all_learned}
-use Rattle.djq_hyper.specs.JoinTree.{IsFreeConnex}
-use Rattle.djq_dict.specs.declared.refusal.InternRefusal.{InternRefusal}
-use Rattle.djq_dict.specs.declared.refusal.InternRefusal.TheVariants.{Full as TextsFull, NoMem as NoMemForTexts}
-use Rattle.djq_lines.specs.declared.limits.TheConstants.{QUERIES, TEXTS}
-use Rattle.djq_lines.specs.declared.answer.Refusal.{Refusal}
-use Rattle.djq_lines.specs.declared.answer.Refusal.TheVariants.{Taken, Limit, NoMemory, NoQuery, InUse}
-use Rattle.djq_lines.specs.declared.rest.QueryOutcome.TheVariants.{Registered}
-use Rattle.djq_lines.specs.Hypergraph.{edges_of, head_of}
-use Rattle.djq_lines.specs.QueryFault.{query_fault, query_faults}
-use Rattle.djq_lines.specs.Variables.{constants_of}
+use Rattle.djq_hypergraph.specs.JoinTree.{IsFreeConnex}
+use Rattle.djq_dictionary.specs.declared.refusal.InternRefusal.{InternRefusal}
+use Rattle.djq_dictionary.specs.declared.refusal.InternRefusal.TheVariants.{Full as TextsFull, NoMem as NoMemForTexts}
+use Rattle.djq_protocol.specs.declared.limits.TheConstants.{QUERIES, TEXTS}
+use Rattle.djq_protocol.specs.declared.answer.Refusal.{Refusal}
+use Rattle.djq_protocol.specs.declared.answer.Refusal.TheVariants.{Taken, Limit, NoMemory, NoQuery, InUse}
+use Rattle.djq_protocol.specs.declared.rest.QueryOutcome.TheVariants.{Registered}
+use Rattle.djq_protocol.specs.Hypergraph.{edges_of, head_of}
+use Rattle.djq_protocol.specs.QueryFault.{query_fault, query_faults}
+use Rattle.djq_protocol.specs.Variables.{constants_of}
 use Rattle.djq_store_spec.specs.Store.{Store}
-use Rattle.djq_lines.specs.Conditions.{first_refusal, Answers}
+use Rattle.djq_protocol.specs.Conditions.{first_refusal, Answers}
 use Rattle.djq_store_spec.specs.Registering.{query_refusal, RegistersQuery, RegistersAs, RefusedLate}
 use Rattle.djq_store_spec.specs.Registering.{most_steps, drop_refusal, is_member}
 use Rattle.djq_store_spec.specs.Relations.{LearnsAll, LearnsFirst, FindsNoPlace}
-use Rattle.djq_rows.specs.Catalog.{Catalog, IsCatalog}
-use Rattle.djq_rows.specs.Laws.{TextsStay}
-use Rattle.djq_live.specs.Cursors.{Progress, slot_at, are_vacant}
-use Rattle.djq_planned.specs.Planning.{InternsConstants}
-use Rattle.djq_cursor.specs.Log.{Log}
-use Rattle.djq_live.specs.Live.{Live, IsLive, ShowableStays}
-use Rattle.djq_live.specs.Staying.{StaysOver, LiveStays}
+use Rattle.djq_database.specs.Catalog.{Catalog, IsCatalog}
+use Rattle.djq_database.specs.Laws.{TextsStay}
+use Rattle.djq_live_query.specs.Cursors.{Progress, slot_at, are_vacant}
+use Rattle.djq_binder.specs.Planning.{InternsConstants}
+use Rattle.djq_enumeration.specs.Log.{Log}
+use Rattle.djq_live_query.specs.Live.{Live, IsLive, ShowableStays}
+use Rattle.djq_live_query.specs.Staying.{StaysOver, LiveStays}
 use Rattle.djq_engine.specs.declared.cursor.CursorId.{CursorId}
 use Rattle.djq_engine.specs.declared.parts.Parts.{Parts}
 use Rattle.djq_engine.specs.Kept.{HeldCursor, Registered as Enlisted, registered_of, same_query}
@@ -58,7 +58,7 @@ use Rattle.djq_engine.proofs.Lasting.{told_then, told_gone, told_left, other_pla
 use Rattle.djq_engine.proofs.Naming.{Named, query_found, query_named, no_query_of, unnamed}
 use Rattle.djq_engine.proofs.Storing.{learned_rows, all_stay}
 use Rattle.djq_model.specs.Equality.{bytes_eq-decides}
-use Rattle.djq_deltas.proofs.Cases.{nothing_of}
+use Rattle.djq_answer_laws.proofs.Cases.{nothing_of}
 use Rattle.djq_engine.proofs.Cursors.{same_live}
 
 -- ---- the conditions of `query`

@@ -8,12 +8,12 @@ use Rattle.djq_model.specs.Data.{Bytes}
 use Rattle.djq_model.specs.Listed.{Listed, a_query}
 use Rattle.djq_store_spec.specs.Store.{Position, stale}
 use Rattle.djq_store_spec.specs.Stale.{reads, outdated, outdater_of}
-use Rattle.djq_rows.specs.Catalog.{Catalog, relation_at}
-use Rattle.djq_live.specs.Cursors.{Progress}
-use Rattle.djq_slots.specs.declared.progress.Progress.TheVariants.{Open, Stale}
-use Rattle.djq_live.specs.Cursors.{slot_at, outdated_progress, outdated_slots}
-use Rattle.djq_live.specs.Live.{Live, IsLive, position_of}
-use Rattle.djq_live.specs.Staying.{StaysOver}
+use Rattle.djq_database.specs.Catalog.{Catalog, relation_at}
+use Rattle.djq_live_query.specs.Cursors.{Progress}
+use Rattle.djq_cursors.specs.declared.progress.Progress.TheVariants.{Open, Stale}
+use Rattle.djq_live_query.specs.Cursors.{slot_at, outdated_progress, outdated_slots}
+use Rattle.djq_live_query.specs.Live.{Live, IsLive, position_of}
+use Rattle.djq_live_query.specs.Staying.{StaysOver}
 use Rattle.djq_engine.specs.declared.cursor.CursorId.{CursorId}
 use Rattle.djq_engine.specs.Kept.{HeldCursor, held_at, same_id, outdated_held}
 use Rattle.djq_reach.specs.Places.{place_at, is_reader, reads_place}

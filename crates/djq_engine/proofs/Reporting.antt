@@ -13,12 +13,12 @@ use Rattle.djq_model.specs.declared.relation.CountedRow.{CountedRow}
 use Rattle.djq_model.specs.Data.{Bytes, Tuple, bytes_eq, change_first, relation_of, has_row}
 use Rattle.djq_model.specs.Data.{copies_among, counted_of, rows_of, with_row, without_copies}
 use Rattle.djq_model.specs.Typed.{fits}
-use Rattle.djq_lines.specs.Columns.{types_of}
-use Rattle.djq_lines.specs.declared.limits.TheConstants.{ROWS, COPIES, LAST_SEQ}
-use Rattle.djq_lines.specs.declared.answer.Refusal.{Refusal}
-use Rattle.djq_lines.specs.declared.answer.Refusal.TheVariants.{NoRelation, Arity, WrongType, Limit}
-use Rattle.djq_lines.specs.declared.answer.AddOutcome.{AddOutcome}
-use Rattle.djq_lines.specs.declared.answer.DeleteOutcome.{DeleteOutcome}
+use Rattle.djq_protocol.specs.Columns.{types_of}
+use Rattle.djq_protocol.specs.declared.limits.TheConstants.{ROWS, COPIES, LAST_SEQ}
+use Rattle.djq_protocol.specs.declared.answer.Refusal.{Refusal}
+use Rattle.djq_protocol.specs.declared.answer.Refusal.TheVariants.{NoRelation, Arity, WrongType, Limit}
+use Rattle.djq_protocol.specs.declared.answer.AddOutcome.{AddOutcome}
+use Rattle.djq_protocol.specs.declared.answer.DeleteOutcome.{DeleteOutcome}
 use Rattle.djq_store_spec.specs.Changes.{RowsChange, RowsOutcome, accepted, out_of_memory, unchanged}
 use Rattle.djq_store_spec.specs.Changes.{one_change, new_rows, row_in, row_out, add_outcome, delete_outcome}
 use Rattle.djq_store_spec.specs.Changes.{is_outdated}
@@ -33,15 +33,15 @@ use Rattle.djq_store_spec.specs.Rows.{add_refusal}
 use Rattle.djq_store_spec.specs.DeltaCost.{delta_steps}
 use Rattle.djq_query.specs.declared.numbered.NumberedAtom.{NumberedAtom}
 use Rattle.djq_query.specs.declared.numbered.Variable.{Variable}
-use Rattle.djq_cursor.specs.Log.{Log}
-use Rattle.djq_rows.specs.Laws.{NamesTell, TextsStay}
+use Rattle.djq_enumeration.specs.Log.{Log}
+use Rattle.djq_database.specs.Laws.{NamesTell, TextsStay}
 use Rattle.djq_model.specs.Known.{texts_in, all_learned}
-use Rattle.djq_rows.specs.Catalog.{Catalog, relation_at, counted_at, with_rows_at}
-use Rattle.djq_deltas.specs.Finite.{DeltasExist}
-use Rattle.djq_planned.specs.Asked.{AreAtomsOf}
-use Rattle.djq_live.specs.Body.{HeadsAreBound}
-use Rattle.djq_live.specs.Live.{Live, IsKept, ShowableStays}
-use Rattle.djq_live.specs.Updating.{atoms_over, delta_bound, change_of}
+use Rattle.djq_database.specs.Catalog.{Catalog, relation_at, counted_at, with_rows_at}
+use Rattle.djq_answer_laws.specs.Finite.{DeltasExist}
+use Rattle.djq_binder.specs.Asked.{AreAtomsOf}
+use Rattle.djq_live_query.specs.Body.{HeadsAreBound}
+use Rattle.djq_live_query.specs.Live.{Live, IsKept, ShowableStays}
+use Rattle.djq_live_query.specs.Updating.{atoms_over, delta_bound, change_of}
 use Rattle.djq_engine.specs.declared.cursor.QueryId.{QueryId}
 use Rattle.djq_engine.specs.Kept.{Kept, registered_at, told_at}
 use Rattle.djq_reach.specs.Places.{place_at, is_reader, readers_at, reads_place, watched_at, log_at}

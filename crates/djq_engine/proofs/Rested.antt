@@ -8,19 +8,19 @@ use Rattle.djq_model.specs.declared.relation.Relation.{Relation}
 use Rattle.djq_model.specs.Data.{Bytes, bytes_eq}
 use Rattle.djq_model.specs.Known.{texts_in}
 use Rattle.djq_model.specs.Listed.{Listed, a_query}
-use Rattle.djq_lines.specs.declared.answer.Refusal.{Refusal}
-use Rattle.djq_lines.specs.declared.answer.Refusal.TheVariants.{NoMemory}
-use Rattle.djq_lines.specs.declared.held.HeldRow.{HeldRow}
+use Rattle.djq_protocol.specs.declared.answer.Refusal.{Refusal}
+use Rattle.djq_protocol.specs.declared.answer.Refusal.TheVariants.{NoMemory}
+use Rattle.djq_protocol.specs.declared.held.HeldRow.{HeldRow}
 use Rattle.djq_store_spec.specs.Store.{Store}
 use Rattle.djq_store_spec.specs.Stale.{listed_reads}
 use Rattle.djq_store_spec.specs.Changes.{unchanged}
 use Rattle.djq_store_spec.specs.Relations.{LearnsFirst}
 use Rattle.djq_store_spec.specs.Batch.{AddsBatch, RefusesBatch, HavePlaces, BatchStopsAt, is_there}
 use Rattle.djq_store_spec.specs.Batch.{with_held, with_all, has_come, count_came, first_read, store_behind}
-use Rattle.djq_rows.specs.Catalog.{Catalog, IsCatalog, relation_at, rows_at}
+use Rattle.djq_database.specs.Catalog.{Catalog, IsCatalog, relation_at, rows_at}
 use Rattle.djq_leaves.specs.Changes.{HasSameRows}
-use Rattle.djq_live.specs.Live.{Live, ShowableStays}
-use Rattle.djq_live.specs.Staying.{LiveStays}
+use Rattle.djq_live_query.specs.Live.{Live, ShowableStays}
+use Rattle.djq_live_query.specs.Staying.{LiveStays}
 use Rattle.djq_reach.specs.declared.group.Group.{Group}
 use Rattle.djq_reach.specs.Places.{place_at, is_reader}
 use Rattle.djq_reach.specs.Reaching.{Reach, Renews}

@@ -8,9 +8,9 @@ use Rattle.std.proofs.lemmas.List.Elements.{All-nil, All-append}
 use Rattle.djq_model.specs.declared.relation.Relation.{Relation}
 use Rattle.djq_model.specs.Data.{Bytes, relation_of, rows_of}
 use Rattle.djq_model.specs.Answer.{IsAnswer}
-use Rattle.djq_lines.specs.declared.limits.TheConstants.{COPIES, ROWS, LAST_SEQ}
-use Rattle.djq_lines.specs.declared.answer.Refusal.TheVariants.{Limit, NoMemory}
-use Rattle.djq_lines.specs.declared.held.HeldRow.{HeldRow}
+use Rattle.djq_protocol.specs.declared.limits.TheConstants.{COPIES, ROWS, LAST_SEQ}
+use Rattle.djq_protocol.specs.declared.answer.Refusal.TheVariants.{Limit, NoMemory}
+use Rattle.djq_protocol.specs.declared.held.HeldRow.{HeldRow}
 use Rattle.djq_store_spec.specs.Store.{Store}
 use Rattle.djq_store_spec.specs.Changes.{out_of_memory}
 use Rattle.djq_store_spec.specs.Rows.{copies_of}
@@ -18,10 +18,10 @@ use Rattle.djq_store_spec.specs.Batch.{SuitAll, RefusesBatch, HavePlaces, is_the
 use Rattle.djq_store_spec.specs.Batch.{with_all, has_come, count_came, first_read, rows_tried}
 use Rattle.djq_store_spec.specs.Delta.{Change, IsDelta}
 use Rattle.djq_store_spec.specs.DeltaCost.{delta_steps}
-use Rattle.djq_rows.specs.Laws.{CellsStay}
-use Rattle.djq_rows.specs.Catalog.{Catalog, IsCatalog, relation_at, rows_at}
-use Rattle.djq_live.specs.Live.{Live, IsKept, ShowableStays}
-use Rattle.djq_live.specs.Staying.{StaysOver, LiveStays}
+use Rattle.djq_database.specs.Laws.{CellsStay}
+use Rattle.djq_database.specs.Catalog.{Catalog, IsCatalog, relation_at, rows_at}
+use Rattle.djq_live_query.specs.Live.{Live, IsKept, ShowableStays}
+use Rattle.djq_live_query.specs.Staying.{StaysOver, LiveStays}
 use Rattle.djq_reach.specs.declared.group.Group.{Group}
 use Rattle.djq_reach.specs.Places.{place_at, reads_place, is_reader, readers_at, watched_at}
 use Rattle.djq_reach.specs.Reaching.{DoneAt, Reach, Renews}

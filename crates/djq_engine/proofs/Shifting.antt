@@ -9,10 +9,10 @@ use Rattle.djq_model.specs.Data.{Bytes}
 use Rattle.djq_model.specs.Listed.{Listed, a_query}
 use Rattle.djq_store_spec.specs.Store.{Store}
 use Rattle.djq_store_spec.specs.Stale.{reads}
-use Rattle.djq_rows.specs.Catalog.{Catalog, relation_at}
-use Rattle.djq_live.specs.Cursors.{Progress}
-use Rattle.djq_live.specs.Cursors.{slot_at, SetsSlot}
-use Rattle.djq_live.specs.Live.{Live, IsLive}
+use Rattle.djq_database.specs.Catalog.{Catalog, relation_at}
+use Rattle.djq_live_query.specs.Cursors.{Progress}
+use Rattle.djq_live_query.specs.Cursors.{slot_at, SetsSlot}
+use Rattle.djq_live_query.specs.Live.{Live, IsLive}
 use Rattle.djq_engine.specs.declared.cursor.CursorId.{CursorId}
 use Rattle.djq_engine.specs.Kept.{Registered, held_at, OtherCursorsStay}
 use Rattle.djq_reach.specs.Places.{place_at, reads_place, watchers_at}

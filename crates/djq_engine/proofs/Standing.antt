@@ -5,17 +5,17 @@ use Rattle.std.specs.Prelude.{Ok, Err}
 use Rattle.djq_model.specs.declared.relation.Relation.{Relation}
 use Rattle.djq_model.specs.Data.{Bytes, Tuple, has_row, copies_among, with_row, with_copies}
 use Rattle.djq_model.specs.Known.{texts_in}
-use Rattle.djq_lines.specs.declared.answer.AddOutcome.TheVariants.{First, More}
-use Rattle.djq_lines.specs.declared.answer.Refusal.TheVariants.{Limit, NoMemory}
-use Rattle.djq_lines.specs.declared.held.HeldRow.{HeldRow}
-use Rattle.djq_lines.specs.declared.limits.TheConstants.{ROWS, COPIES, TEXTS}
-use Rattle.djq_dict.specs.declared.refusal.InternRefusal.TheVariants.{Full as TextsFull, NoMem as NoMemForTexts}
+use Rattle.djq_protocol.specs.declared.answer.AddOutcome.TheVariants.{First, More}
+use Rattle.djq_protocol.specs.declared.answer.Refusal.TheVariants.{Limit, NoMemory}
+use Rattle.djq_protocol.specs.declared.held.HeldRow.{HeldRow}
+use Rattle.djq_protocol.specs.declared.limits.TheConstants.{ROWS, COPIES, TEXTS}
+use Rattle.djq_dictionary.specs.declared.refusal.InternRefusal.TheVariants.{Full as TextsFull, NoMem as NoMemForTexts}
 use Rattle.djq_store_spec.specs.Batch.{is_there, BatchStopsAt}
-use Rattle.djq_rows.specs.declared.refusal.RowsRefusal.TheVariants.{Full, NoMem}
-use Rattle.djq_rows.specs.declared.relation_id.RelationId.{RelationId}
-use Rattle.djq_rows.specs.Cells.{HaveCells, cells_of}
-use Rattle.djq_rows.specs.Catalog.{Catalog, IsCatalog, counted_at, rows_at, with_rows_at}
-use Rattle.djq_rows.specs.Changes.{AddsRowAt, InternsRow}
+use Rattle.djq_database.specs.declared.refusal.RowsRefusal.TheVariants.{Full, NoMem}
+use Rattle.djq_database.specs.declared.relation_id.RelationId.{RelationId}
+use Rattle.djq_database.specs.Cells.{HaveCells, cells_of}
+use Rattle.djq_database.specs.Catalog.{Catalog, IsCatalog, counted_at, rows_at, with_rows_at}
+use Rattle.djq_database.specs.Changes.{AddsRowAt, InternsRow}
 use Rattle.djq_engine.specs.Judging.{MayCome, MayStand}
 use Rattle.djq_engine.specs.Putting.{bare_of, PutsNew, PutsMore}
 use Rattle.djq_engine.proofs.Judged.{rows_found, place_passes, place_more, place_most}

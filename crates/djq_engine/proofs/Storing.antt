@@ -11,24 +11,24 @@ use Rattle.djq_model.specs.declared.value.Value.TheVariants.{Int, Text}
 use Rattle.djq_model.specs.Data.{Bytes, Tuple, plain_of, has_row, copies_among, with_row, with_copies, without_copies}
 use Rattle.djq_model.specs.Known.{knows, texts_in, learned, all_learned}
 use Rattle.djq_model.proofs.Counted.{tuples_with_row, came_copies}
-use Rattle.djq_lines.specs.declared.answer.AddOutcome.{AddOutcome}
-use Rattle.djq_lines.specs.declared.answer.AddOutcome.TheVariants.{First, More}
-use Rattle.djq_lines.specs.declared.answer.DeleteOutcome.{DeleteOutcome}
-use Rattle.djq_lines.specs.declared.answer.DeleteOutcome.TheVariants.{Last, Left, Absent}
-use Rattle.djq_dict.specs.declared.refusal.InternRefusal.{InternRefusal}
-use Rattle.djq_dict.specs.declared.refusal.InternRefusal.TheVariants.{Full as TextsFull, NoMem as NoMemForTexts}
+use Rattle.djq_protocol.specs.declared.answer.AddOutcome.{AddOutcome}
+use Rattle.djq_protocol.specs.declared.answer.AddOutcome.TheVariants.{First, More}
+use Rattle.djq_protocol.specs.declared.answer.DeleteOutcome.{DeleteOutcome}
+use Rattle.djq_protocol.specs.declared.answer.DeleteOutcome.TheVariants.{Last, Left, Absent}
+use Rattle.djq_dictionary.specs.declared.refusal.InternRefusal.{InternRefusal}
+use Rattle.djq_dictionary.specs.declared.refusal.InternRefusal.TheVariants.{Full as TextsFull, NoMem as NoMemForTexts}
 use Rattle.djq_engine.specs.declared.change.AddRefusal.{AddRefusal}
 use Rattle.djq_engine.specs.declared.change.AddRefusal.TheVariants.{Full as RowFull, NoMem as NoMemForRow}
-use Rattle.djq_rows.specs.Cells.{StandFor, HaveCells, cells_of}
+use Rattle.djq_database.specs.Cells.{StandFor, HaveCells, cells_of}
 use Rattle.djq_model.specs.Typed.{fits}
-use Rattle.djq_rows.specs.Catalog.{Catalog, IsCatalog, StandForRow, no_relation, relation_at}
-use Rattle.djq_rows.specs.Catalog.{counted_at, rows_at, with_rows_at}
-use Rattle.djq_rows.specs.Changes.{AddsRowAt, DeletesRowAt, HasNoPlace, InternsRow}
-use Rattle.djq_rows.specs.Laws.{TextsStay}
+use Rattle.djq_database.specs.Catalog.{Catalog, IsCatalog, StandForRow, no_relation, relation_at}
+use Rattle.djq_database.specs.Catalog.{counted_at, rows_at, with_rows_at}
+use Rattle.djq_database.specs.Changes.{AddsRowAt, DeletesRowAt, HasNoPlace, InternsRow}
+use Rattle.djq_database.specs.Laws.{TextsStay}
 use Rattle.djq_leaves.specs.Changes.{HasSameRows, Came, Went, AddedCame, DeletedWent, CopiesKeepRows}
-use Rattle.djq_live.specs.Live.{Live, IsKept}
-use Rattle.djq_live.specs.Staying.{StaysOver, LiveStays, CamePasses, WentPasses}
-use Rattle.djq_planned.proofs.Members.{in_last}
+use Rattle.djq_live_query.specs.Live.{Live, IsKept}
+use Rattle.djq_live_query.specs.Staying.{StaysOver, LiveStays, CamePasses, WentPasses}
+use Rattle.djq_binder.proofs.Members.{in_last}
 use Rattle.djq_engine.specs.declared.parts.Parts.{Parts}
 use Rattle.djq_reach.specs.Places.{place_at, readers_at, AreOnce}
 use Rattle.djq_engine.specs.Sound.{QueriesAreSound}
@@ -36,12 +36,12 @@ use Rattle.djq_reach.specs.Reaching.{Reach, AllAt, CanCome, CanGo, TakesIn, Lets
 use Rattle.djq_engine.specs.Changing.{IsNewRow, IsOld, LacksMemory, PutsKnownRow, Waits, PutsRow, NoPlace}
 use Rattle.djq_engine.specs.Changing.{for_copies, for_texts, HasCopies, HasCopyMore, AddsCells, AddsTo}
 use Rattle.djq_engine.specs.Changing.{IfCame, IfLacking, IfStill, for_text}
-use Rattle.djq_lines.specs.declared.limits.TheConstants.{TEXTS, ROWS, COPIES}
+use Rattle.djq_protocol.specs.declared.limits.TheConstants.{TEXTS, ROWS, COPIES}
 use Rattle.djq_engine.proofs.Carrying.{without_last, last_there, rows_with}
-use Rattle.djq_deltas.proofs.Lists.{row_there}
+use Rattle.djq_answer_laws.proofs.Lists.{row_there}
 use Rattle.djq_engine.proofs.Carrying.{field_with, long_with, back_with, readers_once, readers_kept}
 use Rattle.djq_engine.proofs.Carrying.{came_carries, went_carries, back_carries, idle_carries, stays_itself, texts_then}
-use Rattle.djq_live.proofs.Moving.{same_catalog as catalog_same}
+use Rattle.djq_live_query.proofs.Moving.{same_catalog as catalog_same}
 
 -- the readers of a relation, as the code reads them
 pub places_read : (readers : List (List ℕ)) (at : ℕ) (x places : List ℕ) → at < length readers → x ≡ get_or readers at x

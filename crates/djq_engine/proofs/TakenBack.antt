@@ -12,15 +12,15 @@ use Rattle.djq_model.specs.Data.{counted_in, counted_of, plain_of, rows_of, has_
 use Rattle.djq_model.specs.Data.{with_row, with_copies, without_copies}
 use Rattle.djq_model.specs.Known.{texts_in, all_learned}
 use Rattle.djq_model.proofs.Counted.{tuples_with_row, tuples_with_copies, copies_hold, came_copies, changed_copies}
-use Rattle.djq_lines.specs.declared.answer.DeleteOutcome.{DeleteOutcome}
-use Rattle.djq_lines.specs.declared.answer.DeleteOutcome.TheVariants.{Last, Left, Absent}
-use Rattle.djq_lines.specs.declared.held.HeldRow.{HeldRow}
+use Rattle.djq_protocol.specs.declared.answer.DeleteOutcome.{DeleteOutcome}
+use Rattle.djq_protocol.specs.declared.answer.DeleteOutcome.TheVariants.{Last, Left, Absent}
+use Rattle.djq_protocol.specs.declared.held.HeldRow.{HeldRow}
 use Rattle.djq_store_spec.specs.Store.{Store}
 use Rattle.djq_store_spec.specs.Relations.{with_rows}
 use Rattle.djq_store_spec.specs.Batch.{suit_refusal, is_there, with_held, with_all}
-use Rattle.djq_rows.specs.Laws.{NamesTell}
-use Rattle.djq_rows.specs.Catalog.{Catalog, IsCatalog, relation_at, counted_at, rows_at, with_rows_at}
-use Rattle.djq_rows.specs.Changes.{DeletesRowAt}
+use Rattle.djq_database.specs.Laws.{NamesTell}
+use Rattle.djq_database.specs.Catalog.{Catalog, IsCatalog, relation_at, counted_at, rows_at, with_rows_at}
+use Rattle.djq_database.specs.Changes.{DeletesRowAt}
 use Rattle.djq_engine.specs.Judging.{bare_store, RowSuits}
 use Rattle.djq_engine.proofs.Judged.{suits_here}
 use Rattle.djq_engine.specs.Putting.{CopiesAreCounted, WentIn, WentInAll}

@@ -6,18 +6,18 @@ use Rattle.djq_model.specs.Data.{Bytes, Tuple}
 use Rattle.djq_model.specs.Typed.{fits}
 use Rattle.djq_model.specs.Answer.{IsAnswer}
 use Rattle.djq_model.specs.Listed.{Listed, a_query, AnswersOf, listed_of}
-use Rattle.djq_lines.specs.declared.answer.Refusal.{Refusal}
-use Rattle.djq_lines.specs.declared.answer.Refusal.TheVariants.{NoQuery, Arity, WrongType, NoMemory}
-use Rattle.djq_lines.specs.declared.answer.Shape.{Shape}
-use Rattle.djq_lines.specs.Hypergraph.{variable_names}
+use Rattle.djq_protocol.specs.declared.answer.Refusal.{Refusal}
+use Rattle.djq_protocol.specs.declared.answer.Refusal.TheVariants.{NoQuery, Arity, WrongType, NoMemory}
+use Rattle.djq_protocol.specs.declared.answer.Shape.{Shape}
+use Rattle.djq_protocol.specs.Hypergraph.{variable_names}
 use Rattle.djq_tree.specs.Explaining.{explain_of}
-use Rattle.djq_lines.specs.Conditions.{first_refusal}
+use Rattle.djq_protocol.specs.Conditions.{first_refusal}
 use Rattle.djq_store_spec.specs.Asking.{TellsWhether, Tells, has_refusal, has_steps, answer_types}
 use Rattle.djq_store_spec.specs.Asking.{listed_types, misfit, TellsShape, IsShapeOf}
-use Rattle.djq_rows.specs.Catalog.{Catalog}
-use Rattle.djq_live.specs.Cursors.{Progress, slot_at}
-use Rattle.djq_live.specs.Live.{Live, IsKeptSomewhere, position_of}
-use Rattle.djq_live.specs.Shown.{AnswersAreShown}
+use Rattle.djq_database.specs.Catalog.{Catalog}
+use Rattle.djq_live_query.specs.Cursors.{Progress, slot_at}
+use Rattle.djq_live_query.specs.Live.{Live, IsKeptSomewhere, position_of}
+use Rattle.djq_live_query.specs.Shown.{AnswersAreShown}
 use Rattle.djq_engine.specs.declared.cursor.CursorId.{CursorId}
 use Rattle.djq_engine.specs.Kept.{QueryExplainGives, TreeExplains, HasTree}
 use Rattle.djq_engine.specs.declared.cursor.QueryId.{QueryId}

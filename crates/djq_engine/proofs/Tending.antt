@@ -8,13 +8,13 @@ use Rattle.djq_model.specs.declared.relation.CountedRow.{CountedRow}
 use Rattle.djq_model.specs.Data.{Bytes, Tuple}
 use Rattle.djq_model.specs.Answer.{IsAnswer}
 use Rattle.djq_store_spec.specs.Delta.{Change, IsDelta}
-use Rattle.djq_cursor.specs.Log.{Log}
-use Rattle.djq_rows.specs.Catalog.{Catalog, with_rows_at}
+use Rattle.djq_enumeration.specs.Log.{Log}
+use Rattle.djq_database.specs.Catalog.{Catalog, with_rows_at}
 use Rattle.djq_tree.specs.Tree.{Tree}
 use Rattle.djq_query.specs.Numbered.{Numbered}
-use Rattle.djq_live.specs.Shown.{shown, AreShownAs}
-use Rattle.djq_live.specs.Live.{Live, IsKept, IsShowable, ShowableStays}
-use Rattle.djq_live.specs.Updating.{change_of}
+use Rattle.djq_live_query.specs.Shown.{shown, AreShownAs}
+use Rattle.djq_live_query.specs.Live.{Live, IsKept, IsShowable, ShowableStays}
+use Rattle.djq_live_query.specs.Updating.{change_of}
 use Rattle.djq_reach.specs.Places.{place_at, is_reader, readers_at, log_at, no_log, watched_at}
 use Rattle.djq_engine.specs.Sound.{QueriesAreSound}
 use Rattle.djq_reach.specs.Reaching.{AllAt}

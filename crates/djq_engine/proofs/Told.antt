@@ -4,16 +4,16 @@ use Rattle.std.proofs.Common.{ap, ap₂, ◌∙◌, subst, set, get_or, arith}
 use Rattle.std.specs.Prelude.{Option, None, Some, All, map, cond, slice_index_or, ⊤}
 use Rattle.djq_model.specs.Data.{Bytes, Tuple}
 use Rattle.djq_model.specs.Listed.{a_query}
-use Rattle.djq_lines.specs.declared.answer.Sign.TheVariants.{Came as HasCome, Went as HasGone}
+use Rattle.djq_protocol.specs.declared.answer.Sign.TheVariants.{Came as HasCome, Went as HasGone}
 use Rattle.djq_store_spec.specs.Delta.{Change}
 use Rattle.djq_tree.specs.Tree.{Tree}
 use Rattle.djq_query.specs.Numbered.{Numbered}
-use Rattle.djq_cursor.specs.declared.log.Line.{Line}
-use Rattle.djq_cursor.specs.Log.{Log}
-use Rattle.djq_rows.specs.Catalog.{Catalog}
-use Rattle.djq_live.specs.Shown.{shown}
-use Rattle.djq_live.specs.Live.{Live, IsShowable, ShowableStays, values_of}
-use Rattle.djq_live.specs.Updating.{change_of, IsEmpty}
+use Rattle.djq_enumeration.specs.declared.log.Line.{Line}
+use Rattle.djq_enumeration.specs.Log.{Log}
+use Rattle.djq_database.specs.Catalog.{Catalog}
+use Rattle.djq_live_query.specs.Shown.{shown}
+use Rattle.djq_live_query.specs.Live.{Live, IsShowable, ShowableStays, values_of}
+use Rattle.djq_live_query.specs.Updating.{change_of, IsEmpty}
 use Rattle.djq_reach.specs.Places.{place_at, is_reader, no_log, log_at}
 use Rattle.djq_engine.specs.Kept.{SameShape}
 use Rattle.djq_engine.specs.Places.{query_in, told_of, told_from}

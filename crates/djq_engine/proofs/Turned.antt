@@ -3,9 +3,9 @@ use Rattle.std.proofs.Common.{ℕ, zero, List, ◌≡◌, true, false, refl, sym
 use Rattle.std.specs.Prelude.{Option, Some, is_some, map}
 use Rattle.djq_model.specs.Data.{Bytes}
 use Rattle.djq_model.specs.Listed.{Listed}
-use Rattle.djq_rows.specs.Catalog.{Catalog}
-use Rattle.djq_live.specs.Live.{Live}
-use Rattle.djq_live.specs.Staying.{StaysOver}
+use Rattle.djq_database.specs.Catalog.{Catalog}
+use Rattle.djq_live_query.specs.Live.{Live}
+use Rattle.djq_live_query.specs.Staying.{StaysOver}
 use Rattle.djq_reach.specs.Places.{place_at, is_reader}
 use Rattle.djq_reach.specs.Reaching.{Reach, Renews}
 use Rattle.djq_engine.specs.declared.cursor.CursorId.{CursorId}

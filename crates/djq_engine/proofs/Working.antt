@@ -9,16 +9,16 @@ use Rattle.djq_model.specs.Data.{Bytes, bytes_eq}
 use Rattle.djq_model.specs.declared.relation.Relation.{Relation}
 use Rattle.djq_model.specs.declared.query.Query.{Query}
 use Rattle.djq_model.specs.Listed.{Listed, a_query}
-use Rattle.djq_lines.specs.Variables.{Label, variables_of}
-use Rattle.djq_lines.specs.declared.answer.Shape.TheVariants.{Flat}
+use Rattle.djq_protocol.specs.Variables.{Label, variables_of}
+use Rattle.djq_protocol.specs.declared.answer.Shape.TheVariants.{Flat}
 use Rattle.djq_store_spec.specs.Stale.{reads, listed_reads, by_relation}
 use Rattle.djq_store_spec.specs.Changes.{one_change}
 use Rattle.djq_store_spec.specs.Asking.{IsShapeOf}
 use Rattle.djq_store_spec.proofs.Reading.{reads_atom}
 use Rattle.djq_query.specs.declared.numbered.Variable.{Variable}
-use Rattle.djq_rows.specs.Catalog.{Catalog, relation_at}
-use Rattle.djq_live.specs.Live.{Live, IsKept}
-use Rattle.djq_live.specs.Updating.{LeavesAreSmall, atoms_over, flat_bound, update_bound}
+use Rattle.djq_database.specs.Catalog.{Catalog, relation_at}
+use Rattle.djq_live_query.specs.Live.{Live, IsKept}
+use Rattle.djq_live_query.specs.Updating.{LeavesAreSmall, atoms_over, flat_bound, update_bound}
 use Rattle.djq_engine.specs.declared.parts.Parts.{Parts}
 use Rattle.djq_engine.specs.Kept.{Registered, registered_at, readers_of}
 use Rattle.djq_reach.specs.Places.{place_at, is_reader, readers_at}
@@ -33,7 +33,7 @@ use Rattle.djq_engine.proofs.Listing.{here, behind}
 use Rattle.djq_engine.proofs.Naming.{There, live_there}
 use Rattle.std.proofs.lemmas.Bool.{and_parts}
 use Rattle.djq_engine.proofs.Reporting.{atoms_of}
-use Rattle.djq_live.proofs.Asking.{atoms_long}
+use Rattle.djq_live_query.proofs.Asking.{atoms_long}
 
 -- ---- sums over places
 

@@ -6,22 +6,22 @@ use Rattle.djq_model.specs.declared.relation.Relation.{Relation}
 use Rattle.djq_model.specs.declared.relation.CountedRow.{CountedRow}
 use Rattle.djq_model.specs.Answer.{IsAnswer}
 use Rattle.djq_model.specs.Known.{texts_in}
-use Rattle.djq_lines.specs.declared.answer.AddOutcome.{AddOutcome}
-use Rattle.djq_lines.specs.declared.answer.AddOutcome.TheVariants.{First, More}
-use Rattle.djq_lines.specs.declared.answer.DeleteOutcome.{DeleteOutcome}
-use Rattle.djq_lines.specs.declared.answer.DeleteOutcome.TheVariants.{Last, Left, Absent}
-use Rattle.djq_lines.specs.declared.limits.TheConstants.{ROWS, COPIES, TEXTS}
+use Rattle.djq_protocol.specs.declared.answer.AddOutcome.{AddOutcome}
+use Rattle.djq_protocol.specs.declared.answer.AddOutcome.TheVariants.{First, More}
+use Rattle.djq_protocol.specs.declared.answer.DeleteOutcome.{DeleteOutcome}
+use Rattle.djq_protocol.specs.declared.answer.DeleteOutcome.TheVariants.{Last, Left, Absent}
+use Rattle.djq_protocol.specs.declared.limits.TheConstants.{ROWS, COPIES, TEXTS}
 use Rattle.djq_store_spec.specs.Relations.{LearnsAll, LearnsFirst, FindsNoPlace}
-use Rattle.djq_dict.specs.declared.refusal.InternRefusal.{InternRefusal}
-use Rattle.djq_dict.specs.declared.refusal.InternRefusal.TheVariants.{Full as TextsFull, NoMem as NoMemForText}
+use Rattle.djq_dictionary.specs.declared.refusal.InternRefusal.{InternRefusal}
+use Rattle.djq_dictionary.specs.declared.refusal.InternRefusal.TheVariants.{Full as TextsFull, NoMem as NoMemForText}
 use Rattle.djq_engine.specs.declared.change.AddRefusal.{AddRefusal}
 use Rattle.djq_engine.specs.declared.change.AddRefusal.TheVariants.{Full, NoMem}
-use Rattle.djq_rows.specs.Catalog.{Catalog, StandForRow, counted_at, rows_at, with_rows_at}
-use Rattle.djq_rows.specs.Changes.{HasNoPlace}
+use Rattle.djq_database.specs.Catalog.{Catalog, StandForRow, counted_at, rows_at, with_rows_at}
+use Rattle.djq_database.specs.Changes.{HasNoPlace}
 use Rattle.djq_store_spec.specs.Delta.{Change, IsDelta}
-use Rattle.djq_live.specs.Live.{Live}
-use Rattle.djq_live.specs.Updating.{change_of}
-use Rattle.djq_live.specs.Staying.{StaysOver}
+use Rattle.djq_live_query.specs.Live.{Live}
+use Rattle.djq_live_query.specs.Updating.{change_of}
+use Rattle.djq_live_query.specs.Staying.{StaysOver}
 use Rattle.djq_engine.specs.declared.parts.Parts.{Parts}
 use Rattle.djq_reach.specs.Places.{place_at, is_reader, readers_at, watched_at, log_at}
 use Rattle.djq_reach.specs.Reaching.{Reach, Ages, Carries}

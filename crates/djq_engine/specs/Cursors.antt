@@ -1,7 +1,7 @@
 -- Where cursors are.
 use Rattle.std.specs.Prelude.{not, Bool, false, Option, None, Some}
-use Rattle.djq_live.specs.Cursors.{are_vacant}
-use Rattle.djq_live.specs.Live.{Live}
+use Rattle.djq_live_query.specs.Cursors.{are_vacant}
+use Rattle.djq_live_query.specs.Live.{Live}
 
 -- whether a cursor is over the query in a place, stale or not
 abbrev pub has_cursor : Option Live → Bool

@@ -3,14 +3,14 @@ use Rattle.std.specs.Prelude.{ℕ, List, [], ◌≡◌, ◌<◌, true, false, Op
 use Rattle.djq_model.specs.declared.relation.Relation.{Relation}
 use Rattle.djq_model.specs.Data.{Bytes, Tuple, relation_of, rows_of, has_row, copies_among}
 use Rattle.djq_model.specs.Typed.{fits}
-use Rattle.djq_lines.specs.declared.limits.TheConstants.{ROWS, LAST_SEQ}
-use Rattle.djq_lines.specs.declared.held.HeldRow.{HeldRow}
+use Rattle.djq_protocol.specs.declared.limits.TheConstants.{ROWS, LAST_SEQ}
+use Rattle.djq_protocol.specs.declared.held.HeldRow.{HeldRow}
 use Rattle.djq_store_spec.specs.Store.{Store}
 use Rattle.djq_store_spec.specs.Rows.{delete_refusal}
 use Rattle.djq_store_spec.specs.Batch.{place_refusal}
-use Rattle.djq_rows.specs.Cells.{HaveCells, cells_of}
-use Rattle.djq_rows.specs.Catalog.{Catalog, relation_at, counted_at, rows_at}
-use Rattle.djq_rows.specs.declared.relation_id.RelationId.{RelationId}
+use Rattle.djq_database.specs.Cells.{HaveCells, cells_of}
+use Rattle.djq_database.specs.Catalog.{Catalog, relation_at, counted_at, rows_at}
+use Rattle.djq_database.specs.declared.relation_id.RelationId.{RelationId}
 
 -- a store, as far as a row's conditions read it
 abbrev pub bare_store : List Relation → ℕ → Store

@@ -5,27 +5,27 @@ use Rattle.std.specs.Prelude.{map, filter, find, nat_lt, slice_get, slice_index_
 use Rattle.djq_model.specs.declared.query.Query.{Query}
 use Rattle.djq_model.specs.Data.{Bytes, Tuple, bytes_eq, change_first}
 use Rattle.djq_model.specs.Listed.{Listed, a_query, a_union, listed_name, AnswersOf, listed_of}
-use Rattle.djq_lines.specs.declared.answer.Refusal.{Refusal}
-use Rattle.djq_lines.specs.declared.answer.Refusal.TheVariants.{NoQuery}
-use Rattle.djq_lines.specs.declared.answer.Sign.{Sign}
-use Rattle.djq_lines.specs.Hypergraph.{edges_of, head_of, variable_names}
+use Rattle.djq_protocol.specs.declared.answer.Refusal.{Refusal}
+use Rattle.djq_protocol.specs.declared.answer.Refusal.TheVariants.{NoQuery}
+use Rattle.djq_protocol.specs.declared.answer.Sign.{Sign}
+use Rattle.djq_protocol.specs.Hypergraph.{edges_of, head_of, variable_names}
 use Rattle.djq_tree.specs.Tree.{Tree}
 use Rattle.djq_tree.specs.Growing.{IsTreeOf}
 use Rattle.djq_tree.specs.Explaining.{explain_of}
 use Rattle.djq_store_spec.specs.Store.{Store, Position, open_at, stale}
-use Rattle.djq_lines.specs.Conditions.{first_refusal, Answers, OutOfMemoryWhere}
+use Rattle.djq_protocol.specs.Conditions.{first_refusal, Answers, OutOfMemoryWhere}
 use Rattle.djq_store_spec.specs.Registering.{DropsQuery, answer_steps}
 use Rattle.djq_store_spec.specs.Listing.{IsLeft, AreAll}
 use Rattle.djq_store_spec.specs.Stale.{outdated, outdater_of}
 use Rattle.djq_store_spec.specs.Changes.{RowsChange, is_outdated}
 use Rattle.djq_store_spec.specs.Delta.{Change}
 use Rattle.djq_reduct.specs.Answers.{IsAnswerOf}
-use Rattle.djq_live.specs.declared.listing.Next.{Next}
-use Rattle.djq_live.specs.declared.listing.Next.TheVariants.{Given, End, Stale}
-use Rattle.djq_rows.specs.Catalog.{Catalog}
-use Rattle.djq_rows.specs.Cells.{StandFor}
-use Rattle.djq_live.specs.Live.{Live, IsLive, IsShowable, values_of}
-use Rattle.djq_live.specs.Member.{head_types}
+use Rattle.djq_live_query.specs.declared.listing.Next.{Next}
+use Rattle.djq_live_query.specs.declared.listing.Next.TheVariants.{Given, End, Stale}
+use Rattle.djq_database.specs.Catalog.{Catalog}
+use Rattle.djq_database.specs.Cells.{StandFor}
+use Rattle.djq_live_query.specs.Live.{Live, IsLive, IsShowable, values_of}
+use Rattle.djq_live_query.specs.Member.{head_types}
 use Rattle.djq_reach.specs.Places.{place_at}
 use Rattle.djq_engine.specs.declared.cursor.CursorId.{CursorId}
 use Rattle.djq_engine.specs.declared.cursor.QueryId.{QueryId}

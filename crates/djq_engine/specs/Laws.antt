@@ -2,7 +2,7 @@
 use Rattle.std.specs.Prelude.{◌≡◌, ◌≤◌, false, length, map, AllPairs}
 use Rattle.djq_model.specs.Data.{bytes_eq}
 use Rattle.djq_model.specs.Listed.{listed_name}
-use Rattle.djq_lines.specs.declared.limits.TheConstants.{QUERIES}
+use Rattle.djq_protocol.specs.declared.limits.TheConstants.{QUERIES}
 use Rattle.djq_engine.specs.Kept.{Kept, same_query, PlacesAreKept, IdsArePlaced, PlacesAreRegistered}
 use Rattle.djq_engine.specs.Kept.{CursorsAreRegistered, ToldCellsFit}
 

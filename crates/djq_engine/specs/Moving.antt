@@ -1,11 +1,11 @@
 -- What is done to one query.
 use Rattle.std.specs.Prelude.{ℕ, List, ◌≡◌, ◌+◌, ◌≤◌, Bool, Option, Some, None, IsSome, length, slice_set}
 use Rattle.djq_store_spec.specs.Registering.{most_steps}
-use Rattle.djq_rows.specs.Catalog.{Catalog}
-use Rattle.djq_live.specs.declared.listing.Next.{Next}
-use Rattle.djq_live.specs.Cursors.{slot_at}
-use Rattle.djq_live.specs.Live.{Live, IsLive, FitsAt}
-use Rattle.djq_live.specs.Reading.{QueryNextGives, QueryMoreGives, QueryOpensIn, next_steps, IsFreshIn}
+use Rattle.djq_database.specs.Catalog.{Catalog}
+use Rattle.djq_live_query.specs.declared.listing.Next.{Next}
+use Rattle.djq_live_query.specs.Cursors.{slot_at}
+use Rattle.djq_live_query.specs.Live.{Live, IsLive, FitsAt}
+use Rattle.djq_live_query.specs.Reading.{QueryNextGives, QueryMoreGives, QueryOpensIn, next_steps, IsFreshIn}
 use Rattle.djq_reach.specs.Places.{place_at}
 
 -- The query in a place becomes another, and nothing else changes.

@@ -4,13 +4,13 @@ use Rattle.std.specs.List.{list_any}
 use Rattle.djq_model.specs.declared.relation.Relation.{Relation}
 use Rattle.djq_model.specs.Data.{Bytes}
 use Rattle.djq_model.specs.Listed.{Listed, a_query}
-use Rattle.djq_lines.specs.declared.held.HeldRow.{HeldRow}
-use Rattle.djq_cursor.specs.Log.{Log}
+use Rattle.djq_protocol.specs.declared.held.HeldRow.{HeldRow}
+use Rattle.djq_enumeration.specs.Log.{Log}
 use Rattle.djq_store_spec.specs.Stale.{by_relation}
 use Rattle.djq_store_spec.specs.Batch.{first_read}
-use Rattle.djq_rows.specs.Catalog.{relation_at}
-use Rattle.djq_live.specs.Live.{Live}
-use Rattle.djq_live.specs.Updating.{IsEmpty}
+use Rattle.djq_database.specs.Catalog.{relation_at}
+use Rattle.djq_live_query.specs.Live.{Live}
+use Rattle.djq_live_query.specs.Updating.{IsEmpty}
 use Rattle.djq_reach.specs.declared.group.Group.{Group}
 use Rattle.djq_reach.specs.Grouping.{group_relations}
 use Rattle.djq_reach.specs.Places.{place_at, reads_place, is_reader, readers_at, log_at, AreOnce}

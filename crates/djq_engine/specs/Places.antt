@@ -5,13 +5,13 @@ use Rattle.std.specs.Prelude.{None, Some, is_some, option_map, if◌then◌else�
 use Rattle.djq_model.specs.Data.{Bytes, bytes_eq}
 use Rattle.djq_model.specs.Listed.{Listed, a_query}
 use Rattle.djq_store_spec.specs.Store.{Store}
-use Rattle.djq_rows.specs.Catalog.{Catalog}
-use Rattle.djq_live.specs.Cursors.{Progress}
-use Rattle.djq_live.specs.Cursors.{slot_at}
-use Rattle.djq_live.specs.Live.{Live, position_of}
-use Rattle.djq_live.specs.Updating.{change_of}
+use Rattle.djq_database.specs.Catalog.{Catalog}
+use Rattle.djq_live_query.specs.Cursors.{Progress}
+use Rattle.djq_live_query.specs.Cursors.{slot_at}
+use Rattle.djq_live_query.specs.Live.{Live, position_of}
+use Rattle.djq_live_query.specs.Updating.{change_of}
 use Rattle.djq_store_spec.specs.Delta.{Change}
-use Rattle.djq_cursor.specs.Log.{Log}
+use Rattle.djq_enumeration.specs.Log.{Log}
 use Rattle.djq_reach.specs.Places.{place_at, watchers_at}
 use Rattle.djq_engine.specs.declared.cursor.CursorId.{CursorId}
 use Rattle.djq_engine.specs.declared.cursor.QueryId.{QueryId}

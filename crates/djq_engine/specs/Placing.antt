@@ -4,9 +4,9 @@ use Rattle.std.specs.Prelude.{if◌then◌else◌, length}
 use Rattle.djq_model.specs.declared.query.Query.{Query}
 use Rattle.djq_model.specs.declared.relation.Relation.{Relation}
 use Rattle.djq_store_spec.specs.Stale.{reads}
-use Rattle.djq_rows.specs.Catalog.{relation_at}
-use Rattle.djq_live.specs.Live.{Live}
-use Rattle.djq_cursor.specs.Log.{Log}
+use Rattle.djq_database.specs.Catalog.{relation_at}
+use Rattle.djq_live_query.specs.Live.{Live}
+use Rattle.djq_enumeration.specs.Log.{Log}
 use Rattle.djq_reach.specs.Places.{place_at, readers_at, watchers_at, log_at, AreOnce}
 use Rattle.djq_engine.specs.Places.{places_without}
 

@@ -4,15 +4,15 @@ use Rattle.std.specs.Prelude.{true, false, Option, None, Some, if◌then◌else�
 use Rattle.djq_model.specs.declared.relation.Relation.{Relation}
 use Rattle.djq_model.specs.Data.{Bytes, Tuple, has_row, copies_among, with_row, with_copies}
 use Rattle.djq_model.specs.Known.{texts_in}
-use Rattle.djq_lines.specs.declared.answer.Refusal.{Refusal}
-use Rattle.djq_lines.specs.declared.held.HeldRow.{HeldRow}
+use Rattle.djq_protocol.specs.declared.answer.Refusal.{Refusal}
+use Rattle.djq_protocol.specs.declared.held.HeldRow.{HeldRow}
 use Rattle.djq_store_spec.specs.Store.{Store}
 use Rattle.djq_store_spec.specs.Relations.{LearnsAll}
 use Rattle.djq_store_spec.specs.Batch.{suit_refusal, SuitAll, HavePlaces, BatchStopsAt, with_held, with_all}
 use Rattle.djq_store_spec.specs.Batch.{count_came, has_come}
-use Rattle.djq_rows.specs.Cells.{HaveCells, cells_of}
-use Rattle.djq_rows.specs.Catalog.{Catalog, relation_at, counted_at, rows_at, with_rows_at}
-use Rattle.djq_rows.specs.declared.relation_id.RelationId.{RelationId}
+use Rattle.djq_database.specs.Cells.{HaveCells, cells_of}
+use Rattle.djq_database.specs.Catalog.{Catalog, relation_at, counted_at, rows_at, with_rows_at}
+use Rattle.djq_database.specs.declared.relation_id.RelationId.{RelationId}
 use Rattle.djq_leaves.specs.Changes.{StandForRows}
 use Rattle.djq_reach.specs.declared.group.Group.{Group}
 use Rattle.djq_reach.specs.Places.{is_reader, AreOnce}

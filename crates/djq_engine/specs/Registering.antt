@@ -1,8 +1,8 @@
 -- A query that is registered, or dropped.
 use Rattle.std.specs.Prelude.{ℕ, [], ◌∷◌, ◌++◌, ◌≡◌, ◌≢◌, ◌≤◌, None, Some, length, vec_capacity}
-use Rattle.djq_lines.specs.declared.limits.TheConstants.{QUERIES}
-use Rattle.djq_live.specs.Live.{Live}
-use Rattle.djq_live.specs.Updating.{IsEmpty}
+use Rattle.djq_protocol.specs.declared.limits.TheConstants.{QUERIES}
+use Rattle.djq_live_query.specs.Live.{Live}
+use Rattle.djq_live_query.specs.Updating.{IsEmpty}
 use Rattle.djq_engine.specs.declared.parts.Parts.{Parts}
 use Rattle.djq_reach.specs.Places.{place_at, watchers_at, log_at}
 use Rattle.djq_engine.specs.Placing.{SamePlaces, SameLists, SameWatchers, SameLogs, JoinsReaders}

@@ -1,8 +1,8 @@
 -- What holds of what the engine keeps, between any two calls.
 use Rattle.std.specs.Prelude.{ℕ, List, ◌≡◌, ◌<◌, ◌≤◌, Option, Some, filter, length}
-use Rattle.djq_lines.specs.declared.limits.TheConstants.{QUERIES}
-use Rattle.djq_rows.specs.Catalog.{Catalog, relation_at}
-use Rattle.djq_live.specs.Live.{Live, IsLive}
+use Rattle.djq_protocol.specs.declared.limits.TheConstants.{QUERIES}
+use Rattle.djq_database.specs.Catalog.{Catalog, relation_at}
+use Rattle.djq_live_query.specs.Live.{Live, IsLive}
 use Rattle.djq_reach.specs.Places.{place_at, reads_place, is_reader, readers_at, AreOnce}
 use Rattle.djq_engine.specs.Places.{is_live}
 

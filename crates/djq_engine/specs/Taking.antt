@@ -1,7 +1,7 @@
 -- The queries that read a relation of groups take the rows of all groups in.
 use Rattle.std.specs.Prelude.{ℕ, List, ⊤}
-use Rattle.djq_rows.specs.Catalog.{Catalog}
-use Rattle.djq_live.specs.Live.{IsKept}
+use Rattle.djq_database.specs.Catalog.{Catalog}
+use Rattle.djq_live_query.specs.Live.{IsKept}
 use Rattle.djq_reach.specs.declared.group.Group.{Group}
 use Rattle.djq_reach.specs.Reaching.{AllAt, Reach, Renews}
 use Rattle.djq_reach.specs.Tending.{LogTellsAt, Tends, Empties}

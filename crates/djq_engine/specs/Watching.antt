@@ -6,17 +6,17 @@ use Rattle.djq_model.specs.declared.query.Query.{Query}
 use Rattle.djq_model.specs.declared.relation.Relation.{Relation}
 use Rattle.djq_model.specs.Data.{Bytes, rows_of}
 use Rattle.djq_model.specs.Listed.{Listed, a_query, a_union}
-use Rattle.djq_lines.specs.Variables.{variables_of}
-use Rattle.djq_lines.specs.declared.answer.AddOutcome.{AddOutcome}
-use Rattle.djq_lines.specs.declared.answer.AddOutcome.TheVariants.{First, More}
-use Rattle.djq_lines.specs.declared.answer.DeleteOutcome.{DeleteOutcome}
-use Rattle.djq_lines.specs.declared.answer.DeleteOutcome.TheVariants.{Last, Left, Absent}
-use Rattle.djq_lines.specs.declared.answer.Refusal.{Refusal}
-use Rattle.djq_lines.specs.declared.answer.Refusal.TheVariants.{NoMemory}
-use Rattle.djq_lines.specs.declared.answer.Shape.TheVariants.{Flat}
-use Rattle.djq_lines.specs.declared.held.HeldRow.{HeldRow}
-use Rattle.djq_lines.specs.declared.rest.QueryOutcome.{QueryOutcome}
-use Rattle.djq_lines.specs.declared.rest.QueryOutcome.TheVariants.{Registered as HasRegistered}
+use Rattle.djq_protocol.specs.Variables.{variables_of}
+use Rattle.djq_protocol.specs.declared.answer.AddOutcome.{AddOutcome}
+use Rattle.djq_protocol.specs.declared.answer.AddOutcome.TheVariants.{First, More}
+use Rattle.djq_protocol.specs.declared.answer.DeleteOutcome.{DeleteOutcome}
+use Rattle.djq_protocol.specs.declared.answer.DeleteOutcome.TheVariants.{Last, Left, Absent}
+use Rattle.djq_protocol.specs.declared.answer.Refusal.{Refusal}
+use Rattle.djq_protocol.specs.declared.answer.Refusal.TheVariants.{NoMemory}
+use Rattle.djq_protocol.specs.declared.answer.Shape.TheVariants.{Flat}
+use Rattle.djq_protocol.specs.declared.held.HeldRow.{HeldRow}
+use Rattle.djq_protocol.specs.declared.rest.QueryOutcome.{QueryOutcome}
+use Rattle.djq_protocol.specs.declared.rest.QueryOutcome.TheVariants.{Registered as HasRegistered}
 use Rattle.djq_store_spec.specs.Stale.{listed_reads}
 use Rattle.djq_store_spec.specs.Changes.{RowsChange, RowsOutcome, accepted, out_of_memory, unchanged, tried}
 use Rattle.djq_store_spec.specs.Changes.{is_outdated}

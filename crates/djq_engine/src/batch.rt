@@ -1,9 +1,9 @@
 //! Batches: rows that are held until they go in, all at once.
 ghost use Rattle.std.specs.Prelude.{◌≡◌, ◌≤◌, ℕ, length, OnOk, OnErr};
-ghost use Rattle.djq_lines.specs.declared.limits.TheConstants.{HELD};
+ghost use Rattle.djq_protocol.specs.declared.limits.TheConstants.{HELD};
 ghost use Rattle.djq_store_spec.specs.Changes.{tried};
 ghost use Rattle.djq_store_spec.specs.Batch.{TellsSuits, SuitAll, AddsBatch, batch_outcome};
-ghost use Rattle.djq_rows.specs.Catalog.{Catalog as CatalogModel};
+ghost use Rattle.djq_database.specs.Catalog.{Catalog as CatalogModel};
 ghost use Rattle.djq_reach.specs.Places.{readers_at, AreOnce};
 ghost use Rattle.djq_reach.specs.Tending.{AreUnwatched};
 ghost use Rattle.djq_reach.specs.Grouping.{CostsBy, WorksBy, group_relations, rows_of_groups, times_back};
@@ -17,10 +17,10 @@ use crate::judge::relation_for_row;
 use crate::outdating::{affect_reached, give_up, outdate_came};
 use crate::parts::Parts;
 use crate::putting::{Came, put_all, take_back};
-use djq_lines::{HeldRow, Refusal};
+use djq_protocol::{HeldRow, Refusal};
 use djq_model::{Name, NoMem, Value};
 use djq_reach::{Group, insert_batch_into_readers};
-use djq_steps::{Ledgers, Steps};
+use djq_counters::{Ledgers, Steps};
 
 /// The queries that read a relation of the groups take the rows in that came, in the catalog already.
 ///

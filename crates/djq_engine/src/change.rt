@@ -2,8 +2,8 @@
 ghost use Rattle.std.specs.Prelude.{◌≡◌, ◌<◌, ◌≤◌, true, false, length};
 ghost use Rattle.djq_model.specs.Data.{Tuple, has_row, with_row, without_copies};
 ghost use Rattle.djq_model.specs.Typed.{fits};
-ghost use Rattle.djq_lines.specs.declared.limits.TheConstants.{ROWS};
-ghost use Rattle.djq_rows.specs.Catalog.{StandForRow, relation_at, counted_at, rows_at};
+ghost use Rattle.djq_protocol.specs.declared.limits.TheConstants.{ROWS};
+ghost use Rattle.djq_database.specs.Catalog.{StandForRow, relation_at, counted_at, rows_at};
 ghost use Rattle.djq_engine.specs.Changing.{HasRow, AddsCells, AddsTo, DeletesFrom, KeepsRest};
 ghost use Rattle.djq_engine.specs.Changing.{for_text};
 ghost use Rattle.djq_engine.specs.Changing.{IfCame, IfLacking, IfStill, IfWent, IfNoneWent};
@@ -14,13 +14,13 @@ ghost use Rattle.djq_reach.specs.Tending.{LogsCanBeShown, AreUnwatched};
 ghost use Rattle.djq_engine.specs.Whole.{EngineIsWhole, IsTended};
 
 use crate::parts::Parts;
-use djq_dict::InternRefusal;
+use djq_dictionary::InternRefusal;
 use djq_index::Cells;
-use djq_lines::{AddOutcome, DeleteOutcome};
+use djq_protocol::{AddOutcome, DeleteOutcome};
 use djq_model::Value;
 use djq_reach::{delete_from_readers, insert_into_readers};
-use djq_rows::{RelationId, RowsRefusal};
-use djq_steps::{Ledgers, Steps};
+use djq_database::{RelationId, RowsRefusal};
+use djq_counters::{Ledgers, Steps};
 
 /// Why a row that suits its relation isn't added.
 #[derive(Clone, Copy, Debug, PartialEq, Eq)]

@@ -2,18 +2,18 @@
 ghost use Rattle.std.specs.Prelude.{◌≡◌, ◌<◌, ◌≤◌, ◌+◌, true, None, Some, IfOk, IfErr, length};
 ghost use Rattle.djq_model.specs.Data.{has_row};
 ghost use Rattle.djq_model.specs.Typed.{fits};
-ghost use Rattle.djq_lines.specs.Conditions.{first_refusal};
+ghost use Rattle.djq_protocol.specs.Conditions.{first_refusal};
 ghost use Rattle.djq_store_spec.specs.Rows.{row_refusals, add_refusal, delete_refusal};
 ghost use Rattle.djq_store_spec.specs.Batch.{suit_refusal, place_refusal};
-ghost use Rattle.djq_rows.specs.Catalog.{relation_at, rows_at};
+ghost use Rattle.djq_database.specs.Catalog.{relation_at, rows_at};
 ghost use Rattle.djq_engine.specs.Judging.{bare_store, RowSuits, MayCome, JudgesDelete};
 
 use djq_index::Cells;
-use djq_lines::limits::{LAST_SEQ, ROWS};
-use djq_lines::{HeldRow, Refusal};
+use djq_protocol::limits::{LAST_SEQ, ROWS};
+use djq_protocol::{HeldRow, Refusal};
 use djq_model::{Name, Value};
-use djq_rows::{Catalog, RelationId};
-use djq_steps::Tally;
+use djq_database::{Catalog, RelationId};
+use djq_counters::Tally;
 use std::sync::ledger::Ledger;
 
 /// The relation of a name, where a row suits its columns.

@@ -1,10 +1,10 @@
 ghost use Rattle.std.specs.Prelude.{◌≡◌};
-ghost use Rattle.djq_live.specs.Live.{IsLive, IsShowable, values_of};
+ghost use Rattle.djq_live_query.specs.Live.{IsLive, IsShowable, values_of};
 
-use djq_live::LiveQuery;
+use djq_live_query::LiveQuery;
 use djq_model::{Answered, ValueRef};
 use djq_reduct::Answer;
-use djq_rows::Catalog;
+use djq_database::Catalog;
 use std::marker::Model;
 
 /// An answer that is lent as its values, in the head's order, or one that went. Contracts see the tuple of them.
@@ -20,7 +20,7 @@ impl<'a> Model for LentAnswer<'a> {
 
     ghost Value = { Tuple };
 
-    ghost use Rattle.djq_live.specs.Live.{IsLive, IsShowable, values_of};
+    ghost use Rattle.djq_live_query.specs.Live.{IsLive, IsShowable, values_of};
 
     ghost view = { λ a. values_of a.catalog.now.texts a.query.now a.answer.now };
 

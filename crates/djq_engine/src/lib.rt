@@ -12,8 +12,8 @@
 //! record, `Kept` (`specs/Kept.antt`).
 //!
 //! It knows no session, no bytes and no names of cursors, and it sends nothing. It counts how many
-//! watch a query, and not who. How a query is judged is djq_planned's, and how it is kept and listed
-//! djq_live's.
+//! watch a query, and not who. How a query is judged is djq_binder's, and how it is kept and listed
+//! djq_live_query's.
 //!
 //! What surprises: an `add` that finds no memory leaves all rows as they were, yet the cursors over
 //! its relation are stale behind it, the logs of the queries that read it are empty, and texts that
@@ -51,7 +51,7 @@
 #![tactic(auto)]
 
 pub use cursor::{CursorId, QueryId};
-pub use djq_live::{LiveQuery, Next};
+pub use djq_live_query::{LiveQuery, Next};
 pub use djq_reduct::{Answer, Cells};
 pub use engine::Engine;
 pub use lent::LentAnswer;

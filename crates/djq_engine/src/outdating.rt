@@ -6,19 +6,19 @@ ghost use Rattle.std.specs.List.{list_any};
 ghost use Rattle.djq_model.specs.Data.{Bytes, relation_of};
 ghost use Rattle.djq_store_spec.specs.Stale.{by_relation};
 ghost use Rattle.djq_store_spec.specs.Batch.{first_read};
-ghost use Rattle.djq_live.specs.Live.{Live};
+ghost use Rattle.djq_live_query.specs.Live.{Live};
 ghost use Rattle.djq_reach.specs.Places.{place_at, reads_place, is_reader, readers_at};
 ghost use Rattle.djq_reach.specs.Grouping.{reached};
 ghost use Rattle.djq_engine.specs.Outdating.{AreReaders, AgesAll, ClearsLogs, BatchGivesUp, reads_held};
 ghost use Rattle.djq_engine.specs.Outdating.{AreTested, by_tested};
 
 use crate::parts::Parts;
-use djq_cursor::DeltaLog;
-use djq_lines::HeldRow;
-use djq_live::LiveQuery;
+use djq_enumeration::DeltaLog;
+use djq_protocol::HeldRow;
+use djq_live_query::LiveQuery;
 use djq_model::{Name, Sequence};
 use djq_reach::{Group, empty_logs, outdate};
-use djq_rows::{Catalog, RelationId};
+use djq_database::{Catalog, RelationId};
 
 /// The logs of all queries that read a relation are emptied.
 fn empty_readers(

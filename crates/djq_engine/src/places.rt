@@ -4,8 +4,8 @@ ghost use Rattle.djq_reach.specs.Places.{place_at, AreOnce};
 ghost use Rattle.djq_engine.specs.Places.{is_query, places_without};
 ghost use Rattle.djq_engine.specs.Placing.{GrowsFull, SamePlaces, SameWatchers, SameLogs, AllOnce, LeavesAll};
 
-use djq_cursor::DeltaLog;
-use djq_live::LiveQuery;
+use djq_enumeration::DeltaLog;
+use djq_live_query::LiveQuery;
 use djq_model::{Name, NoMem, Sequence};
 use std::alloc::Global;
 

@@ -2,7 +2,7 @@
 ghost use Rattle.std.specs.Prelude.{◌≡◌, ◌<◌, ◌≤◌, ◌+◌, ◌++◌, if◌then◌else◌, length, List, None};
 ghost use Rattle.std.specs.Prelude.{IfOk, IfErr, OnOk, OnErr, position, ◌==◌};
 ghost use Rattle.djq_model.specs.Data.{Bytes};
-ghost use Rattle.djq_lines.specs.declared.limits.TheConstants.{HELD};
+ghost use Rattle.djq_protocol.specs.declared.limits.TheConstants.{HELD};
 ghost use Rattle.djq_store_spec.specs.Store.{Store};
 ghost use Rattle.djq_store_spec.specs.Batch.{suit_refusal, SuitAll, BatchStopsAt};
 ghost use Rattle.djq_engine.specs.Judging.{bare_store};
@@ -10,13 +10,13 @@ ghost use Rattle.djq_engine.specs.Putting.{bare_of, placed, IsStoreOf, PutsHeldR
 ghost use Rattle.djq_engine.specs.Putting.{ComeFirst, RefusesAll, WentIn, WentInAll};
 
 use crate::judge::check_held;
-use djq_dict::InternRefusal;
+use djq_dictionary::InternRefusal;
 use djq_index::Cells;
-use djq_lines::{AddOutcome, HeldRow, Refusal};
+use djq_protocol::{AddOutcome, HeldRow, Refusal};
 use djq_model::{NoMem, Sequence};
 use djq_reach::Group;
-use djq_rows::{Catalog, RelationId, RowsRefusal};
-use djq_steps::Tally;
+use djq_database::{Catalog, RelationId, RowsRefusal};
+use djq_counters::Tally;
 use std::alloc::Global;
 use std::sync::ledger::Ledger;
 

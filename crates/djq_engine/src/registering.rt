@@ -1,9 +1,9 @@
 //! Queries that are registered and dropped.
 ghost use Rattle.std.specs.Prelude.{◌≡◌, [], ◌∷◌, ◌++◌, ◌<◌, ⊤, OnOk, OnErr, IsSomeAnd, if◌then◌else◌, length};
-ghost use Rattle.djq_lines.specs.declared.limits.TheConstants.{QUERIES};
+ghost use Rattle.djq_protocol.specs.declared.limits.TheConstants.{QUERIES};
 ghost use Rattle.djq_store_spec.specs.Stale.{reads};
 ghost use Rattle.djq_store_spec.specs.Registering.{RegistersQuery, query_refusal};
-ghost use Rattle.djq_live.specs.Cursors.{are_vacant};
+ghost use Rattle.djq_live_query.specs.Cursors.{are_vacant};
 ghost use Rattle.djq_engine.specs.Kept.{SameCursors, DropGives, DropsPlace, KeepsTables};
 ghost use Rattle.djq_reach.specs.Places.{place_at};
 ghost use Rattle.djq_engine.specs.Placing.{JoinsReaders, JoinsSome};
@@ -14,15 +14,15 @@ ghost use Rattle.djq_engine.specs.Whole.{kept_in, EngineIsWhole, IsTended};
 use crate::engine::Engine;
 use crate::parts::Parts;
 use crate::places::{find_query, leave_all, leave_out, unaffect, vacant_place};
-use djq_dict::InternRefusal;
-use djq_lines::limits::QUERIES;
-use djq_lines::{QueryOutcome, Refusal};
-use djq_live::LiveQuery;
+use djq_dictionary::InternRefusal;
+use djq_protocol::limits::QUERIES;
+use djq_protocol::{QueryOutcome, Refusal};
+use djq_live_query::LiveQuery;
 use djq_model::{Name, NoMem, Query, Sequence};
-use djq_planned::{Unplanned, intern_constants, plan_query, query_fault_of};
+use djq_binder::{Unplanned, intern_constants, plan_query, query_fault_of};
 use djq_reach::is_watched;
-use djq_rows::{Catalog, RelationId};
-use djq_steps::{Ledgers, Steps};
+use djq_database::{Catalog, RelationId};
+use djq_counters::{Ledgers, Steps};
 
 /// Whether a query reads a relation.
 fn reads(query: &Query, relation: &Name) -> bool
@@ -146,7 +146,7 @@ impl Engine {
     /// # Errors
     ///
     /// `Taken` where a query has the name; the first fault that the query has; `Limit` at
-    /// [`QUERIES`](djq_lines::limits::QUERIES) queries, or where a text of a free-connex query is
+    /// [`QUERIES`](djq_protocol::limits::QUERIES) queries, or where a text of a free-connex query is
     /// unknown and as many are known as may be; `NoMemory` out of memory. Texts that became known
     /// stay so, and nothing else has changed.
     pub fn query<L: Ledgers>(

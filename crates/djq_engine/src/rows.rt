@@ -17,13 +17,13 @@ use crate::engine::Engine;
 use crate::judge::{check_add, check_delete};
 use crate::parts::Parts;
 use djq_index::Cells;
-use djq_lines::limits::{COLUMNS, RELATIONS};
-use djq_lines::{AddOutcome, DeleteOutcome, Refusal};
-use djq_live::LiveQuery;
+use djq_protocol::limits::{COLUMNS, RELATIONS};
+use djq_protocol::{AddOutcome, DeleteOutcome, Refusal};
+use djq_live_query::LiveQuery;
 use djq_model::{Name, NoMem, Sequence, Types, Value};
 use djq_reach::{empty_logs, outdate};
-use djq_rows::RelationId;
-use djq_steps::{Ledgers, Steps};
+use djq_database::RelationId;
+use djq_counters::{Ledgers, Steps};
 
 /// The queries that read a relation are the affected ones from now on. They are few, so that a loop costs less
 /// than a call.
@@ -88,8 +88,8 @@ impl Engine {
     ///
     /// # Errors
     ///
-    /// `Taken` where a relation has the name; `Limit` past [`COLUMNS`](djq_lines::limits::COLUMNS)
-    /// columns and at [`RELATIONS`](djq_lines::limits::RELATIONS) relations; `NoMemory` out of
+    /// `Taken` where a relation has the name; `Limit` past [`COLUMNS`](djq_protocol::limits::COLUMNS)
+    /// columns and at [`RELATIONS`](djq_protocol::limits::RELATIONS) relations; `NoMemory` out of
     /// memory. Nothing has changed.
     pub fn rel(&mut self, name: Name, types: Types) -> Result<(), Refusal>
         requires { 0 < length types }

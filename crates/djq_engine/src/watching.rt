@@ -11,8 +11,8 @@ use crate::cursor::QueryId;
 use crate::engine::Engine;
 use crate::lent::LentAnswer;
 use crate::places::find_query;
-use djq_cursor::{DeltaLog, Line};
-use djq_lines::Sign;
+use djq_enumeration::{DeltaLog, Line};
+use djq_protocol::Sign;
 use djq_model::Name;
 use djq_reduct::Cells;
 

@@ -12,7 +12,7 @@ ghost use Rattle.std.specs.Prelude.{
 };
 ghost use Rattle.std.specs.List.{list_any};
 
-use djq_steps::{Blanks, Ledgers, Steps, Tally};
+use djq_counters::{Blanks, Ledgers, Steps, Tally};
 use djq_union::{Listing, Members, UnionCursor};
 use std::alloc::{AllocError, Global};
 use std::marker::Brand;

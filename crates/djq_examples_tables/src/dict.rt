@@ -1,4 +1,4 @@
-use djq_dict::Dict;
+use djq_dictionary::Dict;
 use std::test::Fail;
 
 #[test]

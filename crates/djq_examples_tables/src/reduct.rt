@@ -1,4 +1,4 @@
-use djq_hyper::VarSet;
+use djq_hypergraph::VarSet;
 use djq_reduct::Reducts;
 use djq_tree::{Node, Tree};
 use std::test::Fail;

@@ -1,4 +1,4 @@
-use djq_slots::Cursors;
+use djq_cursors::Cursors;
 use std::test::Fail;
 
 #[test]

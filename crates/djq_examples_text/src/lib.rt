@@ -7,8 +7,8 @@
 //! ```text
 //! module     library        examples of
 //! value      djq_value      tokens, values that are read and printed
-//! words      djq_words      the words of the command line
-//! proto      djq_proto      lines and commands
+//! words      djq_cli      the words of the command line
+//! proto      djq_parser      lines and commands
 //! reply      djq_reply      replies and end lines
 //! session    djq_session    what is held for a session
 //! mirror     djq_mirror     answers that follow the lines of a session

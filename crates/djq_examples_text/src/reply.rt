@@ -1,7 +1,7 @@
 use bytes::BytesMut;
-use djq_hyper::{Edges, Names, VarSet};
-use djq_lines::limits::{LAST_LINE_BYTES, REPLY_BYTES};
-use djq_lines::{
+use djq_hypergraph::{Edges, Names, VarSet};
+use djq_protocol::limits::{LAST_LINE_BYTES, REPLY_BYTES};
+use djq_protocol::{
     AddOutcome, DeleteOutcome, EndLine, NamedRest, QueryOutcome, Refusal, Shape, Sign,
 };
 use djq_model::{Name, NoMem, Row, Text, Value};

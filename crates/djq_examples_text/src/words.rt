@@ -1,6 +1,6 @@
 ghost use Rattle.std.specs.Prelude.{◌≡◌};
 
-use djq_words::{Asked, MOST_TURNS, read_words};
+use djq_cli::{Asked, MOST_TURNS, read_words};
 use std::test::Fail;
 
 #[test]

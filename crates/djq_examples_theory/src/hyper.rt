@@ -1,5 +1,5 @@
 use crate::shapes::edges_of;
-use djq_hyper::{JoinTree, Link, Names, VARIABLES, VarSet, check_join_tree, is_flat};
+use djq_hypergraph::{JoinTree, Link, Names, VARIABLES, VarSet, check_join_tree, is_flat};
 use std::alloc::{AllocError, Global};
 use std::test::Fail;
 

@@ -6,12 +6,12 @@
 //!
 //! ```text
 //! module   library       examples of
-//! hyper    djq_hyper     sets of variables, names, flat queries, join trees
+//! hyper    djq_hypergraph     sets of variables, names, flat queries, join trees
 //! gyo      djq_plan       reductions, and the rests that they leave
 //! tree     djq_tree      the tree of one leaf
 //! plan     djq_plan      trees of queries, and refused queries
 //! model    djq_model     names
-//! steps    djq_steps     counters that take no bytes
+//! steps    djq_counters     counters that take no bytes
 //! ```
 //!
 //! Inside, `shapes` makes the sets and edges that several modules start from.

@@ -1,10 +1,10 @@
 //! Worked queries.
 
 ghost use Rattle.std.specs.Prelude.{◌<◌, length};
-ghost use Rattle.djq_hyper.specs.Variables.{AreCovered};
+ghost use Rattle.djq_hypergraph.specs.Variables.{AreCovered};
 
 use crate::shapes::{edges_of, set_of};
-use djq_hyper::{Edges, Names, VarSet};
+use djq_hypergraph::{Edges, Names, VarSet};
 use djq_plan::{PlanRefusal, plan};
 use djq_tree::{Lines, Node, Tree};
 use std::alloc::{AllocError, Global};

@@ -1,6 +1,6 @@
 //! Sets of variables and lists of edges, from the variables' numbers.
 
-use djq_hyper::{Edges, VARIABLES, VarSet};
+use djq_hypergraph::{Edges, VARIABLES, VarSet};
 use std::alloc::{AllocError, Global};
 
 /// The set of these variables.

@@ -1,6 +1,6 @@
 ghost use Rattle.std.specs.Prelude.{◌≡◌, ◌+◌};
 
-use djq_steps::{Blanks, Ledgers, Steps, Tally};
+use djq_counters::{Blanks, Ledgers, Steps, Tally};
 use std::marker::Brand;
 use std::mem::size_of;
 use std::sync::ledger::Ledger;

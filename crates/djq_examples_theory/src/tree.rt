@@ -1,4 +1,4 @@
-use djq_hyper::{Names, VarSet};
+use djq_hypergraph::{Names, VarSet};
 use djq_tree::{Node, Tree};
 use std::test::Fail;
 

@@ -28,8 +28,8 @@ use Rattle.std.proofs.lemmas.Bool.{cases_Bool, false≢true, and_right, and_from
 use Rattle.std.proofs.lemmas.Option.{same_Some, none-some}
 use Rattle.std.proofs.lemmas.List.{take-take}
 use Rattle.std.proofs.lemmas.List.Sums.{sum_by-take-le}
-use Rattle.djq_live.specs.Live.{Live}
-use Rattle.djq_live.specs.Member.{has_cells}
+use Rattle.djq_live_query.specs.Live.{Live}
+use Rattle.djq_live_query.specs.Member.{has_cells}
 use Rattle.djq_gains.specs.Gathering.{is_alone}
 
 first_fails : (b r : Bool) → b ≡ true → (not b && r) ≡ false

@@ -53,16 +53,16 @@ use Rattle.djq_model.specs.declared.query.Query.{Query}
 use Rattle.djq_model.specs.Data.{Bytes, Tuple}
 use Rattle.djq_model.specs.Answer.{IsAnswer, AreDifferent}
 use Rattle.djq_model.specs.Listed.{a_union, AnswersOf}
-use Rattle.djq_lines.specs.declared.answer.Sign.{Sign}
-use Rattle.djq_lines.specs.declared.answer.Sign.TheVariants.{Came, Went}
+use Rattle.djq_protocol.specs.declared.answer.Sign.{Sign}
+use Rattle.djq_protocol.specs.declared.answer.Sign.TheVariants.{Came, Went}
 use Rattle.djq_store_spec.specs.Delta.{Change, HasChanged, IsDelta}
 use Rattle.djq_store_spec.specs.Registering.{atoms_of}
 use Rattle.djq_union.proofs.Lists.{head_or_tail, all_of}
-use Rattle.djq_rows.specs.Cells.{cells_of, StandFor}
-use Rattle.djq_live.specs.Live.{Live, IsShowable}
-use Rattle.djq_live.specs.Member.{has_cells, head_types, in_tree, query_at, queries_at}
-use Rattle.djq_live.specs.Updating.{change_of}
-use Rattle.djq_live.proofs.AtPlaces.{as_many}
+use Rattle.djq_database.specs.Cells.{cells_of, StandFor}
+use Rattle.djq_live_query.specs.Live.{Live, IsShowable}
+use Rattle.djq_live_query.specs.Member.{has_cells, head_types, in_tree, query_at, queries_at}
+use Rattle.djq_live_query.specs.Updating.{change_of}
+use Rattle.djq_live_query.proofs.AtPlaces.{as_many}
 use Rattle.djq_leaves.proofs.Listings.{in_image, image_of}
 use Rattle.djq_engine.specs.Lending.{sign_of}
 use Rattle.djq_engine.specs.Kept.{Kept}

@@ -30,9 +30,9 @@ use Rattle.std.specs.Prelude.{Option, Some}
 use Rattle.std.proofs.lemmas.Bool.{false≢true}
 use Rattle.std.proofs.lemmas.List.{map-append, take_all}
 use Rattle.std.proofs.lemmas.List.Elements.{filter-append}
-use Rattle.djq_cursor.specs.declared.log.Line.{Line}
+use Rattle.djq_enumeration.specs.declared.log.Line.{Line}
 use Rattle.djq_arena.specs.Chains.{first_of}
-use Rattle.djq_live.specs.Live.{Live}
+use Rattle.djq_live_query.specs.Live.{Live}
 use Rattle.djq_gains.specs.Gathered.{Gain, IsIn, AtSlot, slots_in}
 use Rattle.djq_gains.specs.Gathering.{is_told, line_of, gain_lines, AtFirstQuery}
 

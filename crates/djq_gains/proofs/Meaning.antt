@@ -28,9 +28,9 @@ use Rattle.djq_model.specs.declared.relation.ColumnType.{ColumnType}
 use Rattle.djq_model.specs.Data.{Bytes, Tuple}
 use Rattle.djq_model.specs.Answer.{IsAnswer}
 use Rattle.djq_store_spec.specs.Delta.{Change}
-use Rattle.djq_rows.specs.Cells.{cells_of, StandFor}
-use Rattle.djq_live.specs.Live.{Live, IsKept, values_of}
-use Rattle.djq_live.specs.Member.{
+use Rattle.djq_database.specs.Cells.{cells_of, StandFor}
+use Rattle.djq_live_query.specs.Live.{Live, IsKept, values_of}
+use Rattle.djq_live_query.specs.Member.{
   head_types,
   has_cells,
   in_tree,
@@ -44,7 +44,7 @@ use Rattle.djq_live.specs.Member.{
   IsShownInTree,
   AreAlike,
 }
-use Rattle.djq_live.proofs.AtPlaces.{as_many}
+use Rattle.djq_live_query.proofs.AtPlaces.{as_many}
 use Rattle.djq_leaves.proofs.Listings.{in_image, image_of}
 use Rattle.djq_engine.specs.Kept.{Kept, PlacesAreKept, CellsAre}
 use Rattle.djq_engine.specs.Kept.{ToldCellsFit as AreShown}

@@ -4,9 +4,9 @@ use Rattle.std.specs.Prelude.{Option, Some, IsSomeAnd, All, Contains, slice_get,
 use Rattle.std.proofs.lemmas.Option.{slice_get_within, get_or_from_slice_get, same_Some}
 use Rattle.std.proofs.lemmas.List.{length-map}
 use Rattle.djq_store_spec.specs.Asking.{variable_type}
-use Rattle.djq_rows.specs.Catalog.{Catalog}
-use Rattle.djq_live.specs.Live.{Live, IsKept, IsKeptSomewhere}
-use Rattle.djq_live.specs.Member.{
+use Rattle.djq_database.specs.Catalog.{Catalog}
+use Rattle.djq_live_query.specs.Live.{Live, IsKept, IsKeptSomewhere}
+use Rattle.djq_live_query.specs.Member.{
   head_types,
   query_at,
   queries_at,
@@ -14,7 +14,7 @@ use Rattle.djq_live.specs.Member.{
   HeadTypesAre,
   AreAlike,
 }
-use Rattle.djq_live.proofs.AtPlaces.{nth_is, nth_has, are_kept}
+use Rattle.djq_live_query.proofs.AtPlaces.{nth_is, nth_has, are_kept}
 use Rattle.djq_engine.specs.Kept.{Kept, PlacesAreKept}
 use Rattle.djq_gains.specs.Gains.{AtFirstMember}
 use Rattle.djq_gains.proofs.Taking.{some_with}

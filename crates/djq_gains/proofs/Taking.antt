@@ -39,11 +39,11 @@ use Rattle.std.proofs.lemmas.List.{length-map, get_or-map, take_more}
 use Rattle.std.proofs.lemmas.List.Elements.{Contains-append_left, Contains-push, Contains-push_cases}
 use Rattle.djq_model.specs.declared.relation.ColumnType.{ColumnType}
 use Rattle.djq_model.specs.Data.{Bytes, Tuple}
-use Rattle.djq_lines.specs.declared.answer.Sign.{Sign}
-use Rattle.djq_lines.specs.declared.answer.Sign.TheVariants.{Came}
+use Rattle.djq_protocol.specs.declared.answer.Sign.{Sign}
+use Rattle.djq_protocol.specs.declared.answer.Sign.TheVariants.{Came}
 use Rattle.djq_store_spec.specs.Delta.{Change}
-use Rattle.djq_rows.specs.Cells.{cell_for, cells_of, StandFor}
-use Rattle.djq_live.specs.Member.{head_types, query_at}
+use Rattle.djq_database.specs.Cells.{cell_for, cells_of, StandFor}
+use Rattle.djq_live_query.specs.Member.{head_types, query_at}
 use Rattle.djq_leaves.proofs.Taking.{fits_long}
 use Rattle.djq_engine.specs.Kept.{Kept, TellsChangeCells, CellsAre}
 use Rattle.djq_gains.specs.Gains.{told_of_member, changes_in, count_in}

@@ -3,8 +3,8 @@ use Rattle.std.proofs.Common.{◌≡◌, ◌<◌, Bool, true, false, List, lengt
 use Rattle.std.specs.Prelude.{Any, All, Contains, slice_index_or}
 use Rattle.std.proofs.lemmas.List.{length-map, get_or-map}
 use Rattle.std.proofs.lemmas.List.Elements.{All-contains, All-weaker, All-map, Contains-get_or}
-use Rattle.djq_lines.specs.declared.answer.Sign.{Sign}
-use Rattle.djq_lines.specs.declared.answer.Sign.TheVariants.{Came, Went}
+use Rattle.djq_protocol.specs.declared.answer.Sign.{Sign}
+use Rattle.djq_protocol.specs.declared.answer.Sign.TheVariants.{Came, Went}
 use Rattle.djq_model.specs.Data.{Tuple}
 use Rattle.djq_store_spec.specs.Delta.{Change, HasChanged, IsDelta}
 use Rattle.djq_gains.specs.Told.{GoOneWay, StandsIn, IsTold, AreTold}

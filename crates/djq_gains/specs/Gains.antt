@@ -22,10 +22,10 @@ use Rattle.djq_model.specs.Data.{Bytes, Tuple}
 use Rattle.djq_model.specs.Answer.{IsAnswer}
 use Rattle.djq_model.specs.Listed.{a_union, AnswersOf}
 use Rattle.djq_store_spec.specs.Delta.{Change, IsDelta}
-use Rattle.djq_cursor.specs.declared.log.Line.{Line}
-use Rattle.djq_live.specs.Live.{Live, IsShowable}
-use Rattle.djq_live.specs.Updating.{change_of}
-use Rattle.djq_live.specs.Member.{query_at, queries_at}
+use Rattle.djq_enumeration.specs.declared.log.Line.{Line}
+use Rattle.djq_live_query.specs.Live.{Live, IsShowable}
+use Rattle.djq_live_query.specs.Updating.{change_of}
+use Rattle.djq_live_query.specs.Member.{query_at, queries_at}
 use Rattle.djq_engine.specs.Kept.{Kept, told_at}
 use Rattle.djq_gains.specs.Told.{GoOneWay}
 

@@ -23,10 +23,10 @@ use Rattle.std.specs.Prelude.{
   slice_get,
 }
 use Rattle.std.specs.List.{list_any}
-use Rattle.djq_cursor.specs.declared.log.Line.{Line}
-use Rattle.djq_rows.specs.Cells.{cells_of}
-use Rattle.djq_live.specs.Live.{Live}
-use Rattle.djq_live.specs.Member.{has_cells, in_tree}
+use Rattle.djq_enumeration.specs.declared.log.Line.{Line}
+use Rattle.djq_database.specs.Cells.{cells_of}
+use Rattle.djq_live_query.specs.Live.{Live}
+use Rattle.djq_live_query.specs.Member.{has_cells, in_tree}
 use Rattle.djq_engine.specs.Kept.{Kept}
 use Rattle.djq_gains.specs.Gains.{told_of_member, changes_in, count_in}
 use Rattle.djq_gains.specs.Gathered.{Gain, Stand}

@@ -14,7 +14,7 @@ ghost use Rattle.std.specs.Prelude.{
   length,
   slice_get,
 };
-ghost use Rattle.djq_live.specs.Member.{head_types, query_at, queries_at, HaveQueries, AreAlike};
+ghost use Rattle.djq_live_query.specs.Member.{head_types, query_at, queries_at, HaveQueries, AreAlike};
 ghost use Rattle.djq_gains.specs.Gains.{AtFirstMember, told_of_member, count_in};
 ghost use Rattle.djq_gains.specs.Gathered.{Stand};
 ghost use Rattle.djq_gains.specs.Gathering.{cells_told, is_among, GathersGains};
@@ -22,7 +22,7 @@ ghost use Rattle.djq_index.specs.declared.cells.TheConstants.{CELLS};
 
 use crate::gains::Gains;
 use djq_engine::{Cells, Engine, QueryId};
-use djq_live::QueriesAt;
+use djq_live_query::QueriesAt;
 use djq_union::Members;
 use std::alloc::{AllocError, Global};
 

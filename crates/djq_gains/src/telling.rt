@@ -18,8 +18,8 @@ ghost use Rattle.std.specs.Prelude.{
   sum_by,
 };
 ghost use Rattle.djq_store_spec.specs.Registering.{atoms_of};
-ghost use Rattle.djq_live.specs.Live.{IsKeptSomewhere};
-ghost use Rattle.djq_live.specs.Member.{queries_at, HaveQueries, AreAlike};
+ghost use Rattle.djq_live_query.specs.Live.{IsKeptSomewhere};
+ghost use Rattle.djq_live_query.specs.Member.{queries_at, HaveQueries, AreAlike};
 ghost use Rattle.djq_gains.specs.Gains.{AtFirstMember, TellUnion, members_at, told_of_member, count_in};
 ghost use Rattle.djq_gains.specs.Gathered.{IsIn, AtSlot};
 ghost use Rattle.djq_gains.specs.Gathering.{is_told, gain_lines, asks_of, AtFirstQuery};
@@ -27,10 +27,10 @@ ghost use Rattle.djq_index.specs.declared.cells.TheConstants.{CELLS};
 
 use crate::gains::Gains;
 use crate::gather::gather;
-use djq_cursor::DeltaLog;
+use djq_enumeration::DeltaLog;
 use djq_engine::{Answer, Cells, Engine};
-use djq_live::QueriesAt;
-use djq_steps::Tally;
+use djq_live_query::QueriesAt;
+use djq_counters::Tally;
 use djq_union::{Listing, Members};
 use std::alloc::Global;
 use std::sync::ledger::Ledger;

@@ -10,7 +10,7 @@
 //!
 //! What surprises: a [`Place`] names a tuple only until that tuple is removed, and its slot is then used
 //! again. A touched tuple keeps its place, though it moves to the end of its group. Counts are numbers of
-//! contracts alone, on the [`Tally`](djq_steps::Tally) that each call takes.
+//! contracts alone, on the [`Tally`](djq_counters::Tally) that each call takes.
 //!
 //! A tuple that has to be held is copied into [`Cells`], which stand inline.
 //!

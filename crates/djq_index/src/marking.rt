@@ -14,7 +14,7 @@ use crate::heads::{join, unlink};
 use crate::place::Place;
 use crate::raw::{Note, Raw, note_of, set_note};
 use djq_arena::Arena;
-use djq_steps::Tally;
+use djq_counters::Tally;
 use std::sync::ledger::Ledger;
 
 /// The first marked slot, where this one may be marked as the last of all.

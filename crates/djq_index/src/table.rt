@@ -13,7 +13,7 @@ use crate::raw::{Note, Raw, note_of, placed, set_note};
 use crate::removing::{remove_bare, remove_keyed};
 use crate::walk::{ends_in, newest, oldest};
 use djq_arena::{Arena, pair_of};
-use djq_steps::Tally;
+use djq_counters::Tally;
 use std::alloc::{AllocError, Global};
 use std::marker::Model;
 use std::sync::ledger::Ledger;

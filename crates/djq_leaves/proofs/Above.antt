@@ -1,11 +1,11 @@
 -- Variables on the way from a node to the root.
 use Rattle.std.proofs.Common.{◌≡◌, ℕ, ◌-◌, ◌≤◌, true, false, List, length, ap, sym, ◌∙◌, inl, inr}
 use Rattle.std.proofs.lemmas.Bool.{cases_Bool, false≢true, le-leb, leb-true}
-use Rattle.djq_hyper.specs.Hypergraph.{member}
+use Rattle.djq_hypergraph.specs.Hypergraph.{member}
 use Rattle.djq_tree.specs.declared.node.Node.TheVariants.{Trim}
 use Rattle.djq_tree.specs.Labels.{label_at}
 use Rattle.djq_tree.specs.Tree.{Tree, IsTree, node_at, has_child, is_out}
-use Rattle.djq_cursor.proofs.Good.{trim_only}
+use Rattle.djq_enumeration.proofs.Good.{trim_only}
 
 -- the root has no variable
 pub root_bare : (t : Tree) (j x : ℕ) → IsTree t → j ≡ length t.nodes - 1

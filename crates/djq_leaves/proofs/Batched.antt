@@ -50,7 +50,7 @@ use Rattle.djq_leaves.proofs.Below.{IsStable}
 use Rattle.djq_leaves.proofs.Giving.{gives_once, gives_same, one_as}
 use Rattle.djq_leaves.proofs.Heads.{has_at}
 use Rattle.djq_leaves.proofs.Leafing.{IsOnly}
-use Rattle.djq_planned.proofs.Members.{in_cons, in_rest, in_left, in_last, in_pushed}
+use Rattle.djq_binder.proofs.Members.{in_cons, in_rest, in_left, in_last, in_pushed}
 use Rattle.djq_leaves.proofs.Passing.{got}
 
 -- ---- how often a row stands among others

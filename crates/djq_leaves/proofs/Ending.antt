@@ -18,13 +18,13 @@ use Rattle.std.proofs.Common.{
 use Rattle.std.proofs.lemmas.List.Elements.{All-contains}
 use Rattle.djq_reduct.specs.Reducts.{Reducts, IsReducts}
 use Rattle.djq_reduct.specs.Marks.{AreMarks}
-use Rattle.djq_cursor.specs.Listing.{AreSome}
-use Rattle.djq_cursor.specs.Walk.{all_given}
-use Rattle.djq_cursor.proofs.Listed.{whole_listing}
-use Rattle.djq_cursor.specs.Changed.{IsChanged}
-use Rattle.djq_cursor.specs.Told.{changed_at, root_marked}
-use Rattle.djq_cursor.proofs.Updates.{updated}
-use Rattle.djq_cursor.proofs.Telling.{changed_answers}
+use Rattle.djq_enumeration.specs.Listing.{AreSome}
+use Rattle.djq_enumeration.specs.Walk.{all_given}
+use Rattle.djq_enumeration.proofs.Listed.{whole_listing}
+use Rattle.djq_enumeration.specs.Changed.{IsChanged}
+use Rattle.djq_enumeration.specs.Told.{changed_at, root_marked}
+use Rattle.djq_enumeration.proofs.Updates.{updated}
+use Rattle.djq_enumeration.proofs.Telling.{changed_answers}
 use Rattle.djq_leaves.proofs.Listings.{few}
 
 -- no more is told than there is

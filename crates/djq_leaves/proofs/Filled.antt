@@ -10,8 +10,8 @@ use Rattle.std.proofs.lemmas.List.Elements.{
 }
 use Rattle.djq_model.specs.Data.{Tuple}
 use Rattle.djq_union.proofs.Lists.{none_contained}
-use Rattle.djq_rows.specs.Cells.{cells_of}
-use Rattle.djq_rows.specs.Catalog.{Catalog, rows_at}
+use Rattle.djq_database.specs.Cells.{cells_of}
+use Rattle.djq_database.specs.Catalog.{Catalog, rows_at}
 use Rattle.djq_leaves.specs.Cells.{AreRowOf}
 use Rattle.djq_leaves.specs.Changes.{LeafIsEmpty, LeafGains, LeafIsFilled}
 use Rattle.djq_leaves.proofs.Giving.{one_as}

@@ -27,7 +27,7 @@ use Rattle.std.proofs.Common.{
 use Rattle.std.specs.Prelude.{slice_index}
 use Rattle.std.proofs.lemmas.Bool.{cases_Bool, cases_eq, cases_lt, false≢true}
 use Rattle.std.proofs.lemmas.List.{length-map}
-use Rattle.djq_hyper.specs.Hypergraph.{member}
+use Rattle.djq_hypergraph.specs.Hypergraph.{member}
 use Rattle.djq_index.specs.Tuple.{pick}
 use Rattle.djq_index.specs.Entries.{count_of}
 use Rattle.djq_tree.specs.declared.node.Node.{Node}
@@ -50,9 +50,9 @@ use Rattle.djq_reduct.proofs.Readings.{
   pick_row,
   row_same,
 }
-use Rattle.djq_cursor.proofs.Outs.{root_or_parent, kept, out_within}
-use Rattle.djq_cursor.proofs.Good.{meet_child, trim_only, trim_key}
-use Rattle.djq_cursor.proofs.Stepping.{tuple_wide}
+use Rattle.djq_enumeration.proofs.Outs.{root_or_parent, kept, out_within}
+use Rattle.djq_enumeration.proofs.Good.{meet_child, trim_only, trim_key}
+use Rattle.djq_enumeration.proofs.Stepping.{tuple_wide}
 use Rattle.djq_leaves.proofs.Above.{root_bare, no_child, out_late, late_out}
 use Rattle.djq_tree.proofs.Counting.{leaf_childless}
 use Rattle.djq_leaves.proofs.Tabling.{IsIn, trim_down, trim_up, meet_down, meet_up}

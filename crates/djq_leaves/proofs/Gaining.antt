@@ -34,9 +34,9 @@ use Rattle.djq_tree.specs.Labels.{label_at}
 use Rattle.djq_reduct.specs.Tables.{entries_at}
 use Rattle.djq_reduct.specs.Reducts.{Reducts, IsReducts}
 use Rattle.djq_reduct.specs.Answers.{on_node, IsAnswerOf}
-use Rattle.djq_cursor.specs.Listing.{ListsTuples}
-use Rattle.djq_cursor.specs.Changed.{IsGained}
-use Rattle.djq_cursor.proofs.Outs.{out_within}
+use Rattle.djq_enumeration.specs.Listing.{ListsTuples}
+use Rattle.djq_enumeration.specs.Changed.{IsGained}
+use Rattle.djq_enumeration.proofs.Outs.{out_within}
 use Rattle.djq_leaves.specs.Stepping.{HasMore}
 use Rattle.djq_leaves.proofs.Filling.{assigned_of, answer_of}
 use Rattle.djq_leaves.proofs.Listings.{differ_both}

@@ -4,7 +4,7 @@ use Rattle.std.specs.Prelude.{Contains}
 use Rattle.djq_union.proofs.Lists.{at_head}
 use Rattle.djq_query.specs.Pattern.{Shape, GivesRow}
 use Rattle.djq_leaves.specs.Leaves.{GivesOne}
-use Rattle.djq_planned.proofs.Members.{in_only}
+use Rattle.djq_binder.proofs.Members.{in_only}
 
 -- a tuple gives one row at most
 pub gives_once : (p : Shape) (u r s : List ℕ) → GivesRow p u r → GivesRow p u s → r ≡ s

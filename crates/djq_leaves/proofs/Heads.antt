@@ -23,9 +23,9 @@ use Rattle.std.specs.Prelude.{Some, slice_get}
 use Rattle.std.specs.List.{list_any}
 use Rattle.std.proofs.lemmas.Bool.{cases_lt, false≢true}
 use Rattle.std.proofs.lemmas.List.{get_or_past, get_or-take, length-take}
-use Rattle.djq_hyper.specs.Hypergraph.{degree, member}
-use Rattle.djq_hyper.proofs.Members.{from_true}
-use Rattle.djq_hyper.proofs.Owning.{edge_with}
+use Rattle.djq_hypergraph.specs.Hypergraph.{degree, member}
+use Rattle.djq_hypergraph.proofs.Members.{from_true}
+use Rattle.djq_hypergraph.proofs.Owning.{edge_with}
 use Rattle.djq_model.specs.declared.query.Query.{Query}
 use Rattle.djq_tree.specs.Labels.{label_at}
 use Rattle.djq_tree.specs.Tree.{Tree, IsTree, leaf_labels}
@@ -34,7 +34,7 @@ use Rattle.djq_reduct.specs.Reducts.{Reducts}
 use Rattle.djq_query.specs.declared.numbered.NumberedAtom.{NumberedAtom}
 use Rattle.djq_query.specs.Numbered.{Numbered, is_number}
 use Rattle.djq_query.specs.Pattern.{Shape}
-use Rattle.djq_rows.specs.Catalog.{Catalog}
+use Rattle.djq_database.specs.Catalog.{Catalog}
 use Rattle.djq_leaves.specs.Leaves.{IsOver}
 
 -- what stands at a place below the length

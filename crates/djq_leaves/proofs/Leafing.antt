@@ -33,9 +33,9 @@ use Rattle.djq_reduct.specs.Tables.{entries_at}
 use Rattle.djq_reduct.specs.Reducts.{Reducts, IsReducts}
 use Rattle.djq_reduct.proofs.Family.{apart_at}
 use Rattle.djq_propagate.specs.Updates.{HasInserted, HasMarked, HasKept, HasGained, HasLost}
-use Rattle.djq_cursor.specs.Listing.{ListsTuples}
-use Rattle.djq_cursor.specs.Changed.{IsGained}
-use Rattle.djq_cursor.specs.Log.{Log}
+use Rattle.djq_enumeration.specs.Listing.{ListsTuples}
+use Rattle.djq_enumeration.specs.Changed.{IsGained}
+use Rattle.djq_enumeration.specs.Log.{Log}
 use Rattle.djq_query.specs.Pattern.{Shape, GivesRow}
 use Rattle.djq_leaves.specs.Changes.{GainsTuple, Loses}
 use Rattle.djq_leaves.specs.Stepping.{ChangesAt, ListsAll, ListsWhere}

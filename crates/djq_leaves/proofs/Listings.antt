@@ -26,7 +26,7 @@ use Rattle.std.proofs.lemmas.List.Elements.{All-append, Contains-append_right}
 use Rattle.std.proofs.lemmas.List.Kept.{AllPairs-cons}
 use Rattle.djq_union.proofs.Lists.{at_head, none_contained, all_of}
 use Rattle.djq_union.specs.Answers.{AreDistinctAnswers}
-use Rattle.djq_planned.proofs.Members.{in_rest, in_cons}
+use Rattle.djq_binder.proofs.Members.{in_rest, in_cons}
 
 rest_differ : {A : Type 0} (x : A) (xs : List A) → AreDistinctAnswers (x ∷ xs) → AreDistinctAnswers xs
 rest_differ x xs d i j e a b = d (suc i) (suc j) e (omega arith) (omega arith)

@@ -36,8 +36,8 @@ use Rattle.djq_tree.specs.Labels.{label_at}
 use Rattle.djq_reduct.specs.Reducts.{Reducts, IsReducts}
 use Rattle.djq_propagate.specs.Updates.{HasKept}
 use Rattle.djq_propagate.proofs.Measuring.{length_even}
-use Rattle.djq_cursor.specs.Changed.{IsGained}
-use Rattle.djq_cursor.specs.Log.{Log}
+use Rattle.djq_enumeration.specs.Changed.{IsGained}
+use Rattle.djq_enumeration.specs.Log.{Log}
 use Rattle.djq_query.specs.declared.numbered.NumberedAtom.{NumberedAtom}
 use Rattle.djq_query.specs.Pattern.{Shape}
 use Rattle.djq_leaves.specs.Changes.{KeepsTuples}

@@ -10,8 +10,8 @@ use Rattle.djq_query.specs.declared.numbered.NumberedTerm.{NumberedTerm}
 use Rattle.djq_query.specs.declared.numbered.NumberedAtom.{NumberedAtom}
 use Rattle.djq_query.specs.declared.numbered.NumberedComparison.{NumberedComparison}
 use Rattle.djq_query.specs.Pattern.{Shape, bound}
-use Rattle.djq_rows.specs.Cells.{HasCell, HaveCells}
-use Rattle.djq_planned.specs.Asked.{HasConstant, HaveConstants, constants_in}
+use Rattle.djq_database.specs.Cells.{HasCell, HaveCells}
+use Rattle.djq_binder.specs.Asked.{HasConstant, HaveConstants, constants_in}
 use Rattle.djq_leaves.specs.Building.{ArePatternsOf}
 use Rattle.djq_leaves.specs.Leaves.{AreCellsOfTerms, IsCellOf, IsPatternOf}
 

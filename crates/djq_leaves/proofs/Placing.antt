@@ -32,8 +32,8 @@ use Rattle.djq_model.specs.Data.{
   without_copies,
 }
 use Rattle.djq_model.proofs.Counted.{tuples_with_row, tuples_with_copies, tuples_without}
-use Rattle.djq_rows.specs.Cells.{StandFor}
-use Rattle.djq_rows.specs.Catalog.{
+use Rattle.djq_database.specs.Cells.{StandFor}
+use Rattle.djq_database.specs.Catalog.{
   Catalog,
   IsCatalog,
   StandForRow,

@@ -13,8 +13,8 @@ use Rattle.djq_reduct.specs.Tables.{entries_at, key_at}
 use Rattle.djq_reduct.specs.Reducts.{Reducts, IsReducts}
 use Rattle.djq_reduct.proofs.Family.{trim_law, meet_law}
 use Rattle.djq_reduct.proofs.Readings.{Within, within_of, pick_row}
-use Rattle.djq_cursor.proofs.Groups.{both_positive, product_positive, many_of}
-use Rattle.djq_cursor.proofs.Good.{trim_key, meet_key}
+use Rattle.djq_enumeration.proofs.Groups.{both_positive, product_positive, many_of}
+use Rattle.djq_enumeration.proofs.Good.{trim_key, meet_key}
 use Rattle.djq_propagate.proofs.Sides.{present}
 
 -- an entry's tuple with these cells at the key's columns

@@ -21,10 +21,10 @@ use Rattle.djq_propagate.specs.Updates.{HasGained}
 use Rattle.djq_propagate.proofs.Measuring.{length_less}
 use Rattle.djq_query.specs.declared.numbered.NumberedAtom.{NumberedAtom}
 use Rattle.djq_query.specs.Pattern.{Shape}
-use Rattle.djq_rows.specs.Cells.{cells_of}
-use Rattle.djq_rows.specs.Catalog.{Catalog, IsCatalog, no_relation, relation_at, rows_at}
-use Rattle.djq_rows.proofs.Encoding.{cells_long}
-use Rattle.djq_rows.proofs.Lawful.{differ}
+use Rattle.djq_database.specs.Cells.{cells_of}
+use Rattle.djq_database.specs.Catalog.{Catalog, IsCatalog, no_relation, relation_at, rows_at}
+use Rattle.djq_database.proofs.Encoding.{cells_long}
+use Rattle.djq_database.proofs.Lawful.{differ}
 use Rattle.djq_leaves.specs.Changes.{HoldsThese}
 use Rattle.djq_leaves.specs.Leaves.{Holds}
 use Rattle.djq_leaves.specs.Stepping.{LacksCells}

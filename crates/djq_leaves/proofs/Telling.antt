@@ -26,8 +26,8 @@ use Rattle.std.proofs.Common.{
 use Rattle.std.proofs.Math.Nat.{add-mul, one-mul}
 use Rattle.std.proofs.lemmas.Bool.{cases_Bool, false≢true}
 use Rattle.std.proofs.lemmas.List.{map-append, append-nil}
-use Rattle.djq_cursor.specs.declared.log.Line.{Line}
-use Rattle.djq_cursor.specs.Log.{Log}
+use Rattle.djq_enumeration.specs.declared.log.Line.{Line}
+use Rattle.djq_enumeration.specs.Log.{Log}
 use Rattle.djq_leaves.specs.Stepping.{LogTellsOf, answer_lines}
 
 kept_before : (old new : Log) → (old.lost ≡ true → new.lost ≡ true) → new.lost ≡ false

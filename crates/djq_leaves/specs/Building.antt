@@ -2,7 +2,7 @@
 use Rattle.std.specs.Prelude.{◌≡◌, ◌≢◌, ℕ, ◌+◌, ◌<◌, ◌≤◌, List, ◌++◌, length, Some, slice_get, map}
 use Rattle.std.specs.List.{list_any}
 use Rattle.djq_model.specs.Data.{Bytes}
-use Rattle.djq_hyper.specs.Hypergraph.{member}
+use Rattle.djq_hypergraph.specs.Hypergraph.{member}
 use Rattle.djq_index.specs.Entries.{count_of}
 use Rattle.djq_tree.specs.Labels.{label_at}
 use Rattle.djq_tree.specs.Tree.{Tree}
@@ -13,9 +13,9 @@ use Rattle.djq_query.specs.declared.numbered.NumberedAtom.{NumberedAtom}
 use Rattle.djq_query.specs.declared.numbered.NumberedComparison.{NumberedComparison}
 use Rattle.djq_query.specs.Numbered.{is_number}
 use Rattle.djq_query.specs.Pattern.{Shape}
-use Rattle.djq_rows.specs.Cells.{HaveCells, cells_of}
-use Rattle.djq_rows.specs.Catalog.{Catalog, relation_at, rows_at}
-use Rattle.djq_planned.specs.Asked.{HaveConstants, constants_in}
+use Rattle.djq_database.specs.Cells.{HaveCells, cells_of}
+use Rattle.djq_database.specs.Catalog.{Catalog, relation_at, rows_at}
+use Rattle.djq_binder.specs.Asked.{HaveConstants, constants_in}
 use Rattle.djq_leaves.specs.Leaves.{IsPatternOf, Holds}
 use Rattle.djq_leaves.specs.Changes.{GainsTuple, KeepsTuples, HoldsThese}
 use Rattle.djq_index.specs.declared.cells.TheConstants.{CELLS}

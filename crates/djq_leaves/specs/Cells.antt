@@ -9,8 +9,8 @@ use Rattle.djq_query.specs.declared.numbered.NumberedTerm.TheVariants.{
 use Rattle.djq_query.specs.declared.numbered.NumberedAtom.{NumberedAtom}
 use Rattle.djq_query.specs.declared.numbered.NumberedComparison.{NumberedComparison}
 use Rattle.djq_query.specs.Pattern.{passes}
-use Rattle.djq_rows.specs.Cells.{cell_for, cells_of}
-use Rattle.djq_rows.specs.Catalog.{Catalog, rows_at}
+use Rattle.djq_database.specs.Cells.{cell_for, cells_of}
+use Rattle.djq_database.specs.Catalog.{Catalog, rows_at}
 
 -- An assignment of cells gives a cell to each variable, by its number.
 abbrev pub CellAssignment : Type 0

@@ -26,8 +26,8 @@ use Rattle.djq_reduct.specs.Reducts.{Reducts, IsReducts}
 use Rattle.djq_query.specs.declared.numbered.NumberedAtom.{NumberedAtom}
 use Rattle.djq_query.specs.Numbered.{Numbered}
 use Rattle.djq_query.specs.Pattern.{Shape, GivesRow}
-use Rattle.djq_rows.specs.Cells.{cells_of}
-use Rattle.djq_rows.specs.Catalog.{
+use Rattle.djq_database.specs.Cells.{cells_of}
+use Rattle.djq_database.specs.Catalog.{
   Catalog,
   IsCatalog,
   StandForRow,

@@ -3,7 +3,7 @@ use Rattle.std.specs.Prelude.{◌≡◌, ◌↔◌, ⊤, ℕ, ◌<◌, List, [],
 use Rattle.std.specs.List.{list_any}
 use Rattle.djq_model.specs.declared.query.Query.{Query}
 use Rattle.djq_model.specs.Data.{Bytes}
-use Rattle.djq_hyper.specs.Hypergraph.{member}
+use Rattle.djq_hypergraph.specs.Hypergraph.{member}
 use Rattle.djq_index.specs.Entries.{Entry, count_of}
 use Rattle.djq_tree.specs.Labels.{label_at}
 use Rattle.djq_reduct.specs.Tables.{entries_at}
@@ -17,10 +17,10 @@ use Rattle.djq_query.specs.declared.numbered.NumberedAtom.{NumberedAtom}
 use Rattle.djq_query.specs.declared.numbered.NumberedComparison.{NumberedComparison}
 use Rattle.djq_query.specs.Numbered.{Numbered, is_number}
 use Rattle.djq_query.specs.Pattern.{Shape, GivesRow, bound, tests_of}
-use Rattle.djq_rows.specs.Cells.{cell_for, cells_of}
-use Rattle.djq_rows.specs.Catalog.{Catalog}
+use Rattle.djq_database.specs.Cells.{cell_for, cells_of}
+use Rattle.djq_database.specs.Catalog.{Catalog}
 use Rattle.djq_leaves.specs.Cells.{AreRowOf}
-use Rattle.djq_planned.specs.Asked.{IsAsked, constants_in}
+use Rattle.djq_binder.specs.Asked.{IsAsked, constants_in}
 
 -- There is a cell for each term, and where the term is a constant it is the constant's.
 abbrev pub IsCellOf : List Bytes → NumberedTerm → ℕ → Type 0

@@ -32,9 +32,9 @@ use Rattle.djq_reduct.specs.Tables.{entries_at}
 use Rattle.djq_reduct.specs.Reducts.{Reducts, IsReducts}
 use Rattle.djq_reduct.specs.Marks.{IsBare}
 use Rattle.djq_propagate.specs.Updates.{HasAtMost, paths}
-use Rattle.djq_cursor.specs.Listing.{ListsTuples}
-use Rattle.djq_cursor.specs.declared.log.Line.{Line}
-use Rattle.djq_cursor.specs.Log.{Log}
+use Rattle.djq_enumeration.specs.Listing.{ListsTuples}
+use Rattle.djq_enumeration.specs.declared.log.Line.{Line}
+use Rattle.djq_enumeration.specs.Log.{Log}
 use Rattle.djq_query.specs.declared.numbered.NumberedAtom.{NumberedAtom}
 use Rattle.djq_query.specs.Pattern.{Shape, GivesRow}
 use Rattle.djq_leaves.specs.Leaves.{GivesOne}

@@ -1,19 +1,19 @@
 //! The patterns of a query's atoms.
 ghost use Rattle.std.specs.Prelude.{◌≡◌, ℕ, ◌≤◌, ◌<◌, IfOk, length};
 ghost use Rattle.std.specs.List.{list_any};
-ghost use Rattle.djq_hyper.specs.Hypergraph.{member};
+ghost use Rattle.djq_hypergraph.specs.Hypergraph.{member};
 ghost use Rattle.djq_tree.specs.Labels.{label_at};
 ghost use Rattle.djq_query.specs.Numbered.{is_number};
-ghost use Rattle.djq_rows.specs.Cells.{cell_for, cells_of, HasCell, HaveCells};
-ghost use Rattle.djq_planned.specs.Asked.{HasConstant, HaveConstants, constants_in};
+ghost use Rattle.djq_database.specs.Cells.{cell_for, cells_of, HasCell, HaveCells};
+ghost use Rattle.djq_binder.specs.Asked.{HasConstant, HaveConstants, constants_in};
 ghost use Rattle.djq_leaves.specs.Building.{ArePatternsOf, AreBindable};
 ghost use Rattle.djq_leaves.specs.Leaves.{AreCellsOfTerms, IsCellOf, IsPatternOf};
 ghost use Rattle.djq_index.specs.declared.cells.TheConstants.{CELLS};
 
-use djq_hyper::VarSet;
+use djq_hypergraph::VarSet;
 use djq_model::{NoMem, Value};
 use djq_query::{NumberedAtom, NumberedComparison, NumberedTerm, Pattern};
-use djq_rows::Catalog;
+use djq_database::Catalog;
 use djq_tree::Tree;
 use std::alloc::Global;
 

@@ -18,8 +18,8 @@ use djq_model::NoMem;
 use djq_propagate::add_leaf;
 use djq_query::{NumberedAtom, Pattern};
 use djq_reduct::{Cells, Reducts};
-use djq_rows::{Catalog, RelationId};
-use djq_steps::Tally;
+use djq_database::{Catalog, RelationId};
+use djq_counters::Tally;
 use std::sync::ledger::Ledger;
 
 /// Takes a row, whose tuple isn't there, into a leaf.

@@ -13,14 +13,14 @@
 //! ```
 //!
 //! It keeps nothing, and it knows neither what an answer shows nor the cursors that are open: these
-//! are djq_live's. Out of memory a row stays in the leaves that took it in, which are told, and
+//! are djq_live_query's. Out of memory a row stays in the leaves that took it in, which are told, and
 //! whoever called takes it out of them again.
 //!
 //! What surprises: a relation that is read twice has two leaves, and a row goes into one after the
 //! other, so that what the second lists is over what the first has taken in.
 //!
 //! Inside, the updates of a leaf and of the tables above it are djq_propagate's, and what they change
-//! is listed by djq_cursor's cursor over marked tuples.
+//! is listed by djq_enumeration's cursor over marked tuples.
 #![tactic(auto)]
 
 pub use batch::{add_all_to_leaves, give_all_from_leaves, tuples_of_all};

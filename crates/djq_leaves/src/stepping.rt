@@ -6,7 +6,7 @@ ghost use Rattle.djq_reduct.specs.Reducts as spec;
 ghost use Rattle.djq_reduct.specs.Reducts.{IsReducts};
 ghost use Rattle.djq_reduct.specs.Marks.{AreMarks, IsBare, IsWithout};
 ghost use Rattle.djq_propagate.specs.Updates.{HasKept};
-ghost use Rattle.djq_cursor.specs.Changed.{IsGained};
+ghost use Rattle.djq_enumeration.specs.Changed.{IsGained};
 ghost use Rattle.djq_leaves.specs.Changes.{GainsTuple, Loses};
 ghost use Rattle.djq_leaves.specs.Stepping.{
   LacksCells,
@@ -26,14 +26,14 @@ ghost use Rattle.djq_leaves.specs.Stepping.{
 };
 ghost use Rattle.djq_index.specs.declared.table.TheConstants.{TUPLES};
 
-use djq_cursor::{DeltaCursor, DeltaLog, changes_are};
+use djq_enumeration::{DeltaCursor, DeltaLog, changes_are};
 use djq_model::NoMem;
 use djq_propagate::{
     add_leaf, drop_leaf, finish_insertion, finish_removal, insert_leaf, mark_removal,
 };
 use djq_query::{NumberedAtom, Pattern};
 use djq_reduct::{Cells, Reducts};
-use djq_steps::{Ledgers, Steps, Tally};
+use djq_counters::{Ledgers, Steps, Tally};
 use std::sync::ledger::Ledger;
 
 /// Tells of the answers that an update of one leaf changes, by its marks.

@@ -32,10 +32,10 @@ use Rattle.std.proofs.Common.{refl, sym, ap, ◌∙◌, subst, inl, inr, arith}
 use Rattle.std.proofs.lemmas.Bool.{both_ways}
 use Rattle.djq_model.specs.Data.{Bytes, Tuple, bytes_eq}
 use Rattle.djq_model.specs.Listed.{Listed, AnswersOf, listed_of}
-use Rattle.djq_lines.specs.declared.answer.EndCause.{EndCause}
-use Rattle.djq_lines.specs.declared.answer.EndCause.TheVariants.{Memory}
-use Rattle.djq_lines.specs.declared.answer.Refusal.{Refusal}
-use Rattle.djq_lines.specs.declared.answer.Refusal.TheVariants.{
+use Rattle.djq_protocol.specs.declared.answer.EndCause.{EndCause}
+use Rattle.djq_protocol.specs.declared.answer.EndCause.TheVariants.{Memory}
+use Rattle.djq_protocol.specs.declared.answer.Refusal.{Refusal}
+use Rattle.djq_protocol.specs.declared.answer.Refusal.TheVariants.{
   Syntax,
   Taken,
   NoRelation,
@@ -53,11 +53,11 @@ use Rattle.djq_lines.specs.declared.answer.Refusal.TheVariants.{
   Member,
   Misplaced,
 }
-use Rattle.djq_lines.specs.declared.held.HeldRow.{HeldRow}
-use Rattle.djq_lines.specs.declared.command.Command.{Command}
-use Rattle.djq_lines.specs.declared.command.Command.TheVariants.{Open, Next}
-use Rattle.djq_lines.specs.Line.{a_line, front_of, is_blank}
-use Rattle.djq_lines.specs.Grammar.{
+use Rattle.djq_protocol.specs.declared.held.HeldRow.{HeldRow}
+use Rattle.djq_protocol.specs.declared.command.Command.{Command}
+use Rattle.djq_protocol.specs.declared.command.Command.TheVariants.{Open, Next}
+use Rattle.djq_protocol.specs.Line.{a_line, front_of, is_blank}
+use Rattle.djq_protocol.specs.Grammar.{
   Reading,
   says_command,
   reading_of,
@@ -66,8 +66,8 @@ use Rattle.djq_lines.specs.Grammar.{
   command_in,
   takes_memory_to_read,
 }
-use Rattle.djq_lines.specs.Conditions.{Answers}
-use Rattle.djq_lines.specs.Reply.{refusal_line, end_memory, listing_lines, text_of, ok_reply}
+use Rattle.djq_protocol.specs.Conditions.{Answers}
+use Rattle.djq_protocol.specs.Reply.{refusal_line, end_memory, listing_lines, text_of, ok_reply}
 use Rattle.djq_value.specs.Token.{tokens}
 use Rattle.djq_value.proofs.Utf8.{ascii_utf8}
 use Rattle.djq_store_spec.specs.Store.{Store, open_at}
@@ -89,18 +89,18 @@ use Rattle.djq_machine.specs.LineStep.{blank, run, FrontStep, ReadStep, behind_l
 use Rattle.djq_machine.specs.Step.{Event, fed, stepped, took, FedStep, TookStep, Step}
 use Rattle.djq_machine.specs.Run.{to_session, pending_of, pending_in}
 use Rattle.djq_machine.specs.Call.{IsOpen, Makes, RanStep, Counts, cause_of, cause_in, held_of, held_in}
-use Rattle.djq_laws.specs.Watched.{batch_in}
-use Rattle.djq_laws.proofs.Finding.{find_changed}
-use Rattle.djq_deltas.proofs.Cases.{some_there, none_some}
-use Rattle.djq_laws.proofs.Queueing.{
+use Rattle.djq_run_laws.specs.Watched.{batch_in}
+use Rattle.djq_run_laws.proofs.Finding.{find_changed}
+use Rattle.djq_answer_laws.proofs.Cases.{some_there, none_some}
+use Rattle.djq_run_laws.proofs.Queueing.{
   gaining,
   session_changed,
   stepped as session_stepped,
   stepped_cause,
   stepped_pending,
 }
-use Rattle.djq_laws.proofs.Touching.{says_to, is_stepped}
-use Rattle.djq_laws.proofs.Cutting.{a_line_in}
+use Rattle.djq_run_laws.proofs.Touching.{says_to, is_stepped}
+use Rattle.djq_run_laws.proofs.Cutting.{a_line_in}
 use Rattle.djq_load.specs.Lines.{SessionIsIdle, LineRuns, TakesAll, session_cursors, cursor_at, CursorStands}
 use Rattle.djq_load.specs.Totals.{HasLeft, open_line, next_line}
 use Rattle.djq_load.proofs.Idle.{is_fed}

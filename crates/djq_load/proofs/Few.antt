@@ -11,18 +11,18 @@ use Rattle.djq_model.specs.declared.query.Atom.{Atom}
 use Rattle.djq_model.specs.declared.query.Term.TheVariants.{Variable}
 use Rattle.djq_model.specs.Data.{Bytes, Tuple, bytes_eq, relation_of, counted_in, counted_of, rows_of}
 use Rattle.djq_model.specs.Listed.{Listed, a_query, listed_name, AnswersOf, listed_of}
-use Rattle.djq_lines.specs.declared.limits.TheConstants.{ROWS}
+use Rattle.djq_protocol.specs.declared.limits.TheConstants.{ROWS}
 use Rattle.djq_machine.specs.State.{State, Session, Cursor, session_of, cursor_of, opening}
 use Rattle.djq_store_spec.specs.Store.{open_at}
 use Rattle.djq_machine.specs.Call.{Counts, held_of}
 use Rattle.djq_machine.specs.Gives.{Gives, PositionGives, CursorsGive}
-use Rattle.djq_lines.specs.Variables.{IsInBody}
-use Rattle.djq_deltas.specs.Finite.{IsBound}
-use Rattle.djq_deltas.proofs.Lists.{nothing_there, first_or_later, first_there, later_there}
-use Rattle.djq_deltas.proofs.Choosing.{answers_are_bounded}
-use Rattle.djq_laws.proofs.Changing.{all_found}
-use Rattle.djq_deltas.proofs.Cases.{some_there}
-use Rattle.djq_laws.proofs.Giving.{SessionGives, CursorGives}
+use Rattle.djq_protocol.specs.Variables.{IsInBody}
+use Rattle.djq_answer_laws.specs.Finite.{IsBound}
+use Rattle.djq_answer_laws.proofs.Lists.{nothing_there, first_or_later, first_there, later_there}
+use Rattle.djq_answer_laws.proofs.Choosing.{answers_are_bounded}
+use Rattle.djq_run_laws.proofs.Changing.{all_found}
+use Rattle.djq_answer_laws.proofs.Cases.{some_there}
+use Rattle.djq_run_laws.proofs.Giving.{SessionGives, CursorGives}
 use Rattle.djq_load.specs.Load.{load}
 use Rattle.djq_load.specs.declared.reading.Reading.{Reading}
 use Rattle.djq_load.specs.Joins.{join, most_load_answers, RelationIsSmall, IsJoin, GivesFew}

@@ -7,11 +7,11 @@ use Rattle.std.proofs.lemmas.Grind.{flat_map-append}
 use Rattle.std.proofs.lemmas.List.Elements.{All-nil, All-cons, All-append}
 use Rattle.std.proofs.lemmas.List.Sums.{sum_by-append}
 use Rattle.djq_model.specs.Data.{Bytes}
-use Rattle.djq_lines.specs.declared.answer.EndCause.{EndCause}
-use Rattle.djq_lines.specs.declared.answer.EndCause.TheVariants.{Long, Slow, Memory}
-use Rattle.djq_lines.specs.declared.answer.Refusal.TheVariants.{NoMemory}
-use Rattle.djq_lines.specs.Line.{a_line, behind_lf, front_of}
-use Rattle.djq_lines.specs.Reply.{refusal_line}
+use Rattle.djq_protocol.specs.declared.answer.EndCause.{EndCause}
+use Rattle.djq_protocol.specs.declared.answer.EndCause.TheVariants.{Long, Slow, Memory}
+use Rattle.djq_protocol.specs.declared.answer.Refusal.TheVariants.{NoMemory}
+use Rattle.djq_protocol.specs.Line.{a_line, behind_lf, front_of}
+use Rattle.djq_protocol.specs.Reply.{refusal_line}
 use Rattle.djq_machine.specs.State.{State, Session, session_of}
 use Rattle.djq_machine.specs.LineStep.{LineOutcome, long, blank, slow, no_room, run}
 use Rattle.djq_machine.specs.Effect.{Effect}
@@ -22,16 +22,16 @@ use Rattle.djq_machine.specs.declared.machine.Stepped.TheVariants.{Ran, Dry, End
 use Rattle.djq_machine.specs.Call.{IsOpen, Makes, MakesCounted, RanStep, EndedStepAs, StepGives}
 use Rattle.djq_machine.specs.Call.{Counts, cause_of, cause_in, held_of, held_in}
 use Rattle.djq_io.specs.declared.limits.TheConstants.{READ_BYTES}
-use Rattle.djq_laws.specs.Course.{RunNext, AwaitsInput}
-use Rattle.djq_laws.specs.Sent.{gone_by}
-use Rattle.djq_laws.specs.Moved.{SessionTakes, InputComes, is_held, out_of_memory, is_dropped, StepsLine}
-use Rattle.djq_laws.proofs.Courses.{walk_then}
-use Rattle.djq_laws.proofs.Cutting.{line_in_front}
-use Rattle.djq_laws.proofs.Moving.{took_facts, fed_facts, stepped_facts}
-use Rattle.djq_laws.proofs.Sending.{step_bytes}
+use Rattle.djq_run_laws.specs.Course.{RunNext, AwaitsInput}
+use Rattle.djq_run_laws.specs.Sent.{gone_by}
+use Rattle.djq_run_laws.specs.Moved.{SessionTakes, InputComes, is_held, out_of_memory, is_dropped, StepsLine}
+use Rattle.djq_run_laws.proofs.Courses.{walk_then}
+use Rattle.djq_run_laws.proofs.Cutting.{line_in_front}
+use Rattle.djq_run_laws.proofs.Moving.{took_facts, fed_facts, stepped_facts}
+use Rattle.djq_run_laws.proofs.Sending.{step_bytes}
 use Rattle.djq_load.specs.Lines.{FeedsLines, Feeds, LoadBreaksOff, HadMemory, SessionIsIdle, LineRuns, TakesAll}
 use Rattle.djq_load.proofs.Served.{quiet}
-use Rattle.djq_deltas.proofs.Cases.{none_some}
+use Rattle.djq_answer_laws.proofs.Cases.{none_some}
 
 -- a session that a line has come to
 pub record IsFed (line : Bytes) (mid : State) : Type 0 where

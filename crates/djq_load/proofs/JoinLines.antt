@@ -8,20 +8,20 @@ use Rattle.std.proofs.Common.{refl, sym, ap, ◌∙◌, subst, append-nil, appen
 use Rattle.djq_model.specs.declared.relation.ColumnType.TheVariants.{Int as IntColumn}
 use Rattle.djq_model.specs.Data.{Bytes}
 use Rattle.djq_value.specs.Token.{tokens}
-use Rattle.djq_lines.specs.Line.{before_lf, behind_lf, without_cr}
-use Rattle.djq_lines.specs.declared.command.Command.{Command}
-use Rattle.djq_lines.specs.declared.command.Command.TheVariants.{Rel, Add, Del, Query as Register, Open, Next, Close}
-use Rattle.djq_lines.specs.Grammar.{past_limit, says_command, reading_in, command_of}
-use Rattle.djq_lines.specs.Grammar.{command_in, is_in_range, items_in}
+use Rattle.djq_protocol.specs.Line.{before_lf, behind_lf, without_cr}
+use Rattle.djq_protocol.specs.declared.command.Command.{Command}
+use Rattle.djq_protocol.specs.declared.command.Command.TheVariants.{Rel, Add, Del, Query as Register, Open, Next, Close}
+use Rattle.djq_protocol.specs.Grammar.{past_limit, says_command, reading_in, command_of}
+use Rattle.djq_protocol.specs.Grammar.{command_in, is_in_range, items_in}
 use Rattle.djq_machine.specs.State.{State}
 use Rattle.djq_machine.specs.LineStep.{LineOutcome, long, blank, slow, no_room, run}
 use Rattle.djq_machine.specs.Step.{Event, opened, fed, stepped, took, ended, closed}
 use Rattle.djq_machine.specs.Run.{Did, Walk, all_fed, fed_by, pieces_of, piece_of, lines_of, line_by, CutsInto}
 use Rattle.djq_machine.specs.Call.{Counts, held_of}
-use Rattle.djq_laws.specs.Course.{MayRun, RunNext}
-use Rattle.djq_laws.proofs.Cutting.{in_order, line_in_front}
-use Rattle.djq_laws.proofs.Giving.{step_gives}
-use Rattle.djq_laws.proofs.Sending.{next_runs}
+use Rattle.djq_run_laws.specs.Course.{MayRun, RunNext}
+use Rattle.djq_run_laws.proofs.Cutting.{in_order, line_in_front}
+use Rattle.djq_run_laws.proofs.Giving.{step_gives}
+use Rattle.djq_run_laws.proofs.Sending.{next_runs}
 use Rattle.djq_load.specs.Draws.{next, drawn}
 use Rattle.djq_load.specs.Load.{reading_lines, relation, change, pause, changes, value_count, load}
 use Rattle.djq_load.specs.Joins.{join, GivesFew}
@@ -29,7 +29,7 @@ use Rattle.djq_load.specs.Lines.{FeedsLines}
 use Rattle.djq_load.specs.Totals.{open_line, next_line}
 use Rattle.djq_load.proofs.Joining.{IsHarmless, LeavesJoin, IsFine, step_joins}
 use Rattle.djq_load.proofs.LoadLines.{AreOnes}
-use Rattle.djq_laws.proofs.Heading.{walk_spares}
+use Rattle.djq_run_laws.proofs.Heading.{walk_spares}
 
 -- What a line says.
 said_so : (o : Option Command) (c : Command) → reading_in o ≡ says_command c → o ≡ Some c

@@ -57,20 +57,20 @@ use Rattle.djq_model.specs.Data.{
 }
 use Rattle.djq_model.specs.Listed.{Listed, a_query, listed_name}
 use Rattle.djq_model.specs.Typed.{fits}
-use Rattle.djq_lines.specs.Columns.{types_of}
-use Rattle.djq_lines.specs.declared.answer.EndCause.{EndCause}
-use Rattle.djq_lines.specs.declared.answer.Refusal.{Refusal}
-use Rattle.djq_lines.specs.declared.answer.Refusal.TheVariants.{NoRelation, Arity, WrongType, Limit}
-use Rattle.djq_lines.specs.declared.answer.AddOutcome.{AddOutcome}
-use Rattle.djq_lines.specs.declared.answer.AddOutcome.TheVariants.{First, More}
-use Rattle.djq_lines.specs.declared.answer.DeleteOutcome.{DeleteOutcome}
-use Rattle.djq_lines.specs.declared.answer.DeleteOutcome.TheVariants.{Last, Left, Absent}
-use Rattle.djq_lines.specs.declared.rest.QueryOutcome.{QueryOutcome}
-use Rattle.djq_lines.specs.declared.rest.QueryOutcome.TheVariants.{Registered, Cyclic, NotConnex}
-use Rattle.djq_lines.specs.declared.limits.TheConstants.{ROWS, COPIES, LAST_SEQ}
-use Rattle.djq_lines.specs.declared.command.Command.{Command}
-use Rattle.djq_lines.specs.declared.held.HeldRow.{HeldRow}
-use Rattle.djq_lines.specs.declared.command.Command.TheVariants.{
+use Rattle.djq_protocol.specs.Columns.{types_of}
+use Rattle.djq_protocol.specs.declared.answer.EndCause.{EndCause}
+use Rattle.djq_protocol.specs.declared.answer.Refusal.{Refusal}
+use Rattle.djq_protocol.specs.declared.answer.Refusal.TheVariants.{NoRelation, Arity, WrongType, Limit}
+use Rattle.djq_protocol.specs.declared.answer.AddOutcome.{AddOutcome}
+use Rattle.djq_protocol.specs.declared.answer.AddOutcome.TheVariants.{First, More}
+use Rattle.djq_protocol.specs.declared.answer.DeleteOutcome.{DeleteOutcome}
+use Rattle.djq_protocol.specs.declared.answer.DeleteOutcome.TheVariants.{Last, Left, Absent}
+use Rattle.djq_protocol.specs.declared.rest.QueryOutcome.{QueryOutcome}
+use Rattle.djq_protocol.specs.declared.rest.QueryOutcome.TheVariants.{Registered, Cyclic, NotConnex}
+use Rattle.djq_protocol.specs.declared.limits.TheConstants.{ROWS, COPIES, LAST_SEQ}
+use Rattle.djq_protocol.specs.declared.command.Command.{Command}
+use Rattle.djq_protocol.specs.declared.held.HeldRow.{HeldRow}
+use Rattle.djq_protocol.specs.declared.command.Command.TheVariants.{
   Rel,
   Add,
   Del,
@@ -91,9 +91,9 @@ use Rattle.djq_lines.specs.declared.command.Command.TheVariants.{
   Quit,
   Stop,
 }
-use Rattle.djq_lines.specs.Conditions.{first_refusal, OutOfMemoryWhere}
-use Rattle.djq_lines.specs.Grammar.{says_command, reading_of}
-use Rattle.djq_lines.specs.Variables.{constants_of}
+use Rattle.djq_protocol.specs.Conditions.{first_refusal, OutOfMemoryWhere}
+use Rattle.djq_protocol.specs.Grammar.{says_command, reading_of}
+use Rattle.djq_protocol.specs.Variables.{constants_of}
 use Rattle.djq_model.specs.Known.{texts_in}
 use Rattle.djq_store_spec.specs.Store.{Store}
 use Rattle.djq_machine.specs.State.{State, Session, session_of, with_session}
@@ -121,7 +121,7 @@ use Rattle.djq_machine.specs.Step.{
   with_relations,
   Step,
 }
-use Rattle.djq_laws.specs.Form.{
+use Rattle.djq_run_laws.specs.Form.{
   Form,
   asking,
   storing,
@@ -136,9 +136,9 @@ use Rattle.djq_laws.specs.Form.{
   FormDoes,
   Turn,
 }
-use Rattle.djq_laws.proofs.Changing.{all_changed, all_dropped, less_dropped}
-use Rattle.djq_deltas.proofs.Cases.{some_there}
-use Rattle.djq_laws.proofs.Forms.{
+use Rattle.djq_run_laws.proofs.Changing.{all_changed, all_dropped, less_dropped}
+use Rattle.djq_answer_laws.proofs.Cases.{some_there}
+use Rattle.djq_run_laws.proofs.Forms.{
   done_of,
   none_holds,
   refused_learned,
@@ -151,8 +151,8 @@ use Rattle.djq_laws.proofs.Forms.{
   carried_out,
   line_reads,
 }
-use Rattle.djq_laws.proofs.Watching.{change_store, queued_store, replied_store}
-use Rattle.djq_laws.proofs.Touching.{fed_store}
+use Rattle.djq_run_laws.proofs.Watching.{change_store, queued_store, replied_store}
+use Rattle.djq_run_laws.proofs.Touching.{fed_store}
 use Rattle.djq_load.specs.Joins.{join, RelationIsSmall, IsJoin, Joins}
 
 -- Another store.

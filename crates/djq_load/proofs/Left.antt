@@ -9,8 +9,8 @@ use Rattle.djq_machine.specs.State.{State}
 use Rattle.djq_store_spec.specs.Listing.{IsLeft, AreAll}
 use Rattle.djq_machine.specs.Effect.{Effect}
 use Rattle.djq_machine.specs.Step.{Event, with_relations, Step}
-use Rattle.djq_laws.proofs.Answering.{SameAnswers, reordered_same}
-use Rattle.djq_laws.proofs.Watching.{queued_store}
+use Rattle.djq_run_laws.proofs.Answering.{SameAnswers, reordered_same}
+use Rattle.djq_run_laws.proofs.Watching.{queued_store}
 use Rattle.djq_load.specs.Totals.{HasLeft}
 
 moved : (rs rs' : List Relation) (o : Option Listed) (given : List Tuple) → ((q : Listed) → SameAnswers rs rs' q)

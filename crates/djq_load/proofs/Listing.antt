@@ -14,7 +14,7 @@ use Rattle.djq_model.specs.declared.value.Value.TheVariants.{Int, Text as TextVa
 use Rattle.djq_value.specs.Literal.{is_digit, digits_value, natural_of, integer_of, minus}
 use Rattle.djq_value.specs.ValueText.{value_text, escaped}
 use Rattle.djq_value.proofs.Words.{natural-some}
-use Rattle.djq_lines.specs.Reply.{cells_text, answer_line, last_line, listing_lines, text_of}
+use Rattle.djq_protocol.specs.Reply.{cells_text, answer_line, last_line, listing_lines, text_of}
 use Rattle.djq_load.specs.declared.reading.Place.TheVariants.{Front, Answer, Text}
 use Rattle.djq_load.specs.declared.reading.Reading.{Reading}
 use Rattle.djq_load.specs.Replies.{reading, signed, read_byte, read_bytes}

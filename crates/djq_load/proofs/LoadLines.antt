@@ -7,7 +7,7 @@ use Rattle.std.proofs.lemmas.Bool.{cond-false, and_parts, and_from, ne_eqb}
 use Rattle.std.proofs.lemmas.List.Folds.{list_all-append}
 use Rattle.djq_model.specs.Data.{Bytes}
 use Rattle.djq_value.specs.Literal.{is_digit}
-use Rattle.djq_lines.specs.Line.{behind_lf}
+use Rattle.djq_protocol.specs.Line.{behind_lf}
 use Rattle.djq_load.specs.Draws.{next, drawn}
 use Rattle.djq_load.specs.Load.{reading_lines, verb, relation, change, pause, changes, value_count, load}
 use Rattle.djq_load.proofs.Listing.{decimal_digits}

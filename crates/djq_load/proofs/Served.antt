@@ -2,8 +2,8 @@
 use Rattle.std.specs.Prelude.{ℕ, List, [], ◌∷◌, ◌≡◌, ◌≢◌, Bool, true, false, length, codes}
 use Rattle.std.proofs.Common.{sym, ap, ap₂, ◌∙◌, arith}
 use Rattle.djq_model.specs.Data.{Bytes, Tuple, bytes_eq}
-use Rattle.djq_lines.specs.declared.answer.Refusal.TheVariants.{NoMemory}
-use Rattle.djq_lines.specs.Reply.{refusal_line, listing_lines, text_of}
+use Rattle.djq_protocol.specs.declared.answer.Refusal.TheVariants.{NoMemory}
+use Rattle.djq_protocol.specs.Reply.{refusal_line, listing_lines, text_of}
 
 -- none
 pub quiet : (queued : Bytes) → queued ≡ [] → queued ≢ refusal_line NoMemory

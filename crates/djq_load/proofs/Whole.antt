@@ -5,17 +5,17 @@ use Rattle.std.specs.Prelude.{IfOk, OnOk, OnErr, ◌⊎◌}
 use Rattle.std.proofs.Common.{refl, sym, ap, ap₂, ◌∙◌, subst, inl, inr, length-append, arith}
 use Rattle.djq_model.specs.declared.memory.NoMem.{NoMem}
 use Rattle.djq_model.specs.Data.{Bytes}
-use Rattle.djq_lines.specs.declared.answer.Refusal.TheVariants.{NoMemory}
-use Rattle.djq_lines.specs.Reply.{refusal_line}
+use Rattle.djq_protocol.specs.declared.answer.Refusal.TheVariants.{NoMemory}
+use Rattle.djq_protocol.specs.Reply.{refusal_line}
 use Rattle.djq_machine.specs.State.{State, Session, fresh}
 use Rattle.djq_machine.specs.Step.{opened}
 use Rattle.djq_machine.specs.Effect.{Effect}
-use Rattle.djq_lines.specs.declared.limits.TheConstants.{SESSIONS}
+use Rattle.djq_protocol.specs.declared.limits.TheConstants.{SESSIONS}
 use Rattle.djq_machine.specs.Run.{to_session, pending_of}
 use Rattle.djq_machine.specs.Call.{IsOpen, Makes, Counts, OpenGives, cause_of, held_of}
 use Rattle.djq_machine.specs.declared.machine.OpenRefusal.{OpenRefusal}
-use Rattle.djq_laws.proofs.Sending.{step_bytes}
-use Rattle.djq_laws.proofs.Queueing.{stepped_cause, stepped_held}
+use Rattle.djq_run_laws.proofs.Sending.{step_bytes}
+use Rattle.djq_run_laws.proofs.Queueing.{stepped_cause, stepped_held}
 use Rattle.djq_load.specs.Load.{load}
 use Rattle.djq_load.specs.declared.loading.Totals.{Totals}
 use Rattle.djq_load.specs.declared.reading.Reading.{Reading}

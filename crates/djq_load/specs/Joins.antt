@@ -4,7 +4,7 @@ use Rattle.djq_model.specs.declared.relation.Relation.{Relation}
 use Rattle.djq_model.specs.declared.query.Query.{Query}
 use Rattle.djq_model.specs.declared.query.Term.TheVariants.{Variable}
 use Rattle.djq_model.specs.Listed.{Listed, a_query}
-use Rattle.djq_lines.specs.declared.limits.TheConstants.{ROWS}
+use Rattle.djq_protocol.specs.declared.limits.TheConstants.{ROWS}
 use Rattle.djq_store_spec.specs.Store.{Store}
 use Rattle.djq_machine.specs.State.{State}
 use Rattle.djq_machine.specs.Gives.{CursorsGive}

@@ -2,15 +2,15 @@
 use Rattle.std.specs.Prelude.{List, [], ◌∷◌, ◌≡◌, ◌≢◌, ◌+◌, ◌++◌, ◌<◌, ◌≤◌, ◌⊎◌, None, Option, Some}
 use Rattle.std.specs.Prelude.{length, codes, Bool, All}
 use Rattle.djq_model.specs.Data.{Bytes, Tuple}
-use Rattle.djq_lines.specs.declared.answer.Refusal.TheVariants.{NoMemory}
-use Rattle.djq_lines.specs.Reply.{refusal_line}
+use Rattle.djq_protocol.specs.declared.answer.Refusal.TheVariants.{NoMemory}
+use Rattle.djq_protocol.specs.Reply.{refusal_line}
 use Rattle.djq_machine.specs.State.{State, Session, Cursor, session_of, cursor_of}
 use Rattle.djq_store_spec.specs.Store.{open_at}
 use Rattle.djq_machine.specs.Step.{fed, took}
 use Rattle.djq_machine.specs.Run.{Did, Walk, pieces_of, cost_of, pending_of, to_session}
 use Rattle.djq_machine.specs.Call.{IsOpen, Makes, RanStep, Counts, cause_of, held_of}
-use Rattle.djq_laws.specs.Course.{RunNext}
-use Rattle.djq_laws.specs.Watched.{batch_of}
+use Rattle.djq_run_laws.specs.Course.{RunNext}
+use Rattle.djq_run_laws.specs.Watched.{batch_of}
 
 -- What was done didn't tell session 1 that memory is wanting.
 abbrev pub HadMemory : Did → Type 0

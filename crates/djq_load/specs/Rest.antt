@@ -1,7 +1,8 @@
 -- What of a load is still to come.
 use Rattle.std.specs.Prelude.{ℕ, List, ◌++◌, drop}
 use Rattle.djq_load.specs.declared.load.Due.{Due}
-use Rattle.djq_load.specs.declared.load.Due.TheVariants.{FirstRelation, SecondRelation, Query, Change, Open, Read, Close}
+use Rattle.djq_load.specs.declared.load.Due.TheVariants.{FirstRelation, SecondRelation, Query, Change, Open, Read}
+use Rattle.djq_load.specs.declared.load.Due.TheVariants.{Close}
 use Rattle.djq_load.specs.Load.{opening_lines, reading_lines}
 
 -- the lines from the one that is due on, before further changes

@@ -1,7 +1,7 @@
 ghost use Rattle.std.specs.Prelude.{◌≡◌, ℕ, [], ◌∷◌, ◌+◌, ◌*◌, ◌<◌, ◌≤◌, true, false, None, Some};
 ghost use Rattle.std.specs.Prelude.{IfOk, OnOk, OnErr, length, replicate};
 ghost use Rattle.djq_load.specs.Load.{load};
-ghost use Rattle.djq_lines.specs.Line.{behind_lf};
+ghost use Rattle.djq_protocol.specs.Line.{behind_lf};
 ghost use Rattle.djq_machine.specs.State.{opening};
 ghost use Rattle.djq_machine.specs.Call.{IsOpen, cause_of, counts};
 ghost use Rattle.djq_machine.specs.Run.{pending_of};
@@ -16,7 +16,7 @@ use crate::reading::Reading;
 use crate::{LINE_BYTES, Load};
 use djq_machine::{Fed, Machine, Stepped};
 use djq_model::NoMem;
-use djq_steps::{Ledgers, Steps};
+use djq_counters::{Ledgers, Steps};
 
 /// The id of the session of a load.
 const ID: u64 = 1;

@@ -5,9 +5,9 @@ use Rattle.std.proofs.lemmas.Grind.{flat_map-append}
 use Rattle.std.proofs.lemmas.List.{map-append}
 use Rattle.djq_model.specs.Data.{Bytes}
 use Rattle.djq_model.specs.declared.query.Query.{Query}
-use Rattle.djq_hyper.specs.Hypergraph.{numbers_below}
-use Rattle.djq_lines.specs.Reply.{line, text_of}
-use Rattle.djq_lines.specs.Hypergraph.{variable_names}
+use Rattle.djq_hypergraph.specs.Hypergraph.{numbers_below}
+use Rattle.djq_protocol.specs.Reply.{line, text_of}
+use Rattle.djq_protocol.specs.Hypergraph.{variable_names}
 use Rattle.djq_tree.specs.Tree.{Tree}
 use Rattle.djq_tree.specs.Explaining.{line_text, lines_below, explain_of}
 use Rattle.djq_machine.specs.Command.{explain_lines}

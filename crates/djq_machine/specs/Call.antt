@@ -4,9 +4,9 @@ use Rattle.std.specs.Prelude.{false, nat_le, nat_lt, Option, None, Some, IsSome,
 use Rattle.std.specs.Prelude.{is_some, find, Result, Ok, Err, length, ⊤}
 use Rattle.std.proofs.Common.{inl, inr}
 use Rattle.djq_model.specs.Data.{Bytes}
-use Rattle.djq_lines.specs.declared.limits.TheConstants.{SESSIONS}
-use Rattle.djq_lines.specs.declared.answer.EndCause.{EndCause}
-use Rattle.djq_lines.specs.declared.answer.EndCause.TheVariants.{Long, Slow, Memory}
+use Rattle.djq_protocol.specs.declared.limits.TheConstants.{SESSIONS}
+use Rattle.djq_protocol.specs.declared.answer.EndCause.{EndCause}
+use Rattle.djq_protocol.specs.declared.answer.EndCause.TheVariants.{Long, Slow, Memory}
 use Rattle.djq_machine.specs.declared.machine.Stepped.{Stepped}
 use Rattle.djq_machine.specs.declared.machine.Stepped.TheVariants.{Ran, Dry, Ended}
 use Rattle.djq_machine.specs.declared.machine.Fed.{Fed}

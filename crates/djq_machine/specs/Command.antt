@@ -38,21 +38,21 @@ use Rattle.djq_model.specs.declared.query.Query.{Query}
 use Rattle.djq_model.specs.Data.{Bytes, Tuple, bytes_eq, drop_first}
 use Rattle.djq_model.specs.Answer.{AreDifferent}
 use Rattle.djq_model.specs.Listed.{Listed, a_query, a_union, AnswersOf, listed_of}
-use Rattle.djq_lines.specs.declared.limits.TheConstants.{CURSORS, REPLY_BYTES}
-use Rattle.djq_lines.specs.declared.answer.Refusal.{Refusal}
-use Rattle.djq_lines.specs.declared.answer.Refusal.TheVariants.{Taken, NoQuery, NoCursor, Limit}
-use Rattle.djq_lines.specs.declared.rest.QueryOutcome.{QueryOutcome}
-use Rattle.djq_lines.specs.declared.answer.AddOutcome.{AddOutcome}
-use Rattle.djq_lines.specs.declared.answer.DeleteOutcome.{DeleteOutcome}
-use Rattle.djq_lines.specs.declared.answer.Shape.{Shape}
-use Rattle.djq_lines.specs.declared.answer.EndCause.TheVariants.{
+use Rattle.djq_protocol.specs.declared.limits.TheConstants.{CURSORS, REPLY_BYTES}
+use Rattle.djq_protocol.specs.declared.answer.Refusal.{Refusal}
+use Rattle.djq_protocol.specs.declared.answer.Refusal.TheVariants.{Taken, NoQuery, NoCursor, Limit}
+use Rattle.djq_protocol.specs.declared.rest.QueryOutcome.{QueryOutcome}
+use Rattle.djq_protocol.specs.declared.answer.AddOutcome.{AddOutcome}
+use Rattle.djq_protocol.specs.declared.answer.DeleteOutcome.{DeleteOutcome}
+use Rattle.djq_protocol.specs.declared.answer.Shape.{Shape}
+use Rattle.djq_protocol.specs.declared.answer.EndCause.TheVariants.{
   Quit as SaidQuit,
   Stop as SaidStop,
   Memory,
 }
-use Rattle.djq_lines.specs.declared.command.Command.{Command}
-use Rattle.djq_lines.specs.declared.held.HeldRow.{HeldRow}
-use Rattle.djq_lines.specs.declared.command.Command.TheVariants.{
+use Rattle.djq_protocol.specs.declared.command.Command.{Command}
+use Rattle.djq_protocol.specs.declared.held.HeldRow.{HeldRow}
+use Rattle.djq_protocol.specs.declared.command.Command.TheVariants.{
   Rel,
   Add,
   Del,
@@ -73,7 +73,7 @@ use Rattle.djq_lines.specs.declared.command.Command.TheVariants.{
   Quit,
   Stop,
 }
-use Rattle.djq_lines.specs.Reply.{
+use Rattle.djq_protocol.specs.Reply.{
   line,
   answer_line,
   last_line,
@@ -94,14 +94,14 @@ use Rattle.djq_lines.specs.Reply.{
   bye,
   end_memory,
 }
-use Rattle.djq_hyper.specs.Hypergraph.{numbers_below}
+use Rattle.djq_hypergraph.specs.Hypergraph.{numbers_below}
 use Rattle.djq_tree.specs.Tree.{Tree}
 use Rattle.djq_tree.specs.Growing.{IsTreeOf}
 use Rattle.djq_tree.specs.Explaining.{line_text}
-use Rattle.djq_lines.specs.Hypergraph.{edges_of, head_of, variable_names}
+use Rattle.djq_protocol.specs.Hypergraph.{edges_of, head_of, variable_names}
 use Rattle.djq_store_spec.specs.Store.{Store, Position, open_at, stale}
 use Rattle.djq_machine.specs.State.{Cursor, Session, State, with_session, cursor_of, with_position, ended_by}
-use Rattle.djq_lines.specs.Conditions.{first_refusal, Answers, OutOfMemoryWhere}
+use Rattle.djq_protocol.specs.Conditions.{first_refusal, Answers, OutOfMemoryWhere}
 use Rattle.djq_store_spec.specs.Relations.{MakesRelation}
 use Rattle.djq_store_spec.specs.Rows.{AddsRow, DeletesRow}
 use Rattle.djq_store_spec.specs.Registering.{RegistersQuery, DropsQuery, answer_steps}

@@ -1,9 +1,9 @@
 -- What an event brings about beside the state: bytes queued, what it may cost, and what is kept.
 use Rattle.std.specs.Prelude.{ℕ, Bool, List, [], ◌∷◌, ◌≡◌, ◌++◌}
 use Rattle.djq_model.specs.Data.{Bytes}
-use Rattle.djq_lines.specs.declared.answer.EndCause.{EndCause}
-use Rattle.djq_lines.specs.declared.answer.Refusal.{Refusal}
-use Rattle.djq_lines.specs.Reply.{refusal_line}
+use Rattle.djq_protocol.specs.declared.answer.EndCause.{EndCause}
+use Rattle.djq_protocol.specs.declared.answer.Refusal.{Refusal}
+use Rattle.djq_protocol.specs.Reply.{refusal_line}
 use Rattle.djq_machine.specs.State.{State, with_session, ended_by}
 use Rattle.djq_machine.specs.Keeping.{Keeping, no_line, kept_where}
 

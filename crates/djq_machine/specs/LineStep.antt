@@ -1,14 +1,14 @@
 -- What becomes of the line in front of a session's bytes.
 use Rattle.std.specs.Prelude.{ℕ, ◌≡◌, ◌<◌, ◌≤◌, Bool, true, false, length}
 use Rattle.djq_model.specs.Data.{Bytes}
-use Rattle.djq_lines.specs.declared.limits.TheConstants.{PENDING_BYTES}
-use Rattle.djq_lines.specs.declared.answer.EndCause.TheVariants.{Long, Slow, Memory}
-use Rattle.djq_lines.specs.declared.answer.Refusal.{Refusal}
-use Rattle.djq_lines.specs.declared.answer.Refusal.TheVariants.{Syntax, WrongType, NoMemory, Misplaced}
-use Rattle.djq_lines.specs.Line.{too_long, a_line, front_of, is_blank}
-use Rattle.djq_lines.specs.Grammar.{Reading, outside, past_limit, says_command, reading_of}
-use Rattle.djq_lines.specs.Grammar.{takes_memory_to_read}
-use Rattle.djq_lines.specs.Reply.{end_long, end_slow, end_memory}
+use Rattle.djq_protocol.specs.declared.limits.TheConstants.{PENDING_BYTES}
+use Rattle.djq_protocol.specs.declared.answer.EndCause.TheVariants.{Long, Slow, Memory}
+use Rattle.djq_protocol.specs.declared.answer.Refusal.{Refusal}
+use Rattle.djq_protocol.specs.declared.answer.Refusal.TheVariants.{Syntax, WrongType, NoMemory, Misplaced}
+use Rattle.djq_protocol.specs.Line.{too_long, a_line, front_of, is_blank}
+use Rattle.djq_protocol.specs.Grammar.{Reading, outside, past_limit, says_command, reading_of}
+use Rattle.djq_protocol.specs.Grammar.{takes_memory_to_read}
+use Rattle.djq_protocol.specs.Reply.{end_long, end_slow, end_memory}
 use Rattle.djq_machine.specs.State.{Session, State, with_session}
 use Rattle.djq_machine.specs.Effect.{Effect, nothing, EndsWith, RefusedStep}
 use Rattle.djq_machine.specs.Command.{CommandStep, is_misplaced}

@@ -3,7 +3,7 @@ use Rattle.std.specs.Prelude.{ℕ, List, [], ◌∷◌, ◌++◌, ◌==◌, ◌�
 use Rattle.std.specs.List.{flat_map}
 use Rattle.djq_model.specs.Data.{Bytes}
 use Rattle.djq_machine.specs.State.{State, Session, session_of}
-use Rattle.djq_lines.specs.Line.{a_line, front_of}
+use Rattle.djq_protocol.specs.Line.{a_line, front_of}
 use Rattle.djq_machine.specs.Keeping.{Keeping, no_line, the_line, the_batch}
 use Rattle.djq_machine.specs.Effect.{Effect}
 pub use Rattle.djq_machine.specs.Walk.{Walk}

@@ -1,8 +1,8 @@
 -- The state of the join machine.
 use Rattle.std.specs.Prelude.{ℕ, List, [], ◌==◌, Bool, false, Option, None, Some, find, map}
 use Rattle.djq_model.specs.Data.{Bytes, bytes_eq, change_first}
-use Rattle.djq_lines.specs.declared.answer.EndCause.{EndCause}
-use Rattle.djq_lines.specs.declared.held.HeldRow.{HeldRow}
+use Rattle.djq_protocol.specs.declared.answer.EndCause.{EndCause}
+use Rattle.djq_protocol.specs.declared.held.HeldRow.{HeldRow}
 use Rattle.djq_store_spec.specs.Store.{Store, Position, empty_store}
 
 -- A cursor of a session, over the answers of a query.

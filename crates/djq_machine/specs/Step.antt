@@ -3,10 +3,10 @@ use Rattle.std.specs.Prelude.{ℕ, List, [], ◌∷◌, ◌==◌, ◌≡◌, ◌
 use Rattle.std.specs.Prelude.{None, IsSomeAnd, MatchOption, length, filter, All, IsPermutation}
 use Rattle.djq_model.specs.declared.relation.Relation.{Relation}
 use Rattle.djq_model.specs.Data.{Bytes}
-use Rattle.djq_lines.specs.declared.limits.TheConstants.{SESSIONS}
-use Rattle.djq_lines.specs.declared.answer.EndCause.TheVariants.{Input, Memory}
-use Rattle.djq_lines.specs.Line.{Front, dry, front_of}
-use Rattle.djq_lines.specs.Reply.{end_memory, input_cut}
+use Rattle.djq_protocol.specs.declared.limits.TheConstants.{SESSIONS}
+use Rattle.djq_protocol.specs.declared.answer.EndCause.TheVariants.{Input, Memory}
+use Rattle.djq_protocol.specs.Line.{Front, dry, front_of}
+use Rattle.djq_protocol.specs.Reply.{end_memory, input_cut}
 use Rattle.djq_machine.specs.State.{Session, State, fresh, session_of, with_session, ended_by}
 use Rattle.djq_machine.specs.Effect.{Effect, nothing, says, EndsWith, queue_all}
 use Rattle.djq_machine.specs.LineStep.{LineOutcome, FrontStep}

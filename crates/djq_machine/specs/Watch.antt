@@ -4,10 +4,10 @@ use Rattle.std.specs.Prelude.{Some, IsSomeAnd, MatchOption, if◌then◌else◌,
 use Rattle.std.specs.List.{list_any}
 use Rattle.djq_model.specs.Data.{Bytes, bytes_eq}
 use Rattle.djq_model.specs.Listed.{Listed, listed_name}
-use Rattle.djq_lines.specs.declared.limits.TheConstants.{PENDING_BYTES}
-use Rattle.djq_lines.specs.declared.answer.EndCause.{EndCause}
-use Rattle.djq_lines.specs.declared.answer.EndCause.TheVariants.{Slow, Memory}
-use Rattle.djq_lines.specs.Reply.{text_of, end_slow, end_memory}
+use Rattle.djq_protocol.specs.declared.limits.TheConstants.{PENDING_BYTES}
+use Rattle.djq_protocol.specs.declared.answer.EndCause.{EndCause}
+use Rattle.djq_protocol.specs.declared.answer.EndCause.TheVariants.{Slow, Memory}
+use Rattle.djq_protocol.specs.Reply.{text_of, end_slow, end_memory}
 use Rattle.djq_store_spec.specs.Store.{Store}
 use Rattle.djq_machine.specs.State.{Session, State, session_of, with_session, ended_by, state_ids}
 use Rattle.djq_machine.specs.Effect.{Effect, queue_all}

@@ -20,7 +20,7 @@
 //!
 //! To read first: `specs/Step.antt`, from `Step` at its end backwards. From there `LineStep.antt`
 //! has the order of checks on a line, `Command.antt` a case for each command, and `Store.antt` its
-//! conditions and what it does to relations and queries. The laws of its runs are djq_laws'.
+//! conditions and what it does to relations and queries. The laws of its runs are djq_run_laws'.
 #![tactic(auto)]
 
 pub use machine::{Fed, Loaded, Machine, OpenRefusal, Stepped};

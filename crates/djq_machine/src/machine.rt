@@ -1,5 +1,5 @@
-use djq_lines::EndCause;
-use djq_steps::{Ledgers, Steps};
+use djq_protocol::EndCause;
+use djq_counters::{Ledgers, Steps};
 use thiserror::Error;
 
 /// What became of the line in front of a session's bytes.
@@ -74,7 +74,7 @@ pub trait Machine {
     ///
     /// # Errors
     ///
-    /// `Full` exactly where [`SESSIONS`](djq_lines::limits::SESSIONS) are open; `NoMem` below that,
+    /// `Full` exactly where [`SESSIONS`](djq_protocol::limits::SESSIONS) are open; `NoMem` below that,
     /// out of memory.
     fn open_session(&mut self, id: u64) -> Result<(), OpenRefusal>
         requires { All (λ x. x.id < id) (state self.old).sessions }

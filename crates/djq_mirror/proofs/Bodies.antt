@@ -4,10 +4,10 @@ use Rattle.std.specs.Fmt.{decimal}
 use Rattle.std.specs.List.{flat_map}
 use Rattle.std.proofs.lemmas.List.{append-nil, append_cancel_right}
 use Rattle.djq_model.specs.Data.{Bytes}
-use Rattle.djq_lines.specs.declared.answer.EndLine.{EndLine}
-use Rattle.djq_lines.specs.declared.answer.EndLine.TheVariants.{Long, Slow, Memory, Full}
-use Rattle.djq_lines.specs.declared.answer.Refusal.{Refusal}
-use Rattle.djq_lines.specs.declared.answer.Refusal.TheVariants.{
+use Rattle.djq_protocol.specs.declared.answer.EndLine.{EndLine}
+use Rattle.djq_protocol.specs.declared.answer.EndLine.TheVariants.{Long, Slow, Memory, Full}
+use Rattle.djq_protocol.specs.declared.answer.Refusal.{Refusal}
+use Rattle.djq_protocol.specs.declared.answer.Refusal.TheVariants.{
   Syntax,
   Taken,
   NoRelation,
@@ -25,8 +25,8 @@ use Rattle.djq_lines.specs.declared.answer.Refusal.TheVariants.{
   Member,
   Misplaced,
 }
-use Rattle.djq_lines.specs.declared.answer.Shape.TheVariants.{Flat, Linear, Union}
-use Rattle.djq_lines.specs.Reply.{line, cells_text, sign_text}
+use Rattle.djq_protocol.specs.declared.answer.Shape.TheVariants.{Flat, Linear, Union}
+use Rattle.djq_protocol.specs.Reply.{line, cells_text, sign_text}
 use Rattle.djq_tree.specs.Explaining.{end_text}
 use Rattle.djq_mirror.specs.Replies.{
   Node,

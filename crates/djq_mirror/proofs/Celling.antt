@@ -11,7 +11,7 @@ use Rattle.djq_value.specs.ReadValue.{literal_at}
 use Rattle.djq_value.specs.Token.{may_end}
 use Rattle.djq_value.specs.ValueText.{value_text}
 use Rattle.djq_value.proofs.Literals.{read_back}
-use Rattle.djq_lines.specs.Reply.{cells_text}
+use Rattle.djq_protocol.specs.Reply.{cells_text}
 use Rattle.djq_mirror.specs.Replies.{are_cells, is_cell, is_text}
 use Rattle.djq_mirror.specs.Cells.{are_cells_in, behind_cell, behind_value, cells_within, or_false}
 use Rattle.djq_mirror.proofs.Numerals.{bytes_are, same_bytes}

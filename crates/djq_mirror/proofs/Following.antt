@@ -8,7 +8,7 @@ use Rattle.std.proofs.lemmas.Grind.{flat_map-append, get_or_default_zero}
 use Rattle.std.proofs.lemmas.List.Elements.{All-append, All-cons}
 use Rattle.memchr.specs.Find.{IsFirstByte, is_byte}
 use Rattle.djq_model.specs.Data.{Bytes}
-use Rattle.djq_lines.specs.Reply.{line}
+use Rattle.djq_protocol.specs.Reply.{line}
 use Rattle.djq_io.specs.Source.{SourceReading}
 use Rattle.djq_mirror.specs.declared.mode.TheConstants.{REPLY_LINE_BYTES}
 use Rattle.djq_mirror.specs.Mirror.{Held, at_first, IsOutside}

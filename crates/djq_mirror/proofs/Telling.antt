@@ -28,10 +28,10 @@ use Rattle.std.proofs.lemmas.List.{append-nil, drop_at}
 use Rattle.std.proofs.lemmas.Bool.{and_parts, and_from, cond-true}
 use Rattle.djq_model.specs.Data.{Bytes, Tuple}
 use Rattle.djq_value.specs.Literal.{is_name}
-use Rattle.djq_lines.specs.declared.answer.EndLine.{EndLine}
-use Rattle.djq_lines.specs.declared.answer.EndLine.TheVariants.{Long, Slow, Memory, Full}
-use Rattle.djq_lines.specs.declared.answer.Refusal.{Refusal}
-use Rattle.djq_lines.specs.declared.answer.Refusal.TheVariants.{
+use Rattle.djq_protocol.specs.declared.answer.EndLine.{EndLine}
+use Rattle.djq_protocol.specs.declared.answer.EndLine.TheVariants.{Long, Slow, Memory, Full}
+use Rattle.djq_protocol.specs.declared.answer.Refusal.{Refusal}
+use Rattle.djq_protocol.specs.declared.answer.Refusal.TheVariants.{
   Syntax,
   Taken,
   NoRelation,
@@ -49,10 +49,10 @@ use Rattle.djq_lines.specs.declared.answer.Refusal.TheVariants.{
   Member,
   Misplaced,
 }
-use Rattle.djq_lines.specs.declared.answer.Shape.TheVariants.{Flat, Linear, Union}
-use Rattle.djq_lines.specs.declared.answer.Sign.{Sign}
-use Rattle.djq_lines.specs.declared.answer.Sign.TheVariants.{Came, Went}
-use Rattle.djq_lines.specs.Reply.{cells_text}
+use Rattle.djq_protocol.specs.declared.answer.Shape.TheVariants.{Flat, Linear, Union}
+use Rattle.djq_protocol.specs.declared.answer.Sign.{Sign}
+use Rattle.djq_protocol.specs.declared.answer.Sign.TheVariants.{Came, Went}
+use Rattle.djq_protocol.specs.Reply.{cells_text}
 use Rattle.djq_mirror.specs.Cells.{are_cells_in}
 use Rattle.djq_model.specs.Parts.{before}
 use Rattle.djq_mirror.specs.Parts.{parts}

@@ -4,7 +4,7 @@ use Rattle.std.proofs.Common.{◌≡◌, ℕ, [], ◌∷◌, ◌++◌, List, len
 use Rattle.std.specs.List.{flat_map}
 use Rattle.std.proofs.lemmas.List.{append-nil, take_at}
 use Rattle.djq_model.specs.Data.{Bytes}
-use Rattle.djq_lines.specs.Reply.{line}
+use Rattle.djq_protocol.specs.Reply.{line}
 use Rattle.bytes.specs.Filled.{Filled}
 use Rattle.std.specs.Prelude.{Result, Ok, Err, IsErr}
 use Rattle.djq_value.specs.Output.{Puts}

@@ -6,7 +6,7 @@ use Rattle.djq_io.specs.Written.{GainsBytes, FailsBehind}
 use Rattle.djq_io.specs.declared.sink.Write.{Write}
 use Rattle.djq_io.specs.Given.{Gave}
 use Rattle.djq_model.specs.Data.{Bytes}
-use Rattle.djq_lines.specs.Reply.{numbered_line}
+use Rattle.djq_protocol.specs.Reply.{numbered_line}
 use Rattle.djq_io.specs.declared.limits.TheConstants.{MOST_READS}
 use Rattle.djq_mirror.specs.Mirror.{Held, written}
 use Rattle.djq_mirror.specs.Inputs.{HoldsAtEnd}

@@ -2,7 +2,7 @@
 use Rattle.std.specs.Prelude.{◌≡◌, ◌≢◌, ℕ, ◌+◌, List, [], ◌∷◌, ◌++◌, All, length}
 use Rattle.std.specs.List.{flat_map}
 use Rattle.djq_model.specs.Data.{Bytes}
-use Rattle.djq_lines.specs.Reply.{line}
+use Rattle.djq_protocol.specs.Reply.{line}
 use Rattle.djq_mirror.specs.Mirror.{Held, at_first, Follows, IsOutside}
 
 -- lines, each ended by LF

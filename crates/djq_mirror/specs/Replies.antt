@@ -8,11 +8,11 @@ use Rattle.djq_model.specs.declared.value.Value.{Value}
 use Rattle.djq_model.specs.declared.value.Value.TheVariants.{Int, Text}
 use Rattle.djq_model.specs.Data.{Bytes, Tuple, bytes_eq}
 use Rattle.djq_value.specs.Literal.{is_name, is_small_value}
-use Rattle.djq_lines.specs.declared.answer.EndLine.{EndLine}
-use Rattle.djq_lines.specs.declared.answer.Refusal.{Refusal}
-use Rattle.djq_lines.specs.declared.answer.Shape.{Shape}
-use Rattle.djq_lines.specs.declared.answer.Sign.{Sign}
-use Rattle.djq_lines.specs.Reply.{
+use Rattle.djq_protocol.specs.declared.answer.EndLine.{EndLine}
+use Rattle.djq_protocol.specs.declared.answer.Refusal.{Refusal}
+use Rattle.djq_protocol.specs.declared.answer.Shape.{Shape}
+use Rattle.djq_protocol.specs.declared.answer.Sign.{Sign}
+use Rattle.djq_protocol.specs.Reply.{
   line,
   numbered_line,
   numbered_twice,

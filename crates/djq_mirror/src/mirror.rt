@@ -1,6 +1,6 @@
 ghost use Rattle.std.specs.Prelude.{◌≡◌, ◌∷◌, ◌++◌, codes, OnErr, OnOk};
 ghost use Rattle.std.specs.List.{flat_map};
-ghost use Rattle.djq_lines.specs.Reply.{line as line_of};
+ghost use Rattle.djq_protocol.specs.Reply.{line as line_of};
 ghost use Rattle.djq_mirror.specs.Acting.{AppendsText, LineEnds, MirrorTurns, AppendsOrKeeps, set_texts};
 ghost use Rattle.djq_mirror.specs.Mirror.{at_first, written};
 ghost use Rattle.djq_mirror.specs.Reading.{news_by, turn_by};

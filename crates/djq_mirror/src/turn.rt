@@ -6,7 +6,7 @@ ghost use Rattle.djq_mirror.specs.Reading.{act_by, news_by, turn_by};
 
 use crate::mode::Mode;
 use crate::told::Told;
-use djq_lines::Sign;
+use djq_protocol::Sign;
 use djq_value::is_text;
 
 /// What becomes of the answers that are held.

@@ -6,13 +6,13 @@ use Rattle.std.specs.Prelude.{◌==◌, nat_le}
 use Rattle.std.proofs.lemmas.List.{nil_from_length, take_all, replicate_more}
 use Rattle.std.proofs.lemmas.Bool.{eqb-true, le-leb}
 use Rattle.std.proofs.Math.Numerals.{add-one}
-use Rattle.djq_hyper.specs.Gyo.{IsRest}
-use Rattle.djq_hyper.specs.JoinTree.{HasJoinTree, HasJoinTreeFrom, IsFreeConnex}
-use Rattle.djq_hyper.specs.Refusing.{IsNotConnex}
-use Rattle.djq_hyper.specs.Variables.{IsVariableSet, AreVariableSets, AreCovered}
-use Rattle.djq_hyper.proofs.Bags.{numbers, times}
-use Rattle.djq_hyper.proofs.Rooting.{Rooted}
-use Rattle.djq_hyper.proofs.Linking.{rooted_of, rooted_at, join_tree_turned}
+use Rattle.djq_hypergraph.specs.Gyo.{IsRest}
+use Rattle.djq_hypergraph.specs.JoinTree.{HasJoinTree, HasJoinTreeFrom, IsFreeConnex}
+use Rattle.djq_hypergraph.specs.Refusing.{IsNotConnex}
+use Rattle.djq_hypergraph.specs.Variables.{IsVariableSet, AreVariableSets, AreCovered}
+use Rattle.djq_hypergraph.proofs.Bags.{numbers, times}
+use Rattle.djq_hypergraph.proofs.Rooting.{Rooted}
+use Rattle.djq_hypergraph.proofs.Linking.{rooted_of, rooted_at, join_tree_turned}
 use Rattle.djq_tree.specs.declared.choice.Choice.TheVariants.{Stuck}
 use Rattle.djq_tree.specs.Choosing.{choose}
 use Rattle.djq_tree.specs.Growing.{Growth, start, grow, are_within, is_root, marks_below, IsStage}

@@ -6,10 +6,10 @@ use Rattle.std.specs.Prelude.{◌==◌, nat_le}
 use Rattle.std.proofs.lemmas.List.{length_push, length-append, get_or_append_left, get_or_push}
 use Rattle.std.proofs.lemmas.List.{get_or_past, nil_from_length}
 use Rattle.std.proofs.lemmas.Bool.{cases_lt, cases_eq, eqb-true, false≢true, le-leb, lt-leb, and_parts}
-use Rattle.djq_hyper.specs.Hypergraph.{member, edge_at, one}
-use Rattle.djq_hyper.specs.Variables.{IsVariableSet, AreVariableSets}
-use Rattle.djq_hyper.proofs.Members.{has_bit, one_true, one_false}
-use Rattle.djq_hyper.proofs.Bags.{numbers, times}
+use Rattle.djq_hypergraph.specs.Hypergraph.{member, edge_at, one}
+use Rattle.djq_hypergraph.specs.Variables.{IsVariableSet, AreVariableSets}
+use Rattle.djq_hypergraph.proofs.Members.{has_bit, one_true, one_false}
+use Rattle.djq_hypergraph.proofs.Bags.{numbers, times}
 use Rattle.djq_tree.specs.declared.node.Node.{Node}
 use Rattle.djq_tree.specs.declared.node.Node.TheVariants as node
 use Rattle.djq_tree.specs.declared.choice.Choice.{Choice}

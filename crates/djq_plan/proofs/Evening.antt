@@ -3,11 +3,11 @@ use Rattle.std.proofs.Common.{◌≡◌, ◌⊎◌, ℕ, zero, suc, ◌+◌, ◌
 use Rattle.std.proofs.Common.{◌&&◌, List, [], ◌∷◌, length, refl, ap, sym, ◌∙◌, arith, inl, inr}
 use Rattle.std.specs.Prelude.{remove}
 use Rattle.std.proofs.lemmas.Bool.{cases_Bool, cases_lt, false≢true}
-use Rattle.djq_hyper.specs.Hypergraph.{member, subset, difference, degree, edge_at}
-use Rattle.djq_hyper.proofs.Members.{has_bit, has_difference, one_le, from_true, has_here, subset_from}
-use Rattle.djq_hyper.proofs.Owning.{edge_with, edge_in}
-use Rattle.djq_hyper.proofs.Bags.{labels}
-use Rattle.djq_hyper.proofs.Counting.{Same, degree_same, outside}
+use Rattle.djq_hypergraph.specs.Hypergraph.{member, subset, difference, degree, edge_at}
+use Rattle.djq_hypergraph.proofs.Members.{has_bit, has_difference, one_le, from_true, has_here, subset_from}
+use Rattle.djq_hypergraph.proofs.Owning.{edge_with, edge_in}
+use Rattle.djq_hypergraph.proofs.Bags.{labels}
+use Rattle.djq_hypergraph.proofs.Counting.{Same, degree_same, outside}
 use Rattle.djq_tree.specs.declared.choice.Choice.{Choice}
 use Rattle.djq_tree.specs.declared.choice.Choice.TheVariants.{Trim, Meet, Stuck}
 use Rattle.djq_tree.specs.Choosing.{removable, has_removable, are_equal}

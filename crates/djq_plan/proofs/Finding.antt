@@ -3,12 +3,12 @@ use Rattle.std.specs.Prelude.{◌≡◌, ℕ, ◌+◌, ◌<◌, min, true, ◌==
 use Rattle.std.specs.Prelude.{slice_get, Some, None, refl}
 use Rattle.std.proofs.Common.{sym, ap, ◌∙◌, arith}
 use Rattle.std.proofs.lemmas.Bool.{eq-eqb, eqb-true}
-use Rattle.djq_hyper.specs.Hypergraph.{member, degree, intersection, edge_at}
-use Rattle.djq_hyper.specs.declared.step.Step.TheVariants.{Vertex}
-use Rattle.djq_hyper.specs.Gyo.{IsStep}
-use Rattle.djq_hyper.proofs.Members.{has_bit, one_true, from_true, has_intersection, has_here}
-use Rattle.djq_hyper.proofs.Counting.{degree_in}
-use Rattle.djq_hyper.proofs.Owning.{degree_more}
+use Rattle.djq_hypergraph.specs.Hypergraph.{member, degree, intersection, edge_at}
+use Rattle.djq_hypergraph.specs.declared.step.Step.TheVariants.{Vertex}
+use Rattle.djq_hypergraph.specs.Gyo.{IsStep}
+use Rattle.djq_hypergraph.proofs.Members.{has_bit, one_true, from_true, has_intersection, has_here}
+use Rattle.djq_hypergraph.proofs.Counting.{degree_in}
+use Rattle.djq_hypergraph.proofs.Owning.{degree_more}
 use Rattle.djq_plan.proofs.ReductionPlaces.{stands_at}
 
 -- ---- the first variable of a set

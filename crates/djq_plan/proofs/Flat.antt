@@ -6,12 +6,12 @@ use Rattle.std.specs.Prelude.{◌==◌, nat_lt, unwrap_or, slice_index}
 use Rattle.std.proofs.lemmas.Bool.{cases_lt, eqb-true, and_parts}
 use Rattle.std.proofs.lemmas.List.{get_or_past, nil_from_length}
 use Rattle.std.proofs.lemmas.List.Kept.{AllPairs-from_increasing}
-use Rattle.djq_hyper.specs.Flat.{IsFlat}
-use Rattle.djq_hyper.specs.Hypergraph.{member, subset, degree, edge_at}
-use Rattle.djq_hyper.specs.Variables.{AreCovered}
-use Rattle.djq_hyper.proofs.Members.{has_bit, same_one, subset_says}
-use Rattle.djq_hyper.proofs.Bags.{numbers}
-use Rattle.djq_hyper.proofs.Rising.{same_sets}
+use Rattle.djq_hypergraph.specs.Flat.{IsFlat}
+use Rattle.djq_hypergraph.specs.Hypergraph.{member, subset, degree, edge_at}
+use Rattle.djq_hypergraph.specs.Variables.{AreCovered}
+use Rattle.djq_hypergraph.proofs.Members.{has_bit, same_one, subset_says}
+use Rattle.djq_hypergraph.proofs.Bags.{numbers}
+use Rattle.djq_hypergraph.proofs.Rising.{same_sets}
 use Rattle.djq_tree.specs.declared.choice.Choice.{Choice}
 use Rattle.djq_tree.specs.declared.choice.Choice.TheVariants.{Trim, Meet, Stuck}
 use Rattle.djq_tree.specs.declared.node.Node.{Node}

@@ -7,9 +7,9 @@ use Rattle.std.proofs.lemmas.List.{length_push, length-map, get_or-map, map_push
 use Rattle.std.proofs.lemmas.List.{take_all, get_or_past, get_or_push, get_or_append_left}
 use Rattle.std.proofs.Math.Numerals.{add-one}
 use Rattle.std.proofs.lemmas.Bool.{cases_lt, cases_eq, eq-eqb, ne_eqb, false≢true}
-use Rattle.djq_hyper.specs.Hypergraph.{member, difference, degree, edge_at}
-use Rattle.djq_hyper.proofs.Members.{has_bit, Sub, from_true, has_difference, has_here, subset_says}
-use Rattle.djq_hyper.proofs.Bags.{numbers, times, Bag}
+use Rattle.djq_hypergraph.specs.Hypergraph.{member, difference, degree, edge_at}
+use Rattle.djq_hypergraph.proofs.Members.{has_bit, Sub, from_true, has_difference, has_here, subset_says}
+use Rattle.djq_hypergraph.proofs.Bags.{numbers, times, Bag}
 use Rattle.djq_tree.specs.declared.node.Node.TheVariants as node
 use Rattle.djq_tree.specs.declared.choice.Choice.{Choice}
 use Rattle.djq_tree.specs.declared.choice.Choice.TheVariants.{Trim, Meet, Stuck}

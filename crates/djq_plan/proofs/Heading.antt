@@ -4,10 +4,10 @@ use Rattle.std.proofs.Common.{length, ap, sym, ◌∙◌, ◌&&◌, arith, inl, 
 use Rattle.std.specs.Prelude.{remove}
 use Rattle.std.proofs.lemmas.List.{length_push, get_or_past}
 use Rattle.std.proofs.lemmas.Bool.{cases_lt, false≢true}
-use Rattle.djq_hyper.specs.Hypergraph.{member, subset, difference, degree, edge_at}
-use Rattle.djq_hyper.proofs.Members.{has_bit, Sub, one_le, one_true, from_true, has_difference, subset_from}
-use Rattle.djq_hyper.proofs.Bags.{labels, numbers, times, times_itself, total}
-use Rattle.djq_hyper.proofs.Counting.{degree_same, count_self}
+use Rattle.djq_hypergraph.specs.Hypergraph.{member, subset, difference, degree, edge_at}
+use Rattle.djq_hypergraph.proofs.Members.{has_bit, Sub, one_le, one_true, from_true, has_difference, subset_from}
+use Rattle.djq_hypergraph.proofs.Bags.{labels, numbers, times, times_itself, total}
+use Rattle.djq_hypergraph.proofs.Counting.{degree_same, count_self}
 use Rattle.djq_tree.specs.declared.choice.Choice.{Choice}
 use Rattle.djq_tree.specs.declared.choice.Choice.TheVariants.{Trim, Meet, Stuck}
 use Rattle.djq_tree.specs.Tree.{is_out, ShowsHead}

@@ -2,10 +2,10 @@
 use Rattle.std.proofs.Common.{◌≡◌, ℕ, zero, suc, ◌<◌, ◌≤◌, List, [], ◌∷◌, ap, arith, inl, inr}
 use Rattle.std.specs.Prelude.{remove}
 use Rattle.std.proofs.lemmas.Bool.{cases_lt}
-use Rattle.djq_hyper.specs.Hypergraph.{member, difference, degree, edge_at}
-use Rattle.djq_hyper.proofs.Members.{has_bit, one_le, has_difference, subset_says}
-use Rattle.djq_hyper.proofs.Bags.{labels}
-use Rattle.djq_hyper.proofs.Counting.{degree_same}
+use Rattle.djq_hypergraph.specs.Hypergraph.{member, difference, degree, edge_at}
+use Rattle.djq_hypergraph.proofs.Members.{has_bit, one_le, has_difference, subset_says}
+use Rattle.djq_hypergraph.proofs.Bags.{labels}
+use Rattle.djq_hypergraph.proofs.Counting.{degree_same}
 use Rattle.djq_tree.specs.declared.choice.Choice.{Choice}
 use Rattle.djq_tree.specs.declared.choice.Choice.TheVariants.{Trim, Meet, Stuck}
 use Rattle.djq_tree.specs.Choosing.{removable, choose}

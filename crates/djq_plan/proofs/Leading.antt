@@ -4,13 +4,13 @@ use Rattle.std.proofs.Common.{length, filter, refl, ap, sym, ◌∙◌, arith, i
 use Rattle.std.specs.Prelude.{remove, ◌==◌}
 use Rattle.std.proofs.lemmas.List.{nil_from_length}
 use Rattle.std.proofs.lemmas.Bool.{cases_Bool, cases_lt, eqb-true, eq-eqb, ne_eqb, false≢true, and_parts}
-use Rattle.djq_hyper.specs.Hypergraph.{member, subset, difference, degree, edge_at, one}
-use Rattle.djq_hyper.proofs.Members.{has_bit, Sub, one_le, one_true, from_true, has_difference}
-use Rattle.djq_hyper.proofs.Members.{has_filter, has_here, subset_from, subset_says}
-use Rattle.djq_hyper.proofs.Bags.{labels, same_item}
-use Rattle.djq_hyper.proofs.Counting.{count, Same, count_self, degree_same}
-use Rattle.djq_hyper.proofs.Rooting.{Rooted, rooted_same, progress, Own, Inner, trimmed, untrimmed}
-use Rattle.djq_hyper.proofs.Rooting.{dropped, undropped, all_plugged}
+use Rattle.djq_hypergraph.specs.Hypergraph.{member, subset, difference, degree, edge_at, one}
+use Rattle.djq_hypergraph.proofs.Members.{has_bit, Sub, one_le, one_true, from_true, has_difference}
+use Rattle.djq_hypergraph.proofs.Members.{has_filter, has_here, subset_from, subset_says}
+use Rattle.djq_hypergraph.proofs.Bags.{labels, same_item}
+use Rattle.djq_hypergraph.proofs.Counting.{count, Same, count_self, degree_same}
+use Rattle.djq_hypergraph.proofs.Rooting.{Rooted, rooted_same, progress, Own, Inner, trimmed, untrimmed}
+use Rattle.djq_hypergraph.proofs.Rooting.{dropped, undropped, all_plugged}
 use Rattle.djq_tree.specs.declared.choice.Choice.{Choice}
 use Rattle.djq_tree.specs.declared.choice.Choice.TheVariants.{Trim, Meet, Stuck}
 use Rattle.djq_tree.specs.Choosing.{removable, has_removable, choose}

@@ -3,13 +3,13 @@ use Rattle.std.specs.Prelude.{◌≡◌, ◌≢◌, ℕ, ◌<◌, ◌≤◌, Lis
 use Rattle.std.proofs.Common.{sym, ap, ◌∙◌, arith, inl, inr}
 use Rattle.std.proofs.lemmas.Bool.{cases_lt, cases_eq}
 use Rattle.std.proofs.lemmas.List.{get_or_past}
-use Rattle.djq_hyper.specs.declared.step.Step.{Step}
-use Rattle.djq_hyper.specs.declared.step.Step.TheVariants.{Vertex, Edge}
-use Rattle.djq_hyper.specs.Hypergraph.{member, subset, degree, difference, edge_at}
-use Rattle.djq_hyper.specs.Gyo.{IsStep, reduced, Leads, IsRest, IsLean}
-use Rattle.djq_hyper.proofs.Members.{has_bit, has_difference, from_true, subset_from}
-use Rattle.djq_hyper.proofs.Counting.{degree_same}
-use Rattle.djq_hyper.proofs.Owning.{edge_with}
+use Rattle.djq_hypergraph.specs.declared.step.Step.{Step}
+use Rattle.djq_hypergraph.specs.declared.step.Step.TheVariants.{Vertex, Edge}
+use Rattle.djq_hypergraph.specs.Hypergraph.{member, subset, degree, difference, edge_at}
+use Rattle.djq_hypergraph.specs.Gyo.{IsStep, reduced, Leads, IsRest, IsLean}
+use Rattle.djq_hypergraph.proofs.Members.{has_bit, has_difference, from_true, subset_from}
+use Rattle.djq_hypergraph.proofs.Counting.{degree_same}
+use Rattle.djq_hypergraph.proofs.Owning.{edge_with}
 use Rattle.djq_plan.proofs.ReductionPlaces.{at_place, set_place}
 
 -- a step adds no variable

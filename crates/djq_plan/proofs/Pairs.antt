@@ -3,12 +3,12 @@
 use Rattle.std.proofs.Common.{◌≡◌, ◌⊎◌, ℕ, zero, suc, ◌<◌, ◌≤◌, min, Bool, true, false, not}
 use Rattle.std.proofs.Common.{◌&&◌, ◌||◌, List, [], ◌∷◌, refl, ◌∙◌, arith, inl, inr}
 use Rattle.std.proofs.lemmas.Bool.{cases_Bool, and_parts}
-use Rattle.djq_hyper.specs.Hypergraph.{member, degree, edge_at, one}
-use Rattle.djq_hyper.specs.Variables.{AreCovered}
-use Rattle.djq_hyper.specs.Flat.{edges_are_within, is_apart, IsFlat}
-use Rattle.djq_hyper.proofs.Members.{has_bit, one_true, from_true}
-use Rattle.djq_hyper.proofs.Bags.{labels, total, total_same}
-use Rattle.djq_hyper.proofs.Counting.{Same}
+use Rattle.djq_hypergraph.specs.Hypergraph.{member, degree, edge_at, one}
+use Rattle.djq_hypergraph.specs.Variables.{AreCovered}
+use Rattle.djq_hypergraph.specs.Flat.{edges_are_within, is_apart, IsFlat}
+use Rattle.djq_hypergraph.proofs.Members.{has_bit, one_true, from_true}
+use Rattle.djq_hypergraph.proofs.Bags.{labels, total, total_same}
+use Rattle.djq_hypergraph.proofs.Counting.{Same}
 
 -- how many labels have both variables
 abbrev pub pairs : ℕ → ℕ → List (List ℕ) → ℕ

@@ -4,8 +4,8 @@ use Rattle.std.proofs.Common.{length, map, take, drop, refl, ap, ap₂, sym, ari
 use Rattle.std.specs.Prelude.{remove, slice_index_or}
 use Rattle.std.proofs.lemmas.List.{map-append, take-map, drop-map}
 use Rattle.std.proofs.lemmas.Bool.{cases_lt}
-use Rattle.djq_hyper.specs.Hypergraph.{one}
-use Rattle.djq_hyper.proofs.Bags.{Test, times, Bag, total, total_out, same_item, times_append, numbers}
+use Rattle.djq_hypergraph.specs.Hypergraph.{one}
+use Rattle.djq_hypergraph.proofs.Bags.{Test, times, Bag, total, total_out, same_item, times_append, numbers}
 use Rattle.djq_tree.specs.Growing.{without_both}
 
 module _ {A : Type 0} (T : Test A) where

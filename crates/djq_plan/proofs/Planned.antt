@@ -2,11 +2,11 @@
 use Rattle.std.proofs.Common.{◌≡◌, ℕ, ◌<◌, true, List, [], ◌++◌, length, take, refl, ap, subst, sym}
 use Rattle.std.proofs.Common.{◌∙◌, append_assoc, arith}
 use Rattle.std.proofs.lemmas.List.{take_at}
-use Rattle.djq_hyper.specs.Hypergraph.{member}
-use Rattle.djq_hyper.specs.JoinTree.{IsFreeConnex}
-use Rattle.djq_hyper.specs.Variables.{IsVariableSet, AreVariableSets, AreCovered}
-use Rattle.djq_hyper.proofs.Members.{one_true}
-use Rattle.djq_hyper.proofs.Linking.{free_connex_from}
+use Rattle.djq_hypergraph.specs.Hypergraph.{member}
+use Rattle.djq_hypergraph.specs.JoinTree.{IsFreeConnex}
+use Rattle.djq_hypergraph.specs.Variables.{IsVariableSet, AreVariableSets, AreCovered}
+use Rattle.djq_hypergraph.proofs.Members.{one_true}
+use Rattle.djq_hypergraph.proofs.Linking.{free_connex_from}
 use Rattle.djq_tree.specs.Tree.{Tree, IsTree, ShowsHead, leaf_labels}
 use Rattle.djq_tree.proofs.Trimming.{small_of}
 use Rattle.djq_tree.specs.Growing.{Growth, start, grow, are_within, is_root, tree_of, IsTreeOf}

@@ -3,10 +3,10 @@ use Rattle.std.specs.Prelude.{◌≡◌, ◌≢◌, ℕ, zero, suc, ◌+◌, ◌
 use Rattle.std.specs.Prelude.{◌∷◌, length, slice_set, remove, refl}
 use Rattle.std.proofs.Common.{sym, ap, arith, inl, inr}
 use Rattle.std.proofs.lemmas.Bool.{cases_lt}
-use Rattle.djq_hyper.specs.Hypergraph.{one, edge_at}
-use Rattle.djq_hyper.proofs.Bags.{labels, out_of, same_item, equal}
-use Rattle.djq_hyper.proofs.Members.{from_true}
-use Rattle.djq_hyper.proofs.Counting.{count, Same, count_self}
+use Rattle.djq_hypergraph.specs.Hypergraph.{one, edge_at}
+use Rattle.djq_hypergraph.proofs.Bags.{labels, out_of, same_item, equal}
+use Rattle.djq_hypergraph.proofs.Members.{from_true}
+use Rattle.djq_hypergraph.proofs.Counting.{count, Same, count_self}
 
 -- the edge at a position, and the others
 pub at_place : (E : List (List ℕ)) (i : ℕ) → i < length E → Same E (edge_at E i ∷ remove E i)

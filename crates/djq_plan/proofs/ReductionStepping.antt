@@ -3,17 +3,18 @@ use Rattle.std.specs.Prelude.{◌≡◌, ◌↔◌, ℕ, ◌+◌, ◌<◌, ◌�
 use Rattle.std.specs.Prelude.{◌∷◌, ◌++◌, length, filter, remove, refl}
 use Rattle.std.proofs.Common.{sym, ap, ◌∙◌, subst, arith, inl, inr}
 use Rattle.std.proofs.lemmas.Bool.{cases_lt, cases_eq}
-use Rattle.djq_hyper.specs.declared.step.Step.{Step}
-use Rattle.djq_hyper.specs.declared.step.Step.TheVariants.{Vertex, Edge}
-use Rattle.djq_hyper.specs.Hypergraph.{member, degree, difference, edge_at, subset}
-use Rattle.djq_hyper.specs.Gyo.{IsStep, reduced, Leads, IsIrreducible, HasNoVariables}
-use Rattle.djq_hyper.specs.JoinTree.{HasJoinTree}
-use Rattle.djq_hyper.proofs.Members.{has_bit, Sub, one_le, one_true, from_true, from_false, subset_says}
-use Rattle.djq_hyper.proofs.Members.{subset_from, has_one, has_here, has_other}
-use Rattle.djq_hyper.proofs.Bags.{labels, out_of, out_same, total, total_same}
-use Rattle.djq_hyper.proofs.Counting.{count, count_self, Same, degree_same, degree_in}
-use Rattle.djq_hyper.proofs.Rooting.{Rooted, rooted_same, all_plugged, progress, trimmed, untrimmed, dropped, undropped}
-use Rattle.djq_hyper.proofs.Linking.{rooted_of, join_tree_from}
+use Rattle.djq_hypergraph.specs.declared.step.Step.{Step}
+use Rattle.djq_hypergraph.specs.declared.step.Step.TheVariants.{Vertex, Edge}
+use Rattle.djq_hypergraph.specs.Hypergraph.{member, degree, difference, edge_at, subset}
+use Rattle.djq_hypergraph.specs.Gyo.{IsStep, reduced, Leads, IsIrreducible, HasNoVariables}
+use Rattle.djq_hypergraph.specs.JoinTree.{HasJoinTree}
+use Rattle.djq_hypergraph.proofs.Members.{has_bit, Sub, one_le, one_true, from_true, from_false, subset_says}
+use Rattle.djq_hypergraph.proofs.Members.{subset_from, has_one, has_here, has_other}
+use Rattle.djq_hypergraph.proofs.Bags.{labels, out_of, out_same, total, total_same}
+use Rattle.djq_hypergraph.proofs.Counting.{count, count_self, Same, degree_same, degree_in}
+use Rattle.djq_hypergraph.proofs.Rooting.{Rooted, rooted_same, all_plugged, progress, trimmed, untrimmed, dropped}
+use Rattle.djq_hypergraph.proofs.Rooting.{undropped}
+use Rattle.djq_hypergraph.proofs.Linking.{rooted_of, join_tree_from}
 use Rattle.djq_plan.proofs.ReductionPlaces.{At, Apart, at_place, set_place, other_place, place_of, apart_of}
 
 flip : (L M : List (List ℕ)) → Same L M → Same M L

@@ -3,7 +3,7 @@ use Rattle.std.proofs.Common.{◌≡◌, ◌≢◌, ℕ, ◌<◌, Bool, true, fa
 use Rattle.std.proofs.Common.{None, is_some, refl, ap, sym, ◌∙◌, ap₂, not, ltb-true, arith}
 use Rattle.std.specs.Prelude.{nat_lt, unwrap_or}
 use Rattle.std.proofs.lemmas.Bool.{false≢true, lt-ltb, and_parts}
-use Rattle.djq_hyper.specs.Hypergraph.{subset, edge_at}
+use Rattle.djq_hypergraph.specs.Hypergraph.{subset, edge_at}
 use Rattle.djq_tree.specs.declared.choice.Choice.{Choice}
 use Rattle.djq_tree.specs.declared.choice.Choice.TheVariants.{Trim, Meet, Stuck}
 use Rattle.djq_tree.specs.Choosing.{lowest, removable, has_removable, are_equal, is_inside, twin}

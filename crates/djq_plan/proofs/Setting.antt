@@ -3,9 +3,9 @@ use Rattle.std.proofs.Common.{ℕ, zero, suc, ◌<◌, List, [], ◌∷◌, ◌+
 use Rattle.std.specs.Prelude.{slice_index}
 use Rattle.std.proofs.lemmas.List.{length_push, get_or_past}
 use Rattle.std.proofs.lemmas.Bool.{cases_lt, cases_eq}
-use Rattle.djq_hyper.specs.Hypergraph.{edge_at, difference}
-use Rattle.djq_hyper.specs.Variables.{IsVariableSet, AreVariableSets}
-use Rattle.djq_hyper.proofs.Owning.{difference_set, no_variables}
+use Rattle.djq_hypergraph.specs.Hypergraph.{edge_at, difference}
+use Rattle.djq_hypergraph.specs.Variables.{IsVariableSet, AreVariableSets}
+use Rattle.djq_hypergraph.proofs.Owning.{difference_set, no_variables}
 use Rattle.djq_tree.specs.declared.choice.Choice.{Choice}
 use Rattle.djq_tree.specs.declared.choice.Choice.TheVariants.{Trim, Meet, Stuck}
 use Rattle.djq_tree.specs.Choosing.{choose}

@@ -4,9 +4,9 @@ use Rattle.std.proofs.Common.{◌∷◌, ◌++◌, length, refl, ap, subst, sym,
 use Rattle.std.proofs.lemmas.List.{get_or_append_left, get_or_push, get_or_past, length_push}
 use Rattle.std.proofs.lemmas.Bool.{cases_Bool, cases_lt, cases_eq, eqb-true, eq-eqb, ne_eqb, false≢true}
 use Rattle.std.proofs.Math.Bool.{or-true}
-use Rattle.djq_hyper.specs.Hypergraph.{member, subset, edge_at, one}
-use Rattle.djq_hyper.proofs.Members.{has_bit, Sub, one_le, from_true, from_false, subset_from, subset_says}
-use Rattle.djq_hyper.proofs.Bags.{numbers, times, Bag, total, total_same}
+use Rattle.djq_hypergraph.specs.Hypergraph.{member, subset, edge_at, one}
+use Rattle.djq_hypergraph.proofs.Members.{has_bit, Sub, one_le, from_true, from_false, subset_from, subset_says}
+use Rattle.djq_hypergraph.proofs.Bags.{numbers, times, Bag, total, total_same}
 use Rattle.djq_tree.specs.declared.node.Node.{Node}
 use Rattle.djq_tree.specs.declared.node.Node.TheVariants.{Leaf, Trim, Meet}
 use Rattle.djq_tree.specs.Tree.{node_at, has_child, IsTrim, IsMeet, IsTop}

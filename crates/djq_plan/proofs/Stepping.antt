@@ -6,9 +6,9 @@ use Rattle.std.specs.List.{list_any}
 use Rattle.std.proofs.lemmas.List.{length_push}
 use Rattle.std.proofs.Math.Numerals.{add-one}
 use Rattle.std.proofs.lemmas.Bool.{cases_lt, cases_eq, eq-eqb, ne_eqb, lt-leb}
-use Rattle.djq_hyper.specs.Hypergraph.{member, difference, edge_at}
-use Rattle.djq_hyper.proofs.Members.{has_bit, has_other, one_true}
-use Rattle.djq_hyper.proofs.Bags.{labels, total, total_same, times}
+use Rattle.djq_hypergraph.specs.Hypergraph.{member, difference, edge_at}
+use Rattle.djq_hypergraph.proofs.Members.{has_bit, has_other, one_true}
+use Rattle.djq_hypergraph.proofs.Bags.{labels, total, total_same, times}
 use Rattle.djq_tree.specs.declared.choice.Choice.{Choice}
 use Rattle.djq_tree.specs.declared.choice.Choice.TheVariants.{Trim, Meet, Stuck}
 use Rattle.djq_tree.specs.Choosing.{removable, choose}

@@ -1,6 +1,6 @@
 -- What a plan is, and what refuses one.
 use Rattle.std.specs.Prelude.{◌≡◌, ℕ, List}
-use Rattle.djq_hyper.specs.Refusing.{IsCyclic, IsNotConnex}
+use Rattle.djq_hypergraph.specs.Refusing.{IsCyclic, IsNotConnex}
 use Rattle.djq_tree.specs.Counts.{IsSmall}
 use Rattle.djq_tree.specs.Growing.{IsTreeOf}
 use Rattle.djq_tree.specs.Tree.{Tree, IsTree, ShowsHead, leaf_labels}

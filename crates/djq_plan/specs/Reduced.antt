@@ -1,7 +1,7 @@
 -- What a reduction of acyclic edges comes to.
 use Rattle.std.specs.Prelude.{ℕ, List}
-use Rattle.djq_hyper.specs.declared.step.Step.{Step}
-use Rattle.djq_hyper.specs.Gyo.{Leads, HasNoVariables}
+use Rattle.djq_hypergraph.specs.declared.step.Step.{Step}
+use Rattle.djq_hypergraph.specs.Gyo.{Leads, HasNoVariables}
 
 -- the steps lead from the edges to edges without a variable
 abbrev pub LeadsToBare : List (List ℕ) → List Step → Type 0

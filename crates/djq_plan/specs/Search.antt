@@ -1,6 +1,6 @@
 -- What the search for a step looks for.
 use Rattle.std.specs.Prelude.{◌≡◌, ℕ, ◌<◌, true, List, length}
-use Rattle.djq_hyper.specs.Hypergraph.{member, degree, edge_at}
+use Rattle.djq_hypergraph.specs.Hypergraph.{member, degree, edge_at}
 
 -- no edge has a variable that lies in no other
 abbrev pub HasNoOwn : List (List ℕ) → Type 0

@@ -1,9 +1,9 @@
 //! The choice rule: which step comes next.
 ghost use Rattle.std.specs.Prelude.{◌≡◌, ◌<◌, ◌&&◌, not, length, is_some};
-ghost use Rattle.djq_hyper.specs.Hypergraph.{subset};
+ghost use Rattle.djq_hypergraph.specs.Hypergraph.{subset};
 ghost use Rattle.djq_tree.specs.Choosing.{choose, choose_equal, choose_inside, cover, lowest, twin};
 
-use djq_hyper::{VarSet, own_variables};
+use djq_hypergraph::{VarSet, own_variables};
 use djq_tree::Choice;
 
 /// The step that the rule names for the current labels, where the variables of `keep` may not be

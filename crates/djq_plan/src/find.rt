@@ -1,9 +1,9 @@
 ghost use Rattle.std.specs.Prelude.{ℕ, ◌<◌, length, IfSome, IfNone};
-ghost use Rattle.djq_hyper.specs.Hypergraph.{degree};
-ghost use Rattle.djq_hyper.specs.Gyo.{IsStep, IsIrreducible, HasNoVariables};
+ghost use Rattle.djq_hypergraph.specs.Hypergraph.{degree};
+ghost use Rattle.djq_hypergraph.specs.Gyo.{IsStep, IsIrreducible, HasNoVariables};
 ghost use Rattle.djq_plan.specs.Search.{HasNoOwn};
 
-use djq_hyper::{Step, VarSet, own_variables};
+use djq_hypergraph::{Step, VarSet, own_variables};
 
 /// A step that takes out a variable which lies in one edge only.
 fn find_vertex(sets: &[VarSet]) -> Option<Step>

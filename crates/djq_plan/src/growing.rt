@@ -8,7 +8,7 @@ ghost use Rattle.djq_tree.specs.Growing.{leaf_nodes, numbers_below, without_both
 ghost use Rattle.djq_plan.specs.Stages.{GrowsOut, IsStageEnd, IsStuckAt, Steps};
 
 use crate::choosing::choose_step;
-use djq_hyper::{Edges, VarSet};
+use djq_hypergraph::{Edges, VarSet};
 use djq_tree::{Choice, Node, Tree};
 use std::alloc::{AllocError, Global};
 use std::marker::Model;

@@ -37,7 +37,7 @@
 //! It says nothing of which of several possible rests comes: of two equal edges each lies within the
 //! other, and one of them goes. A step is sought in the present list and taken, until none applies.
 //! Any order of steps serves: each step preserves whether there is a join tree, in both directions,
-//! and edges with a join tree and a variable always have a step. Proofs of both are in djq_hyper. What
+//! and edges with a join tree and a variable always have a step. Proofs of both are in djq_hypergraph. What
 //! having a join tree is equivalent to is in Beeri, Fagin, Maier, Yannakakis, *On the desirability of
 //! acyclic database schemes*, JACM 1983.
 #![tactic(auto)]
@@ -51,7 +51,7 @@ mod refusal;
 mod steps;
 mod take;
 
-pub use djq_hyper::Step;
+pub use djq_hypergraph::Step;
 pub use planner::plan;
 pub use reducing::{Reduction, reduce, rest_is_lean, turn_join_tree};
 pub use refusal::PlanRefusal;

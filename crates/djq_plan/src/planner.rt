@@ -1,15 +1,15 @@
 //! The planner's two stages.
 ghost use Rattle.std.specs.Prelude.{◌≡◌, ◌↔◌, ◌<◌, length, None, Ok, IfOk, IfErr, IfSome};
-ghost use Rattle.djq_hyper.specs.Flat.{IsFlat};
-ghost use Rattle.djq_hyper.specs.Variables.{AreCovered};
-ghost use Rattle.djq_hyper.specs.JoinTree.{IsFreeConnex};
+ghost use Rattle.djq_hypergraph.specs.Flat.{IsFlat};
+ghost use Rattle.djq_hypergraph.specs.Variables.{AreCovered};
+ghost use Rattle.djq_hypergraph.specs.JoinTree.{IsFreeConnex};
 ghost use Rattle.djq_tree.specs.Flat.{HasEqualMeets};
 ghost use Rattle.djq_plan.specs.declared.refusal.PlanRefusal.TheVariants as refusal;
 ghost use Rattle.djq_plan.specs.Plan.{IsPlan, IsRefusal};
 
 use crate::growing::Growing;
 use crate::refusal::{PlanRefusal, refuse};
-use djq_hyper::{Edges, VarSet};
+use djq_hypergraph::{Edges, VarSet};
 use djq_tree::Tree;
 use std::alloc::{AllocError, Global};
 

@@ -1,12 +1,12 @@
 ghost use Rattle.std.specs.Prelude.{◌≡◌, ◌≢◌, ◌↔◌, [], ◌∷◌, IfOk};
-ghost use Rattle.djq_hyper.specs.Gyo.{Leads, HasNoVariables, IsRest, IsLean};
-ghost use Rattle.djq_hyper.specs.JoinTree.{HasJoinTree, HasJoinTreeFrom};
+ghost use Rattle.djq_hypergraph.specs.Gyo.{Leads, HasNoVariables, IsRest, IsLean};
+ghost use Rattle.djq_hypergraph.specs.JoinTree.{HasJoinTree, HasJoinTreeFrom};
 ghost use Rattle.djq_plan.specs.Reduced.{LeadsToBare};
 
 use crate::find::{find_step, find_variable};
 use crate::steps::Steps;
 use crate::take::take_step;
-use djq_hyper::{Edges, VarSet};
+use djq_hypergraph::{Edges, VarSet};
 use std::alloc::{AllocError, Global};
 
 /// What a reduction came to.

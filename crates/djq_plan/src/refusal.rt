@@ -1,10 +1,10 @@
 //! Why a query has no plan.
 ghost use Rattle.std.specs.Prelude.{◌≡◌, ℕ, ◌∷◌, ◌++◌, IfOk};
-ghost use Rattle.djq_hyper.specs.JoinTree.{IsFreeConnex};
+ghost use Rattle.djq_hypergraph.specs.JoinTree.{IsFreeConnex};
 ghost use Rattle.djq_plan.specs.Plan.{IsRefusal};
 
 use crate::reduce;
-use djq_hyper::{Edges, VarSet};
+use djq_hypergraph::{Edges, VarSet};
 use std::alloc::{AllocError, Global};
 use thiserror::Error;
 

@@ -1,6 +1,6 @@
 ghost use Rattle.std.specs.Prelude.{◌≡◌, ◌==◌, length};
 
-use djq_hyper::Step;
+use djq_hypergraph::Step;
 use std::marker::Model;
 
 /// The steps of a reduction, in the order in which they were taken. A step's positions are those of
@@ -12,7 +12,7 @@ pub struct Steps {
 
 impl Model for Steps {
     ghost use Rattle.std.specs.Prelude.{List};
-    ghost use Rattle.djq_hyper.specs.declared.step.Step.{Step};
+    ghost use Rattle.djq_hypergraph.specs.declared.step.Step.{Step};
 
     ghost Value = { List Step };
 

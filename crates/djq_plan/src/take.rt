@@ -1,7 +1,7 @@
 ghost use Rattle.std.specs.Prelude.{◌≡◌};
-ghost use Rattle.djq_hyper.specs.Gyo.{IsStep, reduced};
+ghost use Rattle.djq_hypergraph.specs.Gyo.{IsStep, reduced};
 
-use djq_hyper::{Step, VarSet};
+use djq_hypergraph::{Step, VarSet};
 
 /// Takes the step.
 pub fn take_step(sets: &mut Vec<VarSet>, step: Step)

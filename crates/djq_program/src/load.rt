@@ -9,7 +9,7 @@ use djq_io::Sink;
 use djq_load::{Totals, run_load};
 use djq_model::{Name, NoMem};
 use djq_run::Status;
-use djq_steps::{Ledgers, Steps};
+use djq_counters::{Ledgers, Steps};
 use itoa::Buffer;
 use std::alloc::{AllocError, Global};
 

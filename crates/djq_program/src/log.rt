@@ -13,7 +13,7 @@ use djq_disk::{Disk, DiskDid, DiskLen, DiskOpen};
 use djq_journal::{Appended, Journal, LINE_BYTES, Line, Log, Made, Opened, create};
 use djq_machine::Loaded;
 use djq_run::Status;
-use djq_steps::{Ledgers, Steps};
+use djq_counters::{Ledgers, Steps};
 
 /// The line that ends a batch, and drops it.
 const ABANDON: &[u8] = b"abandon";

@@ -2,7 +2,7 @@ ghost use Rattle.std.specs.Prelude.{◌≡◌, ℕ, [], true, Option, map};
 ghost use Rattle.djq_io.specs.Source.{SourceReading};
 ghost use Rattle.djq_machine.specs.State.{opening};
 ghost use Rattle.djq_machine.specs.Call.{Counts, counts};
-ghost use Rattle.djq_laws.specs.Course.{outside};
+ghost use Rattle.djq_run_laws.specs.Course.{outside};
 ghost use Rattle.djq_value.specs.Literal.{is_name};
 ghost use Rattle.djq_serve.specs.Told.{hub_shown};
 ghost use Rattle.djq_program_laws.specs.Logged.{disk_seen, log_seen, served_status};
@@ -20,8 +20,8 @@ use djq_io::limits::READ_BYTES;
 use djq_model::Name;
 use djq_run::{Status, run_session};
 use djq_serve::{Served, serve_logged};
-use djq_steps::{Ledgers, Steps};
-use djq_words::{Asked, read_words};
+use djq_counters::{Ledgers, Steps};
+use djq_cli::{Asked, read_words};
 use std::alloc::Global;
 
 /// The commands.

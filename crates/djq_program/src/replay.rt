@@ -1,7 +1,7 @@
 ghost use Rattle.std.specs.Prelude.{◌≡◌, ℕ, List, ◌+◌, ◌<◌, length, Option, Ok, Err, MatchResult};
 ghost use Rattle.djq_io.specs.Source.{SourceReading};
 ghost use Rattle.djq_machine.specs.Call.{counts};
-ghost use Rattle.djq_laws.specs.Course.{outside};
+ghost use Rattle.djq_run_laws.specs.Course.{outside};
 ghost use Rattle.djq_schedule.specs.Schedule.{schedule_lines};
 ghost use Rattle.djq_schedule.specs.Made.{turns_of, ScheduleIsMade};
 ghost use Rattle.djq_schedule.specs.Sent.{outside_line};
@@ -19,7 +19,7 @@ use djq_io::limits::{MOST_READS, READ_BYTES};
 use djq_run::Status;
 use djq_schedule::{ScheduleRefusal, count_lines, outside_line, schedule_hub, sent_text};
 use djq_serve::serve_logged;
-use djq_steps::{Ledgers, Steps};
+use djq_counters::{Ledgers, Steps};
 use std::alloc::Global;
 
 /// Reads a schedule from the source, serves its hub with the log at the path, if there is one, and

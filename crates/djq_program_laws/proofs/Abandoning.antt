@@ -12,12 +12,12 @@ use Rattle.djq_journal.specs.declared.journal.Appended.{Appended}
 use Rattle.djq_journal.specs.declared.journal.Appended.TheVariants.{Done, Failed, Full}
 use Rattle.djq_journal.proofs.Going.{keeps_on}
 use Rattle.djq_model.specs.Data.{Bytes}
-use Rattle.djq_lines.specs.declared.held.HeldRow.{HeldRow}
+use Rattle.djq_protocol.specs.declared.held.HeldRow.{HeldRow}
 use Rattle.djq_machine.specs.Run.{lines_in}
 use Rattle.djq_machine.specs.declared.machine.Loaded.{Loaded}
 use Rattle.djq_machine.specs.declared.machine.Loaded.TheVariants.{Ran}
 use Rattle.djq_machine.specs.Loading.{Loading, LoadStep, Loads}
-use Rattle.djq_kept.proofs.Reloading.{abandon_runs}
+use Rattle.djq_log_laws.proofs.Reloading.{abandon_runs}
 use Rattle.djq_run.specs.declared.status.Status.TheVariants.{DiskFault, LogFull}
 use Rattle.djq_program_laws.specs.Logged.{DiskSeen, abandoning, first_kept}
 use Rattle.djq_program_laws.specs.Parts.{EndsBatch, CantEnd}

@@ -5,10 +5,10 @@ use Rattle.djq_model.specs.Data.{Bytes}
 use Rattle.djq_machine.specs.State.{State}
 use Rattle.djq_machine.specs.Run.{Group, lines_in}
 use Rattle.djq_machine.specs.Call.{Counts}
-use Rattle.djq_laws.specs.Sound.{IsStart}
-use Rattle.djq_laws.proofs.Live.{listings_stay_live}
-use Rattle.djq_laws.proofs.Listing.{nothing_given}
-use Rattle.djq_kept.proofs.Starting.{found_is_start}
+use Rattle.djq_run_laws.specs.Sound.{IsStart}
+use Rattle.djq_run_laws.proofs.Live.{listings_stay_live}
+use Rattle.djq_run_laws.proofs.Listing.{nothing_given}
+use Rattle.djq_log_laws.proofs.Starting.{found_is_start}
 use Rattle.djq_program_laws.specs.Logged.{LogSeen, Begins}
 use Rattle.djq_program_laws.specs.Live.{RunIsLive, ServeIsLive}
 

@@ -10,7 +10,7 @@ use Rattle.djq_journal.specs.Standing.{IsIdle}
 use Rattle.djq_journal.specs.Keeping.{IsKeeping}
 use Rattle.djq_journal.specs.Logging.{HasKeptGroups, Overfull}
 use Rattle.djq_model.specs.Data.{Bytes}
-use Rattle.djq_lines.specs.declared.held.HeldRow.{HeldRow}
+use Rattle.djq_protocol.specs.declared.held.HeldRow.{HeldRow}
 use Rattle.djq_store_spec.specs.Store.{Store}
 use Rattle.djq_machine.specs.State.{State, opening}
 use Rattle.djq_machine.specs.Run.{Group, lines_in}
@@ -27,7 +27,7 @@ use Rattle.djq_run.specs.declared.status.Status.TheVariants.{LogFull as Filled, 
 use Rattle.djq_serve.specs.declared.served.Served.{Served}
 use Rattle.djq_serve.specs.declared.served.Served.TheVariants.{Stopped, Over, TurnsUsed, HubFault, DiskFault, LogFull}
 use Rattle.djq_serve.specs.Logged.{AllKept, LastLost, LastLeft, KeepsBy, DiskCounts, IsNotOfDisk}
-use Rattle.djq_laws.proofs.Courses.{walk_then}
+use Rattle.djq_run_laws.proofs.Courses.{walk_then}
 use Rattle.djq_program_laws.specs.Logged.{DiskSeen, LogSeen, log_seen_at, log_seen, SinceOpened, first_kept, FindsLines}
 use Rattle.djq_program_laws.specs.Logged.{KeptAs, Logs, FoundIn, Begins, LeavesUnloaded, UnloadedFor, Unloaded}
 use Rattle.djq_program_laws.specs.Logged.{NeverBegins}

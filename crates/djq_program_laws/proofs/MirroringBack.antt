@@ -2,12 +2,14 @@
 use Rattle.std.specs.Prelude.{◌++◌}
 use Rattle.djq_machine.specs.Run.{lines_in}
 use Rattle.djq_machine.specs.State.{opening}
-use Rattle.djq_laws.proofs.Sounding.{opening_is_start}
-use Rattle.djq_told.proofs.Loaded.{loaded_are_sayable}
-use Rattle.djq_told.proofs.Sayable.{opening_is_sayable}
-use Rattle.djq_program_laws.specs.ReadBack.{RunIsReadBack, ServeIsReadBack, RunMomentsAreReadBack, ServeMomentsAreReadBack}
+use Rattle.djq_run_laws.proofs.Sounding.{opening_is_start}
+use Rattle.djq_mirror_laws.proofs.Loaded.{loaded_are_sayable}
+use Rattle.djq_mirror_laws.proofs.Sayable.{opening_is_sayable}
+use Rattle.djq_program_laws.specs.ReadBack.{RunIsReadBack, ServeIsReadBack, RunMomentsAreReadBack}
+use Rattle.djq_program_laws.specs.ReadBack.{ServeMomentsAreReadBack}
 use Rattle.djq_program_laws.proofs.Living.{starts}
-use Rattle.djq_program_laws.proofs.ReadingBack.{course_is_read_back, serving_is_read_back, walk_is_read_back, serving_was_read_back}
+use Rattle.djq_program_laws.proofs.ReadingBack.{course_is_read_back, serving_is_read_back, walk_is_read_back}
+use Rattle.djq_program_laws.proofs.ReadingBack.{serving_was_read_back}
 
 pub run_is_read_back : RunIsReadBack
 run_is_read_back status before now serves none q at reads =

@@ -16,13 +16,13 @@ use Rattle.djq_mirror.specs.Mirror.{Held}
 use Rattle.djq_machine.specs.State.{State}
 use Rattle.djq_machine.specs.Run.{Did, Walk, out, all_taken, pending_of}
 use Rattle.djq_machine.specs.Call.{Counts}
-use Rattle.djq_laws.specs.Course.{Outside, Course, RunNext}
-use Rattle.djq_laws.specs.Sent.{opened_by, all_opened}
-use Rattle.djq_laws.specs.Sound.{IsStart}
-use Rattle.djq_laws.proofs.Courses.{walk_of}
-use Rattle.djq_laws.proofs.Dropping.{later as rises}
-use Rattle.djq_laws.proofs.Heading.{headline, walk_spares, none_pending}
-use Rattle.djq_laws.proofs.Sending.{gone_taken, next_runs, run_bytes}
+use Rattle.djq_run_laws.specs.Course.{Outside, Course, RunNext}
+use Rattle.djq_run_laws.specs.Sent.{opened_by, all_opened}
+use Rattle.djq_run_laws.specs.Sound.{IsStart}
+use Rattle.djq_run_laws.proofs.Courses.{walk_of}
+use Rattle.djq_run_laws.proofs.Dropping.{later as rises}
+use Rattle.djq_run_laws.proofs.Heading.{headline, walk_spares, none_pending}
+use Rattle.djq_run_laws.proofs.Sending.{gone_taken, next_runs, run_bytes}
 use Rattle.djq_serve.specs.declared.served.Served.{Served}
 use Rattle.djq_io.specs.Calls.{sent_to}
 use Rattle.djq_serve.specs.Told.{Shown}
@@ -32,11 +32,11 @@ use Rattle.djq_mirror.specs.declared.command.Mirrored.{Mirrored}
 use Rattle.djq_mirror.specs.declared.command.Mirrored.TheVariants.{Done, Outside as Halted}
 use Rattle.djq_mirror.specs.declared.command.Mirrored.TheVariants.{ReadFault, WriteFault, TooMany, NoMemory}
 use Rattle.djq_mirror.specs.Ends.{ComesTo, StopsFor, WritesOf, MirrorEnds}
-use Rattle.djq_told.specs.Sayable.{IsSayableStore}
-use Rattle.djq_told.specs.Mirrored.{HoldsTextsOf}
-use Rattle.djq_told.specs.Whole.{ReadsSinceOpened}
-use Rattle.djq_told.proofs.Alone.{held_alone}
-use Rattle.djq_told.proofs.Opening.{opened_are_read_back, front}
+use Rattle.djq_mirror_laws.specs.Sayable.{IsSayableStore}
+use Rattle.djq_mirror_laws.specs.Mirrored.{HoldsTextsOf}
+use Rattle.djq_mirror_laws.specs.Whole.{ReadsSinceOpened}
+use Rattle.djq_mirror_laws.proofs.Alone.{held_alone}
+use Rattle.djq_mirror_laws.proofs.Opening.{opened_are_read_back, front}
 use Rattle.djq_program_laws.specs.Mirrored.{WritesAnswers, IsMirroredBack}
 
 -- ---- one mirror

@@ -11,9 +11,9 @@ use Rattle.djq_model.specs.Data.{Bytes}
 use Rattle.djq_machine.specs.State.{State, opening}
 use Rattle.djq_machine.specs.Run.{Did, Group, Run, groups_of, lines_in}
 use Rattle.djq_machine.specs.Loading.{loading, Loads}
-use Rattle.djq_laws.specs.Sound.{IsSoundState}
-use Rattle.djq_laws.proofs.Sounding.{start_sound}
-use Rattle.djq_kept.proofs.Reloading.{stops_reload}
+use Rattle.djq_run_laws.specs.Sound.{IsSoundState}
+use Rattle.djq_run_laws.proofs.Sounding.{start_sound}
+use Rattle.djq_log_laws.proofs.Reloading.{stops_reload}
 use Rattle.djq_serve.specs.declared.served.Served.{Served}
 use Rattle.djq_serve.specs.declared.served.Served.TheVariants.{Stopped, Over, TurnsUsed, HubFault, DiskFault, LogFull}
 use Rattle.djq_serve.specs.Server.{all_done}

@@ -4,8 +4,8 @@ use Rattle.std.specs.Borrow.{Bor}
 use Rattle.std.proofs.Common.{refl, subst}
 use Rattle.djq_model.specs.Data.{Bytes}
 use Rattle.djq_machine.specs.State.{State, opening}
-use Rattle.djq_laws.specs.Course.{Outside}
-use Rattle.djq_laws.proofs.Heading.{headline}
+use Rattle.djq_run_laws.specs.Course.{Outside}
+use Rattle.djq_run_laws.proofs.Heading.{headline}
 use Rattle.djq_run.specs.declared.status.Status.{Status}
 use Rattle.djq_run.specs.declared.status.Status.TheVariants.{NoMemory}
 use Rattle.djq_run.specs.Ends.{RunEnds}
@@ -14,10 +14,10 @@ use Rattle.djq_serve.specs.declared.served.Served.{Served}
 use Rattle.djq_serve.specs.Ends.{FaultsCount}
 use Rattle.clap.specs.Words.{Text, Row, subcommand_of}
 use Rattle.djq_value.specs.Literal.{is_name}
-use Rattle.djq_words.specs.declared.commands.Asked.{Asked}
-use Rattle.djq_words.specs.declared.commands.Asked.TheVariants.{Mirror}
-use Rattle.djq_words.specs.Commands.{djq_app}
-use Rattle.djq_words.specs.Asks.{SubcommandAsks, WordsAsk}
+use Rattle.djq_cli.specs.declared.commands.Asked.{Asked}
+use Rattle.djq_cli.specs.declared.commands.Asked.TheVariants.{Mirror}
+use Rattle.djq_cli.specs.Commands.{djq_app}
+use Rattle.djq_cli.specs.Asks.{SubcommandAsks, WordsAsk}
 use Rattle.djq_program_laws.specs.Ends.{Serves}
 
 -- The machine was at the start, and no session is open there.

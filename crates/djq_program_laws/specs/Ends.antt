@@ -9,12 +9,12 @@ use Rattle.djq_io.specs.declared.hub.Listened.{Listened}
 use Rattle.djq_io.specs.declared.hub.Listened.TheVariants.{Ready, Failed}
 use Rattle.djq_io.specs.declared.hub.Told.TheVariants.{Listening}
 use Rattle.djq_model.specs.Data.{Bytes}
-use Rattle.djq_lines.specs.Reply.{line}
+use Rattle.djq_protocol.specs.Reply.{line}
 use Rattle.djq_machine.specs.State.{State, opening}
 use Rattle.djq_machine.specs.Run.{Group, groups_of}
 use Rattle.djq_machine.specs.Call.{Counts}
-use Rattle.djq_laws.specs.Course.{Outside}
-use Rattle.djq_laws.specs.Given.{Headline}
+use Rattle.djq_run_laws.specs.Course.{Outside}
+use Rattle.djq_run_laws.specs.Given.{Headline}
 use Rattle.djq_run.specs.declared.status.Status.{Status}
 use Rattle.djq_run.specs.declared.status.Status.TheVariants.{Usage, WriteFault, HubFault, NoMemory}
 use Rattle.djq_run.specs.Ends.{RunEnds}
@@ -23,10 +23,11 @@ use Rattle.djq_serve.specs.Told.{Shown}
 use Rattle.djq_serve.specs.Server.{all_done}
 use Rattle.djq_serve.specs.Logged.{UnkeptIsSilent}
 use Rattle.djq_serve.specs.Ends.{ServeEnds, FaultsCount}
-use Rattle.djq_words.specs.declared.commands.Asked.{Asked}
-use Rattle.djq_words.specs.declared.commands.Asked.TheVariants.{Run, Serve, Replay, Gen, Mirror}
-use Rattle.djq_words.specs.Asks.{Asks, WordsAsk}
-use Rattle.djq_program_laws.specs.Logged.{DiskSeen, LogSeen, log_seen, served_status, Begins, Logs, FoundIn, NeverBegins}
+use Rattle.djq_cli.specs.declared.commands.Asked.{Asked}
+use Rattle.djq_cli.specs.declared.commands.Asked.TheVariants.{Run, Serve, Replay, Gen, Mirror}
+use Rattle.djq_cli.specs.Asks.{Asks, WordsAsk}
+use Rattle.djq_program_laws.specs.Logged.{DiskSeen, LogSeen, log_seen, served_status, Begins, Logs, FoundIn}
+use Rattle.djq_program_laws.specs.Logged.{NeverBegins}
 use Rattle.djq_program_laws.specs.Gen.{GenEnds}
 use Rattle.djq_program_laws.specs.Replay.{ReplayEnds}
 use Rattle.djq_program_laws.specs.Mirror.{MirrorsSource}

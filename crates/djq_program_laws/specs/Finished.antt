@@ -5,8 +5,8 @@ use Rattle.djq_model.specs.Answer.{IsListing}
 use Rattle.djq_model.specs.Listed.{AnswersOf, listed_of}
 use Rattle.djq_machine.specs.State.{State, Session, Cursor}
 use Rattle.djq_store_spec.specs.Store.{open_at}
-use Rattle.djq_laws.specs.Course.{Outside}
-use Rattle.djq_laws.specs.Given.{PassedThrough}
+use Rattle.djq_run_laws.specs.Course.{Outside}
+use Rattle.djq_run_laws.specs.Given.{PassedThrough}
 use Rattle.djq_run.specs.declared.status.Status.{Status}
 use Rattle.djq_program_laws.specs.Ends.{Serves}
 

@@ -4,9 +4,9 @@ use Rattle.djq_model.specs.Data.{Bytes}
 use Rattle.djq_machine.specs.State.{State}
 use Rattle.djq_machine.specs.Run.{Did}
 use Rattle.djq_machine.specs.Call.{Counts}
-use Rattle.djq_laws.specs.Course.{Outside}
-use Rattle.djq_laws.specs.Given.{PassedThrough}
-use Rattle.djq_laws.specs.Live.{LiveFrom}
+use Rattle.djq_run_laws.specs.Course.{Outside}
+use Rattle.djq_run_laws.specs.Given.{PassedThrough}
+use Rattle.djq_run_laws.specs.Live.{LiveFrom}
 use Rattle.djq_run.specs.declared.status.Status.{Status}
 use Rattle.djq_serve.specs.Server.{all_done}
 use Rattle.djq_serve.specs.Ends.{RunsThrough}

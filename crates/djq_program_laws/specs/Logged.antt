@@ -9,7 +9,7 @@ use Rattle.djq_journal.specs.Calls.{after_sync}
 use Rattle.djq_journal.specs.Keeping.{IsKeeping, WasKeeping}
 use Rattle.djq_journal.specs.Logging.{Overfull}
 use Rattle.djq_model.specs.Data.{Bytes}
-use Rattle.djq_lines.specs.declared.held.HeldRow.{HeldRow}
+use Rattle.djq_protocol.specs.declared.held.HeldRow.{HeldRow}
 use Rattle.djq_machine.specs.State.{State, opening}
 use Rattle.djq_machine.specs.Run.{Group, lines_in}
 use Rattle.djq_machine.specs.Call.{Counts}

@@ -1,7 +1,7 @@
 -- How `mirror` ends, by its status.
 use Rattle.std.specs.Prelude.{◌≡◌}
 use Rattle.djq_model.specs.Data.{Bytes}
-use Rattle.djq_laws.specs.Course.{Outside}
+use Rattle.djq_run_laws.specs.Course.{Outside}
 use Rattle.djq_mirror.specs.declared.command.Mirrored.{Mirrored}
 use Rattle.djq_mirror.specs.declared.command.Mirrored.TheVariants.{Done as Followed}
 use Rattle.djq_mirror.specs.declared.command.Mirrored.TheVariants.{Outside as Halted}

@@ -8,7 +8,7 @@ use Rattle.djq_model.specs.Listed.{Listed, listed_name, AnswersOf}
 use Rattle.djq_mirror.specs.declared.mode.Mode.TheVariants.{Live}
 use Rattle.djq_mirror.specs.Mirror.{Held, written}
 use Rattle.djq_machine.specs.State.{State}
-use Rattle.djq_told.specs.Mirrored.{HoldsTextsOf}
+use Rattle.djq_mirror_laws.specs.Mirrored.{HoldsTextsOf}
 use Rattle.djq_mirror.specs.declared.command.Mirrored.{Mirrored}
 use Rattle.djq_mirror.specs.declared.command.Mirrored.TheVariants.{Done, Outside}
 use Rattle.djq_mirror.specs.Ends.{MirrorEnds}

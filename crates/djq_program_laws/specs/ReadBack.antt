@@ -6,13 +6,13 @@ use Rattle.djq_model.specs.Listed.{Listed}
 use Rattle.djq_machine.specs.State.{State, opening}
 use Rattle.djq_machine.specs.Run.{Did, out, all_taken, pending_of}
 use Rattle.djq_machine.specs.Call.{Counts}
-use Rattle.djq_laws.specs.Course.{Outside}
-use Rattle.djq_laws.specs.Given.{PassedThrough}
+use Rattle.djq_run_laws.specs.Course.{Outside}
+use Rattle.djq_run_laws.specs.Given.{PassedThrough}
 use Rattle.djq_run.specs.declared.status.Status.{Status}
 use Rattle.djq_io.specs.Calls.{sent_to}
 use Rattle.djq_serve.specs.Server.{all_told, all_done}
 use Rattle.djq_serve.specs.Ends.{RunsThrough}
-use Rattle.djq_told.specs.Whole.{ReadsSinceOpened}
+use Rattle.djq_mirror_laws.specs.Whole.{ReadsSinceOpened}
 use Rattle.djq_program_laws.specs.Logged.{LogSeen}
 use Rattle.djq_program_laws.specs.Mirrored.{IsMirroredBack}
 use Rattle.djq_program_laws.specs.Ends.{Serves, HubSeen, ServesHub}

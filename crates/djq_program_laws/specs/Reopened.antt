@@ -6,7 +6,7 @@ use Rattle.djq_model.specs.Data.{Bytes}
 use Rattle.djq_machine.specs.State.{State, opening}
 use Rattle.djq_machine.specs.Run.{Did, Group, groups_of, lines_in}
 use Rattle.djq_machine.specs.Call.{Counts}
-use Rattle.djq_kept.specs.Kept.{LoadsTo, StoodAt}
+use Rattle.djq_log_laws.specs.Kept.{LoadsTo, StoodAt}
 use Rattle.djq_serve.specs.declared.served.Served.{Served}
 use Rattle.djq_serve.specs.declared.served.Served.TheVariants.{DiskFault, LogFull}
 use Rattle.djq_serve.specs.Told.{Shown}

@@ -16,7 +16,7 @@ use Rattle.djq_machine.specs.State.{State}
 use Rattle.djq_machine.specs.Run.{Group, groups_of}
 use Rattle.djq_machine.specs.Call.{Counts}
 use Rattle.djq_io.specs.declared.limits.TheConstants.{MOST_READS}
-use Rattle.djq_laws.specs.Course.{Outside}
+use Rattle.djq_run_laws.specs.Course.{Outside}
 use Rattle.djq_run.specs.declared.status.Status.{Status}
 use Rattle.djq_run.specs.declared.status.Status.TheVariants.{ReadFault, WriteFault, TurnsUsed}
 use Rattle.djq_run.specs.declared.status.Status.TheVariants.{NoMemory, Schedule, DiskFault, LogFull}

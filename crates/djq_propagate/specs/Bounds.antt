@@ -2,7 +2,7 @@
 -- that a count x has become after the call, where no leaf has more than n tuples, the one that comes or goes
 -- counted in.
 use Rattle.std.specs.Prelude.{◌≡◌, ℕ, ◌+◌, ◌*◌, ◌<◌, ◌≤◌, true, List}
-use Rattle.djq_hyper.specs.Hypergraph.{member, degree}
+use Rattle.djq_hypergraph.specs.Hypergraph.{member, degree}
 use Rattle.djq_tree.specs.Tree.{Tree, leaf_labels}
 use Rattle.djq_propagate.specs.Updates.{paths}
 

@@ -12,7 +12,7 @@ ghost use Rattle.djq_index.specs.declared.table.TheConstants.{TUPLES};
 use crate::many::{insert_all, remove_all};
 use crate::path::touch_path;
 use djq_reduct::{Cells, Reducts};
-use djq_steps::Tally;
+use djq_counters::Tally;
 use std::alloc::AllocError;
 use std::sync::ledger::Ledger;
 

@@ -15,7 +15,7 @@ use crate::insertion::insert_tuple;
 use crate::removal::find_and_remove;
 use djq_index::Table;
 use djq_reduct::Cells;
-use djq_steps::Tally;
+use djq_counters::Tally;
 use djq_tree::Tree;
 use std::alloc::AllocError;
 use std::sync::ledger::Ledger;

@@ -17,7 +17,7 @@ use crate::tables::read_at;
 use crate::touch::touch_step;
 use djq_index::Table;
 use djq_reduct::Cells;
-use djq_steps::Tally;
+use djq_counters::Tally;
 use djq_tree::Tree;
 use std::sync::ledger::Ledger;
 

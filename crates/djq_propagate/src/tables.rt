@@ -13,7 +13,7 @@ ghost use Rattle.djq_index.specs.declared.cells.TheConstants.{CELLS};
 
 use djq_index::{Place, Table};
 use djq_reduct::Cells;
-use djq_steps::Tally;
+use djq_counters::Tally;
 use std::alloc::AllocError;
 use std::sync::ledger::Ledger;
 

@@ -14,7 +14,7 @@ ghost use Rattle.djq_propagate.specs.Walks.{IsParentOf};
 use crate::tables::{part_of, read_at};
 use djq_index::Table;
 use djq_reduct::Cells;
-use djq_steps::Tally;
+use djq_counters::Tally;
 use djq_tree::{Node, Tree};
 use std::sync::ledger::Ledger;
 

@@ -22,7 +22,7 @@ use crate::path::{clear_path, take_marked, touch_path};
 use crate::removal::find_and_remove;
 use crate::touch::touch_tuple;
 use djq_reduct::Reducts;
-use djq_steps::Tally;
+use djq_counters::Tally;
 use djq_tree::Tree;
 use std::alloc::AllocError;
 use std::sync::ledger::Ledger;

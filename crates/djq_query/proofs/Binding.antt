@@ -12,7 +12,7 @@ use Rattle.std.proofs.lemmas.Bool.Decides.{nat_tests}
 use Rattle.std.proofs.lemmas.List.Sums.{position_or_len_is}
 use Rattle.djq_model.specs.declared.value.Value.{Value}
 use Rattle.djq_model.specs.declared.query.Operator.{Operator}
-use Rattle.djq_hyper.specs.Hypergraph.{member}
+use Rattle.djq_hypergraph.specs.Hypergraph.{member}
 use Rattle.djq_query.specs.declared.numbered.NumberedTerm.{NumberedTerm}
 use Rattle.djq_query.specs.declared.numbered.NumberedTerm.TheVariants.{Variable as Number, Constant as Fixed}
 use Rattle.djq_query.specs.declared.numbered.NumberedComparison.{NumberedComparison}

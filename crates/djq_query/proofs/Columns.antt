@@ -13,8 +13,8 @@ use Rattle.djq_model.specs.declared.relation.Relation.{Relation}
 use Rattle.djq_model.specs.declared.query.Atom.{Atom}
 use Rattle.djq_model.specs.declared.value.Value.{Value}
 use Rattle.djq_model.specs.Data.{Bytes}
-use Rattle.djq_lines.specs.QueryFault.{any_column, any_place, is_clash}
-use Rattle.djq_lines.specs.Columns.{columns_of}
+use Rattle.djq_protocol.specs.QueryFault.{any_column, any_place, is_clash}
+use Rattle.djq_protocol.specs.Columns.{columns_of}
 use Rattle.djq_query.specs.Clashes.{clashes_with, mixes}
 
 -- a list from a place on

@@ -14,9 +14,9 @@ use Rattle.djq_model.specs.declared.query.Term.{Term}
 use Rattle.djq_model.specs.declared.query.Term.TheVariants.{Variable, Hole, Constant}
 use Rattle.djq_model.specs.Data.{Bytes, bytes_eq}
 use Rattle.djq_model.specs.Equality.{bytes_eq-decides}
-use Rattle.djq_lines.specs.declared.limits.TheConstants.{VARIABLES}
-use Rattle.djq_lines.specs.Variables.{Label, is_variable, is_named, is_known, stands_in, with_term}
-use Rattle.djq_lines.specs.Variables.{with_terms, with_atom, variables_of}
+use Rattle.djq_protocol.specs.declared.limits.TheConstants.{VARIABLES}
+use Rattle.djq_protocol.specs.Variables.{Label, is_variable, is_named, is_known, stands_in, with_term}
+use Rattle.djq_protocol.specs.Variables.{with_terms, with_atom, variables_of}
 use Rattle.djq_query.specs.Standing.{is_fresh, CountsUpTo}
 pub use Rattle.std.proofs.Math.Bool.{or-false as or_false}
 

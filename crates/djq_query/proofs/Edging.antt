@@ -8,8 +8,8 @@ use Rattle.std.proofs.lemmas.List.{get_or_append_left, take_more, get_or_past}
 use Rattle.std.proofs.Math.Seq.{get_or-append_seam}
 use Rattle.std.proofs.lemmas.List.Folds.{list_all_at}
 use Rattle.std.proofs.lemmas.Option.{slice_get_past, slice_get_read}
-use Rattle.djq_hyper.specs.Hypergraph.{member, edge_at}
-use Rattle.djq_lines.specs.declared.limits.TheConstants.{VARIABLES}
+use Rattle.djq_hypergraph.specs.Hypergraph.{member, edge_at}
+use Rattle.djq_protocol.specs.declared.limits.TheConstants.{VARIABLES}
 use Rattle.djq_query.specs.declared.numbered.NumberedAtom.{NumberedAtom}
 use Rattle.djq_query.specs.declared.numbered.NumberedTerm.{NumberedTerm}
 use Rattle.djq_query.specs.declared.numbered.NumberedTerm.TheVariants.{Variable as Number, Constant as Fixed}

@@ -7,15 +7,16 @@ use Rattle.std.specs.List.{list_any}
 use Rattle.djq_model.specs.declared.query.Atom.{Atom}
 use Rattle.djq_model.specs.declared.query.Comparison.{Comparison}
 use Rattle.djq_model.specs.Data.{Bytes}
-use Rattle.djq_lines.specs.Variables.{stands_in}
+use Rattle.djq_protocol.specs.Variables.{stands_in}
 use Rattle.djq_query.specs.Clashes.{mixes}
 use Rattle.djq_value.specs.Literal.{are_different}
-use Rattle.djq_lines.specs.declared.answer.Refusal.{Refusal}
-use Rattle.djq_lines.specs.declared.answer.Refusal.TheVariants.{NoRelation, Arity, WrongType}
-use Rattle.djq_lines.specs.declared.answer.Refusal.TheVariants.{VariableType, Unbound, HeadRepeated, HeadUnbound, Limit}
-use Rattle.djq_lines.specs.QueryFault.{any_place, is_clash, reads_unknown, has_wrong_arity}
-use Rattle.djq_lines.specs.QueryFault.{has_misfit, has_clash, is_miscompared, compares_unbound}
-use Rattle.djq_lines.specs.QueryFault.{has_miscompared, repeats_head, has_unbound_head, is_too_large, query_fault}
+use Rattle.djq_protocol.specs.declared.answer.Refusal.{Refusal}
+use Rattle.djq_protocol.specs.declared.answer.Refusal.TheVariants.{NoRelation, Arity, WrongType}
+use Rattle.djq_protocol.specs.declared.answer.Refusal.TheVariants.{VariableType, Unbound, HeadRepeated, HeadUnbound}
+use Rattle.djq_protocol.specs.declared.answer.Refusal.TheVariants.{Limit}
+use Rattle.djq_protocol.specs.QueryFault.{any_place, is_clash, reads_unknown, has_wrong_arity}
+use Rattle.djq_protocol.specs.QueryFault.{has_misfit, has_clash, is_miscompared, compares_unbound}
+use Rattle.djq_protocol.specs.QueryFault.{has_miscompared, repeats_head, has_unbound_head, is_too_large, query_fault}
 use Rattle.std.proofs.lemmas.Bool.{not_from_true}
 
 on : (b : Bool) (r : Refusal) (o p : Option Refusal) → b ≡ false → p ≡ o → p ≡ cond b (Some r) o

@@ -15,9 +15,9 @@ use Rattle.djq_model.specs.Data.{Bytes}
 use Rattle.djq_model.specs.declared.relation.Relation.{Relation}
 use Rattle.djq_model.specs.declared.query.Atom.{Atom}
 use Rattle.djq_model.specs.declared.query.Comparison.{Comparison}
-use Rattle.djq_lines.specs.Columns.{columns_of}
-use Rattle.djq_lines.specs.Variables.{Label, is_known, is_named, stands_in, variables_of, with_term}
-use Rattle.djq_lines.specs.Variables.{with_terms, with_atom}
+use Rattle.djq_protocol.specs.Columns.{columns_of}
+use Rattle.djq_protocol.specs.Variables.{Label, is_known, is_named, stands_in, variables_of, with_term}
+use Rattle.djq_protocol.specs.Variables.{with_terms, with_atom}
 use Rattle.djq_query.specs.declared.numbered.NumberedAtom.{NumberedAtom}
 use Rattle.djq_query.specs.declared.numbered.NumberedComparison.{NumberedComparison}
 use Rattle.djq_query.proofs.Counting.{terms_more, atoms_more, known_behind}

@@ -15,9 +15,9 @@ use Rattle.djq_model.specs.declared.query.Term.{Term}
 use Rattle.djq_model.specs.declared.query.Term.TheVariants.{Variable as Named, Hole, Constant}
 use Rattle.djq_model.specs.Data.{Bytes, bytes_eq}
 use Rattle.djq_model.specs.Equality.{bytes_eq-decides}
-use Rattle.djq_lines.specs.QueryFault.{query_fault}
-use Rattle.djq_lines.specs.Variables.{Label, is_known, is_named, stands_in, variables_of, with_term}
-use Rattle.djq_lines.specs.Variables.{with_terms, with_atom}
+use Rattle.djq_protocol.specs.QueryFault.{query_fault}
+use Rattle.djq_protocol.specs.Variables.{Label, is_known, is_named, stands_in, variables_of, with_term}
+use Rattle.djq_protocol.specs.Variables.{with_terms, with_atom}
 use Rattle.djq_query.specs.declared.numbered.NumberedTerm.{NumberedTerm}
 use Rattle.djq_query.specs.declared.numbered.NumberedTerm.TheVariants.{Variable as Number, Constant as Fixed}
 use Rattle.djq_query.specs.declared.numbered.NumberedAtom.{NumberedAtom}

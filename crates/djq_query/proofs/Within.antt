@@ -6,9 +6,9 @@ use Rattle.std.proofs.lemmas.Bool.{ltb-false, or_parts}
 use Rattle.std.proofs.lemmas.List.{length-map}
 use Rattle.djq_model.specs.declared.relation.Relation.{Relation}
 use Rattle.djq_model.specs.declared.query.Query.{Query}
-use Rattle.djq_lines.specs.declared.limits.TheConstants.{ATOMS, VARIABLES, HEAD_VARIABLES}
-use Rattle.djq_lines.specs.QueryFault.{query_fault}
-use Rattle.djq_lines.specs.Variables.{Label, variables_of}
+use Rattle.djq_protocol.specs.declared.limits.TheConstants.{ATOMS, VARIABLES, HEAD_VARIABLES}
+use Rattle.djq_protocol.specs.QueryFault.{query_fault}
+use Rattle.djq_protocol.specs.Variables.{Label, variables_of}
 use Rattle.djq_query.specs.declared.numbered.NumberedAtom.{NumberedAtom}
 use Rattle.djq_query.specs.declared.numbered.NumberedComparison.{NumberedComparison}
 use Rattle.djq_query.specs.declared.numbered.Variable.{Variable}

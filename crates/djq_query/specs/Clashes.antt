@@ -6,8 +6,8 @@ use Rattle.djq_model.specs.declared.query.Atom.{Atom}
 use Rattle.djq_model.specs.declared.query.Term.{Term}
 use Rattle.djq_model.specs.declared.query.Term.TheVariants.{Variable, Hole, Constant}
 use Rattle.djq_model.specs.Data.{Bytes, bytes_eq}
-use Rattle.djq_lines.specs.Columns.{same_type}
-use Rattle.djq_lines.specs.QueryFault.{any_place, is_clash}
+use Rattle.djq_protocol.specs.Columns.{same_type}
+use Rattle.djq_protocol.specs.QueryFault.{any_place, is_clash}
 
 -- a term that is this variable, at a column of another type than this
 abbrev pub clashes_with : Bytes → ColumnType → Term → ColumnType → Bool

@@ -10,10 +10,10 @@ use Rattle.djq_model.specs.declared.query.Comparison.{Comparison}
 use Rattle.djq_model.specs.declared.query.Term.{Term}
 use Rattle.djq_model.specs.declared.query.Term.TheVariants.{Variable as Named, Hole, Constant}
 use Rattle.djq_model.specs.Data.{relation_of}
-use Rattle.djq_lines.specs.declared.limits.TheConstants.{VARIABLES, HEAD_VARIABLES}
-use Rattle.djq_lines.specs.Columns.{columns_of}
-pub use Rattle.djq_lines.specs.Hypergraph.{number_of}
-use Rattle.djq_lines.specs.Variables.{Label, is_known, with_atom, with_term}
+use Rattle.djq_protocol.specs.declared.limits.TheConstants.{VARIABLES, HEAD_VARIABLES}
+use Rattle.djq_protocol.specs.Columns.{columns_of}
+pub use Rattle.djq_protocol.specs.Hypergraph.{number_of}
+use Rattle.djq_protocol.specs.Variables.{Label, is_known, with_atom, with_term}
 use Rattle.djq_query.specs.declared.numbered.Variable.{Variable}
 use Rattle.djq_query.specs.declared.numbered.NumberedTerm.{NumberedTerm}
 use Rattle.djq_query.specs.declared.numbered.NumberedTerm.TheVariants.{Variable as Number, Constant as Fixed}

@@ -15,7 +15,7 @@ use Rattle.djq_model.specs.declared.query.Operator.TheVariants.{
   Equal,
   NotEqual,
 }
-use Rattle.djq_hyper.specs.Hypergraph.{member}
+use Rattle.djq_hypergraph.specs.Hypergraph.{member}
 use Rattle.djq_query.specs.declared.numbered.NumberedComparison.{NumberedComparison}
 use Rattle.djq_query.specs.declared.pattern.Test.{Test}
 use Rattle.djq_query.specs.declared.pattern.Slot.{Slot}

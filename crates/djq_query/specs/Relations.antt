@@ -3,7 +3,7 @@ use Rattle.std.specs.Prelude.{ℕ, List, ◌≡◌, ◌<◌, Option, None, Some,
 use Rattle.djq_model.specs.declared.relation.ColumnType.{ColumnType}
 use Rattle.djq_model.specs.declared.relation.Relation.{Relation}
 use Rattle.djq_model.specs.Data.{Bytes, relation_of}
-use Rattle.djq_lines.specs.Columns.{types_of}
+use Rattle.djq_protocol.specs.Columns.{types_of}
 
 -- The number of the relation of a name; none where no relation has it.
 abbrev pub IsId : List Relation → Bytes → Option ℕ → Type 0

@@ -4,8 +4,8 @@ use Rattle.std.specs.List.{list_any}
 use Rattle.djq_model.specs.declared.query.Atom.{Atom}
 use Rattle.djq_model.specs.declared.query.Term.{Term}
 use Rattle.djq_model.specs.declared.query.Term.TheVariants.{Variable, Hole, Constant}
-use Rattle.djq_lines.specs.declared.limits.TheConstants.{VARIABLES}
-use Rattle.djq_lines.specs.Variables.{is_variable, stands_in}
+use Rattle.djq_protocol.specs.declared.limits.TheConstants.{VARIABLES}
+use Rattle.djq_protocol.specs.Variables.{is_variable, stands_in}
 
 -- whether a term is a variable that is neither in the atoms before nor among the terms before it
 -- in its atom

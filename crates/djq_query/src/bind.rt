@@ -1,13 +1,13 @@
 ghost use Rattle.std.specs.Prelude.{◌≡◌, ℕ, ◌≤◌, ◌==◌, position, length, IfOk};
 ghost use Rattle.std.specs.List.{list_any};
-ghost use Rattle.djq_hyper.specs.Hypergraph.{member};
+ghost use Rattle.djq_hypergraph.specs.Hypergraph.{member};
 ghost use Rattle.djq_query.specs.Numbered.{is_number};
 ghost use Rattle.djq_query.specs.Pattern.{bound, slot_of, test_of, tests_of};
 ghost use Rattle.djq_index.specs.declared.cells.TheConstants.{CELLS};
 
 use crate::numbered::{NumberedAtom, NumberedComparison, NumberedTerm};
 use crate::pattern::{Pattern, Slot, Test};
-use djq_hyper::VarSet;
+use djq_hypergraph::VarSet;
 use djq_index::Cells;
 use djq_model::{NoMem, Sequence};
 use std::alloc::Global;

@@ -1,13 +1,13 @@
 //! What is wrong with the comparisons of a body.
 ghost use Rattle.std.specs.Prelude.{◌≡◌, not};
 ghost use Rattle.std.specs.List.{list_any};
-ghost use Rattle.djq_lines.specs.QueryFault.{
+ghost use Rattle.djq_protocol.specs.QueryFault.{
   any_column,
   any_place,
   has_order as has_order_at,
   is_miscompared,
 };
-ghost use Rattle.djq_lines.specs.Variables.{stands_in as stands_in_atoms};
+ghost use Rattle.djq_protocol.specs.Variables.{stands_in as stands_in_atoms};
 
 use crate::relations::{Relations, columns_of};
 use crate::variables::stands_in;

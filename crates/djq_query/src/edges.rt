@@ -1,11 +1,11 @@
 ghost use Rattle.std.specs.Prelude.{◌≡◌, ℕ, ◌<◌, true, length, IfOk};
 ghost use Rattle.std.specs.List.{list_any};
-ghost use Rattle.djq_hyper.specs.Hypergraph.{member, edge_at};
-ghost use Rattle.djq_lines.specs.declared.limits.TheConstants.{VARIABLES};
+ghost use Rattle.djq_hypergraph.specs.Hypergraph.{member, edge_at};
+ghost use Rattle.djq_protocol.specs.declared.limits.TheConstants.{VARIABLES};
 ghost use Rattle.djq_query.specs.Numbered.{are_below, is_number, terms_at};
 
 use crate::numbered::{NumberedQuery, NumberedTerm};
-use djq_hyper::{Edges, VarSet};
+use djq_hypergraph::{Edges, VarSet};
 use djq_model::NoMem;
 use std::alloc::Global;
 

@@ -44,7 +44,7 @@ pub struct NumberedComparison {
 
 /// A query whose variables are numbered from 0 in the order in which they first stand in an atom,
 /// each hole one of its own. Every number is below that of the variables, and these are at most
-/// [`VARIABLES`](djq_lines::limits::VARIABLES).
+/// [`VARIABLES`](djq_protocol::limits::VARIABLES).
 #[derive(Debug, Drop)]
 pub struct NumberedQuery {
     head: Sequence<usize>,

@@ -14,14 +14,14 @@ ghost use Rattle.std.specs.Prelude.{
 };
 ghost use Rattle.std.specs.List.{list_any, fold};
 ghost use Rattle.djq_model.specs.Data.{relation_of};
-ghost use Rattle.djq_lines.specs.Columns.{columns_of};
-ghost use Rattle.djq_lines.specs.Conditions.{Answers, OutOfMemoryWhere};
-ghost use Rattle.djq_lines.specs.QueryFault.{
+ghost use Rattle.djq_protocol.specs.Columns.{columns_of};
+ghost use Rattle.djq_protocol.specs.Conditions.{Answers, OutOfMemoryWhere};
+ghost use Rattle.djq_protocol.specs.QueryFault.{
   query_fault as query_fault_of,
   reads_unknown,
   has_wrong_arity,
 };
-ghost use Rattle.djq_lines.specs.Variables.{is_named as is_label_named};
+ghost use Rattle.djq_protocol.specs.Variables.{is_named as is_label_named};
 ghost use Rattle.djq_model.specs.declared.query.Term.TheVariants.{Variable as Named};
 ghost use Rattle.djq_query.specs.Numbered.{
   labels,
@@ -40,7 +40,7 @@ ghost use Rattle.djq_query.specs.Numbered.{
 use crate::fault::query_fault;
 use crate::numbered::{NumberedAtom, NumberedComparison, NumberedQuery, NumberedTerm, Variable};
 use crate::relations::Relations;
-use djq_lines::Refusal;
+use djq_protocol::Refusal;
 use djq_model::{Atom, ColumnType, Comparison, Name, NoMem, Query, Sequence, Term, Text, Value};
 use std::alloc::Global;
 

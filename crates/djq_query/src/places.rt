@@ -2,9 +2,9 @@
 ghost use Rattle.std.specs.Prelude.{◌≡◌, ◌==◌, not, is_none, length};
 ghost use Rattle.std.specs.List.{list_any};
 ghost use Rattle.djq_model.specs.Data.{relation_of};
-ghost use Rattle.djq_lines.specs.Columns as spec;
-ghost use Rattle.djq_lines.specs.Columns.{columns_of as columns_named};
-ghost use Rattle.djq_lines.specs.QueryFault.{any_column, any_place, is_misfit, is_clash};
+ghost use Rattle.djq_protocol.specs.Columns as spec;
+ghost use Rattle.djq_protocol.specs.Columns.{columns_of as columns_named};
+ghost use Rattle.djq_protocol.specs.QueryFault.{any_column, any_place, is_misfit, is_clash};
 ghost use Rattle.djq_query.specs.Clashes.{clashes_with, mixes};
 
 use crate::relations::{Relations, columns_of};

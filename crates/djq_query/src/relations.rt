@@ -1,5 +1,5 @@
 ghost use Rattle.std.specs.Prelude.{◌≡◌, ◌<◌, length};
-ghost use Rattle.djq_lines.specs.Columns.{columns_of};
+ghost use Rattle.djq_protocol.specs.Columns.{columns_of};
 
 use djq_model::{ColumnType, Name};
 

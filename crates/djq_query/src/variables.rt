@@ -2,8 +2,8 @@
 ghost use Rattle.std.specs.Prelude.{◌≡◌, ◌≤◌, ◌<◌, not, length, nat_lt};
 ghost use Rattle.std.specs.List.{list_any};
 ghost use Rattle.djq_value.specs.Literal.{are_different, has_name};
-ghost use Rattle.djq_lines.specs.declared.limits.TheConstants.{VARIABLES};
-ghost use Rattle.djq_lines.specs.Variables.{
+ghost use Rattle.djq_protocol.specs.declared.limits.TheConstants.{VARIABLES};
+ghost use Rattle.djq_protocol.specs.Variables.{
   is_variable as is_variable_named,
   stands_in as stands_in_atoms,
   is_known,
@@ -12,7 +12,7 @@ ghost use Rattle.djq_lines.specs.Variables.{
 };
 ghost use Rattle.djq_query.specs.Standing.{is_fresh as is_fresh_behind, CountsUpTo};
 
-use djq_lines::limits::VARIABLES;
+use djq_protocol::limits::VARIABLES;
 use djq_model::{Atom, Name, Term};
 
 /// Whether a term is the variable of this name.

@@ -14,15 +14,15 @@ use Rattle.djq_reduct.specs.Reducts.{Reducts, SameTables}
 use Rattle.djq_propagate.specs.Updates.{HasAtMost}
 use Rattle.djq_propagate.proofs.Measuring.{length_even}
 use Rattle.djq_query.specs.Numbered.{Numbered}
-use Rattle.djq_cursor.specs.Log.{Log}
-use Rattle.djq_rows.specs.Catalog.{Catalog}
+use Rattle.djq_enumeration.specs.Log.{Log}
+use Rattle.djq_database.specs.Catalog.{Catalog}
 use Rattle.djq_leaves.specs.Batching.{GrowsBy}
 use Rattle.djq_leaves.specs.Changes.{HasSameRows, Went}
-use Rattle.djq_live.specs.Live.{Live, IsKept, SameQuery}
+use Rattle.djq_live_query.specs.Live.{Live, IsKept, SameQuery}
 use Rattle.djq_leaves.specs.Stepping.{HasMore}
-use Rattle.djq_live.specs.Updating.{CanAddAll, CanDelete, CountsBatchAt, CountsUpdate, KeptAfter, atoms_over}
-use Rattle.djq_live.specs.Updating.{update_bound}
-use Rattle.djq_live.proofs.Changing.{over_stays}
+use Rattle.djq_live_query.specs.Updating.{CanAddAll, CanDelete, CountsBatchAt, CountsUpdate, KeptAfter, atoms_over}
+use Rattle.djq_live_query.specs.Updating.{update_bound}
+use Rattle.djq_live_query.proofs.Changing.{over_stays}
 use Rattle.djq_leaves.proofs.Sizing.{fewer_stay}
 use Rattle.djq_reach.specs.Places.{place_at, is_reader, log_at, no_log, AreOnce}
 use Rattle.djq_reach.specs.Reaching.{DoneAt, Reach, AllAt}
@@ -30,7 +30,7 @@ use Rattle.djq_reach.specs.Tending.{Tends, TendedAt, work_of, work_at}
 use Rattle.djq_reach.specs.Batching.{RowsCameIn, CanComeAll, CanGoAll, CanGiveAll, TakesInAll, StaysUnchanged}
 use Rattle.djq_reach.specs.Batching.{LetsOutAll, GivesAllBack, OtherLogsStay, WorksBatch}
 use Rattle.djq_reach.proofs.Among.{apart, reader_more, or_true}
-use Rattle.djq_deltas.proofs.Cases.{or_false}
+use Rattle.djq_answer_laws.proofs.Cases.{or_false}
 use Rattle.djq_reach.proofs.Reaching.{some_as, only, once_at, reader_there, reader_front, same_then}
 use Rattle.djq_reach.proofs.Reaching.{same_refl, front_kept, done_back}
 use Rattle.djq_reach.proofs.Tending.{unreached}

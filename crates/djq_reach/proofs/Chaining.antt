@@ -11,16 +11,16 @@ use Rattle.djq_model.specs.Data.{Bytes, Tuple}
 use Rattle.djq_store_spec.specs.Stale.{reads}
 use Rattle.djq_model.specs.Answer.{IsAnswer}
 use Rattle.djq_query.specs.Numbered.{Numbered}
-use Rattle.djq_rows.specs.Catalog.{Catalog, relation_at}
-use Rattle.djq_planned.specs.Asked.{IsAsked}
+use Rattle.djq_database.specs.Catalog.{Catalog, relation_at}
+use Rattle.djq_binder.specs.Asked.{IsAsked}
 use Rattle.djq_leaves.specs.Changes.{CameAll, Went, IsLater}
-use Rattle.djq_live.specs.Live.{Live, IsKept, IsLive, SameQuery}
-use Rattle.djq_live.specs.Staying.{StaysOver}
-use Rattle.djq_live.specs.Updating.{KeptAfter}
+use Rattle.djq_live_query.specs.Live.{Live, IsKept, IsLive, SameQuery}
+use Rattle.djq_live_query.specs.Staying.{StaysOver}
+use Rattle.djq_live_query.specs.Updating.{KeptAfter}
 use Rattle.djq_propagate.specs.Updates.{HasAtMost}
-use Rattle.djq_live.proofs.Later.{asked_later}
+use Rattle.djq_live_query.proofs.Later.{asked_later}
 use Rattle.djq_leaves.proofs.Sizing.{fewer_stay}
-use Rattle.djq_live.proofs.Untouched.{came_all_lives, went_lives}
+use Rattle.djq_live_query.proofs.Untouched.{came_all_lives, went_lives}
 use Rattle.djq_reach.specs.declared.group.Group.{Group}
 use Rattle.djq_reach.specs.Places.{place_at, reads_place, is_reader, readers_at}
 use Rattle.djq_reach.specs.Reaching.{DoneAt, Reach, AllAt, Renews, Carries}

@@ -5,15 +5,15 @@ use Rattle.std.specs.Prelude.{◌==◌, ◌||◌, ◌&&◌, All, slice_index_or}
 use Rattle.std.proofs.lemmas.Bool.{eqb-true, eq-eqb, false≢true}
 use Rattle.std.proofs.lemmas.List.{take_more, get_or-set_same, get_or-set_other, get_or_default}
 use Rattle.std.proofs.lemmas.List.Elements.{All-nil, All-cons, All-head, All-tail}
-use Rattle.djq_cursor.specs.Log.{Log}
-use Rattle.djq_live.specs.Updating.{IsEmpty}
+use Rattle.djq_enumeration.specs.Log.{Log}
+use Rattle.djq_live_query.specs.Updating.{IsEmpty}
 use Rattle.djq_reach.specs.declared.group.Group.{Group}
 use Rattle.djq_reach.specs.Places.{is_reader, readers_at, watched_at, log_at, no_log}
 use Rattle.djq_reach.specs.Tending.{Readies, Empties}
 use Rattle.djq_reach.specs.Grouping.{Clears, reached}
 use Rattle.djq_reach.proofs.Among.{reader_more}
 use Rattle.djq_reach.proofs.Reaching.{everywhere}
-use Rattle.djq_deltas.proofs.Cases.{or_false}
+use Rattle.djq_answer_laws.proofs.Cases.{or_false}
 
 -- ---- places one after another
 

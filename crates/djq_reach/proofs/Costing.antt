@@ -14,14 +14,14 @@ use Rattle.djq_model.specs.Answer.{IsAnswer}
 use Rattle.djq_model.specs.Listed.{a_query}
 use Rattle.djq_store_spec.specs.Delta.{Change, IsDelta}
 use Rattle.djq_store_spec.specs.Registering.{most_steps}
-use Rattle.djq_deltas.proofs.Deciding.{answers_are_decided}
+use Rattle.djq_answer_laws.proofs.Deciding.{answers_are_decided}
 use Rattle.djq_propagate.specs.Updates.{HasAtMost}
 use Rattle.djq_query.specs.declared.numbered.NumberedAtom.{NumberedAtom}
 use Rattle.djq_query.specs.Numbered.{Numbered}
-use Rattle.djq_rows.specs.Catalog.{Catalog}
+use Rattle.djq_database.specs.Catalog.{Catalog}
 use Rattle.djq_leaves.specs.Changes.{CameAll}
-use Rattle.djq_live.specs.Live.{Live, IsKept, SameQuery}
-use Rattle.djq_live.specs.Updating.{IsDeltaOf, atoms_over, update_bound}
+use Rattle.djq_live_query.specs.Live.{Live, IsKept, SameQuery}
+use Rattle.djq_live_query.specs.Updating.{IsDeltaOf, atoms_over, update_bound}
 use Rattle.djq_reach.specs.declared.group.Group.{Group}
 use Rattle.djq_reach.specs.Places.{place_at, is_reader, readers_at, watched_at, AreOnce}
 use Rattle.djq_reach.specs.Reaching.{DoneAt, Reach, AllAt}

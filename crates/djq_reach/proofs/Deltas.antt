@@ -9,11 +9,11 @@ use Rattle.std.proofs.lemmas.List.Elements.{Contains-append_right}
 use Rattle.std.proofs.lemmas.List.Kept.{AllPairs-cons}
 use Rattle.djq_model.specs.Data.{Tuple}
 use Rattle.djq_model.specs.Answer.{AreDifferent}
-use Rattle.djq_lines.specs.declared.answer.Sign.{Sign}
-use Rattle.djq_lines.specs.declared.answer.Sign.TheVariants.{Came, Went}
+use Rattle.djq_protocol.specs.declared.answer.Sign.{Sign}
+use Rattle.djq_protocol.specs.declared.answer.Sign.TheVariants.{Came, Went}
 use Rattle.djq_store_spec.specs.Delta.{Change, HasChanged, IsDelta}
-use Rattle.djq_deltas.specs.Decided.{Decided}
-use Rattle.djq_deltas.proofs.Lists.{pairs_head, pairs_tail, pairs_join, kept_hold, kept_there}
+use Rattle.djq_answer_laws.specs.Decided.{Decided}
+use Rattle.djq_answer_laws.proofs.Lists.{pairs_head, pairs_tail, pairs_join, kept_hold, kept_there}
 use Rattle.djq_reach.specs.Growing.{Grows}
 
 abbrev answers_in : List Change → List Tuple

@@ -13,12 +13,12 @@ use Rattle.djq_model.specs.Data.{Bytes, Tuple, tuple_eq, plain_of, tuples_in, wi
 use Rattle.djq_model.specs.Equality.{tuple_eq-decides}
 use Rattle.djq_model.specs.Answer.{AreDifferent}
 use Rattle.djq_model.specs.Typed.{fits}
-use Rattle.djq_rows.specs.Cells.{HaveCells, StandFor}
-use Rattle.djq_rows.specs.Catalog.{Catalog, IsCatalog, IsKeptRelation, CopiesAreInRange}
-use Rattle.djq_rows.specs.Catalog.{StandForRow, no_relation, relation_at, counted_at, rows_at}
-use Rattle.djq_rows.specs.Catalog.{with_rows_at}
+use Rattle.djq_database.specs.Cells.{HaveCells, StandFor}
+use Rattle.djq_database.specs.Catalog.{Catalog, IsCatalog, IsKeptRelation, CopiesAreInRange}
+use Rattle.djq_database.specs.Catalog.{StandForRow, no_relation, relation_at, counted_at, rows_at}
+use Rattle.djq_database.specs.Catalog.{with_rows_at}
 use Rattle.djq_leaves.specs.Changes.{IsLater, CameAll, Went, StandForRows, HasSameRows}
-use Rattle.djq_planned.proofs.Members.{in_last}
+use Rattle.djq_binder.proofs.Members.{in_last}
 use Rattle.djq_reach.specs.Batching.{RowsCameIn}
 
 -- ---- lists and their last item

@@ -16,10 +16,10 @@ use Rattle.djq_store_spec.specs.Stale.{reads}
 use Rattle.djq_query.specs.declared.numbered.Variable.{Variable}
 use Rattle.djq_query.specs.declared.numbered.NumberedAtom.{NumberedAtom}
 use Rattle.djq_query.specs.Numbered.{Numbered}
-use Rattle.djq_rows.specs.Catalog.{Catalog, IsCatalog, relation_at, rows_at}
-use Rattle.djq_planned.specs.Asked.{IsAtomOf, AreAtomsOf, IsAsked}
+use Rattle.djq_database.specs.Catalog.{Catalog, IsCatalog, relation_at, rows_at}
+use Rattle.djq_binder.specs.Asked.{IsAtomOf, AreAtomsOf, IsAsked}
 use Rattle.djq_leaves.specs.Changes.{IsLater, CameAll}
-use Rattle.djq_live.proofs.Rows.{found_at, rows_are}
+use Rattle.djq_live_query.proofs.Rows.{found_at, rows_are}
 use Rattle.djq_reach.specs.Growing.{Grows}
 
 -- each row of an atom's relation stays one

@@ -5,12 +5,12 @@ use Rattle.std.proofs.Common.{set, take, arith, length-set}
 use Rattle.std.specs.Prelude.{◌==◌, ◌||◌, Option, None, Some, IsSomeAnd}
 use Rattle.std.proofs.lemmas.Bool.{eqb-true, eq-eqb, cases_order, cases_lt, false≢true}
 use Rattle.std.proofs.lemmas.List.{get_or-set_same, get_or-set_other, take_more, get_or_past, get_or_default}
-use Rattle.djq_live.specs.Live.{Live, IsKept, SameQuery}
-use Rattle.djq_live.specs.Updating.{CanAdd, CanDelete}
+use Rattle.djq_live_query.specs.Live.{Live, IsKept, SameQuery}
+use Rattle.djq_live_query.specs.Updating.{CanAdd, CanDelete}
 use Rattle.djq_reach.specs.Places.{place_at, is_reader, AreOnce}
 use Rattle.djq_reach.specs.Reaching.{DoneAt, Reach, AllAt, CanCome, CanGo, TakesIn, LetsOut, Remains, GivesBack}
 use Rattle.djq_reach.proofs.Among.{apart, reader_more, or_true}
-use Rattle.djq_deltas.proofs.Cases.{or_false}
+use Rattle.djq_answer_laws.proofs.Cases.{or_false}
 
 -- a place with a query is one of the list
 pub place_below : (gs : List (Option Live)) (i : ℕ) (l : Live) → place_at gs i ≡ Some l → i < length gs

@@ -5,8 +5,8 @@ use Rattle.std.proofs.Common.{mul-le-mul_left}
 use Rattle.std.specs.Prelude.{◌==◌, Option, None, Some, IsSomeAnd, sum_by}
 use Rattle.std.proofs.lemmas.Bool.{eqb-true, false≢true}
 use Rattle.std.proofs.lemmas.List.Sums.{sum_by-cons, sum_by-append, sum_by_more}
-use Rattle.djq_live.specs.Live.{Live, SameQuery}
-use Rattle.djq_live.specs.Updating.{atoms_over, update_bound}
+use Rattle.djq_live_query.specs.Live.{Live, SameQuery}
+use Rattle.djq_live_query.specs.Updating.{atoms_over, update_bound}
 use Rattle.djq_reach.specs.declared.group.Group.{Group}
 use Rattle.djq_reach.specs.Places.{place_at, is_reader, readers_at}
 use Rattle.djq_reach.specs.Reaching.{DoneAt, Reach}

@@ -10,16 +10,16 @@ use Rattle.djq_model.specs.Data.{Bytes, Tuple}
 use Rattle.djq_model.specs.Answer.{IsAnswer}
 use Rattle.djq_model.specs.Listed.{a_query}
 use Rattle.djq_store_spec.specs.Delta.{Change, IsDelta}
-use Rattle.djq_deltas.proofs.Deciding.{answers_are_decided}
+use Rattle.djq_answer_laws.proofs.Deciding.{answers_are_decided}
 use Rattle.djq_tree.specs.Tree.{Tree}
 use Rattle.djq_query.specs.Numbered.{Numbered}
-use Rattle.djq_cursor.specs.declared.log.Line.{Line}
-use Rattle.djq_cursor.specs.Log.{Log}
-use Rattle.djq_rows.specs.Catalog.{Catalog, relation_at}
-use Rattle.djq_live.specs.Shown.{shown, AreShownAs}
+use Rattle.djq_enumeration.specs.declared.log.Line.{Line}
+use Rattle.djq_enumeration.specs.Log.{Log}
+use Rattle.djq_database.specs.Catalog.{Catalog, relation_at}
+use Rattle.djq_live_query.specs.Shown.{shown, AreShownAs}
 use Rattle.djq_leaves.specs.Changes.{CameAll}
-use Rattle.djq_live.specs.Live.{Live, IsKept, IsShowable, SameQuery}
-use Rattle.djq_live.specs.Updating.{IsDeltaOf, LogsDelta, LogsWhere, change_of}
+use Rattle.djq_live_query.specs.Live.{Live, IsKept, IsShowable, SameQuery}
+use Rattle.djq_live_query.specs.Updating.{IsDeltaOf, LogsDelta, LogsWhere, change_of}
 use Rattle.djq_reach.specs.declared.group.Group.{Group}
 use Rattle.djq_reach.specs.Places.{place_at, is_reader, readers_at, log_at, watched_at}
 use Rattle.djq_reach.specs.Reaching.{DoneAt, Reach}

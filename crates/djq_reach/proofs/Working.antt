@@ -6,11 +6,11 @@ use Rattle.std.proofs.lemmas.Bool.{eqb-true, eq-eqb, false≢true}
 use Rattle.std.proofs.lemmas.List.{take_more}
 use Rattle.std.proofs.lemmas.List.Sums.{sum_by-cons, sum_by-append, sum_by-take-le, sum_by_more}
 use Rattle.djq_model.specs.declared.query.Query.{Query}
-use Rattle.djq_hyper.specs.Flat.{IsFlat}
-use Rattle.djq_lines.specs.Hypergraph.{edges_of, head_of}
+use Rattle.djq_hypergraph.specs.Flat.{IsFlat}
+use Rattle.djq_protocol.specs.Hypergraph.{edges_of, head_of}
 use Rattle.djq_query.specs.Numbered.{Numbered}
-use Rattle.djq_live.specs.Live.{Live}
-use Rattle.djq_live.specs.Updating.{atoms_over, flat_bound, update_bound}
+use Rattle.djq_live_query.specs.Live.{Live}
+use Rattle.djq_live_query.specs.Updating.{atoms_over, flat_bound, update_bound}
 use Rattle.djq_leaves.proofs.Sizing.{all_grown}
 use Rattle.djq_reach.specs.Places.{place_at, is_reader, AreOnce}
 use Rattle.djq_reach.specs.Reaching.{DoneAt, Reach, TakesIn, Remains}

@@ -3,13 +3,13 @@ use Rattle.std.specs.Prelude.{ℕ, List, ◌≡◌, ◌≤◌, ◌+◌, Bool, fa
 use Rattle.djq_model.specs.Data.{Tuple}
 use Rattle.djq_propagate.specs.Updates.{HasAtMost}
 use Rattle.djq_reduct.specs.Reducts.{SameTables}
-use Rattle.djq_cursor.specs.Log.{Log}
-use Rattle.djq_rows.specs.Catalog.{Catalog}
+use Rattle.djq_enumeration.specs.Log.{Log}
+use Rattle.djq_database.specs.Catalog.{Catalog}
 use Rattle.djq_leaves.specs.Batching.{GrowsBy}
 use Rattle.djq_leaves.specs.Changes.{CameAll, IsLater}
-use Rattle.djq_live.specs.Live.{Live, IsKept, SameQuery}
+use Rattle.djq_live_query.specs.Live.{Live, IsKept, SameQuery}
 use Rattle.djq_leaves.specs.Stepping.{HasMore}
-use Rattle.djq_live.specs.Updating.{KeptAfter, LogsWhere}
+use Rattle.djq_live_query.specs.Updating.{KeptAfter, LogsWhere}
 use Rattle.djq_reach.specs.Places.{watched_at, is_reader, log_at}
 use Rattle.djq_reach.specs.Reaching.{AllAt}
 use Rattle.djq_reach.specs.Tending.{work_at}

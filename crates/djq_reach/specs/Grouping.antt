@@ -6,10 +6,10 @@ use Rattle.djq_model.specs.Data.{Tuple}
 use Rattle.djq_store_spec.specs.Delta.{Change}
 use Rattle.djq_store_spec.specs.Registering.{most_steps}
 use Rattle.djq_propagate.specs.Updates.{HasAtMost}
-use Rattle.djq_cursor.specs.Log.{Log}
-use Rattle.djq_rows.specs.Catalog.{Catalog, relation_at}
-use Rattle.djq_live.specs.Live.{Live, IsKept}
-use Rattle.djq_live.specs.Updating.{IsEmpty}
+use Rattle.djq_enumeration.specs.Log.{Log}
+use Rattle.djq_database.specs.Catalog.{Catalog, relation_at}
+use Rattle.djq_live_query.specs.Live.{Live, IsKept}
+use Rattle.djq_live_query.specs.Updating.{IsEmpty}
 use Rattle.djq_reach.specs.declared.group.Group.{Group}
 use Rattle.djq_reach.specs.Places.{place_at, reads_place, is_reader, readers_at, watched_at, log_at}
 use Rattle.djq_reach.specs.Reaching.{AllAt}

@@ -4,8 +4,8 @@ use Rattle.std.specs.Prelude.{Some, slice_index_or, ⊤}
 use Rattle.std.specs.List.{list_any}
 use Rattle.djq_model.specs.Data.{Bytes}
 use Rattle.djq_store_spec.specs.Stale.{reads}
-use Rattle.djq_cursor.specs.Log.{Log}
-use Rattle.djq_live.specs.Live.{Live}
+use Rattle.djq_enumeration.specs.Log.{Log}
+use Rattle.djq_live_query.specs.Live.{Live}
 
 -- the query in a place, where one is registered there
 abbrev pub place_at : List (Option Live) → ℕ → Option Live

@@ -1,13 +1,13 @@
 -- What a change does to the queries that read its relation, and to no other.
 use Rattle.std.specs.Prelude.{ℕ, List, ◌≡◌, Bool, true, false, Option, None, Some, IsSomeAnd, Contains, length, ⊤}
 use Rattle.djq_model.specs.Data.{Bytes, Tuple}
-use Rattle.djq_rows.specs.Catalog.{Catalog, rows_at}
-use Rattle.djq_live.specs.Cursors.{outdated_slots}
+use Rattle.djq_database.specs.Catalog.{Catalog, rows_at}
+use Rattle.djq_live_query.specs.Cursors.{outdated_slots}
 use Rattle.djq_leaves.specs.Changes.{Came, Went}
-use Rattle.djq_live.specs.Live.{Live, IsKept, IsLive, SameQuery}
+use Rattle.djq_live_query.specs.Live.{Live, IsKept, IsLive, SameQuery}
 use Rattle.djq_leaves.specs.Stepping.{GrowsByOne}
-use Rattle.djq_live.specs.Updating.{KeptAfter}
-use Rattle.djq_live.specs.Staying.{StaysOver}
+use Rattle.djq_live_query.specs.Updating.{KeptAfter}
+use Rattle.djq_live_query.specs.Staying.{StaysOver}
 use Rattle.djq_reach.specs.Places.{place_at, is_reader}
 
 -- What is done to the query in a place, or nothing.

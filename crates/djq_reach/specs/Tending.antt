@@ -4,14 +4,14 @@ use Rattle.std.specs.Prelude.{None, Some, IsSomeAnd, min, if◌then◌else◌, l
 use Rattle.std.specs.Prelude.{⊤}
 use Rattle.djq_model.specs.Data.{Bytes, Tuple}
 use Rattle.djq_store_spec.specs.Delta.{Change}
-use Rattle.djq_hyper.specs.Flat.{IsFlat}
-use Rattle.djq_lines.specs.Hypergraph.{edges_of, head_of}
+use Rattle.djq_hypergraph.specs.Flat.{IsFlat}
+use Rattle.djq_protocol.specs.Hypergraph.{edges_of, head_of}
 use Rattle.djq_propagate.specs.Updates.{HasAtMost}
-use Rattle.djq_cursor.specs.Log.{Log}
-use Rattle.djq_rows.specs.Catalog.{Catalog}
-use Rattle.djq_live.specs.Live.{Live, IsKept, IsShowable}
-use Rattle.djq_live.specs.Updating.{change_of, CountsFlat, CountsUpdate, IsDeltaOf, IsEmpty}
-use Rattle.djq_live.specs.Updating.{atoms_over, delta_bound, flat_bound, update_bound}
+use Rattle.djq_enumeration.specs.Log.{Log}
+use Rattle.djq_database.specs.Catalog.{Catalog}
+use Rattle.djq_live_query.specs.Live.{Live, IsKept, IsShowable}
+use Rattle.djq_live_query.specs.Updating.{change_of, CountsFlat, CountsUpdate, IsDeltaOf, IsEmpty}
+use Rattle.djq_live_query.specs.Updating.{atoms_over, delta_bound, flat_bound, update_bound}
 use Rattle.djq_reach.specs.Places.{place_at, is_reader, log_at, watched_at}
 use Rattle.djq_reach.specs.Reaching.{AllAt}
 

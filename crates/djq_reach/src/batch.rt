@@ -1,8 +1,8 @@
 //! What groups of rows, each of a relation, do to the queries that read one of the relations, one
 //! group after another.
 ghost use Rattle.std.specs.Prelude.{◌≡◌, ◌<◌, ℕ, ◌&&◌, OnOk, OnErr, All, length, ⊤};
-ghost use Rattle.djq_rows.specs.Catalog.{Catalog as CatalogModel};
-ghost use Rattle.djq_live.specs.Live.{IsKept};
+ghost use Rattle.djq_database.specs.Catalog.{Catalog as CatalogModel};
+ghost use Rattle.djq_live_query.specs.Live.{IsKept};
 ghost use Rattle.djq_reach.specs.Places.{is_reader, readers_at, watched_at, AreOnce};
 ghost use Rattle.djq_reach.specs.Reaching.{Reach, AllAt, Renews};
 ghost use Rattle.djq_reach.specs.Tending.{Tends, LogTellsAt, AreUnwatched, HaveLogs, Empties};
@@ -13,10 +13,10 @@ use crate::group::Group;
 use crate::places::is_watched;
 use crate::reach::{clear_if, empty_logs};
 use crate::rows::{give_all_back, insert_all_into_readers};
-use djq_cursor::DeltaLog;
-use djq_live::LiveQuery;
+use djq_enumeration::DeltaLog;
+use djq_live_query::LiveQuery;
 use djq_model::{NoMem, Sequence};
-use djq_steps::{Ledgers, Steps};
+use djq_counters::{Ledgers, Steps};
 
 /// The places of the queries that read a group's relation.
 fn places_of<'a>(readers: &'a [Sequence<usize>], group: &Group) -> &'a [usize]

@@ -8,7 +8,7 @@
 //! all queries that read its relation ([`insert_all_into_readers`]). A log tells then what came by all groups
 //! together.
 //!
-//! It keeps nothing, and it knows no catalog, no names and no sessions. A query is djq_live's, and
+//! It keeps nothing, and it knows no catalog, no names and no sessions. A query is djq_live_query's, and
 //! what it is kept over stands in contracts alone (`specs/Reaching.antt`). What the logs tell and
 //! what is counted is said for all places together (`specs/Tending.antt`).
 //!

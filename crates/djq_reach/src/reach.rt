@@ -2,18 +2,18 @@
 //! looked at.
 ghost use Rattle.std.specs.Prelude.{◌≡◌, ◌<◌, [], ◌∷◌, ⊤, false, IsSomeAnd, OnOk, OnErr, length};
 ghost use Rattle.djq_leaves.specs.Changes.{Came, Went};
-ghost use Rattle.djq_live.specs.Updating.{CanAdd, CanDelete};
+ghost use Rattle.djq_live_query.specs.Updating.{CanAdd, CanDelete};
 ghost use Rattle.djq_reach.specs.Places.{place_at, watched_at, AreOnce};
 ghost use Rattle.djq_reach.specs.Tending.{Readies, Tends, LogTellsAt, LogShows, Costs};
 ghost use Rattle.djq_reach.specs.Tending.{AreUnwatched, HaveLogs, Empties, Works};
 ghost use Rattle.djq_reach.specs.Reaching.{Reach, AllAt, CanCome, CanGo, TakesIn, LetsOut, Remains, GivesBack, Ages};
 
 use crate::places::is_watched;
-use djq_cursor::DeltaLog;
-use djq_live::LiveQuery;
+use djq_enumeration::DeltaLog;
+use djq_live_query::LiveQuery;
 use djq_model::{Name, NoMem};
-use djq_rows::RelationId;
-use djq_steps::{Ledgers, Steps};
+use djq_database::RelationId;
+use djq_counters::{Ledgers, Steps};
 
 /// A log is made ready to tell anew, where that is wanted.
 pub(crate) fn clear_if(log: &mut DeltaLog, wanted: bool)

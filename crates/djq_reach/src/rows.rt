@@ -2,7 +2,7 @@
 //! another. Where they are given back, it is row by row from the last one, which takes no memory.
 ghost use Rattle.std.specs.Prelude.{◌≡◌, ◌<◌, ◌+◌, [], ◌∷◌, false, IsSomeAnd, OnOk, OnErr, length};
 ghost use Rattle.djq_leaves.specs.Changes.{CameAll};
-ghost use Rattle.djq_live.specs.Updating.{CanAddAll, CountsUpdate};
+ghost use Rattle.djq_live_query.specs.Updating.{CanAddAll, CountsUpdate};
 ghost use Rattle.djq_reach.specs.Places.{place_at, watched_at, AreOnce};
 ghost use Rattle.djq_reach.specs.Reaching.{Reach};
 ghost use Rattle.djq_reach.specs.Tending.{Tends, Costs, AreUnwatched};
@@ -10,12 +10,12 @@ ghost use Rattle.djq_reach.specs.Batching.{CanComeAll, CanGoAll, CanGiveAll, Log
 ghost use Rattle.djq_reach.specs.Batching.{TakesInAll, StaysUnchanged, LetsOutAll, GivesAllBack, WorksBatch};
 
 use crate::places::is_watched;
-use djq_cursor::DeltaLog;
-use djq_live::LiveQuery;
+use djq_enumeration::DeltaLog;
+use djq_live_query::LiveQuery;
 use djq_model::NoMem;
 use djq_reduct::Cells;
-use djq_rows::RelationId;
-use djq_steps::{Ledgers, Steps};
+use djq_database::RelationId;
+use djq_counters::{Ledgers, Steps};
 
 /// The query in a place takes in rows that came. Where it is watched, its log tells, behind what it
 /// told, which answers came.

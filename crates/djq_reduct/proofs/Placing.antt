@@ -5,7 +5,7 @@ use Rattle.std.specs.Prelude.{◌&&◌, ◌++◌, Option, Some, None, option_to_
 use Rattle.std.specs.Option.{option_eq}
 use Rattle.std.proofs.lemmas.List.{append-nil}
 use Rattle.std.proofs.lemmas.Bool.{cases_eq, eq-eqb, ne_eqb, eqb-true, false≢true}
-use Rattle.djq_hyper.specs.Hypergraph.{member, subset}
+use Rattle.djq_hypergraph.specs.Hypergraph.{member, subset}
 use Rattle.djq_index.specs.Table.{AreColumns}
 use Rattle.djq_reduct.specs.Columns.{column, columns}
 

@@ -32,11 +32,11 @@ use Rattle.std.proofs.lemmas.Bool.{
   or_right,
 }
 use Rattle.std.proofs.lemmas.List.Kept.{AllPairs-from_increasing}
-use Rattle.djq_hyper.specs.Hypergraph.{member, subset}
+use Rattle.djq_hypergraph.specs.Hypergraph.{member, subset}
 use Rattle.djq_index.specs.Tuple.{pick}
 use Rattle.djq_reduct.specs.Columns.{column, columns}
 use Rattle.djq_reduct.proofs.Placing.{column_here, column_on}
-use Rattle.djq_hyper.proofs.Rising.{above, member_here}
+use Rattle.djq_hypergraph.proofs.Rising.{above, member_here}
 
 -- no variable stands twice
 abbrev pub IsSimple : List ℕ → Type 0

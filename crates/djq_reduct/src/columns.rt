@@ -2,7 +2,7 @@ ghost use Rattle.std.specs.Prelude.{◌≡◌, ◌<◌, length, IfOk};
 ghost use Rattle.djq_reduct.specs.Columns.{column, columns};
 ghost use Rattle.djq_reduct.specs.Tables.{empty_table};
 
-use djq_hyper::VarSet;
+use djq_hypergraph::VarSet;
 use djq_index::Table;
 use djq_tree::Tree;
 use std::alloc::{AllocError, Global};

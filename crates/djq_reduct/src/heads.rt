@@ -2,7 +2,7 @@ ghost use Rattle.std.specs.Prelude.{◌≡◌, length, IfOk};
 ghost use Rattle.djq_reduct.specs.Heads.{head_columns, head_places};
 
 use crate::columns::{column_of, columns_of};
-use djq_hyper::{VARIABLES, VarSet};
+use djq_hypergraph::{VARIABLES, VarSet};
 use djq_tree::Tree;
 use std::alloc::{AllocError, Global};
 use std::marker::Model;

@@ -18,7 +18,7 @@
 //! ```
 //!
 //! This crate has the tables with that law as an invariant. It evaluates no query and lists no
-//! answer, and it changes no table: djq_propagate and djq_cursor do.
+//! answer, and it changes no table: djq_propagate and djq_enumeration do.
 //!
 //! What surprises: a family of tables has no say in what it holds. Once the leaves' tuples are
 //! known, all others are ([`Reducts::laws`]), and a caller may cite that in place of the way on

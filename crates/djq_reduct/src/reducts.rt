@@ -46,7 +46,7 @@ impl Model for Reducts {
     ghost view = { λ r. record { tree = r.tree; tables = r.tables.items } };
 
     ghost use Rattle.std.specs.Prelude.{◌≡◌, length};
-    ghost use Rattle.djq_hyper.specs.declared.var_set.TheConstants.{VARIABLES};
+    ghost use Rattle.djq_hypergraph.specs.declared.var_set.TheConstants.{VARIABLES};
     ghost use Rattle.djq_reduct.specs.Heads.{head_columns, head_places};
     ghost use Rattle.djq_tree.specs.Levels.{levels};
 

@@ -3,7 +3,7 @@ use Rattle.std.proofs.Common.{ℕ, ◌≡◌, ◌+◌, ◌<◌, ◌≤◌, ◌^�
 use Rattle.std.specs.Fmt.{decimal}
 use Rattle.std.proofs.lemmas.Fmt.{length-decimal-le, decimal_digit}
 use Rattle.djq_model.specs.Data.{Bytes}
-use Rattle.djq_lines.specs.Reply.{line, numbered_twice}
+use Rattle.djq_protocol.specs.Reply.{line, numbered_twice}
 
 -- a number of 64 bits has 20 at most
 pub few_digits : (n : ℕ) → n < 2 ^ 64 → length (decimal n) ≤ 20

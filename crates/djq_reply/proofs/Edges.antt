@@ -2,7 +2,7 @@
 use Rattle.std.proofs.Common.{◌≡◌, ◌++◌, ℕ, List}
 use Rattle.bytes.specs.Filled.{Filled}
 use Rattle.djq_model.specs.Data.{Bytes}
-use Rattle.djq_hyper.specs.Naming.{comma_listed}
+use Rattle.djq_hypergraph.specs.Naming.{comma_listed}
 use Rattle.djq_value.specs.Output.{Put}
 
 -- Of these variables, each behind a comma, all are printed but the rest.

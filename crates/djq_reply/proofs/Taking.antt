@@ -10,7 +10,7 @@ use Rattle.djq_value.specs.Output.{Put, Puts}
 use Rattle.djq_value.specs.Writing.{Written, Writes}
 use Rattle.djq_value.proofs.Putting.{texts_more}
 use Rattle.djq_value.proofs.Writing.{written_more, stays_before}
-use Rattle.djq_lines.specs.Reply.{line}
+use Rattle.djq_protocol.specs.Reply.{line}
 use Rattle.djq_reply.specs.Taking.{RoomIsTaken}
 
 -- a text behind one that was written

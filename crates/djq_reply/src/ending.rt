@@ -1,12 +1,12 @@
 //! The lines that end a session, in the room that is kept for its last line.
 ghost use Rattle.std.specs.Prelude.{◌≡◌, ◌≤◌};
-ghost use Rattle.djq_lines.specs.Reply.{end_line, input_cut};
-ghost use Rattle.djq_lines.specs.declared.limits.TheConstants.{LAST_LINE_BYTES};
+ghost use Rattle.djq_protocol.specs.Reply.{end_line, input_cut};
+ghost use Rattle.djq_protocol.specs.declared.limits.TheConstants.{LAST_LINE_BYTES};
 ghost use Rattle.djq_value.specs.Output.{Says};
 
 use crate::short::say;
 use bytes::BytesMut;
-use djq_lines::EndLine;
+use djq_protocol::EndLine;
 
 /// Tells that the input ended within a line.
 pub fn say_cut(out: &mut BytesMut)

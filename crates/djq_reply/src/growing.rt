@@ -4,9 +4,9 @@
 //! need is given back. Where the room may be too small, the line is printed piece by piece, and each
 //! piece asks for its own. Out of memory its pieces are taken back, once for the whole line.
 ghost use Rattle.std.specs.Prelude.{◌≡◌, ◌≤◌, ◌++◌, codes, length};
-ghost use Rattle.djq_lines.specs.Reply.{answer_line, at_line, cells_text, change_line, last_line};
-ghost use Rattle.djq_lines.specs.Reply.{line};
-ghost use Rattle.djq_lines.specs.Reply.{member_line, sign_text as sign_text_of};
+ghost use Rattle.djq_protocol.specs.Reply.{answer_line, at_line, cells_text, change_line, last_line};
+ghost use Rattle.djq_protocol.specs.Reply.{line};
+ghost use Rattle.djq_protocol.specs.Reply.{member_line, sign_text as sign_text_of};
 ghost use Rattle.djq_reply.specs.Adding.{AppendsPart};
 ghost use Rattle.djq_reply.specs.Taking.{RoomIsTaken};
 ghost use Rattle.djq_value.specs.Output.{Puts};
@@ -14,7 +14,7 @@ ghost use Rattle.djq_value.specs.Writing.{Writes};
 ghost use Rattle.djq_value.specs.declared.output.TheConstants.{KEPT};
 
 use bytes::BytesMut;
-use djq_lines::Sign;
+use djq_protocol::Sign;
 use djq_model::{Answered, Name, NoMem};
 use djq_value::{
     KEPT, digit_count, extend_digits, print_cell, put, write_byte, write_bytes, write_cell,

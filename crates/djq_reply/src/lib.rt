@@ -19,7 +19,7 @@
 //! say_end        EndLine::Slow                end slow
 //! ```
 //!
-//! `specs/Reply.antt` of djq_lines says what the bytes of each reply are. Nothing here decides
+//! `specs/Reply.antt` of djq_protocol says what the bytes of each reply are. Nothing here decides
 //! which reply a command gets, and nothing sends: who calls owns the buffer.
 //!
 //! What surprises: room is asked for in the contract of a call. A `say_` call can't fail, and its

@@ -1,7 +1,7 @@
 ghost use Rattle.std.specs.Prelude.{◌≡◌, ◌<◌, length};
-ghost use Rattle.djq_lines.specs.Reply.{line, refusal_line};
+ghost use Rattle.djq_protocol.specs.Reply.{line, refusal_line};
 
-use djq_lines::Refusal;
+use djq_protocol::Refusal;
 
 /// The words of the line that answers a refusal.
 pub(crate) fn refusal_words(refusal: Refusal) -> &'static [u8]

@@ -1,17 +1,17 @@
 //! What `query` is answered. A rest is of any length: its line is printed piece by piece, and taken
 //! back out of memory.
 ghost use Rattle.std.specs.Prelude.{◌≡◌, ◌+◌, ◌≤◌, ◌∷◌, ◌++◌, codes};
-ghost use Rattle.djq_hyper.specs.Naming.{edge_text, comma_listed, name_at};
-ghost use Rattle.djq_lines.specs.Reply.{edges_text, query_reply, rest_line};
-ghost use Rattle.djq_lines.specs.declared.limits.TheConstants.{LAST_LINE_BYTES, REPLY_BYTES};
+ghost use Rattle.djq_hypergraph.specs.Naming.{edge_text, comma_listed, name_at};
+ghost use Rattle.djq_protocol.specs.Reply.{edges_text, query_reply, rest_line};
+ghost use Rattle.djq_protocol.specs.declared.limits.TheConstants.{LAST_LINE_BYTES, REPLY_BYTES};
 ghost use Rattle.djq_reply.specs.Adding.{AppendsPart};
 ghost use Rattle.djq_value.specs.Output.{Puts};
 ghost use Rattle.djq_value.specs.declared.output.TheConstants.{KEPT};
 
 use crate::short::{say_number, say_refused};
 use bytes::BytesMut;
-use djq_hyper::{Edges, Names, VarSet};
-use djq_lines::{NamedRest, QueryOutcome, Refusal};
+use djq_hypergraph::{Edges, Names, VarSet};
+use djq_protocol::{NamedRest, QueryOutcome, Refusal};
 use djq_model::NoMem;
 use djq_value::put;
 

@@ -1,16 +1,16 @@
 //! Replies of at most 256 bytes, in room that was kept.
 ghost use Rattle.std.specs.Prelude.{◌≡◌, ◌+◌, ◌<◌, ◌≤◌, ◌++◌, codes, length};
 ghost use Rattle.std.specs.Fmt.{decimal};
-ghost use Rattle.djq_lines.specs.Reply.{add_reply, bye, delete_reply, done_reply, has_reply};
-ghost use Rattle.djq_lines.specs.Reply.{held_reply, line, numbered_line, numbered_twice, ok_reply};
-ghost use Rattle.djq_lines.specs.Reply.{refusal_line, shape_reply, stale_line, union_reply};
-ghost use Rattle.djq_lines.specs.Reply.{watch_reply};
-ghost use Rattle.djq_lines.specs.declared.limits.TheConstants.{LAST_LINE_BYTES, REPLY_BYTES};
+ghost use Rattle.djq_protocol.specs.Reply.{add_reply, bye, delete_reply, done_reply, has_reply};
+ghost use Rattle.djq_protocol.specs.Reply.{held_reply, line, numbered_line, numbered_twice, ok_reply};
+ghost use Rattle.djq_protocol.specs.Reply.{refusal_line, shape_reply, stale_line, union_reply};
+ghost use Rattle.djq_protocol.specs.Reply.{watch_reply};
+ghost use Rattle.djq_protocol.specs.declared.limits.TheConstants.{LAST_LINE_BYTES, REPLY_BYTES};
 ghost use Rattle.djq_value.specs.Output.{Says};
 
 use crate::refusal::refusal_words;
 use bytes::BytesMut;
-use djq_lines::{AddOutcome, DeleteOutcome, Refusal, Shape};
+use djq_protocol::{AddOutcome, DeleteOutcome, Refusal, Shape};
 use djq_model::Name;
 use djq_value::{digit_count, extend_digits};
 

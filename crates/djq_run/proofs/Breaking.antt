@@ -7,9 +7,9 @@ use Rattle.djq_io.specs.declared.sink.Write.{Write}
 use Rattle.djq_io.specs.declared.sink.Wrote.TheVariants.{Failed}
 use Rattle.djq_machine.specs.State.{State}
 use Rattle.djq_machine.specs.Run.{all_taken, pending_of}
-use Rattle.djq_laws.specs.Course.{RunDoes, last_write}
-use Rattle.djq_laws.proofs.Courses.{does_well}
-use Rattle.djq_laws.proofs.Heading.{headline}
+use Rattle.djq_run_laws.specs.Course.{RunDoes, last_write}
+use Rattle.djq_run_laws.proofs.Courses.{does_well}
+use Rattle.djq_run_laws.proofs.Heading.{headline}
 use Rattle.djq_run.specs.declared.status.Status.{Status}
 use Rattle.djq_run.specs.declared.status.Status.TheVariants.{Done, Usage, ReadFault, WriteFault}
 use Rattle.djq_run.specs.declared.status.Status.TheVariants.{HubFault, TurnsUsed, NoMemory}

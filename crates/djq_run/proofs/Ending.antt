@@ -5,9 +5,9 @@ use Rattle.std.proofs.Common.{refl, sym, ap, ◌∙◌, subst, inl, inr, length-
 use Rattle.std.proofs.lemmas.Grind.{flat_map-append}
 use Rattle.djq_io.specs.Source.{SourceReading}
 use Rattle.djq_model.specs.Data.{Bytes}
-use Rattle.djq_lines.specs.declared.answer.EndCause.{EndCause}
-use Rattle.djq_lines.specs.declared.answer.EndCause.TheVariants.{Input, Quit, Stop, Long, Slow, Memory}
-use Rattle.djq_lines.specs.declared.limits.TheConstants.{SESSIONS}
+use Rattle.djq_protocol.specs.declared.answer.EndCause.{EndCause}
+use Rattle.djq_protocol.specs.declared.answer.EndCause.TheVariants.{Input, Quit, Stop, Long, Slow, Memory}
+use Rattle.djq_protocol.specs.declared.limits.TheConstants.{SESSIONS}
 use Rattle.djq_machine.specs.declared.machine.OpenRefusal.{OpenRefusal}
 use Rattle.djq_machine.specs.declared.machine.OpenRefusal.TheVariants.{Full, NoMem}
 use Rattle.djq_machine.specs.State.{State, Session, session_of, fresh}
@@ -16,11 +16,12 @@ use Rattle.djq_machine.specs.Step.{opened, is_dry}
 use Rattle.djq_machine.specs.Run.{Did, all_fed, fed_by, pending_of, to_session}
 use Rattle.djq_machine.specs.Call.{IsOpen, Makes, OpenGives, cause_of, cause_in, held_of}
 use Rattle.djq_io.specs.declared.limits.TheConstants.{MOST_READS}
-use Rattle.djq_laws.proofs.Queueing.{stepped_held, stepped_cause}
-use Rattle.djq_laws.proofs.Sending.{step_bytes}
-use Rattle.djq_laws.specs.Course.{Outside, Course, AwaitsInput}
-use Rattle.djq_laws.proofs.Moving.{InputComes, is_held, out_of_memory, is_dropped, InputIsOver, input_ends, had_ended}
-use Rattle.djq_laws.proofs.Courses.{course_then, course_then_done, course_then_failed}
+use Rattle.djq_run_laws.proofs.Queueing.{stepped_held, stepped_cause}
+use Rattle.djq_run_laws.proofs.Sending.{step_bytes}
+use Rattle.djq_run_laws.specs.Course.{Outside, Course, AwaitsInput}
+use Rattle.djq_run_laws.proofs.Moving.{InputComes, is_held, out_of_memory, is_dropped, InputIsOver, input_ends}
+use Rattle.djq_run_laws.proofs.Moving.{had_ended}
+use Rattle.djq_run_laws.proofs.Courses.{course_then, course_then_done, course_then_failed}
 use Rattle.djq_run.specs.declared.status.Status.{Status}
 use Rattle.djq_run.specs.declared.status.Status.TheVariants.{Done, Usage, ReadFault, HubFault}
 use Rattle.djq_run.specs.declared.status.Status.TheVariants.{TurnsUsed, NoMemory, Schedule}

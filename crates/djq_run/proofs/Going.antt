@@ -15,10 +15,10 @@ use Rattle.djq_machine.specs.Step.{Event, opened, fed, stepped, took, ended, is_
 use Rattle.djq_machine.specs.Run.{Did, all_fed, pending_of, pending_in, piece_of}
 use Rattle.djq_machine.specs.Call.{IsOpen, Makes, MakesCounted, Counts, cause_of, cause_in, held_of, held_in}
 use Rattle.djq_io.specs.declared.limits.TheConstants.{READ_BYTES}
-use Rattle.djq_laws.specs.Course.{Outside, outside, Course, MayRun, AwaitsInput, writes_by}
-use Rattle.djq_laws.proofs.Courses.{course_begun, course_begun_well, course_one, course_one_done}
-use Rattle.djq_laws.proofs.Courses.{course_one_well, course_failed, course_failed_so, course_then}
-use Rattle.djq_laws.proofs.Courses.{course_then_failed}
+use Rattle.djq_run_laws.specs.Course.{Outside, outside, Course, MayRun, AwaitsInput, writes_by}
+use Rattle.djq_run_laws.proofs.Courses.{course_begun, course_begun_well, course_one, course_one_done}
+use Rattle.djq_run_laws.proofs.Courses.{course_one_well, course_failed, course_failed_so, course_then}
+use Rattle.djq_run_laws.proofs.Courses.{course_then_failed}
 use Rattle.djq_run.specs.Ends.{Awaits}
 use Rattle.djq_run.specs.Parts.{GoesTo, with_sink}
 

@@ -3,8 +3,8 @@ use Rattle.std.specs.Prelude.{ℕ, List, [], ◌∷◌, ◌≡◌, ◌<◌, ◌�
 use Rattle.std.specs.Prelude.{MatchOption, length, take}
 use Rattle.std.proofs.Common.{refl, sym, ap, ◌∙◌, subst, inl, inr, length-append, length-take, arith}
 use Rattle.djq_io.specs.declared.sink.Write.{Write}
-use Rattle.djq_lines.specs.declared.answer.EndCause.{EndCause}
-use Rattle.djq_lines.specs.declared.answer.EndCause.TheVariants.{Input, Quit, Stop, Long, Slow, Memory}
+use Rattle.djq_protocol.specs.declared.answer.EndCause.{EndCause}
+use Rattle.djq_protocol.specs.declared.answer.EndCause.TheVariants.{Input, Quit, Stop, Long, Slow, Memory}
 use Rattle.djq_model.specs.Data.{Bytes}
 use Rattle.djq_machine.specs.declared.machine.Stepped.TheVariants.{Ended}
 use Rattle.djq_machine.specs.State.{State}
@@ -12,10 +12,10 @@ use Rattle.djq_machine.specs.LineStep.{LineOutcome, long, blank, slow, no_room, 
 use Rattle.djq_machine.specs.Step.{stepped}
 use Rattle.djq_machine.specs.Run.{pending_of}
 use Rattle.djq_machine.specs.Call.{IsOpen, MakesCounted, RanStep, EndedStepAs, StepGives, Counts, cause_of, held_of}
-use Rattle.djq_laws.specs.Moved.{EndsByRun}
-use Rattle.djq_laws.specs.Course.{Outside}
-use Rattle.djq_laws.proofs.Moving.{SessionTakes, StepsLine, stepped_facts}
-use Rattle.djq_laws.proofs.Cutting.{front_fewer}
+use Rattle.djq_run_laws.specs.Moved.{EndsByRun}
+use Rattle.djq_run_laws.specs.Course.{Outside}
+use Rattle.djq_run_laws.proofs.Moving.{SessionTakes, StepsLine, stepped_facts}
+use Rattle.djq_run_laws.proofs.Cutting.{front_fewer}
 use Rattle.djq_run.specs.Parts.{GoesTo, with_sink}
 use Rattle.djq_run.proofs.Going.{goes_begun, by_line}
 

@@ -3,14 +3,14 @@ use Rattle.std.specs.Prelude.{ℕ, [], ◌≡◌, ◌<◌, ◌≤◌, ◌⊎◌,
 use Rattle.djq_io.specs.Faults.{Counted}
 use Rattle.djq_io.specs.Source.{SourceReading}
 use Rattle.djq_model.specs.Data.{Bytes}
-use Rattle.djq_lines.specs.declared.answer.EndCause.{EndCause}
-use Rattle.djq_lines.specs.declared.answer.EndCause.TheVariants.{Input, Quit, Stop, Long, Slow, Memory}
+use Rattle.djq_protocol.specs.declared.answer.EndCause.{EndCause}
+use Rattle.djq_protocol.specs.declared.answer.EndCause.TheVariants.{Input, Quit, Stop, Long, Slow, Memory}
 use Rattle.djq_machine.specs.State.{State, session_of}
 use Rattle.djq_machine.specs.Step.{is_dry}
 use Rattle.djq_machine.specs.Run.{pending_of, all_fed}
 use Rattle.djq_machine.specs.Call.{cause_of, held_of}
 use Rattle.djq_io.specs.declared.limits.TheConstants.{MOST_READS}
-use Rattle.djq_laws.specs.Course.{Outside, Course, AwaitsInput}
+use Rattle.djq_run_laws.specs.Course.{Outside, Course, AwaitsInput}
 use Rattle.djq_run.specs.declared.status.Status.{Status}
 use Rattle.djq_run.specs.declared.status.Status.TheVariants.{Done, Usage, ReadFault, WriteFault}
 use Rattle.djq_run.specs.declared.status.Status.TheVariants.{HubFault, TurnsUsed, NoMemory}

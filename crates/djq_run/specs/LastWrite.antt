@@ -5,7 +5,7 @@ use Rattle.djq_io.specs.declared.sink.Write.{Write}
 use Rattle.djq_io.specs.declared.sink.Wrote.TheVariants.{Failed}
 use Rattle.djq_machine.specs.State.{State}
 use Rattle.djq_machine.specs.Run.{out}
-use Rattle.djq_laws.specs.Course.{Outside, RunDoes, last_write}
+use Rattle.djq_run_laws.specs.Course.{Outside, RunDoes, last_write}
 use Rattle.djq_run.specs.declared.status.Status.{Status}
 use Rattle.djq_run.specs.declared.status.Status.TheVariants.{WriteFault}
 use Rattle.djq_run.specs.Ends.{RunEnds}

@@ -3,11 +3,11 @@ use Rattle.std.specs.Prelude.{ℕ, List, [], ◌≡◌, ◌<◌, ◌≤◌, Bool
 use Rattle.djq_io.specs.Faults.{Counted}
 use Rattle.djq_io.specs.declared.sink.Write.{Write}
 use Rattle.djq_model.specs.Data.{Bytes}
-use Rattle.djq_lines.specs.declared.answer.EndCause.TheVariants.{Input, Quit, Stop, Long, Slow, Memory}
+use Rattle.djq_protocol.specs.declared.answer.EndCause.TheVariants.{Input, Quit, Stop, Long, Slow, Memory}
 use Rattle.djq_machine.specs.State.{State}
 use Rattle.djq_machine.specs.Run.{pending_of, all_fed}
 use Rattle.djq_machine.specs.Call.{IsOpen, Counts, cause_of, held_of}
-use Rattle.djq_laws.specs.Course.{Outside, Course}
+use Rattle.djq_run_laws.specs.Course.{Outside, Course}
 use Rattle.djq_run.specs.declared.status.Status.{Status}
 use Rattle.djq_run.specs.declared.status.Status.TheVariants.{Done, NoMemory, SessionEnded}
 use Rattle.djq_run.specs.declared.status.Status.TheVariants.{WriteFault as StatusWriteFault}

@@ -24,7 +24,7 @@
 //! Inside, `session` has the loop in three: a read and what it brings, the lines that a session
 //! holds, and the writes behind each. What a write took is told to the machine before the next one.
 //! `status` has what the exit status of the process is, for the other commands too. A course is a
-//! definition of djq_laws (`specs/Course.antt`), and what holds of every course is a law there.
+//! definition of djq_run_laws (`specs/Course.antt`), and what holds of every course is a law there.
 #![tactic(auto)]
 
 mod laws;

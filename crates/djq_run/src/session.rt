@@ -1,7 +1,7 @@
 ghost use Rattle.std.specs.Prelude.{◌≡◌, ℕ, ◌<◌, ◌≤◌, [], length};
 ghost use Rattle.djq_machine.specs.Call.{IsOpen, counts};
 ghost use Rattle.djq_io.specs.declared.limits.TheConstants.{READ_BYTES};
-ghost use Rattle.djq_laws.specs.Course.{Outside, outside};
+ghost use Rattle.djq_run_laws.specs.Course.{Outside, outside};
 ghost use Rattle.djq_run.specs.Ends.{Awaits, RunEnds};
 ghost use Rattle.djq_run.specs.Parts.{Flushed, GoesTo, ReadEnds, ServedTo, ServedCount, write_failed, with_sink};
 ghost use Rattle.djq_run.specs.Parts.{status_of};
@@ -9,9 +9,9 @@ ghost use Rattle.djq_run.specs.Parts.{status_of};
 use crate::status::Status;
 use djq_io::{Read, Sink, Source, Wrote};
 use djq_io::limits::MOST_READS;
-use djq_lines::EndCause;
+use djq_protocol::EndCause;
 use djq_machine::{Machine, Stepped};
-use djq_steps::{Ledgers, Steps};
+use djq_counters::{Ledgers, Steps};
 
 /// The id of the one session of a run.
 const ID: u64 = 1;

@@ -9,8 +9,8 @@ use Rattle.djq_machine.specs.State.{State}
 use Rattle.djq_machine.specs.Keeping.{Keeping, no_line, the_line, the_batch}
 use Rattle.djq_machine.specs.Run.{Group, groups_in}
 use Rattle.djq_machine.specs.Call.{RanStep, KeepsGroup, Counts, groups_by}
-use Rattle.djq_laws.specs.Holding.{HoldLines}
-use Rattle.djq_laws.proofs.Holding.{kept_lines}
+use Rattle.djq_run_laws.specs.Holding.{HoldLines}
+use Rattle.djq_run_laws.proofs.Holding.{kept_lines}
 
 -- a group that has a line is the one that its lines are
 with_line : (l : Bytes) (ls lines : List Bytes) → (l ∷ ls) ∷ [] ≡ lines ∷ [] → lines ∷ [] ≡ grouped lines

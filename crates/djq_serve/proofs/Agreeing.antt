@@ -15,13 +15,13 @@ use Rattle.djq_model.specs.Data.{Bytes}
 use Rattle.djq_machine.specs.Step.{opened}
 use Rattle.djq_machine.specs.Run.{pending_of}
 use Rattle.djq_machine.specs.Call.{IsOpen, Makes, cause_of, state_ids, is_due, first_due}
-use Rattle.djq_laws.proofs.Changing.{all_found}
-use Rattle.djq_laws.proofs.Rising.{step_ids}
+use Rattle.djq_run_laws.proofs.Changing.{all_found}
+use Rattle.djq_run_laws.proofs.Rising.{step_ids}
 use Rattle.djq_serve.specs.Server.{first_open}
 use Rattle.djq_serve.specs.Kept.{Agrees, IsNewSession}
 use Rattle.djq_serve.specs.Parts.{IsServed, NotServed}
 use Rattle.std.proofs.lemmas.Option.{same_Some}
-use Rattle.djq_laws.proofs.Containing.{found_passes}
+use Rattle.djq_run_laws.proofs.Containing.{found_passes}
 
 -- an id is that of an open session exactly where it is among the ids
 open_any : (xs : List Session) (s : ℕ) → is_some (find (λ (x : Session). x.id == s) xs)

@@ -16,8 +16,8 @@ use Rattle.djq_machine.specs.LineStep.{LineOutcome, long, blank, slow, no_room, 
 use Rattle.djq_machine.specs.Step.{Event, stepped, took, closed}
 use Rattle.djq_machine.specs.Run.{Did, Group, Walk, pending_of}
 use Rattle.djq_machine.specs.Call.{first_due}
-use Rattle.djq_laws.proofs.Finding.{some_there}
-use Rattle.djq_laws.proofs.Stopping.{IsNoLine, step_stopped, kept_says_no_stop}
+use Rattle.djq_run_laws.proofs.Finding.{some_there}
+use Rattle.djq_run_laws.proofs.Stopping.{IsNoLine, step_stopped, kept_says_no_stop}
 use Rattle.djq_serve.specs.declared.served.Served.{Served}
 use Rattle.djq_serve.specs.declared.served.Served.TheVariants.{Stopped, TurnsUsed, HubFault, DiskFault, LogFull}
 use Rattle.djq_serve.specs.Told.{by_turn, turn_is_over, turn_is_failed, has_over, turn_failed}

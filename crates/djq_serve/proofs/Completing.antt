@@ -6,10 +6,10 @@ use Rattle.djq_disk.specs.History.{History}
 use Rattle.djq_machine.specs.State.{State, Session}
 use Rattle.djq_machine.specs.Run.{Did, Run, Group}
 use Rattle.djq_machine.specs.Call.{Counts, state_ids}
-use Rattle.djq_laws.specs.Sent.{all_opened, SessionsOpenOnce}
-use Rattle.djq_laws.proofs.Dropping.{sent_in_order}
-use Rattle.djq_laws.proofs.Cutting.{in_order}
-use Rattle.djq_laws.proofs.Giving.{runs_give}
+use Rattle.djq_run_laws.specs.Sent.{all_opened, SessionsOpenOnce}
+use Rattle.djq_run_laws.proofs.Dropping.{sent_in_order}
+use Rattle.djq_run_laws.proofs.Cutting.{in_order}
+use Rattle.djq_run_laws.proofs.Giving.{runs_give}
 use Rattle.djq_serve.specs.declared.served.Served.{Served}
 use Rattle.djq_serve.specs.Told.{Shown, HubTells}
 use Rattle.djq_serve.specs.Server.{closing, waiting, server, all_told, all_done}

@@ -2,16 +2,16 @@
 use Rattle.std.specs.Prelude.{ℕ, ◌≡◌, ◌<◌, ◌⊎◌, ◌&&◌, Bool, true, false, not, Option, None, Some, is_none, length}
 use Rattle.std.proofs.Common.{refl, ap, ◌∙◌, inl, inr}
 use Rattle.djq_model.specs.Data.{Bytes}
-use Rattle.djq_lines.specs.declared.answer.EndCause.{EndCause}
-use Rattle.djq_lines.specs.Line.{too_long, a_line, front_of}
+use Rattle.djq_protocol.specs.declared.answer.EndCause.{EndCause}
+use Rattle.djq_protocol.specs.Line.{too_long, a_line, front_of}
 use Rattle.djq_machine.specs.State.{State, Session, session_of}
 use Rattle.djq_machine.specs.Effect.{Effect}
 use Rattle.djq_machine.specs.LineStep.{LineOutcome, long, blank, slow, no_room, run, FrontStep}
 use Rattle.djq_machine.specs.Step.{stepped, Step, is_dry}
 use Rattle.djq_machine.specs.Call.{IsOpen, cause_of, held_of, cause_in, held_in}
-use Rattle.djq_laws.proofs.Finding.{some_there}
-use Rattle.djq_laws.proofs.Cutting.{front_fewer}
-use Rattle.djq_laws.proofs.Moving.{stepped_facts}
+use Rattle.djq_run_laws.proofs.Finding.{some_there}
+use Rattle.djq_run_laws.proofs.Cutting.{front_fewer}
+use Rattle.djq_run_laws.proofs.Moving.{stepped_facts}
 use Rattle.djq_serve.specs.Server.{may_run}
 use Rattle.djq_serve.proofs.Settling.{closed_held}
 

@@ -5,7 +5,7 @@ use Rattle.std.proofs.lemmas.Grind.{flat_map-append}
 use Rattle.std.proofs.lemmas.List.Sums.{sum_by-append}
 use Rattle.djq_io.specs.declared.hub.Told.{Told}
 use Rattle.djq_machine.specs.Run.{Did, Group, cost_of, kept_group, groups_of}
-use Rattle.djq_laws.proofs.Courses.{walk_then}
+use Rattle.djq_run_laws.proofs.Courses.{walk_then}
 use Rattle.djq_serve.specs.Told.{Shown, HubTells, turn_in, turns_in}
 use Rattle.djq_serve.specs.Server.{Server, Move, MakesMove, all_told, all_done}
 use Rattle.djq_serve.specs.Goes.{Seen, seen, Goes, GoesQuietly}

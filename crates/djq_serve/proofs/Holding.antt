@@ -2,8 +2,8 @@
 use Rattle.djq_machine.specs.State.{State}
 use Rattle.djq_machine.specs.Step.{Event}
 use Rattle.djq_machine.specs.Call.{Makes}
-use Rattle.djq_laws.specs.Holding.{HoldLines}
-use Rattle.djq_laws.proofs.Holding.{step_hold_lines, runs_hold_lines}
+use Rattle.djq_run_laws.specs.Holding.{HoldLines}
+use Rattle.djq_run_laws.proofs.Holding.{step_hold_lines, runs_hold_lines}
 use Rattle.djq_serve.specs.Server.{Server, all_done}
 use Rattle.djq_serve.specs.Goes.{Seen, Goes}
 use Rattle.djq_serve.proofs.Lawful.{serve_runs}

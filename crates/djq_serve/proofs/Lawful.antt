@@ -18,9 +18,9 @@ use Rattle.djq_machine.specs.LineStep.{LineOutcome}
 use Rattle.djq_machine.specs.Step.{Event, opened, fed, stepped, took, ended, closed, Step}
 use Rattle.djq_machine.specs.Run.{Did, Run, Walk, taken_from, all_taken, pending_of}
 use Rattle.djq_machine.specs.Call.{first_due}
-use Rattle.djq_laws.specs.Sent.{opened_by, all_opened}
-use Rattle.djq_laws.proofs.Courses.{walk_then}
-use Rattle.djq_laws.proofs.Finding.{some_there}
+use Rattle.djq_run_laws.specs.Sent.{opened_by, all_opened}
+use Rattle.djq_run_laws.proofs.Courses.{walk_then}
+use Rattle.djq_run_laws.proofs.Finding.{some_there}
 use Rattle.djq_serve.specs.declared.served.Served.TheVariants.{TurnsUsed, DiskFault, LogFull}
 use Rattle.djq_io.specs.Calls.{sent_by, sent_to}
 use Rattle.djq_serve.specs.Server.{Next, more_lines, next_turn, Phase, waiting, lines, keeping}

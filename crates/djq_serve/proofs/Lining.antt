@@ -2,8 +2,8 @@
 use Rattle.std.specs.Prelude.{ℕ, List, [], ◌++◌, ◌≡◌, ◌<◌, false, Option, None, Some, IsSome, MatchOption, length}
 use Rattle.std.proofs.Common.{refl, sym, ap, ◌∙◌, subst, append-nil, append_assoc, inl, inr, arith}
 use Rattle.djq_io.specs.Hub.{Ids}
-use Rattle.djq_lines.specs.declared.answer.EndCause.{EndCause}
-use Rattle.djq_lines.specs.declared.answer.EndCause.TheVariants.{Input, Quit, Stop, Long, Slow, Memory}
+use Rattle.djq_protocol.specs.declared.answer.EndCause.{EndCause}
+use Rattle.djq_protocol.specs.declared.answer.EndCause.TheVariants.{Input, Quit, Stop, Long, Slow, Memory}
 use Rattle.djq_machine.specs.declared.machine.Stepped.TheVariants.{Dry, Ended}
 use Rattle.djq_machine.specs.State.{State}
 use Rattle.djq_machine.specs.LineStep.{LineOutcome, long, blank, slow, no_room, run}
@@ -11,8 +11,8 @@ use Rattle.djq_machine.specs.Step.{stepped}
 use Rattle.djq_machine.specs.Run.{Group, kept_group}
 use Rattle.djq_model.specs.Data.{Bytes}
 use Rattle.djq_machine.specs.Call.{MakesCounted, RanStep, EndedStepAs, StepGives, Counts, cause_of, held_of, groups_by}
-use Rattle.djq_laws.proofs.Rising.{step_ids}
-use Rattle.djq_laws.proofs.Moving.{stepped_facts}
+use Rattle.djq_run_laws.proofs.Rising.{step_ids}
+use Rattle.djq_run_laws.proofs.Moving.{stepped_facts}
 use Rattle.djq_serve.specs.declared.served.Served.TheVariants.{DiskFault, LogFull}
 use Rattle.djq_serve.specs.Told.{Shown}
 use Rattle.djq_serve.specs.Server.{Next, more_lines, next_turn, lines, keeping, flushing, closing}
@@ -26,7 +26,7 @@ use Rattle.djq_serve.proofs.Settling.{ran_settled, closed_settled, one_and_other
 use Rattle.djq_serve.proofs.Moving.{line_runs, line_kept, line_lost, line_left, lines_over}
 use Rattle.djq_serve.proofs.Fronting.{may_run_by, may_not_dry, may_not_ended, may_not_stopped}
 use Rattle.djq_serve.proofs.Fronting.{may_not_closed, line_fewer}
-use Rattle.djq_laws.proofs.Cutting.{some_of}
+use Rattle.djq_run_laws.proofs.Cutting.{some_of}
 
 -- What the lines of a session keep from the first on.
 pub record Lining (x y : Shown) (before now : Counts) (old st : State) (s : ℕ) (groups : List Group) : Type 0 where

@@ -14,7 +14,7 @@ use Rattle.djq_machine.specs.LineStep.{LineOutcome, long, blank, slow, no_room, 
 use Rattle.djq_machine.specs.Step.{Event, opened, fed, stepped, took, ended, closed}
 use Rattle.djq_machine.specs.Run.{Did, Group, Walk, kept_group, groups_of, pending_of}
 use Rattle.djq_machine.specs.Call.{first_due}
-use Rattle.djq_laws.proofs.Finding.{some_there}
+use Rattle.djq_run_laws.proofs.Finding.{some_there}
 use Rattle.djq_serve.specs.declared.served.Served.{Served}
 use Rattle.djq_serve.specs.declared.served.Served.TheVariants.{Stopped, Over, TurnsUsed, HubFault, DiskFault, LogFull}
 use Rattle.djq_serve.specs.Server.{Next, more_lines, next_turn, no_turn, Phase, waiting, lines, keeping, flushing}

@@ -10,7 +10,7 @@ use Rattle.djq_machine.specs.Effect.{Effect, nothing, queue_all}
 use Rattle.djq_machine.specs.Step.{Event, took, closed, TookStep, Step, with_relations}
 use Rattle.djq_machine.specs.Run.{pending_of}
 use Rattle.djq_machine.specs.Call.{Makes}
-use Rattle.djq_laws.proofs.Finding.{some_there}
+use Rattle.djq_run_laws.proofs.Finding.{some_there}
 use Rattle.djq_serve.specs.Kept.{flush_ahead}
 
 -- how many bytes are pending for sessions

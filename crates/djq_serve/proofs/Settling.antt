@@ -5,17 +5,17 @@ use Rattle.std.proofs.Common.{refl, sym, ap, ◌∙◌, subst, inl, inr, append-
 use Rattle.std.proofs.lemmas.Bool.{eqb-true, eq-eqb}
 use Rattle.std.proofs.lemmas.List.Elements.{filter_passes, All-contains}
 use Rattle.djq_model.specs.Data.{Bytes}
-use Rattle.djq_lines.specs.declared.answer.EndCause.{EndCause}
+use Rattle.djq_protocol.specs.declared.answer.EndCause.{EndCause}
 use Rattle.djq_machine.specs.State.{State, Session, session_of}
 use Rattle.djq_machine.specs.Effect.{Effect}
 use Rattle.djq_machine.specs.LineStep.{LineOutcome}
 use Rattle.djq_machine.specs.Step.{Event, opened, fed, stepped, took, ended, closed, Step, is_dry}
 use Rattle.djq_machine.specs.Run.{fed_by, line_by}
 use Rattle.djq_machine.specs.Call.{IsOpen, Makes, cause_of, held_of, held_in, state_ids}
-use Rattle.djq_laws.specs.Moved.{SparesSession}
-use Rattle.djq_laws.proofs.Cutting.{HeldStep, holds, takes, drops, step_holds}
-use Rattle.djq_laws.proofs.Rising.{step_ids}
-use Rattle.djq_laws.proofs.Stopping.{step_stopped}
+use Rattle.djq_run_laws.specs.Moved.{SparesSession}
+use Rattle.djq_run_laws.proofs.Cutting.{HeldStep, holds, takes, drops, step_holds}
+use Rattle.djq_run_laws.proofs.Rising.{step_ids}
+use Rattle.djq_run_laws.proofs.Stopping.{step_stopped}
 use Rattle.djq_serve.specs.Kept.{HoldsNoLine, AllSettled, OthersSettled, Spares}
 use Rattle.djq_serve.proofs.Agreeing.{open_contains}
 

@@ -12,7 +12,7 @@ use Rattle.djq_io.specs.declared.hub.Told.TheVariants.{Turning, Closing}
 use Rattle.djq_model.specs.Data.{Bytes}
 use Rattle.djq_machine.specs.Run.{Walk}
 use Rattle.djq_io.specs.declared.limits.TheConstants.{READ_BYTES}
-use Rattle.djq_laws.proofs.Courses.{walk_then}
+use Rattle.djq_run_laws.proofs.Courses.{walk_then}
 use Rattle.djq_serve.specs.Server.{offering}
 use Rattle.djq_serve.specs.Told.{Shown, hub_shown, hub_place, IsAnswered, IdsShow, HubTells}
 

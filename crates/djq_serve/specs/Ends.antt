@@ -8,9 +8,9 @@ use Rattle.djq_machine.specs.State.{State}
 use Rattle.djq_machine.specs.Run.{Did, Run, Group, out, all_taken, pending_of}
 use Rattle.djq_machine.specs.Call.{Counts, state_ids}
 use Rattle.djq_machine.specs.Gives.{CursorsGive}
-use Rattle.djq_laws.specs.Moved.{SparesSession}
-use Rattle.djq_laws.specs.Lines.{TakesInOrder}
-use Rattle.djq_laws.specs.Sent.{all_dropped, all_opened}
+use Rattle.djq_run_laws.specs.Moved.{SparesSession}
+use Rattle.djq_run_laws.specs.Lines.{TakesInOrder}
+use Rattle.djq_run_laws.specs.Sent.{all_dropped, all_opened}
 use Rattle.djq_serve.specs.declared.served.Served.{Served}
 use Rattle.djq_serve.specs.declared.served.Served.TheVariants.{Stopped, Over, TurnsUsed, HubFault}
 use Rattle.djq_io.specs.Calls.{sent_to}

@@ -12,8 +12,8 @@ use Rattle.djq_io.specs.declared.hub.Sent.TheVariants.{Took, Again, Gone}
 use Rattle.djq_io.specs.declared.hub.Told.{Told}
 use Rattle.djq_io.specs.declared.hub.Told.TheVariants.{Turning, Sending, Closing}
 use Rattle.djq_model.specs.Data.{Bytes}
-use Rattle.djq_lines.specs.declared.limits.TheConstants.{SESSIONS}
-use Rattle.djq_lines.specs.Reply.{end_full, end_memory}
+use Rattle.djq_protocol.specs.declared.limits.TheConstants.{SESSIONS}
+use Rattle.djq_protocol.specs.Reply.{end_full, end_memory}
 use Rattle.djq_machine.specs.State.{State}
 use Rattle.djq_machine.specs.Keeping.{Keeping}
 use Rattle.djq_machine.specs.Effect.{Effect}

@@ -10,7 +10,7 @@
 //! [`serve_logged`] does the same with a log. A line that changed the store is kept behind its step and
 //! before anything is sent behind it, in the order in which lines were run, whichever sessions said them;
 //! and a batch so behind the line that ends it, all its lines or none. What is kept are the lines as they
-//! came, so the store is had again by running the kept lines (djq_kept). Where that can't be kept serving
+//! came, so the store is had again by running the kept lines (djq_log_laws). Where that can't be kept serving
 //! ends, without another byte: the machine made its change, but nobody was told. The disk may have failed,
 //! and then the log has the line, or the batch, or not ([`Served::DiskFault`]); or the journal had no room,
 //! and nothing was written ([`Served::LogFull`]). [`serve`] is one call of it, with a

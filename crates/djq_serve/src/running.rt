@@ -1,6 +1,6 @@
 ghost use Rattle.std.specs.Prelude.{◌≡◌, None, MatchBool};
 ghost use Rattle.djq_machine.specs.Call.{counts};
-ghost use Rattle.djq_laws.specs.Holding.{HoldLines};
+ghost use Rattle.djq_run_laws.specs.Holding.{HoldLines};
 ghost use Rattle.djq_serve.specs.Told.{hub_shown};
 ghost use Rattle.djq_serve.specs.Kept.{Agrees, OthersSettled};
 ghost use Rattle.djq_serve.specs.Logged.{DiskCounts};
@@ -13,7 +13,7 @@ use djq_disk::Disk;
 use djq_io::Hub;
 use djq_journal::{Kept, Log};
 use djq_machine::{Machine, Stepped};
-use djq_steps::{Ledgers, Steps};
+use djq_counters::{Ledgers, Steps};
 
 /// Runs the whole lines that a session holds, what each keeps kept and with a flush behind it, until none
 /// is left, the session has ended or is closed, a session said `stop`, or what a line keeps can't be kept.

@@ -2,7 +2,7 @@ ghost use Rattle.std.specs.Prelude.{◌≡◌, [], None, Some, false, length};
 ghost use Rattle.djq_io.specs.Faults.{Counted};
 ghost use Rattle.djq_machine.specs.Call.{counts, state_ids};
 ghost use Rattle.djq_io.specs.declared.limits.TheConstants.{READ_BYTES};
-ghost use Rattle.djq_laws.specs.Holding.{HoldLines};
+ghost use Rattle.djq_run_laws.specs.Holding.{HoldLines};
 ghost use Rattle.djq_serve.specs.Told.{hub_shown};
 ghost use Rattle.djq_serve.specs.Server.{closing, server};
 ghost use Rattle.djq_serve.specs.Goes.{GoesQuietly};
@@ -18,7 +18,7 @@ use djq_disk::{Disk, NoDisk};
 use djq_io::Hub;
 use djq_journal::Log;
 use djq_machine::Machine;
-use djq_steps::{Ledgers, Steps};
+use djq_counters::{Ledgers, Steps};
 
 /// Serves the sessions of a hub, until a session says `stop`, nothing will come any more, this many
 /// turns were taken, or the hub fails. Then each session that is open is closed.

@@ -3,7 +3,7 @@ ghost use Rattle.djq_io.specs.Faults.{Counted};
 ghost use Rattle.djq_machine.specs.Step.{opened};
 ghost use Rattle.djq_machine.specs.Call.{IsOpen, Makes, counts};
 ghost use Rattle.djq_io.specs.declared.limits.TheConstants.{READ_BYTES};
-ghost use Rattle.djq_laws.specs.Holding.{HoldLines};
+ghost use Rattle.djq_run_laws.specs.Holding.{HoldLines};
 ghost use Rattle.djq_serve.specs.Told.{hub_shown, HubTells};
 ghost use Rattle.djq_serve.specs.Server.{flushing, next_turn, server, refusal_for};
 ghost use Rattle.djq_serve.specs.Goes.{GoesQuietly};
@@ -19,7 +19,7 @@ use djq_disk::Disk;
 use djq_io::{Hub, Turn};
 use djq_journal::Log;
 use djq_machine::{Machine, OpenRefusal};
-use djq_steps::{Ledgers, Steps};
+use djq_counters::{Ledgers, Steps};
 
 /// Takes a turn of the hub, and does what it brings. It answers how serving ends, if it does.
 pub(crate) fn take_turn<M: Machine, H: Hub, D: Disk, L: Ledgers>(

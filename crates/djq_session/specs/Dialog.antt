@@ -2,9 +2,9 @@
 use Rattle.std.specs.Prelude.{ℕ, List, [], ◌∷◌, ◌≡◌, ◌+◌, ◌++◌, ◌≤◌, ◌<◌, ◌||◌, Bool, false, nat_lt}
 use Rattle.std.specs.Prelude.{Option, None, Some, is_some, Result, Ok, Err, length, find, AllPairs}
 use Rattle.djq_model.specs.Data.{Bytes, bytes_eq}
-use Rattle.djq_lines.specs.declared.limits.TheConstants.{CURSORS, LAST_LINE_BYTES}
-use Rattle.djq_lines.specs.declared.answer.EndCause.{EndCause}
-use Rattle.djq_lines.specs.declared.held.HeldRow.{HeldRow}
+use Rattle.djq_protocol.specs.declared.limits.TheConstants.{CURSORS, LAST_LINE_BYTES}
+use Rattle.djq_protocol.specs.declared.answer.EndCause.{EndCause}
+use Rattle.djq_protocol.specs.declared.held.HeldRow.{HeldRow}
 use Rattle.djq_session.specs.declared.named.NamedCursor.{NamedCursor}
 use Rattle.djq_session.specs.Keeps.{KeepsRoom}
 

@@ -1,7 +1,7 @@
 -- What is kept for a session's last line.
 use Rattle.std.specs.Prelude.{ℕ, ◌≤◌, Option, None, Some, ⊤}
-use Rattle.djq_lines.specs.declared.limits.TheConstants.{LAST_LINE_BYTES}
-use Rattle.djq_lines.specs.declared.answer.EndCause.{EndCause}
+use Rattle.djq_protocol.specs.declared.limits.TheConstants.{LAST_LINE_BYTES}
+use Rattle.djq_protocol.specs.declared.answer.EndCause.{EndCause}
 
 -- As long as a session goes on, there is room for its last line.
 abbrev pub KeepsRoom : Option EndCause → ℕ → Type 0

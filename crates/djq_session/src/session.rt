@@ -3,7 +3,7 @@ ghost use Rattle.djq_session.specs.Dialog.{IsNewDialog};
 
 use crate::named::NamedCursor;
 use bytes::BytesMut;
-use djq_lines::{EndCause, HeldRow};
+use djq_protocol::{EndCause, HeldRow};
 use djq_model::{NoMem, Sequence};
 use std::alloc::Global;
 use std::marker::Model;

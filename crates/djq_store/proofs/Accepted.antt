@@ -17,18 +17,18 @@ use Rattle.djq_store_spec.specs.Registering.{atoms_of}
 use Rattle.djq_store_spec.specs.Changes.{RowsChange, is_outdated}
 use Rattle.djq_store_spec.specs.Delta.{Change, IsDelta}
 use Rattle.djq_store_spec.specs.DeltaCost.{Delta, is_touched, AreDeltas}
-use Rattle.djq_live.specs.Live.{Live}
-use Rattle.djq_live.specs.Member.{query_at, queries_at}
-use Rattle.djq_live.specs.Updating.{change_of}
-use Rattle.djq_cursor.specs.declared.log.Line.{Line}
+use Rattle.djq_live_query.specs.Live.{Live}
+use Rattle.djq_live_query.specs.Member.{query_at, queries_at}
+use Rattle.djq_live_query.specs.Updating.{change_of}
+use Rattle.djq_enumeration.specs.declared.log.Line.{Line}
 use Rattle.djq_engine.specs.Kept.{Kept, Registered, SameShape, affected_of, told_at}
 use Rattle.djq_engine.specs.Watching.{LogsTell}
 use Rattle.djq_united.specs.United.{IsUnited, union_of}
 use Rattle.djq_gains.specs.Told.{GoOneWay}
 use Rattle.djq_gains.specs.Gains.{members_at, count_in, HaveChanged, TellUnion}
-use Rattle.djq_deltas.specs.Growing.{HaveRows, SparesOthers}
-use Rattle.djq_deltas.proofs.Growing.{answer_stays, answers_rest}
-use Rattle.djq_deltas.proofs.Lists.{first_there, later_there, kept_there, hold_each}
+use Rattle.djq_answer_laws.specs.Growing.{HaveRows, SparesOthers}
+use Rattle.djq_answer_laws.proofs.Growing.{answer_stays, answers_rest}
+use Rattle.djq_answer_laws.proofs.Lists.{first_there, later_there, kept_there, hold_each}
 use Rattle.djq_store.specs.declared.joined.Joined.{Joined}
 use Rattle.djq_store.specs.declared.settling.Turn.{Turn}
 use Rattle.djq_store.specs.Places.{joined_at}
@@ -39,7 +39,7 @@ use Rattle.djq_store.proofs.Counting.{mapped_was}
 use Rattle.djq_store.proofs.ReadBy.{the_query, touched_are, filter_same}
 use Rattle.djq_store.proofs.Summing.{sum_times, sum_fewer, kept_was}
 use Rattle.djq_store.proofs.Wanted.{places, f, by_places, deltas, member_listed}
-use Rattle.djq_deltas.proofs.Cases.{some_there}
+use Rattle.djq_answer_laws.proofs.Cases.{some_there}
 
 -- rows came, or they went
 abbrev pub GoRows : Bool → List Relation → List Relation → Type 0

@@ -8,16 +8,16 @@ use Rattle.std.proofs.Common.{refl, sym, ap, ◌∙◌, subst, inl, inr}
 use Rattle.std.proofs.lemmas.Bool.{eqb-true, eq-eqb, false≢true, lt-ltb, or_parts}
 use Rattle.djq_model.specs.Data.{Bytes}
 use Rattle.djq_model.specs.Listed.{a_query}
-use Rattle.djq_lines.specs.declared.limits.TheConstants.{QUERIES}
+use Rattle.djq_protocol.specs.declared.limits.TheConstants.{QUERIES}
 use Rattle.djq_store_spec.specs.Changes.{RowsChange, is_outdated}
-use Rattle.djq_live.specs.Member.{query_at}
+use Rattle.djq_live_query.specs.Member.{query_at}
 use Rattle.djq_reach.specs.Places.{is_reader}
 use Rattle.djq_engine.specs.declared.cursor.QueryId.{QueryId}
 use Rattle.djq_engine.specs.Kept.{Kept, Registered, same_query, registered_at, readers_of}
 use Rattle.djq_engine.specs.Places.{id_at}
 use Rattle.djq_engine.proofs.Listing.{filter_members}
 use Rattle.djq_united.specs.United.{union_of}
-use Rattle.djq_deltas.proofs.Lists.{kept_there, mapped_there}
+use Rattle.djq_answer_laws.proofs.Lists.{kept_there, mapped_there}
 use Rattle.djq_store.specs.declared.joined.Joined.{Joined}
 use Rattle.djq_store.specs.declared.settling.Turn.{Turn}
 use Rattle.djq_store.specs.Affecting.{is_reached_id, is_member_reached, is_affected}

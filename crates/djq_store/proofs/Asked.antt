@@ -6,10 +6,10 @@ use Rattle.std.proofs.Common.{refl, sym, ap, ap₂, ◌∙◌, subst, inl, inr, 
 use Rattle.std.proofs.lemmas.Bool.{false≢true, lt-ltb, ltb-true}
 use Rattle.std.proofs.lemmas.List.Kept.{AllPairs-cons, AllPairs-filter}
 use Rattle.std.proofs.lemmas.List.Sums.{sum_by-cons}
-use Rattle.djq_lines.specs.declared.limits.TheConstants.{QUERIES}
+use Rattle.djq_protocol.specs.declared.limits.TheConstants.{QUERIES}
 use Rattle.djq_engine.specs.Kept.{Registered}
-use Rattle.djq_deltas.proofs.Lists.{nothing_there, first_or_later}
-use Rattle.djq_deltas.proofs.Lists.{mapped_there, hold_each}
+use Rattle.djq_answer_laws.proofs.Lists.{nothing_there, first_or_later}
+use Rattle.djq_answer_laws.proofs.Lists.{mapped_there, hold_each}
 use Rattle.djq_store.specs.declared.joined.Joined.{Joined}
 use Rattle.djq_store.specs.Places.{by_place, joined_at}
 use Rattle.djq_store.proofs.Seats.{Slot, cases_place, behind_queries, low_place, high_place}

@@ -12,12 +12,12 @@ use Rattle.djq_model.specs.declared.query.Atom.{Atom}
 use Rattle.djq_model.specs.Data.{Bytes, bytes_eq, relation_of, counted_of, with_row}
 use Rattle.djq_model.specs.Equality.{bytes_eq-decides}
 use Rattle.djq_model.specs.Known.{texts_in, all_learned}
-use Rattle.djq_lines.specs.declared.held.HeldRow.{HeldRow}
-use Rattle.djq_lines.specs.declared.answer.Refusal.{Refusal}
-use Rattle.djq_lines.specs.Columns.{types_of}
-use Rattle.djq_lines.specs.Conditions.{first_refusal}
+use Rattle.djq_protocol.specs.declared.held.HeldRow.{HeldRow}
+use Rattle.djq_protocol.specs.declared.answer.Refusal.{Refusal}
+use Rattle.djq_protocol.specs.Columns.{types_of}
+use Rattle.djq_protocol.specs.Conditions.{first_refusal}
 use Rattle.djq_model.specs.Typed.{fits}
-use Rattle.djq_lines.specs.declared.answer.Refusal.TheVariants.{Limit, NoMemory, NoRelation, Arity, WrongType}
+use Rattle.djq_protocol.specs.declared.answer.Refusal.TheVariants.{Limit, NoMemory, NoRelation, Arity, WrongType}
 use Rattle.djq_store_spec.specs.Relations.{with_rows}
 use Rattle.djq_store_spec.specs.Rows.{copies_of, with_copies_of}
 use Rattle.djq_store_spec.specs.Store.{Store}
@@ -27,10 +27,10 @@ use Rattle.djq_store_spec.specs.Batch.{count_came, has_come, store_behind, Batch
 use Rattle.djq_store_spec.specs.Batch.{AddsBatch, rows_held, batch_outcome}
 use Rattle.djq_store_spec.specs.DeltaCost.{is_touched}
 use Rattle.djq_store_spec.proofs.Reading.{reads_atom}
-use Rattle.djq_rows.specs.Laws.{TextsStay}
+use Rattle.djq_database.specs.Laws.{TextsStay}
 use Rattle.djq_engine.specs.Kept.{Kept}
-use Rattle.djq_deltas.proofs.Growing.{rows_come, batch_spares}
-use Rattle.djq_deltas.proofs.Lists.{first_there, later_there, kept_there}
+use Rattle.djq_answer_laws.proofs.Growing.{rows_come, batch_spares}
+use Rattle.djq_answer_laws.proofs.Lists.{first_there, later_there, kept_there}
 use Rattle.djq_store.specs.declared.parts.Parts.{Parts}
 use Rattle.djq_store.specs.Batches.{has_grown, is_lacked}
 use Rattle.djq_store.specs.Following.{batch_turn}
@@ -41,7 +41,7 @@ use Rattle.djq_store.proofs.Lifting.{with_queries, batch_lifted}
 use Rattle.djq_store.proofs.ReadBy.{any_there, passing, found_any, filter_same}
 use Rattle.djq_store.proofs.Rowing.{Grown}
 use Rattle.djq_store.proofs.Summing.{kept_was}
-use Rattle.djq_deltas.proofs.Cases.{same_tests}
+use Rattle.djq_answer_laws.proofs.Cases.{same_tests}
 
 -- ---- lists
 

@@ -9,21 +9,21 @@ use Rattle.std.proofs.lemmas.List.Elements.{All-nil}
 use Rattle.djq_model.specs.declared.query.Query.{Query}
 use Rattle.djq_model.specs.Data.{Bytes}
 use Rattle.djq_model.specs.Listed.{Listed, a_query, a_union, listed_name}
-use Rattle.djq_lines.specs.declared.limits.TheConstants.{QUERIES}
+use Rattle.djq_protocol.specs.declared.limits.TheConstants.{QUERIES}
 use Rattle.djq_store_spec.specs.Stale.{listed_reads}
 use Rattle.djq_store_spec.specs.Changes.{RowsChange}
-use Rattle.djq_cursor.specs.Log.{Log}
-use Rattle.djq_cursor.specs.declared.log.Line.{Line}
-use Rattle.djq_live.specs.Live.{Live, IsShowable}
-use Rattle.djq_live.specs.Member.{query_at, queries_at}
-use Rattle.djq_live.specs.Staying.{HasSameTables}
+use Rattle.djq_enumeration.specs.Log.{Log}
+use Rattle.djq_enumeration.specs.declared.log.Line.{Line}
+use Rattle.djq_live_query.specs.Live.{Live, IsShowable}
+use Rattle.djq_live_query.specs.Member.{query_at, queries_at}
+use Rattle.djq_live_query.specs.Staying.{HasSameTables}
 use Rattle.djq_reach.specs.Places.{is_reader}
 use Rattle.djq_engine.specs.Kept.{Kept, Registered, Outdates, KeepsPlaces, KeepsQuery, SameShape, is_tried}
 use Rattle.djq_engine.proofs.Listing.{map_members}
 use Rattle.djq_united.specs.Staying.{AreUntouched}
 use Rattle.djq_united.specs.United.{United, IsUnited, union_of, first_of_members}
 use Rattle.djq_gains.specs.Gains.{TellUnion}
-use Rattle.djq_deltas.proofs.Lists.{first_or_later}
+use Rattle.djq_answer_laws.proofs.Lists.{first_or_later}
 use Rattle.djq_store.specs.declared.joined.Joined.{Joined}
 use Rattle.djq_store.specs.declared.settling.Turn.{Turn}
 use Rattle.djq_store.specs.declared.settling.Turn.TheVariants.{Came, Went, Lacked}
@@ -40,7 +40,7 @@ use Rattle.djq_store.proofs.ReadBy.{the_query, all_queries, first_is, union_read
 use Rattle.djq_store.proofs.Settled.{settled_same, all_same, turned_back}
 use Rattle.djq_store.proofs.Slots.{count_each}
 use Rattle.djq_store.proofs.Staying.{listed_stays, registered_stay, counts_stay, kept_over}
-use Rattle.djq_deltas.proofs.Cases.{some_there, some_as}
+use Rattle.djq_answer_laws.proofs.Cases.{some_there, some_as}
 
 -- the relation by which a change that was made or tried outdates what is registered
 abbrev pub outdater_by : Option RowsChange → Listed → Option Bytes

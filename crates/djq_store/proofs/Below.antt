@@ -1,6 +1,6 @@
 -- What stays of queries and unions as the engine changes, as one.
-use Rattle.djq_live.specs.Live.{ShowableStays, AnswersAreShowable}
-use Rattle.djq_live.proofs.Showable.{stays_showable, answer_showable}
+use Rattle.djq_live_query.specs.Live.{ShowableStays, AnswersAreShowable}
+use Rattle.djq_live_query.proofs.Showable.{stays_showable, answer_showable}
 use Rattle.djq_united.specs.Staying.{MembersStay, UnionsStay}
 use Rattle.djq_united.proofs.Staying.{members_stayed, unions_stayed}
 

@@ -11,15 +11,15 @@ use Rattle.djq_model.specs.declared.relation.ColumnType.{ColumnType}
 use Rattle.djq_model.specs.Data.{Bytes, bytes_eq}
 use Rattle.djq_model.specs.Equality.{bytes_eq-decides}
 use Rattle.djq_model.specs.Listed.{Listed, a_query, listed_name, listed_of}
-use Rattle.djq_lines.specs.declared.answer.Refusal.TheVariants.{Taken, NoQuery, Member, Limit}
-use Rattle.djq_lines.specs.declared.limits.TheConstants.{MEMBERS, QUERIES}
-use Rattle.djq_lines.specs.Conditions.{first_refusal}
+use Rattle.djq_protocol.specs.declared.answer.Refusal.TheVariants.{Taken, NoQuery, Member, Limit}
+use Rattle.djq_protocol.specs.declared.limits.TheConstants.{MEMBERS, QUERIES}
+use Rattle.djq_protocol.specs.Conditions.{first_refusal}
 use Rattle.djq_store_spec.specs.Store.{Store}
 use Rattle.djq_store_spec.specs.Union.{AreUnder, is_union, same_types, stands_twice}
 use Rattle.djq_store_spec.specs.Union.{types_differ, types_under, union_refusal}
-use Rattle.djq_live.specs.Live.{Live}
-use Rattle.djq_live.specs.Member.{head_types, query_at, queries_at, HeadTypesAre, AreAlike}
-use Rattle.djq_deltas.proofs.Lists.{nothing_there, first_or_later}
+use Rattle.djq_live_query.specs.Live.{Live}
+use Rattle.djq_live_query.specs.Member.{head_types, query_at, queries_at, HeadTypesAre, AreAlike}
+use Rattle.djq_answer_laws.proofs.Lists.{nothing_there, first_or_later}
 use Rattle.djq_engine.specs.Kept.{Kept, Registered, registered_of}
 use Rattle.djq_united.specs.United.{AreMembers}
 use Rattle.djq_store.specs.declared.joined.Joined.{Joined}
@@ -29,7 +29,7 @@ use Rattle.djq_store.specs.Places.{store_seen}
 use Rattle.djq_store.specs.Whole.{IsListed}
 use Rattle.djq_store.proofs.Found.{found_passes}
 use Rattle.djq_store.proofs.Judged.{under, none_called, listed_below, types_are}
-use Rattle.djq_deltas.proofs.Cases.{nothing_of, not_false}
+use Rattle.djq_answer_laws.proofs.Cases.{nothing_of, not_false}
 use Rattle.djq_united.proofs.Heads.{all_types}
 
 -- ---- what is so where nothing is refused

@@ -9,23 +9,23 @@ use Rattle.djq_model.specs.declared.relation.Relation.{Relation}
 use Rattle.djq_model.specs.declared.query.Query.{Query}
 use Rattle.djq_model.specs.Data.{Bytes}
 use Rattle.djq_model.specs.Listed.{Listed, a_union, AnswersOf}
-use Rattle.djq_lines.specs.declared.limits.TheConstants.{QUERIES}
+use Rattle.djq_protocol.specs.declared.limits.TheConstants.{QUERIES}
 use Rattle.djq_store_spec.specs.Changes.{RowsChange, is_outdated}
 use Rattle.djq_store_spec.specs.Delta.{Change, IsDelta}
-use Rattle.djq_cursor.specs.Log.{Log}
-use Rattle.djq_cursor.specs.declared.log.Line.{Line}
-use Rattle.djq_live.specs.Live.{Live}
-use Rattle.djq_live.specs.Member.{query_at, queries_at}
-use Rattle.djq_live.specs.Updating.{change_of}
-use Rattle.djq_live.proofs.Bound.{heads_bound}
+use Rattle.djq_enumeration.specs.Log.{Log}
+use Rattle.djq_enumeration.specs.declared.log.Line.{Line}
+use Rattle.djq_live_query.specs.Live.{Live}
+use Rattle.djq_live_query.specs.Member.{query_at, queries_at}
+use Rattle.djq_live_query.specs.Updating.{change_of}
+use Rattle.djq_live_query.proofs.Bound.{heads_bound}
 use Rattle.djq_reach.specs.Places.{is_reader}
 use Rattle.djq_engine.specs.declared.cursor.QueryId.{QueryId}
 use Rattle.djq_engine.specs.Kept.{Kept, Registered, registered_at, told_at}
 use Rattle.djq_engine.specs.Places.{id_at, told_of}
 use Rattle.djq_united.specs.United.{United, IsUnited, union_of, first_of_members}
-use Rattle.djq_deltas.specs.Finite.{IsBound}
-use Rattle.djq_deltas.proofs.Finite.{deltas_exist}
-use Rattle.djq_deltas.proofs.Lists.{hold_each}
+use Rattle.djq_answer_laws.specs.Finite.{IsBound}
+use Rattle.djq_answer_laws.proofs.Finite.{deltas_exist}
+use Rattle.djq_answer_laws.proofs.Lists.{hold_each}
 use Rattle.djq_store.specs.declared.joined.Joined.{Joined}
 use Rattle.djq_store.specs.declared.settling.Turn.{Turn}
 use Rattle.djq_store.specs.declared.settling.Turn.TheVariants.{Lacked}

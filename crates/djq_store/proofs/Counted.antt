@@ -7,7 +7,7 @@ use Rattle.std.specs.Prelude.{option_map, cond, count_by, find, map}
 use Rattle.std.proofs.lemmas.Bool.{cases_order, eqb-true, eq-eqb, false≢true}
 use Rattle.std.proofs.lemmas.List.{get_or-set_same, get_or-set_other, get_or_default}
 use Rattle.std.proofs.lemmas.List.Sums.{count_by-le-length}
-use Rattle.djq_lines.specs.declared.limits.TheConstants.{QUERIES, SESSIONS}
+use Rattle.djq_protocol.specs.declared.limits.TheConstants.{QUERIES, SESSIONS}
 use Rattle.djq_reach.specs.Places.{is_reader, AreOnce}
 use Rattle.djq_reach.proofs.Among.{apart}
 use Rattle.djq_engine.specs.declared.cursor.QueryId.{QueryId}

@@ -4,14 +4,14 @@ use Rattle.std.specs.Prelude.{None, Some, IsSomeAnd, option_map, map}
 use Rattle.std.proofs.Common.{refl, sym, ap, ◌∙◌, subst, inl, inr}
 use Rattle.djq_model.specs.Data.{Bytes}
 use Rattle.djq_model.specs.Listed.{Listed, listed_name, listed_of}
-use Rattle.djq_lines.specs.declared.limits.TheConstants.{QUERIES}
+use Rattle.djq_protocol.specs.declared.limits.TheConstants.{QUERIES}
 use Rattle.djq_store_spec.specs.Store.{Position}
 use Rattle.djq_store_spec.specs.Stale.{outdated}
 use Rattle.djq_store_spec.specs.Changes.{RowsChange}
 use Rattle.djq_engine.specs.declared.cursor.CursorId.{CursorId}
 use Rattle.djq_engine.specs.Kept.{Kept, HeldCursor, Registered, same_id, held_at, registered_at}
 use Rattle.djq_engine.specs.Kept.{outdated_held, cursors_behind, Outdates}
-use Rattle.djq_slots.specs.declared.progress.Progress.TheVariants.{Open, Stale}
+use Rattle.djq_cursors.specs.declared.progress.Progress.TheVariants.{Open, Stale}
 use Rattle.djq_united.specs.Slots.{UnionProgress, slot_at, outdated_progress}
 use Rattle.djq_united.specs.United.{United, IsUnited, union_of, members_in, union_position}
 use Rattle.djq_store.specs.declared.joined.Joined.{Joined}

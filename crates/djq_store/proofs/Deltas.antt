@@ -19,8 +19,8 @@ use Rattle.djq_store_spec.specs.DeltaCost.{Part, Delta, is_touched, ArePartsOf, 
 use Rattle.djq_store_spec.specs.DeltaCost.{parts_steps, listed_steps, delta_steps}
 use Rattle.djq_engine.specs.Kept.{Kept, Registered, same_query, told_at}
 use Rattle.djq_engine.specs.Watching.{LogTells, LogsTell}
-use Rattle.djq_deltas.proofs.Lists.{first_there, later_there}
-use Rattle.djq_deltas.proofs.Lists.{pairs_head, pairs_tail, hold_each}
+use Rattle.djq_answer_laws.proofs.Lists.{first_there, later_there}
+use Rattle.djq_answer_laws.proofs.Lists.{pairs_head, pairs_tail, hold_each}
 use Rattle.djq_store.proofs.Summing.{sum_same, sum_covered, sum_kept, kept_was, sum_plus, all_of, sum_all_of, in_all_of}
 
 -- ---- what the engine lists, by place

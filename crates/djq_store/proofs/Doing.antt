@@ -9,19 +9,19 @@ use Rattle.std.proofs.lemmas.List.Elements.{All-contains}
 use Rattle.djq_model.specs.declared.query.Query.{Query}
 use Rattle.djq_model.specs.Data.{Bytes}
 use Rattle.djq_model.specs.Listed.{Listed, a_query}
-use Rattle.djq_lines.specs.declared.limits.TheConstants.{QUERIES}
+use Rattle.djq_protocol.specs.declared.limits.TheConstants.{QUERIES}
 use Rattle.djq_store_spec.specs.Stale.{reads, listed_reads}
 use Rattle.djq_store_spec.specs.Changes.{RowsChange, RowsOutcome, accepted, out_of_memory, unchanged, tried}
 use Rattle.djq_store_spec.specs.Changes.{is_outdated}
 use Rattle.djq_store_spec.specs.DeltaCost.{is_touched}
-use Rattle.djq_live.specs.Member.{query_at}
+use Rattle.djq_live_query.specs.Member.{query_at}
 use Rattle.djq_reach.specs.Places.{is_reader}
 use Rattle.djq_reach.proofs.Reaching.{place_below}
 use Rattle.djq_engine.specs.declared.cursor.QueryId.{QueryId}
 use Rattle.djq_engine.specs.Kept.{Kept, Registered, AtPlace, Outdates, IsUnwatched, is_watched, readers_of, is_tried}
 use Rattle.djq_engine.specs.Watching as watching
-use Rattle.djq_deltas.specs.Growing.{SparesOthers}
-use Rattle.djq_deltas.proofs.Lists.{hold_each}
+use Rattle.djq_answer_laws.specs.Growing.{SparesOthers}
+use Rattle.djq_answer_laws.proofs.Lists.{hold_each}
 use Rattle.djq_store.specs.declared.joined.Joined.{Joined}
 use Rattle.djq_store.specs.declared.parts.Parts.{Parts}
 use Rattle.djq_store.specs.declared.settling.Turn.{Turn}
@@ -54,7 +54,7 @@ use Rattle.djq_store.proofs.Seats.{high_place, low_place}
 use Rattle.djq_store.proofs.Slots.{count_none}
 use Rattle.djq_store.proofs.Told.{turn_for, tells_accepted, tells_refused, tells_none}
 use Rattle.djq_store.proofs.Wanted.{found_itself}
-use Rattle.djq_deltas.proofs.Cases.{some_there}
+use Rattle.djq_answer_laws.proofs.Cases.{some_there}
 
 -- ---- what is known of the change
 

@@ -12,9 +12,9 @@ use Rattle.djq_model.specs.declared.query.Query.{Query}
 use Rattle.djq_model.specs.Data.{bytes_eq}
 use Rattle.djq_model.specs.Equality.{bytes_eq-decides}
 use Rattle.djq_model.specs.Listed.{Listed, a_query, listed_name, listed_of}
-use Rattle.djq_lines.specs.declared.limits.TheConstants.{QUERIES, SESSIONS}
-use Rattle.djq_live.specs.Live.{Live}
-use Rattle.djq_live.specs.Member.{query_at}
+use Rattle.djq_protocol.specs.declared.limits.TheConstants.{QUERIES, SESSIONS}
+use Rattle.djq_live_query.specs.Live.{Live}
+use Rattle.djq_live_query.specs.Member.{query_at}
 use Rattle.djq_reach.specs.Places.{is_reader}
 use Rattle.djq_reach.proofs.Among.{apart, reader_more}
 use Rattle.djq_engine.specs.declared.cursor.QueryId.{QueryId}
@@ -34,7 +34,7 @@ use Rattle.djq_store.proofs.Placed.{map_push, push_long, query_places_low, told_
 use Rattle.djq_store.proofs.Seats.{Slot, cases_place, low_place}
 use Rattle.djq_store.proofs.Slots.{count_none}
 use Rattle.djq_store.proofs.Staying.{Rests, grows, united_stays, queries_over, registered_over, logs_stay, listed_stays}
-use Rattle.djq_deltas.proofs.Cases.{or_none}
+use Rattle.djq_answer_laws.proofs.Cases.{or_none}
 
 none_of : {A B : Type 0} (f : A → B) (o : Option A) → option_map f o ≡ None → o ≡ None
 none_of f None e = refl

@@ -4,17 +4,17 @@ use Rattle.std.proofs.Common.{sym, ap, ◌∙◌, subst}
 use Rattle.std.specs.Prelude.{Option, None, Some, IsSomeAnd, is_some, is_none, Result, Ok, Err, map, ⊤}
 use Rattle.djq_model.specs.Data.{Bytes}
 use Rattle.djq_model.specs.Listed.{Listed, listed_name, listed_of}
-use Rattle.djq_lines.specs.declared.answer.Refusal.{Refusal}
-use Rattle.djq_lines.specs.declared.answer.Refusal.TheVariants.{NoQuery}
-use Rattle.djq_lines.specs.declared.limits.TheConstants.{QUERIES}
-use Rattle.djq_lines.specs.Conditions.{first_refusal, OutOfMemoryWhere}
+use Rattle.djq_protocol.specs.declared.answer.Refusal.{Refusal}
+use Rattle.djq_protocol.specs.declared.answer.Refusal.TheVariants.{NoQuery}
+use Rattle.djq_protocol.specs.declared.limits.TheConstants.{QUERIES}
+use Rattle.djq_protocol.specs.Conditions.{first_refusal, OutOfMemoryWhere}
 use Rattle.djq_store_spec.specs.Store.{Position, open_at, stale}
 use Rattle.djq_store_spec.specs.Registering.{answer_steps}
 use Rattle.djq_reduct.specs.Answers.{IsAnswerOf}
-use Rattle.djq_live.specs.declared.listing.Next.{Next}
-use Rattle.djq_live.specs.declared.listing.Next.TheVariants.{Given, End, Stale}
-use Rattle.djq_live.specs.Live.{Live, IsShowable, values_of}
-use Rattle.djq_live.specs.Member.{query_at}
+use Rattle.djq_live_query.specs.declared.listing.Next.{Next}
+use Rattle.djq_live_query.specs.declared.listing.Next.TheVariants.{Given, End, Stale}
+use Rattle.djq_live_query.specs.Live.{Live, IsShowable, values_of}
+use Rattle.djq_live_query.specs.Member.{query_at}
 use Rattle.djq_engine.specs.declared.cursor.CursorId.{CursorId}
 use Rattle.djq_engine.specs.Kept as kept
 use Rattle.djq_engine.specs.Kept.{Kept, HeldCursor, Registered, registered_at, held_at, KeepsTables}
@@ -32,7 +32,7 @@ use Rattle.djq_store.proofs.Ordered.{NoUnion, Seat, engine_listed, seat, seat_no
 use Rattle.djq_store.proofs.Seats.{places_low}
 use Rattle.djq_store.proofs.Staying.{Rests, rests_with, listed_over, counts_stay, cursor_over}
 use Rattle.djq_store.proofs.Staying.{registered_over, store_over, tellings_over}
-use Rattle.djq_deltas.proofs.Cases.{some_there}
+use Rattle.djq_answer_laws.proofs.Cases.{some_there}
 
 pub some_and : {A : Type 0} (o : Option A) (x : A) (P : A → Type 0) → o ≡ Some x → P x → IsSomeAnd o P
 some_and o x P e h = subst (λ o. IsSomeAnd o P) (sym e) h

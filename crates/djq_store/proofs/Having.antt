@@ -11,20 +11,20 @@ use Rattle.djq_model.specs.Answer.{IsAnswer}
 use Rattle.djq_model.specs.Data.{Bytes, Tuple, bytes_eq}
 use Rattle.djq_model.specs.Equality.{bytes_eq-decides}
 use Rattle.djq_model.specs.Listed.{Listed, a_query, a_union, AnswersOf, listed_name, listed_of}
-use Rattle.djq_lines.specs.declared.answer.Refusal.{Refusal}
-use Rattle.djq_lines.specs.declared.answer.Refusal.TheVariants.{NoQuery, Arity, WrongType}
-use Rattle.djq_lines.specs.Conditions.{first_refusal, Answers, OutOfMemoryWhere}
+use Rattle.djq_protocol.specs.declared.answer.Refusal.{Refusal}
+use Rattle.djq_protocol.specs.declared.answer.Refusal.TheVariants.{NoQuery, Arity, WrongType}
+use Rattle.djq_protocol.specs.Conditions.{first_refusal, Answers, OutOfMemoryWhere}
 use Rattle.djq_store_spec.specs.Asking.{Tells, TellsWhether, answer_types, has_steps, listed_types, misfit}
 use Rattle.djq_store_spec.specs.Registering.{atoms_of}
 use Rattle.djq_model.specs.Typed.{fits}
-use Rattle.djq_live.specs.Live.{Live}
-use Rattle.djq_live.specs.Member.{HaveQueries, HeadTypesAre, head_types, query_at, queries_at}
-use Rattle.djq_live.proofs.AtPlaces.{nth_is}
+use Rattle.djq_live_query.specs.Live.{Live}
+use Rattle.djq_live_query.specs.Member.{HaveQueries, HeadTypesAre, head_types, query_at, queries_at}
+use Rattle.djq_live_query.proofs.AtPlaces.{nth_is}
 use Rattle.djq_engine.specs.Kept.{Kept, Registered, PlacesAreKept, registered_at, registered_of}
 use Rattle.djq_engine.specs.Places.{id_at}
 use Rattle.djq_engine.proofs.Conditions.{answers_done, done_of}
 use Rattle.djq_united.specs.United.{AreMembers, union_of}
-use Rattle.djq_deltas.proofs.Lists.{nothing_there, first_or_later, mapped_there, one_there, some_one}
+use Rattle.djq_answer_laws.proofs.Lists.{nothing_there, first_or_later, mapped_there, one_there, some_one}
 use Rattle.djq_gains.proofs.Members.{got, member_at}
 use Rattle.djq_store.specs.declared.joined.Joined.{Joined}
 use Rattle.djq_store.specs.Asking.{TellsMembership, asked_in}
@@ -36,7 +36,7 @@ use Rattle.djq_store.proofs.Found.{found_all}
 use Rattle.djq_engine.proofs.Firsts.{find_mapped}
 use Rattle.djq_store.proofs.Named.{Called}
 use Rattle.djq_store.proofs.Ordered.{NoUnion, Seat, seat_here, engine_listed}
-use Rattle.djq_deltas.proofs.Cases.{some_there, some_as}
+use Rattle.djq_answer_laws.proofs.Cases.{some_there, some_as}
 
 same_some : {A : Type 0} {x y : A} → Some x ≡ Some y → x ≡ y
 same_some e = cc

@@ -7,8 +7,8 @@ use Rattle.std.proofs.lemmas.Bool.{eq-eqb, and_from, and_right}
 use Rattle.std.proofs.lemmas.List.Folds.{find-append}
 use Rattle.djq_model.specs.Data.{Bytes}
 use Rattle.djq_model.specs.Listed.{listed_name}
-use Rattle.djq_lines.specs.declared.limits.TheConstants.{QUERIES}
-use Rattle.djq_live.specs.Live.{Live}
+use Rattle.djq_protocol.specs.declared.limits.TheConstants.{QUERIES}
+use Rattle.djq_live_query.specs.Live.{Live}
 use Rattle.djq_reach.proofs.Among.{apart}
 use Rattle.djq_engine.specs.declared.cursor.CursorId.{CursorId}
 use Rattle.djq_engine.specs.Kept.{Kept, HeldCursor, Registered, registered_at, same_id, held_at}
@@ -20,7 +20,7 @@ use Rattle.djq_engine.specs.Laws.{IsEngine}
 use Rattle.djq_store.specs.Places.{joined_at, held_union_cursor, union_cursors_in, union_cursors_from, union_cursor_of}
 use Rattle.djq_store.specs.Places.{cursors_in}
 use Rattle.djq_store.proofs.Ordered.{seat}
-use Rattle.djq_deltas.proofs.Cases.{or_none}
+use Rattle.djq_answer_laws.proofs.Cases.{or_none}
 
 -- the slots of one union
 

@@ -6,13 +6,13 @@ use Rattle.std.specs.Prelude.{Option, None, Some, IsSomeAnd, Ok, map, ⊤}
 use Rattle.djq_model.specs.declared.query.Query.{Query}
 use Rattle.djq_model.specs.Data.{Bytes}
 use Rattle.djq_model.specs.Listed.{Listed, a_union, listed_of}
-use Rattle.djq_lines.specs.declared.answer.Refusal.{Refusal}
-use Rattle.djq_lines.specs.declared.limits.TheConstants.{QUERIES}
-use Rattle.djq_lines.specs.Conditions.{Answers, OutOfMemoryWhere}
+use Rattle.djq_protocol.specs.declared.answer.Refusal.{Refusal}
+use Rattle.djq_protocol.specs.declared.limits.TheConstants.{QUERIES}
+use Rattle.djq_protocol.specs.Conditions.{Answers, OutOfMemoryWhere}
 use Rattle.djq_store_spec.specs.Store.{Store}
 use Rattle.djq_store_spec.specs.Registering.{answer_steps}
 use Rattle.djq_store_spec.specs.Union.{AreUnder, RegistersUnion, union_refusal}
-use Rattle.djq_live.specs.Member.{queries_at, HeadTypesAre}
+use Rattle.djq_live_query.specs.Member.{queries_at, HeadTypesAre}
 use Rattle.djq_engine.specs.Kept.{Kept, Registered, SameCursors, TellsOfQuery, registered_of}
 use Rattle.djq_engine.specs.Places.{id_at}
 use Rattle.djq_united.specs.United.{United, AreMembers, IsUnited, union_of}

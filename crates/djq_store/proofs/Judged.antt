@@ -7,8 +7,8 @@ use Rattle.djq_model.specs.Equality.{bytes_eq-decides}
 use Rattle.djq_model.specs.Listed.{Listed, a_query, listed_name, listed_of}
 use Rattle.djq_store_spec.specs.Asking.{answer_types, listed_types}
 use Rattle.djq_store_spec.specs.Union.{is_union, types_under}
-use Rattle.djq_live.specs.Live.{Live}
-use Rattle.djq_live.specs.Member.{head_types, query_at, HeadTypesAre}
+use Rattle.djq_live_query.specs.Live.{Live}
+use Rattle.djq_live_query.specs.Member.{head_types, query_at, HeadTypesAre}
 use Rattle.djq_engine.specs.declared.cursor.QueryId.{QueryId}
 use Rattle.djq_engine.specs.Kept.{Kept, Registered, AtPlace, registered_at, registered_of}
 use Rattle.djq_store.specs.declared.joined.Joined.{Joined}
@@ -20,7 +20,7 @@ use Rattle.djq_store.proofs.Found.{found_all}
 use Rattle.djq_engine.proofs.Firsts.{find_mapped}
 use Rattle.djq_store.proofs.Named.{Called}
 use Rattle.djq_store.proofs.Ordered.{NoUnion, seat_here, engine_listed}
-use Rattle.djq_deltas.proofs.Cases.{some_there}
+use Rattle.djq_answer_laws.proofs.Cases.{some_there}
 
 -- a query that is registered under a name
 pub record Under (e : Kept) (name : Bytes) : Type 0 where

@@ -8,12 +8,12 @@ use Rattle.std.proofs.lemmas.List.Elements.{All-head, All-tail}
 use Rattle.std.proofs.lemmas.Option.{slice_get-map}
 use Rattle.std.proofs.Math.Nat.{add-sub_of_le}
 use Rattle.djq_model.specs.Data.{Tuple}
-use Rattle.djq_lines.specs.declared.answer.Sign.{Sign}
-use Rattle.djq_lines.specs.declared.limits.TheConstants.{QUERIES}
+use Rattle.djq_protocol.specs.declared.answer.Sign.{Sign}
+use Rattle.djq_protocol.specs.declared.limits.TheConstants.{QUERIES}
 use Rattle.djq_store_spec.specs.Delta.{Change}
-use Rattle.djq_cursor.specs.declared.log.Line.{Line}
-use Rattle.djq_live.specs.Live.{Live, IsShowable, values_of}
-use Rattle.djq_live.specs.Updating.{change_of}
+use Rattle.djq_enumeration.specs.declared.log.Line.{Line}
+use Rattle.djq_live_query.specs.Live.{Live, IsShowable, values_of}
+use Rattle.djq_live_query.specs.Updating.{change_of}
 use Rattle.djq_engine.specs.declared.cursor.QueryId.{QueryId}
 use Rattle.djq_engine.specs.Kept.{Kept, AtPlace, told_at}
 use Rattle.djq_engine.specs.Lending.{sign_of}

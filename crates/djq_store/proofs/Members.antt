@@ -5,11 +5,11 @@ use Rattle.std.specs.Prelude.{Option, None, Some, IsSomeAnd, cond, map, All, opt
 use Rattle.std.proofs.lemmas.List.Elements.{All-head, All-tail}
 use Rattle.djq_model.specs.Data.{Bytes}
 use Rattle.djq_store_spec.specs.Delta.{Change}
-use Rattle.djq_cursor.specs.declared.log.Line.{Line}
-use Rattle.djq_live.specs.Live.{Live, IsShowable, ShowableStays, values_of}
-use Rattle.djq_live.specs.Member.{query_at, queries_at, HaveQueries}
-use Rattle.djq_live.specs.Updating.{change_of}
-use Rattle.djq_live.specs.Staying.{HasSameShape, HasSameTables}
+use Rattle.djq_enumeration.specs.declared.log.Line.{Line}
+use Rattle.djq_live_query.specs.Live.{Live, IsShowable, ShowableStays, values_of}
+use Rattle.djq_live_query.specs.Member.{query_at, queries_at, HaveQueries}
+use Rattle.djq_live_query.specs.Updating.{change_of}
+use Rattle.djq_live_query.specs.Staying.{HasSameShape, HasSameTables}
 use Rattle.djq_engine.specs.Kept.{Kept, SameShape, KeepsPlaces, KeepsQuery, KeepsTables}
 use Rattle.djq_engine.specs.Places.{told_of}
 use Rattle.djq_united.specs.United.{United, IsUnited, first_of_members, union_of}
@@ -17,7 +17,7 @@ use Rattle.djq_united.specs.Staying.{MembersStay, KeepMembers}
 use Rattle.djq_store.specs.declared.joined.Joined.{Joined}
 use Rattle.djq_store.specs.Places.{first_member, told_of_union}
 use Rattle.djq_store.specs.Whole.{IsShownByFirst}
-use Rattle.djq_deltas.proofs.Cases.{some_there, some_as}
+use Rattle.djq_answer_laws.proofs.Cases.{some_there, some_as}
 
 -- The queries in places are those that they were, each with its tree, and texts stay.
 pub record Grows (e e' : Kept) : Type 0 where

@@ -5,9 +5,9 @@ use Rattle.std.specs.Prelude.{take, slice_get, slice_index_or}
 use Rattle.std.proofs.lemmas.Option.{same_Some}
 use Rattle.std.proofs.lemmas.Nat.{mul-le}
 use Rattle.djq_store_spec.specs.Registering.{most_steps, width_of, atoms_of}
-use Rattle.djq_live.specs.Live.{Live}
-use Rattle.djq_live.specs.Member.{query_at, queries_at, HaveQueries}
-use Rattle.djq_live.proofs.AtPlaces.{nth_is}
+use Rattle.djq_live_query.specs.Live.{Live}
+use Rattle.djq_live_query.specs.Member.{query_at, queries_at, HaveQueries}
+use Rattle.djq_live_query.proofs.AtPlaces.{nth_is}
 
 atoms_next : (ls : List Live) (n : ℕ) (l : Live) → slice_get ls n ≡ Some l
     → atoms_of (map (λ q. q.query) (take (suc n) ls))

@@ -8,10 +8,10 @@ use Rattle.std.proofs.lemmas.Bool.{cases_order, eq-eqb, false≢true}
 use Rattle.std.proofs.lemmas.List.{get_or-set_other}
 use Rattle.djq_model.specs.Data.{Bytes}
 use Rattle.djq_model.specs.Listed.{Listed}
-use Rattle.djq_lines.specs.declared.limits.TheConstants.{QUERIES}
+use Rattle.djq_protocol.specs.declared.limits.TheConstants.{QUERIES}
 use Rattle.djq_store_spec.specs.Store.{Store}
-use Rattle.djq_live.specs.Live.{Live, IsShowable}
-use Rattle.djq_live.specs.Member.{queries_at}
+use Rattle.djq_live_query.specs.Live.{Live, IsShowable}
+use Rattle.djq_live_query.specs.Member.{queries_at}
 use Rattle.djq_engine.specs.declared.cursor.CursorId.{CursorId}
 use Rattle.djq_engine.specs.Kept.{Kept}
 use Rattle.djq_engine.specs.Kept.{SameTellings}

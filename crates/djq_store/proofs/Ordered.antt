@@ -7,9 +7,9 @@ use Rattle.std.proofs.lemmas.Bool.{eqb-true, lt-ltb, false≢true}
 use Rattle.djq_model.specs.Data.{Bytes, bytes_eq}
 use Rattle.djq_model.specs.Equality.{bytes_eq-decides}
 use Rattle.djq_model.specs.Listed.{a_query, listed_name, listed_of}
-use Rattle.djq_lines.specs.declared.limits.TheConstants.{QUERIES}
-use Rattle.djq_live.specs.Live.{Live}
-use Rattle.djq_live.specs.Member.{query_at}
+use Rattle.djq_protocol.specs.declared.limits.TheConstants.{QUERIES}
+use Rattle.djq_live_query.specs.Live.{Live}
+use Rattle.djq_live_query.specs.Member.{query_at}
 use Rattle.djq_reach.specs.Places.{is_reader}
 use Rattle.djq_reach.proofs.Reaching.{place_below}
 use Rattle.djq_engine.specs.declared.cursor.QueryId.{QueryId}
@@ -27,7 +27,7 @@ use Rattle.djq_engine.proofs.Firsts.{find_mapped}
 use Rattle.djq_gains.proofs.Delta.{twice_mapped}
 use Rattle.djq_engine.proofs.Told.{map_as}
 use Rattle.djq_store.proofs.Seats.{Slot, cases_place, low_place, high_place}
-use Rattle.djq_deltas.proofs.Cases.{first_holds, some_there}
+use Rattle.djq_answer_laws.proofs.Cases.{first_holds, some_there}
 
 -- a query of the engine in its place, as it is registered there
 pub record Seat (e : Kept) (at : ℕ) : Type 0 where

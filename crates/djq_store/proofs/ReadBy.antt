@@ -8,10 +8,10 @@ use Rattle.djq_model.specs.declared.query.Query.{Query}
 use Rattle.djq_model.specs.Data.{Bytes}
 use Rattle.djq_model.specs.Listed.{a_query, a_union}
 use Rattle.djq_store_spec.specs.Stale.{reads, listed_reads}
-use Rattle.djq_live.specs.Live.{Live}
-use Rattle.djq_live.specs.Member.{query_at, queries_at}
+use Rattle.djq_live_query.specs.Live.{Live}
+use Rattle.djq_live_query.specs.Member.{query_at, queries_at}
 use Rattle.djq_reach.specs.Places.{reads_place}
-use Rattle.djq_deltas.proofs.Lists.{nothing_there, first_or_later, first_there, later_there}
+use Rattle.djq_answer_laws.proofs.Lists.{nothing_there, first_or_later, first_there, later_there}
 use Rattle.djq_store.specs.Settling.{reads_some, some_read, first_read_by, touched_in}
 
 -- ---- lists

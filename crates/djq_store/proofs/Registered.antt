@@ -8,18 +8,18 @@ use Rattle.djq_model.specs.declared.query.Query.{Query}
 use Rattle.djq_model.specs.Data.{Bytes}
 use Rattle.djq_model.specs.Known.{texts_in, all_learned}
 use Rattle.djq_model.specs.Listed.{Listed, a_query, listed_of}
-use Rattle.djq_lines.specs.Variables.{constants_of}
-use Rattle.djq_lines.specs.declared.rest.QueryOutcome.{QueryOutcome}
-use Rattle.djq_lines.specs.declared.rest.QueryOutcome.TheVariants.{Registered as HasRegistered, Cyclic, NotConnex}
-use Rattle.djq_lines.specs.declared.answer.Refusal.{Refusal}
-use Rattle.djq_lines.specs.declared.answer.Refusal.TheVariants.{Taken, Limit, NoMemory}
-use Rattle.djq_lines.specs.declared.limits.TheConstants.{QUERIES}
-use Rattle.djq_lines.specs.QueryFault.{query_faults}
-use Rattle.djq_lines.specs.Conditions.{first_refusal, Answers}
+use Rattle.djq_protocol.specs.Variables.{constants_of}
+use Rattle.djq_protocol.specs.declared.rest.QueryOutcome.{QueryOutcome}
+use Rattle.djq_protocol.specs.declared.rest.QueryOutcome.TheVariants.{Registered as HasRegistered, Cyclic, NotConnex}
+use Rattle.djq_protocol.specs.declared.answer.Refusal.{Refusal}
+use Rattle.djq_protocol.specs.declared.answer.Refusal.TheVariants.{Taken, Limit, NoMemory}
+use Rattle.djq_protocol.specs.declared.limits.TheConstants.{QUERIES}
+use Rattle.djq_protocol.specs.QueryFault.{query_faults}
+use Rattle.djq_protocol.specs.Conditions.{first_refusal, Answers}
 use Rattle.djq_store_spec.specs.Store.{Store}
 use Rattle.djq_store_spec.specs.Registering.{RegistersQuery, RegistersAs, RefusedLate, query_refusal}
 use Rattle.djq_store_spec.specs.Relations.{RefusedByTexts}
-use Rattle.djq_rows.proofs.Learning.{Grown, all_grown, grown_is}
+use Rattle.djq_database.proofs.Learning.{Grown, all_grown, grown_is}
 use Rattle.djq_engine.specs.declared.cursor.QueryId.{QueryId}
 use Rattle.djq_engine.specs.Kept.{Kept, Registered, KeepsTables, registered_at, registered_of, told_at}
 use Rattle.djq_engine.specs.Places.{id_at}

@@ -5,11 +5,11 @@ use Rattle.std.proofs.Common.{refl, sym, ap, ◌∙◌, subst, append-nil}
 use Rattle.djq_model.specs.declared.relation.ColumnType.{ColumnType}
 use Rattle.djq_model.specs.Data.{Bytes}
 use Rattle.djq_model.specs.Listed.{Listed}
-use Rattle.djq_lines.specs.declared.answer.Refusal.{Refusal}
+use Rattle.djq_protocol.specs.declared.answer.Refusal.{Refusal}
 use Rattle.djq_store_spec.specs.Store.{Store}
-use Rattle.djq_lines.specs.Conditions.{Answers, OutOfMemoryWhere}
+use Rattle.djq_protocol.specs.Conditions.{Answers, OutOfMemoryWhere}
 use Rattle.djq_store_spec.specs.Relations.{MakesRelation, rel_refusal}
-use Rattle.djq_live.specs.Live.{Live}
+use Rattle.djq_live_query.specs.Live.{Live}
 use Rattle.djq_reach.specs.Places.{place_at}
 use Rattle.djq_engine.specs.Kept.{Kept, KeepsTables, KeepsQuery}
 use Rattle.djq_store.specs.declared.parts.Parts.{Parts}

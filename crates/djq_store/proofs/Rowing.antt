@@ -6,24 +6,24 @@ use Rattle.std.proofs.Common.{refl, sym, ap, ◌∙◌, append-nil}
 use Rattle.djq_model.specs.declared.query.Query.{Query}
 use Rattle.djq_model.specs.Data.{Bytes, Tuple, rows_of, has_row}
 use Rattle.djq_model.specs.Known.{texts_in, all_learned}
-use Rattle.djq_lines.specs.declared.answer.Refusal.{Refusal}
-use Rattle.djq_lines.specs.declared.answer.Refusal.TheVariants.{Limit, NoMemory}
-use Rattle.djq_lines.specs.declared.answer.AddOutcome.{AddOutcome}
-use Rattle.djq_lines.specs.declared.answer.AddOutcome.TheVariants.{First, More}
-use Rattle.djq_lines.specs.declared.answer.DeleteOutcome.{DeleteOutcome}
-use Rattle.djq_lines.specs.declared.answer.DeleteOutcome.TheVariants.{Last, Left, Absent}
+use Rattle.djq_protocol.specs.declared.answer.Refusal.{Refusal}
+use Rattle.djq_protocol.specs.declared.answer.Refusal.TheVariants.{Limit, NoMemory}
+use Rattle.djq_protocol.specs.declared.answer.AddOutcome.{AddOutcome}
+use Rattle.djq_protocol.specs.declared.answer.AddOutcome.TheVariants.{First, More}
+use Rattle.djq_protocol.specs.declared.answer.DeleteOutcome.{DeleteOutcome}
+use Rattle.djq_protocol.specs.declared.answer.DeleteOutcome.TheVariants.{Last, Left, Absent}
 use Rattle.djq_store_spec.specs.Store.{Store}
-use Rattle.djq_lines.specs.Conditions.{Answers, OutOfMemoryWhere}
+use Rattle.djq_protocol.specs.Conditions.{Answers, OutOfMemoryWhere}
 use Rattle.djq_store_spec.specs.Rows.{AddsRow, AddsAs, add_refusal, DeletesRow, DeletesAs, delete_refusal}
 use Rattle.djq_store_spec.specs.Relations.{RefusedByTexts}
 use Rattle.djq_store_spec.specs.Stale.{reads}
 use Rattle.djq_store_spec.specs.Changes.{RowsChange, row_in, row_out, add_outcome, delete_outcome}
-use Rattle.djq_rows.specs.Laws.{TextsStay}
+use Rattle.djq_database.specs.Laws.{TextsStay}
 use Rattle.djq_engine.specs.Kept.{Kept}
-use Rattle.djq_deltas.proofs.Growing.{row_comes, row_goes, one_spares}
+use Rattle.djq_answer_laws.proofs.Growing.{row_comes, row_goes, one_spares}
 use Rattle.djq_store.specs.Following.{add_turn, delete_turn}
 use Rattle.djq_store.proofs.Doing.{IsKnown, turn_by}
-use Rattle.djq_deltas.proofs.Cases.{or_false}
+use Rattle.djq_answer_laws.proofs.Cases.{or_false}
 
 -- a query that reads the one relation of a change is outdated by it
 one_out : (name : Bytes) (q : Query) → reads q name ≡ true

@@ -4,7 +4,7 @@ use Rattle.std.proofs.Common.{inr, refl, sym, ap, ◌∙◌, length, get_or, ari
 use Rattle.std.specs.Prelude.{Option, None, cond}
 use Rattle.std.proofs.lemmas.Bool.{lt-ltb, le-ltb, cases_lt}
 use Rattle.std.proofs.Math.Nat.{add-sub_cancel_left, add-sub_of_le}
-use Rattle.djq_lines.specs.declared.limits.TheConstants.{QUERIES}
+use Rattle.djq_protocol.specs.declared.limits.TheConstants.{QUERIES}
 use Rattle.djq_store.specs.Places.{vacant, in_places, by_place}
 use Rattle.djq_store.proofs.Slots.{read_empty}
 

@@ -2,12 +2,12 @@
 use Rattle.std.proofs.Common.{ℕ, List, ◌-◌, ◌≡◌, ◌<◌, ◌≤◌, Bool, refl, sym, ap, subst}
 use Rattle.std.specs.Prelude.{Option, None, Some, IsSome, IsSomeAnd, option_map}
 use Rattle.std.proofs.Math.Nat.{add-sub_of_le}
-use Rattle.djq_lines.specs.declared.limits.TheConstants.{QUERIES}
-use Rattle.djq_cursor.specs.declared.cursor.Cursor.{Cursor}
+use Rattle.djq_protocol.specs.declared.limits.TheConstants.{QUERIES}
+use Rattle.djq_enumeration.specs.declared.cursor.Cursor.{Cursor}
 use Rattle.djq_engine.specs.declared.cursor.CursorId.{CursorId}
 use Rattle.djq_engine.specs.Kept.{Kept, HeldCursor, IsHeld, IsFresh, IsOpenAt, held_at}
 use Rattle.djq_engine.specs.Places.{id_at}
-use Rattle.djq_slots.specs.declared.progress.Progress.TheVariants.{Open, Stale}
+use Rattle.djq_cursors.specs.declared.progress.Progress.TheVariants.{Open, Stale}
 use Rattle.djq_united.specs.Slots.{UnionProgress, slot_at}
 use Rattle.djq_store.specs.declared.joined.Joined.{Joined}
 use Rattle.djq_engine.specs.Laws.{IsEngine}

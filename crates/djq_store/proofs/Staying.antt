@@ -4,10 +4,10 @@ use Rattle.std.proofs.Common.{true, false, refl, sym, ap, ap₂, ◌∙◌, subs
 use Rattle.std.specs.Prelude.{Option, None, Some, is_some, option_map, map, count_by, find, ◌==◌}
 use Rattle.djq_model.specs.Data.{Bytes}
 use Rattle.djq_model.specs.Listed.{Listed, a_query, listed_name}
-use Rattle.djq_lines.specs.declared.limits.TheConstants.{QUERIES}
+use Rattle.djq_protocol.specs.declared.limits.TheConstants.{QUERIES}
 use Rattle.djq_store_spec.specs.Store.{Store}
-use Rattle.djq_live.specs.Live.{ShowableStays}
-use Rattle.djq_live.specs.Member.{query_at}
+use Rattle.djq_live_query.specs.Live.{ShowableStays}
+use Rattle.djq_live_query.specs.Member.{query_at}
 use Rattle.djq_reach.specs.Places.{is_reader}
 use Rattle.djq_engine.specs.declared.cursor.CursorId.{CursorId}
 use Rattle.djq_engine.specs.Kept.{Kept, Registered, SameCursors, SameTellings, SameShape}
@@ -26,7 +26,7 @@ use Rattle.djq_store.proofs.Held.{held_low, held_high}
 use Rattle.djq_store.proofs.Members.{Grows, kept_members, kept_shapes, union_stays, log_stays, log_tells}
 use Rattle.djq_store.proofs.Ordered.{listed_low, listed_joint, listed_seat, order_seat, order_joint}
 use Rattle.djq_store.proofs.Seats.{Slot, cases_place}
-use Rattle.djq_deltas.proofs.Cases.{some_there}
+use Rattle.djq_answer_laws.proofs.Cases.{some_there}
 
 -- functions that agree on each slot
 pub map_slots : {B : Type 0} (f g : Option Joined → B) (us : List (Option Joined)) → f None ≡ g None

@@ -9,15 +9,15 @@ use Rattle.std.proofs.lemmas.List.Sums.{sum_by-cons}
 use Rattle.djq_model.specs.declared.query.Query.{Query}
 use Rattle.djq_model.specs.Data.{Bytes}
 use Rattle.djq_model.specs.Listed.{a_query, AnswersOf}
-use Rattle.djq_lines.specs.declared.limits.TheConstants.{QUERIES}
+use Rattle.djq_protocol.specs.declared.limits.TheConstants.{QUERIES}
 use Rattle.djq_store_spec.specs.Stale.{reads}
 use Rattle.djq_store_spec.specs.Changes.{RowsChange, accepted, out_of_memory, unchanged, is_outdated}
 use Rattle.djq_store_spec.specs.Delta.{Change, IsDelta}
 use Rattle.djq_store_spec.specs.DeltaCost.{Delta, is_touched, delta_steps}
-use Rattle.djq_cursor.specs.Log.{Log}
-use Rattle.djq_live.specs.Live.{Live}
-use Rattle.djq_live.specs.Member.{queries_at}
-use Rattle.djq_live.specs.Updating.{change_of}
+use Rattle.djq_enumeration.specs.Log.{Log}
+use Rattle.djq_live_query.specs.Live.{Live}
+use Rattle.djq_live_query.specs.Member.{queries_at}
+use Rattle.djq_live_query.specs.Updating.{change_of}
 use Rattle.djq_reach.specs.Places.{is_reader}
 use Rattle.djq_engine.specs.declared.cursor.QueryId.{QueryId}
 use Rattle.djq_engine.specs.Kept.{Kept, Registered, registered_at, told_at, affected_of, readers_of, is_watched}
@@ -26,8 +26,8 @@ use Rattle.djq_engine.specs.Watching.{LogsTell}
 use Rattle.djq_engine.specs.Watching as engine
 use Rattle.djq_united.specs.United.{union_of, first_of_members}
 use Rattle.djq_gains.specs.Gains.{TellUnion}
-use Rattle.djq_deltas.specs.Growing.{SparesOthers}
-use Rattle.djq_deltas.proofs.Lists.{kept_there}
+use Rattle.djq_answer_laws.specs.Growing.{SparesOthers}
+use Rattle.djq_answer_laws.proofs.Lists.{kept_there}
 use Rattle.djq_store.specs.declared.joined.Joined.{Joined}
 use Rattle.djq_store.specs.declared.settling.Turn.{Turn}
 use Rattle.djq_store.specs.declared.settling.Turn.TheVariants.{Came, Went, Lacked}
@@ -51,7 +51,7 @@ use Rattle.djq_store.proofs.Seats.{Slot, cases_place, high_place}
 use Rattle.djq_store.proofs.Summing.{sum_mapped, kept_was}
 use Rattle.djq_store.proofs.Wanted.{rs, places, f, q_at, members_at, members_in_slot}
 use Rattle.djq_store.proofs.Wanted.{by_places, deltas, all_lists, low_of}
-use Rattle.djq_deltas.proofs.Cases.{some_as}
+use Rattle.djq_answer_laws.proofs.Cases.{some_as}
 
 -- how rows changed, where they did
 abbrev pub turn_for : Bool → Turn

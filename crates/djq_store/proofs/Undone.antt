@@ -10,9 +10,9 @@ use Rattle.std.proofs.lemmas.List.{get_or-set_other}
 use Rattle.djq_model.specs.Data.{Bytes, bytes_eq, drop_first}
 use Rattle.djq_model.specs.Equality.{bytes_eq-decides}
 use Rattle.djq_model.specs.Listed.{Listed, listed_name, listed_of}
-use Rattle.djq_lines.specs.declared.answer.Refusal.TheVariants.{NoQuery, InUse}
-use Rattle.djq_lines.specs.declared.limits.TheConstants.{QUERIES, SESSIONS}
-use Rattle.djq_lines.specs.Conditions.{first_refusal, OutOfMemoryWhere}
+use Rattle.djq_protocol.specs.declared.answer.Refusal.TheVariants.{NoQuery, InUse}
+use Rattle.djq_protocol.specs.declared.limits.TheConstants.{QUERIES, SESSIONS}
+use Rattle.djq_protocol.specs.Conditions.{first_refusal, OutOfMemoryWhere}
 use Rattle.djq_store_spec.specs.Store.{Store}
 use Rattle.djq_store_spec.specs.Registering.{drop_refusal}
 use Rattle.djq_reach.specs.Places.{is_reader}

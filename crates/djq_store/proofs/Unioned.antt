@@ -8,13 +8,13 @@ use Rattle.std.proofs.lemmas.Bool.{eq-eqb, eqb-true, false≢true, cases_order, 
 use Rattle.std.proofs.lemmas.List.{get_or-set_same, get_or-set_other, get_or_past}
 use Rattle.std.proofs.lemmas.List.Sums.{sum_by-cons, sum_by-append}
 use Rattle.djq_model.specs.Listed.{Listed, listed_name, listed_of}
-use Rattle.djq_lines.specs.declared.limits.TheConstants.{QUERIES, SESSIONS}
+use Rattle.djq_protocol.specs.declared.limits.TheConstants.{QUERIES, SESSIONS}
 use Rattle.djq_store_spec.specs.Store.{Store}
-use Rattle.djq_live.specs.Live.{Live, IsShowable}
+use Rattle.djq_live_query.specs.Live.{Live, IsShowable}
 use Rattle.djq_reach.specs.Places.{is_reader}
 use Rattle.djq_reach.proofs.Among.{apart, reader_more}
 use Rattle.djq_engine.specs.Kept.{Kept, Registered, SameCursors, TellsOfQuery, held_at, registered_at, registered_of}
-use Rattle.djq_live.specs.Updating.{change_of}
+use Rattle.djq_live_query.specs.Updating.{change_of}
 use Rattle.djq_engine.specs.Places.{id_at, told_of}
 use Rattle.djq_engine.specs.Finding.{IsFirstPassing}
 use Rattle.djq_engine.proofs.Firsts.{first_of_position, none_of_position}

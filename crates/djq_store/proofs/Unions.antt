@@ -7,18 +7,18 @@ use Rattle.std.proofs.lemmas.Bool.{cases_lt}
 use Rattle.std.proofs.lemmas.List.{get_or-set_same, get_or-set_other, get_or-map, set-get_or}
 use Rattle.djq_model.specs.Data.{Bytes, Tuple}
 use Rattle.djq_model.specs.Listed.{Listed, AnswersOf, listed_of}
-use Rattle.djq_lines.specs.declared.answer.Refusal.TheVariants.{NoQuery, NoMemory}
-use Rattle.djq_lines.specs.declared.limits.TheConstants.{QUERIES}
-use Rattle.djq_lines.specs.Conditions.{first_refusal, OutOfMemoryWhere}
+use Rattle.djq_protocol.specs.declared.answer.Refusal.TheVariants.{NoQuery, NoMemory}
+use Rattle.djq_protocol.specs.declared.limits.TheConstants.{QUERIES}
+use Rattle.djq_protocol.specs.Conditions.{first_refusal, OutOfMemoryWhere}
 use Rattle.djq_store_spec.specs.Store.{Position, open_at, stale}
 use Rattle.djq_store_spec.specs.Registering.{answer_steps}
 use Rattle.djq_store_spec.specs.Listing.{IsLeft, AreAll}
 use Rattle.djq_model.specs.declared.relation.Relation.{Relation}
-use Rattle.djq_live.specs.declared.listing.Next.{Next}
-use Rattle.djq_live.specs.declared.listing.Next.TheVariants.{Given, End, Stale}
-use Rattle.djq_rows.specs.Catalog.{Catalog}
-use Rattle.djq_live.specs.Live.{Live, IsShowable, values_of}
-use Rattle.djq_live.specs.Member.{queries_at}
+use Rattle.djq_live_query.specs.declared.listing.Next.{Next}
+use Rattle.djq_live_query.specs.declared.listing.Next.TheVariants.{Given, End, Stale}
+use Rattle.djq_database.specs.Catalog.{Catalog}
+use Rattle.djq_live_query.specs.Live.{Live, IsShowable, values_of}
+use Rattle.djq_live_query.specs.Member.{queries_at}
 use Rattle.djq_engine.specs.Kept.{Kept, HeldCursor, OpensCursor, CursorOpenGives, ClosesCursor, MovesCursor}
 use Rattle.djq_engine.specs.Kept.{MoreGives, MoreGivesAt, AtQuery, held_at, read_steps}
 use Rattle.djq_engine.proofs.Conditions.{answers_done, answers_lacking}
@@ -40,7 +40,7 @@ use Rattle.djq_store.proofs.Ordered.{Joint, listed_is, listed_joint, named_joint
 use Rattle.djq_store.proofs.Seats.{places_high}
 use Rattle.djq_store.proofs.Slots.{slot_below, set_here}
 use Rattle.djq_store.proofs.Staying.{kept_over}
-use Rattle.djq_deltas.proofs.Cases.{some_there}
+use Rattle.djq_answer_laws.proofs.Cases.{some_there}
 use Rattle.std.proofs.lemmas.Option.{same_Some}
 use Rattle.djq_store.proofs.Given.{some_and}
 

@@ -9,10 +9,10 @@ use Rattle.std.proofs.lemmas.List.{get_or-set_other, get_or-map}
 use Rattle.djq_model.specs.Data.{Bytes, bytes_eq, drop_first}
 use Rattle.djq_model.specs.Equality.{bytes_eq-decides}
 use Rattle.djq_model.specs.Listed.{Listed, a_query, a_union, listed_name}
-use Rattle.djq_lines.specs.declared.limits.TheConstants.{QUERIES}
+use Rattle.djq_protocol.specs.declared.limits.TheConstants.{QUERIES}
 use Rattle.djq_store_spec.specs.Store.{Store}
-use Rattle.djq_live.specs.Live.{Live, IsShowable}
-use Rattle.djq_live.specs.Member.{query_at, queries_at, AreAlike}
+use Rattle.djq_live_query.specs.Live.{Live, IsShowable}
+use Rattle.djq_live_query.specs.Member.{query_at, queries_at, AreAlike}
 use Rattle.djq_reach.specs.Places.{is_reader}
 use Rattle.djq_reach.proofs.Reaching.{place_below, reader_there}
 use Rattle.djq_engine.specs.declared.cursor.QueryId.{QueryId}
@@ -32,7 +32,7 @@ use Rattle.djq_store.proofs.Held.{held_low, held_high}
 use Rattle.djq_store.proofs.Ordered.{Seat, seat_order, listed_seat, listed_low, registered_by_name, named_here}
 use Rattle.djq_store.proofs.Placed.{filter_long, map_long, told_low, told_high}
 use Rattle.djq_store.proofs.Seats.{Slot, cases_place, low_place, high_place}
-use Rattle.djq_deltas.proofs.Cases.{first_holds}
+use Rattle.djq_answer_laws.proofs.Cases.{first_holds}
 
 -- the members of a union are the same where the vacated place isn't one
 module _ (gs gs' : List (Option Live)) (at : ℕ) (others : (i : ℕ) → (i ≡ at → ⊥) → query_at gs' i ≡ query_at gs i) where

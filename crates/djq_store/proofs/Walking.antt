@@ -11,11 +11,11 @@ use Rattle.std.proofs.lemmas.List.Sums.{sum_by_more}
 use Rattle.std.specs.Option.{option_or}
 use Rattle.std.proofs.lemmas.List.Folds.{list_any_more, find-append}
 use Rattle.std.proofs.lemmas.List.Elements.{filter_more}
-use Rattle.djq_deltas.proofs.Lists.{hold_each}
+use Rattle.djq_answer_laws.proofs.Lists.{hold_each}
 use Rattle.djq_model.specs.Data.{Bytes}
-use Rattle.djq_lines.specs.declared.limits.TheConstants.{QUERIES}
-use Rattle.djq_live.specs.Live.{Live}
-use Rattle.djq_live.specs.Member.{query_at}
+use Rattle.djq_protocol.specs.declared.limits.TheConstants.{QUERIES}
+use Rattle.djq_live_query.specs.Live.{Live}
+use Rattle.djq_live_query.specs.Member.{query_at}
 use Rattle.djq_engine.specs.declared.cursor.QueryId.{QueryId}
 use Rattle.djq_engine.specs.Kept.{Kept}
 use Rattle.djq_united.specs.United.{AreMembers}
@@ -26,7 +26,7 @@ use Rattle.djq_store.specs.Places.{joined_at, union_watchers}
 use Rattle.djq_store.specs.Settling.{reads_some, touched_in, SettlesAt, is_settled, settling_steps, AreUnionsUnwatched}
 use Rattle.djq_store.proofs.ReadBy.{any_same}
 use Rattle.djq_store.proofs.Summing.{kept_was}
-use Rattle.djq_deltas.proofs.Cases.{or_false}
+use Rattle.djq_answer_laws.proofs.Cases.{or_false}
 use Rattle.djq_reach.proofs.Among.{or_true}
 
 -- what a list has at a place

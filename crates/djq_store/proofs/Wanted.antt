@@ -14,23 +14,23 @@ use Rattle.djq_model.specs.declared.query.Atom.{Atom}
 use Rattle.djq_model.specs.Data.{Bytes, Tuple}
 use Rattle.djq_model.specs.Answer.{IsAnswer}
 use Rattle.djq_model.specs.Listed.{Listed, a_query, AnswersOf}
-use Rattle.djq_lines.specs.declared.limits.TheConstants.{QUERIES}
-use Rattle.djq_lines.specs.declared.answer.Sign.{Sign}
-use Rattle.djq_lines.specs.declared.answer.Sign.TheVariants.{Came, Went}
+use Rattle.djq_protocol.specs.declared.limits.TheConstants.{QUERIES}
+use Rattle.djq_protocol.specs.declared.answer.Sign.{Sign}
+use Rattle.djq_protocol.specs.declared.answer.Sign.TheVariants.{Came, Went}
 use Rattle.djq_store_spec.specs.Changes.{RowsChange, is_outdated}
 use Rattle.djq_store_spec.specs.Delta.{Change, HasChanged, IsDelta}
 use Rattle.djq_store_spec.specs.DeltaCost.{Delta, is_touched, AreDeltas}
-use Rattle.djq_live.specs.Member.{query_at}
+use Rattle.djq_live_query.specs.Member.{query_at}
 use Rattle.djq_reach.specs.Places.{is_reader}
 use Rattle.djq_reach.proofs.Reaching.{place_below}
 use Rattle.djq_engine.specs.declared.cursor.QueryId.{QueryId}
 use Rattle.djq_engine.specs.Kept.{Kept, Registered, AtPlace, same_query, registered_at, affected_of, is_watched}
 use Rattle.djq_engine.specs.Places.{id_at}
 use Rattle.djq_united.specs.United.{union_of}
-use Rattle.djq_deltas.specs.Growing.{SparesOthers}
-use Rattle.djq_deltas.proofs.Growing.{answers_rest}
-use Rattle.djq_deltas.proofs.Lists.{nothing_there, first_or_later, first_there, later_there}
-use Rattle.djq_deltas.proofs.Lists.{kept_there, mapped_there, hold_each, pairs_head, pairs_tail}
+use Rattle.djq_answer_laws.specs.Growing.{SparesOthers}
+use Rattle.djq_answer_laws.proofs.Growing.{answers_rest}
+use Rattle.djq_answer_laws.proofs.Lists.{nothing_there, first_or_later, first_there, later_there}
+use Rattle.djq_answer_laws.proofs.Lists.{kept_there, mapped_there, hold_each, pairs_head, pairs_tail}
 use Rattle.djq_store.specs.declared.joined.Joined.{Joined}
 use Rattle.djq_store.specs.declared.settling.Turn.{Turn}
 use Rattle.djq_store.specs.Places.{joined_at, registered_as, sessions_at, union_watchers}

@@ -4,11 +4,11 @@ use Rattle.djq_model.specs.declared.relation.Relation.{Relation}
 use Rattle.djq_model.specs.declared.query.Query.{Query}
 use Rattle.djq_model.specs.Data.{Tuple}
 use Rattle.djq_model.specs.Listed.{Listed, AnswersOf}
-use Rattle.djq_lines.specs.declared.answer.Refusal.{Refusal}
-use Rattle.djq_lines.specs.Conditions.{Answers, OutOfMemoryWhere}
+use Rattle.djq_protocol.specs.declared.answer.Refusal.{Refusal}
+use Rattle.djq_protocol.specs.Conditions.{Answers, OutOfMemoryWhere}
 use Rattle.djq_store_spec.specs.Asking.{Tells, listed_types, misfit}
-use Rattle.djq_live.specs.Live.{Live}
-use Rattle.djq_live.specs.Member.{queries_at}
+use Rattle.djq_live_query.specs.Live.{Live}
+use Rattle.djq_live_query.specs.Member.{queries_at}
 
 -- Whether a tuple is an answer of what is registered is told, or why it doesn't suit its answers.
 abbrev pub TellsMembership : List Relation → Listed → Tuple → Result Bool Refusal → Type 0

@@ -1,6 +1,6 @@
 -- A union that fills a vacant slot.
 use Rattle.std.specs.Prelude.{ℕ, List, ◌≡◌, ◌≤◌, ◌+◌, Bool, false, Option, None, Some, cond, count_by, length}
-use Rattle.djq_lines.specs.declared.limits.TheConstants.{QUERIES}
+use Rattle.djq_protocol.specs.declared.limits.TheConstants.{QUERIES}
 use Rattle.djq_store.specs.declared.joined.Joined.{Joined}
 use Rattle.djq_store.specs.Places.{joined_at}
 

@@ -1,6 +1,6 @@
 -- The engine of a store, as it is lent.
 use Rattle.std.specs.Prelude.{◌≡◌, ◌<◌, option_map}
-use Rattle.djq_lines.specs.declared.limits.TheConstants.{QUERIES}
+use Rattle.djq_protocol.specs.declared.limits.TheConstants.{QUERIES}
 use Rattle.djq_engine.specs.declared.cursor.CursorId.{CursorId}
 use Rattle.djq_engine.specs.declared.cursor.QueryId.{QueryId}
 use Rattle.djq_engine.specs.Kept.{Kept, registered_at, held_at}

@@ -1,9 +1,9 @@
 -- What is done to one union.
 use Rattle.std.specs.Prelude.{ℕ, List, ◌≡◌, ◌≤◌, ◌+◌, Bool, Option, None, Some, IsSome, slice_set}
 use Rattle.djq_store_spec.specs.Registering.{answer_steps}
-use Rattle.djq_rows.specs.Catalog.{Catalog}
-use Rattle.djq_live.specs.declared.listing.Next.{Next}
-use Rattle.djq_live.specs.Live.{Live}
+use Rattle.djq_database.specs.Catalog.{Catalog}
+use Rattle.djq_live_query.specs.declared.listing.Next.{Next}
+use Rattle.djq_live_query.specs.Live.{Live}
 use Rattle.djq_united.specs.Slots.{slot_at, IsOpenIn}
 use Rattle.djq_united.specs.United.{United, IsUnited, AreKept, union_of}
 use Rattle.djq_united.specs.Reading.{UnionOpensIn, UnionNextGives, UnionMoreGives, union_read_steps}

@@ -4,8 +4,8 @@ use Rattle.djq_model.specs.Data.{Tuple}
 use Rattle.djq_model.specs.Listed.{Listed, AnswersOf, listed_of}
 use Rattle.djq_store_spec.specs.Store.{Position, open_at, stale}
 use Rattle.djq_store_spec.specs.Listing.{IsLeft, AreAll}
-use Rattle.djq_live.specs.declared.listing.Next.{Next}
-use Rattle.djq_live.specs.declared.listing.Next.TheVariants.{Given, End, Stale}
+use Rattle.djq_live_query.specs.declared.listing.Next.{Next}
+use Rattle.djq_live_query.specs.declared.listing.Next.TheVariants.{Given, End, Stale}
 use Rattle.djq_engine.specs.declared.cursor.CursorId.{CursorId}
 use Rattle.djq_engine.specs.Kept.{Kept, HeldCursor, AnswerIs, IsShown, MovesCursor, held_at, read_steps}
 

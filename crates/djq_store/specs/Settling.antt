@@ -4,10 +4,10 @@ use Rattle.std.specs.Prelude.{Some, is_some, find, filter, if◌then◌else◌, 
 use Rattle.std.specs.List.{list_any}
 use Rattle.djq_model.specs.Data.{Bytes}
 use Rattle.djq_store_spec.specs.Registering.{atoms_of}
-use Rattle.djq_cursor.specs.Log.{Log}
-use Rattle.djq_live.specs.Live.{Live}
-use Rattle.djq_live.specs.Member.{query_at}
-use Rattle.djq_live.specs.Staying.{HasSameShape}
+use Rattle.djq_enumeration.specs.Log.{Log}
+use Rattle.djq_live_query.specs.Live.{Live}
+use Rattle.djq_live_query.specs.Member.{query_at}
+use Rattle.djq_live_query.specs.Staying.{HasSameShape}
 use Rattle.djq_reach.specs.Places.{reads_place}
 use Rattle.djq_engine.specs.Kept.{Kept}
 use Rattle.djq_united.specs.Slots.{outdated_slots}

@@ -3,8 +3,8 @@ use Rattle.std.specs.Prelude.{ℕ, List, ◌≡◌, ◌+◌, ◌≤◌, ◌&&◌
 use Rattle.std.specs.Prelude.{Some, is_some, IsSomeAnd, All, count_by, filter, length, map}
 use Rattle.std.specs.Prelude.{slice_index_or, vec_capacity}
 use Rattle.djq_model.specs.Listed.{listed_name}
-use Rattle.djq_lines.specs.declared.limits.TheConstants.{QUERIES, SESSIONS}
-use Rattle.djq_live.specs.Live.{IsShowable}
+use Rattle.djq_protocol.specs.declared.limits.TheConstants.{QUERIES, SESSIONS}
+use Rattle.djq_live_query.specs.Live.{IsShowable}
 use Rattle.djq_reach.specs.Places.{is_reader, AreOnce}
 use Rattle.djq_engine.specs.Kept.{Kept, Registered, registered_at}
 use Rattle.djq_united.specs.United.{IsUnited}

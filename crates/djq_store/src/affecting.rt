@@ -1,12 +1,12 @@
 //! What a change affects, in order of registration.
 ghost use Rattle.std.specs.Prelude.{◌≡◌, ◌<◌, ◌≤◌, ℕ, false, All, filter, map, length, slice_index_or, vec_capacity};
 ghost use Rattle.std.specs.List.{list_any};
-ghost use Rattle.djq_lines.specs.declared.limits.TheConstants.{QUERIES};
+ghost use Rattle.djq_protocol.specs.declared.limits.TheConstants.{QUERIES};
 ghost use Rattle.djq_store.specs.Affecting.{is_reached_id, is_affected};
 
 use crate::joined::Joined;
 use djq_engine::Engine;
-use djq_lines::limits::QUERIES;
+use djq_protocol::limits::QUERIES;
 
 /// For each place whether the engine's last accepted change affects the query there.
 fn reached_places(engine: &Engine) -> [bool; QUERIES]

@@ -5,7 +5,7 @@ ghost use Rattle.djq_model.specs.Listed.{a_query, a_union, listed_of, members_of
 ghost use Rattle.djq_store_spec.specs.Asking.{TellsShape, TellsWhether, has_steps};
 ghost use Rattle.djq_store_spec.specs.Registering.{atoms_of};
 ghost use Rattle.djq_store_spec.specs.Batch.{TellsSuits};
-ghost use Rattle.djq_live.specs.Member.{query_at};
+ghost use Rattle.djq_live_query.specs.Member.{query_at};
 ghost use Rattle.djq_united.specs.United.{AreMembers};
 ghost use Rattle.djq_store.specs.Asking.{TellsMembership, asked_in};
 ghost use Rattle.djq_store.specs.Explaining.{ExplainGives, HasMember};
@@ -14,9 +14,9 @@ use crate::explained::Explained;
 use crate::finding::{find_union, joined_in};
 use crate::store::Store;
 use djq_engine::{Engine, QueryId};
-use djq_lines::{Refusal, Shape};
+use djq_protocol::{Refusal, Shape};
 use djq_model::{Name, Value};
-use djq_steps::{Ledgers, Listing, Tally};
+use djq_counters::{Ledgers, Listing, Tally};
 
 /// Whether a tuple is an answer of the query in a place.
 fn has_at<L: Ledgers>(

@@ -2,13 +2,13 @@
 ghost use Rattle.std.specs.Prelude.{◌≡◌, ◌<◌, ◌≤◌, ◌||◌, nat_lt, true, List, filter, length, map, take};
 ghost use Rattle.djq_model.specs.Data.{rows_of};
 ghost use Rattle.djq_model.specs.declared.relation.Relation.{Relation};
-ghost use Rattle.djq_lines.specs.declared.limits.TheConstants.{HELD};
+ghost use Rattle.djq_protocol.specs.declared.limits.TheConstants.{HELD};
 ghost use Rattle.djq_store.specs.Batches.{AreCounts, has_grown, is_lacked};
 
 use crate::settling::Turn;
 use djq_engine::Engine;
-use djq_lines::HeldRow;
-use djq_lines::limits::HELD;
+use djq_protocol::HeldRow;
+use djq_protocol::limits::HELD;
 use djq_model::Name;
 
 /// How many rows the relation of each of these rows has, where that is wanted.

@@ -1,6 +1,6 @@
 //! Changes of relations and of their rows, and what they do to unions.
 ghost use Rattle.std.specs.Prelude.{◌≡◌, ◌<◌, ◌≤◌, length};
-ghost use Rattle.djq_lines.specs.declared.limits.TheConstants.{HELD};
+ghost use Rattle.djq_protocol.specs.declared.limits.TheConstants.{HELD};
 ghost use Rattle.djq_store_spec.specs.Relations.{MakesRelation};
 ghost use Rattle.djq_store_spec.specs.Rows.{AddsRow, DeletesRow};
 ghost use Rattle.djq_store_spec.specs.Changes.{row_in, row_out, add_outcome, delete_outcome};
@@ -14,17 +14,17 @@ ghost use Rattle.djq_store.specs.Watching.{TellsChange};
 use crate::batches::count_rows;
 use crate::following::{add_turn, batch_turn, delete_turn, follow_batch, follow_one, has_union};
 use crate::store::Store;
-use djq_lines::{AddOutcome, DeleteOutcome, HeldRow, Refusal};
+use djq_protocol::{AddOutcome, DeleteOutcome, HeldRow, Refusal};
 use djq_model::{Name, Types, Value};
-use djq_steps::{Ledgers, Steps};
+use djq_counters::{Ledgers, Steps};
 
 impl Store {
     /// Makes a relation without rows, of one column at least.
     ///
     /// # Errors
     ///
-    /// `Taken` where a relation has the name; `Limit` past [`COLUMNS`](djq_lines::limits::COLUMNS)
-    /// columns and at [`RELATIONS`](djq_lines::limits::RELATIONS) relations; `NoMemory` out of
+    /// `Taken` where a relation has the name; `Limit` past [`COLUMNS`](djq_protocol::limits::COLUMNS)
+    /// columns and at [`RELATIONS`](djq_protocol::limits::RELATIONS) relations; `NoMemory` out of
     /// memory. Nothing has changed.
     pub fn rel(&mut self, name: Name, types: Types) -> Result<(), Refusal>
         requires { 0 < length types }

@@ -1,6 +1,6 @@
 //! Unions that are put into slots.
 ghost use Rattle.std.specs.Prelude.{◌≡◌, ◌≤◌, ◌<◌, count_by, is_none, is_some, position, length, IfOk, OnErr};
-ghost use Rattle.djq_lines.specs.declared.limits.TheConstants.{QUERIES};
+ghost use Rattle.djq_protocol.specs.declared.limits.TheConstants.{QUERIES};
 ghost use Rattle.djq_store.specs.Filling.{FillsSlot};
 
 use crate::joined::Joined;

@@ -3,7 +3,7 @@ ghost use Rattle.std.specs.Prelude.{◌≡◌, ◌+◌, ◌≤◌, ◌<◌, ◌�
 ghost use Rattle.std.specs.Prelude.{filter, map, length, vec_capacity};
 ghost use Rattle.djq_model.specs.declared.relation.Relation.{Relation};
 ghost use Rattle.djq_model.specs.Data.{Bytes};
-ghost use Rattle.djq_lines.specs.declared.limits.TheConstants.{QUERIES, HELD};
+ghost use Rattle.djq_protocol.specs.declared.limits.TheConstants.{QUERIES, HELD};
 ghost use Rattle.djq_united.specs.United.{AreMembers};
 ghost use Rattle.djq_store.specs.declared.joined.Joined.{Joined as JoinedModel};
 ghost use Rattle.djq_store.specs.Places.{joined_at};
@@ -16,10 +16,10 @@ use crate::affecting::{affect, affect_queries};
 use crate::batches::{changed_names, is_lacked};
 use crate::parts::Parts;
 use crate::settling::{Turn, settle_all};
-use djq_lines::limits::HELD;
-use djq_lines::{AddOutcome, DeleteOutcome, HeldRow, Refusal};
+use djq_protocol::limits::HELD;
+use djq_protocol::{AddOutcome, DeleteOutcome, HeldRow, Refusal};
 use djq_model::Name;
-use djq_steps::Tally;
+use djq_counters::Tally;
 use std::sync::ledger::Ledger;
 
 /// Behind a change of these relations, made or tried, if there was one: the unions that read one are

@@ -1,4 +1,4 @@
-use djq_cursor::DeltaLog;
+use djq_enumeration::DeltaLog;
 use djq_united::LiveUnion;
 
 /// A registered union.

@@ -1,6 +1,6 @@
 //! Cursors over queries and unions: opening, reading and closing them, and lending what they give.
 ghost use Rattle.std.specs.Prelude.{◌≡◌, ⊤, IsSome, IsSomeAnd, IfOk, OnErr};
-ghost use Rattle.djq_rows.specs.Catalog.{Catalog as CatalogModel};
+ghost use Rattle.djq_database.specs.Catalog.{Catalog as CatalogModel};
 ghost use Rattle.djq_united.specs.Slots.{slot_at};
 ghost use Rattle.djq_united.specs.United.{AreKept};
 ghost use Rattle.djq_store.specs.Places.{joined_at};
@@ -13,11 +13,11 @@ use crate::finding::{find_union, joined_in};
 use crate::joined::Joined;
 use crate::store::Store;
 use djq_engine::{Answer, CursorId, LentAnswer, Next, QueryId};
-use djq_lines::Refusal;
-use djq_lines::limits::QUERIES;
-use djq_live::LiveQuery;
+use djq_protocol::Refusal;
+use djq_protocol::limits::QUERIES;
+use djq_live_query::LiveQuery;
 use djq_model::{Name, NoMem};
-use djq_steps::{Ledgers, Listing, Tally};
+use djq_counters::{Ledgers, Listing, Tally};
 
 /// Opens a cursor over the union in a slot.
 fn open_at(unions: &mut Vec<Option<Joined>>, slot: usize) -> Result<usize, NoMem>

@@ -3,8 +3,8 @@ ghost use Rattle.std.specs.Prelude.{◌≡◌, ◌≤◌, ◌<◌, ◌^◌, ⊤,
 ghost use Rattle.djq_model.specs.Data.{Bytes};
 ghost use Rattle.djq_model.specs.Listed.{a_union};
 ghost use Rattle.djq_store_spec.specs.Registering.{answer_steps};
-ghost use Rattle.djq_live.specs.Live.{IsKeptSomewhere};
-ghost use Rattle.djq_live.specs.Member.{query_at, queries_at};
+ghost use Rattle.djq_live_query.specs.Live.{IsKeptSomewhere};
+ghost use Rattle.djq_live_query.specs.Member.{query_at, queries_at};
 ghost use Rattle.djq_united.specs.United.{AreMembers};
 ghost use Rattle.djq_store_spec.specs.Registering.{RegistersQuery};
 ghost use Rattle.djq_store_spec.specs.Union.{RegistersUnion};
@@ -18,12 +18,12 @@ use crate::joined::Joined;
 use crate::judging::{judge_union, places_of};
 use crate::leaving::{is_member, leave_out};
 use crate::store::Store;
-use djq_cursor::DeltaLog;
-use djq_lines::limits::QUERIES;
-use djq_lines::{QueryOutcome, Refusal};
-use djq_live::LiveQuery;
+use djq_enumeration::DeltaLog;
+use djq_protocol::limits::QUERIES;
+use djq_protocol::{QueryOutcome, Refusal};
+use djq_live_query::LiveQuery;
 use djq_model::{Name, Query};
-use djq_steps::{Ledgers, Steps};
+use djq_counters::{Ledgers, Steps};
 use djq_united::LiveUnion;
 use std::mem::size_of_val;
 
@@ -81,7 +81,7 @@ impl Store {
     /// # Errors
     ///
     /// `Taken` where a query or union has the name; the first fault that the query has; `Limit` at
-    /// [`QUERIES`](djq_lines::limits::QUERIES) queries and unions, or where a text of a free-connex query is
+    /// [`QUERIES`](djq_protocol::limits::QUERIES) queries and unions, or where a text of a free-connex query is
     /// unknown and as many are known as may be; `NoMemory` out of memory. Texts that became known
     /// stay so, and nothing else has changed.
     pub fn query<L: Ledgers>(
@@ -124,7 +124,7 @@ impl Store {
     ///
     /// `Taken` where a query or union has the name; `NoQuery` where none has a member's; `Member` where a member's
     /// name stands twice or is a union's, or where the answers of members have other types; `Limit` above
-    /// [`MEMBERS`](djq_lines::limits::MEMBERS) members, and at [`QUERIES`](djq_lines::limits::QUERIES) queries and
+    /// [`MEMBERS`](djq_protocol::limits::MEMBERS) members, and at [`QUERIES`](djq_protocol::limits::QUERIES) queries and
     /// unions; `NoMemory` out of memory. Nothing has changed.
     pub fn add_union(&mut self, name: Name, members: &[Name]) -> Result<u64, Refusal>
         requires { 2 ≤ length members.now }

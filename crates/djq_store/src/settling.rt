@@ -1,9 +1,9 @@
 //! What a change of rows does to unions: their cursors, and what is told of them.
 ghost use Rattle.std.specs.Prelude.{◌≡◌, ◌+◌, ◌≤◌, ℕ, Some, length, take, sum_by};
 ghost use Rattle.std.specs.List.{list_any};
-ghost use Rattle.djq_lines.specs.declared.limits.TheConstants.{MEMBERS};
+ghost use Rattle.djq_protocol.specs.declared.limits.TheConstants.{MEMBERS};
 ghost use Rattle.djq_store_spec.specs.Stale.{reads};
-ghost use Rattle.djq_live.specs.Member.{query_at};
+ghost use Rattle.djq_live_query.specs.Member.{query_at};
 ghost use Rattle.djq_reach.specs.Places.{reads_place};
 ghost use Rattle.djq_united.specs.United.{AreMembers};
 ghost use Rattle.djq_store.specs.declared.joined.Joined.{Joined as JoinedModel};
@@ -15,9 +15,9 @@ ghost use Rattle.djq_store.specs.Settling.{AreUnionsUnwatched};
 use crate::joined::Joined;
 use djq_engine::{Engine, LiveQuery};
 use djq_gains::tell_gains;
-use djq_lines::limits::MEMBERS;
+use djq_protocol::limits::MEMBERS;
 use djq_model::{Name, Query};
-use djq_steps::Tally;
+use djq_counters::Tally;
 use std::alloc::Global;
 use std::sync::ledger::Ledger;
 

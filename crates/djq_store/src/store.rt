@@ -8,7 +8,7 @@ ghost use Rattle.djq_store.specs.Lending.{LendsEngine};
 use crate::finding::{find_union, joined_in};
 use crate::parts::Parts;
 use djq_engine::{Engine, QueryId};
-use djq_lines::limits::QUERIES;
+use djq_protocol::limits::QUERIES;
 use djq_model::{Name, NoMem};
 use std::alloc::Global;
 use std::marker::Model;

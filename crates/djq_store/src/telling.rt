@@ -5,10 +5,10 @@ ghost use Rattle.djq_engine.specs.Kept.{IsRegistered, told_at};
 use crate::finding::joined_in;
 use crate::joined::Joined;
 use crate::store::Store;
-use djq_cursor::Line;
+use djq_enumeration::Line;
 use djq_engine::{CursorId, LentAnswer, QueryId, sign_of};
-use djq_lines::Sign;
-use djq_lines::limits::QUERIES;
+use djq_protocol::Sign;
+use djq_protocol::limits::QUERIES;
 
 /// How many lines the log of a union has. `None` where it was lost.
 fn told_len(joined: &Joined) -> Option<usize>

@@ -1,6 +1,6 @@
 //! Sessions that watch queries and unions.
 ghost use Rattle.std.specs.Prelude.{◌≡◌, ◌<◌, ◌≤◌, ◌+◌, ◌-◌, length, All, AllPairs, IsSomeAnd};
-ghost use Rattle.djq_lines.specs.declared.limits.TheConstants.{QUERIES, SESSIONS};
+ghost use Rattle.djq_protocol.specs.declared.limits.TheConstants.{QUERIES, SESSIONS};
 ghost use Rattle.djq_engine.specs.Kept.{registered_at, IsRegistered, with_watchers};
 ghost use Rattle.djq_engine.specs.Places.{id_at};
 ghost use Rattle.djq_store.specs.Counting.{HasWatchers, with_watchers_at};
@@ -13,7 +13,7 @@ use crate::joined::Joined;
 use crate::parts::Parts;
 use crate::store::Store;
 use djq_engine::{Engine, QueryId};
-use djq_lines::limits::QUERIES;
+use djq_protocol::limits::QUERIES;
 
 /// Each of these queries is watched by one more.
 fn watch_members(engine: &mut Engine, members: &[usize])

@@ -11,15 +11,15 @@ use Rattle.djq_model.specs.declared.query.Term.TheVariants.{Variable, Hole, Cons
 use Rattle.djq_model.specs.Data.{Bytes, Tuple, bytes_eq, relation_of}
 use Rattle.djq_model.specs.Listed.{Listed, a_query, a_union, AnswersOf, listed_of}
 use Rattle.djq_model.specs.Typed.{fits}
-use Rattle.djq_lines.specs.declared.answer.Refusal.{Refusal}
-use Rattle.djq_lines.specs.declared.answer.Refusal.TheVariants.{NoQuery, Arity, WrongType}
-use Rattle.djq_lines.specs.declared.answer.Shape.{Shape}
-use Rattle.djq_lines.specs.declared.answer.Shape.TheVariants.{Flat, Linear, Union}
-use Rattle.djq_lines.specs.Columns.{types_of}
-use Rattle.djq_lines.specs.Hypergraph.{edges_of, head_of}
-use Rattle.djq_hyper.specs.Flat.{IsFlat}
+use Rattle.djq_protocol.specs.declared.answer.Refusal.{Refusal}
+use Rattle.djq_protocol.specs.declared.answer.Refusal.TheVariants.{NoQuery, Arity, WrongType}
+use Rattle.djq_protocol.specs.declared.answer.Shape.{Shape}
+use Rattle.djq_protocol.specs.declared.answer.Shape.TheVariants.{Flat, Linear, Union}
+use Rattle.djq_protocol.specs.Columns.{types_of}
+use Rattle.djq_protocol.specs.Hypergraph.{edges_of, head_of}
+use Rattle.djq_hypergraph.specs.Flat.{IsFlat}
 use Rattle.djq_store_spec.specs.Store.{Store}
-use Rattle.djq_lines.specs.Conditions.{first_refusal, Answers, OutOfMemoryWhere}
+use Rattle.djq_protocol.specs.Conditions.{first_refusal, Answers, OutOfMemoryWhere}
 
 -- `has`
 

@@ -5,12 +5,12 @@ use Rattle.std.specs.Prelude.{if◌then◌else◌, Result, Ok, Err, length, map,
 use Rattle.djq_model.specs.Data.{Bytes, Tuple, bytes_eq, counted_of, rows_of, has_row, with_row}
 use Rattle.djq_model.specs.Listed.{Listed}
 use Rattle.djq_model.specs.Known.{texts_in, all_learned}
-use Rattle.djq_lines.specs.declared.limits.TheConstants.{ROWS, COPIES, LAST_SEQ, TEXTS, HELD}
-use Rattle.djq_lines.specs.declared.answer.Refusal.{Refusal}
-use Rattle.djq_lines.specs.declared.answer.Refusal.TheVariants.{Limit, NoMemory}
-use Rattle.djq_lines.specs.declared.held.HeldRow.{HeldRow}
+use Rattle.djq_protocol.specs.declared.limits.TheConstants.{ROWS, COPIES, LAST_SEQ, TEXTS, HELD}
+use Rattle.djq_protocol.specs.declared.answer.Refusal.{Refusal}
+use Rattle.djq_protocol.specs.declared.answer.Refusal.TheVariants.{Limit, NoMemory}
+use Rattle.djq_protocol.specs.declared.held.HeldRow.{HeldRow}
 use Rattle.djq_store_spec.specs.Store.{Store}
-use Rattle.djq_lines.specs.Conditions.{first_refusal, Answers, OutOfMemoryWhere}
+use Rattle.djq_protocol.specs.Conditions.{first_refusal, Answers, OutOfMemoryWhere}
 use Rattle.djq_store_spec.specs.Relations.{with_rows, LearnsFirst, FindsNoPlace}
 use Rattle.djq_store_spec.specs.Rows.{row_refusals, copies_of, with_copies_of}
 use Rattle.djq_store_spec.specs.Stale.{listed_reads}

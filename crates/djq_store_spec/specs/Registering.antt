@@ -6,19 +6,19 @@ use Rattle.djq_model.specs.declared.query.Query.{Query}
 use Rattle.djq_model.specs.Data.{Bytes, bytes_eq, drop_first}
 use Rattle.djq_model.specs.Listed.{Listed, a_query, a_union, listed_name, members_of, listed_of}
 use Rattle.djq_model.specs.Known.{texts_in, all_learned}
-use Rattle.djq_lines.specs.declared.limits.TheConstants.{TEXTS}
-use Rattle.djq_lines.specs.declared.answer.Refusal.{Refusal}
-use Rattle.djq_lines.specs.declared.answer.Refusal.TheVariants.{NoQuery, InUse, NoMemory}
-use Rattle.djq_lines.specs.declared.rest.QueryOutcome.{QueryOutcome}
-use Rattle.djq_lines.specs.declared.rest.QueryOutcome.TheVariants.{Registered, Cyclic, NotConnex}
-use Rattle.djq_lines.specs.Variables.{constants_of}
-use Rattle.djq_lines.specs.Hypergraph.{edges_of, head_of}
-use Rattle.djq_lines.specs.Rest.{IsNamedRest}
-use Rattle.djq_lines.specs.QueryFault.{whole_query_refusal}
-use Rattle.djq_hyper.specs.JoinTree.{IsFreeConnex}
-use Rattle.djq_hyper.specs.Refusing.{IsCyclic, IsNotConnex}
+use Rattle.djq_protocol.specs.declared.limits.TheConstants.{TEXTS}
+use Rattle.djq_protocol.specs.declared.answer.Refusal.{Refusal}
+use Rattle.djq_protocol.specs.declared.answer.Refusal.TheVariants.{NoQuery, InUse, NoMemory}
+use Rattle.djq_protocol.specs.declared.rest.QueryOutcome.{QueryOutcome}
+use Rattle.djq_protocol.specs.declared.rest.QueryOutcome.TheVariants.{Registered, Cyclic, NotConnex}
+use Rattle.djq_protocol.specs.Variables.{constants_of}
+use Rattle.djq_protocol.specs.Hypergraph.{edges_of, head_of}
+use Rattle.djq_protocol.specs.Rest.{IsNamedRest}
+use Rattle.djq_protocol.specs.QueryFault.{whole_query_refusal}
+use Rattle.djq_hypergraph.specs.JoinTree.{IsFreeConnex}
+use Rattle.djq_hypergraph.specs.Refusing.{IsCyclic, IsNotConnex}
 use Rattle.djq_store_spec.specs.Store.{Store}
-use Rattle.djq_lines.specs.Conditions.{first_refusal, Answers, OutOfMemoryWhere}
+use Rattle.djq_protocol.specs.Conditions.{first_refusal, Answers, OutOfMemoryWhere}
 
 -- `query`
 

@@ -6,11 +6,11 @@ use Rattle.djq_model.specs.declared.relation.Relation.{Relation}
 use Rattle.djq_model.specs.declared.relation.CountedRow.{CountedRow}
 use Rattle.djq_model.specs.Data.{Bytes, bytes_eq, change_first, relation_of}
 use Rattle.djq_model.specs.Known.{knows, all_learned}
-use Rattle.djq_lines.specs.declared.limits.TheConstants.{COLUMNS, RELATIONS, TEXTS}
-use Rattle.djq_lines.specs.declared.answer.Refusal.{Refusal}
-use Rattle.djq_lines.specs.declared.answer.Refusal.TheVariants.{Taken, Limit, NoMemory}
+use Rattle.djq_protocol.specs.declared.limits.TheConstants.{COLUMNS, RELATIONS, TEXTS}
+use Rattle.djq_protocol.specs.declared.answer.Refusal.{Refusal}
+use Rattle.djq_protocol.specs.declared.answer.Refusal.TheVariants.{Taken, Limit, NoMemory}
 use Rattle.djq_store_spec.specs.Store.{Store}
-use Rattle.djq_lines.specs.Conditions.{first_refusal, Answers, OutOfMemoryWhere}
+use Rattle.djq_protocol.specs.Conditions.{first_refusal, Answers, OutOfMemoryWhere}
 
 -- the relations with other rows in one
 abbrev pub with_rows : List Relation → Bytes → List CountedRow → List Relation

@@ -30,11 +30,11 @@ use Rattle.djq_model.specs.declared.query.Query.{Query}
 use Rattle.djq_model.specs.Data.{Bytes, bytes_eq}
 use Rattle.djq_model.specs.Typed.{same_type}
 use Rattle.djq_model.specs.Listed.{Listed, a_query, a_union, listed_of}
-use Rattle.djq_lines.specs.declared.limits.TheConstants.{MEMBERS, QUERIES}
-use Rattle.djq_lines.specs.declared.answer.Refusal.{Refusal}
-use Rattle.djq_lines.specs.declared.answer.Refusal.TheVariants.{Taken, NoQuery, Member, Limit}
+use Rattle.djq_protocol.specs.declared.limits.TheConstants.{MEMBERS, QUERIES}
+use Rattle.djq_protocol.specs.declared.answer.Refusal.{Refusal}
+use Rattle.djq_protocol.specs.declared.answer.Refusal.TheVariants.{Taken, NoQuery, Member, Limit}
 use Rattle.djq_store_spec.specs.Store.{Store}
-use Rattle.djq_lines.specs.Conditions.{first_refusal, Answers, OutOfMemoryWhere}
+use Rattle.djq_protocol.specs.Conditions.{first_refusal, Answers, OutOfMemoryWhere}
 use Rattle.djq_store_spec.specs.Registering.{answer_steps}
 use Rattle.djq_store_spec.specs.Asking.{listed_types}
 

@@ -7,8 +7,8 @@ use Rattle.std.proofs.lemmas.List.{take_more, take_all}
 use Rattle.std.proofs.lemmas.List.Sums.{sum_by-append}
 use Rattle.std.proofs.lemmas.Bool.{cases_lt, cases_Bool, cases_eq, eq-eqb, ne_eqb, eqb-true}
 use Rattle.std.proofs.lemmas.Bool.{false≢true, lt-leb, lt-ltb, le-ltb}
-use Rattle.djq_hyper.specs.Hypergraph.{one}
-use Rattle.djq_hyper.proofs.Members.{one_le, one_false, from_true, from_false, one_and}
+use Rattle.djq_hypergraph.specs.Hypergraph.{one}
+use Rattle.djq_hypergraph.proofs.Members.{one_le, one_false, from_true, from_false, one_and}
 use Rattle.djq_tree.specs.declared.node.Node.{Node}
 use Rattle.djq_tree.specs.declared.node.Node.TheVariants.{Leaf, Trim, Meet}
 use Rattle.djq_tree.specs.Tree.{Tree, IsTree, node_at, has_child, parent, is_out}

@@ -5,8 +5,8 @@ use Rattle.std.specs.Prelude.{◌==◌}
 use Rattle.std.proofs.Math.Bool.{or-true}
 use Rattle.std.proofs.lemmas.Bool.{cases_lt, cases_Bool, cases_eq, eq-eqb, ne_eqb, eqb-true, false≢true}
 use Rattle.std.proofs.lemmas.List.{get_or_past, get_or_default}
-use Rattle.djq_hyper.specs.Hypergraph.{subset}
-use Rattle.djq_hyper.proofs.Members.{subset_from}
+use Rattle.djq_hypergraph.specs.Hypergraph.{subset}
+use Rattle.djq_hypergraph.proofs.Members.{subset_from}
 use Rattle.djq_tree.specs.declared.node.Node.{Node}
 use Rattle.djq_tree.specs.declared.node.Node.TheVariants.{Leaf, Trim, Meet}
 use Rattle.djq_tree.specs.Labels.{label_at}

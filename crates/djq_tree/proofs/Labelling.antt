@@ -5,10 +5,10 @@ use Rattle.std.specs.Prelude.{◌≤◌, slice_get, codes, decimal}
 use Rattle.std.proofs.lemmas.List.{get_or-take, get_or_past}
 use Rattle.std.proofs.lemmas.Bool.{cases_lt, eq-eqb, or_right}
 use Rattle.std.proofs.lemmas.Option.{get_or_from_slice_get}
-use Rattle.djq_hyper.specs.Hypergraph.{member, degree}
-use Rattle.djq_hyper.specs.Variables.{AreNamed}
-use Rattle.djq_hyper.proofs.Members.{has_bit, from_true, subset_says}
-use Rattle.djq_hyper.proofs.Owning.{edge_in, edge_with}
+use Rattle.djq_hypergraph.specs.Hypergraph.{member, degree}
+use Rattle.djq_hypergraph.specs.Variables.{AreNamed}
+use Rattle.djq_hypergraph.proofs.Members.{has_bit, from_true, subset_says}
+use Rattle.djq_hypergraph.proofs.Owning.{edge_in, edge_with}
 use Rattle.djq_tree.specs.declared.node.Node.{Node}
 use Rattle.djq_tree.specs.declared.node.Node.TheVariants.{Leaf, Trim, Meet}
 use Rattle.djq_tree.specs.Labels.{label_at}

@@ -5,8 +5,8 @@ use Rattle.std.proofs.Common.{sym, ◌∙◌, ◌⊎◌, arith, inl, inr}
 use Rattle.std.specs.Prelude.{nat_le, slice_index_or}
 use Rattle.std.proofs.lemmas.List.{get_or_read}
 use Rattle.std.proofs.lemmas.Bool.{cases_Bool, cases_eq, le-leb, lt-leb, leb-true}
-use Rattle.djq_hyper.specs.Hypergraph.{member}
-use Rattle.djq_hyper.proofs.Members.{has_bit, has_here, has_other, from_true}
+use Rattle.djq_hypergraph.specs.Hypergraph.{member}
+use Rattle.djq_hypergraph.proofs.Members.{has_bit, has_here, has_other, from_true}
 use Rattle.djq_tree.specs.declared.node.Node.{Node}
 use Rattle.djq_tree.specs.Tree.{Tree, IsTree, parent, climb, climb_on, path_of, is_out, IsFrontier, SplitsPath}
 use Rattle.djq_tree.proofs.Climbing.{parent_above, rising_of, frontier_here}

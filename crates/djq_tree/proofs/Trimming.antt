@@ -5,10 +5,10 @@ use Rattle.std.specs.Prelude.{◌==◌}
 use Rattle.std.proofs.lemmas.List.{take_all, take-append-drop}
 use Rattle.std.proofs.lemmas.List.Sums.{sum_by-append}
 use Rattle.std.proofs.lemmas.Bool.{cases_lt, cases_eq, ne_eqb, le-leb, lt-leb}
-use Rattle.djq_hyper.specs.Hypergraph.{member, degree, one}
-use Rattle.djq_hyper.proofs.Members.{has_bit, one_le, one_or, one_true, one_false, from_true, subset_says}
-use Rattle.djq_hyper.proofs.Bags.{numbers, times, times_itself, out_of, out_same, length_same}
-use Rattle.djq_hyper.proofs.Counting.{outside}
+use Rattle.djq_hypergraph.specs.Hypergraph.{member, degree, one}
+use Rattle.djq_hypergraph.proofs.Members.{has_bit, one_le, one_or, one_true, one_false, from_true, subset_says}
+use Rattle.djq_hypergraph.proofs.Bags.{numbers, times, times_itself, out_of, out_same, length_same}
+use Rattle.djq_hypergraph.proofs.Counting.{outside}
 use Rattle.djq_tree.specs.declared.node.Node.{Node}
 use Rattle.djq_tree.specs.declared.node.Node.TheVariants.{Leaf, Trim, Meet}
 use Rattle.djq_tree.specs.Labels.{label_at}

@@ -2,7 +2,7 @@
 -- position in that list, so the lowest place is that of the node with the lowest number.
 use Rattle.std.specs.Prelude.{ℕ, Bool, not, ◌==◌, ◌&&◌, nat_lt, List, length, filter, Option, Some}
 use Rattle.std.specs.Prelude.{None, is_some, unwrap_or}
-use Rattle.djq_hyper.specs.Hypergraph.{subset, difference, degree}
+use Rattle.djq_hypergraph.specs.Hypergraph.{subset, difference, degree}
 use Rattle.djq_tree.specs.Labels.{label_at}
 use Rattle.djq_tree.specs.Lowest.{lowest_from}
 use Rattle.djq_tree.specs.declared.choice.Choice.{Choice}

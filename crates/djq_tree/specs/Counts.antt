@@ -1,7 +1,7 @@
 -- How large a tree is.
 use Rattle.std.specs.Prelude.{◌≡◌, ℕ, zero, suc, ◌+◌, ◌*◌, ◌<◌, ◌≤◌, Bool, true, false, not, List}
 use Rattle.std.specs.Prelude.{length, drop, count_by}
-use Rattle.djq_hyper.specs.Hypergraph.{member, degree, one}
+use Rattle.djq_hypergraph.specs.Hypergraph.{member, degree, one}
 use Rattle.djq_tree.specs.declared.node.Node.{Node}
 use Rattle.djq_tree.specs.declared.node.Node.TheVariants.{Leaf, Trim, Meet}
 use Rattle.djq_tree.specs.Tree.{Tree, leaf_labels}

@@ -1,6 +1,6 @@
 -- The text that explains a tree: a line for each node.
 use Rattle.std.specs.Prelude.{ℕ, zero, suc, ◌<◌, Bool, true, false, List, [], ◌∷◌, ◌++◌, length, codes, decimal}
-pub use Rattle.djq_hyper.specs.Naming.{name_at, comma_listed}
+pub use Rattle.djq_hypergraph.specs.Naming.{name_at, comma_listed}
 use Rattle.djq_tree.specs.Labels.{label_at}
 use Rattle.djq_tree.specs.declared.node.Node.{Node}
 use Rattle.djq_tree.specs.declared.node.Node.TheVariants.{Leaf, Trim, Meet}

@@ -3,8 +3,8 @@
 use Rattle.std.specs.Prelude.{◌≡◌, ℕ, zero, suc, ◌<◌, Bool, true, false, min, max, ◌==◌, ◌&&◌, ◌||◌}
 use Rattle.std.specs.Prelude.{nat_le, List, [], ◌∷◌, ◌++◌, length, remove, slice_index}
 use Rattle.std.specs.List.{list_all}
-pub use Rattle.djq_hyper.specs.Hypergraph.{numbers_below}
-use Rattle.djq_hyper.specs.Hypergraph.{member, subset, difference}
+pub use Rattle.djq_hypergraph.specs.Hypergraph.{numbers_below}
+use Rattle.djq_hypergraph.specs.Hypergraph.{member, subset, difference}
 use Rattle.djq_tree.specs.Labels.{label_at}
 use Rattle.djq_tree.specs.declared.node.Node.{Node}
 use Rattle.djq_tree.specs.declared.node.Node.TheVariants as node

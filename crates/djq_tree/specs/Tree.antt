@@ -4,8 +4,8 @@ use Rattle.std.specs.Prelude.{◌≡◌, ◌≢◌, ℕ, zero, suc, ◌+◌, ◌
 use Rattle.std.specs.Prelude.{◌||◌, nat_le, List, [], ◌∷◌, length, take, slice_index_or, find}
 use Rattle.std.specs.Prelude.{Option, Some, None, is_some}
 use Rattle.std.specs.Option.{ForSome}
-use Rattle.djq_hyper.specs.Hypergraph.{member, subset}
-use Rattle.djq_hyper.specs.Variables.{IsVariableSet, AreVariableSets}
+use Rattle.djq_hypergraph.specs.Hypergraph.{member, subset}
+use Rattle.djq_hypergraph.specs.Variables.{IsVariableSet, AreVariableSets}
 use Rattle.djq_tree.specs.Labels.{label_at}
 use Rattle.djq_tree.specs.Lowest.{lowest_from}
 use Rattle.djq_tree.specs.declared.node.Node.{Node}

@@ -1,4 +1,4 @@
-use djq_hyper::VarSet;
+use djq_hypergraph::VarSet;
 
 /// What the planner's choice rule names as the next step, by places in the list of the current
 /// nodes.

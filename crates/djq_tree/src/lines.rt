@@ -1,9 +1,9 @@
 ghost use Rattle.std.specs.Prelude.{◌≡◌, ℕ, ◌<◌, ◌≤◌, ◌++◌, [], true, length, OnOk, decimal};
-ghost use Rattle.djq_hyper.specs.Hypergraph.{member};
+ghost use Rattle.djq_hypergraph.specs.Hypergraph.{member};
 ghost use Rattle.djq_tree.specs.Explaining.{IsNamed, end_text, label_text, node_text};
 
 use crate::node::Node;
-use djq_hyper::{Names, VarSet};
+use djq_hypergraph::{Names, VarSet};
 use itoa::Buffer;
 use std::alloc::{AllocError, Global};
 use std::marker::Model;

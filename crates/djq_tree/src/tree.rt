@@ -1,6 +1,6 @@
 ghost use Rattle.std.specs.Prelude.{◌≡◌, ◌+◌, ◌<◌, ◌≤◌, ◌++◌, length, true, Some, IfOk, OnOk, IfSome, IfNone};
-ghost use Rattle.djq_hyper.specs.Hypergraph.{subset};
-ghost use Rattle.djq_hyper.specs.Variables.{AreNamed};
+ghost use Rattle.djq_hypergraph.specs.Hypergraph.{subset};
+ghost use Rattle.djq_hypergraph.specs.Variables.{AreNamed};
 ghost use Rattle.djq_tree.specs.Counts.{IsSmall};
 ghost use Rattle.djq_tree.specs.Explaining.{explain_of, line_text};
 ghost use Rattle.djq_tree.specs.Keys.{key_of};
@@ -19,7 +19,7 @@ ghost use Rattle.djq_tree.specs.Tree.{
 use crate::lines::Lines;
 use crate::node::Node;
 use crate::path::{Path, parent_of};
-use djq_hyper::{Names, VarSet};
+use djq_hypergraph::{Names, VarSet};
 use std::alloc::{AllocError, Global};
 use std::marker::Model;
 

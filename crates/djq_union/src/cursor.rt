@@ -29,7 +29,7 @@ ghost use Rattle.djq_union.specs.Steps.{union_steps, union_most};
 
 use crate::listing::Listing;
 use crate::members::Members;
-use djq_steps::Tally;
+use djq_counters::Tally;
 use std::marker::Model;
 use std::sync::ledger::Ledger;
 

@@ -1,4 +1,4 @@
-use djq_steps::Tally;
+use djq_counters::Tally;
 use std::sync::ledger::Ledger;
 
 /// What lists its answers, one a call and each once.

@@ -45,17 +45,17 @@ use Rattle.std.proofs.lemmas.List.Elements.{All-contains, Contains-push, Contain
 use Rattle.djq_model.specs.declared.memory.NoMem.{NoMem}
 use Rattle.djq_model.specs.Data.{Bytes}
 use Rattle.djq_store_spec.specs.Store.{Position, open_at}
-use Rattle.djq_cursor.specs.declared.cursor.Cursor.{Cursor}
+use Rattle.djq_enumeration.specs.declared.cursor.Cursor.{Cursor}
 use Rattle.djq_union.specs.Answers.{AreSomeCells, AreAllCells}
 use Rattle.djq_union.specs.Union.{some_has}
 use Rattle.djq_union.proofs.Lists.{once_of, once_left}
 use Rattle.djq_union.proofs.Fitting.{union_some}
-use Rattle.djq_slots.proofs.Slots.{put_each, put_same, open_each}
-use Rattle.djq_rows.specs.Catalog.{Catalog}
-use Rattle.djq_live.specs.declared.listing.Next.{Next}
-use Rattle.djq_live.specs.declared.listing.Next.TheVariants.{Given, End, Stale as IsStale}
-use Rattle.djq_live.specs.Live.{Live}
-use Rattle.djq_live.specs.Member.{
+use Rattle.djq_cursors.proofs.Slots.{put_each, put_same, open_each}
+use Rattle.djq_database.specs.Catalog.{Catalog}
+use Rattle.djq_live_query.specs.declared.listing.Next.{Next}
+use Rattle.djq_live_query.specs.declared.listing.Next.TheVariants.{Given, End, Stale as IsStale}
+use Rattle.djq_live_query.specs.Live.{Live}
+use Rattle.djq_live_query.specs.Member.{
   has_cells,
   cells_given,
   all_answers,
@@ -64,8 +64,8 @@ use Rattle.djq_live.specs.Member.{
   queries_at,
   FitsKept,
 }
-use Rattle.djq_live.proofs.AtPlaces.{as_many}
-use Rattle.djq_slots.specs.declared.progress.Progress.TheVariants.{Open, Stale}
+use Rattle.djq_live_query.proofs.AtPlaces.{as_many}
+use Rattle.djq_cursors.specs.declared.progress.Progress.TheVariants.{Open, Stale}
 use Rattle.djq_united.specs.Slots.{UnionProgress, slot_at, OpensSlot}
 use Rattle.djq_united.specs.United.{
   United,

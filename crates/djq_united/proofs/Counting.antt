@@ -29,13 +29,13 @@ use Rattle.djq_store_spec.specs.Registering.{most_steps, width_of, atoms_of}
 use Rattle.djq_store_spec.specs.Asking.{variable_type}
 use Rattle.djq_union.specs.Steps.{union_most}
 use Rattle.djq_union.proofs.Lists.{at_head, all_of}
-use Rattle.djq_rows.specs.Catalog.{Catalog}
-use Rattle.djq_live.specs.Live.{Live, IsKept}
-use Rattle.djq_planned.specs.Asked.{column_of}
-use Rattle.djq_live.specs.Member.{has_cells, head_types}
-use Rattle.djq_live.specs.Order.{cell_of_variable}
-use Rattle.djq_live.proofs.InHead.{had_from}
-use Rattle.djq_live.proofs.Standing.{head_are}
+use Rattle.djq_database.specs.Catalog.{Catalog}
+use Rattle.djq_live_query.specs.Live.{Live, IsKept}
+use Rattle.djq_binder.specs.Asked.{column_of}
+use Rattle.djq_live_query.specs.Member.{has_cells, head_types}
+use Rattle.djq_live_query.specs.Order.{cell_of_variable}
+use Rattle.djq_live_query.proofs.InHead.{had_from}
+use Rattle.djq_live_query.proofs.Standing.{head_are}
 use Rattle.djq_united.proofs.Lists.{has_one}
 use Rattle.djq_united.specs.Advancing.{most_of}
 use Rattle.djq_united.proofs.Values.{AreOver, IsHad}

@@ -50,9 +50,9 @@ use Rattle.djq_model.specs.declared.relation.ColumnType.TheVariants.{Int, Text}
 use Rattle.djq_model.specs.Typed.{same_type}
 use Rattle.djq_store_spec.specs.Union.{same_types}
 use Rattle.djq_union.proofs.Lists.{at_head, in_tail}
-use Rattle.djq_live.specs.Live.{Live}
-use Rattle.djq_live.specs.Member.{head_types, query_at, queries_at, AreAlike}
-use Rattle.djq_live.proofs.AtPlaces.{nth_is, nth_has}
+use Rattle.djq_live_query.specs.Live.{Live}
+use Rattle.djq_live_query.specs.Member.{head_types, query_at, queries_at, AreAlike}
+use Rattle.djq_live_query.proofs.AtPlaces.{nth_is, nth_has}
 use Rattle.djq_united.specs.United.{heads_differ}
 use Rattle.djq_united.proofs.Lists.{one_has}
 

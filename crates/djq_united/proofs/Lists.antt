@@ -5,8 +5,8 @@ use Rattle.std.specs.List.{list_any}
 use Rattle.std.proofs.lemmas.Bool.{cases_Bool, false≢true, or_cases, or_left, or_right}
 use Rattle.djq_index.specs.Tuple.{same}
 use Rattle.djq_index.proofs.Tuples.{same_is, is_same}
-use Rattle.djq_cursor.specs.Menus.{has_tuple}
-use Rattle.djq_cursor.proofs.Menus.{contains_of}
+use Rattle.djq_enumeration.specs.Menus.{has_tuple}
+use Rattle.djq_enumeration.proofs.Menus.{contains_of}
 use Rattle.djq_union.proofs.Lists.{none_contained, at_head, in_tail, head_or_tail}
 
 module _ {A : Type 0} where

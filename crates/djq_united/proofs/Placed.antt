@@ -4,9 +4,9 @@ use Rattle.std.specs.Prelude.{⊤, All, Contains, Option, None, Some, IsSomeAnd,
 use Rattle.std.specs.List.{AllByRecursion, AllZip}
 use Rattle.std.proofs.lemmas.List.Elements.{Contains-append_cases}
 use Rattle.djq_union.proofs.Lists.{none_contained, at_head, in_tail, head_or_tail, all_of}
-use Rattle.djq_rows.specs.Catalog.{Catalog}
-use Rattle.djq_live.specs.Live.{Live, IsKept, IsKeptSomewhere}
-use Rattle.djq_live.specs.Member.{query_at, queries_at}
+use Rattle.djq_database.specs.Catalog.{Catalog}
+use Rattle.djq_live_query.specs.Live.{Live, IsKept, IsKeptSomewhere}
+use Rattle.djq_live_query.specs.Member.{query_at, queries_at}
 use Rattle.djq_united.specs.United.{AreKept}
 use Rattle.djq_united.specs.Staying.{KeepMembers}
 

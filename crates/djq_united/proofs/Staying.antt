@@ -26,16 +26,16 @@ use Rattle.djq_model.specs.Listed.{a_union}
 use Rattle.djq_store_spec.specs.Store.{open_at}
 use Rattle.djq_query.specs.Numbered.{Numbered}
 use Rattle.djq_reduct.specs.Reducts.{Reducts}
-use Rattle.djq_cursor.specs.declared.cursor.Cursor.{Cursor}
-use Rattle.djq_cursor.specs.Given.{Fits}
+use Rattle.djq_enumeration.specs.declared.cursor.Cursor.{Cursor}
+use Rattle.djq_enumeration.specs.Given.{Fits}
 use Rattle.djq_union.specs.Answers.{AreSomeCells}
 use Rattle.djq_union.specs.Order.{merged}
 use Rattle.djq_union.specs.Union.{some_has, given_at, AreInStep}
 use Rattle.djq_union.proofs.Lists.{none_contained, at_head, in_tail, head_or_tail}
-use Rattle.djq_rows.specs.Catalog.{Catalog}
-use Rattle.djq_slots.proofs.Slots.{stale_each}
-use Rattle.djq_live.specs.Live.{Live, IsKeptSomewhere, values_of}
-use Rattle.djq_live.specs.Member.{
+use Rattle.djq_database.specs.Catalog.{Catalog}
+use Rattle.djq_cursors.proofs.Slots.{stale_each}
+use Rattle.djq_live_query.specs.Live.{Live, IsKeptSomewhere, values_of}
+use Rattle.djq_live_query.specs.Member.{
   has_cells,
   cells_given,
   FitsKept,
@@ -44,9 +44,9 @@ use Rattle.djq_live.specs.Member.{
   in_tree,
   AreAlike,
 }
-use Rattle.djq_live.specs.Staying.{HasSameTables, HasSameShape}
-use Rattle.djq_live.proofs.Showable.{stays_showable}
-use Rattle.djq_slots.specs.declared.progress.Progress.TheVariants.{Open, Stale}
+use Rattle.djq_live_query.specs.Staying.{HasSameTables, HasSameShape}
+use Rattle.djq_live_query.proofs.Showable.{stays_showable}
+use Rattle.djq_cursors.specs.declared.progress.Progress.TheVariants.{Open, Stale}
 use Rattle.djq_united.specs.Slots.{UnionProgress, outdated_slots}
 use Rattle.djq_united.specs.United.{
   United,

@@ -13,12 +13,12 @@ use Rattle.djq_store_spec.specs.Listing.{IsLeft, AreAll}
 use Rattle.djq_union.specs.Answers.{AreAllCells}
 use Rattle.djq_union.specs.Union.{some_has}
 use Rattle.djq_union.proofs.Lists.{none_contained, at_head}
-use Rattle.djq_rows.specs.Cells.{StandFor}
-use Rattle.djq_rows.specs.Catalog.{Catalog}
-use Rattle.djq_live.specs.Live.{Live, IsKept, IsShowable, values_of}
-use Rattle.djq_live.specs.Member.{has_cells, in_tree, AreAlike}
-use Rattle.djq_live.proofs.InTree.{tree_stand}
-use Rattle.djq_live.proofs.Standing.{are_had, cells_tell, had_stand, have_cells, head_are}
+use Rattle.djq_database.specs.Cells.{StandFor}
+use Rattle.djq_database.specs.Catalog.{Catalog}
+use Rattle.djq_live_query.specs.Live.{Live, IsKept, IsShowable, values_of}
+use Rattle.djq_live_query.specs.Member.{has_cells, in_tree, AreAlike}
+use Rattle.djq_live_query.proofs.InTree.{tree_stand}
+use Rattle.djq_live_query.proofs.Standing.{are_had, cells_tell, had_stand, have_cells, head_are}
 use Rattle.djq_leaves.proofs.Listings.{in_image, image_of}
 use Rattle.djq_united.specs.United.{first_of_members, AtFirst, shown_cells}
 use Rattle.djq_united.specs.Reading.{IsShownBy}

@@ -14,15 +14,15 @@ use Rattle.std.specs.Prelude.{
 }
 use Rattle.djq_model.specs.Listed.{a_union}
 use Rattle.djq_store_spec.specs.Registering.{answer_steps}
-use Rattle.djq_cursor.specs.declared.cursor.Cursor.{Cursor}
+use Rattle.djq_enumeration.specs.declared.cursor.Cursor.{Cursor}
 use Rattle.djq_union.specs.Answers.{AreSomeCells, AreAllCells, IsListingOfCells}
 use Rattle.djq_union.specs.Union.{some_has, union_given}
-use Rattle.djq_live.specs.declared.listing.Next.{Next}
-use Rattle.djq_live.specs.declared.listing.Next.TheVariants.{Given, End, Stale as IsStale}
-use Rattle.djq_live.specs.Live.{Live}
-use Rattle.djq_live.specs.Member.{has_cells, cells_given, in_tree}
+use Rattle.djq_live_query.specs.declared.listing.Next.{Next}
+use Rattle.djq_live_query.specs.declared.listing.Next.TheVariants.{Given, End, Stale as IsStale}
+use Rattle.djq_live_query.specs.Live.{Live}
+use Rattle.djq_live_query.specs.Member.{has_cells, cells_given, in_tree}
 use Rattle.djq_united.specs.Slots.{UnionProgress}
-use Rattle.djq_slots.specs.declared.progress.Progress.TheVariants.{Open, Stale}
+use Rattle.djq_cursors.specs.declared.progress.Progress.TheVariants.{Open, Stale}
 use Rattle.djq_united.specs.United.{FitsMembers, AtFirst}
 
 -- the cells that a cursor has given, in the head's order

@@ -20,10 +20,10 @@ use Rattle.djq_model.specs.Listed.{Listed, AnswersOf}
 use Rattle.djq_store_spec.specs.Store.{Position, open_at, stale}
 use Rattle.djq_store_spec.specs.Listing.{IsLeft, AreAll}
 use Rattle.djq_store_spec.specs.Registering.{answer_steps}
-use Rattle.djq_rows.specs.Catalog.{Catalog}
-use Rattle.djq_live.specs.declared.listing.Next.{Next}
-use Rattle.djq_live.specs.declared.listing.Next.TheVariants.{Given, End, Stale}
-use Rattle.djq_live.specs.Live.{Live, IsShowable, values_of}
+use Rattle.djq_database.specs.Catalog.{Catalog}
+use Rattle.djq_live_query.specs.declared.listing.Next.{Next}
+use Rattle.djq_live_query.specs.declared.listing.Next.TheVariants.{Given, End, Stale}
+use Rattle.djq_live_query.specs.Live.{Live, IsShowable, values_of}
 use Rattle.djq_united.specs.Slots.{UnionProgress, slot_at, SetsSlot}
 use Rattle.djq_united.specs.United.{United, members_in, union_of, AtFirst, IsUnited, union_position}
 

@@ -1,5 +1,5 @@
 -- The cursors of one union, in their slots.
-pub use Rattle.djq_slots.specs.Slots.{
+pub use Rattle.djq_cursors.specs.Slots.{
   slot_at,
   are_vacant,
   IsOpen,
@@ -10,8 +10,8 @@ pub use Rattle.djq_slots.specs.Slots.{
   outdated_slots,
 }
 use Rattle.std.specs.Prelude.{List, Option}
-use Rattle.djq_cursor.specs.declared.cursor.Cursor.{Cursor}
-use Rattle.djq_slots.specs.declared.progress.Progress.{Progress as ProgressOf}
+use Rattle.djq_enumeration.specs.declared.cursor.Cursor.{Cursor}
+use Rattle.djq_cursors.specs.declared.progress.Progress.{Progress as ProgressOf}
 
 -- how far a cursor of a union has come
 abbrev pub UnionProgress : Type 0

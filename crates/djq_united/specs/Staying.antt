@@ -2,10 +2,10 @@
 use Rattle.std.specs.Prelude.{◌≡◌, ℕ, List, ◌++◌, Contains, Option, Some, IsSomeAnd}
 use Rattle.djq_model.specs.Data.{Bytes}
 use Rattle.djq_store_spec.specs.Stale.{outdated}
-use Rattle.djq_rows.specs.Catalog.{Catalog}
-use Rattle.djq_live.specs.Live.{Live}
-use Rattle.djq_live.specs.Member.{query_at}
-use Rattle.djq_live.specs.Staying.{HasSameTables, HasSameShape}
+use Rattle.djq_database.specs.Catalog.{Catalog}
+use Rattle.djq_live_query.specs.Live.{Live}
+use Rattle.djq_live_query.specs.Member.{query_at}
+use Rattle.djq_live_query.specs.Staying.{HasSameTables, HasSameShape}
 use Rattle.djq_united.specs.Slots.{UnionProgress, slot_at, outdated_progress}
 use Rattle.djq_united.specs.United.{
   United,

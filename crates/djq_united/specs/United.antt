@@ -23,12 +23,12 @@ use Rattle.djq_model.specs.Data.{Bytes, Tuple}
 use Rattle.djq_model.specs.Listed.{Listed, a_union}
 use Rattle.djq_store_spec.specs.Store.{Position, open_at, stale}
 use Rattle.djq_store_spec.specs.Union.{same_types}
-use Rattle.djq_cursor.specs.declared.cursor.Cursor.{Cursor}
+use Rattle.djq_enumeration.specs.declared.cursor.Cursor.{Cursor}
 use Rattle.djq_union.specs.Union.{union_given, UnionFits}
-use Rattle.djq_rows.specs.Catalog.{Catalog}
-use Rattle.djq_slots.specs.Slots.{EachIs}
-use Rattle.djq_live.specs.Live.{Live, IsKept, values_of}
-use Rattle.djq_live.specs.Member.{
+use Rattle.djq_database.specs.Catalog.{Catalog}
+use Rattle.djq_cursors.specs.Slots.{EachIs}
+use Rattle.djq_live_query.specs.Live.{Live, IsKept, values_of}
+use Rattle.djq_live_query.specs.Member.{
   has_cells,
   cells_given,
   FitsKept,
@@ -40,7 +40,7 @@ use Rattle.djq_live.specs.Member.{
   in_tree,
 }
 use Rattle.djq_united.specs.Slots.{UnionProgress}
-use Rattle.djq_slots.specs.declared.progress.Progress.TheVariants.{Open, Stale}
+use Rattle.djq_cursors.specs.declared.progress.Progress.TheVariants.{Open, Stale}
 
 -- Its name, the places of its members in its order, and its cursors in slots.
 pub record United : Type 0 where

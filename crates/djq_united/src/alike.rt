@@ -2,10 +2,10 @@
 ghost use Rattle.std.specs.Prelude.{◌≡◌, ⊤, Some, IsSomeAnd};
 ghost use Rattle.std.specs.Bool.{OnFalse};
 ghost use Rattle.std.specs.List.{AllByRecursion};
-ghost use Rattle.djq_live.specs.Member.{query_at, queries_at, AreAlike};
+ghost use Rattle.djq_live_query.specs.Member.{query_at, queries_at, AreAlike};
 ghost use Rattle.djq_united.specs.United.{heads_differ};
 
-use djq_live::LiveQuery;
+use djq_live_query::LiveQuery;
 
 /// The query in a place.
 fn query_in(queries: &[Option<LiveQuery>], place: usize) -> &LiveQuery

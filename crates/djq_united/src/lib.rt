@@ -2,7 +2,7 @@
 //!
 //! A [`LiveUnion`] keeps a name, the places of its members, and cursors in slots. It has no tables
 //! of its own, and no queries: each call that needs them is lent the places of all queries, where
-//! the members stand. A cursor lists by djq_union what the members list by djq_live.
+//! the members stand. A cursor lists by djq_union what the members list by djq_live_query.
 //!
 //! ```text
 //! places    0 a(x,y)   1 -   2 b(u,v)   3 c(x)

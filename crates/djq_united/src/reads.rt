@@ -1,15 +1,15 @@
 //! How one cursor of a union goes on.
 ghost use Rattle.std.specs.Prelude.{◌+◌, ◌≤◌};
-ghost use Rattle.djq_rows.specs.Catalog.{Catalog as CatalogModel};
-ghost use Rattle.djq_live.specs.Member.{queries_at};
+ghost use Rattle.djq_database.specs.Catalog.{Catalog as CatalogModel};
+ghost use Rattle.djq_live_query.specs.Member.{queries_at};
 ghost use Rattle.djq_united.specs.Slots.{IsOpen};
 ghost use Rattle.djq_united.specs.United.{AreMembers, AreKept, CursorFitsMembers};
 ghost use Rattle.djq_united.specs.Advancing.{UnionReads, UnionLooks, call_steps, most_of};
 
-use djq_live::{LiveQuery, Next, QueriesAt};
+use djq_live_query::{LiveQuery, Next, QueriesAt};
 use djq_reduct::{Answer, Cells};
-use djq_slots::Progress;
-use djq_steps::Tally;
+use djq_cursors::Progress;
+use djq_counters::Tally;
 use djq_union::{Members, UnionCursor};
 use std::sync::ledger::Ledger;
 

@@ -13,20 +13,20 @@ ghost use Rattle.std.specs.Prelude.{
   slice_set,
 };
 ghost use Rattle.djq_store_spec.specs.Registering.{answer_steps};
-ghost use Rattle.djq_rows.specs.Catalog.{Catalog as CatalogModel};
-ghost use Rattle.djq_live.specs.Live.{Live};
+ghost use Rattle.djq_database.specs.Catalog.{Catalog as CatalogModel};
+ghost use Rattle.djq_live_query.specs.Live.{Live};
 ghost use Rattle.djq_united.specs.Slots.{slot_at, are_vacant, IsOpenIn, outdated_slots};
 ghost use Rattle.djq_united.specs.United.{union_of, AreMembers, IsUnited, AreKept};
 ghost use Rattle.djq_united.specs.Reading.{UnionOpensIn, UnionNextGives, UnionMoreGives, union_read_steps};
-ghost use Rattle.djq_live.specs.Staying.{HasSameShape};
+ghost use Rattle.djq_live_query.specs.Staying.{HasSameShape};
 ghost use Rattle.djq_united.specs.Staying.{KeepMembers};
 
 use crate::reads::{has_more, read};
-use djq_live::{LiveQuery, Next};
+use djq_live_query::{LiveQuery, Next};
 use djq_model::{Name, NoMem, Sequence};
 use djq_reduct::Answer;
-use djq_slots::Cursors;
-use djq_steps::{Ledgers, Listing, Tally};
+use djq_cursors::Cursors;
+use djq_counters::{Ledgers, Listing, Tally};
 use djq_union::UnionCursor;
 use std::alloc::Global;
 use std::marker::Model;

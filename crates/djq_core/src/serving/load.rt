@@ -11,11 +11,11 @@ use djq_commands::is_removal;
 use djq_commands::is_registered;
 use djq_commands::new_row;
 use djq_commands::{BatchLine, read_in_batch};
-use djq_lines::{Command, HeldRow, Refusal};
+use djq_protocol::{Command, HeldRow, Refusal};
 use djq_machine::Loaded;
 use djq_model::{Name, Sequence, Value};
-use djq_proto::{LineRefusal, read_command};
-use djq_steps::{Ledgers, Steps};
+use djq_parser::{LineRefusal, read_command};
+use djq_counters::{Ledgers, Steps};
 use djq_store::Store;
 use std::alloc::Global;
 

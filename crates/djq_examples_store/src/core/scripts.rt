@@ -3,7 +3,7 @@ use super::Move::{
     self, Closes, Counts, Ended, Fills, HasMore, IsLast, IsShut, IsTold, Keeps, Loads, Opens, Says,
     Steps,
 };
-use djq_lines::EndCause;
+use djq_protocol::EndCause;
 use djq_machine::Loaded;
 
 /// Each move beside its session; one that is of none stands beside 0.

@@ -3,7 +3,7 @@ ghost use Rattle.std.specs.Prelude.{OnOk, OnErr};
 ghost use Rattle.djq_session.specs.Dialog.{batch_rows};
 
 use super::Session;
-use djq_lines::HeldRow;
+use djq_protocol::HeldRow;
 use djq_model::{NoMem, Sequence};
 
 impl<C: Copy, Q: Copy + PartialEq> Session<C, Q> {

@@ -1,7 +1,7 @@
 ghost use Rattle.std.specs.Prelude.{◌≡◌, ◌∷◌, ◌++◌, ◌<◌, [], length, None, option_map, position};
 ghost use Rattle.std.specs.Prelude.{OnOk, OnErr};
 ghost use Rattle.djq_model.specs.Data.{drop_first};
-ghost use Rattle.djq_lines.specs.declared.limits.TheConstants.{CURSORS};
+ghost use Rattle.djq_protocol.specs.declared.limits.TheConstants.{CURSORS};
 ghost use Rattle.djq_session.specs.Dialog.{named, cursor_is_named, PopsCursor};
 
 use super::Session;

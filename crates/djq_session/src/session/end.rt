@@ -1,11 +1,11 @@
 ghost use Rattle.std.specs.Prelude.{◌≡◌, ◌+◌, ◌≤◌, ◌++◌, None, Some};
-ghost use Rattle.djq_lines.specs.Reply.{bye, end_line, input_cut};
-ghost use Rattle.djq_lines.specs.declared.limits.TheConstants.{LAST_LINE_BYTES, REPLY_BYTES};
-ghost use Rattle.djq_lines.specs.declared.answer.EndCause.TheVariants.{Input};
+ghost use Rattle.djq_protocol.specs.Reply.{bye, end_line, input_cut};
+ghost use Rattle.djq_protocol.specs.declared.limits.TheConstants.{LAST_LINE_BYTES, REPLY_BYTES};
+ghost use Rattle.djq_protocol.specs.declared.answer.EndCause.TheVariants.{Input};
 ghost use Rattle.djq_session.specs.Dialog.{DialogEndsWith, dialog_is_due};
 
 use super::Session;
-use djq_lines::{EndCause, EndLine};
+use djq_protocol::{EndCause, EndLine};
 use djq_reply::{say_bye, say_cut, say_end};
 
 impl<C: Copy, Q: Copy + PartialEq> Session<C, Q> {

@@ -1,10 +1,10 @@
 ghost use Rattle.std.specs.Prelude.{◌≡◌, ◌++◌, ◌≤◌, drop, length, OnOk, OnErr};
-ghost use Rattle.djq_proto.specs.Splitting.{IsFront};
+ghost use Rattle.djq_parser.specs.Splitting.{IsFront};
 
 use super::{IDLE_BYTES, Session};
 use bytes::BytesMut;
 use djq_model::NoMem;
-use djq_proto::{Front, Splitter};
+use djq_parser::{Front, Splitter};
 
 impl<C: Copy, Q: Copy + PartialEq> Session<C, Q> {
     /// Bytes come, behind those that are held.

@@ -1,10 +1,10 @@
 ghost use Rattle.std.specs.Prelude.{◌≡◌, ◌+◌, ◌≤◌, drop, length};
-ghost use Rattle.djq_lines.specs.declared.limits.TheConstants.{LAST_LINE_BYTES};
+ghost use Rattle.djq_protocol.specs.declared.limits.TheConstants.{LAST_LINE_BYTES};
 ghost use Rattle.djq_session.specs.Dialog.{KeepsFor, MayQueue};
 
 use super::{IDLE_BYTES, OUTPUT_BYTES, Session};
 use bytes::BytesMut;
-use djq_lines::limits::LAST_LINE_BYTES;
+use djq_protocol::limits::LAST_LINE_BYTES;
 use djq_model::NoMem;
 
 impl<C: Copy, Q: Copy + PartialEq> Session<C, Q> {

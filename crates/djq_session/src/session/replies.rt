@@ -1,14 +1,14 @@
 //! What a session is answered. Short replies stand in the room that `keep` made before the command.
 ghost use Rattle.std.specs.Prelude.{◌+◌, ◌≤◌, ◌++◌, codes};
-ghost use Rattle.djq_lines.specs.Reply.{add_reply, answer_line};
-ghost use Rattle.djq_lines.specs.Reply.{delete_reply, done_reply, has_reply, held_reply, last_line};
-ghost use Rattle.djq_lines.specs.Reply.{ok_reply, query_reply, refusal_line, shape_reply};
-ghost use Rattle.djq_lines.specs.Reply.{stale_line, union_reply, watch_reply};
-ghost use Rattle.djq_lines.specs.declared.limits.TheConstants.{LAST_LINE_BYTES, REPLY_BYTES};
+ghost use Rattle.djq_protocol.specs.Reply.{add_reply, answer_line};
+ghost use Rattle.djq_protocol.specs.Reply.{delete_reply, done_reply, has_reply, held_reply, last_line};
+ghost use Rattle.djq_protocol.specs.Reply.{ok_reply, query_reply, refusal_line, shape_reply};
+ghost use Rattle.djq_protocol.specs.Reply.{stale_line, union_reply, watch_reply};
+ghost use Rattle.djq_protocol.specs.declared.limits.TheConstants.{LAST_LINE_BYTES, REPLY_BYTES};
 ghost use Rattle.djq_session.specs.Dialog.{MayQueue, Replies};
 
 use super::Session;
-use djq_lines::{AddOutcome, DeleteOutcome, QueryOutcome, Refusal, Shape};
+use djq_protocol::{AddOutcome, DeleteOutcome, QueryOutcome, Refusal, Shape};
 use djq_model::{Answered, Name, NoMem};
 use djq_reply::{
     put_answer, put_explained, put_last, put_registered, say_added, say_batch, say_batch_done,

@@ -1,7 +1,7 @@
 -- The rows that are lent are those that the session held, so they suit the store and are few enough.
 use Rattle.std.proofs.Common.{◌≡◌, ◌≤◌, List, length, ◌∙◌, sym, ap, subst, refl}
-use Rattle.djq_lines.specs.declared.held.HeldRow.{HeldRow}
-use Rattle.djq_lines.specs.declared.limits.TheConstants.{HELD}
+use Rattle.djq_protocol.specs.declared.held.HeldRow.{HeldRow}
+use Rattle.djq_protocol.specs.declared.limits.TheConstants.{HELD}
 use Rattle.djq_store_spec.specs.Batch.{SuitAll}
 use Rattle.djq_session.specs.Dialog.{batch_rows}
 use Rattle.djq_commands.specs.Changing.{AddsAll}

@@ -1,7 +1,7 @@
 -- What was read is the front of the session's bytes; what is done behind a line so taken is in Holding.
 use Rattle.std.proofs.Common.{true, false, subst, take, drop, refl, arith}
 use Rattle.djq_model.specs.Data.{Bytes}
-use Rattle.djq_lines.specs.declared.command.Command.TheVariants.{Abandon, Quit, Stop}
+use Rattle.djq_protocol.specs.declared.command.Command.TheVariants.{Abandon, Quit, Stop}
 use Rattle.djq_commands.specs.Batching.{MakesRow, ReadsInBatch}
 use Rattle.djq_commands.specs.declared.reading.BatchLine.{BatchLine}
 use Rattle.djq_commands.proofs.Batching.{does_abandon}

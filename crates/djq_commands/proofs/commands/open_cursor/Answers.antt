@@ -1,6 +1,6 @@
 -- No cursor has the name yet, and the engine has an id for just the names that the store has queries for.
 use Rattle.std.proofs.Common.{sym, ap, ◌∙◌, ◌≡◌, false, Option, is_some, subst, ℕ, ◌≤◌}
-use Rattle.djq_lines.specs.declared.limits.TheConstants.{CURSORS}
+use Rattle.djq_protocol.specs.declared.limits.TheConstants.{CURSORS}
 use Rattle.djq_session.specs.Dialog.{named}
 use Rattle.djq_engine.specs.declared.cursor.CursorId.{CursorId}
 use Rattle.djq_commands.proofs.Enrolling.{cursor_named, opens_limit, opens_none}

@@ -1,6 +1,6 @@
 -- What is dropped was in no use, so the cursors and watches of every session are as sound as before.
 use Rattle.std.proofs.Common.{◌∙◌, Bool, false, sym, subst}
-use Rattle.djq_lines.specs.declared.command.Command.TheVariants.{Drop}
+use Rattle.djq_protocol.specs.declared.command.Command.TheVariants.{Drop}
 use Rattle.djq_commands.specs.Performs.{ExecutesKeeping}
 use Rattle.djq_commands.proofs.Replying.{does_drop, ok_done}
 use Rattle.djq_commands.proofs.commands.run_drop.Goals as goal

@@ -1,7 +1,7 @@
 -- No two queries share a name, so the watches stay counted when one comes, whether it is told or cut off.
 use Rattle.std.proofs.Common.{Bool, false, sym, subst}
-use Rattle.djq_lines.specs.declared.command.Command.TheVariants.{Query as Register}
-use Rattle.djq_lines.specs.Reply.{query_reply}
+use Rattle.djq_protocol.specs.declared.command.Command.TheVariants.{Query as Register}
+use Rattle.djq_protocol.specs.Reply.{query_reply}
 use Rattle.djq_commands.specs.Performs.{ExecutesKeeping}
 use Rattle.djq_commands.proofs.Replying.{does_query}
 use Rattle.djq_commands.proofs.Enrolling.{stays_enrolled}

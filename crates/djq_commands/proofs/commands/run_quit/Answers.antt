@@ -1,7 +1,7 @@
 -- A session that gave up its cursors and watches may end among any others, with `bye` behind its bytes.
 use Rattle.std.proofs.Common.{Some, refl}
-use Rattle.djq_lines.specs.Reply.{bye}
-use Rattle.djq_lines.specs.declared.answer.EndCause.TheVariants.{Quit}
+use Rattle.djq_protocol.specs.Reply.{bye}
+use Rattle.djq_protocol.specs.declared.answer.EndCause.TheVariants.{Quit}
 use Rattle.djq_commands.proofs.GivingUp.{ends}
 use Rattle.djq_commands.proofs.commands.run_quit.Goals as goal
 

@@ -1,6 +1,6 @@
 -- A line is kept just where its command is done, and a new relation leaves all cursors and watches alone.
 use Rattle.std.proofs.Common.{◌∙◌, Bool, false, sym, subst}
-use Rattle.djq_lines.specs.declared.command.Command.TheVariants.{Rel}
+use Rattle.djq_protocol.specs.declared.command.Command.TheVariants.{Rel}
 use Rattle.djq_commands.specs.Performs.{ExecutesKeeping}
 use Rattle.djq_commands.proofs.Replying.{does_rel, ok_done}
 use Rattle.djq_commands.proofs.commands.run_rel.Goals as goal

@@ -1,7 +1,7 @@
 -- A session that gave up all may end among any others with `bye`, and the machine is stopped by that.
 use Rattle.std.proofs.Common.{Some, refl}
-use Rattle.djq_lines.specs.Reply.{bye}
-use Rattle.djq_lines.specs.declared.answer.EndCause.TheVariants.{Stop}
+use Rattle.djq_protocol.specs.Reply.{bye}
+use Rattle.djq_protocol.specs.declared.answer.EndCause.TheVariants.{Stop}
 use Rattle.djq_commands.proofs.GivingUp.{ends}
 use Rattle.djq_commands.proofs.commands.run_stop.Goals as goal
 

@@ -1,7 +1,7 @@
 -- No two names are the same, so the watches stay counted when a union comes; its members are those lent.
 use Rattle.std.proofs.Common.{◌∙◌, Bool, List, false, sym, subst}
 use Rattle.djq_model.specs.Data.{Bytes}
-use Rattle.djq_lines.specs.declared.command.Command.TheVariants.{Union}
+use Rattle.djq_protocol.specs.declared.command.Command.TheVariants.{Union}
 use Rattle.djq_machine.specs.Keeping.{is_done}
 use Rattle.djq_commands.specs.Performs.{ExecutesKeeping}
 use Rattle.djq_commands.proofs.Replying.{does_union, ok_done}

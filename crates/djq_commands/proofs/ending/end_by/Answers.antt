@@ -1,6 +1,6 @@
 -- A session that gave up its cursors and watches may end among any others, with that line queued.
 use Rattle.std.proofs.Common.{Some, refl, ap, ◌∙◌}
-use Rattle.djq_lines.specs.Reply.{end_line}
+use Rattle.djq_protocol.specs.Reply.{end_line}
 use Rattle.djq_commands.specs.Views.{Talk}
 use Rattle.djq_commands.proofs.GivingUp.{ends}
 use Rattle.djq_commands.proofs.ending.end_by.Goals as goal

@@ -1,8 +1,8 @@
 -- Giving up leaves the held bytes as they are, and whether there are any decides on the last line.
 use Rattle.std.proofs.Common.{None, Some, sym, ap, ◌∙◌, refl, eqb, length, subst, true, false, ◌≡◌}
 use Rattle.djq_model.specs.Data.{Bytes}
-use Rattle.djq_lines.specs.Reply.{input_cut}
-use Rattle.djq_lines.specs.declared.answer.EndCause.TheVariants.{Input}
+use Rattle.djq_protocol.specs.Reply.{input_cut}
+use Rattle.djq_protocol.specs.declared.answer.EndCause.TheVariants.{Input}
 use Rattle.djq_commands.specs.Views.{Talk}
 use Rattle.djq_commands.specs.Performs.{to_one}
 use Rattle.djq_commands.proofs.GivingUp.{ends, cut_none, cut_some, quiet_end}

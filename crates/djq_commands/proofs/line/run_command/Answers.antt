@@ -1,9 +1,9 @@
 -- Of these commands only those that change relations, queries or unions are kept; all others leave no line.
 use Rattle.std.proofs.Common.{false, true, refl, sym, subst, arith}
-use Rattle.djq_lines.specs.declared.command.Command.{Command}
-use Rattle.djq_lines.specs.declared.command.Command.TheVariants.{Open, Next, Close, Has, Watch}
-use Rattle.djq_lines.specs.declared.command.Command.TheVariants.{Unwatch, Explain, Shape, Batch}
-use Rattle.djq_lines.specs.declared.command.Command.TheVariants.{Quit, Stop}
+use Rattle.djq_protocol.specs.declared.command.Command.{Command}
+use Rattle.djq_protocol.specs.declared.command.Command.TheVariants.{Open, Next, Close, Has, Watch}
+use Rattle.djq_protocol.specs.declared.command.Command.TheVariants.{Unwatch, Explain, Shape, Batch}
+use Rattle.djq_protocol.specs.declared.command.Command.TheVariants.{Quit, Stop}
 use Rattle.djq_model.specs.Data.{Tuple}
 use Rattle.djq_commands.specs.Performs.{Executes, ExecutesKeeping}
 use Rattle.djq_commands.proofs.Continuing.{counting}

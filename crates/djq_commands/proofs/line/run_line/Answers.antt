@@ -2,11 +2,11 @@
 use Rattle.std.proofs.Common.{◌≡◌, ◌∙◌, ap, refl, rules, subst, take, drop, false, Ok, Err}
 use Rattle.std.specs.Prelude.{None}
 use Rattle.djq_model.specs.Data.{Bytes, Tuple}
-use Rattle.djq_lines.specs.Reply.{refusal_line}
-use Rattle.djq_lines.specs.declared.answer.Refusal.{Refusal}
-use Rattle.djq_lines.specs.declared.command.Command.TheVariants.{Add, Del}
-use Rattle.djq_proto.specs.Reading.{LineReadsAs}
-use Rattle.djq_proto.specs.RowReading.{begins_row}
+use Rattle.djq_protocol.specs.Reply.{refusal_line}
+use Rattle.djq_protocol.specs.declared.answer.Refusal.{Refusal}
+use Rattle.djq_protocol.specs.declared.command.Command.TheVariants.{Add, Del}
+use Rattle.djq_parser.specs.Reading.{LineReadsAs}
+use Rattle.djq_parser.specs.RowReading.{begins_row}
 use Rattle.djq_value.specs.Token.{tokens}
 use Rattle.djq_session.specs.Dialog.{Replies}
 use Rattle.djq_commands.specs.Changing.{TriesToAdd, Deletes}

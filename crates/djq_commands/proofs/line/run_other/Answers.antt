@@ -1,12 +1,12 @@
 -- Only `done` and `abandon` need an open batch, and a line that begins with no row's word isn't on a row.
 use Rattle.std.proofs.Common.{◌∙◌, List, Option, ap, sym, subst, take, drop, false, Ok, Err}
 use Rattle.djq_model.specs.Data.{Bytes}
-use Rattle.djq_lines.specs.Reply.{refusal_line}
-use Rattle.djq_lines.specs.declared.answer.Refusal.{Refusal}
-use Rattle.djq_proto.specs.Reading.{LineReadsAs}
+use Rattle.djq_protocol.specs.Reply.{refusal_line}
+use Rattle.djq_protocol.specs.declared.answer.Refusal.{Refusal}
+use Rattle.djq_parser.specs.Reading.{LineReadsAs}
 use Rattle.djq_session.specs.Dialog.{Replies}
-use Rattle.djq_lines.specs.declared.answer.Refusal.TheVariants.{Misplaced}
-use Rattle.djq_lines.specs.declared.held.HeldRow.{HeldRow}
+use Rattle.djq_protocol.specs.declared.answer.Refusal.TheVariants.{Misplaced}
+use Rattle.djq_protocol.specs.declared.held.HeldRow.{HeldRow}
 use Rattle.djq_machine.specs.Command.{is_misplaced}
 use Rattle.djq_commands.specs.Stepping.{refused_as}
 use Rattle.djq_commands.specs.Views.{Talk}

@@ -1,9 +1,9 @@
 -- A blank line is dropped, too much pending or no memory ends the session, and other lines are run, in turn.
 use Rattle.std.proofs.Common.{◌≡◌, ◌<◌, ◌≤◌, Bool, sym, ap, subst, take, drop, length, true, false}
 use Rattle.djq_model.specs.Data.{Bytes}
-use Rattle.djq_lines.specs.declared.limits.TheConstants.{PENDING_BYTES}
-use Rattle.djq_lines.specs.declared.answer.EndCause.TheVariants.{Slow, Memory}
-use Rattle.djq_lines.specs.Line.{is_blank}
+use Rattle.djq_protocol.specs.declared.limits.TheConstants.{PENDING_BYTES}
+use Rattle.djq_protocol.specs.declared.answer.EndCause.TheVariants.{Slow, Memory}
+use Rattle.djq_protocol.specs.Line.{is_blank}
 use Rattle.djq_machine.specs.declared.machine.Stepped.TheVariants.{Ran}
 use Rattle.djq_machine.specs.Call.{counts}
 use Rattle.djq_commands.specs.Stepping.{LineLeaves, LeavesTo}

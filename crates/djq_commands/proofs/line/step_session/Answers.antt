@@ -1,8 +1,8 @@
 -- Cause and front decide what step the machine has, and a line in front is of 4,096 bytes at most.
 use Rattle.std.proofs.Common.{◌≤◌, ◌∙◌, length, take, drop, sym, ap, subst}
 use Rattle.djq_model.specs.Data.{Bytes}
-use Rattle.djq_lines.specs.declared.limits.TheConstants.{LINE_BYTES}
-use Rattle.djq_lines.specs.declared.answer.EndCause.TheVariants.{Long}
+use Rattle.djq_protocol.specs.declared.limits.TheConstants.{LINE_BYTES}
+use Rattle.djq_protocol.specs.declared.answer.EndCause.TheVariants.{Long}
 use Rattle.djq_machine.specs.Call.{counts}
 use Rattle.djq_commands.proofs.Fronting.{is_too_long, ended_before, had_ended, is_dry_front, was_dry}
 use Rattle.djq_commands.specs.Stepping.{Copies}

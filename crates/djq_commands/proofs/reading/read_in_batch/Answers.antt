@@ -1,8 +1,8 @@
 -- A line that gives a row says an `add` with a name of 32 bytes at most, and a refused one is refused so.
 use Rattle.std.proofs.Common.{Some, [], sym, subst}
-use Rattle.djq_lines.specs.Grammar.{reading_of}
-use Rattle.djq_lines.specs.declared.answer.Refusal.{Refusal}
-use Rattle.djq_lines.specs.declared.command.Command.TheVariants.{Add}
+use Rattle.djq_protocol.specs.Grammar.{reading_of}
+use Rattle.djq_protocol.specs.declared.answer.Refusal.{Refusal}
+use Rattle.djq_protocol.specs.declared.command.Command.TheVariants.{Add}
 use Rattle.djq_commands.specs.Batching.{RefusedBy}
 use Rattle.djq_commands.proofs.Saying.{reads_as, refused_row, short_to_add}
 use Rattle.djq_commands.proofs.reading.read_in_batch.Goals as goal

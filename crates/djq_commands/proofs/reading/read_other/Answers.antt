@@ -1,7 +1,7 @@
 -- A line with no row's word says no command on a row, and what else it says the machine has in a batch too.
 use Rattle.std.proofs.Common.{sym, subst, Some, []}
-use Rattle.djq_lines.specs.Grammar.{reading_of}
-use Rattle.djq_lines.specs.declared.answer.Refusal.{Refusal}
+use Rattle.djq_protocol.specs.Grammar.{reading_of}
+use Rattle.djq_protocol.specs.declared.answer.Refusal.{Refusal}
 use Rattle.djq_commands.specs.Batching.{ReadsInBatch, RefusedBy}
 use Rattle.djq_commands.specs.declared.reading.BatchLine.{BatchLine}
 use Rattle.djq_commands.proofs.Saying.{refused_other, said_in_batch}

@@ -1,6 +1,6 @@
 -- The session goes on, so it may watch, and what is known around it holds with a watch more, by Rewatching.
 use Rattle.std.proofs.Common.{ℕ, subst}
-use Rattle.djq_lines.specs.Reply.{watch_reply}
+use Rattle.djq_protocol.specs.Reply.{watch_reply}
 use Rattle.djq_session.specs.Dialog.{Replies}
 use Rattle.djq_commands.proofs.Rewatching.{does_watch}
 use Rattle.djq_commands.proofs.watch.run_watch.Goals as goal

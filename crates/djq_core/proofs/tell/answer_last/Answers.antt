@@ -1,8 +1,8 @@
 -- Whether there was room for a reply decides what the machine answers; making more room changes no cursor.
 use Rattle.std.proofs.Common.{ℕ, ◌∙◌, sym, ap, subst, nat_le, ◌+◌, is_some, Option, false}
-use Rattle.djq_lines.specs.declared.answer.EndCause.{EndCause}
-use Rattle.djq_lines.specs.declared.limits.TheConstants.{REPLY_BYTES, LAST_LINE_BYTES}
-use Rattle.djq_lines.specs.Reply.{add_reply, delete_reply, done_reply}
+use Rattle.djq_protocol.specs.declared.answer.EndCause.{EndCause}
+use Rattle.djq_protocol.specs.declared.limits.TheConstants.{REPLY_BYTES, LAST_LINE_BYTES}
+use Rattle.djq_protocol.specs.Reply.{add_reply, delete_reply, done_reply}
 use Rattle.djq_session.specs.Dialog.{Replies}
 use Rattle.djq_commands.specs.declared.change.Outcome.{Outcome}
 use Rattle.djq_commands.specs.Changing.{reply_of}

@@ -1,6 +1,6 @@
 -- The text has the first lines of the delta, as many as were printed; at the count it has all of them.
 use Rattle.std.proofs.Common.{ℕ, ◌∙◌, sym, ap, ◌++◌}
-use Rattle.djq_lines.specs.Reply.{change_line, at_line}
+use Rattle.djq_protocol.specs.Reply.{change_line, at_line}
 use Rattle.djq_engine.specs.Kept.{told_at}
 use Rattle.djq_core.proofs.Printing.{prints_start, was_put, is_put, prints_more, prints_last}
 use Rattle.djq_core.proofs.tell.print_delta.Goals as goal

@@ -1,7 +1,7 @@
 -- Accepted or not, the session that asked stands at its place still, sound, and SEQ is the same.
 use Rattle.std.proofs.Common.{ℕ, ◌≤◌, ◌∙◌, List, Option, sym, ap, subst, nat_le, ◌+◌, set, false}
 use Rattle.std.specs.Prelude.{IsSomeAnd}
-use Rattle.djq_lines.specs.declared.limits.TheConstants.{REPLY_BYTES, LAST_LINE_BYTES}
+use Rattle.djq_protocol.specs.declared.limits.TheConstants.{REPLY_BYTES, LAST_LINE_BYTES}
 use Rattle.djq_store_spec.specs.Store.{Store}
 use Rattle.djq_engine.specs.Kept.{Kept}
 use Rattle.djq_commands.specs.declared.open.OpenSession.{OpenSession}

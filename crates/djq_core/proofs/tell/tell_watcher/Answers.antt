@@ -1,7 +1,7 @@
 -- What is pending and whether the text is whole decide what the session hears; room alone changes no cursor.
 use Rattle.std.proofs.Common.{subst, sym, ◌≤◌, ◌<◌, length}
 use Rattle.djq_model.specs.Data.{Bytes}
-use Rattle.djq_lines.specs.declared.limits.TheConstants.{PENDING_BYTES}
+use Rattle.djq_protocol.specs.declared.limits.TheConstants.{PENDING_BYTES}
 use Rattle.djq_core.proofs.Hearing.{hears_slow, hears_end, hears_end_roomy, hears_whole, owns_roomy}
 use Rattle.djq_commands.proofs.Telling.{was_lacking, was_queued}
 use Rattle.djq_core.proofs.tell.tell_watcher.Goals as goal

@@ -1,7 +1,7 @@
 -- What djq_reach says of the lent readers and watchers holds of the parts, whose lists they are.
 use Rattle.std.proofs.Common.{◌∙◌, ℕ, List, refl, sym, ap, subst, length}
 use Rattle.std.specs.Prelude.{Result, Ok, Err, OnOk, OnErr, ⊤}
-use Rattle.djq_live.specs.Live.{IsKept}
+use Rattle.djq_live_query.specs.Live.{IsKept}
 use Rattle.djq_reach.specs.Places.{readers_at, AreOnce}
 use Rattle.djq_reach.specs.Reaching.{AllAt, Reach, Renews}
 use Rattle.djq_reach.specs.Tending.{AreUnwatched, LogTellsAt, Tends, Empties}

@@ -2,11 +2,11 @@
 use Rattle.std.proofs.Common.{◌∙◌, ℕ, List, ap, arith, refl, subst, sym}
 use Rattle.std.specs.Prelude.{◌&&◌}
 use Rattle.djq_model.specs.Data.{Bytes, Tuple, without_copies}
-use Rattle.djq_lines.specs.declared.answer.DeleteOutcome.{DeleteOutcome}
-use Rattle.djq_rows.specs.Catalog.{Catalog, StandForRow, counted_at}
-use Rattle.djq_rows.specs.Changes.{DeletesRowAt}
+use Rattle.djq_protocol.specs.declared.answer.DeleteOutcome.{DeleteOutcome}
+use Rattle.djq_database.specs.Catalog.{Catalog, StandForRow, counted_at}
+use Rattle.djq_database.specs.Changes.{DeletesRowAt}
 use Rattle.djq_leaves.specs.Changes.{Went}
-use Rattle.djq_live.specs.Live.{IsKept}
+use Rattle.djq_live_query.specs.Live.{IsKept}
 use Rattle.djq_engine.specs.Changing.{IsOld}
 use Rattle.djq_reach.specs.Places.{is_reader, watched_at}
 use Rattle.djq_reach.specs.Reaching.{AllAt}
@@ -15,11 +15,11 @@ use Rattle.djq_engine.proofs.Carrying.{readers_kept}
 use Rattle.djq_reach.proofs.Tending.{tells_show, tends_quiet}
 use Rattle.djq_engine.proofs.Tending.{counts_rows, shown_tended, tells_rows}
 use Rattle.djq_engine.proofs.Storing.{has_copies, places_read, gone_once, can_go, drop_carries}
-use Rattle.djq_live.proofs.Moving.{same_catalog}
+use Rattle.djq_live_query.proofs.Moving.{same_catalog}
 use Rattle.djq_leaves.proofs.Placing.{copies_keep_rows}
 use Rattle.djq_leaves.proofs.Placing.{deleted_went}
-use Rattle.djq_live.proofs.Untouched.{stays_lives as live_stays}
-use Rattle.djq_live.proofs.Untouched.{went_lives as went_passes}
+use Rattle.djq_live_query.proofs.Untouched.{stays_lives as live_stays}
+use Rattle.djq_live_query.proofs.Untouched.{went_lives as went_passes}
 use Rattle.djq_engine.proofs.change.drop_cells.Goals as goal
 
 pub returns-in-Left-clause-deletes : goal.returns-in-Left-clause-deletes

@@ -2,12 +2,12 @@
 use Rattle.std.proofs.Common.{◌∙◌, ℕ, List, ap, arith, refl, subst, sym}
 use Rattle.std.specs.Prelude.{◌&&◌, Ok, Err}
 use Rattle.djq_model.specs.Data.{Bytes, Tuple, with_row}
-use Rattle.djq_lines.specs.declared.answer.AddOutcome.{AddOutcome}
-use Rattle.djq_rows.specs.declared.refusal.RowsRefusal.{RowsRefusal}
-use Rattle.djq_rows.specs.Catalog.{Catalog, StandForRow, counted_at}
-use Rattle.djq_rows.specs.Changes.{AddsRowAt}
+use Rattle.djq_protocol.specs.declared.answer.AddOutcome.{AddOutcome}
+use Rattle.djq_database.specs.declared.refusal.RowsRefusal.{RowsRefusal}
+use Rattle.djq_database.specs.Catalog.{Catalog, StandForRow, counted_at}
+use Rattle.djq_database.specs.Changes.{AddsRowAt}
 use Rattle.djq_leaves.specs.Changes.{Came}
-use Rattle.djq_live.specs.Live.{IsKept}
+use Rattle.djq_live_query.specs.Live.{IsKept}
 use Rattle.djq_reach.specs.Places.{is_reader, watched_at}
 use Rattle.djq_reach.specs.Reaching.{AllAt}
 use Rattle.djq_reach.specs.Tending.{LogsCanBeShown, AreUnwatched, Costs, LogShows, Tends, LogTellsAt, Works}
@@ -16,12 +16,12 @@ use Rattle.djq_reach.proofs.Tending.{tends_apart, tends_quiet}
 use Rattle.djq_engine.proofs.Tending.{counts_rows, shown_tended, tells_rows}
 use Rattle.djq_engine.proofs.Storing.{came, came_new, can_come, catalog_back, has_copies, places_once, places_read}
 use Rattle.djq_engine.proofs.Storing.{put_carries, stand_now, unput_carries, wait_carries}
-use Rattle.djq_live.proofs.Moving.{same_catalog}
+use Rattle.djq_live_query.proofs.Moving.{same_catalog}
 use Rattle.djq_leaves.proofs.Placing.{added_came}
 use Rattle.djq_leaves.proofs.Placing.{copies_keep_rows}
 use Rattle.djq_leaves.proofs.Placing.{deleted_went}
-use Rattle.djq_live.proofs.Untouched.{stays_lives as live_stays}
-use Rattle.djq_live.proofs.Untouched.{came_lives as other_queries_stay}
+use Rattle.djq_live_query.proofs.Untouched.{stays_lives as live_stays}
+use Rattle.djq_live_query.proofs.Untouched.{came_lives as other_queries_stay}
 use Rattle.djq_engine.proofs.change.put_cells.Goals as goal
 
 pub unreachable-requires : goal.unreachable-requires

@@ -3,10 +3,10 @@ use Rattle.std.proofs.Common.{◌∙◌, ◌≡◌, ℕ, List, refl, arith, subs
 use Rattle.std.specs.Prelude.{Some, map}
 use Rattle.djq_model.specs.declared.relation.Relation.{Relation}
 use Rattle.djq_model.specs.Data.{with_row}
-use Rattle.djq_rows.specs.Catalog.{no_relation, relation_at, counted_at}
-use Rattle.djq_rows.specs.Changes.{given_cells}
-use Rattle.djq_live.specs.Live.{Live}
-use Rattle.djq_live.specs.Updating.{change_of}
+use Rattle.djq_database.specs.Catalog.{no_relation, relation_at, counted_at}
+use Rattle.djq_database.specs.Changes.{given_cells}
+use Rattle.djq_live_query.specs.Live.{Live}
+use Rattle.djq_live_query.specs.Updating.{change_of}
 use Rattle.djq_reach.specs.Places.{is_reader, log_at, place_at, readers_at, watched_at}
 use Rattle.djq_engine.specs.Changing.{CountsRows, IsDeltaWith}
 use Rattle.djq_engine.proofs.Tending.{shown_more}
@@ -24,9 +24,9 @@ use Rattle.djq_engine.proofs.Storing.{
   learned_rows,
   same_stand,
 }
-use Rattle.djq_live.proofs.Untouched.{stays_lives as live_stays}
-use Rattle.djq_live.proofs.Showable.{stays_showable as showable_stays}
-use Rattle.djq_rows.proofs.Lawful.{texts as texts_stay}
+use Rattle.djq_live_query.proofs.Untouched.{stays_lives as live_stays}
+use Rattle.djq_live_query.proofs.Showable.{stays_showable as showable_stays}
+use Rattle.djq_database.proofs.Lawful.{texts as texts_stay}
 use Rattle.djq_engine.proofs.change.put_row.Goals as goal
 
 pub intern_cells-requires : goal.intern_cells-requires

@@ -2,8 +2,8 @@
 use Rattle.std.proofs.Common.{◌≡◌, ◌<◌, ◌∙◌, ℕ, Bool, true, false, length, subst, sym, arith}
 use Rattle.std.specs.Prelude.{IfNone}
 use Rattle.djq_model.specs.Data.{has_row}
-use Rattle.djq_rows.specs.Catalog.{StandForRow, no_relation, relation_at, rows_at}
-use Rattle.djq_rows.specs.Changes.{TellsRowCells, told_cells}
+use Rattle.djq_database.specs.Catalog.{StandForRow, no_relation, relation_at, rows_at}
+use Rattle.djq_database.specs.Changes.{TellsRowCells, told_cells}
 use Rattle.djq_engine.proofs.Judged.{delete_absent, delete_limited, delete_passes, delete_several}
 use Rattle.djq_leaves.proofs.Taking.{fits_long}
 use Rattle.djq_engine.proofs.judge.check_delete.Goals as goal

@@ -2,7 +2,7 @@
 use Rattle.std.proofs.Common.{◌∙◌, sym, ap, arith, inl, inr}
 use Rattle.std.proofs.lemmas.Bool.{false≢true}
 use Rattle.djq_model.specs.Data.{Tuple, has_row}
-use Rattle.djq_rows.specs.Catalog.{rows_at}
+use Rattle.djq_database.specs.Catalog.{rows_at}
 use Rattle.djq_engine.specs.Judging.{RowSuits}
 use Rattle.djq_engine.proofs.Judged.{suits_here, place_limited}
 use Rattle.djq_engine.proofs.judge.check_held.Goals as goal

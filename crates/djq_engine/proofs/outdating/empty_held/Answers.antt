@@ -1,7 +1,7 @@
 -- The logs of queries that read a relation of the rows passed are empty; one row more adds its readers.
 use Rattle.std.proofs.Common.{List, subst, arith, ◌∙◌}
 use Rattle.std.proofs.lemmas.List.{take_all}
-use Rattle.djq_lines.specs.declared.held.HeldRow.{HeldRow}
+use Rattle.djq_protocol.specs.declared.held.HeldRow.{HeldRow}
 use Rattle.djq_reach.specs.Places.{place_at}
 use Rattle.djq_engine.specs.Outdating.{ClearsLogs, reads_held}
 use Rattle.djq_engine.proofs.Outdated.{clears_next}

@@ -1,6 +1,6 @@
 use Rattle.std.proofs.Common.{◌≡◌, List, length, take}
 use Rattle.std.specs.Prelude.{Option}
-use Rattle.djq_live.specs.Live.{Live}
+use Rattle.djq_live_query.specs.Live.{Live}
 use Rattle.djq_reach.specs.Places.{place_at}
 use Rattle.djq_engine.specs.Outdating.{AreReaders, ClearsLogs, reads_held}
 use Rattle.djq_engine.proofs.outdating.empty_held.Given as goal

@@ -1,7 +1,7 @@
 -- Stale cursors change no readers and stay stale, so the first tested relation that a query reads counts.
 use Rattle.std.proofs.Common.{List, subst, arith}
 use Rattle.std.proofs.lemmas.List.{take_all}
-use Rattle.djq_lines.specs.declared.held.HeldRow.{HeldRow}
+use Rattle.djq_protocol.specs.declared.held.HeldRow.{HeldRow}
 use Rattle.djq_store_spec.specs.Batch.{first_read}
 use Rattle.djq_engine.specs.Outdating.{AgesAll}
 use Rattle.djq_engine.proofs.Outdated.{outdates_tested, readers_aged}

@@ -1,6 +1,6 @@
 -- The relation is found by its name, so it passes the test exactly where its place is one of a group's.
 use Rattle.std.proofs.Common.{◌≡◌, ◌∙◌, ℕ, List, true, false, sym, ap, subst, arith}
-use Rattle.djq_rows.specs.Catalog.{relation_at}
+use Rattle.djq_database.specs.Catalog.{relation_at}
 use Rattle.djq_reach.specs.Reaching.{Reach, Ages}
 use Rattle.djq_engine.proofs.Outdated.{ages_readers, ages_passed, ages_failed, group_any}
 use Rattle.djq_engine.proofs.Storing.{places_read}

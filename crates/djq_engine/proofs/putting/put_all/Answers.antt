@@ -4,9 +4,9 @@ use Rattle.std.proofs.Common.{arith, length, take, append_assoc, append-nil}
 use Rattle.std.specs.Prelude.{◌==◌, cond}
 use Rattle.std.proofs.lemmas.List.{take_all}
 use Rattle.djq_model.specs.Data.{Bytes}
-use Rattle.djq_lines.specs.declared.held.HeldRow.{HeldRow}
+use Rattle.djq_protocol.specs.declared.held.HeldRow.{HeldRow}
 use Rattle.djq_store_spec.specs.Batch.{BatchStopsAt, with_all, has_come}
-use Rattle.djq_rows.specs.Catalog.{Catalog}
+use Rattle.djq_database.specs.Catalog.{Catalog}
 use Rattle.djq_reach.specs.declared.group.Group.{Group}
 use Rattle.djq_engine.specs.Putting.{bare_of, IsStoreOf, PutsAll}
 use Rattle.djq_engine.proofs.Fronting.{first_few, first_more}
@@ -23,9 +23,9 @@ use Rattle.djq_engine.proofs.Put.{
   suit_next,
   went_front,
 }
-use Rattle.djq_rows.proofs.Lawful.{stay as cells_stay}
-use Rattle.djq_rows.proofs.Lawful.{names as rows_by_name_or_place}
-use Rattle.djq_rows.proofs.Lawful.{texts as texts_stay}
+use Rattle.djq_database.proofs.Lawful.{stay as cells_stay}
+use Rattle.djq_database.proofs.Lawful.{names as rows_by_name_or_place}
+use Rattle.djq_database.proofs.Lawful.{texts as texts_stay}
 use Rattle.djq_engine.proofs.putting.put_all.Goals as goal
 
 -- the store of the catalog as it was

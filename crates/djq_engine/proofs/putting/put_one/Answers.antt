@@ -2,15 +2,15 @@
 use Rattle.std.proofs.Common.{◌≡◌, ℕ, List, sym, subst}
 use Rattle.std.specs.Prelude.{Some, Option}
 use Rattle.djq_model.specs.Data.{Bytes}
-use Rattle.djq_lines.specs.declared.answer.Refusal.TheVariants.{NoMemory}
-use Rattle.djq_lines.specs.declared.held.HeldRow.{HeldRow}
+use Rattle.djq_protocol.specs.declared.answer.Refusal.TheVariants.{NoMemory}
+use Rattle.djq_protocol.specs.declared.held.HeldRow.{HeldRow}
 use Rattle.djq_store_spec.specs.Batch.{BatchStopsAt}
-use Rattle.djq_rows.specs.Catalog.{Catalog}
-use Rattle.djq_rows.specs.declared.relation_id.RelationId.{RelationId}
+use Rattle.djq_database.specs.Catalog.{Catalog}
+use Rattle.djq_database.specs.declared.relation_id.RelationId.{RelationId}
 use Rattle.djq_engine.specs.Putting.{bare_of, placed, Placed, PutsNew, PutsHeldRow}
 use Rattle.djq_engine.proofs.Put.{one_in, one_stops}
-use Rattle.djq_rows.proofs.Lawful.{names as rows_by_name_or_place}
-use Rattle.djq_rows.proofs.Lawful.{texts as texts_stay}
+use Rattle.djq_database.proofs.Lawful.{names as rows_by_name_or_place}
+use Rattle.djq_database.proofs.Lawful.{texts as texts_stay}
 use Rattle.djq_engine.proofs.putting.put_one.Goals as goal
 
 -- the row came

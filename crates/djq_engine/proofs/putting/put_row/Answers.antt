@@ -3,11 +3,11 @@ use Rattle.std.proofs.Common.{◌≡◌, ◌∙◌, sym, subst}
 use Rattle.std.specs.Prelude.{true, false, Ok, Err}
 use Rattle.djq_model.specs.Data.{Tuple, has_row}
 use Rattle.djq_model.specs.Typed.{fits}
-use Rattle.djq_lines.specs.declared.answer.AddOutcome.{AddOutcome}
-use Rattle.djq_dict.specs.declared.refusal.InternRefusal.{InternRefusal}
-use Rattle.djq_rows.specs.declared.refusal.RowsRefusal.{RowsRefusal}
-use Rattle.djq_rows.specs.Catalog.{StandForRow, relation_at, rows_at}
-use Rattle.djq_rows.specs.Changes.{AddsRowAt, InternsRow}
+use Rattle.djq_protocol.specs.declared.answer.AddOutcome.{AddOutcome}
+use Rattle.djq_dictionary.specs.declared.refusal.InternRefusal.{InternRefusal}
+use Rattle.djq_database.specs.declared.refusal.RowsRefusal.{RowsRefusal}
+use Rattle.djq_database.specs.Catalog.{StandForRow, relation_at, rows_at}
+use Rattle.djq_database.specs.Changes.{AddsRowAt, InternsRow}
 use Rattle.djq_engine.proofs.Standing.{text_full, text_lacks, puts_new, puts_more, no_place, row_lacks}
 use Rattle.djq_engine.proofs.Storing.{same_stand}
 use Rattle.djq_engine.proofs.putting.put_row.Goals as goal

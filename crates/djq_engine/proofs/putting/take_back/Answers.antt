@@ -1,7 +1,7 @@
 -- The row at the index went in last of those that are in still, so without it the ones before are left.
 use Rattle.std.proofs.Common.{◌≡◌, ◌<◌, ◌≤◌, ◌+◌, ◌-◌, ◌∙◌, ℕ, List, sym, ap, subst, arith, take, get_or, length}
 use Rattle.djq_model.specs.declared.relation.Relation.{Relation}
-use Rattle.djq_lines.specs.declared.held.HeldRow.{HeldRow}
+use Rattle.djq_protocol.specs.declared.held.HeldRow.{HeldRow}
 use Rattle.djq_store_spec.specs.Store.{Store}
 use Rattle.djq_store_spec.specs.Batch.{with_all}
 use Rattle.djq_engine.specs.Putting.{WentIn, WentInAll}

@@ -3,16 +3,16 @@ use Rattle.std.proofs.Common.{◌≡◌, ◌∙◌, sym, ap, subst, arith, lengt
 use Rattle.std.specs.Prelude.{Some, None}
 use Rattle.std.proofs.lemmas.Bool.{false≢true}
 use Rattle.djq_model.specs.Data.{Tuple, has_row}
-use Rattle.djq_lines.specs.declared.answer.Refusal.TheVariants.{NoRelation}
+use Rattle.djq_protocol.specs.declared.answer.Refusal.TheVariants.{NoRelation}
 use Rattle.djq_store_spec.specs.Batch.{suit_refusal}
-use Rattle.djq_rows.specs.Cells.{HaveCells, cells_of}
-use Rattle.djq_rows.specs.Catalog.{StandForRow, no_relation, relation_at, rows_at}
+use Rattle.djq_database.specs.Cells.{HaveCells, cells_of}
+use Rattle.djq_database.specs.Catalog.{StandForRow, no_relation, relation_at, rows_at}
 use Rattle.djq_engine.specs.Judging.{bare_store, RowSuits}
 use Rattle.djq_engine.proofs.GivenUp.{suits_found}
 use Rattle.djq_engine.proofs.Judged.{suited_none}
 use Rattle.djq_leaves.proofs.Taking.{fits_long}
 use Rattle.djq_engine.proofs.TakenBack.{held_back, last_suits, row_there, suits_last}
-use Rattle.djq_rows.proofs.Lawful.{names as rows_by_name_or_place}
+use Rattle.djq_database.proofs.Lawful.{names as rows_by_name_or_place}
 use Rattle.djq_engine.proofs.putting.take_row_back.Goals as goal
 
 pub unreachable-requires : goal.unreachable-requires

@@ -1,6 +1,6 @@
 use Rattle.std.proofs.Common.{◌≡◌, ◌<◌, ◌≤◌, ◌∷◌, ◌++◌, [], ℕ, length, cond}
 use Rattle.djq_store_spec.specs.Stale.{reads}
-use Rattle.djq_rows.specs.Catalog.{relation_at}
+use Rattle.djq_database.specs.Catalog.{relation_at}
 use Rattle.djq_reach.specs.Places.{readers_at}
 use Rattle.djq_engine.proofs.registering.join_readers.Given as goal
 

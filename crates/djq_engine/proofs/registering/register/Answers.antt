@@ -4,8 +4,8 @@ use Rattle.std.proofs.Common.{subst, arith, ℕ, List, length}
 use Rattle.std.proofs.lemmas.List.{get_or-set_same, get_or-set_other, length-set}
 use Rattle.std.specs.Prelude.{remove}
 use Rattle.djq_model.specs.declared.query.Query.{Query}
-use Rattle.djq_cursor.specs.Log.{Log}
-use Rattle.djq_live.specs.Updating.{IsEmpty}
+use Rattle.djq_enumeration.specs.Log.{Log}
+use Rattle.djq_live_query.specs.Updating.{IsEmpty}
 use Rattle.djq_reach.specs.Places.{no_log}
 use Rattle.djq_engine.specs.Placing.{JoinsReaders}
 use Rattle.djq_engine.proofs.Crowded.{room_bounds}

@@ -1,7 +1,7 @@
 -- Where no cursor is over any reader of the relation, there is none that could become stale.
 use Rattle.std.proofs.Common.{ℕ, List, Option, ◌∙◌, sym, ap, refl}
 use Rattle.std.specs.List.{list_any}
-use Rattle.djq_live.specs.Live.{Live}
+use Rattle.djq_live_query.specs.Live.{Live}
 use Rattle.djq_reach.specs.Places.{place_at, readers_at}
 use Rattle.djq_engine.specs.Cursors.{has_cursor}
 use Rattle.djq_engine.proofs.Idle.{all_idle}

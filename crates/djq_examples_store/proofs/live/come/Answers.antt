@@ -1,8 +1,8 @@
 -- The log was empty, so its lines are what the row brought; the later query has the same tree to show them.
 use Rattle.std.proofs.Common.{ap, ◌∙◌}
 use Rattle.djq_leaves.specs.Changes.{Came}
-use Rattle.djq_live.specs.Live.{Live}
-use Rattle.djq_live.proofs.Moving.{lines_show_now}
+use Rattle.djq_live_query.specs.Live.{Live}
+use Rattle.djq_live_query.proofs.Moving.{lines_show_now}
 use Rattle.djq_examples_store.proofs.live.come.Goals as goal
 
 pub add-requires : goal.add-requires

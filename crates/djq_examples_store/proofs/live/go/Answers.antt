@@ -1,8 +1,8 @@
 -- The log was empty, so its lines are what went with the row, and the later query can show them still.
 use Rattle.std.proofs.Common.{rules, ap, ◌∙◌}
 use Rattle.djq_leaves.specs.Changes.{Went}
-use Rattle.djq_live.specs.Live.{Live, IsLive}
-use Rattle.djq_live.proofs.Moving.{lines_show_now}
+use Rattle.djq_live_query.specs.Live.{Live, IsLive}
+use Rattle.djq_live_query.proofs.Moving.{lines_show_now}
 use Rattle.djq_examples_store.proofs.live.go.Goals as goal
 
 pub delete-requires : goal.delete-requires

@@ -1,8 +1,8 @@
 -- A first copy is a row that came; a further one leaves the rows as they are, so the query is kept still.
 use Rattle.std.proofs.Common.{◌≡◌, ℕ, List, sym, subst}
-use Rattle.djq_rows.specs.Catalog.{Catalog, StandForRow}
-use Rattle.djq_live.specs.Live.{IsLive}
-use Rattle.djq_live.proofs.Moving.{row_added, copy_added}
+use Rattle.djq_database.specs.Catalog.{Catalog, StandForRow}
+use Rattle.djq_live_query.specs.Live.{IsLive}
+use Rattle.djq_live_query.proofs.Moving.{row_added, copy_added}
 use Rattle.djq_examples_store.proofs.live.put.Goals as goal
 
 pub come-requires-clause-can : goal.come-requires-clause-can

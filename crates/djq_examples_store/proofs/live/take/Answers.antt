@@ -1,8 +1,8 @@
 -- The last copy is a row that went; where one is left, or none was there, the rows are as they were.
 use Rattle.std.proofs.Common.{◌≡◌, ℕ, List, sym, subst}
-use Rattle.djq_rows.specs.Catalog.{Catalog, StandForRow, rows_at}
-use Rattle.djq_live.specs.Live.{IsLive}
-use Rattle.djq_live.proofs.Moving.{same_catalog, has_contains}
+use Rattle.djq_database.specs.Catalog.{Catalog, StandForRow, rows_at}
+use Rattle.djq_live_query.specs.Live.{IsLive}
+use Rattle.djq_live_query.proofs.Moving.{same_catalog, has_contains}
 use Rattle.djq_examples_store.proofs.live.take.Goals as goal
 
 pub go-requires-clause-can : goal.go-requires-clause-can

@@ -1,4 +1,4 @@
-use Rattle.djq_live.specs.Live.{IsLive}
+use Rattle.djq_live_query.specs.Live.{IsLive}
 use Rattle.djq_examples_store.proofs.live.walk.Given as goal
 
 abbrev pub invariant-moves : goal.invariant-moves

@@ -2,12 +2,12 @@
 use Rattle.std.proofs.Common.{◌≡◌, ℕ, List, refl, ap, sym, subst, ◌∙◌}
 use Rattle.std.specs.Prelude.{Option, None, Some, IsSome, IsSomeAnd, is_some}
 use Rattle.djq_store_spec.specs.Store.{Position}
-use Rattle.djq_rows.specs.Catalog.{Catalog}
-use Rattle.djq_slots.proofs.Slots.{set_there}
-use Rattle.djq_live.specs.declared.listing.Next.{Next}
-use Rattle.djq_live.specs.declared.listing.Next.TheVariants.{Given, End, Stale as IsStale}
-use Rattle.djq_live.specs.Live.{Live}
-use Rattle.djq_slots.specs.declared.progress.Progress.TheVariants.{Open, Stale}
+use Rattle.djq_database.specs.Catalog.{Catalog}
+use Rattle.djq_cursors.proofs.Slots.{set_there}
+use Rattle.djq_live_query.specs.declared.listing.Next.{Next}
+use Rattle.djq_live_query.specs.declared.listing.Next.TheVariants.{Given, End, Stale as IsStale}
+use Rattle.djq_live_query.specs.Live.{Live}
+use Rattle.djq_cursors.specs.declared.progress.Progress.TheVariants.{Open, Stale}
 use Rattle.djq_united.specs.Slots.{UnionProgress, slot_at}
 use Rattle.djq_united.specs.United.{United, members_in, IsUnited, union_position}
 use Rattle.djq_united.specs.Reading.{UnionCursorMoves, UnionNextGivesAt}

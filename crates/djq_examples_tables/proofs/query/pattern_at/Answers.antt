@@ -3,7 +3,7 @@ use Rattle.std.proofs.Common.{◌<◌, List, [], length, refl, sym, arith, ap, �
 use Rattle.std.specs.Prelude.{Option}
 use Rattle.std.specs.List.{list_any}
 use Rattle.std.proofs.lemmas.Option.{slice_get_read, get_or_from_slice_get}
-use Rattle.djq_hyper.specs.Hypergraph.{member}
+use Rattle.djq_hypergraph.specs.Hypergraph.{member}
 use Rattle.djq_query.specs.declared.numbered.NumberedAtom.{NumberedAtom}
 use Rattle.djq_query.specs.Numbered.{is_number, terms_in}
 use Rattle.djq_examples_tables.proofs.query.pattern_at.Goals as goal

@@ -2,8 +2,8 @@
 use Rattle.std.proofs.Common.{◌≡◌, ℕ, List, length, refl, sym, ◌∙◌, subst, arith}
 use Rattle.std.specs.Prelude.{IsSome, IsSomeAnd}
 use Rattle.std.proofs.lemmas.List.{take_all}
-use Rattle.djq_live.specs.Live.{Live}
-use Rattle.djq_live.specs.Member.{head_types, query_at}
+use Rattle.djq_live_query.specs.Live.{Live}
+use Rattle.djq_live_query.specs.Member.{head_types, query_at}
 use Rattle.djq_engine.specs.Kept.{Kept, PlacesAreRegistered, registered_at}
 use Rattle.djq_engine.specs.Lending.{sign_of}
 use Rattle.djq_gains.specs.Gains.{told_of_member}

@@ -3,8 +3,8 @@ use Rattle.std.proofs.Common.{sym, ap, ◌∙◌, inl, inr, arith}
 use Rattle.std.proofs.lemmas.Bool.{false≢true}
 use Rattle.std.proofs.lemmas.Option.{slice_get_within, get_or_from_slice_get}
 use Rattle.std.proofs.lemmas.List.Sums.{sum_by_more, sum_by_more_le}
-use Rattle.djq_live.specs.Live.{Live, IsKeptSomewhere}
-use Rattle.djq_live.specs.Member.{has_cells, queries_at}
+use Rattle.djq_live_query.specs.Live.{Live, IsKeptSomewhere}
+use Rattle.djq_live_query.specs.Member.{has_cells, queries_at}
 use Rattle.djq_gains.specs.Gathered.{is_by}
 use Rattle.djq_gains.specs.Gathering.{asks_of}
 use Rattle.djq_gains.proofs.Alone.{alone_true, alone_false, take_more_le}

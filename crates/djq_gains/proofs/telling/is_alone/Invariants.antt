@@ -1,7 +1,7 @@
 use Rattle.std.proofs.Common.{◌≡◌, ℕ, ◌+◌, ◌<◌, ◌≤◌, false, take, sum_by}
 use Rattle.std.specs.Prelude.{Some, slice_get}
-use Rattle.djq_live.specs.Live.{Live}
-use Rattle.djq_live.specs.Member.{has_cells, queries_at}
+use Rattle.djq_live_query.specs.Live.{Live}
+use Rattle.djq_live_query.specs.Member.{has_cells, queries_at}
 use Rattle.djq_gains.specs.Gathered.{AtSlot, is_by}
 use Rattle.djq_gains.specs.Gathering.{asks_of}
 use Rattle.djq_gains.proofs.telling.is_alone.Given as goal

@@ -1,9 +1,9 @@
 -- All that is gathered is as wide as the first member's head, and that is at most sixteen cells.
 use Rattle.std.proofs.Common.{◌≡◌, ℕ, ◌++◌, ◌∷◌, List, length, sym, ap, ◌∙◌, subst, arith}
 use Rattle.std.specs.Prelude.{Contains}
-use Rattle.djq_live.specs.Live.{IsKeptSomewhere}
-use Rattle.djq_live.specs.Member.{queries_at}
-use Rattle.djq_live.proofs.AtPlaces.{as_many}
+use Rattle.djq_live_query.specs.Live.{IsKeptSomewhere}
+use Rattle.djq_live_query.specs.Member.{queries_at}
+use Rattle.djq_live_query.proofs.AtPlaces.{as_many}
 use Rattle.djq_gains.specs.Gathered.{Gain}
 use Rattle.djq_gains.proofs.Lists.{middle}
 use Rattle.djq_gains.proofs.Members.{all_got}

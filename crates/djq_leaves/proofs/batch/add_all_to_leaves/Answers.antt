@@ -3,7 +3,7 @@ use Rattle.std.proofs.Common.{true, ◌+◌, ◌<◌, length, ℕ, refl, sym, su
 use Rattle.djq_leaves.specs.Batching.{batch_tuples, GainsTuples}
 use Rattle.djq_leaves.specs.Stepping.{atoms_below}
 use Rattle.djq_tree.specs.Tree.{Tree}
-use Rattle.djq_cursor.specs.Changed.{IsGained}
+use Rattle.djq_enumeration.specs.Changed.{IsGained}
 use Rattle.djq_leaves.proofs.Batched.{got_in, all_gained, adds_stable, adds_more, next_fresh, next_room}
 use Rattle.djq_leaves.proofs.Below.{below_skip, below_step, below_kept, below_at}
 use Rattle.djq_leaves.proofs.Crowding.{grown_next, grown_kept, counted_as, counted_more}

@@ -1,5 +1,5 @@
 use Rattle.std.proofs.Common.{◌≡◌, ℕ, true, length}
-use Rattle.djq_cursor.specs.Changed.{IsGained}
+use Rattle.djq_enumeration.specs.Changed.{IsGained}
 use Rattle.djq_leaves.specs.Stepping.{HasMore, ChangesBelow, ListsWhere, atoms_below}
 use Rattle.djq_leaves.specs.Batching.{batch_tuples, GainsTuples, HasFew, GrowsBy, CountsMany}
 use Rattle.djq_leaves.proofs.batch.add_all_to_leaves.Given as goal

@@ -3,8 +3,8 @@ use Rattle.std.proofs.Common.{List, ℕ, length, ap, ◌∙◌}
 use Rattle.std.proofs.lemmas.List.{length-map}
 use Rattle.djq_query.specs.declared.numbered.NumberedTerm.{NumberedTerm}
 use Rattle.djq_query.specs.declared.numbered.NumberedComparison.{NumberedComparison}
-use Rattle.djq_rows.specs.Cells.{cell_for}
-use Rattle.djq_planned.specs.Asked.{constants_in}
+use Rattle.djq_database.specs.Cells.{cell_for}
+use Rattle.djq_binder.specs.Asked.{constants_in}
 use Rattle.djq_leaves.proofs.Patterns.{cells_long}
 use Rattle.djq_leaves.proofs.bind.bind_atom.Goals as goal
 

@@ -1,6 +1,6 @@
 use Rattle.std.proofs.Common.{◌≡◌, take}
-use Rattle.djq_rows.specs.Cells.{cells_of}
-use Rattle.djq_planned.specs.Asked.{constants_in}
+use Rattle.djq_database.specs.Cells.{cells_of}
+use Rattle.djq_binder.specs.Asked.{constants_in}
 use Rattle.djq_leaves.proofs.bind.compared_cells.Given as goal
 
 abbrev pub invariant-comparisons : goal.invariant-comparisons

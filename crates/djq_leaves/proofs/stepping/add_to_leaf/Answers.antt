@@ -1,7 +1,7 @@
 -- The lent tuple is the only one that gives the row; where there is none, nothing is gained. Clearing the marks keeps
 -- all tuples, so what the marks listed is what the reducts gained by the one tuple.
 use Rattle.std.proofs.Common.{Bool, true, length, subst, sym}
-use Rattle.djq_cursor.specs.Changed.{IsGained}
+use Rattle.djq_enumeration.specs.Changed.{IsGained}
 use Rattle.djq_leaves.specs.Stepping.{ListsWhere}
 use Rattle.djq_propagate.proofs.Updating.{inserted_gained}
 use Rattle.djq_leaves.proofs.Leafing.{gained_gains, inserted_lists, lists_none, only_lent}

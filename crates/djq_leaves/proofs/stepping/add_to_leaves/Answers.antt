@@ -34,7 +34,7 @@ use Rattle.djq_leaves.proofs.Sizing.{
   counts_last,
   one_more,
 }
-use Rattle.djq_cursor.specs.Changed.{IsGained}
+use Rattle.djq_enumeration.specs.Changed.{IsGained}
 use Rattle.djq_leaves.proofs.stepping.add_to_leaves.Goals as goal
 
 pub leaves-preserved-then-atoms-leaf : goal.leaves-preserved-then-atoms-leaf

@@ -1,7 +1,7 @@
 -- The lent tuple is the only one that gives the row; where there is none, nothing is lost and nothing listed. A removal
 -- is marked while its tuple is still there, so what the marks list is what goes with it.
 use Rattle.std.proofs.Common.{Bool, false, length, subst, sym}
-use Rattle.djq_cursor.specs.Changed.{IsGained}
+use Rattle.djq_enumeration.specs.Changed.{IsGained}
 use Rattle.djq_leaves.specs.Stepping.{ListsWhere}
 use Rattle.djq_propagate.proofs.Updating.{marked_lost}
 use Rattle.djq_leaves.proofs.Leafing.{lists_none, lost_loses, marked_lists, only_lent}

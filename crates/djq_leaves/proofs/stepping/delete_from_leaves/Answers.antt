@@ -17,7 +17,7 @@ use Rattle.djq_leaves.proofs.Passing.{
   wide_stays,
 }
 use Rattle.djq_leaves.proofs.Sizing.{counts_as, counts_fewer}
-use Rattle.djq_cursor.specs.Changed.{IsGained}
+use Rattle.djq_enumeration.specs.Changed.{IsGained}
 use Rattle.djq_leaves.proofs.stepping.delete_from_leaves.Goals as goal
 
 pub leaves-preserved-then-atoms-leaf : goal.leaves-preserved-then-atoms-leaf

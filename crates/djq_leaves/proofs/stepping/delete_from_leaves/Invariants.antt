@@ -1,5 +1,5 @@
 use Rattle.std.proofs.Common.{◌≡◌, false, length}
-use Rattle.djq_cursor.specs.Changed.{IsGained}
+use Rattle.djq_enumeration.specs.Changed.{IsGained}
 use Rattle.djq_leaves.specs.Changes.{Loses}
 use Rattle.djq_leaves.specs.Stepping.{
   HasMore,

@@ -2,9 +2,9 @@
 use Rattle.std.proofs.Common.{sym, subst, ◌∙◌, List, ℕ, length, []}
 use Rattle.std.specs.Prelude.{◌∷◌}
 use Rattle.djq_store_spec.specs.Registering.{most_steps}
-use Rattle.djq_cursor.specs.Listing.{ListsTuples, AreSome}
-use Rattle.djq_cursor.specs.Changed.{IsChanged, IsGained}
-use Rattle.djq_cursor.specs.Told.{told_so_far}
+use Rattle.djq_enumeration.specs.Listing.{ListsTuples, AreSome}
+use Rattle.djq_enumeration.specs.Changed.{IsChanged, IsGained}
+use Rattle.djq_enumeration.specs.Told.{told_so_far}
 use Rattle.djq_leaves.specs.Stepping.{LogTellsOf}
 use Rattle.djq_leaves.proofs.Gaining.{listing_as}
 use Rattle.djq_leaves.proofs.Telling.{tells_both, tells_one, counts_one, counts_more}

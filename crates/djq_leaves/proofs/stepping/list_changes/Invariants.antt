@@ -1,7 +1,7 @@
 use Rattle.std.proofs.Common.{◌≡◌, ◌+◌, ◌-◌, ◌*◌, ◌≤◌, length}
 use Rattle.djq_store_spec.specs.Registering.{most_steps}
-use Rattle.djq_cursor.specs.Walk.{all_given}
-use Rattle.djq_cursor.specs.Told.{changed_at, root_marked, told_so_far, DeltaFits}
+use Rattle.djq_enumeration.specs.Walk.{all_given}
+use Rattle.djq_enumeration.specs.Told.{changed_at, root_marked, told_so_far, DeltaFits}
 use Rattle.djq_leaves.specs.Stepping.{LogTellsOf}
 use Rattle.djq_leaves.proofs.stepping.list_changes.Given as goal
 

@@ -1,9 +1,9 @@
 -- What is left of a label is what may be removed of it, and no label before the index has any of that.
 use Rattle.std.proofs.Common.{arith, false, ◌≡◌, ◌∙◌, ap, sym, List, ℕ}
-use Rattle.djq_hyper.specs.Hypergraph.{difference}
+use Rattle.djq_hypergraph.specs.Hypergraph.{difference}
 use Rattle.djq_tree.specs.Choosing.{removable}
 use Rattle.djq_plan.proofs.Rules.{removable_by, has_by, trim_is, trim_none}
-use Rattle.djq_hyper.proofs.Checking.{read_at}
+use Rattle.djq_hypergraph.proofs.Checking.{read_at}
 use Rattle.djq_plan.proofs.choosing.choose_step.Goals as goal
 
 pub returns-then-not-is_empty : goal.returns-then-not-is_empty

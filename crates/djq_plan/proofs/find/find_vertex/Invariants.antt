@@ -1,5 +1,5 @@
 use Rattle.std.specs.Prelude.{◌≡◌, ℕ, ◌<◌, true}
-use Rattle.djq_hyper.specs.Hypergraph.{member, degree, edge_at}
+use Rattle.djq_hypergraph.specs.Hypergraph.{member, degree, edge_at}
 use Rattle.djq_plan.proofs.find.find_vertex.Given as goal
 
 abbrev pub invariant-sets : goal.invariant-sets

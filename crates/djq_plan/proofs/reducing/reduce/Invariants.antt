@@ -1,4 +1,4 @@
-use Rattle.djq_hyper.specs.Gyo.{Leads}
+use Rattle.djq_hypergraph.specs.Gyo.{Leads}
 use Rattle.djq_plan.proofs.ReductionStepping.{size}
 use Rattle.djq_plan.proofs.reducing.reduce.Given as goal
 

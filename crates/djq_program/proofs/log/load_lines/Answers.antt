@@ -6,7 +6,7 @@ use Rattle.djq_disk.specs.History.{History}
 use Rattle.djq_disk.proofs.Telling.{told_none}
 use Rattle.djq_journal.specs.Standing.{IsAtGate, IsIdle}
 use Rattle.djq_model.specs.Data.{Bytes}
-use Rattle.djq_lines.specs.declared.held.HeldRow.{HeldRow}
+use Rattle.djq_protocol.specs.declared.held.HeldRow.{HeldRow}
 use Rattle.djq_machine.specs.State.{State, opening}
 use Rattle.djq_machine.specs.declared.machine.Loaded.TheVariants.{Ran}
 use Rattle.djq_machine.specs.Loading.{Loading, loading, LoadStep}

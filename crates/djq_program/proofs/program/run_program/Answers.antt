@@ -1,7 +1,7 @@
 -- What was read of the words is what they ask for, case by case, and a mirror's query is a name.
 use Rattle.std.proofs.Common.{ℕ, List, Bor, Option, ◌∙◌, map, ap, inl, refl, Some, None}
-use Rattle.djq_words.specs.declared.commands.Asked.{Asked}
-use Rattle.djq_words.specs.declared.commands.Asked.TheVariants.{Run, Serve, Replay, Gen, Mirror}
+use Rattle.djq_cli.specs.declared.commands.Asked.{Asked}
+use Rattle.djq_cli.specs.declared.commands.Asked.TheVariants.{Run, Serve, Replay, Gen, Mirror}
 use Rattle.djq_program_laws.proofs.Running.{asks_for, names_query}
 use Rattle.djq_program.proofs.program.run_program.Goals as goal
 

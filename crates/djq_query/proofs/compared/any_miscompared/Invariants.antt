@@ -1,5 +1,5 @@
 use Rattle.std.proofs.Common.{◌≡◌, drop}
-use Rattle.djq_lines.specs.QueryFault.{any_column, is_miscompared}
+use Rattle.djq_protocol.specs.QueryFault.{any_column, is_miscompared}
 use Rattle.djq_query.proofs.compared.any_miscompared.Given as goal
 
 abbrev pub invariant-places : goal.invariant-places

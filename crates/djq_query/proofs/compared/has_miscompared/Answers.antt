@@ -3,7 +3,7 @@ use Rattle.std.proofs.Common.{sym, ap, ap₂, ◌∙◌}
 use Rattle.std.specs.Prelude.{◌||◌}
 use Rattle.std.proofs.lemmas.List.Folds.{list_any_at, list_any_more}
 use Rattle.djq_model.specs.declared.query.Comparison.{Comparison}
-use Rattle.djq_lines.specs.QueryFault.{any_place, is_miscompared}
+use Rattle.djq_protocol.specs.QueryFault.{any_place, is_miscompared}
 use Rattle.djq_query.proofs.compared.has_miscompared.Goals as goal
 
 pub returns-then-miscompares : goal.returns-then-miscompares

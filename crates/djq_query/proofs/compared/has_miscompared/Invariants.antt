@@ -1,6 +1,6 @@
 use Rattle.std.proofs.Common.{◌≡◌, take, false}
 use Rattle.std.specs.List.{list_any}
-use Rattle.djq_lines.specs.QueryFault.{any_place, is_miscompared}
+use Rattle.djq_protocol.specs.QueryFault.{any_place, is_miscompared}
 use Rattle.djq_query.proofs.compared.has_miscompared.Given as goal
 
 abbrev pub invariant-loop-comparison : goal.invariant-loop-comparison

@@ -1,6 +1,6 @@
 use Rattle.std.proofs.Common.{◌≡◌, ℕ, take}
 use Rattle.std.specs.List.{list_any}
-use Rattle.djq_hyper.specs.Hypergraph.{member}
+use Rattle.djq_hypergraph.specs.Hypergraph.{member}
 use Rattle.djq_query.specs.Numbered.{is_number}
 use Rattle.djq_query.proofs.edges.variables_of.Given as goal
 

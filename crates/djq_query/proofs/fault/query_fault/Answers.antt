@@ -1,9 +1,9 @@
 -- The first condition that holds is the fault, since none before it holds of the query's atoms and head.
 use Rattle.std.proofs.Common.{◌≡◌, true, false, ◌∙◌, sym}
 use Rattle.djq_value.specs.Literal.{are_different}
-use Rattle.djq_lines.specs.QueryFault.{reads_unknown, has_wrong_arity, has_misfit, has_clash}
-use Rattle.djq_lines.specs.QueryFault.{compares_unbound, has_miscompared, has_unbound_head}
-use Rattle.djq_lines.specs.QueryFault.{is_too_large}
+use Rattle.djq_protocol.specs.QueryFault.{reads_unknown, has_wrong_arity, has_misfit, has_clash}
+use Rattle.djq_protocol.specs.QueryFault.{compares_unbound, has_miscompared, has_unbound_head}
+use Rattle.djq_protocol.specs.QueryFault.{is_too_large}
 use Rattle.djq_query.proofs.Faults.{clash_over, compared_unbound_over, miscompared_over}
 use Rattle.djq_query.proofs.Faults.{unbound_over, fault_arity, fault_misfit, fault_clash}
 use Rattle.djq_query.proofs.Faults.{fault_compared_unbound, fault_miscompared, fault_repeated}

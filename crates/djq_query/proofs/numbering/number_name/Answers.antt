@@ -1,7 +1,7 @@
 -- A name that is found is known and adds no variable; one that isn't comes behind all that are known.
 use Rattle.std.proofs.Common.{◌≡◌, sym, ap, ◌∙◌}
 use Rattle.std.specs.Prelude.{position, Some, None}
-use Rattle.djq_lines.specs.Variables.{is_named}
+use Rattle.djq_protocol.specs.Variables.{is_named}
 use Rattle.djq_query.specs.declared.numbered.Variable.{Variable}
 use Rattle.djq_query.proofs.Numbers.{known_found, known_missed, with_known, with_unknown}
 use Rattle.djq_query.proofs.numbering.number_name.Goals as goal

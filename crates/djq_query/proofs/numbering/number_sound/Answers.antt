@@ -5,7 +5,7 @@ use Rattle.std.specs.List.{fold}
 use Rattle.djq_model.specs.declared.query.Atom.{Atom}
 use Rattle.djq_model.specs.declared.query.Comparison.{Comparison}
 use Rattle.djq_model.specs.Data.{Bytes}
-use Rattle.djq_lines.specs.Variables.{Label}
+use Rattle.djq_protocol.specs.Variables.{Label}
 use Rattle.djq_query.specs.declared.numbered.Variable.{Variable}
 use Rattle.djq_query.specs.Numbered.{labels, number_of, numbered_comparison, with_columns, AreNumbered}
 use Rattle.djq_query.proofs.Within.{within_of}

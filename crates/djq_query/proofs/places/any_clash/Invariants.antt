@@ -1,5 +1,5 @@
 use Rattle.std.proofs.Common.{◌≡◌, drop}
-use Rattle.djq_lines.specs.QueryFault.{any_column}
+use Rattle.djq_protocol.specs.QueryFault.{any_column}
 use Rattle.djq_query.specs.Clashes.{clashes_with}
 use Rattle.djq_query.proofs.places.any_clash.Given as goal
 

@@ -1,5 +1,5 @@
 use Rattle.std.proofs.Common.{◌≡◌, take, false}
-use Rattle.djq_lines.specs.QueryFault.{any_place}
+use Rattle.djq_protocol.specs.QueryFault.{any_place}
 use Rattle.djq_query.specs.Clashes.{mixes}
 use Rattle.djq_query.proofs.places.has_clash.Given as goal
 

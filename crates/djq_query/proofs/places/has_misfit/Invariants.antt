@@ -1,5 +1,5 @@
 use Rattle.std.proofs.Common.{◌≡◌, take, false}
-use Rattle.djq_lines.specs.QueryFault.{any_place, is_misfit}
+use Rattle.djq_protocol.specs.QueryFault.{any_place, is_misfit}
 use Rattle.djq_query.proofs.places.has_misfit.Given as goal
 
 abbrev pub invariant-loop-atom : goal.invariant-loop-atom

@@ -1,7 +1,7 @@
 use Rattle.std.proofs.Common.{◌≡◌, take, false, length}
 use Rattle.std.specs.Prelude.{not, ◌==◌}
 use Rattle.std.specs.List.{list_any}
-use Rattle.djq_lines.specs.Columns.{columns_of}
+use Rattle.djq_protocol.specs.Columns.{columns_of}
 use Rattle.djq_query.proofs.places.has_wrong_arity.Given as goal
 
 abbrev pub invariant-loop-atom : goal.invariant-loop-atom

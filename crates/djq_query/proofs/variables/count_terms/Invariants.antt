@@ -1,6 +1,6 @@
 use Rattle.std.proofs.Common.{◌≡◌, ◌≤◌, take, length}
-use Rattle.djq_lines.specs.declared.limits.TheConstants.{VARIABLES}
-use Rattle.djq_lines.specs.Variables.{with_terms, variables_of}
+use Rattle.djq_protocol.specs.declared.limits.TheConstants.{VARIABLES}
+use Rattle.djq_protocol.specs.Variables.{with_terms, variables_of}
 use Rattle.djq_query.proofs.variables.count_terms.Given as goal
 
 abbrev pub invariant-terms : goal.invariant-terms

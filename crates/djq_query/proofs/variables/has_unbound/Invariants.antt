@@ -1,7 +1,7 @@
 use Rattle.std.proofs.Common.{◌≡◌, take, false}
 use Rattle.std.specs.Prelude.{not}
 use Rattle.std.specs.List.{list_any}
-use Rattle.djq_lines.specs.Variables.{stands_in}
+use Rattle.djq_protocol.specs.Variables.{stands_in}
 use Rattle.djq_query.proofs.variables.has_unbound.Given as goal
 
 abbrev pub invariant-loop-name : goal.invariant-loop-name

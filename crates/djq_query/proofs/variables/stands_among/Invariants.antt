@@ -1,6 +1,6 @@
 use Rattle.std.proofs.Common.{◌≡◌, take, false}
 use Rattle.std.specs.List.{list_any}
-use Rattle.djq_lines.specs.Variables.{is_variable}
+use Rattle.djq_protocol.specs.Variables.{is_variable}
 use Rattle.djq_query.proofs.variables.stands_among.Given as goal
 
 abbrev pub invariant-loop-term : goal.invariant-loop-term

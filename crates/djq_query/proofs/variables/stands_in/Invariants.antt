@@ -1,5 +1,5 @@
 use Rattle.std.proofs.Common.{◌≡◌, take, false}
-use Rattle.djq_lines.specs.Variables.{stands_in}
+use Rattle.djq_protocol.specs.Variables.{stands_in}
 use Rattle.djq_query.proofs.variables.stands_in.Given as goal
 
 abbrev pub invariant-loop-atom : goal.invariant-loop-atom

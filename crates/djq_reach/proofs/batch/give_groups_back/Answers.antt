@@ -3,7 +3,7 @@ use Rattle.std.proofs.Common.{ℕ, List, arith, length, take, subst, refl, sym, 
 use Rattle.std.specs.Prelude.{slice_index_or, sum_by}
 use Rattle.std.proofs.lemmas.List.Sums.{sum_by_more}
 use Rattle.djq_propagate.specs.Updates.{HasAtMost}
-use Rattle.djq_live.specs.Live.{SameQuery}
+use Rattle.djq_live_query.specs.Live.{SameQuery}
 use Rattle.djq_leaves.proofs.Sizing.{fewer_stay}
 use Rattle.djq_reach.specs.declared.group.Group.{Group}
 use Rattle.djq_reach.specs.Batching.{LetsOutAll}

@@ -1,8 +1,8 @@
 use Rattle.std.proofs.Common.{ℕ, ◌≡◌, ◌≤◌, ◌+◌, length, take}
 use Rattle.std.specs.Prelude.{sum_by}
 use Rattle.djq_propagate.specs.Updates.{HasAtMost}
-use Rattle.djq_rows.specs.Catalog.{Catalog}
-use Rattle.djq_live.specs.Live.{IsKept, SameQuery}
+use Rattle.djq_database.specs.Catalog.{Catalog}
+use Rattle.djq_live_query.specs.Live.{IsKept, SameQuery}
 use Rattle.djq_reach.specs.Reaching.{Reach, AllAt}
 use Rattle.djq_reach.specs.Grouping.{GroupsLead, group_work, reached}
 use Rattle.djq_reach.proofs.Chaining.{Behind}

@@ -2,9 +2,9 @@
 -- place alone.
 use Rattle.std.proofs.Common.{◌∙◌, subst, Bool}
 use Rattle.djq_model.specs.Data.{Tuple}
-use Rattle.djq_rows.specs.Catalog.{Catalog}
+use Rattle.djq_database.specs.Catalog.{Catalog}
 use Rattle.djq_leaves.specs.Changes.{Went}
-use Rattle.djq_live.specs.Updating.{CanDelete}
+use Rattle.djq_live_query.specs.Updating.{CanDelete}
 use Rattle.djq_reach.specs.Reaching.{LetsOut}
 use Rattle.djq_reach.specs.Tending.{LogTellsAt, TellsWhere}
 use Rattle.djq_reach.proofs.Reaching.{below_some, place_read, reach_read}

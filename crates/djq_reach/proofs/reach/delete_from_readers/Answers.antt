@@ -1,7 +1,7 @@
 -- No place stands twice, so the next query and its log are as they were, and it can still let the row go.
 use Rattle.std.proofs.Common.{arith, ◌∙◌, refl}
 use Rattle.djq_leaves.specs.Changes.{Went}
-use Rattle.djq_live.specs.Updating.{CanDelete}
+use Rattle.djq_live_query.specs.Updating.{CanDelete}
 use Rattle.djq_reach.specs.Reaching.{LetsOut}
 use Rattle.djq_reach.specs.Tending.{LogTellsAt}
 use Rattle.djq_reach.proofs.Reaching.{all_go, reach_next, reach_none, still}

@@ -1,6 +1,6 @@
 -- No place stands twice, so the query in the next place is as it was and can still let the row go.
 use Rattle.std.proofs.Common.{◌∙◌, refl}
-use Rattle.djq_live.specs.Updating.{CanDelete}
+use Rattle.djq_live_query.specs.Updating.{CanDelete}
 use Rattle.djq_reach.specs.Reaching.{LetsOut}
 use Rattle.djq_reach.proofs.Reaching.{all_go, reach_next, reach_none, still}
 use Rattle.djq_reach.proofs.Working.{works_front, works_next, works_none}

@@ -1,5 +1,5 @@
 -- The place has a query, which is the one read, and what is done to it is done in this place alone.
-use Rattle.djq_live.specs.Updating.{CanDelete}
+use Rattle.djq_live_query.specs.Updating.{CanDelete}
 use Rattle.djq_reach.specs.Reaching.{LetsOut}
 use Rattle.djq_reach.proofs.Reaching.{below_some, place_read, reach_read}
 use Rattle.djq_reach.proofs.Working.{works_one}

@@ -3,9 +3,9 @@
 use Rattle.std.proofs.Common.{◌∙◌, subst, Bool}
 use Rattle.std.specs.Prelude.{OnOk}
 use Rattle.djq_model.specs.Data.{Tuple}
-use Rattle.djq_rows.specs.Catalog.{Catalog}
+use Rattle.djq_database.specs.Catalog.{Catalog}
 use Rattle.djq_leaves.specs.Changes.{Came}
-use Rattle.djq_live.specs.Updating.{CanAdd}
+use Rattle.djq_live_query.specs.Updating.{CanAdd}
 use Rattle.djq_reach.specs.Reaching.{Remains, TakesIn}
 use Rattle.djq_reach.specs.Tending.{LogShows, LogTellsAt, TellsWhere}
 use Rattle.djq_reach.proofs.Reaching.{below_some, place_read, reach_read}

@@ -1,7 +1,7 @@
 -- No place stands twice, so the next query is as it was; where it refuses, those in front have the row still.
 use Rattle.std.proofs.Common.{◌+◌, arith, take, ◌∙◌, refl}
 use Rattle.djq_leaves.specs.Changes.{Came}
-use Rattle.djq_live.specs.Updating.{CanAdd}
+use Rattle.djq_live_query.specs.Updating.{CanAdd}
 use Rattle.djq_reach.specs.Reaching.{TakesIn}
 use Rattle.djq_reach.specs.Tending.{LogShows, LogTellsAt}
 use Rattle.djq_reach.proofs.Reaching.{all_come, front_goes, given_back, once_front, reach_next, reach_none, still}

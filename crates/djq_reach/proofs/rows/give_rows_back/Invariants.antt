@@ -1,9 +1,9 @@
 use Rattle.std.proofs.Common.{ℕ, ◌≡◌, ◌≤◌, ◌-◌, length, take, List}
 use Rattle.djq_model.specs.Data.{Tuple}
-use Rattle.djq_rows.specs.Catalog.{Catalog}
-use Rattle.djq_live.specs.Live.{IsKept, SameQuery}
+use Rattle.djq_database.specs.Catalog.{Catalog}
+use Rattle.djq_live_query.specs.Live.{IsKept, SameQuery}
 use Rattle.djq_leaves.specs.Stepping.{HasMore}
-use Rattle.djq_live.specs.Updating.{CountsUpdate}
+use Rattle.djq_live_query.specs.Updating.{CountsUpdate}
 use Rattle.djq_reach.specs.Batching.{RowsCameIn}
 use Rattle.djq_reach.proofs.Batching.{Among}
 use Rattle.djq_reach.proofs.rows.give_rows_back.Given as goal

@@ -2,7 +2,7 @@
 use Rattle.std.proofs.Common.{◌+◌, arith, take, ◌∙◌, refl, false, length}
 use Rattle.djq_propagate.specs.Updates.{HasAtMost}
 use Rattle.djq_leaves.specs.Changes.{CameAll}
-use Rattle.djq_live.specs.Updating.{CanAddAll}
+use Rattle.djq_live_query.specs.Updating.{CanAddAll}
 use Rattle.djq_reach.specs.Batching.{LogsAt, TakesInAll}
 use Rattle.djq_reach.specs.Tending.{work_of}
 use Rattle.djq_reach.proofs.Batching.{

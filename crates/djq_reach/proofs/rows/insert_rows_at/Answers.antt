@@ -1,7 +1,7 @@
 -- The place has a query, the one read, and a log; either it took all rows in or its tables are the same.
 use Rattle.std.proofs.Common.{◌∙◌, ◌+◌, subst, Bool, false, length}
 use Rattle.djq_leaves.specs.Changes.{CameAll}
-use Rattle.djq_live.specs.Updating.{CanAddAll, LogsWhere}
+use Rattle.djq_live_query.specs.Updating.{CanAddAll, LogsWhere}
 use Rattle.djq_propagate.specs.Updates.{HasAtMost}
 use Rattle.djq_reach.specs.Batching.{LogsAt, StaysUnchanged, TakesInAll}
 use Rattle.djq_reach.specs.Tending.{work_of}

@@ -1,6 +1,6 @@
 -- The places so far are those of the variables before the index, and past the end these are all there may be.
 use Rattle.std.proofs.Common.{◌≡◌, ℕ, List, ◌++◌, ◌∷◌, [], sym, ap, arith, ◌∙◌}
-use Rattle.djq_hyper.specs.declared.var_set.TheConstants.{VARIABLES}
+use Rattle.djq_hypergraph.specs.declared.var_set.TheConstants.{VARIABLES}
 use Rattle.djq_reduct.specs.Columns.{column}
 use Rattle.djq_reduct.specs.Heads.{head_places}
 use Rattle.djq_reduct.proofs.Heading.{places_none, places_on}

@@ -1,7 +1,7 @@
 -- Sign, name and values are written one behind another and make one text, or there is no room for the whole.
 use Rattle.std.proofs.Common.{◌∷◌, [], ◌++◌, sym, subst, append_assoc}
 use Rattle.djq_model.specs.Data.{Bytes}
-use Rattle.djq_lines.specs.Reply.{cells_text, line, sign_text}
+use Rattle.djq_protocol.specs.Reply.{cells_text, line, sign_text}
 use Rattle.djq_value.specs.Writing.{Writes, Written}
 use Rattle.djq_value.proofs.Writing.{written_more}
 use Rattle.djq_reply.proofs.Taking.{writes_more}

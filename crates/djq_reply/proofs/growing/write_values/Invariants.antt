@@ -1,5 +1,5 @@
 use Rattle.std.proofs.Common.{take}
-use Rattle.djq_lines.specs.Reply.{cells_text}
+use Rattle.djq_protocol.specs.Reply.{cells_text}
 use Rattle.djq_value.specs.Writing.{Written}
 use Rattle.djq_reply.proofs.growing.write_values.Given as goal
 

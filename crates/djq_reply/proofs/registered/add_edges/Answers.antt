@@ -1,7 +1,7 @@
 -- An edge cut in its midst leaves a front of the text of all edges, since those before it are there whole.
 use Rattle.std.proofs.Common.{◌∷◌, ◌<◌, ℕ, List, length, get_or, ap, sym, subst, ◌∙◌}
-use Rattle.djq_hyper.specs.Naming.{edge_text}
-use Rattle.djq_lines.specs.Reply.{edges_text}
+use Rattle.djq_hypergraph.specs.Naming.{edge_text}
+use Rattle.djq_protocol.specs.Reply.{edges_text}
 use Rattle.djq_reply.proofs.Adding.{adds_err, cut_at_item}
 use Rattle.djq_reply.proofs.registered.add_edges.Goals as goal
 

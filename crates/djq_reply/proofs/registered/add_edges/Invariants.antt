@@ -1,5 +1,5 @@
 use Rattle.std.proofs.Common.{take}
-use Rattle.djq_lines.specs.Reply.{edges_text}
+use Rattle.djq_protocol.specs.Reply.{edges_text}
 use Rattle.djq_value.specs.Output.{Put}
 use Rattle.djq_reply.proofs.registered.add_edges.Given as goal
 

@@ -1,7 +1,7 @@
 use Rattle.std.proofs.Common.{◌≡◌, false, length}
 use Rattle.djq_machine.specs.Run.{pending_of}
 use Rattle.djq_machine.specs.Call.{IsOpen, cause_of, held_of}
-use Rattle.djq_laws.specs.Course.{Outside}
+use Rattle.djq_run_laws.specs.Course.{Outside}
 use Rattle.djq_run.specs.Parts.{GoesTo, with_sink}
 use Rattle.djq_run.proofs.session.flush.Given as goal
 

@@ -1,7 +1,7 @@
 use Rattle.std.proofs.Common.{◌≡◌, ◌≤◌, false, length}
 use Rattle.djq_machine.specs.Run.{all_fed}
 use Rattle.djq_machine.specs.Call.{counts}
-use Rattle.djq_laws.specs.Course.{outside, Course}
+use Rattle.djq_run_laws.specs.Course.{outside, Course}
 use Rattle.djq_run.specs.Ends.{Awaits}
 use Rattle.djq_run.proofs.session.run_session.Given as goal
 

@@ -1,6 +1,6 @@
 -- The course so far goes on by a flush and a line, and each line that was run leaves fewer bytes held.
 use Rattle.std.proofs.Common.{◌∙◌, false, refl, sym, ap, subst, length, arith}
-use Rattle.djq_lines.specs.declared.answer.EndCause.TheVariants.{Input}
+use Rattle.djq_protocol.specs.declared.answer.EndCause.TheVariants.{Input}
 use Rattle.djq_machine.specs.State.{State}
 use Rattle.djq_machine.specs.Call.{Counts, counts}
 use Rattle.djq_run.specs.Parts.{GoesTo, with_sink}

@@ -1,7 +1,7 @@
 use Rattle.std.proofs.Common.{◌≡◌, false, Some, length}
-use Rattle.djq_lines.specs.declared.answer.EndCause.TheVariants.{Input}
+use Rattle.djq_protocol.specs.declared.answer.EndCause.TheVariants.{Input}
 use Rattle.djq_machine.specs.Call.{IsOpen, counts, cause_of, held_of}
-use Rattle.djq_laws.specs.Course.{Outside}
+use Rattle.djq_run_laws.specs.Course.{Outside}
 use Rattle.djq_run.specs.Parts.{GoesTo, with_sink}
 use Rattle.djq_run.proofs.session.serve_held.Given as goal
 

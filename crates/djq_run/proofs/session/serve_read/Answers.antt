@@ -3,8 +3,8 @@ use Rattle.std.proofs.Common.{◌<◌, ◌≤◌, true, false, length, take, ref
 use Rattle.std.specs.Prelude.{Option}
 use Rattle.djq_machine.specs.Call.{counts}
 use Rattle.djq_io.specs.declared.limits.TheConstants.{READ_BYTES}
-use Rattle.djq_laws.specs.Course.{outside}
-use Rattle.djq_laws.proofs.Moving.{fed_facts, ended_facts}
+use Rattle.djq_run_laws.specs.Course.{outside}
+use Rattle.djq_run_laws.proofs.Moving.{fed_facts, ended_facts}
 use Rattle.djq_run.specs.declared.status.Status.{Status}
 use Rattle.djq_run.specs.Parts.{ReadEnds}
 use Rattle.djq_run.proofs.Going.{by_piece, by_end, by_failure, goes_then}

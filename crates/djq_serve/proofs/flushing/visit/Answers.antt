@@ -2,7 +2,7 @@
 use Rattle.std.proofs.Common.{◌≡◌, ◌+◌, ◌<◌, ◌∙◌, ℕ, [], length, sym, ap, rules, arith}
 use Rattle.djq_machine.specs.Step.{took}
 use Rattle.djq_machine.specs.Run.{pending_of}
-use Rattle.djq_laws.proofs.Rising.{step_ids}
+use Rattle.djq_run_laws.proofs.Rising.{step_ids}
 use Rattle.djq_serve.proofs.Telling.{tells_send, tells_more}
 use Rattle.djq_serve.proofs.Agreeing.{agrees_same, due_ended, open_at_hub}
 use Rattle.djq_serve.proofs.Settling.{took_spares, closed_spares}

@@ -1,5 +1,5 @@
 -- Without sessions the machine and the hub agree, no session has bytes to be run, and no batch is open.
-use Rattle.djq_laws.proofs.Holding.{none_hold_lines}
+use Rattle.djq_run_laws.proofs.Holding.{none_hold_lines}
 use Rattle.djq_serve.proofs.Agreeing.{agrees_none}
 use Rattle.djq_serve.proofs.Ending.{none_settled}
 use Rattle.djq_serve.proofs.Completing.{serve_logs}

@@ -2,7 +2,7 @@
 use Rattle.std.proofs.Common.{refl}
 use Rattle.djq_machine.specs.Call.{counts}
 use Rattle.djq_machine.specs.Step.{fed, ended}
-use Rattle.djq_laws.proofs.Rising.{step_ids}
+use Rattle.djq_run_laws.proofs.Rising.{step_ids}
 use Rattle.djq_io.specs.declared.hub.Turn.TheVariants.{Opened, Bytes, Ended, Idle, Over, Failed}
 use Rattle.djq_serve.proofs.Telling.{tells_turn}
 use Rattle.djq_serve.specs.Goes.{one_turn}

@@ -1,5 +1,5 @@
 use Rattle.std.proofs.Common.{◌≡◌, ℕ, false, length, take, slice_index_or}
-use Rattle.djq_lines.specs.declared.limits.TheConstants.{QUERIES}
+use Rattle.djq_protocol.specs.declared.limits.TheConstants.{QUERIES}
 use Rattle.djq_store.specs.Affecting.{is_reached_id}
 use Rattle.djq_store.proofs.affecting.reached_places.Given as goal
 

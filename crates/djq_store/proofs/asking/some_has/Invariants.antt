@@ -2,7 +2,7 @@ use Rattle.std.proofs.Common.{ℕ, ◌+◌, ◌<◌, ◌≤◌, get_or, take}
 use Rattle.std.specs.Prelude.{IsSomeAnd, Ok, false}
 use Rattle.djq_model.specs.Listed.{a_query}
 use Rattle.djq_store_spec.specs.Registering.{atoms_of}
-use Rattle.djq_live.specs.Member.{query_at}
+use Rattle.djq_live_query.specs.Member.{query_at}
 use Rattle.djq_store.specs.Asking.{TellsMembership, asked_in}
 use Rattle.djq_store.proofs.asking.some_has.Given as goal
 

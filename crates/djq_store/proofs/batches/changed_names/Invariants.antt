@@ -1,8 +1,8 @@
 use Rattle.std.proofs.Common.{◌≡◌, ◌≤◌, List, length, map, take}
 use Rattle.std.specs.Prelude.{filter}
 use Rattle.djq_model.specs.declared.relation.Relation.{Relation}
-use Rattle.djq_lines.specs.declared.held.HeldRow.{HeldRow}
-use Rattle.djq_lines.specs.declared.limits.TheConstants.{HELD}
+use Rattle.djq_protocol.specs.declared.held.HeldRow.{HeldRow}
+use Rattle.djq_protocol.specs.declared.limits.TheConstants.{HELD}
 use Rattle.djq_store.specs.Batches.{AreCounts, has_grown}
 use Rattle.djq_store.proofs.batches.changed_names.Given as goal
 

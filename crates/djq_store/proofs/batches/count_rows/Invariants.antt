@@ -1,7 +1,7 @@
 use Rattle.std.proofs.Common.{◌≡◌, ◌<◌, ℕ, length, slice_index_or}
 use Rattle.djq_model.specs.Data.{rows_of}
-use Rattle.djq_lines.specs.declared.held.HeldRow.{HeldRow}
-use Rattle.djq_lines.specs.declared.limits.TheConstants.{HELD}
+use Rattle.djq_protocol.specs.declared.held.HeldRow.{HeldRow}
+use Rattle.djq_protocol.specs.declared.limits.TheConstants.{HELD}
 use Rattle.djq_store.proofs.batches.count_rows.Given as goal
 
 abbrev pub invariant-loop-at : goal.invariant-loop-at

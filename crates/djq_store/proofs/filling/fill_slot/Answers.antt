@@ -1,7 +1,7 @@
 -- Where no slot is vacant each has a union, so there are fewer slots than may be, and one more fits behind.
 use Rattle.std.proofs.Common.{◌≡◌, ◌<◌, ◌++◌, ◌∷◌, [], List, ℕ, ap, sym, subst, length, arith, ◌∙◌}
 use Rattle.std.specs.Prelude.{Option, Some}
-use Rattle.djq_lines.specs.declared.limits.TheConstants.{QUERIES}
+use Rattle.djq_protocol.specs.declared.limits.TheConstants.{QUERIES}
 use Rattle.djq_store.specs.declared.joined.Joined.{Joined}
 use Rattle.djq_store.specs.Filling.{FillsSlot}
 use Rattle.djq_store.proofs.Unioned.{fills_set, fills_push, found_vacant, none_vacant}

@@ -2,7 +2,7 @@
 use Rattle.std.proofs.Common.{◌+◌, ◌≤◌, List, Bool, subst, ◌∙◌, ap, map}
 use Rattle.std.specs.Prelude.{filter}
 use Rattle.djq_model.specs.Data.{Bytes}
-use Rattle.djq_lines.specs.declared.held.HeldRow.{HeldRow}
+use Rattle.djq_protocol.specs.declared.held.HeldRow.{HeldRow}
 use Rattle.djq_store.specs.Batches.{has_grown}
 use Rattle.djq_store.specs.Following.{FollowsBy, following_steps}
 use Rattle.djq_store.proofs.following.follow_batch.Goals as goal

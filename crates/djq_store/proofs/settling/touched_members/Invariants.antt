@@ -1,5 +1,5 @@
 use Rattle.std.proofs.Common.{◌≡◌, ◌≤◌, length, take}
-use Rattle.djq_lines.specs.declared.limits.TheConstants.{MEMBERS}
+use Rattle.djq_protocol.specs.declared.limits.TheConstants.{MEMBERS}
 use Rattle.djq_store.specs.Settling.{touched_in}
 use Rattle.djq_store.proofs.settling.touched_members.Given as goal
 

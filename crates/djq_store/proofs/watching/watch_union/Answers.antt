@@ -2,7 +2,7 @@
 use Rattle.std.proofs.Common.{◌≡◌, ◌+◌, ◌<◌, ◌≤◌, ◌∙◌, ℕ, List, [], length, get_or, sym, subst, ap, arith}
 use Rattle.std.proofs.lemmas.List.{get_or_default}
 use Rattle.std.specs.Prelude.{Option, Some, IsSomeAnd}
-use Rattle.djq_lines.specs.declared.limits.TheConstants.{SESSIONS}
+use Rattle.djq_protocol.specs.declared.limits.TheConstants.{SESSIONS}
 use Rattle.djq_engine.specs.Kept.{Kept, registered_at, with_watchers}
 use Rattle.djq_engine.specs.Places.{id_at}
 use Rattle.djq_store.specs.declared.joined.Joined.{Joined}

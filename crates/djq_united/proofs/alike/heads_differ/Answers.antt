@@ -2,8 +2,8 @@
 use Rattle.std.proofs.Common.{◌≡◌, Bool, false, sym, ap, subst, ◌∙◌, arith}
 use Rattle.std.specs.Prelude.{not}
 use Rattle.std.proofs.lemmas.Option.{same_Some}
-use Rattle.djq_live.specs.Live.{Live}
-use Rattle.djq_live.specs.Member.{query_at}
+use Rattle.djq_live_query.specs.Live.{Live}
+use Rattle.djq_live_query.specs.Member.{query_at}
 use Rattle.djq_united.proofs.Heads.{differs, none_yet, one_differs, finished}
 use Rattle.djq_united.proofs.alike.heads_differ.Goals as goal
 

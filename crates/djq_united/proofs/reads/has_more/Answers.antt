@@ -1,5 +1,5 @@
 -- All members are kept over one catalog, with heads as wide as the first one's, so its count bounds each.
-use Rattle.djq_live.specs.Member.{queries_at}
+use Rattle.djq_live_query.specs.Member.{queries_at}
 use Rattle.djq_united.proofs.Placed.{members_ready}
 use Rattle.djq_united.proofs.Advancing.{over_places, looks_open}
 use Rattle.djq_united.proofs.Counting.{left_counted}

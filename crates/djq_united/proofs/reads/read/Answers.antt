@@ -1,5 +1,5 @@
 -- An answer of any member has as many cells as the first one's head, so that member's tree shows it.
-use Rattle.djq_live.specs.Member.{queries_at}
+use Rattle.djq_live_query.specs.Member.{queries_at}
 use Rattle.djq_united.proofs.Placed.{members_ready}
 use Rattle.djq_united.proofs.Values.{first_in}
 use Rattle.djq_united.proofs.Advancing.{over_places, came_had, reads_given}

@@ -1,6 +1,6 @@
 -- No session is open, so the engine is idle, and the batch of the loaded lines is the only one to suit.
 use Rattle.std.proofs.Common.{◌∙◌, sym, ap, subst, Option, List}
-use Rattle.djq_lines.specs.declared.held.HeldRow.{HeldRow}
+use Rattle.djq_protocol.specs.declared.held.HeldRow.{HeldRow}
 use Rattle.djq_machine.specs.Loading.{Loading, LoadStep}
 use Rattle.djq_commands.specs.Sound.{BatchSuits}
 use Rattle.djq_commands.specs.Views.{Visible, loading_in}

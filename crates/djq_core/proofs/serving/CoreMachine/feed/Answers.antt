@@ -2,8 +2,8 @@
 use Rattle.std.proofs.Common.{List, ◌∙◌, false, refl, sym, subst, set, ap}
 use Rattle.djq_machine.specs.State.{State}
 use Rattle.djq_commands.specs.declared.open.OpenSession.{OpenSession}
-use Rattle.djq_lines.specs.declared.answer.EndCause.TheVariants.{Memory}
-use Rattle.djq_lines.specs.Reply.{end_memory}
+use Rattle.djq_protocol.specs.declared.answer.EndCause.TheVariants.{Memory}
+use Rattle.djq_protocol.specs.Reply.{end_memory}
 use Rattle.djq_machine.specs.Effect.{EndsWith}
 use Rattle.djq_machine.specs.declared.machine.Fed.TheVariants.{Ended}
 use Rattle.djq_machine.specs.Step.{fed}

@@ -1,7 +1,7 @@
 -- The new id is above all, so ids still rise; a new session has no cursors, no watches and no batch.
 use Rattle.std.proofs.Common.{List, map, ◌<◌, ◌∙◌, sym, ap, subst, length, arith}
 use Rattle.djq_commands.specs.declared.open.OpenSession.{OpenSession}
-use Rattle.djq_lines.specs.declared.limits.TheConstants.{SESSIONS}
+use Rattle.djq_protocol.specs.declared.limits.TheConstants.{SESSIONS}
 use Rattle.djq_machine.specs.Step.{opened}
 use Rattle.djq_machine.specs.Call.{Makes, IsOpen}
 use Rattle.djq_commands.specs.Views.{state_in, Visible}

@@ -1,6 +1,6 @@
 -- What is done to the session at its id's place is a step of all, sound and suited behind it, by Places.
 use Rattle.std.proofs.Common.{◌||◌, ◌≤◌, ◌+◌, ◌∙◌, ℕ, suc, List, Option, true, false, subst, sym, set, take, drop, ap}
-use Rattle.djq_lines.specs.declared.limits.TheConstants.{REPLY_BYTES, LAST_LINE_BYTES, SESSIONS}
+use Rattle.djq_protocol.specs.declared.limits.TheConstants.{REPLY_BYTES, LAST_LINE_BYTES, SESSIONS}
 use Rattle.djq_machine.specs.declared.machine.Stepped.{Stepped}
 use Rattle.djq_machine.specs.declared.machine.Stepped.TheVariants.{Ran}
 use Rattle.djq_commands.specs.declared.kept.KeptLines.{KeptLines}

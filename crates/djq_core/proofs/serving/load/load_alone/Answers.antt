@@ -1,11 +1,11 @@
 -- A line that is read says a command that can be run, and one that opens a batch leaves it without rows.
 use Rattle.std.proofs.Common.{◌∙◌, sym, subst, List, None, Some, Err}
-use Rattle.djq_lines.specs.declared.held.HeldRow.{HeldRow}
+use Rattle.djq_protocol.specs.declared.held.HeldRow.{HeldRow}
 use Rattle.djq_machine.specs.declared.machine.Loaded.TheVariants.{Ran}
 use Rattle.djq_core.specs.Loading.{LoadsLine}
-use Rattle.djq_proto.specs.declared.refusal.LineRefusal.{LineRefusal}
-use Rattle.djq_proto.specs.declared.refusal.LineRefusal.TheVariants.{Syntax, Range, NoMem}
-use Rattle.djq_proto.specs.Reading.{LineReadsAs}
+use Rattle.djq_parser.specs.declared.refusal.LineRefusal.{LineRefusal}
+use Rattle.djq_parser.specs.declared.refusal.LineRefusal.TheVariants.{Syntax, Range, NoMem}
+use Rattle.djq_parser.specs.Reading.{LineReadsAs}
 use Rattle.djq_core.proofs.Loading.{opens_batch, said_alone, unread_alone}
 use Rattle.djq_commands.proofs.Saying.{runnable}
 use Rattle.djq_core.proofs.Suiting.{none_held}

@@ -1,7 +1,7 @@
 -- With no session open no query has a cursor or a watcher, and so it is behind whatever is done.
 use Rattle.std.proofs.Common.{◌∙◌, List, subst, sym}
 use Rattle.djq_model.specs.Data.{Bytes, Tuple}
-use Rattle.djq_lines.specs.declared.command.Command.{Command}
+use Rattle.djq_protocol.specs.declared.command.Command.{Command}
 use Rattle.djq_machine.specs.Keeping.{is_done, is_removal}
 use Rattle.djq_machine.specs.Loading.{StoreLoads}
 use Rattle.djq_store_spec.specs.Rows.{DeletesRow}

@@ -1,9 +1,9 @@
 -- What the line says is read as for a session's batch, and the rows lent are those that are held.
 use Rattle.std.proofs.Common.{ℕ, ◌≤◌, ◌∙◌, Some, sym, subst, length, List}
 use Rattle.djq_model.specs.Data.{Bytes}
-use Rattle.djq_lines.specs.declared.held.HeldRow.{HeldRow}
-use Rattle.djq_lines.specs.declared.limits.TheConstants.{HELD}
-use Rattle.djq_lines.specs.Grammar.{reading_of}
+use Rattle.djq_protocol.specs.declared.held.HeldRow.{HeldRow}
+use Rattle.djq_protocol.specs.declared.limits.TheConstants.{HELD}
+use Rattle.djq_protocol.specs.Grammar.{reading_of}
 use Rattle.djq_store_spec.specs.Batch.{AddsBatch, SuitAll}
 use Rattle.djq_machine.specs.Loading.{ReadingLoads}
 use Rattle.djq_machine.specs.declared.machine.Loaded.{Loaded}

@@ -2,11 +2,11 @@
 use Rattle.std.proofs.Common.{ℕ, List, ◌+◌, ◌≤◌, ◌∙◌, ap, arith, refl, subst, sym, rules, ◌≡◌}
 use Rattle.std.specs.Prelude.{IfErr, Some, Ok, Err}
 use Rattle.djq_model.specs.Data.{with_row}
-use Rattle.djq_lines.specs.declared.answer.Refusal.{Refusal}
-use Rattle.djq_lines.specs.declared.answer.AddOutcome.{AddOutcome}
+use Rattle.djq_protocol.specs.declared.answer.Refusal.{Refusal}
+use Rattle.djq_protocol.specs.declared.answer.AddOutcome.{AddOutcome}
 use Rattle.djq_store_spec.specs.Rows.{add_refusal}
 use Rattle.djq_engine.specs.declared.change.AddRefusal.{AddRefusal}
-use Rattle.djq_rows.specs.Catalog.{counted_at}
+use Rattle.djq_database.specs.Catalog.{counted_at}
 use Rattle.djq_store_spec.specs.Changes.{row_in}
 use Rattle.djq_engine.specs.declared.parts.Parts.{Parts}
 use Rattle.djq_engine.specs.Judging.{bare_store}
@@ -60,19 +60,19 @@ use Rattle.djq_engine.proofs.Reporting.{
   tended_still,
 }
 use Rattle.djq_engine.proofs.Placed.{keeps_changed, keeps_equal}
-use Rattle.djq_cursor.specs.Log.{Log}
+use Rattle.djq_enumeration.specs.Log.{Log}
 use Rattle.djq_reach.specs.Places.{readers_at}
 use Rattle.djq_reach.specs.Tending.{Empties, HaveLogs}
 use Rattle.djq_engine.proofs.Storing.{places_read}
 use Rattle.djq_engine.proofs.Tending.{shown_emptied}
 use Rattle.djq_engine.proofs.Working.{counts_updates}
 use Rattle.djq_engine.proofs.Enlisted.{unwatched_readers}
-use Rattle.djq_deltas.proofs.Finite.{deltas_exist}
-use Rattle.djq_live.proofs.Bound.{heads_bound as heads_are_bound}
-use Rattle.djq_live.proofs.Small.{leaves_small as leaves_are_small}
-use Rattle.djq_rows.proofs.Lawful.{names as rows_by_name_or_place}
-use Rattle.djq_live.proofs.Showable.{stays_showable as showable_stays}
-use Rattle.djq_rows.proofs.Lawful.{texts as texts_stay}
+use Rattle.djq_answer_laws.proofs.Finite.{deltas_exist}
+use Rattle.djq_live_query.proofs.Bound.{heads_bound as heads_are_bound}
+use Rattle.djq_live_query.proofs.Small.{leaves_small as leaves_are_small}
+use Rattle.djq_database.proofs.Lawful.{names as rows_by_name_or_place}
+use Rattle.djq_live_query.proofs.Showable.{stays_showable as showable_stays}
+use Rattle.djq_database.proofs.Lawful.{texts as texts_stay}
 use Rattle.djq_engine.proofs.engine.Engine.add.Goals as goal
 
 pub returns-in_err-id-clause-tells : goal.returns-in_err-id-clause-tells

@@ -1,5 +1,5 @@
 -- A tuple is shown by the query in its cursor's place, which the invariant keeps over the catalog.
-use Rattle.djq_live.specs.Live.{IsShowable}
+use Rattle.djq_live_query.specs.Live.{IsShowable}
 use Rattle.djq_engine.proofs.Telling.{answer_read}
 use Rattle.std.proofs.Common.{subst, sym}
 use Rattle.djq_engine.specs.Kept.{Kept, IsShown}

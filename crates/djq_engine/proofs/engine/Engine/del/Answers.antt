@@ -2,12 +2,12 @@
 use Rattle.std.proofs.Common.{ℕ, zero, List, ◌+◌, ◌≤◌, ◌∙◌, ap, ap₂, arith, refl, sym, subst}
 use Rattle.std.specs.Prelude.{Option}
 use Rattle.djq_model.specs.Data.{Tuple, without_copies}
-use Rattle.djq_lines.specs.declared.answer.DeleteOutcome.{DeleteOutcome}
-use Rattle.djq_rows.specs.Catalog.{Catalog, StandForRow, counted_at}
-use Rattle.djq_live.specs.Live.{Live}
+use Rattle.djq_protocol.specs.declared.answer.DeleteOutcome.{DeleteOutcome}
+use Rattle.djq_database.specs.Catalog.{Catalog, StandForRow, counted_at}
+use Rattle.djq_live_query.specs.Live.{Live}
 use Rattle.djq_store_spec.specs.Changes.{row_out}
 use Rattle.djq_engine.proofs.Placed.{keeps_changed, keeps_equal}
-use Rattle.djq_rows.specs.declared.relation_id.RelationId.{RelationId}
+use Rattle.djq_database.specs.declared.relation_id.RelationId.{RelationId}
 use Rattle.djq_engine.specs.Kept.{held_at}
 use Rattle.djq_reach.specs.Places.{readers_at}
 use Rattle.djq_engine.specs.Places.{query_cursors_from}
@@ -55,11 +55,11 @@ use Rattle.djq_engine.proofs.Reporting.{
 }
 use Rattle.djq_engine.proofs.Working.{counts_updates}
 use Rattle.djq_engine.proofs.Enlisted.{unwatched_readers}
-use Rattle.djq_deltas.proofs.Finite.{deltas_exist}
-use Rattle.djq_live.proofs.Bound.{heads_bound as heads_are_bound}
-use Rattle.djq_live.proofs.Small.{leaves_small as leaves_are_small}
-use Rattle.djq_rows.proofs.Lawful.{names as rows_by_name_or_place}
-use Rattle.djq_live.proofs.Showable.{stays_showable as showable_stays}
+use Rattle.djq_answer_laws.proofs.Finite.{deltas_exist}
+use Rattle.djq_live_query.proofs.Bound.{heads_bound as heads_are_bound}
+use Rattle.djq_live_query.proofs.Small.{leaves_small as leaves_are_small}
+use Rattle.djq_database.proofs.Lawful.{names as rows_by_name_or_place}
+use Rattle.djq_live_query.proofs.Showable.{stays_showable as showable_stays}
 use Rattle.djq_engine.proofs.engine.Engine.del.Goals as goal
 
 pub returns-in_err-judged-clause-tells : goal.returns-in_err-judged-clause-tells

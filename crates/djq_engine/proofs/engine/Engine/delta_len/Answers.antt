@@ -1,7 +1,7 @@
 -- By the invariant a registered query has a place and a log; what is told of it are the lines of that log.
 use Rattle.std.proofs.Common.{◌<◌, ◌∙◌, ap, arith, length, sym, List, subst}
-use Rattle.djq_cursor.specs.declared.log.Line.{Line}
-use Rattle.djq_cursor.specs.Log.{Log}
+use Rattle.djq_enumeration.specs.declared.log.Line.{Line}
+use Rattle.djq_enumeration.specs.Log.{Log}
 use Rattle.djq_engine.proofs.Attending.{below_queries, long_lines, long_lost, query_kept_there}
 use Rattle.djq_reach.proofs.Tending.{log_read}
 use Rattle.djq_engine.specs.Kept.{Kept, IsRegistered}

@@ -1,8 +1,8 @@
 -- By the invariant each line of a registered query's log can be shown, and the query is kept.
 use Rattle.std.proofs.Common.{◌<◌, ◌∙◌, ap, arith, length, sym, subst}
 use Rattle.std.specs.Prelude.{slice_get, IsSomeAnd}
-use Rattle.djq_cursor.specs.Log.{Log}
-use Rattle.djq_live.specs.Live.{IsShowable}
+use Rattle.djq_enumeration.specs.Log.{Log}
+use Rattle.djq_live_query.specs.Live.{IsShowable}
 use Rattle.djq_engine.proofs.Attending.{all_got, below_queries, line_is, line_there, query_kept_there, there_not_none}
 use Rattle.djq_engine.proofs.Naming.{There}
 use Rattle.djq_reach.proofs.Reaching.{place_read}

@@ -6,17 +6,17 @@ use Rattle.djq_model.specs.declared.relation.Relation.{Relation}
 use Rattle.djq_model.specs.Data.{Bytes, relation_of}
 use Rattle.djq_model.specs.Answer.{IsAnswer}
 use Rattle.djq_model.specs.Listed.{a_query}
-use Rattle.djq_lines.specs.declared.answer.Refusal.{Refusal}
-use Rattle.djq_lines.specs.declared.answer.Refusal.TheVariants.{Limit, NoMemory}
-use Rattle.djq_lines.specs.declared.held.HeldRow.{HeldRow}
+use Rattle.djq_protocol.specs.declared.answer.Refusal.{Refusal}
+use Rattle.djq_protocol.specs.declared.answer.Refusal.TheVariants.{Limit, NoMemory}
+use Rattle.djq_protocol.specs.declared.held.HeldRow.{HeldRow}
 use Rattle.djq_store_spec.specs.Store.{Store}
 use Rattle.djq_store_spec.specs.Batch.{with_all, has_come, SuitAll, batch_outcome}
 use Rattle.djq_store_spec.specs.Delta.{Change, IsDelta}
-use Rattle.djq_deltas.specs.Finite.{DeltasExist}
-use Rattle.djq_rows.specs.Catalog.{Catalog, IsCatalog, relation_at}
-use Rattle.djq_rows.specs.Laws.{CellsStay}
-use Rattle.djq_live.specs.Body.{HeadsAreBound}
-use Rattle.djq_live.specs.Live.{Live}
+use Rattle.djq_answer_laws.specs.Finite.{DeltasExist}
+use Rattle.djq_database.specs.Catalog.{Catalog, IsCatalog, relation_at}
+use Rattle.djq_database.specs.Laws.{CellsStay}
+use Rattle.djq_live_query.specs.Body.{HeadsAreBound}
+use Rattle.djq_live_query.specs.Live.{Live}
 use Rattle.djq_reach.specs.declared.group.Group.{Group}
 use Rattle.djq_reach.specs.Places.{place_at, is_reader}
 use Rattle.djq_reach.specs.Grouping.{reached, rows_of_groups, times_back}
@@ -45,12 +45,12 @@ use Rattle.djq_engine.proofs.Worked.{came_few, counts_all, rows_each}
 use Rattle.djq_engine.specs.Kept.{Kept, Outdates, KeepsPlaces, is_tried}
 use Rattle.djq_engine.specs.Watching.{EngineTellsChange}
 use Rattle.djq_store_spec.specs.Changes.{tried}
-use Rattle.djq_rows.proofs.Lawful.{stay as cells_stay}
-use Rattle.djq_deltas.proofs.Finite.{deltas_exist}
-use Rattle.djq_live.proofs.Bound.{heads_bound as heads_are_bound}
-use Rattle.djq_live.proofs.Small.{leaves_small as leaves_are_small}
-use Rattle.djq_live.proofs.Untouched.{stays_lives as live_stays}
-use Rattle.djq_live.proofs.Showable.{stays_showable as showable_stays}
+use Rattle.djq_database.proofs.Lawful.{stay as cells_stay}
+use Rattle.djq_answer_laws.proofs.Finite.{deltas_exist}
+use Rattle.djq_live_query.proofs.Bound.{heads_bound as heads_are_bound}
+use Rattle.djq_live_query.proofs.Small.{leaves_small as leaves_are_small}
+use Rattle.djq_live_query.proofs.Untouched.{stays_lives as live_stays}
+use Rattle.djq_live_query.proofs.Showable.{stays_showable as showable_stays}
 use Rattle.djq_engine.proofs.engine.Engine.done.Goals as goal
 
 -- the store of the engine is that of its catalog

@@ -1,8 +1,8 @@
 -- A query that no cursor is over and nobody watches isn't used, and each list has its place once at most.
 use Rattle.std.proofs.Common.{◌≡◌, ◌∙◌, List, ap, refl, set, subst, sym, arith, length, length-set, ℕ}
 use Rattle.std.specs.Prelude.{◌==◌, not, Option, None, IsSomeAnd, position, ⊤}
-use Rattle.djq_live.specs.Cursors.{are_vacant}
-use Rattle.djq_live.specs.Live.{Live}
+use Rattle.djq_live_query.specs.Cursors.{are_vacant}
+use Rattle.djq_live_query.specs.Live.{Live}
 use Rattle.djq_reach.specs.Places.{place_at, watched_at}
 use Rattle.djq_engine.specs.Places.{is_query}
 use Rattle.djq_engine.proofs.Enrolling.{lists_once}

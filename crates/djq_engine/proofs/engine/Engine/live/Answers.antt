@@ -4,7 +4,7 @@ use Rattle.djq_engine.proofs.Attending.{below_queries, query_kept_there, there_n
 use Rattle.djq_reach.proofs.Reaching.{place_read}
 use Rattle.djq_engine.proofs.Telling.{lends}
 use Rattle.djq_engine.specs.Kept.{Kept, IsRegistered}
-use Rattle.djq_live.proofs.Showing.{are_shown as answers_are_shown}
+use Rattle.djq_live_query.proofs.Showing.{are_shown as answers_are_shown}
 use Rattle.djq_engine.proofs.engine.Engine.live.Goals as goal
 
 pub index-requires : goal.index-requires

@@ -1,7 +1,7 @@
 -- The place of the name holds the query, and the slot that the new cursor takes there was vacant.
 use Rattle.std.proofs.Common.{ap, refl, subst, sym, ◌∙◌, List, length, false}
 use Rattle.std.specs.Prelude.{position, IsSomeAnd, Option, ⊤}
-use Rattle.djq_live.specs.Live.{Live}
+use Rattle.djq_live_query.specs.Live.{Live}
 use Rattle.djq_engine.specs.Places.{is_query}
 use Rattle.djq_engine.specs.Sound.{QueriesAreSound}
 use Rattle.djq_engine.specs.Whole.{watches_in}

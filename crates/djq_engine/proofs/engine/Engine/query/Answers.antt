@@ -2,15 +2,15 @@
 use Rattle.std.proofs.Common.{false, ◌≤◌, length, ◌∙◌, ap, refl, sym, subst, ℕ, ◌+◌, ◌*◌, ◌∷◌, ◌++◌, [], List}
 use Rattle.djq_model.specs.declared.relation.Relation.{Relation}
 use Rattle.djq_model.specs.Known.{texts_in}
-use Rattle.djq_lines.specs.QueryFault.{query_fault}
-use Rattle.djq_lines.specs.Variables.{constants_of}
+use Rattle.djq_protocol.specs.QueryFault.{query_fault}
+use Rattle.djq_protocol.specs.Variables.{constants_of}
 use Rattle.djq_engine.proofs.Aging.{rested_held}
 use Rattle.djq_engine.proofs.Carrying.{sound_texts}
 use Rattle.djq_model.specs.declared.query.Query.{Query}
 use Rattle.djq_model.specs.Listed.{a_query, listed_of}
-use Rattle.djq_lines.specs.declared.limits.TheConstants.{TEXTS}
+use Rattle.djq_protocol.specs.declared.limits.TheConstants.{TEXTS}
 use Rattle.djq_store_spec.specs.Relations.{LearnsAll, LearnsFirst}
-use Rattle.djq_rows.specs.Catalog.{Catalog}
+use Rattle.djq_database.specs.Catalog.{Catalog}
 use Rattle.djq_engine.specs.declared.parts.Parts.{Parts}
 use Rattle.djq_engine.specs.Kept.{Registered, TellsOfQuery}
 use Rattle.djq_reach.specs.Places.{log_at, place_at}
@@ -27,9 +27,9 @@ use Rattle.djq_engine.proofs.Refusing.{same_queries, same_whole}
 use Rattle.djq_engine.proofs.Lasting.{other_place}
 use Rattle.djq_engine.proofs.Placed.{keeps_added, keeps_equal, keeps_same}
 use Rattle.djq_engine.proofs.Told.{alike_same, told_empty, told_is}
-use Rattle.djq_live.proofs.Untouched.{stays_lives as live_stays}
-use Rattle.djq_live.proofs.Showable.{stays_showable as showable_stays}
-use Rattle.djq_rows.proofs.Lawful.{texts as texts_stay}
+use Rattle.djq_live_query.proofs.Untouched.{stays_lives as live_stays}
+use Rattle.djq_live_query.proofs.Showable.{stays_showable as showable_stays}
+use Rattle.djq_database.proofs.Lawful.{texts as texts_stay}
 use Rattle.djq_engine.proofs.engine.Engine.query.Goals as goal
 
 pub invariant_of-self : goal.invariant_of-self

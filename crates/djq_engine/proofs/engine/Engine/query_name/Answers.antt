@@ -3,7 +3,7 @@ use Rattle.std.proofs.Common.{◌≡◌, ◌∙◌, ap, arith, sym, subst}
 use Rattle.std.specs.Prelude.{Option}
 use Rattle.djq_model.specs.declared.query.Query.{Query}
 use Rattle.djq_model.specs.Listed.{listed_name}
-use Rattle.djq_live.specs.Live.{Live}
+use Rattle.djq_live_query.specs.Live.{Live}
 use Rattle.djq_engine.specs.Places.{query_in}
 use Rattle.djq_engine.proofs.Attending.{below_queries, gives_that, query_kept_there, there_not_none}
 use Rattle.djq_reach.proofs.Reaching.{place_read}

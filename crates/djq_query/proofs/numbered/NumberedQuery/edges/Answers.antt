@@ -2,8 +2,8 @@
 use Rattle.std.proofs.Common.{◌≡◌, ◌+◌, ◌<◌, ℕ, List, length, arith, sym, subst, ap, ◌∙◌, ◌++◌, ◌∷◌}
 use Rattle.std.proofs.Common.{[], get_or, length-append}
 use Rattle.std.specs.List.{list_any}
-use Rattle.djq_hyper.specs.Hypergraph.{member, edge_at}
-use Rattle.djq_lines.specs.declared.limits.TheConstants.{VARIABLES}
+use Rattle.djq_hypergraph.specs.Hypergraph.{member, edge_at}
+use Rattle.djq_protocol.specs.declared.limits.TheConstants.{VARIABLES}
 use Rattle.djq_query.specs.declared.numbered.NumberedAtom.{NumberedAtom}
 use Rattle.djq_query.specs.Numbered.{is_number, terms_at, are_below}
 use Rattle.djq_query.proofs.Edging.{atom_within, edge_pushed, edges_over}

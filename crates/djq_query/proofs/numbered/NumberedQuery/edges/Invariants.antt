@@ -1,6 +1,6 @@
 use Rattle.std.proofs.Common.{◌≡◌, ℕ, ◌<◌, length}
 use Rattle.std.specs.List.{list_any}
-use Rattle.djq_hyper.specs.Hypergraph.{member, edge_at}
+use Rattle.djq_hypergraph.specs.Hypergraph.{member, edge_at}
 use Rattle.djq_query.specs.Numbered.{is_number, terms_at}
 use Rattle.djq_query.proofs.numbered.NumberedQuery.edges.Given as goal
 

@@ -1,6 +1,6 @@
 -- The places were found once and stay, one for each variable, so what stands at the variable is its place.
 use Rattle.std.proofs.Common.{ℕ, List, ap, arith, ◌∙◌}
-use Rattle.djq_hyper.specs.declared.var_set.TheConstants.{VARIABLES}
+use Rattle.djq_hypergraph.specs.declared.var_set.TheConstants.{VARIABLES}
 use Rattle.djq_reduct.specs.Reducts.{Reducts}
 use Rattle.djq_reduct.specs.Columns.{column}
 use Rattle.djq_reduct.proofs.Heading.{place_read}

@@ -1,6 +1,6 @@
 -- Without tuples each table is the reduct of its children's; columns, places and levels are the tree's.
 use Rattle.std.proofs.Common.{◌≡◌, ℕ, List, ◌++◌, ◌∷◌, [], length, subst, sym, ap, arith, ◌∙◌}
-use Rattle.djq_hyper.specs.declared.var_set.TheConstants.{VARIABLES}
+use Rattle.djq_hypergraph.specs.declared.var_set.TheConstants.{VARIABLES}
 use Rattle.djq_index.specs.Table.{Table}
 use Rattle.djq_reduct.specs.Tables.{entries_at}
 use Rattle.djq_reduct.specs.Heads.{head_places}

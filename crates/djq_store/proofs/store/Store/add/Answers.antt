@@ -10,7 +10,7 @@ use Rattle.djq_store.proofs.Counting.{counts_seen}
 use Rattle.djq_store.proofs.Doing.{members_behind, order_few, unions_unwatched, engine_unwatched}
 use Rattle.djq_store.proofs.Rowed.{did_by, turn_low, turn_few, turn_comes, store_adds}
 use Rattle.djq_store.proofs.Rowing.{add_known, add_turns, add_grows}
-use Rattle.djq_rows.proofs.Lawful.{texts as texts_stay}
+use Rattle.djq_database.proofs.Lawful.{texts as texts_stay}
 use Rattle.djq_store.proofs.Below.{staying_laws}
 use Rattle.djq_store.proofs.store.Store.add.Goals as goal
 

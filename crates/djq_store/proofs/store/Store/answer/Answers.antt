@@ -1,7 +1,7 @@
 -- An id below 256 is that of a query in its place, any other a union's, whose answers its first member lends.
 use Rattle.std.proofs.Common.{◌≡◌, ◌-◌, ℕ, List, get_or, sym, subst}
 use Rattle.std.specs.Prelude.{Option, Some, IsSomeAnd, ⊤}
-use Rattle.djq_live.specs.Live.{IsShowable, values_of}
+use Rattle.djq_live_query.specs.Live.{IsShowable, values_of}
 use Rattle.djq_engine.specs.Kept.{Kept, AtPlace, IsShown, AnswerIs}
 use Rattle.djq_engine.specs.Places.{id_at}
 use Rattle.djq_store.specs.declared.joined.Joined.{Joined}

@@ -2,7 +2,7 @@
 use Rattle.std.proofs.Common.{◌≡◌, ◌<◌, ◌-◌, ℕ, List, get_or, length, sym, subst}
 use Rattle.std.specs.Prelude.{Option, Some, IsSomeAnd, slice_get, ⊤}
 use Rattle.djq_store_spec.specs.Delta.{Change}
-use Rattle.djq_live.specs.Live.{IsShowable, values_of}
+use Rattle.djq_live_query.specs.Live.{IsShowable, values_of}
 use Rattle.djq_engine.specs.Kept.{Kept, AtPlace, IsRegistered, told_at}
 use Rattle.djq_engine.specs.Places.{id_at}
 use Rattle.djq_store.specs.declared.joined.Joined.{Joined}

@@ -14,7 +14,7 @@ use Rattle.djq_store.proofs.Counting.{counts_batch_seen}
 use Rattle.djq_store.proofs.Doing.{members_behind, order_few, unions_unwatched, engine_unwatched}
 use Rattle.djq_store.proofs.Rowed.{did_by, turn_low, turn_few, turn_comes}
 use Rattle.djq_store.proofs.Batched.{batch_known, batch_turns, batch_grows, store_batches}
-use Rattle.djq_rows.proofs.Lawful.{texts as texts_stay}
+use Rattle.djq_database.proofs.Lawful.{texts as texts_stay}
 use Rattle.djq_store.proofs.Below.{staying_laws}
 use Rattle.djq_store.proofs.store.Store.done.Goals as goal
 

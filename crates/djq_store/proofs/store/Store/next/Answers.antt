@@ -3,7 +3,7 @@ use Rattle.std.proofs.Common.{List, ◌-◌, sym, subst}
 use Rattle.djq_engine.specs.declared.cursor.CursorId.{CursorId}
 use Rattle.djq_engine.specs.Kept.{Kept, IsHeld}
 use Rattle.std.specs.Prelude.{Option, IsSomeAnd}
-use Rattle.djq_live.specs.Live.{Live}
+use Rattle.djq_live_query.specs.Live.{Live}
 use Rattle.djq_united.specs.United.{AreKept}
 use Rattle.djq_store.specs.Moving.{MovesUnion, ReadsUnion, IsUnionReadable}
 use Rattle.djq_store.specs.Places.{joined_at, store_seen}

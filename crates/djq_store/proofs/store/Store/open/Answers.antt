@@ -6,7 +6,7 @@ use Rattle.djq_store.proofs.Moved.{cursor_of}
 use Rattle.djq_store.proofs.Unions.{open_union, open_lacks, opened_listed, opened_counted}
 use Rattle.djq_store.proofs.Given.{open_over, opened_rests, whole_opened}
 use Rattle.std.specs.Prelude.{Option, IsSomeAnd, Ok, Err, ⊤}
-use Rattle.djq_lines.specs.declared.answer.Refusal.TheVariants.{NoMemory}
+use Rattle.djq_protocol.specs.declared.answer.Refusal.TheVariants.{NoMemory}
 use Rattle.djq_store.specs.declared.joined.Joined.{Joined}
 use Rattle.djq_store.proofs.Named.{no_union, found_union}
 use Rattle.djq_store.proofs.Below.{staying_laws}

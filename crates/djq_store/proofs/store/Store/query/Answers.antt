@@ -1,10 +1,10 @@
 -- No union has the name and there are fewer than may be, so what the engine says of the query the store does.
 use Rattle.std.proofs.Common.{◌++◌, ◌∷◌, ◌<◌, ◌≤◌, [], List, ℕ, sym, subst, ◌∙◌, length, set, arith}
 use Rattle.std.specs.Prelude.{Result, Err, unwrap_or}
-use Rattle.djq_lines.specs.declared.answer.Refusal.{Refusal}
-use Rattle.djq_lines.specs.declared.answer.Refusal.TheVariants.{Taken, Limit}
-use Rattle.djq_lines.specs.declared.rest.QueryOutcome.{QueryOutcome}
-use Rattle.djq_lines.specs.declared.limits.TheConstants.{QUERIES}
+use Rattle.djq_protocol.specs.declared.answer.Refusal.{Refusal}
+use Rattle.djq_protocol.specs.declared.answer.Refusal.TheVariants.{Taken, Limit}
+use Rattle.djq_protocol.specs.declared.rest.QueryOutcome.{QueryOutcome}
+use Rattle.djq_protocol.specs.declared.limits.TheConstants.{QUERIES}
 use Rattle.djq_store_spec.specs.Registering.{RegistersQuery}
 use Rattle.djq_engine.specs.Kept.{Kept, SameCursors}
 use Rattle.djq_engine.specs.Watching.{Enrols, EnrolsTelling}

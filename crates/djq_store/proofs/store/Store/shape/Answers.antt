@@ -1,7 +1,7 @@
 -- A union found in its slot is what is registered under the name; where none is, only a query may be.
 use Rattle.std.proofs.Common.{subst}
 use Rattle.std.specs.Prelude.{Ok}
-use Rattle.djq_lines.specs.declared.answer.Shape.TheVariants.{Union}
+use Rattle.djq_protocol.specs.declared.answer.Shape.TheVariants.{Union}
 use Rattle.djq_store_spec.specs.Asking.{TellsShape}
 use Rattle.djq_engine.specs.Kept.{Kept}
 use Rattle.djq_store.proofs.Answering.{union_shape, query_shape}

@@ -1,0 +1,12 @@
+-- A relation that isn't touched is found as before, so a query that reads no other has the same answers.
+use Rattle.djq_answer_laws.proofs.Growing.{answers_rest, one_spares, batch_spares}
+use Rattle.djq_answer_laws.proofs.answers_rest.Goals as goal
+
+pub returns-clause-rest : goal.returns-clause-rest
+returns-clause-rest c = answers_rest
+
+pub returns-clause-changes : goal.returns-clause-changes
+returns-clause-changes c = one_spares
+
+pub returns-clause-batches : goal.returns-clause-batches
+returns-clause-batches c = batch_spares

@@ -1,0 +1,67 @@
+-- Changes by which rows only come, or only go: what they do to answers.
+use Rattle.std.specs.Prelude.{List, ◌≡◌, ◌↔◌, false, All, Contains}
+use Rattle.djq_model.specs.declared.relation.Relation.{Relation}
+use Rattle.djq_model.specs.declared.query.Query.{Query}
+use Rattle.djq_model.specs.Data.{Bytes, Tuple, rows_of}
+use Rattle.djq_model.specs.Answer.{IsAnswer}
+use Rattle.djq_model.specs.Listed.{Listed, AnswersOf}
+use Rattle.djq_protocol.specs.declared.answer.Sign.TheVariants.{Came, Went}
+use Rattle.djq_protocol.specs.declared.held.HeldRow.{HeldRow}
+use Rattle.djq_store_spec.specs.Store.{Store}
+use Rattle.djq_store_spec.specs.Changes.{RowsChange, row_in, row_out}
+use Rattle.djq_store_spec.specs.Batch.{rows_held}
+use Rattle.djq_store_spec.specs.Delta.{Change, IsDelta}
+use Rattle.djq_store_spec.specs.DeltaCost.{is_touched}
+
+-- The rows of each relation are among those that it has in the other.
+abbrev pub HaveRows : List Relation → List Relation → Type 0
+HaveRows few many = (name : Bytes) (row : Tuple) → Contains (rows_of few name) row
+    → Contains (rows_of many name) row
+
+-- Where rows only come, an answer stays one.
+abbrev pub AnswersStay : Type 0
+AnswersStay = (few many : List Relation) (q : Listed) (t : Tuple) → HaveRows few many → AnswersOf few q t
+    → AnswersOf many q t
+
+-- Where rows only come, answers only come: each change of a delta is one that came.
+abbrev pub AnswersCome : Type 0
+AnswersCome = (before after : List Relation) (q : Listed) (changes : List Change) → HaveRows before after
+    → IsDelta (AnswersOf before q) (AnswersOf after q) changes → All (λ c. c.sign ≡ Came) changes
+
+-- Where rows only go, answers only go.
+abbrev pub AnswersGo : Type 0
+AnswersGo = (before after : List Relation) (q : Listed) (changes : List Change) → HaveRows after before
+    → IsDelta (AnswersOf before q) (AnswersOf after q) changes → All (λ c. c.sign ≡ Went) changes
+
+-- By a row that comes, rows only come.
+abbrev pub RowComes : Type 0
+RowComes = (relations : List Relation) (name : Bytes) (row : Tuple)
+    → HaveRows relations (row_in relations name row).after
+
+-- By a batch, rows only come.
+abbrev pub RowsCome : Type 0
+RowsCome = (st : Store) (held : List HeldRow) → HaveRows st.relations (rows_held st held).after
+
+-- By a row that goes, rows only go.
+abbrev pub RowGoes : Type 0
+RowGoes = (relations : List Relation) (name : Bytes) (row : Tuple)
+    → HaveRows (row_out relations name row).after relations
+
+-- A change leaves each relation that it doesn't touch as it was.
+abbrev pub SparesOthers : List Relation → RowsChange → Type 0
+SparesOthers before change = (name : Bytes) → change.touches name ≡ false
+    → rows_of change.after name ≡ rows_of before name
+
+-- A row that comes or goes leaves each other relation as it was.
+abbrev pub ChangesSpareOthers : Type 0
+ChangesSpareOthers = (relations : List Relation) (name : Bytes) (row : Tuple)
+    → SparesOthers relations (row_in relations name row) × SparesOthers relations (row_out relations name row)
+
+-- A batch leaves each relation that it doesn't touch as it was.
+abbrev pub BatchesSpareOthers : Type 0
+BatchesSpareOthers = (st : Store) (held : List HeldRow) → SparesOthers st.relations (rows_held st held)
+
+-- A query that reads no relation that a change touches keeps its answers.
+abbrev pub AnswersRest : Type 0
+AnswersRest = (before : List Relation) (change : RowsChange) (q : Query) → SparesOthers before change
+    → is_touched change q ≡ false → (t : Tuple) → IsAnswer before q t ↔ IsAnswer change.after q t

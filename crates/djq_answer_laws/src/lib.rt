@@ -1,0 +1,75 @@
+//! That answers are decided and finitely many, and that every change of relations has a delta.
+//!
+//! Each function here is empty: its contract is the law, and its proof says nothing of code. What a
+//! change brings and takes is then a list that may be spoken of, also where a program never made
+//! it: where its log was lost, or a row was refused.
+//!
+//! ```text
+//! q(x) <- r(x,y)     r before: (1,5) (2,5)     behind: (1,5) (1,6)
+//!
+//! answers            1, 2                      1
+//! the delta          - 2                       1 stays an answer, so nothing came
+//! ```
+//!
+//! What this crate is not: it lists nothing that anybody runs. Deltas are told by djq_engine, off
+//! the marks that an update leaves (djq_enumeration).
+//!
+//! What surprises: it isn't obvious that there are such lists. An answer is what an assignment of
+//! values to all names gives on the head, and there are infinitely many of these. So the laws ask
+//! that each variable of a head stands in the body, as the protocol asks of a query.
+//!
+//! Inside, a bound answer takes its values from rows, so those to try are finitely many, and each
+//! is decided by trying the choices of a row for each atom. A variable that only comparisons bind
+//! is given the first of a few values that passes them: their constants, and the numbers as far as
+//! one that is past them all. [`deltas_exist`] then compares two listings.
+//!
+//! djq_engine cites [`deltas_exist`] of changes whose delta no log tells, and djq_run_laws
+//! [`answers_are_decided`] where a listing and a delta are added up.
+#![tactic(auto)]
+
+ghost use Rattle.djq_answer_laws.specs.Decided.{AnswersAreDecided};
+ghost use Rattle.djq_answer_laws.specs.Finite.{AnswersAreFinite, DeltasExist};
+ghost use Rattle.djq_answer_laws.specs.Bounded.{AnswersAreBounded};
+ghost use Rattle.djq_answer_laws.specs.Growing.{AnswersStay, AnswersCome, AnswersGo, RowComes, RowsCome, RowGoes};
+ghost use Rattle.djq_answer_laws.specs.Growing.{ChangesSpareOthers, BatchesSpareOthers, AnswersRest};
+
+/// A tuple is an answer of what is registered over some relations, or it isn't.
+pub fn answers_are_decided()
+    ensures { AnswersAreDecided }
+{}
+
+/// What is registered has finitely many answers: a query, where each variable of its head stands in
+/// its body, and a union where that holds of its members.
+pub fn answers_are_finite()
+    ensures { AnswersAreFinite }
+{}
+
+/// So each change of relations has a delta: the answers that came and those that went, each once.
+pub fn deltas_exist()
+    ensures { DeltasExist }
+{}
+
+/// It has no more answers than there are choices of a row for each of its atoms; a union no more than
+/// its members together.
+pub fn answers_are_bounded()
+    ensures { AnswersAreBounded }
+{}
+
+/// Where rows only come, as by a row that is added and by a batch, answers only come; where they only go,
+/// as by a row that is deleted, answers only go.
+pub fn answers_follow_rows()
+    ensures stay { AnswersStay }
+    ensures come { AnswersCome }
+    ensures go { AnswersGo }
+    ensures added { RowComes }
+    ensures batched { RowsCome }
+    ensures deleted { RowGoes }
+{}
+
+/// A change leaves the relations that it doesn't touch as they were, and so the answers of a query that
+/// reads none that it touches.
+pub fn answers_rest()
+    ensures rest { AnswersRest }
+    ensures changes { ChangesSpareOthers }
+    ensures batches { BatchesSpareOthers }
+{}

@@ -1,0 +1,36 @@
+//! How far one cursor has come.
+ghost use Rattle.std.specs.Prelude.{◌≡◌};
+ghost use Rattle.djq_cursors.specs.Slots.{outdated_progress};
+
+use djq_model::Name;
+
+/// How far a cursor has come.
+#[derive(Debug, Drop)]
+pub enum Progress<C> {
+    /// It goes on.
+    Open {
+        /// The listing, on its way.
+        cursor: C,
+        /// Whether it was answered last that none is left.
+        ended: bool,
+    },
+    /// Its answers have changed.
+    Stale {
+        /// The relation whose change made it stale.
+        relation: Name,
+        /// The number of that change.
+        seq: u64,
+    },
+}
+
+impl<C: Drop> Progress<C> {
+    /// Makes a cursor stale that goes on.
+    pub(crate) fn outdate(&mut self, relation: Name, seq: u64)
+        ensures { self.new ≡ outdated_progress relation seq self.old }
+    {
+        match self {
+            Progress::Open { .. } => *self = Progress::Stale { relation, seq },
+            Progress::Stale { .. } => {}
+        }
+    }
+}

@@ -1,6 +1,0 @@
--- Finitely many choices of rows are to be tried, and what only comparisons bind takes a value that passes.
-use Rattle.djq_deltas.proofs.Deciding.{answers_are_decided}
-use Rattle.djq_deltas.proofs.answers_are_decided.Goals as goal
-
-pub returns : goal.returns
-returns c = answers_are_decided

@@ -1,6 +1,0 @@
--- The listings before and behind a change are compared: what one lacks of the other came or went.
-use Rattle.djq_deltas.proofs.Finite.{deltas_exist}
-use Rattle.djq_deltas.proofs.deltas_exist.Goals as goal
-
-pub returns : goal.returns
-returns c = deltas_exist

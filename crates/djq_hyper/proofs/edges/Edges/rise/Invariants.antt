@@ -1,7 +1,0 @@
-use Rattle.std.specs.Prelude.{ℕ, ◌<◌}
-use Rattle.djq_hyper.specs.Hypergraph.{edge_at}
-use Rattle.djq_hyper.specs.Variables.{IsVariableSet}
-use Rattle.djq_hyper.proofs.edges.Edges.rise.Given as goal
-
-abbrev pub invariant-loop-set : goal.invariant-loop-set
-invariant-loop-set l = (p : ℕ) → p < l.set-index → IsVariableSet (edge_at l.self p)

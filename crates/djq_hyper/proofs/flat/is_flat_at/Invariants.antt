@@ -1,6 +1,0 @@
-use Rattle.std.specs.Prelude.{take}
-use Rattle.djq_hyper.proofs.Flatness.{Compares}
-use Rattle.djq_hyper.proofs.flat.is_flat_at.Given as goal
-
-abbrev pub invariant-edges : goal.invariant-edges
-invariant-edges l = Compares (take l.i l.edges) l.fn.all l.variable l.shared l.near l.far

@@ -1,7 +1,0 @@
--- The word zero stands for no variable.
-use Rattle.std.proofs.Common.{refl}
-use Rattle.djq_hyper.proofs.Words.{none_of}
-use Rattle.djq_hyper.proofs.var_set.VarSet.new.Goals as goal
-
-pub returns : goal.returns
-returns c = none_of 0 refl

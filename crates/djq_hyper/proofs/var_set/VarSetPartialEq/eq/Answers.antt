@@ -1,7 +1,0 @@
--- A set's variables make up its word again, so equal lists of variables come from equal words.
-use Rattle.std.proofs.Common.{arith}
-use Rattle.djq_hyper.specs.Insides.{mask_seen}
-use Rattle.djq_hyper.proofs.var_set.VarSetPartialEq.eq.Goals as goal
-
-pub returns : goal.returns
-returns c = grind (arith, mask_seen)

@@ -1,6 +1,0 @@
--- What a finished cursor has given is a listing, and to a listing a watching session adds up its deltas.
-use Rattle.djq_laws.proofs.Live.{listings_stay_live}
-use Rattle.djq_laws.proofs.listings_stay_live.Goals as goal
-
-pub returns : goal.returns
-returns c = listings_stay_live

@@ -1,6 +1,0 @@
--- Known texts keep their cells, and a tuple gives one row only, so no other row's tuple is lost, in Changing.
-use Rattle.djq_live.proofs.Changing.{over_loses}
-use Rattle.djq_live.proofs.changes.over_loses.Goals as goal
-
-pub returns : goal.returns
-returns c = over_loses

@@ -1,6 +1,0 @@
--- An assignment is in all leaves exactly where it satisfies all atoms and passes all comparisons, in Showing.
-use Rattle.djq_live.proofs.Showing.{are_shown}
-use Rattle.djq_live.proofs.laws.answers_are_shown.Goals as goal
-
-pub returns : goal.returns
-returns c = are_shown

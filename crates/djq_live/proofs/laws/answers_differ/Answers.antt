@@ -1,6 +1,0 @@
--- For each variable of the head, two cells that stand for the same value of its type are the same.
-use Rattle.djq_live.proofs.Showing.{differ}
-use Rattle.djq_live.proofs.laws.answers_differ.Goals as goal
-
-pub returns : goal.returns
-returns c = differ

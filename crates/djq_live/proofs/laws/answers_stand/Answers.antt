@@ -1,6 +1,0 @@
--- The value that an answer shows for a variable of the head is the one that its cell stands for.
-use Rattle.djq_live.proofs.Showing.{stand}
-use Rattle.djq_live.proofs.laws.answers_stand.Goals as goal
-
-pub returns : goal.returns
-returns c = stand

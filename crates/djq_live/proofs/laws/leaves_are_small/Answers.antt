@@ -1,6 +1,0 @@
--- Different tuples of a leaf give different rows of its relation, in Small, so it can't have more.
-use Rattle.djq_live.proofs.Small.{leaves_small}
-use Rattle.djq_live.proofs.laws.leaves_are_small.Goals as goal
-
-pub returns : goal.returns
-returns c = leaves_small

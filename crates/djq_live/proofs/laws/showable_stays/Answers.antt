@@ -1,6 +1,0 @@
--- Known texts keep their numbers, so a cell stands for the same value over any later catalog.
-use Rattle.djq_live.proofs.Showable.{stays_showable}
-use Rattle.djq_live.proofs.laws.showable_stays.Goals as goal
-
-pub returns : goal.returns
-returns c = stays_showable

@@ -1,5 +1,0 @@
-use Rattle.djq_live.proofs.Picking.{IsFrom}
-use Rattle.djq_live.proofs.lookup.place_of.Given as goal
-
-abbrev pub invariant-loop-at : goal.invariant-loop-at
-invariant-loop-at l = IsFrom l.head l.variable l.at

@@ -1,6 +1,0 @@
--- Place by place the cell stands for the value shown, and the head's variables have the answers' types.
-use Rattle.djq_live.proofs.Standing.{cells_stand}
-use Rattle.djq_live.proofs.member.cells_in_head_stand.Goals as goal
-
-pub returns : goal.returns
-returns c = cells_stand

@@ -1,6 +1,0 @@
--- Cells that are had are those of some answer of the tree, and these stand for the values that it shows.
-use Rattle.djq_live.proofs.Standing.{had_stand}
-use Rattle.djq_live.proofs.member.had_cells_stand.Goals as goal
-
-pub returns : goal.returns
-returns c = had_stand

@@ -1,6 +1,0 @@
--- What can be shown has a cell for each variable of the head that stands for the value shown there.
-use Rattle.djq_live.proofs.Standing.{showable_stand}
-use Rattle.djq_live.proofs.member.showable_cells_stand.Goals as goal
-
-pub returns : goal.returns
-returns c = showable_stand

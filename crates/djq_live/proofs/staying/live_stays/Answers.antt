@@ -1,6 +1,0 @@
--- Where no rows change, tables stay those of the query, and known texts keep their values.
-use Rattle.djq_live.proofs.Untouched.{stays_lives}
-use Rattle.djq_live.proofs.staying.live_stays.Goals as goal
-
-pub returns : goal.returns
-returns c = stays_lives

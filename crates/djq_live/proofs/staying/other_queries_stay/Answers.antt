@@ -1,6 +1,0 @@
--- No atom is over the row's relation, so what each leaf should hold is what it held: it is one of many rows.
-use Rattle.djq_live.proofs.Untouched.{came_lives}
-use Rattle.djq_live.proofs.staying.other_queries_stay.Goals as goal
-
-pub returns : goal.returns
-returns c = came_lives

@@ -1,6 +1,0 @@
--- That a line is read as a command exactly where it spells it is a law of its own, in Spelled.
-use Rattle.djq_proto.proofs.Spelled.{commands_are_spelled}
-use Rattle.djq_proto.proofs.laws.commands_are_spelled.Goals as goal
-
-pub returns : goal.returns
-returns c = commands_are_spelled

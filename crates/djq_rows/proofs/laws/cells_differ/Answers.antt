@@ -1,6 +1,0 @@
--- A row is read back from its cells, by its columns' types and the known texts.
-use Rattle.djq_rows.proofs.Lawful.{differ}
-use Rattle.djq_rows.proofs.laws.cells_differ.Goals as goal
-
-pub returns : goal.returns
-returns c = differ

@@ -1,6 +1,0 @@
--- A known text keeps its place as others come behind it, so each value keeps its cell.
-use Rattle.djq_rows.proofs.Lawful.{stay}
-use Rattle.djq_rows.proofs.laws.cells_stay.Goals as goal
-
-pub returns : goal.returns
-returns c = stay

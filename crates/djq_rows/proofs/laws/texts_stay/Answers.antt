@@ -1,6 +1,0 @@
--- Each text that is learned comes behind the others or was known: by induction over the texts.
-use Rattle.djq_rows.proofs.Lawful.{texts}
-use Rattle.djq_rows.proofs.laws.texts_stay.Goals as goal
-
-pub returns : goal.returns
-returns c = texts

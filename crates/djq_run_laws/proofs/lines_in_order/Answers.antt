@@ -1,0 +1,6 @@
+-- By induction over the steps: bytes that come change nothing of a whole line that is held before them.
+use Rattle.djq_run_laws.proofs.Cutting.{in_order}
+use Rattle.djq_run_laws.proofs.lines_in_order.Goals as goal
+
+pub returns : goal.returns
+returns c = in_order

@@ -1,0 +1,6 @@
+-- What a finished cursor has given is a listing, and to a listing a watching session adds up its deltas.
+use Rattle.djq_run_laws.proofs.Live.{listings_stay_live}
+use Rattle.djq_run_laws.proofs.listings_stay_live.Goals as goal
+
+pub returns : goal.returns
+returns c = listings_stay_live

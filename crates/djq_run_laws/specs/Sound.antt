@@ -1,0 +1,143 @@
+-- What holds of every state that the machine comes to.
+use Rattle.std.specs.Prelude.{
+  ℕ,
+  List,
+  [],
+  ◌≡◌,
+  ◌≢◌,
+  ◌≤◌,
+  true,
+  false,
+  None,
+  Some,
+  IsSome,
+  IfSome,
+  length,
+  map,
+  All,
+  AllPairs,
+}
+use Rattle.djq_model.specs.declared.relation.Relation.{Relation}
+use Rattle.djq_model.specs.declared.query.Query.{Query}
+use Rattle.djq_model.specs.Data.{Bytes, tuples_in}
+use Rattle.djq_model.specs.Answer.{AreDifferent}
+use Rattle.djq_model.specs.Listed.{Listed, a_query, a_union, listed_name, listed_of}
+use Rattle.djq_model.specs.Typed.{fits}
+use Rattle.djq_protocol.specs.declared.limits.TheConstants.{SESSIONS, TEXTS, COPIES, HELD, MEMBERS}
+use Rattle.djq_protocol.specs.declared.held.HeldRow.{HeldRow}
+use Rattle.djq_protocol.specs.declared.command.Command.TheVariants.{Add}
+use Rattle.djq_protocol.specs.Grammar.{says_command, reading_of}
+use Rattle.djq_protocol.specs.Hypergraph.{edges_of, head_of}
+use Rattle.djq_protocol.specs.QueryFault.{reads_unknown}
+use Rattle.djq_store_spec.specs.Batch.{SuitAll}
+use Rattle.djq_hypergraph.specs.JoinTree.{IsFreeConnex}
+use Rattle.djq_store_spec.specs.Asking.{answer_types, listed_types}
+use Rattle.djq_store_spec.specs.Store.{Store, Position, open_at, stale}
+use Rattle.djq_machine.specs.State.{State, Session, Cursor, opening}
+use Rattle.djq_machine.specs.Run.{Did, Run}
+use Rattle.djq_run_laws.specs.Rising.{AreRising}
+
+-- No two of these names, or texts, are equal.
+abbrev pub AreApart : List Bytes → Type 0
+AreApart names = AllPairs (λ a b. a ≢ b) names
+
+-- a number of copies that a row may have: one at least
+abbrev pub IsCopyCount : ℕ → Type 0
+IsCopyCount n = (1 ≤ n) × (n ≤ COPIES)
+
+-- The rows of a relation are of its columns' types, and none stands twice; each has copies.
+pub record IsSoundRelation (r : Relation) : Type 0 where
+  pub typed : All (λ row. fits r.types row ≡ true) (tuples_in r)
+  pub once : AreDifferent (tuples_in r)
+  pub copies : All (λ c. IsCopyCount c.copies) r.rows
+
+-- What is registered is free-connex: a query is, and so is each member of a union.
+abbrev pub IsConnex : Listed → Type 0
+IsConnex (a_query q) = IsFreeConnex (edges_of q) (head_of q)
+IsConnex (a_union name qs) = All (λ q. IsFreeConnex (edges_of q) (head_of q)) qs
+
+-- A union has two members at least and no more than may be. Each is registered, none twice, and the
+-- answers of each are of the union's types.
+pub record IsSoundUnion (relations : List Relation) (queries : List Listed) (name : Bytes)
+    (members : List Query) : Type 0 where
+  pub two : 2 ≤ length members
+  pub few : length members ≤ MEMBERS
+  pub registered : All (λ q. listed_of queries q.name ≡ Some (a_query q)) members
+  pub apart : AreApart (map (λ q. q.name) members)
+  pub types : All
+      (λ q. answer_types relations q ≡ listed_types relations (Some (a_union name members))) members
+
+-- Beside these relations and what else is registered, a query reads relations that are there, and a
+-- union is sound.
+abbrev pub IsSoundListed : List Relation → List Listed → Listed → Type 0
+IsSoundListed relations queries (a_query q) = reads_unknown relations q ≡ false
+IsSoundListed relations queries (a_union name qs) = IsSoundUnion relations queries name qs
+
+-- Relations have names of their own, and what is registered, each of which is free-connex and sound;
+-- and each known text is known once, and no more are than may be.
+pub record IsSoundStore (st : Store) : Type 0 where
+  pub relations : AreApart (map (λ r. r.name) st.relations)
+  pub rows : All IsSoundRelation st.relations
+  pub texts : AreApart st.texts
+  pub few : length st.texts ≤ TEXTS
+  pub queries : AreApart (map listed_name st.queries)
+  pub connex : All IsConnex st.queries
+  pub listed : All (IsSoundListed st.relations st.queries) st.queries
+
+-- An open cursor has given no answer twice.
+abbrev pub GaveOnce : Position → Type 0
+GaveOnce (open_at given finished) = AreDifferent given
+GaveOnce (stale r n) = Unit {0}
+
+-- A cursor, stale or not, is over a registered query.
+pub record IsSoundCursor (queries : List Listed) (c : Cursor) : Type 0 where
+  pub registered : IsSome (listed_of queries c.query)
+  pub once : GaveOnce c.position
+
+-- A row that is held was said by its line.
+pub record IsHeldBySaying (h : HeldRow) : Type 0 where
+  pub said : reading_of h.line ≡ says_command (Add h.relation h.row)
+
+-- A batch holds no more rows than it may, each suits its relation, and its line says it.
+pub record IsSoundBatch (st : Store) (held : List HeldRow) : Type 0 where
+  pub few : length held ≤ HELD
+  pub suit : SuitAll st held
+  pub lines : All IsHeldBySaying held
+
+-- A session's cursors have names of their own, what it watches are registered queries, each once, and
+-- its batch is sound. A session that has ended has no cursors, no watches and no batch.
+pub record IsSoundSession (st : Store) (x : Session) : Type 0 where
+  pub cursors : All (IsSoundCursor st.queries) x.cursors
+  pub names : AreApart (map (λ c. c.name) x.cursors)
+  pub registered : All (λ w. IsSome (listed_of st.queries w)) x.watches
+  pub once : AreApart x.watches
+  pub batch : IfSome x.batch (IsSoundBatch st)
+  pub ended : IsSome x.cause → (x.cursors ≡ []) × (x.watches ≡ []) × (x.batch ≡ None)
+
+-- The store and each session are sound, and no more sessions are open than may be, by rising id.
+pub record IsSoundState (st : State) : Type 0 where
+  pub store : IsSoundStore st.store
+  pub sessions : All (IsSoundSession st.store) st.sessions
+  pub rising : AreRising st
+  pub few : length st.sessions ≤ SESSIONS
+
+-- Every run from a sound state comes to one.
+abbrev pub RunsKeepSound : Type 0
+RunsKeepSound = (old : State) (done : List Did) (new : State) → Run old done new → IsSoundState old
+    → IsSoundState new
+
+-- A state to start from: what is kept of the data is sound, no session is open, so that nothing is
+-- queued, and none has said `stop`.
+pub record IsStart (st : State) : Type 0 where
+  pub store : IsSoundStore st.store
+  pub none : st.sessions ≡ []
+  pub going : st.stopped ≡ false
+
+-- The state in which nothing has happened is one.
+abbrev pub OpeningIsStart : Type 0
+OpeningIsStart = IsStart opening
+
+-- Each state that a run comes to from a state to start from is sound.
+abbrev pub StatesAreSound : Type 0
+StatesAreSound = (start : State) → IsStart start → (done : List Did) (new : State)
+    → Run start done new → IsSoundState new

@@ -1,0 +1,180 @@
+//! Laws that hold of every run of the join machine, whatever program makes it.
+//!
+//! Each function here is empty: its contract is the law, and its proof says nothing of code. So a
+//! reader finds the laws in one place, and a program that makes a run has them of that run. They
+//! hold from any state on, over any number of sessions.
+//!
+//! ```text
+//! 1 says  open c q, next c 9      = 1 5, end                       a listing: (1,5)
+//! 1 says  watch q                 ok watch 3
+//! 2 says  add r 2 5               to 1: + q 2 5, at q 4
+//! listings_stay_live              (1,5) (2,5) is a listing of q over the rows behind it
+//! ```
+//!
+//! What this crate is not: it makes no run, and doesn't say that a program makes one. That djq_run
+//! and djq_serve promise, and djq puts the two together in what `run_program` promises. The laws on
+//! lines that are kept are djq_log_laws's.
+//!
+//! What surprises: `specs/Course.antt` says what the program may make of a run under the words
+//! `run`, and what its source, its sink and its counters show of it. It is the one reason that this
+//! crate stands on djq_io, and that it has limits. Whoever makes a course, djq_run, cites it.
+//!
+//! Inside, a law over commands goes by their forms: `specs/Form.antt` says what each command may
+//! change, and `proofs/Forms.antt` that it does. A new command is given a form there. Laws over
+//! runs go by induction over steps, each law in a file of `specs/` with the notions that it needs.
+//! That a tuple is an answer of a query or isn't is a law of djq_answer_laws, on which [`deltas_add_up`]
+//! rests.
+#![tactic(auto)]
+
+ghost use Rattle.djq_run_laws.specs.Moved.{StaysOpen, BytesCome, BytesAreTaken, InputEnds, LineIsTaken};
+ghost use Rattle.djq_run_laws.specs.Rising.{IdsRise};
+ghost use Rattle.djq_run_laws.specs.Sent.{SentBytes, SentInOrder};
+ghost use Rattle.djq_run_laws.specs.Lines.{LinesInOrder};
+ghost use Rattle.djq_run_laws.specs.Given.{RunsGive, CoursesGive};
+ghost use Rattle.djq_run_laws.specs.Added.{DeltasAddUp};
+ghost use Rattle.djq_run_laws.specs.Watched.{WatchersHaveAnswers};
+ghost use Rattle.djq_run_laws.specs.Staying.{WatchersStay};
+ghost use Rattle.djq_run_laws.specs.Stopping.{KeptSaysNoStop};
+ghost use Rattle.djq_run_laws.specs.Silent.{OverIsSilent, OverOnce};
+ghost use Rattle.djq_run_laws.specs.Live.{ListingsStayLive};
+ghost use Rattle.djq_run_laws.specs.Sound.{RunsKeepSound, OpeningIsStart, StatesAreSound};
+ghost use Rattle.djq_run_laws.specs.Copies.{RowsHaveCopies, AddsCopy, TakesCopy, AddsHeld};
+ghost use Rattle.djq_run_laws.specs.Listed.{GivenIsTold, ListedIsTold};
+
+/// A session that is open stays so in every step that doesn't close it.
+pub fn stays_open()
+    ensures { StaysOpen }
+{}
+
+/// Bytes that come to a session are held behind those that were, or dropped where it has ended; or
+/// it ends out of memory, and says so.
+pub fn bytes_come()
+    ensures { BytesCome }
+{}
+
+/// Bytes that are taken of a session are the first of those that were pending, and nothing else of
+/// it changes.
+pub fn bytes_are_taken()
+    ensures { BytesAreTaken }
+{}
+
+/// A session whose input ends keeps the cause that it has, or that one; and a line says so where
+/// bytes were held.
+pub fn input_ends()
+    ensures { InputEnds }
+{}
+
+/// A line is taken of a session that hadn't ended, and is gone from the bytes held. What became of
+/// it says whether the session ends, and by which cause.
+pub fn line_is_taken()
+    ensures { LineIsTaken }
+{}
+
+/// Each state that a run comes to from a state to start from is sound: relations, queries, known
+/// texts, the rows of a relation and the answers that an open cursor has given are without repeats;
+/// rows are of their columns' types, each with one copy at least; queries read relations that are
+/// there, and are free-connex; the members of a union are registered queries, two at least, none
+/// twice, with answers of the same types; cursors and watches are of what is registered; the rows
+/// that a batch holds suit their relations, each said by its line; a session that has ended has none
+/// of them; and copies, texts, held rows and sessions are within their limits, sessions by rising id.
+/// Every run keeps it so. The state in which nothing has happened is one to start from.
+pub fn states_are_sound()
+    ensures kept { RunsKeepSound }
+    ensures opening { OpeningIsStart }
+    ensures reached { StatesAreSound }
+{}
+
+/// Relations are bags. A row is there exactly where it has a copy. An `add` that is done makes one
+/// copy of its row more, a `del` one less where there is one, and each tells how many there are
+/// then; every other row has as many as before. A change is counted exactly where a row gets its
+/// first copy or loses its last. A `done` that is done makes as many copies more of each row as its
+/// batch holds, and counts one change exactly where one of them gets its first.
+pub fn copies_are_counted()
+    ensures there { RowsHaveCopies }
+    ensures added { AddsCopy }
+    ensures taken { TakesCopy }
+    ensures held { AddsHeld }
+{}
+
+/// A step that keeps a group of lines says no `stop`. So where a group that is to be kept can't be,
+/// no session said it yet.
+pub fn kept_says_no_stop()
+    ensures { KeptSaysNoStop }
+{}
+
+/// The open sessions stay by rising id, along every run.
+pub fn ids_rise()
+    ensures { IdsRise }
+{}
+
+/// What was taken or dropped of a session's bytes, and then what is pending, is what was pending
+/// and all that was queued to it, in order: along every run.
+pub fn sent_bytes()
+    ensures { SentBytes }
+{}
+
+/// What was taken of a session's bytes comes before what was dropped as it closed, and before what
+/// is pending: along every run in which no session opens twice.
+pub fn sent_in_order()
+    ensures { SentInOrder }
+{}
+
+/// Nothing is queued to a session that has ended, or isn't open: no reply, and no delta. It stays so
+/// until a session of its id opens; of one that was open, for good, where none opens twice.
+pub fn ended_are_told_nothing()
+    ensures silent { OverIsSilent }
+    ensures once { OverOnce }
+{}
+
+/// A session's bytes are run in order, whatever the other sessions do: along every run in which it
+/// isn't closed, the lines taken of it are those that its bytes are cut into.
+pub fn lines_in_order()
+    ensures { LinesInOrder }
+{}
+
+/// Along every run an open cursor has given different answers of its query over the present rows,
+/// and once its last answer was `end` all of them, each once.
+pub fn runs_give()
+    ensures { RunsGive }
+{}
+
+/// What an open cursor has given is what its session was told since it opened it: the replies to
+/// its `next` lines, but those that a batch doesn't let through, are page by page those answers, in
+/// order, and the last of them tells the end exactly where the cursor is finished. So a session that
+/// has listed a query was told each answer over the present rows, once.
+pub fn given_is_told()
+    ensures given { GivenIsTold }
+    ensures listed { ListedIsTold }
+{}
+
+/// Every course of the program has the headline: the bytes sent, the lines taken, and what the
+/// cursors gave.
+pub fn courses_give()
+    ensures { CoursesGive }
+{}
+
+/// A listing and the delta of a change come to a listing of the answers behind it: a session that
+/// takes out the answers that went, and puts in those that came, has what it would list anew.
+pub fn deltas_add_up()
+    ensures { DeltasAddUp }
+{}
+
+/// A session that watches a query all along a run, and adds up what it is told of it, has the
+/// answers of the query over the present rows. It is told each accepted change of a relation that
+/// the query reads.
+pub fn watchers_have_answers()
+    ensures { WatchersHaveAnswers }
+{}
+
+/// A session that watches a registered query does so as long as it goes on and doesn't unwatch it:
+/// the query stays registered.
+pub fn watchers_stay()
+    ensures { WatchersStay }
+{}
+
+/// A session that has listed a query through a cursor, and watches it, has the answers over the
+/// present rows by adding up what it is told, as long as it goes on and doesn't unwatch it: one
+/// delta for each accepted change of a relation that the query reads, by rising number.
+pub fn listings_stay_live()
+    ensures { ListingsStayLive }
+{}

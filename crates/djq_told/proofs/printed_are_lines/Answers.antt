@@ -1,6 +1,0 @@
--- A reply is printed of names, numbers and values within their limits, and none of these has an LF inside.
-use Rattle.djq_told.proofs.Lines.{printed_are_lines}
-use Rattle.djq_told.proofs.printed_are_lines.Goals as goal
-
-pub returns : goal.returns
-returns c = printed_are_lines
