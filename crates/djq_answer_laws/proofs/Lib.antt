@@ -1,8 +1,4 @@
 pub mod Lists
-pub mod Comparing
-pub mod Deciding
-pub mod Naive
-pub mod Finite
-pub mod Cases
-pub mod Choosing
-pub mod Growing
+pub mod Decisions
+pub mod Listings
+pub mod Choices

@@ -1,10 +1,5 @@
-pub mod Lists
-pub mod Chaining
-pub mod Following
-pub mod Bucketing
-pub mod Storing
-pub mod Filling
-pub mod Growing
-pub mod RowLemmas
-pub mod Seeking
-pub mod Accounts
+pub mod Chains
+pub mod Buckets
+pub mod Stores
+pub mod Slots
+pub mod Rows

@@ -1,56 +1,23 @@
 -- Constants become known, one after another.
-use Rattle.std.proofs.Common.{
-  ◌≡◌,
-  ℕ,
-  zero,
-  suc,
-  ◌+◌,
-  ◌<◌,
-  ◌≤◌,
-  Bool,
-  true,
-  false,
-  List,
-  [],
-  ◌∷◌,
-  ◌++◌,
-  length,
-  take,
-  drop,
-  refl,
-  ap,
-  sym,
-  subst,
-  ◌∙◌,
-  inl,
-  inr,
-  arith,
-  append_assoc,
-  append-nil,
-}
+use Rattle.std.proofs.Common.{◌≡◌, ℕ, zero, suc, ◌+◌, ◌<◌, ◌≤◌, Bool, true, false, List, [], ◌∷◌, ◌++◌, length, take}
+use Rattle.std.proofs.Common.{drop, refl, ap, sym, subst, ◌∙◌, inl, inr, arith, append_assoc, append-nil}
 use Rattle.std.specs.Prelude.{⊤, ◌&&◌, ◌==◌, Result, Ok, Err, get_or, if◌then◌else◌, nat_le}
 use Rattle.std.specs.List.{flat_map}
 use Rattle.std.proofs.lemmas.Bool.{cases_eq, eq-eqb, false≢true, le-leb}
 use Rattle.std.proofs.lemmas.Grind.{flat_map-append}
 use Rattle.std.proofs.lemmas.List.{drop_all, take_more, take-append-drop, take_all}
+use Rattle.djq_dictionary.specs.declared.refusal.InternRefusal.{InternRefusal}
+use Rattle.djq_dictionary.specs.declared.refusal.InternRefusal.TheVariants.{Full, NoMem}
 use Rattle.djq_model.specs.declared.value.Value.{Value}
 use Rattle.djq_model.specs.declared.value.Value.TheVariants.{Int, Text}
 use Rattle.djq_model.specs.declared.query.Atom.{Atom}
 use Rattle.djq_model.specs.declared.query.Comparison.{Comparison}
 use Rattle.djq_model.specs.Data.{Bytes, Tuple}
 use Rattle.djq_model.specs.Known.{all_learned, knows, texts_in}
-use Rattle.djq_protocol.specs.Variables.{
-  constant_of,
-  compared_behind,
-  compared_last,
-  constants_from,
-}
-use Rattle.djq_dictionary.specs.declared.refusal.InternRefusal.{InternRefusal}
-use Rattle.djq_dictionary.specs.declared.refusal.InternRefusal.TheVariants.{Full, NoMem}
+use Rattle.djq_protocol.specs.Variables.{constant_of, compared_behind, compared_last, constants_from}
 use Rattle.djq_database.specs.Cells.{HasCell, HaveCells}
 use Rattle.djq_database.specs.Changes.{InternsValue}
-use Rattle.djq_database.proofs.Encoding.{have_grown}
-use Rattle.djq_database.proofs.Learning.{Grown, all_grown, all_learned-append, grown_is, texts_in-append}
+use Rattle.djq_database.proofs.Cells.{have_grown, Grown, all_grown, all_learned-append, grown_is, texts_in-append}
 use Rattle.djq_binder.specs.Planning.{InternsConstants}
 
 have_both : (texts : List Bytes) (xs ys : Tuple) → HaveCells texts xs → HaveCells texts ys

@@ -1,5 +1,3 @@
-pub mod Members
-pub mod Ordering
-pub mod Sets
-pub mod Graphs
+pub mod EdgeOrder
+pub mod Hypergraphs
 pub mod Interning

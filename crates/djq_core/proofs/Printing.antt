@@ -1,7 +1,6 @@
--- A delta as it is printed, line by line.
-use Rattle.std.proofs.Common.{ℕ, ◌+◌, ◌≤◌, ◌≡◌, ◌++◌, true, false, List, [], ◌∷◌, length, take}
-use Rattle.std.proofs.Common.{option_map, Option, None, Some, Result, Ok, Err, refl, sym, ap, ◌∙◌}
-use Rattle.std.proofs.Common.{arith, append_assoc, append-nil}
+-- Deltas and answers as they are printed, line by line.
+use Rattle.std.proofs.Common.{ℕ, ◌+◌, ◌≤◌, ◌≡◌, ◌++◌, true, false, List, [], ◌∷◌, length, take, option_map, Option}
+use Rattle.std.proofs.Common.{None, Some, Result, Ok, Err, refl, sym, ap, ◌∙◌, arith, append_assoc, append-nil}
 use Rattle.std.specs.Prelude.{⊤, IsSomeAnd, MatchOption, slice_get}
 use Rattle.std.specs.Result.{is_err, is_ok}
 use Rattle.std.proofs.lemmas.List.{map-append, take_all}
@@ -12,7 +11,7 @@ use Rattle.djq_value.specs.Output.{Puts}
 use Rattle.djq_protocol.specs.declared.answer.Sign.{Sign}
 use Rattle.djq_protocol.specs.Reply.{text_of, change_line, at_line}
 use Rattle.djq_store_spec.specs.Delta.{Change, change_lines, delta_lines}
-use Rattle.djq_commands.proofs.Lines.{take_next, text_last}
+use Rattle.djq_commands.proofs.Printing.{take_next, text_last}
 
 -- So many lines of a delta are printed.
 abbrev pub PrintsSoFar : Option (List Change) → Bytes → ℕ → ℕ → Bytes → Bytes → Type 0

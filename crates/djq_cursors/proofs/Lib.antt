@@ -1,2 +1,1 @@
-mod Retained
 pub mod Slots

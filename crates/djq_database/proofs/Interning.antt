@@ -1,61 +1,26 @@
 -- The texts of a row become known, value by value.
-use Rattle.std.proofs.Common.{
-  ◌≡◌,
-  ℕ,
-  ◌+◌,
-  ◌<◌,
-  Bool,
-  true,
-  false,
-  List,
-  [],
-  ◌∷◌,
-  ◌++◌,
-  length,
-  take,
-  drop,
-  refl,
-  sym,
-  ap,
-  ◌∙◌,
-  subst,
-  arith,
-  append_assoc,
-}
+use Rattle.std.proofs.Common.{◌≡◌, ℕ, ◌+◌, ◌<◌, Bool, true, false, List, [], ◌∷◌, ◌++◌, length, take, drop, refl, sym}
+use Rattle.std.proofs.Common.{ap, ◌∙◌, subst, arith, append_assoc}
 use Rattle.std.specs.Prelude.{slice_index_or, slice_get, Some, Err, ◌&&◌, Contains}
 use Rattle.std.proofs.lemmas.Bool.{false≢true}
 use Rattle.std.proofs.lemmas.List.{append-nil, take_more, take-append-drop, get_or_default}
 use Rattle.std.proofs.lemmas.Option.{get_or_from_slice_get}
-use Rattle.djq_model.specs.declared.value.Value.{Value}
-use Rattle.djq_model.specs.declared.value.Value.TheVariants.{Int, Text}
-use Rattle.djq_model.specs.Data.{Bytes, Tuple}
-use Rattle.djq_model.specs.Known.{knows, knows_all, texts_of, texts_in, learned, all_learned}
-use Rattle.djq_model.specs.declared.relation.ColumnType.{ColumnType}
-use Rattle.djq_model.specs.declared.relation.ColumnType.TheVariants.{Text as TextColumn}
 use Rattle.djq_dictionary.specs.declared.dict.TheConstants.{MOST_TEXTS}
 use Rattle.djq_dictionary.specs.declared.refusal.InternRefusal.{InternRefusal}
 use Rattle.djq_dictionary.specs.declared.refusal.InternRefusal.TheVariants.{Full, NoMem}
 use Rattle.djq_dictionary.specs.Known.{AllDifferent, IsUnknown, Learns}
+use Rattle.djq_model.specs.declared.value.Value.{Value}
+use Rattle.djq_model.specs.declared.value.Value.TheVariants.{Int, Text}
+use Rattle.djq_model.specs.declared.relation.ColumnType.{ColumnType}
+use Rattle.djq_model.specs.declared.relation.ColumnType.TheVariants.{Text as TextColumn}
+use Rattle.djq_model.specs.Data.{Bytes, Tuple}
+use Rattle.djq_model.specs.Known.{knows, knows_all, texts_of, texts_in, learned, all_learned}
 use Rattle.djq_database.specs.Cells.{cell_for, cells_of, HasCell, HaveCells}
 use Rattle.djq_database.specs.Changes.{LearnsSome, FindsNoPlaceFor, InternsValue, InternsRow}
 use Rattle.djq_database.specs.Parts.{CellFits, value_of}
-use Rattle.djq_database.proofs.Learning.{
-  Grown,
-  knows_at,
-  knows_more,
-  place_at,
-  unknown,
-  learns_is,
-  all_grown,
-  grown_is,
-  grown_longer,
-  learned_longer,
-  all_learned-append,
-  texts_in-append,
-  knows_all-append,
-  knows_all-front,
-}
-use Rattle.djq_database.proofs.Encoding.{have_push, cells_push, cells_grown}
+use Rattle.djq_database.proofs.Cells.{Grown, knows_at, knows_more, place_at, unknown, learns_is, all_grown, grown_is}
+use Rattle.djq_database.proofs.Cells.{grown_longer, learned_longer, all_learned-append, texts_in-append}
+use Rattle.djq_database.proofs.Cells.{knows_all-append, knows_all-front, have_push, cells_push, cells_grown}
 
 -- the values before one, and those behind it
 pub record Cut (row : Tuple) (at : ℕ) (v : Value) : Type 0 where

@@ -1,10 +1,6 @@
-pub mod Learning
-pub mod Encoding
+pub mod Cells
 pub mod Interning
-pub mod Grouped
-pub mod Copied
+pub mod Entries
 pub mod Relations
-pub mod Standing
-pub mod Slotted
-pub mod Stepping
-pub mod Lawful
+pub mod Catalogs
+pub mod Slots

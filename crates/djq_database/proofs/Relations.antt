@@ -1,133 +1,47 @@
--- The relations of a catalog, as they are kept.
-use Rattle.std.proofs.Common.{
-  ◌≡◌,
-  ℕ,
-  zero,
-  suc,
-  ◌<◌,
-  ◌≤◌,
-  Bool,
-  true,
-  false,
-  List,
-  [],
-  ◌∷◌,
-  ◌++◌,
-  length,
-  set,
-  refl,
-  sym,
-  ap,
-  ap₂,
-  ◌∙◌,
-  subst,
-  arith,
-  length-append,
-}
+-- The relations of a catalog.
+use Rattle.std.proofs.Common.{◌≡◌, ℕ, zero, suc, ◌<◌, ◌≤◌, Bool, true, false, List, [], ◌∷◌, ◌++◌, length, set, refl}
+use Rattle.std.proofs.Common.{sym, ap, ap₂, ◌∙◌, subst, arith, length-append}
 use Rattle.std.specs.Prelude.{map, slice_get, Some, None, Result, Ok, Err, ◌==◌, not, All}
 use Rattle.std.specs.List.{AllByRecursion}
 use Rattle.std.proofs.Math.Dec.{eqb-suc-zero}
 use Rattle.std.proofs.lemmas.Bool.{false≢true}
 use Rattle.std.proofs.lemmas.List.{get_or-map, length-map, map-set}
-use Rattle.std.proofs.lemmas.List.Elements.{
-  All-from_recursion,
-  recursion_from_All,
-  All-get_or,
-  All-set,
-  All-push,
-}
+use Rattle.std.proofs.lemmas.List.Elements.{All-from_recursion, recursion_from_All, All-get_or, All-set, All-push}
 use Rattle.std.proofs.Math.Seq.{map-set_same}
 use Rattle.std.proofs.lemmas.Option.{slice_get_within, get_or_from_slice_get}
+use Rattle.djq_dictionary.specs.Known.{AllDifferent, IsUnknown}
 use Rattle.djq_model.specs.declared.relation.ColumnType.{ColumnType}
 use Rattle.djq_model.specs.declared.relation.Relation.{Relation}
 use Rattle.djq_model.specs.declared.relation.CountedRow.{CountedRow}
-use Rattle.djq_model.specs.Data.{
-  Bytes,
-  Tuple,
-  tuples_in,
-  bytes_eq,
-  relation_of,
-  has_row,
-  copies_among,
-  with_row,
-  with_copies,
-  without_copies,
-}
+use Rattle.djq_model.specs.Data.{Bytes, Tuple, tuples_in, bytes_eq, relation_of, has_row, copies_among, with_row}
+use Rattle.djq_model.specs.Data.{with_copies, without_copies}
 use Rattle.djq_model.specs.Answer.{AreDifferent}
 use Rattle.djq_model.specs.Typed.{fits}
+use Rattle.djq_index.specs.Entries.{Entry, count_of, supports_of}
+use Rattle.djq_index.specs.Table.{TuplesDiffer}
+use Rattle.djq_index.specs.Changes.{Supported}
+use Rattle.djq_index.proofs.Tuples.{there, stands, supp_at, cnt_none, supp_none}
 use Rattle.djq_protocol.specs.declared.limits.TheConstants.{COLUMNS, ROWS, COPIES}
 use Rattle.djq_protocol.specs.declared.answer.AddOutcome.{AddOutcome}
 use Rattle.djq_protocol.specs.declared.answer.AddOutcome.TheVariants.{First, More}
 use Rattle.djq_protocol.specs.declared.answer.DeleteOutcome.{DeleteOutcome}
 use Rattle.djq_protocol.specs.declared.answer.DeleteOutcome.TheVariants.{Last, Left, Absent}
-use Rattle.djq_dictionary.specs.Known.{AllDifferent, IsUnknown}
-use Rattle.djq_index.specs.Entries.{Entry, count_of, supports_of}
-use Rattle.djq_index.specs.Table.{TuplesDiffer}
-use Rattle.djq_index.specs.Changes.{Supported}
-use Rattle.djq_index.proofs.Apart.{there, stands, supp_at, cnt_none, supp_none}
 use Rattle.djq_database.specs.declared.refusal.RowsRefusal.{RowsRefusal}
 use Rattle.djq_database.specs.declared.refusal.RowsRefusal.TheVariants.{NameTaken, Full, NoMem}
 use Rattle.djq_database.specs.declared.kept.Kept.{Kept}
 use Rattle.djq_database.specs.Cells.{cells_of, HaveCells, StandFor}
-use Rattle.djq_database.specs.Catalog.{
-  no_relation,
-  relation_at,
-  counted_at,
-  rows_at,
-  with_rows_at,
-  CopiesAreInRange,
-  IsKeptRelation,
-}
+use Rattle.djq_database.specs.Catalog.{no_relation, relation_at, counted_at, rows_at, with_rows_at, CopiesAreInRange}
+use Rattle.djq_database.specs.Catalog.{IsKeptRelation}
 use Rattle.djq_database.specs.Changes.{HasNoPlace, AddsRowAt, DeletesRowAt}
-use Rattle.djq_database.specs.Parts.{
-  row_of,
-  tuples_of,
-  relation_in,
-  relations_of,
-  kept_at,
-  no_kept,
-  AreWithin,
-  RelationIsSound,
-}
-use Rattle.djq_database.specs.Tuples.{
-  HasTuple,
-  LacksPlace,
-  Appended,
-  Dropped,
-  StayApart,
-  AddsTuple,
-  DeletesTuple,
-}
-use Rattle.djq_database.proofs.Learning.{Grown, eq_refl, eq_other}
-use Rattle.djq_database.proofs.Encoding.{stand_row, stand_within, row_stands, within_grown, cells_back}
-use Rattle.djq_database.proofs.Grouped.{
-  rows_in,
-  Within,
-  within_in,
-  rows_long,
-  within_push,
-  within_out,
-  absent_row,
-  present_row,
-  rows_differ,
-}
-use Rattle.djq_database.proofs.Copied.{
-  counted_in,
-  Copied,
-  plain_rows,
-  counted-append,
-  counted_one,
-  recounted,
-  dropped_row,
-  copies_row,
-  copied_push,
-  copied_out,
-  copied_in,
-  copied_here,
-  are_supported,
-  are_counted,
-  counted_grown,
-}
+use Rattle.djq_database.specs.Parts.{row_of, tuples_of, relation_in, relations_of, kept_at, no_kept, AreWithin}
+use Rattle.djq_database.specs.Parts.{RelationIsSound}
+use Rattle.djq_database.specs.Tuples.{HasTuple, LacksPlace, Appended, Dropped, StayApart, AddsTuple, DeletesTuple}
+use Rattle.djq_database.proofs.Cells.{Grown, eq_refl, eq_other, stand_row, stand_within, row_stands, within_grown}
+use Rattle.djq_database.proofs.Cells.{cells_back}
+use Rattle.djq_database.proofs.Entries.{rows_in, Within, within_in, rows_long, within_push, within_out, absent_row}
+use Rattle.djq_database.proofs.Entries.{present_row, rows_differ, counted_in, Copied, plain_rows, counted-append}
+use Rattle.djq_database.proofs.Entries.{counted_one, recounted, dropped_row, copies_row, copied_push, copied_out}
+use Rattle.djq_database.proofs.Entries.{copied_in, copied_here, are_supported, are_counted, counted_grown}
 
 -- one relation
 

@@ -1,5 +1,1 @@
-pub mod Cutting
-pub mod Finding
-pub mod Following
-pub mod Growing
-pub mod Linking
+pub mod Dictionary

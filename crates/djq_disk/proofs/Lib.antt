@@ -1,3 +1,1 @@
-pub mod Telling
-pub mod Keeping
-pub mod Piecewise
+pub mod Files

@@ -1,40 +1,55 @@
 -- What opening, reading and closing a cursor gives.
-use Rattle.std.proofs.Common.{ℕ, zero, List, [], ◌∷◌, ◌++◌, ◌+◌, ◌≡◌, ◌≤◌, Bool, true, false, refl}
-use Rattle.std.proofs.Common.{sym, ap, ◌∙◌, subst, length, get_or, set}
-use Rattle.std.specs.Prelude.{Option, None, Some, is_none, IsSome, IsSomeAnd, option_map, position}
-use Rattle.std.specs.Prelude.{map, Ok, Err}
-use Rattle.std.proofs.lemmas.List.{set-get_or}
+use Rattle.std.proofs.Common.{ℕ, zero, List, [], ◌∷◌, ◌++◌, ◌+◌, ◌≡◌, ◌≤◌, Bool, true, false, refl, sym, ap, ◌∙◌, subst}
+use Rattle.std.proofs.Common.{length, get_or, set}
+use Rattle.std.specs.Prelude.{Option, None, Some, is_none, IsSome, IsSomeAnd, option_map, position, map, Ok, Err, ◌==◌}
+use Rattle.std.specs.Prelude.{not}
+use Rattle.std.proofs.lemmas.List.{set-get_or, get_or_default}
 use Rattle.djq_model.specs.declared.query.Query.{Query}
-use Rattle.djq_model.specs.Data.{Bytes}
-use Rattle.djq_model.specs.Listed.{Listed, a_query, listed_of}
-use Rattle.djq_protocol.specs.declared.answer.Refusal.TheVariants.{NoQuery, NoMemory}
+use Rattle.djq_model.specs.Data.{Bytes, Tuple}
+use Rattle.djq_model.specs.Listed.{Listed, a_query, listed_of, AnswersOf}
+use Rattle.djq_model.specs.Typed.{fits}
+use Rattle.djq_model.specs.Answer.{IsAnswer}
+use Rattle.djq_cursors.specs.declared.progress.Progress.TheVariants.{Open, Stale}
+use Rattle.djq_tree.specs.Explaining.{explain_of}
+use Rattle.djq_protocol.specs.declared.answer.Refusal.TheVariants.{NoQuery, NoMemory, Arity, WrongType}
+use Rattle.djq_protocol.specs.declared.answer.Refusal.{Refusal}
+use Rattle.djq_protocol.specs.declared.answer.Shape.{Shape}
 use Rattle.djq_protocol.specs.Conditions.{first_refusal}
-use Rattle.djq_store_spec.specs.Store.{Position, open_at, stale}
-use Rattle.djq_store_spec.specs.Registering.{answer_steps}
+use Rattle.djq_protocol.specs.Hypergraph.{variable_names}
 use Rattle.djq_reduct.specs.Answers.{IsAnswerOf}
 use Rattle.djq_database.specs.Catalog.{Catalog}
-use Rattle.djq_live_query.specs.Cursors.{Progress, slot_at}
-use Rattle.djq_cursors.specs.declared.progress.Progress.TheVariants.{Open, Stale}
+use Rattle.djq_store_spec.specs.Store.{Position, open_at, stale}
+use Rattle.djq_store_spec.specs.Registering.{answer_steps}
+use Rattle.djq_store_spec.specs.Asking.{TellsWhether, Tells, has_refusal, has_steps, answer_types, listed_types, misfit}
+use Rattle.djq_store_spec.specs.Asking.{TellsShape, IsShapeOf}
 use Rattle.djq_live_query.specs.declared.listing.Next.{Next}
 use Rattle.djq_live_query.specs.declared.listing.Next.TheVariants.{Given, End, Stale as StaleNext}
-use Rattle.djq_live_query.specs.Live.{Live, position_of, values_of}
+use Rattle.djq_live_query.specs.Cursors.{Progress, slot_at}
+use Rattle.djq_live_query.specs.Live.{Live, position_of, values_of, IsKeptSomewhere}
 use Rattle.djq_live_query.specs.Reading as live
-use Rattle.djq_engine.specs.declared.cursor.CursorId.{CursorId}
-use Rattle.djq_engine.specs.Kept.{HeldCursor, Kept, held_at, MovesCursor, OpensCursor, CursorOpenGives}
-use Rattle.djq_engine.specs.Kept.{ClosesCursor, EngineNextGives, EngineNextGivesAt, read_steps, MoreGives}
-use Rattle.djq_engine.specs.Kept.{MoreGivesAt, IsHeld, IsThere, AnswerIs, IsFresh, IsOpenAt}
+use Rattle.djq_live_query.specs.Shown.{AnswersAreShown}
 use Rattle.djq_reach.specs.Places.{place_at}
+use Rattle.djq_reach.proofs.PlacedQueries.{below_some, place_read, place_below}
+use Rattle.djq_engine.specs.declared.cursor.CursorId.{CursorId}
+use Rattle.djq_engine.specs.declared.cursor.QueryId.{QueryId}
+use Rattle.djq_engine.specs.declared.parts.Parts.{Parts}
+use Rattle.djq_engine.specs.Kept.{HeldCursor, Kept, held_at, MovesCursor, OpensCursor, CursorOpenGives, ClosesCursor}
+use Rattle.djq_engine.specs.Kept.{EngineNextGives, EngineNextGivesAt, read_steps, MoreGives, MoreGivesAt, IsHeld}
+use Rattle.djq_engine.specs.Kept.{IsThere, AnswerIs, IsFresh, IsOpenAt, QueryExplainGives, TreeExplains, HasTree}
 use Rattle.djq_engine.specs.Places.{queries_in, held_query_cursor, query_cursors_from, query_cursor_of, kept_of}
-use Rattle.djq_engine.specs.Places.{is_query, Watches, told_of}
+use Rattle.djq_engine.specs.Places.{is_query, Watches, told_of, query_in, store_of}
 use Rattle.djq_engine.specs.Sound.{QueriesAreSound}
 use Rattle.djq_engine.specs.Moving.{Moves, IsReadableInSlot, IsFreshInSlot, OpensAt, ClosesAt, ReadsAt, TellsMore}
+use Rattle.djq_engine.specs.Lending.{LendsQuery}
+use Rattle.djq_engine.specs.Whole.{kept_in, EngineIsWhole}
 use Rattle.djq_engine.proofs.Conditions.{answers_refused, answers_done, answers_lacking}
-use Rattle.djq_engine.proofs.Holding.{held_is}
-use Rattle.djq_engine.proofs.Naming.{Named, query_kept, query_named, no_query_of}
-use Rattle.djq_reach.proofs.Reaching.{below_some, place_read}
-use Rattle.djq_engine.proofs.Shifting.{slot_set, place_here, moved_sound, moved_store}
-use Rattle.djq_engine.proofs.Shifting.{moved_registered, moved_there, moved_others}
-use Rattle.djq_engine.proofs.Told.{told_set}
+use Rattle.djq_engine.proofs.StaleCursors.{held_is, slot_set, place_here, moved_sound, moved_store, moved_registered}
+use Rattle.djq_engine.proofs.StaleCursors.{moved_there, moved_others}
+use Rattle.djq_engine.proofs.QueryPlaces.{Named, query_kept as query_kept_naming, query_named, no_query_of}
+use Rattle.djq_engine.proofs.Logs.{told_set}
+use Rattle.djq_engine.proofs.RegisteredQueries.{registered_gives}
+
+-- ---- What opening, reading and closing a cursor gives.
 
 -- the query in a place, as the code reads it
 
@@ -106,7 +121,7 @@ module _ (c : Catalog) (gs : List (Option Live)) (order : List ℕ) (readers : L
       (λ q. P x q)))
       (sym cursor_found)
       (subst (λ (o : Option Listed). IsSomeAnd o (λ q. P (held_query_cursor c.texts h.query id h.progress) q))
-      (sym (query_kept c gs order readers s id.query.at h.query h.there)) x)
+      (sym (query_kept_naming c gs order readers s id.query.at h.query h.there)) x)
 
   -- a fresh cursor is open
   pub freshly : IsFresh (kept_of c gs order seq w) id → IsSomeAnd (place_at gs id.query.at) (IsFreshInSlot id.cursor)
@@ -162,11 +177,11 @@ module _ (c : Catalog) (gs : List (Option Live)) (order : List ℕ) (readers : L
         set_same xs i l f = ap (set xs i) (sym f) ∙ set-get_or xs i None
 
     -- an answer that was given is there to be lent
-    lends : (u : List ℕ) (position : Position) (t : live.QueryCursorMoves c h.query id.cursor position m)
+    lends_cursors : (u : List ℕ) (position : Position) (t : live.QueryCursorMoves c h.query id.cursor position m)
         → IsAnswerOf h.query.reducts u
         → IsThere (kept_of c hs order seq w) id u
         × AnswerIs (kept_of c hs order seq w) id u (values_of c.texts h.query u)
-    lends u position t a =
+    lends_cursors u position t a =
         let same : m.query ≡ h.query.query = ap (λ (x : Live). x.query) t.moved in
         let here : place_at hs id.query.at ≡ Some m = ap (λ (xs : List (Option Live)). place_at xs id.query.at) is
         ∙ place_here c gs order readers s id h.query m h.there same in (
@@ -183,7 +198,7 @@ module _ (c : Catalog) (gs : List (Option Live)) (order : List ℕ) (readers : L
         result u (kept_of c hs order seq w)
     next_by (open_at given ended) Given u x =
         let y = moves (open_at (given ++ values_of c.texts h.query u ∷ []) false) x.2 in
-        let z = lends u (open_at (given ++ values_of c.texts h.query u ∷ []) false) x.2 x.0 in
+        let z = lends_cursors u (open_at (given ++ values_of c.texts h.query u ∷ []) false) x.2 x.0 in
         (y.0, (values_of c.texts h.query u, x.1, z.0, z.1, y.1))
     next_by (open_at given ended) End u x = let y = moves (open_at given true) x.1 in (y.0, (x.0, y.1))
     next_by (open_at given ended) (StaleNext r n) u x = absurd x
@@ -366,3 +381,149 @@ module _ (c : Catalog) (gs : List (Option Live)) (order : List ℕ) (readers : L
           stays = λ r e. absurd (cc);
         },
       )
+
+-- ---- What is told of a registered query.
+
+-- the query in a place, as the code reads it
+pub named_read : (gs : List (Option Live)) (name : Bytes) (at : ℕ) (n : Named gs name at) (p : Option Live) (l : Live)
+    → p ≡ get_or gs at p → p ≡ Some l → place_at gs at ≡ Some l
+named_read gs name at n p l is some = place_read gs at p l (place_below gs at n.query n.there) is some
+
+-- a place with a query isn't vacant
+pub named_there : (gs : List (Option Live)) (name : Bytes) (at : ℕ) (n : Named gs name at) (p : Option Live) → p
+    ≡ get_or gs at p → p ≡ None → ⊥
+named_there gs name at n p is none =
+    let same : place_at gs at ≡ p = sym (get_or_default gs at p None (place_below gs at n.query n.there)) ∙ sym is in
+    differ n.query (place_at gs at) n.there (same ∙ none)
+  where
+    differ : (x : Live) (o : Option Live) → o ≡ Some x → o ≡ None → ⊥
+    differ x o e f = cc
+
+module _ (c : Catalog) (gs : List (Option Live)) (order : List ℕ) (readers : List (List ℕ)) (seq : ℕ)
+    (s : QueriesAreSound c gs order readers) (name : Bytes) (tuple : Tuple) where
+  pub tells_none : None ≡ position (is_query name) gs → TellsWhether (store_of c gs order seq) name tuple (Err NoQuery)
+  tells_none e = record {
+    answer = answers_refused (has_refusal (store_of c gs order seq) name tuple) NoQuery _ _
+        (ap (λ (o : Option Listed). first_refusal
+        ((is_none o, NoQuery) ∷ (not (length tuple == length (listed_types c.relations o)), Arity) ∷
+        (not (fits (listed_types c.relations o) tuple), WrongType) ∷ []))
+        (no_query_of c gs order readers s name e));
+  }
+
+  module _ (at : ℕ) (n : Named gs name at) (l : Live) (there : place_at gs at ≡ Some l) where
+    found_telling : listed_of (queries_in gs order) name ≡ Some (a_query l.query)
+    found_telling = query_named c gs order readers s name at n
+        ∙ ap (λ (x : Live). Some (a_query x.query)) (same_live n.query l (place_at gs at) n.there there)
+
+    refusal_is : has_refusal (store_of c gs order seq) name tuple ≡ misfit (answer_types c.relations l.query) tuple
+    refusal_is = ap (λ (o : Option Listed). first_refusal
+        ((is_none o, NoQuery) ∷ (not (length tuple == length (listed_types c.relations o)), Arity) ∷
+        (not (fits (listed_types c.relations o) tuple), WrongType) ∷ [])) found_telling
+
+    pub tells_err : (r : Refusal) → misfit (answer_types c.relations l.query) tuple ≡ Some r
+        → TellsWhether (store_of c gs order seq) name tuple (Err r)
+    tells_err r e = record
+        { answer = answers_refused (has_refusal (store_of c gs order seq) name tuple) r _ _ (refusal_is ∙ e) }
+
+    pub tells_ok : (whether : Bool) → misfit (answer_types c.relations l.query) tuple ≡ None
+        → Tells (IsAnswer c.relations l.query tuple) whether
+        → TellsWhether (store_of c gs order seq) name tuple (Ok whether)
+    tells_ok whether e t = record {
+      answer = answers_done (has_refusal (store_of c gs order seq) name tuple) whether
+          (λ b. IsSomeAnd (listed_of (queries_in gs order) name) (λ q. Tells (AnswersOf c.relations q tuple) b)) _
+          (refusal_is ∙ e)
+          (subst (λ (o : Option Listed). IsSomeAnd o (λ q. Tells (AnswersOf c.relations q tuple) whether)) (sym found_telling)
+          t);
+    }
+
+    pub steps_are : has_steps (listed_of (queries_in gs order) name) ≡ length l.query.atoms
+    steps_are = ap has_steps found_telling
+
+  -- `explain` and `shape`
+
+  missing : None ≡ position (is_query name) gs
+      → first_refusal ((is_none (listed_of (queries_in gs order) name), NoQuery) ∷ []) ≡ Some NoQuery
+  missing e = ap (λ (o : Option Listed). first_refusal ((is_none o, NoQuery) ∷ [])) (no_query_of c gs order readers s
+      name e)
+
+  pub explain_none : None ≡ position (is_query name) gs → QueryExplainGives (store_of c gs order seq) name (Err NoQuery)
+  explain_none e = record {
+    answer = answers_refused (first_refusal ((is_none (listed_of (queries_in gs order) name), NoQuery) ∷ [])) NoQuery
+        _ _
+        (missing e);
+  }
+
+  pub shape_none : None ≡ position (is_query name) gs → TellsShape (store_of c gs order seq) name (Err NoQuery)
+  shape_none e = record {
+    answer = answers_refused (first_refusal ((is_none (listed_of (queries_in gs order) name), NoQuery) ∷ [])) NoQuery
+        _ _
+        (missing e);
+  }
+
+  module _ (at : ℕ) (n : Named gs name at) (l : Live) (there : place_at gs at ≡ Some l) where
+    passes_telling : first_refusal ((is_none (listed_of (queries_in gs order) name), NoQuery) ∷ []) ≡ None
+    passes_telling = ap (λ (o : Option Listed). first_refusal ((is_none o, NoQuery) ∷ [])) (found_telling at n l there)
+
+    pub query_kept : IsKeptSomewhere l
+    query_kept = (c, (s.live at l there).kept)
+
+    pub explain_lacks : QueryExplainGives (store_of c gs order seq) name (Err NoMemory)
+    explain_lacks = record {
+      answer = answers_lacking (first_refusal ((is_none (listed_of (queries_in gs order) name), NoQuery) ∷ []))
+          (λ lines. IsSomeAnd (listed_of (queries_in gs order) name) (λ q. TreeExplains q lines)) _ passes_telling
+          (subst (λ (o : Option Listed). IsSomeAnd o HasTree) (sym (found_telling at n l there))
+          (l.reducts.tree, (s.live at l there).kept.named));
+    }
+
+    pub explain_done : (lines : List ℕ) → lines
+        ≡ explain_of (map (λ a. a.relation) l.query.atoms) (variable_names l.query) l.reducts.tree
+        → QueryExplainGives (store_of c gs order seq) name (Ok lines)
+    explain_done lines e = record {
+      answer = answers_done (first_refusal ((is_none (listed_of (queries_in gs order) name), NoQuery) ∷ [])) lines
+          (λ lines. IsSomeAnd (listed_of (queries_in gs order) name) (λ q. TreeExplains q lines)) _ passes_telling
+          (subst (λ (o : Option Listed). IsSomeAnd o (λ q. TreeExplains q lines)) (sym (found_telling at n l there))
+          (record { tree = l.reducts.tree; named = (s.live at l there).kept.named; are = e }));
+    }
+
+    pub shape_done : (shape : Shape) → IsShapeOf (a_query l.query) shape
+        → TellsShape (store_of c gs order seq) name (Ok shape)
+    shape_done shape is = record {
+      answer = answers_done (first_refusal ((is_none (listed_of (queries_in gs order) name), NoQuery) ∷ [])) shape
+          (λ shape. IsSomeAnd (listed_of (queries_in gs order) name) (λ q. IsShapeOf q shape)) _ passes_telling
+          (subst (λ (o : Option Listed). IsSomeAnd o (λ q. IsShapeOf q shape)) (sym (found_telling at n l there)) is);
+    }
+
+-- an answer that is there is one of the query that is read
+pub answer_read : (gs : List (Option Live)) (at : ℕ) (p : Option Live) (l : Live) (P : Live → Type 0)
+    → IsSomeAnd (place_at gs at) P → p ≡ get_or gs at p → p ≡ Some l → (place_at gs at ≡ Some l) × P l
+answer_read gs at p l P h is some =
+    let there = place_read gs at p l (below_some gs at P h) is some in
+    (there, subst (λ (o : Option Live). IsSomeAnd o P) there h)
+
+-- a registered query is lent
+position_is : (texts : List Bytes) (l : Live) (id : CursorId) (o : Option Progress)
+    → option_map (λ h. h.position) (option_map (held_query_cursor texts l id) o) ≡ option_map (position_of texts l) o
+position_is texts l id None = refl
+position_is texts l id (Some p) = refl
+
+pub lends : (p : Parts) → EngineIsWhole p → (id : QueryId) (l : Live) → place_at p.queries.items id.at ≡ Some l
+    → AnswersAreShown
+    → LendsQuery (kept_in p) id l
+lends p s id l there law =
+    let c = p.catalog in
+    let kept = (s.live id.at l there).kept in
+    record {
+      query = registered_gives c p.queries.items p.order p.readers.items p.watchers.items s id
+          (λ r. r.query ≡ a_query l.query)
+          (record { query = l; is = there }) (ap query_in there);
+      place = there;
+      catalog = c;
+      relations = refl;
+      texts = refl;
+      live = s.live id.at l there;
+      answers = λ t. law c l.query l.numbered l.patterns l.reducts kept.over t;
+      cursors = λ slot.
+          let at : CursorId = record { query = id; cursor = slot } in
+          ap (option_map (λ h. h.position)) (held_is c.texts p.queries.items at ∙ ap (query_cursor_of c.texts at) there)
+          ∙ position_is c.texts l at (slot_at l.cursors slot);
+    }

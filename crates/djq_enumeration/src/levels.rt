@@ -34,7 +34,7 @@ pub(crate) fn project(reducts: &Reducts, node: usize, answer: &Answer, cells: &m
 
 /// Writes cells at these columns of an answer. They are few, so that one or two cost no loop.
 #[inline(always)]
-#[tactic(auto, using(crate::proofs::Seeking::first_below, crate::proofs::Seeking::second_below))]
+#[tactic(auto, using(crate::proofs::Cells::first_below, crate::proofs::Cells::second_below))]
 fn write_tuple(columns: &[usize], tuple: &[u64], answer: &mut Answer)
     requires long { length tuple.now ≡ length columns.now }
     requires within { AreColumns (length answer.old) columns.now }

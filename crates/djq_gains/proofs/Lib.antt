@@ -1,11 +1,4 @@
-pub mod Union
-pub mod Lists
-pub mod Noting
-pub mod Taking
-pub mod Collecting
-pub mod Members
-pub mod Alone
-pub mod Lining
-pub mod Meaning
-pub mod Among
-pub mod Delta
+pub mod UnionDeltas
+pub mod DeltaTuples
+pub mod MemberDeltas
+pub mod DeltaLines

@@ -1,12 +1,4 @@
-pub mod Members
-pub mod Owning
-pub mod Flatness
-pub mod Rising
-pub mod Words
-pub mod Bags
-pub mod Counting
-pub mod Rooting
-pub mod Rerooting
-pub mod Hanging
-pub mod Linking
-pub mod Checking
+pub mod Sets
+pub mod Labels
+pub mod LabelTrees
+pub mod JoinTrees

@@ -1,15 +1,14 @@
 -- Entries as the rows of an arena with their notes.
-use Rattle.std.proofs.Common.{◌≡◌, ℕ, ◌<◌, List, [], ◌∷◌, ◌++◌, length, Option, Some, None, refl}
-use Rattle.std.proofs.Common.{ap, ap₂, subst, sym, ◌∙◌, arith, append_assoc, inl, inr, eq-eqb}
+use Rattle.std.proofs.Common.{◌≡◌, ℕ, ◌<◌, List, [], ◌∷◌, ◌++◌, length, Option, Some, None, refl, ap, ap₂, subst, sym}
+use Rattle.std.proofs.Common.{◌∙◌, arith, append_assoc, inl, inr, eq-eqb}
 use Rattle.std.proofs.lemmas.List.{map-append, reverse-append}
 use Rattle.std.proofs.lemmas.Bool.{cases_Bool, ne_eqb, cases_eq}
 use Rattle.djq_arena.specs.declared.chain.Pair.{Pair}
 use Rattle.djq_arena.specs.Rows.{Row, IsAbsent, IsRow, IsRowHeld, slots}
 use Rattle.djq_arena.specs.Chains.{Linked, first_of, last_of, AreDistinctSlots, AreBelow, IsOut, pair_at}
 use Rattle.djq_arena.specs.Store.{ends_of}
-use Rattle.djq_arena.proofs.Lists.{last_append, below_here}
-use Rattle.djq_arena.proofs.Chaining.{prev_here, next_here}
-use Rattle.djq_arena.proofs.RowLemmas.{slots-append}
+use Rattle.djq_arena.proofs.Chains.{last_append, below_here, prev_here, next_here}
+use Rattle.djq_arena.proofs.Rows.{slots-append}
 use Rattle.djq_index.specs.declared.place.Place.{Place}
 use Rattle.djq_index.specs.declared.raw.Note.{Note}
 use Rattle.djq_index.specs.declared.raw.Raw.{Raw}
@@ -17,12 +16,10 @@ use Rattle.djq_index.specs.Tuple.{same}
 use Rattle.djq_index.specs.Entries.{Entry, supports_of, count_of, group_size, group_of, marks, plain, is_marked}
 use Rattle.djq_index.specs.Entries.{head_at, last_at}
 use Rattle.djq_index.specs.Table.{TuplesDiffer, IsAt, IsOccupied}
-use Rattle.djq_index.specs.Raw.{note_at, entry_of, entries_in, entries_of, slots_at, row_at}
-use Rattle.djq_index.specs.Raw.{AreAllMarked, AreTrailing, HoldsTuples, place_of}
-use Rattle.djq_index.proofs.Tuples.{same_other, one_false, is_same}
-use Rattle.djq_index.proofs.Counts.{length_grp}
-use Rattle.djq_index.proofs.Apart.{supp_at, there}
-use Rattle.djq_index.proofs.Marks.{marks_yes, marks_no, plain_yes, plain_no, is_marked_here, is_marked_else}
+use Rattle.djq_index.specs.Raw.{note_at, entry_of, entries_in, entries_of, slots_at, row_at, AreAllMarked, AreTrailing}
+use Rattle.djq_index.specs.Raw.{HoldsTuples, place_of}
+use Rattle.djq_index.proofs.Tuples.{same_other, one_false, is_same, length_grp, supp_at, there}
+use Rattle.djq_index.proofs.Groups.{marks_yes, marks_no, plain_yes, plain_no, is_marked_here, is_marked_else}
 
 pub entries_in-append : (notes : List Note) (rs ss : List Row) → entries_in notes (rs ++ ss)
     ≡ entries_in notes rs ++ entries_in notes ss

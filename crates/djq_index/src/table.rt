@@ -46,7 +46,7 @@ impl Model for Table {
     ghost invariant = { λ t. IsRaw t.raw };
 }
 
-#[tactic(auto, using(crate::proofs::Tabling::raw_table))]
+#[tactic(auto, using(crate::proofs::Tables::raw_table))]
 impl Table {
     /// An empty table of tuples of this width, in groups by the cells at these columns. It fails only
     /// out of memory.

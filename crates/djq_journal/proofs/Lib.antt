@@ -1,10 +1,2 @@
-pub mod Fronts
-pub mod Firm
-pub mod Staged
-pub mod Groups
-pub mod Found
-pub mod Once
-pub mod Exactly
-pub mod Lasting
-pub mod Going
-pub mod Logged
+pub mod Records
+pub mod Appends

@@ -1,64 +1,306 @@
--- Assignments of values that satisfy all atoms of a query, and assignments of cells that do.
-use Rattle.std.proofs.Common.{
-  ◌≡◌,
-  ℕ,
-  zero,
-  suc,
-  Bool,
-  true,
-  List,
-  [],
-  ◌∷◌,
-  cond,
-  refl,
-  ap,
-  sym,
-  subst,
-  ◌∙◌,
-  inl,
-  inr,
-  arith,
-}
-use Rattle.std.specs.Prelude.{⊤, None, Some, Contains, All, slice_get}
+-- Terms and atoms, against rows of values and rows of cells.
+use Rattle.std.proofs.Common.{◌≡◌, ℕ, zero, suc, ◌<◌, true, false, List, [], ◌∷◌, length, refl, ap, sym, ◌∙◌, arith}
+use Rattle.std.proofs.Common.{map, ap₂, inl, inr, ◌+◌, ◌≤◌, Bool, ◌++◌, cond, subst}
+use Rattle.std.specs.Prelude.{Option, Some, AllPairs, Contains, ◌≢◌, slice_get, slice_index, drop, ◌==◌, None, ⊤, All}
+use Rattle.std.proofs.lemmas.List.Elements.{All-contains}
 use Rattle.std.specs.List.{list_any}
-use Rattle.std.proofs.lemmas.Bool.{cases_Bool, eqb-true, false≢true, or_cases, and_parts}
+use Rattle.std.proofs.lemmas.Bool.{eqb-true, false≢true, or_cases, and_parts, eq-eqb, ne_eqb, or_left, or_right}
+use Rattle.std.proofs.lemmas.Bool.{or_parts, cases_Bool}
 use Rattle.std.proofs.lemmas.Option.{same_Some}
 use Rattle.djq_hypergraph.specs.Hypergraph.{member}
+use Rattle.djq_model.specs.declared.relation.Relation.{Relation}
+use Rattle.djq_model.specs.declared.query.Atom.{Atom}
 use Rattle.djq_model.specs.declared.value.Value.{Value}
 use Rattle.djq_model.specs.declared.relation.ColumnType.{ColumnType}
-use Rattle.djq_model.specs.declared.query.Atom.{Atom}
 use Rattle.djq_model.specs.declared.query.Term.{Term}
 use Rattle.djq_model.specs.declared.query.Term.TheVariants.{Variable as Named, Hole, Constant}
-use Rattle.djq_model.specs.Data.{Bytes, Tuple}
+use Rattle.djq_model.specs.Data.{Bytes, Tuple, bytes_eq, relation_of, plain_of, counted_in, rows_of}
+use Rattle.djq_model.specs.Typed.{fits, is_of}
 use Rattle.djq_model.specs.Answer.{StandsFor as StandsForValue, StandForAll, Satisfies}
-use Rattle.djq_model.specs.Typed.{is_of, fits}
+use Rattle.djq_protocol.specs.Variables.{Label}
+use Rattle.djq_database.specs.Cells.{HaveCells, cell_for, cells_of, HasCell, IsCell, CellStandsFor}
+use Rattle.djq_database.specs.Catalog.{Catalog, IsCatalog, no_relation, relation_at, rows_at}
+use Rattle.djq_database.specs.Parts.{value_of}
+use Rattle.djq_database.proofs.Cells.{eq_refl, eq_other, value_back}
 use Rattle.djq_query.specs.declared.numbered.Variable.{Variable}
-use Rattle.djq_query.specs.declared.numbered.NumberedTerm.{NumberedTerm}
-use Rattle.djq_query.specs.declared.numbered.NumberedTerm.TheVariants.{
-  Variable as Number,
-  Constant as Fixed,
-}
 use Rattle.djq_query.specs.declared.numbered.NumberedAtom.{NumberedAtom}
-use Rattle.djq_query.specs.Numbered.{labels, is_number}
-use Rattle.djq_query.specs.Meaning.{TermIsShown, TermsAreShown, Rise, holes_among, holes_in}
-use Rattle.djq_database.specs.Cells.{cell_for, HasCell, HaveCells, CellStandsFor, IsCell}
-use Rattle.djq_database.specs.Catalog.{Catalog, IsCatalog, relation_at, rows_at}
-use Rattle.djq_leaves.specs.Cells.{IsSatisfied}
-use Rattle.djq_binder.specs.Asked.{column_of, TermSuits, TermsSuit, AreAtomsOf}
-use Rattle.djq_live_query.proofs.Rows.{rows_are, row_fits, row_cells}
-use Rattle.djq_live_query.proofs.Terms.{HasOne, value_by, stand_terms, cell_among}
-use Rattle.djq_live_query.proofs.Holes.{
-  hole_cell,
-  HasNames,
-  cells_terms,
-  among_unnamed,
-  member_left,
-  member_right,
-  rise_left,
-  rise_right,
-  rise_apart,
-  in_right,
-}
+use Rattle.djq_query.specs.declared.numbered.NumberedTerm.{NumberedTerm}
+use Rattle.djq_query.specs.declared.numbered.NumberedTerm.TheVariants.{Variable as Number, Constant as Fixed}
+use Rattle.djq_query.specs.Numbered.{labels, number_of, is_number}
+use Rattle.djq_query.specs.Meaning.{TermIsShown, TermsAreShown, Rise, hole_of, holes_among, holes_in}
+use Rattle.djq_binder.specs.Asked.{IsAtomOf, column_of, TermSuits, TermsSuit, AreAtomsOf}
+use Rattle.djq_leaves.specs.Cells.{cell_under, IsSatisfied}
+
+-- ---- Rows of an atom's relation.
+
+-- the relation of a name is the one at a place that has the name
+pub found_at : (rs : List Relation) (name : Bytes) (at : ℕ)
+    → AllPairs (λ (r : Relation) (s : Relation). r.name ≢ s.name) rs → at < length rs
+    → (relation_at rs at).name ≡ name → relation_of rs name ≡ Some (relation_at rs at)
+found_at [] name at d low e = absurd (omega arith)
+found_at (r ∷ rs) name zero d low e =
+    rw (ap (λ (n : Bytes). bytes_eq n name) e ∙ eq_refl name) refl
+found_at (r ∷ rs) name (suc at) d low e =
+    let other : bytes_eq r.name name ≡ false = eq_other r.name name
+    (λ same. d zero (suc at) no_relation (omega arith) (omega arith) (same ∙ sym e)) in
+    rw other
+    (found_at rs name at (λ i j x a b. d (suc i) (suc j) x (omega arith) (omega arith))
+    (omega arith)
+    e)
+
+pub rows_are : (c : Catalog) (vs : List Variable) (a : Atom) (m : NumberedAtom) → IsCatalog c
+    → IsAtomOf c vs a m → rows_of c.relations a.relation ≡ rows_at c.relations m.relation
+rows_are c vs a m h is =
+    ap (λ (o : Option Relation). plain_of (counted_in o))
+    (found_at c.relations a.relation m.relation h.names is.below is.named)
+
+-- a row suits the relation's columns, and has cells
+pub row_fits : (c : Catalog) (vs : List Variable) (a : Atom) (m : NumberedAtom) (row : Tuple)
+    → IsCatalog c → IsAtomOf c vs a m → Contains (rows_at c.relations m.relation) row
+    → fits (relation_at c.relations m.relation).types row ≡ true
+row_fits c vs a m row h is there =
+    All-contains (λ r. fits (relation_at c.relations m.relation).types r ≡ true)
+    (rows_at c.relations m.relation) row (h.kept m.relation no_relation is.below).typed there
+
+pub row_cells : (c : Catalog) (vs : List Variable) (a : Atom) (m : NumberedAtom) (row : Tuple)
+    → IsCatalog c → IsAtomOf c vs a m → Contains (rows_at c.relations m.relation) row
+    → HaveCells c.texts row
+row_cells c vs a m row h is there =
+    All-contains (HaveCells c.texts)
+    (rows_at c.relations m.relation) row (h.kept m.relation no_relation is.below).cells there
+
+-- ---- Terms that stand for a row, against the row's cells.
+
+pub heads : (x y : ℕ) (xs ys : List ℕ) → x ∷ xs ≡ y ∷ ys → x ≡ y
+heads x y xs ys e = ap (λ (l : List ℕ). slice_index l 0) e
+
+pub tails : (x y : ℕ) (xs ys : List ℕ) → x ∷ xs ≡ y ∷ ys → xs ≡ ys
+tails x y xs ys e = ap (λ (l : List ℕ). drop 1 l) e
+
+-- a name has one number
+abbrev pub HasOne : List Variable → Type 0
+HasOne vs = (x : ℕ) (name : Bytes) → slice_get (labels vs) x ≡ Some (Some name)
+    → number_of (labels vs) name ≡ x
+
+-- the values that cells stand for, by the names of their variables
+abbrev pub value_by : List Bytes → List Variable → (ℕ → ℕ) → Bytes → Value
+value_by texts vs a name =
+    value_of texts (column_of vs (number_of (labels vs) name)) (a (number_of (labels vs) name))
+
+pub value_by_is : (texts : List Bytes) (vs : List Variable) (a : ℕ → ℕ) (x : ℕ) (name : Bytes)
+    → HasOne vs → slice_get (labels vs) x ≡ Some (Some name)
+    → value_by texts vs a name ≡ value_of texts (column_of vs x) (a x)
+value_by_is texts vs a x name one e =
+    ap (λ (y : ℕ). value_of texts (column_of vs y) (a y)) (one x name e)
+
+value_known : (texts : List Bytes) (c d : ColumnType) (cell : ℕ) (v : Value) → d ≡ c
+    → cell ≡ cell_for texts v → is_of c v ≡ true → HasCell texts v → value_of texts d cell ≡ v
+value_known texts c d cell v same e of has =
+    ap₂ (λ (t : ColumnType) (n : ℕ). value_of texts t n) same e ∙ value_back texts c v of has
+
+stand_term : (texts : List Bytes) (vs : List Variable) (a : ℕ → ℕ) (t : Term) (n : NumberedTerm)
+    (c : ColumnType) (v : Value) → HasOne vs → TermIsShown (labels vs) t n → TermSuits texts vs n c
+    → is_of c v ≡ true → HasCell texts v → cell_under texts a n ≡ cell_for texts v
+    → StandsForValue (value_by texts vs a) t v
+stand_term texts vs a (Named name) (Number x) c v one shown suits of has e =
+    value_by_is texts vs a x name one shown
+    ∙ value_known texts c (column_of vs x) (a x) v suits e of has
+stand_term texts vs a Hole (Number x) c v one shown suits of has e = tt
+stand_term texts vs a (Constant w) (Fixed u) c v one shown suits of has e =
+    sym shown ∙ sym (value_back texts c u suits.0 suits.1)
+    ∙ value_known texts c c (cell_for texts u) v refl e of has
+stand_term texts vs a (Named name) (Fixed u) c v one shown suits of has e = absurd shown
+stand_term texts vs a Hole (Fixed u) c v one shown suits of has e = absurd shown
+stand_term texts vs a (Constant w) (Number x) c v one shown suits of has e = absurd shown
+
+-- terms whose cells are a row's stand for the row
+pub stand_terms : (texts : List Bytes) (vs : List Variable) (a : ℕ → ℕ) (ts : List Term)
+    (ns : List NumberedTerm) (cs : List ColumnType) (row : Tuple) → HasOne vs
+    → TermsAreShown (labels vs) ts ns → TermsSuit texts vs ns cs → fits cs row ≡ true
+    → HaveCells texts row → map (cell_under texts a) ns ≡ cells_of texts row
+    → StandForAll (value_by texts vs a) ts row
+stand_terms texts vs a [] [] [] [] one shown suits f h e = tt
+stand_terms texts vs a [] [] [] (v ∷ row) one shown suits f h e = absurd (false≢true f)
+stand_terms texts vs a [] [] (c ∷ cs) row one shown suits f h e = absurd suits
+stand_terms texts vs a [] (n ∷ ns) cs row one shown suits f h e = absurd shown
+stand_terms texts vs a (t ∷ ts) [] cs row one shown suits f h e = absurd shown
+stand_terms texts vs a (t ∷ ts) (n ∷ ns) [] row one shown suits f h e = absurd suits
+stand_terms texts vs a (t ∷ ts) (n ∷ ns) (c ∷ cs) [] one shown suits f h e = absurd (false≢true f)
+stand_terms texts vs a (t ∷ ts) (n ∷ ns) (c ∷ cs) (v ∷ row) one shown suits f h e =
+    let p = and_parts (is_of c v) (fits cs row) f in (
+      stand_term texts vs a t n c v one shown.0 suits.0 p.0 h.0
+          (heads (cell_under texts a n) (cell_for texts v) (map (cell_under texts a) ns)
+          (cells_of texts row) e),
+      stand_terms texts vs a ts ns cs row one shown.1 suits.1 p.1 h.1
+          (tails (cell_under texts a n) (cell_for texts v) (map (cell_under texts a) ns)
+          (cells_of texts row) e),
+    )
+
+-- the cell of a variable among them stands for a value of the variable's type
+cell_here : (texts : List Bytes) (vs : List Variable) (a : ℕ → ℕ) (x : ℕ) (n : NumberedTerm)
+    (c : ColumnType) (v : Value) → TermSuits texts vs n c → is_of c v ≡ true → HasCell texts v
+    → cell_under texts a n ≡ cell_for texts v → is_number x n ≡ true
+    → IsCell texts (column_of vs x) (a x)
+cell_here texts vs a x (Fixed u) c v suits of has e m = absurd (false≢true m)
+cell_here texts vs a x (Number y) c v suits of has e m =
+    let same = eqb-true x y m in
+    record {
+      value = v;
+      stands = record {
+        of = ap (λ (t : ColumnType). is_of t v) (ap (column_of vs) same ∙ suits) ∙ of;
+        has = has;
+        is = ap a same ∙ e;
+      };
+    }
+
+pub cell_among : (texts : List Bytes) (vs : List Variable) (a : ℕ → ℕ) (x : ℕ)
+    (ns : List NumberedTerm) (cs : List ColumnType) (row : Tuple) → TermsSuit texts vs ns cs
+    → fits cs row ≡ true → HaveCells texts row → map (cell_under texts a) ns ≡ cells_of texts row
+    → list_any (is_number x) ns ≡ true → IsCell texts (column_of vs x) (a x)
+cell_among texts vs a x [] cs row suits f h e m = absurd (false≢true m)
+cell_among texts vs a x (n ∷ ns) [] row suits f h e m = absurd suits
+cell_among texts vs a x (n ∷ ns) (c ∷ cs) [] suits f h e m = absurd (false≢true f)
+cell_among texts vs a x (n ∷ ns) (c ∷ cs) (v ∷ row) suits f h e m =
+    let p = and_parts (is_of c v) (fits cs row) f in
+    elim (or_cases (is_number x n) (list_any (is_number x) ns) m) [
+      | inl here ↦ cell_here texts vs a x n c v suits.0 p.0 h.0
+          (heads (cell_under texts a n) (cell_for texts v) (map (cell_under texts a) ns)
+          (cells_of texts row) e) here
+      | inr there ↦ cell_among texts vs a x ns cs row suits.1 p.1 h.1
+          (tails (cell_under texts a n) (cell_for texts v) (map (cell_under texts a) ns)
+          (cells_of texts row) e) there
+    ]
+
+-- ---- Cells for the holes of a query whose atoms stand for rows.
+
+-- ---- rising numbers
+
+pub rise_above : (from : ℕ) (l : List ℕ) (y : ℕ) → Rise from l → member y l ≡ true → from ≤ y
+unfolding Rise
+rise_above from [] y h m = absurd (false≢true m)
+rise_above from (x ∷ l) y h m =
+    elim (or_cases (y == x) (member y l) m) [
+      | inl here ↦ (let e = eqb-true y x here in let b = h.0 in omega arith)
+      | inr there ↦ (let b = h.0 in let c = rise_above (x + 1) l y h.1 there in omega arith)
+    ]
+
+pub member_left : (y : ℕ) (xs ys : List ℕ) → member y xs ≡ true → member y (xs ++ ys) ≡ true
+member_left y [] ys m = absurd (false≢true m)
+member_left y (x ∷ xs) ys m =
+    elim (or_cases (y == x) (member y xs) m) [
+      | inl here ↦ or_left (y == x) (member y (xs ++ ys)) here
+      | inr there ↦ or_right (y == x) (member y (xs ++ ys)) (member_left y xs ys there)
+    ]
+
+pub member_right : (y : ℕ) (xs ys : List ℕ) → member y ys ≡ true → member y (xs ++ ys) ≡ true
+member_right y [] ys m = m
+member_right y (x ∷ xs) ys m = or_right (y == x) (member y (xs ++ ys)) (member_right y xs ys m)
+
+pub in_right : (xs ys : List ℕ) (y : ℕ) → member y xs ≡ false → member y (xs ++ ys) ≡ true
+    → member y ys ≡ true
+in_right [] ys y out m = m
+in_right (x ∷ xs) ys y out m =
+    let p = or_parts (y == x) (member y xs) out in
+    elim (or_cases (y == x) (member y (xs ++ ys)) m) [
+      | inl here ↦ absurd (false≢true (sym p.0 ∙ here))
+      | inr there ↦ in_right xs ys y p.1 there
+    ]
+
+pub rise_left : (from : ℕ) (xs ys : List ℕ) → Rise from (xs ++ ys) → Rise from xs
+unfolding Rise
+rise_left from [] ys h = tt
+rise_left from (x ∷ xs) ys h = (h.0, rise_left (x + 1) xs ys h.1)
+
+rise_lower : (from to : ℕ) (l : List ℕ) → to ≤ from → Rise from l → Rise to l
+unfolding Rise
+rise_lower from to [] low h = tt
+rise_lower from to (x ∷ l) low h = ((let b = h.0 in omega arith), h.1)
+
+pub rise_right : (from : ℕ) (xs ys : List ℕ) → Rise from (xs ++ ys) → Rise from ys
+unfolding Rise
+rise_right from [] ys h = h
+rise_right from (x ∷ xs) ys h =
+    rise_lower (x + 1) from ys (let b = h.0 in omega arith) (rise_right (x + 1) xs ys h.1)
+
+-- no number is in both parts of a rising list
+pub rise_apart : (from : ℕ) (xs ys : List ℕ) (y : ℕ) → Rise from (xs ++ ys) → member y ys ≡ true
+    → member y xs ≡ false
+unfolding Rise
+rise_apart from [] ys y h m = refl
+rise_apart from (x ∷ xs) ys y h m =
+    let c = rise_above (x + 1) (xs ++ ys) y h.1 (member_right y xs ys m) in
+    rw (ne_eqb y x (λ e. omega arith)) (rise_apart (x + 1) xs ys y h.1 m)
+
+-- ---- one atom
+
+-- the cell that a row has at the hole with a number
+abbrev pub hole_cell : List Bytes → List Term → List NumberedTerm → Tuple → ℕ → ℕ
+hole_cell texts [] ns row y = 0
+hole_cell texts (t ∷ ts) [] row y = 0
+hole_cell texts (t ∷ ts) (n ∷ ns) [] y = 0
+hole_cell texts (t ∷ ts) (n ∷ ns) (v ∷ row) y =
+    cond (member y (hole_of t n)) (cell_for texts v) (hole_cell texts ts ns row y)
+
+-- the cells of named variables are those of their values
+abbrev pub HasNames : List Bytes → List Label → (Bytes → Value) → (ℕ → ℕ) → Type 0
+HasNames texts ls values a = (x : ℕ) (name : Bytes) → slice_get ls x ≡ Some (Some name)
+    → a x ≡ cell_for texts (values name)
+
+pub cells_terms : (texts : List Bytes) (ls : List Label) (values : Bytes → Value) (a : ℕ → ℕ)
+    (from : ℕ) (ts : List Term) (ns : List NumberedTerm) (row : Tuple) → HasNames texts ls values a
+    → TermsAreShown ls ts ns → StandForAll values ts row → Rise from (holes_among ts ns)
+    → ((y : ℕ) → member y (holes_among ts ns) ≡ true → a y ≡ hole_cell texts ts ns row y)
+    → map (cell_under texts a) ns ≡ cells_of texts row
+unfolding holes_among Rise
+cells_terms texts ls values a from [] [] [] names shown stand rise holes = refl
+cells_terms texts ls values a from [] [] (v ∷ row) names shown stand rise holes = absurd stand
+cells_terms texts ls values a from [] (n ∷ ns) row names shown stand rise holes = absurd shown
+cells_terms texts ls values a from (t ∷ ts) [] row names shown stand rise holes = absurd shown
+cells_terms texts ls values a from (t ∷ ts) (n ∷ ns) [] names shown stand rise holes = absurd stand
+cells_terms texts ls values a from (Named name ∷ ts) (Number x ∷ ns) (v ∷ row) names shown stand
+    rise holes =
+    ap₂ (λ (c : ℕ) (cs : List ℕ). c ∷ cs) (names x name shown.0 ∙ ap (cell_for texts) stand.0)
+    (cells_terms texts ls values a from ts ns row names shown.1 stand.1 rise holes)
+cells_terms texts ls values a from (Hole ∷ ts) (Number x ∷ ns) (v ∷ row) names shown stand rise
+    holes =
+    ap₂ (λ (c : ℕ) (cs : List ℕ). c ∷ cs)
+    (holes x (or_left (x == x) (member x (holes_among ts ns)) (eq-eqb x x refl))
+    ∙ ap (λ (b : Bool). cond b (cell_for texts v) (hole_cell texts ts ns row x))
+    (or_left (x == x) false (eq-eqb x x refl)))
+    (cells_terms texts ls values a (x + 1) ts ns row names shown.1 stand.1 rise.1
+    (λ y m. holes y (or_right (y == x) (member y (holes_among ts ns)) m)
+    ∙ ap (λ (b : Bool). cond b (cell_for texts v) (hole_cell texts ts ns row y))
+    (rise_apart from (x ∷ []) (holes_among ts ns) y rise m)))
+cells_terms texts ls values a from (Constant w ∷ ts) (Fixed u ∷ ns) (v ∷ row) names shown stand rise
+    holes =
+    ap₂ (λ (c : ℕ) (cs : List ℕ). c ∷ cs) (ap (cell_for texts) (shown.0 ∙ stand.0))
+    (cells_terms texts ls values a from ts ns row names shown.1 stand.1 rise holes)
+cells_terms texts ls values a from (Named name ∷ ts) (Fixed u ∷ ns) (v ∷ row) names shown stand rise
+    holes = absurd shown.0
+cells_terms texts ls values a from (Hole ∷ ts) (Fixed u ∷ ns)
+    (v ∷ row) names shown stand rise holes =
+    absurd shown.0
+cells_terms texts ls values a from (Constant w ∷ ts) (Number x ∷ ns) (v ∷ row) names shown stand
+    rise holes = absurd shown.0
+
+-- a hole's number has no name
+pub among_unnamed : (ls : List Label) (ts : List Term) (ns : List NumberedTerm) (y : ℕ)
+    → TermsAreShown ls ts ns → member y (holes_among ts ns) ≡ true → slice_get ls y ≡ Some None
+unfolding holes_among
+among_unnamed ls [] ns y shown m = absurd (false≢true m)
+among_unnamed ls (t ∷ ts) [] y shown m = absurd (false≢true m)
+among_unnamed ls (Named name ∷ ts) (Number x ∷ ns) y shown m = among_unnamed ls ts ns y shown.1 m
+among_unnamed ls (Hole ∷ ts) (Number x ∷ ns) y shown m =
+    elim (or_cases (y == x) (member y (holes_among ts ns)) m) [
+      | inl here ↦ ap (slice_get ls) (eqb-true y x here) ∙ shown.0
+      | inr there ↦ among_unnamed ls ts ns y shown.1 there
+    ]
+among_unnamed ls (Constant w ∷ ts) (Fixed u ∷ ns) y shown m = among_unnamed ls ts ns y shown.1 m
+among_unnamed ls (Named name ∷ ts) (Fixed u ∷ ns) y shown m = absurd shown.0
+among_unnamed ls (Hole ∷ ts) (Fixed u ∷ ns) y shown m = absurd shown.0
+among_unnamed ls (Constant w ∷ ts) (Number x ∷ ns) y shown m = absurd shown.0
+
+-- ---- Assignments of values that satisfy all atoms of a query, and assignments of cells that do.
 
 -- an assignment of cells satisfies each of these atoms
 abbrev pub AreSatisfied : Catalog → (ℕ → ℕ) → List NumberedAtom → Type 0

@@ -1,110 +1,77 @@
 -- What the lines that open and read a cursor make of it, and what they are answered.
-use Rattle.std.specs.Prelude.{
-  List,
-  [],
-  ◌∷◌,
-  ◌++◌,
-  ◌≡◌,
-  ◌<◌,
-  ◌≤◌,
-  ◌⊎◌,
-  Bool,
-  true,
-  false,
-  cond,
-  Option,
-  None,
-  Some,
-  is_some,
-  IsSome,
-  IsSomeAnd,
-  MatchOption,
-  option_map,
-  Result,
-  Ok,
-  Err,
-  length,
-  codes,
-  slice_index,
-  ⊤,
-}
-use Rattle.std.proofs.Common.{refl, sym, ap, ◌∙◌, subst, inl, inr, arith}
+use Rattle.std.specs.Prelude.{List, [], ◌∷◌, ◌++◌, ◌<◌, Option, None, Some, IsSomeAnd, Contains, length, ◌≡◌, ◌≤◌, ◌⊎◌}
+use Rattle.std.specs.Prelude.{Bool, true, false, cond, is_some, IsSome, MatchOption, option_map, Result, Ok, Err, codes}
+use Rattle.std.specs.Prelude.{slice_index, ⊤}
+use Rattle.std.proofs.Common.{sym, ap, ◌∙◌, subst, arith, append-nil, refl, inl, inr}
 use Rattle.std.proofs.lemmas.Bool.{both_ways}
-use Rattle.djq_model.specs.Data.{Bytes, Tuple, bytes_eq}
+use Rattle.djq_model.specs.declared.relation.Relation.{Relation}
+use Rattle.djq_model.specs.Data.{Tuple, Bytes, bytes_eq}
 use Rattle.djq_model.specs.Listed.{Listed, AnswersOf, listed_of}
+use Rattle.djq_value.specs.Token.{tokens}
+use Rattle.djq_value.proofs.Texts.{ascii_utf8}
 use Rattle.djq_protocol.specs.declared.answer.EndCause.{EndCause}
 use Rattle.djq_protocol.specs.declared.answer.EndCause.TheVariants.{Memory}
 use Rattle.djq_protocol.specs.declared.answer.Refusal.{Refusal}
-use Rattle.djq_protocol.specs.declared.answer.Refusal.TheVariants.{
-  Syntax,
-  Taken,
-  NoRelation,
-  NoQuery,
-  NoCursor,
-  Arity,
-  WrongType,
-  HeadUnbound,
-  HeadRepeated,
-  VariableType,
-  Unbound,
-  Limit,
-  NoMemory,
-  InUse,
-  Member,
-  Misplaced,
-}
+use Rattle.djq_protocol.specs.declared.answer.Refusal.TheVariants.{Syntax, Taken, NoRelation, NoQuery, NoCursor, Arity}
+use Rattle.djq_protocol.specs.declared.answer.Refusal.TheVariants.{WrongType, HeadUnbound, HeadRepeated, VariableType}
+use Rattle.djq_protocol.specs.declared.answer.Refusal.TheVariants.{Unbound, Limit, NoMemory, InUse, Member, Misplaced}
 use Rattle.djq_protocol.specs.declared.held.HeldRow.{HeldRow}
 use Rattle.djq_protocol.specs.declared.command.Command.{Command}
 use Rattle.djq_protocol.specs.declared.command.Command.TheVariants.{Open, Next}
 use Rattle.djq_protocol.specs.Line.{a_line, front_of, is_blank}
-use Rattle.djq_protocol.specs.Grammar.{
-  Reading,
-  says_command,
-  reading_of,
-  reading_in,
-  command_of,
-  command_in,
-  takes_memory_to_read,
-}
+use Rattle.djq_protocol.specs.Grammar.{Reading, says_command, reading_of, reading_in, command_of, command_in}
+use Rattle.djq_protocol.specs.Grammar.{takes_memory_to_read}
 use Rattle.djq_protocol.specs.Conditions.{Answers}
 use Rattle.djq_protocol.specs.Reply.{refusal_line, end_memory, listing_lines, text_of, ok_reply}
-use Rattle.djq_value.specs.Token.{tokens}
-use Rattle.djq_value.proofs.Utf8.{ascii_utf8}
 use Rattle.djq_store_spec.specs.Store.{Store, open_at}
+use Rattle.djq_store_spec.specs.Listing.{IsLeft, AreAll}
+use Rattle.djq_answer_laws.proofs.Lists.{some_there, none_some}
 use Rattle.djq_machine.specs.State.{State, Session, Cursor, session_of, with_session, cursor_of, with_position}
 use Rattle.djq_machine.specs.State.{ended_by}
-use Rattle.djq_store_spec.specs.Listing.{IsLeft}
 use Rattle.djq_machine.specs.Effect.{Effect, nothing, says, EndsWith, RefusedStep}
-use Rattle.djq_machine.specs.Command.{
-  open_refusal,
-  with_cursor,
-  OpensTo,
-  NextStep,
-  NextCutStep,
-  NextStepAt,
-  CommandStep,
-  is_misplaced,
-}
+use Rattle.djq_machine.specs.Step.{Event, with_relations, Step, fed, stepped, took, FedStep, TookStep}
+use Rattle.djq_machine.specs.Command.{open_refusal, with_cursor, OpensTo, NextStep, NextCutStep, NextStepAt}
+use Rattle.djq_machine.specs.Command.{CommandStep, is_misplaced}
 use Rattle.djq_machine.specs.LineStep.{blank, run, FrontStep, ReadStep, behind_line}
-use Rattle.djq_machine.specs.Step.{Event, fed, stepped, took, FedStep, TookStep, Step}
 use Rattle.djq_machine.specs.Run.{to_session, pending_of, pending_in}
 use Rattle.djq_machine.specs.Call.{IsOpen, Makes, RanStep, Counts, cause_of, cause_in, held_of, held_in}
 use Rattle.djq_run_laws.specs.Watched.{batch_in}
-use Rattle.djq_run_laws.proofs.Finding.{find_changed}
-use Rattle.djq_answer_laws.proofs.Cases.{some_there, none_some}
-use Rattle.djq_run_laws.proofs.Queueing.{
-  gaining,
-  session_changed,
-  stepped as session_stepped,
-  stepped_cause,
-  stepped_pending,
-}
-use Rattle.djq_run_laws.proofs.Touching.{says_to, is_stepped}
-use Rattle.djq_run_laws.proofs.Cutting.{a_line_in}
-use Rattle.djq_load.specs.Lines.{SessionIsIdle, LineRuns, TakesAll, session_cursors, cursor_at, CursorStands}
+use Rattle.djq_run_laws.proofs.RegisteredQueries.{SameAnswers, reordered_same}
+use Rattle.djq_run_laws.proofs.Deltas.{queued_store}
+use Rattle.djq_run_laws.proofs.Lists.{find_changed, gaining, session_changed, stepped as session_stepped, stepped_cause}
+use Rattle.djq_run_laws.proofs.Lists.{stepped_pending}
+use Rattle.djq_run_laws.proofs.Events.{says_to, is_stepped}
+use Rattle.djq_run_laws.proofs.TakenLines.{a_line_in}
 use Rattle.djq_load.specs.Totals.{HasLeft, open_line, next_line}
-use Rattle.djq_load.proofs.Idle.{is_fed}
-use Rattle.djq_load.proofs.Left.{step_left, some_told}
+use Rattle.djq_load.specs.Lines.{SessionIsIdle, LineRuns, TakesAll, session_cursors, cursor_at, CursorStands}
+use Rattle.djq_load.proofs.IdleSessions.{is_fed}
+
+-- ---- What is left of a query's answers from step to step.
+
+moved : (rs rs' : List Relation) (o : Option Listed) (given : List Tuple) → ((q : Listed) → SameAnswers rs rs' q)
+    → IsSomeAnd o (λ q. (t : Tuple) × IsLeft (AnswersOf rs q) given t)
+    → IsSomeAnd o (λ q. (t : Tuple) × IsLeft (AnswersOf rs' q) given t)
+moved rs rs' None given same h = h
+moved rs rs' (Some q) given same (t, h) = (t, ((same q).there t h.0, h.1))
+
+-- What is queued and how the rows are ordered are nothing to it.
+pub step_left : (old : State) (event : Event) (e : Effect) (new : State) (h : Step old event e new) (given : List Tuple)
+    → HasLeft h.mid.store given → HasLeft new.store given
+step_left old event e new h given left =
+    let mid = h.mid in
+    subst (λ (store : Store). HasLeft store given)
+    (sym (ap (λ (st : State). st.store) h.queued ∙ queued_store (with_relations mid h.relations) e.queued))
+    (moved mid.store.relations h.relations _ given (λ q. reordered_same mid.store.relations h.relations q h.reordered)
+    left)
+
+-- Where some are left and then none is, some are told.
+pub some_told : (Answer : Tuple → Type 0) (given told : List Tuple) → ((t : Tuple) × IsLeft Answer given t)
+    → AreAll Answer (given ++ told) → 0 < length told
+some_told Answer given [] (t, h) all = absurd
+    (h.1 (subst (λ (ts : List Tuple). Contains ts t) (append-nil given) (all t h.0)))
+some_told Answer given (u ∷ told) left all = omega arith
+
+-- ---- What the lines that open and read a cursor make of it, and what they are answered.
 
 -- What a session has: its cursors, and its batch.
 abbrev Has : Type 0
@@ -371,10 +338,10 @@ next_reads = ap (λ (b : Bool). reading_in (cond b (command_in (tokens (codes "n
     (ascii_utf8 (codes "next c 1000") refl)
 
 -- The cursor is at another place.
-moved : (given more : List Tuple) (ended end : Bool) (cursors : List Cursor) → cursor_of cursors (codes "c")
+moved_cursors : (given more : List Tuple) (ended end : Bool) (cursors : List Cursor) → cursor_of cursors (codes "c")
     ≡ Some (cursor_at given ended)
     → cursor_of (with_position cursors (codes "c") (open_at more end)) (codes "c") ≡ Some (cursor_at more end)
-moved given more ended end cursors stands =
+moved_cursors given more ended end cursors stands =
     find_changed (λ (c : Cursor). bytes_eq c.name (codes "c"))
     (λ (c : Cursor). record c { position = open_at more end }) (λ c. refl) cursors
     ∙ ap (λ (o : Option Cursor). option_map (λ (c : Cursor). record c { position = open_at more end }) o) stands
@@ -400,7 +367,7 @@ next_run given ended mid new stands pending running r =
       stands = stands_by (given ++ t.told) t.end (r.step).mid new (stepped_has mid r.event r.effect new r.step)
           (record {
             cursor = ap (λ (cs : List Cursor). cursor_of cs (codes "c")) (ap session_cursors t.found ∙ t.cursors)
-                ∙ moved given (given ++ t.told) ended t.end y.cursors stays;
+                ∙ moved_cursors given (given ++ t.told) ended t.end y.cursors stays;
             batch = ap batch_in t.found ∙ t.batch ∙ none;
           });
       pending = pending_behind mid new r.event r.effect r.step t.session (text_of (listing_lines t.told t.end)) t.found

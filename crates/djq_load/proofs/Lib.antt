@@ -1,11 +1,6 @@
-mod Served
-mod Idle
-mod Left
+mod IdleSessions
 mod Cursors
-mod Listing
-mod LoadLines
-mod Joining
-mod JoinLines
-mod Few
-mod Whole
-pub mod Changing
+mod Listings
+mod RegisteredQueries
+mod WholeLoads
+pub mod Draws

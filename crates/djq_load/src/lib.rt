@@ -17,7 +17,7 @@
 //! What surprises: the totals are read off the bytes of the replies, as a client would, and still
 //! they are those of the query's answers over the rows that are there: that a reply lists answers
 //! is what the machine promises, and that the text of a listing is read as the listing is a lemma
-//! here (`proofs/Listing.antt`). The sum is modulo 2^64.
+//! here (`proofs/Listings.antt`). The sum is modulo 2^64.
 //!
 //! What this crate is not: it buffers nothing, allocates nothing, and knows no row.
 //!

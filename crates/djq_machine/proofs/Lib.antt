@@ -1,2 +1,2 @@
-pub mod Walks
-pub mod Explaining
+pub mod Relations
+pub mod Explanations

@@ -1,12 +1,5 @@
-pub mod Parting
-pub mod Numerals
-pub mod Celling
-pub mod Bodies
-pub mod Spelling
-pub mod Telling
-pub mod Finding
-pub mod Turning
-pub mod Sets
-pub mod Writing
-pub mod Following
-pub mod Leaving
+pub mod Spellings
+pub mod LineForms
+pub mod ReadLines
+pub mod MirrorSteps
+pub mod FollowedLines

@@ -20,7 +20,7 @@ use itoa::Buffer;
 use std::alloc::Global;
 
 /// Whether bytes are values, each behind a space.
-#[tactic(auto, using(crate::proofs::Celling::cells_behind, crate::proofs::Celling::cells_fail, crate::proofs::Celling::cells_empty, crate::proofs::Celling::cell_shorter))]
+#[tactic(auto, using(crate::proofs::Spellings::cells_behind, crate::proofs::Spellings::cells_fail, crate::proofs::Spellings::cells_empty, crate::proofs::Spellings::cell_shorter))]
 pub(crate) fn are_cells(alloc: Global, bytes: &[u8]) -> Result<bool, NoMem>
     ensures { IfOk result (λ yes. yes ≡ are_cells_in bytes.now) }
 {

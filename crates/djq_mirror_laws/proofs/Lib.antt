@@ -1,23 +1,13 @@
-mod Utf8
-mod Reading
-mod Storing
-pub mod Sayable
-mod Hearing
-mod Replying
-mod Exactly
-mod Telling
-mod Sorting
-mod Mirroring
-mod Having
-mod Mirrored
-mod Waiting
-mod Lines
-mod Printed
-mod Weighing
-mod Lengths
-mod Resting
-mod Holding
-pub mod Whole
-pub mod Alone
-pub mod Opening
-pub mod Loaded
+mod ReadCommands
+mod StoredNames
+pub mod SayableStates
+mod Deltas
+mod Replies
+mod WatcherRuns
+pub mod MirrorInputs
+mod MirrorReplies
+mod SessionCursors
+mod MirrorSteps
+pub mod MirrorRuns
+mod PrintedLines
+mod LineLengths

@@ -19,7 +19,7 @@
 //! its text. So the laws on mirrors ask for states that lines have made, and `specs/Sayable.antt`
 //! says which these are.
 //!
-//! Inside, `proofs/Hearing.antt` says what one session hears of a change, `Replying.antt` what each
+//! Inside, `proofs/Deltas.antt` says what one session hears of a change, `Replying.antt` what each
 //! command is answered by the forms of replies, `Mirroring.antt` what replies make of what a mirror
 //! holds, and `Mirrored.antt` ties that to the session's cursor, step by step. `Printed.antt` says that
 //! what a sayable state is asked is printed by the forms. That a rest is short, `Lengths.antt` and

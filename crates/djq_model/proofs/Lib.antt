@@ -1,2 +1,1 @@
-pub mod Permuting
-pub mod Counted
+pub mod Copies

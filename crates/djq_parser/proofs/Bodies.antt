@@ -1,29 +1,33 @@
--- The items of a query's body, one after the other.
-use Rattle.std.proofs.Common.{◌≡◌, ℕ, zero, suc, ◌<◌, ◌≤◌, List, [], ◌∷◌, ◌++◌, ◌&&◌, Bool, true}
-use Rattle.std.proofs.Common.{false, cond, length, Option, Some, None, option_map, Result, Ok, Err}
-use Rattle.std.proofs.Common.{refl, sym, ap, subst, ◌∙◌, arith, append_assoc, append-nil}
-use Rattle.std.proofs.Common.{length-append}
+-- The items of a query's body, and the command that they make.
+use Rattle.std.proofs.Common.{◌≡◌, ℕ, zero, suc, ◌<◌, ◌≤◌, List, [], ◌∷◌, ◌++◌, ◌&&◌, Bool, true, false, cond, length}
+use Rattle.std.proofs.Common.{Option, Some, None, option_map, Result, Ok, Err, refl, sym, ap, subst, ◌∙◌, arith}
+use Rattle.std.proofs.Common.{append_assoc, append-nil, length-append}
 use Rattle.std.specs.List.{list_all}
-use Rattle.djq_model.specs.Data.{Bytes}
+use Rattle.std.proofs.lemmas.Bool.{cond-true, true≢false}
 use Rattle.djq_model.specs.declared.value.Value.{Value}
 use Rattle.djq_model.specs.declared.query.Term.{Term}
 use Rattle.djq_model.specs.declared.query.Atom.{Atom}
 use Rattle.djq_model.specs.declared.query.Operator.{Operator}
 use Rattle.djq_model.specs.declared.query.Comparison.{Comparison}
+use Rattle.djq_model.specs.declared.relation.ColumnType.{ColumnType}
+use Rattle.djq_model.specs.declared.query.Query.{Query}
+use Rattle.djq_model.specs.Data.{Bytes}
 use Rattle.djq_value.specs.Token.{Token, word, text, open_paren, close_paren, comma, arrow, operator, stray}
 use Rattle.djq_value.specs.Literal.{is_name, is_small_value, literal_of}
-use Rattle.djq_protocol.specs.Grammar.{Body, Item, atom, is_small_atom, comparison, atom_in, atom_over}
-use Rattle.djq_protocol.specs.Grammar.{behind_item, body_in, compared, item_in, items_in, items_within}
-use Rattle.djq_protocol.specs.Grammar.{list_in, more_in, name_of, past_item, put_first, put_item}
-use Rattle.djq_protocol.specs.Grammar.{query_of_tokens, query_of, term_of}
-use Rattle.std.proofs.lemmas.Bool.{cond-true, true≢false}
-use Rattle.djq_parser.specs.Bodies.{HasOneMore, BodyIsRead, ReadsOn, constant_in, comparison_behind, has_atom_in}
-use Rattle.djq_parser.specs.Bodies.{with_item}
-use Rattle.djq_parser.specs.Reading.{ReadsAs, ReadsPart, is_comma, is_outside, is_small_body, is_small_query}
+use Rattle.djq_protocol.specs.declared.command.Command.TheVariants.{Rel, Query as Register, Union}
+use Rattle.djq_protocol.specs.Grammar.{Body, Item, atom, is_small_atom, comparison, atom_in, atom_over, behind_item}
+use Rattle.djq_protocol.specs.Grammar.{body_in, compared, item_in, items_in, items_within, list_in, more_in, name_of}
+use Rattle.djq_protocol.specs.Grammar.{past_item, put_first, put_item, query_of_tokens, query_of, term_of}
 use Rattle.djq_parser.specs.declared.body.Parts.{Parts}
 use Rattle.djq_parser.specs.declared.refusal.LineRefusal.{LineRefusal}
 use Rattle.djq_parser.specs.declared.refusal.LineRefusal.TheVariants.{Syntax, Range, NoMem}
-use Rattle.djq_parser.proofs.Listing.{all_last, all_true}
+use Rattle.djq_parser.specs.Bodies.{HasOneMore, BodyIsRead, ReadsOn, constant_in, comparison_behind, has_atom_in}
+use Rattle.djq_parser.specs.Bodies.{with_item}
+use Rattle.djq_parser.specs.Reading.{ReadsAs, ReadsPart, is_comma, is_outside, is_small_body, is_small_query}
+use Rattle.djq_parser.specs.Reading.{GivesCommand}
+use Rattle.djq_parser.proofs.ItemLists.{all_last, all_true}
+
+-- ---- The items of a query's body, one after the other.
 
 -- Behind an item, a list or an atom are fewer tokens than so many.
 abbrev IsShorter : {A : Type 0} → ℕ → Option (A × List Token) → Type 0
@@ -412,3 +416,35 @@ pub query_split : (old mid rest : List Token) (n : Bytes) (head : List Bytes) �
     → query_of_tokens old ≡ option_map (λ (b : Body). record { name = n; head = head; atoms = b.0; comparisons = b.1 })
     (body_in rest)
 query_split old mid rest n head e named some = ap query_of_tokens e ∙ cond-true _ _ _ named ∙ ap (query_of n) some
+
+-- ---- From what was read behind a keyword to the command.
+
+-- a relation that is refused
+pub rel_refused : (o : Option (Bytes × List ColumnType)) (e : LineRefusal)
+    → ReadsAs (λ p. list_all (λ _. true) p.1) o (Err e) → GivesCommand (option_map (λ p. Rel p.0 p.1) o) (Err e)
+rel_refused None e h = (cc, tt)
+rel_refused (Some p) Syntax h = absurd h
+rel_refused (Some p) Range h = absurd (true≢false (sym (all_true p.1) ∙ h))
+rel_refused (Some p) NoMem h = (refl, refl)
+
+-- a union that is refused
+pub union_refused : (o : Option (Bytes × List Bytes)) (e : LineRefusal)
+    → ReadsAs (λ p. list_all (λ _. true) p.1) o (Err e) → GivesCommand (option_map (λ p. Union p.0 p.1) o) (Err e)
+union_refused None e h = (cc, tt)
+union_refused (Some p) Syntax h = absurd h
+union_refused (Some p) Range h = absurd (true≢false (sym (all_true p.1) ∙ h))
+union_refused (Some p) NoMem h = (refl, refl)
+
+-- a query that is refused
+pub query_refused : (o : Option Query) (e : LineRefusal) → ReadsAs is_small_query o (Err e)
+    → GivesCommand (option_map (λ q. Register q) o) (Err e)
+query_refused None e h = (cc, tt)
+query_refused (Some q) Syntax h = absurd h
+query_refused (Some q) Range h = (h, tt)
+query_refused (Some q) NoMem h = (h, refl)
+
+-- a query that is kept
+pub query_made : (o : Option Query) (q : Query) → ReadsAs is_small_query o (Ok q)
+    → GivesCommand (option_map (λ q. Register q) o) (Ok (Register q))
+query_made None q h = absurd (cc)
+query_made (Some p) q h = ((ap (λ x. Register x) h.0, h.1), tt)

@@ -1,12 +1,5 @@
-pub mod Numerals
-pub mod Lists
-pub mod Cutting
-pub mod Listing
+pub mod ItemLists
+pub mod RowLines
 pub mod Bodies
-pub mod Sayings
-pub mod Spelled
-pub mod Making
-pub mod Rows
-pub mod Beginning
-pub mod RowWords
-pub mod Plain
+pub mod CommandTokens
+pub mod CommandLines

@@ -1,10 +1,3 @@
-pub mod Opening
-pub mod Logging
-pub mod Abandoning
-pub mod Living
-pub mod ReadingBack
-pub mod MirroringBack
-pub mod Reopening
-pub mod Running
-pub mod Finishing
-pub mod Replaying
+pub mod Logs
+pub mod ProgramRuns
+pub mod Replays

@@ -1,6 +1,6 @@
 -- A node has gained a tuple: what its parent gains.
-use Rattle.std.proofs.Common.{◌≡◌, ◌≢◌, ℕ, suc, ◌+◌, ◌*◌, ◌<◌, ◌≤◌, Bool, List, [], ◌∷◌, ◌++◌}
-use Rattle.std.proofs.Common.{length, take, drop, refl, ap, ap₂, subst, sym, ◌∙◌, arith, inl, inr}
+use Rattle.std.proofs.Common.{◌≡◌, ◌≢◌, ℕ, suc, ◌+◌, ◌*◌, ◌<◌, ◌≤◌, Bool, List, [], ◌∷◌, ◌++◌, length, take, drop, refl}
+use Rattle.std.proofs.Common.{ap, ap₂, subst, sym, ◌∙◌, arith, inl, inr}
 use Rattle.std.proofs.lemmas.Bool.{cases_eq, cases_lt}
 use Rattle.std.proofs.lemmas.List.{length-map}
 use Rattle.std.specs.Prelude.{slice_index}
@@ -9,28 +9,24 @@ use Rattle.djq_index.specs.Tuple.{same, pick, one_if}
 use Rattle.djq_index.specs.Entries.{Entry, supports_of, count_of, group_size, group_of}
 use Rattle.djq_index.specs.Changes.{InsertedAs, Removed, Supported}
 use Rattle.djq_index.specs.Table.{Table, IsAt}
-use Rattle.djq_index.proofs.Tuples.{same_cases, same_sym, one_same, one_other}
-use Rattle.djq_index.proofs.Counts.{many_length}
-use Rattle.djq_index.proofs.Apart.{cnt_none, supp_none, there}
-use Rattle.djq_index.proofs.Groups.{cnt_grp}
-use Rattle.djq_index.proofs.Changing.{inserted_cnt, inserted_supp, inserted_many, inserted_length}
-use Rattle.djq_index.proofs.Changing.{supported_cnt, raised_supp, removed_supp}
+use Rattle.djq_index.proofs.Tuples.{same_cases, same_sym, one_same, one_other, many_length, cnt_none, supp_none, there}
+use Rattle.djq_index.proofs.Groups.{cnt_grp, inserted_cnt, inserted_supp, inserted_many, inserted_length, supported_cnt}
+use Rattle.djq_index.proofs.Groups.{raised_supp, removed_supp}
 use Rattle.djq_tree.specs.declared.node.Node.{Node}
 use Rattle.djq_tree.specs.declared.node.Node.TheVariants.{Leaf, Trim, Meet}
 use Rattle.djq_tree.specs.Tree.{Tree, IsTree, IsMeet, node_at}
 use Rattle.djq_tree.specs.Labels.{label_at}
 use Rattle.djq_tree.specs.Keys.{key_of}
-use Rattle.djq_tree.proofs.Keying.{key_of_trim, key_of_guard}
+use Rattle.djq_tree.proofs.Paths.{key_of_trim, key_of_guard}
 use Rattle.djq_reduct.specs.Columns.{column, columns}
 use Rattle.djq_reduct.specs.Tables.{entries_at, key_at, width_at}
 use Rattle.djq_reduct.specs.Reducts.{IsReductOf, IsFamily}
-use Rattle.djq_reduct.proofs.Family.{trim_law, meet_law}
+use Rattle.djq_reduct.proofs.Assignments.{trim_law, meet_law}
 use Rattle.djq_propagate.specs.Walks.{ChangedOneTable, Ready, InsertedUpwards, Refused, ChangedOnlyAt, ReducedAbove}
-use Rattle.djq_propagate.specs.Walks.{UnchangedAbove}
-use Rattle.djq_propagate.specs.Walks.{IsParentOf, IsGrown, IsEmptied, CoversAll}
-use Rattle.djq_propagate.proofs.Sides.{group_once, group_has, take_le, take_all, cut_new, cond_one}
-use Rattle.djq_propagate.proofs.Families.{once, apart_of, same_keys, child_of, lower_of, now_family}
-use Rattle.djq_propagate.proofs.Families.{ready_up, above_same, righted, idle, below_up, reduced_same, agree_from}
+use Rattle.djq_propagate.specs.Walks.{UnchangedAbove, IsParentOf, IsGrown, IsEmptied, CoversAll}
+use Rattle.djq_propagate.proofs.PathMarks.{group_once, group_has, take_le, take_all, cut_new, cond_one}
+use Rattle.djq_propagate.proofs.Families.{once, apart_of, same_keys, child_of, lower_of, now_family, ready_up}
+use Rattle.djq_propagate.proofs.Families.{above_same, righted, idle, below_up, reduced_same, agree_from}
 
 -- the equation of a parent, before its child changed
 pub law_of : (t : Tree) (was now : List Table) (j k : ℕ) (n : Node) → ChangedOnlyAt t was now j → IsParentOf t k n j

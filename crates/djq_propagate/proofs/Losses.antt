@@ -1,24 +1,22 @@
 -- A node has lost a tuple: what its parent loses.
-use Rattle.std.proofs.Common.{◌≡◌, ◌≢◌, ℕ, ◌+◌, ◌-◌, ◌*◌, ◌<◌, ◌≤◌, Bool, true, false, cond, List}
-use Rattle.std.proofs.Common.{[], take, drop, refl, ap, ap₂, subst, sym, ◌∙◌, arith, inl, inr}
+use Rattle.std.proofs.Common.{◌≡◌, ◌≢◌, ℕ, ◌+◌, ◌-◌, ◌*◌, ◌<◌, ◌≤◌, Bool, true, false, cond, List, [], take, drop, refl}
+use Rattle.std.proofs.Common.{ap, ap₂, subst, sym, ◌∙◌, arith, inl, inr}
 use Rattle.djq_index.specs.Tuple.{same, pick, one_if}
 use Rattle.djq_index.specs.Entries.{Entry, supports_of, count_of, group_size, group_of}
 use Rattle.djq_index.specs.Changes.{Removed, Supported}
 use Rattle.djq_index.specs.Table.{Table}
-use Rattle.djq_index.proofs.Tuples.{is_same, same_cases, same_sym, one_same, one_other, one_true}
-use Rattle.djq_index.proofs.Apart.{supp_none}
-use Rattle.djq_index.proofs.Groups.{cnt_grp}
-use Rattle.djq_index.proofs.Changing.{removed_cnt, removed_supp, removed_many, supported_cnt, supported_supp}
+use Rattle.djq_index.proofs.Tuples.{is_same, same_cases, same_sym, one_same, one_other, one_true, supp_none}
+use Rattle.djq_index.proofs.Groups.{cnt_grp, removed_cnt, removed_supp, removed_many, supported_cnt, supported_supp}
 use Rattle.djq_tree.specs.declared.node.Node.TheVariants.{Trim, Meet}
 use Rattle.djq_tree.specs.Tree.{Tree, IsTree, IsMeet}
 use Rattle.djq_reduct.specs.Tables.{entries_at, key_at}
 use Rattle.djq_reduct.specs.Reducts.{IsReductOf, IsFamily}
-use Rattle.djq_reduct.proofs.Family.{trim_law, meet_law}
+use Rattle.djq_reduct.proofs.Assignments.{trim_law, meet_law}
 use Rattle.djq_propagate.specs.Walks.{ChangedOneTable, RemovedUpwards, ChangedOnlyAt, ReducedAbove, IsParentOf}
 use Rattle.djq_propagate.specs.Walks.{IsEmptied, CoversAll}
-use Rattle.djq_propagate.proofs.Families.{once, apart_of, same_keys, lower_of, now_family}
-use Rattle.djq_propagate.proofs.Families.{above_same, righted, idle, below_up}
-use Rattle.djq_propagate.proofs.Sides.{group_has, take_le, take_all, cond_one}
+use Rattle.djq_propagate.proofs.Families.{once, apart_of, same_keys, lower_of, now_family, above_same, righted, idle}
+use Rattle.djq_propagate.proofs.Families.{below_up}
+use Rattle.djq_propagate.proofs.PathMarks.{group_has, take_le, take_all, cond_one}
 use Rattle.djq_propagate.proofs.Gains.{law_of, same_up, keys_now, side_stays}
 
 -- a tuple that went was there once

@@ -1,13 +1,3 @@
-pub mod Columns
-pub mod Relating
-pub mod Differing
-pub mod Counting
-pub mod Faults
+pub mod Atoms
+pub mod NumberedQueries
 pub mod Numbers
-pub mod Within
-pub mod Edging
-pub mod Matching
-pub mod Binding
-pub mod Found
-pub mod Showing
-pub mod Comparing

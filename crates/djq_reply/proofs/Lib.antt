@@ -1,4 +1,1 @@
-pub mod Adding
-pub mod Taking
-pub mod Digits
-pub mod Edges
+pub mod Printing

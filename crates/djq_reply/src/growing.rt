@@ -25,7 +25,7 @@ use djq_value::{
 /// # Errors
 ///
 /// `NoMem` comes only where the room is too small and can't grow; the output is then as before.
-#[tactic(auto, using(crate::proofs::Taking::line_put, crate::proofs::Taking::none_put, crate::proofs::Taking::puts_alike))]
+#[tactic(auto, using(crate::proofs::Printing::line_put, crate::proofs::Printing::none_put, crate::proofs::Printing::puts_alike))]
 pub fn put_answer<A: Answered>(answer: &A, out: &mut BytesMut) -> Result<(), NoMem>
     ensures { Puts out.old out.new (answer_line (A.values answer.now)) result }
 {
@@ -81,7 +81,7 @@ fn add_answer<A: Answered>(answer: &A, out: &mut BytesMut) -> Result<(), NoMem>
 /// # Errors
 ///
 /// `NoMem` comes only where the room is too small and can't grow; the output is then as before.
-#[tactic(auto, using(crate::proofs::Taking::line_put, crate::proofs::Taking::none_put, crate::proofs::Taking::puts_alike))]
+#[tactic(auto, using(crate::proofs::Printing::line_put, crate::proofs::Printing::none_put, crate::proofs::Printing::puts_alike))]
 pub fn put_change<A: Answered>(
     sign: Sign,
     query: &Name,

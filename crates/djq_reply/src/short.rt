@@ -25,7 +25,7 @@ pub(crate) fn say(out: &mut BytesMut, words: &[u8])
 }
 
 /// A number of 20 digits at most.
-#[tactic(auto, using(crate::proofs::Digits::few_digits))]
+#[tactic(auto, using(crate::proofs::Printing::few_digits))]
 fn say_decimal(out: &mut BytesMut, number: u64)
     requires { 20 ≤ out.old.spare }
     ensures { Says out.old out.new (decimal number) }
@@ -36,7 +36,7 @@ fn say_decimal(out: &mut BytesMut, number: u64)
 /// Words, a number of 20 digits at most, and what stands behind it. Where it is called the words are
 /// known, and are put there without a copy whose length isn't.
 #[inline(always)]
-#[tactic(auto, using(crate::proofs::Digits::few_digits))]
+#[tactic(auto, using(crate::proofs::Printing::few_digits))]
 fn say_digits(out: &mut BytesMut, words: &[u8], number: u64, behind: &[u8])
     requires { length words.now + 20 + length behind.now + LAST_LINE_BYTES ≤ out.old.spare }
     ensures kept { LAST_LINE_BYTES ≤ out.new.spare }
@@ -70,7 +70,7 @@ fn say_with_digit(out: &mut BytesMut, words: &[u8], number: u64, digit: u8)
 
 /// A line of words and two numbers, each of 20 digits at most.
 #[inline(always)]
-#[tactic(auto, using(crate::proofs::Digits::few_digits))]
+#[tactic(auto, using(crate::proofs::Printing::few_digits))]
 fn say_two_numbers(out: &mut BytesMut, words: &[u8], first: u64, second: u64)
     requires { length words.now + 42 + LAST_LINE_BYTES ≤ out.old.spare }
     ensures kept { LAST_LINE_BYTES ≤ out.new.spare }

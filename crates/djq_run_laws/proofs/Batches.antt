@@ -1,40 +1,12 @@
--- What a batch of rows makes of a store: a change of the relations of which rows come, or none.
-use Rattle.std.specs.Prelude.{
-  ℕ,
-  zero,
-  suc,
-  List,
-  [],
-  ◌∷◌,
-  ◌≡◌,
-  ◌≤◌,
-  ◌+◌,
-  ◌++◌,
-  ◌&&◌,
-  ◌||◌,
-  Bool,
-  true,
-  false,
-  cond,
-  not,
-  length,
-  nat_le,
-  None,
-  Some,
-  find,
-  map,
-  Result,
-  Ok,
-  Err,
-  All,
-  Contains,
-}
+-- What a batch of rows makes of a store, and a command of rows of a state.
+use Rattle.std.specs.Prelude.{ℕ, zero, suc, List, [], ◌∷◌, ◌≡◌, ◌≤◌, ◌+◌, ◌++◌, ◌&&◌, ◌||◌, Bool, true, false, cond}
+use Rattle.std.specs.Prelude.{not, length, nat_le, None, Some, find, map, Result, Ok, Err, All, Contains, ◌==◌}
 use Rattle.std.proofs.Common.{refl, sym, ap, ◌∙◌, subst, inl, inr, arith}
 use Rattle.std.proofs.lemmas.List.Elements.{All-nil, All-cons, All-head, All-tail, All-contains}
-use Rattle.djq_answer_laws.proofs.Lists.{first_there, later_there}
+use Rattle.std.proofs.lemmas.Bool.{or_parts}
 use Rattle.djq_model.specs.declared.relation.Relation.{Relation}
 use Rattle.djq_model.specs.declared.relation.CountedRow.{CountedRow}
-use Rattle.djq_model.specs.Data.{Bytes, bytes_eq, counted_of, rows_of, with_row, with_copies}
+use Rattle.djq_model.specs.Data.{Bytes, bytes_eq, counted_of, rows_of, with_row, with_copies, change_first}
 use Rattle.djq_model.specs.Equality.{bytes_eq-decides}
 use Rattle.djq_model.specs.Known.{texts_in, learned, all_learned}
 use Rattle.djq_model.specs.Listed.{Listed}
@@ -50,15 +22,22 @@ use Rattle.djq_store_spec.specs.Stale.{listed_reads}
 use Rattle.djq_store_spec.specs.Batch.{suit_refusal, SuitAll, is_there, with_held, with_all, count_came, has_come}
 use Rattle.djq_store_spec.specs.Batch.{store_behind, place_refusal, HavePlaces, BatchStopsAt, RefusesBatch, AddsBatch}
 use Rattle.djq_store_spec.specs.Batch.{batch_outcome}
-use Rattle.djq_store_spec.proofs.Copies.{copies_rows, rows_apart}
+use Rattle.djq_store_spec.specs.Changes.{RowsOutcome, row_in, row_out, add_outcome, delete_outcome}
+use Rattle.djq_store_spec.proofs.Relations.{copies_rows, rows_apart}
+use Rattle.djq_answer_laws.proofs.Lists.{first_there, later_there}
+use Rattle.djq_machine.specs.State.{State, Session, with_session}
+use Rattle.djq_machine.specs.Effect.{Effect}
+use Rattle.djq_machine.specs.Watch.{ChangeStep}
+use Rattle.djq_machine.specs.Command.{without_batch}
 use Rattle.djq_run_laws.specs.Sound.{AreApart, IsSoundRelation, IsCopyCount}
-use Rattle.djq_run_laws.specs.Form.{LearnsTexts, rows_come}
-use Rattle.djq_run_laws.proofs.Answering.{SameAnswers, read_same}
-use Rattle.std.proofs.lemmas.Bool.{or_parts}
+use Rattle.djq_run_laws.specs.Form.{LearnsTexts, rows_come, RowCommand, row_comes, row_goes, RowsChanged}
+use Rattle.djq_run_laws.proofs.RegisteredQueries.{SameAnswers, read_same}
 use Rattle.djq_run_laws.proofs.Forms.{none_first}
-use Rattle.djq_run_laws.proofs.Rows.{RowsMade, learns_keeps, one_more, other_names, other_rows, suits_more}
-use Rattle.djq_run_laws.proofs.Rows.{suits_copies}
-use Rattle.djq_run_laws.proofs.Suiting.{SameTypes, types_with_rows, types_suit, all_suit, suit_fits}
+use Rattle.djq_run_laws.proofs.RowCommands.{RowsMade, learns_keeps, one_more, other_names, other_rows, suits_more}
+use Rattle.djq_run_laws.proofs.RowCommands.{suits_copies, added, deleted, SameTypes, types_with_rows, types_suit}
+use Rattle.djq_run_laws.proofs.RowCommands.{all_suit, suit_fits}
+
+-- ---- What a batch of rows makes of a store: a change of the relations of which rows come, or none.
 
 -- ---- rows that go in, one after another
 
@@ -315,3 +294,98 @@ batched old held (Ok (suc n)) new h =
     }
 batched old held (Err NoMemory) new h = not_batched old held NoMemory new h
 batched old held (Err r) new h = learns_keeps (rows_come held) old new (not_batched old held r new h)
+
+-- ---- What a command of rows does to a state.
+
+-- what a command of rows makes of its session, before its change is told: a batch that it ends is closed
+abbrev pub closing : RowCommand → Session → Session
+closing (row_comes name row) x = x
+closing (row_goes name row) x = x
+closing (rows_come held) x = without_batch x
+
+-- the state in which it is told
+abbrev pub begun : State → ℕ → RowCommand → State
+begun old s c = with_session old s (closing c)
+
+-- A command of rows is done on the store, and its change told.
+pub record DoesRows (old : State) (s : ℕ) (c : RowCommand) (e : Effect) (new : State) : Type 0 where
+  pub outcome : RowsOutcome
+  pub store : Store
+  pub reply : Bytes
+  pub made : RowsMade c old.store outcome store
+  pub change : ChangeStep (begun old s c) s outcome store reply e new
+
+-- a session that stays
+same_first : (p : Session → Bool) (xs : List Session) → change_first p (λ (x : Session). x) xs ≡ xs
+same_first p [] = refl
+same_first p (x ∷ xs) = by (p x) (same_first p xs)
+  where
+    by : (b : Bool) → change_first p (λ (y : Session). y) xs ≡ xs
+        → cond b (x ∷ xs) (x ∷ change_first p (λ (y : Session). y) xs) ≡ x ∷ xs
+    by true h = refl
+    by false h = ap (λ (ys : List Session). x ∷ ys) h
+
+begun_same : (old : State) (s : ℕ) → old ≡ with_session old s (λ x. x)
+begun_same old s =
+    ap (λ (xs : List Session). record old { sessions = xs })
+    (sym (same_first (λ (x : Session). x.id == s) old.sessions))
+
+from_begun : (old : State) (s : ℕ) (o : RowsOutcome) (store : Store) (reply : Bytes) (e : Effect) (new : State)
+    → ChangeStep old s o store reply e new → ChangeStep (with_session old s (λ x. x)) s o store reply e new
+from_begun old s o store reply e new h =
+    subst (λ (st : State). ChangeStep st s o store reply e new) (begun_same old s) h
+
+pub rows_do : (old : State) (s : ℕ) (c : RowCommand) (e : Effect) (new : State) → RowsChanged old s c e new
+    → DoesRows old s c e new
+rows_do old s (row_comes name row) e new h = record {
+  outcome = add_outcome (row_in old.store.relations name row) h.result;
+  store = h.store;
+  reply = _;
+  made = added old.store name row h.result h.store h.done;
+  change = from_begun old s _ h.store _ e new h.change;
+}
+rows_do old s (row_goes name row) e new h = record {
+  outcome = delete_outcome (row_out old.store.relations name row) h.result;
+  store = h.store;
+  reply = _;
+  made = deleted old.store name row h.result h.store h.done;
+  change = from_begun old s _ h.store _ e new h.change;
+}
+rows_do old s (rows_come held) e new h = record {
+  outcome = batch_outcome old.store held h.result;
+  store = h.store;
+  reply = _;
+  made = batched old.store held h.result h.store h.done;
+  change = h.change;
+}
+
+-- Nothing else of its session changes.
+pub closing_id : (c : RowCommand) (x : Session) → (closing c x).id ≡ x.id
+closing_id (row_comes name row) x = refl
+closing_id (row_goes name row) x = refl
+closing_id (rows_come held) x = refl
+
+pub closing_pending : (c : RowCommand) (x : Session) → (closing c x).pending ≡ x.pending
+closing_pending (row_comes name row) x = refl
+closing_pending (row_goes name row) x = refl
+closing_pending (rows_come held) x = refl
+
+pub closing_held : (c : RowCommand) (x : Session) → (closing c x).held ≡ x.held
+closing_held (row_comes name row) x = refl
+closing_held (row_goes name row) x = refl
+closing_held (rows_come held) x = refl
+
+pub closing_cause : (c : RowCommand) (x : Session) → (closing c x).cause ≡ x.cause
+closing_cause (row_comes name row) x = refl
+closing_cause (row_goes name row) x = refl
+closing_cause (rows_come held) x = refl
+
+pub closing_cursors : (c : RowCommand) (x : Session) → (closing c x).cursors ≡ x.cursors
+closing_cursors (row_comes name row) x = refl
+closing_cursors (row_goes name row) x = refl
+closing_cursors (rows_come held) x = refl
+
+pub closing_watches : (c : RowCommand) (x : Session) → (closing c x).watches ≡ x.watches
+closing_watches (row_comes name row) x = refl
+closing_watches (row_goes name row) x = refl
+closing_watches (rows_come held) x = refl

@@ -1,24 +1,145 @@
--- How a course of the program begins and goes on.
-use Rattle.std.proofs.Common.{List, [], ◌∷◌, ◌++◌, ◌+◌, ◌≤◌, ◌≡◌, ◌≢◌, true, false, length, take}
-use Rattle.std.proofs.Common.{refl, sym, ap, ◌∙◌, subst, append_assoc, append-nil, arith}
+-- What a step does to the session of its event, how a course goes on, and the headline over it.
+use Rattle.std.specs.Prelude.{ℕ, [], ◌≡◌, ◌++◌, Option, None, Some, All}
+use Rattle.std.proofs.Common.{refl, sym, ap, ◌∙◌, subst, append-nil, inl, inr, List, ◌∷◌, ◌+◌, ◌≤◌, ◌≢◌, true, false}
+use Rattle.std.proofs.Common.{length, take, append_assoc, arith}
 use Rattle.std.proofs.lemmas.Grind.{flat_map-append}
 use Rattle.std.proofs.lemmas.List.{take-append-le, take_all}
 use Rattle.std.proofs.lemmas.List.Elements.{All-nil, All-cons, All-append}
 use Rattle.std.proofs.lemmas.List.Sums.{sum_by-append}
-use Rattle.djq_io.specs.Source.{SourceGives}
-use Rattle.djq_io.specs.Sink.{Gains, bytes_of, NoneFailed}
 use Rattle.djq_io.specs.declared.sink.Write.{Write}
 use Rattle.djq_io.specs.declared.sink.Wrote.TheVariants.{Took, Failed}
-use Rattle.djq_io.proofs.Gives.{gives_none, gives_more}
-use Rattle.djq_io.proofs.Gains.{gains_none, gains_more}
-use Rattle.djq_io.proofs.Writing.{bytes_more, took_well}
-use Rattle.djq_machine.specs.State.{State}
+use Rattle.djq_io.specs.Source.{SourceGives}
+use Rattle.djq_io.specs.Sink.{Gains, bytes_of, NoneFailed}
+use Rattle.djq_io.proofs.Streams.{gives_none, gives_more, gains_none, gains_more, bytes_more, took_well}
+use Rattle.djq_model.specs.Data.{Bytes}
+use Rattle.djq_protocol.specs.declared.answer.EndCause.{EndCause}
+use Rattle.djq_protocol.specs.Reply.{end_memory, input_cut}
+use Rattle.djq_answer_laws.proofs.Lists.{some_there}
+use Rattle.djq_machine.specs.State.{State, Session, session_of}
 use Rattle.djq_machine.specs.Effect.{Effect}
-use Rattle.djq_machine.specs.Step.{Event, opened, fed, stepped, took, ended, closed, Step}
-use Rattle.djq_machine.specs.Run.{Did, Walk, all_taken, taken_from, pieces_of, piece_of, pending_of}
+use Rattle.djq_machine.specs.LineStep.{LineOutcome, FrontStep}
+use Rattle.djq_machine.specs.Step.{Event, fed, stepped, took, ended, Step, is_dry, FedStep, TookStep, EndedStep, opened}
+use Rattle.djq_machine.specs.Step.{closed}
+use Rattle.djq_machine.specs.Run.{to_session, pending_of, pending_in, Did, Walk, all_taken, taken_from, pieces_of}
+use Rattle.djq_machine.specs.Run.{piece_of, out}
+use Rattle.djq_machine.specs.Call.{IsOpen, cause_of, held_of, cause_in, held_in}
+use Rattle.djq_machine.specs.Gives.{CursorsGive}
+pub use Rattle.djq_run_laws.specs.Moved.{SessionTakes, InputComes, is_held, out_of_memory, is_dropped, InputIsOver}
+pub use Rattle.djq_run_laws.specs.Moved.{input_ends, had_ended, StepsLine, CausedBy, LeavesHeldBytes}
 use Rattle.djq_run_laws.specs.Course.{Outside, Course, RunNext, MayRun, RunDoes, writes_by, last_write}
-use Rattle.djq_run_laws.specs.Moved.{SessionTakes}
-use Rattle.djq_run_laws.proofs.Moving.{took_facts}
+use Rattle.djq_run_laws.specs.Moved.{SparesSession}
+use Rattle.djq_run_laws.specs.Given.{CoursesGive}
+use Rattle.djq_run_laws.proofs.Lists.{stepped_open, stepped_cause, stepped_held, stepped_pending}
+use Rattle.djq_run_laws.proofs.Events.{Touches, FedTo, is_held as holds, out_of_memory as runs_out, is_dropped as drops}
+use Rattle.djq_run_laws.proofs.Events.{is_fed, EndedTo, input_ends as ends_input, had_ended as had, is_ended, is_taken}
+use Rattle.djq_run_laws.proofs.Events.{is_stepped, run_bytes, gone_taken, next_runs}
+use Rattle.djq_run_laws.proofs.TakenLines.{in_order}
+use Rattle.djq_run_laws.proofs.Cursors.{SessionGives, runs_give}
+
+-- ---- What a step does to the session that its event is of.
+
+-- The session of an event after the step: what the event made of it, and what is queued to it.
+pub record Becomes (new : State) (s : ℕ) (y : Session) (text : Bytes) : Type 0 where
+  pub stays : IsOpen new s
+  pub pending : pending_of new s ≡ y.pending ++ text
+  pub held : held_of new s ≡ y.held
+  pub cause : cause_of new s ≡ y.cause
+
+pub becomes : (old : State) (event : Event) (e : Effect) (new : State) (h : Step old event e new) (s : ℕ)
+    (x y : Session) → Touches old s x e h.mid y → Becomes new s y (to_session s e.queued)
+becomes old event e new h s x y t =
+    let still : IsOpen h.mid s = rw t.now refl in
+    record {
+      stays = stepped_open old event e new h s still;
+      pending = stepped_pending old event e new h s still ∙ ap (λ o. pending_in o ++ to_session s e.queued) t.now;
+      held = stepped_held old event e new h s ∙ ap held_in t.now;
+      cause = stepped_cause old event e new h s ∙ ap cause_in t.now;
+    }
+
+-- what is pending where nothing is queued, and where a text is
+quiet_pending : (old new : State) (s : ℕ) (x y : Session) (text : Bytes) → session_of old s ≡ Some x → pending_of new s
+    ≡ y.pending ++ text → y.pending ≡ x.pending → text ≡ [] → pending_of new s ≡ pending_of old s
+quiet_pending old new s x y text found pending same none = pending ∙ ap (λ t. y.pending ++ t) none
+    ∙ append-nil y.pending ∙ same ∙ sym (ap pending_in found)
+
+said_pending : (old new : State) (s : ℕ) (x y : Session) (text line : Bytes) → session_of old s ≡ Some x
+    → pending_of new s ≡ y.pending ++ text → y.pending ≡ x.pending → text ≡ line → pending_of new s
+    ≡ pending_of old s ++ line
+said_pending old new s x y text line found pending same said = pending ∙ ap (λ t. y.pending ++ t) said
+    ∙ ap (λ p. p ++ line) (same ∙ sym (ap pending_in found))
+
+pub took_facts : (old : State) (s : ℕ) (bytes : Bytes) (e : Effect) (new : State) → Step old (took s bytes) e new
+    → SessionTakes old new s bytes
+took_facts old s bytes e new h =
+    let f = some_there (session_of old s) (λ x. TookStep old s bytes x e h.mid) h.acts in
+    let t = is_taken old s bytes f.0 e h.mid f.1 f.2 in
+    let b = becomes old (took s bytes) e new h s f.0 t.session t.touches in
+    record {
+      stays = b.stays;
+      pending = ap pending_in f.1 ∙ t.pending
+          ∙ ap (λ p. bytes ++ p)
+          (sym (b.pending ∙ ap (λ q. (t.session).pending ++ q) t.quiet ∙ append-nil (t.session).pending));
+      held = b.held ∙ t.held ∙ sym (ap held_in f.1);
+      cause = b.cause ∙ t.cause ∙ sym (ap cause_in f.1);
+    }
+
+comes : (old new : State) (s : ℕ) (bytes : Bytes) (x y : Session) (text : Bytes) → session_of old s ≡ Some x → y.pending
+    ≡ x.pending → Becomes new s y text → FedTo x y bytes text → InputComes old new s bytes
+comes old new s bytes x y text found same b (holds running still held none) =
+    is_held b.stays (ap cause_in found ∙ running) (b.cause ∙ still)
+    (b.held ∙ held ∙ sym (ap (λ o. held_in o ++ bytes) found))
+    (quiet_pending old new s x y text found b.pending same none)
+comes old new s bytes x y text found same b (runs_out running so held said) =
+    out_of_memory b.stays (ap cause_in found ∙ running) (b.cause ∙ so) (b.held ∙ held ∙ sym (ap held_in found))
+    (said_pending old new s x y text end_memory found b.pending same said)
+comes old new s bytes x y text found same b (drops c cause still held none) =
+    is_dropped b.stays c (ap cause_in found ∙ cause) (b.cause ∙ still) (b.held ∙ held ∙ sym (ap held_in found))
+    (quiet_pending old new s x y text found b.pending same none)
+
+pub fed_facts : (old : State) (s : ℕ) (bytes : Bytes) (e : Effect) (new : State) → Step old (fed s bytes) e new
+    → InputComes old new s bytes
+fed_facts old s bytes e new h =
+    let f = some_there (session_of old s) (λ x. FedStep old s bytes x e h.mid) h.acts in
+    let t = is_fed old s bytes f.0 e h.mid f.1 f.2 in
+    comes old new s bytes f.0 t.session (to_session s e.queued) f.1 t.pending
+    (becomes old (fed s bytes) e new h s f.0 t.session t.touches) t.fed
+
+ends : (old new : State) (s : ℕ) (x y : Session) (text : Bytes) → session_of old s ≡ Some x → y.pending ≡ x.pending
+    → y.held ≡ x.held → Becomes new s y text → EndedTo x y text → InputIsOver old new s
+ends old new s x y text found same held b (ends_input running so dry (inl none)) =
+    input_ends b.stays (ap cause_in found ∙ running) (b.cause ∙ so) (b.held ∙ held ∙ sym (ap held_in found))
+    (ap (λ o. is_dry (held_in o)) found ∙ dry)
+    (inl (quiet_pending old new s x y text found b.pending same none))
+ends old new s x y text found same held b (ends_input running so dry (inr said)) =
+    input_ends b.stays (ap cause_in found ∙ running) (b.cause ∙ so) (b.held ∙ held ∙ sym (ap held_in found))
+    (ap (λ o. is_dry (held_in o)) found ∙ dry)
+    (inr (said_pending old new s x y text input_cut found b.pending same said))
+ends old new s x y text found same held b (had c cause still none) =
+    had_ended b.stays c (ap cause_in found ∙ cause) (b.cause ∙ still) (b.held ∙ held ∙ sym (ap held_in found))
+    (quiet_pending old new s x y text found b.pending same none)
+
+pub ended_facts : (old : State) (s : ℕ) (e : Effect) (new : State) → Step old (ended s) e new → InputIsOver old new s
+ended_facts old s e new h =
+    let f = some_there (session_of old s) (λ x. EndedStep old s x e h.mid) h.acts in
+    let t = is_ended old s f.0 e h.mid f.1 f.2 in
+    ends old new s f.0 t.session (to_session s e.queued) f.1 t.pending t.held
+    (becomes old (ended s) e new h s f.0 t.session t.touches) t.ends
+
+pub stepped_facts : (old : State) (s : ℕ) (outcome : LineOutcome) (e : Effect) (new : State)
+    → Step old (stepped s outcome) e new → StepsLine old new s outcome
+stepped_facts old s outcome e new h =
+    let f = some_there (session_of old s) (λ x. (x.cause ≡ None) × FrontStep old s x outcome e h.mid) h.acts in
+    let t = is_stepped old s f.0 outcome e h.mid f.1 f.2.0 f.2.1 in
+    let b = becomes old (stepped s outcome) e new h s f.0 t.session t.touches in
+    record {
+      stays = b.stays;
+      running = ap cause_in f.1 ∙ f.2.0;
+      cause = subst (λ (c : Option EndCause). CausedBy outcome c) (sym b.cause) t.cause;
+      held = subst (λ (bytes : Bytes). LeavesHeldBytes outcome (held_of old s) bytes) (sym b.held)
+          (subst (λ (bytes : Bytes). LeavesHeldBytes outcome bytes (t.session).held) (sym (ap held_in f.1)) t.held);
+    }
+
+-- ---- How a course of the program begins and goes on.
 
 -- nothing was done yet
 pub course_begun : (o : Outside) (st : State) → Course st o o st
@@ -197,3 +318,42 @@ pub course_then_failed : (o o' o'' : Outside) (old mid new : State) (c : Course 
     → (course_then o o' o'' old mid new c well d).failed ≡ d.failed
 unfolding course_then
 course_then_failed o o' o'' old mid new c well d = refl
+
+-- ---- The headline of a course: what was sent, the lines that were taken, and what cursors gave, are laws of its run.
+
+-- under `run` no session is closed
+next_spares : (st : State) (event : Event) → MayRun st event → SparesSession event 1
+next_spares st (opened s) h = tt
+next_spares st (fed s bytes) h = tt
+next_spares st (stepped s outcome) h = tt
+next_spares st (took s bytes) h = tt
+next_spares st (ended s) h = tt
+next_spares st (closed s bytes) h = absurd h
+
+pub walk_spares : (old : State) (done : List Did) (new : State) → Walk RunNext old done new
+    → All (λ d. SparesSession d.event 1) done
+walk_spares old [] new w = All-nil (λ (d : Did). SparesSession d.event 1)
+walk_spares old (d ∷ done) new w = All-cons (λ (e : Did). SparesSession e.event 1) d done
+    (next_spares old d.event w.1.0)
+    (walk_spares w.0 done new w.2)
+
+-- where no session is open, nothing is pending and no cursor is
+pub none_pending : (st : State) → st.sessions ≡ [] → pending_of st 1 ≡ []
+none_pending st none = ap (λ (xs : List Session). pending_of (record st { sessions = xs }) 1) none
+
+none_give : (st : State) → st.sessions ≡ [] → CursorsGive st
+none_give st none = subst (λ (xs : List Session). All (SessionGives st.store.relations st.store.queries) xs) (sym none)
+    (All-nil (SessionGives st.store.relations st.store.queries))
+
+pub headline : CoursesGive
+headline start before now st c none =
+    let walk = walk_of start c.done c.writes st c.does in
+    record {
+      written = does_bytes start c.done c.writes st c.does;
+      sent = ap (λ g. g ++ pending_of st 1) (sym (gone_taken start c.done st walk))
+          ∙ run_bytes 1 start c.done st (next_runs start c.done st walk)
+          ∙ ap (λ p. p ++ out 1 c.done) (none_pending start none);
+      lines = in_order 1 start c.done st (next_runs start c.done st walk) (walk_spares start c.done st walk);
+      cursors = λ mid passed. runs_give start passed.0 mid (next_runs start passed.0 mid passed.3)
+          (none_give start none);
+    }

@@ -1,180 +1,55 @@
 -- Each command does what its form says.
-use Rattle.std.specs.Prelude.{
-  ℕ,
-  List,
-  [],
-  ◌∷◌,
-  ◌≡◌,
-  ◌≤◌,
-  ◌⊎◌,
-  ◌++◌,
-  ◌+◌,
-  ◌||◌,
-  Bool,
-  true,
-  false,
-  cond,
-  length,
-  nat_le,
-  nat_lt,
-  Option,
-  None,
-  Some,
-  is_some,
-  is_none,
-  IsSome,
-  IsSomeAnd,
-  MatchOption,
-  codes,
-  map,
-  Result,
-  Ok,
-  Err,
-  ⊤,
-}
+use Rattle.std.specs.Prelude.{ℕ, List, [], ◌∷◌, ◌≡◌, ◌≤◌, ◌⊎◌, ◌++◌, ◌+◌, ◌||◌, Bool, true, false, cond, length, nat_le}
+use Rattle.std.specs.Prelude.{nat_lt, Option, None, Some, is_some, is_none, IsSome, IsSomeAnd, MatchOption, codes, map}
+use Rattle.std.specs.Prelude.{Result, Ok, Err, ⊤}
 use Rattle.std.proofs.Common.{refl, sym, ap, ◌∙◌, subst, inl, inr, arith}
+use Rattle.std.proofs.lemmas.Bool.{or_parts}
 use Rattle.djq_model.specs.declared.relation.ColumnType.{ColumnType}
 use Rattle.djq_model.specs.declared.query.Query.{Query}
 use Rattle.djq_model.specs.Data.{Bytes, Tuple, bytes_eq, drop_first, relation_of}
 use Rattle.djq_model.specs.Listed.{Listed, a_query, a_union, listed_name, listed_of}
 use Rattle.djq_model.specs.Known.{texts_in}
-use Rattle.djq_protocol.specs.Conditions.{first_refusal, Answers, OutOfMemoryWhere}
-use Rattle.djq_protocol.specs.QueryFault.{reads_unknown, query_faults}
-use Rattle.djq_protocol.specs.Variables.{constants_of}
 use Rattle.djq_protocol.specs.declared.limits.TheConstants.{COLUMNS, RELATIONS, QUERIES, CURSORS, TEXTS}
 use Rattle.djq_protocol.specs.declared.rest.QueryOutcome.{QueryOutcome}
 use Rattle.djq_protocol.specs.declared.rest.QueryOutcome.TheVariants.{Registered, Cyclic, NotConnex}
 use Rattle.djq_protocol.specs.declared.answer.EndCause.TheVariants.{Quit as SaidQuit, Stop as SaidStop}
 use Rattle.djq_protocol.specs.declared.answer.Refusal.{Refusal}
-use Rattle.djq_protocol.specs.declared.answer.Refusal.TheVariants.{
-  Taken,
-  NoRelation,
-  NoQuery,
-  NoCursor,
-  Limit,
-  NoMemory,
-  InUse,
-  Syntax,
-  Misplaced,
-}
+use Rattle.djq_protocol.specs.declared.answer.Refusal.TheVariants.{Taken, NoRelation, NoQuery, NoCursor, Limit}
+use Rattle.djq_protocol.specs.declared.answer.Refusal.TheVariants.{NoMemory, InUse, Syntax, Misplaced}
 use Rattle.djq_protocol.specs.declared.command.Command.{Command}
-use Rattle.djq_protocol.specs.declared.command.Command.TheVariants.{
-  Rel,
-  Add,
-  Del,
-  Query as Register,
-  Union,
-  Drop,
-  Open,
-  Next,
-  Close,
-  Has,
-  Watch,
-  Unwatch,
-  Explain,
-  Shape,
-  Batch,
-  Done,
-  Abandon,
-  Quit,
-  Stop,
-}
+use Rattle.djq_protocol.specs.declared.command.Command.TheVariants.{Rel, Add, Del, Query as Register, Union, Drop, Open}
+use Rattle.djq_protocol.specs.declared.command.Command.TheVariants.{Next, Close, Has, Watch, Unwatch, Explain, Shape}
+use Rattle.djq_protocol.specs.declared.command.Command.TheVariants.{Batch, Done, Abandon, Quit, Stop}
 use Rattle.djq_protocol.specs.declared.held.HeldRow.{HeldRow}
-use Rattle.djq_protocol.specs.Grammar.{
-  Reading,
-  outside,
-  past_limit,
-  says_command,
-  reading_of,
-  takes_memory_to_read,
-}
-use Rattle.djq_protocol.specs.Reply.{
-  line,
-  answer_line,
-  refusal_line,
-  ok_reply,
-  query_reply,
-  union_reply,
-  has_reply,
-  shape_reply,
-  watch_reply,
-  held_reply,
-  stale_line,
-  text_of,
-  listing_lines,
-  bye,
-  end_memory,
-}
+use Rattle.djq_protocol.specs.Conditions.{first_refusal, Answers, OutOfMemoryWhere}
+use Rattle.djq_protocol.specs.QueryFault.{reads_unknown, query_faults}
+use Rattle.djq_protocol.specs.Variables.{constants_of}
+use Rattle.djq_protocol.specs.Grammar.{Reading, outside, past_limit, says_command, reading_of, takes_memory_to_read}
+use Rattle.djq_protocol.specs.Reply.{line, answer_line, refusal_line, ok_reply, query_reply, union_reply, has_reply}
+use Rattle.djq_protocol.specs.Reply.{shape_reply, watch_reply, held_reply, stale_line, text_of, listing_lines, bye}
+use Rattle.djq_protocol.specs.Reply.{end_memory}
 use Rattle.djq_store_spec.specs.Store.{Store, Position, open_at, stale}
-use Rattle.djq_machine.specs.State.{State, Session, Cursor, with_session, cursor_of, with_position}
-use Rattle.djq_machine.specs.Keeping.{Keeping, no_line, kept_where, is_registration}
-use Rattle.djq_machine.specs.Effect.{Effect, says, answers, RefusedStep}
 use Rattle.djq_store_spec.specs.Relations.{RefusedByTexts, MakesRelation, rel_refusal}
 use Rattle.djq_store_spec.specs.Registering.{RefusedLate, RegistersAs, RegistersQuery, DropsQuery, query_refusal}
 use Rattle.djq_store_spec.specs.Registering.{drop_refusal, is_member, answer_steps}
 use Rattle.djq_store_spec.specs.Asking.{has_steps}
 use Rattle.djq_store_spec.specs.Union.{union_refusal, AreUnder, RegistersUnion}
-use Rattle.djq_machine.specs.Command.{
-  open_refusal,
-  OpensTo,
-  watch_refusal,
-  with_cursor,
-  BecomesWhere,
-  with_watch,
-  without_watch,
-  with_batch,
-  without_batch,
-  is_misplaced,
-  HoldStep,
-  NextStepAt,
-  CloseStep,
-  CommandStep,
-  QueryStep,
-  QueryCutStep,
-  AddStep,
-  DoneStep,
-  ExplainStepOf,
-  TellsLines,
-  explain_lines,
-  union_lines,
-}
 use Rattle.djq_store_spec.specs.Batch.{hold_refusal}
+use Rattle.djq_answer_laws.proofs.Lists.{some_there, nothing_of}
+use Rattle.djq_machine.specs.State.{State, Session, Cursor, with_session, cursor_of, with_position}
+use Rattle.djq_machine.specs.Keeping.{Keeping, no_line, kept_where, is_registration}
+use Rattle.djq_machine.specs.Effect.{Effect, says, answers, RefusedStep}
+use Rattle.djq_machine.specs.Command.{open_refusal, OpensTo, watch_refusal, with_cursor, BecomesWhere, with_watch}
+use Rattle.djq_machine.specs.Command.{without_watch, with_batch, without_batch, is_misplaced, HoldStep, NextStepAt}
+use Rattle.djq_machine.specs.Command.{CloseStep, CommandStep, QueryStep, QueryCutStep, AddStep, DoneStep, ExplainStepOf}
+use Rattle.djq_machine.specs.Command.{TellsLines, explain_lines, union_lines}
 use Rattle.djq_machine.specs.LineStep.{ReadStep, past_limit_refusal}
-use Rattle.djq_run_laws.specs.Form.{
-  form_of,
-  add_form,
-  done_form,
-  Turn,
-  opens_cursor,
-  moves_cursor,
-  closes_cursor,
-  starts_watching,
-  stops_watching,
-  opens_batch,
-  holds_row,
-  closes_batch,
-  SaysAlone,
-  Replied,
-  is_whole,
-  is_cut,
-  Stored,
-  LearnsTexts,
-  learns_texts,
-  makes_relation,
-  registers,
-  drops_query,
-  in_use,
-  without_cursor,
-  SessionTurned,
-  DoesStore,
-  DoesTurn,
-  is_turned,
-  is_refused,
-  FormDoes,
-}
-use Rattle.djq_answer_laws.proofs.Cases.{some_there, nothing_of}
-use Rattle.std.proofs.lemmas.Bool.{or_parts}
-use Rattle.djq_run_laws.proofs.Members.{said_members, may_unite}
+use Rattle.djq_run_laws.specs.Form.{form_of, add_form, done_form, Turn, opens_cursor, moves_cursor, closes_cursor}
+use Rattle.djq_run_laws.specs.Form.{starts_watching, stops_watching, opens_batch, holds_row, closes_batch, SaysAlone}
+use Rattle.djq_run_laws.specs.Form.{Replied, is_whole, is_cut, Stored, LearnsTexts, learns_texts, makes_relation}
+use Rattle.djq_run_laws.specs.Form.{registers, drops_query, in_use, without_cursor, SessionTurned, DoesStore, DoesTurn}
+use Rattle.djq_run_laws.specs.Form.{is_turned, is_refused, FormDoes}
+use Rattle.djq_run_laws.proofs.RegisteredQueries.{said_members, may_unite}
 
 -- ---- what the conditions of a command tell, where it is done
 

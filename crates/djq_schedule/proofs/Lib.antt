@@ -1,4 +1,1 @@
-mod Splitting
-mod Making
-pub mod Counting
-pub mod Sending
+pub mod Schedules

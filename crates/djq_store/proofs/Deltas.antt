@@ -1,7 +1,6 @@
--- The deltas of queries and unions, made of those that the engine lists for the queries that are wanted.
-use Rattle.std.specs.Prelude.{ℕ, List, [], ◌∷◌, ◌==◌, ◌≡◌, ◌+◌, ◌*◌, ◌≤◌, ◌⊎◌, Bool, true}
-use Rattle.std.specs.Prelude.{false, cond, Option, None, Some, filter, map, length, sum_by, All}
-use Rattle.std.specs.Prelude.{AllPairs, Contains, ⊤}
+-- The deltas of queries and unions, made of those that the engine lists.
+use Rattle.std.specs.Prelude.{ℕ, List, [], ◌∷◌, ◌==◌, ◌≡◌, ◌+◌, ◌*◌, ◌≤◌, ◌⊎◌, Bool, true, false, cond, Option, None}
+use Rattle.std.specs.Prelude.{Some, filter, map, length, sum_by, All, AllPairs, Contains, ⊤}
 use Rattle.std.proofs.Common.{refl, sym, ap, ap₂, ◌∙◌, subst, inl, inr, arith}
 use Rattle.std.proofs.lemmas.Bool.{eq-eqb}
 use Rattle.std.proofs.lemmas.List.Elements.{All-nil, All-cons, All-head, All-tail, All-contains, All-map}
@@ -15,13 +14,12 @@ use Rattle.djq_model.specs.Listed.{Listed, a_query, a_union, AnswersOf}
 use Rattle.djq_store_spec.specs.Registering.{atoms_of}
 use Rattle.djq_store_spec.specs.Changes.{RowsChange}
 use Rattle.djq_store_spec.specs.Delta.{Change, IsDelta}
-use Rattle.djq_store_spec.specs.DeltaCost.{Part, Delta, is_touched, ArePartsOf, AreDeltas, changes_steps}
-use Rattle.djq_store_spec.specs.DeltaCost.{parts_steps, listed_steps, delta_steps}
+use Rattle.djq_store_spec.specs.DeltaCost.{Part, Delta, is_touched, ArePartsOf, AreDeltas, changes_steps, parts_steps}
+use Rattle.djq_store_spec.specs.DeltaCost.{listed_steps, delta_steps}
+use Rattle.djq_answer_laws.proofs.Lists.{first_there, later_there, pairs_head, pairs_tail, hold_each}
 use Rattle.djq_engine.specs.Kept.{Kept, Registered, same_query, told_at}
 use Rattle.djq_engine.specs.Watching.{LogTells, LogsTell}
-use Rattle.djq_answer_laws.proofs.Lists.{first_there, later_there}
-use Rattle.djq_answer_laws.proofs.Lists.{pairs_head, pairs_tail, hold_each}
-use Rattle.djq_store.proofs.Summing.{sum_same, sum_covered, sum_kept, kept_was, sum_plus, all_of, sum_all_of, in_all_of}
+use Rattle.djq_store.proofs.Costs.{sum_same, sum_covered, sum_kept, kept_was, sum_plus, all_of, sum_all_of, in_all_of}
 
 -- ---- what the engine lists, by place
 

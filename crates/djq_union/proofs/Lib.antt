@@ -1,6 +1,3 @@
-pub mod Lists
-pub mod Merging
-pub mod Fitting
-pub mod Placing
-pub mod Counting
-pub mod Rising
+pub mod Merges
+pub mod UnionMembers
+pub mod RisingNumbers

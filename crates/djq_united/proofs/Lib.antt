@@ -1,7 +1,2 @@
-mod Lists
-mod Placed
-pub mod Heads
-mod Values
-mod Advancing
-mod Counting
-pub mod Staying
+pub mod Members
+pub mod Cursors

@@ -1,12 +1,3 @@
-pub mod Counting
-pub mod Lexes
 pub mod Texts
-pub mod Spellings
-pub mod Scanning
-pub mod Words
-pub mod Escapes
-pub mod Putting
-pub mod Writing
+pub mod Tokens
 pub mod Literals
-pub mod Small
-pub mod Utf8

@@ -1,35 +1,115 @@
--- A literal is read back where it is printed, and spelled where it is read.
-use Rattle.std.proofs.Common.{eqb, ◌||◌, ◌≡◌, ℕ, ℤ, pos, negsuc, zero, suc, ◌+◌, ◌-◌, ◌^◌, ◌/◌, ◌%◌}
-use Rattle.std.proofs.Common.{◌<◌, ◌≤◌, true, false, [], ◌∷◌, ◌++◌, append_assoc, drop, length}
-use Rattle.std.proofs.Common.{length-append, Ok, Err, Option, Some, None, option_map, refl, sym, ap}
-use Rattle.std.proofs.Common.{subst, ◌∙◌, arith, leb, All}
+-- Names, numbers and literals: read back as they are printed.
+use Rattle.std.proofs.Common.{◌≡◌, ℕ, ◌+◌, ◌-◌, ◌*◌, ◌^◌, ◌<◌, ◌≤◌, true, false, cond, ◌&&◌, [], ◌∷◌, ◌++◌, length}
+use Rattle.std.proofs.Common.{get_or, take, drop, min, Some, None, refl, sym, ap, ◌∙◌, arith, eqb, ◌||◌, ℤ, pos, negsuc}
+use Rattle.std.proofs.Common.{zero, suc, ◌/◌, ◌%◌, append_assoc, length-append, Ok, Err, Option, option_map, subst, leb}
+use Rattle.std.proofs.Common.{All, Bool, inl, inr, add-one, ap₂, length-take}
 use Rattle.std.specs.List.{list_all}
+use Rattle.std.proofs.lemmas.List.{take_more, take_rest, take_all, drop-drop, length-drop, take-append-drop}
+use Rattle.std.proofs.lemmas.List.Folds.{list_all_more, list_all-append}
+use Rattle.std.proofs.Math.Nat.{pow-le-pow_right}
+use Rattle.std.proofs.lemmas.Nat.{pow-add}
+use Rattle.std.proofs.lemmas.Bool.{cond-true, and_from, le-leb, ne_eqb, cond-false, and_parts, leb-true, leb-false}
+use Rattle.std.proofs.lemmas.Bool.{or_from, cases_Bool, eqb-true, false_from_ne_true}
 use Rattle.std.specs.Fmt.{decimal, signed_decimal}
 use Rattle.std.proofs.Math.Dec.{eqb-suc-zero}
 use Rattle.std.proofs.lemmas.Fmt.{decimal_by_steps}
-use Rattle.std.proofs.lemmas.List.Folds.{list_all-append}
 use Rattle.std.proofs.lemmas.List.Elements.{All-nil, All-cons}
-use Rattle.std.proofs.lemmas.Bool.{cond-true, cond-false, and_parts, and_from, le-leb, leb-true}
-use Rattle.std.proofs.lemmas.Bool.{leb-false, ne_eqb, or_from}
-use Rattle.djq_model.specs.Data.{Bytes}
 use Rattle.djq_model.specs.declared.value.Value.{Value}
 use Rattle.djq_model.specs.declared.value.Value.TheVariants.{Int, Text}
-use Rattle.djq_value.specs.Token.{Token, word, text, open_paren, close_paren, comma, arrow}
-use Rattle.djq_value.specs.Token.{operator, stray, behind_spaces, ends_word, may_end, token_at, token_front}
-use Rattle.djq_value.specs.Literal.{digits_value, integer_of, is_digit, is_small_value, literal_of, minus, natural_of}
+use Rattle.djq_model.specs.declared.value.TheConstants.{TEXT_BYTES}
+use Rattle.djq_model.specs.Data.{Bytes}
+use Rattle.djq_value.specs.declared.literal.LiteralRefusal.TheVariants.{Range, NoMem}
+use Rattle.djq_value.specs.declared.lexer.Token.{Token as Piece}
+use Rattle.djq_value.specs.declared.lexer.Token.TheVariants.{Word, Text as TextPiece, Open, Close, Comma, Arrow}
+use Rattle.djq_value.specs.declared.lexer.Token.TheVariants.{Operator, Stray}
+use Rattle.djq_value.specs.Literal.{is_digit, is_lower, is_name, digits_value, natural_of, integer_of, is_small_value}
+use Rattle.djq_value.specs.Literal.{literal_of, minus, is_small}
+use Rattle.djq_value.specs.Number.{capped}
+use Rattle.djq_value.specs.Token.{ends_word, Token, word, text, open_paren, close_paren, comma, arrow, operator, stray}
+use Rattle.djq_value.specs.Token.{behind_spaces, may_end, token_at, token_front, behind_word, tokens, word_front}
+use Rattle.djq_value.specs.Word.{is_tail_of, may_follow_of}
 use Rattle.djq_value.specs.Spelling.{IsSpaces, IsToken, MayFollow, token_text}
 use Rattle.djq_value.specs.ReadValue.{IsLiteral, literal_at, literal_in}
 use Rattle.djq_value.specs.ValueText.{value_text}
-use Rattle.djq_model.specs.declared.value.TheConstants.{TEXT_BYTES}
 use Rattle.djq_value.specs.Lexing.{lexeme_of}
 use Rattle.djq_value.specs.Reads.{ReadsLiteral}
-use Rattle.djq_value.specs.declared.literal.LiteralRefusal.TheVariants.{Range, NoMem}
-use Rattle.djq_value.specs.declared.lexer.Token.{Token as Piece}
-use Rattle.djq_value.specs.declared.lexer.Token.TheVariants.{Word, Text as TextPiece, Open, Close}
-use Rattle.djq_value.specs.declared.lexer.Token.TheVariants.{Comma, Arrow, Operator, Stray}
-use Rattle.djq_value.proofs.Lexes.{IsShorter, token_shorter}
-use Rattle.djq_value.proofs.Words.{digits_value-push, natural-some}
-use Rattle.djq_value.proofs.Spellings.{IsFirst, IsReal, cut_spaces, front_first, no_space, no_space_first, token_read}
+use Rattle.djq_value.specs.Small.{AreDigitsAt, IsNameAt, IsSmallAt, IsSmallInFront, IsTailAt, TakesSmall}
+use Rattle.djq_value.proofs.Tokens.{IsShorter, token_shorter, next_some, tokens-some, tokens-step, IsFirst, IsReal}
+use Rattle.djq_value.proofs.Tokens.{cut_spaces, front_first, no_space, no_space_first, token_read, front_go, front_stop}
+use Rattle.djq_value.proofs.Tokens.{inner}
+
+-- ---- Names and numbers, byte by byte.
+
+-- a name by its first byte and those behind it
+pub is_name-cut : (w : Bytes) → 0 < length w → is_name w
+    ≡ (is_lower (get_or w 0 0) && is_tail_of (take (length w - 1) (drop 1 w)))
+is_name-cut [] h = absurd (omega arith)
+is_name-cut (b ∷ bs) h = ap (λ more. is_lower b && is_tail_of more) (sym (take_rest (b ∷ bs) 1))
+
+pub is_name-letter : (w : Bytes) → 0 < length w → is_lower (get_or w 0 0) ≡ true → is_name w
+    ≡ is_tail_of (take (length w - 1) (drop 1 w))
+is_name-letter w h e = is_name-cut w h ∙ ap (λ b. b && is_tail_of (take (length w - 1) (drop 1 w))) e
+
+pub is_name-other : (w : Bytes) → 0 < length w → is_lower (get_or w 0 0) ≡ false → is_name w ≡ false
+is_name-other w h e = is_name-cut w h ∙ ap (λ b. b && is_tail_of (take (length w - 1) (drop 1 w))) e
+
+pub digits_value-push : (n : ℕ) (xs : Bytes) (d : ℕ) → digits_value n (xs ++ d ∷ []) ≡ digits_value n xs * 10 + (d - 48)
+digits_value-push n [] d = refl
+digits_value-push n (x ∷ xs) d = digits_value-push (n * 10 + (x - 48)) xs d
+
+pub digits_value-more : (ds : Bytes) (i : ℕ) → i < length ds → digits_value 0 (take (i + 1) ds)
+    ≡ digits_value 0 (take i ds) * 10 + (get_or ds i 0 - 48)
+digits_value-more ds i h = ap (digits_value 0) (take_more ds i 0 h) ∙ digits_value-push 0 (take i ds) (get_or ds i 0)
+
+-- one more digit at a number that has so many
+pub small-step : (v d i : ℕ) → v < 10 ^ i → d ≤ 9 → v * 10 + d < 10 ^ (i + 1)
+small-step v d i h l = let e : 10 ^ (i + 1) ≡ 10 ^ i * 10 = pow-add 10 i 1 in omega (arith, h, l, e)
+
+-- a number of at most 18 digits
+pub below_18 : (v i : ℕ) → v < 10 ^ i → i ≤ 18 → v < 1000000000000000000
+below_18 v i h l = let most : 10 ^ i ≤ 1000000000000000000 = pow-le-pow_right {n = 10} (omega arith) {i = i} {j = 18} l
+    in omega (arith, h, most)
+
+-- one more digit at a number that stops at the greatest
+pub capped-step : (n d v m w : ℕ) → v ≡ capped n → m ≡ min (v * 10) 18446744073709551615 → w
+    ≡ min (m + d) 18446744073709551615 → w ≡ capped (n * 10 + d)
+capped-step n d v m w e f g = omega (arith, e, f, g)
+
+is_digit-within : (d : ℕ) → 48 ≤ d → d ≤ 57 → is_digit d ≡ true
+is_digit-within d low high = and_from _ _ (le-leb 48 d low) (le-leb d 57 high)
+
+pub digits-more : (ds : Bytes) (i : ℕ) → i < length ds → list_all is_digit (take i ds) ≡ true → 48 ≤ get_or ds i 0
+    → get_or ds i 0 ≤ 57 → list_all is_digit (take (i + 1) ds) ≡ true
+digits-more ds i h all low high = list_all_more is_digit ds i 0 h
+    ∙ and_from _ _ all (is_digit-within (get_or ds i 0) low high)
+
+pub natural-some : (ds : Bytes) → 0 < length ds → natural_of ds
+    ≡ cond (list_all is_digit ds) (Some (digits_value 0 ds)) None
+natural-some [] h = absurd (omega arith)
+natural-some (d ∷ ds) h = refl
+
+pub natural_of-digits : (ds : Bytes) (n : ℕ) → 0 < length ds → n ≡ length ds → list_all is_digit (take n ds) ≡ true
+    → natural_of ds ≡ Some (digits_value 0 (take n ds))
+natural_of-digits ds n h e all =
+    let whole = take_all n ds (omega arith) in
+    natural-some ds h ∙ cond-true _ _ _ (ap (list_all is_digit) (sym whole) ∙ all)
+    ∙ ap (λ xs. Some (digits_value 0 xs)) (sym whole)
+
+-- no byte above the signs ends a word
+pub inner_above : (b : ℕ) → 62 < b → ends_word b ≡ false
+inner_above b h =
+    rw (
+      ne_eqb b 32 (λ e. omega (arith, h, e)),
+      ne_eqb b 33 (λ e. omega (arith, h, e)),
+      ne_eqb b 40 (λ e. omega (arith, h, e)),
+      ne_eqb b 41 (λ e. omega (arith, h, e)),
+      ne_eqb b 44 (λ e. omega (arith, h, e)),
+      ne_eqb b 60 (λ e. omega (arith, h, e)),
+      ne_eqb b 61 (λ e. omega (arith, h, e)),
+      ne_eqb b 62 (λ e. omega (arith, h, e)),
+    ) refl
+
+-- ---- A literal is read back where it is printed, and spelled where it is read.
 
 -- What a decimal number is read as.
 pub record IsWritten (n : ℕ) (ds : Bytes) : Type 0 where
@@ -265,3 +345,177 @@ integer_token Stray v other e = absurd (cc)
 
 pub some_same : (v w : Value) → Some v ≡ Some w → v ≡ w
 some_same v w e = cc
+
+-- ---- Words, and integers of few digits, in front of bytes.
+
+some_true : (b : Bool) (m n : ℕ) → cond b (Some m) None ≡ Some n → b ≡ true
+some_true true m n e = refl
+some_true false m n e = absurd (cc)
+
+-- bytes that denote a number are digits
+pub natural_digits : (w : Bytes) (n : ℕ) → natural_of w ≡ Some n → (0 < length w) × (list_all is_digit w ≡ true)
+natural_digits [] n e = absurd (cc)
+natural_digits (d ∷ ds) n e = (omega arith, some_true (list_all is_digit (d ∷ ds)) _ n e)
+
+-- bytes that denote an integer are a word
+pub integer_token_small : (w : Bytes) (i : ℤ) → integer_of w ≡ Some i → IsToken (word w)
+integer_token_small [] i e = absurd (cc)
+integer_token_small (b ∷ bs) i e = elim (cases_Bool (eqb b 45)) [
+  | inl is ↦
+      let found = map_some minus (natural_of bs) i (sym (cond-true _ _ _ is) ∙ e) in
+      let digits = natural_digits bs found.0 found.1 in
+      let sign = eqb-true b 45 is in (
+        omega arith,
+        All-cons (λ x. ends_word x ≡ false) b bs (ap ends_word sign) (digits_inner bs digits.1),
+        λ quote.
+            absurd (omega (arith, quote, sign)),
+      )
+  | inr other ↦
+      let found = map_some (λ n. pos n) (natural_of (b ∷ bs)) i (sym (cond-false _ _ _ other) ∙ e) in
+      let digits = natural_digits (b ∷ bs) found.0 found.1 in
+      digits_token (b ∷ bs) digits.0 digits.1
+]
+
+pub small_taken : (rest bytes : Bytes) (n : ℕ) (i : ℤ) → bytes ≡ behind_spaces rest → IsSmallAt bytes (Some (i, n))
+    → TakesSmall (tokens rest) (Some i) (tokens (drop n bytes))
+small_taken rest bytes n i e h =
+    let w = take n bytes in
+    let whole = ap token_front (sym (take-append-drop n bytes)) in (
+      w,
+      next_some rest bytes (word w) (drop n bytes) e
+          (whole ∙ token_read (word w) (drop n bytes) (integer_token_small w i h.1) h.3),
+      h.1,
+      h.2,
+    )
+
+small_minus : (n : ℕ) → n < 1000000000000000000 → is_small (minus n) ≡ true
+small_minus zero h = refl
+small_minus (suc n) h = ap is_small (minus-suc n) ∙ le-leb n 9223372036854775807 (omega (arith, h))
+
+pub positive_at : (bs : Bytes) (size len : ℕ) → AreDigitsAt bs (Some (size, len)) → IsSmallAt bs (Some (pos size, len))
+positive_at bs size len h =
+    let digits = natural_digits (take len bs) size h.1 in (
+      h.0,
+      integer_digits (take len bs) digits.0 digits.1
+          ∙ ap (option_map (λ n. pos n)) h.1,
+      le-leb size 9223372036854775807 (omega (arith, h.2)),
+      h.3,
+    )
+
+pub negative_at : (bs : Bytes) (size len : ℕ) → 0 < length bs → get_or bs 0 0 ≡ 45
+    → AreDigitsAt (drop 1 bs) (Some (size, len)) → IsSmallAt bs (Some (minus size, len + 1))
+negative_at [] size len some e h = absurd (omega (arith, some))
+negative_at (b ∷ bs) size len some e h = (
+  omega (arith, h.0),
+  ap (λ n. integer_of (take n (b ∷ bs))) (add-one len) ∙ ap (λ c. integer_of (c ∷ take len bs)) e
+      ∙ ap (option_map minus) h.1,
+  small_minus size h.2,
+  ap (λ n. may_end (drop n (b ∷ bs))) (add-one len) ∙ h.3,
+)
+
+-- A word is in front where a byte that is of one is, and no quote.
+front_word : (bs : Bytes) → 0 < length (word_front bs) → eqb (get_or bs 0 0) 34 ≡ false → token_front bs
+    ≡ Some (word (word_front bs), behind_word bs)
+front_word [] some no_quote = absurd (omega (arith, some))
+front_word (b ∷ bs) some no_quote =
+    let here : ends_word b
+    ≡ false = false_from_ne_true (ends_word b) (λ e. absurd (omega (arith, some, ap length (front_stop b bs e)))) in
+    let i = inner b here in
+    ap (λ p. Some p)
+    (cond-false _ _ _ i.open_sign ∙ cond-false _ _ _ i.close_sign ∙ cond-false _ _ _ i.comma_sign
+    ∙ cond-false _ _ _ i.angle
+    ∙ cond-false _ _ _ i.equals ∙ cond-false _ _ _ i.greater ∙ cond-false _ _ _ i.bang ∙ cond-false _ _ _ no_quote
+    ∙ ap₂ (λ (xs ys : Bytes). (word xs, ys)) (sym (front_go b bs here)) (sym (cond-false _ _ _ here)))
+
+pub word_taken : (rest bytes : Bytes) (n : ℕ) → bytes ≡ behind_spaces rest → n ≤ length bytes → take n bytes
+    ≡ word_front bytes → drop n bytes ≡ behind_word bytes
+    → 0 < n → eqb (get_or bytes 0 0) 34 ≡ false → tokens rest ≡ word (take n bytes) ∷ tokens (drop n bytes)
+word_taken rest bytes n e h front behind some no_quote =
+    let long : 0 < length (word_front bytes) = omega (arith, some, h, length-take n bytes, ap length front) in
+    next_some rest bytes (word (take n bytes)) (drop n bytes) e
+    (front_word bytes long no_quote ∙ ap₂ (λ (xs ys : Bytes). Some (word xs, ys)) (sym front) (sym behind))
+
+-- The bytes of a name end no word.
+
+follow_inner : (c : ℕ) → may_follow_of c ≡ true → ends_word c ≡ false
+follow_inner c h = elim (cases_Bool (is_lower c)) [
+  | inl lower ↦ inner_above c (omega (arith, leb-true 97 c (and_parts (leb 97 c) (leb c 122) lower).0))
+  | inr no_letter ↦ elim (cases_Bool (is_digit c)) [
+    | inl digit ↦ digit_inner c digit
+    | inr no_digit ↦ elim (cases_Bool (eqb c 95)) [
+      | inl is ↦ ap ends_word (eqb-true c 95 is)
+      | inr other ↦ absurd (cc (h, or_from _ _ (or_from _ _ no_letter no_digit) other))
+    ]
+  ]
+]
+
+tail_inner : (bs : Bytes) → list_all may_follow_of bs ≡ true → All (λ b. ends_word b ≡ false) bs
+tail_inner [] h = All-nil (λ b. ends_word b ≡ false)
+tail_inner (c ∷ cs) h =
+    let parts = and_parts (may_follow_of c) (list_all may_follow_of cs) h in
+    All-cons (λ b. ends_word b ≡ false) c cs (follow_inner c parts.0) (tail_inner cs parts.1)
+
+-- a name is a word
+pub name_token : (w : Bytes) → is_name w ≡ true → IsToken (word w)
+name_token [] h = absurd (cc)
+name_token (b ∷ bs) h =
+    let parts = and_parts (is_lower b) (is_tail_of bs) h in
+    let more = and_parts (list_all may_follow_of bs) (leb (length bs) 31) parts.1 in
+    let low : 97 ≤ b = leb-true 97 b (and_parts (leb 97 b) (leb b 122) parts.0).0 in (
+      omega arith,
+      All-cons (λ x. ends_word x ≡ false) b bs (inner_above b (omega (arith, low))) (tail_inner bs more.0),
+      λ quote. absurd (omega (arith, quote, low)),
+    )
+
+-- a letter in front of the other bytes of a name
+pub letter_first : (bs : Bytes) (n : ℕ) → 0 < length bs → is_lower (get_or bs 0 0) ≡ true
+    → IsTailAt (drop 1 bs) (Some n) → IsNameAt bs (Some (n + 1))
+letter_first [] n some letter h = absurd (omega (arith, some))
+letter_first (b ∷ bs) n some letter h = (
+  omega (arith, h.0),
+  ap (λ m. is_name (take m (b ∷ bs))) (add-one n) ∙ and_from _ _ letter h.1,
+  ap (λ m. may_end (drop m (b ∷ bs))) (add-one n) ∙ h.2,
+)
+
+-- A word is in front where it may end in front of what is behind it.
+pub word_before : (w behind : Bytes) → IsToken (word w) → may_end behind ≡ true
+    → tokens (w ++ behind) ≡ word w ∷ tokens behind
+word_before w behind is ends = tokens-some (w ++ behind) (word w) behind
+    (ap token_front (no_space (word w) behind is) ∙ token_read (word w) behind is ends)
+
+word_at : (rest : Bytes) (n : ℕ) → IsToken (word (take n rest)) → may_end (drop n rest) ≡ true
+    → tokens rest ≡ word (take n rest) ∷ tokens (drop n rest)
+word_at rest n is ends = ap tokens (sym (take-append-drop n rest)) ∙ word_before (take n rest) (drop n rest) is ends
+
+-- the name that begins the bytes
+pub name_taken : (rest : Bytes) (n : ℕ) → IsNameAt rest (Some n)
+    → tokens rest ≡ word (take n rest) ∷ tokens (drop n rest)
+name_taken rest n h = word_at rest n (name_token (take n rest) h.1) h.2
+
+-- a space in front
+pub tokens-blank : (bs : Bytes) → tokens (32 ∷ bs) ≡ tokens bs
+tokens-blank bs = tokens-step (32 ∷ bs) ∙ sym (tokens-step bs)
+
+-- the integer with which bytes begin
+small_word : (bs : Bytes) (n : ℕ) (i : ℤ) → IsSmallAt bs (Some (i, n))
+    → TakesSmall (tokens bs) (Some i) (tokens (drop n bs))
+small_word bs n i h =
+    let w = take n bs in (w, word_at bs n (integer_token_small w i h.1) h.3, h.1, h.2)
+
+-- digits behind one space
+pub near_small : (bs : Bytes) (size len : ℕ) → 0 < length bs → get_or bs 0 0 ≡ 32
+    → AreDigitsAt (drop 1 bs) (Some (size, len)) → IsSmallInFront bs (Some (pos size, len + 1))
+near_small [] size len some blank h = absurd (omega (arith, some))
+near_small (b ∷ bs) size len some blank h =
+    let taken = small_word bs len (pos size) (positive_at bs size len h) in
+    let blanks : tokens (b ∷ bs) ≡ tokens bs = ap (λ c. tokens (c ∷ bs)) blank ∙ tokens-blank bs in
+    let front = blanks ∙ taken.1 ∙ ap (λ m. word taken.0 ∷ tokens (drop m (b ∷ bs))) (sym (add-one len)) in
+    (omega (arith, h.0), (taken.0, front, taken.2, taken.3))
+
+-- an integer behind so many spaces
+pub far_small : (bs : Bytes) (spaces n : ℕ) (i : ℤ) → spaces ≤ length bs → drop spaces bs ≡ behind_spaces bs
+    → IsSmallAt (drop spaces bs) (Some (i, n)) → IsSmallInFront bs (Some (i, spaces + n))
+far_small bs spaces n i within behind h =
+    let taken = small_taken bs (drop spaces bs) n i behind h in
+    let front = taken.1 ∙ ap (λ xs. word taken.0 ∷ tokens xs) (drop-drop n spaces bs) in
+    (omega (arith, within, h.0, length-drop spaces bs), (taken.0, front, taken.2, taken.3))

@@ -35,7 +35,7 @@ fn long_count(number: u64) -> usize
 
 /// Of a number of at most eight digits, without a division.
 #[inline]
-#[tactic(auto, using(crate::proofs::Counting::length_five, crate::proofs::Counting::length_six, crate::proofs::Counting::length_seven, crate::proofs::Counting::length_eight))]
+#[tactic(auto, using(crate::proofs::Texts::length_five, crate::proofs::Texts::length_six, crate::proofs::Texts::length_seven, crate::proofs::Texts::length_eight))]
 fn middle_count(number: u64) -> usize
     requires { number < 100000000 }
     ensures value { result ≡ length (decimal number) }

@@ -249,7 +249,7 @@ fn word_len(bytes: &[u8]) -> usize
 }
 
 /// Whether a byte ends a word: spaces and signs do. Letters are above all that do.
-#[tactic(auto, using(crate::proofs::Words::inner_above))]
+#[tactic(auto, using(crate::proofs::Literals::inner_above))]
 fn ends_word(byte: u8) -> bool
     ensures { result ≡ ends_word_of byte }
 {

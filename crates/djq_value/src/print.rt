@@ -76,7 +76,7 @@ fn escape_count(text: &[u8]) -> usize
 }
 
 /// Whether a byte of a text needs an escape. Small letters are above all that do.
-#[tactic(auto, using(crate::proofs::Escapes::plain_above))]
+#[tactic(auto, using(crate::proofs::Texts::plain_above))]
 pub(crate) fn is_escaped(byte: u8) -> bool
     ensures { result ≡ is_escaped_of byte }
 {

@@ -1,5 +1,5 @@
 -- An assignment that finds its rows finds them among more rows too, and added rows are more, deleted fewer.
-use Rattle.djq_answer_laws.proofs.Growing.{answer_stays, answers_come, answers_go, row_comes, rows_come, row_goes}
+use Rattle.djq_answer_laws.proofs.Choices.{answer_stays, answers_come, answers_go, row_comes, rows_come, row_goes}
 use Rattle.djq_answer_laws.proofs.answers_follow_rows.Goals as goal
 
 pub returns-clause-come : goal.returns-clause-come

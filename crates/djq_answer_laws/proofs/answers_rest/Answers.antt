@@ -1,5 +1,5 @@
 -- A relation that isn't touched is found as before, so a query that reads no other has the same answers.
-use Rattle.djq_answer_laws.proofs.Growing.{answers_rest, one_spares, batch_spares}
+use Rattle.djq_answer_laws.proofs.Choices.{answers_rest, one_spares, batch_spares}
 use Rattle.djq_answer_laws.proofs.answers_rest.Goals as goal
 
 pub returns-clause-rest : goal.returns-clause-rest

@@ -1,5 +1,5 @@
 -- An end, a record and a bad place exclude each other, so where one was found the others weren't.
-use Rattle.djq_journal.proofs.Exactly.{opens_exactly, reads_exactly}
+use Rattle.djq_journal.proofs.Records.{opens_exactly, reads_exactly}
 use Rattle.djq_journal.proofs.answers_are_exact.Goals as goal
 
 pub returns-clause-opening : goal.returns-clause-opening

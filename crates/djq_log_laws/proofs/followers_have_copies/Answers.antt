@@ -1,5 +1,5 @@
 -- A store that follows another has the same relations by name, with the same rows, each with its copies.
-use Rattle.djq_log_laws.proofs.Sameness.{followers_have_copies}
+use Rattle.djq_log_laws.proofs.Stores.{followers_have_copies}
 use Rattle.djq_log_laws.proofs.followers_have_copies.Goals as goal
 
 pub returns : goal.returns

@@ -1,5 +1,5 @@
 -- A reply is printed of names, numbers and values within their limits, and none of these has an LF inside.
-use Rattle.djq_mirror_laws.proofs.Lines.{printed_are_lines}
+use Rattle.djq_mirror_laws.proofs.PrintedLines.{printed_are_lines}
 use Rattle.djq_mirror_laws.proofs.printed_are_lines.Goals as goal
 
 pub returns : goal.returns

@@ -1,10 +1,8 @@
 -- By induction over the steps: what a session is told leaves its mirror with what its cursor gave.
-use Rattle.djq_mirror_laws.proofs.Holding.{mirrored_are_held}
-use Rattle.djq_mirror_laws.proofs.Mirrored.{watchers_are_mirrored}
-use Rattle.djq_mirror_laws.proofs.Waiting.{readers_are_mirrored, starts_are_mirrored, ends_are_mirrored}
-use Rattle.djq_mirror_laws.proofs.Waiting.{readers_are_read_back}
-use Rattle.djq_mirror_laws.proofs.Opening.{opened_are_read_back}
-use Rattle.djq_mirror_laws.proofs.Whole.{sessions_are_read_back}
+use Rattle.djq_mirror_laws.proofs.PrintedLines.{mirrored_are_held}
+use Rattle.djq_mirror_laws.proofs.MirrorSteps.{watchers_are_mirrored}
+use Rattle.djq_mirror_laws.proofs.MirrorRuns.{readers_are_mirrored, starts_are_mirrored, ends_are_mirrored}
+use Rattle.djq_mirror_laws.proofs.MirrorRuns.{readers_are_read_back, opened_are_read_back, sessions_are_read_back}
 use Rattle.djq_mirror_laws.proofs.readers_are_mirrored.Goals as goal
 
 pub returns-clause-watching : goal.returns-clause-watching

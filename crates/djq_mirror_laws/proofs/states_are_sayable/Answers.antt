@@ -1,6 +1,6 @@
 -- Names and values come into a state by lines alone, and a line says none that is past its limits.
-use Rattle.djq_mirror_laws.proofs.Loaded.{loaded_are_sayable}
-use Rattle.djq_mirror_laws.proofs.Sayable.{runs_keep_sayable, opening_is_sayable, states_are_sayable}
+use Rattle.djq_mirror_laws.proofs.SayableStates.{loaded_are_sayable, runs_keep_sayable, opening_is_sayable}
+use Rattle.djq_mirror_laws.proofs.SayableStates.{states_are_sayable}
 use Rattle.djq_mirror_laws.proofs.states_are_sayable.Goals as goal
 
 pub returns-clause-kept : goal.returns-clause-kept

@@ -1,6 +1,5 @@
 -- A relation has a row at most once, and `add`, `del` and each held row change the copies of their row alone.
-use Rattle.djq_run_laws.proofs.Counting.{rows_have_copies, adds_copy, takes_copy}
-use Rattle.djq_run_laws.proofs.Tallying.{adds_held}
+use Rattle.djq_run_laws.proofs.Copies.{rows_have_copies, adds_copy, takes_copy, adds_held}
 use Rattle.djq_run_laws.proofs.copies_are_counted.Goals as goal
 
 pub returns-clause-there : goal.returns-clause-there

@@ -1,5 +1,5 @@
 -- What a finished cursor has given is a listing, and to a listing a watching session adds up its deltas.
-use Rattle.djq_run_laws.proofs.Live.{listings_stay_live}
+use Rattle.djq_run_laws.proofs.Watchers.{listings_stay_live}
 use Rattle.djq_run_laws.proofs.listings_stay_live.Goals as goal
 
 pub returns : goal.returns

@@ -1,5 +1,5 @@
 -- Sessions that open have greater ids than all before, so nothing more is taken of one that was closed.
-use Rattle.djq_run_laws.proofs.Dropping.{sent_in_order}
+use Rattle.djq_run_laws.proofs.TakenLines.{sent_in_order}
 use Rattle.djq_run_laws.proofs.sent_in_order.Goals as goal
 
 pub returns : goal.returns

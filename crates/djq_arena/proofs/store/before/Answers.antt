@@ -1,7 +1,7 @@
 -- The slot stands in what is ahead of the walk, so the walk neither ends before it nor outlasts the links.
 use Rattle.std.proofs.Common.{sym, subst, Option, ℕ, ◌+◌, arith}
-use Rattle.djq_arena.proofs.Following.{Searching, searching, search_on, search_within, searched}
-use Rattle.djq_arena.proofs.Following.{search_further, search_over}
+use Rattle.djq_arena.proofs.Buckets.{Searching, searching, search_on, search_within, searched, search_further}
+use Rattle.djq_arena.proofs.Buckets.{search_over}
 use Rattle.djq_arena.proofs.store.before.Goals as goal
 
 pub loop-step-init : goal.loop-step-init

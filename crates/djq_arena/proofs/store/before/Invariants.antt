@@ -1,4 +1,4 @@
-use Rattle.djq_arena.proofs.Following.{Searching}
+use Rattle.djq_arena.proofs.Buckets.{Searching}
 use Rattle.djq_arena.proofs.store.before.Given as goal
 
 abbrev pub invariant-loop-step : goal.invariant-loop-step

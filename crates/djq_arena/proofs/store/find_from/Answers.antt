@@ -1,7 +1,6 @@
 -- By the walk's invariant, held slots that aren't ahead have other cells; what is ahead gets shorter.
 use Rattle.std.proofs.Common.{◌<◌, sym, subst, length, Option, ℕ, rules}
-use Rattle.djq_arena.proofs.Seeking.{Seeking, seeking, over, stop, stop_within, found, onward, nearer}
-use Rattle.djq_arena.proofs.Seeking.{class_inside}
+use Rattle.djq_arena.proofs.Rows.{Seeking, seeking, over, stop, stop_within, found, onward, nearer, class_inside}
 use Rattle.djq_arena.proofs.store.find_from.Goals as goal
 
 pub loop-slot-init : goal.loop-slot-init

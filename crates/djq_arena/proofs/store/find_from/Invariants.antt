@@ -1,4 +1,4 @@
-use Rattle.djq_arena.proofs.Seeking.{Seeking, chain_length}
+use Rattle.djq_arena.proofs.Rows.{Seeking, chain_length}
 use Rattle.djq_arena.proofs.store.find_from.Given as goal
 
 abbrev pub invariant-loop-slot : goal.invariant-loop-slot

@@ -1,6 +1,6 @@
 -- The new slot's number is how many slots there were, so no slot of either chain is changed by it.
 use Rattle.std.proofs.Common.{◌≡◌, refl, length, arith}
-use Rattle.djq_arena.proofs.Filling.{extends_at}
+use Rattle.djq_arena.proofs.Slots.{extends_at}
 use Rattle.djq_arena.proofs.store.fresh.Goals as goal
 
 pub returns : goal.returns

@@ -1,7 +1,7 @@
 -- A loose slot is in neither chain, so it can come last in the order and first in its bucket.
 use Rattle.std.proofs.Common.{refl}
 use Rattle.djq_arena.specs.Store.{cells_at}
-use Rattle.djq_arena.proofs.Storing.{last_in_order, links}
+use Rattle.djq_arena.proofs.Stores.{last_in_order, links}
 use Rattle.djq_arena.proofs.store.link.Goals as goal
 
 pub push_bucket-requires-clause-slot : goal.push_bucket-requires-clause-slot

@@ -1,8 +1,8 @@
 -- By the loop, the slots below the index are in their buckets; each slot's cells end within the array.
 use Rattle.std.proofs.Common.{refl, arith, ◌∙◌, length, length-set}
 use Rattle.djq_arena.specs.Store.{cells_at}
-use Rattle.djq_arena.proofs.Filling.{row_fits}
-use Rattle.djq_arena.proofs.Growing.{none_listed, listed_more}
+use Rattle.djq_arena.proofs.Slots.{row_fits}
+use Rattle.djq_arena.proofs.Stores.{none_listed, listed_more}
 use Rattle.djq_arena.proofs.store.list_all.Goals as goal
 
 pub loop-slot-init : goal.loop-slot-init

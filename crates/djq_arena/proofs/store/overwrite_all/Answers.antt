@@ -1,6 +1,6 @@
 -- One cell more is written at its place, and every other place keeps what it had: place by place.
-use Rattle.std.proofs.Common.{◌∙◌, ℕ, List, ap, slice_set, slice_index_or, arith, rules, ◌+◌}
-use Rattle.std.proofs.Common.{get_or-set_same, get_or-set_other}
+use Rattle.std.proofs.Common.{◌∙◌, ℕ, List, ap, slice_set, slice_index_or, arith, rules, ◌+◌, get_or-set_same}
+use Rattle.std.proofs.Common.{get_or-set_other}
 use Rattle.std.proofs.lemmas.Bool.{cases_eq}
 use Rattle.std.proofs.lemmas.List.{places, same_lists}
 use Rattle.djq_arena.proofs.store.overwrite_all.Goals as goal

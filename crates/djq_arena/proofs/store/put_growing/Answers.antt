@@ -1,5 +1,5 @@
 -- Other buckets and more room leave the rows as they were, so the row comes behind those of the beginning.
-use Rattle.djq_arena.proofs.RowLemmas.{puts_after, same_twice}
+use Rattle.djq_arena.proofs.Rows.{puts_after, same_twice}
 use Rattle.djq_arena.proofs.store.put_growing.Goals as goal
 
 pub returns-clause-put : goal.returns-clause-put

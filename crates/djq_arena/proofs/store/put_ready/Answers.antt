@@ -1,5 +1,5 @@
 -- A slot that is prepared and then linked is a row put in.
-use Rattle.djq_arena.proofs.RowLemmas.{puts}
+use Rattle.djq_arena.proofs.Rows.{puts}
 use Rattle.djq_arena.proofs.store.put_ready.Goals as goal
 
 pub returns : goal.returns

@@ -1,7 +1,7 @@
 -- As each slot holds a row, the slots that went into the buckets by their numbers are those of the rows.
 use Rattle.std.proofs.Common.{refl, ◌∙◌, ap, List, length, Option, ℕ, arith}
 use Rattle.std.proofs.lemmas.List.{with_items_is}
-use Rattle.djq_arena.proofs.Growing.{rebuilt}
+use Rattle.djq_arena.proofs.Stores.{rebuilt}
 use Rattle.djq_arena.proofs.store.rebuild.Goals as goal
 
 pub returns : goal.returns

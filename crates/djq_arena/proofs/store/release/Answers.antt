@@ -1,6 +1,6 @@
 -- A loose slot is in neither chain and within the arrays, so it can come before the first free one.
 use Rattle.std.proofs.Common.{refl, arith}
-use Rattle.djq_arena.proofs.Storing.{releases}
+use Rattle.djq_arena.proofs.Stores.{releases}
 use Rattle.djq_arena.proofs.store.release.Goals as goal
 
 pub follow-requires : goal.follow-requires

@@ -4,8 +4,8 @@ use Rattle.djq_arena.specs.declared.chain.Pair.{Pair}
 use Rattle.djq_arena.specs.declared.chain.Ends.{Ends}
 use Rattle.djq_arena.specs.Chains.{IsSlotBelow, chain_without, entered}
 use Rattle.djq_arena.specs.Store.{shrunk, extended}
-use Rattle.djq_arena.proofs.Chaining.{length-left}
-use Rattle.djq_arena.proofs.Storing.{held_within, held_prev, held_next, renewed_last, renews}
+use Rattle.djq_arena.proofs.Chains.{length-left}
+use Rattle.djq_arena.proofs.Stores.{held_within, held_prev, held_next, renewed_last, renews}
 use Rattle.djq_arena.proofs.store.renew.Goals as goal
 
 pub pair_of-neighbours-requires : goal.pair_of-neighbours-requires

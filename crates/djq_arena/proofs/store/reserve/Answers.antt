@@ -1,6 +1,6 @@
 -- An array that may have moved has the items it had, and what holds of a store speaks of these alone.
 use Rattle.std.proofs.Common.{refl}
-use Rattle.djq_arena.proofs.Filling.{stays}
+use Rattle.djq_arena.proofs.Slots.{stays}
 use Rattle.djq_arena.proofs.store.reserve.Goals as goal
 
 pub returns-in_err-reserve-clause-same : goal.returns-in_err-reserve-clause-same

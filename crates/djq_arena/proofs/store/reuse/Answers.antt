@@ -1,7 +1,7 @@
 -- The first of the free slots is within the arrays and holds no row; its cells end within theirs.
 use Rattle.std.proofs.Common.{refl, ap, arith}
 use Rattle.djq_arena.specs.declared.chain.Pair.{Pair}
-use Rattle.djq_arena.proofs.Filling.{newest_free, newest_fits, reuses}
+use Rattle.djq_arena.proofs.Slots.{newest_free, newest_fits, reuses}
 use Rattle.djq_arena.proofs.store.reuse.Goals as goal
 
 pub pair_of-requires : goal.pair_of-requires

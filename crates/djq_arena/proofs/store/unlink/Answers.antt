@@ -3,7 +3,7 @@ use Rattle.std.proofs.Common.{refl, sym, ◌∙◌, subst, length, ap}
 use Rattle.djq_arena.specs.declared.chain.Pair.{Pair}
 use Rattle.djq_arena.specs.Chains.{IsSlotBelow, chain_without}
 use Rattle.djq_arena.specs.Store.{shrunk}
-use Rattle.djq_arena.proofs.Storing.{held_within, held_prev, held_next, held_in_bucket, unlinks}
+use Rattle.djq_arena.proofs.Stores.{held_within, held_prev, held_next, held_in_bucket, unlinks}
 use Rattle.djq_arena.proofs.store.unlink.Goals as goal
 
 pub cells_of-requires-clause-slot : goal.cells_of-requires-clause-slot

@@ -1,7 +1,7 @@
 -- The slot stands in the bucket behind the one that the walk gave, or first; that one is within the links.
 use Rattle.std.proofs.Common.{sym, subst, Option, Some, None, ℕ, refl, ap, arith, slice_set}
 use Rattle.djq_arena.specs.Buckets.{IsBehind, link_at}
-use Rattle.djq_arena.proofs.Following.{stands_within, behind_within}
+use Rattle.djq_arena.proofs.Buckets.{stands_within, behind_within}
 use Rattle.djq_arena.proofs.store.unlist.Goals as goal
 
 pub link_of-after-requires : goal.link_of-after-requires

@@ -6,7 +6,7 @@ use Rattle.djq_hypergraph.specs.JoinTree.{IsFreeConnex}
 use Rattle.djq_tree.specs.Growing.{IsTreeOf}
 use Rattle.djq_plan.specs.Plan.{IsRefusal}
 use Rattle.djq_query.specs.Numbered.{labels}
-use Rattle.djq_binder.proofs.Graphs.{named_labels, edges_are, edges_long, head_is, head_covered}
+use Rattle.djq_binder.proofs.Hypergraphs.{named_labels, edges_are, edges_long, head_is, head_covered}
 use Rattle.djq_binder.proofs.plan.plan_query.Goals as goal
 
 pub plan-requires-clause-some : goal.plan-requires-clause-some

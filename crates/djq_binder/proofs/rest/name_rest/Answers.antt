@@ -3,7 +3,7 @@ use Rattle.std.proofs.Common.{List, ℕ, sym, subst, ap, map, ◌∙◌}
 use Rattle.std.specs.Prelude.{◌↔◌, Contains}
 use Rattle.djq_protocol.specs.Hypergraph.{label_name}
 use Rattle.djq_protocol.specs.Variables.{Label}
-use Rattle.djq_binder.proofs.Ordering.{Rises, ordered_rises, ordered_members}
+use Rattle.djq_binder.proofs.EdgeOrder.{Rises, ordered_rises, ordered_members}
 use Rattle.djq_binder.proofs.rest.name_rest.Goals as goal
 
 pub returns : goal.returns

@@ -4,11 +4,9 @@ use Rattle.std.specs.Prelude.{slice_index_or}
 use Rattle.std.proofs.lemmas.List.{get_or_read}
 use Rattle.djq_protocol.specs.Rest.{is_before}
 use Rattle.djq_binder.specs.Ordering.{IsPlaceFor}
-use Rattle.djq_binder.proofs.Ordering.{put_at, there_at}
-use Rattle.djq_binder.proofs.rest.put_edge.Goals.{
-  then-at-len-via-then-at-len,
-  then-at-len-via-else-at-len+then-is_before,
-}
+use Rattle.djq_binder.proofs.EdgeOrder.{put_at, there_at}
+use Rattle.djq_binder.proofs.rest.put_edge.Goals.{then-at-len-via-then-at-len}
+use Rattle.djq_binder.proofs.rest.put_edge.Goals.{then-at-len-via-else-at-len+then-is_before}
 use Rattle.djq_binder.proofs.rest.put_edge.Goals as goal
 
 pub returns-in_ok-insert : goal.returns-in_ok-insert

@@ -5,7 +5,7 @@ use Rattle.clap.specs.Words.{first_of, found_of, rows_of}
 use Rattle.clap.proofs.WalkLemmas.{first_value-rows}
 use Rattle.djq_cli.specs.declared.commands.Asked.TheVariants.{Replay}
 use Rattle.djq_cli.specs.Asks.{log_path_of}
-use Rattle.djq_cli.proofs.Asking.{found_is, named, asked_as, other_asked}
+use Rattle.djq_cli.proofs.Arguments.{found_is, named, asked_as, other_asked}
 use Rattle.djq_cli.proofs.commands.asked_by.Goals as goal
 
 pub returns-in-serve : goal.returns-in-serve

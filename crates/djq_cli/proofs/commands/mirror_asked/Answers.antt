@@ -6,7 +6,7 @@ use Rattle.clap.proofs.WalkLemmas.{first_value-rows}
 use Rattle.djq_value.specs.Literal.{is_name}
 use Rattle.djq_cli.specs.declared.commands.Asked.{Asked}
 use Rattle.djq_cli.specs.Asks.{MirrorAsked}
-use Rattle.djq_cli.proofs.Asking.{mirror_asks_none}
+use Rattle.djq_cli.proofs.Arguments.{mirror_asks_none}
 use Rattle.djq_cli.proofs.commands.mirror_asked.Goals as goal
 
 pub returns-in_err-query : goal.returns-in_err-query

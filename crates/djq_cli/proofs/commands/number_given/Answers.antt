@@ -3,7 +3,7 @@ use Rattle.std.proofs.Common.{ℕ, List, Bor, Option, ◌≡◌, ◌∙◌, sym,
 use Rattle.clap.specs.Words.{first_of, found_of, rows_of}
 use Rattle.clap.proofs.WalkLemmas.{first_value-rows}
 use Rattle.djq_cli.specs.Asks.{SpellsNumber}
-use Rattle.djq_cli.proofs.Asking.{none_read, number_read, number_large, number_unread}
+use Rattle.djq_cli.proofs.Arguments.{none_read, number_read, number_large, number_unread}
 use Rattle.djq_cli.proofs.commands.number_given.Goals as goal
 
 pub returns-in_default : goal.returns-in_default

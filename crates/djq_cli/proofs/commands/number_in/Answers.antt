@@ -3,7 +3,7 @@ use Rattle.std.proofs.Common.{◌≢◌, ◌∙◌, sym}
 use Rattle.std.specs.Prelude.{decimal}
 use Rattle.std.proofs.lemmas.Bool.Decides.{Decides-eqb}
 use Rattle.std.proofs.lemmas.Slice.Eq.{slice_eq-Decides}
-use Rattle.djq_cli.proofs.Asking.{not_parsed, not_spelled}
+use Rattle.djq_cli.proofs.Arguments.{not_parsed, not_spelled}
 use Rattle.djq_cli.proofs.commands.number_in.Goals as goal
 
 -- The text is no number of 64 bits.

@@ -2,7 +2,7 @@
 use Rattle.std.proofs.Common.{ℕ, List, [], Bor, ◌≡◌, ◌∙◌, map, ap, subst}
 use Rattle.clap.specs.Words.{App, Text, is_simple_and_free, fault_of, HasMatchesOf, HasKind}
 use Rattle.djq_cli.specs.Commands.{djq_app}
-use Rattle.djq_cli.proofs.Asking.{simple, simple_and_free, taken, refused}
+use Rattle.djq_cli.proofs.Arguments.{simple, simple_and_free, taken, refused}
 use Rattle.djq_cli.proofs.commands.read_words.Goals as goal
 
 pub returns-in-Ok : goal.returns-in-Ok

@@ -4,7 +4,7 @@ use Rattle.clap.specs.Words.{Text, first_of, found_of, rows_of}
 use Rattle.clap.proofs.WalkLemmas.{first_value-rows}
 use Rattle.djq_cli.specs.declared.commands.Asked.{Asked}
 use Rattle.djq_cli.specs.Asks.{ServeAsked, TurnsAre, log_path_of}
-use Rattle.djq_cli.proofs.Asking.{no_addr, turns_spelled, turns_unspelled}
+use Rattle.djq_cli.proofs.Arguments.{no_addr, turns_spelled, turns_unspelled}
 use Rattle.djq_cli.proofs.commands.serve_asked.Goals as goal
 
 pub returns-in_err-addr : goal.returns-in_err-addr

@@ -1,5 +1,5 @@
 -- Opening a batch changes the session's batch and bytes alone, so it is a step among any other sessions.
-use Rattle.djq_commands.proofs.Batching.{does_batch}
+use Rattle.djq_commands.proofs.TakenLines.{does_batch}
 use Rattle.djq_commands.proofs.batch.run_batch.Goals as goal
 
 pub returns : goal.returns

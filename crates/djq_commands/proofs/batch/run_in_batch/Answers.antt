@@ -4,10 +4,10 @@ use Rattle.djq_model.specs.Data.{Bytes}
 use Rattle.djq_protocol.specs.declared.command.Command.TheVariants.{Abandon, Quit, Stop}
 use Rattle.djq_commands.specs.Batching.{MakesRow, ReadsInBatch}
 use Rattle.djq_commands.specs.declared.reading.BatchLine.{BatchLine}
-use Rattle.djq_commands.proofs.Batching.{does_abandon}
-use Rattle.djq_commands.proofs.Continuing.{counting}
-use Rattle.djq_commands.proofs.Holding.{done_leaves, hold_leaves, placed_leaves, refused_leaves, stop_leaves}
-use Rattle.djq_commands.proofs.Unkept.{unkept}
+use Rattle.djq_commands.proofs.TakenLines.{does_abandon, done_leaves, hold_leaves, placed_leaves, refused_leaves}
+use Rattle.djq_commands.proofs.TakenLines.{stop_leaves}
+use Rattle.djq_commands.proofs.CursorCommands.{counting}
+use Rattle.djq_commands.proofs.LoggedLines.{unkept}
 use Rattle.djq_commands.proofs.batch.run_in_batch.Goals as goal
 
 pub returns-in-Hold : goal.returns-in-Hold

@@ -3,7 +3,7 @@ use Rattle.std.proofs.Common.{sym, ap, ◌∙◌, ◌≡◌, false, Option, is_s
 use Rattle.djq_protocol.specs.declared.limits.TheConstants.{CURSORS}
 use Rattle.djq_session.specs.Dialog.{named}
 use Rattle.djq_engine.specs.declared.cursor.CursorId.{CursorId}
-use Rattle.djq_commands.proofs.Enrolling.{cursor_named, opens_limit, opens_none}
+use Rattle.djq_commands.proofs.WatchCommands.{cursor_named, opens_limit, opens_none}
 use Rattle.djq_commands.proofs.commands.open_cursor.Goals as goal
 
 pub returns-then-is_some-2 : goal.returns-then-is_some-2

@@ -1,6 +1,6 @@
 -- Before each turn the text has the lines of the members so far; at the count it has those of all.
 use Rattle.djq_model.specs.Listed.{listed_of}
-use Rattle.djq_commands.proofs.Explaining.{puts_more, puts_last}
+use Rattle.djq_commands.proofs.CutReplies.{puts_more, puts_last}
 use Rattle.djq_commands.proofs.commands.put_members.Goals as goal
 
 pub loop-nth-preserved : goal.loop-nth-preserved

@@ -1,5 +1,5 @@
 use Rattle.djq_model.specs.Listed.{listed_of}
-use Rattle.djq_commands.proofs.Explaining.{PutsSoFar}
+use Rattle.djq_commands.proofs.CutReplies.{PutsSoFar}
 use Rattle.djq_commands.proofs.commands.put_members.Given as goal
 
 abbrev pub invariant-loop-nth : goal.invariant-loop-nth

@@ -4,7 +4,7 @@ use Rattle.djq_engine.specs.declared.cursor.CursorId.{CursorId}
 use Rattle.djq_engine.specs.Kept.{IsHeld, ClosesCursor}
 use Rattle.djq_session.specs.Dialog.{named}
 use Rattle.djq_commands.proofs.Cursors.{named_some, named_none}
-use Rattle.djq_commands.proofs.Naming.{is_held, does_close, does_close_none}
+use Rattle.djq_commands.proofs.CursorCommands.{is_held, does_close, does_close_none}
 use Rattle.djq_commands.proofs.commands.run_close.Goals as goal
 
 pub close-requires : goal.close-requires

@@ -2,7 +2,7 @@
 use Rattle.std.proofs.Common.{◌∙◌, Bool, false, sym, subst}
 use Rattle.djq_protocol.specs.declared.command.Command.TheVariants.{Drop}
 use Rattle.djq_commands.specs.Performs.{ExecutesKeeping}
-use Rattle.djq_commands.proofs.Replying.{does_drop, ok_done}
+use Rattle.djq_commands.proofs.Replies.{does_drop, ok_done}
 use Rattle.djq_commands.proofs.commands.run_drop.Goals as goal
 
 pub returns : goal.returns

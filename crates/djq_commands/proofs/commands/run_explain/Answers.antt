@@ -2,8 +2,8 @@
 use Rattle.std.proofs.Common.{Err, sym, subst}
 use Rattle.djq_protocol.specs.declared.answer.Refusal.{Refusal}
 use Rattle.djq_store.specs.Explaining.{ExplainGives}
-use Rattle.djq_commands.proofs.Explaining.{does_explain_lacking, does_explain_cut, does_explain_whole}
-use Rattle.djq_commands.proofs.Explaining.{does_explain_refused}
+use Rattle.djq_commands.proofs.CutReplies.{does_explain_lacking, does_explain_cut, does_explain_whole}
+use Rattle.djq_commands.proofs.CutReplies.{does_explain_refused}
 use Rattle.djq_commands.proofs.commands.run_explain.Goals as goal
 
 pub returns-then-is_err : goal.returns-then-is_err

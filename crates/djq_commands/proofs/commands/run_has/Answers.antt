@@ -1,5 +1,5 @@
 -- A reply changes the session's bytes alone, and the lookup costs no more than the machine allows.
-use Rattle.djq_commands.proofs.Replying.{does_has}
+use Rattle.djq_commands.proofs.Replies.{does_has}
 use Rattle.djq_commands.proofs.commands.run_has.Goals as goal
 
 pub returns : goal.returns

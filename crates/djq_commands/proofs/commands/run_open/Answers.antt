@@ -1,5 +1,5 @@
 -- A cursor comes to this session alone; the cursors of all others are held as they were, by Naming.
-use Rattle.djq_commands.proofs.Naming.{does_open}
+use Rattle.djq_commands.proofs.CursorCommands.{does_open}
 use Rattle.djq_commands.proofs.commands.run_open.Goals as goal
 
 pub returns : goal.returns

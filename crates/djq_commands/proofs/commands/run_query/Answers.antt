@@ -3,10 +3,10 @@ use Rattle.std.proofs.Common.{Bool, false, sym, subst}
 use Rattle.djq_protocol.specs.declared.command.Command.TheVariants.{Query as Register}
 use Rattle.djq_protocol.specs.Reply.{query_reply}
 use Rattle.djq_commands.specs.Performs.{ExecutesKeeping}
-use Rattle.djq_commands.proofs.Replying.{does_query}
-use Rattle.djq_commands.proofs.Enrolling.{stays_enrolled}
-use Rattle.djq_commands.proofs.Cutting.{does_query_cut, own_still}
-use Rattle.djq_commands.proofs.Telling.{was_lacking, was_queued}
+use Rattle.djq_commands.proofs.Replies.{does_query}
+use Rattle.djq_commands.proofs.WatchCommands.{stays_enrolled}
+use Rattle.djq_commands.proofs.CutReplies.{does_query_cut, own_still}
+use Rattle.djq_commands.proofs.Printing.{was_lacking, was_queued}
 use Rattle.djq_commands.proofs.commands.run_query.Goals as goal
 
 pub cut_off-requires-clause-own : goal.cut_off-requires-clause-own

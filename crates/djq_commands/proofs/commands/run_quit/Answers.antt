@@ -2,7 +2,7 @@
 use Rattle.std.proofs.Common.{Some, refl}
 use Rattle.djq_protocol.specs.Reply.{bye}
 use Rattle.djq_protocol.specs.declared.answer.EndCause.TheVariants.{Quit}
-use Rattle.djq_commands.proofs.GivingUp.{ends}
+use Rattle.djq_commands.proofs.CutReplies.{ends}
 use Rattle.djq_commands.proofs.commands.run_quit.Goals as goal
 
 pub returns : goal.returns

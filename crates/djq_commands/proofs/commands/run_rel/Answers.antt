@@ -2,7 +2,7 @@
 use Rattle.std.proofs.Common.{◌∙◌, Bool, false, sym, subst}
 use Rattle.djq_protocol.specs.declared.command.Command.TheVariants.{Rel}
 use Rattle.djq_commands.specs.Performs.{ExecutesKeeping}
-use Rattle.djq_commands.proofs.Replying.{does_rel, ok_done}
+use Rattle.djq_commands.proofs.Replies.{does_rel, ok_done}
 use Rattle.djq_commands.proofs.commands.run_rel.Goals as goal
 
 pub returns : goal.returns

@@ -1,5 +1,5 @@
 -- A reply changes the session's bytes alone, so it is a step of the machine among any other sessions.
-use Rattle.djq_commands.proofs.Replying.{does_shape}
+use Rattle.djq_commands.proofs.Replies.{does_shape}
 use Rattle.djq_commands.proofs.commands.run_shape.Goals as goal
 
 pub returns : goal.returns

@@ -2,7 +2,7 @@
 use Rattle.std.proofs.Common.{Some, refl}
 use Rattle.djq_protocol.specs.Reply.{bye}
 use Rattle.djq_protocol.specs.declared.answer.EndCause.TheVariants.{Stop}
-use Rattle.djq_commands.proofs.GivingUp.{ends}
+use Rattle.djq_commands.proofs.CutReplies.{ends}
 use Rattle.djq_commands.proofs.commands.run_stop.Goals as goal
 
 pub returns : goal.returns

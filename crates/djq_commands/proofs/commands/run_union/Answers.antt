@@ -4,8 +4,8 @@ use Rattle.djq_model.specs.Data.{Bytes}
 use Rattle.djq_protocol.specs.declared.command.Command.TheVariants.{Union}
 use Rattle.djq_machine.specs.Keeping.{is_done}
 use Rattle.djq_commands.specs.Performs.{ExecutesKeeping}
-use Rattle.djq_commands.proofs.Replying.{does_union, ok_done}
-use Rattle.djq_commands.proofs.Enrolling.{stays_united}
+use Rattle.djq_commands.proofs.Replies.{does_union, ok_done}
+use Rattle.djq_commands.proofs.WatchCommands.{stays_united}
 use Rattle.djq_commands.proofs.commands.run_union.Goals as goal
 
 pub returns : goal.returns

@@ -2,7 +2,7 @@
 use Rattle.std.proofs.Common.{Some, refl, ap, ◌∙◌}
 use Rattle.djq_protocol.specs.Reply.{end_line}
 use Rattle.djq_commands.specs.Views.{Talk}
-use Rattle.djq_commands.proofs.GivingUp.{ends}
+use Rattle.djq_commands.proofs.CutReplies.{ends}
 use Rattle.djq_commands.proofs.ending.end_by.Goals as goal
 
 pub returns-clause-performs : goal.returns-clause-performs

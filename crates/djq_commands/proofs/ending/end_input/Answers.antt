@@ -5,7 +5,7 @@ use Rattle.djq_protocol.specs.Reply.{input_cut}
 use Rattle.djq_protocol.specs.declared.answer.EndCause.TheVariants.{Input}
 use Rattle.djq_commands.specs.Views.{Talk}
 use Rattle.djq_commands.specs.Performs.{to_one}
-use Rattle.djq_commands.proofs.GivingUp.{ends, cut_none, cut_some, quiet_end}
+use Rattle.djq_commands.proofs.CutReplies.{ends, cut_none, cut_some, quiet_end}
 use Rattle.djq_commands.proofs.ending.end_input.Goals as goal
 
 pub returns-then-is_empty-clause-performs : goal.returns-then-is_empty-clause-performs

@@ -1,8 +1,8 @@
 -- Giving up cursors leaves watches and queries alone, so they are counted as before; the two then join.
 use Rattle.std.proofs.Common.{ap}
 use Rattle.djq_commands.specs.Views.{Talk}
-use Rattle.djq_commands.proofs.GivingUp.{both_given_up, both_kept_told}
-use Rattle.djq_commands.proofs.Watching.{count_moved}
+use Rattle.djq_commands.proofs.CutReplies.{both_given_up, both_kept_told}
+use Rattle.djq_commands.proofs.Watchers.{count_moved}
 use Rattle.djq_commands.proofs.ending.give_up.Goals as goal
 
 pub give_up_watches-requires : goal.give_up_watches-requires

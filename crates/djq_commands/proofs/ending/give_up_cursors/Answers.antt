@@ -1,5 +1,5 @@
 -- Those popped so far are closed and the rest are still held, so the next one popped is held, by GivingUp.
-use Rattle.djq_commands.proofs.GivingUp.{giving_starts, popped_held, giving_goes_on}
+use Rattle.djq_commands.proofs.CutReplies.{giving_starts, popped_held, giving_goes_on}
 use Rattle.djq_commands.proofs.ending.give_up_cursors.Goals as goal
 
 pub loop-id-init : goal.loop-id-init

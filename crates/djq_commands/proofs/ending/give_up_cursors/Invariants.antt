@@ -1,5 +1,5 @@
 use Rattle.std.proofs.Common.{length}
-use Rattle.djq_commands.proofs.GivingUp.{Giving}
+use Rattle.djq_commands.proofs.CutReplies.{Giving}
 use Rattle.djq_commands.proofs.ending.give_up_cursors.Given as goal
 
 abbrev pub invariant-loop-id : goal.invariant-loop-id

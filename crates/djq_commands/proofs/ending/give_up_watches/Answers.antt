@@ -1,6 +1,5 @@
 -- A session's watches are counted, so each name popped is a query's that has a watcher, by Unwatching.
-use Rattle.djq_commands.proofs.Unwatching.{watches_start, popped_watched, watches_go_on, never_unknown}
-use Rattle.djq_commands.proofs.Unwatching.{watches_given_up}
+use Rattle.djq_commands.proofs.Watchers.{watches_start, popped_watched, watches_go_on, never_unknown, watches_given_up}
 use Rattle.djq_commands.proofs.ending.give_up_watches.Goals as goal
 
 pub loop-query-init : goal.loop-query-init

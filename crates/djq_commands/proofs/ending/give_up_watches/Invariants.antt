@@ -1,5 +1,5 @@
 use Rattle.std.proofs.Common.{length}
-use Rattle.djq_commands.proofs.Unwatching.{GivingWatches}
+use Rattle.djq_commands.proofs.Watchers.{GivingWatches}
 use Rattle.djq_commands.proofs.ending.give_up_watches.Given as goal
 
 abbrev pub invariant-loop-query : goal.invariant-loop-query

@@ -2,7 +2,7 @@
 use Rattle.std.proofs.Common.{◌-◌, ◌∙◌, Some, ap, codes, length, sym}
 use Rattle.std.proofs.lemmas.Bool.{false≢true, lt-ltb, ltb-true}
 use Rattle.djq_model.specs.Data.{Bytes}
-use Rattle.djq_commands.proofs.Keeping.{batch_last, batch_past, batch_row}
+use Rattle.djq_commands.proofs.LoggedLines.{batch_last, batch_past, batch_row}
 use Rattle.djq_commands.proofs.kept.line_of_batch.Goals as goal
 
 pub returns-in-Some : goal.returns-in-Some

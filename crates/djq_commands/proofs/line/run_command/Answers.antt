@@ -1,13 +1,12 @@
 -- Of these commands only those that change relations, queries or unions are kept; all others leave no line.
 use Rattle.std.proofs.Common.{false, true, refl, sym, subst, arith}
 use Rattle.djq_protocol.specs.declared.command.Command.{Command}
-use Rattle.djq_protocol.specs.declared.command.Command.TheVariants.{Open, Next, Close, Has, Watch}
-use Rattle.djq_protocol.specs.declared.command.Command.TheVariants.{Unwatch, Explain, Shape, Batch}
-use Rattle.djq_protocol.specs.declared.command.Command.TheVariants.{Quit, Stop}
+use Rattle.djq_protocol.specs.declared.command.Command.TheVariants.{Open, Next, Close, Has, Watch, Unwatch, Explain}
+use Rattle.djq_protocol.specs.declared.command.Command.TheVariants.{Shape, Batch, Quit, Stop}
 use Rattle.djq_model.specs.Data.{Tuple}
 use Rattle.djq_commands.specs.Performs.{Executes, ExecutesKeeping}
-use Rattle.djq_commands.proofs.Continuing.{counting}
-use Rattle.djq_commands.proofs.Unkept.{unkept}
+use Rattle.djq_commands.proofs.CursorCommands.{counting}
+use Rattle.djq_commands.proofs.LoggedLines.{unkept}
 use Rattle.djq_commands.proofs.line.run_command.Goals as goal
 
 pub returns-in-Open : goal.returns-in-Open

@@ -14,9 +14,8 @@ use Rattle.djq_commands.specs.declared.change.Left.TheVariants.{Telling}
 use Rattle.djq_commands.specs.declared.change.Outcome.TheVariants.{Added, Deleted}
 use Rattle.djq_commands.specs.Stepping.{refused_as}
 use Rattle.djq_commands.specs.Views.{Talk}
-use Rattle.djq_commands.proofs.Taking.{reads_refused, runs}
-use Rattle.djq_commands.proofs.Leaving.{line_leaves, tells_alone}
-use Rattle.djq_commands.proofs.Saying.{reads_as, refused_alone, short_to_add, short_to_delete}
+use Rattle.djq_commands.proofs.TakenLines.{reads_refused, runs, line_leaves, tells_alone}
+use Rattle.djq_commands.proofs.ReadLines.{reads_as, refused_alone, short_to_add, short_to_delete}
 use Rattle.djq_commands.proofs.line.run_line.Goals as goal
 
 pub new-requires : goal.new-requires

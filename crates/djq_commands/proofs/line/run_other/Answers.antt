@@ -10,9 +10,8 @@ use Rattle.djq_protocol.specs.declared.held.HeldRow.{HeldRow}
 use Rattle.djq_machine.specs.Command.{is_misplaced}
 use Rattle.djq_commands.specs.Stepping.{refused_as}
 use Rattle.djq_commands.specs.Views.{Talk}
-use Rattle.djq_commands.proofs.Taking.{reads_refused, runs}
-use Rattle.djq_commands.proofs.Leaving.{line_leaves}
-use Rattle.djq_commands.proofs.Saying.{misplaced_said, other, reads_as, refused_alone, runnable}
+use Rattle.djq_commands.proofs.TakenLines.{reads_refused, runs, line_leaves}
+use Rattle.djq_commands.proofs.ReadLines.{misplaced_said, other, reads_as, refused_alone, runnable}
 use Rattle.djq_commands.proofs.line.run_other.Goals as goal
 
 pub run_command-requires-clause-runnable : goal.run_command-requires-clause-runnable

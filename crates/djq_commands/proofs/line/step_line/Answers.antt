@@ -8,8 +8,7 @@ use Rattle.djq_machine.specs.declared.machine.Stepped.TheVariants.{Ran}
 use Rattle.djq_machine.specs.Call.{counts}
 use Rattle.djq_commands.specs.Stepping.{LineLeaves, LeavesTo}
 use Rattle.djq_commands.specs.Views.{Talk}
-use Rattle.djq_commands.proofs.Fronting.{is_slow, is_unheard, is_dropped, ran_blank, ended_before}
-use Rattle.djq_commands.proofs.Leaving.{step_leaves}
+use Rattle.djq_commands.proofs.TakenLines.{is_slow, is_unheard, is_dropped, ran_blank, ended_before, step_leaves}
 use Rattle.djq_commands.proofs.line.step_line.Goals as goal
 
 pub returns-then-is_blank : goal.returns-then-is_blank

@@ -4,9 +4,9 @@ use Rattle.djq_model.specs.Data.{Bytes}
 use Rattle.djq_protocol.specs.declared.limits.TheConstants.{LINE_BYTES}
 use Rattle.djq_protocol.specs.declared.answer.EndCause.TheVariants.{Long}
 use Rattle.djq_machine.specs.Call.{counts}
-use Rattle.djq_commands.proofs.Fronting.{is_too_long, ended_before, had_ended, is_dry_front, was_dry}
+use Rattle.djq_commands.proofs.TakenLines.{is_too_long, ended_before, had_ended, is_dry_front, was_dry}
 use Rattle.djq_commands.specs.Stepping.{Copies}
-use Rattle.djq_commands.proofs.Keeping.{copies_front, short_front}
+use Rattle.djq_commands.proofs.LoggedLines.{copies_front, short_front}
 use Rattle.djq_commands.proofs.line.step_session.Goals as goal
 
 pub returns-in-Long-clause-leaves : goal.returns-in-Long-clause-leaves

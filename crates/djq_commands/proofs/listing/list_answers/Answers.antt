@@ -1,8 +1,8 @@
 -- At each turn so many answers are told, each once, of a cursor that is held still, as Telling keeps it.
 use Rattle.std.proofs.Common.{arith, sym}
 use Rattle.djq_protocol.specs.Reply.{answer_line}
-use Rattle.djq_commands.proofs.Telling.{starts, is_held_still, is_there, goes_on, is_cut, is_ended}
-use Rattle.djq_commands.proofs.Telling.{is_stale, is_fresh, is_asked, was_lacking, was_queued}
+use Rattle.djq_commands.proofs.Printing.{starts, is_held_still, is_there, goes_on, is_cut, is_ended, is_stale, is_fresh}
+use Rattle.djq_commands.proofs.Printing.{is_asked, was_lacking, was_queued}
 use Rattle.djq_commands.proofs.listing.list_answers.Goals as goal
 
 pub loop-read-init : goal.loop-read-init

@@ -1,4 +1,4 @@
-use Rattle.djq_commands.proofs.Telling.{SoFar}
+use Rattle.djq_commands.proofs.Printing.{SoFar}
 use Rattle.djq_commands.proofs.listing.list_answers.Given as goal
 
 abbrev pub invariant-loop-read : goal.invariant-loop-read

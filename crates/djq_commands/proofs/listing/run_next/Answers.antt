@@ -6,8 +6,8 @@ use Rattle.djq_commands.specs.declared.listing.Listed.TheVariants.{Whole, Cut, S
 use Rattle.djq_commands.specs.Sound.{AreHeld}
 use Rattle.djq_commands.specs.Listing.{Lists}
 use Rattle.djq_commands.proofs.Cursors.{named_some, named_none}
-use Rattle.djq_commands.proofs.Continuing.{does_next_none, does_next_whole, does_next_cut}
-use Rattle.djq_commands.proofs.Continuing.{does_next_stale, named_held, owns_still}
+use Rattle.djq_commands.proofs.CursorCommands.{does_next_none, does_next_whole, does_next_cut, does_next_stale}
+use Rattle.djq_commands.proofs.CursorCommands.{named_held, owns_still}
 use Rattle.djq_commands.proofs.listing.run_next.Goals as goal
 
 pub list_answers-requires-clause-held : goal.list_answers-requires-clause-held

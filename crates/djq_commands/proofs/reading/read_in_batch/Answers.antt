@@ -4,7 +4,7 @@ use Rattle.djq_protocol.specs.Grammar.{reading_of}
 use Rattle.djq_protocol.specs.declared.answer.Refusal.{Refusal}
 use Rattle.djq_protocol.specs.declared.command.Command.TheVariants.{Add}
 use Rattle.djq_commands.specs.Batching.{RefusedBy}
-use Rattle.djq_commands.proofs.Saying.{reads_as, refused_row, short_to_add}
+use Rattle.djq_commands.proofs.ReadLines.{reads_as, refused_row, short_to_add}
 use Rattle.djq_commands.proofs.reading.read_in_batch.Goals as goal
 
 pub returns-in-Add : goal.returns-in-Add

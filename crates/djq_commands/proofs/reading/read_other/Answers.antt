@@ -4,7 +4,7 @@ use Rattle.djq_protocol.specs.Grammar.{reading_of}
 use Rattle.djq_protocol.specs.declared.answer.Refusal.{Refusal}
 use Rattle.djq_commands.specs.Batching.{ReadsInBatch, RefusedBy}
 use Rattle.djq_commands.specs.declared.reading.BatchLine.{BatchLine}
-use Rattle.djq_commands.proofs.Saying.{refused_other, said_in_batch}
+use Rattle.djq_commands.proofs.ReadLines.{refused_other, said_in_batch}
 use Rattle.djq_commands.proofs.reading.read_other.Goals as goal
 
 pub returns-in-Ok : goal.returns-in-Ok

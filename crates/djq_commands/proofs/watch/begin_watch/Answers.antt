@@ -1,7 +1,7 @@
 -- The query of the name is registered, and fewer sessions than there may be watch it, since this one doesn't.
 use Rattle.std.proofs.Common.{sym}
-use Rattle.djq_commands.proofs.Rewatching.{begins_none, begins_already, begins_full, begins_done}
-use Rattle.djq_commands.proofs.Rewatching.{may_watch, is_registered, on_ok, on_err}
+use Rattle.djq_commands.proofs.WatchCommands.{begins_none, begins_already, begins_full, begins_done, may_watch}
+use Rattle.djq_commands.proofs.WatchCommands.{is_registered, on_ok, on_err}
 use Rattle.djq_commands.proofs.watch.begin_watch.Goals as goal
 
 pub returns-in_default : goal.returns-in_default

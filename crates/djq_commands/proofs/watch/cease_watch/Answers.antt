@@ -1,6 +1,6 @@
 -- A session that watches the query is counted among its watchers, so it has one; names are apart.
 use Rattle.std.proofs.Common.{sym}
-use Rattle.djq_commands.proofs.Rewatching.{ceases_none, ceases_already, ceases_done, may_unwatch}
+use Rattle.djq_commands.proofs.WatchCommands.{ceases_none, ceases_already, ceases_done, may_unwatch}
 use Rattle.djq_commands.proofs.watch.cease_watch.Goals as goal
 
 pub returns-in_default : goal.returns-in_default

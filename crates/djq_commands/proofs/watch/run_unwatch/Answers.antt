@@ -1,5 +1,5 @@
 -- The session goes on, so it may watch, and what is known around it holds with a watch less, by Rewatching.
-use Rattle.djq_commands.proofs.Rewatching.{does_unwatch}
+use Rattle.djq_commands.proofs.WatchCommands.{does_unwatch}
 use Rattle.djq_commands.proofs.watch.run_unwatch.Goals as goal
 
 pub returns : goal.returns

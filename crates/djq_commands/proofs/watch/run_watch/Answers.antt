@@ -2,7 +2,7 @@
 use Rattle.std.proofs.Common.{ℕ, subst}
 use Rattle.djq_protocol.specs.Reply.{watch_reply}
 use Rattle.djq_session.specs.Dialog.{Replies}
-use Rattle.djq_commands.proofs.Rewatching.{does_watch}
+use Rattle.djq_commands.proofs.WatchCommands.{does_watch}
 use Rattle.djq_commands.proofs.watch.run_watch.Goals as goal
 
 pub returns : goal.returns

@@ -1,5 +1,5 @@
 -- Ids rise, so an id that is among them is not missed by a search that says where it would stand.
-use Rattle.djq_core.proofs.Places.{not_missed}
+use Rattle.djq_core.proofs.Sessions.{not_missed}
 use Rattle.djq_core.proofs.serving.place_of.Goals as goal
 
 pub unreachable-requires : goal.unreachable-requires

@@ -8,8 +8,8 @@ use Rattle.djq_commands.specs.declared.change.Outcome.{Outcome}
 use Rattle.djq_commands.specs.Changing.{reply_of}
 use Rattle.djq_commands.specs.Performs.{Performs}
 use Rattle.djq_commands.specs.Telling.{AnswersLast}
-use Rattle.djq_core.proofs.Hearing.{owns_roomy}
-use Rattle.djq_core.proofs.Closing.{answers_reply, answers_end, none_of, was_small, not_roomy}
+use Rattle.djq_core.proofs.Changes.{owns_roomy}
+use Rattle.djq_core.proofs.ChangeReplies.{answers_reply, answers_end, none_of, was_small, not_roomy}
 use Rattle.djq_core.proofs.tell.answer_last.Goals as goal
 
 pub end_by-requires-clause-own : goal.end_by-requires-clause-own

@@ -1,8 +1,8 @@
 -- Each affected query before the index has no watchers; past the last index that is all of them.
 use Rattle.std.proofs.Common.{arith}
 use Rattle.djq_engine.specs.Kept.{IsRegistered}
-use Rattle.djq_core.proofs.Affecting.{at_place}
-use Rattle.djq_core.proofs.Unwatched.{unwatched_all, unwatched_more}
+use Rattle.djq_core.proofs.Deltas.{at_place}
+use Rattle.djq_core.proofs.ChangeReplies.{unwatched_all, unwatched_more}
 use Rattle.djq_core.proofs.tell.some_watched.Goals as goal
 
 pub watchers-requires : goal.watchers-requires

@@ -1,4 +1,4 @@
-use Rattle.djq_core.proofs.Unwatched.{UnwatchedTo}
+use Rattle.djq_core.proofs.ChangeReplies.{UnwatchedTo}
 use Rattle.djq_core.proofs.tell.some_watched.Given as goal
 
 abbrev pub invariant-loop-nth : goal.invariant-loop-nth

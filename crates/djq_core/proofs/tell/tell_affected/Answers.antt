@@ -3,9 +3,8 @@ use Rattle.std.proofs.Common.{ℕ, ◌∙◌, List, length, sym, ap, subst, arit
 use Rattle.std.specs.Prelude.{slice_get}
 use Rattle.djq_engine.specs.declared.cursor.QueryId.{QueryId}
 use Rattle.djq_engine.specs.Kept.{IsRegistered}
-use Rattle.djq_core.proofs.Spreading.{next_place}
-use Rattle.djq_core.proofs.Affecting.{AffectedSoFar, affected_starts, affected_more, all_affected}
-use Rattle.djq_core.proofs.Affecting.{still_registered, at_place}
+use Rattle.djq_core.proofs.Deltas.{next_place, AffectedSoFar, affected_starts, affected_more, all_affected}
+use Rattle.djq_core.proofs.Deltas.{still_registered, at_place}
 use Rattle.djq_core.proofs.tell.tell_affected.Goals as goal
 
 pub loop-nth-init : goal.loop-nth-init

@@ -1,5 +1,5 @@
 use Rattle.std.specs.Prelude.{◌≡◌}
-use Rattle.djq_core.proofs.Affecting.{AffectedSoFar}
+use Rattle.djq_core.proofs.Deltas.{AffectedSoFar}
 use Rattle.djq_core.proofs.tell.tell_affected.Given as goal
 
 abbrev pub invariant-loop-nth : goal.invariant-loop-nth

@@ -8,8 +8,8 @@ use Rattle.djq_commands.specs.declared.open.OpenSession.{OpenSession}
 use Rattle.djq_commands.specs.Changing.{is_accepted, reply_of}
 use Rattle.djq_commands.specs.Performs.{Performs}
 use Rattle.djq_commands.specs.Telling.{AnswersLast, TellsAll}
-use Rattle.djq_core.proofs.Closing.{Spread, spread_all, spread_none, told_and_answered, place_still, at_slice}
-use Rattle.djq_core.proofs.Spreading.{owned_at}
+use Rattle.djq_core.proofs.ChangeReplies.{Spread, spread_all, spread_none, told_and_answered, place_still, at_slice}
+use Rattle.djq_core.proofs.Deltas.{owned_at}
 use Rattle.djq_core.proofs.tell.tell_change.Goals.{then-is_accepted, else-is_accepted}
 use Rattle.djq_core.proofs.tell.tell_change.Goals as goal
 

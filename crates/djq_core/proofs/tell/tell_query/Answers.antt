@@ -8,9 +8,8 @@ use Rattle.djq_commands.specs.declared.open.OpenSession.{OpenSession}
 use Rattle.djq_commands.specs.Sound.{watchers_in, is_among_watches}
 use Rattle.djq_commands.specs.Performs.{Performs}
 use Rattle.djq_commands.specs.Telling.{HearsDelta, Prints, TellsQuery}
-use Rattle.djq_core.proofs.Spreading.{TellsSoFar, telling_starts, told_one, untold_one}
-use Rattle.djq_core.proofs.Spreading.{length_still, owned_at, runs_at, same_place, next_place}
-use Rattle.djq_core.proofs.Affecting.{query_told, query_untold, watchers_of, name_of}
+use Rattle.djq_core.proofs.Deltas.{TellsSoFar, telling_starts, told_one, untold_one, length_still, owned_at, runs_at}
+use Rattle.djq_core.proofs.Deltas.{same_place, next_place, query_told, query_untold, watchers_of, name_of}
 use Rattle.djq_core.proofs.tell.tell_query.Goals.{in-Some, in_default}
 use Rattle.djq_core.proofs.tell.tell_query.Goals as goal
 

@@ -1,5 +1,5 @@
 use Rattle.std.specs.Prelude.{◌≡◌}
-use Rattle.djq_core.proofs.Spreading.{TellsSoFar}
+use Rattle.djq_core.proofs.Deltas.{TellsSoFar}
 use Rattle.djq_core.proofs.tell.tell_query.Given as goal
 
 abbrev pub invariant-loop-at : goal.invariant-loop-at

@@ -1,5 +1,5 @@
 -- Where no affected query has watchers, no session watches one, so telling nobody is all there is to tell.
-use Rattle.djq_core.proofs.Unwatched.{affected_untold}
+use Rattle.djq_core.proofs.ChangeReplies.{affected_untold}
 use Rattle.djq_core.proofs.tell.tell_watched.Goals as goal
 
 pub returns-else-some_watched-clause-tells : goal.returns-else-some_watched-clause-tells

@@ -2,8 +2,8 @@
 use Rattle.std.proofs.Common.{subst, sym, ◌≤◌, ◌<◌, length}
 use Rattle.djq_model.specs.Data.{Bytes}
 use Rattle.djq_protocol.specs.declared.limits.TheConstants.{PENDING_BYTES}
-use Rattle.djq_core.proofs.Hearing.{hears_slow, hears_end, hears_end_roomy, hears_whole, owns_roomy}
-use Rattle.djq_commands.proofs.Telling.{was_lacking, was_queued}
+use Rattle.djq_core.proofs.Changes.{hears_slow, hears_end, hears_end_roomy, hears_whole, owns_roomy}
+use Rattle.djq_commands.proofs.Printing.{was_lacking, was_queued}
 use Rattle.djq_core.proofs.tell.tell_watcher.Goals as goal
 
 pub returns-then-pending-gt-PENDING_BYTES-clause-performs : goal.returns-then-pending-gt-PENDING_BYTES-clause-performs

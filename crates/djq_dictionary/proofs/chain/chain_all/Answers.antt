@@ -1,7 +1,7 @@
 -- Before any link is put in, all heads are 0, so each chain is the empty one.
 use Rattle.std.proofs.Common.{length, refl}
 use Rattle.djq_dictionary.specs.Chains.{hashes_of, nexts_of}
-use Rattle.djq_dictionary.proofs.Linking.{chained-none, zeros}
+use Rattle.djq_dictionary.proofs.Dictionary.{chained-none, zeros}
 use Rattle.djq_dictionary.proofs.chain.chain_all.Goals as goal
 
 pub loop-number-init : goal.loop-number-init

@@ -3,8 +3,7 @@ use Rattle.std.proofs.Common.{◌<◌, ℕ, ◌-◌, length, sym, ◌∙◌, ap,
 use Rattle.std.proofs.lemmas.List.{length-map}
 use Rattle.djq_dictionary.specs.declared.chain.Link.{Link}
 use Rattle.djq_dictionary.specs.Chains.{hashes_of, nexts_of}
-use Rattle.djq_dictionary.proofs.Following.{rest-first, rest-next, rest-found, rest-over}
-use Rattle.djq_dictionary.proofs.Linking.{hash-at, next-at}
+use Rattle.djq_dictionary.proofs.Dictionary.{rest-first, rest-next, rest-found, rest-over, hash-at, next-at}
 use Rattle.djq_dictionary.proofs.chain.follow.Goals as goal
 
 pub loop-rest-init : goal.loop-rest-init

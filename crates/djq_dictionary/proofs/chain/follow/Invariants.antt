@@ -1,6 +1,6 @@
 use Rattle.std.proofs.Common.{ℕ, ◌≤◌, length}
 use Rattle.djq_dictionary.specs.Chains.{IsChainHead, IsLinked, bucket_of, hashes_of, nexts_of}
-use Rattle.djq_dictionary.proofs.Following.{IsRest}
+use Rattle.djq_dictionary.proofs.Dictionary.{IsRest}
 use Rattle.djq_dictionary.proofs.chain.follow.Given as goal
 
 abbrev pub invariant-loop-rest : goal.invariant-loop-rest

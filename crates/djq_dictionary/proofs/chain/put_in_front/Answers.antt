@@ -4,7 +4,7 @@ use Rattle.std.proofs.lemmas.Grind.{get_or_default_zero}
 use Rattle.std.proofs.Math.Seq.{map-set_same}
 use Rattle.djq_dictionary.specs.declared.chain.Link.{Link}
 use Rattle.djq_dictionary.specs.Chains.{bucket_of}
-use Rattle.djq_dictionary.proofs.Linking.{hash-at, links-put}
+use Rattle.djq_dictionary.proofs.Dictionary.{hash-at, links-put}
 use Rattle.djq_dictionary.proofs.chain.put_in_front.Goals as goal
 
 pub returns-clause-chained : goal.returns-clause-chained

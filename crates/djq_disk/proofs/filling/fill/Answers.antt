@@ -4,8 +4,7 @@ use borrow.Rule.Slice.PartMut.{put_mid}
 use Rattle.std.proofs.lemmas.Slice.{take-put_mid}
 use Rattle.djq_disk.specs.History.{DiskReads}
 use Rattle.djq_disk.specs.declared.disk.DiskRead.TheVariants.{Got}
-use Rattle.djq_disk.proofs.Telling.{told_both}
-use Rattle.djq_disk.proofs.Piecewise.{filled_within, filled_more}
+use Rattle.djq_disk.proofs.Files.{told_both, filled_within, filled_more}
 use Rattle.djq_disk.proofs.filling.fill.Goals as goal
 
 -- What this read gave stands behind what the buffer had.

@@ -2,8 +2,7 @@
 use Rattle.djq_disk.specs.History.{DiskWrites, Syncs}
 use Rattle.djq_disk.specs.WritingDown.{WritesDown}
 use Rattle.djq_disk.specs.declared.disk.DiskDid.TheVariants.{Done, Failed}
-use Rattle.djq_disk.proofs.Telling.{told_both, told_so}
-use Rattle.djq_disk.proofs.Keeping.{writes_down, fails_down}
+use Rattle.djq_disk.proofs.Files.{told_both, told_so, writes_down, fails_down}
 use Rattle.djq_disk.proofs.writing_down.write_down.Goals as goal
 
 pub returns-in-Done-clause-told : goal.returns-in-Done-clause-told

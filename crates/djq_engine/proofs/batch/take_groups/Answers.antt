@@ -7,7 +7,7 @@ use Rattle.djq_reach.specs.Reaching.{AllAt, Reach, Renews}
 use Rattle.djq_reach.specs.Tending.{AreUnwatched, LogTellsAt, Tends, Empties}
 use Rattle.djq_reach.specs.Grouping.{CanComeBy, CostsBy, GroupsLead, WorksBy, reached, rows_of_groups, times_back}
 use Rattle.djq_engine.proofs.batch.take_groups.Goals as goal
-use Rattle.djq_reach.proofs.Tending.{on_both, on_refused}
+use Rattle.djq_reach.proofs.Logs.{on_both, on_refused}
 
 either : {X E : Type 0} {A B C : Type 0} (r : Result X E) → (A → C) → (B → C) → OnOk r A → OnErr r B → C
 either (Ok x) f g a b = f a

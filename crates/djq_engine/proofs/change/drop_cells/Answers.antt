@@ -11,15 +11,13 @@ use Rattle.djq_engine.specs.Changing.{IsOld}
 use Rattle.djq_reach.specs.Places.{is_reader, watched_at}
 use Rattle.djq_reach.specs.Reaching.{AllAt}
 use Rattle.djq_reach.specs.Tending.{AreUnwatched, LogsCanBeShown, Costs, Tends, LogTellsAt, Works}
-use Rattle.djq_engine.proofs.Carrying.{readers_kept}
-use Rattle.djq_reach.proofs.Tending.{tells_show, tends_quiet}
-use Rattle.djq_engine.proofs.Tending.{counts_rows, shown_tended, tells_rows}
-use Rattle.djq_engine.proofs.Storing.{has_copies, places_read, gone_once, can_go, drop_carries}
-use Rattle.djq_live_query.proofs.Moving.{same_catalog}
-use Rattle.djq_leaves.proofs.Placing.{copies_keep_rows}
-use Rattle.djq_leaves.proofs.Placing.{deleted_went}
-use Rattle.djq_live_query.proofs.Untouched.{stays_lives as live_stays}
-use Rattle.djq_live_query.proofs.Untouched.{went_lives as went_passes}
+use Rattle.djq_engine.proofs.Catalogs.{readers_kept}
+use Rattle.djq_reach.proofs.Logs.{tells_show, tends_quiet}
+use Rattle.djq_engine.proofs.Logs.{counts_rows, shown_tended, tells_rows}
+use Rattle.djq_engine.proofs.StoredRows.{has_copies, places_read, gone_once, can_go, drop_carries}
+use Rattle.djq_live_query.proofs.TestDeltas.{same_catalog}
+use Rattle.djq_leaves.proofs.LeafRows.{copies_keep_rows, deleted_went}
+use Rattle.djq_live_query.proofs.ShownAnswers.{stays_lives as live_stays, went_lives as went_passes}
 use Rattle.djq_engine.proofs.change.drop_cells.Goals as goal
 
 pub returns-in-Left-clause-deletes : goal.returns-in-Left-clause-deletes

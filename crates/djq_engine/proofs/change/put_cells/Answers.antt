@@ -11,17 +11,14 @@ use Rattle.djq_live_query.specs.Live.{IsKept}
 use Rattle.djq_reach.specs.Places.{is_reader, watched_at}
 use Rattle.djq_reach.specs.Reaching.{AllAt}
 use Rattle.djq_reach.specs.Tending.{LogsCanBeShown, AreUnwatched, Costs, LogShows, Tends, LogTellsAt, Works}
-use Rattle.djq_engine.proofs.Carrying.{readers_kept}
-use Rattle.djq_reach.proofs.Tending.{tends_apart, tends_quiet}
-use Rattle.djq_engine.proofs.Tending.{counts_rows, shown_tended, tells_rows}
-use Rattle.djq_engine.proofs.Storing.{came, came_new, can_come, catalog_back, has_copies, places_once, places_read}
-use Rattle.djq_engine.proofs.Storing.{put_carries, stand_now, unput_carries, wait_carries}
-use Rattle.djq_live_query.proofs.Moving.{same_catalog}
-use Rattle.djq_leaves.proofs.Placing.{added_came}
-use Rattle.djq_leaves.proofs.Placing.{copies_keep_rows}
-use Rattle.djq_leaves.proofs.Placing.{deleted_went}
-use Rattle.djq_live_query.proofs.Untouched.{stays_lives as live_stays}
-use Rattle.djq_live_query.proofs.Untouched.{came_lives as other_queries_stay}
+use Rattle.djq_engine.proofs.Catalogs.{readers_kept}
+use Rattle.djq_reach.proofs.Logs.{tends_apart, tends_quiet}
+use Rattle.djq_engine.proofs.Logs.{counts_rows, shown_tended, tells_rows}
+use Rattle.djq_engine.proofs.StoredRows.{came, came_new, can_come, catalog_back, has_copies, places_once, places_read}
+use Rattle.djq_engine.proofs.StoredRows.{put_carries, stand_now, unput_carries, wait_carries}
+use Rattle.djq_live_query.proofs.TestDeltas.{same_catalog}
+use Rattle.djq_leaves.proofs.LeafRows.{added_came, copies_keep_rows, deleted_went}
+use Rattle.djq_live_query.proofs.ShownAnswers.{stays_lives as live_stays, came_lives as other_queries_stay}
 use Rattle.djq_engine.proofs.change.put_cells.Goals as goal
 
 pub unreachable-requires : goal.unreachable-requires

@@ -9,24 +9,13 @@ use Rattle.djq_live_query.specs.Live.{Live}
 use Rattle.djq_live_query.specs.Updating.{change_of}
 use Rattle.djq_reach.specs.Places.{is_reader, log_at, place_at, readers_at, watched_at}
 use Rattle.djq_engine.specs.Changing.{CountsRows, IsDeltaWith}
-use Rattle.djq_engine.proofs.Tending.{shown_more}
-use Rattle.djq_engine.proofs.Carrying.{sound_texts}
-use Rattle.djq_leaves.proofs.Taking.{fits_long}
-use Rattle.djq_engine.proofs.Storing.{
-  adds_to,
-  all_stay,
-  idle_lacking,
-  idle_still,
-  if_came,
-  if_lacking,
-  interned,
-  lacks_of,
-  learned_rows,
-  same_stand,
-}
-use Rattle.djq_live_query.proofs.Untouched.{stays_lives as live_stays}
-use Rattle.djq_live_query.proofs.Showable.{stays_showable as showable_stays}
-use Rattle.djq_database.proofs.Lawful.{texts as texts_stay}
+use Rattle.djq_engine.proofs.Logs.{shown_more}
+use Rattle.djq_engine.proofs.Catalogs.{sound_texts}
+use Rattle.djq_leaves.proofs.Fills.{fits_long}
+use Rattle.djq_engine.proofs.StoredRows.{adds_to, all_stay, idle_lacking, idle_still, if_came, if_lacking, interned}
+use Rattle.djq_engine.proofs.StoredRows.{lacks_of, learned_rows, same_stand}
+use Rattle.djq_live_query.proofs.ShownAnswers.{stays_lives as live_stays, stays_showable as showable_stays}
+use Rattle.djq_database.proofs.Cells.{texts as texts_stay}
 use Rattle.djq_engine.proofs.change.put_row.Goals as goal
 
 pub intern_cells-requires : goal.intern_cells-requires

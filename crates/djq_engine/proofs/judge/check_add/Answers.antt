@@ -1,7 +1,7 @@
 -- Behind the first test no row may come, so one that isn't there is refused, and one that is needs no room.
 use Rattle.std.proofs.Common.{◌∙◌, sym, arith, inl, inr}
 use Rattle.std.proofs.lemmas.Bool.{false≢true}
-use Rattle.djq_engine.proofs.Judged.{add_limited}
+use Rattle.djq_engine.proofs.Conditions.{add_limited}
 use Rattle.djq_engine.proofs.judge.check_add.Goals as goal
 
 pub returns-then-not-is_there-clause-err : goal.returns-then-not-is_there-clause-err

@@ -4,8 +4,8 @@ use Rattle.std.specs.Prelude.{IfNone}
 use Rattle.djq_model.specs.Data.{has_row}
 use Rattle.djq_database.specs.Catalog.{StandForRow, no_relation, relation_at, rows_at}
 use Rattle.djq_database.specs.Changes.{TellsRowCells, told_cells}
-use Rattle.djq_engine.proofs.Judged.{delete_absent, delete_limited, delete_passes, delete_several}
-use Rattle.djq_leaves.proofs.Taking.{fits_long}
+use Rattle.djq_engine.proofs.Conditions.{delete_absent, delete_limited, delete_passes, delete_several}
+use Rattle.djq_leaves.proofs.Fills.{fits_long}
 use Rattle.djq_engine.proofs.judge.check_delete.Goals as goal
 
 pub write_cells-requires : goal.write_cells-requires

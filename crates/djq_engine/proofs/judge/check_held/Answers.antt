@@ -4,7 +4,7 @@ use Rattle.std.proofs.lemmas.Bool.{false≢true}
 use Rattle.djq_model.specs.Data.{Tuple, has_row}
 use Rattle.djq_database.specs.Catalog.{rows_at}
 use Rattle.djq_engine.specs.Judging.{RowSuits}
-use Rattle.djq_engine.proofs.Judged.{suits_here, place_limited}
+use Rattle.djq_engine.proofs.Conditions.{suits_here, place_limited}
 use Rattle.djq_engine.proofs.judge.check_held.Goals as goal
 
 pub returns-then-not-is_there-clause-err : goal.returns-then-not-is_there-clause-err

@@ -1,7 +1,7 @@
 -- A row that suits a relation is as wide as it, and a relation has few columns, by the catalog's laws.
 use Rattle.std.proofs.Common.{arith}
 use Rattle.djq_database.specs.Catalog.{no_relation, relation_at}
-use Rattle.djq_leaves.proofs.Taking.{fits_long}
+use Rattle.djq_leaves.proofs.Fills.{fits_long}
 use Rattle.djq_engine.proofs.judge.is_there.Goals as goal
 
 pub cells-requires : goal.cells-requires

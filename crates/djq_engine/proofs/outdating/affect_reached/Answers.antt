@@ -3,7 +3,7 @@ use Rattle.std.proofs.Common.{ℕ, List, ap, arith, length, take}
 use Rattle.std.proofs.lemmas.List.{length-take-le}
 use Rattle.djq_reach.specs.Places.{is_reader}
 use Rattle.djq_reach.specs.Grouping.{reached}
-use Rattle.djq_engine.proofs.Reporting.{filter_few}
+use Rattle.djq_engine.proofs.Deltas.{filter_few}
 use Rattle.djq_engine.proofs.outdating.affect_reached.Goals as goal
 
 pub push_reserved-requires : goal.push_reserved-requires

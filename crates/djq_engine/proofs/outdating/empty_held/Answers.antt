@@ -4,7 +4,7 @@ use Rattle.std.proofs.lemmas.List.{take_all}
 use Rattle.djq_protocol.specs.declared.held.HeldRow.{HeldRow}
 use Rattle.djq_reach.specs.Places.{place_at}
 use Rattle.djq_engine.specs.Outdating.{ClearsLogs, reads_held}
-use Rattle.djq_engine.proofs.Outdated.{clears_next}
+use Rattle.djq_engine.proofs.OutdatedQueries.{clears_next}
 use Rattle.djq_engine.proofs.outdating.empty_held.Goals as goal
 
 pub loop-at-preserved : goal.loop-at-preserved

@@ -1,7 +1,7 @@
 -- The lent places are the readers of the relation that was found, of which each has a log.
 use Rattle.std.proofs.Common.{List, ℕ, sym, ap, ◌∙◌, arith}
 use Rattle.djq_reach.specs.Places.{is_reader}
-use Rattle.djq_engine.proofs.Storing.{places_read}
+use Rattle.djq_engine.proofs.StoredRows.{places_read}
 use Rattle.djq_engine.proofs.outdating.empty_readers.Goals as goal
 
 pub empty_logs-requires : goal.empty_logs-requires

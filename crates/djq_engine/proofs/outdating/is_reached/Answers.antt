@@ -2,8 +2,8 @@
 use Rattle.std.proofs.Common.{◌∙◌, ◌<◌, ℕ, List, sym, ap, subst, get_or, length}
 use Rattle.djq_reach.specs.declared.group.Group.{Group}
 use Rattle.djq_reach.specs.Places.{is_reader}
-use Rattle.djq_engine.proofs.Reached.{group_there, reached_by, reached_next}
-use Rattle.djq_engine.proofs.Storing.{places_read}
+use Rattle.djq_engine.proofs.OutdatedQueries.{group_there, reached_by, reached_next}
+use Rattle.djq_engine.proofs.StoredRows.{places_read}
 use Rattle.djq_engine.proofs.outdating.is_reached.Goals as goal
 
 pub returns-then-has_place : goal.returns-then-has_place

@@ -4,7 +4,7 @@ use Rattle.std.proofs.lemmas.List.{take_all}
 use Rattle.djq_protocol.specs.declared.held.HeldRow.{HeldRow}
 use Rattle.djq_store_spec.specs.Batch.{first_read}
 use Rattle.djq_engine.specs.Outdating.{AgesAll}
-use Rattle.djq_engine.proofs.Outdated.{outdates_tested, readers_aged}
+use Rattle.djq_engine.proofs.OutdatedQueries.{outdates_tested, readers_aged}
 use Rattle.djq_engine.proofs.outdating.outdate_came.Goals as goal
 
 pub outdate_grouped-requires-clause-readers : goal.outdate_grouped-requires-clause-readers

@@ -2,8 +2,8 @@
 use Rattle.std.proofs.Common.{◌≡◌, ◌∙◌, ℕ, List, true, false, sym, ap, subst, arith}
 use Rattle.djq_database.specs.Catalog.{relation_at}
 use Rattle.djq_reach.specs.Reaching.{Reach, Ages}
-use Rattle.djq_engine.proofs.Outdated.{ages_readers, ages_passed, ages_failed, group_any}
-use Rattle.djq_engine.proofs.Storing.{places_read}
+use Rattle.djq_engine.proofs.OutdatedQueries.{ages_readers, ages_passed, ages_failed, group_any}
+use Rattle.djq_engine.proofs.StoredRows.{places_read}
 use Rattle.djq_engine.proofs.outdating.outdate_grouped.Goals as goal
 
 pub returns-then-has_group : goal.returns-then-has_group

@@ -1,7 +1,7 @@
 -- A cursor that is stale stays so, so of the rows passed the first that its query reads counts.
 use Rattle.std.proofs.Common.{refl}
 use Rattle.std.specs.Prelude.{true}
-use Rattle.djq_engine.proofs.Outdated.{outdates_next}
+use Rattle.djq_engine.proofs.OutdatedQueries.{outdates_next}
 use Rattle.djq_engine.proofs.outdating.outdate_held.Goals as goal
 
 pub loop-at-preserved : goal.loop-at-preserved

@@ -2,7 +2,7 @@
 use Rattle.std.proofs.Common.{◌∙◌, ap, sym, subst, arith, ◌<◌, length}
 use Rattle.djq_engine.specs.Places.{places_without}
 use Rattle.djq_reach.specs.Places.{AreOnce}
-use Rattle.djq_engine.proofs.Lists.{list_read, left_more, left_whole}
+use Rattle.djq_engine.proofs.QueryPlaces.{list_read, left_more, left_whole}
 use Rattle.djq_engine.proofs.places.leave_all.Goals as goal
 
 pub leave_out-requires : goal.leave_out-requires

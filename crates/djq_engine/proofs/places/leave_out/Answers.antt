@@ -1,7 +1,7 @@
 -- In a list of different places the one that is found is the only one of its number.
 use Rattle.std.proofs.Common.{◌==◌, ◌∙◌, ap}
 use Rattle.std.specs.Prelude.{position}
-use Rattle.djq_engine.proofs.Listing.{left_out, none_left_out}
+use Rattle.djq_engine.proofs.QueryPlaces.{left_out, none_left_out}
 use Rattle.djq_engine.proofs.places.leave_out.Goals as goal
 
 pub returns-in-Some : goal.returns-in-Some

@@ -3,7 +3,7 @@ use Rattle.std.proofs.Common.{refl, ◌≡◌, ◌∙◌, ◌∷◌, ◌++◌, [
 use Rattle.std.specs.Prelude.{Ok, Err, Result, OnOk, position, ◌==◌}
 use Rattle.djq_reach.specs.declared.group.Group.{Group}
 use Rattle.djq_engine.specs.Putting.{JoinsGroup}
-use Rattle.djq_engine.proofs.Joined.{joins_there, joins_new}
+use Rattle.djq_engine.proofs.QueryPlaces.{joins_there, joins_new}
 use Rattle.djq_engine.proofs.putting.join_group.Goals as goal
 
 on_ok : {A E : Type 0} (r : Result A E) (P Q : Type 0) → (P → Q) → OnOk r P → OnOk r Q

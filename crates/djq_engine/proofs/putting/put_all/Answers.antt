@@ -1,6 +1,6 @@
 -- What the rows passed made of the store is where the next one goes in; at the end these are all rows.
-use Rattle.std.proofs.Common.{◌≡◌, ◌∙◌, ◌+◌, ◌++◌, [], ℕ, List, true, refl, sym, ap, ap₂, subst}
-use Rattle.std.proofs.Common.{arith, length, take, append_assoc, append-nil}
+use Rattle.std.proofs.Common.{◌≡◌, ◌∙◌, ◌+◌, ◌++◌, [], ℕ, List, true, refl, sym, ap, ap₂, subst, arith, length, take}
+use Rattle.std.proofs.Common.{append_assoc, append-nil}
 use Rattle.std.specs.Prelude.{◌==◌, cond}
 use Rattle.std.proofs.lemmas.List.{take_all}
 use Rattle.djq_model.specs.Data.{Bytes}
@@ -9,23 +9,11 @@ use Rattle.djq_store_spec.specs.Batch.{BatchStopsAt, with_all, has_come}
 use Rattle.djq_database.specs.Catalog.{Catalog}
 use Rattle.djq_reach.specs.declared.group.Group.{Group}
 use Rattle.djq_engine.specs.Putting.{bare_of, IsStoreOf, PutsAll}
-use Rattle.djq_engine.proofs.Fronting.{first_few, first_more}
+use Rattle.djq_engine.proofs.OutdatedQueries.{first_few, first_more_fronting as first_more}
 use Rattle.djq_engine.proofs.HeldRows.{all_seq}
-use Rattle.djq_engine.proofs.Put.{
-  at_most_one,
-  next_row,
-  one_learned,
-  put_more,
-  put_none,
-  split_at,
-  stops_as,
-  stops_learned,
-  suit_next,
-  went_front,
-}
-use Rattle.djq_database.proofs.Lawful.{stay as cells_stay}
-use Rattle.djq_database.proofs.Lawful.{names as rows_by_name_or_place}
-use Rattle.djq_database.proofs.Lawful.{texts as texts_stay}
+use Rattle.djq_engine.proofs.PutRows.{at_most_one, next_row, one_learned, put_more, put_none, split_at, stops_as}
+use Rattle.djq_engine.proofs.PutRows.{stops_learned, suit_next, went_front}
+use Rattle.djq_database.proofs.Cells.{stay as cells_stay, names as rows_by_name_or_place, texts as texts_stay}
 use Rattle.djq_engine.proofs.putting.put_all.Goals as goal
 
 -- the store of the catalog as it was

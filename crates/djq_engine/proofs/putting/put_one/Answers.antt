@@ -8,9 +8,8 @@ use Rattle.djq_store_spec.specs.Batch.{BatchStopsAt}
 use Rattle.djq_database.specs.Catalog.{Catalog}
 use Rattle.djq_database.specs.declared.relation_id.RelationId.{RelationId}
 use Rattle.djq_engine.specs.Putting.{bare_of, placed, Placed, PutsNew, PutsHeldRow}
-use Rattle.djq_engine.proofs.Put.{one_in, one_stops}
-use Rattle.djq_database.proofs.Lawful.{names as rows_by_name_or_place}
-use Rattle.djq_database.proofs.Lawful.{texts as texts_stay}
+use Rattle.djq_engine.proofs.PutRows.{one_in, one_stops}
+use Rattle.djq_database.proofs.Cells.{names as rows_by_name_or_place, texts as texts_stay}
 use Rattle.djq_engine.proofs.putting.put_one.Goals as goal
 
 -- the row came

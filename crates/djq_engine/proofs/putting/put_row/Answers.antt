@@ -8,8 +8,7 @@ use Rattle.djq_dictionary.specs.declared.refusal.InternRefusal.{InternRefusal}
 use Rattle.djq_database.specs.declared.refusal.RowsRefusal.{RowsRefusal}
 use Rattle.djq_database.specs.Catalog.{StandForRow, relation_at, rows_at}
 use Rattle.djq_database.specs.Changes.{AddsRowAt, InternsRow}
-use Rattle.djq_engine.proofs.Standing.{text_full, text_lacks, puts_new, puts_more, no_place, row_lacks}
-use Rattle.djq_engine.proofs.Storing.{same_stand}
+use Rattle.djq_engine.proofs.StoredRows.{text_full, text_lacks, puts_new, puts_more, no_place, row_lacks, same_stand}
 use Rattle.djq_engine.proofs.putting.put_row.Goals as goal
 
 pub returns-in-Err-Full-clause-err : goal.returns-in-Err-Full-clause-err

@@ -5,7 +5,7 @@ use Rattle.djq_protocol.specs.declared.held.HeldRow.{HeldRow}
 use Rattle.djq_store_spec.specs.Store.{Store}
 use Rattle.djq_store_spec.specs.Batch.{with_all}
 use Rattle.djq_engine.specs.Putting.{WentIn, WentInAll}
-use Rattle.djq_engine.proofs.TakenBack.{last_in}
+use Rattle.djq_engine.proofs.HeldRows.{last_in}
 use Rattle.djq_engine.proofs.putting.take_back.Goals as goal
 
 -- the last row that is left went in last

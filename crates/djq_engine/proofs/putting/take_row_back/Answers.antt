@@ -8,11 +8,11 @@ use Rattle.djq_store_spec.specs.Batch.{suit_refusal}
 use Rattle.djq_database.specs.Cells.{HaveCells, cells_of}
 use Rattle.djq_database.specs.Catalog.{StandForRow, no_relation, relation_at, rows_at}
 use Rattle.djq_engine.specs.Judging.{bare_store, RowSuits}
-use Rattle.djq_engine.proofs.GivenUp.{suits_found}
-use Rattle.djq_engine.proofs.Judged.{suited_none}
-use Rattle.djq_leaves.proofs.Taking.{fits_long}
-use Rattle.djq_engine.proofs.TakenBack.{held_back, last_suits, row_there, suits_last}
-use Rattle.djq_database.proofs.Lawful.{names as rows_by_name_or_place}
+use Rattle.djq_engine.proofs.RefusedBatches.{suits_found}
+use Rattle.djq_engine.proofs.Conditions.{suited_none}
+use Rattle.djq_leaves.proofs.Fills.{fits_long}
+use Rattle.djq_engine.proofs.HeldRows.{held_back, last_suits, row_there, suits_last}
+use Rattle.djq_database.proofs.Cells.{names as rows_by_name_or_place}
 use Rattle.djq_engine.proofs.putting.take_row_back.Goals as goal
 
 pub unreachable-requires : goal.unreachable-requires

@@ -3,7 +3,7 @@ use Rattle.std.proofs.Common.{◌∙◌, ◌<◌, ◌++◌, ◌∷◌, [], ap, a
 use Rattle.djq_store_spec.specs.Stale.{reads}
 use Rattle.djq_model.specs.Data.{Bytes}
 use Rattle.djq_database.specs.Catalog.{relation_at}
-use Rattle.djq_engine.proofs.Lists.{join_more, join_whole, joined_some, list_read}
+use Rattle.djq_engine.proofs.QueryPlaces.{join_more, join_whole, joined_some, list_read}
 use Rattle.djq_engine.proofs.registering.join_readers.Goals as goal
 
 pub loop-list-preserved : goal.loop-list-preserved

@@ -2,7 +2,7 @@
 use Rattle.std.proofs.Common.{◌∙◌, ap, sym, arith}
 use Rattle.std.specs.Prelude.{position}
 use Rattle.djq_engine.specs.Places.{is_query}
-use Rattle.djq_engine.proofs.Refusing.{judged_fault, judged_limit, judged_none, judged_taken}
+use Rattle.djq_engine.proofs.Refusals.{judged_fault, judged_limit, judged_none, judged_taken}
 use Rattle.djq_engine.proofs.registering.judge_query.Goals as goal
 
 pub returns-then-is_some : goal.returns-then-is_some

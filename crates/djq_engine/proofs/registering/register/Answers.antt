@@ -1,6 +1,6 @@
 -- A vacant place stands in no list, so once it is taken out again each list is as it was.
-use Rattle.std.proofs.Common.{◌≡◌, ◌∷◌, [], length-append, ◌∙◌, None, Some, refl, sym, ap, ap₂}
-use Rattle.std.proofs.Common.{subst, arith, ℕ, List, length}
+use Rattle.std.proofs.Common.{◌≡◌, ◌∷◌, [], length-append, ◌∙◌, None, Some, refl, sym, ap, ap₂, subst, arith, ℕ, List}
+use Rattle.std.proofs.Common.{length}
 use Rattle.std.proofs.lemmas.List.{get_or-set_same, get_or-set_other, length-set}
 use Rattle.std.specs.Prelude.{remove}
 use Rattle.djq_model.specs.declared.query.Query.{Query}
@@ -8,10 +8,9 @@ use Rattle.djq_enumeration.specs.Log.{Log}
 use Rattle.djq_live_query.specs.Updating.{IsEmpty}
 use Rattle.djq_reach.specs.Places.{no_log}
 use Rattle.djq_engine.specs.Placing.{JoinsReaders}
-use Rattle.djq_engine.proofs.Crowded.{room_bounds}
-use Rattle.djq_engine.proofs.Lists.{logs_cleared}
-use Rattle.djq_engine.proofs.Enrolling.{lists_once, lists_without, joined_once, joined_left}
-use Rattle.djq_engine.proofs.Unseating.{remove_last, last_place}
+use Rattle.djq_engine.proofs.Deltas.{room_bounds}
+use Rattle.djq_engine.proofs.QueryPlaces.{logs_cleared, remove_last, last_place}
+use Rattle.djq_engine.proofs.Registrations.{lists_once, lists_without, joined_once, joined_left}
 use Rattle.djq_engine.proofs.registering.register.Goals as goal
 
 pub leave_all-requires : goal.leave_all-requires

@@ -4,8 +4,8 @@ use Rattle.std.specs.List.{list_any}
 use Rattle.djq_live_query.specs.Live.{Live}
 use Rattle.djq_reach.specs.Places.{place_at, readers_at}
 use Rattle.djq_engine.specs.Cursors.{has_cursor}
-use Rattle.djq_engine.proofs.Idle.{all_idle}
-use Rattle.djq_engine.proofs.Storing.{places_read}
+use Rattle.djq_engine.proofs.Registrations.{all_idle}
+use Rattle.djq_engine.proofs.StoredRows.{places_read}
 use Rattle.djq_engine.proofs.rows.outdate_readers.Goals as goal
 
 pub returns-else-some_cursor : goal.returns-else-some_cursor

@@ -1,6 +1,6 @@
 -- Without the leaf's marked tuples the reducts lack what is marked, so what is changed is what is gained.
-use Rattle.djq_enumeration.proofs.Updates.{updated, less_of}
-use Rattle.djq_enumeration.proofs.Telling.{gained_is}
+use Rattle.djq_enumeration.proofs.States.{updated, less_of}
+use Rattle.djq_enumeration.proofs.Deltas.{gained_is}
 use Rattle.djq_enumeration.proofs.delta.changes_are.Goals as goal
 
 pub returns : goal.returns

@@ -4,9 +4,8 @@ use Rattle.std.specs.Prelude.{take}
 use Rattle.std.proofs.lemmas.List.{take_all}
 use Rattle.djq_enumeration.specs.declared.places.Choice.{Choice}
 use Rattle.djq_enumeration.specs.Walk.{GoesThrough, blank}
-use Rattle.djq_enumeration.proofs.Walking.{given_to, given_whole}
-use Rattle.djq_enumeration.proofs.Going.{retreat, given_without, all_levels}
-use Rattle.djq_enumeration.proofs.Remaining.{cut, found_left, none_found}
+use Rattle.djq_enumeration.proofs.Menus.{given_to, given_whole}
+use Rattle.djq_enumeration.proofs.NextAnswers.{retreat, given_without, all_levels, cut, found_left, none_found}
 use Rattle.djq_enumeration.proofs.left.has_next.Goals as goal
 
 pub loop-at-init : goal.loop-at-init

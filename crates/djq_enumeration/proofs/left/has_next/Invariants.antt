@@ -2,7 +2,7 @@ use Rattle.std.proofs.Common.{◌≡◌, ◌+◌, ◌≤◌, [], ◌∷◌, ◌+
 use Rattle.std.specs.Prelude.{take}
 use Rattle.djq_tree.specs.Levels.{levels}
 use Rattle.djq_enumeration.specs.Walk.{GoesThrough, ahead_of, blank, made_by}
-use Rattle.djq_enumeration.proofs.Walking.{given_to}
+use Rattle.djq_enumeration.proofs.Menus.{given_to}
 use Rattle.djq_enumeration.proofs.left.has_next.Given as goal
 
 abbrev pub invariant-loop-at : goal.invariant-loop-at

@@ -1,5 +1,5 @@
 -- Where a listing may be entered no menu is empty, so at the start there is a first answer.
-use Rattle.djq_enumeration.proofs.Remaining.{start_left}
+use Rattle.djq_enumeration.proofs.NextAnswers.{start_left}
 use Rattle.djq_enumeration.proofs.left.is_left_by.Goals as goal
 
 pub returns-in-Start-clause-next : goal.returns-in-Start-clause-next

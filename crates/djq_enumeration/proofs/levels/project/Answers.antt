@@ -3,7 +3,7 @@ use Rattle.std.proofs.Common.{◌∙◌, List, ℕ, length, ap, ap₂, arith}
 use Rattle.djq_index.specs.Tuple.{pick}
 use Rattle.djq_tree.specs.Labels.{label_at}
 use Rattle.djq_reduct.specs.Answers.{on_node}
-use Rattle.djq_enumeration.proofs.Seeking.{label_columns, length_columns}
+use Rattle.djq_enumeration.proofs.Cells.{label_columns, length_columns}
 use Rattle.djq_enumeration.proofs.levels.project.Goals as goal
 
 pub take_part-requires-clause-few : goal.take_part-requires-clause-few

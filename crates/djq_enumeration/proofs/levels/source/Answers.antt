@@ -1,7 +1,7 @@
 -- A level is a trim, so its tuples are chosen from its child, which the tree has among its nodes.
 use Rattle.std.proofs.Common.{◌∙◌, ap, sym, subst, ℕ, ◌<◌, length}
 use Rattle.djq_enumeration.specs.Levels.{child_of, source}
-use Rattle.djq_enumeration.proofs.Outs.{source_within}
+use Rattle.djq_enumeration.proofs.Cells.{source_within}
 use Rattle.djq_enumeration.proofs.levels.source.Goals as goal
 
 pub returns-clause-source : goal.returns-clause-source

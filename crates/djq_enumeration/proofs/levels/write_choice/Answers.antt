@@ -2,15 +2,9 @@
 use Rattle.std.proofs.Common.{◌∙◌, List, ℕ, length, ap, sym}
 use Rattle.djq_tree.specs.Labels.{label_at}
 use Rattle.djq_enumeration.specs.Levels.{source}
-use Rattle.djq_enumeration.proofs.Seeking.{label_columns, length_columns}
-use Rattle.djq_enumeration.proofs.Tuples.{
-  read_chosen,
-  chosen_wide,
-  put_chosen,
-  node_is,
-  columns_are,
-  source_subset,
-}
+use Rattle.djq_enumeration.proofs.Cells.{label_columns, length_columns}
+use Rattle.djq_enumeration.proofs.LevelChoices.{read_chosen, chosen_wide, put_chosen, node_is, columns_are}
+use Rattle.djq_enumeration.proofs.LevelChoices.{source_subset}
 use Rattle.djq_enumeration.proofs.levels.write_choice.Goals as goal
 
 pub write_tuple-requires-clause-long : goal.write_tuple-requires-clause-long

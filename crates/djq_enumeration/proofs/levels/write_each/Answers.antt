@@ -1,9 +1,9 @@
 -- What is still to be written from the index on makes the same answer as the whole; cells keep its width.
 use Rattle.std.proofs.Common.{◌∙◌, ◌+◌, List, ℕ, length, drop, slice_index_or, ap, sym, refl, arith}
 use Rattle.std.proofs.lemmas.List.{length-set}
-use Rattle.djq_index.proofs.Columns.{column_below}
+use Rattle.djq_index.proofs.Tuples.{column_below}
 use Rattle.djq_enumeration.specs.Levels.{cells_put}
-use Rattle.djq_enumeration.proofs.Seeking.{put_next, put_end}
+use Rattle.djq_enumeration.proofs.Cells.{put_next, put_end}
 use Rattle.djq_enumeration.proofs.levels.write_each.Goals as goal
 
 pub set-requires : goal.set-requires

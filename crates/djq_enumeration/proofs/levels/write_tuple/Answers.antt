@@ -1,7 +1,7 @@
 -- Setting the first cell leaves the answer as long as it was, so the second column still lies in it.
 use Rattle.std.proofs.Common.{◌∙◌, List, ℕ, ◌<◌, length, slice_index_or, ap, sym, subst, rules}
 use Rattle.std.proofs.lemmas.List.{length-set}
-use Rattle.djq_enumeration.proofs.Seeking.{second_below}
+use Rattle.djq_enumeration.proofs.Cells.{second_below}
 use Rattle.djq_enumeration.proofs.levels.write_tuple.Goals as goal
 
 pub set-requires-in-2-2 : goal.set-requires-in-2-2

@@ -2,7 +2,7 @@
 use Rattle.std.proofs.Common.{◌≡◌, ◌∙◌, true, sym, rules}
 use Rattle.std.proofs.lemmas.Bool.{true_from_ne_false}
 use Rattle.djq_tree.specs.Tree.{is_out}
-use Rattle.djq_enumeration.proofs.Checking.{looked_up, not_there}
+use Rattle.djq_enumeration.proofs.States.{looked_up, not_there}
 use Rattle.djq_enumeration.proofs.lookup.allows.Goals as goal
 
 pub returns-clause-exact : goal.returns-clause-exact

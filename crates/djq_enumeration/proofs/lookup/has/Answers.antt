@@ -1,6 +1,6 @@
 -- The first stage makes no more nodes of `out` than leaves, and a tuple on all of those is on all of `out`.
 use Rattle.std.proofs.Common.{◌≤◌, refl, arith}
-use Rattle.djq_enumeration.proofs.Checking.{few_all, few_more, answer_upto}
+use Rattle.djq_enumeration.proofs.States.{few_all, few_more, answer_upto}
 use Rattle.djq_enumeration.proofs.lookup.has.Goals as goal
 
 pub returns-then-not-allows-clause-counted : goal.returns-then-not-allows-clause-counted

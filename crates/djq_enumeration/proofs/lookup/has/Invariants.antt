@@ -1,7 +1,7 @@
 use Rattle.std.proofs.Common.{◌≡◌, ◌+◌}
 use Rattle.djq_tree.specs.Levels.{is_start}
 use Rattle.djq_tree.specs.Counts.{how_many}
-use Rattle.djq_enumeration.proofs.Checking.{Starts}
+use Rattle.djq_enumeration.proofs.States.{Starts}
 use Rattle.djq_enumeration.proofs.lookup.has.Given as goal
 
 abbrev pub invariant-loop-node : goal.invariant-loop-node

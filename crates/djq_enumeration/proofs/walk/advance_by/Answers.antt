@@ -1,6 +1,6 @@
 -- Between calls the answer that is kept is what all choices make, and what was given ends with it.
 use Rattle.std.proofs.Common.{◌∙◌, List, ℕ, [], ◌∷◌, ◌++◌, ap, ap₂, sym}
-use Rattle.djq_enumeration.proofs.Keeping.{made_stands, stands_made, at_fits, fits_at, given_at}
+use Rattle.djq_enumeration.proofs.NextAnswers.{made_stands, stands_made, at_fits, fits_at, given_at}
 use Rattle.djq_enumeration.proofs.walk.advance_by.Goals as goal
 
 pub go_on-requires-clause-stands : goal.go_on-requires-clause-stands

@@ -2,7 +2,7 @@
 use Rattle.std.proofs.Common.{◌∙◌, List, ℕ, [], ◌∷◌, ◌++◌, ap, ap₂, sym}
 use Rattle.djq_enumeration.specs.declared.places.Choice.{Choice}
 use Rattle.djq_enumeration.specs.Walk.{ahead_of}
-use Rattle.djq_enumeration.proofs.Keeping.{stands_made}
+use Rattle.djq_enumeration.proofs.NextAnswers.{stands_made}
 use Rattle.djq_enumeration.proofs.walk.begin.Goals as goal
 
 pub returns-clause-fits : goal.returns-clause-fits

@@ -3,8 +3,7 @@ use Rattle.std.proofs.Common.{◌≡◌, ◌∙◌, List, ℕ, ap, ap₂, sym, l
 use Rattle.djq_index.specs.Tuple.{pick}
 use Rattle.djq_tree.specs.Labels.{label_at}
 use Rattle.djq_reduct.specs.Answers.{on_node}
-use Rattle.djq_enumeration.proofs.Outs.{late_out}
-use Rattle.djq_enumeration.proofs.Seeking.{first_below, label_columns, pick_one}
+use Rattle.djq_enumeration.proofs.Cells.{late_out, first_below, label_columns, pick_one}
 use Rattle.djq_enumeration.proofs.walk.cell_at.Goals as goal
 
 pub bounds-as_slice-columns : goal.bounds-as_slice-columns

@@ -3,15 +3,8 @@ use Rattle.std.proofs.Common.{◌∙◌, [], ◌∷◌, length, slice_index_or, 
 use Rattle.std.proofs.lemmas.List.{length-append}
 use Rattle.djq_enumeration.specs.declared.places.Choice.{Choice}
 use Rattle.djq_enumeration.specs.Walk.{reached_level}
-use Rattle.djq_enumeration.proofs.Filling.{
-  room_for,
-  small_in,
-  next_listed,
-  level_listed,
-  all_chosen,
-  few_chosen,
-}
-use Rattle.djq_enumeration.proofs.Keeping.{some_first, chosen_first}
+use Rattle.djq_enumeration.proofs.LevelChoices.{room_for, small_in, next_listed, level_listed, all_chosen, few_chosen}
+use Rattle.djq_enumeration.proofs.NextAnswers.{some_first, chosen_first}
 use Rattle.djq_enumeration.proofs.walk.fill.Goals as goal
 
 pub first_at-requires-clause-level : goal.first_at-requires-clause-level

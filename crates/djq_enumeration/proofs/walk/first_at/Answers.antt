@@ -5,7 +5,7 @@ use Rattle.djq_tree.specs.Labels.{label_at}
 use Rattle.djq_reduct.specs.Answers.{on_node}
 use Rattle.djq_reduct.specs.Columns.{columns}
 use Rattle.djq_enumeration.specs.Walk.{IsFirstAt}
-use Rattle.djq_enumeration.proofs.Seeking.{pick_none}
+use Rattle.djq_enumeration.proofs.Cells.{pick_none}
 use Rattle.djq_enumeration.proofs.walk.first_at.Goals as goal
 
 pub returns-in-0-clause-some : goal.returns-in-0-clause-some

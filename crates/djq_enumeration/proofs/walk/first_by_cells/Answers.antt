@@ -2,7 +2,7 @@
 use Rattle.std.proofs.Common.{◌≡◌, ◌∙◌, List, ℕ, [], subst}
 use Rattle.std.specs.Prelude.{IfSome, IfNone}
 use Rattle.djq_enumeration.specs.Walk.{IsFirstAt}
-use Rattle.djq_enumeration.proofs.Outs.{late_out}
+use Rattle.djq_enumeration.proofs.Cells.{late_out}
 use Rattle.djq_enumeration.proofs.walk.first_by_cells.Goals as goal
 
 pub project-requires-clause-out : goal.project-requires-clause-out

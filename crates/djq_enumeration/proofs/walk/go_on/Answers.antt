@@ -3,17 +3,10 @@ use Rattle.std.proofs.Common.{◌∙◌, [], ◌∷◌, ◌++◌, length, refl, 
 use Rattle.std.proofs.lemmas.List.{length-append}
 use Rattle.djq_enumeration.specs.declared.places.Choice.{Choice}
 use Rattle.djq_enumeration.specs.Walk.{answers_ahead, here, blank}
-use Rattle.djq_enumeration.proofs.Walking.{given_whole}
-use Rattle.djq_enumeration.proofs.Keeping.{stands_pop}
-use Rattle.djq_enumeration.proofs.Filling.{small_in}
-use Rattle.djq_enumeration.proofs.Going.{
-  pop_is,
-  retreat,
-  given_without,
-  advances,
-  all_levels,
-  few_choices,
-}
+use Rattle.djq_enumeration.proofs.Menus.{given_whole}
+use Rattle.djq_enumeration.proofs.NextAnswers.{stands_pop, pop_is, retreat, given_without, advances, all_levels}
+use Rattle.djq_enumeration.proofs.NextAnswers.{few_choices}
+use Rattle.djq_enumeration.proofs.LevelChoices.{small_in}
 use Rattle.djq_enumeration.proofs.walk.go_on.Goals as goal
 
 pub loop-choice-init : goal.loop-choice-init

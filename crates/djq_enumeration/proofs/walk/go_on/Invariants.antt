@@ -1,7 +1,7 @@
 use Rattle.std.proofs.Common.{◌≡◌, ◌+◌, ◌++◌, ◌∷◌, [], length}
 use Rattle.djq_tree.specs.Levels.{levels}
 use Rattle.djq_enumeration.specs.Walk.{ChoicesStand, answers_ahead, here, blank}
-use Rattle.djq_enumeration.proofs.Walking.{given_to}
+use Rattle.djq_enumeration.proofs.Menus.{given_to}
 use Rattle.djq_enumeration.proofs.walk.go_on.Given as goal
 
 abbrev pub invariant-loop-choice : goal.invariant-loop-choice

@@ -1,6 +1,6 @@
 -- Each id of the list is below this one, by the loop, and the list has the ids of all open sessions.
 use Rattle.std.proofs.Common.{ℕ, List, ◌<◌, length, get_or, subst, arith}
-use Rattle.djq_core.proofs.Seen.{listed_above}
+use Rattle.djq_core.proofs.Queues.{listed_above}
 use Rattle.djq_examples_store.proofs.core.is_above.Goals as goal
 
 pub returns : goal.returns

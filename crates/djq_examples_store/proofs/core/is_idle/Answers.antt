@@ -1,7 +1,7 @@
 -- The list of ids has one for each open session, so where it is empty none is open.
 use Rattle.std.proofs.Common.{sym, ◌∙◌}
 use Rattle.std.proofs.lemmas.Bool.{eqb-true}
-use Rattle.djq_core.proofs.Seen.{none_listed}
+use Rattle.djq_core.proofs.Queues.{none_listed}
 use Rattle.djq_examples_store.proofs.core.is_idle.Goals as goal
 
 pub returns : goal.returns

@@ -1,7 +1,7 @@
 -- The id stands at a place of the list, and each id of the list is that of an open session.
 use Rattle.std.proofs.Common.{ℕ, List, subst}
 use Rattle.std.specs.Prelude.{Contains}
-use Rattle.djq_core.proofs.Seen.{listed_open, listed_at}
+use Rattle.djq_core.proofs.Queues.{listed_open, listed_at}
 use Rattle.djq_examples_store.proofs.core.is_open.Goals as goal
 
 pub returns-then-ids-at : goal.returns-then-ids-at

@@ -2,7 +2,7 @@
 use Rattle.std.proofs.Common.{ap, ◌∙◌}
 use Rattle.djq_leaves.specs.Changes.{Came}
 use Rattle.djq_live_query.specs.Live.{Live}
-use Rattle.djq_live_query.proofs.Moving.{lines_show_now}
+use Rattle.djq_live_query.proofs.TestDeltas.{lines_show_now}
 use Rattle.djq_examples_store.proofs.live.come.Goals as goal
 
 pub add-requires : goal.add-requires

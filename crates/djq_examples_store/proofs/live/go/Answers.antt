@@ -2,7 +2,7 @@
 use Rattle.std.proofs.Common.{rules, ap, ◌∙◌}
 use Rattle.djq_leaves.specs.Changes.{Went}
 use Rattle.djq_live_query.specs.Live.{Live, IsLive}
-use Rattle.djq_live_query.proofs.Moving.{lines_show_now}
+use Rattle.djq_live_query.proofs.TestDeltas.{lines_show_now}
 use Rattle.djq_examples_store.proofs.live.go.Goals as goal
 
 pub delete-requires : goal.delete-requires

@@ -2,7 +2,7 @@
 use Rattle.std.proofs.Common.{◌≡◌, ℕ, List, sym, subst}
 use Rattle.djq_database.specs.Catalog.{Catalog, StandForRow}
 use Rattle.djq_live_query.specs.Live.{IsLive}
-use Rattle.djq_live_query.proofs.Moving.{row_added, copy_added}
+use Rattle.djq_live_query.proofs.TestDeltas.{row_added, copy_added}
 use Rattle.djq_examples_store.proofs.live.put.Goals as goal
 
 pub come-requires-clause-can : goal.come-requires-clause-can

@@ -2,7 +2,7 @@
 use Rattle.std.proofs.Common.{◌≡◌, ℕ, List, sym, subst}
 use Rattle.djq_database.specs.Catalog.{Catalog, StandForRow, rows_at}
 use Rattle.djq_live_query.specs.Live.{IsLive}
-use Rattle.djq_live_query.proofs.Moving.{same_catalog, has_contains}
+use Rattle.djq_live_query.proofs.TestDeltas.{same_catalog, has_contains}
 use Rattle.djq_examples_store.proofs.live.take.Goals as goal
 
 pub go-requires-clause-can : goal.go-requires-clause-can

@@ -2,7 +2,7 @@
 use Rattle.std.proofs.Common.{subst, ◌∷◌}
 use Rattle.djq_index.specs.Entries.{group_of}
 use Rattle.djq_index.specs.Table.{IsOccupied}
-use Rattle.djq_index.proofs.Walking.{group_live, Backing, backing_cut}
+use Rattle.djq_index.proofs.Groups.{group_live, Backing, backing_cut}
 use Rattle.djq_examples_tables.proofs.index.group_back.Goals as goal
 
 pub tuple-requires : goal.tuple-requires

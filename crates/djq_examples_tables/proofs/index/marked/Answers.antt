@@ -2,7 +2,7 @@
 use Rattle.std.proofs.Common.{sym, ◌∙◌, subst, drop, take, ◌+◌}
 use Rattle.djq_index.specs.Entries.{marks}
 use Rattle.djq_index.specs.Table.{IsOccupied}
-use Rattle.djq_index.proofs.Walking.{walk_cut, marks_live}
+use Rattle.djq_index.proofs.Groups.{walk_cut, marks_live}
 use Rattle.djq_examples_tables.proofs.index.marked.Goals as goal
 
 pub tuple-requires : goal.tuple-requires

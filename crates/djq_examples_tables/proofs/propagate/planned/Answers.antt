@@ -1,5 +1,5 @@
 -- Tables that hold no tuple have no marked one.
-use Rattle.djq_propagate.proofs.Updating.{bare_empty}
+use Rattle.djq_propagate.proofs.Updates.{bare_empty}
 use Rattle.djq_examples_tables.proofs.propagate.planned.Goals as goal
 
 pub returns : goal.returns

@@ -1,6 +1,6 @@
 -- Different numbers make different tuples of one cell, and the leaf has neither of the two.
-use Rattle.std.proofs.Common.{◌≡◌, ◌≢◌, ℕ, List, [], ◌∷◌, ◌++◌, length, ap, ap₂, subst, sym, ◌∙◌}
-use Rattle.std.proofs.Common.{inl, inr, arith, rules}
+use Rattle.std.proofs.Common.{◌≡◌, ◌≢◌, ℕ, List, [], ◌∷◌, ◌++◌, length, ap, ap₂, subst, sym, ◌∙◌, inl, inr, arith}
+use Rattle.std.proofs.Common.{rules}
 use Rattle.std.specs.Prelude.{slice_index}
 use Rattle.djq_index.specs.Tuple.{same}
 use Rattle.djq_index.specs.Entries.{Entry, count_of}

@@ -1,7 +1,7 @@
 -- A tuple that lies at a place is among the entries, so it is there at least once.
 use Rattle.std.proofs.Common.{◌<◌, List, subst}
 use Rattle.djq_index.specs.Entries.{Entry, count_of}
-use Rattle.djq_index.proofs.Apart.{there}
+use Rattle.djq_index.proofs.Tuples.{there}
 use Rattle.djq_examples_tables.proofs.propagate.take.Goals as goal
 
 pub mark_removal-requires-clause-there : goal.mark_removal-requires-clause-there

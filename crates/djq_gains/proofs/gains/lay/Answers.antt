@@ -1,7 +1,7 @@
 -- By the arena's laws no other row lies in the new slot, so all others keep their marks.
 use Rattle.std.proofs.Common.{Bool, List, ap, ◌∙◌}
 use Rattle.djq_gains.specs.Gathered.{marks_at}
-use Rattle.djq_gains.proofs.Noting.{laid_rows}
+use Rattle.djq_gains.proofs.DeltaTuples.{laid_rows}
 use Rattle.djq_gains.proofs.gains.lay.Goals as goal
 
 pub returns-clause-gained : goal.returns-clause-gained

@@ -2,7 +2,7 @@
 use Rattle.std.proofs.Common.{◌≡◌, true, Bool, List, [], slice_set, ap, ◌∙◌}
 use Rattle.std.proofs.lemmas.List.{get_or_read}
 use Rattle.djq_gains.specs.Gathered.{marks_at, gains_in}
-use Rattle.djq_gains.proofs.Noting.{marked_rows}
+use Rattle.djq_gains.proofs.DeltaTuples.{marked_rows}
 use Rattle.djq_gains.proofs.gains.mark.Goals as goal
 
 pub returns-clause-marked : goal.returns-clause-marked

@@ -3,13 +3,13 @@ use Rattle.std.proofs.Common.{◌≡◌, ℕ, ◌+◌, ◌<◌, ◌≤◌, Optio
 use Rattle.std.specs.Prelude.{slice_get}
 use Rattle.djq_live_query.specs.Live.{Live, IsKeptSomewhere}
 use Rattle.djq_live_query.specs.Member.{queries_at}
-use Rattle.djq_live_query.proofs.AtPlaces.{as_many}
+use Rattle.djq_live_query.proofs.Catalogs.{as_many}
 use Rattle.djq_gains.specs.Gains.{AtFirstMember}
 use Rattle.djq_gains.specs.Gathered.{Gathered}
-use Rattle.djq_gains.proofs.Collecting.{Collects, collects_none, collects_touched, collects_other, collects_all}
-use Rattle.djq_gains.proofs.Members.{and_so, all_got, all_kept, wide_member}
+use Rattle.djq_gains.proofs.MemberDeltas.{Collects, collects_none, collects_touched, collects_other, collects_all}
+use Rattle.djq_gains.proofs.MemberDeltas.{and_so, all_got, all_kept, wide_member}
 use Rattle.djq_gains.proofs.gather.gather.Goals as goal
-use Rattle.djq_live_query.proofs.Standing.{head_are as head_types_are}
+use Rattle.djq_live_query.proofs.HeadAnswers.{head_are as head_types_are}
 use Rattle.djq_gains.proofs.gather.gather.Goals.{then-is_among+in_ok-gather_from, else-is_among}
 
 pub member-requires-clause-within : goal.member-requires-clause-within

@@ -1,6 +1,6 @@
 use Rattle.std.proofs.Common.{◌≡◌, ◌≤◌, length}
 use Rattle.djq_gains.specs.Gains.{AtFirstMember}
-use Rattle.djq_gains.proofs.Collecting.{Collects}
+use Rattle.djq_gains.proofs.MemberDeltas.{Collects}
 use Rattle.djq_gains.proofs.gather.gather.Given as goal
 
 abbrev pub invariant-loop-nth : goal.invariant-loop-nth

@@ -8,18 +8,8 @@ use Rattle.djq_engine.specs.Kept.{Kept, PlacesAreRegistered, registered_at}
 use Rattle.djq_engine.specs.Lending.{sign_of}
 use Rattle.djq_gains.specs.Gains.{told_of_member}
 use Rattle.djq_gains.specs.Gathering.{cells_told}
-use Rattle.djq_gains.proofs.Taking.{
-  some_with,
-  is_there,
-  counted,
-  AreCounted,
-  TakesIn,
-  line_below,
-  told_long,
-  all_counted,
-  takes_none,
-  takes_more,
-}
+use Rattle.djq_gains.proofs.MemberDeltas.{some_with, is_there, counted, AreCounted, TakesIn, line_below, told_long}
+use Rattle.djq_gains.proofs.MemberDeltas.{all_counted, takes_none, takes_more}
 use Rattle.djq_gains.proofs.gather.gather_from.Goals as goal
 
 registered : (k : Kept) (place width : ℕ) → PlacesAreRegistered k

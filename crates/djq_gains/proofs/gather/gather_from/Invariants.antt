@@ -1,6 +1,6 @@
 use Rattle.std.proofs.Common.{◌≡◌, ◌+◌, ◌≤◌, take, length}
 use Rattle.djq_gains.specs.Gathering.{cells_told}
-use Rattle.djq_gains.proofs.Taking.{TakesIn}
+use Rattle.djq_gains.proofs.MemberDeltas.{TakesIn}
 use Rattle.djq_gains.proofs.gather.gather_from.Given as goal
 
 abbrev pub invariant-loop-line : goal.invariant-loop-line

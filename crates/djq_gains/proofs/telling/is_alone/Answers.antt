@@ -7,14 +7,11 @@ use Rattle.djq_live_query.specs.Live.{Live, IsKeptSomewhere}
 use Rattle.djq_live_query.specs.Member.{has_cells, queries_at}
 use Rattle.djq_gains.specs.Gathered.{is_by}
 use Rattle.djq_gains.specs.Gathering.{asks_of}
-use Rattle.djq_gains.proofs.Alone.{alone_true, alone_false, take_more_le}
-use Rattle.djq_gains.proofs.Collecting.{last_or_less}
-use Rattle.djq_gains.proofs.Members.{all_got, same_at}
+use Rattle.djq_gains.proofs.UnionDeltas.{alone_true, alone_false, take_more_le}
+use Rattle.djq_gains.proofs.MemberDeltas.{last_or_less, all_got, same_at}
 use Rattle.djq_gains.proofs.telling.is_alone.Goals as goal
-use Rattle.djq_gains.proofs.telling.is_alone.Goals.{
-  else-not-stands_in-via-then-not-stands_in+else-has,
-  else-not-stands_in-via-else-not-stands_in,
-}
+use Rattle.djq_gains.proofs.telling.is_alone.Goals.{else-not-stands_in-via-then-not-stands_in+else-has}
+use Rattle.djq_gains.proofs.telling.is_alone.Goals.{else-not-stands_in-via-else-not-stands_in}
 
 pub loop-nth-init : goal.loop-nth-init
 loop-nth-init g c = record {

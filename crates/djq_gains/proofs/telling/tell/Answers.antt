@@ -1,9 +1,9 @@
 -- The slot at hand is that of the first tuple that isn't told yet, so each is told once, in order.
 use Rattle.std.proofs.Common.{ℕ, Option, sum_by, sym, ◌∙◌, subst, arith}
 use Rattle.djq_live_query.specs.Member.{queries_at}
-use Rattle.djq_leaves.proofs.Telling.{counts_one}
+use Rattle.djq_leaves.proofs.LeafUpdates.{counts_one}
 use Rattle.djq_gains.specs.Gathering.{asks_of}
-use Rattle.djq_gains.proofs.Lining.{Telling, cut_at, lies_at, tells_more, tells_all}
+use Rattle.djq_gains.proofs.DeltaLines.{Telling, cut_at, lies_at, tells_more, tells_all}
 use Rattle.djq_gains.proofs.telling.tell.Goals as goal
 
 pub tell_one-requires-clause-lies : goal.tell_one-requires-clause-lies

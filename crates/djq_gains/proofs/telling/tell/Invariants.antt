@@ -1,7 +1,7 @@
 use Rattle.std.proofs.Common.{◌+◌, ◌*◌, ◌≤◌, sum_by}
 use Rattle.djq_live_query.specs.Member.{queries_at}
 use Rattle.djq_gains.specs.Gathering.{asks_of}
-use Rattle.djq_gains.proofs.Lining.{Telling}
+use Rattle.djq_gains.proofs.DeltaLines.{Telling}
 use Rattle.djq_gains.proofs.telling.tell.Given as goal
 
 abbrev pub invariant-loop-done : goal.invariant-loop-done

@@ -8,13 +8,12 @@ use Rattle.djq_live_query.specs.Live.{Live, IsKeptSomewhere}
 use Rattle.djq_live_query.specs.Member.{queries_at}
 use Rattle.djq_gains.specs.Gains.{TellUnion, members_at, count_in}
 use Rattle.djq_gains.specs.Gathering.{asks_of, gain_lines, AtFirstQuery}
-use Rattle.djq_gains.proofs.Among.{there_among, count_within}
-use Rattle.djq_gains.proofs.Members.{all_kept, member_at, and_so}
-use Rattle.djq_gains.proofs.Delta.{tells_union, atoms_are, counts_at_most}
-use Rattle.djq_live_query.proofs.Standing.{are_had as answers_are_had}
-use Rattle.djq_live_query.proofs.InTree.{tree_stand as cells_in_tree_stand}
-use Rattle.djq_live_query.proofs.Standing.{cells_tell as cells_tell_values}
-use Rattle.djq_live_query.proofs.Standing.{head_are as head_types_are}
+use Rattle.djq_gains.proofs.DeltaTuples.{there_among, count_within}
+use Rattle.djq_gains.proofs.MemberDeltas.{all_kept, member_at, and_so}
+use Rattle.djq_gains.proofs.DeltaLines.{tells_union, atoms_are, counts_at_most}
+use Rattle.djq_live_query.proofs.HeadAnswers.{are_had as answers_are_had, cells_tell as cells_tell_values}
+use Rattle.djq_live_query.proofs.HeadAnswers.{head_are as head_types_are}
+use Rattle.djq_live_query.proofs.TreeAnswers.{tree_stand as cells_in_tree_stand}
 use Rattle.djq_gains.proofs.telling.tell_gains.Goals as goal
 
 pub tell-requires-clause-ready : goal.tell-requires-clause-ready

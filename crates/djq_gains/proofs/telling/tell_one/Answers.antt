@@ -3,10 +3,10 @@ use Rattle.std.proofs.Common.{◌≡◌, ℕ, ◌++◌, ◌∷◌, List, length,
 use Rattle.std.specs.Prelude.{Contains}
 use Rattle.djq_live_query.specs.Live.{IsKeptSomewhere}
 use Rattle.djq_live_query.specs.Member.{queries_at}
-use Rattle.djq_live_query.proofs.AtPlaces.{as_many}
+use Rattle.djq_live_query.proofs.Catalogs.{as_many}
 use Rattle.djq_gains.specs.Gathered.{Gain}
-use Rattle.djq_gains.proofs.Lists.{middle}
-use Rattle.djq_gains.proofs.Members.{all_got}
+use Rattle.djq_gains.proofs.DeltaTuples.{middle}
+use Rattle.djq_gains.proofs.MemberDeltas.{all_got}
 use Rattle.djq_gains.proofs.telling.tell_one.Goals as goal
 
 -- a tuple in the slot is as wide as all

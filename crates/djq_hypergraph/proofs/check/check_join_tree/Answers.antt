@@ -1,13 +1,13 @@
 -- All links of a join tree fit behind those before, and as many that fit as there are edges are one.
-use Rattle.std.specs.Prelude.{◌≡◌, ◌+◌, ◌++◌, ◌∷◌, [], ◌||◌, length, reverse, take, slice_index_or}
-use Rattle.std.specs.Prelude.{ℕ, List, false, true, refl}
+use Rattle.std.specs.Prelude.{◌≡◌, ◌+◌, ◌++◌, ◌∷◌, [], ◌||◌, length, reverse, take, slice_index_or, ℕ, List, false}
+use Rattle.std.specs.Prelude.{true, refl}
 use Rattle.std.proofs.Common.{arith, sym, ap, ◌∙◌, subst}
 use Rattle.std.proofs.lemmas.List.{take_more, take_all}
 use Rattle.djq_hypergraph.specs.declared.join_tree.Link.{Link}
 use Rattle.djq_hypergraph.specs.Hypergraph.{member}
 use Rattle.djq_hypergraph.specs.JoinTree.{IsJoinTree}
-use Rattle.djq_hypergraph.proofs.Checking.{refused, length_of, all_fit, so_far_more, so_far_all, SoFar}
-use Rattle.djq_hypergraph.proofs.Checking.{read_at, seen_more, tree_moved}
+use Rattle.djq_hypergraph.proofs.JoinTrees.{refused, length_of, all_fit, so_far_more, so_far_all, SoFar, read_at}
+use Rattle.djq_hypergraph.proofs.JoinTrees.{seen_more, tree_moved}
 use Rattle.djq_hypergraph.proofs.check.check_join_tree.Goals as goal
 
 pub returns-then-links-sets : goal.returns-then-links-sets

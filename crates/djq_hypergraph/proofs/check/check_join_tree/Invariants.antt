@@ -1,7 +1,7 @@
 use Rattle.std.proofs.Common.{◌≡◌, ℕ, take, nat_lt}
 use Rattle.djq_hypergraph.specs.Hypergraph.{member, degree}
 use Rattle.djq_hypergraph.specs.JoinTree.{link_edges}
-use Rattle.djq_hypergraph.proofs.Checking.{SoFar}
+use Rattle.djq_hypergraph.proofs.JoinTrees.{SoFar}
 use Rattle.djq_hypergraph.proofs.check.check_join_tree.Given as goal
 
 abbrev pub invariant-links : goal.invariant-links

@@ -4,7 +4,7 @@ use Rattle.std.proofs.Common.{arith, rules, sym, ap, ◌∙◌}
 use Rattle.std.proofs.lemmas.Bool.{eqb-false}
 use Rattle.djq_hypergraph.specs.Checking.{FitsTree}
 use Rattle.djq_hypergraph.specs.Hypergraph.{subset, intersection, edge_at}
-use Rattle.djq_hypergraph.proofs.Checking.{any_some, any_none, last_test, refused, read_at}
+use Rattle.djq_hypergraph.proofs.JoinTrees.{any_some, any_none, last_test, refused, read_at}
 use Rattle.djq_hypergraph.proofs.check.link_fits.Goals as goal
 
 pub returns-then-stands : goal.returns-then-stands

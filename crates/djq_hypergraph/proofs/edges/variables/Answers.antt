@@ -1,6 +1,6 @@
 -- A variable lies in an edge of one more exactly where it lies in one of those passed, or in this one.
-use Rattle.djq_hypergraph.proofs.Checking.{read_at}
-use Rattle.djq_hypergraph.proofs.Owning.{once_more}
+use Rattle.djq_hypergraph.proofs.JoinTrees.{read_at}
+use Rattle.djq_hypergraph.proofs.Labels.{once_more}
 use Rattle.djq_hypergraph.proofs.edges.variables.Goals as goal
 
 pub sets-preserved : goal.sets-preserved

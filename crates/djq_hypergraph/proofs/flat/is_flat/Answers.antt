@@ -1,5 +1,5 @@
 -- A variable of no edge that isn't in the head is as in a flat query, so only the others are left.
-use Rattle.djq_hypergraph.proofs.Flatness.{flat_outside}
+use Rattle.djq_hypergraph.proofs.Labels.{flat_outside}
 use Rattle.djq_hypergraph.proofs.flat.is_flat.Goals as goal
 
 pub loop-variable-init : goal.loop-variable-init

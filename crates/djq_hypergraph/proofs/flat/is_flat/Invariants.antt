@@ -1,5 +1,5 @@
 use Rattle.std.specs.Prelude.{◌≡◌, ℕ, length}
-use Rattle.djq_hypergraph.proofs.Members.{has_bit}
+use Rattle.djq_hypergraph.proofs.Sets.{has_bit}
 use Rattle.djq_hypergraph.specs.Flat.{IsFlatAt}
 use Rattle.djq_hypergraph.proofs.flat.is_flat.Given as goal
 

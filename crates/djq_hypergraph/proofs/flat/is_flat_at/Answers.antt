@@ -1,9 +1,9 @@
 -- The pass tells of each other variable whether all or some edges with this one have it, or one without.
 use Rattle.std.proofs.Common.{refl, sym, ◌∙◌}
 use Rattle.djq_hypergraph.specs.Flat.{IsFlatAt}
-use Rattle.djq_hypergraph.proofs.Checking.{read_at, refused}
-use Rattle.djq_hypergraph.proofs.Flatness.{compares_with, compares_without, compares_same, compares_all}
-use Rattle.djq_hypergraph.proofs.Flatness.{not_nested, nested_outside, nested_inside}
+use Rattle.djq_hypergraph.proofs.JoinTrees.{read_at, refused}
+use Rattle.djq_hypergraph.proofs.Labels.{compares_with, compares_without, compares_same, compares_all, not_nested}
+use Rattle.djq_hypergraph.proofs.Labels.{nested_outside, nested_inside}
 use Rattle.djq_hypergraph.proofs.flat.is_flat_at.Goals.{then-contains, else-contains}
 use Rattle.djq_hypergraph.proofs.flat.is_flat_at.Goals as goal
 

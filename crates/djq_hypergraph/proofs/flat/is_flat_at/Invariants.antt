@@ -1,5 +1,5 @@
 use Rattle.std.specs.Prelude.{take}
-use Rattle.djq_hypergraph.proofs.Flatness.{Compares}
+use Rattle.djq_hypergraph.proofs.Labels.{Compares}
 use Rattle.djq_hypergraph.proofs.flat.is_flat_at.Given as goal
 
 abbrev pub invariant-edges : goal.invariant-edges

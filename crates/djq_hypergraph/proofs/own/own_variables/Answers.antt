@@ -1,6 +1,6 @@
 -- Of the edges passed a variable lies in one at least, or in two; in just one where not in two.
-use Rattle.djq_hypergraph.proofs.Checking.{read_at}
-use Rattle.djq_hypergraph.proofs.Owning.{once_more, twice_more, own_variables_of}
+use Rattle.djq_hypergraph.proofs.JoinTrees.{read_at}
+use Rattle.djq_hypergraph.proofs.Labels.{once_more, twice_more, own_variables_of}
 use Rattle.djq_hypergraph.proofs.own.own_variables.Goals as goal
 
 pub sets-preserved : goal.sets-preserved

@@ -2,7 +2,7 @@
 use Rattle.std.proofs.Common.{◌++◌, ◌∷◌, [], sym, ◌∙◌, ap, ap₂, length, length-set, List, ℕ, arith}
 use Rattle.std.proofs.lemmas.List.{take_all, take_more_set}
 use Rattle.djq_index.specs.Tuple.{pick}
-use Rattle.djq_index.proofs.Columns.{pick_nil, pick_more, column_below}
+use Rattle.djq_index.proofs.Tuples.{pick_nil, pick_more, column_below}
 use Rattle.djq_index.proofs.heads.pick_into.Goals as goal
 
 pub loop-at-init : goal.loop-at-init

@@ -2,7 +2,7 @@
 use Rattle.std.proofs.Common.{[], ◌∷◌, sym, ◌∙◌, ap, subst, length, List, ℕ, arith}
 use Rattle.std.specs.Result.{IfOk}
 use Rattle.djq_index.specs.Raw.{IsSeat}
-use Rattle.djq_index.proofs.Columns.{column_below, pick_one}
+use Rattle.djq_index.proofs.Tuples.{column_below, pick_one}
 use Rattle.djq_index.proofs.insertion.find_or_make_head.Goals as goal
 
 pub cell_at-requires : goal.cell_at-requires

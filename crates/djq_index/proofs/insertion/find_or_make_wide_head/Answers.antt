@@ -1,6 +1,6 @@
 -- A projection has as many cells as the key has columns, and so wide are the rows that hold the heads.
 use Rattle.std.proofs.Common.{sym, ◌∙◌, ap, length, List, ℕ}
-use Rattle.djq_index.proofs.Columns.{length_pick}
+use Rattle.djq_index.proofs.Tuples.{length_pick}
 use Rattle.djq_index.proofs.insertion.find_or_make_wide_head.Goals as goal
 
 pub head_of-requires-clause-width : goal.head_of-requires-clause-width

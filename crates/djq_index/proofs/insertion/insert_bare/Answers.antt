@@ -4,10 +4,10 @@ use Rattle.djq_index.specs.declared.place.Place.{Place}
 use Rattle.djq_index.specs.declared.raw.Raw.{Raw}
 use Rattle.djq_index.specs.Table.{IsAt}
 use Rattle.djq_index.specs.Raw.{entries_of, IsNoted}
-use Rattle.djq_index.proofs.Inserting.{slot_notes, came_bare, came_inserted, came_at, unlaid_refuses, refused_bare}
-use Rattle.djq_index.proofs.Inserting.{refused_entries}
-use Rattle.djq_arena.proofs.Filling.{on_err}
-use Rattle.djq_index.proofs.Bounding.{entries_length}
+use Rattle.djq_index.proofs.Insertions.{slot_notes, came_bare, came_inserted, came_at, unlaid_refuses, refused_bare}
+use Rattle.djq_index.proofs.Insertions.{refused_entries}
+use Rattle.djq_arena.proofs.Slots.{on_err}
+use Rattle.djq_index.proofs.Tables.{entries_length}
 use Rattle.djq_index.proofs.insertion.insert_bare.Goals as goal
 
 pub append_row-requires : goal.append_row-requires

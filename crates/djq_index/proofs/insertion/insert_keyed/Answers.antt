@@ -6,12 +6,11 @@ use Rattle.djq_index.specs.declared.raw.Raw.{Raw}
 use Rattle.djq_index.specs.Tuple.{pick}
 use Rattle.djq_index.specs.Table.{IsAt}
 use Rattle.djq_index.specs.Raw.{entries_of, IsLaidInto, IsNoted, IsSeat}
-use Rattle.djq_index.proofs.Inserting.{slot_notes, slot_links, slot_number, head_ends, last_links, came_bare}
-use Rattle.djq_index.proofs.Inserting.{came_heads, came_inserted, came_at, Refuses, unlaid_refuses, RefusesHead}
-use Rattle.djq_index.proofs.Inserting.{refused_bare, refused_heads, refused_entries}
-use Rattle.djq_arena.proofs.Filling.{on_err}
-use Rattle.djq_index.proofs.Bounding.{entries_length}
-use Rattle.djq_index.proofs.Heading.{few_heads}
+use Rattle.djq_index.proofs.Insertions.{slot_notes, slot_links, slot_number, head_ends, last_links, came_bare}
+use Rattle.djq_index.proofs.Insertions.{came_heads, came_inserted, came_at, Refuses, unlaid_refuses, RefusesHead}
+use Rattle.djq_index.proofs.Insertions.{refused_bare, refused_heads, refused_entries}
+use Rattle.djq_arena.proofs.Slots.{on_err}
+use Rattle.djq_index.proofs.Tables.{entries_length, few_heads}
 use Rattle.djq_index.proofs.insertion.insert_keyed.Goals as goal
 
 pub append_linked_row-requires-clause-ready : goal.append_linked_row-requires-clause-ready

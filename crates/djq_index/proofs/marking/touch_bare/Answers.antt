@@ -1,16 +1,8 @@
 -- A tuple's place is a row's slot; put behind all rows and marked, it leaves the marked ones last.
 use Rattle.std.proofs.Common.{refl, arith}
 use Rattle.djq_index.specs.declared.raw.Raw.{Raw}
-use Rattle.djq_index.proofs.Leaving.{
-  find_row,
-  its_held,
-  its_room,
-  Renews,
-  touched_bare,
-  touched_one,
-  renews_from,
-  same_tuple_at,
-}
+use Rattle.djq_index.proofs.Removals.{find_row, its_held, its_room, Renews, touched_bare, touched_one, renews_from}
+use Rattle.djq_index.proofs.Removals.{same_tuple_at}
 use Rattle.djq_index.proofs.marking.touch_bare.Goals as goal
 
 pub renew-requires : goal.renew-requires

@@ -1,30 +1,15 @@
 -- By the invariant a note names its group's head; once the slot has left, the group's last is a tuple's slot.
-use Rattle.std.proofs.Common.{◌≡◌, refl, sym, ◌∙◌, subst, ap, length, ℕ, List, arith, length-set}
+use Rattle.std.proofs.Common.{◌≡◌, refl, sym, ◌∙◌, subst, ap, length, ℕ, List, arith, length-set, slice_set}
 use Rattle.djq_arena.specs.declared.chain.Pair.{Pair}
 use Rattle.djq_arena.specs.Chains.{pair_at, IsSlotBelow, chain_without}
 use Rattle.djq_arena.specs.Store.{shrunk}
-use Rattle.djq_arena.proofs.Chaining.{length-left}
+use Rattle.djq_arena.proofs.Chains.{length-left}
 use Rattle.djq_index.specs.declared.raw.Note.{Note}
 use Rattle.djq_index.specs.declared.raw.Raw.{Raw}
 use Rattle.djq_index.specs.Raw.{note_at, ends_at}
-use Rattle.std.proofs.Common.{slice_set}
-use Rattle.djq_index.proofs.Leaving.{
-  find_row,
-  its_held,
-  its_room,
-  its_head_room,
-  its_prev_within,
-  its_next_within,
-  its_number,
-  its_last_within,
-  Renews,
-  touched_bare,
-  touched_heads,
-  touched_one,
-  renews_from,
-  touches_from,
-  same_tuple_at,
-}
+use Rattle.djq_index.proofs.Removals.{find_row, its_held, its_room, its_head_room, its_prev_within, its_next_within}
+use Rattle.djq_index.proofs.Removals.{its_number, its_last_within, Renews, touched_bare, touched_heads, touched_one}
+use Rattle.djq_index.proofs.Removals.{renews_from, touches_from, same_tuple_at}
 use Rattle.djq_index.proofs.marking.touch_keyed.Goals as goal
 
 pub note_of-note-requires : goal.note_of-note-requires

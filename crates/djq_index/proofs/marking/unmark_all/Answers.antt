@@ -1,7 +1,7 @@
 -- Marked rows are the last ones, so the next row is marked, too; each step takes one mark off the rest.
 use Rattle.std.proofs.Common.{subst, Option, ℕ, arith}
-use Rattle.djq_index.proofs.Clearing.{Clearing, clearing, cleared, over_none, over_all, step_held}
-use Rattle.djq_index.proofs.Clearing.{step_within, cleared_more}
+use Rattle.djq_index.proofs.ClearedMarks.{Clearing, clearing, cleared, over_none, over_all, step_held, step_within}
+use Rattle.djq_index.proofs.ClearedMarks.{cleared_more}
 use Rattle.djq_index.proofs.marking.unmark_all.Goals as goal
 
 pub loop-done-init : goal.loop-done-init

@@ -1,5 +1,5 @@
 use Rattle.std.proofs.Common.{◌≡◌, ◌+◌}
-use Rattle.djq_index.proofs.Clearing.{Clearing}
+use Rattle.djq_index.proofs.ClearedMarks.{Clearing}
 use Rattle.djq_index.proofs.marking.unmark_all.Given as goal
 
 abbrev pub invariant-loop-done : goal.invariant-loop-done

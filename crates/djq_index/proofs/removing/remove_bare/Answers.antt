@@ -1,14 +1,7 @@
 -- A tuple's place is a row's slot; the first mark, if it goes, passes to the next row, as marks come last.
 use Rattle.std.proofs.Common.{refl}
 use Rattle.djq_index.specs.declared.raw.Raw.{Raw}
-use Rattle.djq_index.proofs.Leaving.{
-  find_row,
-  its_held,
-  Leaves,
-  gone_bare,
-  gone_removed,
-  leaves_from,
-}
+use Rattle.djq_index.proofs.Removals.{find_row, its_held, Leaves, gone_bare, gone_removed, leaves_from}
 use Rattle.djq_index.proofs.removing.remove_bare.Goals as goal
 
 pub next-requires : goal.next-requires

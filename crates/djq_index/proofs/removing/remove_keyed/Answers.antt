@@ -3,21 +3,9 @@ use Rattle.std.proofs.Common.{◌≡◌, refl, ◌∙◌, ap, arith, length-set}
 use Rattle.djq_index.specs.declared.raw.Note.{Note}
 use Rattle.djq_index.specs.declared.raw.Raw.{Raw}
 use Rattle.djq_index.specs.Raw.{note_at}
-use Rattle.djq_index.proofs.Leaving.{
-  find_row,
-  its_held,
-  its_room,
-  its_head_held,
-  its_head_room,
-  its_prev_within,
-  its_next_within,
-  Leaves,
-  gone_bare,
-  gone_heads,
-  gone_removed,
-  leaves_from,
-  goes_from,
-}
+use Rattle.djq_index.proofs.Removals.{find_row, its_held, its_room, its_head_held, its_head_room, its_prev_within}
+use Rattle.djq_index.proofs.Removals.{its_next_within, Leaves, gone_bare, gone_heads, gone_removed, leaves_from}
+use Rattle.djq_index.proofs.Removals.{goes_from}
 use Rattle.djq_index.proofs.removing.remove_keyed.Goals as goal
 
 pub note_of-head-requires : goal.note_of-head-requires

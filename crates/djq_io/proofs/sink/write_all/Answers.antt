@@ -2,7 +2,7 @@
 use Rattle.std.proofs.Common.{◌-◌, length, take, drop, arith, length-drop}
 use Rattle.std.proofs.lemmas.List.{take_all}
 use Rattle.std.proofs.Math.Seq.{take-add}
-use Rattle.djq_io.proofs.Writing.{writes_more}
+use Rattle.djq_io.proofs.Streams.{writes_more}
 use Rattle.djq_io.proofs.sink.write_all.Goals as goal
 
 -- What this write took comes after what was taken of the piece before.

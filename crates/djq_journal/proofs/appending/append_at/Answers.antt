@@ -3,13 +3,12 @@ use Rattle.std.proofs.Common.{inl, [], ◌∷◌}
 use Rattle.djq_disk.specs.History.{History, Syncs}
 use Rattle.djq_disk.specs.WritingDown.{WritesDown}
 use Rattle.djq_disk.specs.declared.disk.DiskDid.TheVariants.{Done, Failed}
-use Rattle.djq_disk.proofs.Telling.{told_so, told_both}
-use Rattle.djq_disk.proofs.Keeping.{leaves_so}
+use Rattle.djq_disk.proofs.Files.{told_so, told_both, leaves_so}
 use Rattle.djq_journal.specs.Format.{FileOpensTo}
 use Rattle.djq_journal.specs.Standing.{IsIdle}
 use Rattle.djq_journal.specs.Appending.{IsBeforeOrAfter}
 use Rattle.djq_journal.specs.Staging.{IsStaged, AppendsAt}
-use Rattle.djq_journal.proofs.Staged.{unsynced, gate_opened}
+use Rattle.djq_journal.proofs.Appends.{unsynced, gate_opened}
 use Rattle.djq_journal.proofs.appending.append_at.Goals as goal
 
 pub returns-in-Done-sync-clause-told : goal.returns-in-Done-sync-clause-told

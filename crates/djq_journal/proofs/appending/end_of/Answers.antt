@@ -2,7 +2,7 @@
 use Rattle.std.proofs.Common.{◌+◌, sym, ap, ◌∙◌, arith}
 use Rattle.std.proofs.lemmas.Option.{slice_get_within}
 use Rattle.djq_journal.specs.Appending.{gate_after}
-use Rattle.djq_journal.proofs.Groups.{gate_next, gate_most, past_lines}
+use Rattle.djq_journal.proofs.Records.{gate_next, gate_most, past_lines}
 use Rattle.djq_journal.proofs.appending.end_of.Goals as goal
 
 pub returns-then-end-size-clause-none : goal.returns-then-end-size-clause-none

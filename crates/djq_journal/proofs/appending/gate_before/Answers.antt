@@ -1,6 +1,6 @@
 -- The number is that of a line of the group, or all its lines stand before it.
 use Rattle.std.proofs.Common.{sym}
-use Rattle.djq_journal.proofs.Groups.{open_before, past_lines}
+use Rattle.djq_journal.proofs.Records.{open_before, past_lines}
 use Rattle.djq_journal.proofs.appending.gate_before.Goals as goal
 
 pub returns-in-Some : goal.returns-in-Some

@@ -1,20 +1,20 @@
 -- What is written and what is gathered make up the records of the lines so far, all behind the gate.
-use Rattle.std.proofs.Common.{◌≡◌, ◌+◌, ◌-◌, ◌≤◌, ℕ, List, [], ◌∷◌, ◌++◌, length, take, drop, refl}
-use Rattle.std.proofs.Common.{sym, ap, subst, ◌∙◌, arith, length-take, length-drop, length-append}
+use Rattle.std.proofs.Common.{◌≡◌, ◌+◌, ◌-◌, ◌≤◌, ℕ, List, [], ◌∷◌, ◌++◌, length, take, drop, refl, sym, ap, subst, ◌∙◌}
+use Rattle.std.proofs.Common.{arith, length-take, length-drop, length-append}
 use borrow.Rule.Slice.PartMut.{put_mid}
 use Rattle.std.proofs.lemmas.Slice.{take-put_mid}
 use Rattle.std.proofs.lemmas.Option.{slice_get_within}
 use Rattle.djq_disk.specs.History.{WhereHistoryTold, DiskWrites}
 use Rattle.djq_disk.specs.Leaving.{LeavesSince}
 use Rattle.djq_disk.specs.declared.disk.DiskDid.TheVariants.{Done, Failed}
-use Rattle.djq_disk.proofs.Telling.{told_none, told_both}
+use Rattle.djq_disk.proofs.Files.{told_none, told_both}
 use Rattle.djq_journal.specs.Format.{body_of, FileOpensTo}
 use Rattle.djq_journal.specs.Standing.{IsIdle}
 use Rattle.djq_journal.specs.Staging.{Stages, IsStaged, StagesLines}
 use Rattle.djq_journal.specs.declared.limits.TheConstants.{PIECE_BYTES}
-use Rattle.djq_journal.proofs.Staged.{staged_none, staged_write, staged_more, staged_all}
-use Rattle.djq_journal.proofs.Groups.{line_at, few_lines, piece_within, gathers_none, gathers_end}
-use Rattle.djq_journal.proofs.Groups.{gathers_written, gathers_still, gathers_line, gathers_all}
+use Rattle.djq_journal.proofs.Appends.{staged_none, staged_write, staged_more, staged_all}
+use Rattle.djq_journal.proofs.Records.{line_at, few_lines, piece_within, gathers_none, gathers_end, gathers_written}
+use Rattle.djq_journal.proofs.Records.{gathers_still, gathers_line, gathers_all}
 use Rattle.djq_journal.proofs.appending.write_records.Goals as goal
 use Rattle.djq_journal.proofs.appending.write_records.Goals.{then-filled-size+in-Done, else-filled-size}
 

@@ -2,11 +2,11 @@
 use Rattle.djq_disk.specs.WritingDown.{WritesDown}
 use Rattle.std.proofs.Common.{[], ◌∷◌, ◌++◌}
 use Rattle.djq_disk.specs.declared.disk.DiskDid.TheVariants.{Done, Failed}
-use Rattle.djq_disk.proofs.Telling.{told_so}
+use Rattle.djq_disk.proofs.Files.{told_so}
 use Rattle.djq_journal.specs.Format.{header}
 use Rattle.djq_journal.specs.Calls.{MakesJournal}
 use Rattle.djq_journal.specs.declared.journal.Made.TheVariants.{Done as Made, Failed as Unmade}
-use Rattle.djq_journal.proofs.Found.{made}
+use Rattle.djq_journal.proofs.Records.{made}
 use Rattle.djq_journal.proofs.journal.create.Goals as goal
 
 pub returns-in-Done-clause-told : goal.returns-in-Done-clause-told

@@ -4,11 +4,11 @@ use Rattle.std.proofs.lemmas.List.{take_at}
 use Rattle.djq_disk.specs.History.{History}
 use Rattle.djq_disk.specs.Filling.{FillsBuffer}
 use Rattle.djq_disk.specs.declared.filling.Filled.TheVariants.{Whole}
-use Rattle.djq_disk.proofs.Telling.{told_both}
+use Rattle.djq_disk.proofs.Files.{told_both}
 use Rattle.djq_journal.specs.Standing.{IsAtGate}
 use Rattle.djq_journal.specs.Reading.{IsHead}
 use Rattle.djq_journal.specs.declared.reading.Head.TheVariants.{Open}
-use Rattle.djq_journal.proofs.Found.{line_read}
+use Rattle.djq_journal.proofs.Records.{line_read}
 use Rattle.djq_journal.proofs.reading.read_line.Goals as goal
 
 pub returns-in-Whole-clause-told : goal.returns-in-Whole-clause-told

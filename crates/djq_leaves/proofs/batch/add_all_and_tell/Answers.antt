@@ -1,8 +1,8 @@
 -- Clearing the marks keeps all tuples, so what the marks listed is what the reducts gained since the start.
 use Rattle.std.proofs.Common.{true}
-use Rattle.djq_propagate.proofs.Updating.{inserted_gained_all}
-use Rattle.djq_leaves.proofs.Crowding.{insertions_count}
-use Rattle.djq_leaves.proofs.Leafing.{kept_lists}
+use Rattle.djq_propagate.proofs.Updates.{inserted_gained_all}
+use Rattle.djq_leaves.proofs.Costs.{insertions_count}
+use Rattle.djq_leaves.proofs.LeafUpdates.{kept_lists}
 use Rattle.djq_leaves.proofs.batch.add_all_and_tell.Goals as goal
 
 pub returns-clause-gained : goal.returns-clause-gained

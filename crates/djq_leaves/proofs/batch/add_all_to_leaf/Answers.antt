@@ -1,5 +1,5 @@
 -- No table grows by more than the tuples that came, so a count by the later tables is one by the earlier ones.
-use Rattle.djq_leaves.proofs.Crowding.{additions_count}
+use Rattle.djq_leaves.proofs.Costs.{additions_count}
 use Rattle.djq_leaves.proofs.batch.add_all_to_leaf.Goals as goal
 
 pub returns-clause-updates : goal.returns-clause-updates

@@ -4,13 +4,11 @@ use Rattle.djq_leaves.specs.Batching.{batch_tuples, GainsTuples}
 use Rattle.djq_leaves.specs.Stepping.{atoms_below}
 use Rattle.djq_tree.specs.Tree.{Tree}
 use Rattle.djq_enumeration.specs.Changed.{IsGained}
-use Rattle.djq_leaves.proofs.Batched.{got_in, all_gained, adds_stable, adds_more, next_fresh, next_room}
-use Rattle.djq_leaves.proofs.Below.{below_skip, below_step, below_kept, below_at}
-use Rattle.djq_leaves.proofs.Crowding.{grown_next, grown_kept, counted_as, counted_more}
-use Rattle.djq_leaves.proofs.Gaining.{more_both}
-use Rattle.djq_leaves.proofs.Passing.{got, on_as, off_as, counts_over, counts_past, calls_as}
-use Rattle.djq_leaves.proofs.Passing.{lists_gained, lists_refused, kept_more}
-use Rattle.djq_leaves.proofs.Sizing.{one_more}
+use Rattle.djq_leaves.proofs.Batches.{got_in, all_gained, adds_stable, adds_more, next_fresh, next_room, below_skip}
+use Rattle.djq_leaves.proofs.Batches.{below_step, below_kept, below_at}
+use Rattle.djq_leaves.proofs.Costs.{grown_next, grown_kept, counted_as, counted_more, one_more}
+use Rattle.djq_leaves.proofs.LeafUpdates.{more_both, got, on_as, off_as, counts_over, counts_past, calls_as}
+use Rattle.djq_leaves.proofs.LeafUpdates.{lists_gained, lists_refused, kept_more}
 use Rattle.djq_leaves.proofs.batch.add_all_to_leaves.Goals as goal
 
 pub leaves-preserved-then-atoms-leaf : goal.leaves-preserved-then-atoms-leaf

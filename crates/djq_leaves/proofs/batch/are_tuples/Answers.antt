@@ -1,9 +1,9 @@
 -- A tuple that is lent for a row is its only one; where it is the row, the rows up to it are their own tuples.
 use Rattle.std.proofs.Common.{List, ℕ, subst, arith}
-use Rattle.djq_propagate.proofs.Batching.{read_as}
+use Rattle.djq_propagate.proofs.Batches.{read_as}
 use Rattle.std.specs.Prelude.{Some}
-use Rattle.djq_leaves.proofs.Batched.{own_none, own_more, own_all, row_at}
-use Rattle.djq_leaves.proofs.Leafing.{IsOnly, only_lent}
+use Rattle.djq_leaves.proofs.Batches.{own_none, own_more, own_all, row_at}
+use Rattle.djq_leaves.proofs.LeafUpdates.{IsOnly, only_lent}
 use Rattle.djq_leaves.proofs.batch.are_tuples.Goals as goal
 
 pub rows-init : goal.rows-init

@@ -4,11 +4,10 @@ use Rattle.djq_tree.specs.Tree.{Tree}
 use Rattle.djq_propagate.specs.Batches.{AreThere}
 use Rattle.djq_leaves.specs.Batching.{batch_tuples, LosesTuples}
 use Rattle.djq_leaves.specs.Stepping.{atoms_below}
-use Rattle.djq_leaves.proofs.Batched.{got_in, all_lost, drops_stable, drops_more, there_stays}
-use Rattle.djq_leaves.proofs.Below.{below_skip, below_step, below_at, leaves_stay}
-use Rattle.djq_leaves.proofs.Crowding.{given_as, given_more, droppings_count}
-use Rattle.djq_leaves.proofs.Gaining.{more_both}
-use Rattle.djq_leaves.proofs.Passing.{got, on_as, off_as, below_end, counts_over, counts_past}
+use Rattle.djq_leaves.proofs.Batches.{got_in, all_lost, drops_stable, drops_more, there_stays, below_skip, below_step}
+use Rattle.djq_leaves.proofs.Batches.{below_at, leaves_stay}
+use Rattle.djq_leaves.proofs.Costs.{given_as, given_more, droppings_count}
+use Rattle.djq_leaves.proofs.LeafUpdates.{more_both, got, on_as, off_as, below_end, counts_over, counts_past}
 use Rattle.djq_leaves.proofs.batch.give_all_from_leaves.Goals as goal
 
 pub leaves-preserved-then-atoms-leaf : goal.leaves-preserved-then-atoms-leaf

@@ -1,10 +1,10 @@
 -- A tuple that is lent for a row is its only one, and different rows have different tuples.
 use Rattle.std.proofs.Common.{List, ℕ, ◌+◌, subst, sym, arith, take}
-use Rattle.djq_propagate.proofs.Batching.{read_as}
+use Rattle.djq_propagate.proofs.Batches.{read_as}
 use Rattle.std.specs.Prelude.{Some}
 use Rattle.djq_leaves.specs.Batching.{AreTuplesOf}
-use Rattle.djq_leaves.proofs.Batched.{tuples_none, tuples_more, tuples_skip, tuples_all, row_at}
-use Rattle.djq_leaves.proofs.Leafing.{IsOnly, only_lent, only_none}
+use Rattle.djq_leaves.proofs.Batches.{tuples_none, tuples_more, tuples_skip, tuples_all, row_at}
+use Rattle.djq_leaves.proofs.LeafUpdates.{IsOnly, only_lent, only_none}
 use Rattle.djq_leaves.proofs.batch.tuples_of.Goals as goal
 
 pub rows-init : goal.rows-init

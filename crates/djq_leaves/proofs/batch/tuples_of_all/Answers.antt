@@ -3,8 +3,8 @@ use Rattle.std.proofs.Common.{List, [], ◌∷◌, ap, ℕ, ◌<◌, ◌+◌, su
 use Rattle.std.specs.Prelude.{Option}
 use Rattle.std.proofs.lemmas.List.{map-append}
 use Rattle.djq_leaves.specs.Batching.{row_tuples, batch_tuples}
-use Rattle.djq_leaves.proofs.Batched.{AreSoFar, batch_none, batch_more, batch_all}
-use Rattle.djq_leaves.proofs.Passing.{got}
+use Rattle.djq_leaves.proofs.Batches.{AreSoFar, batch_none, batch_more, batch_all}
+use Rattle.djq_leaves.proofs.LeafUpdates.{got}
 use Rattle.djq_leaves.proofs.batch.tuples_of_all.Goals as goal
 
 pub atoms-init : goal.atoms-init

@@ -1,5 +1,5 @@
 use Rattle.djq_leaves.specs.Batching.{batch_tuples}
-use Rattle.djq_leaves.proofs.Batched.{AreSoFar}
+use Rattle.djq_leaves.proofs.Batches.{AreSoFar}
 use Rattle.djq_leaves.proofs.batch.tuples_of_all.Given as goal
 
 abbrev pub invariant-atoms : goal.invariant-atoms

@@ -5,7 +5,7 @@ use Rattle.djq_query.specs.declared.numbered.NumberedTerm.{NumberedTerm}
 use Rattle.djq_query.specs.declared.numbered.NumberedComparison.{NumberedComparison}
 use Rattle.djq_database.specs.Cells.{cell_for}
 use Rattle.djq_binder.specs.Asked.{constants_in}
-use Rattle.djq_leaves.proofs.Patterns.{cells_long}
+use Rattle.djq_leaves.proofs.LeafRows.{cells_long}
 use Rattle.djq_leaves.proofs.bind.bind_atom.Goals as goal
 
 pub bind-requires-clause-cells : goal.bind-requires-clause-cells

@@ -5,7 +5,7 @@ use Rattle.std.proofs.lemmas.Option.{slice_get_read}
 use Rattle.djq_query.specs.Pattern.{Shape}
 use Rattle.djq_leaves.specs.Building.{ArePatternsOf}
 use Rattle.djq_leaves.specs.Leaves.{IsPatternOf}
-use Rattle.djq_leaves.proofs.Patterns.{patterns_push}
+use Rattle.djq_leaves.proofs.LeafRows.{patterns_push}
 use Rattle.djq_leaves.proofs.bind.bind_atoms.Goals as goal
 
 pub atoms-preserved : goal.atoms-preserved

@@ -1,5 +1,5 @@
 -- The constants of all comparisons have cells, so the one at the index has.
-use Rattle.djq_leaves.proofs.Patterns.{compared_at}
+use Rattle.djq_leaves.proofs.LeafRows.{compared_at}
 use Rattle.djq_leaves.proofs.bind.compared_cells.Goals as goal
 
 pub value_cell-requires : goal.value_cell-requires

@@ -3,7 +3,7 @@ use Rattle.std.proofs.Common.{◌+◌, List, ℕ, [], ◌∷◌, ◌++◌, take,
 use Rattle.std.proofs.lemmas.List.{take_more}
 use Rattle.djq_query.specs.declared.numbered.NumberedTerm.{NumberedTerm}
 use Rattle.djq_leaves.specs.Leaves.{AreCellsOfTerms}
-use Rattle.djq_leaves.proofs.Patterns.{constant_at, cells_push}
+use Rattle.djq_leaves.proofs.LeafRows.{constant_at, cells_push}
 use Rattle.djq_leaves.proofs.bind.constant_cells.Goals as goal
 
 pub constant_cell-requires : goal.constant_cell-requires

@@ -1,6 +1,6 @@
 -- What is taken in and what the walk has left are the relation's rows, of which none stands twice.
 use Rattle.std.proofs.Common.{sym, ◌∙◌}
-use Rattle.djq_leaves.proofs.Taking.{absent_row, end_taken, few_row, start_taken, step_taken, wide_row}
+use Rattle.djq_leaves.proofs.Fills.{absent_row, end_taken, few_row, start_taken, step_taken, wide_row}
 use Rattle.djq_leaves.proofs.fill.fill_leaf.Goals as goal
 
 pub rows-init : goal.rows-init

@@ -6,7 +6,7 @@ use Rattle.djq_query.specs.declared.numbered.NumberedAtom.{NumberedAtom}
 use Rattle.djq_tree.specs.Labels.{label_at}
 use Rattle.djq_tree.specs.Tree.{Tree}
 use Rattle.djq_leaves.specs.Building.{SuitsRelation, IsFilled}
-use Rattle.djq_leaves.proofs.Taking.{step_filled}
+use Rattle.djq_leaves.proofs.Fills.{step_filled}
 use Rattle.djq_leaves.proofs.fill.fill_leaves.Goals as goal
 
 pub fill_leaf-requires-clause-suits : goal.fill_leaf-requires-clause-suits

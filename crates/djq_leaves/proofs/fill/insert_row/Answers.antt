@@ -1,6 +1,6 @@
 -- The lent tuple is the only one that gives the row, so a leaf that gained it has taken the row in.
-use Rattle.djq_leaves.proofs.Leafing.{only_lent}
-use Rattle.djq_leaves.proofs.Taking.{took_row}
+use Rattle.djq_leaves.proofs.LeafUpdates.{only_lent}
+use Rattle.djq_leaves.proofs.Fills.{took_row}
 use Rattle.djq_leaves.proofs.fill.insert_row.Goals as goal
 
 pub returns : goal.returns

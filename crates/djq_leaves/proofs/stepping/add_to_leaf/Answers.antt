@@ -3,9 +3,9 @@
 use Rattle.std.proofs.Common.{Bool, true, length, subst, sym}
 use Rattle.djq_enumeration.specs.Changed.{IsGained}
 use Rattle.djq_leaves.specs.Stepping.{ListsWhere}
-use Rattle.djq_propagate.proofs.Updating.{inserted_gained}
-use Rattle.djq_leaves.proofs.Leafing.{gained_gains, inserted_lists, lists_none, only_lent}
-use Rattle.djq_leaves.proofs.Sizing.{gained_grows, addition_counts, insertion_counts}
+use Rattle.djq_propagate.proofs.Updates.{inserted_gained}
+use Rattle.djq_leaves.proofs.LeafUpdates.{gained_gains, inserted_lists, lists_none, only_lent}
+use Rattle.djq_leaves.proofs.Costs.{gained_grows, addition_counts, insertion_counts}
 use Rattle.djq_leaves.proofs.stepping.add_to_leaf.Goals as goal
 
 pub returns-then-wanted-clause-gained : goal.returns-then-wanted-clause-gained

@@ -2,38 +2,11 @@
 use Rattle.std.proofs.Common.{true, ◌+◌, ◌<◌, length, ℕ, [], ◌∷◌, sym, subst, ◌∙◌}
 use Rattle.djq_leaves.specs.Changes.{GainsTuple}
 use Rattle.djq_leaves.specs.Stepping.{LacksCells, atoms_below}
-use Rattle.djq_leaves.proofs.Below.{
-  below_skip,
-  below_step,
-  below_kept,
-  below_at,
-  gains_stable,
-  gains_more,
-  leaves_stay,
-}
-use Rattle.djq_leaves.proofs.Gaining.{more_both}
-use Rattle.djq_leaves.proofs.Passing.{
-  got,
-  on_as,
-  off_as,
-  counts_over,
-  counts_past,
-  calls_as,
-  lists_gained,
-  lists_refused,
-  kept_more,
-  lacks_stay,
-  few_stay,
-  wide_stays,
-}
-use Rattle.djq_leaves.proofs.Sizing.{
-  counts_as,
-  grows_next,
-  counts_next,
-  kept_grows,
-  counts_last,
-  one_more,
-}
+use Rattle.djq_leaves.proofs.Batches.{below_skip, below_step, below_kept, below_at, gains_stable, gains_more}
+use Rattle.djq_leaves.proofs.Batches.{leaves_stay}
+use Rattle.djq_leaves.proofs.LeafUpdates.{more_both, got, on_as, off_as, counts_over, counts_past, calls_as}
+use Rattle.djq_leaves.proofs.LeafUpdates.{lists_gained, lists_refused, kept_more, lacks_stay, few_stay, wide_stays}
+use Rattle.djq_leaves.proofs.Costs.{counts_as, grows_next, counts_next, kept_grows, counts_last, one_more}
 use Rattle.djq_enumeration.specs.Changed.{IsGained}
 use Rattle.djq_leaves.proofs.stepping.add_to_leaves.Goals as goal
 

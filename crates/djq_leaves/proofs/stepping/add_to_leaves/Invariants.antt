@@ -1,14 +1,7 @@
 use Rattle.std.proofs.Common.{◌≡◌, true, length}
 use Rattle.djq_enumeration.specs.Changed.{IsGained}
 use Rattle.djq_leaves.specs.Changes.{GainsTuple}
-use Rattle.djq_leaves.specs.Stepping.{
-  HasMore,
-  ChangesBelow,
-  ListsWhere,
-  GrowsByOne,
-  CountsLeaves,
-  atoms_below,
-}
+use Rattle.djq_leaves.specs.Stepping.{HasMore, ChangesBelow, ListsWhere, GrowsByOne, CountsLeaves, atoms_below}
 use Rattle.djq_leaves.proofs.stepping.add_to_leaves.Given as goal
 
 abbrev pub invariant-leaves : goal.invariant-leaves

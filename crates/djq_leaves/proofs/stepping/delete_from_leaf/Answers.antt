@@ -3,9 +3,9 @@
 use Rattle.std.proofs.Common.{Bool, false, length, subst, sym}
 use Rattle.djq_enumeration.specs.Changed.{IsGained}
 use Rattle.djq_leaves.specs.Stepping.{ListsWhere}
-use Rattle.djq_propagate.proofs.Updating.{marked_lost}
-use Rattle.djq_leaves.proofs.Leafing.{lists_none, lost_loses, marked_lists, only_lent}
-use Rattle.djq_leaves.proofs.Sizing.{removal_counts}
+use Rattle.djq_propagate.proofs.Updates.{marked_lost}
+use Rattle.djq_leaves.proofs.LeafUpdates.{lists_none, lost_loses, marked_lists, only_lent}
+use Rattle.djq_leaves.proofs.Costs.{removal_counts}
 use Rattle.djq_leaves.proofs.stepping.delete_from_leaf.Goals as goal
 
 pub returns-then-wanted-clause-lost : goal.returns-then-wanted-clause-lost

@@ -2,21 +2,10 @@
 use Rattle.std.proofs.Common.{false, ◌+◌, ◌<◌, length, ℕ, sym, subst, ◌∙◌}
 use Rattle.djq_leaves.specs.Changes.{Loses}
 use Rattle.djq_leaves.specs.Stepping.{Has, atoms_below}
-use Rattle.djq_leaves.proofs.Below.{below_skip, below_step, loses_stable, loses_more, leaves_stay}
-use Rattle.djq_leaves.proofs.Gaining.{more_both}
-use Rattle.djq_leaves.proofs.Passing.{
-  got,
-  on_as,
-  off_as,
-  below_end,
-  counts_over,
-  counts_past,
-  calls_as,
-  lists_lost,
-  has_stay,
-  wide_stays,
-}
-use Rattle.djq_leaves.proofs.Sizing.{counts_as, counts_fewer}
+use Rattle.djq_leaves.proofs.Batches.{below_skip, below_step, loses_stable, loses_more, leaves_stay}
+use Rattle.djq_leaves.proofs.LeafUpdates.{more_both, got, on_as, off_as, below_end, counts_over, counts_past, calls_as}
+use Rattle.djq_leaves.proofs.LeafUpdates.{lists_lost, has_stay, wide_stays}
+use Rattle.djq_leaves.proofs.Costs.{counts_as, counts_fewer}
 use Rattle.djq_enumeration.specs.Changed.{IsGained}
 use Rattle.djq_leaves.proofs.stepping.delete_from_leaves.Goals as goal
 

@@ -1,13 +1,7 @@
 use Rattle.std.proofs.Common.{◌≡◌, false, length}
 use Rattle.djq_enumeration.specs.Changed.{IsGained}
 use Rattle.djq_leaves.specs.Changes.{Loses}
-use Rattle.djq_leaves.specs.Stepping.{
-  HasMore,
-  ChangesBelow,
-  ListsWhere,
-  CountsLeaves,
-  atoms_below,
-}
+use Rattle.djq_leaves.specs.Stepping.{HasMore, ChangesBelow, ListsWhere, CountsLeaves, atoms_below}
 use Rattle.djq_leaves.proofs.stepping.delete_from_leaves.Given as goal
 
 abbrev pub invariant-leaves : goal.invariant-leaves

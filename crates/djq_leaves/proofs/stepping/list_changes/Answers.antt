@@ -6,9 +6,8 @@ use Rattle.djq_enumeration.specs.Listing.{ListsTuples, AreSome}
 use Rattle.djq_enumeration.specs.Changed.{IsChanged, IsGained}
 use Rattle.djq_enumeration.specs.Told.{told_so_far}
 use Rattle.djq_leaves.specs.Stepping.{LogTellsOf}
-use Rattle.djq_leaves.proofs.Gaining.{listing_as}
-use Rattle.djq_leaves.proofs.Telling.{tells_both, tells_one, counts_one, counts_more}
-use Rattle.djq_leaves.proofs.Ending.{told_fewer}
+use Rattle.djq_leaves.proofs.LeafUpdates.{listing_as, tells_both, tells_one, counts_one, counts_more}
+use Rattle.djq_leaves.proofs.TreeAnswers.{told_fewer}
 use Rattle.djq_leaves.proofs.stepping.list_changes.Goals as goal
 
 pub answers-smaller : goal.answers-smaller

@@ -1,5 +1,5 @@
 -- Known texts keep their cells, and a tuple gives one row only, so no other row's tuple is lost, in Changing.
-use Rattle.djq_live_query.proofs.Changing.{over_loses}
+use Rattle.djq_live_query.proofs.Catalogs.{over_loses}
 use Rattle.djq_live_query.proofs.changes.over_loses.Goals as goal
 
 pub returns : goal.returns

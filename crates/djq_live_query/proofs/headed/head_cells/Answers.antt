@@ -1,6 +1,6 @@
 -- Past the last place all places of the head have been seen, so no cell is missing.
 use Rattle.std.proofs.Common.{◌≤◌, length, arith}
-use Rattle.djq_live_query.proofs.HeadCells.{all_cells}
+use Rattle.djq_live_query.proofs.HeadTuples.{all_cells}
 use Rattle.djq_live_query.proofs.headed.head_cells.Goals as goal
 
 pub returns : goal.returns

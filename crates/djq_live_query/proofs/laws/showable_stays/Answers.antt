@@ -1,5 +1,5 @@
 -- Known texts keep their numbers, so a cell stands for the same value over any later catalog.
-use Rattle.djq_live_query.proofs.Showable.{stays_showable}
+use Rattle.djq_live_query.proofs.ShownAnswers.{stays_showable}
 use Rattle.djq_live_query.proofs.laws.showable_stays.Goals as goal
 
 pub returns : goal.returns

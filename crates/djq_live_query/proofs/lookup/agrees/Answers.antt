@@ -1,7 +1,7 @@
 -- A variable of the head has its place within the head, and past the end all places have been compared.
 use Rattle.std.proofs.Common.{ℕ, List, ◌<◌, length, ap, ◌∙◌, refl, rules, arith}
 use Rattle.djq_live_query.specs.Order.{cell_of_variable}
-use Rattle.djq_live_query.proofs.Picking.{member_at, place_low, agree_all}
+use Rattle.djq_live_query.proofs.HeadTuples.{member_at, place_low, agree_all}
 use Rattle.djq_live_query.proofs.lookup.agrees.Goals as goal
 
 pub offset_bounds-cells-place_of : goal.offset_bounds-cells-place_of

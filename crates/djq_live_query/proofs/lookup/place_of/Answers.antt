@@ -1,6 +1,6 @@
 -- Before the index the variable doesn't stand, so it stands there first, or past the end nowhere.
 use Rattle.std.proofs.Common.{◌≡◌, ◌∙◌, length, sym, arith}
-use Rattle.djq_live_query.proofs.Picking.{from_here, from_next, from_end}
+use Rattle.djq_live_query.proofs.HeadTuples.{from_here, from_next, from_end}
 use Rattle.djq_live_query.proofs.lookup.place_of.Goals as goal
 
 pub returns-then-head-at : goal.returns-then-head-at

@@ -1,6 +1,6 @@
 -- The next variable of the set is one of the head, so its place is within the head and the cells.
 use Rattle.std.proofs.Common.{ℕ, List, ◌<◌, length, ap, ◌∙◌, rules}
-use Rattle.djq_live_query.proofs.Picking.{popped, first_within, place_low}
+use Rattle.djq_live_query.proofs.HeadTuples.{popped, first_within, place_low}
 use Rattle.djq_live_query.proofs.lookup.rising_cells.Goals as goal
 
 pub offset_bounds-as_slice-place_of : goal.offset_bounds-as_slice-place_of

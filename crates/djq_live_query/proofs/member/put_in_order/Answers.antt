@@ -3,7 +3,7 @@ use Rattle.std.proofs.Common.{◌<◌, [], ◌∷◌, ◌++◌, List, ℕ, lengt
 use Rattle.std.specs.Prelude.{slice_index}
 use Rattle.std.proofs.lemmas.List.{take_all}
 use Rattle.djq_live_query.specs.Order.{cell_of_variable}
-use Rattle.djq_live_query.proofs.InHead.{in_answer, ordered_room, ordered_more}
+use Rattle.djq_live_query.proofs.HeadAnswers.{in_answer, ordered_room, ordered_more}
 use Rattle.djq_live_query.proofs.member.put_in_order.Goals as goal
 
 pub loop-variable-init : goal.loop-variable-init

@@ -1,7 +1,6 @@
 -- An idle session that is fed one line runs it, and is served where the reply isn't that memory is wanting.
 use Rattle.djq_machine.specs.Run.{pending_of}
-use Rattle.djq_load.proofs.Served.{apart}
-use Rattle.djq_load.proofs.Idle.{some_byte, line_loads, line_idle, line_feeds}
+use Rattle.djq_load.proofs.IdleSessions.{apart, some_byte, line_loads, line_idle, line_feeds}
 use Rattle.djq_load.proofs.loading.feed_line.Goals as goal
 
 pub returns-clause-loads : goal.returns-clause-loads

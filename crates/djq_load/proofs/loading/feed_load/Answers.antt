@@ -1,7 +1,7 @@
 -- Each line of a load ends with its only LF, and those given with those to come are the whole load.
 use Rattle.std.proofs.Common.{List, [], ◌∷◌, ◌++◌, ℕ, ◌∙◌, sym, ap, subst, take, append_assoc}
-use Rattle.djq_load.proofs.Idle.{loads_none, loads_then}
-use Rattle.djq_load.proofs.LoadLines.{AreOnes, load_ones}
+use Rattle.djq_load.proofs.IdleSessions.{loads_none, loads_then}
+use Rattle.djq_load.proofs.Listings.{AreOnes, load_ones}
 use Rattle.djq_load.proofs.loading.feed_load.Goals as goal
 
 pub lines-init : goal.lines-init

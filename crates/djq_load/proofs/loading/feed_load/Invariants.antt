@@ -2,7 +2,7 @@ use Rattle.std.proofs.Common.{◌≡◌, List, ℕ, ◌++◌, length}
 use Rattle.djq_load.specs.Load.{load}
 use Rattle.djq_machine.specs.Call.{counts}
 use Rattle.djq_load.specs.Lines.{FeedsLines, SessionIsIdle}
-use Rattle.djq_load.proofs.LoadLines.{AreOnes}
+use Rattle.djq_load.proofs.Listings.{AreOnes}
 use Rattle.djq_load.proofs.loading.feed_load.Given as goal
 
 -- The first lines were fed; those that are left are lines too.

@@ -1,9 +1,8 @@
 -- Answers are few, and a reading that hasn't ended has read some more each time, so the reading ends.
 use Rattle.std.proofs.Common.{◌+◌, rules}
 use Rattle.djq_load.specs.Totals.{next_line}
-use Rattle.djq_load.proofs.Few.{read_few, fewer_left}
-use Rattle.djq_load.proofs.Idle.{loads_again}
-use Rattle.djq_load.proofs.Whole.{read_all}
+use Rattle.djq_load.proofs.WholeLoads.{read_few, fewer_left, read_all}
+use Rattle.djq_load.proofs.IdleSessions.{loads_again}
 use Rattle.djq_load.proofs.loading.list_answers.Goals as goal
 
 pub reads-smaller : goal.reads-smaller

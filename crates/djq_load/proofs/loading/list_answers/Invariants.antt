@@ -3,7 +3,7 @@ use Rattle.djq_machine.specs.Call.{counts}
 use Rattle.djq_load.specs.Joins.{GivesFew}
 use Rattle.djq_load.specs.Lines.{FeedsLines, SessionIsIdle}
 use Rattle.djq_load.specs.Totals.{ReadsSoFar, next_line}
-use Rattle.djq_load.proofs.Few.{reads_left}
+use Rattle.djq_load.proofs.WholeLoads.{reads_left}
 use Rattle.djq_load.proofs.loading.list_answers.Given as goal
 
 -- The cursor was read so many times; what was read is what it has given.

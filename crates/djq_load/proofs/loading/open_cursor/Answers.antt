@@ -1,8 +1,7 @@
 -- One line came to an idle session, and its reply `ok open` says that the cursor is there and gave nothing.
 use Rattle.std.proofs.Common.{refl, sym, ◌∙◌, rules, arith}
-use Rattle.djq_load.proofs.Idle.{line_loads, line_idle, line_feeds}
+use Rattle.djq_load.proofs.IdleSessions.{line_loads, line_idle, line_feeds, opened}
 use Rattle.djq_load.proofs.Cursors.{open_stands}
-use Rattle.djq_load.proofs.Served.{opened}
 use Rattle.djq_load.proofs.loading.open_cursor.Goals as goal
 
 pub returns-clause-loads : goal.returns-clause-loads

@@ -1,7 +1,7 @@
 -- A cursor that wasn't told its end is served its next page, behind the pages that were read before.
 use Rattle.std.proofs.Common.{refl, arith}
-use Rattle.djq_load.proofs.Idle.{line_loads, line_idle}
-use Rattle.djq_load.proofs.Whole.{read_on, read_served}
+use Rattle.djq_load.proofs.IdleSessions.{line_loads, line_idle}
+use Rattle.djq_load.proofs.WholeLoads.{read_on, read_served}
 use Rattle.djq_load.proofs.loading.read_more.Goals as goal
 
 pub returns-clause-loads : goal.returns-clause-loads

@@ -1,6 +1,6 @@
 -- What an idle session is fed is its one line; feeding and running leave the session open.
 use Rattle.djq_machine.specs.declared.machine.Stepped.TheVariants.{Ran}
-use Rattle.djq_load.proofs.Idle.{fed_open, ran_open, comes_feeds, stepped_feeds}
+use Rattle.djq_load.proofs.IdleSessions.{fed_open, ran_open, comes_feeds, stepped_feeds}
 use Rattle.djq_load.proofs.loading.run_line.Goals as goal
 
 pub step-requires : goal.step-requires

@@ -3,8 +3,8 @@ use Rattle.std.proofs.Common.{sym, ap}
 use Rattle.std.proofs.lemmas.Result.{on_err_weaker}
 use Rattle.djq_machine.specs.State.{State}
 use Rattle.djq_machine.specs.Call.{counts}
-use Rattle.djq_load.proofs.Few.{opens_few, points_few}
-use Rattle.djq_load.proofs.Whole.{begins, where_err, answers_load, breaks_feeding, breaks_opening, breaks_reading}
+use Rattle.djq_load.proofs.WholeLoads.{opens_few, points_few, begins, where_err, answers_load, breaks_feeding}
+use Rattle.djq_load.proofs.WholeLoads.{breaks_opening, breaks_reading}
 use Rattle.djq_load.proofs.loading.run_load.Goals as goal
 
 pub feed_load-requires : goal.feed_load-requires

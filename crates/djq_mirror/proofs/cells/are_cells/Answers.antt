@@ -1,6 +1,6 @@
 -- Nothing is left, so there is no further cell, and all before it were cells.
 use Rattle.std.proofs.Common.{◌≡◌, ◌∙◌, length, rules, arith, sym}
-use Rattle.djq_mirror.proofs.Celling.{cells_empty}
+use Rattle.djq_mirror.proofs.Spellings.{cells_empty}
 use Rattle.djq_mirror.proofs.cells.are_cells.Goals as goal
 
 pub returns : goal.returns

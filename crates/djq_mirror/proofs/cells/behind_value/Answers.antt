@@ -2,7 +2,7 @@
 use Rattle.std.proofs.Common.{ℕ, List, Some, ◌-◌, ◌∙◌, length, drop, sym, ap, arith, length-drop}
 use Rattle.std.proofs.lemmas.Bool.{cond-true, cond-false}
 use Rattle.std.proofs.lemmas.List.{take_all}
-use Rattle.djq_mirror.proofs.Celling.{value_behind}
+use Rattle.djq_mirror.proofs.Spellings.{value_behind}
 use Rattle.djq_mirror.proofs.cells.behind_value.Goals as goal
 
 pub returns-then-branch : goal.returns-then-branch

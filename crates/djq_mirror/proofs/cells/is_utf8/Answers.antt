@@ -2,7 +2,7 @@
 use Rattle.std.proofs.Common.{◌∙◌}
 use Rattle.std.specs.Str.{is_utf8}
 use Rattle.std.proofs.lemmas.Str.{is_utf8-from_IsUtf8}
-use Rattle.djq_value.proofs.Utf8.{ok_is, utf8_no}
+use Rattle.djq_value.proofs.Texts.{ok_is, utf8_no}
 use Rattle.djq_mirror.proofs.cells.is_utf8.Goals as goal
 
 pub returns : goal.returns

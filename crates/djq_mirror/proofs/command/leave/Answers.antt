@@ -4,7 +4,7 @@ use Rattle.std.proofs.lemmas.Result.{MatchResult-weaker}
 use Rattle.djq_mirror.specs.Mirror.{Held, written}
 use Rattle.djq_mirror.specs.declared.reading.Followed.TheVariants.{Whole, Halted, ReadFault}
 use Rattle.djq_mirror.specs.Follow.{FollowEnds}
-use Rattle.djq_mirror.proofs.Leaving.{leaves_whole, leaves_halted, lacks_whole, lacks_halted, fails}
+use Rattle.djq_mirror.proofs.FollowedLines.{leaves_whole, leaves_halted, lacks_whole, lacks_halted, fails}
 use Rattle.djq_mirror.proofs.command.leave.Goals as goal
 
 pub returns-in-Whole : goal.returns-in-Whole

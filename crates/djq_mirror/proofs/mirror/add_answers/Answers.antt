@@ -1,6 +1,6 @@
 -- The lines so far are those of the first answers, and where memory is wanting they stand behind the old text.
 use Rattle.std.proofs.Common.{◌≡◌, ◌∙◌, [], ap, codes, length, rules, take}
-use Rattle.djq_mirror.proofs.Writing.{adds_err, begun_front, end_added}
+use Rattle.djq_mirror.proofs.Spellings.{adds_err, begun_front, end_added}
 use Rattle.djq_mirror.proofs.mirror.add_answers.Goals as goal
 
 pub returns-in_err-add_answer : goal.returns-in_err-add_answer

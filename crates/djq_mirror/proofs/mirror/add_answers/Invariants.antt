@@ -1,4 +1,4 @@
-use Rattle.djq_mirror.proofs.Writing.{IsBegun}
+use Rattle.djq_mirror.proofs.Spellings.{IsBegun}
 use Rattle.djq_mirror.proofs.mirror.add_answers.Given as goal
 
 abbrev pub invariant-loop-text : goal.invariant-loop-text

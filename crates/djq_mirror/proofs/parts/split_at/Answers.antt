@@ -1,7 +1,7 @@
 -- The sign that was found is the first one, so no such sign is before it; or there is none at all.
 use Rattle.std.proofs.Common.{ℕ, List, ◌-◌, ◌+◌, ◌∙◌, Some, length, drop, sym, ap, arith, length-drop}
 use Rattle.std.proofs.lemmas.List.{take_all}
-use Rattle.djq_mirror.proofs.Parting.{split_first, split_none}
+use Rattle.djq_mirror.proofs.Spellings.{split_first, split_none}
 use Rattle.djq_mirror.proofs.parts.split_at.Goals as goal
 
 pub returns-in-Some-clause-before : goal.returns-in-Some-clause-before

@@ -1,9 +1,8 @@
 -- The pieces so far, one behind another, are what was given, and the follower has taken just those bytes.
-use Rattle.std.proofs.Common.{ℕ, ◌∙◌, ◌++◌, take, subst, arith}
-use Rattle.std.proofs.Common.{length-append, length-take}
+use Rattle.std.proofs.Common.{ℕ, ◌∙◌, ◌++◌, take, subst, arith, length-append, length-take}
 use Rattle.djq_io.specs.Faults.{Counted}
-use Rattle.djq_io.proofs.Gives.{gave_more, gave_same}
-use Rattle.djq_mirror.proofs.Following.{IsFirst, given_all, takes_more, are_followed, halted_as, ended_as}
+use Rattle.djq_io.proofs.Streams.{gave_more, gave_same}
+use Rattle.djq_mirror.proofs.FollowedLines.{IsFirst, given_all, takes_more, are_followed, halted_as, ended_as}
 use Rattle.djq_mirror.proofs.reading.follow.Goals as goal
 
 pub returns-in-Some : goal.returns-in-Some

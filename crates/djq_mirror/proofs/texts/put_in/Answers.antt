@@ -1,7 +1,7 @@
 -- The set has a text exactly where its keys do, and a key that is put in leaves them in byte order.
 use Rattle.std.proofs.Common.{◌∙◌, sym, refl}
 use Rattle.std.proofs.lemmas.Bool.{not_from_false, not_from_true}
-use Rattle.djq_mirror.proofs.Sets.{put_acted, set_has}
+use Rattle.djq_mirror.proofs.MirrorSteps.{put_acted, set_has}
 use Rattle.djq_mirror.proofs.texts.put_in.Goals as goal
 
 pub returns-then-contains : goal.returns-then-contains

@@ -1,7 +1,7 @@
 -- The set has a text exactly where its keys do, and in byte order each is there at most once.
 use Rattle.std.proofs.Common.{◌∙◌, sym, ap, map}
 use Rattle.std.proofs.lemmas.Bool.{OnFalse_at}
-use Rattle.djq_mirror.proofs.Sets.{set_has, take_acted}
+use Rattle.djq_mirror.proofs.MirrorSteps.{set_has, take_acted}
 use Rattle.djq_mirror.proofs.texts.take_out.Goals as goal
 
 pub returns-then-remove : goal.returns-then-remove

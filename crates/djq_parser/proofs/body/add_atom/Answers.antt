@@ -6,7 +6,7 @@ use Rattle.djq_model.specs.declared.query.Term.{Term}
 use Rattle.djq_protocol.specs.Grammar.{Body, is_small_term}
 use Rattle.djq_parser.specs.Reading.{ReadsAs, is_small_body}
 use Rattle.djq_parser.proofs.Bodies.{atom_pushed, small_atom}
-use Rattle.djq_parser.proofs.Listing.{err_is, same_err}
+use Rattle.djq_parser.proofs.ItemLists.{err_is, same_err}
 use Rattle.djq_parser.proofs.body.add_atom.Goals as goal
 
 pub returns-in_err-atoms : goal.returns-in_err-atoms

@@ -6,7 +6,7 @@ use Rattle.djq_model.specs.declared.value.Value.{Value}
 use Rattle.djq_protocol.specs.Grammar.{Body, compared}
 use Rattle.djq_parser.specs.Reading.{ReadsAs, is_small_body}
 use Rattle.djq_parser.proofs.Bodies.{comparison_pushed, small_comparison}
-use Rattle.djq_parser.proofs.Listing.{err_is, same_err}
+use Rattle.djq_parser.proofs.ItemLists.{err_is, same_err}
 use Rattle.djq_parser.proofs.body.add_comparison.Goals as goal
 
 pub returns-in_err-atoms : goal.returns-in_err-atoms

@@ -6,8 +6,8 @@ use Rattle.djq_parser.specs.Bodies.{with_item}
 use Rattle.djq_parser.specs.Reading.{ReadsAs, is_small_body}
 use Rattle.djq_parser.specs.declared.refusal.LineRefusal.{LineRefusal}
 use Rattle.djq_parser.specs.declared.refusal.LineRefusal.TheVariants.{Syntax}
-use Rattle.djq_parser.proofs.Bodies.{behind_other, comma_is, item_less, on_none, on_some, parts_done}
-use Rattle.djq_parser.proofs.Bodies.{parts_more, parts_none}
+use Rattle.djq_parser.proofs.Bodies.{behind_other, comma_is, item_less, on_none, on_some, parts_done, parts_more}
+use Rattle.djq_parser.proofs.Bodies.{parts_none}
 use Rattle.djq_parser.proofs.body.read_items.Goals as goal
 
 pub returns-in-None : goal.returns-in-None

@@ -4,7 +4,7 @@ use Rattle.std.specs.List.{list_all}
 use Rattle.djq_protocol.specs.Grammar.{is_small_term}
 use Rattle.djq_parser.specs.Bodies.{HasOneMore, atom_of}
 use Rattle.djq_parser.proofs.Bodies.{atom_there}
-use Rattle.djq_parser.proofs.Listing.{reads_some}
+use Rattle.djq_parser.proofs.ItemLists.{reads_some}
 use Rattle.djq_parser.proofs.body.with_atom.Goals as goal
 
 pub returns : goal.returns

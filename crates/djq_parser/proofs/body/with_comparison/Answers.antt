@@ -4,7 +4,7 @@ use Rattle.djq_value.specs.Literal.{is_small_value}
 use Rattle.djq_protocol.specs.Grammar.{compared}
 use Rattle.djq_parser.specs.Bodies.{HasOneMore, comparison_behind}
 use Rattle.djq_parser.proofs.Bodies.{atom_still}
-use Rattle.djq_parser.proofs.Listing.{reads_some}
+use Rattle.djq_parser.proofs.ItemLists.{reads_some}
 use Rattle.djq_parser.proofs.body.with_comparison.Goals as goal
 
 pub returns : goal.returns

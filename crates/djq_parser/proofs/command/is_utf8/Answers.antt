@@ -1,7 +1,7 @@
 -- The standard library's answer is fine just where the bytes are UTF-8 as the spec says, in both directions.
 use Rattle.std.proofs.Common.{◌∙◌}
 use Rattle.std.specs.Str.{is_utf8}
-use Rattle.djq_value.proofs.Utf8.{ok_is, utf8_no}
+use Rattle.djq_value.proofs.Texts.{ok_is, utf8_no}
 use Rattle.std.proofs.lemmas.Str.{is_utf8-from_IsUtf8}
 use Rattle.djq_parser.proofs.command.is_utf8.Goals as goal
 

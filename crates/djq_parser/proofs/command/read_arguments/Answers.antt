@@ -6,8 +6,8 @@ use Rattle.djq_protocol.specs.declared.command.Command.TheVariants.{Query as Reg
 use Rattle.djq_parser.specs.declared.refusal.LineRefusal.{LineRefusal}
 use Rattle.djq_protocol.specs.declared.keyword.Keyword.TheVariants.{Rel, Query, Union}
 use Rattle.djq_parser.specs.Reading.{GivesCommand}
-use Rattle.djq_parser.proofs.Listing.{err_is}
-use Rattle.djq_parser.proofs.Making.{query_made, query_refused, rel_refused, union_refused}
+use Rattle.djq_parser.proofs.ItemLists.{err_is}
+use Rattle.djq_parser.proofs.Bodies.{query_made, query_refused, rel_refused, union_refused}
 use Rattle.djq_parser.proofs.command.read_arguments.Goals as goal
 
 pub returns-in_err-name-in-Rel : goal.returns-in_err-name-in-Rel

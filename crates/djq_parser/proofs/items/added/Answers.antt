@@ -2,7 +2,7 @@
 use Rattle.std.proofs.Common.{◌∷◌, ◌++◌, ◌&&◌, [], List, Some, subst, sym, ap, ◌∙◌}
 use Rattle.std.specs.List.{list_all}
 use Rattle.djq_parser.specs.Reading.{ReadsAs}
-use Rattle.djq_parser.proofs.Listing.{all_last, err_is, same_err}
+use Rattle.djq_parser.proofs.ItemLists.{all_last, err_is, same_err}
 use Rattle.djq_parser.proofs.items.added.Goals as goal
 
 pub returns-in_err-items : goal.returns-in_err-items

@@ -1,7 +1,7 @@
 -- An item that isn't outside the grammar is there, so those read and those of the rest are all items still.
 use Rattle.std.proofs.Common.{sym, ◌∙◌}
 use Rattle.djq_value.specs.Lexing.{lexeme_of}
-use Rattle.djq_parser.proofs.Listing.{read_more, reads_some}
+use Rattle.djq_parser.proofs.ItemLists.{read_more, reads_some}
 use Rattle.djq_parser.proofs.items.read_all.Goals as goal
 
 pub items-preserved : goal.items-preserved

@@ -1,5 +1,5 @@
 use Rattle.std.proofs.Common.{length}
-use Rattle.djq_parser.proofs.Listing.{ReadSoFar}
+use Rattle.djq_parser.proofs.ItemLists.{ReadSoFar}
 use Rattle.djq_parser.proofs.items.read_all.Given as goal
 
 abbrev pub invariant-items : goal.invariant-items

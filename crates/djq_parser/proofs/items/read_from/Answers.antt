@@ -3,7 +3,7 @@ use Rattle.std.proofs.Common.{sym, ◌∙◌, ap, ◌∷◌}
 use Rattle.djq_value.specs.Lexing.{lexeme_of}
 use Rattle.djq_value.specs.Token.{comma}
 use Rattle.djq_protocol.specs.Grammar.{more_in, put_first}
-use Rattle.djq_parser.proofs.Listing.{list_done, list_more, reads_some}
+use Rattle.djq_parser.proofs.ItemLists.{list_done, list_more, reads_some}
 use Rattle.djq_parser.proofs.items.read_from.Goals as goal
 
 pub returns-in-Some-Close : goal.returns-in-Some-Close

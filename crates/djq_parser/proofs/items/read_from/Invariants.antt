@@ -1,7 +1,7 @@
 use Rattle.std.proofs.Common.{length}
 use Rattle.djq_protocol.specs.Grammar.{more_in, put_first}
 use Rattle.djq_value.specs.Lexing.{lexeme_of}
-use Rattle.djq_parser.proofs.Listing.{ListSoFar}
+use Rattle.djq_parser.proofs.ItemLists.{ListSoFar}
 use Rattle.djq_parser.proofs.items.read_from.Given as goal
 
 abbrev pub invariant-items : goal.invariant-items

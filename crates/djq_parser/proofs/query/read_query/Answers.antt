@@ -6,7 +6,7 @@ use Rattle.djq_model.specs.declared.query.Query.{Query}
 use Rattle.djq_protocol.specs.Grammar.{body_in, list_in, name_of, query_of_tokens}
 use Rattle.djq_parser.specs.Reading.{ReadsAs, is_small_query}
 use Rattle.djq_parser.specs.declared.refusal.LineRefusal.{LineRefusal}
-use Rattle.djq_parser.proofs.Listing.{err_is}
+use Rattle.djq_parser.proofs.ItemLists.{err_is}
 use Rattle.djq_parser.proofs.Bodies.{body_refused, head_refused, part_some, query_split}
 use Rattle.djq_parser.proofs.query.read_query.Goals as goal
 

@@ -2,7 +2,7 @@
 use Rattle.std.proofs.Common.{codes}
 use Rattle.std.proofs.lemmas.Bool.Decides.{Decides-eqb}
 use Rattle.std.proofs.lemmas.Slice.Eq.{starts_is}
-use Rattle.djq_parser.proofs.Rows.{add_close, del_close}
+use Rattle.djq_parser.proofs.RowLines.{add_close, del_close}
 use Rattle.djq_parser.proofs.row.close_row_word.Goals as goal
 
 pub returns-then-starts_with : goal.returns-then-starts_with

@@ -3,7 +3,7 @@ use Rattle.std.proofs.Common.{◌≤◌, ◌<◌, ◌∙◌, [], Ok, ap, arith, 
 use Rattle.std.proofs.lemmas.List.{take_all}
 use Rattle.djq_model.specs.Data.{Tuple}
 use Rattle.djq_parser.specs.RowReading.{ReadsNumbers}
-use Rattle.djq_parser.proofs.Rows.{ReadsNamed, numbers_named, overwritten}
+use Rattle.djq_parser.proofs.RowLines.{ReadsNamed, numbers_named, overwritten}
 use Rattle.djq_parser.proofs.row.read_named.Goals as goal
 
 pub returns-then-is_done : goal.returns-then-is_done

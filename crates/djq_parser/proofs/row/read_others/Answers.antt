@@ -4,7 +4,7 @@ use Rattle.std.specs.List.{list_all}
 use Rattle.std.proofs.lemmas.Bool.{and_from, eqb-false}
 use Rattle.std.proofs.lemmas.List.Folds.{list_all-append}
 use Rattle.djq_value.specs.Literal.{is_small_value}
-use Rattle.djq_parser.proofs.Rows.{numbers_named, numbers_on, values_named}
+use Rattle.djq_parser.proofs.RowLines.{numbers_named, numbers_on, values_named}
 use Rattle.djq_parser.proofs.row.read_others.Goals as goal
 
 pub returns-then-is_done : goal.returns-then-is_done

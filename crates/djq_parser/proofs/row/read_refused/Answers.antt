@@ -6,7 +6,7 @@ use Rattle.djq_protocol.specs.Grammar.{all_of}
 use Rattle.djq_parser.specs.Reading.{onto}
 use Rattle.djq_parser.specs.RowReading.{IsRefused}
 use Rattle.djq_parser.specs.declared.refusal.LineRefusal.TheVariants.{Syntax}
-use Rattle.djq_parser.proofs.Listing.{onto_done, onto_next, onto_none, reads_none, reads_some}
+use Rattle.djq_parser.proofs.ItemLists.{onto_done, onto_next, onto_none, reads_none, reads_some}
 use Rattle.djq_parser.proofs.row.read_refused.Goals as goal
 
 pub returns-then-is_outside : goal.returns-then-is_outside

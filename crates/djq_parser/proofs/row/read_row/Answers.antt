@@ -4,7 +4,7 @@ use Rattle.djq_value.specs.Token.{tokens}
 use Rattle.djq_parser.specs.RowReading.{TakesRowWord}
 use Rattle.djq_parser.specs.declared.row.RowWord.{RowWord}
 use Rattle.djq_parser.specs.declared.row.RowWord.TheVariants.{Add, Del}
-use Rattle.djq_parser.proofs.Rows.{begun, line_refused, line_said}
+use Rattle.djq_parser.proofs.RowLines.{begun, line_refused, line_said}
 use Rattle.djq_parser.proofs.row.read_row.Goals as goal
 
 pub returns-in-Add : goal.returns-in-Add

@@ -5,8 +5,8 @@ use Rattle.djq_value.specs.Literal.{is_small_value, literal_of}
 use Rattle.djq_protocol.specs.Grammar.{all_of}
 use Rattle.djq_parser.specs.Reading.{ReadsAs, onto}
 use Rattle.djq_parser.specs.RowReading.{IsRefused}
-use Rattle.djq_parser.proofs.Listing.{onto_next, reads_some}
-use Rattle.djq_parser.proofs.Rows.{last_refused}
+use Rattle.djq_parser.proofs.ItemLists.{onto_next, reads_some}
+use Rattle.djq_parser.proofs.RowLines.{last_refused}
 use Rattle.djq_parser.proofs.row.read_values.Goals as goal
 
 pub returns-in-Err : goal.returns-in-Err

@@ -1,7 +1,7 @@
 -- The line is what stands before the first LF, without a CR, and what is behind it begins one byte further.
 use Rattle.std.proofs.Common.{◌∙◌, ◌≡◌, ◌≤◌, sym, arith, take, length}
 use Rattle.std.proofs.lemmas.List.{take-take, length-take-le}
-use Rattle.djq_parser.proofs.Cutting.{front_of-long_at, front_of-line}
+use Rattle.djq_parser.proofs.RowLines.{front_of-long_at, front_of-line}
 use Rattle.djq_parser.proofs.splitter.line_at.Goals as goal
 
 pub returns-then-is_long : goal.returns-then-is_long

@@ -1,6 +1,6 @@
 -- No label before the index lies properly within another, so the first that does is the rule's.
 use Rattle.std.proofs.Common.{arith}
-use Rattle.djq_plan.proofs.Rules.{inside_is, inside_none}
+use Rattle.djq_plan.proofs.Choices.{inside_is, inside_none}
 use Rattle.djq_plan.proofs.choosing.choose_covered.Goals as goal
 
 pub returns-in-Some : goal.returns-in-Some

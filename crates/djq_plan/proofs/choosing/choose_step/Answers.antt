@@ -2,8 +2,8 @@
 use Rattle.std.proofs.Common.{arith, false, ◌≡◌, ◌∙◌, ap, sym, List, ℕ}
 use Rattle.djq_hypergraph.specs.Hypergraph.{difference}
 use Rattle.djq_tree.specs.Choosing.{removable}
-use Rattle.djq_plan.proofs.Rules.{removable_by, has_by, trim_is, trim_none}
-use Rattle.djq_hypergraph.proofs.Checking.{read_at}
+use Rattle.djq_plan.proofs.Choices.{removable_by, has_by, trim_is, trim_none}
+use Rattle.djq_hypergraph.proofs.JoinTrees.{read_at}
 use Rattle.djq_plan.proofs.choosing.choose_step.Goals as goal
 
 pub returns-then-not-is_empty : goal.returns-then-not-is_empty

@@ -1,6 +1,6 @@
 -- No label before the index has an equal one behind it, so the first that has is the rule's.
 use Rattle.std.proofs.Common.{arith}
-use Rattle.djq_plan.proofs.Rules.{equal_is, equal_none}
+use Rattle.djq_plan.proofs.Choices.{equal_is, equal_none}
 use Rattle.djq_plan.proofs.choosing.choose_twins.Goals as goal
 
 pub returns-in-Some : goal.returns-in-Some

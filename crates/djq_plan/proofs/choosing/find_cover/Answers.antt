@@ -1,7 +1,7 @@
 -- No label before the index contains this one and more, so the first that does is the lowest.
 use Rattle.std.proofs.Common.{rules, arith, true}
-use Rattle.djq_plan.proofs.Rules.{inside_read, cover_is, cover_none}
-use Rattle.djq_hypergraph.proofs.Checking.{read_at}
+use Rattle.djq_plan.proofs.Choices.{inside_read, cover_is, cover_none}
+use Rattle.djq_hypergraph.proofs.JoinTrees.{read_at}
 use Rattle.djq_plan.proofs.choosing.find_cover.Goals as goal
 
 pub returns-then-is_inside : goal.returns-then-is_inside

@@ -1,7 +1,7 @@
 -- No label between the place and the index is equal to the place's, so the first that is comes next.
 use Rattle.std.proofs.Common.{rules, arith}
-use Rattle.djq_plan.proofs.Rules.{equal_read, twin_is, twin_none}
-use Rattle.djq_hypergraph.proofs.Checking.{read_at}
+use Rattle.djq_plan.proofs.Choices.{equal_read, twin_is, twin_none}
+use Rattle.djq_hypergraph.proofs.JoinTrees.{read_at}
 use Rattle.djq_plan.proofs.choosing.find_twin.Goals as goal
 
 pub returns-then-are_equal : goal.returns-then-are_equal

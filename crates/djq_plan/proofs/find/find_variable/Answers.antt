@@ -1,6 +1,6 @@
 -- An edge with a first variable gives it a degree; one without is empty, so no degree grows by it.
-use Rattle.djq_hypergraph.proofs.Checking.{read_at}
-use Rattle.djq_plan.proofs.Finding.{variable_of, bare_more}
+use Rattle.djq_hypergraph.proofs.JoinTrees.{read_at}
+use Rattle.djq_plan.proofs.ReductionSteps.{variable_of, bare_more}
 use Rattle.djq_plan.proofs.find.find_variable.Goals as goal
 
 pub returns-in-Some-clause-some : goal.returns-in-Some-clause-some

@@ -3,8 +3,8 @@ use Rattle.std.specs.Prelude.{◌≡◌, ℕ, true}
 use Rattle.std.proofs.Common.{sym, ◌∙◌, arith, inl, inr, ap}
 use Rattle.std.proofs.lemmas.Bool.{cases_lt}
 use Rattle.djq_hypergraph.specs.Hypergraph.{member, edge_at}
-use Rattle.djq_hypergraph.proofs.Checking.{read_at}
-use Rattle.djq_plan.proofs.Finding.{vertex_step, no_vertex}
+use Rattle.djq_hypergraph.proofs.JoinTrees.{read_at}
+use Rattle.djq_plan.proofs.ReductionSteps.{vertex_step, no_vertex}
 use Rattle.djq_plan.proofs.find.find_vertex.Goals as goal
 
 pub returns-in-Some-clause-some : goal.returns-in-Some-clause-some

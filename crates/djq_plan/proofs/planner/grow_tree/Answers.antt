@@ -2,8 +2,8 @@
 use Rattle.std.proofs.Common.{sym, subst}
 use Rattle.djq_tree.specs.Tree.{Tree}
 use Rattle.djq_plan.specs.Plan.{IsPlan}
-use Rattle.djq_plan.proofs.Deciding.{stuck_first, stuck_second, plan_of}
-use Rattle.djq_plan.proofs.Flat.{flat_first, flat_second}
+use Rattle.djq_plan.proofs.GrownTrees.{stuck_first, stuck_second, plan_of}
+use Rattle.djq_plan.proofs.FlatQueries.{flat_first, flat_second}
 use Rattle.djq_plan.proofs.planner.grow_tree.Goals as goal
 
 pub returns-then-not-branch-clause-stuck : goal.returns-then-not-branch-clause-stuck

@@ -1,6 +1,6 @@
 -- A flat query's tree has equal meets alone, and equal meets make a query flat, as Flat shows.
 use Rattle.djq_plan.specs.Plan.{IsPlan}
-use Rattle.djq_plan.proofs.Flat.{equal_meets, flat_from}
+use Rattle.djq_plan.proofs.FlatQueries.{equal_meets, flat_from}
 use Rattle.djq_plan.proofs.planner.plan.Goals as goal
 
 pub returns-in-Some-clause-flat_ok : goal.returns-in-Some-clause-flat_ok

@@ -1,6 +1,6 @@
 -- Each step keeps whether there is a join tree and shrinks the edges; stuck edges with a variable have none.
 use Rattle.std.proofs.Common.{◌∙◌}
-use Rattle.djq_plan.proofs.ReductionStepping.{turn_leads, turn_falls, ended_bare, ended_rest}
+use Rattle.djq_plan.proofs.ReductionSteps.{turn_leads, turn_falls, ended_bare, ended_rest}
 use Rattle.djq_plan.proofs.reducing.reduce.Goals as goal
 use Rattle.djq_plan.proofs.reducing.reduce.Goals.{in-Some-find_variable, in-None}
 

@@ -1,5 +1,5 @@
 use Rattle.djq_hypergraph.specs.Gyo.{Leads}
-use Rattle.djq_plan.proofs.ReductionStepping.{size}
+use Rattle.djq_plan.proofs.ReductionSteps.{size}
 use Rattle.djq_plan.proofs.reducing.reduce.Given as goal
 
 abbrev pub invariant-steps : goal.invariant-steps

@@ -1,6 +1,6 @@
 -- The edges have a join tree but none rooted at the head, so with the head in front a rest is left.
 use Rattle.std.proofs.Common.{true, refl}
-use Rattle.djq_plan.proofs.Deciding.{rest_says, bare_rest}
+use Rattle.djq_plan.proofs.GrownTrees.{rest_says, bare_rest}
 use Rattle.djq_plan.proofs.refusal.find_rest.Goals as goal
 
 pub returns : goal.returns

@@ -3,7 +3,7 @@ use Rattle.std.proofs.Common.{refl, subst, inl}
 use Rattle.djq_machine.specs.State.{State, opening}
 use Rattle.djq_machine.specs.Call.{counts}
 use Rattle.djq_load.specs.Totals.{RunsOut}
-use Rattle.djq_program_laws.proofs.Running.{where_err}
+use Rattle.djq_program_laws.proofs.ProgramRuns.{where_err}
 use Rattle.djq_program.proofs.load.summarize.Goals as goal
 
 pub returns-in_default-clause-memory : goal.returns-in_default-clause-memory

@@ -3,7 +3,7 @@ use Rattle.std.proofs.Common.{rules}
 use Rattle.std.specs.Prelude.{IsSome}
 use Rattle.djq_commands.specs.Views.{loading_in}
 use Rattle.djq_program_laws.specs.Logged.{disk_seen}
-use Rattle.djq_program_laws.proofs.Abandoning.{batch_ended, fails_to_end, has_no_room}
+use Rattle.djq_program_laws.proofs.Logs.{batch_ended, fails_to_end, has_no_room}
 use Rattle.djq_program.proofs.log.end_batch.Goals as goal
 
 pub returns-in-Done-clause-ends : goal.returns-in-Done-clause-ends

@@ -3,7 +3,7 @@ use Rattle.std.proofs.Common.{◌≡◌, ◌∙◌, ℕ, List, [], ◌∷◌, �
 use Rattle.std.specs.Prelude.{IfSome}
 use Rattle.djq_io.specs.Faults.{Counted}
 use Rattle.djq_disk.specs.History.{History}
-use Rattle.djq_disk.proofs.Telling.{told_none}
+use Rattle.djq_disk.proofs.Files.{told_none}
 use Rattle.djq_journal.specs.Standing.{IsAtGate, IsIdle}
 use Rattle.djq_model.specs.Data.{Bytes}
 use Rattle.djq_protocol.specs.declared.held.HeldRow.{HeldRow}
@@ -11,8 +11,8 @@ use Rattle.djq_machine.specs.State.{State, opening}
 use Rattle.djq_machine.specs.declared.machine.Loaded.TheVariants.{Ran}
 use Rattle.djq_machine.specs.Loading.{Loading, loading, LoadStep}
 use Rattle.djq_commands.specs.Views.{loading_in}
-use Rattle.djq_machine.proofs.Walks.{walk_more}
-use Rattle.djq_program_laws.proofs.Opening.{read_line, read_end, read_bad, read_still, stands_behind, same_both}
+use Rattle.djq_machine.proofs.Relations.{walk_more}
+use Rattle.djq_program_laws.proofs.Logs.{read_line, read_end, read_bad, read_still, stands_behind, same_both}
 use Rattle.djq_program.proofs.log.load_lines.Goals as goal
 
 pub lines-init : goal.lines-init

@@ -1,6 +1,6 @@
 -- The file was opened or made without a fault, and the journal in it stands at its first gate.
 use Rattle.std.proofs.Common.{◌∙◌}
-use Rattle.djq_program_laws.proofs.Opening.{ready_opened, ready_first}
+use Rattle.djq_program_laws.proofs.Logs.{ready_opened, ready_first}
 use Rattle.djq_program.proofs.log.open_journal.Goals as goal
 
 pub returns-in-Ready : goal.returns-in-Ready

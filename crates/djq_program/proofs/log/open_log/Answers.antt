@@ -8,7 +8,7 @@ use Rattle.djq_machine.specs.Call.{counts}
 use Rattle.djq_commands.specs.Views.{loading_in}
 use Rattle.djq_program_laws.specs.Logged.{disk_seen, log_seen}
 use Rattle.djq_program_laws.specs.Parts.{OpensLog}
-use Rattle.djq_program_laws.proofs.Logging.{begins_empty, ended_begins, unended_begins}
+use Rattle.djq_program_laws.proofs.Logs.{begins_empty, ended_begins, unended_begins}
 use Rattle.djq_program.proofs.log.open_log.Goals as goal
 
 pub returns-in_default : goal.returns-in_default

@@ -2,7 +2,7 @@
 use Rattle.djq_machine.specs.Call.{counts}
 use Rattle.djq_commands.specs.Views.{loading_in}
 use Rattle.djq_program_laws.specs.Logged.{disk_seen, log_seen_at}
-use Rattle.djq_program_laws.proofs.Logging.{read_whole, unloaded_begins}
+use Rattle.djq_program_laws.proofs.Logs.{read_whole, unloaded_begins}
 use Rattle.std.proofs.lemmas.Result.{MatchResult-weaker}
 use Rattle.djq_program.proofs.log.read_log.Goals as goal
 

@@ -2,7 +2,7 @@
 use Rattle.std.proofs.Common.{ℕ, List, Bor, Option, ◌∙◌, map, ap, inl, refl, Some, None}
 use Rattle.djq_cli.specs.declared.commands.Asked.{Asked}
 use Rattle.djq_cli.specs.declared.commands.Asked.TheVariants.{Run, Serve, Replay, Gen, Mirror}
-use Rattle.djq_program_laws.proofs.Running.{asks_for, names_query}
+use Rattle.djq_program_laws.proofs.ProgramRuns.{asks_for, names_query}
 use Rattle.djq_program.proofs.program.run_program.Goals as goal
 
 pub returns-in-Ok-Some-Run-clause-ends : goal.returns-in-Ok-Some-Run-clause-ends

@@ -5,8 +5,8 @@ use Rattle.djq_machine.specs.State.{State}
 use Rattle.djq_machine.specs.Call.{counts}
 use Rattle.djq_serve.specs.Told.{hub_shown}
 use Rattle.djq_program_laws.specs.Logged.{disk_seen}
-use Rattle.djq_program_laws.proofs.Logging.{logs_kept, never_began, begins_still}
-use Rattle.djq_program_laws.proofs.Running.{faults_from}
+use Rattle.djq_program_laws.proofs.Logs.{logs_kept, never_began, begins_still}
+use Rattle.djq_program_laws.proofs.ProgramRuns.{faults_from}
 use Rattle.djq_program.proofs.program.serve_hub.Goals as goal
 
 pub returns-in_default : goal.returns-in_default

@@ -1,7 +1,7 @@
 -- The session's run begins in the opening state; before that nothing is done.
 use Rattle.std.proofs.Common.{ap, refl, arith}
 use Rattle.djq_machine.specs.State.{State}
-use Rattle.djq_program_laws.proofs.Running.{serves, serves_nothing}
+use Rattle.djq_program_laws.proofs.ProgramRuns.{serves, serves_nothing}
 use Rattle.djq_program.proofs.program.serve_source.Goals as goal
 
 pub returns-in_default : goal.returns-in_default

@@ -1,9 +1,9 @@
 -- Each piece that is read is put behind the others, so the bytes are all that the source gave until then.
-use Rattle.std.proofs.Common.{ℕ, List, ◌≡◌, ◌++◌, ◌∙◌, refl, sym, ap, subst, length, take}
-use Rattle.std.proofs.Common.{length-append, length-take, arith, rules}
+use Rattle.std.proofs.Common.{ℕ, List, ◌≡◌, ◌++◌, ◌∙◌, refl, sym, ap, subst, length, take, length-append, length-take}
+use Rattle.std.proofs.Common.{arith, rules}
 use Rattle.djq_io.specs.Faults.{Counted}
 use Rattle.djq_io.specs.Given.{Gave}
-use Rattle.djq_io.proofs.Gives.{gave_none, gave_more, gave_same}
+use Rattle.djq_io.proofs.Streams.{gave_none, gave_more, gave_same}
 use Rattle.djq_program.proofs.replay.read_pieces.Goals as goal
 
 pub loop-init : goal.loop-init

@@ -4,8 +4,8 @@ use Rattle.std.specs.Prelude.{Ok}
 use Rattle.djq_machine.specs.State.{State}
 use Rattle.djq_machine.specs.Call.{counts}
 use Rattle.djq_program_laws.specs.Logged.{disk_seen, log_seen}
-use Rattle.djq_program_laws.proofs.Logging.{logs_kept, begins_still}
-use Rattle.djq_program_laws.proofs.Replaying.{made_steady, schedule_served, nothing_comes}
+use Rattle.djq_program_laws.proofs.Logs.{logs_kept, begins_still}
+use Rattle.djq_program_laws.proofs.Replays.{made_steady, schedule_served, nothing_comes}
 use Rattle.djq_program.proofs.replay.serve_schedule.Goals as goal
 
 pub returns-in_default : goal.returns-in_default

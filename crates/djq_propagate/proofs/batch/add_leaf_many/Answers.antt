@@ -2,11 +2,11 @@
 use Rattle.std.proofs.Common.{false, ℕ, ◌+◌, ◌*◌, ◌≤◌, length, refl, rules, arith}
 use Rattle.djq_reduct.specs.Tables.{entries_at}
 use Rattle.djq_propagate.specs.Updates.{HasAtMost, HasKept, paths}
-use Rattle.djq_propagate.proofs.Batching.{refusal_bounded, all_gained}
-use Rattle.djq_propagate.proofs.Going.{on_err}
-use Rattle.djq_propagate.proofs.Measuring.{come_by, sized}
-use Rattle.djq_propagate.proofs.Plains.{still_bare}
-use Rattle.djq_propagate.proofs.Updating.{rest_kept, both}
+use Rattle.djq_propagate.proofs.Batches.{refusal_bounded, all_gained}
+use Rattle.djq_propagate.proofs.Walks.{on_err}
+use Rattle.djq_propagate.proofs.Costs.{come_by, sized}
+use Rattle.djq_propagate.proofs.PathMarks.{still_bare}
+use Rattle.djq_propagate.proofs.Updates.{rest_kept, both}
 use Rattle.djq_propagate.proofs.batch.add_leaf_many.Goals as goal
 
 pub returns-clause-gained : goal.returns-clause-gained

@@ -3,10 +3,10 @@ use Rattle.std.proofs.Common.{ℕ, List, subst, sym, arith}
 use Rattle.std.proofs.Math.Seq.{take-length}
 use Rattle.djq_reduct.specs.Tables.{entries_at}
 use Rattle.djq_propagate.specs.Batches.{AreThere, HaveGone}
-use Rattle.djq_propagate.proofs.Batching.{all_lost}
-use Rattle.djq_propagate.proofs.Measuring.{gone_by, sized}
-use Rattle.djq_propagate.proofs.Plains.{fewer_bare}
-use Rattle.djq_propagate.proofs.Updating.{rest_kept}
+use Rattle.djq_propagate.proofs.Batches.{all_lost}
+use Rattle.djq_propagate.proofs.Costs.{gone_by, sized}
+use Rattle.djq_propagate.proofs.PathMarks.{fewer_bare}
+use Rattle.djq_propagate.proofs.Updates.{rest_kept}
 use Rattle.djq_propagate.proofs.batch.drop_leaf_many.Goals as goal
 
 pub remove_all-requires-clause-there : goal.remove_all-requires-clause-there

@@ -2,10 +2,10 @@
 use Rattle.std.proofs.Common.{ℕ, ◌+◌, ◌*◌, ◌≤◌, length, rules}
 use Rattle.djq_reduct.specs.Tables.{entries_at}
 use Rattle.djq_propagate.specs.Updates.{HasAtMost, HasKept, paths}
-use Rattle.djq_propagate.proofs.Batching.{refusal_bounded}
-use Rattle.djq_propagate.proofs.Going.{on_err}
-use Rattle.djq_propagate.proofs.Measuring.{put_all_counted}
-use Rattle.djq_propagate.proofs.Updating.{rest_kept, both, can_come, all_inserted}
+use Rattle.djq_propagate.proofs.Batches.{refusal_bounded}
+use Rattle.djq_propagate.proofs.Walks.{on_err}
+use Rattle.djq_propagate.proofs.Costs.{put_all_counted}
+use Rattle.djq_propagate.proofs.Updates.{rest_kept, both, can_come, all_inserted}
 use Rattle.djq_propagate.proofs.batch.insert_leaf_many.Goals as goal
 
 pub touch_path-requires-clause-family : goal.touch_path-requires-clause-family

@@ -1,32 +1,29 @@
 -- A node's gain is its parent's, by the parent's equation; where one is refused, all supports are as before.
 use Rattle.std.proofs.Common.{◌≡◌, ℕ, ◌+◌, ◌-◌, ◌*◌, ◌<◌, ◌≤◌, List, length, take, drop, ap, subst, sym, ◌∙◌, arith}
+use Rattle.std.proofs.Common.{rules}
 use Rattle.djq_index.specs.Entries.{Entry, supports_of, count_of, group_of, head_at}
 use Rattle.std.specs.Prelude.{slice_set}
 use Rattle.djq_index.specs.Table.{IsRaisable}
-use Rattle.djq_index.proofs.Changing.{inserted_length, supported_length}
+use Rattle.djq_index.proofs.Groups.{inserted_length, supported_length}
 use Rattle.djq_tree.specs.declared.node.Node.TheVariants.{Trim, Meet}
 use Rattle.djq_tree.specs.Flat.{HasEqualMeets}
 use Rattle.djq_reduct.specs.Tables.{entries_at, key_at}
 use Rattle.djq_propagate.specs.Sizes.{size, AreAtMost}
-use Rattle.std.proofs.Common.{rules}
 use Rattle.djq_propagate.specs.Walks.{InsertedUpwards, Refused, ReducedAbove, UnchangedAbove, CoversAll}
-use Rattle.djq_propagate.proofs.Families.{lower_of, now_family, ready_up, topmost, stayed}
-use Rattle.djq_propagate.proofs.Plains.{bare_at, still_bare, plain_refl, plain_trans, inserted_same}
-use Rattle.djq_propagate.proofs.Plains.{raised_same, removed_fewer, back_same}
-use Rattle.djq_propagate.proofs.Sides.{head_none, drop_group, grown_none, grown_ready, grown_more}
-use Rattle.djq_propagate.proofs.Gains.{width_narrow, trim_few, trim_wide, trim_raised, trim_lived}
-use Rattle.djq_propagate.proofs.Gains.{trim_room, guard_few, guard_wide, guard_absent, guard_lived}
-use Rattle.djq_propagate.proofs.Gains.{guard_idle, side_absent, side_righted, side_full}
-use Rattle.djq_propagate.proofs.Gains.{refused_ready, same_group, side_stayed, refused_here}
-use Rattle.djq_propagate.proofs.Gains.{lived_here}
-use Rattle.djq_propagate.proofs.Going.{has_table, wide_now, under_leaf, under_trim, under_guard}
-use Rattle.djq_propagate.proofs.Going.{under_side, guard_under, cut_of, cut_at, as_live, moved_at}
-use Rattle.djq_propagate.proofs.Going.{guard_read, group_still, on_err, ok_map, err_map, refused_none}
-use Rattle.djq_propagate.proofs.Going.{plain_none}
-use Rattle.djq_propagate.proofs.Tabling.{is_none, to_read, at_read, supported_into}
-use Rattle.djq_propagate.proofs.Tabling.{part_none, part_one, family_read, of_read, length_read, group_read, live_read}
-use Rattle.djq_propagate.proofs.Rooms.{room_size, most_more, trim_fits, guard_fits, next_fits, side_fits, side_bounded}
-use Rattle.djq_propagate.proofs.Refusing.{side_flat}
+use Rattle.djq_propagate.proofs.Families.{lower_of, now_family, ready_up, topmost, stayed, is_none, to_read, at_read}
+use Rattle.djq_propagate.proofs.Families.{supported_into, part_none, part_one, family_read, of_read, length_read}
+use Rattle.djq_propagate.proofs.Families.{group_read, live_read}
+use Rattle.djq_propagate.proofs.PathMarks.{bare_at, still_bare, plain_refl, plain_trans, inserted_same, raised_same}
+use Rattle.djq_propagate.proofs.PathMarks.{removed_fewer, back_same, head_none, drop_group, grown_none, grown_ready}
+use Rattle.djq_propagate.proofs.PathMarks.{grown_more}
+use Rattle.djq_propagate.proofs.Gains.{width_narrow, trim_few, trim_wide, trim_raised, trim_lived, trim_room, guard_few}
+use Rattle.djq_propagate.proofs.Gains.{guard_wide, guard_absent, guard_lived, guard_idle, side_absent, side_righted}
+use Rattle.djq_propagate.proofs.Gains.{side_full, refused_ready, same_group, side_stayed, refused_here, lived_here}
+use Rattle.djq_propagate.proofs.Walks.{has_table, wide_now, under_leaf, under_trim, under_guard, under_side}
+use Rattle.djq_propagate.proofs.Walks.{guard_under, cut_of, cut_at, as_live, moved_at, guard_read, group_still, on_err}
+use Rattle.djq_propagate.proofs.Walks.{ok_map, err_map, refused_none, plain_none}
+use Rattle.djq_propagate.proofs.RefusedCosts.{room_size, most_more, trim_fits, guard_fits, next_fits, side_fits}
+use Rattle.djq_propagate.proofs.RefusedCosts.{side_bounded, side_flat}
 use Rattle.djq_propagate.proofs.insertion.+insert_tuple.Goals as goal
 
 pub insert_tuple-insert_at-requires-clause-within : goal.insert_tuple-insert_at-requires-clause-within

@@ -3,11 +3,10 @@ use Rattle.std.proofs.Common.{ℕ, List, take, subst, sym, ◌∙◌, arith}
 use Rattle.std.proofs.lemmas.List.{take_all}
 use Rattle.djq_reduct.specs.Tables.{entries_at}
 use Rattle.djq_propagate.specs.Batches.{HaveCome}
-use Rattle.djq_propagate.proofs.Batching.{read_as, come_none, come_more, come_refused, come_there}
-use Rattle.djq_propagate.proofs.Batching.{come_length, next_absent, next_wide, back_kept}
-use Rattle.djq_propagate.proofs.Batching.{refused_counted}
-use Rattle.djq_propagate.proofs.Plains.{plain_refl, plain_trans, still_bare}
-use Rattle.djq_propagate.proofs.Updating.{leaf_within, ready_leaf}
+use Rattle.djq_propagate.proofs.Batches.{read_as, come_none, come_more, come_refused, come_there, come_length}
+use Rattle.djq_propagate.proofs.Batches.{next_absent, next_wide, back_kept, refused_counted}
+use Rattle.djq_propagate.proofs.PathMarks.{plain_refl, plain_trans, still_bare}
+use Rattle.djq_propagate.proofs.Updates.{leaf_within, ready_leaf}
 use Rattle.djq_propagate.proofs.many.insert_all.Goals as goal
 
 pub loop-i-init : goal.loop-i-init

@@ -1,9 +1,9 @@
 -- By the loop those before the index went; as the tuples differ, the next one is still in the leaf.
 use Rattle.std.proofs.Common.{◌≡◌, ℕ, take, subst, arith}
 use Rattle.djq_propagate.specs.Batches.{HaveGone}
-use Rattle.djq_propagate.proofs.Batching.{read_as, gone_none, gone_more, next_held}
-use Rattle.djq_propagate.proofs.Plains.{fewer_refl, fewer_trans}
-use Rattle.djq_propagate.proofs.Updating.{ready_leaf}
+use Rattle.djq_propagate.proofs.Batches.{read_as, gone_none, gone_more, next_held}
+use Rattle.djq_propagate.proofs.PathMarks.{fewer_refl, fewer_trans}
+use Rattle.djq_propagate.proofs.Updates.{ready_leaf}
 use Rattle.djq_propagate.proofs.many.remove_all.Goals as goal
 
 pub loop-i-init : goal.loop-i-init

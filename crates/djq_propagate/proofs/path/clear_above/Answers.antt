@@ -4,9 +4,9 @@ use Rattle.std.proofs.lemmas.Bool.{false≢true}
 use Rattle.djq_index.proofs.Tuples.{one_true}
 use Rattle.djq_tree.specs.Tree.{node_at, has_child}
 use Rattle.djq_index.specs.Entries.{Entry}
-use Rattle.djq_propagate.proofs.Going.{has_table}
-use Rattle.djq_propagate.proofs.Tabling.{family_read, length_read, marks_read, cleared_into}
-use Rattle.djq_index.proofs.Clearing.{length_marks}
+use Rattle.djq_propagate.proofs.Walks.{has_table}
+use Rattle.djq_propagate.proofs.Families.{family_read, length_read, marks_read, cleared_into}
+use Rattle.djq_index.proofs.ClearedMarks.{length_marks}
 use Rattle.djq_propagate.proofs.path.clear_above.Goals as goal
 
 pub node-requires : goal.node-requires

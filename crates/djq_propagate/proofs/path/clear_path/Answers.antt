@@ -5,13 +5,13 @@ use Rattle.djq_index.specs.Entries.{Entry}
 use Rattle.djq_index.specs.Tuple.{one_if}
 use Rattle.djq_tree.specs.Tree.{node_at, has_child}
 use Rattle.djq_propagate.specs.Updates.{HasCleared, steps}
-use Rattle.djq_propagate.proofs.Going.{has_table}
-use Rattle.djq_propagate.proofs.Tabling.{family_read, length_read, marks_read, cleared_into}
-use Rattle.djq_index.proofs.Clearing.{length_marks}
+use Rattle.djq_propagate.proofs.Walks.{has_table}
+use Rattle.djq_propagate.proofs.Families.{family_read, length_read, marks_read, cleared_into}
+use Rattle.djq_index.proofs.ClearedMarks.{length_marks}
 use Rattle.djq_reduct.proofs.Paths.{path_zero}
-use Rattle.djq_propagate.proofs.Paths.{path_next, steps_none, steps_more, steps_count, cleared_leaf, cleared_more}
-use Rattle.djq_propagate.proofs.Updating.{leaf_within}
-use Rattle.djq_propagate.proofs.Fewing.{few_cleared, few_clear_more}
+use Rattle.djq_propagate.proofs.PathMarks.{path_next, steps_none, steps_more, steps_count, cleared_leaf, cleared_more}
+use Rattle.djq_propagate.proofs.Updates.{leaf_within}
+use Rattle.djq_propagate.proofs.Batches.{few_cleared, few_clear_more}
 use Rattle.djq_propagate.proofs.path.clear_path.Goals as goal
 
 pub index_mut-requires : goal.index_mut-requires

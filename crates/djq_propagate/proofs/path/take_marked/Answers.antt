@@ -2,15 +2,15 @@
 use Rattle.std.proofs.Common.{ℕ, List, ap, sym, subst, ◌∙◌, arith}
 use Rattle.djq_index.specs.Table.{IsAt}
 use Rattle.djq_index.specs.Entries.{Entry, marks, head_at}
-use Rattle.djq_index.proofs.Changing.{removed_length}
+use Rattle.djq_index.proofs.Groups.{removed_length}
 use Rattle.djq_reduct.specs.Tables.{entries_at}
 use Rattle.djq_propagate.specs.Walks.{RemovedUpwards}
 use Rattle.djq_propagate.proofs.Gains.{width_narrow}
-use Rattle.djq_propagate.proofs.Sides.{head_none}
-use Rattle.djq_propagate.proofs.Going.{has_table, as_live}
-use Rattle.djq_propagate.proofs.Tabling.{family_read, marks_read, length_read}
-use Rattle.djq_propagate.proofs.Updating.{leaf_within, ready_leaf, taking_none, taking_more}
-use Rattle.djq_propagate.proofs.Updating.{taking_done, no_mark, no_entry, first_mark}
+use Rattle.djq_propagate.proofs.PathMarks.{head_none}
+use Rattle.djq_propagate.proofs.Walks.{has_table, as_live}
+use Rattle.djq_propagate.proofs.Families.{family_read, marks_read, length_read}
+use Rattle.djq_propagate.proofs.Updates.{leaf_within, ready_leaf, taking_none, taking_more, taking_done, no_mark}
+use Rattle.djq_propagate.proofs.Updates.{no_entry, first_mark}
 use Rattle.djq_propagate.proofs.path.take_marked.Goals as goal
 
 pub index-requires : goal.index-requires

@@ -1,7 +1,7 @@
 use Rattle.std.proofs.Common.{◌≡◌, ◌+◌, ◌*◌, ◌≤◌, length}
 use Rattle.djq_reduct.specs.Tables.{entries_at}
 use Rattle.djq_propagate.specs.Sizes.{size}
-use Rattle.djq_propagate.proofs.Updating.{IsTaking}
+use Rattle.djq_propagate.proofs.Updates.{IsTaking}
 use Rattle.djq_propagate.proofs.path.take_marked.Given as goal
 
 abbrev pub invariant-loop-done : goal.invariant-loop-done

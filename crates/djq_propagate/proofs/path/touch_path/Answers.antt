@@ -7,9 +7,9 @@ use Rattle.djq_reduct.specs.Tables.{entries_at}
 use Rattle.djq_propagate.specs.Touches.{IsWalked, reach}
 use Rattle.djq_propagate.specs.Updates.{steps}
 use Rattle.djq_reduct.proofs.Paths.{path_zero}
-use Rattle.djq_propagate.proofs.Paths.{path_next, up_none, up_more, steps_more, steps_count}
-use Rattle.djq_propagate.proofs.Marking.{walk_none, walk_more}
-use Rattle.djq_propagate.proofs.Fewing.{few_more}
+use Rattle.djq_propagate.proofs.PathMarks.{path_next, up_none, up_more, steps_more, steps_count}
+use Rattle.djq_propagate.proofs.Marks.{walk_none, walk_more}
+use Rattle.djq_propagate.proofs.Batches.{few_more}
 use Rattle.djq_propagate.proofs.path.touch_path.Goals as goal
 
 pub loop-up-init : goal.loop-up-init

@@ -3,23 +3,21 @@ use Rattle.std.proofs.Common.{rules, ◌≡◌, ℕ, ◌+◌, ◌-◌, ◌<◌, 
 use Rattle.djq_index.specs.Entries.{Entry, supports_of, count_of, group_of, head_at}
 use Rattle.std.specs.Prelude.{slice_set}
 use Rattle.djq_index.specs.Table.{IsLowerable}
-use Rattle.djq_index.proofs.Changing.{removed_length, supported_length}
+use Rattle.djq_index.proofs.Groups.{removed_length, supported_length}
 use Rattle.djq_tree.specs.declared.node.Node.TheVariants.{Trim, Meet}
 use Rattle.djq_reduct.specs.Tables.{entries_at, key_at}
 use Rattle.djq_propagate.specs.Walks.{RemovedUpwards, IsEmptied}
-use Rattle.djq_propagate.proofs.Families.{apart_of, lower_of, now_family, ready_up, topmost}
-use Rattle.djq_propagate.proofs.Plains.{fewer_refl, fewer_trans, removed_fewer, lowered_fewer}
-use Rattle.djq_propagate.proofs.Sides.{group_once, head_none, drop_group, present, emptied_none}
-use Rattle.djq_propagate.proofs.Sides.{emptied_ready, emptied_more, emptied_all, still_there}
+use Rattle.djq_propagate.proofs.Families.{apart_of, lower_of, now_family, ready_up, topmost, wide_family, is_none}
+use Rattle.djq_propagate.proofs.Families.{to_read, at_read, supported_into, part_none, part_one, family_read}
+use Rattle.djq_propagate.proofs.Families.{length_read, group_read, live_read}
+use Rattle.djq_propagate.proofs.PathMarks.{fewer_refl, fewer_trans, removed_fewer, lowered_fewer, group_once, head_none}
+use Rattle.djq_propagate.proofs.PathMarks.{drop_group, present, emptied_none, emptied_ready, emptied_more, emptied_all}
+use Rattle.djq_propagate.proofs.PathMarks.{still_there}
 use Rattle.djq_propagate.proofs.Gains.{width_narrow, trim_few}
-use Rattle.djq_propagate.proofs.Losses.{trim_lowered, trim_died, trim_missing, guard_died}
-use Rattle.djq_propagate.proofs.Losses.{guard_idle, side_full, side_righted, died_here}
-use Rattle.djq_propagate.proofs.Going.{has_table, wide_now, under_leaf, under_trim, under_guard}
-use Rattle.djq_propagate.proofs.Going.{under_side, cut_of, cut_at}
-use Rattle.djq_propagate.proofs.Going.{guard_read, as_live, moved_at, group_still}
-use Rattle.djq_propagate.proofs.Tabling.{wide_family}
-use Rattle.djq_propagate.proofs.Tabling.{is_none, to_read, at_read, supported_into}
-use Rattle.djq_propagate.proofs.Tabling.{part_none, part_one, family_read, length_read, group_read, live_read}
+use Rattle.djq_propagate.proofs.Losses.{trim_lowered, trim_died, trim_missing, guard_died, guard_idle, side_full}
+use Rattle.djq_propagate.proofs.Losses.{side_righted, died_here}
+use Rattle.djq_propagate.proofs.Walks.{has_table, wide_now, under_leaf, under_trim, under_guard, under_side, cut_of}
+use Rattle.djq_propagate.proofs.Walks.{cut_at, guard_read, as_live, moved_at, group_still}
 use Rattle.djq_propagate.proofs.removal.+remove_tuple.Goals as goal
 
 pub remove_tuple-remove_at-requires-clause-within : goal.remove_tuple-remove_at-requires-clause-within

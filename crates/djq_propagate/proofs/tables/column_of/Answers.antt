@@ -1,9 +1,9 @@
 -- The key and the width read are the node's; a table's law has each column of its key below the width.
 use Rattle.std.proofs.Common.{ℕ, List, subst, sym, ◌∙◌, arith}
 use Rattle.djq_index.specs.Table.{AreColumns}
-use Rattle.djq_index.proofs.Columns.{column_below}
+use Rattle.djq_index.proofs.Tuples.{column_below}
 use Rattle.djq_reduct.specs.Tables.{width_at}
-use Rattle.djq_propagate.proofs.Tabling.{is_read, only_one}
+use Rattle.djq_propagate.proofs.Families.{is_read, only_one}
 use Rattle.djq_propagate.proofs.tables.column_of.Goals as goal
 
 pub returns-in-len1-clause-key : goal.returns-in-len1-clause-key

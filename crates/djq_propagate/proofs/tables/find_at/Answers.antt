@@ -2,7 +2,7 @@
 use Rattle.std.proofs.Common.{◌≡◌, MatchOption}
 use Rattle.djq_index.specs.Entries.{count_of}
 use Rattle.djq_index.specs.Table.{IsAt}
-use Rattle.djq_propagate.proofs.Tabling.{is_read, of_read}
+use Rattle.djq_propagate.proofs.Families.{is_read, of_read}
 use Rattle.djq_propagate.proofs.tables.find_at.Goals as goal
 
 pub returns-clause-found : goal.returns-clause-found

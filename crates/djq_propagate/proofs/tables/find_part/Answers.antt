@@ -3,7 +3,7 @@ use Rattle.std.proofs.Common.{◌≡◌, ℕ, List, MatchOption, subst}
 use Rattle.djq_index.specs.Entries.{count_of}
 use Rattle.djq_index.specs.Table.{IsAt}
 use Rattle.djq_reduct.specs.Tables.{entries_at, key_at}
-use Rattle.djq_propagate.proofs.Tabling.{part_one}
+use Rattle.djq_propagate.proofs.Families.{part_one}
 use Rattle.djq_propagate.proofs.tables.find_part.Goals as goal
 
 pub returns-in-Some-clause-found : goal.returns-in-Some-clause-found

@@ -3,7 +3,7 @@ use Rattle.std.proofs.Common.{◌≡◌, ◌<◌, [], length, IfOk, OnErr, sym, 
 use Rattle.djq_index.specs.Entries.{count_of, marks}
 use Rattle.djq_index.specs.Table.{IsAt}
 use Rattle.djq_index.specs.Changes.{InsertedAs}
-use Rattle.djq_propagate.proofs.Tabling.{is_read, to_read, onto, onto_key, changed_into, insert_supported}
+use Rattle.djq_propagate.proofs.Families.{is_read, to_read, onto, onto_key, changed_into, insert_supported}
 use Rattle.djq_propagate.proofs.tables.insert_at.Goals as goal
 
 pub insert_as-requires-clause-absent : goal.insert_as-requires-clause-absent

@@ -2,7 +2,7 @@
 use Rattle.std.proofs.Common.{ℕ, List, length, subst, sym, ap, ◌∙◌, arith}
 use Rattle.djq_index.specs.Tuple.{pick}
 use Rattle.djq_index.specs.Table.{AreColumns}
-use Rattle.djq_propagate.proofs.Tabling.{is_read}
+use Rattle.djq_propagate.proofs.Families.{is_read}
 use Rattle.djq_propagate.proofs.tables.part_of.Goals as goal
 
 pub take_part-requires-clause-few : goal.take_part-requires-clause-few

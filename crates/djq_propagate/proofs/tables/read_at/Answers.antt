@@ -1,7 +1,7 @@
 -- The entries and the width read are the node's; a table's law has each of its tuples that wide.
 use Rattle.std.proofs.Common.{ℕ, List, length, ap, ◌∙◌, arith}
 use Rattle.djq_index.specs.Table.{IsOccupied}
-use Rattle.djq_propagate.proofs.Tabling.{is_read, to_read, at_read, wide_at}
+use Rattle.djq_propagate.proofs.Families.{is_read, to_read, at_read, wide_at}
 use Rattle.djq_propagate.proofs.tables.read_at.Goals as goal
 
 pub tuple-requires : goal.tuple-requires

@@ -2,8 +2,8 @@
 use Rattle.std.proofs.Common.{ℕ, List}
 use Rattle.djq_index.specs.Table.{IsAt, IsOccupied}
 use Rattle.djq_index.specs.Changes.{Removed}
-use Rattle.djq_index.proofs.Changing.{removed_supported}
-use Rattle.djq_propagate.proofs.Tabling.{is_read, to_read, onto, changed_into}
+use Rattle.djq_index.proofs.Groups.{removed_supported}
+use Rattle.djq_propagate.proofs.Families.{is_read, to_read, onto, changed_into}
 use Rattle.djq_propagate.proofs.tables.remove_at.Goals as goal
 
 pub remove-requires : goal.remove-requires

@@ -3,9 +3,9 @@ use Rattle.std.proofs.Common.{Bool, List, ap, sym, ◌∙◌, arith}
 use Rattle.djq_index.specs.Entries.{Entry, group_size, plain, is_marked, head_at}
 use Rattle.djq_reduct.specs.Tables.{entries_at, key_at}
 use Rattle.djq_propagate.specs.Touches.{is_marked_by}
-use Rattle.djq_propagate.proofs.Going.{has_table, as_live}
-use Rattle.djq_propagate.proofs.Tabling.{family_read, group_read, at_read}
-use Rattle.djq_propagate.proofs.Touching.{gate_open, gate_none, first_is, gate_first}
+use Rattle.djq_propagate.proofs.Walks.{has_table, as_live}
+use Rattle.djq_propagate.proofs.Families.{family_read, group_read, at_read}
+use Rattle.djq_propagate.proofs.Touches.{gate_open, gate_none, first_is, gate_first}
 use Rattle.djq_propagate.proofs.touch.is_to_be_marked.Goals as goal
 
 pub index-table-requires : goal.index-table-requires

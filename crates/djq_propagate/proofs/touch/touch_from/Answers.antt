@@ -6,9 +6,8 @@ use Rattle.djq_tree.specs.declared.node.Node.TheVariants.{Trim}
 use Rattle.djq_tree.specs.Tree.{node_at}
 use Rattle.djq_reduct.specs.Tables.{entries_at, key_at}
 use Rattle.djq_propagate.specs.Touches.{reach_one}
-use Rattle.djq_propagate.proofs.Touching.{touched_none, touched_as, reach_leaf, reach_trim}
-use Rattle.djq_propagate.proofs.Touching.{reach_guard, reach_side, cost_trim, cost_guard, cost_side}
-use Rattle.djq_propagate.proofs.Touching.{step_trim, step_lower, guard_lower}
+use Rattle.djq_propagate.proofs.Touches.{touched_none, touched_as, reach_leaf, reach_trim, reach_guard, reach_side}
+use Rattle.djq_propagate.proofs.Touches.{cost_trim, cost_guard, cost_side, step_trim, step_lower, guard_lower}
 use Rattle.djq_propagate.proofs.touch.touch_from.Goals as goal
 
 pub node-requires : goal.node-requires

@@ -2,13 +2,13 @@
 use Rattle.std.proofs.Common.{ℕ, ◌+◌, List, take, drop, ap, sym, ◌∙◌, arith}
 use Rattle.djq_index.specs.Tuple.{same, one_if}
 use Rattle.djq_index.specs.Entries.{Entry, count_of, group_of, head_at}
-use Rattle.djq_index.proofs.Counts.{length_grp}
+use Rattle.djq_index.proofs.Tuples.{length_grp}
 use Rattle.djq_reduct.specs.Tables.{entries_at, key_at}
-use Rattle.djq_propagate.proofs.Sides.{head_none, drop_group, take_all, cut_cnt}
+use Rattle.djq_propagate.proofs.PathMarks.{head_none, drop_group, take_all, cut_cnt}
 use Rattle.djq_propagate.proofs.Gains.{width_narrow}
-use Rattle.djq_propagate.proofs.Going.{has_table, cut_of, cut_at, as_live, moved_at, group_still}
-use Rattle.djq_propagate.proofs.Tabling.{family_read, group_read, length_read, live_read}
-use Rattle.djq_propagate.proofs.Touching.{touched_none, touched_as, touched_more, take_zero, cut_length}
+use Rattle.djq_propagate.proofs.Walks.{has_table, cut_of, cut_at, as_live, moved_at, group_still}
+use Rattle.djq_propagate.proofs.Families.{family_read, group_read, length_read, live_read}
+use Rattle.djq_propagate.proofs.Touches.{touched_none, touched_as, touched_more, take_zero, cut_length}
 use Rattle.djq_propagate.proofs.touch.touch_group.Goals as goal
 
 pub index-table-requires : goal.index-table-requires

@@ -4,8 +4,8 @@ use Rattle.djq_index.specs.Tuple.{same, one_if}
 use Rattle.djq_tree.specs.declared.node.Node.TheVariants.{Trim}
 use Rattle.djq_propagate.specs.Touches.{reach_one}
 use Rattle.djq_propagate.proofs.Gains.{width_narrow, trim_few}
-use Rattle.djq_propagate.proofs.Going.{has_table}
-use Rattle.djq_propagate.proofs.Touching.{touched_none, touched_as, reach_yes, reach_no}
+use Rattle.djq_propagate.proofs.Walks.{has_table}
+use Rattle.djq_propagate.proofs.Touches.{touched_none, touched_as, reach_yes, reach_no}
 use Rattle.djq_propagate.proofs.touch.touch_part.Goals as goal
 
 pub part_of-requires-clause-within : goal.part_of-requires-clause-within

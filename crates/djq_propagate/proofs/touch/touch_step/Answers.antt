@@ -4,16 +4,14 @@ use Rattle.djq_index.specs.Entries.{Entry, marks, head_at}
 use Rattle.djq_tree.specs.Tree.{node_at}
 use Rattle.djq_reduct.specs.Tables.{entries_at}
 use Rattle.djq_propagate.specs.Touches.{reach_one, reach, cost_one}
-use Rattle.djq_propagate.proofs.Families.{same_keys}
-use Rattle.djq_propagate.proofs.Sides.{head_none}
+use Rattle.djq_propagate.proofs.Families.{same_keys, family_read, marks_read, length_read, live_read}
+use Rattle.djq_propagate.proofs.PathMarks.{head_none}
 use Rattle.djq_propagate.proofs.Gains.{width_narrow}
-use Rattle.djq_propagate.proofs.Going.{has_table, cut_of, as_live, moved_at}
-use Rattle.djq_propagate.proofs.Tabling.{family_read, marks_read, length_read, live_read}
-use Rattle.djq_propagate.proofs.Touching.{touched_none, touched_as, touched_more, reach_still}
-use Rattle.djq_propagate.proofs.Touching.{cost_still, reach_more, reach_nothing, cost_none}
-use Rattle.djq_propagate.proofs.Touching.{cost_more, cost_le, cost_bound, take_whole, cut_mark}
-use Rattle.djq_propagate.proofs.Touching.{drop_marks, step_lower, kids_still}
-use Rattle.djq_propagate.proofs.Fewing.{step_few}
+use Rattle.djq_propagate.proofs.Walks.{has_table, cut_of, as_live, moved_at}
+use Rattle.djq_propagate.proofs.Touches.{touched_none, touched_as, touched_more, reach_still, cost_still, reach_more}
+use Rattle.djq_propagate.proofs.Touches.{reach_nothing, cost_none, cost_more, cost_le, cost_bound, take_whole, cut_mark}
+use Rattle.djq_propagate.proofs.Touches.{drop_marks, step_lower, kids_still}
+use Rattle.djq_propagate.proofs.Batches.{step_few}
 use Rattle.djq_propagate.proofs.touch.touch_step.Goals as goal
 
 pub index-table-requires : goal.index-table-requires

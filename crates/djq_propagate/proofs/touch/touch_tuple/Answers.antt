@@ -5,10 +5,10 @@ use Rattle.djq_index.specs.Entries.{count_of, is_marked}
 use Rattle.djq_index.specs.Changes.{Touched}
 use Rattle.std.specs.Prelude.{slice_set}
 use Rattle.djq_reduct.specs.Tables.{entries_at}
-use Rattle.djq_propagate.proofs.Families.{apart_of}
-use Rattle.djq_propagate.proofs.Going.{has_table, as_live}
-use Rattle.djq_propagate.proofs.Tabling.{family_read, of_read, same_set, onto_key, changed_into, touched_supported}
-use Rattle.djq_propagate.proofs.Touching.{touched_none, touched_one, one_absent, one_marked}
+use Rattle.djq_propagate.proofs.Families.{apart_of, family_read, of_read, same_set, onto_key, changed_into}
+use Rattle.djq_propagate.proofs.Families.{touched_supported}
+use Rattle.djq_propagate.proofs.Walks.{has_table, as_live}
+use Rattle.djq_propagate.proofs.Touches.{touched_none, touched_one, one_absent, one_marked}
 use Rattle.djq_propagate.proofs.touch.touch_tuple.Goals as goal
 
 pub index_mut-table-requires : goal.index_mut-table-requires

@@ -3,13 +3,12 @@ use Rattle.std.proofs.Common.{false, ℕ, ◌+◌, ◌*◌, ◌<◌, ◌≤◌, 
 use Rattle.djq_tree.specs.Flat.{HasEqualMeets}
 use Rattle.djq_reduct.specs.Tables.{entries_at}
 use Rattle.djq_propagate.specs.Updates.{HasKept, HasAtMost, paths}
-use Rattle.djq_propagate.proofs.Fewing.{one_lived}
-use Rattle.djq_propagate.proofs.Going.{on_err}
-use Rattle.djq_propagate.proofs.Measuring.{add_by, sized}
-use Rattle.djq_propagate.proofs.Plains.{still_bare}
-use Rattle.djq_propagate.proofs.Rooms.{few_nodes, put_bounded}
-use Rattle.djq_propagate.proofs.Single.{more_length}
-use Rattle.djq_propagate.proofs.Updating.{rest_kept, both, leaf_within, ready_leaf, refused_kept, gained_all}
+use Rattle.djq_propagate.proofs.Batches.{one_lived}
+use Rattle.djq_propagate.proofs.Walks.{on_err}
+use Rattle.djq_propagate.proofs.Costs.{add_by, sized}
+use Rattle.djq_propagate.proofs.PathMarks.{still_bare}
+use Rattle.djq_propagate.proofs.RefusedCosts.{few_nodes, put_bounded, more_length}
+use Rattle.djq_propagate.proofs.Updates.{rest_kept, both, leaf_within, ready_leaf, refused_kept, gained_all}
 use Rattle.djq_propagate.proofs.update.add_leaf.Goals as goal
 
 pub insert_tuple-requires-clause-ready : goal.insert_tuple-requires-clause-ready

@@ -1,10 +1,10 @@
 -- No tuple came, so none is marked; counts go by how tables shrank, over equal meets by one at most.
 use Rattle.std.proofs.Common.{sym, arith}
-use Rattle.djq_propagate.proofs.Fewing.{one_died}
-use Rattle.djq_propagate.proofs.Measuring.{drop_by, sized}
-use Rattle.djq_propagate.proofs.Plains.{fewer_bare}
-use Rattle.djq_propagate.proofs.Single.{more_length}
-use Rattle.djq_propagate.proofs.Updating.{rest_kept, ready_leaf, lost_all}
+use Rattle.djq_propagate.proofs.Batches.{one_died}
+use Rattle.djq_propagate.proofs.Costs.{drop_by, sized}
+use Rattle.djq_propagate.proofs.PathMarks.{fewer_bare}
+use Rattle.djq_propagate.proofs.RefusedCosts.{more_length}
+use Rattle.djq_propagate.proofs.Updates.{rest_kept, ready_leaf, lost_all}
 use Rattle.djq_propagate.proofs.update.drop_leaf.Goals as goal
 
 pub find_and_remove-requires-clause-ready : goal.find_and_remove-requires-clause-ready

@@ -1,6 +1,6 @@
 -- All marks are on the leaf's path, so none is left; the path's nodes are no more than leaves and trims.
-use Rattle.djq_propagate.proofs.Measuring.{keep_by, keep_counted}
-use Rattle.djq_propagate.proofs.Updating.{rest_kept, kept_all}
+use Rattle.djq_propagate.proofs.Costs.{keep_by, keep_counted}
+use Rattle.djq_propagate.proofs.Updates.{rest_kept, kept_all}
 use Rattle.djq_propagate.proofs.update.finish_insertion.Goals as goal
 
 pub clear_path-requires-clause-family : goal.clear_path-requires-clause-family

@@ -1,9 +1,9 @@
 -- What went leaves marks on the path alone, which is then cleared; counts go by how tables shrank.
 use Rattle.std.proofs.Common.{sym}
-use Rattle.djq_propagate.proofs.Fewing.{few_taken, one_taken}
-use Rattle.djq_propagate.proofs.Measuring.{take_by, take_counted}
-use Rattle.djq_propagate.proofs.Single.{more_length}
-use Rattle.djq_propagate.proofs.Updating.{rest_kept, dropped_all}
+use Rattle.djq_propagate.proofs.Batches.{few_taken, one_taken}
+use Rattle.djq_propagate.proofs.Costs.{take_by, take_counted}
+use Rattle.djq_propagate.proofs.RefusedCosts.{more_length}
+use Rattle.djq_propagate.proofs.Updates.{rest_kept, dropped_all}
 use Rattle.djq_propagate.proofs.update.finish_removal.Goals as goal
 
 pub take_marked-requires-clause-reducts : goal.take_marked-requires-clause-reducts

@@ -3,15 +3,13 @@ use Rattle.std.proofs.Common.{ℕ, ◌+◌, ◌*◌, ◌<◌, ◌≤◌, List, l
 use Rattle.djq_index.specs.Entries.{Entry, count_of}
 use Rattle.djq_tree.specs.Flat.{HasEqualMeets}
 use Rattle.djq_reduct.specs.Tables.{entries_at}
-use Rattle.djq_propagate.specs.Updates.{HasKept}
-use Rattle.djq_propagate.proofs.Going.{on_err}
-use Rattle.djq_propagate.proofs.Fewing.{few_lived, one_lived}
-use Rattle.djq_propagate.proofs.Measuring.{put_by, put_counted}
-use Rattle.djq_propagate.proofs.Single.{more_length}
-use Rattle.djq_propagate.proofs.Updating.{rest_kept, both, leaf_within, leaf_below, reducts_lived, ready_leaf}
-use Rattle.djq_propagate.proofs.Updating.{bare_same, refused_kept, inserted_all, can_insert}
-use Rattle.djq_propagate.proofs.Rooms.{few_nodes, put_bounded}
-use Rattle.djq_propagate.specs.Updates.{HasAtMost, paths}
+use Rattle.djq_propagate.specs.Updates.{HasKept, HasAtMost, paths}
+use Rattle.djq_propagate.proofs.Walks.{on_err}
+use Rattle.djq_propagate.proofs.Batches.{few_lived, one_lived}
+use Rattle.djq_propagate.proofs.Costs.{put_by, put_counted}
+use Rattle.djq_propagate.proofs.RefusedCosts.{more_length, few_nodes, put_bounded}
+use Rattle.djq_propagate.proofs.Updates.{rest_kept, both, leaf_within, leaf_below, reducts_lived, ready_leaf, bare_same}
+use Rattle.djq_propagate.proofs.Updates.{refused_kept, inserted_all, can_insert}
 use Rattle.djq_propagate.proofs.update.insert_leaf.Goals as goal
 
 pub insert_tuple-requires-clause-ready : goal.insert_tuple-requires-clause-ready

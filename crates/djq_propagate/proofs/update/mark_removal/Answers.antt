@@ -2,9 +2,9 @@
 use Rattle.djq_index.specs.Tuple.{one_if, same}
 use Rattle.std.proofs.Common.{arith, length}
 use Rattle.djq_propagate.specs.Updates.{steps, paths}
-use Rattle.djq_propagate.proofs.Fewing.{few_marked}
-use Rattle.djq_propagate.proofs.Measuring.{count_mark, mark_counted, path_short}
-use Rattle.djq_propagate.proofs.Updating.{rest_kept, leaf_within, can_remove, marked_all}
+use Rattle.djq_propagate.proofs.Batches.{few_marked}
+use Rattle.djq_propagate.proofs.Costs.{count_mark, mark_counted, path_short}
+use Rattle.djq_propagate.proofs.Updates.{rest_kept, leaf_within, can_remove, marked_all}
 use Rattle.djq_propagate.proofs.update.mark_removal.Goals as goal
 
 pub touch_tuple-requires-clause-family : goal.touch_tuple-requires-clause-family

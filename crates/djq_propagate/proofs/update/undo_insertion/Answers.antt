@@ -1,5 +1,5 @@
 -- Reducts of one tree whose leaves hold the same tuples hold the same at every node.
-use Rattle.djq_propagate.proofs.Updating.{undone}
+use Rattle.djq_propagate.proofs.Updates.{undone}
 use Rattle.djq_propagate.proofs.update.undo_insertion.Goals as goal
 
 pub returns-clause-back : goal.returns-clause-back

@@ -1,6 +1,6 @@
 -- Variables taken and left make up the label, so there is room for the next; at the end none is left.
 use Rattle.std.proofs.Common.{◌∙◌, ap, List, ℕ, ◌++◌}
-use Rattle.djq_query.proofs.Binding.{taken_on, taken_room, taken_all}
+use Rattle.djq_query.proofs.Atoms.{taken_on, taken_room, taken_all}
 use Rattle.djq_query.proofs.bind.members.Goals as goal
 
 pub rest-preserved : goal.rest-preserved

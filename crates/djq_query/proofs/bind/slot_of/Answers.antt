@@ -1,5 +1,5 @@
 -- Which term stands at the column tells the slot: a variable's place among the members, or a constant's cell.
-use Rattle.djq_query.proofs.Binding.{slot_found, slot_fixed}
+use Rattle.djq_query.proofs.Atoms.{slot_found, slot_fixed}
 use Rattle.djq_query.proofs.bind.slot_of.Goals as goal
 
 pub returns-in-Variable : goal.returns-in-Variable

@@ -2,7 +2,7 @@
 use Rattle.std.proofs.Common.{◌+◌, ◌∙◌, ap, sym, List, ◌++◌, drop}
 use Rattle.djq_query.specs.declared.pattern.Slot.{Slot}
 use Rattle.djq_query.specs.Pattern.{bound}
-use Rattle.djq_query.proofs.Binding.{bound_on, bound_over}
+use Rattle.djq_query.proofs.Atoms.{bound_on, bound_over}
 use Rattle.djq_query.proofs.bind.slots_of.Goals as goal
 
 pub terms-preserved : goal.terms-preserved

@@ -2,7 +2,7 @@
 use Rattle.std.proofs.Common.{◌+◌, ◌∙◌, ap, sym, List, ◌++◌, [], drop, append-nil}
 use Rattle.djq_query.specs.declared.pattern.Test.{Test}
 use Rattle.djq_query.specs.Pattern.{tests_of}
-use Rattle.djq_query.proofs.Binding.{test_found, test_missed, tests_on, tests_over}
+use Rattle.djq_query.proofs.Atoms.{test_found, test_missed, tests_on, tests_over}
 use Rattle.djq_query.proofs.bind.tests_of.Goals.{in-Some+in_ok-push, in_default}
 use Rattle.djq_query.proofs.bind.tests_of.Goals as goal
 

@@ -1,7 +1,7 @@
 -- The index is past the terms or past the columns, so no place is left where the comparison doesn't suit.
 use Rattle.std.proofs.Common.{sym, arith}
 use Rattle.djq_protocol.specs.QueryFault.{is_miscompared}
-use Rattle.djq_query.proofs.Columns.{any_over}
+use Rattle.djq_query.proofs.Atoms.{any_over}
 use Rattle.djq_query.proofs.compared.any_miscompared.Goals as goal
 
 pub returns : goal.returns

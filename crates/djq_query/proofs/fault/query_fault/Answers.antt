@@ -1,13 +1,11 @@
 -- The first condition that holds is the fault, since none before it holds of the query's atoms and head.
 use Rattle.std.proofs.Common.{◌≡◌, true, false, ◌∙◌, sym}
 use Rattle.djq_value.specs.Literal.{are_different}
-use Rattle.djq_protocol.specs.QueryFault.{reads_unknown, has_wrong_arity, has_misfit, has_clash}
-use Rattle.djq_protocol.specs.QueryFault.{compares_unbound, has_miscompared, has_unbound_head}
-use Rattle.djq_protocol.specs.QueryFault.{is_too_large}
-use Rattle.djq_query.proofs.Faults.{clash_over, compared_unbound_over, miscompared_over}
-use Rattle.djq_query.proofs.Faults.{unbound_over, fault_arity, fault_misfit, fault_clash}
-use Rattle.djq_query.proofs.Faults.{fault_compared_unbound, fault_miscompared, fault_repeated}
-use Rattle.djq_query.proofs.Faults.{fault_unbound, fault_limit, fault_none}
+use Rattle.djq_protocol.specs.QueryFault.{reads_unknown, has_wrong_arity, has_misfit, has_clash, compares_unbound}
+use Rattle.djq_protocol.specs.QueryFault.{has_miscompared, has_unbound_head, is_too_large}
+use Rattle.djq_query.proofs.NumberedQueries.{clash_over, compared_unbound_over, miscompared_over, unbound_over}
+use Rattle.djq_query.proofs.NumberedQueries.{fault_arity, fault_misfit, fault_clash, fault_compared_unbound}
+use Rattle.djq_query.proofs.NumberedQueries.{fault_miscompared, fault_repeated, fault_unbound, fault_limit, fault_none}
 use Rattle.djq_query.proofs.fault.query_fault.Goals as goal
 
 pub returns-then-has_wrong_arity : goal.returns-then-has_wrong_arity

@@ -8,7 +8,7 @@ use Rattle.djq_model.specs.Data.{Bytes}
 use Rattle.djq_protocol.specs.Variables.{Label}
 use Rattle.djq_query.specs.declared.numbered.Variable.{Variable}
 use Rattle.djq_query.specs.Numbered.{labels, number_of, numbered_comparison, with_columns, AreNumbered}
-use Rattle.djq_query.proofs.Within.{within_of}
+use Rattle.djq_query.proofs.NumberedQueries.{within_of}
 use Rattle.djq_query.proofs.numbering.number_sound.Goals as goal
 
 pub new-requires : goal.new-requires

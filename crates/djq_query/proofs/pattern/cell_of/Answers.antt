@@ -1,5 +1,5 @@
 -- Which slot stands at the column tells its cell: the tuple's at a place, or the constant's own.
-use Rattle.djq_query.proofs.Matching.{cell_at, cell_fixed}
+use Rattle.djq_query.proofs.Atoms.{cell_at, cell_fixed}
 use Rattle.djq_query.proofs.pattern.cell_of.Goals as goal
 
 pub returns-in-Place : goal.returns-in-Place

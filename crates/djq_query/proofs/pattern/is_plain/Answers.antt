@@ -1,5 +1,5 @@
 -- Slots that are at their own columns give each tuple back up to the index, and past the end the whole of it.
-use Rattle.djq_query.proofs.Matching.{filled_none, plain_more, plain_all}
+use Rattle.djq_query.proofs.Atoms.{filled_none, plain_more, plain_all}
 use Rattle.djq_query.proofs.pattern.is_plain.Goals as goal
 
 pub columns-init : goal.columns-init

@@ -1,6 +1,6 @@
 -- Which slot stands at the column tells what is written: a cell at a place, and nothing for a constant.
 use Rattle.std.proofs.Common.{◌∙◌}
-use Rattle.djq_query.proofs.Matching.{put_at, put_fixed}
+use Rattle.djq_query.proofs.Atoms.{put_at, put_fixed}
 use Rattle.djq_query.proofs.pattern.put.Goals as goal
 
 pub returns-in-Place : goal.returns-in-Place

@@ -1,7 +1,7 @@
 -- The index is past the terms or past the columns, so no place is left where the variable clashes.
 use Rattle.std.proofs.Common.{sym, arith}
 use Rattle.djq_query.specs.Clashes.{clashes_with}
-use Rattle.djq_query.proofs.Columns.{any_over}
+use Rattle.djq_query.proofs.Atoms.{any_over}
 use Rattle.djq_query.proofs.places.any_clash.Goals as goal
 
 pub returns : goal.returns

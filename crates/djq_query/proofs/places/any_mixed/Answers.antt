@@ -1,7 +1,7 @@
 -- The index is past the terms or past the columns, so no place is left with a variable of two types.
 use Rattle.std.proofs.Common.{sym, arith}
 use Rattle.djq_query.specs.Clashes.{mixes}
-use Rattle.djq_query.proofs.Columns.{any_over}
+use Rattle.djq_query.proofs.Atoms.{any_over}
 use Rattle.djq_query.proofs.places.any_mixed.Goals as goal
 
 pub returns : goal.returns

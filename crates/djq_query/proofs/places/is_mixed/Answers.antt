@@ -1,6 +1,6 @@
 -- Only a named variable can stand at further columns; a hole and a constant are of no second type.
 use Rattle.std.proofs.Common.{sym, ◌∙◌}
-use Rattle.djq_query.proofs.Columns.{variable_mixes, hole_mixes, constant_mixes}
+use Rattle.djq_query.proofs.Atoms.{variable_mixes, hole_mixes, constant_mixes}
 use Rattle.djq_query.proofs.places.is_mixed.Goals as goal
 
 pub returns-in-Variable : goal.returns-in-Variable

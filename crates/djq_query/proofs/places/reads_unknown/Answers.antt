@@ -4,7 +4,7 @@ use Rattle.std.specs.Prelude.{is_none, not, ◌||◌}
 use Rattle.std.proofs.lemmas.List.Folds.{list_any_more}
 use Rattle.djq_model.specs.declared.query.Atom.{Atom}
 use Rattle.djq_model.specs.Data.{relation_of}
-use Rattle.djq_query.proofs.Relating.{id_none}
+use Rattle.djq_query.proofs.NumberedQueries.{id_none}
 use Rattle.djq_query.proofs.places.reads_unknown.Goals as goal
 
 pub loop-atom-preserved : goal.loop-atom-preserved

@@ -2,7 +2,7 @@
 use Rattle.std.proofs.Common.{sym, ◌∙◌, ap, ◌≡◌, ◌+◌, drop, true, false}
 use Rattle.std.specs.Prelude.{not, ◌&&◌}
 use Rattle.djq_value.specs.Literal.{are_different, has_name}
-use Rattle.djq_query.proofs.Differing.{rest_whole, different_rest}
+use Rattle.djq_query.proofs.Atoms.{rest_whole, different_rest}
 use Rattle.djq_query.proofs.variables.are_different.Goals as goal
 
 pub returns-then-has_name : goal.returns-then-has_name

@@ -1,7 +1,7 @@
 -- A fresh term adds one variable to those of the terms before it, and any other term adds none.
 use Rattle.std.proofs.Common.{arith, ◌∙◌, ◌+◌}
 use Rattle.djq_protocol.specs.Variables.{variables_of}
-use Rattle.djq_query.proofs.Counting.{count_more, count_same, many_terms}
+use Rattle.djq_query.proofs.Numbers.{count_more, count_same, many_terms}
 use Rattle.djq_query.proofs.variables.count_terms.Goals.{then-is_fresh+else-count-gt-VARIABLES, else-is_fresh}
 use Rattle.djq_query.proofs.variables.count_terms.Goals as goal
 

@@ -1,7 +1,7 @@
 -- More variables than the limit in the atoms up to the index are more in the whole body.
 use Rattle.std.proofs.Common.{sym, ap, ◌∙◌, ◌≡◌}
 use Rattle.djq_model.specs.declared.query.Atom.{Atom}
-use Rattle.djq_query.proofs.Counting.{many_atoms}
+use Rattle.djq_query.proofs.Numbers.{many_atoms}
 use Rattle.djq_query.proofs.variables.has_many.Goals as goal
 
 pub returns-then-count-gt-VARIABLES : goal.returns-then-count-gt-VARIABLES

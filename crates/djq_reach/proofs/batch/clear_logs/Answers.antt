@@ -3,7 +3,7 @@ use Rattle.std.proofs.Common.{arith, length, take, ℕ, List, Bool, subst, ◌�
 use Rattle.std.specs.Prelude.{◌&&◌}
 use Rattle.djq_reach.specs.Places.{is_reader, readers_at, watched_at}
 use Rattle.djq_reach.specs.Grouping.{Clears, reached}
-use Rattle.djq_reach.proofs.Clearing.{clears_both, reached_more, reached_one, watched_both}
+use Rattle.djq_reach.proofs.PlacedQueries.{clears_both, reached_more, reached_one, watched_both}
 use Rattle.djq_reach.proofs.batch.clear_logs.Goals as goal
 
 pub clear_watched-requires-clause-logged : goal.clear_watched-requires-clause-logged

@@ -3,8 +3,7 @@ use Rattle.std.proofs.Common.{arith, ℕ, Bool, refl, subst, take, slice_index_o
 use Rattle.std.specs.Prelude.{◌&&◌, ◌==◌}
 use Rattle.djq_reach.specs.Places.{is_reader, watched_at}
 use Rattle.djq_reach.specs.Tending.{Readies}
-use Rattle.djq_reach.proofs.Reaching.{reader_there}
-use Rattle.djq_reach.proofs.Clearing.{clears_at, clears_both, watched_more}
+use Rattle.djq_reach.proofs.PlacedQueries.{reader_there, clears_at, clears_both, watched_more}
 use Rattle.djq_reach.proofs.batch.clear_watched.Goals as goal
 
 pub is_watched-wanted-requires : goal.is_watched-wanted-requires

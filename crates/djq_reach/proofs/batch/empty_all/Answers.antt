@@ -3,7 +3,7 @@ use Rattle.std.proofs.Common.{arith, length, take, ℕ, List, subst, ◌<◌, �
 use Rattle.djq_reach.specs.Places.{is_reader, readers_at}
 use Rattle.djq_reach.specs.Grouping.{reached}
 use Rattle.djq_reach.specs.Tending.{Empties}
-use Rattle.djq_reach.proofs.Clearing.{clears_both, empties_clears, reached_more, reached_one}
+use Rattle.djq_reach.proofs.PlacedQueries.{clears_both, empties_clears, reached_more, reached_one}
 use Rattle.djq_reach.proofs.batch.empty_all.Goals as goal
 
 pub empty_logs-requires : goal.empty_logs-requires

@@ -4,18 +4,17 @@ use Rattle.std.specs.Prelude.{slice_index_or, sum_by}
 use Rattle.std.proofs.lemmas.List.Sums.{sum_by_more}
 use Rattle.djq_propagate.specs.Updates.{HasAtMost}
 use Rattle.djq_live_query.specs.Live.{SameQuery}
-use Rattle.djq_leaves.proofs.Sizing.{fewer_stay}
+use Rattle.djq_leaves.proofs.Costs.{fewer_stay}
 use Rattle.djq_reach.specs.declared.group.Group.{Group}
 use Rattle.djq_reach.specs.Batching.{LetsOutAll}
 use Rattle.djq_reach.specs.Places.{AreOnce, is_reader, readers_at}
 use Rattle.djq_reach.specs.Reaching.{Reach}
 use Rattle.djq_reach.specs.Tending.{work_at}
 use Rattle.djq_reach.specs.Grouping.{group_work, reached}
-use Rattle.djq_reach.proofs.Chaining.{Behind, all_on, behind_all, given_groups, group_few}
-use Rattle.djq_reach.proofs.Chaining.{group_goes, group_gone, reach_on, same_all}
-use Rattle.djq_reach.proofs.Clearing.{each_group, reached_one, take_whole}
-use Rattle.djq_reach.proofs.Reaching.{same_then}
-use Rattle.djq_reach.proofs.Summing.{sums_left, works_same}
+use Rattle.djq_reach.proofs.CatalogChains.{Behind, all_on, behind_all, given_groups, group_few, group_goes, group_gone}
+use Rattle.djq_reach.proofs.CatalogChains.{reach_on, same_all}
+use Rattle.djq_reach.proofs.PlacedQueries.{each_group, reached_one, take_whole, same_then}
+use Rattle.djq_reach.proofs.Batches.{sums_left, works_same}
 use Rattle.djq_reach.proofs.batch.give_groups_back.Goals as goal
 
 pub loop-left-init : goal.loop-left-init

@@ -5,7 +5,7 @@ use Rattle.djq_database.specs.Catalog.{Catalog}
 use Rattle.djq_live_query.specs.Live.{IsKept, SameQuery}
 use Rattle.djq_reach.specs.Reaching.{Reach, AllAt}
 use Rattle.djq_reach.specs.Grouping.{GroupsLead, group_work, reached}
-use Rattle.djq_reach.proofs.Chaining.{Behind}
+use Rattle.djq_reach.proofs.CatalogChains.{Behind}
 use Rattle.djq_reach.proofs.batch.give_groups_back.Given as goal
 
 abbrev pub invariant-loop-left : goal.invariant-loop-left

@@ -7,12 +7,11 @@ use Rattle.djq_reach.specs.declared.group.Group.{Group}
 use Rattle.djq_reach.specs.Places.{AreOnce, readers_at}
 use Rattle.djq_reach.specs.Tending.{LogTellsAt, Tends, work_at}
 use Rattle.djq_reach.specs.Grouping.{GroupsLead, group_work, reached, rows_of_groups, times_back}
-use Rattle.djq_reach.proofs.Chaining.{all_kept, few_more, group_comes, in_reached, renewed, takes_more, takes_same}
-use Rattle.djq_reach.proofs.Costing.{costs_all, costs_on, fresh_group, group_counts, rows_front}
-use Rattle.djq_reach.proofs.Costing.{rows_more, sum_more, sums_back, works_refused}
-use Rattle.djq_reach.proofs.Clearing.{reached_front, take_whole}
-use Rattle.djq_reach.proofs.Refusing.{emptied_all, few_mid, groups_back, groups_go, same_mid, unwatched_some}
-use Rattle.djq_reach.proofs.Telling.{tends_on}
+use Rattle.djq_reach.proofs.CatalogChains.{all_kept, few_more, group_comes, in_reached, renewed, takes_more, takes_same}
+use Rattle.djq_reach.proofs.Costs.{costs_all, costs_on, fresh_group, group_counts, rows_front, rows_more, sum_more}
+use Rattle.djq_reach.proofs.Costs.{sums_back, works_refused}
+use Rattle.djq_reach.proofs.PlacedQueries.{reached_front, take_whole}
+use Rattle.djq_reach.proofs.Groups.{emptied_all, few_mid, groups_back, groups_go, same_mid, unwatched_some, tends_on}
 use Rattle.djq_reach.proofs.batch.insert_batch_into_readers.Goals as goal
 
 pub insert_all_into_readers-requires-clause-once : goal.insert_all_into_readers-requires-clause-once

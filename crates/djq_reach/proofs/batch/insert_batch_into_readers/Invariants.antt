@@ -4,8 +4,8 @@ use Rattle.djq_propagate.specs.Updates.{HasAtMost}
 use Rattle.djq_reach.specs.Reaching.{Reach, AllAt}
 use Rattle.djq_reach.specs.Tending.{AreUnwatched, Tends, LogTellsAt}
 use Rattle.djq_reach.specs.Grouping.{GroupsLead, group_work, reached, rows_of_groups}
-use Rattle.djq_reach.proofs.Chaining.{TakesInBy}
-use Rattle.djq_reach.proofs.Costing.{CostsSo}
+use Rattle.djq_reach.proofs.CatalogChains.{TakesInBy}
+use Rattle.djq_reach.proofs.Costs.{CostsSo}
 use Rattle.djq_reach.proofs.batch.insert_batch_into_readers.Given as goal
 
 abbrev pub invariant-loop-at : goal.invariant-loop-at

@@ -7,9 +7,8 @@ use Rattle.djq_leaves.specs.Changes.{Went}
 use Rattle.djq_live_query.specs.Updating.{CanDelete}
 use Rattle.djq_reach.specs.Reaching.{LetsOut}
 use Rattle.djq_reach.specs.Tending.{LogTellsAt, TellsWhere}
-use Rattle.djq_reach.proofs.Reaching.{below_some, place_read, reach_read}
-use Rattle.djq_reach.proofs.Tending.{costs_one, lists_nothing, tells_where, tends_read}
-use Rattle.djq_reach.proofs.Working.{works_one}
+use Rattle.djq_reach.proofs.PlacedQueries.{below_some, place_read, reach_read}
+use Rattle.djq_reach.proofs.Logs.{costs_one, lists_nothing, tells_where, tends_read, works_one}
 use Rattle.djq_reach.proofs.reach.delete_at.Goals as goal
 
 pub returns : goal.returns

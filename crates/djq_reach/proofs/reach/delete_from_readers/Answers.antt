@@ -4,9 +4,9 @@ use Rattle.djq_leaves.specs.Changes.{Went}
 use Rattle.djq_live_query.specs.Updating.{CanDelete}
 use Rattle.djq_reach.specs.Reaching.{LetsOut}
 use Rattle.djq_reach.specs.Tending.{LogTellsAt}
-use Rattle.djq_reach.proofs.Reaching.{all_go, reach_next, reach_none, still}
-use Rattle.djq_reach.proofs.Tending.{costs_front, costs_none, costs_next, place_within, tends_next, tends_none}
-use Rattle.djq_reach.proofs.Working.{works_front, works_next, works_none}
+use Rattle.djq_reach.proofs.PlacedQueries.{all_go, reach_next, reach_none, still}
+use Rattle.djq_reach.proofs.Logs.{costs_front, costs_none, costs_next, place_within, tends_next, tends_none}
+use Rattle.djq_reach.proofs.Logs.{works_front, works_next, works_none}
 use Rattle.djq_reach.proofs.reach.delete_from_readers.Goals as goal
 
 pub loop-at-init : goal.loop-at-init

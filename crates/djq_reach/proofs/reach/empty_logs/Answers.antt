@@ -1,7 +1,7 @@
 -- Each of the places has a log, and the logs of the places so far stay empty as the next one is cleared.
 use Rattle.std.proofs.Common.{arith, slice_index_or, refl}
-use Rattle.djq_reach.proofs.Reaching.{reader_there}
-use Rattle.djq_reach.proofs.Tending.{empties_next}
+use Rattle.djq_reach.proofs.PlacedQueries.{reader_there}
+use Rattle.djq_reach.proofs.Logs.{empties_next}
 use Rattle.djq_reach.proofs.reach.empty_logs.Goals as goal
 
 pub index_mut-requires : goal.index_mut-requires

@@ -2,8 +2,8 @@
 use Rattle.std.proofs.Common.{◌∙◌, refl}
 use Rattle.djq_live_query.specs.Updating.{CanDelete}
 use Rattle.djq_reach.specs.Reaching.{LetsOut}
-use Rattle.djq_reach.proofs.Reaching.{all_go, reach_next, reach_none, still}
-use Rattle.djq_reach.proofs.Working.{works_front, works_next, works_none}
+use Rattle.djq_reach.proofs.PlacedQueries.{all_go, reach_next, reach_none, still}
+use Rattle.djq_reach.proofs.Logs.{works_front, works_next, works_none}
 use Rattle.djq_reach.proofs.reach.give_back.Goals as goal
 
 pub loop-at-init : goal.loop-at-init

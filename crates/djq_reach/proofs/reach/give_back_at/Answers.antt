@@ -1,8 +1,8 @@
 -- The place has a query, which is the one read, and what is done to it is done in this place alone.
 use Rattle.djq_live_query.specs.Updating.{CanDelete}
 use Rattle.djq_reach.specs.Reaching.{LetsOut}
-use Rattle.djq_reach.proofs.Reaching.{below_some, place_read, reach_read}
-use Rattle.djq_reach.proofs.Working.{works_one}
+use Rattle.djq_reach.proofs.PlacedQueries.{below_some, place_read, reach_read}
+use Rattle.djq_reach.proofs.Logs.{works_one}
 use Rattle.djq_reach.proofs.reach.give_back_at.Goals as goal
 
 pub returns-clause-reach : goal.returns-clause-reach

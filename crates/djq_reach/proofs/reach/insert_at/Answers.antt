@@ -8,10 +8,9 @@ use Rattle.djq_leaves.specs.Changes.{Came}
 use Rattle.djq_live_query.specs.Updating.{CanAdd}
 use Rattle.djq_reach.specs.Reaching.{Remains, TakesIn}
 use Rattle.djq_reach.specs.Tending.{LogShows, LogTellsAt, TellsWhere}
-use Rattle.djq_reach.proofs.Reaching.{below_some, place_read, reach_read}
-use Rattle.djq_reach.proofs.Tending.{costs_one, lists_nothing, on_both, on_err, on_ok, on_refused, shows_either}
-use Rattle.djq_reach.proofs.Tending.{tells_where, tends_read}
-use Rattle.djq_reach.proofs.Working.{works_one}
+use Rattle.djq_reach.proofs.PlacedQueries.{below_some, place_read, reach_read}
+use Rattle.djq_reach.proofs.Logs.{costs_one, lists_nothing, on_both, on_err, on_ok, on_refused, shows_either}
+use Rattle.djq_reach.proofs.Logs.{tells_where, tends_read, works_one}
 use Rattle.djq_reach.proofs.reach.insert_at.Goals as goal
 
 pub returns : goal.returns

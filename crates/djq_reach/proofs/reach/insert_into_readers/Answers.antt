@@ -4,10 +4,9 @@ use Rattle.djq_leaves.specs.Changes.{Came}
 use Rattle.djq_live_query.specs.Updating.{CanAdd}
 use Rattle.djq_reach.specs.Reaching.{TakesIn}
 use Rattle.djq_reach.specs.Tending.{LogShows, LogTellsAt}
-use Rattle.djq_reach.proofs.Reaching.{all_come, front_goes, given_back, once_front, reach_next, reach_none, still}
-use Rattle.djq_reach.proofs.Tending.{costs_front, costs_next, costs_none, place_within, shows_front}
-use Rattle.djq_reach.proofs.Tending.{tells_show, tends_next, tends_none}
-use Rattle.djq_reach.proofs.Working.{works_back, works_front, works_next, works_none}
+use Rattle.djq_reach.proofs.PlacedQueries.{all_come, front_goes, given_back, once_front, reach_next, reach_none, still}
+use Rattle.djq_reach.proofs.Logs.{costs_front, costs_next, costs_none, place_within, shows_front, tells_show}
+use Rattle.djq_reach.proofs.Logs.{tends_next, tends_none, works_back, works_front, works_next, works_none}
 use Rattle.djq_reach.proofs.reach.insert_into_readers.Goals as goal
 
 pub loop-at-init : goal.loop-at-init

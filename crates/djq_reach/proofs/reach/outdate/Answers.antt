@@ -1,7 +1,7 @@
 -- No place stands twice, so the query in the next place is as it was.
 use Rattle.std.specs.Prelude.{⊤}
 use Rattle.djq_reach.specs.Reaching.{Ages}
-use Rattle.djq_reach.proofs.Reaching.{reach_next, still}
+use Rattle.djq_reach.proofs.PlacedQueries.{reach_next, still}
 use Rattle.djq_reach.proofs.reach.outdate.Goals as goal
 
 pub outdate_at-requires : goal.outdate_at-requires

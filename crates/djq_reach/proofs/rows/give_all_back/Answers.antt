@@ -3,8 +3,8 @@ use Rattle.std.proofs.Common.{◌∙◌, ◌+◌, refl, false, length}
 use Rattle.djq_propagate.specs.Updates.{HasAtMost}
 use Rattle.djq_reach.specs.Batching.{CanGiveAll, LetsOutAll}
 use Rattle.djq_reach.specs.Tending.{work_of}
-use Rattle.djq_reach.proofs.Batching.{all_go_out, bounds_front, bounds_next, bounds_none}
-use Rattle.djq_reach.proofs.Reaching.{reach_next, reach_none, still}
+use Rattle.djq_reach.proofs.Batches.{all_go_out, bounds_front, bounds_next, bounds_none}
+use Rattle.djq_reach.proofs.PlacedQueries.{reach_next, reach_none, still}
 use Rattle.djq_reach.proofs.rows.give_all_back.Goals as goal
 
 pub loop-at-init : goal.loop-at-init

@@ -1,10 +1,10 @@
 -- Over a catalog into which the rows that are left came the query is kept, so the last of them can go.
 use Rattle.std.proofs.Common.{ℕ, List, arith, take, length, subst, ◌∙◌, ◌-◌, ◌≤◌}
 use Rattle.djq_propagate.specs.Updates.{HasAtMost}
-use Rattle.djq_reach.proofs.Batching.{Among, all_gone, counts_as_one, counts_gone, fewer_then}
-use Rattle.djq_reach.proofs.Batching.{last_goes, last_gone, left_none, left_one}
-use Rattle.djq_reach.proofs.Reaching.{same_then}
-use Rattle.djq_leaves.proofs.Sizing.{fewer_stay}
+use Rattle.djq_reach.proofs.Batches.{Among, all_gone, counts_as_one, counts_gone, fewer_then, last_goes, last_gone}
+use Rattle.djq_reach.proofs.Batches.{left_none, left_one}
+use Rattle.djq_reach.proofs.PlacedQueries.{same_then}
+use Rattle.djq_leaves.proofs.Costs.{fewer_stay}
 use Rattle.djq_reach.proofs.rows.give_rows_back.Goals as goal
 
 pub give_back-requires : goal.give_back-requires

@@ -5,7 +5,7 @@ use Rattle.djq_live_query.specs.Live.{IsKept, SameQuery}
 use Rattle.djq_leaves.specs.Stepping.{HasMore}
 use Rattle.djq_live_query.specs.Updating.{CountsUpdate}
 use Rattle.djq_reach.specs.Batching.{RowsCameIn}
-use Rattle.djq_reach.proofs.Batching.{Among}
+use Rattle.djq_reach.proofs.Batches.{Among}
 use Rattle.djq_reach.proofs.rows.give_rows_back.Given as goal
 
 abbrev pub invariant-loop-left : goal.invariant-loop-left

@@ -3,8 +3,8 @@ use Rattle.std.proofs.Common.{◌+◌, false, length}
 use Rattle.djq_propagate.specs.Updates.{HasAtMost}
 use Rattle.djq_reach.specs.Batching.{CanGiveAll, LetsOutAll}
 use Rattle.djq_reach.specs.Tending.{work_of}
-use Rattle.djq_reach.proofs.Batching.{bounds_one, works_update}
-use Rattle.djq_reach.proofs.Reaching.{below_some, place_read, reach_read}
+use Rattle.djq_reach.proofs.Batches.{bounds_one, works_update}
+use Rattle.djq_reach.proofs.PlacedQueries.{below_some, place_read, reach_read}
 use Rattle.djq_reach.proofs.rows.give_rows_back_at.Goals as goal
 
 pub returns-clause-reach : goal.returns-clause-reach

@@ -5,20 +5,10 @@ use Rattle.djq_leaves.specs.Changes.{CameAll}
 use Rattle.djq_live_query.specs.Updating.{CanAddAll}
 use Rattle.djq_reach.specs.Batching.{LogsAt, TakesInAll}
 use Rattle.djq_reach.specs.Tending.{work_of}
-use Rattle.djq_reach.proofs.Batching.{
-  all_come_in,
-  batch_back,
-  bounds_front,
-  bounds_next,
-  bounds_none,
-  front_gives,
-  given_all_back,
-  others_front,
-  others_next,
-  others_none,
-}
-use Rattle.djq_reach.proofs.Reaching.{once_front, reach_next, reach_none, still}
-use Rattle.djq_reach.proofs.Tending.{costs_front, costs_next, costs_none, place_within, tends_next, tends_none}
+use Rattle.djq_reach.proofs.Batches.{all_come_in, batch_back, bounds_front, bounds_next, bounds_none, front_gives}
+use Rattle.djq_reach.proofs.Batches.{given_all_back, others_front, others_next, others_none}
+use Rattle.djq_reach.proofs.PlacedQueries.{once_front, reach_next, reach_none, still}
+use Rattle.djq_reach.proofs.Logs.{costs_front, costs_next, costs_none, place_within, tends_next, tends_none}
 use Rattle.djq_reach.proofs.rows.insert_all_into_readers.Goals as goal
 
 pub loop-at-init : goal.loop-at-init

@@ -5,9 +5,9 @@ use Rattle.djq_live_query.specs.Updating.{CanAddAll, LogsWhere}
 use Rattle.djq_propagate.specs.Updates.{HasAtMost}
 use Rattle.djq_reach.specs.Batching.{LogsAt, StaysUnchanged, TakesInAll}
 use Rattle.djq_reach.specs.Tending.{work_of}
-use Rattle.djq_reach.proofs.Batching.{bounds_one, others_set}
-use Rattle.djq_reach.proofs.Reaching.{below_some, place_read, reach_read}
-use Rattle.djq_reach.proofs.Tending.{costs_one, lists_nothing, on_both, on_err, on_ok, on_refused, tends_read}
+use Rattle.djq_reach.proofs.Batches.{bounds_one, others_set}
+use Rattle.djq_reach.proofs.PlacedQueries.{below_some, place_read, reach_read}
+use Rattle.djq_reach.proofs.Logs.{costs_one, lists_nothing, on_both, on_err, on_ok, on_refused, tends_read}
 use Rattle.djq_reach.proofs.rows.insert_rows_at.Goals as goal
 
 pub returns-clause-ok : goal.returns-clause-ok

@@ -1,6 +1,6 @@
 -- The variables left begin at the column, so the variable is the first of them or stands further behind.
 use Rattle.std.proofs.Common.{arith}
-use Rattle.djq_reduct.proofs.Placing.{column_found, column_missed, column_left, same_option, other_option}
+use Rattle.djq_reduct.proofs.Assignments.{column_found, column_missed, column_left, same_option, other_option}
 use Rattle.djq_reduct.proofs.columns.column_of.Goals as goal
 
 pub returns-then-eq : goal.returns-then-eq

@@ -1,7 +1,7 @@
 -- Columns of the variables taken and of those left make up the key's; at the end none is left.
 use Rattle.std.proofs.Common.{◌∙◌, List, ℕ, [], ◌∷◌, ◌++◌, ap}
 use Rattle.djq_reduct.specs.Columns.{columns}
-use Rattle.djq_reduct.proofs.Placing.{columns_step, columns_end}
+use Rattle.djq_reduct.proofs.Assignments.{columns_step, columns_end}
 use Rattle.djq_reduct.proofs.columns.columns_of.Goals as goal
 
 pub loop-variable-preserved : goal.loop-variable-preserved

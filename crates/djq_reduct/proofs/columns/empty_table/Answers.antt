@@ -1,5 +1,5 @@
 -- A node's key lies within its label, as the tree's law says, so its columns are columns of the table.
-use Rattle.djq_reduct.proofs.Placing.{columns_within}
+use Rattle.djq_reduct.proofs.Assignments.{columns_within}
 use Rattle.djq_reduct.proofs.columns.empty_table.Goals as goal
 
 pub new-requires : goal.new-requires

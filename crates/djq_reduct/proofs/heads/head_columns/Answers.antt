@@ -3,7 +3,7 @@ use Rattle.std.proofs.Common.{◌≡◌, ℕ, List, ◌++◌, ◌∷◌, [], len
 use Rattle.djq_tree.specs.Labels.{label_at}
 use Rattle.djq_reduct.specs.Columns.{columns}
 use Rattle.djq_reduct.specs.Heads.{head_columns}
-use Rattle.djq_reduct.proofs.Heading.{heads_none, heads_on}
+use Rattle.djq_reduct.proofs.Paths.{heads_none, heads_on}
 use Rattle.djq_reduct.proofs.heads.head_columns.Goals as goal
 
 pub loop-node-init : goal.loop-node-init

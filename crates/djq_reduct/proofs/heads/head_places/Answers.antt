@@ -3,7 +3,7 @@ use Rattle.std.proofs.Common.{◌≡◌, ℕ, List, ◌++◌, ◌∷◌, [], sym
 use Rattle.djq_hypergraph.specs.declared.var_set.TheConstants.{VARIABLES}
 use Rattle.djq_reduct.specs.Columns.{column}
 use Rattle.djq_reduct.specs.Heads.{head_places}
-use Rattle.djq_reduct.proofs.Heading.{places_none, places_on}
+use Rattle.djq_reduct.proofs.Paths.{places_none, places_on}
 use Rattle.djq_reduct.proofs.heads.head_places.Goals as goal
 
 pub loop-variable-init : goal.loop-variable-init

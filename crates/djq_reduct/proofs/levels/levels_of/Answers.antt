@@ -1,7 +1,7 @@
 -- A trim at the index is the highest of the levels that are left, so it comes behind those that were found.
 use Rattle.std.proofs.Common.{◌∙◌, ◌-◌, ◌++◌, List, ℕ, ap, refl, arith, rules}
 use Rattle.djq_tree.specs.Levels.{levels, levels_below}
-use Rattle.djq_reduct.proofs.Finding.{level_found}
+use Rattle.djq_reduct.proofs.Paths.{level_found}
 use Rattle.djq_reduct.proofs.levels.levels_of.Goals as goal
 
 pub loop-at-preserved-in-Continue-1 : goal.loop-at-preserved-in-Continue-1

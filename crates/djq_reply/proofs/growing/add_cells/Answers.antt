@@ -4,7 +4,7 @@ use Rattle.std.proofs.lemmas.Option.{get_or_from_slice_get, slice_get_within}
 use Rattle.djq_model.specs.ValueRef.{value_lent}
 use Rattle.djq_protocol.specs.Reply.{cells_text}
 use Rattle.djq_value.specs.ValueText.{value_text}
-use Rattle.djq_reply.proofs.Adding.{adds_err, cut_at_item, cut_whole, put_item}
+use Rattle.djq_reply.proofs.Printing.{adds_err, cut_at_item, cut_whole, put_item}
 use Rattle.djq_reply.proofs.growing.add_cells.Goals as goal
 
 pub returns-in_err-print_cell : goal.returns-in_err-print_cell

@@ -1,7 +1,7 @@
 -- What is written behind a first piece makes one text with it, or finds no room for the whole.
 use Rattle.std.proofs.Common.{◌∷◌, []}
 use Rattle.djq_protocol.specs.Reply.{cells_text, line}
-use Rattle.djq_reply.proofs.Taking.{writes_more}
+use Rattle.djq_reply.proofs.Printing.{writes_more}
 use Rattle.djq_reply.proofs.growing.write_answer.Goals as goal
 
 pub returns : goal.returns

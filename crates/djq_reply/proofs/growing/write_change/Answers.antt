@@ -3,8 +3,8 @@ use Rattle.std.proofs.Common.{◌∷◌, [], ◌++◌, sym, subst, append_assoc}
 use Rattle.djq_model.specs.Data.{Bytes}
 use Rattle.djq_protocol.specs.Reply.{cells_text, line, sign_text}
 use Rattle.djq_value.specs.Writing.{Writes, Written}
-use Rattle.djq_value.proofs.Writing.{written_more}
-use Rattle.djq_reply.proofs.Taking.{writes_more}
+use Rattle.djq_value.proofs.Texts.{written_more}
+use Rattle.djq_reply.proofs.Printing.{writes_more}
 use Rattle.djq_reply.proofs.growing.write_change.Goals as goal
 
 pub returns : goal.returns

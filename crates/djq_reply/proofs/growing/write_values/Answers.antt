@@ -3,7 +3,7 @@ use Rattle.std.proofs.Common.{◌∷◌}
 use Rattle.std.proofs.lemmas.Option.{get_or_from_slice_get, slice_get_within}
 use Rattle.djq_model.specs.ValueRef.{value_lent}
 use Rattle.djq_value.specs.ValueText.{value_text}
-use Rattle.djq_reply.proofs.Taking.{written_item}
+use Rattle.djq_reply.proofs.Printing.{written_item}
 use Rattle.djq_reply.proofs.growing.write_values.Goals as goal
 
 pub loop-place-preserved : goal.loop-place-preserved

@@ -2,7 +2,7 @@
 use Rattle.std.proofs.Common.{◌∷◌, ◌<◌, ℕ, List, length, get_or, ap, sym, subst, ◌∙◌}
 use Rattle.djq_hypergraph.specs.Naming.{edge_text}
 use Rattle.djq_protocol.specs.Reply.{edges_text}
-use Rattle.djq_reply.proofs.Adding.{adds_err, cut_at_item}
+use Rattle.djq_reply.proofs.Printing.{adds_err, cut_at_item}
 use Rattle.djq_reply.proofs.registered.add_edges.Goals as goal
 
 pub returns-in_err-add_edge : goal.returns-in_err-add_edge

@@ -1,5 +1,5 @@
 use Rattle.std.proofs.Common.{length}
-use Rattle.djq_reply.proofs.Edges.{ListedSoFar}
+use Rattle.djq_reply.proofs.Printing.{ListedSoFar}
 use Rattle.djq_reply.proofs.registered.add_listed.Given as goal
 
 abbrev pub invariant-variables : goal.invariant-variables

@@ -1,5 +1,5 @@
 -- A number below 10 is printed as one byte, the digit's, so the bytes put are those of two numbers.
-use Rattle.djq_reply.proofs.Digits.{and_digit}
+use Rattle.djq_reply.proofs.Printing.{and_digit}
 use Rattle.djq_reply.proofs.short.say_with_digit.Goals as goal
 
 pub returns-clause-says : goal.returns-clause-says

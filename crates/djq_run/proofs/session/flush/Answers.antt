@@ -2,9 +2,8 @@
 use Rattle.std.proofs.Common.{rules, ◌≤◌, ◌∙◌, length, take, refl, ap, arith}
 use Rattle.djq_machine.specs.Run.{pending_of}
 use Rattle.djq_run_laws.specs.Moved.{SessionTakes}
-use Rattle.djq_run_laws.proofs.Moving.{took_facts}
-use Rattle.djq_run.proofs.Going.{goes_begun, goes_then, by_write, by_fault}
-use Rattle.djq_run.proofs.Parts.{fewer_pending, none_pending}
+use Rattle.djq_run_laws.proofs.Courses.{took_facts}
+use Rattle.djq_run.proofs.Runs.{goes_begun, goes_then, by_write, by_fault, fewer_pending, none_pending}
 use Rattle.djq_run.proofs.session.flush.Goals as goal
 
 -- nothing was written yet

@@ -2,7 +2,7 @@
 use Rattle.std.proofs.Common.{refl, sym, ◌∙◌, arith}
 use Rattle.djq_machine.specs.Call.{counts}
 use Rattle.djq_run_laws.specs.Course.{outside}
-use Rattle.djq_run.proofs.Ending.{run_ends, so_far_more, turns_used, not_opened, begun}
+use Rattle.djq_run.proofs.Runs.{run_ends, so_far_more, turns_used, not_opened, begun}
 use Rattle.djq_run.proofs.session.run_session.Goals as goal
 
 -- The session isn't opened.

@@ -4,8 +4,7 @@ use Rattle.djq_protocol.specs.declared.answer.EndCause.TheVariants.{Input}
 use Rattle.djq_machine.specs.State.{State}
 use Rattle.djq_machine.specs.Call.{Counts, counts}
 use Rattle.djq_run.specs.Parts.{GoesTo, with_sink}
-use Rattle.djq_run.proofs.Going.{goes_begun, goes_then}
-use Rattle.djq_run.proofs.Parts.{line_ran, line_ended, one_cause}
+use Rattle.djq_run.proofs.Runs.{goes_begun, goes_then, line_ran, line_ended, one_cause}
 use Rattle.djq_run.proofs.session.serve_held.Goals as goal
 
 -- Nothing was done yet.

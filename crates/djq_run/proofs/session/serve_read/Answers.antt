@@ -4,11 +4,11 @@ use Rattle.std.specs.Prelude.{Option}
 use Rattle.djq_machine.specs.Call.{counts}
 use Rattle.djq_io.specs.declared.limits.TheConstants.{READ_BYTES}
 use Rattle.djq_run_laws.specs.Course.{outside}
-use Rattle.djq_run_laws.proofs.Moving.{fed_facts, ended_facts}
+use Rattle.djq_run_laws.proofs.Courses.{fed_facts, ended_facts}
 use Rattle.djq_run.specs.declared.status.Status.{Status}
 use Rattle.djq_run.specs.Parts.{ReadEnds}
-use Rattle.djq_run.proofs.Going.{by_piece, by_end, by_failure, goes_then}
-use Rattle.djq_run.proofs.Ending.{piece_open, piece_ends, end_open, input_ended, ends_done, still_at_end}
+use Rattle.djq_run.proofs.Runs.{by_piece, by_end, by_failure, goes_then, piece_open, piece_ends, end_open, input_ended}
+use Rattle.djq_run.proofs.Runs.{ends_done, still_at_end}
 use Rattle.djq_run.proofs.session.serve_read.Goals as goal
 
 pub serve_held-requires : goal.serve_held-requires

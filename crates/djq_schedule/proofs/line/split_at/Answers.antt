@@ -1,7 +1,7 @@
 -- The sign that was found is the first one; where none was found all bytes stand before it.
 use Rattle.std.proofs.Common.{ℕ, List, ◌-◌, ◌+◌, ◌∙◌, Some, length, drop, sym, ap, arith, length-drop}
 use Rattle.std.proofs.lemmas.List.{take_all}
-use Rattle.djq_schedule.proofs.Splitting.{split_first, split_none_of}
+use Rattle.djq_schedule.proofs.Schedules.{split_first, split_none_of}
 use Rattle.djq_schedule.proofs.line.split_at.Goals as goal
 
 pub returns-in-Some-clause-before : goal.returns-in-Some-clause-before

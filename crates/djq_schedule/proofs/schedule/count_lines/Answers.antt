@@ -1,7 +1,6 @@
 -- Where a byte is left a line begins there, and what is left behind that line is shorter.
 use Rattle.std.proofs.Common.{◌<◌, length, arith, rules}
-use Rattle.djq_schedule.proofs.Making.{smaller}
-use Rattle.djq_schedule.proofs.Counting.{one_line_more}
+use Rattle.djq_schedule.proofs.Schedules.{smaller, one_line_more}
 use Rattle.djq_schedule.proofs.schedule.count_lines.Goals as goal
 
 pub lines-smaller : goal.lines-smaller

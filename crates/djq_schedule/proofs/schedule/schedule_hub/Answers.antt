@@ -1,6 +1,6 @@
 -- The lines so far are those that the hub was made of, so one that isn't added is the first outside.
 use Rattle.std.proofs.Common.{◌<◌, length, rules}
-use Rattle.djq_schedule.proofs.Making.{line_added, line_outside, smaller, not_empty}
+use Rattle.djq_schedule.proofs.Schedules.{line_added, line_outside, smaller, not_empty}
 use Rattle.djq_schedule.proofs.schedule.schedule_hub.Goals as goal
 
 pub lines-smaller : goal.lines-smaller

@@ -1,5 +1,5 @@
 use Rattle.std.proofs.Common.{length}
-use Rattle.djq_schedule.proofs.Making.{Making}
+use Rattle.djq_schedule.proofs.Schedules.{Making}
 use Rattle.djq_schedule.proofs.schedule.schedule_hub.Given as goal
 
 abbrev pub invariant-lines : goal.invariant-lines

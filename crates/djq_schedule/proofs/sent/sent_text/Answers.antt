@@ -1,7 +1,7 @@
 -- A send puts its bytes behind what its session's line has so far, and any other call changes no text.
 use Rattle.std.proofs.Common.{ℕ, List, sym, ap, ◌∙◌}
 use Rattle.djq_io.specs.declared.hub.Told.TheVariants.{Sending}
-use Rattle.djq_schedule.proofs.Sending.{sending_at, other_at}
+use Rattle.djq_schedule.proofs.Schedules.{sending_at, other_at}
 use Rattle.djq_schedule.proofs.sent.sent_text.Goals as goal
 use Rattle.djq_schedule.proofs.sent.sent_text.Goals.{in-Sending+in_ok-add_piece, in_default}
 

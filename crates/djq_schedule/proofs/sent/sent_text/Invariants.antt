@@ -1,7 +1,7 @@
 use Rattle.std.proofs.Common.{ℕ, [], take, nat_eq}
 use Rattle.std.specs.HashMap.{get}
 use Rattle.std.specs.Option.{option_map_or}
-use Rattle.djq_schedule.proofs.Sending.{HasSent}
+use Rattle.djq_schedule.proofs.Schedules.{HasSent}
 use Rattle.djq_schedule.proofs.sent.sent_text.Given as goal
 
 abbrev pub invariant-loop-told : goal.invariant-loop-told

@@ -1,7 +1,6 @@
 -- The hub and the machine have the same open sessions, and both are without the one that is closed.
 use Rattle.std.proofs.Common.{rules}
-use Rattle.djq_serve.proofs.Agreeing.{open_at_hub, agrees_closed}
-use Rattle.djq_serve.proofs.Settling.{closed_ids}
+use Rattle.djq_serve.proofs.Sessions.{open_at_hub, agrees_closed, closed_ids}
 use Rattle.djq_serve.proofs.flushing.close.Goals as goal
 
 pub close-requires : goal.close-requires

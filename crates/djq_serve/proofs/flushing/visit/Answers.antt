@@ -2,13 +2,11 @@
 use Rattle.std.proofs.Common.{◌≡◌, ◌+◌, ◌<◌, ◌∙◌, ℕ, [], length, sym, ap, rules, arith}
 use Rattle.djq_machine.specs.Step.{took}
 use Rattle.djq_machine.specs.Run.{pending_of}
-use Rattle.djq_run_laws.proofs.Rising.{step_ids}
-use Rattle.djq_serve.proofs.Telling.{tells_send, tells_more}
-use Rattle.djq_serve.proofs.Agreeing.{agrees_same, due_ended, open_at_hub}
-use Rattle.djq_serve.proofs.Settling.{took_spares, closed_spares}
-use Rattle.djq_serve.proofs.Moving.{visit_blocked, visit_gone, visit_closes}
-use Rattle.djq_serve.proofs.Visiting.{empty, at_place, offers_all, takes_some}
-use Rattle.djq_serve.proofs.Nearing.{took_nearer, closed_nearer}
+use Rattle.djq_run_laws.proofs.Sessions.{step_ids}
+use Rattle.djq_serve.proofs.Moves.{tells_send, tells_more, visit_blocked, visit_gone, visit_closes}
+use Rattle.djq_serve.proofs.Sessions.{agrees_same, due_ended, open_at_hub, took_spares, closed_spares, took_nearer}
+use Rattle.djq_serve.proofs.Sessions.{closed_nearer}
+use Rattle.djq_serve.proofs.Turns.{empty, at_place, offers_all, takes_some}
 use Rattle.djq_serve.proofs.flushing.visit.Goals as goal
 
 pub send-requires-clause-is_open : goal.send-requires-clause-is_open

@@ -1,7 +1,7 @@
 -- A session is open exactly where its id is among those that the machine lists.
 use Rattle.std.proofs.Common.{ℕ, List, ◌∙◌, nat_eq, sym, ap}
 use Rattle.std.specs.List.{list_any}
-use Rattle.djq_serve.proofs.Agreeing.{served_by}
+use Rattle.djq_serve.proofs.Sessions.{served_by}
 use Rattle.djq_serve.proofs.running.is_served.Goals as goal
 
 pub returns-then-not-stopped : goal.returns-then-not-stopped

@@ -6,13 +6,11 @@ use Rattle.djq_machine.specs.Call.{counts, groups_by}
 use Rattle.djq_serve.specs.declared.served.Served.TheVariants.{DiskFault, LogFull}
 use Rattle.djq_serve.specs.Server.{lines, server}
 use Rattle.djq_serve.specs.Goes.{far}
-use Rattle.djq_serve.proofs.Accepting.{step_group, step_lines}
-use Rattle.djq_serve.proofs.Holding.{goes_hold_lines}
-use Rattle.djq_serve.proofs.Keeping.{none_kept, kept_then, keeps_then, lines_kept, lines_lost}
-use Rattle.djq_serve.proofs.Keeping.{lines_left, some_group, full_some, failed_isnt_all}
-use Rattle.djq_serve.proofs.Keeping.{full_isnt_all}
-use Rattle.djq_serve.proofs.Lining.{lines_begun, ran_agrees, line_then, line_fails, line_fills}
-use Rattle.djq_serve.proofs.Lining.{line_smaller, not_lined, dry_lined, ended_lined}
+use Rattle.djq_serve.proofs.LoggedGroups.{step_group, step_lines, none_kept, kept_then, keeps_then, lines_kept}
+use Rattle.djq_serve.proofs.LoggedGroups.{lines_lost, lines_left, some_group, full_some, failed_isnt_all, full_isnt_all}
+use Rattle.djq_serve.proofs.Moves.{goes_hold_lines}
+use Rattle.djq_serve.proofs.Turns.{lines_begun, ran_agrees, line_then, line_fails, line_fills, line_smaller, not_lined}
+use Rattle.djq_serve.proofs.Turns.{dry_lined, ended_lined}
 use Rattle.djq_serve.proofs.running.run_lines.Goals as goal
 
 pub lines-init : goal.lines-init

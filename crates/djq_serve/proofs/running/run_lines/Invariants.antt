@@ -4,7 +4,7 @@ use Rattle.djq_machine.specs.Run.{Group}
 use Rattle.djq_machine.specs.Call.{counts, held_of}
 use Rattle.djq_serve.specs.Told.{hub_shown}
 use Rattle.djq_serve.specs.Logged.{AllKept}
-use Rattle.djq_serve.proofs.Lining.{Lining}
+use Rattle.djq_serve.proofs.Turns.{Lining}
 use Rattle.djq_serve.proofs.running.run_lines.Given as goal
 
 -- The lines so far were run, and what they did is kept.

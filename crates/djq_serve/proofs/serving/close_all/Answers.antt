@@ -1,10 +1,8 @@
 -- The first id is that of an open session, and without it one fewer is open, until none is.
 use Rattle.std.proofs.Common.{ℕ, List, ◌≡◌, ◌∙◌, None, Some, length, slice_get, refl, sym, ap, rules, arith}
 use Rattle.djq_serve.specs.Server.{closing, server, first_open}
-use Rattle.djq_serve.proofs.Going.{quietly_none, quietly_then}
-use Rattle.djq_serve.proofs.Agreeing.{first_is_open, first_fewer, none_first}
-use Rattle.djq_serve.proofs.Settling.{closed_ids}
-use Rattle.djq_serve.proofs.Moving.{closing_goes}
+use Rattle.djq_serve.proofs.Moves.{quietly_none, quietly_then, closing_goes}
+use Rattle.djq_serve.proofs.Sessions.{first_is_open, first_fewer, none_first, closed_ids}
 use Rattle.djq_serve.proofs.serving.close_all.Goals as goal
 
 pub closes-init : goal.closes-init

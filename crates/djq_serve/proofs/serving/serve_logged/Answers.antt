@@ -1,8 +1,8 @@
 -- Without sessions the machine and the hub agree, no session has bytes to be run, and no batch is open.
-use Rattle.djq_run_laws.proofs.Holding.{none_hold_lines}
-use Rattle.djq_serve.proofs.Agreeing.{agrees_none}
-use Rattle.djq_serve.proofs.Ending.{none_settled}
-use Rattle.djq_serve.proofs.Completing.{serve_logs}
+use Rattle.djq_run_laws.proofs.BatchLines.{none_hold_lines}
+use Rattle.djq_serve.proofs.Sessions.{agrees_none}
+use Rattle.djq_serve.proofs.LoggedGroups.{none_settled}
+use Rattle.djq_serve.proofs.Promises.{serve_logs}
 use Rattle.djq_serve.proofs.serving.serve_logged.Goals as goal
 
 pub take_turns-served-requires-clause-agrees : goal.take_turns-served-requires-clause-agrees

@@ -3,8 +3,8 @@ use Rattle.std.proofs.Common.{◌≡◌, ◌∙◌, refl, rules}
 use Rattle.std.specs.Prelude.{Some}
 use Rattle.djq_machine.specs.Call.{counts}
 use Rattle.djq_serve.specs.Server.{waiting, server}
-use Rattle.djq_serve.proofs.Holding.{goes_hold_lines}
-use Rattle.djq_serve.proofs.Ending.{taking_begun, turn_more, turn_ends_it, answer_faults, disk_faults, all_taken}
+use Rattle.djq_serve.proofs.Moves.{goes_hold_lines}
+use Rattle.djq_serve.proofs.LoggedGroups.{taking_begun, turn_more, turn_ends_it, answer_faults, disk_faults, all_taken}
 use Rattle.djq_serve.proofs.serving.take_turns.Goals as goal
 
 pub loop-init : goal.loop-init

@@ -4,7 +4,7 @@ use Rattle.djq_machine.specs.Call.{counts}
 use Rattle.djq_io.specs.declared.limits.TheConstants.{READ_BYTES}
 use Rattle.djq_serve.specs.Told.{hub_shown}
 use Rattle.djq_serve.specs.Kept.{Agrees, AllSettled}
-use Rattle.djq_serve.proofs.Ending.{Taking}
+use Rattle.djq_serve.proofs.LoggedGroups.{Taking}
 use Rattle.djq_serve.proofs.serving.take_turns.Given as goal
 
 abbrev pub invariant-loop : goal.invariant-loop

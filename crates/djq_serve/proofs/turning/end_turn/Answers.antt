@@ -1,6 +1,6 @@
 -- Behind the flush serving goes on to the next turn, or to closing where a session said `stop`.
 use Rattle.std.proofs.Common.{sym}
-use Rattle.djq_serve.proofs.Visiting.{turn_stopped, turn_done}
+use Rattle.djq_serve.proofs.Turns.{turn_stopped, turn_done}
 use Rattle.djq_serve.proofs.turning.end_turn.Goals as goal
 
 pub returns-then-stopped-clause-goes : goal.returns-then-stopped-clause-goes

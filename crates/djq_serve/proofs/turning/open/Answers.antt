@@ -1,7 +1,7 @@
 -- The id is above all before and known to the hub; where it isn't let in, the machine stays as it was.
 use Rattle.std.proofs.Common.{refl, rules}
-use Rattle.djq_serve.proofs.Agreeing.{is_above, new_at_hub, opens_in}
-use Rattle.djq_serve.proofs.Bringing.{is_let_in, is_full, is_unmade, out_agrees, full_gives, unmade_gives}
+use Rattle.djq_serve.proofs.Sessions.{is_above, new_at_hub, opens_in}
+use Rattle.djq_serve.proofs.Turns.{is_let_in, is_full, is_unmade, out_agrees, full_gives, unmade_gives}
 use Rattle.djq_serve.proofs.turning.open.Goals as goal
 
 pub open_session-requires : goal.open_session-requires

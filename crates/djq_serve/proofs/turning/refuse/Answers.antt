@@ -4,8 +4,8 @@ use Rattle.std.proofs.lemmas.List.{take_all}
 use Rattle.djq_io.specs.Hub.{Ids, without}
 use Rattle.djq_io.specs.declared.hub.Told.TheVariants.{Closing}
 use Rattle.djq_serve.specs.Server.{offering}
-use Rattle.djq_serve.proofs.Telling.{tells_send, tells_close, tells_more}
-use Rattle.djq_serve.proofs.Bringing.{refuses_by}
+use Rattle.djq_serve.proofs.Moves.{tells_send, tells_close, tells_more}
+use Rattle.djq_serve.proofs.Turns.{refuses_by}
 use Rattle.djq_serve.proofs.turning.refuse.Goals as goal
 
 -- What was offered is the line, all of it.

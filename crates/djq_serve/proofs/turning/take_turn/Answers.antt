@@ -2,17 +2,15 @@
 use Rattle.std.proofs.Common.{refl}
 use Rattle.djq_machine.specs.Call.{counts}
 use Rattle.djq_machine.specs.Step.{fed, ended}
-use Rattle.djq_run_laws.proofs.Rising.{step_ids}
+use Rattle.djq_run_laws.proofs.Sessions.{step_ids}
 use Rattle.djq_io.specs.declared.hub.Turn.TheVariants.{Opened, Bytes, Ended, Idle, Over, Failed}
-use Rattle.djq_serve.proofs.Telling.{tells_turn}
+use Rattle.djq_serve.proofs.Moves.{tells_turn, goes_then, made_holds_lines}
 use Rattle.djq_serve.specs.Goes.{one_turn}
-use Rattle.djq_serve.proofs.Going.{goes_then}
-use Rattle.djq_serve.proofs.Agreeing.{is_new, running_open, agrees_same, agrees_ended}
-use Rattle.djq_serve.proofs.Settling.{fed_settled, ended_settled, opened_settled}
-use Rattle.djq_serve.proofs.Holding.{made_holds_lines}
-use Rattle.djq_serve.proofs.Bringing.{turn_opens, turn_feeds, turn_ends, turn_idles, turn_over, turn_fails, at_room}
-use Rattle.djq_serve.proofs.Visiting.{turn_flushed}
-use Rattle.djq_serve.proofs.Ending.{quiet_turn, over_turn, failed_turn, lost_turn, kept_turn}
+use Rattle.djq_serve.proofs.Sessions.{is_new, running_open, agrees_same, agrees_ended, fed_settled, ended_settled}
+use Rattle.djq_serve.proofs.Sessions.{opened_settled}
+use Rattle.djq_serve.proofs.Turns.{turn_opens, turn_feeds, turn_ends, turn_idles, turn_over, turn_fails, at_room}
+use Rattle.djq_serve.proofs.Turns.{turn_flushed}
+use Rattle.djq_serve.proofs.LoggedGroups.{quiet_turn, over_turn, failed_turn, lost_turn, kept_turn}
 use Rattle.djq_serve.proofs.turning.take_turn.Goals as goal
 
 pub open-requires : goal.open-requires

@@ -3,7 +3,7 @@ use Rattle.std.proofs.Common.{ℕ, List, [], ◌∷◌, ◌++◌, Bool, cond, ap
 use Rattle.std.proofs.lemmas.List.{length-take-le}
 use Rattle.std.specs.Prelude.{false, filter, slice_index_or, vec_capacity}
 use Rattle.djq_store.specs.Affecting.{is_reached_id, is_affected}
-use Rattle.djq_store.proofs.Walking.{filter_few, affected_more}
+use Rattle.djq_store.proofs.Readers.{filter_few, affected_more}
 use Rattle.djq_store.proofs.affecting.affect.Goals.{then-is_affected, else-is_affected}
 use Rattle.djq_store.proofs.affecting.affect.Goals as goal
 

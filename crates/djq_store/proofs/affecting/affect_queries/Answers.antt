@@ -1,7 +1,7 @@
 -- The places so far are those of the engine's affected up to the index, and one more goes behind them.
 use Rattle.std.proofs.Common.{ℕ, List, [], ◌∷◌, ◌++◌, sym, ap, ◌∙◌, arith}
 use Rattle.djq_engine.specs.declared.cursor.QueryId.{QueryId}
-use Rattle.djq_store.proofs.Walking.{mapped_more}
+use Rattle.djq_store.proofs.Readers.{mapped_more}
 use Rattle.djq_store.proofs.affecting.affect_queries.Goals as goal
 
 pub loop-nth-preserved : goal.loop-nth-preserved

@@ -3,8 +3,8 @@ use Rattle.std.proofs.Common.{ℕ, true, refl, sym, subst, length-set, ◌<◌, 
 use Rattle.std.proofs.lemmas.List.Elements.{All-contains}
 use Rattle.djq_engine.specs.declared.cursor.QueryId.{QueryId}
 use Rattle.djq_protocol.specs.declared.limits.TheConstants.{QUERIES}
-use Rattle.djq_store.proofs.Walking.{get_replicated, reached_more}
-use Rattle.djq_gains.proofs.Members.{got}
+use Rattle.djq_store.proofs.Readers.{get_replicated, reached_more}
+use Rattle.djq_gains.proofs.MemberDeltas.{got}
 use Rattle.djq_store.proofs.affecting.reached_places.Goals as goal
 
 pub loop-nth-init : goal.loop-nth-init

@@ -3,11 +3,11 @@ use Rattle.std.proofs.Common.{◌+◌, ◌≤◌, ℕ, length, subst, ap}
 use Rattle.std.specs.Prelude.{is_some}
 use Rattle.djq_model.specs.Listed.{a_query}
 use Rattle.djq_live_query.specs.Member.{query_at}
-use Rattle.djq_gains.proofs.Members.{and_so}
+use Rattle.djq_gains.proofs.MemberDeltas.{and_so}
 use Rattle.djq_store.specs.Asking.{TellsMembership}
-use Rattle.djq_store.proofs.Having.{told_there, steps_there}
-use Rattle.djq_answer_laws.proofs.Cases.{some_there}
-use Rattle.djq_store.proofs.Ordered.{seat_here}
+use Rattle.djq_store.proofs.UnionAnswers.{told_there, steps_there}
+use Rattle.djq_answer_laws.proofs.Lists.{some_there}
+use Rattle.djq_store.proofs.Places.{seat_here}
 use Rattle.djq_store.proofs.asking.has_at.Goals as goal
 
 pub query_name-name-requires : goal.query_name-name-requires

@@ -5,10 +5,10 @@ use Rattle.djq_protocol.specs.declared.answer.Refusal.{Refusal}
 use Rattle.djq_model.specs.Listed.{a_query}
 use Rattle.djq_live_query.specs.Member.{query_at}
 use Rattle.djq_store.specs.Asking.{TellsMembership}
-use Rattle.djq_store.proofs.Having.{asked_more, atoms_part, counted_more, counted_part}
-use Rattle.djq_answer_laws.proofs.Cases.{some_there}
-use Rattle.djq_store.proofs.Having.{one_has, one_refuses, all_lack, all_there}
-use Rattle.djq_live_query.proofs.Standing.{head_are as head_types_are}
+use Rattle.djq_store.proofs.UnionAnswers.{asked_more, atoms_part, counted_more, counted_part, one_has, one_refuses}
+use Rattle.djq_store.proofs.UnionAnswers.{all_lack, all_there}
+use Rattle.djq_answer_laws.proofs.Lists.{some_there}
+use Rattle.djq_live_query.proofs.HeadAnswers.{head_are as head_types_are}
 use Rattle.djq_store.proofs.asking.some_has.Goals as goal
 
 pub loop-nth-init : goal.loop-nth-init

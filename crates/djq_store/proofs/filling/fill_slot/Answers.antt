@@ -4,7 +4,7 @@ use Rattle.std.specs.Prelude.{Option, Some}
 use Rattle.djq_protocol.specs.declared.limits.TheConstants.{QUERIES}
 use Rattle.djq_store.specs.declared.joined.Joined.{Joined}
 use Rattle.djq_store.specs.Filling.{FillsSlot}
-use Rattle.djq_store.proofs.Unioned.{fills_set, fills_push, found_vacant, none_vacant}
+use Rattle.djq_store.proofs.UnionRegistrations.{fills_set, fills_push, found_vacant, none_vacant}
 use Rattle.djq_store.proofs.filling.fill_slot.Goals as goal
 
 pub returns-clause-ok : goal.returns-clause-ok

@@ -3,7 +3,7 @@ use Rattle.std.proofs.Common.{refl, sym, subst}
 use Rattle.std.specs.Prelude.{Option}
 use Rattle.djq_store.specs.declared.settling.Turn.{Turn}
 use Rattle.djq_store.specs.Following.{FollowsBy}
-use Rattle.djq_store.proofs.Alone.{follows_made}
+use Rattle.djq_store.proofs.Readers.{follows_made}
 use Rattle.djq_store.proofs.following.follow_alone.Goals as goal
 
 pub returns-in_default-turn : goal.returns-in_default-turn

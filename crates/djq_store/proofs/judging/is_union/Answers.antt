@@ -3,8 +3,8 @@ use Rattle.std.proofs.Common.{◌≡◌, Bool, true, false, refl, sym, ◌∙◌
 use Rattle.djq_model.specs.Listed.{listed_of}
 use Rattle.djq_store_spec.specs.Union.{is_union}
 use Rattle.djq_store.specs.Places.{store_kept_in}
-use Rattle.djq_store.proofs.Judged.{union_there, no_union_there}
-use Rattle.djq_store.proofs.Sought.{sought_none, sought_some}
+use Rattle.djq_store.proofs.Lookups.{union_there, no_union_there}
+use Rattle.djq_store.proofs.Places.{sought_none, sought_some}
 use Rattle.djq_store.proofs.judging.is_union.Goals as goal
 
 pub returns : goal.returns

@@ -1,7 +1,7 @@
 -- Under a name stands a union in a slot or a query of the engine; where neither is found nothing is there.
 use Rattle.std.proofs.Common.{sym, ◌∙◌}
-use Rattle.djq_store.proofs.Judged.{union_known, query_unknown}
-use Rattle.djq_store.proofs.Sought.{unsought_none, unsought_some}
+use Rattle.djq_store.proofs.Lookups.{union_known, query_unknown}
+use Rattle.djq_store.proofs.Places.{unsought_none, unsought_some}
 use Rattle.djq_store.proofs.judging.is_unknown.Goals as goal
 
 pub returns-then-is_none : goal.returns-then-is_none

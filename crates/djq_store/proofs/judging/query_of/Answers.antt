@@ -1,6 +1,6 @@
 -- What is registered under the name is no union, so the engine has an id for it, and the query in its place.
-use Rattle.djq_store.proofs.Judged.{under_registered, none_impossible, types_are}
-use Rattle.djq_live_query.proofs.Standing.{head_are as head_types_are}
+use Rattle.djq_store.proofs.Lookups.{under_registered, none_impossible, types_are}
+use Rattle.djq_live_query.proofs.HeadAnswers.{head_are as head_types_are}
 use Rattle.djq_store.proofs.judging.query_of.Goals as goal
 
 pub live-requires : goal.live-requires

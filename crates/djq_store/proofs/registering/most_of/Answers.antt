@@ -5,9 +5,9 @@ use Rattle.std.proofs.lemmas.List.{length-map, take_all}
 use Rattle.djq_store_spec.specs.Registering.{atoms_of}
 use Rattle.djq_live_query.specs.Live.{Live, IsKeptSomewhere}
 use Rattle.djq_live_query.specs.Member.{queries_at}
-use Rattle.djq_live_query.proofs.AtPlaces.{as_many}
-use Rattle.djq_gains.proofs.Members.{all_got}
-use Rattle.djq_store.proofs.Most.{atoms_more, width_first, member_is, steps_same, steps_fit}
+use Rattle.djq_live_query.proofs.Catalogs.{as_many}
+use Rattle.djq_gains.proofs.MemberDeltas.{all_got}
+use Rattle.djq_store.proofs.Costs.{atoms_more, width_first, member_is, steps_same, steps_fit}
 use Rattle.djq_store.proofs.registering.most_of.Goals as goal
 
 pub loop-nth-preserved : goal.loop-nth-preserved

@@ -1,7 +1,7 @@
 -- No member reads a relation before the index, so the first that one reads is the one at the index.
 use Rattle.std.proofs.Common.{sym, ◌∙◌}
 use Rattle.djq_store.specs.Settling.{some_read}
-use Rattle.djq_store.proofs.Walking.{find_here, find_further}
+use Rattle.djq_store.proofs.Readers.{find_here, find_further}
 use Rattle.djq_store.proofs.settling.first_read.Goals as goal
 
 pub returns-then-some_read : goal.returns-then-some_read

@@ -1,7 +1,7 @@
 -- Unions before the slot are settled and those from it on are as they were, so their members are still there.
 use Rattle.std.proofs.Common.{◌<◌, ◌∙◌, arith, length}
-use Rattle.djq_store.proofs.Walking.{slot_old, unwatched_slot, members_there, done_more, rest_more}
-use Rattle.djq_store.proofs.Walking.{long_more, read_more, count_more}
+use Rattle.djq_store.proofs.Readers.{slot_old, unwatched_slot, members_there, done_more, rest_more, long_more}
+use Rattle.djq_store.proofs.Readers.{read_more, count_more}
 use Rattle.djq_store.proofs.settling.settle_all.Goals as goal
 
 pub settle_slot-settled-requires : goal.settle_slot-settled-requires

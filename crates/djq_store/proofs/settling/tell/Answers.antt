@@ -1,6 +1,6 @@
 -- The members that read a changed relation were picked out of all the members, so they are among them.
 use Rattle.std.proofs.Common.{take}
-use Rattle.djq_store.proofs.Walking.{touched_among}
+use Rattle.djq_store.proofs.Readers.{touched_among}
 use Rattle.djq_store.proofs.settling.tell.Goals as goal
 
 pub tell_gains-requires-clause-among : goal.tell_gains-requires-clause-among

@@ -1,6 +1,6 @@
 -- Members are in different places, so the one at the index is watched by as many as before the loop.
 use Rattle.std.proofs.Common.{◌-◌}
-use Rattle.djq_store.proofs.Together.{can_leave, one_more}
+use Rattle.djq_store.proofs.Watchers.{can_leave, one_more}
 use Rattle.djq_store.proofs.watching.unwatch_members.Goals as goal
 
 pub unwatch-requires : goal.unwatch-requires

@@ -8,7 +8,7 @@ use Rattle.djq_store.specs.declared.joined.Joined.{Joined}
 use Rattle.djq_store.specs.Counting.{with_watchers_at}
 use Rattle.djq_store.specs.Places.{joined_at, store_kept_in, store_seen}
 use Rattle.djq_store.specs.Whole.{IsListed, IsCounted}
-use Rattle.djq_store.proofs.Joint.{old_is, on_listed, on_seen, on_counted, last_counted, member_heard, old_few}
+use Rattle.djq_store.proofs.UnionWatchers.{old_is, on_listed, on_seen, on_counted, last_counted, member_heard, old_few}
 use Rattle.djq_store.proofs.watching.unwatch_union.Goals as goal
 
 pub ignore-requires : goal.ignore-requires

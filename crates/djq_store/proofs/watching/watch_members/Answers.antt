@@ -1,6 +1,6 @@
 -- Before the index a query was counted once each turn at most, so the one at the index has room for one more.
 use Rattle.std.proofs.Common.{◌+◌}
-use Rattle.djq_store.proofs.Together.{can_watch, can_find, one_more}
+use Rattle.djq_store.proofs.Watchers.{can_watch, can_find, one_more}
 use Rattle.djq_store.proofs.watching.watch_members.Goals as goal
 
 pub watch-requires-clause-registered : goal.watch-requires-clause-registered

@@ -1,6 +1,6 @@
 -- The first node that has it as a child is its parent, and no node below the index has.
 use Rattle.std.proofs.Common.{rules, sym, arith}
-use Rattle.djq_tree.proofs.Climbing.{parent_is, parent_none_is}
+use Rattle.djq_tree.proofs.Paths.{parent_is, parent_none_is}
 use Rattle.djq_tree.proofs.path.parent_of.Goals as goal
 
 pub returns-then-has_child : goal.returns-then-has_child

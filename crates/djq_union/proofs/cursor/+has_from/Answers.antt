@@ -1,7 +1,6 @@
 -- Where this member has the answer, some member from here on has it, and its tests are among theirs.
 use Rattle.std.proofs.Common.{arith}
-use Rattle.djq_union.proofs.Placing.{has_here}
-use Rattle.djq_union.proofs.Counting.{sum_here}
+use Rattle.djq_union.proofs.UnionMembers.{has_here, sum_here}
 use Rattle.djq_union.proofs.cursor.+has_from.Goals as goal
 
 pub returns-then-has-clause-has : goal.returns-then-has-clause-has

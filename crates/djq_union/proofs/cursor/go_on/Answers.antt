@@ -1,5 +1,5 @@
 -- A listing that begins here had given nothing before, as one that hasn't begun has given nothing.
-use Rattle.djq_union.proofs.Fitting.{member_starts}
+use Rattle.djq_union.proofs.UnionMembers.{member_starts}
 use Rattle.djq_union.proofs.cursor.go_on.Goals as goal
 
 pub returns-in-None-clause-goes : goal.returns-in-None-clause-goes

@@ -4,7 +4,7 @@ use Rattle.std.specs.Prelude.{not}
 use Rattle.std.proofs.lemmas.Option.{same_Some}
 use Rattle.djq_live_query.specs.Live.{Live}
 use Rattle.djq_live_query.specs.Member.{query_at}
-use Rattle.djq_united.proofs.Heads.{differs, none_yet, one_differs, finished}
+use Rattle.djq_united.proofs.Members.{differs, none_yet, one_differs, finished}
 use Rattle.djq_united.proofs.alike.heads_differ.Goals as goal
 
 pub returns-then-not-is_alike-clause-differ : goal.returns-then-not-is_alike-clause-differ

@@ -3,7 +3,7 @@ use Rattle.std.specs.Prelude.{Some}
 use Rattle.std.specs.List.{list_any}
 use Rattle.djq_live_query.specs.Live.{Live}
 use Rattle.djq_live_query.specs.Member.{query_at, queries_at}
-use Rattle.djq_united.proofs.Heads.{differs}
+use Rattle.djq_united.proofs.Members.{differs}
 use Rattle.djq_united.proofs.alike.heads_differ.Given as goal
 
 abbrev pub invariant-loop-place : goal.invariant-loop-place

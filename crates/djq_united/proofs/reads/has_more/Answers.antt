@@ -1,8 +1,7 @@
 -- All members are kept over one catalog, with heads as wide as the first one's, so its count bounds each.
 use Rattle.djq_live_query.specs.Member.{queries_at}
-use Rattle.djq_united.proofs.Placed.{members_ready}
-use Rattle.djq_united.proofs.Advancing.{over_places, looks_open}
-use Rattle.djq_united.proofs.Counting.{left_counted}
+use Rattle.djq_united.proofs.Members.{members_ready, left_counted}
+use Rattle.djq_united.proofs.Cursors.{over_places, looks_open}
 use Rattle.djq_united.proofs.reads.has_more.Goals as goal
 
 pub is_left-left-requires-clause-ready : goal.is_left-left-requires-clause-ready

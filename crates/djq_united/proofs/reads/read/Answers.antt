@@ -1,9 +1,7 @@
 -- An answer of any member has as many cells as the first one's head, so that member's tree shows it.
 use Rattle.djq_live_query.specs.Member.{queries_at}
-use Rattle.djq_united.proofs.Placed.{members_ready}
-use Rattle.djq_united.proofs.Values.{first_in}
-use Rattle.djq_united.proofs.Advancing.{over_places, came_had, reads_given}
-use Rattle.djq_united.proofs.Counting.{cells_wide, most_counted}
+use Rattle.djq_united.proofs.Members.{members_ready, first_in, cells_wide, most_counted}
+use Rattle.djq_united.proofs.Cursors.{over_places, came_had, reads_given}
 use Rattle.djq_united.proofs.reads.read.Goals as goal
 
 pub advance-requires-clause-ready : goal.advance-requires-clause-ready

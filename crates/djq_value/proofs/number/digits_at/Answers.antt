@@ -3,7 +3,7 @@ use Rattle.std.proofs.Common.{◌<◌, ◌+◌, ◌-◌, ◌*◌, ◌^◌, ◌�
 use Rattle.std.proofs.lemmas.Bool.{cond-true}
 use Rattle.std.proofs.lemmas.List.{take_rest}
 use Rattle.djq_value.specs.Token.{may_end}
-use Rattle.djq_value.proofs.Words.{below_18, digits-more, digits_value-more, natural-some, small-step}
+use Rattle.djq_value.proofs.Literals.{below_18, digits-more, digits_value-more, natural-some, small-step}
 use Rattle.djq_value.proofs.number.digits_at.Goals as goal
 
 -- the digits before a place, and one more

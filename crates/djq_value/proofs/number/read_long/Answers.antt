@@ -1,7 +1,7 @@
 -- So far the value is what the digits read denote, capped at 64 bits, and a step keeps the cap.
 use Rattle.std.proofs.Common.{◌∙◌, sym, ap, arith, option_map, Some}
 use Rattle.djq_value.specs.Number.{capped}
-use Rattle.djq_value.proofs.Words.{digits-more, digits_value-more, capped-step, natural_of-digits}
+use Rattle.djq_value.proofs.Literals.{digits-more, digits_value-more, capped-step, natural_of-digits}
 use Rattle.djq_value.proofs.number.read_long.Goals as goal
 
 pub loop-digit-preserved : goal.loop-digit-preserved

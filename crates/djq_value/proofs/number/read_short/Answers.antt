@@ -1,9 +1,9 @@
 -- At most 18 digits denote less than 10^18, so neither the tenfold nor a digit more goes past 64 bits.
-use Rattle.std.proofs.Common.{◌∙◌, ◌≡◌, ◌<◌, ◌≤◌, ◌+◌, ◌-◌, ◌*◌, ◌^◌, take, sym, ap, arith}
-use Rattle.std.proofs.Common.{option_map, Some, ℕ, get_or, length}
+use Rattle.std.proofs.Common.{◌∙◌, ◌≡◌, ◌<◌, ◌≤◌, ◌+◌, ◌-◌, ◌*◌, ◌^◌, take, sym, ap, arith, option_map, Some, ℕ, get_or}
+use Rattle.std.proofs.Common.{length}
 use Rattle.djq_value.specs.Number.{capped}
 use Rattle.djq_value.specs.Literal.{digits_value}
-use Rattle.djq_value.proofs.Words.{digits-more, digits_value-more, natural_of-digits, small-step, below_18}
+use Rattle.djq_value.proofs.Literals.{digits-more, digits_value-more, natural_of-digits, small-step, below_18}
 use Rattle.djq_value.proofs.number.read_short.Goals as goal
 
 -- the digits before a place, and one more

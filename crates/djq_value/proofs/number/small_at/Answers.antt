@@ -5,7 +5,7 @@ use Rattle.std.proofs.lemmas.List.{take_rest}
 use Rattle.djq_model.specs.Data.{Bytes}
 use Rattle.djq_value.specs.Literal.{is_small}
 use Rattle.djq_value.specs.Small.{AreDigitsAt}
-use Rattle.djq_value.proofs.Small.{negative_at}
+use Rattle.djq_value.proofs.Literals.{negative_at}
 use Rattle.djq_value.proofs.number.small_at.Goals as goal
 
 pub returns-in-Some : goal.returns-in-Some

@@ -3,7 +3,7 @@ use Rattle.std.proofs.Common.{rules, ◌≡◌, ◌+◌, ℤ, Some, subst, sym, 
 use Rattle.std.proofs.lemmas.List.{take_rest}
 use Rattle.djq_model.specs.Data.{Bytes}
 use Rattle.djq_value.specs.Small.{IsSmallAt, IsSmallInFront}
-use Rattle.djq_value.proofs.Small.{far_small}
+use Rattle.djq_value.proofs.Literals.{far_small}
 use Rattle.djq_value.proofs.number.small_behind.Goals as goal
 
 pub returns-in-Some : goal.returns-in-Some

@@ -4,7 +4,7 @@ use Rattle.std.proofs.lemmas.Bool.{eqb-false}
 use Rattle.std.proofs.lemmas.List.{take_rest}
 use Rattle.djq_model.specs.Data.{Bytes}
 use Rattle.djq_value.specs.Small.{AreDigitsAt}
-use Rattle.djq_value.proofs.Small.{near_small}
+use Rattle.djq_value.proofs.Literals.{near_small}
 use Rattle.djq_value.proofs.number.spaced_digits.Goals as goal
 
 pub returns-in-Some : goal.returns-in-Some

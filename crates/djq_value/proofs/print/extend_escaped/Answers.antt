@@ -2,7 +2,7 @@
 use Rattle.std.proofs.Common.{◌≡◌, arith}
 use Rattle.std.specs.List.{flat_map}
 use Rattle.djq_value.specs.ValueText.{escaped}
-use Rattle.djq_value.proofs.Escapes.{length-flat_map-escaped, plain_text}
+use Rattle.djq_value.proofs.Texts.{length-flat_map-escaped, plain_text}
 use Rattle.djq_value.proofs.print.extend_escaped.Goals as goal
 
 pub returns-then-len-text : goal.returns-then-len-text

@@ -1,6 +1,6 @@
 -- A byte that needs no escape stands for itself, so one more byte is put in front of what is read behind.
 use Rattle.std.proofs.Common.{arith, sym, ◌∙◌}
-use Rattle.djq_value.proofs.Scanning.{plain_more}
+use Rattle.djq_value.proofs.Texts.{plain_more}
 use Rattle.djq_value.proofs.quoted.plain_len.Goals as goal
 
 pub plain-preserved : goal.plain-preserved

@@ -1,7 +1,6 @@
 -- Before each byte so many bytes of the text were read, and the rest is read on behind a backslash or not.
-use Rattle.std.proofs.Common.{◌≡◌, ◌∷◌, ◌+◌, ◌∙◌, sym, ap, true, false, drop, get_or, add-one, arith}
-use Rattle.std.proofs.Common.{drop-cons}
-use Rattle.djq_value.proofs.Scanning.{has_read-backslash, has_read-byte, has_read_as}
+use Rattle.std.proofs.Common.{◌≡◌, ◌∷◌, ◌+◌, ◌∙◌, sym, ap, true, false, drop, get_or, add-one, arith, drop-cons}
+use Rattle.djq_value.proofs.Texts.{has_read-backslash, has_read-byte, has_read_as}
 use Rattle.djq_value.proofs.quoted.text_end_from.Goals as goal
 use Rattle.djq_value.proofs.quoted.text_end_from.Goals.{in-Backslash, in-Byte}
 

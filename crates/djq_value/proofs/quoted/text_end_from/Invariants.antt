@@ -1,5 +1,5 @@
 use Rattle.std.proofs.Common.{◌≤◌, drop}
-use Rattle.djq_value.proofs.Scanning.{HasRead}
+use Rattle.djq_value.proofs.Texts.{HasRead}
 use Rattle.djq_value.proofs.quoted.text_end_from.Given as goal
 
 abbrev pub invariant-loop-at : goal.invariant-loop-at

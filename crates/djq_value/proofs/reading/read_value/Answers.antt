@@ -10,8 +10,8 @@ use Rattle.djq_value.specs.Lexing.{lexeme_of}
 use Rattle.djq_value.specs.ReadValue.{literal_in}
 use Rattle.djq_value.specs.Reads.{ReadsLiteral}
 use Rattle.djq_value.specs.declared.literal.LiteralRefusal.{LiteralRefusal}
-use Rattle.djq_value.proofs.Literals.{behind_is, behind_less, integer_token, some_same}
-use Rattle.djq_value.proofs.Literals.{literal_no_memory, literal_ok, literal_range, long_text}
+use Rattle.djq_value.proofs.Literals.{behind_is, behind_less, integer_token, some_same, literal_no_memory, literal_ok}
+use Rattle.djq_value.proofs.Literals.{literal_range, long_text}
 use Rattle.djq_value.proofs.reading.read_value.Goals as goal
 
 pub overflow_sub-result : goal.overflow_sub-result

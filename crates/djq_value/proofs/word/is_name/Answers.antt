@@ -1,7 +1,7 @@
 -- With a letter for its first byte a word is a name where the others may follow, and with any other it's none.
 use Rattle.std.proofs.Common.{◌∙◌, sym, arith}
 use Rattle.std.proofs.lemmas.Bool.{eqb-false}
-use Rattle.djq_value.proofs.Words.{is_name-letter, is_name-other}
+use Rattle.djq_value.proofs.Literals.{is_name-letter, is_name-other}
 use Rattle.djq_value.proofs.word.is_name.Goals as goal
 
 pub returns-then-is_letter : goal.returns-then-is_letter

@@ -4,7 +4,7 @@ use Rattle.std.proofs.lemmas.Bool.{eqb-false}
 use Rattle.std.proofs.lemmas.List.{take_rest}
 use Rattle.djq_model.specs.Data.{Bytes}
 use Rattle.djq_value.specs.Small.{IsTailAt}
-use Rattle.djq_value.proofs.Small.{letter_first}
+use Rattle.djq_value.proofs.Literals.{letter_first}
 use Rattle.djq_value.proofs.word.spaced_name_len.Goals as goal
 
 pub returns-in-Some : goal.returns-in-Some

@@ -1,6 +1,6 @@
 -- A row's slot lies within the arrays, by the invariant, and the row's cells are those that lie there.
 use Rattle.std.proofs.Common.{◌∙◌}
-use Rattle.djq_arena.proofs.Accounts.{row_within, row_cells}
+use Rattle.djq_arena.proofs.Slots.{row_within, row_cells}
 use Rattle.djq_arena.proofs.arena.Arena.cells.Goals as goal
 
 pub cells_of-requires-clause-slot : goal.cells_of-requires-clause-slot

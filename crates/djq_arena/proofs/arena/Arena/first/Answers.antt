@@ -2,7 +2,7 @@
 use Rattle.std.proofs.Common.{◌∙◌, ap}
 use Rattle.djq_arena.specs.Chains.{first_of}
 use Rattle.djq_arena.specs.Rows.{SlotRows, slots}
-use Rattle.djq_arena.proofs.Accounts.{first_row}
+use Rattle.djq_arena.proofs.Slots.{first_row}
 use Rattle.djq_arena.proofs.arena.Arena.first.Goals as goal
 
 pub returns : goal.returns

@@ -2,7 +2,7 @@
 use Rattle.std.proofs.Common.{◌∙◌, ap}
 use Rattle.djq_arena.specs.Chains.{last_of}
 use Rattle.djq_arena.specs.Rows.{SlotRows, slots}
-use Rattle.djq_arena.proofs.Accounts.{last_row}
+use Rattle.djq_arena.proofs.Slots.{last_row}
 use Rattle.djq_arena.proofs.arena.Arena.last.Goals as goal
 
 pub returns : goal.returns

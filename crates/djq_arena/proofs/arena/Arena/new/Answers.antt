@@ -2,8 +2,7 @@
 use Rattle.std.proofs.Common.{refl, Option, ap, ap₂, ℕ, arith, List, length, []}
 use Rattle.djq_arena.specs.declared.chain.Pair.{Pair}
 use Rattle.djq_arena.specs.Rows.{Row}
-use Rattle.djq_arena.proofs.Storing.{sound}
-use Rattle.djq_arena.proofs.Growing.{empty_store, empty_is}
+use Rattle.djq_arena.proofs.Stores.{sound, empty_store, empty_is}
 use Rattle.djq_arena.proofs.arena.Arena.new.Goals as goal
 
 pub invariant_of-result : goal.invariant_of-result

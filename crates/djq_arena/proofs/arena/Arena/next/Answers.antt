@@ -1,7 +1,7 @@
 -- By the invariant a row's slot is within the chain, and what is linked behind it is the next row's slot.
 use Rattle.std.proofs.Common.{◌∙◌, ap}
 use Rattle.djq_arena.specs.declared.chain.Pair.{Pair}
-use Rattle.djq_arena.proofs.Accounts.{row_within, row_next}
+use Rattle.djq_arena.proofs.Slots.{row_within, row_next}
 use Rattle.djq_arena.proofs.arena.Arena.next.Goals as goal
 
 pub pair_of-requires : goal.pair_of-requires

@@ -1,7 +1,7 @@
 -- By the invariant a row's slot is within the chain, and what is linked before it is the earlier row's.
 use Rattle.std.proofs.Common.{◌∙◌, ap}
 use Rattle.djq_arena.specs.declared.chain.Pair.{Pair}
-use Rattle.djq_arena.proofs.Accounts.{row_within, row_prev}
+use Rattle.djq_arena.proofs.Slots.{row_within, row_prev}
 use Rattle.djq_arena.proofs.arena.Arena.prev.Goals as goal
 
 pub pair_of-requires : goal.pair_of-requires

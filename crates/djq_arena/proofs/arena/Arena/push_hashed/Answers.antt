@@ -1,9 +1,8 @@
 -- Either way out the store is sound and tidy; where it is tidy, no spare slot means that the arena is full.
 use Rattle.std.proofs.Common.{◌<◌, sym, subst, ℕ, arith}
 use Rattle.std.proofs.lemmas.Result.{IfOk-weaker, on_err_weaker}
-use Rattle.djq_arena.proofs.Accounts.{row_count, same_value}
-use Rattle.djq_arena.proofs.Filling.{newest_free, none_free, on_err}
-use Rattle.djq_arena.proofs.RowLemmas.{puts}
+use Rattle.djq_arena.proofs.Slots.{row_count, same_value, newest_free, none_free, on_err}
+use Rattle.djq_arena.proofs.Rows.{puts}
 use Rattle.djq_arena.proofs.arena.Arena.push_hashed.Goals as goal
 
 pub put_fresh-requires-clause-few : goal.put_fresh-requires-clause-few

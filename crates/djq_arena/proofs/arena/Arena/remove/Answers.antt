@@ -1,5 +1,5 @@
 -- A split of the rows at a slot is a split of their slots, and from these the store takes that one.
-use Rattle.djq_arena.proofs.RowLemmas.{held_slot, taken_rows}
+use Rattle.djq_arena.proofs.Rows.{held_slot, taken_rows}
 use Rattle.djq_arena.proofs.arena.Arena.remove.Goals as goal
 
 pub unlink-requires-clause-held : goal.unlink-requires-clause-held

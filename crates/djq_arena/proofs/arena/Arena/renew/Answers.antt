@@ -1,5 +1,5 @@
 -- A split of the rows at a slot is a split of their slots, and of these the store puts that one last.
-use Rattle.djq_arena.proofs.RowLemmas.{held_slot, renewed_rows}
+use Rattle.djq_arena.proofs.Rows.{held_slot, renewed_rows}
 use Rattle.djq_arena.proofs.arena.Arena.renew.Goals as goal
 
 pub renew-requires-clause-held : goal.renew-requires-clause-held

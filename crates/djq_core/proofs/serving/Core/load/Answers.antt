@@ -4,7 +4,7 @@ use Rattle.djq_protocol.specs.declared.held.HeldRow.{HeldRow}
 use Rattle.djq_machine.specs.Loading.{Loading, LoadStep}
 use Rattle.djq_commands.specs.Sound.{BatchSuits}
 use Rattle.djq_commands.specs.Views.{Visible, loading_in}
-use Rattle.djq_core.proofs.Loading.{core_idle, idle_core, none_open, step_loads, suits_loaded}
+use Rattle.djq_core.proofs.Loads.{core_idle, idle_core, none_open, step_loads, suits_loaded}
 use Rattle.djq_core.proofs.serving.Core.load.Goals as goal
 
 pub load_alone-loaded-requires : goal.load_alone-loaded-requires

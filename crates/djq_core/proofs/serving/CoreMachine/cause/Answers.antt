@@ -3,7 +3,7 @@ use Rattle.std.proofs.Common.{◌∙◌, sym, ap}
 use Rattle.djq_machine.specs.State.{State}
 use Rattle.djq_machine.specs.Call.{cause_of}
 use Rattle.djq_commands.specs.Views.{Visible}
-use Rattle.djq_core.proofs.Places.{here_by, is_there_in, ids_rise_in, cause_at}
+use Rattle.djq_core.proofs.Sessions.{here_by, is_there_in, ids_rise_in, cause_at}
 use Rattle.djq_core.proofs.serving.CoreMachine.cause.Goals as goal
 
 pub place_of-at-requires-clause-rising : goal.place_of-at-requires-clause-rising

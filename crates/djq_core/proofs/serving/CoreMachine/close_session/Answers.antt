@@ -8,8 +8,8 @@ use Rattle.djq_machine.specs.Run.{pending_of}
 use Rattle.djq_machine.specs.Call.{Makes}
 use Rattle.djq_commands.specs.Sound.{BatchSuits, IsSound}
 use Rattle.djq_commands.specs.Views.{Talk, state_in, Visible}
-use Rattle.djq_core.proofs.Suited.{suits_at, suited_gone, suited_set}
-use Rattle.djq_core.proofs.Places.{here_by, is_there_in, ids_rise_in, owns, within_by, closes}
+use Rattle.djq_core.proofs.Loads.{suits_at, suited_gone, suited_set}
+use Rattle.djq_core.proofs.Sessions.{here_by, is_there_in, ids_rise_in, owns, within_by, closes}
 use Rattle.djq_core.proofs.serving.CoreMachine.close_session.Goals as goal
 
 pub place_of-at-requires-clause-rising : goal.place_of-at-requires-clause-rising

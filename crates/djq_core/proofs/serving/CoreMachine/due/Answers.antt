@@ -4,7 +4,7 @@ use Rattle.std.specs.Prelude.{option_map}
 use Rattle.djq_session.specs.Dialog.{dialog_is_due}
 use Rattle.djq_commands.specs.declared.open.OpenSession.{OpenSession}
 use Rattle.djq_commands.specs.Views.{Visible}
-use Rattle.djq_core.proofs.Owing.{first_is_due}
+use Rattle.djq_core.proofs.Queues.{first_is_due}
 use Rattle.djq_core.proofs.serving.CoreMachine.due.Goals as goal
 
 pub returns : goal.returns

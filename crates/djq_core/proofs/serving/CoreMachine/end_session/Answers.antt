@@ -5,8 +5,8 @@ use Rattle.djq_commands.specs.declared.open.OpenSession.{OpenSession}
 use Rattle.djq_machine.specs.Step.{ended}
 use Rattle.djq_machine.specs.Call.{Makes}
 use Rattle.djq_commands.specs.Views.{state_in, Visible}
-use Rattle.djq_core.proofs.Places.{here_by, is_there_in, ids_rise_in, owns, ended_now, ended_had, dry_here, same_list}
-use Rattle.djq_core.proofs.Suited.{suits_none, suited_set}
+use Rattle.djq_core.proofs.Sessions.{here_by, is_there_in, ids_rise_in, owns, ended_now, ended_had, dry_here, same_list}
+use Rattle.djq_core.proofs.Loads.{suits_none, suited_set}
 use Rattle.djq_core.proofs.serving.CoreMachine.end_session.Goals as goal
 
 pub place_of-at-requires-clause-rising : goal.place_of-at-requires-clause-rising

@@ -10,10 +10,10 @@ use Rattle.djq_machine.specs.Step.{fed}
 use Rattle.djq_machine.specs.Call.{Makes, FedGives}
 use Rattle.djq_commands.specs.Views.{Talk, state_in, Visible}
 use Rattle.djq_commands.specs.Sound.{BatchSuits, IsOwn}
-use Rattle.djq_core.proofs.Suited.{suits_at, suits_none, suited_set}
+use Rattle.djq_core.proofs.Loads.{suits_at, suits_none, suited_set}
 use Rattle.djq_commands.specs.Performs.{Performs}
-use Rattle.djq_core.proofs.Places.{here_by, is_there_in, ids_rise_in, owns, fed_ended, fed_held}
-use Rattle.djq_core.proofs.Places.{fed_lacking, same_list, within_by}
+use Rattle.djq_core.proofs.Sessions.{here_by, is_there_in, ids_rise_in, owns, fed_ended, fed_held, fed_lacking}
+use Rattle.djq_core.proofs.Sessions.{same_list, within_by}
 use Rattle.djq_core.proofs.serving.CoreMachine.feed.Goals as goal
 
 pub place_of-at-requires-clause-rising : goal.place_of-at-requires-clause-rising

@@ -2,7 +2,7 @@
 use Rattle.std.proofs.Common.{◌∙◌, sym, ap}
 use Rattle.djq_machine.specs.Call.{state_ids}
 use Rattle.djq_commands.specs.Views.{Visible}
-use Rattle.djq_core.proofs.Places.{ids_seen}
+use Rattle.djq_core.proofs.Sessions.{ids_seen}
 use Rattle.djq_core.proofs.serving.CoreMachine.ids.Goals as goal
 
 pub returns : goal.returns

@@ -6,8 +6,8 @@ use Rattle.djq_machine.specs.Step.{opened}
 use Rattle.djq_machine.specs.Call.{Makes, IsOpen}
 use Rattle.djq_commands.specs.Views.{state_in, Visible}
 use Rattle.djq_commands.specs.Sound.{IsSound}
-use Rattle.djq_core.proofs.Places.{opens}
-use Rattle.djq_core.proofs.Suited.{suited_more}
+use Rattle.djq_core.proofs.Sessions.{opens}
+use Rattle.djq_core.proofs.Loads.{suited_more}
 use Rattle.djq_core.proofs.serving.CoreMachine.open_session.Goals as goal
 
 pub invariant_of-self : goal.invariant_of-self

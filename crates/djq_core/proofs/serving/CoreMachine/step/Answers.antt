@@ -7,18 +7,17 @@ use Rattle.djq_commands.specs.declared.kept.KeptLines.{KeptLines}
 use Rattle.djq_commands.specs.Changing.{is_accepted, is_kept, lines_kept, reply_of}
 use Rattle.djq_commands.specs.Performs.{among}
 use Rattle.djq_commands.specs.Telling.{TellsAll}
-use Rattle.djq_core.proofs.Composing.{change_gives}
+use Rattle.djq_core.proofs.Changes.{change_gives, telling_ran, sound_left, set_there, told_there, registered_left}
 use Rattle.std.specs.Prelude.{IsSomeAnd}
 use Rattle.djq_machine.specs.State.{State}
 use Rattle.djq_commands.specs.Views.{lines_of_step, state_in, Visible}
 use Rattle.djq_machine.specs.Call.{StepGives, counts}
-use Rattle.djq_core.proofs.Places.{here_by, id_by, is_there_in, ids_rise_in, owns, steps, steps_sound, within_by}
-use Rattle.djq_core.proofs.Suited.{suits_at, suited_behind}
+use Rattle.djq_core.proofs.Sessions.{here_by, id_by, is_there_in, ids_rise_in, owns, steps, steps_sound, within_by}
+use Rattle.djq_core.proofs.Loads.{suits_at, suited_behind}
 use Rattle.djq_commands.specs.declared.change.Left.{Left}
 use Rattle.djq_commands.specs.declared.open.OpenSession.{OpenSession}
 use Rattle.djq_commands.specs.Sound.{IsSound}
 use Rattle.djq_commands.specs.Stepping.{Copies, LeavesTo}
-use Rattle.djq_core.proofs.Stepping.{telling_ran, sound_left, set_there, told_there, registered_left}
 use Rattle.djq_core.proofs.serving.CoreMachine.step.Goals as goal
 
 pub place_of-at-requires-clause-rising : goal.place_of-at-requires-clause-rising

@@ -7,8 +7,8 @@ use Rattle.djq_machine.specs.Run.{pending_of}
 use Rattle.djq_machine.specs.Call.{Makes}
 use Rattle.djq_commands.specs.Sound.{BatchSuits}
 use Rattle.djq_commands.specs.Views.{Talk, state_in, Visible}
-use Rattle.djq_core.proofs.Places.{here_by, is_there_in, ids_rise_in, pending_at, takes, within_by}
-use Rattle.djq_core.proofs.Suited.{suits_at, suited_set}
+use Rattle.djq_core.proofs.Sessions.{here_by, is_there_in, ids_rise_in, pending_at, takes, within_by}
+use Rattle.djq_core.proofs.Loads.{suits_at, suited_set}
 use Rattle.djq_core.proofs.serving.CoreMachine.took.Goals as goal
 
 pub place_of-at-requires-clause-rising : goal.place_of-at-requires-clause-rising

@@ -6,9 +6,9 @@ use Rattle.djq_core.specs.Loading.{LoadsLine}
 use Rattle.djq_parser.specs.declared.refusal.LineRefusal.{LineRefusal}
 use Rattle.djq_parser.specs.declared.refusal.LineRefusal.TheVariants.{Syntax, Range, NoMem}
 use Rattle.djq_parser.specs.Reading.{LineReadsAs}
-use Rattle.djq_core.proofs.Loading.{opens_batch, said_alone, unread_alone}
-use Rattle.djq_commands.proofs.Saying.{runnable}
-use Rattle.djq_core.proofs.Suiting.{none_held}
+use Rattle.djq_core.proofs.Loads.{opens_batch, said_alone, unread_alone}
+use Rattle.djq_commands.proofs.ReadLines.{runnable}
+use Rattle.djq_core.proofs.BatchRows.{none_held}
 use Rattle.djq_core.proofs.serving.load.load_alone.Goals as goal
 
 pub load_command-requires-clause-runnable : goal.load_command-requires-clause-runnable

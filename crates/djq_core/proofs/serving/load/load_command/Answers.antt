@@ -6,8 +6,8 @@ use Rattle.djq_machine.specs.Keeping.{is_done, is_removal}
 use Rattle.djq_machine.specs.Loading.{StoreLoads}
 use Rattle.djq_store_spec.specs.Rows.{DeletesRow}
 use Rattle.djq_store_spec.specs.Union.{RegistersUnion}
-use Rattle.djq_core.proofs.Loading.{comes_by, drops_unused, idle_dropped, idle_enrolled, idle_outdated, idle_united}
-use Rattle.djq_commands.proofs.Replying.{ok_done}
+use Rattle.djq_core.proofs.Loads.{comes_by, drops_unused, idle_dropped, idle_enrolled, idle_outdated, idle_united}
+use Rattle.djq_commands.proofs.Replies.{ok_done}
 use Rattle.djq_core.proofs.serving.load.load_command.Goals as goal
 
 pub returns-in-Add-clause-idle : goal.returns-in-Add-clause-idle

@@ -11,9 +11,9 @@ use Rattle.djq_machine.specs.Keeping.{is_done}
 use Rattle.djq_commands.specs.Batching.{MakesRow, ReadsInBatch}
 use Rattle.djq_core.specs.Loading.{loading_by}
 use Rattle.djq_commands.specs.declared.reading.BatchLine.{BatchLine}
-use Rattle.djq_core.proofs.Loading.{comes_by, idle_outdated, said_abandon, said_done, said_hold}
-use Rattle.djq_core.proofs.Loading.{said_nothing, said_quit, said_stop}
-use Rattle.djq_commands.proofs.Replying.{ok_done}
+use Rattle.djq_core.proofs.Loads.{comes_by, idle_outdated, said_abandon, said_done, said_hold, said_nothing, said_quit}
+use Rattle.djq_core.proofs.Loads.{said_stop}
+use Rattle.djq_commands.proofs.Replies.{ok_done}
 use Rattle.djq_core.proofs.serving.load.load_in_batch.Goals as goal
 
 pub returns-in-Abandon-clause-loads : goal.returns-in-Abandon-clause-loads

@@ -1,7 +1,7 @@
 -- Each cursor is kept and made stale by the same change, so what one step does is done in all slots.
 use Rattle.std.proofs.Common.{rules, ◌≡◌, refl, ap, ◌∙◌}
 use Rattle.djq_cursors.specs.Slots.{outdated_slots, outdated_progress}
-use Rattle.djq_cursors.proofs.Retained.{retained_all}
+use Rattle.djq_cursors.proofs.Slots.{retained_all}
 use Rattle.djq_cursors.proofs.cursors.Cursors.outdate.Goals as goal
 
 pub returns : goal.returns

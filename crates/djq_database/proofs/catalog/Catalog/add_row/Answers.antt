@@ -1,15 +1,7 @@
 -- The relation at the place is the one kept there; a row's cells are its own, since no text has two numbers.
 use Rattle.std.proofs.Common.{◌∙◌, ap, sym, refl}
 use Rattle.djq_database.specs.declared.kept.Kept.{Kept}
-use Rattle.djq_database.proofs.Standing.{
-  seen_at,
-  cells_seen,
-  read_kept,
-  cells_within,
-  cells_wide,
-  add_parts,
-  add_done,
-}
+use Rattle.djq_database.proofs.Catalogs.{seen_at, cells_seen, read_kept, cells_within, cells_wide, add_parts, add_done}
 use Rattle.djq_database.proofs.catalog.Catalog.add_row.Goals as goal
 
 pub add-requires : goal.add-requires

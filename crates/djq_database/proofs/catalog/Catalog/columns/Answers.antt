@@ -1,6 +1,6 @@
 -- The relation that is seen at a place has the types of the one that is kept there.
 use Rattle.std.proofs.Common.{◌∙◌}
-use Rattle.djq_database.proofs.Standing.{types_seen}
+use Rattle.djq_database.proofs.Catalogs.{types_seen}
 use Rattle.djq_database.proofs.catalog.Catalog.columns.Goals as goal
 
 pub returns : goal.returns

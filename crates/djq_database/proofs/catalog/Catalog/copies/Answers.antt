@@ -1,5 +1,5 @@
 -- The copies of a row are those of its cells, since texts differ; a kept row has one at least.
-use Rattle.djq_database.proofs.Standing.{seen_at, read_kept, copies_done, copies_has}
+use Rattle.djq_database.proofs.Catalogs.{seen_at, read_kept, copies_done, copies_has}
 use Rattle.djq_database.proofs.catalog.Catalog.copies.Goals as goal
 
 pub returns-clause-copies : goal.returns-clause-copies

@@ -1,6 +1,6 @@
 -- The relation at the place is the one kept there; of its entries the one with the row's cells changes alone.
 use Rattle.std.proofs.Common.{refl}
-use Rattle.djq_database.proofs.Standing.{seen_at, read_kept, delete_parts, delete_done}
+use Rattle.djq_database.proofs.Catalogs.{seen_at, read_kept, delete_parts, delete_done}
 use Rattle.djq_database.proofs.catalog.Catalog.delete_row.Goals as goal
 
 pub invariant_of-self : goal.invariant_of-self

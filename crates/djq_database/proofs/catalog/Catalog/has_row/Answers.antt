@@ -1,6 +1,6 @@
 -- A row is in the relation that is seen exactly where its cells are in the kept one, since texts differ.
-use Rattle.djq_database.proofs.Grouped.{found_has}
-use Rattle.djq_database.proofs.Standing.{seen_at, read_kept, has_done}
+use Rattle.djq_database.proofs.Entries.{found_has}
+use Rattle.djq_database.proofs.Catalogs.{seen_at, read_kept, has_done}
 use Rattle.djq_database.proofs.catalog.Catalog.has_row.Goals as goal
 
 pub returns-clause-has : goal.returns-clause-has

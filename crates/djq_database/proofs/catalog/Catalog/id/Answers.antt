@@ -3,7 +3,7 @@ use Rattle.std.proofs.Common.{◌∙◌, ap, refl, subst}
 use Rattle.std.specs.Prelude.{Some}
 use Rattle.djq_model.specs.Data.{Bytes}
 use Rattle.djq_dictionary.specs.Known.{IsUnknown}
-use Rattle.djq_database.proofs.Standing.{found_in, none_in}
+use Rattle.djq_database.proofs.Catalogs.{found_in, none_in}
 use Rattle.djq_database.proofs.catalog.Catalog.id.Goals as goal
 
 pub returns-in-Some : goal.returns-in-Some

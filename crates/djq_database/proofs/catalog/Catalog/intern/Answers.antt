@@ -9,7 +9,7 @@ use Rattle.djq_dictionary.specs.Known.{Learns}
 use Rattle.djq_database.specs.Catalog.{Catalog}
 use Rattle.djq_database.specs.Changes.{InternsValue}
 use Rattle.djq_database.proofs.Interning.{told_text, learned_text, refused_text}
-use Rattle.djq_database.proofs.Standing.{learned_parts, learned_relations}
+use Rattle.djq_database.proofs.Catalogs.{learned_parts, learned_relations}
 use Rattle.djq_database.proofs.catalog.Catalog.intern.Goals as goal
 
 pub returns-in-Err-clause-interns : goal.returns-in-Err-clause-interns

@@ -1,16 +1,8 @@
 -- By the loop the values before the index have cells, which stay as texts come; a refused text was unknown.
 use Rattle.std.proofs.Common.{◌∙◌, take}
-use Rattle.djq_database.proofs.Encoding.{have_grown}
-use Rattle.djq_database.proofs.Interning.{
-  cut,
-  have_upto,
-  learned_upto,
-  now_grown,
-  cells_upto,
-  refused_row,
-  row_unknown,
-}
-use Rattle.djq_database.proofs.Standing.{nowhere}
+use Rattle.djq_database.proofs.Cells.{have_grown}
+use Rattle.djq_database.proofs.Interning.{cut, have_upto, learned_upto, now_grown, cells_upto, refused_row, row_unknown}
+use Rattle.djq_database.proofs.Catalogs.{nowhere}
 use Rattle.djq_database.proofs.catalog.Catalog.intern_cells.Goals as goal
 
 pub returns-in-Err-clause-interns : goal.returns-in-Err-clause-interns

@@ -1,7 +1,7 @@
 -- What holds of the parts gives what holds of the catalog; the texts' bound is the dictionary's.
 use Rattle.std.proofs.Common.{◌≤◌, length, arith}
 use Rattle.djq_dictionary.specs.declared.dict.TheConstants.{MOST_TEXTS}
-use Rattle.djq_database.proofs.Standing.{catalog_sound}
+use Rattle.djq_database.proofs.Catalogs.{catalog_sound}
 use Rattle.djq_database.proofs.catalog.Catalog.laws.Goals as goal
 
 pub returns : goal.returns

@@ -1,5 +1,5 @@
 -- The relation that is seen at a place has the name of the one that is kept there.
-use Rattle.djq_database.proofs.Standing.{name_seen}
+use Rattle.djq_database.proofs.Catalogs.{name_seen}
 use Rattle.djq_database.proofs.catalog.Catalog.name.Goals as goal
 
 pub returns : goal.returns

@@ -7,7 +7,7 @@ use Rattle.djq_database.specs.declared.kept.Kept.{Kept}
 use Rattle.djq_database.specs.Rows.{Rows}
 use Rattle.djq_database.specs.Catalog.{Catalog}
 use Rattle.djq_database.proofs.Relations.{relations_long}
-use Rattle.djq_database.proofs.Standing.{not_found, fresh, pushed_parts, pushed_relations}
+use Rattle.djq_database.proofs.Catalogs.{not_found, fresh, pushed_parts, pushed_relations}
 use Rattle.djq_database.proofs.catalog.Catalog.relation.Goals as goal
 
 new_name : (c : goal.After-push_reserved) → relation_of c.args.self.now.relations c.args.name ≡ None

@@ -1,6 +1,6 @@
 -- The relation that is seen at a place has a row for each entry of the one that is kept there.
 use Rattle.std.proofs.Common.{◌∙◌}
-use Rattle.djq_database.proofs.Standing.{count_seen}
+use Rattle.djq_database.proofs.Catalogs.{count_seen}
 use Rattle.djq_database.proofs.catalog.Catalog.row_count.Goals as goal
 
 pub returns : goal.returns

@@ -3,7 +3,7 @@ use Rattle.std.proofs.Common.{◌∙◌, ap}
 use Rattle.djq_database.specs.declared.kept.Kept.{Kept}
 use Rattle.djq_database.specs.Parts.{tuples_of}
 use Rattle.djq_database.proofs.Relations.{tuples_are}
-use Rattle.djq_database.proofs.Standing.{seen_at, read_kept}
+use Rattle.djq_database.proofs.Catalogs.{seen_at, read_kept}
 use Rattle.djq_database.proofs.catalog.Catalog.rows.Goals as goal
 
 pub returns-clause-rest : goal.returns-clause-rest

@@ -2,7 +2,7 @@
 use Rattle.std.proofs.Common.{List, false, ◌∙◌, ap, sym, arith}
 use Rattle.djq_model.specs.declared.relation.ColumnType.{ColumnType}
 use Rattle.djq_model.specs.Typed.{fits}
-use Rattle.djq_database.proofs.Standing.{suits_seen, types_fit, no_fit}
+use Rattle.djq_database.proofs.Catalogs.{suits_seen, types_fit, no_fit}
 use Rattle.djq_database.proofs.catalog.Catalog.suits.Goals as goal
 
 pub returns-then-row-types : goal.returns-then-row-types

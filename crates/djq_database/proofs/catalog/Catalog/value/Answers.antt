@@ -2,7 +2,7 @@
 use Rattle.std.proofs.Common.{◌<◌, ◌∙◌, length, sym, subst, arith}
 use Rattle.djq_database.specs.Cells.{CellStandsFor, IsCell}
 use Rattle.djq_database.specs.Catalog.{Catalog}
-use Rattle.djq_database.proofs.Encoding.{cell_within, stands_back}
+use Rattle.djq_database.proofs.Cells.{cell_within, stands_back}
 use Rattle.djq_database.proofs.Interning.{text_below, text_lent}
 use Rattle.djq_database.proofs.catalog.Catalog.value.Goals as goal
 

@@ -1,7 +1,7 @@
 -- By the loop the values before the index have cells; a row with an unknown text is in no relation.
 use Rattle.std.proofs.Common.{ℕ, ◌∷◌, [], ◌++◌, ◌∙◌, ap}
 use Rattle.djq_database.proofs.Interning.{cut, told_more, have_upto, unknown_in}
-use Rattle.djq_database.proofs.Standing.{nowhere}
+use Rattle.djq_database.proofs.Catalogs.{nowhere}
 use Rattle.djq_database.proofs.catalog.Catalog.write_cells.Goals as goal
 
 pub returns-in-None-clause-tells : goal.returns-in-None-clause-tells

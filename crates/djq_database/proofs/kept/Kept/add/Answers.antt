@@ -1,7 +1,7 @@
 -- A row that lies in a slot is there, with the slot's copies, so it is the limit of copies that is met.
 use Rattle.std.proofs.Common.{◌≡◌, ℕ, ◌+◌, refl, ap, arith}
 use Rattle.djq_index.specs.Entries.{supports_of}
-use Rattle.djq_database.proofs.Grouped.{found}
+use Rattle.djq_database.proofs.Entries.{found}
 use Rattle.djq_database.proofs.kept.Kept.add.Goals as goal
 
 pub returns-then-copies-ge-COPIES-clause-adds : goal.returns-then-copies-ge-COPIES-clause-adds

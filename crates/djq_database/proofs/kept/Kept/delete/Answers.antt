@@ -1,8 +1,7 @@
 -- A row that lies in a slot is there, with the slot's copies, of which there is one at least.
 use Rattle.std.proofs.Common.{◌≡◌, ◌≤◌, arith}
 use Rattle.djq_index.specs.Entries.{supports_of}
-use Rattle.djq_database.proofs.Grouped.{found}
-use Rattle.djq_database.proofs.Copied.{some_copy}
+use Rattle.djq_database.proofs.Entries.{found, some_copy}
 use Rattle.djq_database.proofs.kept.Kept.delete.Goals as goal
 
 pub returns-then-copies-gt1-clause-deletes : goal.returns-then-copies-gt1-clause-deletes

@@ -2,7 +2,7 @@
 use Rattle.std.proofs.Common.{refl, subst, sym}
 use Rattle.djq_index.specs.Table.{IsAt, IsOccupied}
 use Rattle.djq_database.specs.Rows.{Rows, row_place}
-use Rattle.djq_database.proofs.Slotted.{live_held, at_row}
+use Rattle.djq_database.proofs.Slots.{live_held, at_row}
 use Rattle.djq_database.proofs.rows.Rows.cells.Goals as goal
 
 pub cells-requires : goal.cells-requires

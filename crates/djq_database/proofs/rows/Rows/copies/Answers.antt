@@ -4,7 +4,7 @@ use Rattle.std.proofs.lemmas.List.{get_or_read_under}
 use Rattle.djq_index.specs.Entries.{supports_of}
 use Rattle.djq_index.specs.Table.{IsAt, IsOccupied}
 use Rattle.djq_database.specs.Rows.{Rows, row_place}
-use Rattle.djq_database.proofs.Slotted.{live_below, its_copies}
+use Rattle.djq_database.proofs.Slots.{live_below, its_copies}
 use Rattle.djq_database.proofs.rows.Rows.copies.Goals as goal
 
 pub index-requires : goal.index-requires

@@ -4,7 +4,7 @@ use Rattle.std.specs.Prelude.{MatchOption}
 use Rattle.djq_index.specs.Entries.{Entry, count_of}
 use Rattle.djq_index.specs.Table.{IsAt}
 use Rattle.djq_database.specs.Rows.{Rows, row_place}
-use Rattle.djq_database.proofs.Slotted.{finds}
+use Rattle.djq_database.proofs.Slots.{finds}
 use Rattle.djq_database.proofs.rows.Rows.find.Goals as goal
 
 pub returns-clause-found : goal.returns-clause-found

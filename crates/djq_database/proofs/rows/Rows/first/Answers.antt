@@ -2,7 +2,7 @@
 use Rattle.std.proofs.Common.{◌∙◌, ap}
 use Rattle.djq_index.specs.Entries.{head_at}
 use Rattle.djq_database.specs.Rows.{Rows, row_place_of}
-use Rattle.djq_database.proofs.Slotted.{first_place}
+use Rattle.djq_database.proofs.Slots.{first_place}
 use Rattle.djq_database.proofs.rows.Rows.first.Goals as goal
 
 pub returns-clause-first : goal.returns-clause-first

@@ -1,7 +1,7 @@
 -- The entries are the arena's rows with their copies, so there are as many.
 use Rattle.std.proofs.Common.{◌∙◌, ap, length}
 use Rattle.djq_database.specs.Rows.{Rows}
-use Rattle.djq_database.proofs.Slotted.{entries_long}
+use Rattle.djq_database.proofs.Slots.{entries_long}
 use Rattle.djq_database.proofs.rows.Rows.len.Goals as goal
 
 pub returns : goal.returns

@@ -3,7 +3,7 @@ use Rattle.std.proofs.Common.{◌≡◌, ◌∙◌, ℕ, List, [], ap, ap₂}
 use Rattle.djq_arena.specs.Rows.{SlotRows}
 use Rattle.djq_index.specs.Entries.{Entry}
 use Rattle.djq_database.specs.Rows.{Rows, entries_with_copies}
-use Rattle.djq_database.proofs.Slotted.{entries_nil, none_kept}
+use Rattle.djq_database.proofs.Slots.{entries_nil, none_kept}
 use Rattle.djq_database.proofs.rows.Rows.new.Goals as goal
 
 pub invariant_of-result : goal.invariant_of-result

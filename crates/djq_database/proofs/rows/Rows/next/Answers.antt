@@ -2,7 +2,7 @@
 use Rattle.std.proofs.Common.{◌∙◌, ap, subst, sym}
 use Rattle.djq_index.specs.Table.{IsOccupied}
 use Rattle.djq_database.specs.Rows.{Rows, row_place}
-use Rattle.djq_database.proofs.Slotted.{live_held, next_place}
+use Rattle.djq_database.proofs.Slots.{live_held, next_place}
 use Rattle.djq_database.proofs.rows.Rows.next.Goals as goal
 
 pub next-requires : goal.next-requires

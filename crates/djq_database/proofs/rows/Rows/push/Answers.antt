@@ -2,7 +2,7 @@
 use Rattle.std.proofs.Common.{◌≡◌, ◌<◌, ◌≤◌, ◌∙◌, ap, subst, sym, length, arith, List, ℕ}
 use Rattle.djq_index.specs.Entries.{count_of}
 use Rattle.djq_database.specs.Rows.{Rows, copies_at}
-use Rattle.djq_database.proofs.Slotted.{entries_long, came, came_kept}
+use Rattle.djq_database.proofs.Slots.{entries_long, came, came_kept}
 use Rattle.djq_database.proofs.rows.Rows.push.Goals as goal
 
 pub push_hashed-requires-clause-few : goal.push_hashed-requires-clause-few

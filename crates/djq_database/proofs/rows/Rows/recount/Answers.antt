@@ -4,7 +4,7 @@ use Rattle.djq_index.specs.Entries.{supports_of}
 use Rattle.djq_index.specs.Table.{IsAt, IsOccupied}
 use Rattle.djq_index.specs.Changes.{Supported}
 use Rattle.djq_database.specs.Rows.{Rows, row_place, entries_with_copies, CopiesAreKept}
-use Rattle.djq_database.proofs.Slotted.{live_below, recounted, recounted_kept}
+use Rattle.djq_database.proofs.Slots.{live_below, recounted, recounted_kept}
 use Rattle.djq_database.proofs.rows.Rows.recount.Goals as goal
 
 pub index_mut-requires : goal.index_mut-requires

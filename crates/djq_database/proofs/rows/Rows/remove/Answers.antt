@@ -3,7 +3,7 @@ use Rattle.std.proofs.Common.{subst, sym, arith}
 use Rattle.djq_index.specs.Table.{IsAt, IsOccupied}
 use Rattle.djq_database.specs.Rows.{Rows, row_place, entries_with_copies}
 use Rattle.djq_database.specs.Tuples.{Dropped}
-use Rattle.djq_database.proofs.Slotted.{live_held, went, went_apart}
+use Rattle.djq_database.proofs.Slots.{live_held, went, went_apart}
 use Rattle.djq_database.proofs.rows.Rows.remove.Goals as goal
 
 pub remove-requires : goal.remove-requires

@@ -1,6 +1,6 @@
 -- The entries left are the last of all, as many as the walk says, which are no more than there are.
 use Rattle.std.proofs.Common.{◌∙◌, ap, sym, List, ℕ, length}
-use Rattle.djq_database.proofs.Stepping.{left_long}
+use Rattle.djq_database.proofs.Entries.{left_long}
 use Rattle.djq_database.proofs.walk.Walk.len.Goals as goal
 
 pub returns : goal.returns

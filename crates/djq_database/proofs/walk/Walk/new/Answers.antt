@@ -1,5 +1,5 @@
 -- Where as many are left as there are entries, the walk stands at the first of all.
-use Rattle.djq_database.proofs.Stepping.{starts}
+use Rattle.djq_database.proofs.Entries.{starts}
 use Rattle.djq_database.proofs.walk.Walk.new.Goals as goal
 
 pub invariant_of-result : goal.invariant_of-result

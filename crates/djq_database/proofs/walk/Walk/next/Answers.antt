@@ -2,15 +2,7 @@
 use Rattle.std.proofs.Common.{ℕ, List, ◌∷◌, ◌-◌, ◌+◌, take, drop, length, ◌∙◌, ap, sym, arith}
 use Rattle.djq_database.specs.Rows.{row_place, row_place_of}
 use Rattle.djq_database.specs.Walking.{tuples_left}
-use Rattle.djq_database.proofs.Stepping.{
-  stands,
-  stands_at,
-  stands_live,
-  some_left,
-  step_left,
-  none_left,
-  steps,
-}
+use Rattle.djq_database.proofs.Entries.{stands, stands_at, stands_live, some_left, step_left, none_left, steps}
 use Rattle.djq_database.proofs.walk.Walk.next.Goals as goal
 
 pub cells-cells-requires : goal.cells-cells-requires

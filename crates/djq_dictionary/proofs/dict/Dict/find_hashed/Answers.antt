@@ -4,7 +4,7 @@ use Rattle.std.specs.Prelude.{slice_index_or}
 use Rattle.std.proofs.lemmas.Bool.Decides.{Decides-eqb}
 use Rattle.std.proofs.lemmas.Option.{get_or_from_slice_get}
 use Rattle.std.proofs.lemmas.Slice.Eq.{slice_eq-Decides}
-use Rattle.djq_dictionary.proofs.Finding.{searched-first, searched-next}
+use Rattle.djq_dictionary.proofs.Dictionary.{searched-first, searched-next}
 use Rattle.djq_dictionary.proofs.dict.Dict.find_hashed.Goals as goal
 
 pub loop-candidate-init : goal.loop-candidate-init

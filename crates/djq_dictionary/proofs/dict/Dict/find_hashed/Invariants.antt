@@ -1,4 +1,4 @@
-use Rattle.djq_dictionary.proofs.Finding.{IsSearched, ahead}
+use Rattle.djq_dictionary.proofs.Dictionary.{IsSearched, ahead}
 use Rattle.djq_dictionary.proofs.dict.Dict.find_hashed.Given as goal
 
 abbrev pub invariant-loop-candidate : goal.invariant-loop-candidate

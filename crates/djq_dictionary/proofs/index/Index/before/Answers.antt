@@ -3,8 +3,7 @@ use Rattle.std.proofs.Common.{◌<◌, length, sym, ◌∙◌, ap, arith}
 use Rattle.std.proofs.lemmas.List.{length-map}
 use Rattle.djq_dictionary.specs.declared.chain.Link.{Link}
 use Rattle.djq_dictionary.specs.Index.{Hashes}
-use Rattle.djq_dictionary.proofs.Following.{follows-link}
-use Rattle.djq_dictionary.proofs.Linking.{next-at}
+use Rattle.djq_dictionary.proofs.Dictionary.{follows-link, next-at}
 use Rattle.djq_dictionary.proofs.index.Index.before.Goals as goal
 
 pub follow-requires-clause-within : goal.follow-requires-clause-within

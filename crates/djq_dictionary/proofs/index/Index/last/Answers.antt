@@ -2,7 +2,7 @@
 use Rattle.std.proofs.Common.{◌<◌, ℕ, length, ◌∙◌, ap, arith}
 use Rattle.std.proofs.lemmas.Grind.{get_or_default_zero}
 use Rattle.djq_dictionary.specs.Chains.{bucket_of}
-use Rattle.djq_dictionary.proofs.Following.{follows-head}
+use Rattle.djq_dictionary.proofs.Dictionary.{follows-head}
 use Rattle.djq_dictionary.proofs.index.Index.last.Goals as goal
 
 pub returns : goal.returns

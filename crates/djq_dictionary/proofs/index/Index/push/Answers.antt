@@ -3,7 +3,7 @@ use Rattle.std.proofs.Common.{◌≡◌, [], ◌∷◌, ◌++◌, length, arith,
 use Rattle.std.proofs.lemmas.List.{length-map, map-append}
 use Rattle.djq_dictionary.specs.declared.chain.Link.{Link}
 use Rattle.djq_dictionary.specs.Chains.{hashes_of, nexts_of}
-use Rattle.djq_dictionary.proofs.Linking.{chained-longer}
+use Rattle.djq_dictionary.proofs.Dictionary.{chained-longer}
 use Rattle.djq_dictionary.proofs.index.Index.push.Goals as goal
 
 pub put_in_front-requires-clause-chained : goal.put_in_front-requires-clause-chained

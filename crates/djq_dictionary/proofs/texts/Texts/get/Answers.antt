@@ -2,7 +2,7 @@
 use Rattle.std.proofs.Common.{ℕ, List, length, refl, sym, ◌∙◌, ap, arith}
 use Rattle.std.proofs.lemmas.Option.{slice_get_read}
 use Rattle.djq_dictionary.specs.Buffer.{Shelf}
-use Rattle.djq_dictionary.proofs.Cutting.{length-pieces, piece_at, piece_within}
+use Rattle.djq_dictionary.proofs.Dictionary.{length-pieces, piece_at, piece_within}
 use Rattle.djq_dictionary.proofs.texts.Texts.get.Goals as goal
 
 pub start_of-start-requires : goal.start_of-start-requires

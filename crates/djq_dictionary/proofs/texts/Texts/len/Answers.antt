@@ -1,7 +1,7 @@
 -- Cutting the buffer at its ends gives one text for each end.
 use Rattle.std.proofs.Common.{length, sym, ◌∙◌, ap}
 use Rattle.djq_dictionary.specs.Buffer.{Shelf}
-use Rattle.djq_dictionary.proofs.Cutting.{length-pieces}
+use Rattle.djq_dictionary.proofs.Dictionary.{length-pieces}
 use Rattle.djq_dictionary.proofs.texts.Texts.len.Goals as goal
 
 pub returns : goal.returns

@@ -1,7 +1,7 @@
 -- The new end is where the buffer now ends, so the old texts are cut as before and the new one is last.
 use Rattle.std.proofs.Common.{◌≡◌, ◌+◌, List, ℕ, [], ◌∷◌, ◌++◌, length, ◌∙◌, ap, rules}
 use Rattle.std.proofs.lemmas.List.{length-append}
-use Rattle.djq_dictionary.proofs.Cutting.{pieces-push, cut-push}
+use Rattle.djq_dictionary.proofs.Dictionary.{pieces-push, cut-push}
 use Rattle.djq_dictionary.proofs.texts.Texts.push.Goals as goal
 
 pub invariant_of-self : goal.invariant_of-self

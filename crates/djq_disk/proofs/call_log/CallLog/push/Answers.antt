@@ -1,7 +1,7 @@
 -- One call more is one step more of the history, since the history is folded from the calls.
 use Rattle.std.proofs.Common.{refl}
 use Rattle.djq_disk.specs.CallLog.{Calls}
-use Rattle.djq_disk.proofs.Telling.{told_made}
+use Rattle.djq_disk.proofs.Files.{told_made}
 use Rattle.djq_disk.proofs.call_log.CallLog.push.Goals as goal
 
 pub returns-clause-told : goal.returns-clause-told

@@ -10,69 +10,29 @@ use Rattle.djq_database.specs.Catalog.{counted_at}
 use Rattle.djq_store_spec.specs.Changes.{row_in}
 use Rattle.djq_engine.specs.declared.parts.Parts.{Parts}
 use Rattle.djq_engine.specs.Judging.{bare_store}
-use Rattle.djq_engine.specs.Changing.{
-  AddsTo,
-  CountsRows,
-  IfCame,
-  IfLacking,
-  IfStill,
-  KeepsLogs,
-  TellsRows,
-  WorksRows,
-  reads_at,
-  tells_at,
-}
+use Rattle.djq_engine.specs.Changing.{AddsTo, CountsRows, IfCame, IfLacking, IfStill, KeepsLogs, TellsRows, WorksRows}
+use Rattle.djq_engine.specs.Changing.{reads_at, tells_at}
 use Rattle.djq_engine.specs.Whole.{kept_in}
-use Rattle.djq_engine.proofs.Adding.{
-  add_done,
-  add_further,
-  add_lacking,
-  add_limited,
-  aged,
-  copied_cursors,
-  copied_whole,
-  mid_once,
-  mid_there,
-  names_kept,
-  rested_cursors,
-  rested_whole,
-  same_names,
-}
-use Rattle.djq_engine.proofs.Reporting.{
-  add_refused_tells,
-  adds_done,
-  adds_refused,
-  alike_now,
-  discards_by,
-  have_logs,
-  readers_within,
-  told_full,
-  told_lacking,
-  told_put,
-  told_same,
-  registered_now,
-  registered_still,
-  affected_same,
-  room_kept,
-  readers_few,
-  tells_nothing,
-  tended_now,
-  tended_still,
-}
-use Rattle.djq_engine.proofs.Placed.{keeps_changed, keeps_equal}
+use Rattle.djq_engine.proofs.Conditions.{add_done, add_further, add_lacking, add_limited_adding as add_limited, aged}
+use Rattle.djq_engine.proofs.Conditions.{copied_cursors, copied_whole, mid_once, mid_there, names_kept, rested_cursors}
+use Rattle.djq_engine.proofs.Conditions.{rested_whole, same_names}
+use Rattle.djq_engine.proofs.Deltas.{add_refused_tells, adds_done, adds_refused, alike_now, discards_by, have_logs}
+use Rattle.djq_engine.proofs.Deltas.{readers_within, told_full, told_lacking, told_put, told_same, registered_now}
+use Rattle.djq_engine.proofs.Deltas.{registered_still, affected_same, room_kept, readers_few, tells_nothing, tended_now}
+use Rattle.djq_engine.proofs.Deltas.{tended_still}
+use Rattle.djq_engine.proofs.CarriedQueries.{keeps_changed, keeps_equal}
 use Rattle.djq_enumeration.specs.Log.{Log}
 use Rattle.djq_reach.specs.Places.{readers_at}
 use Rattle.djq_reach.specs.Tending.{Empties, HaveLogs}
-use Rattle.djq_engine.proofs.Storing.{places_read}
-use Rattle.djq_engine.proofs.Tending.{shown_emptied}
-use Rattle.djq_engine.proofs.Working.{counts_updates}
-use Rattle.djq_engine.proofs.Enlisted.{unwatched_readers}
-use Rattle.djq_answer_laws.proofs.Finite.{deltas_exist}
-use Rattle.djq_live_query.proofs.Bound.{heads_bound as heads_are_bound}
-use Rattle.djq_live_query.proofs.Small.{leaves_small as leaves_are_small}
-use Rattle.djq_database.proofs.Lawful.{names as rows_by_name_or_place}
-use Rattle.djq_live_query.proofs.Showable.{stays_showable as showable_stays}
-use Rattle.djq_database.proofs.Lawful.{texts as texts_stay}
+use Rattle.djq_engine.proofs.StoredRows.{places_read}
+use Rattle.djq_engine.proofs.Logs.{shown_emptied}
+use Rattle.djq_engine.proofs.Costs.{counts_updates}
+use Rattle.djq_engine.proofs.RegisteredQueries.{unwatched_readers}
+use Rattle.djq_answer_laws.proofs.Listings.{deltas_exist}
+use Rattle.djq_live_query.proofs.TreeAnswers.{heads_bound as heads_are_bound}
+use Rattle.djq_live_query.proofs.LeafRows.{leaves_small as leaves_are_small}
+use Rattle.djq_database.proofs.Cells.{names as rows_by_name_or_place, texts as texts_stay}
+use Rattle.djq_live_query.proofs.ShownAnswers.{stays_showable as showable_stays}
 use Rattle.djq_engine.proofs.engine.Engine.add.Goals as goal
 
 pub returns-in_err-id-clause-tells : goal.returns-in_err-id-clause-tells

@@ -1,6 +1,6 @@
 -- A tuple is shown by the query in its cursor's place, which the invariant keeps over the catalog.
 use Rattle.djq_live_query.specs.Live.{IsShowable}
-use Rattle.djq_engine.proofs.Telling.{answer_read}
+use Rattle.djq_engine.proofs.Cursors.{answer_read}
 use Rattle.std.proofs.Common.{subst, sym}
 use Rattle.djq_engine.specs.Kept.{Kept, IsShown}
 use Rattle.djq_engine.proofs.engine.Engine.answer.Goals as goal

@@ -2,7 +2,7 @@
 use Rattle.std.proofs.Common.{◌∙◌, sym, subst}
 use Rattle.djq_engine.specs.Whole.{watches_in}
 use Rattle.djq_engine.proofs.Cursors.{closes, readable, held_cursor}
-use Rattle.djq_engine.proofs.Keeping.{closed_kept}
+use Rattle.djq_engine.proofs.CarriedQueries.{closed_kept}
 use Rattle.djq_engine.specs.Kept.{Kept, IsHeld}
 use Rattle.djq_engine.proofs.engine.Engine.close.Goals as goal
 

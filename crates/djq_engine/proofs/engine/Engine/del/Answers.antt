@@ -6,60 +6,28 @@ use Rattle.djq_protocol.specs.declared.answer.DeleteOutcome.{DeleteOutcome}
 use Rattle.djq_database.specs.Catalog.{Catalog, StandForRow, counted_at}
 use Rattle.djq_live_query.specs.Live.{Live}
 use Rattle.djq_store_spec.specs.Changes.{row_out}
-use Rattle.djq_engine.proofs.Placed.{keeps_changed, keeps_equal}
+use Rattle.djq_engine.proofs.CarriedQueries.{keeps_changed, keeps_equal}
 use Rattle.djq_database.specs.declared.relation_id.RelationId.{RelationId}
 use Rattle.djq_engine.specs.Kept.{held_at}
 use Rattle.djq_reach.specs.Places.{readers_at}
 use Rattle.djq_engine.specs.Places.{query_cursors_from}
 use Rattle.djq_engine.specs.declared.parts.Parts.{Parts}
 use Rattle.djq_engine.specs.Judging.{JudgesDelete}
-use Rattle.djq_engine.specs.Changing.{
-  CountsRows,
-  DeletesFrom,
-  IfNoneWent,
-  IfWent,
-  KeepsLogs,
-  TellsRows,
-  WorksRows,
-  tells_at,
-}
+use Rattle.djq_engine.specs.Changing.{CountsRows, DeletesFrom, IfNoneWent, IfWent, KeepsLogs, TellsRows, WorksRows}
+use Rattle.djq_engine.specs.Changing.{tells_at}
 use Rattle.djq_engine.specs.Whole.{kept_in}
-use Rattle.djq_engine.proofs.Adding.{
-  aged,
-  copied_cursors,
-  copied_whole,
-  delete_done,
-  delete_none,
-  delete_one,
-  mid_once,
-  mid_there,
-  same_names,
-  same_whole,
-  stands,
-}
-use Rattle.djq_engine.proofs.Reporting.{
-  affected_same,
-  room_kept,
-  readers_few,
-  readers_within,
-  alike_now,
-  delete_refused_tells,
-  deletes_done,
-  registered_now,
-  registered_still,
-  tells_nothing,
-  tended_now,
-  tended_still,
-  told_drop,
-  told_same,
-}
-use Rattle.djq_engine.proofs.Working.{counts_updates}
-use Rattle.djq_engine.proofs.Enlisted.{unwatched_readers}
-use Rattle.djq_answer_laws.proofs.Finite.{deltas_exist}
-use Rattle.djq_live_query.proofs.Bound.{heads_bound as heads_are_bound}
-use Rattle.djq_live_query.proofs.Small.{leaves_small as leaves_are_small}
-use Rattle.djq_database.proofs.Lawful.{names as rows_by_name_or_place}
-use Rattle.djq_live_query.proofs.Showable.{stays_showable as showable_stays}
+use Rattle.djq_engine.proofs.Conditions.{aged, copied_cursors, copied_whole, delete_done, delete_none, delete_one}
+use Rattle.djq_engine.proofs.Conditions.{mid_once, mid_there, same_names, same_whole, stands}
+use Rattle.djq_engine.proofs.Deltas.{affected_same, room_kept, readers_few, readers_within, alike_now}
+use Rattle.djq_engine.proofs.Deltas.{delete_refused_tells, deletes_done, registered_now, registered_still}
+use Rattle.djq_engine.proofs.Deltas.{tells_nothing, tended_now, tended_still, told_drop, told_same}
+use Rattle.djq_engine.proofs.Costs.{counts_updates}
+use Rattle.djq_engine.proofs.RegisteredQueries.{unwatched_readers}
+use Rattle.djq_answer_laws.proofs.Listings.{deltas_exist}
+use Rattle.djq_live_query.proofs.TreeAnswers.{heads_bound as heads_are_bound}
+use Rattle.djq_live_query.proofs.LeafRows.{leaves_small as leaves_are_small}
+use Rattle.djq_database.proofs.Cells.{names as rows_by_name_or_place}
+use Rattle.djq_live_query.proofs.ShownAnswers.{stays_showable as showable_stays}
 use Rattle.djq_engine.proofs.engine.Engine.del.Goals as goal
 
 pub returns-in_err-judged-clause-tells : goal.returns-in_err-judged-clause-tells

@@ -5,14 +5,15 @@ use Rattle.djq_enumeration.specs.Log.{Log}
 use Rattle.djq_live_query.specs.Live.{Live, IsShowable, values_of}
 use Rattle.djq_live_query.specs.Member.{head_types}
 use Rattle.djq_database.specs.Cells.{StandFor}
-use Rattle.djq_engine.proofs.Attending.{all_got, below_queries, line_is, line_there, query_kept_there, there_not_none}
+use Rattle.djq_engine.proofs.RegisteredQueries.{all_got, below_queries, line_is, line_there, query_kept_there}
+use Rattle.djq_engine.proofs.RegisteredQueries.{there_not_none}
 use Rattle.djq_engine.specs.Kept.{told_at, Kept, IsRegistered}
 use Rattle.djq_engine.specs.Lending.{sign_of}
 use Rattle.djq_engine.specs.Whole.{kept_in}
-use Rattle.djq_engine.proofs.Naming.{There}
-use Rattle.djq_reach.proofs.Reaching.{place_read}
-use Rattle.djq_reach.proofs.Tending.{log_read}
-use Rattle.djq_live_query.proofs.Standing.{showable_stand as showable_cells_stand}
+use Rattle.djq_engine.proofs.QueryPlaces.{There}
+use Rattle.djq_reach.proofs.PlacedQueries.{place_read}
+use Rattle.djq_reach.proofs.Logs.{log_read}
+use Rattle.djq_live_query.proofs.HeadAnswers.{showable_stand as showable_cells_stand}
 use Rattle.djq_engine.proofs.engine.Engine.delta_cells.Goals as goal
 
 pub index-requires : goal.index-requires

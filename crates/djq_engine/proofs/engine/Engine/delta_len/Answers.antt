@@ -2,8 +2,8 @@
 use Rattle.std.proofs.Common.{◌<◌, ◌∙◌, ap, arith, length, sym, List, subst}
 use Rattle.djq_enumeration.specs.declared.log.Line.{Line}
 use Rattle.djq_enumeration.specs.Log.{Log}
-use Rattle.djq_engine.proofs.Attending.{below_queries, long_lines, long_lost, query_kept_there}
-use Rattle.djq_reach.proofs.Tending.{log_read}
+use Rattle.djq_engine.proofs.RegisteredQueries.{below_queries, long_lines, long_lost, query_kept_there}
+use Rattle.djq_reach.proofs.Logs.{log_read}
 use Rattle.djq_engine.specs.Kept.{Kept, IsRegistered}
 use Rattle.djq_engine.proofs.engine.Engine.delta_len.Goals as goal
 

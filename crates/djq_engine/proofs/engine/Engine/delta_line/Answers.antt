@@ -3,10 +3,11 @@ use Rattle.std.proofs.Common.{◌<◌, ◌∙◌, ap, arith, length, sym, subst}
 use Rattle.std.specs.Prelude.{slice_get, IsSomeAnd}
 use Rattle.djq_enumeration.specs.Log.{Log}
 use Rattle.djq_live_query.specs.Live.{IsShowable}
-use Rattle.djq_engine.proofs.Attending.{all_got, below_queries, line_is, line_there, query_kept_there, there_not_none}
-use Rattle.djq_engine.proofs.Naming.{There}
-use Rattle.djq_reach.proofs.Reaching.{place_read}
-use Rattle.djq_reach.proofs.Tending.{log_read}
+use Rattle.djq_engine.proofs.RegisteredQueries.{all_got, below_queries, line_is, line_there, query_kept_there}
+use Rattle.djq_engine.proofs.RegisteredQueries.{there_not_none}
+use Rattle.djq_engine.proofs.QueryPlaces.{There}
+use Rattle.djq_reach.proofs.PlacedQueries.{place_read}
+use Rattle.djq_reach.proofs.Logs.{log_read}
 use Rattle.djq_engine.specs.Kept.{Kept, IsRegistered, told_at}
 use Rattle.djq_engine.proofs.engine.Engine.delta_line.Goals as goal
 

@@ -24,33 +24,30 @@ use Rattle.djq_engine.specs.declared.parts.Parts.{Parts}
 use Rattle.djq_engine.specs.Places.{queries_in}
 use Rattle.djq_engine.specs.Putting.{IsStoreOf, PutsAll, RefusesAll, WentInAll}
 use Rattle.djq_engine.specs.Whole.{kept_in, EngineIsWhole}
-use Rattle.djq_engine.proofs.Accepted.{Settles, taken_whole, taken_registered, taken_places}
-use Rattle.djq_engine.proofs.Accepted.{taken_cursors, taken_adds, taken_tended, taken_tells}
-use Rattle.djq_engine.proofs.Chained.{same_none}
-use Rattle.djq_engine.proofs.Fronting.{ages_first}
-use Rattle.djq_engine.proofs.GivenUp.{sound_readers}
-use Rattle.djq_engine.proofs.Placed.{keeps_equal}
-use Rattle.djq_engine.proofs.Put.{refused_kind}
-use Rattle.djq_engine.proofs.Rested.{rests_whole, rests_tended, rests_cursors, rests_tells}
-use Rattle.djq_engine.proofs.Rested.{no_groups, none_adds, refuses_batch}
-use Rattle.djq_engine.proofs.Settled.{WentIn, start_here, begun, leads_here, came_within, came_here}
-use Rattle.djq_engine.proofs.Settled.{came_tested, came_found, came_seq, filled_mid, came_takes}
-use Rattle.djq_engine.proofs.Settled.{came_readers, unwatched_reached, lacks_rows, lacks_groups}
-use Rattle.djq_engine.proofs.Settled.{lacks_readers, lacks_logged, lacks_found, lacks_whole}
-use Rattle.djq_engine.proofs.Settled.{lacks_tended, lacks_cursors, lacks_registered, lacks_places}
-use Rattle.djq_engine.proofs.Settled.{lacks_refuses, lacks_tells, lacks_last, lacks_counts}
-use Rattle.djq_engine.proofs.Storing.{same_rows}
-use Rattle.djq_engine.proofs.TakenBack.{catalog_counted}
-use Rattle.djq_engine.proofs.Worked.{came_few, counts_all, rows_each}
+use Rattle.djq_engine.proofs.Batches.{Settles, taken_whole, taken_registered, taken_places, taken_cursors, taken_adds}
+use Rattle.djq_engine.proofs.Batches.{taken_tended, taken_tells, WentIn, start_here, begun, leads_here, came_within}
+use Rattle.djq_engine.proofs.Batches.{came_here, came_tested, came_found, came_seq, filled_mid, came_takes}
+use Rattle.djq_engine.proofs.Batches.{came_readers, unwatched_reached, lacks_rows, lacks_groups, lacks_readers}
+use Rattle.djq_engine.proofs.Batches.{lacks_logged, lacks_found, lacks_whole, lacks_tended, lacks_cursors}
+use Rattle.djq_engine.proofs.Batches.{lacks_registered, lacks_places, lacks_refuses, lacks_tells, lacks_last}
+use Rattle.djq_engine.proofs.Batches.{lacks_counts}
+use Rattle.djq_engine.proofs.Catalogs.{same_none}
+use Rattle.djq_engine.proofs.OutdatedQueries.{ages_first}
+use Rattle.djq_engine.proofs.RefusedBatches.{sound_readers, rests_whole, rests_tended, rests_cursors, rests_tells}
+use Rattle.djq_engine.proofs.RefusedBatches.{no_groups, none_adds, refuses_batch}
+use Rattle.djq_engine.proofs.CarriedQueries.{keeps_equal}
+use Rattle.djq_engine.proofs.PutRows.{refused_kind}
+use Rattle.djq_engine.proofs.StoredRows.{same_rows}
+use Rattle.djq_engine.proofs.HeldRows.{catalog_counted}
+use Rattle.djq_engine.proofs.Costs.{came_few, counts_all, rows_each}
 use Rattle.djq_engine.specs.Kept.{Kept, Outdates, KeepsPlaces, is_tried}
 use Rattle.djq_engine.specs.Watching.{EngineTellsChange}
 use Rattle.djq_store_spec.specs.Changes.{tried}
-use Rattle.djq_database.proofs.Lawful.{stay as cells_stay}
-use Rattle.djq_answer_laws.proofs.Finite.{deltas_exist}
-use Rattle.djq_live_query.proofs.Bound.{heads_bound as heads_are_bound}
-use Rattle.djq_live_query.proofs.Small.{leaves_small as leaves_are_small}
-use Rattle.djq_live_query.proofs.Untouched.{stays_lives as live_stays}
-use Rattle.djq_live_query.proofs.Showable.{stays_showable as showable_stays}
+use Rattle.djq_database.proofs.Cells.{stay as cells_stay}
+use Rattle.djq_answer_laws.proofs.Listings.{deltas_exist}
+use Rattle.djq_live_query.proofs.TreeAnswers.{heads_bound as heads_are_bound}
+use Rattle.djq_live_query.proofs.LeafRows.{leaves_small as leaves_are_small}
+use Rattle.djq_live_query.proofs.ShownAnswers.{stays_lives as live_stays, stays_showable as showable_stays}
 use Rattle.djq_engine.proofs.engine.Engine.done.Goals as goal
 
 -- the store of the engine is that of its catalog

@@ -5,14 +5,14 @@ use Rattle.djq_live_query.specs.Cursors.{are_vacant}
 use Rattle.djq_live_query.specs.Live.{Live}
 use Rattle.djq_reach.specs.Places.{place_at, watched_at}
 use Rattle.djq_engine.specs.Places.{is_query}
-use Rattle.djq_engine.proofs.Enrolling.{lists_once}
+use Rattle.djq_engine.proofs.Registrations.{lists_once}
 use Rattle.djq_engine.specs.Kept.{Registered}
-use Rattle.djq_engine.proofs.Enlisted.{name_found}
-use Rattle.djq_engine.proofs.Naming.{first_query}
-use Rattle.djq_reach.proofs.Reaching.{place_below}
-use Rattle.djq_engine.proofs.Refusing.{drop_done, drop_in_use, drop_unknown, drop_watched, idle_as}
-use Rattle.djq_engine.proofs.Tending.{shown_dropped}
-use Rattle.djq_engine.proofs.Reporting.{filter_few}
+use Rattle.djq_engine.proofs.RegisteredQueries.{name_found}
+use Rattle.djq_engine.proofs.QueryPlaces.{first_query}
+use Rattle.djq_reach.proofs.PlacedQueries.{place_below}
+use Rattle.djq_engine.proofs.Refusals.{drop_done, drop_in_use, drop_unknown, drop_watched, idle_as}
+use Rattle.djq_engine.proofs.Logs.{shown_dropped}
+use Rattle.djq_engine.proofs.Deltas.{filter_few}
 use Rattle.djq_engine.proofs.engine.Engine.drop_query.Goals as goal
 
 pub returns-in_default-clause-gives : goal.returns-in_default-clause-gives

@@ -2,8 +2,8 @@
 use Rattle.std.proofs.Common.{◌≤◌, ◌+◌, ◌∙◌, ap, sym, subst, ℕ}
 use Rattle.std.specs.Prelude.{position}
 use Rattle.djq_engine.specs.Places.{is_query}
-use Rattle.djq_engine.proofs.Naming.{first_query}
-use Rattle.djq_engine.proofs.Telling.{named_read, named_there, steps_are, tells_err, tells_none, tells_ok}
+use Rattle.djq_engine.proofs.QueryPlaces.{first_query}
+use Rattle.djq_engine.proofs.Cursors.{named_read, named_there, steps_are, tells_err, tells_none, tells_ok}
 use Rattle.djq_engine.proofs.engine.Engine.has.Goals as goal
 
 pub returns-in_default-clause-tells : goal.returns-in_default-clause-tells

@@ -1,8 +1,7 @@
 -- A relation that is found, of the row's width and types, leaves no condition that refuses.
 use Rattle.djq_store_spec.specs.Batch.{suit_refusal}
 use Rattle.djq_engine.specs.Whole.{kept_in}
-use Rattle.djq_engine.proofs.Conditions.{answers_done}
-use Rattle.djq_engine.proofs.Judged.{suits_pass}
+use Rattle.djq_engine.proofs.Conditions.{answers_done, suits_pass}
 use Rattle.djq_engine.proofs.engine.Engine.held_ok.Goals as goal
 
 pub returns-in-Ok : goal.returns-in-Ok

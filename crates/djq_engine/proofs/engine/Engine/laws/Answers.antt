@@ -1,7 +1,7 @@
 -- What contracts see of queries, cursors and logs comes from the places, of which the invariant tells.
-use Rattle.djq_engine.proofs.Enlisted.{ids_differ, names_differ, queries_are}
-use Rattle.djq_engine.proofs.Lawful.{are_held, are_listed, are_over, are_placed, are_told, told_long}
-use Rattle.djq_live_query.proofs.Standing.{showable_stand as showable_cells_stand}
+use Rattle.djq_engine.proofs.RegisteredQueries.{ids_differ, names_differ, queries_are}
+use Rattle.djq_engine.proofs.AffectedQueries.{are_held, are_listed, are_over, are_placed, are_told, told_long}
+use Rattle.djq_live_query.proofs.HeadAnswers.{showable_stand as showable_cells_stand}
 use Rattle.djq_engine.proofs.engine.Engine.laws.Goals as goal
 
 pub returns : goal.returns

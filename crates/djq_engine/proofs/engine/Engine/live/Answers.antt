@@ -1,10 +1,10 @@
 -- By the invariant a registered query stands in the place of its id, and its cursors are the engine's.
 use Rattle.std.proofs.Common.{arith, subst, sym}
-use Rattle.djq_engine.proofs.Attending.{below_queries, query_kept_there, there_not_none}
-use Rattle.djq_reach.proofs.Reaching.{place_read}
-use Rattle.djq_engine.proofs.Telling.{lends}
+use Rattle.djq_engine.proofs.RegisteredQueries.{below_queries, query_kept_there, there_not_none}
+use Rattle.djq_reach.proofs.PlacedQueries.{place_read}
+use Rattle.djq_engine.proofs.Cursors.{lends}
 use Rattle.djq_engine.specs.Kept.{Kept, IsRegistered}
-use Rattle.djq_live_query.proofs.Showing.{are_shown as answers_are_shown}
+use Rattle.djq_live_query.proofs.TreeAnswers.{are_shown as answers_are_shown}
 use Rattle.djq_engine.proofs.engine.Engine.live.Goals as goal
 
 pub index-requires : goal.index-requires

@@ -2,7 +2,7 @@
 use Rattle.std.proofs.Common.{◌∙◌, sym, subst}
 use Rattle.djq_engine.specs.Whole.{kept_in, watches_in}
 use Rattle.djq_engine.proofs.Cursors.{more_gives, freshly, fresh_held, held_cursor}
-use Rattle.djq_engine.proofs.Keeping.{looked_kept}
+use Rattle.djq_engine.proofs.CarriedQueries.{looked_kept}
 use Rattle.djq_engine.specs.Kept.{Kept, IsFresh}
 use Rattle.djq_engine.proofs.engine.Engine.more.Goals as goal
 

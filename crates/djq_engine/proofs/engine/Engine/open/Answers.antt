@@ -5,11 +5,10 @@ use Rattle.djq_live_query.specs.Live.{Live}
 use Rattle.djq_engine.specs.Places.{is_query}
 use Rattle.djq_engine.specs.Sound.{QueriesAreSound}
 use Rattle.djq_engine.specs.Whole.{watches_in}
-use Rattle.djq_engine.proofs.Naming.{first_query}
+use Rattle.djq_engine.proofs.QueryPlaces.{first_query}
 use Rattle.djq_engine.proofs.Cursors.{open_refused, open_lacks, open_gives}
 use Rattle.djq_reach.specs.Tending.{LogsCanBeShown}
-use Rattle.djq_engine.proofs.Keeping.{opened_kept}
-use Rattle.djq_engine.proofs.Placed.{keeps_equal}
+use Rattle.djq_engine.proofs.CarriedQueries.{opened_kept, keeps_equal}
 use Rattle.djq_engine.proofs.engine.Engine.open.Goals as goal
 
 pub returns-in_default-clause-gives : goal.returns-in_default-clause-gives

@@ -4,8 +4,8 @@ use Rattle.djq_model.specs.declared.relation.Relation.{Relation}
 use Rattle.djq_model.specs.Known.{texts_in}
 use Rattle.djq_protocol.specs.QueryFault.{query_fault}
 use Rattle.djq_protocol.specs.Variables.{constants_of}
-use Rattle.djq_engine.proofs.Aging.{rested_held}
-use Rattle.djq_engine.proofs.Carrying.{sound_texts}
+use Rattle.djq_engine.proofs.StaleCursors.{rested_held}
+use Rattle.djq_engine.proofs.Catalogs.{sound_texts}
 use Rattle.djq_model.specs.declared.query.Query.{Query}
 use Rattle.djq_model.specs.Listed.{a_query, listed_of}
 use Rattle.djq_protocol.specs.declared.limits.TheConstants.{TEXTS}
@@ -18,18 +18,14 @@ use Rattle.djq_engine.specs.Places.{id_at, query_in, queries_in, registered_in, 
 use Rattle.djq_reach.specs.Tending.{LogsCanBeShown}
 use Rattle.djq_engine.specs.Whole.{kept_in, EngineIsWhole}
 use Rattle.std.specs.Prelude.{Option, Some, None, IsSomeAnd, is_some, map, slice_index_or}
-use Rattle.djq_engine.proofs.Enlisted.{enlisted, name_found, registered_none, registered_same}
-use Rattle.djq_engine.proofs.Tending.{shown_enrolled, shown_places}
-use Rattle.djq_engine.proofs.Refusing.{mid_shown, mid_told, all_first, constants_stay}
-use Rattle.djq_engine.proofs.Refusing.{enrolled_cursors, enrolled_queries, enrolled_whole}
-use Rattle.djq_engine.proofs.Refusing.{passes_of, query_done, query_lacks, same_cursors}
-use Rattle.djq_engine.proofs.Refusing.{same_queries, same_whole}
-use Rattle.djq_engine.proofs.Lasting.{other_place}
-use Rattle.djq_engine.proofs.Placed.{keeps_added, keeps_equal, keeps_same}
-use Rattle.djq_engine.proofs.Told.{alike_same, told_empty, told_is}
-use Rattle.djq_live_query.proofs.Untouched.{stays_lives as live_stays}
-use Rattle.djq_live_query.proofs.Showable.{stays_showable as showable_stays}
-use Rattle.djq_database.proofs.Lawful.{texts as texts_stay}
+use Rattle.djq_engine.proofs.RegisteredQueries.{enlisted, name_found, registered_none, registered_same}
+use Rattle.djq_engine.proofs.Logs.{shown_enrolled, shown_places, other_place, alike_same, told_empty, told_is}
+use Rattle.djq_engine.proofs.Refusals.{mid_shown, mid_told, all_first, constants_stay, enrolled_cursors}
+use Rattle.djq_engine.proofs.Refusals.{enrolled_queries, enrolled_whole, passes_of, query_done, query_lacks}
+use Rattle.djq_engine.proofs.Refusals.{same_cursors, same_queries, same_whole}
+use Rattle.djq_engine.proofs.CarriedQueries.{keeps_added, keeps_equal, keeps_same}
+use Rattle.djq_live_query.proofs.ShownAnswers.{stays_lives as live_stays, stays_showable as showable_stays}
+use Rattle.djq_database.proofs.Cells.{texts as texts_stay}
 use Rattle.djq_engine.proofs.engine.Engine.query.Goals as goal
 
 pub invariant_of-self : goal.invariant_of-self

@@ -3,8 +3,8 @@ use Rattle.std.proofs.Common.{◌∙◌, ap, sym}
 use Rattle.std.specs.Prelude.{position, option_map}
 use Rattle.djq_engine.specs.Kept.{Registered}
 use Rattle.djq_engine.specs.Places.{is_query}
-use Rattle.djq_engine.proofs.Enlisted.{name_found, name_unknown}
-use Rattle.djq_engine.proofs.Naming.{first_query}
+use Rattle.djq_engine.proofs.RegisteredQueries.{name_found, name_unknown}
+use Rattle.djq_engine.proofs.QueryPlaces.{first_query}
 use Rattle.djq_engine.proofs.engine.Engine.query_id.Goals as goal
 
 pub returns-in-Some : goal.returns-in-Some

@@ -5,8 +5,8 @@ use Rattle.djq_model.specs.declared.query.Query.{Query}
 use Rattle.djq_model.specs.Listed.{listed_name}
 use Rattle.djq_live_query.specs.Live.{Live}
 use Rattle.djq_engine.specs.Places.{query_in}
-use Rattle.djq_engine.proofs.Attending.{below_queries, gives_that, query_kept_there, there_not_none}
-use Rattle.djq_reach.proofs.Reaching.{place_read}
+use Rattle.djq_engine.proofs.RegisteredQueries.{below_queries, gives_that, query_kept_there, there_not_none}
+use Rattle.djq_reach.proofs.PlacedQueries.{place_read}
 use Rattle.djq_engine.specs.Kept.{Kept, IsRegistered}
 use Rattle.djq_engine.proofs.engine.Engine.query_name.Goals as goal
 

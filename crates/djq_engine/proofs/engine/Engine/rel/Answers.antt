@@ -4,9 +4,9 @@ use Rattle.djq_model.specs.Data.{Bytes}
 use Rattle.djq_engine.specs.Places.{Watches, told_from}
 use Rattle.djq_reach.specs.Tending.{LogsCanBeShown}
 use Rattle.djq_engine.specs.Whole.{watches_in}
-use Rattle.djq_engine.proofs.Lasting.{made_tellings}
-use Rattle.djq_engine.proofs.Making.{made_sound, unmade_sound}
-use Rattle.djq_live_query.proofs.Untouched.{stays_lives as live_stays}
+use Rattle.djq_engine.proofs.Logs.{made_tellings}
+use Rattle.djq_engine.proofs.RegisteredQueries.{made_sound, unmade_sound}
+use Rattle.djq_live_query.proofs.ShownAnswers.{stays_lives as live_stays}
 use Rattle.djq_engine.proofs.engine.Engine.rel.Goals as goal
 
 pub invariant_of-self-in-Ok-relation : goal.invariant_of-self-in-Ok-relation

@@ -2,8 +2,8 @@
 use Rattle.std.proofs.Common.{◌∙◌, ap, []}
 use Rattle.std.specs.Prelude.{position}
 use Rattle.djq_engine.specs.Places.{is_query}
-use Rattle.djq_engine.proofs.Naming.{first_query}
-use Rattle.djq_engine.proofs.Telling.{query_kept, shape_done, shape_none, named_read, named_there}
+use Rattle.djq_engine.proofs.QueryPlaces.{first_query}
+use Rattle.djq_engine.proofs.Cursors.{query_kept, shape_done, shape_none, named_read, named_there}
 use Rattle.djq_engine.proofs.engine.Engine.shape.Goals as goal
 
 pub returns-in_default : goal.returns-in_default

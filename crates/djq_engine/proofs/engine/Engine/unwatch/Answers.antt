@@ -1,7 +1,7 @@
 -- A registered query stands in the place of its id, so the count there is the one that isn't zero.
 use Rattle.std.proofs.Common.{◌<◌, ◌-◌, ◌∙◌, ap, arith, ℕ, length, subst, sym}
 use Rattle.std.proofs.lemmas.List.{get_or_default}
-use Rattle.djq_engine.proofs.Attending.{below_queries, has_query, has_that, watched_more}
+use Rattle.djq_engine.proofs.RegisteredQueries.{below_queries, has_query, has_that, watched_more}
 use Rattle.djq_engine.specs.Kept.{Kept, registered_at}
 use Rattle.std.specs.Prelude.{IsSomeAnd}
 use Rattle.djq_engine.proofs.engine.Engine.unwatch.Goals as goal

@@ -1,7 +1,7 @@
 -- By the invariant a registered query stands in the place of its id, and each place has its count.
 use Rattle.std.proofs.Common.{◌≡◌, ◌<◌, ◌∙◌, arith, length, subst, sym}
 use Rattle.std.proofs.lemmas.List.{get_or_default}
-use Rattle.djq_engine.proofs.Attending.{below_queries, gives_that, query_kept_there}
+use Rattle.djq_engine.proofs.RegisteredQueries.{below_queries, gives_that, query_kept_there}
 use Rattle.djq_engine.specs.Kept.{Kept, IsRegistered}
 use Rattle.djq_engine.proofs.engine.Engine.watchers.Goals as goal
 

@@ -1,6 +1,6 @@
 -- In reducts no group on the way is empty, and the walk lists each answer once, so what is ahead is an answer.
-use Rattle.djq_enumeration.proofs.Listed.{whole_clear, fits_by, cursor_answers}
-use Rattle.djq_enumeration.proofs.Remaining.{cursor_left, cursor_done}
+use Rattle.djq_enumeration.proofs.ListedAnswers.{whole_clear, fits_by, cursor_answers}
+use Rattle.djq_enumeration.proofs.NextAnswers.{cursor_left, cursor_done}
 use Rattle.djq_enumeration.proofs.cursor.Cursor.is_left.Goals as goal
 
 pub is_left_by-requires-clause-clear : goal.is_left_by-requires-clause-clear

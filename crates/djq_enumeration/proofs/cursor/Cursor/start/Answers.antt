@@ -1,5 +1,5 @@
 -- Before any call nothing was given and no choice was made, whatever the reducts are.
-use Rattle.djq_enumeration.proofs.Listed.{start_fits, start_given}
+use Rattle.djq_enumeration.proofs.ListedAnswers.{start_fits, start_given}
 use Rattle.djq_enumeration.proofs.cursor.Cursor.start.Goals as goal
 
 pub returns-clause-fits : goal.returns-clause-fits

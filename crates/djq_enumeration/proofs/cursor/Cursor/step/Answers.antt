@@ -1,13 +1,6 @@
 -- In reducts the walk through whole groups gives all answers and no others, each once, as Listed shows.
-use Rattle.djq_enumeration.proofs.Listed.{
-  whole_clear,
-  fits_by,
-  by_fits,
-  cursor_answers,
-  cursor_one,
-  cursor_same,
-  cursor_end,
-}
+use Rattle.djq_enumeration.proofs.ListedAnswers.{whole_clear, fits_by, by_fits, cursor_answers, cursor_one, cursor_same}
+use Rattle.djq_enumeration.proofs.ListedAnswers.{cursor_end}
 use Rattle.djq_enumeration.proofs.cursor.Cursor.step.Goals as goal
 
 pub advance_by-requires-clause-clear : goal.advance_by-requires-clause-clear

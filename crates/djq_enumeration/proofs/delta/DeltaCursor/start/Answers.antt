@@ -1,5 +1,5 @@
 -- Before any call nothing was told and no choice was made, whatever the reducts and the leaf are.
-use Rattle.djq_enumeration.proofs.Told.{start_fits, start_told}
+use Rattle.djq_enumeration.proofs.Deltas.{start_fits, start_told}
 use Rattle.djq_enumeration.proofs.delta.DeltaCursor.start.Goals as goal
 
 pub returns-clause-fits : goal.returns-clause-fits

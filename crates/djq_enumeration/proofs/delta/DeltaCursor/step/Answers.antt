@@ -1,7 +1,6 @@
 -- An update's marks make menus of which none is empty, and their walk tells all changed answers, each once.
-use Rattle.djq_enumeration.proofs.Updates.{updated}
-use Rattle.djq_enumeration.proofs.Telling.{changed_clear}
-use Rattle.djq_enumeration.proofs.Told.{fits_by, by_fits, told_some, told_one, told_same, told_end}
+use Rattle.djq_enumeration.proofs.States.{updated}
+use Rattle.djq_enumeration.proofs.Deltas.{changed_clear, fits_by, by_fits, told_some, told_one, told_same, told_end}
 use Rattle.djq_enumeration.proofs.delta.DeltaCursor.step.Goals as goal
 
 pub advance_by-requires-clause-clear : goal.advance_by-requires-clause-clear

@@ -2,7 +2,7 @@
 use Rattle.std.proofs.Common.{◌∙◌, ℕ, ◌-◌, [], length, ap, sym}
 use Rattle.djq_tree.specs.Tree.{Tree}
 use Rattle.djq_reduct.specs.Tables.{entries_at}
-use Rattle.djq_enumeration.proofs.Backward.{root_none, root_found}
+use Rattle.djq_enumeration.proofs.BackwardWalks.{root_none, root_found}
 use Rattle.djq_enumeration.proofs.marked.MarkedChoices.enter.Goals as goal
 
 pub returns-in-None-clause-entered : goal.returns-in-None-clause-entered

@@ -1,6 +1,6 @@
 -- In a group the marked tuples come last, so its last tuple is where the part that changed begins.
-use Rattle.djq_enumeration.proofs.Tuples.{node_is}
-use Rattle.djq_enumeration.proofs.Backward.{if_first, if_empty}
+use Rattle.djq_enumeration.proofs.LevelChoices.{node_is}
+use Rattle.djq_enumeration.proofs.BackwardWalks.{if_first, if_empty}
 use Rattle.djq_enumeration.proofs.marked.MarkedChoices.first.Goals as goal
 
 pub returns-clause-some : goal.returns-clause-some

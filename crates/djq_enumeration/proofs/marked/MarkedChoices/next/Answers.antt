@@ -6,17 +6,9 @@ use Rattle.djq_index.specs.Table.{IsAt}
 use Rattle.djq_reduct.specs.Tables.{entries_at}
 use Rattle.djq_enumeration.specs.Levels.{source}
 use Rattle.djq_enumeration.specs.Walk.{chosen}
-use Rattle.djq_enumeration.proofs.Tuples.{node_is}
+use Rattle.djq_enumeration.proofs.LevelChoices.{node_is}
 use Rattle.djq_enumeration.specs.Told.{kept}
-use Rattle.djq_enumeration.proofs.Backward.{
-  Marked,
-  if_next,
-  if_last,
-  marks_say,
-  marks_none,
-  live_in,
-  prior_live,
-}
+use Rattle.djq_enumeration.proofs.BackwardWalks.{Marked, if_next, if_last, marks_say, marks_none, live_in, prior_live}
 use Rattle.djq_enumeration.proofs.marked.MarkedChoices.next.Goals as goal
 
 pub returns-in_default-clause-none : goal.returns-in_default-clause-none

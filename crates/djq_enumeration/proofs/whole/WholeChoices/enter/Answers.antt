@@ -2,7 +2,7 @@
 use Rattle.std.proofs.Common.{◌∙◌, ℕ, ◌-◌, length, ap}
 use Rattle.djq_tree.specs.Tree.{Tree}
 use Rattle.djq_reduct.specs.Tables.{entries_at}
-use Rattle.djq_enumeration.proofs.Placing.{root_found}
+use Rattle.djq_enumeration.proofs.MarkedGroups.{root_found}
 use Rattle.djq_enumeration.proofs.whole.WholeChoices.enter.Goals as goal
 
 pub returns-clause-entered : goal.returns-clause-entered

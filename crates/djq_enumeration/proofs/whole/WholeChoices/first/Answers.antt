@@ -1,6 +1,6 @@
 -- What a group of the child's table begins with is what the level's menu begins with, and both may be empty.
-use Rattle.djq_enumeration.proofs.Tuples.{node_is}
-use Rattle.djq_enumeration.proofs.Placing.{if_first, if_empty}
+use Rattle.djq_enumeration.proofs.LevelChoices.{node_is}
+use Rattle.djq_enumeration.proofs.MarkedGroups.{if_first, if_empty}
 use Rattle.djq_enumeration.proofs.whole.WholeChoices.first.Goals as goal
 
 pub returns-clause-some : goal.returns-clause-some

@@ -1,6 +1,6 @@
 -- What the child's table gives behind a place is what the level's menu has behind the chosen tuple.
-use Rattle.djq_enumeration.proofs.Tuples.{node_is}
-use Rattle.djq_enumeration.proofs.Placing.{if_next, if_last}
+use Rattle.djq_enumeration.proofs.LevelChoices.{node_is}
+use Rattle.djq_enumeration.proofs.MarkedGroups.{if_next, if_last}
 use Rattle.djq_enumeration.proofs.whole.WholeChoices.next.Goals as goal
 
 pub returns-clause-some : goal.returns-clause-some

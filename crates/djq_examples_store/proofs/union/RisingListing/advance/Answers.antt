@@ -1,6 +1,6 @@
 -- Rising numbers differ, so those given are all exactly where they are as many as there are.
 use Rattle.std.proofs.Common.{◌+◌, arith}
-use Rattle.djq_union.proofs.Rising.{some_taken, at_end, before_end}
+use Rattle.djq_union.proofs.RisingNumbers.{some_taken, at_end, before_end}
 use Rattle.djq_examples_store.proofs.union.RisingListing.advance.Goals as goal
 
 pub returns-then-state-len-clause-end : goal.returns-then-state-len-clause-end

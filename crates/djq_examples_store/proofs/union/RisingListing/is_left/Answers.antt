@@ -1,6 +1,6 @@
 -- Rising numbers differ, so one is left exactly where fewer were given than there are.
 use Rattle.std.proofs.Common.{arith}
-use Rattle.djq_union.proofs.Rising.{left_taken}
+use Rattle.djq_union.proofs.RisingNumbers.{left_taken}
 use Rattle.djq_examples_store.proofs.union.RisingListing.is_left.Goals as goal
 
 pub returns-clause-left : goal.returns-clause-left

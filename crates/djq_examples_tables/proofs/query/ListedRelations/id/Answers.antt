@@ -4,7 +4,7 @@ use Rattle.std.specs.Prelude.{Option, position}
 use Rattle.djq_model.specs.declared.relation.Relation.{Relation}
 use Rattle.djq_model.specs.Data.{bytes_eq}
 use Rattle.djq_query.specs.Relations.{IsId}
-use Rattle.djq_query.proofs.Found.{is_found}
+use Rattle.djq_query.proofs.NumberedQueries.{is_found}
 use Rattle.djq_examples_tables.proofs.query.ListedRelations.id.Goals as goal
 
 pub returns : goal.returns

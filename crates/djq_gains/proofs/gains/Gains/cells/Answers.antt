@@ -1,7 +1,7 @@
 -- The tuple in a slot is the arena's row there, since tuples and rows stand in the same order.
 use Rattle.std.proofs.Common.{ap, sym, subst, ◌∙◌}
 use Rattle.djq_gains.specs.Gathered.{Gain, Gathered, IsIn}
-use Rattle.djq_gains.proofs.Noting.{cut_rows, held_by}
+use Rattle.djq_gains.proofs.DeltaTuples.{cut_rows, held_by}
 use Rattle.djq_gains.proofs.gains.Gains.cells.Goals as goal
 
 pub cells-requires : goal.cells-requires

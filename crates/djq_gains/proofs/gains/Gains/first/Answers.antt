@@ -2,7 +2,7 @@
 use Rattle.std.proofs.Common.{ℕ, List, ap, sym, ◌∙◌}
 use Rattle.djq_arena.specs.Chains.{first_of}
 use Rattle.djq_gains.specs.Gathered.{Gathered, slots_in}
-use Rattle.djq_gains.proofs.Noting.{slots_are}
+use Rattle.djq_gains.proofs.DeltaTuples.{slots_are}
 use Rattle.djq_gains.proofs.gains.Gains.first.Goals as goal
 
 pub returns : goal.returns

@@ -2,7 +2,7 @@
 use Rattle.std.proofs.Common.{◌≡◌, length, subst}
 use Rattle.std.specs.Prelude.{Contains}
 use Rattle.djq_gains.specs.Gathered.{Gain, Gathered}
-use Rattle.djq_gains.proofs.Noting.{wide_gain}
+use Rattle.djq_gains.proofs.DeltaTuples.{wide_gain}
 use Rattle.djq_gains.proofs.gains.Gains.laws.Goals as goal
 
 pub returns-clause-wide : goal.returns-clause-wide

@@ -2,7 +2,7 @@
 use Rattle.std.proofs.Common.{ℕ, List, ap, sym, subst, ◌∙◌}
 use Rattle.djq_arena.specs.Chains.{first_of}
 use Rattle.djq_gains.specs.Gathered.{Gain, Gathered, IsIn, slots_in}
-use Rattle.djq_gains.proofs.Noting.{cut_rows, held_by, slots_are}
+use Rattle.djq_gains.proofs.DeltaTuples.{cut_rows, held_by, slots_are}
 use Rattle.djq_gains.proofs.gains.Gains.next.Goals as goal
 
 pub next-requires : goal.next-requires

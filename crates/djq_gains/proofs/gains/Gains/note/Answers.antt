@@ -2,7 +2,7 @@
 use Rattle.std.proofs.Common.{◌≡◌, ℕ, ◌<◌, List, length, subst, sym, arith}
 use Rattle.std.specs.Prelude.{◌↔◌, ◌⊎◌}
 use Rattle.djq_gains.specs.Gathered.{Gain, Gathered, GainsDiffer, StandSomewhere, Stand, gains_in, marked_in, marks_at}
-use Rattle.djq_gains.proofs.Noting.{IsNoted, row_below, noted}
+use Rattle.djq_gains.proofs.DeltaTuples.{IsNoted, row_below, noted}
 use Rattle.djq_gains.proofs.gains.Gains.note.Goals as goal
 
 pub mark-requires-clause-slot : goal.mark-requires-clause-slot

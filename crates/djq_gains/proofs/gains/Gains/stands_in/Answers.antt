@@ -4,7 +4,7 @@ use Rattle.std.proofs.lemmas.List.{get_or_read}
 use Rattle.djq_arena.specs.Chains.{AreBelow}
 use Rattle.djq_arena.specs.Rows.{SlotRows, slots}
 use Rattle.djq_gains.specs.Gathered.{Gain, Gathered, IsIn, marks_at, gains_in}
-use Rattle.djq_gains.proofs.Noting.{cut_rows, held_by, row_below}
+use Rattle.djq_gains.proofs.DeltaTuples.{cut_rows, held_by, row_below}
 use Rattle.djq_gains.proofs.gains.Gains.stands_in.Goals as goal
 
 below : (marks : List (List Bool)) (a : SlotRows) (slot : ℕ) → AreBelow a.room (slots a.rows)

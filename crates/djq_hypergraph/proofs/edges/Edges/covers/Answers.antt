@@ -1,5 +1,5 @@
 -- A variable lies in an edge exactly where it is one of the variables of all edges.
-use Rattle.djq_hypergraph.proofs.Owning.{covered}
+use Rattle.djq_hypergraph.proofs.Labels.{covered}
 use Rattle.djq_hypergraph.proofs.edges.Edges.covers.Goals as goal
 
 pub returns : goal.returns

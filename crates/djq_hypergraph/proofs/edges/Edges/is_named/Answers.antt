@@ -1,6 +1,6 @@
 -- A variable of an edge has a name or is left; one beyond the names shows that they aren't enough.
 use Rattle.std.proofs.Common.{rules, arith}
-use Rattle.djq_hypergraph.proofs.Owning.{naming_done, unnamed}
+use Rattle.djq_hypergraph.proofs.Labels.{naming_done, unnamed}
 use Rattle.djq_hypergraph.proofs.edges.Edges.is_named.Goals as goal
 
 pub returns-then-variable-len : goal.returns-then-variable-len

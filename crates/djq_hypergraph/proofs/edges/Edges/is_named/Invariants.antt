@@ -1,5 +1,5 @@
 use Rattle.std.specs.Prelude.{length}
-use Rattle.djq_hypergraph.proofs.Owning.{Naming}
+use Rattle.djq_hypergraph.proofs.Labels.{Naming}
 use Rattle.djq_hypergraph.proofs.edges.Edges.is_named.Given as goal
 
 abbrev pub invariant-loop-variable : goal.invariant-loop-variable

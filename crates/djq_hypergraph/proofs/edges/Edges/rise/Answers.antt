@@ -2,8 +2,8 @@
 use Rattle.std.proofs.Common.{◌≡◌, List, ℕ, length, ap, ◌∙◌, arith}
 use Rattle.std.specs.Prelude.{◌<◌}
 use Rattle.djq_hypergraph.specs.Hypergraph.{edge_at}
-use Rattle.djq_hypergraph.proofs.Checking.{read_at}
-use Rattle.djq_hypergraph.proofs.Owning.{sets_more, sets_done}
+use Rattle.djq_hypergraph.proofs.JoinTrees.{read_at}
+use Rattle.djq_hypergraph.proofs.Labels.{sets_more, sets_done}
 use Rattle.djq_hypergraph.proofs.edges.Edges.rise.Goals as goal
 
 pub loop-set-preserved : goal.loop-set-preserved

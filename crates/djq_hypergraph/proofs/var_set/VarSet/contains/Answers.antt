@@ -1,5 +1,5 @@
 -- A variable is in the set exactly where its bit is set in the word, and none is above the limit.
-use Rattle.djq_hypergraph.proofs.Words.{word_member, word_above}
+use Rattle.djq_hypergraph.proofs.Sets.{word_member, word_above}
 use Rattle.djq_hypergraph.proofs.var_set.VarSet.contains.Goals as goal
 
 pub returns-then-variable-lt-VARIABLES : goal.returns-then-variable-lt-VARIABLES

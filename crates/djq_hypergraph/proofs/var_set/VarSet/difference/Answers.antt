@@ -1,5 +1,5 @@
 -- The bits of one word that the other lacks are the variables of the one set that the other lacks.
-use Rattle.djq_hypergraph.proofs.Words.{word_difference}
+use Rattle.djq_hypergraph.proofs.Sets.{word_difference}
 use Rattle.djq_hypergraph.proofs.var_set.VarSet.difference.Goals as goal
 
 pub returns : goal.returns

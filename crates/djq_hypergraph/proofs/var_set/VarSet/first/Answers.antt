@@ -1,6 +1,6 @@
 -- The lowest bit that is set stands for the least variable, with which the rising list begins.
 use Rattle.std.proofs.Common.{arith, refl}
-use Rattle.djq_hypergraph.proofs.Words.{word_first, word_none}
+use Rattle.djq_hypergraph.proofs.Sets.{word_first, word_none}
 use Rattle.djq_hypergraph.proofs.var_set.VarSet.first.Goals as goal
 
 pub returns-then-self-eq0 : goal.returns-then-self-eq0

@@ -1,5 +1,5 @@
 -- A bit that is set below the limit adds its variable to the set, and no other.
-use Rattle.djq_hypergraph.proofs.Words.{word_insert_fits, word_insert}
+use Rattle.djq_hypergraph.proofs.Sets.{word_insert_fits, word_insert}
 use Rattle.djq_hypergraph.proofs.var_set.VarSet.insert.Goals as goal
 
 pub invariant_of-result : goal.invariant_of-result

@@ -1,5 +1,5 @@
 -- The bits that both words have are the variables that both sets have.
-use Rattle.djq_hypergraph.proofs.Words.{word_intersection}
+use Rattle.djq_hypergraph.proofs.Sets.{word_intersection}
 use Rattle.djq_hypergraph.proofs.var_set.VarSet.intersection.Goals as goal
 
 pub returns : goal.returns

@@ -1,5 +1,5 @@
 -- A word below its limit is zero exactly where it stands for no variable.
-use Rattle.djq_hypergraph.proofs.Words.{word_empty}
+use Rattle.djq_hypergraph.proofs.Sets.{word_empty}
 use Rattle.djq_hypergraph.proofs.var_set.VarSet.is_empty.Goals as goal
 
 pub returns : goal.returns

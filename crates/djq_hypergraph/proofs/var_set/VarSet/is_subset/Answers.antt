@@ -1,5 +1,5 @@
 -- A set lies in another exactly where its word has no bit that the other word lacks.
-use Rattle.djq_hypergraph.proofs.Words.{word_subset}
+use Rattle.djq_hypergraph.proofs.Sets.{word_subset}
 use Rattle.djq_hypergraph.proofs.var_set.VarSet.is_subset.Goals as goal
 
 pub returns : goal.returns

@@ -1,6 +1,6 @@
 -- The lowest bit that is set is the first variable, and the word without it has the later ones.
 use Rattle.std.proofs.Common.{arith, refl}
-use Rattle.djq_hypergraph.proofs.Words.{word_split, word_none}
+use Rattle.djq_hypergraph.proofs.Sets.{word_split, word_none}
 use Rattle.djq_hypergraph.proofs.var_set.VarSet.pop.Goals as goal
 
 pub returns-clause-taken : goal.returns-clause-taken

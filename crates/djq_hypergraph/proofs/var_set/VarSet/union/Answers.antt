@@ -1,5 +1,5 @@
 -- The bits that one of two words has are the variables that one of the sets has, below the limit still.
-use Rattle.djq_hypergraph.proofs.Words.{word_fits, word_union}
+use Rattle.djq_hypergraph.proofs.Sets.{word_fits, word_union}
 use Rattle.djq_hypergraph.proofs.var_set.VarSet.union.Goals as goal
 
 pub invariant_of-result : goal.invariant_of-result

@@ -2,9 +2,8 @@
 use Rattle.std.proofs.Common.{sym, ◌∙◌}
 use Rattle.std.proofs.lemmas.Bool.{le-ltb}
 use Rattle.djq_hypergraph.specs.declared.var_set.TheConstants.{VARIABLES}
-use Rattle.djq_hypergraph.proofs.Words.{word_without, word_above}
-use Rattle.djq_hypergraph.proofs.Members.{from_false}
-use Rattle.djq_hypergraph.proofs.Owning.{absent_stays}
+use Rattle.djq_hypergraph.proofs.Sets.{word_without, word_above, from_false}
+use Rattle.djq_hypergraph.proofs.Labels.{absent_stays}
 use Rattle.djq_hypergraph.proofs.var_set.VarSet.without.Goals as goal
 
 pub returns-then-variable-ge-VARIABLES : goal.returns-then-variable-ge-VARIABLES

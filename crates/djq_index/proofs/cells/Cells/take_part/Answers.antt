@@ -2,7 +2,7 @@
 use Rattle.std.proofs.Common.{ℕ, List, ◌∷◌, ◌++◌, [], length, take, ap, sym, arith, ◌∙◌}
 use Rattle.std.specs.Prelude.{slice_index_or}
 use Rattle.std.proofs.lemmas.List.{length-take-le}
-use Rattle.djq_index.proofs.Columns.{pick_nil, pick_more, length_pick, column_below}
+use Rattle.djq_index.proofs.Tuples.{pick_nil, pick_more, length_pick, column_below}
 use Rattle.djq_index.proofs.cells.Cells.take_part.Goals as goal
 
 pub loop-column-init : goal.loop-column-init

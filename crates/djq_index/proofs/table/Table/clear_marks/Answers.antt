@@ -1,8 +1,8 @@
 -- The notes keep their heads, so the groups stay; and without marks there is no first marked slot.
 use Rattle.std.proofs.Common.{None, refl}
 use Rattle.djq_index.specs.declared.raw.Raw.{Raw}
-use Rattle.djq_index.proofs.Clearing.{cleared_raw}
-use Rattle.djq_index.proofs.Tabling.{raw_table}
+use Rattle.djq_index.proofs.ClearedMarks.{cleared_raw}
+use Rattle.djq_index.proofs.Tables.{raw_table}
 use Rattle.djq_index.proofs.table.Table.clear_marks.Goals as goal
 
 pub invariant_of-self : goal.invariant_of-self

@@ -6,7 +6,7 @@ use Rattle.djq_index.specs.Entries.{group_of}
 use Rattle.djq_index.specs.Raw.{entries_of, place_of}
 use Rattle.djq_index.proofs.Parts.{last_place}
 use Rattle.djq_index.proofs.table.Table.last.Goals as goal
-use Rattle.djq_index.proofs.Headless.{one_end, each_end, key_none, key_whole}
+use Rattle.djq_index.proofs.Tables.{one_end, each_end, key_none, key_whole}
 
 pub ends_in-requires-clause-heads : goal.ends_in-requires-clause-heads
 ends_in-requires-clause-heads g c =

@@ -5,8 +5,8 @@ use Rattle.djq_index.specs.declared.raw.Raw.{Raw}
 use Rattle.djq_index.specs.Entries.{supports_of}
 use Rattle.djq_index.specs.Raw.{note_at, entries_of}
 use Rattle.djq_index.proofs.Parts.{note_supports}
-use Rattle.djq_index.proofs.Leaving.{find_row, its_room, supports_changed, renoted_raw, renoted_supported}
-use Rattle.djq_index.proofs.Tabling.{raw_table}
+use Rattle.djq_index.proofs.Removals.{find_row, its_room, supports_changed, renoted_raw, renoted_supported}
+use Rattle.djq_index.proofs.Tables.{raw_table}
 use Rattle.djq_index.proofs.table.Table.lower.Goals as goal
 
 abbrev lowered : Note → Note

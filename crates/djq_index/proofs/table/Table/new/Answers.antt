@@ -1,6 +1,6 @@
 -- Without rows and heads what holds of a table's parts speaks of nothing but the key, and the kind fits that.
 use Rattle.std.proofs.Common.{refl}
-use Rattle.djq_index.proofs.Tabling.{empty_raw, new_table}
+use Rattle.djq_index.proofs.Tables.{empty_raw, new_table}
 use Rattle.djq_index.proofs.table.Table.new.Goals as goal
 
 pub invariant_of-result : goal.invariant_of-result

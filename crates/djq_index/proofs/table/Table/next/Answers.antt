@@ -7,7 +7,7 @@ use Rattle.djq_index.specs.Entries.{group_of}
 use Rattle.djq_index.specs.Raw.{entries_of, place_of}
 use Rattle.djq_index.proofs.Parts.{live_held, live_below, group_next}
 use Rattle.djq_index.proofs.table.Table.next.Goals as goal
-use Rattle.djq_index.proofs.Headless.{one_next, each_next, key_none, key_whole}
+use Rattle.djq_index.proofs.Tables.{one_next, each_next, key_none, key_whole}
 
 pub next-requires : goal.next-requires
 next-requires g c =

@@ -7,7 +7,7 @@ use Rattle.djq_index.specs.Entries.{group_of}
 use Rattle.djq_index.specs.Raw.{entries_of, place_of}
 use Rattle.djq_index.proofs.Parts.{live_held, live_below, group_prev}
 use Rattle.djq_index.proofs.table.Table.prev.Goals as goal
-use Rattle.djq_index.proofs.Headless.{one_prev, each_prev, key_none, key_whole}
+use Rattle.djq_index.proofs.Tables.{one_prev, each_prev, key_none, key_whole}
 
 pub prev-requires : goal.prev-requires
 prev-requires g c =

@@ -1,8 +1,8 @@
 -- The calls up to the index are one nearer each, and the one that was the next is now counted as failed.
 use Rattle.std.proofs.Common.{rules, arith, ◌-◌, ◌++◌, length, take, drop}
 use Rattle.std.proofs.lemmas.Grind.{common_steps}
-use Rattle.djq_io.proofs.Counting.{counts_down}
-use Rattle.djq_io.proofs.Mapping.{mapped_more}
+use Rattle.djq_io.proofs.Failures.{counts_down}
+use Rattle.djq_io.proofs.Hubs.{mapped_more}
 use Rattle.djq_io.proofs.failing.Failing.count_down.Goals as goal
 
 -- One more of the calls is counted down.

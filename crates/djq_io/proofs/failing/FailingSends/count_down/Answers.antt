@@ -4,8 +4,8 @@ use Rattle.std.proofs.lemmas.Grind.{common_steps}
 use Rattle.std.proofs.lemmas.Iterator.{YieldsList-from_slice}
 use Rattle.std.proofs.lemmas.Iterator.Search.{any_from_yields_List}
 use Rattle.djq_io.specs.FailingSends.{one_after_send, after_send}
-use Rattle.djq_io.proofs.Mapping.{mapped_more}
-use Rattle.djq_io.proofs.CountingSends.{counts_sends}
+use Rattle.djq_io.proofs.Hubs.{mapped_more}
+use Rattle.djq_io.proofs.Failures.{counts_sends}
 use Rattle.djq_io.proofs.failing.FailingSends.count_down.Goals as goal
 
 -- One more of the sends is counted down.

@@ -2,7 +2,7 @@
 use Rattle.std.proofs.Common.{rules, arith, ◌≡◌, ◌<◌, ◌≤◌, ap, ◌∙◌, inl, inr, min, length, take, sym, subst}
 use Rattle.djq_io.specs.Hub.{IsRunning}
 use Rattle.djq_io.specs.MemHub.{Recorded}
-use Rattle.djq_io.proofs.Following.{cuts_piece, gives_piece_whole, some_byte, holds_by}
+use Rattle.djq_io.proofs.Hubs.{cuts_piece, gives_piece_whole, some_byte, holds_by}
 use Rattle.djq_io.proofs.mem_hub.MemHub.follow.Goals as goal
 
 -- The rest of the piece is put back.

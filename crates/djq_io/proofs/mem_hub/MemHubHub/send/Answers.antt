@@ -5,7 +5,7 @@ use Rattle.djq_io.specs.Hub.{taken_by}
 use Rattle.djq_io.specs.Script.{Sends}
 use Rattle.djq_io.specs.declared.hub.Told.TheVariants.{Sending}
 use Rattle.djq_io.specs.MemHub.{Recorded, send_of}
-use Rattle.djq_io.proofs.Following.{where_told, sends_by, counts_by}
+use Rattle.djq_io.proofs.Hubs.{where_told, sends_by, counts_by}
 use Rattle.djq_io.proofs.mem_hub.MemHubHub.send.Goals as goal
 
 -- The answer goes by the script, which stays.

@@ -1,7 +1,7 @@
 -- The piece is what the bytes have from the place on, and what is left begins behind it.
-use Rattle.std.proofs.Common.{length, ◌+◌, ◌-◌, ◌≤◌, ◌≡◌, ◌++◌, take, drop, sym, ap, arith, ◌∙◌}
-use Rattle.std.proofs.Common.{length-append, length-take, length-drop}
-use Rattle.djq_io.proofs.Parts.{copied_part, part_then_left, gives_span}
+use Rattle.std.proofs.Common.{length, ◌+◌, ◌-◌, ◌≤◌, ◌≡◌, ◌++◌, take, drop, sym, ap, arith, ◌∙◌, length-append}
+use Rattle.std.proofs.Common.{length-take, length-drop}
+use Rattle.djq_io.proofs.Streams.{copied_part, part_then_left, gives_span}
 use Rattle.djq_io.proofs.mem_source.MemSourceSource.read.Goals as goal
 
 -- The piece is what comes next, and is left no longer.

@@ -4,8 +4,7 @@ use Rattle.std.proofs.lemmas.Fn.{filter_same}
 use Rattle.std.specs.Prelude.{Contains}
 use Rattle.djq_io.specs.Sessions.{Places}
 use Rattle.djq_io.specs.SessionsInside.{open_ids_in, ended_in}
-use Rattle.djq_io.proofs.FaultsOf.{bounded_after_close, close_spares}
-use Rattle.djq_io.proofs.Marking.{closes, fewer_at}
+use Rattle.djq_io.proofs.Hubs.{bounded_after_close, close_spares, closes, fewer_at}
 use Rattle.djq_io.proofs.sessions.Sessions.close.Goals as goal
 
 -- What is kept is without the session.

@@ -4,8 +4,7 @@ use Rattle.std.specs.Prelude.{Contains}
 use Rattle.std.proofs.lemmas.Grind.{common_steps}
 use Rattle.djq_io.specs.Sessions.{Places}
 use Rattle.djq_io.specs.SessionsInside.{after_fault}
-use Rattle.djq_io.proofs.Mapping.{mapped_more}
-use Rattle.djq_io.proofs.FaultsOf.{bounded_after_fault, fault_counts, fault_spares, fault_keeps_ids}
+use Rattle.djq_io.proofs.Hubs.{mapped_more, bounded_after_fault, fault_counts, fault_spares, fault_keeps_ids}
 use Rattle.djq_io.proofs.sessions.Sessions.count_fault.Goals as goal
 
 -- One more of the sessions is counted, where it has the id.

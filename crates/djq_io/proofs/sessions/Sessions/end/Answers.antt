@@ -3,9 +3,7 @@ use Rattle.std.proofs.Common.{rules, arith, ap, sym, ◌∙◌, ◌≡◌, ◌++
 use Rattle.std.proofs.lemmas.Grind.{common_steps}
 use Rattle.djq_io.specs.Sessions.{Places}
 use Rattle.djq_io.specs.SessionsInside.{after_end, open_ids_in, ended_in, counts_in}
-use Rattle.djq_io.proofs.Mapping.{mapped_more}
-use Rattle.djq_io.proofs.Marking.{ends_marked}
-use Rattle.djq_io.proofs.FaultsOf.{bounded_after_end, counts_after_end}
+use Rattle.djq_io.proofs.Hubs.{mapped_more, ends_marked, bounded_after_end, counts_after_end}
 use Rattle.djq_io.proofs.sessions.Sessions.end.Goals as goal
 
 -- One more of the sessions is marked, where it has the id.

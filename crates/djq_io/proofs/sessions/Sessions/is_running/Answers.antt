@@ -3,7 +3,7 @@ use Rattle.std.proofs.Common.{ap, sym, ◌&&◌, rules, tests, nat_eq}
 use Rattle.std.proofs.lemmas.Iterator.{YieldsList-from_slice}
 use Rattle.std.proofs.lemmas.Iterator.Search.{any_from_yields_List}
 use Rattle.djq_io.specs.Sessions.{Places}
-use Rattle.djq_io.proofs.Membership.{running_by}
+use Rattle.djq_io.proofs.Hubs.{running_by}
 use Rattle.djq_io.proofs.sessions.Sessions.is_running.Goals as goal
 
 -- Both searches together tell whether the session is running.

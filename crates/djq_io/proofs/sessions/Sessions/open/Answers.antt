@@ -2,7 +2,7 @@
 use Rattle.std.proofs.Common.{rules, arith, ◌≡◌, ◌∷◌, [], ◌++◌, sym, false}
 use Rattle.std.proofs.lemmas.Grind.{common_steps}
 use Rattle.djq_io.specs.declared.sessions.Session.{Session}
-use Rattle.djq_io.proofs.FaultsOf.{faults_after_push}
+use Rattle.djq_io.proofs.Hubs.{faults_after_push}
 use Rattle.djq_io.proofs.sessions.Sessions.open.Goals as goal
 
 -- The counts of the sessions before it stay.

@@ -2,7 +2,7 @@
 use Rattle.std.proofs.Common.{refl, ap, ◌∙◌}
 use Rattle.djq_io.specs.Failing.{after_call}
 use Rattle.djq_io.specs.MemHub.{Recorded}
-use Rattle.djq_io.proofs.Steadying.{quiet_more}
+use Rattle.djq_io.proofs.Failures.{quiet_more}
 use Rattle.djq_io.proofs.steady_hub.SteadyHubHub.listen.Goals as goal
 
 pub invariant_of-self : goal.invariant_of-self

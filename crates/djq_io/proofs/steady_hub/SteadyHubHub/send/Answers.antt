@@ -4,8 +4,8 @@ use Rattle.djq_io.specs.FailingSends.{after_send}
 use Rattle.djq_io.specs.Hub.{taken_by}
 use Rattle.djq_io.specs.Script.{Script, Sends}
 use Rattle.djq_io.specs.MemHub.{Recorded, send_of}
-use Rattle.djq_io.proofs.Following.{sends_by}
-use Rattle.djq_io.proofs.Steadying.{quiet_more, send_quiet}
+use Rattle.djq_io.proofs.Hubs.{sends_by}
+use Rattle.djq_io.proofs.Failures.{quiet_more, send_quiet}
 use Rattle.djq_io.proofs.steady_hub.SteadyHubHub.send.Goals as goal
 
 -- No send is to fail, so that it finds no session gone.

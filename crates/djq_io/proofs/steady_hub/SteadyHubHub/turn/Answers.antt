@@ -1,7 +1,7 @@
 -- No call was to fail, so none is, and what it brings adds nothing to the past that finds a session gone.
 use Rattle.std.proofs.Common.{refl, ap, ◌∙◌}
 use Rattle.djq_io.specs.Failing.{after_call}
-use Rattle.djq_io.proofs.Steadying.{quiet_more}
+use Rattle.djq_io.proofs.Failures.{quiet_more}
 use Rattle.djq_io.proofs.steady_hub.SteadyHubHub.turn.Goals as goal
 
 pub invariant_of-self : goal.invariant_of-self

@@ -5,11 +5,11 @@ use Rattle.djq_disk.specs.History.{Syncs}
 use Rattle.djq_disk.specs.Filling.{FillsBuffer}
 use Rattle.djq_disk.specs.declared.disk.DiskDid.TheVariants.{Done}
 use Rattle.djq_disk.specs.declared.filling.Filled.TheVariants.{Whole}
-use Rattle.djq_disk.proofs.Telling.{told_both}
+use Rattle.djq_disk.proofs.Files.{told_both}
 use Rattle.djq_journal.specs.Format.{header}
 use Rattle.djq_journal.specs.Calls.{JournalOpens}
 use Rattle.djq_journal.specs.declared.journal.Opened.TheVariants.{Ready}
-use Rattle.djq_journal.proofs.Found.{opened_ready}
+use Rattle.djq_journal.proofs.Records.{opened_ready}
 use Rattle.djq_journal.proofs.journal.Journal.open.Goals as goal
 
 pub returns-then-eq-clause-told : goal.returns-then-eq-clause-told

@@ -2,13 +2,13 @@
 use Rattle.std.proofs.Common.{rules, ◌≡◌, ℕ, List, [], sym, subst}
 use Rattle.std.specs.Prelude.{Option, Some}
 use Rattle.djq_disk.specs.History.{WhereHistoryTold}
-use Rattle.djq_disk.proofs.Telling.{told_so}
+use Rattle.djq_disk.proofs.Files.{told_so}
 use Rattle.djq_journal.specs.Standing.{IsIdle}
 use Rattle.djq_journal.specs.Appending.{Appends}
 use Rattle.djq_journal.specs.Logging.{Keeps}
 use Rattle.djq_journal.specs.declared.journal.Appended.TheVariants.{Done, Failed as Unappended, Full as Overflows}
 use Rattle.djq_journal.specs.declared.log.Kept.TheVariants.{All, Failed, Full}
-use Rattle.djq_journal.proofs.Logged.{told_all, with_lines, keeps_all, keeps_failed, keeps_full}
+use Rattle.djq_journal.proofs.Appends.{told_all, with_lines, keeps_all, keeps_failed, keeps_full}
 use Rattle.djq_journal.proofs.log.Log.keep.Goals as goal
 
 pub returns-in-Done-clause-told : goal.returns-in-Done-clause-told

@@ -2,27 +2,15 @@
 use Rattle.std.proofs.Common.{ℕ, [], ◌∷◌, ◌<◌, length, sym, subst, ◌∙◌, arith}
 use Rattle.djq_leaves.specs.Changes.{Came, GainsTuple}
 use Rattle.djq_live_query.specs.Live.{Live}
-use Rattle.djq_live_query.proofs.Inside.{live_of}
+use Rattle.djq_live_query.proofs.Catalogs.{live_of}
 use Rattle.djq_leaves.specs.Stepping.{GrowsByOne}
 use Rattle.djq_live_query.specs.Updating.{CountsDelta}
-use Rattle.djq_leaves.proofs.Below.{below_at}
-use Rattle.djq_live_query.proofs.Costing.{counts_all, counts_back, counts_flat, flat_back}
-use Rattle.djq_live_query.proofs.Rowing.{leaves_as, put_there}
-use Rattle.djq_live_query.proofs.Living.{
-  can_add,
-  add_leaves,
-  add_lacks,
-  add_few,
-  follows_came,
-  follows_one,
-  given_back,
-  tables_back,
-  same_query,
-  logs_came,
-  logs_one,
-  counts_came,
-  counts_one,
-}
+use Rattle.djq_leaves.proofs.Batches.{below_at}
+use Rattle.djq_live_query.proofs.Costs.{counts_all, counts_back, counts_flat, flat_back}
+use Rattle.djq_live_query.proofs.LeafRows.{leaves_as, put_there}
+use Rattle.djq_live_query.proofs.Updates.{can_add, add_leaves, add_lacks, add_few, follows_came, follows_one}
+use Rattle.djq_live_query.proofs.Updates.{given_back, tables_back, same_query, logs_came, logs_one, counts_came}
+use Rattle.djq_live_query.proofs.Updates.{counts_one}
 use Rattle.djq_live_query.proofs.live.LiveQuery.add.Goals as goal
 
 pub add_to_leaves-done-requires-clause-leaves : goal.add_to_leaves-done-requires-clause-leaves

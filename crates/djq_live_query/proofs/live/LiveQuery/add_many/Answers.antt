@@ -4,13 +4,12 @@ use Rattle.djq_tree.specs.Tree.{Tree}
 use Rattle.djq_leaves.specs.Batching.{GrowsBy, batch_tuples}
 use Rattle.djq_leaves.specs.Changes.{CameAll, GainsAll}
 use Rattle.djq_live_query.specs.Live.{Live}
-use Rattle.djq_live_query.proofs.Inside.{live_of}
+use Rattle.djq_live_query.proofs.Catalogs.{live_of}
 use Rattle.djq_live_query.specs.Updating.{CountsDelta}
-use Rattle.djq_leaves.proofs.Batched.{all_gains, all_there}
-use Rattle.djq_live_query.proofs.Batches.{can_add_all, came_distinct, in_hand, tuples_as, batch_kept, batch_same}
-use Rattle.djq_leaves.proofs.Below.{below_at}
-use Rattle.djq_live_query.proofs.Costing.{counts_batch, batch_back}
-use Rattle.djq_live_query.proofs.Living.{follows_came, same_query, logs_came, counts_came}
+use Rattle.djq_leaves.proofs.Batches.{all_gains, all_there, below_at}
+use Rattle.djq_live_query.proofs.Updates.{can_add_all, came_distinct, in_hand, tuples_as, batch_kept, batch_same}
+use Rattle.djq_live_query.proofs.Updates.{follows_came, same_query, logs_came, counts_came}
+use Rattle.djq_live_query.proofs.Costs.{counts_batch, batch_back}
 use Rattle.djq_live_query.proofs.live.LiveQuery.add_many.Goals as goal
 
 pub tuples_of_all-requires-clause-long : goal.tuples_of_all-requires-clause-long

@@ -4,16 +4,8 @@ use Rattle.djq_tree.specs.Tree.{Tree}
 use Rattle.djq_query.specs.declared.numbered.NumberedAtom.{NumberedAtom}
 use Rattle.djq_query.specs.declared.numbered.NumberedComparison.{NumberedComparison}
 use Rattle.djq_leaves.specs.Building.{AreBindable}
-use Rattle.djq_live_query.proofs.Built.{
-  IsGiven,
-  bindable,
-  given_of,
-  leaves_count,
-  live_there,
-  narrow_tree,
-  none_filled,
-  suit_there,
-}
+use Rattle.djq_live_query.proofs.BuiltQueries.{IsGiven, bindable, given_of, leaves_count, live_there, narrow_tree}
+use Rattle.djq_live_query.proofs.BuiltQueries.{none_filled, suit_there}
 use Rattle.djq_live_query.proofs.live.LiveQuery.build.Goals as goal
 
 pub bind_atoms-requires : goal.bind_atoms-requires

@@ -1,18 +1,11 @@
 -- The row went out of the catalog alone, so each leaf over its relation still has its tuple.
 use Rattle.std.proofs.Common.{length, arith, subst}
 use Rattle.djq_live_query.specs.Live.{Live}
-use Rattle.djq_live_query.proofs.Inside.{live_of}
+use Rattle.djq_live_query.proofs.Catalogs.{live_of}
 use Rattle.djq_leaves.specs.Stepping.{HasMore}
-use Rattle.djq_live_query.proofs.Costing.{counts_all, counts_flat}
-use Rattle.djq_live_query.proofs.Living.{
-  can_delete,
-  delete_leaves,
-  delete_there,
-  follows_went,
-  same_query,
-  logs_went,
-  counts_went,
-}
+use Rattle.djq_live_query.proofs.Costs.{counts_all, counts_flat}
+use Rattle.djq_live_query.proofs.Updates.{can_delete, delete_leaves, delete_there, follows_went, same_query, logs_went}
+use Rattle.djq_live_query.proofs.Updates.{counts_went}
 use Rattle.djq_live_query.proofs.live.LiveQuery.delete.Goals as goal
 
 pub delete_from_leaves-requires-clause-leaves : goal.delete_from_leaves-requires-clause-leaves

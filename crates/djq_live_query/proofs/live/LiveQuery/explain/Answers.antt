@@ -9,7 +9,7 @@ use Rattle.djq_query.specs.Numbered.{labels}
 use Rattle.djq_hypergraph.specs.Variables.{AreNamed}
 use Rattle.djq_tree.specs.Tree.{Tree, leaf_labels}
 use Rattle.djq_live_query.specs.Live.{Live, IsKept}
-use Rattle.djq_live_query.proofs.Trees.{leaves_named, variables_named}
+use Rattle.djq_live_query.proofs.BuiltQueries.{leaves_named, variables_named}
 use Rattle.djq_live_query.proofs.live.LiveQuery.explain.Goals as goal
 
 pub explain_text-requires-clause-atoms : goal.explain_text-requires-clause-atoms

@@ -1,7 +1,7 @@
 -- A tuple that suits is as wide as the head, so its cells have room; an answer's texts are all known.
 use Rattle.std.proofs.Common.{◌≡◌, ◌≤◌, length, ap, arith}
 use Rattle.djq_live_query.specs.Live.{Live}
-use Rattle.djq_live_query.proofs.Asking.{suits_long, tells_answer, tells_unknown, has_counted}
+use Rattle.djq_live_query.proofs.HeadTuples.{suits_long, tells_answer, tells_unknown, has_counted}
 use Rattle.djq_live_query.proofs.live.LiveQuery.has.Goals as goal
 
 pub cells-requires : goal.cells-requires

@@ -1,7 +1,7 @@
 -- An open cursor fits the tables, and an answer of the tree is left exactly where one in values is.
 use Rattle.std.proofs.Common.{arith}
-use Rattle.djq_live_query.proofs.Advancing.{more_gives, slot_fits}
-use Rattle.djq_live_query.proofs.Asking.{narrow}
+use Rattle.djq_live_query.proofs.ShownAnswers.{more_gives, slot_fits}
+use Rattle.djq_live_query.proofs.HeadTuples.{narrow}
 use Rattle.djq_live_query.proofs.live.LiveQuery.more.Goals as goal
 
 pub has_more-requires-clause-fits : goal.has_more-requires-clause-fits

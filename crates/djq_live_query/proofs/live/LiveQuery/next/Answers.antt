@@ -1,7 +1,7 @@
 -- An open cursor fits the tables, and different answers of the tree show different tuples of values.
 use Rattle.std.proofs.Common.{length, arith}
-use Rattle.djq_live_query.proofs.Advancing.{next_gives, slot_fits, steps_more}
-use Rattle.djq_live_query.proofs.Asking.{narrow}
+use Rattle.djq_live_query.proofs.ShownAnswers.{next_gives, slot_fits, steps_more}
+use Rattle.djq_live_query.proofs.HeadTuples.{narrow}
 use Rattle.djq_live_query.proofs.live.LiveQuery.next.Goals as goal
 
 pub read-requires : goal.read-requires

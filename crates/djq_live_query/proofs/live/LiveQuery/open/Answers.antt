@@ -1,5 +1,5 @@
 -- A cursor that has given nothing fits any tables, so the query goes with one cursor more.
-use Rattle.djq_live_query.proofs.Advancing.{open_live}
+use Rattle.djq_live_query.proofs.ShownAnswers.{open_live}
 use Rattle.djq_live_query.proofs.live.LiveQuery.open.Goals as goal
 
 pub returns-clause-live : goal.returns-clause-live

@@ -1,7 +1,7 @@
 -- A stale cursor has nothing to fit, so a query that is kept goes with its cursors once they are stale.
 use Rattle.std.proofs.Common.{sym, subst}
 use Rattle.djq_live_query.specs.Live.{Live, IsKept}
-use Rattle.djq_live_query.proofs.Advancing.{made_stale}
+use Rattle.djq_live_query.proofs.ShownAnswers.{made_stale}
 use Rattle.djq_live_query.proofs.live.LiveQuery.outdate.Goals as goal
 
 pub returns-clause-live : goal.returns-clause-live

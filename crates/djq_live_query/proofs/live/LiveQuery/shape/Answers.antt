@@ -2,7 +2,7 @@
 use Rattle.std.proofs.Common.{◌∙◌, ap}
 use Rattle.djq_protocol.specs.Hypergraph.{edges_of, head_of}
 use Rattle.djq_live_query.specs.Live.{Live}
-use Rattle.djq_live_query.proofs.Trees.{flat_told}
+use Rattle.djq_live_query.proofs.BuiltQueries.{flat_told}
 use Rattle.djq_live_query.proofs.live.LiveQuery.shape.Goals as goal
 
 pub returns-then-is_flat : goal.returns-then-is_flat

@@ -1,5 +1,5 @@
 -- A name of the head and its number have one type, so the types of the answers are those of the numbers.
-use Rattle.djq_live_query.proofs.Asking.{tells_type, tells_none}
+use Rattle.djq_live_query.proofs.HeadTuples.{tells_type, tells_none}
 use Rattle.djq_live_query.proofs.live.LiveQuery.suits.Goals as goal
 
 pub returns-then-not-suits_head-clause-err : goal.returns-then-not-suits_head-clause-err

@@ -4,7 +4,7 @@ use Rattle.std.specs.Prelude.{Some, slice_index_or}
 use Rattle.djq_model.specs.declared.value.Value.{Value}
 use Rattle.djq_model.specs.declared.relation.ColumnType.TheVariants.{Int as IntColumn}
 use Rattle.djq_live_query.specs.declared.headed.HeadCell.{HeadCell}
-use Rattle.djq_live_query.proofs.HeadCells.{reads_cell}
+use Rattle.djq_live_query.proofs.HeadTuples.{reads_cell}
 use Rattle.djq_live_query.proofs.live.LiveQuery.value.Goals as goal
 
 -- what stands for a cell beyond the head

@@ -1,13 +1,7 @@
 -- Different answers of the tree have different cells in the head's order, so both listings end together.
 use Rattle.std.proofs.Common.{sym, arith}
-use Rattle.djq_live_query.proofs.Inside.{live_of}
-use Rattle.djq_live_query.proofs.InHead.{
-  fits_outside,
-  some_given,
-  step_answer,
-  end_same,
-  kept_narrow,
-}
+use Rattle.djq_live_query.proofs.Catalogs.{live_of}
+use Rattle.djq_live_query.proofs.HeadAnswers.{fits_outside, some_given, step_answer, end_same, kept_narrow}
 use Rattle.djq_live_query.proofs.member.LiveQueryListing.advance.Goals as goal
 
 pub returns-then-not-step-clause-answers : goal.returns-then-not-step-clause-answers

@@ -1,7 +1,7 @@
 -- Cells are listed exactly where they are those of an answer of the tree, and then as many as the head.
 use Rattle.std.proofs.Common.{◌∙◌, length, arith}
 use Rattle.std.proofs.lemmas.Bool.{ne_eqb}
-use Rattle.djq_live_query.proofs.InHead.{tells_had, none_had, kept_leaves}
+use Rattle.djq_live_query.proofs.HeadAnswers.{tells_had, none_had, kept_leaves}
 use Rattle.djq_live_query.proofs.member.LiveQueryListing.has.Goals as goal
 
 pub returns-then-len-head-clause-has : goal.returns-then-len-head-clause-has

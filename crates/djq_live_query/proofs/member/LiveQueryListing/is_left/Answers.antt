@@ -1,6 +1,6 @@
 -- Cells in the head's order are all given exactly where the tree's answers are; its head is no longer.
 use Rattle.std.proofs.Common.{arith}
-use Rattle.djq_live_query.proofs.InHead.{left_same, kept_narrow}
+use Rattle.djq_live_query.proofs.HeadAnswers.{left_same, kept_narrow}
 use Rattle.djq_live_query.proofs.member.LiveQueryListing.is_left.Goals as goal
 
 pub returns-clause-left : goal.returns-clause-left

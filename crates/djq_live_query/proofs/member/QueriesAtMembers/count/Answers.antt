@@ -1,6 +1,6 @@
 -- Each place has a query, so there are as many queries as places.
 use Rattle.std.proofs.Common.{sym}
-use Rattle.djq_live_query.proofs.AtPlaces.{as_many}
+use Rattle.djq_live_query.proofs.Catalogs.{as_many}
 use Rattle.djq_live_query.proofs.member.QueriesAtMembers.count.Goals as goal
 
 pub returns-clause-count : goal.returns-clause-count

@@ -1,6 +1,6 @@
 -- Each place has a query, so the query at a number is the one in the place at that number.
 use Rattle.std.proofs.Common.{◌<◌, ◌∙◌, length, rules, arith}
-use Rattle.djq_live_query.proofs.AtPlaces.{as_many, nth_is, nth_has}
+use Rattle.djq_live_query.proofs.Catalogs.{as_many, nth_is, nth_has}
 use Rattle.djq_live_query.proofs.member.QueriesAtMembers.member.Goals as goal
 
 pub offset_bounds-self-i : goal.offset_bounds-self-i

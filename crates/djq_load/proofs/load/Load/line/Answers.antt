@@ -1,7 +1,7 @@
 -- Where nothing fixed is due, what is to come begins with the change that the next three draws make.
 use Rattle.std.proofs.Common.{◌+◌, ◌-◌, sym, ◌∙◌}
 use Rattle.djq_load.specs.Load.{changes}
-use Rattle.djq_load.proofs.Changing.{changes-first}
+use Rattle.djq_load.proofs.Draws.{changes-first}
 use Rattle.djq_load.proofs.load.Load.line.Goals as goal
 
 pub returns-clause-given : goal.returns-clause-given

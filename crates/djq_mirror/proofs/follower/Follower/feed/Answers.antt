@@ -1,9 +1,9 @@
 -- The piece is cut at its LFs: each line was taken in turn, and what is left behind the last has no LF.
-use Rattle.std.proofs.Common.{ℕ, List, ◌∙◌, ◌-◌, ◌+◌, ◌++◌, ◌∷◌, [], Some, length, take, drop}
-use Rattle.std.proofs.Common.{sym, ap, arith, append_assoc, length-drop}
+use Rattle.std.proofs.Common.{ℕ, List, ◌∙◌, ◌-◌, ◌+◌, ◌++◌, ◌∷◌, [], Some, length, take, drop, sym, ap, arith}
+use Rattle.std.proofs.Common.{append_assoc, length-drop}
 use Rattle.std.proofs.lemmas.List.{take_all}
-use Rattle.djq_mirror.proofs.Following.{at_first_lf, at_no_lf, takes_line, takes_more, takes_rest}
-use Rattle.djq_mirror.proofs.Following.{front_is_piece, line_is_piece}
+use Rattle.djq_mirror.proofs.FollowedLines.{at_first_lf, at_no_lf, takes_line, takes_more, takes_rest, front_is_piece}
+use Rattle.djq_mirror.proofs.FollowedLines.{line_is_piece}
 use Rattle.djq_mirror.proofs.follower.Follower.feed.Goals as goal
 
 pub returns-in-Some-take_line : goal.returns-in-Some-take_line

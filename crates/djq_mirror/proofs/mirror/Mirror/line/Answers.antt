@@ -1,7 +1,7 @@
 -- What was read is what the bytes say; where they say nothing they are outside, and all stays as it was.
 use Rattle.std.proofs.Common.{refl, sym, arith}
 use Rattle.djq_mirror.specs.Reading.{news_by}
-use Rattle.djq_mirror.proofs.Turning.{line_ends, outside_none}
+use Rattle.djq_mirror.proofs.MirrorSteps.{line_ends, outside_none}
 use Rattle.djq_mirror.proofs.mirror.Mirror.line.Goals as goal
 
 pub returns-in-Ok-Some : goal.returns-in-Ok-Some

@@ -1,6 +1,6 @@
 -- What stands before the first sign is the first part, and what is behind it has the other parts.
 use Rattle.std.proofs.Common.{rules, arith}
-use Rattle.djq_mirror.proofs.Parting.{first_part}
+use Rattle.djq_mirror.proofs.Spellings.{first_part}
 use Rattle.djq_mirror.proofs.parts.Parts.next.Goals as goal
 
 pub returns : goal.returns

@@ -1,7 +1,7 @@
 -- Where the first 4,098 bytes have no LF, whether they are too long says it of the line, however it goes on.
 use Rattle.std.proofs.Common.{◌∙◌, ◌≡◌, sym, subst, ℕ, take, true, false}
 use Rattle.djq_protocol.specs.Line.{is_long}
-use Rattle.djq_parser.proofs.Cutting.{front_of-no_lf_long, front_of-no_lf_dry, no_lf_from_search}
+use Rattle.djq_parser.proofs.RowLines.{front_of-no_lf_long, front_of-no_lf_dry, no_lf_from_search}
 use Rattle.djq_parser.proofs.splitter.Splitter.front.Goals as goal
 
 pub returns-in-None : goal.returns-in-None

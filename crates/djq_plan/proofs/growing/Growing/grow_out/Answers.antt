@@ -1,5 +1,5 @@
 -- The second stage only adds nodes, so the marks at its beginning, filled up to its end, are those of `out`.
-use Rattle.djq_plan.proofs.Deciding.{grown_out}
+use Rattle.djq_plan.proofs.GrownTrees.{grown_out}
 use Rattle.djq_plan.proofs.growing.Growing.grow_out.Goals as goal
 
 pub returns : goal.returns

@@ -1,7 +1,7 @@
 -- A node is current where its number is among the current ones, and the nodes before it are told already.
 use Rattle.std.proofs.Common.{◌∙◌, ap, arith}
 use Rattle.djq_tree.specs.Growing.{Growth}
-use Rattle.djq_plan.proofs.Stepping.{mark_more}
+use Rattle.djq_plan.proofs.GrowthSteps.{mark_more}
 use Rattle.djq_plan.proofs.growing.Growing.marks.Goals as goal
 
 pub loop-node-preserved : goal.loop-node-preserved

@@ -1,7 +1,7 @@
 -- Each step that is taken is one of the stage, and the current labels are smaller in all after it.
 use Rattle.std.proofs.Common.{refl}
 use Rattle.djq_tree.specs.Growing.{are_within}
-use Rattle.djq_plan.proofs.Stepping.{ran_none, turn}
+use Rattle.djq_plan.proofs.GrowthSteps.{ran_none, turn}
 use Rattle.djq_plan.proofs.growing.Growing.run_first.Goals as goal
 
 pub first-init : goal.first-init

@@ -1,5 +1,5 @@
 use Rattle.djq_tree.specs.Growing.{are_within}
-use Rattle.djq_plan.proofs.Stepping.{Ran, size}
+use Rattle.djq_plan.proofs.GrowthSteps.{Ran, size}
 use Rattle.djq_plan.proofs.growing.Growing.run_first.Given as goal
 
 abbrev pub invariant-first : goal.invariant-first

@@ -1,7 +1,7 @@
 -- A set without variables keeps none, so each step is one of the stage; labels are smaller in all after it.
 use Rattle.std.proofs.Common.{[]}
 use Rattle.djq_tree.specs.Growing.{is_root}
-use Rattle.djq_plan.proofs.Stepping.{ran_none, turn}
+use Rattle.djq_plan.proofs.GrowthSteps.{ran_none, turn}
 use Rattle.djq_plan.proofs.growing.Growing.run_second.Goals as goal
 
 pub second-init : goal.second-init

@@ -1,6 +1,6 @@
 use Rattle.std.proofs.Common.{[]}
 use Rattle.djq_tree.specs.Growing.{is_root}
-use Rattle.djq_plan.proofs.Stepping.{Ran, size}
+use Rattle.djq_plan.proofs.GrowthSteps.{Ran, size}
 use Rattle.djq_plan.proofs.growing.Growing.run_second.Given as goal
 
 abbrev pub invariant-second : goal.invariant-second

@@ -1,7 +1,7 @@
 -- What the rule names stands among the current labels: a trim's place, and the two different ones of a meet.
 use Rattle.std.proofs.Common.{◌∙◌, ap}
 use Rattle.djq_tree.specs.Growing.{Growth}
-use Rattle.djq_plan.proofs.Stepping.{trim_place, meet_places}
+use Rattle.djq_plan.proofs.GrowthSteps.{trim_place, meet_places}
 use Rattle.djq_plan.proofs.growing.Growing.take_step.Goals as goal
 
 pub take_trim-requires : goal.take_trim-requires

@@ -2,7 +2,7 @@
 use Rattle.std.proofs.Common.{◌≡◌, ◌∙◌, ap, ap₂, List, ℕ}
 use Rattle.djq_query.specs.declared.numbered.NumberedTerm.{NumberedTerm}
 use Rattle.djq_query.specs.Pattern.{bound, tests_of}
-use Rattle.djq_query.proofs.Binding.{pattern_of}
+use Rattle.djq_query.proofs.Atoms.{pattern_of}
 use Rattle.djq_query.proofs.numbered.NumberedAtom.bind.Goals as goal
 
 pub new-requires : goal.new-requires

@@ -1,12 +1,12 @@
 -- By the query's law an atom's numbers are below the limit, and each edge so far is that of its atom.
-use Rattle.std.proofs.Common.{◌≡◌, ◌+◌, ◌<◌, ℕ, List, length, arith, sym, subst, ap, ◌∙◌, ◌++◌, ◌∷◌}
-use Rattle.std.proofs.Common.{[], get_or, length-append}
+use Rattle.std.proofs.Common.{◌≡◌, ◌+◌, ◌<◌, ℕ, List, length, arith, sym, subst, ap, ◌∙◌, ◌++◌, ◌∷◌, [], get_or}
+use Rattle.std.proofs.Common.{length-append}
 use Rattle.std.specs.List.{list_any}
 use Rattle.djq_hypergraph.specs.Hypergraph.{member, edge_at}
 use Rattle.djq_protocol.specs.declared.limits.TheConstants.{VARIABLES}
 use Rattle.djq_query.specs.declared.numbered.NumberedAtom.{NumberedAtom}
 use Rattle.djq_query.specs.Numbered.{is_number, terms_at, are_below}
-use Rattle.djq_query.proofs.Edging.{atom_within, edge_pushed, edges_over}
+use Rattle.djq_query.proofs.Atoms.{atom_within, edge_pushed, edges_over}
 use Rattle.djq_query.proofs.numbered.NumberedQuery.edges.Goals as goal
 
 pub variables_of-requires : goal.variables_of-requires

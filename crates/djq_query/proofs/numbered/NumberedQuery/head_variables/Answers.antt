@@ -1,5 +1,5 @@
 -- The set has the numbers of the head up to the index, so with the next one it has those one place further.
-use Rattle.djq_query.proofs.Edging.{head_on}
+use Rattle.djq_query.proofs.Atoms.{head_on}
 use Rattle.djq_query.proofs.numbered.NumberedQuery.head_variables.Goals as goal
 
 pub head-preserved : goal.head-preserved

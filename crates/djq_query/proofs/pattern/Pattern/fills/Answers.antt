@@ -2,7 +2,7 @@
 use Rattle.std.proofs.Common.{◌≡◌, ◌<◌, ◌≤◌, List, length, arith, sym, ap, ◌∙◌}
 use Rattle.djq_query.specs.declared.pattern.Slot.{Slot}
 use Rattle.djq_query.specs.Pattern.{Shape}
-use Rattle.djq_query.proofs.Matching.{filled_none, filled_more, gives_not, gives_all}
+use Rattle.djq_query.proofs.Atoms.{filled_none, filled_more, gives_not, gives_all}
 use Rattle.djq_query.proofs.pattern.Pattern.fills.Goals as goal
 
 pub columns-init : goal.columns-init

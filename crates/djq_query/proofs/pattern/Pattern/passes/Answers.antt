@@ -2,7 +2,7 @@
 use Rattle.std.proofs.Common.{◌≡◌, ◌≤◌, List, length, sym, ap, ◌∙◌, arith}
 use Rattle.djq_query.specs.declared.pattern.Test.{Test}
 use Rattle.djq_query.specs.Pattern.{Shape}
-use Rattle.djq_query.proofs.Matching.{tests_more, tests_all}
+use Rattle.djq_query.proofs.Atoms.{tests_more, tests_all}
 use Rattle.djq_query.proofs.pattern.Pattern.passes.Goals as goal
 
 pub tests-preserved : goal.tests-preserved

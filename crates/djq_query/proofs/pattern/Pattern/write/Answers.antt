@@ -2,7 +2,7 @@
 use Rattle.std.proofs.Common.{◌≡◌, ◌≤◌, List, length, arith, subst, ap, ◌∙◌}
 use Rattle.djq_query.specs.declared.pattern.Slot.{Slot}
 use Rattle.djq_query.specs.Pattern.{Shape, IsPattern}
-use Rattle.djq_query.proofs.Matching.{within_read, put_wide, read_on, read_all}
+use Rattle.djq_query.proofs.Atoms.{within_read, put_wide, read_on, read_all}
 use Rattle.djq_query.proofs.pattern.Pattern.write.Goals as goal
 
 pub columns-preserved : goal.columns-preserved

@@ -3,7 +3,7 @@ use Rattle.std.proofs.Common.{ℕ, List, ap, arith, ◌∙◌}
 use Rattle.djq_hypergraph.specs.declared.var_set.TheConstants.{VARIABLES}
 use Rattle.djq_reduct.specs.Reducts.{Reducts}
 use Rattle.djq_reduct.specs.Columns.{column}
-use Rattle.djq_reduct.proofs.Heading.{place_read}
+use Rattle.djq_reduct.proofs.Paths.{place_read}
 use Rattle.djq_reduct.proofs.reducts.Reducts.column.Goals as goal
 
 pub returns-then-variable-len : goal.returns-then-variable-len

@@ -4,7 +4,7 @@ use Rattle.std.specs.Prelude.{slice_index_or}
 use Rattle.djq_tree.specs.Labels.{label_at}
 use Rattle.djq_reduct.specs.Columns.{columns}
 use Rattle.djq_reduct.specs.Reducts.{Reducts}
-use Rattle.djq_reduct.proofs.Heading.{length_heads, heads_at}
+use Rattle.djq_reduct.proofs.Paths.{length_heads, heads_at}
 use Rattle.djq_reduct.proofs.reducts.Reducts.columns.Goals as goal
 
 pub index-requires : goal.index-requires

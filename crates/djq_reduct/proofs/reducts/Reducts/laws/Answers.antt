@@ -1,7 +1,7 @@
 -- By induction over the nodes a table is known once its children's are, so equal leaves make equal tables.
 use Rattle.std.proofs.Common.{subst}
 use Rattle.djq_reduct.specs.Reducts.{IsReducts}
-use Rattle.djq_reduct.proofs.Family.{one_family}
+use Rattle.djq_reduct.proofs.Assignments.{one_family}
 use Rattle.djq_reduct.proofs.reducts.Reducts.laws.Goals as goal
 
 pub returns-clause-only : goal.returns-clause-only

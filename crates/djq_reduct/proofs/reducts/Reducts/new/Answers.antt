@@ -5,7 +5,7 @@ use Rattle.djq_index.specs.Table.{Table}
 use Rattle.djq_reduct.specs.Tables.{entries_at}
 use Rattle.djq_reduct.specs.Heads.{head_places}
 use Rattle.djq_reduct.specs.Reducts.{IsReducts}
-use Rattle.djq_reduct.proofs.Making.{empty_tables, made_reducts, made_none, made_on, made_entries}
+use Rattle.djq_reduct.proofs.Assignments.{empty_tables, made_reducts, made_none, made_on, made_entries}
 use Rattle.djq_reduct.proofs.reducts.Reducts.new.Goals as goal
 
 pub loop-node-init : goal.loop-node-init

@@ -2,7 +2,7 @@
 use Rattle.std.proofs.Common.{◌≡◌, length, ap, arith}
 use Rattle.djq_reduct.specs.Tables.{table_at}
 use Rattle.djq_reduct.specs.Reducts.{Reducts}
-use Rattle.djq_reduct.proofs.Family.{at_place, read_at}
+use Rattle.djq_reduct.proofs.Assignments.{at_place, read_at}
 use Rattle.djq_reduct.proofs.reducts.Reducts.table.Goals as goal
 
 read : (c : goal.After-index) → c.index.result.now ≡ table_at c.args.self.now.tables c.args.node

@@ -4,7 +4,7 @@ use Rattle.std.proofs.lemmas.List.Quantifiers.{all_pairs_push}
 use Rattle.djq_model.specs.Data.{bytes_eq}
 use Rattle.djq_session.specs.declared.named.NamedCursor.{NamedCursor}
 use Rattle.djq_session.specs.Dialog.{named, cursor_is_named}
-use Rattle.djq_session.proofs.Finding.{none_passes}
+use Rattle.djq_session.proofs.Removals.{none_passes}
 use Rattle.djq_session.proofs.session.Session.add_cursor.Goals as goal
 
 pub invariant_of-self-2 : goal.invariant_of-self-2

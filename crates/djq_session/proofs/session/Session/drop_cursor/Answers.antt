@@ -4,8 +4,7 @@ use Rattle.std.proofs.lemmas.List.Quantifiers.{all_pairs_remove, position-Some}
 use Rattle.djq_model.specs.Data.{bytes_eq, drop_first}
 use Rattle.djq_session.specs.declared.named.NamedCursor.{NamedCursor}
 use Rattle.djq_session.specs.Dialog.{cursor_is_named}
-use Rattle.djq_session.proofs.Finding.{removed_first, few_left}
-use Rattle.djq_session.proofs.Dropping.{no_cursor_dropped}
+use Rattle.djq_session.proofs.Removals.{removed_first, few_left, no_cursor_dropped}
 use Rattle.djq_session.proofs.session.Session.drop_cursor.Goals as goal
 
 pub invariant_of-self : goal.invariant_of-self

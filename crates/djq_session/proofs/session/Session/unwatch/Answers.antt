@@ -1,8 +1,7 @@
 -- The place found is the first of the query, so what is left is the list without it; if none, all is the same.
 use Rattle.std.proofs.Common.{◌≡◌, ◌∙◌, sym, ap, subst, position, Some, None, List}
 use Rattle.djq_model.specs.Data.{drop_first}
-use Rattle.djq_session.proofs.Finding.{removed_first}
-use Rattle.djq_session.proofs.Dropping.{no_watch_dropped}
+use Rattle.djq_session.proofs.Removals.{removed_first, no_watch_dropped}
 use Rattle.djq_session.proofs.session.Session.unwatch.Goals as goal
 
 pub returns-in-Some : goal.returns-in-Some

@@ -1,5 +1,5 @@
 -- Where a search finds a place the query is watched there, and where it finds none it isn't watched.
-use Rattle.djq_session.proofs.Finding.{placed_any, placed_there}
+use Rattle.djq_session.proofs.Removals.{placed_any, placed_there}
 use Rattle.djq_session.proofs.session.watches.place_near.Goals as goal
 
 pub returns-clause-watched : goal.returns-clause-watched

@@ -5,18 +5,16 @@ use Rattle.djq_model.specs.Listed.{a_union}
 use Rattle.djq_live_query.specs.Member.{query_at, queries_at}
 use Rattle.djq_store_spec.specs.Registering.{answer_steps}
 use Rattle.djq_live_query.specs.Live.{Live}
-use Rattle.djq_live_query.proofs.AtPlaces.{are_kept}
+use Rattle.djq_live_query.proofs.Catalogs.{are_kept}
 use Rattle.djq_store_spec.specs.Union.{RegistersUnion}
 use Rattle.djq_engine.specs.Kept.{Kept, SameCursors}
 use Rattle.djq_united.specs.United.{AreMembers}
 use Rattle.djq_store.specs.Places.{store_seen}
 use Rattle.djq_store.specs.Registering.{EnrolsUnion, EnrolsUnionTelling}
 use Rattle.djq_store.specs.Whole.{IsListed}
-use Rattle.djq_store.proofs.Chosen.{are_fit, are_known}
-use Rattle.djq_store.proofs.Joining.{joining_members, joining_registers, joining_enrols}
-use Rattle.djq_store.proofs.Joining.{joining_cursors, joining_counted, joining_listed}
-use Rattle.djq_store.proofs.Joining.{joining_tells}
-use Rattle.djq_live_query.proofs.Standing.{head_are as head_types_are}
+use Rattle.djq_store.proofs.UnionRegistrations.{are_fit, are_known, joining_members, joining_registers, joining_enrols}
+use Rattle.djq_store.proofs.UnionRegistrations.{joining_cursors, joining_counted, joining_listed, joining_tells}
+use Rattle.djq_live_query.proofs.HeadAnswers.{head_are as head_types_are}
 use Rattle.djq_store.proofs.store.Store.add_union.Goals as goal
 
 pub places_of-requires : goal.places_of-requires

@@ -6,7 +6,7 @@ use Rattle.djq_engine.specs.Kept.{Kept, AtPlace, IsShown, AnswerIs}
 use Rattle.djq_engine.specs.Places.{id_at}
 use Rattle.djq_store.specs.declared.joined.Joined.{Joined}
 use Rattle.djq_store.specs.Places.{joined_at}
-use Rattle.djq_store.proofs.Answering.{shown_low, answer_low, lender_there, shown_high, answer_high}
+use Rattle.djq_store.proofs.Lookups.{shown_low, answer_low, lender_there, shown_high, answer_high}
 use Rattle.djq_store.proofs.store.Store.answer.Goals as goal
 
 pub answer-requires : goal.answer-requires

@@ -3,12 +3,9 @@ use Rattle.std.proofs.Common.{◌-◌, sym, subst}
 use Rattle.djq_engine.specs.declared.cursor.CursorId.{CursorId}
 use Rattle.djq_engine.specs.Kept.{Kept, ClosesCursor, IsHeld}
 use Rattle.djq_store.specs.Places.{store_seen}
-use Rattle.djq_store.proofs.Given.{close_over, closed_same, whole_over}
-use Rattle.djq_store.proofs.Moved.{cursor_of}
-use Rattle.djq_store.proofs.Standing.{id_is, held_in_engine, closable}
-use Rattle.djq_store.proofs.Staying.{rests_with}
-use Rattle.djq_store.proofs.Unions.{close_union, closed_listed, closed_counted}
-use Rattle.djq_store.proofs.Below.{staying_laws}
+use Rattle.djq_store.proofs.EngineChanges.{close_over, closed_same, whole_over, rests_with, staying_laws}
+use Rattle.djq_store.proofs.UnionSlots.{cursor_of, id_is, held_in_engine, closable}
+use Rattle.djq_store.proofs.UnionCursors.{close_union, closed_listed, closed_counted}
 use Rattle.djq_store.proofs.store.Store.close.Goals as goal
 
 pub close-requires : goal.close-requires

@@ -6,11 +6,11 @@ use Rattle.djq_engine.specs.Kept.{Kept, Outdates, IsUnwatched}
 use Rattle.djq_engine.specs.Watching.{CountsUpdates, delete_times}
 use Rattle.djq_store.specs.Places.{store_kept_in}
 use Rattle.djq_store.specs.Watching.{TellsChange}
-use Rattle.djq_store.proofs.Counting.{counts_seen}
-use Rattle.djq_store.proofs.Doing.{members_behind, order_few, unions_unwatched, engine_unwatched}
-use Rattle.djq_store.proofs.Rowed.{did_by, turn_low, turn_few, turn_comes, store_deletes}
-use Rattle.djq_store.proofs.Rowing.{delete_known, delete_turns, delete_grows}
-use Rattle.djq_store.proofs.Below.{staying_laws}
+use Rattle.djq_store.proofs.Costs.{counts_seen}
+use Rattle.djq_store.proofs.RowCommands.{members_behind, order_few, unions_unwatched, engine_unwatched, did_by}
+use Rattle.djq_store.proofs.RowCommands.{turn_low, turn_few, turn_comes, store_deletes, delete_known, delete_turns}
+use Rattle.djq_store.proofs.RowCommands.{delete_grows}
+use Rattle.djq_store.proofs.EngineChanges.{staying_laws}
 use Rattle.djq_store.proofs.store.Store.del.Goals as goal
 
 pub follow_one-requires : goal.follow_one-requires

@@ -5,8 +5,8 @@ use Rattle.djq_store_spec.specs.Delta.{Change}
 use Rattle.djq_engine.specs.Kept.{Kept, IsRegistered, told_at}
 use Rattle.djq_store.specs.declared.joined.Joined.{Joined}
 use Rattle.djq_store.specs.Places.{joined_at}
-use Rattle.djq_store.proofs.Answering.{engine_registered, joined_some}
-use Rattle.djq_store.proofs.Lined.{told_query, told_count}
+use Rattle.djq_store.proofs.Lookups.{engine_registered, joined_some}
+use Rattle.djq_store.proofs.Reports.{told_query, told_count}
 use Rattle.djq_store.proofs.store.Store.delta_len.Goals as goal
 
 pub delta_len-requires : goal.delta_len-requires

@@ -7,8 +7,8 @@ use Rattle.djq_engine.specs.Kept.{Kept, AtPlace, IsRegistered, told_at}
 use Rattle.djq_engine.specs.Places.{id_at}
 use Rattle.djq_store.specs.declared.joined.Joined.{Joined}
 use Rattle.djq_store.specs.Places.{joined_at}
-use Rattle.djq_store.proofs.Answering.{engine_registered, joined_some}
-use Rattle.djq_store.proofs.Lined.{told_query, line_there, line_shown, line_told}
+use Rattle.djq_store.proofs.Lookups.{engine_registered, joined_some}
+use Rattle.djq_store.proofs.Reports.{told_query, line_there, line_shown, line_told}
 use Rattle.djq_store.proofs.store.Store.delta_line.Goals as goal
 
 pub delta_line-requires-clause-registered : goal.delta_line-requires-clause-registered

@@ -9,13 +9,13 @@ use Rattle.djq_store.specs.Places.{store_kept_in}
 use Rattle.djq_store.specs.Watching.{TellsChange}
 use Rattle.djq_store.specs.declared.settling.Turn.{Turn}
 use Rattle.djq_store.specs.Batches.{grown_of}
-use Rattle.djq_store.proofs.Lifting.{suit_lifted, outcome_lifted, rows_lifted}
-use Rattle.djq_store.proofs.Counting.{counts_batch_seen}
-use Rattle.djq_store.proofs.Doing.{members_behind, order_few, unions_unwatched, engine_unwatched}
-use Rattle.djq_store.proofs.Rowed.{did_by, turn_low, turn_few, turn_comes}
-use Rattle.djq_store.proofs.Batched.{batch_known, batch_turns, batch_grows, store_batches}
-use Rattle.djq_database.proofs.Lawful.{texts as texts_stay}
-use Rattle.djq_store.proofs.Below.{staying_laws}
+use Rattle.djq_store.proofs.Relations.{suit_lifted, outcome_lifted, rows_lifted}
+use Rattle.djq_store.proofs.Costs.{counts_batch_seen}
+use Rattle.djq_store.proofs.RowCommands.{members_behind, order_few, unions_unwatched, engine_unwatched, did_by}
+use Rattle.djq_store.proofs.RowCommands.{turn_low, turn_few, turn_comes}
+use Rattle.djq_store.proofs.RowBatches.{batch_known, batch_turns, batch_grows, store_batches}
+use Rattle.djq_database.proofs.Cells.{texts as texts_stay}
+use Rattle.djq_store.proofs.EngineChanges.{staying_laws}
 use Rattle.djq_store.proofs.store.Store.done.Goals as goal
 
 pub follow_batch-requires : goal.follow_batch-requires

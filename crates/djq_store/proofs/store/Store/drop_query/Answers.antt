@@ -11,14 +11,13 @@ use Rattle.djq_united.specs.Slots.{are_vacant}
 use Rattle.djq_store.specs.declared.joined.Joined.{Joined}
 use Rattle.djq_store.specs.Places.{joined_at, store_seen}
 use Rattle.djq_store.specs.Whole.{IsListed}
-use Rattle.djq_store.proofs.Named.{no_union, found_union}
-use Rattle.djq_store.proofs.Dropping.{named_seat, unknown_name, member_slot, no_member_slot}
-use Rattle.djq_store.proofs.Dropping.{was_dropped, was_refused, same_joined}
-use Rattle.djq_store.proofs.Staying.{listed_over, counts_stay}
-use Rattle.djq_store.proofs.Undone.{drop_watched, drop_held, undone_listed, undone_counted, undone_gives}
-use Rattle.djq_store.proofs.Used.{drop_unknown, drop_member, drop_done, drop_gives, drop_refused, drop_rests}
-use Rattle.djq_store.proofs.Vacated.{vacated_listed, vacated_counted}
-use Rattle.djq_store.proofs.Below.{staying_laws}
+use Rattle.djq_store.proofs.Places.{no_union, found_union}
+use Rattle.djq_store.proofs.Drops.{named_seat, unknown_name, member_slot, no_member_slot, was_dropped, was_refused}
+use Rattle.djq_store.proofs.Drops.{same_joined, drop_unknown, drop_member, drop_done, drop_gives, drop_refused}
+use Rattle.djq_store.proofs.Drops.{drop_rests}
+use Rattle.djq_store.proofs.EngineChanges.{listed_over, counts_stay, staying_laws}
+use Rattle.djq_store.proofs.DroppedUnions.{drop_watched, drop_held, undone_listed, undone_counted, undone_gives}
+use Rattle.djq_store.proofs.VacatedPlaces.{vacated_listed, vacated_counted}
 use Rattle.djq_store.proofs.store.Store.drop_query.Goals as goal
 
 pub joined_in-joined-requires : goal.joined_in-joined-requires

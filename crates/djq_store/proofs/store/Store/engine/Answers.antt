@@ -2,7 +2,7 @@
 use Rattle.std.proofs.Common.{subst}
 use Rattle.djq_engine.specs.Kept.{Kept}
 use Rattle.djq_store.specs.Lending.{LendsEngine}
-use Rattle.djq_store.proofs.Answering.{lends}
+use Rattle.djq_store.proofs.Lookups.{lends}
 use Rattle.djq_store.proofs.store.Store.engine.Goals as goal
 
 pub returns : goal.returns

@@ -6,8 +6,8 @@ use Rattle.djq_store.specs.declared.explained.Explained.TheVariants.{Tree, Membe
 use Rattle.djq_store.specs.declared.joined.Joined.{Joined}
 use Rattle.djq_store.specs.Explaining.{ExplainGives}
 use Rattle.djq_store.specs.Places.{joined_at}
-use Rattle.djq_store.proofs.Answering.{union_explained, lines_explained, none_explained, count_members, same_slot}
-use Rattle.djq_store.proofs.Named.{found_union, no_union}
+use Rattle.djq_store.proofs.Lookups.{union_explained, lines_explained, none_explained, count_members, same_slot}
+use Rattle.djq_store.proofs.Places.{found_union, no_union}
 use Rattle.djq_store.proofs.store.Store.explain.Goals as goal
 
 pub joined_in-joined-requires : goal.joined_in-joined-requires

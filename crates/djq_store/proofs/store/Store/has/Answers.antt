@@ -9,9 +9,9 @@ use Rattle.djq_united.specs.United.{AreMembers}
 use Rattle.djq_store.specs.Asking.{TellsMembership, asked_in}
 use Rattle.djq_store.specs.declared.joined.Joined.{Joined}
 use Rattle.djq_store.specs.Places.{joined_at}
-use Rattle.djq_store.proofs.Answering.{same_slot}
-use Rattle.djq_store.proofs.Having.{query_tells, query_steps, union_tells, union_steps}
-use Rattle.djq_store.proofs.Named.{found_union, no_union}
+use Rattle.djq_store.proofs.Lookups.{same_slot}
+use Rattle.djq_store.proofs.UnionAnswers.{query_tells, query_steps, union_tells, union_steps}
+use Rattle.djq_store.proofs.Places.{found_union, no_union}
 use Rattle.djq_store.proofs.store.Store.has.Goals as goal
 
 pub returns-in_default : goal.returns-in_default

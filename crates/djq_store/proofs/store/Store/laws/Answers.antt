@@ -4,7 +4,7 @@ use Rattle.std.specs.Prelude.{map, AllPairs}
 use Rattle.djq_model.specs.Data.{bytes_eq}
 use Rattle.djq_model.specs.Listed.{listed_name}
 use Rattle.djq_engine.specs.Kept.{Kept, same_query}
-use Rattle.djq_store.proofs.Answering.{queries_are, ids_apart, names_apart}
+use Rattle.djq_store.proofs.Lookups.{queries_are, ids_apart, names_apart}
 use Rattle.djq_store.proofs.store.Store.laws.Goals as goal
 
 pub returns-clause-queries : goal.returns-clause-queries

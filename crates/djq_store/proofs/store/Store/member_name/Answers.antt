@@ -7,8 +7,8 @@ use Rattle.djq_engine.specs.Places.{id_at}
 use Rattle.djq_store.specs.declared.joined.Joined.{Joined}
 use Rattle.djq_store.specs.Explaining.{HasMember}
 use Rattle.djq_store.specs.Places.{joined_at}
-use Rattle.djq_store.proofs.Answering.{no_member, member_below, member_registered, member_named, same_slot}
-use Rattle.djq_store.proofs.Named.{found_union, no_union}
+use Rattle.djq_store.proofs.Lookups.{no_member, member_below, member_registered, member_named, same_slot}
+use Rattle.djq_store.proofs.Places.{found_union, no_union}
 use Rattle.djq_store.proofs.store.Store.member_name.Goals as goal
 
 pub unreachable-requires : goal.unreachable-requires

@@ -7,12 +7,9 @@ use Rattle.djq_live_query.specs.Live.{Live}
 use Rattle.djq_united.specs.United.{AreKept}
 use Rattle.djq_store.specs.Moving.{MovesUnion, TellsUnionMore, IsUnionFresh}
 use Rattle.djq_store.specs.Places.{joined_at, store_seen}
-use Rattle.djq_store.proofs.Given.{more_over, more_same, whole_over}
-use Rattle.djq_store.proofs.Moved.{cursor_of}
-use Rattle.djq_store.proofs.Standing.{id_is, fresh_in_engine, freshly}
-use Rattle.djq_store.proofs.Staying.{rests_with, kept_over}
-use Rattle.djq_store.proofs.Unions.{more_union, looked_listed, looked_counted}
-use Rattle.djq_store.proofs.Below.{staying_laws}
+use Rattle.djq_store.proofs.EngineChanges.{more_over, more_same, whole_over, rests_with, kept_over, staying_laws}
+use Rattle.djq_store.proofs.UnionSlots.{cursor_of, id_is, fresh_in_engine, freshly}
+use Rattle.djq_store.proofs.UnionCursors.{more_union, looked_listed, looked_counted}
 use Rattle.djq_store.proofs.store.Store.more.Goals as goal
 
 pub more-more-requires : goal.more-more-requires

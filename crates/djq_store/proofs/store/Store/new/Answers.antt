@@ -1,5 +1,5 @@
 -- No slot has a union and nobody watches any of the 256 places, for all of which room was taken.
-use Rattle.djq_store.proofs.Fresh.{fresh_whole}
+use Rattle.djq_store.proofs.Relations.{fresh_whole}
 use Rattle.djq_store.proofs.store.Store.new.Goals as goal
 
 pub invariant_of-result : goal.invariant_of-result

@@ -8,12 +8,9 @@ use Rattle.djq_united.specs.United.{AreKept}
 use Rattle.djq_store.specs.Moving.{MovesUnion, ReadsUnion, IsUnionReadable}
 use Rattle.djq_store.specs.Places.{joined_at, store_seen}
 use Rattle.djq_store.specs.Reading.{NextGives}
-use Rattle.djq_store.proofs.Given.{next_over, next_same, whole_over}
-use Rattle.djq_store.proofs.Moved.{cursor_of}
-use Rattle.djq_store.proofs.Standing.{id_is, held_in_engine, readable}
-use Rattle.djq_store.proofs.Staying.{rests_with, kept_over}
-use Rattle.djq_store.proofs.Unions.{next_union, read_listed, read_counted}
-use Rattle.djq_store.proofs.Below.{staying_laws}
+use Rattle.djq_store.proofs.EngineChanges.{next_over, next_same, whole_over, rests_with, kept_over, staying_laws}
+use Rattle.djq_store.proofs.UnionSlots.{cursor_of, id_is, held_in_engine, readable}
+use Rattle.djq_store.proofs.UnionCursors.{next_union, read_listed, read_counted}
 use Rattle.djq_store.proofs.store.Store.next.Goals as goal
 
 pub next-next-requires : goal.next-next-requires

@@ -2,14 +2,13 @@
 use Rattle.std.proofs.Common.{sym, subst}
 use Rattle.djq_engine.specs.Kept.{Kept, CursorOpenGives}
 use Rattle.djq_store.specs.Places.{store_kept_in, store_seen}
-use Rattle.djq_store.proofs.Moved.{cursor_of}
-use Rattle.djq_store.proofs.Unions.{open_union, open_lacks, opened_listed, opened_counted}
-use Rattle.djq_store.proofs.Given.{open_over, opened_rests, whole_opened}
+use Rattle.djq_store.proofs.UnionSlots.{cursor_of}
+use Rattle.djq_store.proofs.UnionCursors.{open_union, open_lacks, opened_listed, opened_counted}
+use Rattle.djq_store.proofs.EngineChanges.{open_over, opened_rests, whole_opened, staying_laws}
 use Rattle.std.specs.Prelude.{Option, IsSomeAnd, Ok, Err, ⊤}
 use Rattle.djq_protocol.specs.declared.answer.Refusal.TheVariants.{NoMemory}
 use Rattle.djq_store.specs.declared.joined.Joined.{Joined}
-use Rattle.djq_store.proofs.Named.{no_union, found_union}
-use Rattle.djq_store.proofs.Below.{staying_laws}
+use Rattle.djq_store.proofs.Places.{no_union, found_union}
 use Rattle.djq_store.proofs.store.Store.open.Goals as goal
 
 pub invariant_of-self : goal.invariant_of-self

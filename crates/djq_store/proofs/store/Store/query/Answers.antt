@@ -10,14 +10,12 @@ use Rattle.djq_engine.specs.Kept.{Kept, SameCursors}
 use Rattle.djq_engine.specs.Watching.{Enrols, EnrolsTelling}
 use Rattle.djq_store.specs.Places.{store_seen, cursors_in}
 use Rattle.djq_store.specs.Whole.{IsListed}
-use Rattle.djq_store.proofs.Registered.{query_rests, full_unwraps, taken_refusal, refused}
-use Rattle.djq_store.proofs.Registered.{outcome_of, registered_listed, registered_counted}
-use Rattle.djq_store.proofs.Registered.{registered_registers, registered_enrols, registered_tells}
-use Rattle.djq_store.proofs.Registered.{unregistered, unregistered_same, unregistered_enrols}
-use Rattle.djq_store.proofs.Registered.{unregistered_tells}
-use Rattle.djq_store.proofs.Sought.{sought_none, sought_some}
-use Rattle.djq_store.proofs.Staying.{listed_over, counts_stay, cursors_over}
-use Rattle.djq_store.proofs.Below.{staying_laws}
+use Rattle.djq_store.proofs.Registrations.{query_rests, full_unwraps, taken_refusal, refused, outcome_of}
+use Rattle.djq_store.proofs.Registrations.{registered_listed, registered_counted, registered_registers}
+use Rattle.djq_store.proofs.Registrations.{registered_enrols, registered_tells, unregistered, unregistered_same}
+use Rattle.djq_store.proofs.Registrations.{unregistered_enrols, unregistered_tells}
+use Rattle.djq_store.proofs.Places.{sought_none, sought_some}
+use Rattle.djq_store.proofs.EngineChanges.{listed_over, counts_stay, cursors_over, staying_laws}
 use Rattle.djq_store.proofs.store.Store.query.Goals as goal
 
 pub returns-then-is_some-clause-registers : goal.returns-then-is_some-clause-registers

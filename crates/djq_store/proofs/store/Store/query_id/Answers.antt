@@ -3,8 +3,8 @@ use Rattle.std.proofs.Common.{◌≡◌, ◌+◌, ◌∙◌, sym, subst}
 use Rattle.std.specs.Prelude.{Some, option_map}
 use Rattle.djq_engine.specs.Kept.{Kept, registered_of}
 use Rattle.djq_engine.specs.Places.{id_at}
-use Rattle.djq_store.proofs.Answering.{union_id, query_id_same}
-use Rattle.djq_store.proofs.Named.{found_union, no_union}
+use Rattle.djq_store.proofs.Lookups.{union_id, query_id_same}
+use Rattle.djq_store.proofs.Places.{found_union, no_union}
 use Rattle.djq_store.proofs.store.Store.query_id.Goals as goal
 
 pub returns-in-Some : goal.returns-in-Some

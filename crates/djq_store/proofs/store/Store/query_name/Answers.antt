@@ -6,7 +6,7 @@ use Rattle.djq_store.specs.declared.joined.Joined.{Joined}
 use Rattle.djq_store.specs.Places.{joined_at, store_seen}
 use Rattle.djq_model.specs.Listed.{listed_name}
 use Rattle.djq_engine.specs.Kept.{Kept, IsRegistered, registered_at}
-use Rattle.djq_store.proofs.Answering.{engine_registered, engine_named_by, joined_some, union_named_by}
+use Rattle.djq_store.proofs.Lookups.{engine_registered, engine_named_by, joined_some, union_named_by}
 use Rattle.djq_store.proofs.store.Store.query_name.Goals as goal
 
 pub query_name-requires : goal.query_name-requires

@@ -3,10 +3,8 @@ use Rattle.std.proofs.Common.{◌≡◌, subst}
 use Rattle.djq_store_spec.specs.Relations.{MakesRelation}
 use Rattle.djq_engine.specs.Kept.{Kept, SameCursors, SameTellings}
 use Rattle.djq_store.specs.Places.{store_kept_in}
-use Rattle.djq_store.proofs.Given.{whole_over}
-use Rattle.djq_store.proofs.Related.{made_rests, store_makes}
-use Rattle.djq_store.proofs.Staying.{cursors_over, registered_over, tellings_over}
-use Rattle.djq_store.proofs.Below.{staying_laws}
+use Rattle.djq_store.proofs.EngineChanges.{whole_over, cursors_over, registered_over, tellings_over, staying_laws}
+use Rattle.djq_store.proofs.Relations.{made_rests, store_makes}
 use Rattle.djq_store.proofs.store.Store.rel.Goals as goal
 
 pub invariant_of-self : goal.invariant_of-self

@@ -4,8 +4,8 @@ use Rattle.std.specs.Prelude.{Ok}
 use Rattle.djq_protocol.specs.declared.answer.Shape.TheVariants.{Union}
 use Rattle.djq_store_spec.specs.Asking.{TellsShape}
 use Rattle.djq_engine.specs.Kept.{Kept}
-use Rattle.djq_store.proofs.Answering.{union_shape, query_shape}
-use Rattle.djq_store.proofs.Named.{found_union, no_union}
+use Rattle.djq_store.proofs.Lookups.{union_shape, query_shape}
+use Rattle.djq_store.proofs.Places.{found_union, no_union}
 use Rattle.djq_store.proofs.store.Store.shape.Goals as goal
 
 pub returns-in-Some : goal.returns-in-Some

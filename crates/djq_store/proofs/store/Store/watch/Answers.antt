@@ -7,10 +7,9 @@ use Rattle.djq_engine.specs.Kept.{Kept, registered_at, with_watchers}
 use Rattle.djq_engine.specs.Places.{id_at}
 use Rattle.djq_store.specs.Places.{store_kept_in, store_seen}
 use Rattle.djq_store.specs.Whole.{IsListed, IsCounted}
-use Rattle.djq_store.proofs.Counted.{query_listed, query_counted, query_seen, room_to_watch}
-use Rattle.djq_store.proofs.Counted.{read_here, sessions_are}
-use Rattle.djq_store.proofs.Joint.{union_has}
-use Rattle.djq_store.proofs.Ordered.{order_seat, registered_has}
+use Rattle.djq_store.proofs.Watchers.{query_listed, query_counted, query_seen, room_to_watch, read_here, sessions_are}
+use Rattle.djq_store.proofs.UnionWatchers.{union_has}
+use Rattle.djq_store.proofs.Places.{order_seat, registered_has}
 use Rattle.djq_store.proofs.store.Store.watch.Goals as goal
 
 pub watch-requires-clause-registered : goal.watch-requires-clause-registered

@@ -5,7 +5,7 @@ use Rattle.std.specs.Prelude.{Option, Some, IsSomeAnd, ⊤}
 use Rattle.djq_engine.specs.Kept.{Kept, IsRegistered, registered_at}
 use Rattle.djq_store.specs.declared.joined.Joined.{Joined}
 use Rattle.djq_store.specs.Places.{joined_at}
-use Rattle.djq_store.proofs.Answering.{sessions_watching, joined_some, union_watching}
+use Rattle.djq_store.proofs.Lookups.{sessions_watching, joined_some, union_watching}
 use Rattle.djq_store.proofs.store.Store.watchers.Goals as goal
 
 pub returns-then-id-lt-QUERIES : goal.returns-then-id-lt-QUERIES

@@ -1,7 +1,7 @@
 -- Bytes and an end come only from a session that is running; the ids stay, but for an input that ends.
 use Rattle.std.proofs.Common.{rules, ap, subst}
 use Rattle.djq_io.specs.Hub.{IsRunning}
-use Rattle.djq_io.proofs.Following.{holds_by}
+use Rattle.djq_io.proofs.Hubs.{holds_by}
 use Rattle.djq_system.specs.Tcp.{ShownByTcp}
 use Rattle.djq_system.proofs.tcp_hub.TcpHub.look.Goals as goal
 

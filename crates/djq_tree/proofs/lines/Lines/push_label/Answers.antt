@@ -1,6 +1,6 @@
 -- What is left of the label has names, as all of it has, and what was written is the front of its text.
 use Rattle.std.proofs.Common.{refl}
-use Rattle.djq_tree.proofs.Labelling.{popped, listed_more, labelled}
+use Rattle.djq_tree.proofs.Nodes.{popped, listed_more, labelled}
 use Rattle.djq_tree.proofs.lines.Lines.push_label.Goals as goal
 
 pub get-requires : goal.get-requires

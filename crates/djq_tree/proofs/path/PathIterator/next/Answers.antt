@@ -1,6 +1,6 @@
 -- A parent is above its child and within the tree, so what is left of a path is its parent's path.
 use Rattle.std.proofs.Common.{rules, sym, ◌∙◌}
-use Rattle.djq_tree.proofs.Climbing.{parent_above, next_step}
+use Rattle.djq_tree.proofs.Paths.{parent_above, next_step}
 use Rattle.djq_tree.proofs.path.PathIterator.next.Goals as goal
 
 pub invariant_of-self : goal.invariant_of-self

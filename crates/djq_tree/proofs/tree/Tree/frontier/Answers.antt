@@ -1,7 +1,6 @@
 -- By the invariant the root is in `out`, so the walk ends, and from the node where it does all are in it.
 use Rattle.std.proofs.Common.{◌∙◌, arith, rules}
-use Rattle.djq_tree.proofs.Splitting.{walk_splits}
-use Rattle.djq_tree.proofs.Climbing.{rising_of, frontier_step}
+use Rattle.djq_tree.proofs.Paths.{walk_splits, rising_of, frontier_step}
 use Rattle.djq_tree.proofs.tree.Tree.frontier.Goals as goal
 
 pub parent_of-requires-clause-rising : goal.parent_of-requires-clause-rising

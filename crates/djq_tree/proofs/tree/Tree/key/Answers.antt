@@ -1,7 +1,7 @@
 -- By the invariant a trim's label lies within its child's, and a side's within its guard's.
 use Rattle.std.proofs.Common.{subst, sym, ◌∙◌}
 use Rattle.djq_tree.specs.Tree.{IsTree}
-use Rattle.djq_tree.proofs.Keying.{key_within, side_within, key_read_trim, key_read_guard, key_read_own}
+use Rattle.djq_tree.proofs.Paths.{key_within, side_within, key_read_trim, key_read_guard, key_read_own}
 use Rattle.djq_tree.proofs.tree.Tree.key.Goals as goal
 
 pub label-requires-in-Meet : goal.label-requires-in-Meet

@@ -2,8 +2,7 @@
 use Rattle.std.proofs.Common.{List, subst, ap, ◌∙◌}
 use Rattle.djq_tree.specs.declared.node.Node.{Node}
 use Rattle.djq_tree.specs.Tree.{Tree, IsTree, parent}
-use Rattle.djq_tree.proofs.Keying.{parent_read}
-use Rattle.djq_tree.proofs.Climbing.{up_within, rising_of}
+use Rattle.djq_tree.proofs.Paths.{parent_read, up_within, rising_of}
 use Rattle.djq_tree.proofs.tree.Tree.parent.Goals as goal
 
 pub parent_of-requires-clause-rising : goal.parent_of-requires-clause-rising

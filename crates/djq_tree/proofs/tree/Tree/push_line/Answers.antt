@@ -1,5 +1,5 @@
 -- By the invariant each variable of a label lies in some leaf's label, so it has a name, as a leaf's atom has.
-use Rattle.djq_tree.proofs.Labelling.{label_named, node_named, line_written}
+use Rattle.djq_tree.proofs.Nodes.{label_named, node_named, line_written}
 use Rattle.djq_tree.proofs.tree.Tree.push_line.Goals as goal
 
 pub push_node-requires : goal.push_node-requires

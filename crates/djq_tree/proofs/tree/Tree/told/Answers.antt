@@ -1,6 +1,6 @@
 -- By the invariant a node is a child of one node at most, so one that has it as a child is its parent.
 use Rattle.std.proofs.Common.{rules}
-use Rattle.djq_tree.proofs.Keying.{told_parent}
+use Rattle.djq_tree.proofs.Paths.{told_parent}
 use Rattle.djq_tree.proofs.tree.Tree.told.Goals as goal
 
 pub returns-then-has_child : goal.returns-then-has_child

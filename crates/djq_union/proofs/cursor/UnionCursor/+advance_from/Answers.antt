@@ -1,6 +1,7 @@
 -- How this member went on, and whether a later one has its answer, says how the union from here on does.
 use Rattle.std.proofs.Common.{◌+◌, ◌-◌, ◌<◌, length, rules, arith}
-use Rattle.djq_union.proofs.Placing.{fit_here, fit_moved, kept_by, kept_both, goes_own_at, goes_shared_at, goes_rest_at}
+use Rattle.djq_union.proofs.UnionMembers.{fit_here, fit_moved, kept_by, kept_both, goes_own_at, goes_shared_at}
+use Rattle.djq_union.proofs.UnionMembers.{goes_rest_at}
 use Rattle.djq_union.proofs.cursor.UnionCursor.+advance_from.Goals as goal
 
 pub move_at-requires-clause-fits : goal.move_at-requires-clause-fits

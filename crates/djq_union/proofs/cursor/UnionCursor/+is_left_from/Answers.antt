@@ -1,7 +1,6 @@
 -- Of the union from here on an answer is left exactly where this member has one left, or the later ones do.
 use Rattle.std.proofs.Common.{arith}
-use Rattle.djq_union.proofs.Placing.{fit_state, left_here_at, left_later_at}
-use Rattle.djq_union.proofs.Counting.{sum_here}
+use Rattle.djq_union.proofs.UnionMembers.{fit_state, left_here_at, left_later_at, sum_here}
 use Rattle.djq_union.proofs.cursor.UnionCursor.+is_left_from.Goals as goal
 
 pub has_one_left-requires-clause-fits : goal.has_one_left-requires-clause-fits

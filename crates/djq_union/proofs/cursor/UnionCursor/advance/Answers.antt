@@ -1,8 +1,7 @@
 -- What was given are different answers of the members, so it is a listing exactly where none is left.
 use Rattle.std.proofs.Common.{arith}
 use Rattle.djq_union.specs.Union.{some_has, union_given}
-use Rattle.djq_union.proofs.Fitting.{end_of, union_some}
-use Rattle.djq_union.proofs.Counting.{steps_within}
+use Rattle.djq_union.proofs.UnionMembers.{end_of, union_some, steps_within}
 use Rattle.djq_union.proofs.cursor.UnionCursor.advance.Goals as goal
 
 pub returns-clause-end : goal.returns-clause-end

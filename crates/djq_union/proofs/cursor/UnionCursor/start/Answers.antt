@@ -1,6 +1,6 @@
 -- Where no member's listing has begun nothing was given, and up to eight members have a state each.
 use Rattle.std.proofs.Common.{refl}
-use Rattle.djq_union.proofs.Fitting.{none_union, none_fits}
+use Rattle.djq_union.proofs.UnionMembers.{none_union, none_fits}
 use Rattle.djq_union.proofs.cursor.UnionCursor.start.Goals as goal
 
 pub returns-clause-fits : goal.returns-clause-fits

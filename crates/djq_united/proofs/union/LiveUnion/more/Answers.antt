@@ -1,5 +1,5 @@
 -- The cursor in the slot is one of the union's, so it fits the members, and what it tells is the union's.
-use Rattle.djq_united.proofs.Advancing.{fits_seen, more_seen}
+use Rattle.djq_united.proofs.Cursors.{fits_seen, more_seen}
 use Rattle.djq_united.proofs.union.LiveUnion.more.Goals as goal
 
 pub has_more-requires-clause-fits : goal.has_more-requires-clause-fits

@@ -1,5 +1,5 @@
 -- The cursor in the slot is one of the union's, so it fits the members, and what it gives is the union's.
-use Rattle.djq_united.proofs.Advancing.{fits_seen, next_seen}
+use Rattle.djq_united.proofs.Cursors.{fits_seen, next_seen}
 use Rattle.djq_united.proofs.union.LiveUnion.next.Goals as goal
 
 pub read-requires-clause-fits : goal.read-requires-clause-fits

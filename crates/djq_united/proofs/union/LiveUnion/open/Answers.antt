@@ -1,5 +1,5 @@
 -- A cursor that begins has given nothing and fits any members, and all other slots stay.
-use Rattle.djq_united.proofs.Advancing.{open_united, opens}
+use Rattle.djq_united.proofs.Cursors.{open_united, opens}
 use Rattle.djq_united.proofs.union.LiveUnion.open.Goals as goal
 
 pub returns-clause-ok : goal.returns-clause-ok

@@ -1,5 +1,5 @@
 -- A stale cursor fits whatever tables the members have, so queries of the same shape are enough.
-use Rattle.djq_united.proofs.Staying.{later_seen}
+use Rattle.djq_united.proofs.Cursors.{later_seen}
 use Rattle.djq_united.proofs.union.LiveUnion.outdate.Goals as goal
 
 pub returns-clause-united : goal.returns-clause-united

@@ -1,7 +1,7 @@
 -- Bytes that are spaces alone have no token, and where there is no token all bytes are spaces.
 use Rattle.std.proofs.Common.{◌∙◌, sym}
 use Rattle.std.proofs.lemmas.Bool.{eqb-true, eq-eqb}
-use Rattle.djq_value.proofs.Lexes.{tokens-done, tokens-empty}
+use Rattle.djq_value.proofs.Tokens.{tokens-done, tokens-empty}
 use Rattle.djq_value.proofs.lexer.Lexer.is_done.Goals as goal
 
 pub returns : goal.returns

@@ -2,7 +2,7 @@
 use Rattle.std.proofs.Common.{◌∙◌, sym}
 use Rattle.std.proofs.lemmas.List.{take_rest}
 use Rattle.std.proofs.lemmas.Bool.{eqb-true}
-use Rattle.djq_value.proofs.Lexes.{next_none, next_some}
+use Rattle.djq_value.proofs.Tokens.{next_none, next_some}
 use Rattle.djq_value.proofs.lexer.Lexer.next.Goals as goal
 
 pub returns-then-is_empty : goal.returns-then-is_empty

@@ -2,7 +2,7 @@
 use Rattle.std.proofs.Common.{◌∙◌, ◌∷◌, ap, sym, take}
 use Rattle.std.proofs.lemmas.List.{take_rest}
 use Rattle.djq_value.specs.Token.{tokens, word}
-use Rattle.djq_value.proofs.Small.{name_taken}
+use Rattle.djq_value.proofs.Literals.{name_taken}
 use Rattle.djq_value.proofs.lexer.Lexer.next_close_name.Goals as goal
 
 pub returns-in-Some : goal.returns-in-Some

@@ -3,7 +3,7 @@ use Rattle.std.proofs.Common.{◌-◌, ◌∙◌, ◌∷◌, ap, arith, drop, ge
 use Rattle.std.proofs.lemmas.Bool.{ne_eqb}
 use Rattle.std.proofs.lemmas.List.{take_rest}
 use Rattle.djq_value.specs.Token.{tokens, word}
-use Rattle.djq_value.proofs.Small.{word_taken}
+use Rattle.djq_value.proofs.Literals.{word_taken}
 use Rattle.djq_value.proofs.lexer.Lexer.plain_word.Goals as goal
 
 pub returns : goal.returns

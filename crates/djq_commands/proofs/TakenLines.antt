@@ -1,0 +1,613 @@
+-- A line is taken of a session's bytes, and what is done after it.
+use Rattle.std.proofs.Common.{ℕ, ◌≤◌, ◌≡◌, ◌||◌, Bool, false, List, length, Some, refl, sym, ap, subst, arith, ◌+◌}
+use Rattle.std.proofs.Common.{◌++◌, [], ◌∷◌, Option, None, Result, Ok, Err, codes, ◌∙◌, inl, inr, length-append, ◌<◌}
+use Rattle.std.proofs.Common.{true}
+use Rattle.std.specs.Prelude.{⊤, IsSome, MatchOption}
+use Rattle.djq_model.specs.Data.{Bytes, Tuple}
+use Rattle.djq_protocol.specs.declared.limits.TheConstants.{PENDING_BYTES, REPLY_BYTES, LAST_LINE_BYTES}
+use Rattle.djq_protocol.specs.declared.answer.Refusal.{Refusal}
+use Rattle.djq_protocol.specs.declared.command.Command.{Command}
+use Rattle.djq_protocol.specs.declared.answer.Refusal.TheVariants.{NoMemory}
+use Rattle.djq_protocol.specs.declared.command.Command.TheVariants.{Add, Batch, Abandon, Done}
+use Rattle.djq_protocol.specs.declared.held.HeldRow.{HeldRow}
+use Rattle.djq_protocol.specs.declared.answer.EndCause.{EndCause}
+use Rattle.djq_protocol.specs.declared.answer.EndCause.TheVariants.{Long, Slow, Memory}
+use Rattle.djq_protocol.specs.Line.{a_line, front_of, is_blank, too_long, dry}
+use Rattle.djq_protocol.specs.Grammar.{Reading, says_command, reading_of}
+use Rattle.djq_protocol.specs.Reply.{refusal_line, ok_reply, held_reply, end_long, end_slow, end_memory}
+use Rattle.djq_protocol.specs.Conditions.{Answers, OutOfMemoryWhere}
+use Rattle.djq_store_spec.specs.Store.{Store}
+use Rattle.djq_store_spec.specs.Batch.{hold_refusal}
+use Rattle.djq_machine.specs.declared.machine.Stepped.TheVariants.{Ran, Dry, Ended}
+use Rattle.djq_machine.specs.State.{Session, State, with_session}
+use Rattle.djq_machine.specs.Keeping.{kept_where, no_line}
+use Rattle.djq_machine.specs.Effect.{Effect, EndsWith}
+use Rattle.djq_machine.specs.Command.{CommandStep, is_misplaced, AddStep, HoldStep, with_batch}
+use Rattle.djq_machine.specs.LineStep.{run, TakenLine, behind_line, ReadStep, long, blank, slow, no_room, FrontStep}
+use Rattle.djq_machine.specs.Call.{Counts}
+use Rattle.djq_machine.specs.Step.{is_dry}
+use Rattle.djq_session.specs.Dialog.{Replies, batch_rows}
+use Rattle.djq_engine.specs.Kept.{Kept}
+use Rattle.djq_commands.specs.declared.open.OpenSession.{OpenSession}
+use Rattle.djq_commands.specs.declared.change.Left.{Left}
+use Rattle.djq_commands.specs.declared.change.Left.TheVariants.{Nothing, Stopping, Telling}
+use Rattle.djq_commands.specs.declared.change.Outcome.{Outcome}
+use Rattle.djq_commands.specs.Views.{Talk, session_in, state_in}
+use Rattle.djq_commands.specs.Sound.{IsSound}
+use Rattle.djq_commands.specs.Performs.{among, to_one, to_keep, unqueued, Performs, ExecutesKeeping, Executes}
+use Rattle.djq_commands.specs.Batching.{RefusedBy, HoldsMadeRow, held_row_of, MakesRow}
+use Rattle.djq_commands.specs.Stepping.{FrontsKeeping, is_on_row, Fronts, EndsBefore, Unchanged, StepsTo, Obeys}
+use Rattle.djq_commands.specs.Stepping.{LineLeaves, LeavesTo, is_kept_by}
+use Rattle.djq_commands.specs.Changing.{AddsAll, IsChange}
+use Rattle.djq_commands.proofs.ReadLines.{carried_out, any_line, refused_line, placed_in, refused_in}
+use Rattle.djq_commands.proofs.Cursors.{parts, whole, becomes, looks}
+use Rattle.djq_commands.proofs.Replies.{refused, around_bytes, sound_batch}
+use Rattle.djq_commands.proofs.CursorCommands.{counting}
+use Rattle.djq_commands.proofs.Watchers.{recount, stays_same}
+
+-- ---- A line is taken of a session's bytes, and what is done behind it.
+
+-- a session with other bytes held is as sound
+pub sound_bytes : (k : Kept) (front : List OpenSession) (s : ℕ) (d : Talk) (held pending : Bytes) (room : ℕ)
+    (back : List OpenSession) → IsSound k (among front s d back)
+    → IsSound k (among front s (record d { held = held; pending = pending; room = room }) back)
+sound_bytes k front s d held pending room back sound =
+    whole k front s (record d { held = held; pending = pending; room = room }) back
+    (around_bytes k.cursors front s d held pending room back (parts k front s d back sound))
+    (recount k k.registered front s d (record d { held = held; pending = pending; room = room }) back
+    (stays_same k.registered k.registered d.watches d.watches refl refl) (λ q. q) sound)
+
+-- What is done with more room is done.
+pub with_room : (M : State → ℕ → Session → Effect → State → Type 0) (stops : Bool) (old : Kept) (before mid : Talk)
+    (new : Kept) (after : Talk) (was now : ℕ)
+    → mid ≡ record before { room = mid.room } → Performs M stops old mid new after was now
+    → Performs M stops old before new after was now
+with_room M stops old before mid new after was now e p =
+    let q : Performs M stops old (record before { room = mid.room }) new after was now = subst
+    (λ (d : Talk). Performs M stops old d new after was now) e p in
+    record {
+      text = q.text;
+      cost = q.cost;
+      kept = q.kept;
+      pending = q.pending;
+      does = λ front back s stopped sound.
+          subst (λ (st : State). M st s (session_in old.cursors s before) (to_keep s q.text q.cost q.kept)
+          (state_in new (stops || stopped) (among front s (unqueued before after) back)))
+          (looks old stopped front s before (record before { room = mid.room }) back refl)
+          (q.does front back s stopped (sound_bytes old front s before before.held before.pending mid.room back sound));
+      sound = λ front back s sound. q.sound front back s
+          (sound_bytes old front s before before.held before.pending mid.room back sound);
+      counted = q.counted;
+    }
+
+-- What is done behind a line that was taken.
+pub taking : (P M : State → ℕ → Session → Effect → State → Type 0) (stops : Bool) (old : Kept) (before mid : Talk)
+    (l rest : Bytes) (new : Kept) (after : Talk) (was now : ℕ)
+    → front_of before.held ≡ a_line l rest → mid ≡ record before { held = rest }
+    → ((st st' : State) (s : ℕ) (x : Session) (e : Effect) → x.held ≡ before.held → x.pending ≡ before.pending
+    → TakenLine st s x l (λ mid y. P mid s y e st') → M st s x e st')
+    → Performs P stops old mid new after was now → Performs M stops old before new after was now
+taking P M stops old before mid l rest new after was now f e wrap p =
+    let q : Performs P stops old (record before { held = rest }) new after was now = subst
+    (λ (d : Talk). Performs P stops old d new after was now) e p in
+    record {
+      text = q.text;
+      cost = q.cost;
+      kept = q.kept;
+      pending = q.pending;
+      does = λ front back s stopped sound.
+          wrap (state_in old stopped (among front s before back))
+          (state_in new (stops || stopped) (among front s (unqueued before after) back)) s
+          (session_in old.cursors s before) (to_keep s q.text q.cost q.kept) refl refl
+          (record {
+            rest = rest;
+            front = f;
+            then = subst (λ (st : State). P st s (session_in old.cursors s (record before { held = rest }))
+                (to_keep s q.text q.cost q.kept)
+                (state_in new (stops || stopped) (among front s (unqueued before after) back)))
+                (becomes old stopped front s before (record before { held = rest }) back (behind_line rest)
+                (parts old front s before back sound) refl)
+                (q.does front back s stopped
+                (sound_bytes old front s before rest before.pending before.room back sound));
+          });
+      sound = λ front back s sound. q.sound front back s
+          (sound_bytes old front s before rest before.pending before.room back sound);
+      counted = q.counted;
+    }
+
+-- a line that is run
+pub runs : (kept stops : Bool) (old : Kept) (before mid : Talk) (l rest : Bytes) (new : Kept) (after : Talk)
+    (was now : ℕ)
+    → front_of before.held ≡ a_line l rest → mid ≡ record before { held = rest } → is_blank l ≡ false
+    → length before.pending ≤ PENDING_BYTES
+    → Performs (λ st s x e st'. ReadStep st s x l (reading_of l) e st' × (e.kept ≡ kept_where kept)) stops old mid new
+    after was now → FrontsKeeping (run l) kept stops old before new after was now
+runs kept stops old before mid l rest new after was now f e said few p =
+    taking (λ st s x e st'. ReadStep st s x l (reading_of l) e st' × (e.kept ≡ kept_where kept)) _ stops old before mid
+    l rest new after was now f e
+    (λ st st' s x eff h q t. (
+      (
+        said,
+        subst (λ (bs : Bytes). length bs ≤ PENDING_BYTES) (sym q) few,
+        record
+            { rest = t.rest; front = t.front; then = t.then.0 },
+      ),
+      t.then.1,
+    )) p
+
+-- a line that says a command
+pub reads_said : (kept stops : Bool) (old : Kept) (before : Talk) (l : Bytes) (command : Command) (new : Kept)
+    (after : Talk) (was now : ℕ)
+    → reading_of l ≡ says_command command → is_misplaced before.batch command ≡ false
+    → Performs (λ st s x e st'. CommandStep st s x l command e st' × (e.kept ≡ kept_where kept)) stops old before new
+    after was now
+    → Performs (λ st s x e st'. ReadStep st s x l (reading_of l) e st' × (e.kept ≡ kept_where kept)) stops old before
+    new after was now
+reads_said kept stops old before l command new after was now r placed p = record {
+  text = p.text;
+  cost = p.cost;
+  kept = p.kept;
+  pending = p.pending;
+  does = λ front back s stopped sound. let d = p.does front back s stopped sound in (
+    subst (λ (r : Reading). ReadStep (state_in old stopped (among front s before back)) s
+        (session_in old.cursors s before) l r (to_keep s p.text p.cost p.kept)
+        (state_in new (stops || stopped) (among front s (unqueued before after) back)))
+        (sym r) (carried_out _ s (session_in old.cursors s before) l command _ _ placed d.0),
+    d.1,
+  );
+  sound = p.sound;
+  counted = p.counted;
+}
+
+-- one that isn't one of a row
+pub reads_command : (kept stops : Bool) (old : Kept) (before : Talk) (l : Bytes) (command : Command) (new : Kept)
+    (after : Talk) (was now : ℕ)
+    → reading_of l ≡ says_command command → is_on_row command ≡ false → is_misplaced before.batch command ≡ false
+    → ExecutesKeeping command kept stops old before new after was now
+    → Performs (λ st s x e st'. ReadStep st s x l (reading_of l) e st' × (e.kept ≡ kept_where kept)) stops old before
+    new after was now
+reads_command kept stops old before l command new after was now r other placed p =
+    reads_said kept stops old before l command new after was now r placed (record {
+      text = p.text;
+      cost = p.cost;
+      kept = p.kept;
+      pending = p.pending;
+      does = λ front back s stopped sound. let d = p.does front back s stopped sound in
+          (any_line _ s _ l command _ _ other d.0, d.1);
+      sound = p.sound;
+      counted = p.counted;
+    })
+
+-- a line that is refused before its command is done
+pub reads_refused : (k : Kept) (before after : Talk) (l : Bytes) (why : Refusal) (was : ℕ)
+    → RefusedBy before.batch (reading_of l) why → Replies before after (refusal_line why)
+    → Performs (λ st s x e st'. ReadStep st s x l (reading_of l) e st' × (e.kept ≡ kept_where false)) false k before k
+    after was was
+reads_refused k before after l why was by reply =
+    counting _ false k before k after was was (omega arith)
+    (refused _ k before after (refusal_line why) reply (λ st s x store same. (
+      refused_line st s x before.batch l (reading_of l) why (to_one s (Some (refusal_line why)) 0) st
+          (ap (λ (y : Session). y.batch) same) by (refl, refl),
+      refl,
+    )))
+
+-- ---- What a session's batch comes to: opened, a row held, dropped, done.
+
+-- A session has another batch, and is answered; nothing else changes.
+pub becomes_batch : (M : State → ℕ → Session → Effect → State → Type 0) (k : Kept) (before after : Talk)
+    (batch : Option (List HeldRow)) (text : Bytes)
+    → Replies (record before { batch = batch }) after text
+    → ((st : State) (s : ℕ) (x : Session) → st.store ≡ k.store → x ≡ session_in k.cursors s before
+    → M st s x (to_one s (Some text) 0) (with_session st s (λ y. record y { batch = batch })))
+    → Performs M false k before k after 0 0
+becomes_batch M k before after batch text r does = record {
+  text = Some text;
+  cost = 0;
+  kept = no_line;
+  pending = ap (λ (d : Talk). d.pending) r;
+  does = λ front back s stopped sound.
+      let st = state_in k stopped (among front s before back) in
+      let moved : state_in k stopped (among front s (unqueued before after) back)
+      ≡ with_session st s (λ y. record y { batch = batch })
+      = becomes k stopped front s before (unqueued before after) back (λ y. record y { batch = batch })
+      (parts k front s before back sound)
+      (ap (λ (d : Talk). session_in k.cursors s (unqueued before d)) r) in
+      subst (λ (z : State). M st s (session_in k.cursors s before) (to_one s (Some text) 0) z) (sym moved)
+      (does st s (session_in k.cursors s before) refl refl);
+  sound = λ front back s sound.
+      subst (λ (d : Talk). IsSound k (among front s d back)) (sym r)
+      (sound_bytes k front s (record before { batch = batch }) before.held (before.pending ++ text) after.room back
+      (sound_batch k front s before batch back sound));
+  counted = omega arith;
+}
+
+-- `batch`
+pub does_batch : (k : Kept) (before mid after : Talk) → mid ≡ record before { batch = Some [] }
+    → Replies mid after (ok_reply {A = ⊤} (codes "ok batch") (Ok tt)) → Executes Batch false k before k after 0 0
+does_batch k before mid after e r =
+    becomes_batch _ k before after (Some []) (ok_reply {A = ⊤} (codes "ok batch") (Ok tt))
+    (subst (λ (d : Talk). Replies d after (ok_reply {A = ⊤} (codes "ok batch") (Ok tt))) e r) (λ st s x f g. record {
+      result = Ok tt;
+      answer = tt;
+      effect = refl;
+      state = refl;
+    })
+
+-- `abandon`
+pub does_abandon : (k : Kept) (before mid after : Talk) → mid ≡ record before { batch = None }
+    → Replies mid after (ok_reply {A = ⊤} (codes "ok") (Ok tt)) → Executes Abandon false k before k after 0 0
+does_abandon k before mid after e r =
+    becomes_batch _ k before after None (ok_reply {A = ⊤} (codes "ok") (Ok tt))
+    (subst (λ (d : Talk). Replies d after (ok_reply {A = ⊤} (codes "ok") (Ok tt))) e r) (λ st s x f g. (refl, refl))
+
+-- `add` in a batch
+
+-- what `add` in a batch does, and that its line isn't kept by itself
+abbrev pub HoldsIn : Bytes → Bytes → Tuple → State → ℕ → Session → Effect → State → Type 0
+HoldsIn l name row st s x e st' = CommandStep st s x l (Add name row) e st' × (e.kept ≡ kept_where false)
+
+in_batch : (st : State) (s : ℕ) (x : Session) (held : List HeldRow) (l name : Bytes) (row : Tuple) (e : Effect)
+    (st' : State) → x.batch ≡ Some held → HoldStep st s held l name row e st'
+    → CommandStep st s x l (Add name row) e st'
+in_batch st s x held l name row e st' is h =
+    subst (λ (o : Option (List HeldRow)). MatchOption o (AddStep st s name row e st')
+    (λ rows. HoldStep st s rows l name row e st')) (sym is) h
+
+counted_one : (held : List HeldRow) (row : HeldRow) → length (held ++ row ∷ []) ≡ length held + 1
+counted_one held row = length-append held (row ∷ [])
+
+pub does_hold : (k : Kept) (before after : Talk) (held : List HeldRow) (l name : Bytes) (row : Tuple)
+    (made : Result HeldRow Refusal) → before.batch ≡ Some held
+    → Answers (hold_refusal k.store held name row) made (λ h. h ≡ held_row_of l name row) (OutOfMemoryWhere ⊤)
+    → HoldsMadeRow before made after → Performs (HoldsIn l name row) false k before k after 0 0
+does_hold k before after held l name row (Err r) is a h =
+    refused (HoldsIn l name row) k before after (refusal_line r) h (λ st s x f g. (
+      in_batch st s x held l name row (to_one s (Some (refusal_line r)) 0) st (ap (λ (y : Session). y.batch) g ∙ is)
+          (record {
+            result = Err r;
+            answer = subst (λ (store : Store). Answers {A = ⊤} (hold_refusal store held name row) (Err r) (λ d. ⊤)
+                (OutOfMemoryWhere ⊤)) (sym f) (err_alike (hold_refusal k.store held name row) a);
+            effect = refl;
+            state = refl;
+          }),
+      refl,
+    ))
+  where
+    err_alike : (o : Option Refusal)
+        → Answers {A = HeldRow} o (Err r) (λ h. h ≡ held_row_of l name row) (OutOfMemoryWhere ⊤)
+        → Answers {A = ⊤} o (Err r) (λ d. ⊤) (OutOfMemoryWhere ⊤)
+    err_alike None b = b
+    err_alike (Some q) b = b
+does_hold k before after held l name row (Ok new) is a (inr h) =
+    refused (HoldsIn l name row) k before after (refusal_line NoMemory) h (λ st s x f g. (
+      in_batch st s x held l name row (to_one s (Some (refusal_line NoMemory)) 0) st
+          (ap (λ (y : Session). y.batch) g ∙ is) (record {
+            result = Err NoMemory;
+            answer = subst (λ (store : Store). Answers {A = ⊤} (hold_refusal store held name row)
+                (Err NoMemory) (λ d. ⊤)
+                (OutOfMemoryWhere ⊤)) (sym f) (lacks (hold_refusal k.store held name row) a);
+            effect = refl;
+            state = refl;
+          }),
+      refl,
+    ))
+  where
+    lacks : (o : Option Refusal)
+        → Answers {A = HeldRow} o (Ok new) (λ h. h ≡ held_row_of l name row) (OutOfMemoryWhere ⊤)
+        → Answers {A = ⊤} o (Err NoMemory) (λ d. ⊤) (OutOfMemoryWhere ⊤)
+    lacks None b = tt
+    lacks (Some q) b = absurd b
+does_hold k before after held l name row (Ok new) is a (inl h) =
+    let rows = held ++ held_row_of l name row ∷ [] in
+    let same : batch_rows before.batch ++ new ∷ []
+    ≡ rows = ap (λ (o : Option (List HeldRow)). batch_rows o ++ new ∷ []) is
+    ∙ ap (λ (n : HeldRow). held ++ n ∷ []) (is_new (hold_refusal k.store held name row) a) in
+    becomes_batch (HoldsIn l name row) k before after (Some rows) (held_reply {A = ⊤} (Ok tt) (length held + 1))
+    (subst (λ (n : ℕ). Replies (record before { batch = Some rows }) after (held_reply {A = ⊤} (Ok tt) n))
+    (counted_one held (held_row_of l name row))
+    (subst (λ (hs : List HeldRow). Replies (record before { batch = Some hs }) after
+    (held_reply {A = ⊤} (Ok tt) (length hs))) same h)) (λ st s x f g. (
+      in_batch st s x held l name row (to_one s (Some (held_reply {A = ⊤} (Ok tt) (length held + 1))) 0)
+          (with_session st s (with_batch rows)) (ap (λ (y : Session). y.batch) g ∙ is) (record {
+            result = Ok tt;
+            answer = subst (λ (store : Store). Answers {A = ⊤} (hold_refusal store held name row) (Ok tt) (λ d. ⊤)
+                (OutOfMemoryWhere ⊤)) (sym f) (done (hold_refusal k.store held name row) a);
+            effect = refl;
+            state = refl;
+          }),
+      refl,
+    ))
+  where
+    is_new : (o : Option Refusal)
+        → Answers {A = HeldRow} o (Ok new) (λ h. h ≡ held_row_of l name row) (OutOfMemoryWhere ⊤)
+        → new ≡ held_row_of l name row
+    is_new None b = b
+    is_new (Some q) b = absurd b
+
+    done : (o : Option Refusal)
+        → Answers {A = HeldRow} o (Ok new) (λ h. h ≡ held_row_of l name row) (OutOfMemoryWhere ⊤)
+        → Answers {A = ⊤} o (Ok tt) (λ d. ⊤) (OutOfMemoryWhere ⊤)
+    done None b = tt
+    done (Some q) b = absurd b
+
+-- a session with a batch open has these rows
+pub open_rows : (o : Option (List HeldRow)) → IsSome o → o ≡ Some (batch_rows o)
+open_rows None h = absurd (cc (h))
+open_rows (Some held) h = refl
+
+-- ---- What becomes of the front of a session's bytes.
+
+-- a line that is too long
+pub is_too_long : (old new : Kept) (before after : Talk) (was : ℕ) → front_of before.held ≡ too_long
+    → Performs (λ st s x e st'. EndsWith end_long Long st s e st') false old before new after 0 0
+    → Fronts long false old before new after was was
+is_too_long old new before after was f p = record {
+  text = p.text;
+  cost = p.cost;
+  kept = p.kept;
+  pending = p.pending;
+  does = λ front back s stopped sound. (f, p.does front back s stopped sound);
+  sound = p.sound;
+  counted = omega arith;
+}
+
+-- the counts of what lists nothing
+uncounted : (M : State → ℕ → Session → Effect → State → Type 0) (old : Kept) (before : Talk) (new : Kept) (after : Talk)
+    (was : ℕ) → Performs M false old before new after 0 0 → Performs M false old before new after was was
+uncounted M old before new after was p = record {
+  text = p.text;
+  cost = p.cost;
+  kept = p.kept;
+  pending = p.pending;
+  does = p.does;
+  sound = p.sound;
+  counted = omega
+      arith;
+}
+
+-- a line that isn't run since too much is pending
+pub is_slow : (old new : Kept) (before mid after : Talk) (l rest : Bytes) (was : ℕ) → front_of before.held
+    ≡ a_line l rest → mid ≡ record before { held = rest } → is_blank l ≡ false → PENDING_BYTES < length before.pending
+    → Performs (λ st s x e st'. EndsWith end_slow Slow st s e st') false old mid new after 0 0
+    → Fronts (slow l) false old before new after was was
+is_slow old new before mid after l rest was f e said many p =
+    taking (λ st s x e st'. EndsWith end_slow Slow st s e st') _ false old before mid l rest new after was was f e
+    (λ st st' s x eff h q t. (said, subst (λ (bs : Bytes). PENDING_BYTES < length bs) (sym q) many, t))
+    (uncounted _ old mid new after was p)
+
+-- a line for whose reply there is no room
+pub is_unheard : (old new : Kept) (before kept mid after : Talk) (l rest : Bytes) (was : ℕ) → front_of before.held
+    ≡ a_line l rest → kept ≡ record before { room = kept.room } → mid ≡ record kept { held = rest } → is_blank l ≡ false
+    → length before.pending ≤ PENDING_BYTES
+    → Performs (λ st s x e st'. EndsWith end_memory Memory st s e st') false old mid new after 0 0
+    → Fronts (no_room l) false old before new after was was
+is_unheard old new before kept mid after l rest was f r e said few p =
+    with_room (λ st s x e st'. FrontStep st s x (no_room l) e st') false old before kept new after was was r
+    (taking (λ st s x e st'. EndsWith end_memory Memory st s e st') _ false old kept mid l rest new after was was
+    (ap (λ (d : Talk). front_of d.held) r ∙ f) e
+    (λ st st' s x eff h q t.
+    (said, subst (λ (bs : Bytes). length bs ≤ PENDING_BYTES) (sym (q ∙ ap (λ (d : Talk). d.pending) r)) few, t))
+    (uncounted _ old mid new after was p))
+
+-- a blank line
+pub is_dropped : (k : Kept) (before after : Talk) (l rest : Bytes) (was : ℕ) → front_of before.held ≡ a_line l rest
+    → after ≡ record before { held = rest } → is_blank l ≡ true
+    → FrontsKeeping (blank l) false false k before k after was was
+is_dropped k before after l rest was f e said = record {
+  text = None;
+  cost = 0;
+  kept = no_line;
+  pending = ap (λ (d : Talk). d.pending) e;
+  does = λ front back s stopped sound. (
+    (
+      said,
+      record {
+        rest = rest;
+        front = f;
+        then = (
+          refl,
+          ap (λ (d : Talk). state_in k stopped (among front s (unqueued before d) back)) e
+              ∙ becomes k stopped front s before (record before { held = rest }) back (behind_line rest)
+              (parts k front s before back sound) refl,
+        );
+      },
+    ),
+    refl,
+  );
+  sound = λ front back s sound. subst (λ (d : Talk). IsSound k (among front s d back)) (sym e)
+      (sound_bytes k front s before rest before.pending before.room back sound);
+  counted = omega arith;
+}
+
+-- What a step answers.
+
+pub ran_blank : (k : Kept) (before after : Talk) (l : Bytes) (was : Counts) → before.cause ≡ None
+    → FrontsKeeping (blank l) false false k before k after was.listing was.listing
+    → StepsTo (Ran false) false k before k after was was
+ran_blank k before after l was c f = (c, (l, inl f))
+
+pub ran_line : (kept stops : Bool) (old : Kept) (before : Talk) (new : Kept) (after : Talk) (l : Bytes)
+    (was now : Counts) → before.cause ≡ None
+    → FrontsKeeping (run l) kept stops old before new after was.listing now.listing
+    → StepsTo (Ran kept) stops old before new after was now
+ran_line kept stops old before new after l was now c f = (c, (l, inr f))
+
+pub ended_before : (cause : EndCause) (old : Kept) (before : Talk) (new : Kept) (after : Talk) (was : Counts)
+    → before.cause ≡ None → EndsBefore cause false old before new after was was
+    → StepsTo (Ended cause) false old before new after was was
+ended_before cause old before new after was c f = subst
+    (λ (o : Option EndCause). MatchOption o (EndsBefore cause false old before new after was was)
+    (λ d. (d ≡ cause) × Unchanged false old before new after was was)) (sym c) f
+
+-- a step that does nothing
+
+nothing_changed : (k : Kept) (d : Talk) (was : Counts) → Unchanged false k d k d was was
+nothing_changed k d was = record { goes_on = refl; engine = refl; session = refl; counted = refl }
+
+pub had_ended : (cause : EndCause) (k : Kept) (d : Talk) (was : Counts) → d.cause ≡ Some cause
+    → StepsTo (Ended cause) false k d k d was was
+had_ended cause k d was e = subst
+    (λ (o : Option EndCause). MatchOption o (EndsBefore cause false k d k d was was)
+    (λ c. (c ≡ cause) × Unchanged false k d k d was was)) (sym e) (refl, nothing_changed k d was)
+
+pub is_dry_front : (held : Bytes) → front_of held ≡ dry → is_dry held ≡ true
+is_dry_front held e = cc
+
+pub was_dry : (k : Kept) (d : Talk) (was : Counts) → d.cause ≡ None → is_dry d.held ≡ true
+    → StepsTo Dry false k d k d was was
+was_dry k d was c e = (c, e, nothing_changed k d was)
+
+-- ---- What is left to do once a line was run.
+
+-- no change is left to tell
+abbrev pub IsAlone : Left → Type 0
+IsAlone (Nothing kept) = ⊤
+IsAlone Stopping = ⊤
+IsAlone (Telling change) = ⊥
+
+-- a command was obeyed behind a line that was taken
+pub line_leaves : (left : Left) (old : Kept) (before mid : Talk) (l rest : Bytes) (command : Command) (new : Kept)
+    (after : Talk) (was now : ℕ)
+    → front_of before.held ≡ a_line l rest → mid ≡ record before { held = rest } → is_blank l ≡ false
+    → length before.pending ≤ PENDING_BYTES
+    → before.cause ≡ None → REPLY_BYTES + LAST_LINE_BYTES ≤ before.room → reading_of l ≡ says_command command
+    → (IsAlone left → (is_on_row command ≡ false) × (is_misplaced before.batch command ≡ false))
+    → Obeys command left old mid new after was now → LineLeaves l left old before new after was now
+line_leaves (Nothing kept) old before mid l rest command new after was now f e said few running room reads alone o =
+    runs kept false old before mid l rest new after was now f e said few
+    (reads_command kept false old mid l command new after was now reads (alone tt).0
+    (ap (λ (d : Talk). is_misplaced d.batch command) e ∙ (alone tt).1) o)
+line_leaves Stopping old before mid l rest command new after was now f e said few running room reads alone o =
+    runs false true old before mid l rest new after was now f e said few
+    (reads_command false true old mid l command new after was now reads (alone tt).0
+    (ap (λ (d : Talk). is_misplaced d.batch command) e ∙ (alone tt).1) o)
+line_leaves (Telling change) old before mid l rest command new after was now f e said few running room reads alone o =
+    let taken : after ≡ record before { held = rest; batch = None } = o.1
+    ∙ ap (λ (d : Talk). record d { batch = None }) e in
+    let same : after.room ≡ before.room = ap (λ (d : Talk). d.room) taken in
+    record {
+      running = running;
+      line = l;
+      rest = rest;
+      front = f;
+      said = said;
+      few = few;
+      command = command;
+      reads = reads;
+      changes = subst (λ (d : Talk). IsChange command d.batch old change new was now) e o.0;
+      taken = taken ∙ ap (λ (r : ℕ). record before { held = rest; room = r; batch = None }) (sym same);
+      room = subst (λ (r : ℕ). REPLY_BYTES + LAST_LINE_BYTES ≤ r) (sym same) room;
+    }
+
+-- What is left of a session without a batch is to tell a change.
+pub tells_alone : (change : Outcome) (old : Kept) (mid : Talk) (new : Kept) (was now : ℕ) (command : Command)
+    → mid.batch ≡ None → IsChange command None old change new was now
+    → Obeys command (Telling change) old mid new mid was now
+tells_alone change old mid new was now command e c = (
+  subst (λ (o : Option (List HeldRow)). IsChange command o old change new was now) (sym e) c,
+  ap
+      (λ (o : Option (List HeldRow)). record mid { batch = o }) e,
+)
+
+-- and of one whose batch is done
+pub tells_done : (change : Outcome) (old : Kept) (mid : Talk) (new : Kept) (after : Talk) (was now : ℕ)
+    → IsSome mid.batch → AddsAll old (batch_rows mid.batch) change new was now
+    → after ≡ record mid { batch = None } → Obeys Done (Telling change) old mid new after was now
+tells_done change old mid new after was now some c e = (
+  subst (λ (o : Option (List HeldRow)). IsChange Done o old change new was now) (sym (open_rows mid.batch some)) c,
+  e,
+)
+
+-- room was kept before
+pub step_leaves : (left : Left) (old : Kept) (before kept : Talk) (l : Bytes) (new : Kept) (after : Talk)
+    (was now : Counts)
+    → kept ≡ record before { room = kept.room } → before.cause ≡ None
+    → LineLeaves l left old kept new after was.listing now.listing
+    → LeavesTo (Ran (is_kept_by left)) left old before new after was now
+step_leaves (Nothing k) old before kept l new after was now e running f =
+    ran_line k false old before new after l was now running
+    (with_room _ false old before kept new after was.listing now.listing e f)
+step_leaves Stopping old before kept l new after was now e running f =
+    ran_line false true old before new after l was now running
+    (with_room _ true old before kept new after was.listing now.listing e f)
+step_leaves (Telling change) old before kept l new after was now e running c = (
+  refl,
+  record {
+    running = running;
+    line = c.line;
+    rest = c.rest;
+    front = subst (λ (bs : Bytes). front_of bs ≡ a_line c.line c.rest) (ap (λ (d : Talk). d.held) e) c.front;
+    said = c.said;
+    few = subst (λ (bs : Bytes). length bs ≤ PENDING_BYTES) (ap (λ (d : Talk). d.pending) e) c.few;
+    command = c.command;
+    reads = c.reads;
+    changes = subst (λ (d : Talk). IsChange c.command d.batch old change new was.listing now.listing) e c.changes;
+    taken = c.taken ∙ ap (λ (d : Talk). record d { held = c.rest; room = after.room; batch = None }) e;
+    room = c.room;
+  },
+)
+
+-- ---- What is left to do once a line was run of a session with a batch open.
+
+module _ (before mid : Talk) (l rest : Bytes) (f : front_of before.held ≡ a_line l rest)
+    (e : mid ≡ record before { held = rest }) (said : is_blank l ≡ false)
+    (few : length before.pending ≤ PENDING_BYTES) (some : IsSome before.batch) where
+  -- the batch is still open
+  open_still : IsSome mid.batch
+  open_still = subst (λ (o : Option (List HeldRow)). IsSome o) (sym (ap (λ (d : Talk). d.batch) e)) some
+
+  rows_still : batch_rows mid.batch ≡ batch_rows before.batch
+  rows_still = ap (λ (d : Talk). batch_rows d.batch) e
+
+  -- a row is held
+  pub hold_leaves : (k : Kept) (name : Bytes) (row : Tuple) (made : Result HeldRow Refusal) (count : ℕ) (after : Talk)
+      (was : ℕ)
+      → reading_of l ≡ says_command (Add name row) → count ≡ length (batch_rows before.batch)
+      → MakesRow k.store count l name row made → HoldsMadeRow mid made after
+      → LineLeaves l (Nothing false) k before k after was was
+  unfolding open_still
+  hold_leaves k name row made count after was reads c makes holds =
+      runs false false k before mid l rest k after was was f e said few
+      (reads_said false false k mid l (Add name row) k after was was reads
+      (placed_in mid.batch (Add name row) open_still refl)
+      (counting _ false k mid k after was was (omega arith)
+      (does_hold k mid after (batch_rows mid.batch) l name row made (open_rows mid.batch open_still)
+      (makes (batch_rows mid.batch) (ap (λ (rows : List HeldRow). length rows) rows_still ∙ sym c)) holds)))
+
+  -- the batch is done
+  pub done_leaves : (old : Kept) (change : Outcome) (new : Kept) (after : Talk) (was now : ℕ) → before.cause ≡ None
+      → REPLY_BYTES + LAST_LINE_BYTES ≤ before.room
+      → reading_of l ≡ says_command Done → AddsAll old (batch_rows mid.batch) change new was now → after
+      ≡ record mid { batch = None } → LineLeaves l (Telling change) old before new after was now
+  done_leaves old change new after was now running room reads adds closed =
+      line_leaves (Telling change) old before mid l rest Done new after was now f e said few running room reads
+      (λ h. absurd h)
+      (tells_done change old mid new after was now open_still adds closed)
+
+  -- a command that has its place in a batch
+  pub placed_leaves : (old : Kept) (command : Command) (new : Kept) (after : Talk) (was now : ℕ) → before.cause ≡ None
+      → REPLY_BYTES + LAST_LINE_BYTES ≤ before.room
+      → reading_of l ≡ says_command command → is_on_row command ≡ false → is_misplaced {A = List HeldRow} (Some [])
+      command
+      ≡ false → ExecutesKeeping command false false old mid new after was now
+      → LineLeaves l (Nothing false) old before new after was now
+  placed_leaves old command new after was now running room reads other placed does =
+      line_leaves (Nothing false) old before mid l rest command new after was now f e said few running room reads
+      (λ h. (other, placed_in before.batch command some placed)) does
+
+  pub stop_leaves : (old : Kept) (command : Command) (new : Kept) (after : Talk) (was now : ℕ) → before.cause ≡ None
+      → REPLY_BYTES + LAST_LINE_BYTES ≤ before.room
+      → reading_of l ≡ says_command command → is_on_row command ≡ false → is_misplaced {A = List HeldRow} (Some [])
+      command
+      ≡ false → ExecutesKeeping command false true old mid new after was now
+      → LineLeaves l Stopping old before new after was now
+  stop_leaves old command new after was now running room reads other placed does =
+      line_leaves Stopping old before mid l rest command new after was now f e said few running room reads
+      (λ h. (other, placed_in before.batch command some placed)) does
+
+  -- the line is refused
+  pub refused_leaves : (k : Kept) (why : Refusal) (after : Talk) (was : ℕ) → RefusedBy (Some []) (reading_of l) why
+      → Replies mid after (refusal_line why) → LineLeaves l (Nothing false) k before k after was was
+  refused_leaves k why after was by reply =
+      runs false false k before mid l rest k after was was f e said few
+      (reads_refused k mid after l why was (refused_in mid.batch (reading_of l) why open_still by) reply)

@@ -1,0 +1,618 @@
+-- What commands make of the store has names and values that lines can say.
+use Rattle.std.specs.Prelude.{ℕ, zero, suc, ◌+◌, ◌-◌, ◌*◌, ◌^◌, ◌<◌, ◌≢◌, List, [], ◌∷◌, ◌==◌, ◌&&◌, ◌||◌, ◌≡◌, ◌≤◌}
+use Rattle.std.specs.Prelude.{◌++◌, ◌⊎◌, Bool, true, false, not, cond, nat_le, nat_lt, length, Option, None, Some}
+use Rattle.std.specs.Prelude.{is_some, is_none, Result, Ok, Err, map, All, Contains, ⊤}
+use Rattle.std.specs.List.{list_any}
+use Rattle.std.proofs.Common.{refl, sym, ap, ◌∙◌, subst, inl, inr, arith}
+use Rattle.std.proofs.lemmas.Bool.{eq-eqb, leb-false, ltb-false, not-false}
+use Rattle.std.proofs.lemmas.List.Elements.{All-nil, All-cons, All-head, All-tail, All-push, All-contains, All-weaker}
+use Rattle.std.proofs.lemmas.List.Sorted.{All-permutation}
+use Rattle.std.proofs.lemmas.List.{length-map}
+use Rattle.std.proofs.lemmas.Nat.{mul-le}
+use Rattle.djq_model.specs.declared.value.Value.{Value}
+use Rattle.djq_model.specs.declared.relation.ColumnType.{ColumnType}
+use Rattle.djq_model.specs.declared.relation.Relation.{Relation}
+use Rattle.djq_model.specs.declared.relation.CountedRow.{CountedRow}
+use Rattle.djq_model.specs.declared.query.Query.{Query}
+use Rattle.djq_model.specs.declared.query.Atom.{Atom}
+use Rattle.djq_model.specs.declared.query.Term.{Term}
+use Rattle.djq_model.specs.declared.query.Term.TheVariants.{Variable, Hole, Constant}
+use Rattle.djq_model.specs.declared.value.Value.TheVariants.{Int, Text}
+use Rattle.djq_model.specs.Data.{Bytes, Tuple, bytes_eq, tuple_eq, drop_first, relation_of, tuples_in, plain_of}
+use Rattle.djq_model.specs.Data.{counted_in, counted_of, rows_of, has_row, with_row, with_copies, without_copies}
+use Rattle.djq_model.specs.Equality.{bytes_eq-decides}
+use Rattle.djq_model.specs.Answer.{Assignment, StandsFor, StandForAll, Satisfies, IsAnswer}
+use Rattle.djq_model.specs.Listed.{Listed, a_query, a_union, listed_name, AnswersOf, listed_of}
+use Rattle.djq_model.specs.Known.{texts_in, all_learned}
+use Rattle.djq_model.proofs.Copies.{tuples_with_row, tuples_with_copies, tuples_without, tuples_moved, copies_hold}
+use Rattle.djq_value.specs.Literal.{IsName}
+use Rattle.djq_protocol.specs.declared.limits.TheConstants.{LAST_SEQ, COPIES, ROWS, QUERIES, MEMBERS, ATOMS, VARIABLES}
+use Rattle.djq_protocol.specs.declared.limits.TheConstants.{HEAD_VARIABLES, COMPARISONS}
+use Rattle.djq_protocol.specs.declared.rest.QueryOutcome.{QueryOutcome}
+use Rattle.djq_protocol.specs.declared.rest.QueryOutcome.TheVariants.{Registered, Cyclic, NotConnex}
+use Rattle.djq_protocol.specs.declared.answer.Refusal.{Refusal}
+use Rattle.djq_protocol.specs.declared.answer.Refusal.TheVariants.{Taken, NoQuery, Member, Limit}
+use Rattle.djq_protocol.specs.declared.answer.AddOutcome.{AddOutcome}
+use Rattle.djq_protocol.specs.declared.answer.AddOutcome.TheVariants.{First, More}
+use Rattle.djq_protocol.specs.declared.answer.DeleteOutcome.{DeleteOutcome}
+use Rattle.djq_protocol.specs.declared.answer.DeleteOutcome.TheVariants.{Last, Left, Absent}
+use Rattle.djq_protocol.specs.declared.held.HeldRow.{HeldRow}
+use Rattle.djq_protocol.specs.declared.answer.Sign.{Sign}
+use Rattle.djq_protocol.specs.declared.answer.Sign.TheVariants.{Came, Went}
+use Rattle.djq_protocol.specs.Conditions.{first_refusal, OutOfMemoryWhere}
+use Rattle.djq_protocol.specs.QueryFault.{is_too_large, query_faults}
+use Rattle.djq_protocol.specs.Variables.{constants_of, is_variable, stands_in, variables_of}
+use Rattle.djq_mirror.specs.Replies.{Reply, answer, changed, counted, is_cell, are_cells, IsNumber, IsPrinted}
+use Rattle.djq_store_spec.specs.Store.{Store}
+use Rattle.djq_store_spec.specs.Relations.{RefusedByTexts, MakesRelation, with_rows, rel_refusal}
+use Rattle.djq_store_spec.specs.Registering.{RefusedLate, RegistersAs, RegistersQuery, DropsQuery, query_refusal}
+use Rattle.djq_store_spec.specs.Registering.{drop_refusal, answer_steps, most_steps, width_of, atoms_of}
+use Rattle.djq_store_spec.specs.Rows.{AddsRow, AddsAs, DeletesRow, DeletesAs, with_copies_of, copies_of, row_refusals}
+use Rattle.djq_store_spec.specs.Rows.{add_refusal, delete_refusal}
+use Rattle.djq_store_spec.specs.Union.{stands_twice, is_union, types_differ, union_refusal, AreUnder, RegistersUnion}
+use Rattle.djq_store_spec.specs.Batch.{is_there, with_held, with_all, count_came, HavePlaces, AddsBatch}
+use Rattle.djq_store_spec.specs.Delta.{Change, HasChanged}
+use Rattle.djq_answer_laws.specs.Finite.{IsBound}
+use Rattle.djq_answer_laws.proofs.Lists.{nothing_there, first_or_later, first_there, later_there, hold_each, some_one}
+use Rattle.djq_answer_laws.proofs.Choices.{none_any}
+use Rattle.djq_machine.specs.Step.{SameRelations}
+use Rattle.djq_run_laws.specs.Form.{LearnsTexts}
+use Rattle.djq_run_laws.specs.Sound.{IsCopyCount, IsSoundStore}
+use Rattle.djq_run_laws.proofs.Forms.{done_of, none_holds, stays_learned, late_learned, refused_learned}
+use Rattle.djq_run_laws.proofs.Batches.{all_gain, is_behind, not_batched}
+use Rattle.djq_run_laws.proofs.Lists.{all_changed, all_found, all_dropped, without_dropped, mapped_from}
+use Rattle.djq_run_laws.proofs.RegisteredQueries.{under_names, under_registered}
+use Rattle.djq_run_laws.proofs.RowCommands.{counted_sound}
+use Rattle.djq_mirror_laws.specs.Sayable.{IsSayableValue, IsSayableRow, IsSayableRelation, IsSayableQuery, IsAskable}
+use Rattle.djq_mirror_laws.specs.Sayable.{IsSayableListed, IsSayableHeld, IsSayableStore}
+use Rattle.djq_mirror_laws.specs.Lines.{IsShort}
+use Rattle.djq_mirror_laws.specs.Told.{delta_replies}
+
+-- ---- What commands make of the store has names, and values within their limits.
+
+-- ---- conditions that all fail
+
+abbrev pub AllFail : List (Bool × Refusal) → Type 0
+AllFail [] = Unit {0}
+AllFail (c ∷ cs) = (c.0 ≡ false) × AllFail cs
+
+pub all_fail : (cs : List (Bool × Refusal)) → first_refusal cs ≡ None → AllFail cs
+all_fail [] e = tt
+all_fail (c ∷ cs) e = by c.0 refl e (λ f. all_fail cs f)
+  where
+    by : (b : Bool) → c.0 ≡ b → cond b (Some c.1) (first_refusal cs) ≡ None → (first_refusal cs ≡ None → AllFail cs)
+        → AllFail (c ∷ cs)
+    by true k f more = absurd cc
+    by false k f more = (k, more f)
+
+pub second_fails : (a b : Bool) → a ≡ true → (a && b) ≡ false → b ≡ false
+second_fails true b e f = f
+second_fails false b e f = absurd cc
+
+-- ---- answers
+
+cell_there : (P : Value → Type 0) (b : Assignment) (ts : List Term) (vs : Tuple) (x : Bytes) → StandForAll b ts vs
+    → Contains ts (Variable x) → All P vs → P (b x)
+cell_there P b [] vs x h k all = absurd (nothing_there (Variable x) k)
+cell_there P b (t ∷ ts) [] x h k all = absurd h
+cell_there P b (t ∷ ts) (v ∷ vs) x h k all =
+    by (first_or_later t ts (Variable x) k) (λ c. cell_there P b ts vs x h.1 c (All-tail P v vs all))
+  where
+    by : (t ≡ Variable x) ⊎ Contains ts (Variable x) → (Contains ts (Variable x) → P (b x)) → P (b x)
+    by (inl e) more = subst P (sym (subst (λ (u : Term). StandsFor b u v) e h.0)) (All-head P v vs all)
+    by (inr c) more = more c
+
+pub rows_sayable : (rs : List Relation) (name : Bytes) → All IsSayableRelation rs → All IsSayableRow (rows_of rs name)
+rows_sayable rs name h = by (relation_of rs name) refl
+  where
+    by : (o : Option Relation) → relation_of rs name ≡ o → All IsSayableRow (plain_of (counted_in o))
+    by None e = All-nil IsSayableRow
+    by (Some x) e = (all_found IsSayableRelation (λ (r : Relation). bytes_eq r.name name) rs x h e).rows
+
+query_answer_sayable : (rs : List Relation) → All IsSayableRelation rs → (q : Query) → IsSayableListed (a_query q)
+    → (t : Tuple) → IsAnswer rs q t → IsSayableRow t
+query_answer_sayable rs h q k t a =
+    subst IsSayableRow (sym a.on_head)
+    (hold_each IsSayableValue (map a.assignment q.head) (λ v c.
+    let x = mapped_from a.assignment q.head v c in
+    let m = k.1.bound x.0 x.1 in
+    let s = All-contains (Satisfies rs a.assignment) q.atoms m.0 a.satisfies m.1 in
+    subst IsSayableValue x.2
+    (cell_there IsSayableValue a.assignment (m.0).terms s.row x.0 s.stands m.2
+    (All-contains IsSayableRow (rows_of rs (m.0).relation) s.row (rows_sayable rs (m.0).relation h) s.is_there))))
+
+pub answer_sayable : (rs : List Relation) → All IsSayableRelation rs → (q : Listed) → IsSayableListed q → (t : Tuple)
+    → AnswersOf rs q t → IsSayableRow t
+answer_sayable rs h (a_query q) k t a = query_answer_sayable rs h q k t a
+answer_sayable rs h (a_union name qs) k t a =
+    let o = some_one (λ (q : Query). IsAnswer rs q t) qs a in
+    query_answer_sayable rs h o.0 (All-contains (λ (q : Query). IsSayableListed (a_query q)) qs o.0 k.1 o.1) t o.2
+
+-- ---- stores
+
+pub learned_sayable : (old new : Store) → LearnsTexts old new → IsSayableStore old → IsSayableStore new
+learned_sayable old new h s =
+    subst IsSayableStore (sym h.store) (record { relations = s.relations; queries = s.queries; seq = s.seq })
+
+pub rel_sayable : (old : Store) (name : Bytes) (types : List ColumnType) (r : Result ⊤ Refusal) (new : Store)
+    → MakesRelation old name types r new → IsName name → IsSayableStore old → IsSayableStore new
+rel_sayable old name types (Err r) new h named s = subst IsSayableStore (sym h.stays) s
+rel_sayable old name types (Ok u) new h named s =
+    let made : Relation = record { name = name; types = types; rows = [] } in
+    subst IsSayableStore
+    (sym (done_of (rel_refusal old name types) u (λ _. new ≡ record old { relations = old.relations ++ made ∷ [] })
+    (OutOfMemoryWhere ⊤) h.answer))
+    (record {
+      relations = All-push IsSayableRelation old.relations made s.relations
+          (record { name = named; rows = All-nil IsSayableRow });
+      queries = s.queries;
+      seq = s.seq;
+    })
+
+-- other rows in one relation
+other_rows : (rs : List Relation) (name : Bytes) (rows : List CountedRow) → All IsSayableRelation rs
+    → All IsSayableRow (plain_of rows) → All IsSayableRelation (with_rows rs name rows)
+other_rows rs name rows h all =
+    all_changed IsSayableRelation (λ (x : Relation). bytes_eq x.name name)
+    (λ (x : Relation). record x { rows = rows }) rs h (λ x found k. record { name = k.name; rows = all })
+
+other_copies : (rs : List Relation) (name : Bytes) (row : Tuple) (n : ℕ) → All IsSayableRelation rs
+    → All IsSayableRelation (with_copies_of rs name row n)
+other_copies rs name row n h =
+    other_rows rs name (with_copies (counted_of rs name) row n) h
+    (subst (λ (ts : List Tuple). All IsSayableRow ts) (sym (tuples_with_copies (counted_of rs name) row n))
+    (rows_sayable rs name h))
+
+-- what `add`, `del` and `query` ask before they are done
+abbrev pub add_conditions : Store → Bytes → Tuple → List (Bool × Refusal)
+add_conditions st name row = let rows = rows_of st.relations name in row_refusals st name row
+    ++ (nat_le COPIES (copies_of st name row), Limit)
+    ∷ (not (has_row rows row) && nat_le ROWS (length rows), Limit)
+    ∷ (not (has_row rows row) && nat_le LAST_SEQ st.seq, Limit)
+    ∷ []
+
+abbrev pub delete_conditions : Store → Bytes → Tuple → List (Bool × Refusal)
+delete_conditions st name row = row_refusals st name row
+    ++ ((copies_of st name row == 1) && nat_le LAST_SEQ st.seq, Limit)
+    ∷ []
+
+abbrev query_conditions : Store → Query → List (Bool × Refusal)
+query_conditions st q =
+    (is_some (listed_of st.queries q.name), Taken)
+    ∷ query_faults st.relations q
+    ++ (nat_le QUERIES (length st.queries), Limit)
+    ∷ []
+
+pub add_sayable : (old : Store) (name : Bytes) (row : Tuple) (r : Result AddOutcome Refusal) (new : Store)
+    → AddsRow old name row r new → IsSayableRow row → IsSayableStore old → IsSayableStore new
+add_sayable old name row (Ok First) new h said s =
+    let d = done_of (add_refusal old name row) First (AddsAs old name row new) _ h.answer in
+    let none = none_holds (add_refusal old name row) First (AddsAs old name row new) _ h.answer in
+    let fails = all_fail (add_conditions old name row) none in
+    let below = leb-false LAST_SEQ old.seq
+    (second_fails (not (has_row (rows_of old.relations name) row)) (nat_le LAST_SEQ old.seq) (ap not d.0)
+    fails.1.1.1.1.1.0) in
+    let before = counted_of old.relations name in
+    subst IsSayableStore (sym d.2) (record {
+      relations = other_rows old.relations name (with_row before row) s.relations
+          (subst (λ (ts : List Tuple). All IsSayableRow ts) (sym (tuples_with_row before row))
+          (All-push IsSayableRow (plain_of before) row (rows_sayable old.relations name s.relations) said));
+      queries = s.queries;
+      seq = omega (arith, below);
+    })
+add_sayable old name row (Ok (More copies)) new h said s =
+    let d = done_of (add_refusal old name row) (More copies) (AddsAs old name row new) _ h.answer in
+    subst IsSayableStore (sym d.2) (record {
+      relations = other_copies old.relations name row copies s.relations;
+      queries = s.queries;
+      seq = s.seq;
+    })
+add_sayable old name row (Err r) new h said s =
+    learned_sayable old new
+    (refused_learned (add_refusal old name row) r (AddsAs old name row new)
+    (λ t. (has_row (rows_of old.relations name) row ≡ false) × RefusedByTexts old (texts_in row) new t) old new h.answer
+    h.stays (λ late. late_learned old (texts_in row) new r late.1)) s
+
+pub del_sayable : (old : Store) (name : Bytes) (row : Tuple) (r : Result DeleteOutcome Refusal) (new : Store)
+    → DeletesRow old name row r new → IsSayableStore old → IsSayableStore new
+del_sayable old name row (Ok Last) new h s =
+    let d = done_of (delete_refusal old name row) Last (DeletesAs old name row new) (OutOfMemoryWhere ⊥) h.answer in
+    let none = none_holds (delete_refusal old name row) Last (DeletesAs old name row new) (OutOfMemoryWhere ⊥) h.answer
+    in
+    let fails = all_fail (delete_conditions old name row) none in
+    let below = leb-false LAST_SEQ old.seq
+    (second_fails (copies_of old name row == 1) (nat_le LAST_SEQ old.seq) (eq-eqb (copies_of old name row) 1 d.1)
+    fails.1.1.1.0) in
+    let before = counted_of old.relations name in
+    let is : plain_of (without_copies before row) ≡ drop_first (λ t. tuple_eq t row) (plain_of before) =
+    tuples_without before row ∙ without_dropped (plain_of before) row in
+    subst IsSayableStore (sym d.2) (record {
+      relations = other_rows old.relations name (without_copies before row) s.relations
+          (subst (λ (ts : List Tuple). All IsSayableRow ts) (sym is)
+          (all_dropped IsSayableRow (λ t. tuple_eq t row) (plain_of before)
+          (rows_sayable old.relations name s.relations)));
+      queries = s.queries;
+      seq = omega (arith, below);
+    })
+del_sayable old name row (Ok (Left copies)) new h s =
+    let d = done_of (delete_refusal old name row) (Left copies) (DeletesAs old name row new) (OutOfMemoryWhere ⊥)
+    h.answer in
+    subst IsSayableStore (sym d.3) (record {
+      relations = other_copies old.relations name row copies s.relations;
+      queries = s.queries;
+      seq = s.seq;
+    })
+del_sayable old name row (Ok Absent) new h s =
+    let d = done_of (delete_refusal old name row) Absent (DeletesAs old name row new) (OutOfMemoryWhere ⊥) h.answer in
+    subst IsSayableStore (sym d.1) s
+del_sayable old name row (Err r) new h s = subst IsSayableStore (sym h.stays) s
+
+-- ---- batches
+
+-- the store with a held row more, by whether it is there
+abbrev behind_one : Store → HeldRow → Bool → Store
+behind_one st h b = cond b (record st {
+  relations = with_copies_of st.relations h.relation h.row (copies_of st h.relation h.row + 1);
+}) (record st {
+  relations = with_rows st.relations h.relation (with_row (counted_of st.relations h.relation) h.row);
+  texts = all_learned st.texts (texts_in h.row);
+})
+
+held_sayable : (st : Store) (h : HeldRow) → IsSayableHeld h → All IsSayableRelation st.relations
+    → All IsSayableRelation (with_held st h).relations
+held_sayable st h said all = by (is_there st h)
+  where
+    by : (b : Bool) → All IsSayableRelation (behind_one st h b).relations
+    by true = other_copies st.relations h.relation h.row (copies_of st h.relation h.row + 1) all
+    by false =
+        let before = counted_of st.relations h.relation in
+        other_rows st.relations h.relation (with_row before h.row) all
+        (subst (λ (ts : List Tuple). All IsSayableRow ts) (sym (tuples_with_row before h.row))
+        (All-push IsSayableRow (plain_of before) h.row (rows_sayable st.relations h.relation all) said.row))
+
+all_held_sayable : (st : Store) (held : List HeldRow) → All IsSayableHeld held → All IsSayableRelation st.relations
+    → All IsSayableRelation (with_all st held).relations
+all_held_sayable st [] said all = all
+all_held_sayable st (h ∷ hs) said all =
+    all_held_sayable (with_held st h) hs (All-tail IsSayableHeld h hs said)
+    (held_sayable st h (All-head IsSayableHeld h hs said) all)
+
+held_seq : (st : Store) (h : HeldRow) → (with_held st h).seq ≡ st.seq
+held_seq st h = by (is_there st h)
+  where
+    by : (b : Bool) → (behind_one st h b).seq ≡ st.seq
+    by true = refl
+    by false = refl
+
+-- where a row came, one more change may be counted
+came_below : (st : Store) (held : List HeldRow) → HavePlaces st held → count_came st held ≢ 0 → st.seq < LAST_SEQ
+came_below st [] places some = absurd (some refl)
+came_below st (h ∷ hs) places some =
+    by (is_there st h) refl some (λ k. came_below (with_held st h) hs places.2 k)
+  where
+    absent_below : is_there st h ≡ false → st.seq < LAST_SEQ
+    absent_below absent =
+        let fails = all_fail ((nat_le COPIES (copies_of st h.relation h.row), Limit)
+        ∷ (not (is_there st h) && nat_le ROWS (length (rows_of st.relations h.relation)), Limit)
+        ∷ (not (is_there st h) && nat_le LAST_SEQ st.seq, Limit) ∷ []) places.0 in
+        leb-false LAST_SEQ st.seq
+        (second_fails (not (is_there st h)) (nat_le LAST_SEQ st.seq) (ap not absent) fails.1.1.0)
+
+    by : (b : Bool) → is_there st h ≡ b → cond b 0 1 + count_came (with_held st h) hs ≢ 0
+        → (count_came (with_held st h) hs ≢ 0 → (with_held st h).seq < LAST_SEQ) → st.seq < LAST_SEQ
+    by true there k more =
+        let below = more (λ none. k (omega (arith, none))) in
+        let same = held_seq st h in
+        omega (arith, below, same)
+    by false absent k more = absent_below absent
+
+pub done_sayable : (old : Store) (held : List HeldRow) (r : Result ℕ Refusal) (new : Store) → AddsBatch old held r new
+    → All IsSayableHeld held → IsSayableStore old → IsSayableStore new
+done_sayable old held (Ok zero) new h said s =
+    subst IsSayableStore (sym (h.2 ∙ is_behind old held zero h.1 ∙ (all_gain old held h.0).store)) (record {
+      relations = all_held_sayable old held said s.relations;
+      queries = s.queries;
+      seq = s.seq;
+    })
+done_sayable old held (Ok (suc n)) new h said s =
+    let some : count_came old held ≢ 0 = λ none. let is = h.1 in omega (arith, is, none) in
+    let below = came_below old held h.0 some in
+    subst IsSayableStore
+    (sym (h.2 ∙ is_behind old held (suc n) h.1
+    ∙ ap (λ (st : Store). record st { seq = old.seq + 1 }) (all_gain old held h.0).store)) (record {
+      relations = all_held_sayable old held said s.relations;
+      queries = s.queries;
+      seq = omega (arith, below);
+    })
+done_sayable old held (Err r) new h said s = learned_sayable old new (not_batched old held r new h) s
+
+-- no more rows come than are held
+pub came_few : (st : Store) (held : List HeldRow) → count_came st held ≤ length held
+came_few st [] = omega arith
+came_few st (h ∷ hs) = by (is_there st h) (came_few (with_held st h) hs)
+  where
+    by : (b : Bool) → count_came (with_held st h) hs ≤ length hs
+        → cond b 0 1 + count_came (with_held st h) hs ≤ length (h ∷ hs)
+    by true k = omega (arith, k)
+    by false k = omega (arith, k)
+
+-- ---- unions
+
+abbrev union_conditions : Store → Bytes → List Bytes → List (Bool × Refusal)
+union_conditions st name members =
+    (is_some (listed_of st.queries name), Taken)
+    ∷ (list_any (λ n. is_none (listed_of st.queries n)) members, NoQuery)
+    ∷ (
+      stands_twice members || list_any (λ n. is_union (listed_of st.queries n)) members
+          || types_differ st members,
+      Member,
+    )
+    ∷ (nat_lt MEMBERS (length members), Limit)
+    ∷ (nat_le QUERIES (length st.queries), Limit)
+    ∷ []
+
+-- registered queries are such, whatever their names
+members_sayable : (old : Store) (members : List Bytes) (qs : List Query) → IsSayableStore old
+    → AreUnder old.queries members qs → All (λ (q : Query). IsSayableListed (a_query q)) qs
+members_sayable old members qs s under =
+    All-weaker (λ (q : Query). listed_of old.queries q.name ≡ Some (a_query q))
+    (λ (q : Query). IsSayableListed (a_query q))
+    (λ q is. all_found IsSayableListed (λ (l : Listed). bytes_eq (listed_name l) q.name) old.queries (a_query q)
+    s.queries is)
+    qs (under_registered old.queries members qs under)
+
+width_small : (qs : List Query) → All (λ (q : Query). IsSayableListed (a_query q)) qs → width_of qs ≤ HEAD_VARIABLES
+width_small [] all = omega arith
+width_small (q ∷ qs) all = (All-head (λ (p : Query). IsSayableListed (a_query p)) q qs all).1.few
+
+atoms_small : (qs : List Query) → All (λ (q : Query). IsSayableListed (a_query q)) qs → atoms_of qs ≤ 32 * length qs
+atoms_small [] all = omega arith
+atoms_small (q ∷ qs) all =
+    let first = (All-head (λ (p : Query). IsSayableListed (a_query p)) q qs all).1.atoms in
+    let rest = atoms_small qs (All-tail (λ (p : Query). IsSayableListed (a_query p)) q qs all) in
+    omega (arith, first, rest)
+
+-- each variable of the head of a query that isn't refused stands in its body
+some_pass : {A : Type 0} (p : A → Bool) (xs : List A) → list_any p xs ≡ true → (x : A) × Contains xs x × (p x ≡ true)
+some_pass p [] e = absurd cc
+some_pass {A = A} p (x ∷ xs) e = by (p x) refl e (λ f. some_pass p xs f)
+  where
+    by : (b : Bool) → p x ≡ b → (b || list_any p xs) ≡ true
+        → (list_any p xs ≡ true → (y : A) × Contains xs y × (p y ≡ true)) → (y : A) × Contains (x ∷ xs) y × (p y ≡ true)
+    by true k f more = (x, first_there x xs x refl, k)
+    by false k f more = let r = more f in (r.0, later_there x xs r.0 r.1, r.2)
+
+variable_is : (x : Bytes) (t : Term) → is_variable x t ≡ true → t ≡ Variable x
+variable_is x (Variable y) e = ap (λ z. Variable z) ((bytes_eq-decides y x).0 e)
+variable_is x Hole e = absurd cc
+variable_is x (Constant v) e = absurd cc
+
+bound_where : (q : Query) → list_any (λ x. not (stands_in q.atoms x)) q.head ≡ false → IsBound q
+bound_where q e x c =
+    let stands = not-false (stands_in q.atoms x)
+    (All-contains (λ (y : Bytes). not (stands_in q.atoms y) ≡ false) q.head x
+    (none_any (λ y. not (stands_in q.atoms y)) q.head e) c) in
+    let a = some_pass (λ (m : Atom). list_any (is_variable x) m.terms) q.atoms stands in
+    let t = some_pass (is_variable x) (a.0).terms a.2 in
+    (a.0, a.1, subst (λ (u : Term). Contains (a.0).terms u) (variable_is x t.0 t.2) t.1)
+
+few_where : (a b c d : Bool) → (a || (b || (c || d))) ≡ false → (a ≡ false) × (c ≡ false)
+few_where false false false d e = (refl, refl)
+few_where true b c d e = absurd cc
+few_where false true c d e = absurd cc
+few_where false false true d e = absurd cc
+
+askable_where : (q : Query) → list_any (λ x. not (stands_in q.atoms x)) q.head ≡ false → is_too_large q ≡ false
+    → IsAskable q
+askable_where q unbound large =
+    let few = few_where (nat_lt ATOMS (length q.atoms)) (nat_lt VARIABLES (length (variables_of q.atoms)))
+    (nat_lt HEAD_VARIABLES (length q.head)) (nat_lt COMPARISONS (length q.comparisons)) large in
+    let most = ltb-false HEAD_VARIABLES (length q.head) few.1 in
+    let atoms = ltb-false ATOMS (length q.atoms) few.0 in
+    record { bound = bound_where q unbound; few = omega (arith, most); atoms = omega (arith, atoms) }
+
+-- a head has few variables, where its query is registered
+pub query_few : (old : Store) (q : Query) (most : ℕ) (new : Store) → RegistersQuery old q (Ok (Registered most)) new
+    → length q.head ≤ HEAD_VARIABLES
+query_few old q most new h =
+    let none = none_holds (query_refusal old q) (Registered most) (RegistersAs old q new) (RefusedLate old q new)
+    h.answer in
+    let fails = all_fail (query_conditions old q) none in
+    (askable_where q fails.1.1.1.1.1.1.1.1.0 fails.1.1.1.1.1.1.1.1.1.0).few
+
+pub query_sayable : (old : Store) (q : Query) (r : Result QueryOutcome Refusal) (new : Store)
+    → RegistersQuery old q r new → IsSayableQuery q → IsSayableStore old → IsSayableStore new
+query_sayable old q (Ok (Cyclic rest)) new h said s =
+    let d = done_of (query_refusal old q) (Cyclic rest) (RegistersAs old q new) (RefusedLate old q new) h.answer in
+    subst IsSayableStore (sym d.1) s
+query_sayable old q (Ok (NotConnex rest)) new h said s =
+    let d = done_of (query_refusal old q) (NotConnex rest) (RegistersAs old q new) (RefusedLate old q new) h.answer in
+    subst IsSayableStore (sym d.1) s
+query_sayable old q (Ok (Registered most)) new h said s =
+    let none = none_holds (query_refusal old q) (Registered most) (RegistersAs old q new) (RefusedLate old q new)
+    h.answer in
+    let d = done_of (query_refusal old q) (Registered most) (RegistersAs old q new) (RefusedLate old q new) h.answer in
+    let fails = all_fail (query_conditions old q) none in
+    subst IsSayableStore (sym d.3) (record {
+      relations = s.relations;
+      queries = All-push IsSayableListed old.queries (a_query q) s.queries
+          (said, askable_where q fails.1.1.1.1.1.1.1.1.0 fails.1.1.1.1.1.1.1.1.1.0);
+      seq = s.seq;
+    })
+query_sayable old q (Err r) new h said s =
+    learned_sayable old new
+    (refused_learned (query_refusal old q) r (RegistersAs old q new) (RefusedLate old q new) old new h.answer
+    h.stays (λ late. by late)) s
+  where
+    by : RefusedLate old q new r → LearnsTexts old new
+    by (inl k) = late_learned old (texts_in (constants_of q)) new r k.1
+    by (inr k) = stays_learned old new k.1
+
+-- a union of registered queries
+pub union_sayable : (old : Store) (name : Bytes) (members : List Bytes) (r : Result ℕ Refusal) (new : Store)
+    → RegistersUnion old name members r new → IsName name → IsSayableStore old → IsSayableStore new
+union_sayable old name members (Err r) new h named s = subst IsSayableStore (sym h.stays) s
+union_sayable old name members (Ok most) new h named s =
+    let D = λ (most : ℕ). (qs : List Query) × AreUnder old.queries members qs × (most ≡ answer_steps (a_union name qs))
+    × (new ≡ record old { queries = old.queries ++ a_union name qs ∷ [] }) in
+    let d = done_of (union_refusal old name members) most D (OutOfMemoryWhere ⊤) h.answer in
+    subst IsSayableStore (sym d.3) (record {
+      relations = s.relations;
+      queries = All-push IsSayableListed old.queries (a_union name d.0) s.queries
+          (named, members_sayable old members d.0 s d.1);
+      seq = s.seq;
+    })
+
+-- D of it is a number
+pub union_small : (old : Store) (name : Bytes) (members : List Bytes) (r : Result ℕ Refusal) (new : Store)
+    → RegistersUnion old name members r new → IsSayableStore old → (most : ℕ) → r ≡ Ok most → most < 2 ^ 64
+union_small old name members r new h s most e =
+    let k = subst (λ (z : Result ℕ Refusal). RegistersUnion old name members z new) e h in
+    let D = λ (most : ℕ). (qs : List Query) × AreUnder old.queries members qs × (most ≡ answer_steps (a_union name qs))
+    × (new ≡ record old { queries = old.queries ++ a_union name qs ∷ [] }) in
+    let d = done_of (union_refusal old name members) most D (OutOfMemoryWhere ⊤) k.answer in
+    let none = none_holds (union_refusal old name members) most D (OutOfMemoryWhere ⊤) k.answer in
+    let fails = all_fail (union_conditions old name members) none in
+    let few = ltb-false MEMBERS (length members) fails.1.1.1.0 in
+    let names = under_names old.queries members d.0 d.1 in
+    let long : length d.0 ≡ length members = sym (length-map d.0 (λ (q : Query). q.name)) ∙ ap length names in
+    let all = members_sayable old members d.0 s d.1 in
+    let wide = width_small d.0 all in
+    let atoms = atoms_small d.0 all in
+    let first : length d.0 * most_steps (width_of d.0) ≤ 8 * 33 =
+    mul-le (length d.0) (most_steps (width_of d.0)) 8 33 (omega (arith, few, long)) (omega (arith, wide)) in
+    let second : (length d.0 - 1) * atoms_of d.0 ≤ 8 * 256 =
+    mul-le (length d.0 - 1) (atoms_of d.0) 8 256 (omega (arith, few, long)) (omega (arith, atoms, few, long)) in
+    let is = d.2 in
+    omega (arith, is, first, second)
+
+pub drop_sayable : (old : Store) (used : Bool) (name : Bytes) (r : Result ⊤ Refusal) (new : Store)
+    → DropsQuery old used name r new → IsSayableStore old → IsSayableStore new
+drop_sayable old used name (Err r) new h s = subst IsSayableStore (sym h.stays) s
+drop_sayable old used name (Ok u) new h s =
+    let less = drop_first (λ (q : Listed). bytes_eq (listed_name q) name) old.queries in
+    subst IsSayableStore
+    (sym (done_of (drop_refusal old used name) u (λ _. new ≡ record old { queries = less }) (OutOfMemoryWhere ⊥)
+    h.answer))
+    (record {
+      relations = s.relations;
+      queries = all_dropped IsSayableListed (λ (q : Listed). bytes_eq (listed_name q) name) old.queries s.queries;
+      seq = s.seq;
+    })
+
+-- rows in another order
+moved_sayable : (rs moved : List Relation) → SameRelations rs moved → All IsSayableRelation rs
+    → All IsSayableRelation moved
+moved_sayable [] [] h s = s
+moved_sayable (r ∷ rs) (m ∷ ms) h s =
+    let k = All-head IsSayableRelation r rs s in
+    All-cons IsSayableRelation m ms (record {
+      name = subst IsName (sym h.0) k.name;
+      rows = All-permutation IsSayableRow (tuples_in r) (tuples_in m) (tuples_moved r.rows m.rows h.2) k.rows;
+    }) (moved_sayable rs ms h.3 (All-tail IsSayableRelation r rs s))
+moved_sayable [] (m ∷ ms) h s = absurd h
+moved_sayable (r ∷ rs) [] h s = absurd h
+
+pub moved_store_sayable : (old : Store) (relations : List Relation) → SameRelations old.relations relations
+    → IsSayableStore old → IsSayableStore (record old { relations = relations })
+moved_store_sayable old relations h s = record {
+  relations = moved_sayable old.relations relations h s.relations;
+  queries = s.queries;
+  seq = s.seq;
+}
+
+-- ---- What is printed of a state whose names and values lines can say is so as the forms of replies say.
+
+-- A reply is printed, and short.
+abbrev pub IsFine : Reply → Type 0
+IsFine r = IsPrinted r × IsShort r
+
+pub number_small : (n : ℕ) → n ≤ LAST_SEQ → IsNumber n
+number_small n h = omega (arith, h)
+
+pub one_fine : (r : Reply) → IsFine r → All IsFine (r ∷ [])
+one_fine r h = All-cons IsFine r [] h (All-nil IsFine)
+
+-- ---- answers
+
+cell_fine : (v : Value) → IsSayableValue v → is_cell v ≡ true
+cell_fine (Int i) h = rw h.0 refl
+cell_fine (Text t) h = rw h.0 h.1
+
+pub cells_fine : (t : Tuple) → IsSayableRow t → are_cells t ≡ true
+cells_fine [] h = refl
+cells_fine (v ∷ t) h =
+    let first = cell_fine v (All-head IsSayableValue v t h) in
+    let rest = cells_fine t (All-tail IsSayableValue v t h) in
+    rw first rest
+
+-- an answer of what is registered is printed, and has few cells
+query_answer_fine : (rs : List Relation) → All IsSayableRelation rs → (q : Query) → IsSayableListed (a_query q)
+    → (t : Tuple) → IsAnswer rs q t → IsFine (answer t)
+query_answer_fine rs h q k t a =
+    let few = k.1.few in
+    let same = ap length a.on_head ∙ length-map q.head a.assignment in
+    (cells_fine t (answer_sayable rs h (a_query q) k t a), omega (arith, few, same))
+
+pub answer_fine : (rs : List Relation) → All IsSayableRelation rs → (q : Listed) → IsSayableListed q → (t : Tuple)
+    → AnswersOf rs q t → IsFine (answer t)
+answer_fine rs h (a_query q) k t a = query_answer_fine rs h q k t a
+answer_fine rs h (a_union name qs) k t a =
+    let o = some_one (λ (q : Query). IsAnswer rs q t) qs a in
+    query_answer_fine rs h o.0 (All-contains (λ (q : Query). IsSayableListed (a_query q)) qs o.0 k.1 o.1) t o.2
+
+pub answers_fine : (rs : List Relation) → All IsSayableRelation rs → (q : Listed) → IsSayableListed q
+    → (ts : List Tuple)
+    → All (AnswersOf rs q) ts → All IsFine (map (λ t. answer t) ts)
+answers_fine rs h q k [] a = All-nil IsFine
+answers_fine rs h q k (t ∷ ts) a =
+    All-cons IsFine (answer t) (map (λ u. answer u) ts) (answer_fine rs h q k t (All-head (AnswersOf rs q) t ts a))
+    (answers_fine rs h q k ts (All-tail (AnswersOf rs q) t ts a))
+
+-- ---- deltas
+
+name_fine : (q : Listed) → IsSayableListed q → IsPrinted (counted (listed_name q) 0)
+name_fine (a_query q) k = (k.0.name, omega arith)
+name_fine (a_union name qs) k = (k.0, omega arith)
+
+pub delta_fine : (before after : List Relation) → All IsSayableRelation before → All IsSayableRelation after
+    → (q : Listed)
+    → IsSayableListed q → (n : ℕ) → IsNumber n → (changes : List Change)
+    → All (λ c. HasChanged (AnswersOf before q) (AnswersOf after q) c.sign c.answer) changes
+    → All IsFine (delta_replies (listed_name q) (record { number = n; changes = changes }))
+delta_fine before after b a q k n small [] h =
+    All-cons IsFine (counted (listed_name q) n) [] (((name_fine q k).0, small), tt) (All-nil IsFine)
+delta_fine before after b a q k n small (c ∷ changes) h =
+    let Has = λ (d : Change). HasChanged (AnswersOf before q) (AnswersOf after q) d.sign d.answer in
+    let one = by c.sign (All-head Has c changes h) in
+    All-cons IsFine (changed c.sign (listed_name q) c.answer)
+    (delta_replies (listed_name q) (record { number = n; changes = changes }))
+    (((name_fine q k).0, one.0), one.1)
+    (delta_fine before after b a q k n small changes (All-tail Has c changes h))
+  where
+    by : (s : Sign) → HasChanged (AnswersOf before q) (AnswersOf after q) s c.answer → IsFine (answer c.answer)
+    by Came l = answer_fine after a q k c.answer l.0
+    by Went l = answer_fine before b q k c.answer l.0
+
+-- ---- copies
+
+pub added_copies : (old : Store) (name : Bytes) (row : Tuple) (copies : ℕ) (new : Store)
+    → AddsRow old name row (Ok (More copies)) new → IsNumber copies
+added_copies old name row copies new h =
+    let d = done_of (add_refusal old name row) (More copies) (AddsAs old name row new) _ h.answer in
+    let none = none_holds (add_refusal old name row) (More copies) (AddsAs old name row new) _ h.answer in
+    let fails = all_fail (add_conditions old name row) none in
+    let below = leb-false COPIES (copies_of old name row) fails.1.1.1.0 in
+    let is = d.1 in
+    omega (arith, below, is)
+
+pub left_copies : (old : Store) → IsSoundStore old → (name : Bytes) (row : Tuple) (copies : ℕ) (new : Store)
+    → DeletesRow old name row (Ok (Left copies)) new → IsNumber copies
+left_copies old sound name row copies new h =
+    let d = done_of (delete_refusal old name row) (Left copies) (DeletesAs old name row new) (OutOfMemoryWhere ⊥)
+    h.answer in
+    let k = copies_hold IsCopyCount (counted_of old.relations name) row
+    (counted_sound old.relations name (relation_of old.relations name) refl sound.rows) d.0 in
+    let most = k.1 in
+    let is = d.1 in
+    omega (arith, most, is)

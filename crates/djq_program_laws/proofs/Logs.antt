@@ -1,0 +1,678 @@
+-- How a log is opened, loaded and written behind, and what a stop leaves of it.
+use Rattle.std.specs.Prelude.{ℕ, List, [], ◌∷◌, ◌++◌, ◌≡◌, Option, None, Some, IfSome, length, take, drop, ◌<◌, IsSome}
+use Rattle.std.specs.Prelude.{codes, ◌≤◌, ◌+◌, ◌-◌}
+use Rattle.std.proofs.Common.{sym, ap, ◌∙◌, subst, inl, inr, refl, arith, append-nil, ap₂, append_assoc, length-append}
+use Rattle.std.specs.Borrow.{Bor}
+use Rattle.std.proofs.lemmas.Grind.{flat_map-append}
+use Rattle.djq_io.specs.Faults.{Counted}
+use Rattle.djq_model.specs.Data.{Bytes}
+use Rattle.djq_disk.specs.File.{File, settled}
+use Rattle.djq_disk.specs.History.{History, WhereHistoryTold}
+use Rattle.djq_disk.specs.Leaving.{LeavesOnly}
+use Rattle.djq_disk.proofs.Files.{told_both, told_so, told_none, leaves_move}
+use Rattle.djq_journal.specs.declared.journal.Opened.TheVariants.{Ready}
+use Rattle.djq_journal.specs.declared.line.Line.TheVariants.{Got, End, BadLog as BadLine}
+use Rattle.djq_journal.specs.declared.limits.TheConstants.{LAST_GATE}
+use Rattle.djq_journal.specs.declared.journal.Appended.{Appended}
+use Rattle.djq_journal.specs.declared.journal.Appended.TheVariants.{Done, Failed, Full}
+use Rattle.djq_journal.specs.Format.{FileOpensTo, IsBad, front}
+use Rattle.djq_journal.specs.Standing.{IsAtGate, IsIdle}
+use Rattle.djq_journal.specs.Calls.{after_sync, JournalOpens, JournalReads}
+use Rattle.djq_journal.specs.Keeping.{OpensWithin, IsKeeping, whole_lines, WasKeeping}
+use Rattle.djq_journal.specs.Appending.{Appends, gate_after}
+use Rattle.djq_journal.specs.Logging.{HasKeptGroups, Overfull}
+use Rattle.djq_journal.proofs.Appends.{keeps_on}
+use Rattle.djq_journal.proofs.Records.{opens_once}
+use Rattle.djq_protocol.specs.declared.held.HeldRow.{HeldRow}
+use Rattle.djq_store_spec.specs.Store.{Store}
+use Rattle.djq_machine.specs.declared.machine.Loaded.{Loaded}
+use Rattle.djq_machine.specs.declared.machine.Loaded.TheVariants.{Ran}
+use Rattle.djq_machine.specs.Run.{lines_in, Group, Did, Run, groups_of}
+use Rattle.djq_machine.specs.Loading.{Loading, LoadStep, Loads, loading}
+use Rattle.djq_machine.specs.State.{State, opening}
+use Rattle.djq_machine.specs.Call.{Counts}
+use Rattle.djq_run_laws.specs.Sound.{IsSoundState}
+use Rattle.djq_run_laws.proofs.Courses.{walk_then}
+use Rattle.djq_run_laws.proofs.SoundStates.{start_sound}
+use Rattle.djq_log_laws.proofs.Reloads.{abandon_runs, stops_reload}
+use Rattle.djq_run.specs.declared.status.Status.TheVariants.{DiskFault as StatusDiskFault, LogFull as StatusLogFull}
+use Rattle.djq_run.specs.declared.status.Status.TheVariants.{Done as StatusDone, Usage, ReadFault, WriteFault}
+use Rattle.djq_run.specs.declared.status.Status.TheVariants.{HubFault as HubFailed, TurnsUsed as AllTaken, NoMemory}
+use Rattle.djq_run.specs.declared.status.Status.TheVariants.{Schedule, SessionEnded, DiskFault as DiskFailed}
+use Rattle.djq_run.specs.declared.status.Status.TheVariants.{LogFull as Filled, BadLog, Mirror}
+use Rattle.djq_run.specs.declared.status.Status.{Status}
+use Rattle.djq_serve.specs.declared.served.Served.{Served}
+use Rattle.djq_serve.specs.declared.served.Served.TheVariants.{Stopped, Over, TurnsUsed, HubFault, DiskFault, LogFull}
+use Rattle.djq_serve.specs.Logged.{AllKept, LastLost, LastLeft, KeepsBy, DiskCounts, IsNotOfDisk}
+use Rattle.djq_serve.specs.Server.{all_done}
+use Rattle.djq_program_laws.specs.Logged.{asked_for, LogIsMade, FindsLines, LeavesUnloaded, DiskSeen, abandoning}
+use Rattle.djq_program_laws.specs.Logged.{first_kept, LogSeen, log_seen_at, log_seen, SinceOpened, KeptAs, Logs}
+use Rattle.djq_program_laws.specs.Logged.{FoundIn, Begins, UnloadedFor, Unloaded, NeverBegins}
+use Rattle.djq_program_laws.specs.Parts.{HasFile, IsOpened, EndsBatch, CantEnd, OpensJournal, LoadsLines, StopsLoading}
+use Rattle.djq_program_laws.specs.Parts.{ReadsLog}
+use Rattle.djq_program_laws.specs.Reopened.{answered, Reopens, LogsReopen}
+use Rattle.djq_program_laws.proofs.ProgramRuns.{starts}
+
+-- ---- How a log is opened, and its lines are loaded.
+
+-- What is told in the end, by what was told before, if it matters.
+pub told_end : (old new : Option History) (P : History → History → Type 0) (Q : History → Type 0)
+    → ((o n : History) → P o n → Q n) → WhereHistoryTold old new P → IfSome new Q
+told_end old None P Q so told = tt
+told_end None (Some n) P Q so told = absurd told
+told_end (Some o) (Some n) P Q so told = so o n told
+
+pub told_on : (old new : Option History) (P : History → History → Type 0) (Q R : History → Type 0)
+    → ((o n : History) → Q o → P o n → R n) → IfSome old Q → WhereHistoryTold old new P → IfSome new R
+told_on old None P Q R so before told = tt
+told_on None (Some n) P Q R so before told = absurd told
+told_on (Some o) (Some n) P Q R so before told = so o n before told
+
+-- Of a moment before, and of what came since.
+pub told_then : (old mid new : Option History) (P Q : History → History → Type 0) (R : History → Type 0)
+    (S : History → History → Type 0)
+    → ((o m n : History) → P o m → R n → Q m n → S o n) → WhereHistoryTold old mid P → IfSome new R
+    → WhereHistoryTold mid new Q
+    → WhereHistoryTold old new S
+told_then old mid None P Q R S so p r q = tt
+told_then old None (Some n) P Q R S so p r q = absurd q
+told_then None (Some m) (Some n) P Q R S so p r q = absurd p
+told_then (Some o) (Some m) (Some n) P Q R S so p r q = so o m n p r q
+
+-- A journal that was made stays idle behind a sync.
+idle_none : (gate : ℕ) (h : History) → IsIdle [] gate h.file → IsKeeping [] [] gate h h
+idle_none gate h idle = (keeps_on.none) [] gate h idle
+
+idle_synced : (gate : ℕ) (h : History) → IsIdle [] gate h.file → IsKeeping [] [] gate h (after_sync h)
+idle_synced gate h idle =
+    let keeping = idle_none gate h idle in
+    let same : settled h.file.bytes ≡ h.file = sym idle.still in
+    let now : LeavesOnly (OpensWithin [] [] 0) (settled h.file.bytes) = subst
+    (λ (f : File). LeavesOnly (OpensWithin [] [] 0) f) (sym same) (keeping.leaves).now in
+    record {
+      idle = subst (λ (f : File). IsIdle [] gate f) (sym same) idle;
+      leaves = leaves_move (OpensWithin [] [] 0) h h (settled h.file.bytes) keeping.leaves now;
+    }
+
+made_finds : (path : Bytes) (old since new : History) → LogIsMade path [] old since → IsKeeping [] [] 8 since new
+    → FindsLines path [] [] 8 old new
+made_finds path old since new made keeping = record { since = since; begins = inl made; holds = keeping }
+
+-- behind the sync of an opening
+opened_synced : (path : Bytes) (o m n : History) → HasFile path o m → n ≡ after_sync m → IsOpened path o n
+opened_synced path o m n (inl is) same = inl (same ∙ ap after_sync is)
+opened_synced path o m n (inr (made, idle)) same = inr (subst (λ (h : History). FindsLines path [] [] 8 o h) (sym same)
+    (made_finds path o m (after_sync m) made (idle_synced 8 m idle)))
+
+leaves_opened : (path : Bytes) (o n : History) → IsOpened path o n → LeavesUnloaded path o n
+leaves_opened path o n (inl is) = inl (inr (inr is))
+leaves_opened path o n (inr finds) = inr (inr (inl ([], 8, finds)))
+
+pub ready_opened : (path : Bytes) (gate : ℕ) (old mid new : Option History) → WhereHistoryTold old mid (HasFile path)
+    → WhereHistoryTold mid new (JournalOpens (Ready gate))
+    → WhereHistoryTold old new (IsOpened path)
+ready_opened path gate old mid new has opens =
+    told_both old mid new (HasFile path) (JournalOpens (Ready gate)) (IsOpened path)
+    (λ o m n p q. opened_synced path o m n p q.0) has opens
+
+pub ready_first : (gate : ℕ) (mid new : Option History) → WhereHistoryTold mid new (JournalOpens (Ready gate))
+    → IfSome new (λ h. IsAtGate [] gate h.file)
+ready_first gate mid new opens =
+    told_end mid new (JournalOpens (Ready gate)) (λ h. IsAtGate [] gate h.file) (λ m n p. p.1) opens
+
+-- What was opened is left where its lines weren't loaded: nothing was written.
+pub opened_leaves : (path : Bytes) (old mid new : Option History) → WhereHistoryTold old mid (IsOpened path)
+    → WhereHistoryTold mid new (λ o n. n ≡ o)
+    → WhereHistoryTold old new (LeavesUnloaded path)
+opened_leaves path old mid new opened same = told_both old mid new (IsOpened path) (λ o n. n ≡ o) (LeavesUnloaded path)
+    (λ o m n p q. subst (λ (h : History). LeavesUnloaded path o h) (sym q) (leaves_opened path o m p)) opened same
+
+-- the older journal has these lines
+older_finds : (path : Bytes) (found : List Bytes) (gate : ℕ) (o n : History) → n ≡ after_sync (asked_for path o)
+    → IsIdle found gate n.file → FindsLines path found [] gate o n
+older_finds path found gate o n is idle = record {
+  since = n;
+  begins = inr (record {
+    lines = subst (λ (bytes : List ℕ). FileOpensTo found bytes) (ap (λ (h : History). h.file.bytes) is)
+        idle.opens;
+    is = is;
+  });
+  holds = (keeps_on.none) found gate n idle;
+}
+
+-- a journal that was made has none
+made_has_none : (path : Bytes) (found : List Bytes) (gate : ℕ) (o n : History) → FindsLines path [] [] 8 o n
+    → IsIdle found gate n.file → FindsLines path found [] gate o n
+made_has_none path found gate o n finds idle =
+    let none : [] ≡ found = opens_once [] found n.file.bytes ((finds.holds).idle).opens idle.opens in
+    let place : 8 ≡ gate = ((finds.holds).idle).place ∙ ap (λ (ls : List Bytes). length (front ls)) none
+    ∙ sym idle.place in
+    subst (λ (k : ℕ). FindsLines path found [] k o n) place
+    (subst (λ (ls : List Bytes). FindsLines path ls [] 8 o n) none finds)
+
+-- All lines were found.
+pub opened_finds : (path : Bytes) (found : List Bytes) (gate : ℕ) (old mid new : Option History)
+    → WhereHistoryTold old mid (IsOpened path)
+    → IfSome new (λ h. IsIdle found gate h.file) → WhereHistoryTold mid new (λ o n. n ≡ o)
+    → WhereHistoryTold old new (FindsLines path found [] gate)
+opened_finds path found gate old mid new opened idle same =
+    told_then old mid new (IsOpened path) (λ o n. n ≡ o) (λ h. IsIdle found gate h.file) (FindsLines path found [] gate)
+    (λ o m n p r q. all o m n p r q) opened idle same
+  where
+    at_moment : (o n : History) → IsOpened path o n → IsIdle found gate n.file → FindsLines path found [] gate o n
+    at_moment o n (inl is) r = older_finds path found gate o n is r
+    at_moment o n (inr finds) r = made_has_none path found gate o n finds r
+
+    all : (o m n : History) → IsOpened path o m → IsIdle found gate n.file → n ≡ m → FindsLines path found [] gate o n
+    all o m n p r q = at_moment o n (subst (λ (h : History). IsOpened path o h) (sym q) p) r
+
+-- What is read at a journal's place.
+pub read_line : (found : List Bytes) (n gate gate' : ℕ) (buf : List ℕ) (old new : Option History)
+    → IfSome old (λ h. IsAtGate found gate h.file)
+    → WhereHistoryTold old new
+    (λ o n'. (n' ≡ o) × (IsAtGate found gate o.file → JournalReads (Got n) found gate gate' buf o.file))
+    → IfSome new (λ h. IsAtGate (found ++ take n buf ∷ []) gate' h.file)
+read_line found n gate gate' buf old new at told =
+    told_on old new (λ o n'. (n' ≡ o) × (IsAtGate found gate o.file → JournalReads (Got n) found gate gate' buf o.file))
+    (λ h. IsAtGate found gate h.file)
+    (λ h. IsAtGate (found ++ take n buf ∷ []) gate' h.file)
+    (λ o n' is p. subst (λ (h : History). IsAtGate (found ++ take n buf ∷ []) gate' h.file) (sym p.0) (p.1 is)) at told
+
+pub read_end : (found : List Bytes) (gate gate' : ℕ) (buf : List ℕ) (old new : Option History)
+    → IfSome old (λ h. IsAtGate found gate h.file)
+    → WhereHistoryTold old new
+    (λ o n. (n ≡ o) × (IsAtGate found gate o.file → JournalReads End found gate gate' buf o.file))
+    → IfSome new (λ h. IsIdle found gate h.file)
+read_end found gate gate' buf old new at told =
+    told_on old new (λ o n. (n ≡ o) × (IsAtGate found gate o.file → JournalReads End found gate gate' buf o.file))
+    (λ h. IsAtGate found gate h.file)
+    (λ h. IsIdle found gate h.file)
+    (λ o n is p. subst (λ (h : History). IsIdle found gate h.file) (sym p.0) (p.1 is).0) at told
+
+pub read_bad : (found : List Bytes) (at gate gate' : ℕ) (buf : List ℕ) (old new : Option History)
+    → IfSome old (λ h. IsAtGate found gate h.file)
+    → WhereHistoryTold old new
+    (λ o n. (n ≡ o) × (IsAtGate found gate o.file → JournalReads (BadLine at) found gate gate' buf o.file))
+    → IfSome new (λ h. IsAtGate found at h.file) × IfSome new (λ h. IsBad (drop at h.file.bytes))
+read_bad found at gate gate' buf old new is told =
+    let P = λ (o n : History). (n ≡ o)
+    × (IsAtGate found gate o.file → JournalReads (BadLine at) found gate gate' buf o.file) in (
+      told_on old new P (λ h. IsAtGate found gate h.file) (λ h. IsAtGate found at h.file)
+          (λ o n q p. stands o n q p) is told,
+      told_on old new P (λ h. IsAtGate found gate h.file) (λ h. IsBad (drop at h.file.bytes))
+          (λ o n q p. bad o n q p) is
+          told,
+    )
+  where
+    stands : (o n : History) → IsAtGate found gate o.file → (n ≡ o)
+        × (IsAtGate found gate o.file → JournalReads (BadLine at) found gate gate' buf o.file)
+        → IsAtGate found at n.file
+    stands o n q p = subst (λ (h : History). IsAtGate found at h.file) (sym p.0)
+        (subst (λ (k : ℕ). IsAtGate found k o.file) (sym (p.1 q).0) q)
+
+    bad : (o n : History) → IsAtGate found gate o.file → (n ≡ o)
+        × (IsAtGate found gate o.file → JournalReads (BadLine at) found gate gate' buf o.file)
+        → IsBad (drop at n.file.bytes)
+    bad o n q p = subst (λ (h : History). IsBad (drop at h.file.bytes)) (sym p.0)
+        (subst (λ (k : ℕ). IsBad (drop k o.file.bytes)) (sym (p.1 q).0) (p.1 q).1)
+
+-- a call that changes nothing of the disk, behind others
+pub same_both : (old mid new : Option History) (R : History → History → Type 0)
+    → WhereHistoryTold old mid (λ o n. n ≡ o)
+    → WhereHistoryTold mid new (λ o n. (n ≡ o) × R o n) → WhereHistoryTold old new (λ o n. n ≡ o)
+same_both old mid new R same told = told_both old mid new (λ o n. n ≡ o) (λ o n. (n ≡ o) × R o n) (λ o n. n ≡ o)
+    (λ o m n p q. q.0 ∙ p) same told
+
+-- Reading a line changes nothing of the disk.
+pub read_still : (found : List Bytes) (gate : ℕ) (R : History → History → Type 0) (old new : Option History)
+    → IfSome old (λ h. IsAtGate found gate h.file)
+    → WhereHistoryTold old new (λ o n. (n ≡ o) × R o n) → IfSome new (λ h. IsAtGate found gate h.file)
+read_still found gate R old new at told =
+    told_on old new (λ o n. (n ≡ o) × R o n) (λ h. IsAtGate found gate h.file) (λ h. IsAtGate found gate h.file)
+    (λ o n is p. subst (λ (h : History). IsAtGate found gate h.file) (sym p.0) is) at told
+
+pub stands_behind : (found : List Bytes) (line : Bytes) (gate : ℕ) (told : Option History)
+    → IfSome told (λ h. IsAtGate (found ++ line ∷ []) gate h.file)
+    → IfSome told (λ h. (behind : ℕ) × IsAtGate (found ++ line ∷ []) behind h.file)
+stands_behind found line gate None at = tt
+stands_behind found line gate (Some h) at = (gate, at)
+
+-- ---- How a batch that lines left open is ended, or isn't.
+
+-- what an append of `abandon` came to, behind whatever lines
+abbrev pub Kept : Appended → ℕ → DiskSeen → DiskSeen → Type 0
+Kept answer gate before now = (lines : List Bytes) → WhereHistoryTold before.told now.told
+    (λ o n. IsIdle lines gate o.file → Appends answer lines abandoning o n)
+
+-- A batch was left open: it is ended by the line that was loaded and kept.
+pub batch_ended : (gate behind : ℕ) (log : Option ℕ) (old new : Loading) (how : Loaded) (before now : DiskSeen)
+    → IsSome old.batch → LoadStep old (codes "abandon") how new → log ≡ Some behind → now.faults ≡ before.faults
+    → Kept (Done behind) gate before now → EndsBatch gate log old new before now
+batch_ended gate behind log old new how before now is_open step at faults appended = by old.batch refl is_open
+  where
+    ran : (how ≡ Ran) × (new.batch ≡ None)
+    ran = abandon_runs old how new step is_open
+
+    by : (o : Option (List HeldRow)) → old.batch ≡ o → IsSome o → EndsBatch gate log old new before now
+    by None e some = absurd cc
+    by (Some held) e some = record {
+      loads = subst (λ (b : Option (List HeldRow)). Loads old (lines_in (first_kept b)) new) (sym e)
+          (new, subst (λ (h : Loaded). LoadStep old (codes "abandon") h new) ran.0 step, refl);
+      closed = ran.1;
+      behind = behind;
+      at = at;
+      kept = λ found. subst
+          (λ (b : Option (List HeldRow)). WhereHistoryTold before.told now.told (λ o n. (start : History)
+          → IsKeeping found [] gate start o → IsKeeping found (first_kept b) behind start n)) (sym e)
+          (told_so before.told now.told
+          (λ o n. IsIdle (found ++ whole_lines []) gate o.file
+          → Appends (Done behind) (found ++ whole_lines []) abandoning o n)
+          (λ o n. (start : History) → IsKeeping found [] gate start o
+          → IsKeeping found (abandoning ∷ []) behind start n)
+          (λ o n p start keeping. ((keeps_on.more) found [] gate start o keeping).done abandoning behind n
+          (p keeping.idle))
+          (appended (found ++ whole_lines [])));
+      faults = faults;
+    }
+
+-- The disk failed as it was to be kept.
+pub fails_to_end : (gate : ℕ) (old : Loading) (before now : DiskSeen) → IsSome old.batch
+    → Counted before.faults now.faults
+    → Kept Failed gate before now → CantEnd StatusDiskFault gate old before now
+fails_to_end gate old before now is_open counted appended = (
+  is_open,
+  counted,
+  λ found. told_so before.told now.told
+      (λ o n. IsIdle (found ++ whole_lines []) gate o.file → Appends Failed (found ++ whole_lines []) abandoning o n)
+      (λ o n. (start : History) → IsKeeping found [] gate start o → WasKeeping found [] abandoning start n)
+      (λ o n p start keeping. ((keeps_on.more) found [] gate start o keeping).failed abandoning n (p keeping.idle))
+      (appended (found ++ whole_lines [])),
+)
+
+-- There was no room for it.
+pub has_no_room : (gate : ℕ) (old : Loading) (before now : DiskSeen) → IsSome old.batch → now.faults ≡ before.faults
+    → LAST_GATE < gate_after gate abandoning → Kept Full gate before now → CantEnd StatusLogFull gate old before now
+has_no_room gate old before now is_open same full appended = (
+  is_open,
+  same,
+  full,
+  λ found. told_so before.told now.told
+      (λ o n. IsIdle (found ++ whole_lines []) gate o.file → Appends Full (found ++ whole_lines []) abandoning o n)
+      (λ o n. (start : History) → IsKeeping found [] gate start o → IsKeeping found [] gate start n)
+      (λ o n p start keeping. ((keeps_on.more) found [] gate start o keeping).full abandoning n (p keeping.idle))
+      (appended (found ++ whole_lines [])),
+)
+
+-- ---- What is kept behind the lines found in a log.
+
+-- A journal that keeps on, whatever it began with, is there.
+still_there : (gate' : Option ℕ) (found : List Bytes) (first all : List Group) (gate : ℕ) (since m n : History)
+    → IsKeeping found first gate since m
+    → ((start : History) → IsKeeping found first gate start m → HasKeptGroups gate' found all start n)
+    → (g : ℕ) × IsKeeping found all g since n
+still_there (Some g) found first all gate since m n keeping kept = (g, kept since keeping)
+still_there None found first all gate since m n keeping kept =
+    let empty = kept (from (settled [])) (begun (settled [])) in
+    let other = kept (from (settled (0 ∷ []))) (begun (settled (0 ∷ []))) in
+    let sizes : 0 ≡ 1 = ap (λ (h : History). length h.file.bytes) (sym empty ∙ other) in
+    absurd (omega (arith, sizes))
+  where
+    from : File → History
+    from file = record { paths = m.paths; past = m.past; file = file }
+
+    begun : (file : File) → IsKeeping found first gate (from file) m
+    begun file = record {
+      idle = keeping.idle;
+      leaves = record {
+        more = [];
+        past = sym (append-nil m.past);
+        paths = refl;
+        each = tt;
+        now = (keeping.leaves).now;
+      };
+    }
+
+-- All groups are kept behind the lines found and what was kept first.
+all_kept : (path : Bytes) (found : List Bytes) (first groups : List Group) (gate : ℕ) (gate' : Option ℕ)
+    (old mid new : Option History)
+    → WhereHistoryTold old mid (FindsLines path found first gate) → AllKept (Some gate) gate' groups mid new
+    → WhereHistoryTold old new
+    (λ o n. SinceOpened path found (λ since. (g : ℕ) × IsKeeping found (first ++ groups) g since n) o)
+all_kept path found first groups gate gate' old mid new finds kept =
+    told_both old mid new (FindsLines path found first gate)
+    (λ a b. (lines : List Bytes) (had : List Group) (start : History)
+    → HasKeptGroups (Some gate) lines had start a → HasKeptGroups gate' lines (had ++ groups) start b)
+    (λ o n. SinceOpened path found (λ since. (g : ℕ) × IsKeeping found (first ++ groups) g since n) o)
+    (λ o m n p q. record {
+      since = p.since;
+      begins = p.begins;
+      holds = still_there gate' found first (first ++ groups) gate p.since m n p.holds
+          (λ start keeping. q found first start keeping);
+    }) finds kept
+
+lost_kept : (path : Bytes) (found : List Bytes) (first groups : List Group) (gate : ℕ) (old mid new : Option History)
+    → WhereHistoryTold old mid (FindsLines path found first gate) → LastLost (Some gate) groups mid new
+    → WhereHistoryTold old new (λ o n. SinceOpened path found (λ since. KeptAs DiskFault found first groups since n) o)
+lost_kept path found first groups gate old mid new finds lost =
+    told_both old mid new (FindsLines path found first gate) _
+    (λ o n. SinceOpened path found (λ since. KeptAs DiskFault found first groups since n) o)
+    (λ o m n p q. record {
+      since = p.since;
+      begins = p.begins;
+      holds = record { whole = lost.whole; last = lost.last; cut = lost.cut; kept = q found first p.since p.holds };
+    }) finds lost.kept
+
+left_kept : (path : Bytes) (found : List Bytes) (first groups : List Group) (gate : ℕ) (old mid new : Option History)
+    → WhereHistoryTold old mid (FindsLines path found first gate) → LastLeft (Some gate) groups mid new
+    → WhereHistoryTold old new (λ o n. SinceOpened path found (λ since. KeptAs LogFull found first groups since n) o)
+left_kept path found first groups gate old mid new finds left = by_gate left.gate' left.full left.kept
+  where
+    by_gate : (gate' : Option ℕ) → Overfull gate' left.last → AllKept (Some gate) gate' left.whole mid new
+        → WhereHistoryTold old new
+        (λ o n. SinceOpened path found (λ since. KeptAs LogFull found first groups since n) o)
+    by_gate None full kept = absurd full
+    by_gate (Some g) full kept =
+        told_both old mid new (FindsLines path found first gate) _
+        (λ o n. SinceOpened path found (λ since. KeptAs LogFull found first groups since n) o)
+        (λ o m n p q. record {
+          since = p.since;
+          begins = p.begins;
+          holds = record {
+            whole = left.whole;
+            last = left.last;
+            cut = left.cut;
+            gate = g;
+            full = full;
+            kept = q found first p.since p.holds;
+          };
+        }) finds kept
+
+kept_as : (answer : Served) (path : Bytes) (found : List Bytes) (first groups : List Group) (gate : ℕ)
+    (gate' : Option ℕ) (old mid new : Option History)
+    → WhereHistoryTold old mid (FindsLines path found first gate)
+    → KeepsBy (Some answer) (Some gate) gate' groups mid new
+    → WhereHistoryTold old new (λ o n. SinceOpened path found (λ since. KeptAs answer found first groups since n) o)
+kept_as Stopped path found first groups gate gate' old mid new finds kept =
+    all_kept path found first groups gate gate' old mid new finds kept
+kept_as Over path found first groups gate gate' old mid new finds kept =
+    all_kept path found first groups gate gate' old mid new finds kept
+kept_as TurnsUsed path found first groups gate gate' old mid new finds kept =
+    all_kept path found first groups gate gate' old mid new finds kept
+kept_as HubFault path found first groups gate gate' old mid new finds kept =
+    all_kept path found first groups gate gate' old mid new finds kept
+kept_as DiskFault path found first groups gate gate' old mid new finds kept =
+    lost_kept path found first groups gate old mid new finds kept
+kept_as LogFull path found first groups gate gate' old mid new finds kept =
+    left_kept path found first groups gate old mid new finds kept
+
+-- What was served is kept in the log that was loaded, if one was asked for.
+pub logs_kept : (path : Option (Bor Bytes)) (found : List Bytes) (first : List Group) (answer : Served)
+    (groups : List Group) (gate gate' : Option ℕ) (before mid now : DiskSeen)
+    → FoundIn (log_seen path before mid) found first gate → KeepsBy (Some answer) gate gate' groups mid.told now.told
+    → DiskCounts (Some answer) mid.faults now.faults → (gate ≡ None → IsNotOfDisk answer)
+    → Logs (log_seen path before now) found first answer groups
+logs_kept None found first answer groups gate gate' before mid now lines kept counted plain = plain lines
+logs_kept (Some path) found first answer groups None gate' before mid now lines kept counted plain = absurd lines
+logs_kept (Some path) found first answer groups (Some gate) gate' before mid now lines kept counted plain = (
+  subst (λ (n : ℕ). DiskCounts (Some answer) n now.faults) lines.0 counted,
+  kept_as answer path.now found first groups gate gate' before.told mid.told now.told lines.1 kept,
+)
+
+-- Out of memory before anything was done.
+pub never_began : (path : Option (Bor Bytes)) (disk : DiskSeen) (counted : Counts)
+    → NeverBegins (log_seen path disk disk) NoMemory counted counted
+never_began None disk counted = (refl, refl)
+never_began (Some path) disk counted = record {
+  caused = refl;
+  leaves = told_none disk.told (LeavesUnloaded path.now) (λ o. inl (inl refl));
+  unlisted = refl;
+}
+
+-- Without a log nothing is loaded.
+pub begins_empty : (counted : Counts) (start : State) → start ≡ opening → Begins None [] [] counted start counted
+begins_empty counted start is = record {
+  keeps = record { end = loading opening.store; loads = refl; is = refl };
+  loads = ap (λ (st : State). loading st.store) is;
+  fresh = is ∙ sym (ap (λ (st : State). record opening { store = st.store }) is);
+  counts = (refl, refl);
+}
+
+-- A log was opened, and its lines were loaded.
+pub read_whole : (log : LogSeen) (first : ℕ) (mid : DiskSeen) (gate : ℕ) (end : Loading) (state : State)
+    (listing listing' : ℕ) → OpensJournal log.path first log.before mid
+    → LoadsLines gate end state mid log.now listing listing' → ReadsLog log gate end state listing listing'
+read_whole log first mid gate end state listing listing' opens l = record {
+  found = l.found;
+  loads = l.loads;
+  fresh = l.fresh;
+  faults = l.faults ∙ opens.faults;
+  finds = opened_finds log.path l.found gate log.before.told mid.told log.now.told opens.opened l.idle l.same;
+  unlisted = l.unlisted;
+}
+
+-- It was opened, and they weren't.
+pub unloaded_begins : (log : LogSeen) (first : ℕ) (mid : DiskSeen) (status : Status) (counted counted' : Counts)
+    → OpensJournal log.path first log.before mid
+    → StopsLoading status mid log.now counted.listing counted'.listing → Unloaded log status counted counted'
+unloaded_begins log first mid status counted counted' opens stops = record {
+  caused = subst (λ (n : ℕ). UnloadedFor status n log.now) opens.faults stops.caused;
+  leaves = opened_leaves log.path log.before.told mid.told log.now.told opens.opened stops.same;
+  unlisted = stops.unlisted;
+}
+
+-- The batch that its lines leave open is ended, if they do.
+pub ended_begins : (path : Bytes) (before mid now : DiskSeen) (gate : ℕ) (log : Option ℕ) (end new : Loading)
+    (state start : State) (counted loaded : Counts) (listing : ℕ)
+    → ReadsLog (log_seen_at path before mid) gate end state counted.listing listing → EndsBatch gate log end new mid now
+    → new.store ≡ start.store → start ≡ record state { store = start.store } → loaded.listing ≡ listing
+    → (found : List Bytes) × (first : List Group)
+    × Begins (Some (log_seen_at path before now)) found first counted start loaded
+    × FoundIn (Some (log_seen_at path before now)) found first log
+ended_begins path before mid now gate log end new state start counted loaded listing r e same rest unlisted = (
+  r.found,
+  first_kept end.batch,
+  record {
+    keeps = record { end = end; loads = r.loads; is = refl };
+    loads = subst (λ (l : Loading). Loads (loading opening.store) (r.found ++ lines_in (first_kept end.batch)) l) closed
+        (walk_then (λ (old : Loading) (line : Bytes) (l : Loading). LoadStep old line Ran l) (loading opening.store)
+        r.found end (lines_in (first_kept end.batch)) new r.loads e.loads);
+    fresh = rest ∙ ap (λ (st : State). record st { store = start.store }) r.fresh;
+    counts = unlisted ∙ r.unlisted;
+  },
+  subst (λ (k : Option ℕ). FoundIn (Some (log_seen_at path before now)) r.found (first_kept end.batch) k) (sym e.at) (
+    e.faults ∙ r.faults,
+    told_both before.told mid.told now.told (FindsLines path r.found [] gate) _
+        (FindsLines path r.found (first_kept end.batch) e.behind)
+        (λ o m n p q. record { since = p.since; begins = p.begins; holds = q p.since p.holds }) r.finds
+        (e.kept r.found),
+  ),
+)
+  where
+    closed : new ≡ loading start.store
+    closed = ap (λ (b : Option (List HeldRow)). record { store = new.store; batch = b }) e.closed
+        ∙ ap (λ (st : Store). loading st) same
+
+-- It isn't.
+pub unended_begins : (path : Bytes) (before mid now : DiskSeen) (gate : ℕ) (status : Status) (end : Loading)
+    (state : State) (counted counted' : Counts) (listing : ℕ)
+    → ReadsLog (log_seen_at path before mid) gate end state counted.listing listing → CantEnd status gate end mid now
+    → counted'.listing ≡ listing → Unloaded (log_seen_at path before now) status counted counted'
+unended_begins path before mid now gate DiskFailed end state counted counted' listing r c unlisted = record {
+  caused = subst (λ (n : ℕ). Counted n now.faults) r.faults c.1;
+  leaves = told_both before.told mid.told now.told (FindsLines path r.found [] gate) _ (LeavesUnloaded path)
+      (λ o m n p q. inr (inr (inr (record {
+        found = r.found;
+        leaves = record { end = end; loads = r.loads; is_open = c.0 };
+        lost = record { since = p.since; begins = p.begins; holds = q p.since p.holds };
+      })))) r.finds (c.2 r.found);
+  unlisted = unlisted ∙ r.unlisted;
+}
+unended_begins path before mid now gate Filled end state counted counted' listing r c unlisted = record {
+  caused = (
+    c.1 ∙ r.faults,
+    record {
+      found = r.found;
+      leaves = record { end = end; loads = r.loads; is_open = c.0 };
+      gate = gate;
+      full = c.2;
+      idle = told_end before.told now.told (FindsLines path r.found [] gate) (λ h. IsIdle r.found gate h.file)
+          (λ o n p. subst (λ (ls : List Bytes). IsIdle ls gate n.file) (append-nil r.found) ((p.holds).idle)) still;
+    },
+  );
+  leaves = told_so before.told now.told (FindsLines path r.found [] gate) (LeavesUnloaded path)
+      (λ o n p. inr (inr (inl (r.found, gate, p)))) still;
+  unlisted = unlisted ∙ r.unlisted;
+}
+  where
+    still : WhereHistoryTold before.told now.told (FindsLines path r.found [] gate)
+    still = told_both before.told mid.told now.told (FindsLines path r.found [] gate) _
+        (FindsLines path r.found [] gate)
+        (λ o m n p q. record { since = p.since; begins = p.begins; holds = q p.since p.holds }) r.finds (c.3 r.found)
+unended_begins path before mid now gate StatusDone end state counted counted' listing r c unlisted = absurd c
+unended_begins path before mid now gate Usage end state counted counted' listing r c unlisted = absurd c
+unended_begins path before mid now gate ReadFault end state counted counted' listing r c unlisted = absurd c
+unended_begins path before mid now gate WriteFault end state counted counted' listing r c unlisted = absurd c
+unended_begins path before mid now gate HubFailed end state counted counted' listing r c unlisted = absurd c
+unended_begins path before mid now gate AllTaken end state counted counted' listing r c unlisted = absurd c
+unended_begins path before mid now gate NoMemory end state counted counted' listing r c unlisted = absurd c
+unended_begins path before mid now gate (Schedule n) end state counted counted' listing r c unlisted = absurd c
+unended_begins path before mid now gate SessionEnded end state counted counted' listing r c unlisted = absurd c
+unended_begins path before mid now gate (BadLog at) end state counted counted' listing r c unlisted = absurd c
+unended_begins path before mid now gate (Mirror n) end state counted counted' listing r c unlisted = absurd c
+
+-- What was loaded is so whatever the disk does afterwards.
+pub begins_still : (path : Option (Bor Bytes)) (before mid last : DiskSeen) (found : List Bytes) (first : List Group)
+    (counted : Counts) (start : State) (loaded : Counts)
+    → Begins (log_seen path before mid) found first counted start loaded
+    → Begins (log_seen path before last) found first counted start loaded
+begins_still None before mid last found first counted start loaded b = b
+begins_still (Some path) before mid last found first counted start loaded b =
+    record { keeps = b.keeps; loads = b.loads; fresh = b.fresh; counts = b.counts }
+
+-- ---- What a stop leaves of a log opens to whole groups, and these are loaded.
+
+-- What opens within some groups does within more behind them.
+within_more : (found : List Bytes) (whole : List Group) (last : Group) (groups : List Group) (least : ℕ)
+    (image : List ℕ) → groups ≡ whole ++ last ∷ []
+    → OpensWithin found whole least image → OpensWithin found groups least image
+within_more found whole last groups least image cut o = record {
+  whole = o.whole;
+  later = o.later ++ last ∷ [];
+  cut = cut ∙ ap (λ (gs : List Group). gs ++ last ∷ []) o.cut ∙ append_assoc o.whole o.later (last ∷ []);
+  acknowledged = o.acknowledged;
+  opens = o.opens;
+}
+
+-- as many as were answered, where all were, and where the last wasn't
+fewer : (found : List Bytes) (groups : List Group) (least less : ℕ) (image : List ℕ) → less ≤ least
+    → OpensWithin found groups least image → OpensWithin found groups less image
+fewer found groups least less image few o = record {
+  whole = o.whole;
+  later = o.later;
+  cut = o.cut;
+  acknowledged = omega (arith, few, o.acknowledged);
+  opens = o.opens;
+}
+
+all_answered : (found : List Bytes) (first groups : List Group) (image : List ℕ)
+    → OpensWithin found (first ++ groups) (length (first ++ groups)) image
+    → OpensWithin found (first ++ groups) (length first + length groups) image
+all_answered found first groups image o =
+    fewer found (first ++ groups) (length (first ++ groups)) (length first + length groups) image
+    (omega (arith, length-append first groups)) o
+
+one_less : (found : List Bytes) (first whole : List Group) (last : Group) (groups : List Group) (image : List ℕ)
+    → groups ≡ whole ++ last ∷ [] → OpensWithin found (first ++ groups) (length (first ++ whole)) image
+    → OpensWithin found (first ++ groups) (length first + (length groups - 1)) image
+one_less found first whole last groups image cut o =
+    fewer found (first ++ groups) (length (first ++ whole)) (length first + (length groups - 1)) image
+    (omega (
+      arith,
+      length-append first whole,
+      ap (λ (gs : List Group). length gs) cut,
+      length-append whole (last ∷ []),
+    )) o
+
+behind_first : (first whole : List Group) (last : Group) (groups : List Group) → groups ≡ whole ++ last ∷ []
+    → first ++ groups ≡ (first ++ whole) ++ last ∷ []
+behind_first first whole last groups cut =
+    ap (λ (gs : List Group). first ++ gs) cut ∙ sym (append_assoc first whole (last ∷ []))
+
+kept_now : (found : List Bytes) (groups : List Group) (gate : ℕ) (since n : History)
+    → IsKeeping found groups gate since n → LeavesOnly (OpensWithin found groups (length groups)) n.file
+kept_now found groups gate since n keeping = ((keeps_on.more) found groups gate since n keeping).now
+
+-- What a stop leaves in the end: what was kept first, and of the groups behind it as many as were answered.
+leaves_groups : (answer : Served) (found : List Bytes) (first groups : List Group) (since n : History)
+    → KeptAs answer found first groups since n
+    → LeavesOnly (OpensWithin found (first ++ groups) (length first + answered answer groups)) n.file
+leaves_groups Stopped found first groups since n kept image is =
+    all_answered found first groups image (kept_now found (first ++ groups) kept.0 since n kept.1 image is)
+leaves_groups Over found first groups since n kept image is =
+    all_answered found first groups image (kept_now found (first ++ groups) kept.0 since n kept.1 image is)
+leaves_groups TurnsUsed found first groups since n kept image is =
+    all_answered found first groups image (kept_now found (first ++ groups) kept.0 since n kept.1 image is)
+leaves_groups HubFault found first groups since n kept image is =
+    all_answered found first groups image (kept_now found (first ++ groups) kept.0 since n kept.1 image is)
+leaves_groups DiskFault found first groups since n kept image is =
+    one_less found first kept.whole kept.last groups image kept.cut
+    (subst (λ (gs : List Group). OpensWithin found gs (length (first ++ kept.whole)) image)
+    (sym (behind_first first kept.whole kept.last groups kept.cut)) ((kept.kept).now image is))
+leaves_groups LogFull found first groups since n kept image is =
+    one_less found first kept.whole kept.last groups image kept.cut
+    (within_more found (first ++ kept.whole) kept.last (first ++ groups) (length (first ++ kept.whole)) image
+    (behind_first first kept.whole kept.last groups kept.cut)
+    (kept_now found (first ++ kept.whole) kept.gate since n kept.kept image is))
+
+-- What was kept first is whole, and the others are the first of those behind it.
+record Behind (first groups whole later : List Group) : Type 0 where
+  pub rest : List Group
+  pub is : whole ≡ first ++ rest
+  pub cut : groups ≡ rest ++ later
+
+behind_it : (first groups whole later : List Group) → first ++ groups ≡ whole ++ later → length first ≤ length whole
+    → Behind first groups whole later
+behind_it [] groups whole later cut few = record { rest = whole; is = refl; cut = cut }
+behind_it (f ∷ first) groups [] later cut few = absurd (omega (arith, few))
+behind_it (f ∷ first) groups (w ∷ whole) later cut few =
+    let b = behind_it first groups whole later (tails cut) (omega (arith, few)) in
+    record { rest = b.rest; is = ap₂ (λ (g : Group) (gs : List Group). g ∷ gs) (sym (heads cut)) b.is; cut = b.cut }
+  where
+    heads : f ∷ (first ++ groups) ≡ w ∷ (whole ++ later) → f ≡ w
+    heads e = cc
+
+    tails : f ∷ (first ++ groups) ≡ w ∷ (whole ++ later) → first ++ groups ≡ whole ++ later
+    tails e = cc
+
+reopens : (found : List Bytes) (first : List Group) (start : State) (done : List Did) (state : State) (least : ℕ)
+    (image : List ℕ) → Loads (loading opening.store) (found ++ lines_in first) (loading start.store)
+    → Run start done state → IsSoundState start
+    → OpensWithin found (first ++ groups_of done) (length first + least) image
+    → Reopens (found ++ lines_in first) start done state least image
+reopens found first start done state least image loads run sound o =
+    let b = behind_it first (groups_of done) o.whole o.later o.cut (omega (arith, o.acknowledged)) in
+    let stood = stops_reload (found ++ lines_in first) start loads done state run sound b.rest o.later b.cut in
+    let same : found ++ whole_lines o.whole ≡ (found ++ lines_in first) ++ lines_in b.rest =
+    ap (λ (gs : List Group). found ++ whole_lines gs) b.is
+    ∙ ap (λ (ls : List Bytes). found ++ ls) (flat_map-append (λ (g : Group). g) first b.rest)
+    ∙ sym (append_assoc found (lines_in first) (lines_in b.rest)) in
+    record {
+      whole = b.rest;
+      later = o.later;
+      cut = b.cut;
+      some = omega (arith, o.acknowledged, ap (λ (gs : List Group). length gs) b.is, length-append first b.rest);
+      opens = subst (λ (ls : List Bytes). FileOpensTo ls image) same o.opens;
+      at = stood.0;
+      loads = stood.1;
+    }
+
+pub logs_reopen : LogsReopen
+logs_reopen log found first counted start loaded begins answer turns hub hub' counted' state ends logs =
+    let done = all_done ends.goes.moves in
+    let groups = groups_of done in
+    told_end log.before.told log.now.told
+    (λ o n. SinceOpened log.path found (λ since. KeptAs answer found first groups since n) o)
+    (λ h. LeavesOnly (Reopens (found ++ lines_in first) start done state (answered answer groups)) h.file)
+    (λ o n s image is. reopens found first start done state (answered answer groups) image begins.loads ends.run
+    (start_sound start (starts (Some log) found first counted start loaded begins))
+    (leaves_groups answer found first groups s.since n s.holds image is)) logs.1
