@@ -19,11 +19,9 @@
 
 ghost use Rattle.std.specs.Prelude.{◌≡◌};
 
-use djq_system::FileDisk;
-use djq_system::{StdSink, StdSource};
-use djq_system::TcpHub;
-use djq_program::{Status, Telling, run_program};
 use djq_counters::{Blanks, Ledgers, Steps};
+use djq_program::{Status, Telling, run_program};
+use djq_system::{FileDisk, StdSink, StdSource, TcpHub};
 use std::alloc::AllocError;
 use std::marker::Brand;
 use std::process::ExitCode;

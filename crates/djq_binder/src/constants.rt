@@ -9,9 +9,9 @@ ghost use Rattle.djq_protocol.specs.Variables.{
 };
 ghost use Rattle.djq_binder.specs.Planning.{InternsConstants};
 
+use djq_database::Catalog;
 use djq_dictionary::InternRefusal;
 use djq_model::{Atom, Comparison, Query, Term, Value};
-use djq_database::Catalog;
 
 /// Makes the text of a constant known, if it is one.
 fn intern_constant(catalog: &mut Catalog, value: &Value) -> Result<(), InternRefusal>

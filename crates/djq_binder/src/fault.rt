@@ -2,10 +2,10 @@
 ghost use Rattle.std.specs.Prelude.{◌≡◌, ◌<◌, length};
 ghost use Rattle.djq_protocol.specs.QueryFault.{query_fault};
 
-use djq_protocol::Refusal;
-use djq_model::{ColumnType, Name, Query};
-use djq_query::Relations;
 use djq_database::{Catalog, RelationId};
+use djq_model::{ColumnType, Name, Query};
+use djq_protocol::Refusal;
+use djq_query::Relations;
 
 /// A catalog, as the relations that a query may read.
 #[derive(Drop)]

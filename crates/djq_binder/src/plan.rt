@@ -10,11 +10,11 @@ ghost use Rattle.djq_binder.specs.Planning.{IsPlanned, IsUnplanned};
 
 use crate::fault::Shown;
 use crate::rest::name_rest;
-use djq_protocol::NamedRest;
+use djq_database::Catalog;
 use djq_model::{NoMem, Query};
 use djq_plan::{PlanRefusal, plan};
+use djq_protocol::NamedRest;
 use djq_query::{NumberedQuery, Variable, number};
-use djq_database::Catalog;
 use djq_tree::Tree;
 use std::alloc::Global;
 

@@ -8,8 +8,8 @@ ghost use Rattle.djq_binder.specs.Ordering.{with_edge, in_order, IsPlaceFor};
 
 use crate::names::variable_names;
 use djq_hypergraph::{Edges, VarSet};
-use djq_protocol::NamedRest;
 use djq_model::NoMem;
+use djq_protocol::NamedRest;
 use djq_query::Variable;
 use std::alloc::Global;
 

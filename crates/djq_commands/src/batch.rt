@@ -14,10 +14,10 @@ use crate::change::{Left, Outcome};
 use crate::commands::{run_quit, run_stop};
 use crate::held::new_row;
 use crate::reading::{BatchLine, read_in_batch};
-use djq_protocol::{HeldRow, Refusal};
-use djq_model::{Name, Value};
-use djq_session::Session;
 use djq_counters::{Ledgers, Steps};
+use djq_model::{Name, Value};
+use djq_protocol::{HeldRow, Refusal};
+use djq_session::Session;
 use djq_store::{CursorId, Store};
 use std::alloc::Global;
 

@@ -2,8 +2,8 @@ ghost use Rattle.std.specs.Prelude.{◌≡◌};
 ghost use Rattle.djq_machine.specs.Keeping.{is_removal};
 ghost use Rattle.djq_commands.specs.Stepping.{is_kept_by};
 
-use djq_protocol::{AddOutcome, DeleteOutcome, HeldRow, Refusal};
 use djq_model::Sequence;
+use djq_protocol::{AddOutcome, DeleteOutcome, HeldRow, Refusal};
 
 /// What a command that may change rows came to.
 #[derive(Drop)]

@@ -15,12 +15,12 @@ ghost use Rattle.djq_commands.specs.Sound.{CommandIsReady};
 
 use crate::ending::{cut_off, give_up};
 use bytes::BytesMut;
+use djq_counters::{Ledgers, Listing, Steps, Tally};
+use djq_model::{Name, Names, NoMem, Query, Types, Value};
 use djq_protocol::limits::CURSORS;
 use djq_protocol::{EndCause, QueryOutcome, Refusal};
-use djq_model::{Name, Names, NoMem, Query, Types, Value};
 use djq_reply::put_member;
 use djq_session::Session;
-use djq_counters::{Ledgers, Listing, Steps, Tally};
 use djq_store::{CursorId, Explained, Store};
 use std::alloc::Global;
 

@@ -2,8 +2,8 @@ ghost use Rattle.std.specs.Prelude.{◌≡◌, ◌≤◌, [], IfOk, length};
 ghost use Rattle.djq_protocol.specs.declared.limits.TheConstants.{LINE_BYTES};
 
 use bytes::BytesMut;
-use djq_protocol::limits::LINE_BYTES;
 use djq_model::NoMem;
+use djq_protocol::limits::LINE_BYTES;
 use std::alloc::Global;
 use std::marker::Model;
 

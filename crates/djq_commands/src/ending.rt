@@ -8,8 +8,8 @@ ghost use Rattle.djq_commands.specs.Performs.{Performs};
 ghost use Rattle.djq_commands.specs.Telling.{KeepsTold};
 ghost use Rattle.djq_commands.specs.Sound.{IsOwn, HasCount};
 
-use djq_protocol::{EndCause, EndLine};
 use djq_model::Name;
+use djq_protocol::{EndCause, EndLine};
 use djq_session::Session;
 use djq_store::{CursorId, Store};
 

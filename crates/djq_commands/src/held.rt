@@ -2,9 +2,9 @@
 ghost use Rattle.std.specs.Prelude.{◌≡◌, IfOk};
 ghost use Rattle.djq_commands.specs.Batching.{MakesRow, held_row_of};
 
+use djq_model::{Name, NoMem, Row, Sequence, Value};
 use djq_protocol::limits::HELD;
 use djq_protocol::{HeldRow, Refusal};
-use djq_model::{Name, NoMem, Row, Sequence, Value};
 use djq_store::Store;
 use std::alloc::Global;
 use std::mem;

@@ -4,8 +4,8 @@ ghost use Rattle.djq_commands.specs.Changing.{line_where, lines_kept};
 ghost use Rattle.djq_commands.specs.Views.{lines_of_step};
 
 use crate::change::{Outcome, is_removal};
-use djq_protocol::HeldRow;
 use djq_model::Sequence;
+use djq_protocol::HeldRow;
 
 /// What the last step kept.
 #[derive(Drop)]

@@ -20,13 +20,13 @@ use crate::ending::end_by;
 use crate::listing::run_next;
 use crate::reading::refusal_of;
 use crate::watch::{run_unwatch, run_watch};
-use djq_protocol::limits::{PENDING_BYTES, REPLY_BYTES};
-use djq_protocol::{Command, EndCause, EndLine, Refusal};
+use djq_counters::{Ledgers, Steps};
 use djq_machine::Stepped;
 use djq_model::{Name, Value};
 use djq_parser::{Front, RowLine, is_blank, read_command, read_row};
+use djq_protocol::limits::{PENDING_BYTES, REPLY_BYTES};
+use djq_protocol::{Command, EndCause, EndLine, Refusal};
 use djq_session::Session;
-use djq_counters::{Ledgers, Steps};
 use djq_store::{CursorId, Store};
 use std::alloc::Global;
 

@@ -7,10 +7,10 @@ ghost use Rattle.djq_commands.specs.Performs.{Executes};
 ghost use Rattle.djq_commands.specs.Sound.{AreHeld, CommandIsReady};
 
 use crate::ending::cut_off;
-use djq_protocol::Refusal;
-use djq_model::{Name, NoMem};
-use djq_session::Session;
 use djq_counters::{Ledgers, Listing, Tally};
+use djq_model::{Name, NoMem};
+use djq_protocol::Refusal;
+use djq_session::Session;
 use djq_store::{Answer, CursorId, Next, Store};
 
 /// How a listing came out.

@@ -6,9 +6,9 @@ ghost use Rattle.djq_value.specs.Token.{tokens};
 ghost use Rattle.djq_commands.specs.Batching.{ReadsInBatch, in_batch, misplaced_as, row_refused_as};
 ghost use Rattle.djq_commands.specs.Stepping.{refused_as};
 
-use djq_protocol::{Command, Refusal};
 use djq_model::Value;
 use djq_parser::{LineRefusal, RowLine, RowWord, read_command, read_row};
+use djq_protocol::{Command, Refusal};
 use std::alloc::Global;
 
 /// What a line says while a batch is open. A name is bytes of the line.
@@ -30,11 +30,7 @@ pub enum BatchLine<'a> {
 
 /// What a line says while a batch is open. The values of a row are put in place of those that are
 /// there.
-pub fn read_in_batch<'a>(
-    alloc: Global,
-    line: &'a [u8],
-    row: &mut Vec<Value>,
-) -> BatchLine<'a>
+pub fn read_in_batch<'a>(alloc: Global, line: &'a [u8], row: &mut Vec<Value>) -> BatchLine<'a>
     ensures { ReadsInBatch line.now result row.new.items }
 {
     match read_row(alloc, line, row) {

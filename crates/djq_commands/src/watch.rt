@@ -5,8 +5,8 @@ ghost use Rattle.djq_commands.specs.Performs.{Executes};
 ghost use Rattle.djq_commands.specs.Sound.{IsOwn, CommandIsReady};
 ghost use Rattle.djq_commands.specs.Watches.{BeginsWatch, CeasesWatch};
 
-use djq_protocol::Refusal;
 use djq_model::Name;
+use djq_protocol::Refusal;
 use djq_session::Session;
 use djq_store::{CursorId, Store};
 

@@ -7,20 +7,17 @@ ghost use Rattle.djq_commands.specs.Sound.{Rises};
 ghost use Rattle.djq_commands.specs.Changing.{line_where};
 ghost use Rattle.djq_commands.specs.Stepping.{line_kept};
 
-use djq_commands::Left;
-use djq_commands::Copied;
-use djq_commands::{end_by, end_input, give_up};
-use djq_commands::KeptLines;
-use djq_commands::step_session;
-use djq_commands::OpenSession;
 use crate::tell::tell_change;
 use bytes::BytesMut;
-use djq_protocol::limits::{COLUMNS, SESSIONS};
-use djq_protocol::{EndCause, EndLine, HeldRow};
+use djq_commands::{
+    Copied, KeptLines, Left, OpenSession, end_by, end_input, give_up, step_session,
+};
+use djq_counters::{Ledgers, Steps};
 use djq_machine::{Fed, Machine, OpenRefusal, Stepped};
 use djq_model::{Name, NoMem, Sequence, Value};
+use djq_protocol::limits::{COLUMNS, SESSIONS};
+use djq_protocol::{EndCause, EndLine, HeldRow};
 use djq_session::Session;
-use djq_counters::{Ledgers, Steps};
 use djq_store::Store;
 use std::alloc::Global;
 use std::marker::Model;

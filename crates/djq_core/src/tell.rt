@@ -18,13 +18,11 @@ ghost use Rattle.djq_commands.specs.Telling.{
 };
 ghost use Rattle.djq_core.specs.Unwatched.{AffectsUnwatched};
 
-use djq_commands::Outcome;
-use djq_commands::{cut_off, end_by};
-use djq_commands::OpenSession;
 use bytes::BytesMut;
+use djq_commands::{OpenSession, Outcome, cut_off, end_by};
+use djq_model::Name;
 use djq_protocol::limits::{PENDING_BYTES, REPLY_BYTES};
 use djq_protocol::{AddOutcome, DeleteOutcome, EndCause, EndLine};
-use djq_model::Name;
 use djq_reply::{put_at, put_change};
 use djq_session::Session;
 use djq_store::{CursorId, QueryId, Store};

@@ -7,10 +7,10 @@ ghost use Rattle.djq_database.specs.Tuples.{AddsTuple, DeletesTuple};
 use crate::refusal::RowsRefusal;
 use crate::rows::Rows;
 use djq_arena::hash_of;
+use djq_counters::Tally;
+use djq_model::{Name, Types};
 use djq_protocol::limits::{COPIES, ROWS};
 use djq_protocol::{AddOutcome, DeleteOutcome};
-use djq_model::{Name, Types};
-use djq_counters::Tally;
 use std::sync::ledger::Ledger;
 
 /// A relation as it is kept, with its rows in cells.

@@ -9,11 +9,11 @@ use crate::cursor::{CursorId, QueryId};
 use crate::engine::Engine;
 use crate::lent::LentAnswer;
 use crate::places::find_query;
-use djq_protocol::{Refusal, Shape};
+use djq_counters::{Ledgers, Listing, Tally};
 use djq_live_query::LiveQuery;
 use djq_model::{Name, Value};
+use djq_protocol::{Refusal, Shape};
 use djq_reduct::Answer;
-use djq_counters::{Ledgers, Listing, Tally};
 use djq_tree::Lines;
 
 impl Engine {

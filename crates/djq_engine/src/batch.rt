@@ -17,10 +17,10 @@ use crate::judge::relation_for_row;
 use crate::outdating::{affect_reached, give_up, outdate_came};
 use crate::parts::Parts;
 use crate::putting::{Came, put_all, take_back};
-use djq_protocol::{HeldRow, Refusal};
-use djq_model::{Name, NoMem, Value};
-use djq_reach::{Group, insert_batch_into_readers};
 use djq_counters::{Ledgers, Steps};
+use djq_model::{Name, NoMem, Value};
+use djq_protocol::{HeldRow, Refusal};
+use djq_reach::{Group, insert_batch_into_readers};
 
 /// The queries that read a relation of the groups take the rows in that came, in the catalog already.
 ///

@@ -14,13 +14,13 @@ ghost use Rattle.djq_reach.specs.Tending.{LogsCanBeShown, AreUnwatched};
 ghost use Rattle.djq_engine.specs.Whole.{EngineIsWhole, IsTended};
 
 use crate::parts::Parts;
+use djq_counters::{Ledgers, Steps};
+use djq_database::{RelationId, RowsRefusal};
 use djq_dictionary::InternRefusal;
 use djq_index::Cells;
-use djq_protocol::{AddOutcome, DeleteOutcome};
 use djq_model::Value;
+use djq_protocol::{AddOutcome, DeleteOutcome};
 use djq_reach::{delete_from_readers, insert_into_readers};
-use djq_database::{RelationId, RowsRefusal};
-use djq_counters::{Ledgers, Steps};
 
 /// Why a row that suits its relation isn't added.
 #[derive(Clone, Copy, Debug, PartialEq, Eq)]

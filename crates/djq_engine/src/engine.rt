@@ -3,9 +3,9 @@ ghost use Rattle.djq_model.specs.Data.{rows_of};
 ghost use Rattle.djq_store_spec.specs.Store.{empty_store};
 
 use crate::parts::Parts;
+use djq_database::Catalog;
 use djq_live_query::LiveQuery;
 use djq_model::{Name, NoMem, Sequence};
-use djq_database::Catalog;
 use std::alloc::Global;
 use std::marker::Model;
 

@@ -8,12 +8,12 @@ ghost use Rattle.djq_store_spec.specs.Batch.{suit_refusal, place_refusal};
 ghost use Rattle.djq_database.specs.Catalog.{relation_at, rows_at};
 ghost use Rattle.djq_engine.specs.Judging.{bare_store, RowSuits, MayCome, JudgesDelete};
 
+use djq_counters::Tally;
+use djq_database::{Catalog, RelationId};
 use djq_index::Cells;
+use djq_model::{Name, Value};
 use djq_protocol::limits::{LAST_SEQ, ROWS};
 use djq_protocol::{HeldRow, Refusal};
-use djq_model::{Name, Value};
-use djq_database::{Catalog, RelationId};
-use djq_counters::Tally;
 use std::sync::ledger::Ledger;
 
 /// The relation of a name, where a row suits its columns.

@@ -1,10 +1,10 @@
 ghost use Rattle.std.specs.Prelude.{◌≡◌};
 ghost use Rattle.djq_live_query.specs.Live.{IsLive, IsShowable, values_of};
 
+use djq_database::Catalog;
 use djq_live_query::LiveQuery;
 use djq_model::{Answered, ValueRef};
 use djq_reduct::Answer;
-use djq_database::Catalog;
 use std::marker::Model;
 
 /// An answer that is lent as its values, in the head's order, or one that went. Contracts see the tuple of them.

@@ -13,12 +13,12 @@ ghost use Rattle.djq_engine.specs.Outdating.{AreReaders, AgesAll, ClearsLogs, Ba
 ghost use Rattle.djq_engine.specs.Outdating.{AreTested, by_tested};
 
 use crate::parts::Parts;
+use djq_database::{Catalog, RelationId};
 use djq_enumeration::DeltaLog;
-use djq_protocol::HeldRow;
 use djq_live_query::LiveQuery;
 use djq_model::{Name, Sequence};
+use djq_protocol::HeldRow;
 use djq_reach::{Group, empty_logs, outdate};
-use djq_database::{Catalog, RelationId};
 
 /// The logs of all queries that read a relation are emptied.
 fn empty_readers(

@@ -1,7 +1,7 @@
+use djq_database::Catalog;
 use djq_enumeration::DeltaLog;
 use djq_live_query::LiveQuery;
 use djq_model::Sequence;
-use djq_database::Catalog;
 use std::alloc::Global;
 
 /// What an engine keeps.

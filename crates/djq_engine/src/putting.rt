@@ -10,13 +10,13 @@ ghost use Rattle.djq_engine.specs.Putting.{bare_of, placed, IsStoreOf, PutsHeldR
 ghost use Rattle.djq_engine.specs.Putting.{ComeFirst, RefusesAll, WentIn, WentInAll};
 
 use crate::judge::check_held;
+use djq_counters::Tally;
+use djq_database::{Catalog, RelationId, RowsRefusal};
 use djq_dictionary::InternRefusal;
 use djq_index::Cells;
-use djq_protocol::{AddOutcome, HeldRow, Refusal};
 use djq_model::{NoMem, Sequence};
+use djq_protocol::{AddOutcome, HeldRow, Refusal};
 use djq_reach::Group;
-use djq_database::{Catalog, RelationId, RowsRefusal};
-use djq_counters::Tally;
 use std::alloc::Global;
 use std::sync::ledger::Ledger;
 

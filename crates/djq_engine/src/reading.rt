@@ -9,11 +9,11 @@ ghost use Rattle.djq_engine.specs.Moving.{TellsMore};
 use crate::cursor::{CursorId, QueryId};
 use crate::engine::Engine;
 use crate::places::find_query;
-use djq_protocol::Refusal;
+use djq_counters::{Ledgers, Listing, Tally};
 use djq_live_query::{LiveQuery, Next};
 use djq_model::{Name, NoMem};
+use djq_protocol::Refusal;
 use djq_reduct::Answer;
-use djq_counters::{Ledgers, Listing, Tally};
 
 /// Opens a cursor over the query in a place.
 fn open_at(queries: &mut Vec<Option<LiveQuery>>, at: usize) -> Result<usize, NoMem>

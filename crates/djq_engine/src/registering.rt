@@ -14,15 +14,15 @@ ghost use Rattle.djq_engine.specs.Whole.{kept_in, EngineIsWhole, IsTended};
 use crate::engine::Engine;
 use crate::parts::Parts;
 use crate::places::{find_query, leave_all, leave_out, unaffect, vacant_place};
+use djq_binder::{Unplanned, intern_constants, plan_query, query_fault_of};
+use djq_counters::{Ledgers, Steps};
+use djq_database::{Catalog, RelationId};
 use djq_dictionary::InternRefusal;
-use djq_protocol::limits::QUERIES;
-use djq_protocol::{QueryOutcome, Refusal};
 use djq_live_query::LiveQuery;
 use djq_model::{Name, NoMem, Query, Sequence};
-use djq_binder::{Unplanned, intern_constants, plan_query, query_fault_of};
+use djq_protocol::limits::QUERIES;
+use djq_protocol::{QueryOutcome, Refusal};
 use djq_reach::is_watched;
-use djq_database::{Catalog, RelationId};
-use djq_counters::{Ledgers, Steps};
 
 /// Whether a query reads a relation.
 fn reads(query: &Query, relation: &Name) -> bool

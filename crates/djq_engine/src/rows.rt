@@ -16,14 +16,14 @@ use crate::change::{AddRefusal, drop_cells, put_row};
 use crate::engine::Engine;
 use crate::judge::{check_add, check_delete};
 use crate::parts::Parts;
+use djq_counters::{Ledgers, Steps};
+use djq_database::RelationId;
 use djq_index::Cells;
-use djq_protocol::limits::{COLUMNS, RELATIONS};
-use djq_protocol::{AddOutcome, DeleteOutcome, Refusal};
 use djq_live_query::LiveQuery;
 use djq_model::{Name, NoMem, Sequence, Types, Value};
+use djq_protocol::limits::{COLUMNS, RELATIONS};
+use djq_protocol::{AddOutcome, DeleteOutcome, Refusal};
 use djq_reach::{empty_logs, outdate};
-use djq_database::RelationId;
-use djq_counters::{Ledgers, Steps};
 
 /// The queries that read a relation are the affected ones from now on. They are few, so that a loop costs less
 /// than a call.

@@ -12,8 +12,8 @@ use crate::engine::Engine;
 use crate::lent::LentAnswer;
 use crate::places::find_query;
 use djq_enumeration::{DeltaLog, Line};
-use djq_protocol::Sign;
 use djq_model::Name;
+use djq_protocol::Sign;
 use djq_reduct::Cells;
 
 /// Whether an answer came or went.

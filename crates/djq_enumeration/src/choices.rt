@@ -1,7 +1,7 @@
 use crate::places::Choice;
+use djq_counters::Tally;
 use djq_index::Place;
 use djq_reduct::Reducts;
-use djq_counters::Tally;
 use std::sync::ledger::Ledger;
 
 /// What a listing chooses from at each level: whole groups, or the part of them that an update

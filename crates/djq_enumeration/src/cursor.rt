@@ -9,8 +9,8 @@ use crate::left::is_left_by;
 use crate::places::Places;
 use crate::walk::advance_by;
 use crate::whole::Whole;
-use djq_reduct::{Answer, Reducts};
 use djq_counters::Tally;
+use djq_reduct::{Answer, Reducts};
 use std::sync::ledger::Ledger;
 
 /// How far a cursor has come.

@@ -9,8 +9,8 @@ ghost use Rattle.djq_enumeration.specs.Told.{DeltaFits, told_so_far};
 
 use crate::marked::Marked;
 use crate::{Cursor, Places, State, advance_by};
-use djq_reduct::{Answer, Reducts};
 use djq_counters::Tally;
+use djq_reduct::{Answer, Reducts};
 use std::sync::ledger::Ledger;
 
 /// A listing of the answers that an update of one leaf changes, on its way. It takes no memory but

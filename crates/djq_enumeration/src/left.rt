@@ -20,8 +20,8 @@ ghost use Rattle.djq_enumeration.specs.Walk.{
 use crate::choices::Choices;
 use crate::cursor::{Cursor, State};
 use crate::places::Places;
-use djq_reduct::Reducts;
 use djq_counters::Tally;
+use djq_reduct::Reducts;
 use std::sync::ledger::Ledger;
 
 /// Whether some choice has a next tuple, asked from the last one up: then the answers go on behind

@@ -6,8 +6,8 @@ ghost use Rattle.djq_reduct.specs.Tables.{entries_at};
 ghost use Rattle.djq_reduct.specs.Answers.{IsAnswerOf, on_node};
 
 use crate::levels::project;
-use djq_reduct::{Answer, Cells, Reducts};
 use djq_counters::Tally;
+use djq_reduct::{Answer, Cells, Reducts};
 use std::sync::ledger::Ledger;
 
 /// Whether a node isn't in `out`, or its table has the projection of the answer. It counts a

@@ -2,9 +2,9 @@ ghost use Rattle.std.specs.Prelude.{◌≡◌};
 ghost use Rattle.djq_enumeration.specs.Told.{kept};
 
 use crate::{Choice, Choices, source};
+use djq_counters::Tally;
 use djq_index::Place;
 use djq_reduct::Reducts;
-use djq_counters::Tally;
 use std::sync::ledger::Ledger;
 
 /// The choices that list the changed answers: the marked tuples of a group if there are any, else

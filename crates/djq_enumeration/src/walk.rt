@@ -26,9 +26,9 @@ use crate::choices::Choices;
 use crate::cursor::{Cursor, State};
 use crate::levels::{project, write_choice};
 use crate::places::{Choice, Places};
+use djq_counters::Tally;
 use djq_index::Place;
 use djq_reduct::{Answer, Cells, Reducts};
-use djq_counters::Tally;
 use std::sync::ledger::Ledger;
 
 /// The cell of an answer that is a level's key, where that has one column.

@@ -1,9 +1,9 @@
 use crate::choices::Choices;
 use crate::levels::source;
 use crate::places::Choice;
+use djq_counters::Tally;
 use djq_index::Place;
 use djq_reduct::Reducts;
-use djq_counters::Tally;
 use std::sync::ledger::Ledger;
 
 /// The choices that list all answers: at each level the whole group.

@@ -11,13 +11,11 @@
 //! What this crate is not: it has no function of its own. What surprises: without its tests it is
 //! empty.
 //!
-//! Inside, `union`, `live`, `united` and `core` test the library of that name. `program`, `hub` and
+//! Inside, `union`, `live`, `united` and `sessions` test the library of that name (`sessions` djq_core). `program`, `hub` and
 //! `log` test the program: over a source and a sink, over a hub that fails, and over a disk that is
 //! stopped at each call.
 #![tactic(auto)]
 
-#[cfg(test)]
-mod core;
 #[cfg(test)]
 mod hub;
 #[cfg(test)]
@@ -26,6 +24,8 @@ mod live;
 mod log;
 #[cfg(test)]
 mod program;
+#[cfg(test)]
+mod sessions;
 #[cfg(test)]
 mod union;
 #[cfg(test)]

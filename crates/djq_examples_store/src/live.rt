@@ -6,18 +6,18 @@ ghost use Rattle.djq_leaves.specs.Changes.{Came, Went};
 ghost use Rattle.djq_live_query.specs.Cursors.{slot_at};
 ghost use Rattle.djq_live_query.specs.Live.{IsKept, IsKeptSomewhere, IsLive, IsShowable};
 
+use djq_binder::{intern_constants, plan_query, query_fault_of};
+use djq_counters::{Blanks, Ledgers, Listing, Steps, Tally};
+use djq_database::{Catalog, RelationId};
 use djq_enumeration::{DeltaLog, Line};
 use djq_index::{CELLS, Cells};
 use djq_leaves::{added_came, copies_keep_rows, deleted_went};
-use djq_protocol::{AddOutcome, DeleteOutcome};
 use djq_live_query::{LiveQuery, Next, answers_are_showable, live_stays, showable_stays};
 use djq_model::{
     Atom, ColumnType, Name, NoMem, Query, Row, Sequence, Term, Types, Value, ValueRef,
 };
-use djq_binder::{intern_constants, plan_query, query_fault_of};
+use djq_protocol::{AddOutcome, DeleteOutcome};
 use djq_reduct::Answer;
-use djq_database::{Catalog, RelationId};
-use djq_counters::{Blanks, Ledgers, Listing, Steps, Tally};
 use djq_tree::Lines;
 use std::alloc::Global;
 use std::marker::Brand;

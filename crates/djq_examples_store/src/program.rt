@@ -1,9 +1,9 @@
 ghost use Rattle.std.specs.Prelude.{◌≡◌, ◌<◌, []};
 
+use djq_counters::{Blanks, Ledgers, Steps};
 use djq_disk::{Disk, NoDisk};
 use djq_io::{MemHub, MemSink, MemSource, Sink, Source};
 use djq_program::{Status, run_program};
-use djq_counters::{Blanks, Ledgers, Steps};
 use std::marker::Brand;
 use std::test::Fail;
 

@@ -6,13 +6,13 @@ ghost use Rattle.djq_live_query.specs.Member.{HaveQueries};
 ghost use Rattle.djq_united.specs.Slots.{slot_at};
 ghost use Rattle.djq_united.specs.United.{IsUnited, AreKept};
 
+use djq_binder::{plan_query, query_fault_of};
+use djq_counters::{Blanks, Ledgers, Listing, Steps, Tally};
+use djq_database::Catalog;
 use djq_index::CELLS;
 use djq_live_query::{LiveQuery, Next};
 use djq_model::{Atom, ColumnType, Name, NoMem, Query, Row, Sequence, Term, Types, Value};
-use djq_binder::{plan_query, query_fault_of};
 use djq_reduct::{Answer, Cells};
-use djq_database::Catalog;
-use djq_counters::{Blanks, Ledgers, Listing, Steps, Tally};
 use djq_united::{LiveUnion, heads_differ};
 use std::alloc::Global;
 use std::marker::Brand;

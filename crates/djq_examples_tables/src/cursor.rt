@@ -1,9 +1,9 @@
 ghost use Rattle.std.specs.Prelude.{◌≡◌, length, IfOk};
 
+use djq_counters::{Blanks, Ledgers, Steps};
 use djq_enumeration::{Choice, Cursor, DeltaLog, Places, has};
 use djq_hypergraph::VarSet;
 use djq_reduct::{Answer, Reducts};
-use djq_counters::{Blanks, Ledgers, Steps};
 use djq_tree::{Node, Tree};
 use std::alloc::{AllocError, Global};
 use std::marker::Brand;

@@ -1,7 +1,7 @@
 ghost use Rattle.std.specs.Prelude.{◌≡◌};
 
-use djq_index::{Cells, Table};
 use djq_counters::{Blanks, Ledgers, Steps, Tally};
+use djq_index::{Cells, Table};
 use std::alloc::{AllocError, Global};
 use std::marker::Brand;
 use std::sync::ledger::Ledger;

@@ -3,13 +3,13 @@ ghost use Rattle.djq_index.specs.Entries.{count_of};
 ghost use Rattle.djq_reduct.specs.Marks.{IsBare};
 ghost use Rattle.djq_reduct.specs.Tables.{entries_at};
 
+use djq_counters::{Blanks, Ledgers, Steps, Tally};
 use djq_hypergraph::{Edges, VarSet};
 use djq_plan::plan;
 use djq_propagate::{
     finish_insertion, finish_removal, insert_leaf, insert_leaf_many, mark_removal, undo_insertion,
 };
 use djq_reduct::{Cells, Reducts, is_narrow};
-use djq_counters::{Blanks, Ledgers, Steps, Tally};
 use std::alloc::{AllocError, Global};
 use std::marker::Brand;
 use std::sync::ledger::Ledger;

@@ -1,14 +1,14 @@
 ghost use Rattle.std.specs.Prelude.{◌≡◌, true};
 ghost use Rattle.djq_model.specs.Typed.{is_of};
 
-use djq_index::{CELLS, Cells};
-use djq_protocol::limits::COLUMNS;
-use djq_protocol::{AddOutcome, DeleteOutcome};
-use djq_model::{ColumnType, Name, Row, Text, Types, Value, ValueRef};
+use djq_counters::{Blanks, Ledgers, Steps, Tally};
 use djq_database::{
     Catalog, RelationId, RowsRefusal, cells_differ, cells_stay, rows_by_name_or_place, texts_stay,
 };
-use djq_counters::{Blanks, Ledgers, Steps, Tally};
+use djq_index::{CELLS, Cells};
+use djq_model::{ColumnType, Name, Row, Text, Types, Value, ValueRef};
+use djq_protocol::limits::COLUMNS;
+use djq_protocol::{AddOutcome, DeleteOutcome};
 use std::alloc::Global;
 use std::marker::Brand;
 use std::sync::ledger::Ledger;

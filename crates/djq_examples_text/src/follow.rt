@@ -1,7 +1,7 @@
 ghost use Rattle.std.specs.Prelude.{◌<◌};
 
-use djq_mirror::{Mirrored, mirror};
 use djq_io::{MemSink, MemSource};
+use djq_mirror::{Mirrored, mirror};
 use djq_model::Name;
 use std::test::Fail;
 

@@ -1,6 +1,6 @@
-use djq_protocol::Command;
 use djq_model::{Operator, Term};
 use djq_parser::{Front, RowLine, Splitter, is_blank, read_command, read_row};
+use djq_protocol::Command;
 use std::alloc::{AllocError, Global};
 use std::test::Fail;
 

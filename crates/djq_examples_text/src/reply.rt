@@ -1,10 +1,10 @@
 use bytes::BytesMut;
 use djq_hypergraph::{Edges, Names, VarSet};
+use djq_model::{Name, NoMem, Row, Text, Value};
 use djq_protocol::limits::{LAST_LINE_BYTES, REPLY_BYTES};
 use djq_protocol::{
     AddOutcome, DeleteOutcome, EndLine, NamedRest, QueryOutcome, Refusal, Shape, Sign,
 };
-use djq_model::{Name, NoMem, Row, Text, Value};
 use djq_reply::{
     put_answer, put_at, put_change, put_explained, put_last, put_member, put_registered, say_added,
     say_batch, say_batch_done, say_bye, say_cut, say_deleted, say_done, say_end, say_has, say_held,

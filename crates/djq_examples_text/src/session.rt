@@ -1,7 +1,7 @@
-use djq_protocol::limits::{CURSORS, REPLY_BYTES};
-use djq_protocol::{AddOutcome, DeleteOutcome, EndCause, EndLine, HeldRow, QueryOutcome, Refusal};
 use djq_model::{Name, NoMem, Row, Sequence, Value};
 use djq_parser::Front;
+use djq_protocol::limits::{CURSORS, REPLY_BYTES};
+use djq_protocol::{AddOutcome, DeleteOutcome, EndCause, EndLine, HeldRow, QueryOutcome, Refusal};
 use djq_session::Session;
 use std::alloc::Global;
 use std::test::Fail;

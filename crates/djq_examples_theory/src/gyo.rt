@@ -1,6 +1,6 @@
 use crate::shapes::edges_of;
-use djq_plan::{Step, reduce, rest_is_lean, turn_join_tree};
 use djq_hypergraph::{Edges, VarSet};
+use djq_plan::{Step, reduce, rest_is_lean, turn_join_tree};
 use std::test::Fail;
 
 #[test]

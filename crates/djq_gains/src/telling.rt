@@ -27,10 +27,10 @@ ghost use Rattle.djq_index.specs.declared.cells.TheConstants.{CELLS};
 
 use crate::gains::Gains;
 use crate::gather::gather;
-use djq_enumeration::DeltaLog;
-use djq_engine::{Answer, Cells, Engine};
-use djq_live_query::QueriesAt;
 use djq_counters::Tally;
+use djq_engine::{Answer, Cells, Engine};
+use djq_enumeration::DeltaLog;
+use djq_live_query::QueriesAt;
 use djq_union::{Listing, Members};
 use std::alloc::Global;
 use std::sync::ledger::Ledger;

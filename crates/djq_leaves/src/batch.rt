@@ -28,12 +28,12 @@ ghost use Rattle.djq_leaves.specs.Batching.{
 ghost use Rattle.djq_index.specs.declared.table.TheConstants.{TUPLES};
 
 use crate::stepping::list_changes;
+use djq_counters::{Ledgers, Steps};
 use djq_enumeration::DeltaLog;
 use djq_model::{NoMem, Sequence};
 use djq_propagate::{add_leaf_many, drop_leaf_many, finish_insertion, insert_leaf_many};
 use djq_query::{NumberedAtom, Pattern};
 use djq_reduct::{Cells, Reducts};
-use djq_counters::{Ledgers, Steps};
 use std::alloc::Global;
 
 /// Whether these cells are the same. Rows are short, so that a loop costs less than a call.

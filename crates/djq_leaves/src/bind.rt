@@ -10,10 +10,10 @@ ghost use Rattle.djq_leaves.specs.Building.{ArePatternsOf, AreBindable};
 ghost use Rattle.djq_leaves.specs.Leaves.{AreCellsOfTerms, IsCellOf, IsPatternOf};
 ghost use Rattle.djq_index.specs.declared.cells.TheConstants.{CELLS};
 
+use djq_database::Catalog;
 use djq_hypergraph::VarSet;
 use djq_model::{NoMem, Value};
 use djq_query::{NumberedAtom, NumberedComparison, NumberedTerm, Pattern};
-use djq_database::Catalog;
 use djq_tree::Tree;
 use std::alloc::Global;
 

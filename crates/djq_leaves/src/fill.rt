@@ -14,12 +14,12 @@ ghost use Rattle.djq_leaves.specs.Building.{
 ghost use Rattle.djq_leaves.specs.Stepping.{LacksCells};
 ghost use Rattle.djq_index.specs.declared.table.TheConstants.{TUPLES};
 
+use djq_counters::Tally;
+use djq_database::{Catalog, RelationId};
 use djq_model::NoMem;
 use djq_propagate::add_leaf;
 use djq_query::{NumberedAtom, Pattern};
 use djq_reduct::{Cells, Reducts};
-use djq_database::{Catalog, RelationId};
-use djq_counters::Tally;
 use std::sync::ledger::Ledger;
 
 /// Takes a row, whose tuple isn't there, into a leaf.

@@ -26,6 +26,7 @@ ghost use Rattle.djq_leaves.specs.Stepping.{
 };
 ghost use Rattle.djq_index.specs.declared.table.TheConstants.{TUPLES};
 
+use djq_counters::{Ledgers, Steps, Tally};
 use djq_enumeration::{DeltaCursor, DeltaLog, changes_are};
 use djq_model::NoMem;
 use djq_propagate::{
@@ -33,7 +34,6 @@ use djq_propagate::{
 };
 use djq_query::{NumberedAtom, Pattern};
 use djq_reduct::{Cells, Reducts};
-use djq_counters::{Ledgers, Steps, Tally};
 use std::sync::ledger::Ledger;
 
 /// Tells of the answers that an update of one leaf changes, by its marks.

@@ -10,13 +10,13 @@ ghost use Rattle.djq_tree.specs.Explaining.{explain_of};
 
 use crate::headed::HeadedQuery;
 use crate::live::LiveQuery;
+use djq_binder::{PlannedQuery, relation_names, variable_names};
+use djq_counters::{Ledgers, Steps};
+use djq_cursors::Cursors;
+use djq_database::Catalog;
 use djq_leaves::{bind_atoms, fill_leaves};
 use djq_model::{NoMem, Query};
-use djq_binder::{PlannedQuery, relation_names, variable_names};
 use djq_reduct::Reducts;
-use djq_database::Catalog;
-use djq_cursors::Cursors;
-use djq_counters::{Ledgers, Steps};
 use djq_tree::Lines;
 use std::alloc::Global;
 

@@ -28,12 +28,12 @@ ghost use Rattle.djq_index.specs.declared.cells.TheConstants.{CELLS};
 use crate::live::LiveQuery;
 use crate::lookup::{has_cells, suits_head};
 use crate::reads::{has_more, read};
-use djq_enumeration::Cursor;
-use djq_protocol::Refusal;
-use djq_model::{Name, NoMem, Value, ValueRef};
-use djq_reduct::Answer;
-use djq_database::Catalog;
 use djq_counters::{Ledgers, Listing, Tally};
+use djq_database::Catalog;
+use djq_enumeration::Cursor;
+use djq_model::{Name, NoMem, Value, ValueRef};
+use djq_protocol::Refusal;
+use djq_reduct::Answer;
 
 /// What the next read of a cursor gives.
 #[derive(Clone, Copy, Debug)]

@@ -4,13 +4,13 @@ ghost use Rattle.djq_store_spec.specs.Asking.{IsShapeOf};
 ghost use Rattle.djq_live_query.specs.Live.{IsKeptSomewhere};
 
 use crate::headed::HeadedQuery;
+use djq_cursors::Cursors;
 use djq_enumeration::Cursor;
 use djq_hypergraph::is_flat;
-use djq_protocol::Shape;
 use djq_model::Query;
+use djq_protocol::Shape;
 use djq_query::Pattern;
 use djq_reduct::Reducts;
-use djq_cursors::Cursors;
 use std::marker::Model;
 
 /// One registered query: kept answerable while the rows below it change.

@@ -7,11 +7,11 @@ ghost use Rattle.djq_binder.specs.Asked.{column_of};
 ghost use Rattle.djq_live_query.specs.Order.{cell_of_variable, AreCellsOfAnswer};
 ghost use Rattle.djq_index.specs.declared.cells.TheConstants.{CELLS};
 
+use djq_counters::Tally;
 use djq_hypergraph::VarSet;
 use djq_model::{ColumnType, Value};
 use djq_query::Variable;
 use djq_reduct::{Answer, Cells, Reducts};
-use djq_counters::Tally;
 use std::sync::ledger::Ledger;
 
 /// The type of the columns where a variable stands.

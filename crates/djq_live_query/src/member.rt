@@ -25,11 +25,11 @@ ghost use Rattle.djq_index.specs.declared.cells.TheConstants.{CELLS};
 
 use crate::live::LiveQuery;
 use crate::lookup::{column_at, has_cells, rising_cells};
+use djq_counters::Tally;
 use djq_enumeration::Cursor;
 use djq_model::ColumnType;
 use djq_query::Variable;
 use djq_reduct::{Answer, Cells, Reducts};
-use djq_counters::Tally;
 use djq_union::{Listing, Members};
 use std::sync::ledger::Ledger;
 

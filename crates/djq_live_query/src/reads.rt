@@ -6,10 +6,10 @@ ghost use Rattle.djq_live_query.specs.Reading.{next_steps};
 ghost use Rattle.djq_live_query.specs.Advancing.{ProgressFits, CursorReads, CursorLooks};
 
 use crate::listing::Next;
+use djq_counters::Tally;
+use djq_cursors::Progress;
 use djq_enumeration::Cursor;
 use djq_reduct::{Answer, Reducts};
-use djq_cursors::Progress;
-use djq_counters::Tally;
 use std::sync::ledger::Ledger;
 
 /// Reads a cursor: a further answer, the end, or what made it stale.

@@ -22,14 +22,14 @@ ghost use Rattle.djq_live_query.specs.Updating.{
 };
 
 use crate::live::LiveQuery;
+use djq_counters::{Ledgers, Steps};
+use djq_database::RelationId;
 use djq_enumeration::DeltaLog;
 use djq_leaves::{
     add_all_to_leaves, add_to_leaves, delete_from_leaves, give_all_from_leaves, tuples_of_all,
 };
 use djq_model::{Name, NoMem};
 use djq_reduct::Cells;
-use djq_database::RelationId;
-use djq_counters::{Ledgers, Steps};
 
 impl LiveQuery {
     /// Takes in a row that came into a relation, given by its cells; it goes into the leaves over

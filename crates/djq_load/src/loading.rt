@@ -14,9 +14,9 @@ ghost use Rattle.djq_load.specs.Totals.{RunsOut};
 
 use crate::reading::Reading;
 use crate::{LINE_BYTES, Load};
+use djq_counters::{Ledgers, Steps};
 use djq_machine::{Fed, Machine, Stepped};
 use djq_model::NoMem;
-use djq_counters::{Ledgers, Steps};
 
 /// The id of the session of a load.
 const ID: u64 = 1;

@@ -1,5 +1,5 @@
-use djq_protocol::EndCause;
 use djq_counters::{Ledgers, Steps};
+use djq_protocol::EndCause;
 use thiserror::Error;
 
 /// What became of the line in front of a session's bytes.

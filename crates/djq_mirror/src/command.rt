@@ -3,12 +3,12 @@ ghost use Rattle.std.specs.Prelude.{◌≡◌, IfOk, MatchResult};
 ghost use Rattle.djq_mirror.specs.Mirror.{written};
 ghost use Rattle.djq_mirror.specs.Ends.{HaltIsTold, IsUntold, MirrorLeaves, LeavesNone, MirrorEnds, unfollowed_line};
 
+use crate::Mirror;
 use crate::follower::{Follower, Halt};
 use crate::reading::{Followed, follow};
 use bytes::BytesMut;
-use djq_io::{Sink, Source, Written, write_all};
 use djq_io::limits::READ_BYTES;
-use crate::Mirror;
+use djq_io::{Sink, Source, Written, write_all};
 use djq_model::{Name, NoMem};
 use djq_value::put;
 use itoa::Buffer;

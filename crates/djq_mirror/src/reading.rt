@@ -4,8 +4,8 @@ ghost use Rattle.djq_mirror.specs.Mirror.{at_first};
 ghost use Rattle.djq_mirror.specs.Follow.{FollowEnds};
 
 use crate::follower::{Follower, Halt};
-use djq_io::{Read, Source};
 use djq_io::limits::MOST_READS;
+use djq_io::{Read, Source};
 
 /// How reading ended.
 #[derive(Clone, Copy, Debug, PartialEq, Eq)]

@@ -11,8 +11,8 @@ use crate::cells::are_cells;
 use crate::forms::{is_fixed, is_worded};
 use crate::parts::{Parts, split_at};
 use crate::words::is_number;
-use djq_protocol::Sign;
 use djq_model::NoMem;
+use djq_protocol::Sign;
 use djq_value::{is_name, is_text};
 use std::alloc::Global;
 

@@ -10,8 +10,8 @@ use crate::parts::{
 };
 use crate::query::read_query;
 use crate::refusal::LineRefusal;
-use djq_protocol::{Command, Keyword};
 use djq_model::{ColumnType, Value};
+use djq_protocol::{Command, Keyword};
 use djq_value::{Lexer, next_word};
 use std::alloc::Global;
 use std::str;

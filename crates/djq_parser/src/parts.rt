@@ -11,9 +11,9 @@ ghost use Rattle.djq_parser.specs.declared.refusal.LineRefusal.TheVariants.{Synt
 use crate::item::Item;
 use crate::items::read_all;
 use crate::refusal::LineRefusal;
+use djq_model::{Name, Names, Sequence};
 use djq_protocol::Command;
 use djq_protocol::limits::NEXT_COUNT;
-use djq_model::{Name, Names, Sequence};
 use djq_value::{Lexer, next_name, next_word, read_natural};
 use std::alloc::Global;
 

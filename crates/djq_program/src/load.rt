@@ -5,11 +5,11 @@ ghost use Rattle.djq_program_laws.specs.Gen.{summary, Generates, LoadsUntold, Ge
 
 use crate::replay::write_text;
 use djq_core::Core;
+use djq_counters::{Ledgers, Steps};
 use djq_io::Sink;
 use djq_load::{Totals, run_load};
 use djq_model::{Name, NoMem};
 use djq_run::Status;
-use djq_counters::{Ledgers, Steps};
 use itoa::Buffer;
 use std::alloc::{AllocError, Global};
 

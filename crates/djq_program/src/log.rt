@@ -9,11 +9,11 @@ ghost use Rattle.djq_program_laws.specs.Parts.{OpensLog, OpensFile, OpensJournal
 ghost use Rattle.djq_program_laws.specs.Parts.{ReadsLog, EndsBatch, CantEnd};
 
 use djq_core::Core;
+use djq_counters::{Ledgers, Steps};
 use djq_disk::{Disk, DiskDid, DiskLen, DiskOpen};
 use djq_journal::{Appended, Journal, LINE_BYTES, Line, Log, Made, Opened, create};
 use djq_machine::Loaded;
 use djq_run::Status;
-use djq_counters::{Ledgers, Steps};
 
 /// The line that ends a batch, and drops it.
 const ABANDON: &[u8] = b"abandon";

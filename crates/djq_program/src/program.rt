@@ -12,16 +12,16 @@ ghost use Rattle.djq_program_laws.specs.Ends.{ProgramEnds, AsksToServe, AsksForL
 use crate::load::generate;
 use crate::log::open_log;
 use crate::replay::replay;
+use djq_cli::{Asked, read_words};
 use djq_core::Core;
+use djq_counters::{Ledgers, Steps};
 use djq_disk::{Disk, NoDisk};
-use djq_mirror::{Mirrored, mirror};
-use djq_io::{Hub, Listened, Sink, Source, Written, write_all};
 use djq_io::limits::READ_BYTES;
+use djq_io::{Hub, Listened, Sink, Source, Written, write_all};
+use djq_mirror::{Mirrored, mirror};
 use djq_model::Name;
 use djq_run::{Status, run_session};
 use djq_serve::{Served, serve_logged};
-use djq_counters::{Ledgers, Steps};
-use djq_cli::{Asked, read_words};
 use std::alloc::Global;
 
 /// The commands.

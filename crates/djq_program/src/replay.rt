@@ -13,13 +13,13 @@ ghost use Rattle.djq_program_laws.specs.Replay.{Wrote, WritesFor, ReplayEnds};
 use crate::log::open_log;
 use crate::program::ended_status;
 use djq_core::Core;
+use djq_counters::{Ledgers, Steps};
 use djq_disk::Disk;
-use djq_io::{MemHub, Read, Sink, Source, SteadyHub, Written, write_all};
 use djq_io::limits::{MOST_READS, READ_BYTES};
+use djq_io::{MemHub, Read, Sink, Source, SteadyHub, Written, write_all};
 use djq_run::Status;
 use djq_schedule::{ScheduleRefusal, count_lines, outside_line, schedule_hub, sent_text};
 use djq_serve::serve_logged;
-use djq_counters::{Ledgers, Steps};
 use std::alloc::Global;
 
 /// Reads a schedule from the source, serves its hub with the log at the path, if there is one, and

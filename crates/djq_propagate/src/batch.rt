@@ -11,8 +11,8 @@ ghost use Rattle.djq_index.specs.declared.table.TheConstants.{TUPLES};
 
 use crate::many::{insert_all, remove_all};
 use crate::path::touch_path;
-use djq_reduct::{Cells, Reducts};
 use djq_counters::Tally;
+use djq_reduct::{Cells, Reducts};
 use std::alloc::AllocError;
 use std::sync::ledger::Ledger;
 

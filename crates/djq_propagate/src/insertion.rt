@@ -14,9 +14,9 @@ ghost use Rattle.djq_index.specs.declared.table.TheConstants.{TUPLES};
 
 use crate::removal::remove_group_from_meet;
 use crate::tables::{column_of, find_at, find_part, insert_at, part_of, read_at, remove_at};
+use djq_counters::Tally;
 use djq_index::Table;
 use djq_reduct::Cells;
-use djq_counters::Tally;
 use djq_tree::{Node, Tree};
 use std::alloc::AllocError;
 use std::sync::ledger::Ledger;

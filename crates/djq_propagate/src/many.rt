@@ -13,9 +13,9 @@ ghost use Rattle.djq_index.specs.declared.table.TheConstants.{TUPLES};
 
 use crate::insertion::insert_tuple;
 use crate::removal::find_and_remove;
+use djq_counters::Tally;
 use djq_index::Table;
 use djq_reduct::Cells;
-use djq_counters::Tally;
 use djq_tree::Tree;
 use std::alloc::AllocError;
 use std::sync::ledger::Ledger;

@@ -15,9 +15,9 @@ ghost use Rattle.djq_propagate.specs.Updates.{HasCleared, HasTaken, steps};
 use crate::removal::remove_tuple;
 use crate::tables::read_at;
 use crate::touch::touch_step;
+use djq_counters::Tally;
 use djq_index::Table;
 use djq_reduct::Cells;
-use djq_counters::Tally;
 use djq_tree::Tree;
 use std::sync::ledger::Ledger;
 

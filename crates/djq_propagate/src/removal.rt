@@ -11,9 +11,9 @@ ghost use Rattle.djq_propagate.specs.Walks.{Ready, RemovedUpwards, Losing, Remov
 ghost use Rattle.djq_propagate.specs.Walks.{IsParentOf, IsEmptied, CoversAll};
 
 use crate::tables::{column_of, find_at, part_of, read_at, remove_at};
+use djq_counters::Tally;
 use djq_index::{Place, Table};
 use djq_reduct::Cells;
-use djq_counters::Tally;
 use djq_tree::{Node, Tree};
 use std::sync::ledger::Ledger;
 

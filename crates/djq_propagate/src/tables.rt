@@ -11,9 +11,9 @@ ghost use Rattle.djq_propagate.specs.Walks.{ChangedOneTable};
 ghost use Rattle.djq_index.specs.declared.table.TheConstants.{TUPLES};
 ghost use Rattle.djq_index.specs.declared.cells.TheConstants.{CELLS};
 
+use djq_counters::Tally;
 use djq_index::{Place, Table};
 use djq_reduct::Cells;
-use djq_counters::Tally;
 use std::alloc::AllocError;
 use std::sync::ledger::Ledger;
 

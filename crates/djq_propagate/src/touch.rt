@@ -12,9 +12,9 @@ ghost use Rattle.djq_propagate.specs.Touches.{IsTouched, IsStepUp, is_marked_by,
 ghost use Rattle.djq_propagate.specs.Walks.{IsParentOf};
 
 use crate::tables::{part_of, read_at};
+use djq_counters::Tally;
 use djq_index::Table;
 use djq_reduct::Cells;
-use djq_counters::Tally;
 use djq_tree::{Node, Tree};
 use std::sync::ledger::Ledger;
 

@@ -5,9 +5,9 @@ use crate::compared::{compares_unbound, has_miscompared};
 use crate::places::{has_clash, has_misfit, has_wrong_arity, reads_unknown};
 use crate::relations::Relations;
 use crate::variables::{are_different, has_many, has_unbound};
+use djq_model::Query;
 use djq_protocol::Refusal;
 use djq_protocol::limits::{ATOMS, COMPARISONS, HEAD_VARIABLES};
-use djq_model::Query;
 
 /// Why a query can't be asked over relations: the first of these that holds, and none where none
 /// does. It takes no memory.

@@ -40,8 +40,8 @@ ghost use Rattle.djq_query.specs.Numbered.{
 use crate::fault::query_fault;
 use crate::numbered::{NumberedAtom, NumberedComparison, NumberedQuery, NumberedTerm, Variable};
 use crate::relations::Relations;
-use djq_protocol::Refusal;
 use djq_model::{Atom, ColumnType, Comparison, Name, NoMem, Query, Sequence, Term, Text, Value};
+use djq_protocol::Refusal;
 use std::alloc::Global;
 
 /// A copy of a value.

@@ -12,8 +12,8 @@ ghost use Rattle.djq_protocol.specs.Variables.{
 };
 ghost use Rattle.djq_query.specs.Standing.{is_fresh as is_fresh_behind, CountsUpTo};
 
-use djq_protocol::limits::VARIABLES;
 use djq_model::{Atom, Name, Term};
+use djq_protocol::limits::VARIABLES;
 
 /// Whether a term is the variable of this name.
 fn is_variable(term: &Term, name: &Name) -> bool

@@ -13,10 +13,10 @@ use crate::group::Group;
 use crate::places::is_watched;
 use crate::reach::{clear_if, empty_logs};
 use crate::rows::{give_all_back, insert_all_into_readers};
+use djq_counters::{Ledgers, Steps};
 use djq_enumeration::DeltaLog;
 use djq_live_query::LiveQuery;
 use djq_model::{NoMem, Sequence};
-use djq_counters::{Ledgers, Steps};
 
 /// The places of the queries that read a group's relation.
 fn places_of<'a>(readers: &'a [Sequence<usize>], group: &Group) -> &'a [usize]

@@ -1,6 +1,6 @@
+use djq_database::RelationId;
 use djq_model::Sequence;
 use djq_reduct::Cells;
-use djq_database::RelationId;
 
 /// Rows that come into a relation at once, each given by its cells.
 #[derive(Drop)]

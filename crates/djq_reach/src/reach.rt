@@ -9,11 +9,11 @@ ghost use Rattle.djq_reach.specs.Tending.{AreUnwatched, HaveLogs, Empties, Works
 ghost use Rattle.djq_reach.specs.Reaching.{Reach, AllAt, CanCome, CanGo, TakesIn, LetsOut, Remains, GivesBack, Ages};
 
 use crate::places::is_watched;
+use djq_counters::{Ledgers, Steps};
+use djq_database::RelationId;
 use djq_enumeration::DeltaLog;
 use djq_live_query::LiveQuery;
 use djq_model::{Name, NoMem};
-use djq_database::RelationId;
-use djq_counters::{Ledgers, Steps};
 
 /// A log is made ready to tell anew, where that is wanted.
 pub(crate) fn clear_if(log: &mut DeltaLog, wanted: bool)

@@ -10,12 +10,12 @@ ghost use Rattle.djq_reach.specs.Batching.{CanComeAll, CanGoAll, CanGiveAll, Log
 ghost use Rattle.djq_reach.specs.Batching.{TakesInAll, StaysUnchanged, LetsOutAll, GivesAllBack, WorksBatch};
 
 use crate::places::is_watched;
+use djq_counters::{Ledgers, Steps};
+use djq_database::RelationId;
 use djq_enumeration::DeltaLog;
 use djq_live_query::LiveQuery;
 use djq_model::NoMem;
 use djq_reduct::Cells;
-use djq_database::RelationId;
-use djq_counters::{Ledgers, Steps};
 
 /// The query in a place takes in rows that came. Where it is watched, its log tells, behind what it
 /// told, which answers came.

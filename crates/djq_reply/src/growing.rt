@@ -14,8 +14,8 @@ ghost use Rattle.djq_value.specs.Writing.{Writes};
 ghost use Rattle.djq_value.specs.declared.output.TheConstants.{KEPT};
 
 use bytes::BytesMut;
-use djq_protocol::Sign;
 use djq_model::{Answered, Name, NoMem};
+use djq_protocol::Sign;
 use djq_value::{
     KEPT, digit_count, extend_digits, print_cell, put, write_byte, write_bytes, write_cell,
 };

@@ -11,8 +11,8 @@ ghost use Rattle.djq_value.specs.declared.output.TheConstants.{KEPT};
 use crate::short::{say_number, say_refused};
 use bytes::BytesMut;
 use djq_hypergraph::{Edges, Names, VarSet};
-use djq_protocol::{NamedRest, QueryOutcome, Refusal};
 use djq_model::NoMem;
+use djq_protocol::{NamedRest, QueryOutcome, Refusal};
 use djq_value::put;
 
 /// Answers `query`: by the most lookups and links for one of its answers, or by a rest.

@@ -10,8 +10,8 @@ ghost use Rattle.djq_value.specs.Output.{Says};
 
 use crate::refusal::refusal_words;
 use bytes::BytesMut;
-use djq_protocol::{AddOutcome, DeleteOutcome, Refusal, Shape};
 use djq_model::Name;
+use djq_protocol::{AddOutcome, DeleteOutcome, Refusal, Shape};
 use djq_value::{digit_count, extend_digits};
 
 /// A line of words.

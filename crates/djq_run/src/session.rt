@@ -7,11 +7,11 @@ ghost use Rattle.djq_run.specs.Parts.{Flushed, GoesTo, ReadEnds, ServedTo, Serve
 ghost use Rattle.djq_run.specs.Parts.{status_of};
 
 use crate::status::Status;
-use djq_io::{Read, Sink, Source, Wrote};
-use djq_io::limits::MOST_READS;
-use djq_protocol::EndCause;
-use djq_machine::{Machine, Stepped};
 use djq_counters::{Ledgers, Steps};
+use djq_io::limits::MOST_READS;
+use djq_io::{Read, Sink, Source, Wrote};
+use djq_machine::{Machine, Stepped};
+use djq_protocol::EndCause;
 
 /// The id of the one session of a run.
 const ID: u64 = 1;

@@ -9,11 +9,11 @@ ghost use Rattle.djq_serve.specs.Parts.{IsServed, NotServed, RunsLines, SettledB
 use crate::accepted::Accepted;
 use crate::flushing::flush;
 use crate::served::Served;
+use djq_counters::{Ledgers, Steps};
 use djq_disk::Disk;
 use djq_io::Hub;
 use djq_journal::{Kept, Log};
 use djq_machine::{Machine, Stepped};
-use djq_counters::{Ledgers, Steps};
 
 /// Runs the whole lines that a session holds, what each keeps kept and with a flush behind it, until none
 /// is left, the session has ended or is closed, a session said `stop`, or what a line keeps can't be kept.

@@ -14,11 +14,11 @@ ghost use Rattle.djq_serve.specs.Parts.{Took};
 use crate::flushing::close;
 use crate::served::Served;
 use crate::turning::take_turn;
+use djq_counters::{Ledgers, Steps};
 use djq_disk::{Disk, NoDisk};
 use djq_io::Hub;
 use djq_journal::Log;
 use djq_machine::Machine;
-use djq_counters::{Ledgers, Steps};
 
 /// Serves the sessions of a hub, until a session says `stop`, nothing will come any more, this many
 /// turns were taken, or the hub fails. Then each session that is open is closed.

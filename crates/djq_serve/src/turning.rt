@@ -15,11 +15,11 @@ ghost use Rattle.djq_serve.specs.Parts.{MayAnswer};
 use crate::flushing::flush;
 use crate::running::run_lines;
 use crate::served::Served;
+use djq_counters::{Ledgers, Steps};
 use djq_disk::Disk;
 use djq_io::{Hub, Turn};
 use djq_journal::Log;
 use djq_machine::{Machine, OpenRefusal};
-use djq_counters::{Ledgers, Steps};
 
 /// Takes a turn of the hub, and does what it brings. It answers how serving ends, if it does.
 pub(crate) fn take_turn<M: Machine, H: Hub, D: Disk, L: Ledgers>(

@@ -3,8 +3,8 @@ ghost use Rattle.djq_session.specs.Dialog.{IsNewDialog};
 
 use crate::named::NamedCursor;
 use bytes::BytesMut;
-use djq_protocol::{EndCause, HeldRow};
 use djq_model::{NoMem, Sequence};
+use djq_protocol::{EndCause, HeldRow};
 use std::alloc::Global;
 use std::marker::Model;
 

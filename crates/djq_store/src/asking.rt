@@ -13,10 +13,10 @@ ghost use Rattle.djq_store.specs.Explaining.{ExplainGives, HasMember};
 use crate::explained::Explained;
 use crate::finding::{find_union, joined_in};
 use crate::store::Store;
-use djq_engine::{Engine, QueryId};
-use djq_protocol::{Refusal, Shape};
-use djq_model::{Name, Value};
 use djq_counters::{Ledgers, Listing, Tally};
+use djq_engine::{Engine, QueryId};
+use djq_model::{Name, Value};
+use djq_protocol::{Refusal, Shape};
 
 /// Whether a tuple is an answer of the query in a place.
 fn has_at<L: Ledgers>(

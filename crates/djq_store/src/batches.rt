@@ -7,9 +7,9 @@ ghost use Rattle.djq_store.specs.Batches.{AreCounts, has_grown, is_lacked};
 
 use crate::settling::Turn;
 use djq_engine::Engine;
+use djq_model::Name;
 use djq_protocol::HeldRow;
 use djq_protocol::limits::HELD;
-use djq_model::Name;
 
 /// How many rows the relation of each of these rows has, where that is wanted.
 pub fn count_rows(engine: &Engine, held: &[HeldRow], wanted: bool) -> [u64; HELD]

@@ -14,9 +14,9 @@ ghost use Rattle.djq_store.specs.Watching.{TellsChange};
 use crate::batches::count_rows;
 use crate::following::{add_turn, batch_turn, delete_turn, follow_batch, follow_one, has_union};
 use crate::store::Store;
-use djq_protocol::{AddOutcome, DeleteOutcome, HeldRow, Refusal};
-use djq_model::{Name, Types, Value};
 use djq_counters::{Ledgers, Steps};
+use djq_model::{Name, Types, Value};
+use djq_protocol::{AddOutcome, DeleteOutcome, HeldRow, Refusal};
 
 impl Store {
     /// Makes a relation without rows, of one column at least.

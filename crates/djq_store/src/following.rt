@@ -16,10 +16,10 @@ use crate::affecting::{affect, affect_queries};
 use crate::batches::{changed_names, is_lacked};
 use crate::parts::Parts;
 use crate::settling::{Turn, settle_all};
+use djq_counters::Tally;
+use djq_model::Name;
 use djq_protocol::limits::HELD;
 use djq_protocol::{AddOutcome, DeleteOutcome, HeldRow, Refusal};
-use djq_model::Name;
-use djq_counters::Tally;
 use std::sync::ledger::Ledger;
 
 /// Behind a change of these relations, made or tried, if there was one: the unions that read one are

@@ -14,10 +14,10 @@ ghost use Rattle.djq_store.specs.Whole.{StoreIsWhole};
 use crate::finding::find_union;
 use crate::parts::Parts;
 use djq_engine::Engine;
-use djq_protocol::Refusal;
-use djq_protocol::limits::{MEMBERS, QUERIES};
 use djq_live_query::LiveQuery;
 use djq_model::{Name, NoMem, Sequence};
+use djq_protocol::Refusal;
+use djq_protocol::limits::{MEMBERS, QUERIES};
 use std::alloc::Global;
 
 /// Whether nothing is registered under a name.

@@ -12,12 +12,12 @@ ghost use Rattle.djq_store.specs.Reading.{NextGives};
 use crate::finding::{find_union, joined_in};
 use crate::joined::Joined;
 use crate::store::Store;
+use djq_counters::{Ledgers, Listing, Tally};
 use djq_engine::{Answer, CursorId, LentAnswer, Next, QueryId};
-use djq_protocol::Refusal;
-use djq_protocol::limits::QUERIES;
 use djq_live_query::LiveQuery;
 use djq_model::{Name, NoMem};
-use djq_counters::{Ledgers, Listing, Tally};
+use djq_protocol::Refusal;
+use djq_protocol::limits::QUERIES;
 
 /// Opens a cursor over the union in a slot.
 fn open_at(unions: &mut Vec<Option<Joined>>, slot: usize) -> Result<usize, NoMem>

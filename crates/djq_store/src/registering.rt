@@ -18,12 +18,12 @@ use crate::joined::Joined;
 use crate::judging::{judge_union, places_of};
 use crate::leaving::{is_member, leave_out};
 use crate::store::Store;
+use djq_counters::{Ledgers, Steps};
 use djq_enumeration::DeltaLog;
-use djq_protocol::limits::QUERIES;
-use djq_protocol::{QueryOutcome, Refusal};
 use djq_live_query::LiveQuery;
 use djq_model::{Name, Query};
-use djq_counters::{Ledgers, Steps};
+use djq_protocol::limits::QUERIES;
+use djq_protocol::{QueryOutcome, Refusal};
 use djq_united::LiveUnion;
 use std::mem::size_of_val;
 

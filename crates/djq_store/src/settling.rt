@@ -13,11 +13,11 @@ ghost use Rattle.djq_store.specs.Settling.{SettlesAt, telling_steps, settling_st
 ghost use Rattle.djq_store.specs.Settling.{AreUnionsUnwatched};
 
 use crate::joined::Joined;
+use djq_counters::Tally;
 use djq_engine::{Engine, LiveQuery};
 use djq_gains::tell_gains;
-use djq_protocol::limits::MEMBERS;
 use djq_model::{Name, Query};
-use djq_counters::Tally;
+use djq_protocol::limits::MEMBERS;
 use std::alloc::Global;
 use std::sync::ledger::Ledger;
 

@@ -8,8 +8,8 @@ ghost use Rattle.djq_store.specs.Lending.{LendsEngine};
 use crate::finding::{find_union, joined_in};
 use crate::parts::Parts;
 use djq_engine::{Engine, QueryId};
-use djq_protocol::limits::QUERIES;
 use djq_model::{Name, NoMem};
+use djq_protocol::limits::QUERIES;
 use std::alloc::Global;
 use std::marker::Model;
 

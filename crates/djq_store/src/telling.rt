@@ -5,8 +5,8 @@ ghost use Rattle.djq_engine.specs.Kept.{IsRegistered, told_at};
 use crate::finding::joined_in;
 use crate::joined::Joined;
 use crate::store::Store;
-use djq_enumeration::Line;
 use djq_engine::{CursorId, LentAnswer, QueryId, sign_of};
+use djq_enumeration::Line;
 use djq_protocol::Sign;
 use djq_protocol::limits::QUERIES;
 

@@ -6,10 +6,10 @@ ghost use Rattle.djq_united.specs.Slots.{IsOpen};
 ghost use Rattle.djq_united.specs.United.{AreMembers, AreKept, CursorFitsMembers};
 ghost use Rattle.djq_united.specs.Advancing.{UnionReads, UnionLooks, call_steps, most_of};
 
+use djq_counters::Tally;
+use djq_cursors::Progress;
 use djq_live_query::{LiveQuery, Next, QueriesAt};
 use djq_reduct::{Answer, Cells};
-use djq_cursors::Progress;
-use djq_counters::Tally;
 use djq_union::{Members, UnionCursor};
 use std::sync::ledger::Ledger;
 

@@ -22,11 +22,11 @@ ghost use Rattle.djq_live_query.specs.Staying.{HasSameShape};
 ghost use Rattle.djq_united.specs.Staying.{KeepMembers};
 
 use crate::reads::{has_more, read};
+use djq_counters::{Ledgers, Listing, Tally};
+use djq_cursors::Cursors;
 use djq_live_query::{LiveQuery, Next};
 use djq_model::{Name, NoMem, Sequence};
 use djq_reduct::Answer;
-use djq_cursors::Cursors;
-use djq_counters::{Ledgers, Listing, Tally};
 use djq_union::UnionCursor;
 use std::alloc::Global;
 use std::marker::Model;

@@ -7,15 +7,12 @@ ghost use Rattle.djq_commands.specs.Sound.{BatchSuits};
 ghost use Rattle.djq_commands.specs.Stepping.{IsRunnable};
 
 use super::Core;
-use djq_commands::is_removal;
-use djq_commands::is_registered;
-use djq_commands::new_row;
-use djq_commands::{BatchLine, read_in_batch};
-use djq_protocol::{Command, HeldRow, Refusal};
+use djq_commands::{BatchLine, is_registered, is_removal, new_row, read_in_batch};
+use djq_counters::{Ledgers, Steps};
 use djq_machine::Loaded;
 use djq_model::{Name, Sequence, Value};
 use djq_parser::{LineRefusal, read_command};
-use djq_counters::{Ledgers, Steps};
+use djq_protocol::{Command, HeldRow, Refusal};
 use djq_store::Store;
 use std::alloc::Global;
 

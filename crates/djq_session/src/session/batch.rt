@@ -3,8 +3,8 @@ ghost use Rattle.std.specs.Prelude.{OnOk, OnErr};
 ghost use Rattle.djq_session.specs.Dialog.{batch_rows};
 
 use super::Session;
-use djq_protocol::HeldRow;
 use djq_model::{NoMem, Sequence};
+use djq_protocol::HeldRow;
 
 impl<C: Copy, Q: Copy + PartialEq> Session<C, Q> {
     /// Whether it has a batch open.

@@ -4,8 +4,8 @@ ghost use Rattle.djq_session.specs.Dialog.{KeepsFor, MayQueue};
 
 use super::{IDLE_BYTES, OUTPUT_BYTES, Session};
 use bytes::BytesMut;
-use djq_protocol::limits::LAST_LINE_BYTES;
 use djq_model::NoMem;
+use djq_protocol::limits::LAST_LINE_BYTES;
 
 impl<C: Copy, Q: Copy + PartialEq> Session<C, Q> {
     /// Makes room for so many bytes of output, and for the last line behind them.

@@ -8,8 +8,8 @@ ghost use Rattle.djq_protocol.specs.declared.limits.TheConstants.{LAST_LINE_BYTE
 ghost use Rattle.djq_session.specs.Dialog.{MayQueue, Replies};
 
 use super::Session;
-use djq_protocol::{AddOutcome, DeleteOutcome, QueryOutcome, Refusal, Shape};
 use djq_model::{Answered, Name, NoMem};
+use djq_protocol::{AddOutcome, DeleteOutcome, QueryOutcome, Refusal, Shape};
 use djq_reply::{
     put_answer, put_explained, put_last, put_registered, say_added, say_batch, say_batch_done,
     say_deleted, say_done, say_has, say_held, say_opened, say_refused, say_shape, say_stale,

@@ -2,7 +2,7 @@
 use Rattle.std.proofs.Common.{ℕ, List, subst}
 use Rattle.std.specs.Prelude.{Contains}
 use Rattle.djq_core.proofs.Queues.{listed_open, listed_at}
-use Rattle.djq_examples_store.proofs.core.is_open.Goals as goal
+use Rattle.djq_examples_store.proofs.sessions.is_open.Goals as goal
 
 pub returns-then-ids-at : goal.returns-then-ids-at
 returns-then-ids-at c = λ _. listed_open (c.args.core.now).state c.args.id

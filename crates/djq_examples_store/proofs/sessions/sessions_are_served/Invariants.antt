@@ -1,5 +1,5 @@
 -- The counters stand on the ledgers that the blanks are of.
-use Rattle.djq_examples_store.proofs.core.sessions_are_served.Given as goal
+use Rattle.djq_examples_store.proofs.sessions.sessions_are_served.Given as goal
 
 abbrev pub ghosts-first_wrong : goal.ghosts-first_wrong
 ghosts-first_wrong g a = record

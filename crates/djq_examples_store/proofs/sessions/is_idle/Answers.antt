@@ -2,7 +2,7 @@
 use Rattle.std.proofs.Common.{sym, ◌∙◌}
 use Rattle.std.proofs.lemmas.Bool.{eqb-true}
 use Rattle.djq_core.proofs.Queues.{none_listed}
-use Rattle.djq_examples_store.proofs.core.is_idle.Goals as goal
+use Rattle.djq_examples_store.proofs.sessions.is_idle.Goals as goal
 
 pub returns : goal.returns
 returns c = λ e. none_listed ((c.args.core.now).state).sessions c.ids.result.now c.ids.ensures

@@ -2,10 +2,10 @@ ghost use Rattle.std.specs.Prelude.{◌≡◌, ◌<◌, [], true, All};
 ghost use Rattle.djq_machine.specs.Call.{IsOpen};
 
 use djq_core::Core;
-use djq_protocol::EndCause;
+use djq_counters::{Blanks, Ledgers, Steps};
 use djq_machine::{Loaded, Machine, Stepped};
 use djq_model::{Name, NoMem};
-use djq_counters::{Blanks, Ledgers, Steps};
+use djq_protocol::EndCause;
 use std::marker::Brand;
 
 mod scripts;

@@ -1,4 +1,4 @@
-use Rattle.djq_examples_store.proofs.core.is_open.Given as goal
+use Rattle.djq_examples_store.proofs.sessions.is_open.Given as goal
 
 abbrev pub invariant-loop-at : goal.invariant-loop-at
 invariant-loop-at l = Unit {0}

@@ -3,8 +3,8 @@ use super::Move::{
     self, Closes, Counts, Ended, Fills, HasMore, IsLast, IsShut, IsTold, Keeps, Loads, Opens, Says,
     Steps,
 };
-use djq_protocol::EndCause;
 use djq_machine::Loaded;
+use djq_protocol::EndCause;
 
 /// Each move beside its session; one that is of none stands beside 0.
 pub(super) const SCRIPTS: [(&str, &[(u64, Move)]); 6] = [

@@ -1,7 +1,7 @@
 -- Each id of the list is below this one, by the loop, and the list has the ids of all open sessions.
 use Rattle.std.proofs.Common.{ℕ, List, ◌<◌, length, get_or, subst, arith}
 use Rattle.djq_core.proofs.Queues.{listed_above}
-use Rattle.djq_examples_store.proofs.core.is_above.Goals as goal
+use Rattle.djq_examples_store.proofs.sessions.is_above.Goals as goal
 
 pub returns : goal.returns
 returns c = λ _. listed_above ((c.args.core.now).state).sessions c.args.id
