@@ -1,7 +1,7 @@
 ghost use Rattle.std.specs.Prelude.{◌<◌};
 
 use djq_io::{MemSink, MemSource};
-use djq_mirror::{Mirrored, mirror};
+use djq_mirror::{Mirrored, run_mirror};
 use djq_model::Name;
 use std::test::Fail;
 
@@ -11,7 +11,7 @@ fn mirrored(rt: HostRuntime, sent: &[u8], most: usize, sink: &mut MemSink) -> Re
     requires { 0 < most }
 {
     let mut source = MemSource::new(sent.to_vec(rt.alloc())?, most);
-    Ok(mirror(rt.alloc(), Name::new(b"q"), &mut source, sink))
+    Ok(run_mirror(rt.alloc(), Name::new(b"q"), &mut source, sink))
 }
 
 #[test]

@@ -34,7 +34,7 @@ pub enum Mirrored {
 /// Reads what one session was sent from the source, and writes the answers of a query that this
 /// leaves, as lines in byte order with `end` behind them; `none` where they aren't known whole; or
 /// which line is the first that can't be followed, and nothing is read behind it.
-pub fn mirror<S: Source, K: Sink>(
+pub fn run_mirror<S: Source, K: Sink>(
     alloc: Global,
     query: Name,
     source: &mut S,

@@ -28,7 +28,7 @@
 //!
 //! # The loop of `djq mirror`
 //!
-//! [`mirror`] reads what a session was sent from a source, piece by piece, to the source's end or to
+//! [`run_mirror`] reads what a session was sent from a source, piece by piece, to the source's end or to
 //! the first line that a mirror can't follow, and writes what that leaves. Its contract says so of the
 //! bytes that were read, however they are cut into pieces.
 //!
@@ -44,7 +44,7 @@
 //! read on then.
 #![tactic(auto)]
 
-pub use command::{Mirrored, mirror};
+pub use command::{Mirrored, run_mirror};
 pub use mirror::{Mirror, MirrorRefusal};
 pub use mode::{Mode, REPLY_LINE_BYTES};
 

@@ -18,7 +18,7 @@ use djq_counters::{Ledgers, Steps};
 use djq_disk::{Disk, NoDisk};
 use djq_io::limits::READ_BYTES;
 use djq_io::{Hub, Listened, Sink, Source, Written, write_all};
-use djq_mirror::{Mirrored, mirror};
+use djq_mirror::{Mirrored, run_mirror};
 use djq_model::Name;
 use djq_run::{Status, run_session};
 use djq_serve::{Served, serve_logged};
@@ -168,7 +168,7 @@ fn mirror_source<S: Source, K: Sink>(
         (outside (S.told source.old) (S.faults source.old) (K.told sink.old) (K.faults sink.old) counted)
         (outside (S.told source.new) (S.faults source.new) (K.told sink.new) (K.faults sink.new) counted) }
 {
-    mirror_status(mirror(alloc, Name::new(query.as_bytes()), source, sink))
+    mirror_status(run_mirror(alloc, Name::new(query.as_bytes()), source, sink))
 }
 
 /// The status that the end of `mirror` comes to.

@@ -20,6 +20,7 @@ use Rattle.djq_protocol.specs.Hypergraph.{edges_of, head_of}
 use Rattle.djq_hypergraph.specs.Flat.{IsFlat}
 use Rattle.djq_store_spec.specs.Store.{Store}
 use Rattle.djq_protocol.specs.Conditions.{first_refusal, Answers, OutOfMemoryWhere}
+use Rattle.djq_store_spec.specs.Registering.{atoms_of}
 
 -- `has`
 

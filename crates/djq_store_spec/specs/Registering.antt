@@ -19,6 +19,7 @@ use Rattle.djq_hypergraph.specs.JoinTree.{IsFreeConnex}
 use Rattle.djq_hypergraph.specs.Refusing.{IsCyclic, IsNotConnex}
 use Rattle.djq_store_spec.specs.Store.{Store}
 use Rattle.djq_protocol.specs.Conditions.{first_refusal, Answers, OutOfMemoryWhere}
+use Rattle.djq_store_spec.specs.Relations.{RefusedByTexts}
 
 -- `query`
 

@@ -16,6 +16,7 @@ use Rattle.djq_protocol.specs.declared.answer.DeleteOutcome.TheVariants.{Last, L
 use Rattle.djq_protocol.specs.Columns.{types_of}
 use Rattle.djq_store_spec.specs.Store.{Store}
 use Rattle.djq_protocol.specs.Conditions.{first_refusal, Answers, OutOfMemoryWhere}
+use Rattle.djq_store_spec.specs.Relations.{with_rows, RefusedByTexts}
 
 -- `add` and `del`
 
