@@ -11,16 +11,18 @@ is 0 where none failed.
 """
 
 import argparse
+import glob
+import os
 import re
 import sys
 
-from definitions import BELOW, Repository
+from definitions import BELOW, ROOT, Repository, is_code, read
 from marked import Pages
 
 TOP = "run_program"
 
 # by how much a number of a page may be off: a share of it, or so many
-NEAR = {"definitions": (0, 0), "reading": (0.1, 5)}
+NEAR = {"definitions": (0, 0), "reading": (0.1, 5), **{f"repository.{name}": (0.1, 5) for name in ("crates", "source", "specs", "proofs", "edits")}}
 ELSE = (0.02, 2)
 
 # what the page tells the size of: the words for it, the key of its numbers, and the definitions that it begins at
@@ -37,6 +39,17 @@ STATEMENTS = [
 
 def number(n):
     return f"{n:,}"
+
+
+def repository():
+    """How much the whole repository is: its crates, its lines of code, of definitions and of proofs, and its must-fail edits."""
+    def lines(pattern):
+        paths = glob.glob(os.path.join(ROOT, "crates", "*", pattern), recursive=True)
+        return number(sum(is_code(line) for path in paths for line in read(path).split("\n")))
+
+    edits = glob.glob(os.path.join(ROOT, "crates", "*", "must-fail", "*.edit"))
+    counts = {"crates": str(len(BELOW)), "edits": str(len(edits)), "source": lines("src/**/*.rt"), "specs": lines("specs/**/*.antt")}
+    return {f"repository.{name}": value for name, value in {**counts, "proofs": lines("proofs/**/*.antt")}.items()}
 
 
 class Size:
@@ -67,7 +80,7 @@ class Statement:
     def numbers(self):
         """All numbers that pages tell, by their keys."""
         found = {name: value for _, key, size in self.sizes for name, value in size.numbers(key).items()}
-        return {**found, **Size(self.path()).numbers("path")}
+        return {**found, **Size(self.path()).numbers("path"), **repository()}
 
     def text_of(self, what, shown):
         """A marked block: what it is of is its first word, and further words are names."""
