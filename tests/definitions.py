@@ -134,6 +134,9 @@ class Repository:
                     last += 1
                 yield Definition(head[1], file, [], lines[number:last + 1], is_source=True)
 
+    def is_defined(self, name):
+        return any(name in module.definitions for module in self.modules.values())
+
     def named(self, name):
         """The definition of a name, wherever it stands; a name is that of one definition."""
         found = [module.definitions[name] for module in self.modules.values() if name in module.definitions]

@@ -1,6 +1,7 @@
 """Parts of the pages that a script writes and that a test holds against the tree.
 
-A block stands between `<!-- begin: tests/NAME.py WHAT -->` and `<!-- end -->`, a number between `<!--=KEY-->` and `<!--/-->`.
+A block stands between `<!-- begin: tests/NAME.py WHAT -->` and `<!-- end -->`, a number between `<!--=KEY-->` and `<!--/-->`. What isn't
+the script's own, or can't be told, is None, and stays as it is.
 """
 
 import glob
@@ -35,8 +36,8 @@ def is_near(shown, wanted, share, least=0):
 class Pages:
     """Goes over the marked parts of one script, and holds them or writes them."""
 
-    def __init__(self, script, text_of, numbers, share_of=lambda what: (0, 0)):
-        self.block, self.text_of, self.numbers, self.share_of = block_of(script), text_of, numbers, share_of
+    def __init__(self, script, text_of, number_of, share_of=lambda what: (0, 0)):
+        self.block, self.text_of, self.number_of, self.share_of = block_of(script), text_of, number_of, share_of
         self.passed, self.failed = 0, 0
 
     def check(self, holds, words):
@@ -49,18 +50,19 @@ class Pages:
             page, name = read(path), os.path.relpath(path, ROOT)
             for _, what, shown, _ in self.block.findall(page):
                 wanted = self.text_of(what, shown)
-                holds = wanted is None or is_near(shown, wanted, *self.share_of(what))
-                self.check(holds, f"{name}: the part '{what}' doesn't say what the tree has: call this test with --write, and read it again")
+                if wanted is not None:
+                    words = f"{name}: the part '{what}' doesn't say what the tree has: call this test with --write, and read it again"
+                    self.check(is_near(shown, wanted, *self.share_of(what)), words)
             for key, shown in NUMBER.findall(page):
-                if key in self.numbers:
-                    wanted = self.numbers[key]
+                wanted = self.number_of(key)
+                if wanted is not None:
                     self.check(is_near(shown, wanted, *self.share_of(key)), f"{name}: {key} is said to be {shown}, and is {wanted}")
 
     def write(self):
         for path in pages():
             page = old = read(path)
             page = self.block.sub(lambda part: part[1] + (self.text_of(part[2], part[3]) or part[3]) + part[4], page)
-            page = NUMBER.sub(lambda part: f"<!--={part[1]}-->{self.numbers.get(part[1], part[2])}<!--/-->", page)
+            page = NUMBER.sub(lambda part: f"<!--={part[1]}-->{self.number_of(part[1]) or part[2]}<!--/-->", page)
             if page != old:
                 with open(path, "w", encoding="utf-8") as file:
                     file.write(page)

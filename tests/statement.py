@@ -17,39 +17,32 @@ import re
 import sys
 
 from definitions import BELOW, ROOT, Repository, is_code, read
-from marked import Pages
+from marked import Pages, block_of
 
 TOP = "run_program"
+PAGE = os.path.join(ROOT, "docs", "THEOREM.md")
 
 # by how much a number of a page may be off: a share of it, or so many
-NEAR = {"definitions": (0, 0), "reading": (0.1, 5), **{f"repository.{name}": (0.1, 5) for name in ("crates", "source", "specs", "proofs", "edits")}}
+NEAR = {"definitions": (0, 0), "reading": (0.1, 5), "repository": (0.1, 5)}
 ELSE = (0.02, 2)
 
-# what the page tells the size of: the words for it, the key of its numbers, and the definitions that it begins at
-STATEMENTS = [
-    ("what an answer is, and a listing", "listing", ["AnswersOf", "IsListing"]),
-    ("what a delta is", "delta", ["IsDelta"]),
-    ("which queries are admitted", "admitted", ["IsFreeConnex"]),
-    ("one step of the machine", "step", ["Step"]),
-    ("`run`", "run", ["Serves"]),
-    ("`serve` without a log", "serve", ["ServeEnds"]),
-    ("`serve` with a log", "logged", ["ServesHub"]),
-]
+
+def near(what):
+    return NEAR.get(re.split(r"[ .]", what)[0], ELSE)
 
 
 def number(n):
     return f"{n:,}"
 
 
-def repository():
-    """How much the whole repository is: its crates, its lines of code, of definitions and of proofs, and its must-fail edits."""
-    def lines(pattern):
-        paths = glob.glob(os.path.join(ROOT, "crates", "*", pattern), recursive=True)
-        return number(sum(is_code(line) for path in paths for line in read(path).split("\n")))
+def names_in(cell):
+    """The names that a cell of a table has between backticks."""
+    return re.findall(r"`(\w+)`", cell)
 
-    edits = glob.glob(os.path.join(ROOT, "crates", "*", "must-fail", "*.edit"))
-    counts = {"crates": str(len(BELOW)), "edits": str(len(edits)), "source": lines("src/**/*.rt"), "specs": lines("specs/**/*.antt")}
-    return {f"repository.{name}": value for name, value in {**counts, "proofs": lines("proofs/**/*.antt")}.items()}
+
+def cells(rows):
+    """The rows of a table, without its head, as lists of cells."""
+    return [[cell.strip() for cell in row.strip().strip("|").split("|")] for row in rows.strip().split("\n")[2:]]
 
 
 class Size:
@@ -61,8 +54,8 @@ class Size:
         self.types = len(found) - len(stated)
         self.crates, self.files = len({one.crate for one in stated}), len({one.file for one in stated})
 
-    def numbers(self, key):
-        return {f"{key}.{name}": number(value) for name, value in vars(self).items()}
+    def __str__(self):
+        return f"{self.definitions} definitions, {self.code} lines of code, {self.whole} with comments, {self.crates} crates"
 
     def row(self, words):
         return f"| {words} | {number(self.definitions)} | {number(self.code)} | {number(self.whole)} | {self.types} | {self.crates} |\n"
@@ -73,14 +66,24 @@ class Statement:
 
     def __init__(self):
         self.all = Repository()
-        self.found = self.all.closure(self.all.cited_by(TOP))
-        self.sizes = [(words, key, Size(self.all.closure(map(self.all.named, roots)))) for words, key, roots in STATEMENTS]
-        self.sizes.append(("the whole clause of `run_program`", "clause", Size(self.found)))
+        self.top = self.all.cited_by(TOP)
+        self.found = self.all.closure(self.top)
 
-    def numbers(self):
-        """All numbers that pages tell, by their keys."""
-        found = {name: value for _, key, size in self.sizes for name, value in size.numbers(key).items()}
-        return {**found, **Size(self.path()).numbers("path"), **repository()}
+    def size_of(self, *names):
+        """How much is reached from these definitions, or from the contract of the top call."""
+        roots = [one for name in names for one in (self.top if name == TOP else [self.all.named(name)])]
+        return Size(self.all.closure(roots))
+
+    def number_of(self, key):
+        """A number that a page tells: of what a definition reaches, of the path, or of the whole repository."""
+        name, _, kind = key.partition(".")
+        if name == "repository":
+            return repository(kind)
+        if name == "path":
+            return number(vars(Size(self.path()))[kind])
+        if name == TOP or self.all.is_defined(name):
+            return number(vars(self.size_of(name))[kind])
+        return None
 
     def text_of(self, what, shown):
         """A marked block: what it is of is its first word, and further words are names."""
@@ -89,8 +92,9 @@ class Statement:
         return makes[kind](names, shown)
 
     def size_rows(self, names, shown):
+        """A row for each that the page has: how much is reached from the definitions that its first cell names."""
         head = "| what | definitions | lines of code | with comments | types and constants of `src/` | crates |\n|---|---|---|---|---|---|\n"
-        return head + "".join(size.row(words) for words, _, size in self.sizes)
+        return head + "".join(self.size_of(*names_in(row[0])).row(row[0]) for row in cells(shown))
 
     def reading_rows(self, names, shown):
         """A row a crate: which of its files the statement reaches, and how much of them."""
@@ -102,22 +106,19 @@ class Statement:
             rows += f"| `{crate}/specs` | {', '.join(files) or 'none'} | {size.definitions} | {number(size.whole)} | {size.types} |\n"
         return rows
 
-    def path(self):
-        """The definitions of the shortest path, as the page names them."""
-        return [self.all.named(name) for _, names in self.path_parts() for name in names]
-
-    def path_parts(self):
-        for words, names in PATH:
-            yield words, names.split()
-
     def path_rows(self, names, shown):
+        """A row for each that the page has: where the definitions stand that its second cell names."""
         rows = "| | read | in | lines of code |\n|---|---|---|---|\n"
-        for place, (words, names) in enumerate(self.path_parts(), 1):
-            found = [self.all.named(name) for name in names]
-            files = sorted({one.file for one in found})
-            cited, where = " ".join(f"`{name}`" for name in names), ", ".join(f"`{file}`" for file in files)
-            rows += f"| {place} | {words}: {cited} | {where} | {Size(found).code} |\n"
+        for place, (_, said, *_) in enumerate(cells(shown), 1):
+            found = [self.all.named(name) for name in names_in(said)]
+            where = ", ".join(f"`{file}`" for file in sorted({one.file for one in found}))
+            rows += f"| {place} | {said} | {where} | {Size(found).code} |\n"
         return rows
+
+    def path(self):
+        """The definitions of the shortest way, as the page names them."""
+        (shown,) = [shown for _, what, shown, _ in block_of("statement.py").findall(read(PAGE)) if what == "path"]
+        return [self.all.named(name) for row in cells(shown) for name in names_in(row[1])]
 
     def shown(self, names, shown):
         """Definitions as they stand in their files."""
@@ -125,25 +126,13 @@ class Statement:
         return "```antt\n" + "\n".join(lines) + "\n```\n"
 
 
-# The shortest path through the statement: what is read, and by which definitions.
-PATH = [
-    ("an answer", "Assignment StandsFor StandForAll Satisfies compares HoldsOf IsAnswer AreDifferent IsListing"),
-    ("a query or a union", "Listed listed_name queries_of AnswersOf"),
-    ("a delta", "Change HasChanged IsDelta"),
-    ("an admitted query", "places link_edges parent_edge IsUnder IsOrder tops IsJoinTree IsRootedAt HasJoinTree HasJoinTreeFrom"
-     " IsFreeConnex member degree edge_at"),
-    ("the state", "Store Position Cursor Session State"),
-    ("what commands do to relations and queries", "AddsAs AddsRow TellsAnswers RegistersAs RegistersQuery"),
-    ("what watchers are sent", "affected AreDeltas ListsDeltas TellsWatcher TellsSession TellsDelta ChangeStep"),
-    ("commands", "AddStep NextStep QueryStep WatchStep CommandStep"),
-    ("a line", "TakenLine ReadStep FrontStep"),
-    ("one step", "Effect queue queue_all Event Acts SameRelations Step"),
-    ("a run", "Did Walk Run out Gives PositionGives CursorsGive"),
-    ("a log", "OpensWithin IsKeeping WasKeeping"),
-    ("serving", "IsSent Moments ServeEnds"),
-    ("the program", "ServesHub EndsAs ProgramEnds"),
-    ("laws of it", "HasListed StaysLive LiveFrom FinishedCursors ServeIsLive Reopens LogsReopen"),
-]
+def repository(kind):
+    """How much the whole repository is: its crates, its must-fail edits, its lines of code, of definitions and of proofs."""
+    if kind == "crates":
+        return str(len(BELOW))
+    patterns = {"edits": "must-fail/*.edit", "source": "src/**/*.rt", "specs": "specs/**/*.antt", "proofs": "proofs/**/*.antt"}
+    paths = glob.glob(os.path.join(ROOT, "crates", "*", patterns[kind]), recursive=True)
+    return str(len(paths)) if kind == "edits" else number(sum(is_code(line) for path in paths for line in read(path).split("\n")))
 
 
 def main():
@@ -155,9 +144,8 @@ def main():
     statement = Statement()
     for one in statement.found if given.list else ():
         print(f"{one.file}: {one.name}, {one.code()} lines")
-    for said, _, size in statement.sizes:
-        print(f"{said}: {size.definitions} definitions, {size.code} lines of code, {size.whole} with comments, {size.crates} crates")
-    held = Pages("statement.py", statement.text_of, statement.numbers(), lambda what: NEAR.get(what.split()[0], ELSE))
+    print(f"the contract of {TOP}: {Size(statement.found)}")
+    held = Pages("statement.py", statement.text_of, statement.number_of, near)
     if given.write:
         held.write()
     held.hold()

@@ -179,7 +179,7 @@ def main():
     }
     files = edge()
     numbers = {"edge.code": f"{sum(map(code_of, files)):,}", "edge.files": str(len(files))}
-    held = Pages("trusted.py", lambda what, shown: makes[what](shown), numbers)
+    held = Pages("trusted.py", lambda what, shown: makes[what](shown), numbers.get)
     if given.write:
         held.write()
     held.hold()
