@@ -121,9 +121,12 @@ class Statement:
         return [self.all.named(name) for row in cells(shown) for name in names_in(row[1])]
 
     def shown(self, names, shown):
-        """Definitions as they stand in their files."""
-        lines = [line for name in names for line in self.all.named(name).lines if line.strip() and not line.strip().startswith("--")]
-        return "```antt\n" + "\n".join(lines) + "\n```\n"
+        """Definitions as they stand in their files, but for comments and the word `pub`."""
+        texts = []
+        for name in names:
+            lines = [line for line in self.all.named(name).lines if line.strip() and not line.strip().startswith("--")]
+            texts.append("\n".join(re.sub(r"^(\s*)(?:abbrev )?(?:pub )", r"\1", line) for line in lines))
+        return "```antt\n" + "\n\n".join(texts) + "\n```\n"
 
 
 def repository(kind):

@@ -1,13 +1,13 @@
 #!/usr/bin/env python3
 """What is trusted beside the proofs, as far as files tell it, and whether the pages say so.
 
-    tests/trusted.py PROGRAM [--report FILE] [--write]
+    tests/trusted.py PROGRAM [--check | --report FILE] [--write]
 
 It counts the code that meets the system, file by file; looks whether any file of a crate assumes something, leaves a goal open or
-uses what only trust covers; and lists the functions of the C library that PROGRAM calls (by `nm`, of Debian's binutils). FILE is
-what `rt check --list-axioms` printed in the program's folder, or what `rt ci` did: of its lines `axioms` it is compared which
-functions of C the verdict rests on. `--write` writes the marked parts of the pages anew. What can't be looked at is named, and then
-not compared. Last `N passed, N failed` is printed; the status is 0 where none failed.
+uses what only trust covers; and lists the functions of the C library that PROGRAM calls (by `nm`, of Debian's binutils). `--check`
+calls `rt check --list-axioms` in the program's folder, and FILE is what that printed, or what `rt ci` did: by the lines `axioms`
+of it it is compared which functions of C the verdict rests on. `--write` writes the marked parts of the pages anew. What can't be
+looked at is named, and then not compared. Last `N passed, N failed` is printed; the status is 0 where none failed.
 """
 
 import argparse
@@ -30,7 +30,7 @@ ASSUMING = re.compile(r"\b(?:axiom|Prim\.Axiom|lem|ac|resize)\b|(?<!\S)\?\w*(?!\
 TRUSTING = re.compile(r"\b(?:unsafe|extern|Abort|Wait|forever|transmute)\b")
 
 AXIOMS = re.compile(r"^axioms (\w+): (?:(\d+|none) reached of the (\d+) declared|.*?\((\d+) of the (\d+) declared\))", re.MULTILINE)
-REACHED = re.compile(r"^\s+([a-z_]\w*(?:::\w+)+)\b.*\breached$", re.MULTILINE)
+REACHED = re.compile(r"^\s*([a-z_]\w*(?:::\w+)+)\b.*\breached$", re.MULTILINE)
 
 
 def sources(pattern="src/**/*.rt"):
@@ -149,6 +149,16 @@ def axioms(report):
     return counts, sorted(set(REACHED.findall(report)))
 
 
+def report_of(given):
+    """What the check of the program printed, or nothing."""
+    if given.report:
+        return read(given.report)
+    if not given.check:
+        return ""
+    folder = os.path.dirname(os.path.dirname(next(path for path in sources() if is_main(path))))
+    return subprocess.run(["rt", "check", "--list-axioms"], cwd=folder, capture_output=True, text=True).stdout
+
+
 def columns(names):
     return ", ".join(f"`{name}`" for name in names) + "\n"
 
@@ -163,10 +173,11 @@ def main():
     words = argparse.ArgumentParser(description=__doc__.splitlines()[0])
     words.add_argument("program")
     words.add_argument("--report", metavar="FILE", help="what `rt check --list-axioms` or `rt ci` printed")
+    words.add_argument("--check", action="store_true", help="call `rt check --list-axioms`")
     words.add_argument("--write", action="store_true", help="write the marked parts of the pages anew")
     given = words.parse_args()
     called = calls(given.program)
-    counts, names = axioms(read(given.report)) if given.report else ({}, [])
+    counts, names = axioms(report_of(given))
     skips = [] if called else ["the program's calls of C aren't compared: nm isn't there, or can't read it"]
     skips += [] if counts else ["which functions of C the verdict rests on isn't compared: no report with lines `axioms` was given"]
     skips += [] if kit() else ["the sizes of the kit's libraries aren't compared: rt isn't there"]
