@@ -4,8 +4,8 @@
     bench/beside_c.py PROGRAM [--rows N] [--runs R] [--write]
 
 Four rows of bench.py's first table, with N rows (200,000): each the best of R runs. The same statements are given to SQLite by
-beside_c/sqlite.c, which is compiled with cc and SQLite's library (on Debian, gcc and libsqlite3-dev), and the rows that its triggers
-log are held against those that Python saw. `--write` puts the table into README.md.
+beside_c/sqlite.c, which is compiled with cc and SQLite's library (on Debian, gcc and libsqlite3-dev), and the rows that its
+triggers log are held against those that Python saw. `--write` puts the table into README.md.
 """
 
 import argparse
@@ -100,7 +100,8 @@ ROWS = [
     ("a row added below a join of two relations", "join", "join: add a row below q(x,y,z) <- r(x,y), s(y,z)", join_in_c),
     ("memory of such a row", "join", "join: memory", None),
     ("a change that sends a watcher 16 answers", "fan-out", "fan-out: a watched change that tells 16 answers", fan_out_in_c),
-    ("the first ten answers of a join of three, most rows being dead ends", "dead-ends", "dead ends: open, first 10 answers, close", dead_ends_in_c),
+    ("the first ten answers of a join of three, most rows being dead ends", "dead-ends",
+     "dead ends: open, first 10 answers, close", dead_ends_in_c),
 ]
 
 
@@ -111,7 +112,8 @@ def shown(value, unit):
 
 
 def table(given, in_c):
-    parts = {name: bench.least(bench.PARTS[name], given.program, given.rows, given.runs) for name in dict.fromkeys(row[1] for row in ROWS)}
+    names = dict.fromkeys(part for _, part, _, _ in ROWS)
+    parts = {name: bench.least(bench.PARTS[name], given.program, given.rows, given.runs) for name in names}
     lines = "| | djq | SQLite, from C | SQLite, through Python |\n|---|---|---|---|\n"
     for said, part, what, measure in ROWS:
         ours, theirs, unit = parts[part][what]

@@ -1,7 +1,7 @@
 """Parts of the pages that a script writes and that a test holds against the tree.
 
-A block stands between `<!-- begin: tests/NAME.py WHAT -->` and `<!-- end -->`, a number between `<!--=KEY-->` and `<!--/-->`. What isn't
-the script's own, or can't be told, is None, and stays as it is.
+A block stands between `<!-- begin: tests/NAME.py WHAT -->` and `<!-- end -->`, a number between `<!--=KEY-->` and `<!--/-->`.
+What isn't the script's own, or can't be told, is None, and stays as it is.
 """
 
 import glob
@@ -51,12 +51,13 @@ class Pages:
             for _, what, shown, _ in self.block.findall(page):
                 wanted = self.text_of(what, shown)
                 if wanted is not None:
-                    words = f"{name}: the part '{what}' doesn't say what the tree has: call this test with --write, and read it again"
+                    words = f"{name}: the part '{what}' doesn't say what the tree has: call this test with --write and read it"
                     self.check(is_near(shown, wanted, *self.share_of(what)), words)
             for key, shown in NUMBER.findall(page):
                 wanted = self.number_of(key)
                 if wanted is not None:
-                    self.check(is_near(shown, wanted, *self.share_of(key)), f"{name}: {key} is said to be {shown}, and is {wanted}")
+                    words = f"{name}: {key} is said to be {shown}, and is {wanted}"
+                    self.check(is_near(shown, wanted, *self.share_of(key)), words)
 
     def write(self):
         for path in pages():

@@ -3,11 +3,11 @@
 
     tests/statement.py [PROGRAM] [--write] [--list]
 
-From the `ensures` of `run_program` it follows names to all definitions that they reach, and prints how many these are, and in how
-many lines and crates. It needs Python's standard library alone, and doesn't look at PROGRAM. `--write` writes the marked parts of
-the pages anew, and `--list` prints each definition with its file and its lines. Sizes that a page tells may be off by 2 in a hundred;
-where the statement has grown by more, the page has to be read and written again. Last `N passed, N failed` is printed; the status
-is 0 where none failed.
+From the `ensures` of `run_program` it follows names to all definitions that they reach, and prints how many these are, and in
+how many lines and crates. It needs Python's standard library alone, and doesn't look at PROGRAM. `--write` writes the marked
+parts of the pages anew, and `--list` prints each definition with its file and its lines. Sizes that a page tells may be off by 2
+in a hundred; where the statement has grown by more, the page has to be read and written again. Last `N passed, N failed` is
+printed; the status is 0 where none failed.
 """
 
 import argparse
@@ -50,15 +50,16 @@ class Size:
 
     def __init__(self, found):
         stated = [one for one in found if not one.is_source]
-        self.definitions, self.code, self.whole = len(stated), sum(one.code() for one in stated), sum(one.whole() for one in stated)
-        self.types = len(found) - len(stated)
+        self.definitions, self.types = len(stated), len(found) - len(stated)
+        self.code, self.whole = sum(one.code() for one in stated), sum(one.whole() for one in stated)
         self.crates, self.files = len({one.crate for one in stated}), len({one.file for one in stated})
 
     def __str__(self):
         return f"{self.definitions} definitions, {self.code} lines of code, {self.whole} with comments, {self.crates} crates"
 
     def row(self, words):
-        return f"| {words} | {number(self.definitions)} | {number(self.code)} | {number(self.whole)} | {self.types} | {self.crates} |\n"
+        counts = (self.definitions, self.code, self.whole, self.types, self.crates)
+        return f"| {words} | {' | '.join(map(number, counts))} |\n"
 
 
 class Statement:
@@ -93,17 +94,19 @@ class Statement:
 
     def size_rows(self, names, shown):
         """A row for each that the page has: how much is reached from the definitions that its first cell names."""
-        head = "| what | definitions | lines of code | with comments | types and constants of `src/` | crates |\n|---|---|---|---|---|---|\n"
-        return head + "".join(self.size_of(*names_in(row[0])).row(row[0]) for row in cells(shown))
+        head = "| what | definitions | lines of code | with comments | types and constants of `src/` | crates |\n"
+        return head + "|---|---|---|---|---|---|\n" + "".join(self.size_of(*names_in(row[0])).row(row[0]) for row in cells(shown))
 
     def reading_rows(self, names, shown):
         """A row a crate: which of its files the statement reaches, and how much of them."""
-        rows = "| folder | files | definitions | lines | types and constants of its crate's `src/` |\n|---|---|---|---|---|\n"
+        rows = "| folder | files | definitions | lines | types and constants of its crate's `src/` |\n"
+        rows += "|---|---|---|---|---|\n"
         for crate in sorted({one.crate for one in self.found}, key=list(BELOW).index):
             here = [one for one in self.found if one.crate == crate]
             size = Size(here)
             files = sorted({re.sub(r".*/specs/|\.antt$", "", one.file) for one in here if not one.is_source})
-            rows += f"| `{crate}/specs` | {', '.join(files) or 'none'} | {size.definitions} | {number(size.whole)} | {size.types} |\n"
+            counts = f"{size.definitions} | {number(size.whole)} | {size.types}"
+            rows += f"| `{crate}/specs` | {', '.join(files) or 'none'} | {counts} |\n"
         return rows
 
     def path_rows(self, names, shown):
@@ -124,7 +127,7 @@ class Statement:
         """Definitions as they stand in their files, but for comments and the word `pub`."""
         texts = []
         for name in names:
-            lines = [line for line in self.all.named(name).lines if line.strip() and not line.strip().startswith("--")]
+            lines = filter(is_code, self.all.named(name).lines)
             texts.append("\n".join(re.sub(r"^(\s*)(?:abbrev )?(?:pub )", r"\1", line) for line in lines))
         return "```antt\n" + "\n\n".join(texts) + "\n```\n"
 
@@ -133,9 +136,13 @@ def repository(kind):
     """How much the whole repository is: its crates, its must-fail edits, its lines of code, of definitions and of proofs."""
     if kind == "crates":
         return str(len(BELOW))
-    patterns = {"edits": "must-fail/*.edit", "source": "src/**/*.rt", "specs": "specs/**/*.antt", "proofs": "proofs/**/*.antt"}
+    patterns = {
+        "edits": "must-fail/*.edit", "source": "src/**/*.rt", "specs": "specs/**/*.antt", "proofs": "proofs/**/*.antt",
+    }
     paths = glob.glob(os.path.join(ROOT, "crates", "*", patterns[kind]), recursive=True)
-    return str(len(paths)) if kind == "edits" else number(sum(is_code(line) for path in paths for line in read(path).split("\n")))
+    if kind == "edits":
+        return str(len(paths))
+    return number(sum(is_code(line) for path in paths for line in read(path).split("\n")))
 
 
 def main():

@@ -3,11 +3,11 @@
 
     tests/trusted.py PROGRAM [--check | --report FILE] [--write]
 
-It counts the code that meets the system, file by file; looks whether any file of a crate assumes something, leaves a goal open or
-uses what only trust covers; and lists the functions of the C library that PROGRAM calls (by `nm`, of Debian's binutils). `--check`
-calls `rt check --list-axioms` in the program's folder, and FILE is what that printed, or what `rt ci` did: by the lines `axioms`
-of it it is compared which functions of C the verdict rests on. `--write` writes the marked parts of the pages anew. What can't be
-looked at is named, and then not compared. Last `N passed, N failed` is printed; the status is 0 where none failed.
+It counts the code that meets the system, file by file. It looks whether any file of a crate assumes something, leaves a goal
+open or uses what only trust covers. It lists the functions of the C library that PROGRAM calls, by `nm` of Debian's binutils, and
+those that the verdict rests on: `--check` calls `rt check --list-axioms` in the program's folder, and FILE is what that printed, or
+what `rt ci` did. `--write` writes the marked parts of the pages anew. What can't be looked at is named, and isn't compared. Last
+`N passed, N failed` is printed; the status is 0 where none failed.
 """
 
 import argparse
@@ -26,10 +26,11 @@ WHOLE = ("TcpHub", "FileDisk")
 ALONE = ("StdSource", "StdSink", "Telling")
 
 # Words that assume a statement or leave one open, in definitions and proofs; and that only trust covers, in code.
-ASSUMING = re.compile(r"\b(?:axiom|Prim\.Axiom|lem|ac|resize)\b|(?<!\S)\?\w*(?!\S)")
+ASSUMING = re.compile(r"\b(?:axiom|Prim\.Axiom)\b|(?:^|[\s(,])\?")
 TRUSTING = re.compile(r"\b(?:unsafe|extern|Abort|Wait|forever|transmute)\b")
 
-AXIOMS = re.compile(r"^axioms (\w+): (?:(\d+|none) reached of the (\d+) declared|.*?\((\d+) of the (\d+) declared\))", re.MULTILINE)
+# A line of the report, in the long form and in the short one, and a function's line in the long form.
+AXIOMS = re.compile(r"^axioms (\w+): .*?(\d+|none) (?:reached )?of the (\d+) declared", re.MULTILINE)
 REACHED = re.compile(r"^\s*([a-z_]\w*(?:::\w+)+)\b.*\breached$", re.MULTILINE)
 
 
@@ -89,7 +90,8 @@ def kit():
     """The folder of the kit's libraries, or None where `rt` isn't there."""
     if not shutil.which("rt"):
         return None
-    return os.path.join(os.path.dirname(subprocess.run(["rt", "doc"], capture_output=True, text=True).stdout.strip()), "rattle")
+    page = subprocess.run(["rt", "doc"], capture_output=True, text=True).stdout.strip()
+    return os.path.join(os.path.dirname(page), "rattle")
 
 
 def libraries():
@@ -140,12 +142,14 @@ def calls(program):
     if not shutil.which("nm"):
         return None
     told = subprocess.run(["nm", "-D", "--undefined-only", program], capture_output=True, text=True)
-    return sorted({line.split()[-1].split("@")[0] for line in told.stdout.splitlines() if " U " in line}) if told.returncode == 0 else None
+    if told.returncode:
+        return None
+    return sorted({line.split()[-1].split("@")[0] for line in told.stdout.splitlines() if " U " in line})
 
 
 def axioms(report):
-    """Of each crate with functions of C how many the verdict rests on and how many there are; and their names, where they are told."""
-    counts = {crate: (0 if reached == "none" else int(reached or short), int(declared or of)) for crate, reached, declared, short, of in AXIOMS.findall(report)}
+    """Of each library on how many functions of C the verdict rests and how many there are; and their names, where they are told."""
+    counts = {library: (reached.replace("none", "0"), declared) for library, reached, declared in AXIOMS.findall(report)}
     return counts, sorted(set(REACHED.findall(report)))
 
 
@@ -159,14 +163,20 @@ def report_of(given):
     return subprocess.run(["rt", "check", "--list-axioms"], cwd=folder, capture_output=True, text=True).stdout
 
 
-def columns(names):
-    return ", ".join(f"`{name}`" for name in names) + "\n"
-
-
 def axiom_rows(counts, names):
     rows = "| library | functions of C that it declares | of which the verdict rests on |\n|---|---|---|\n"
-    rows += "".join(f"| {crate} | {declared} | {reached} |\n" for crate, (reached, declared) in sorted(counts.items()))
-    return rows + ("\n" + columns(names) if names else "")
+    rows += "".join(f"| {library} | {declared} | {reached} |\n" for library, (reached, declared) in sorted(counts.items()))
+    return rows + (f"\n{', '.join(names)}\n" if names else "")
+
+
+def skipped(called, counts):
+    """What can't be looked at here."""
+    if not called:
+        yield "the program's calls of C: nm isn't there, or can't read it"
+    if not counts:
+        yield "which functions of C the verdict rests on: neither --check nor a report with lines `axioms` was given"
+    if not kit():
+        yield "the sizes of the kit's libraries: rt isn't there"
 
 
 def main():
@@ -178,15 +188,13 @@ def main():
     given = words.parse_args()
     called = calls(given.program)
     counts, names = axioms(report_of(given))
-    skips = [] if called else ["the program's calls of C aren't compared: nm isn't there, or can't read it"]
-    skips += [] if counts else ["which functions of C the verdict rests on isn't compared: no report with lines `axioms` was given"]
-    skips += [] if kit() else ["the sizes of the kit's libraries aren't compared: rt isn't there"]
-    print("".join(f"skipped: {line}\n" for line in skips), end="")
+    for what in skipped(called, counts):
+        print(f"skipped: {what}")
     makes = {
         "edge": lambda shown: edge_rows(),
         "kit": lambda shown: kit_rows(kit()) if kit() else None,
-        "calls": lambda shown: columns(called) if called else None,
-        "axioms": lambda shown: axiom_rows(counts, names or re.findall(r"`([\w:]+::\w+)`", shown)) if counts else None,
+        "calls": lambda shown: f"{', '.join(called)}\n" if called else None,
+        "axioms": lambda shown: axiom_rows(counts, names or re.findall(r"\w+(?:::\w+)+", shown)) if counts else None,
     }
     files = edge()
     numbers = {"edge.code": f"{sum(map(code_of, files)):,}", "edge.files": str(len(files))}
