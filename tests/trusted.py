@@ -111,7 +111,8 @@ def kit_rows(folder):
         files = glob.glob(os.path.join(folder, name, "src", "**", "*.rt"), recursive=True)
         licences = sorted(os.path.basename(path) for path in glob.glob(os.path.join(folder, name, "LICENSE*")))
         rows += f"| {name} | {sum(map(code_of, files)):,} | {' '.join(licences) or 'none'} |\n"
-    return rows
+    logic = [path for part in ("logic", "antt") for path in glob.glob(os.path.join(folder, part, "**", "*.antt"), recursive=True)]
+    return rows + f"| the logic, of definitions and proofs that each check reads | {sum(map(code_of, logic)):,} | none |\n"
 
 
 # What is assumed
