@@ -16,8 +16,9 @@ import os
 import re
 import sys
 
-from definitions import BELOW, ROOT, Repository, is_code, read
-from marked import Pages, block_of
+sys.dont_write_bytecode = True
+from definitions import BELOW, ROOT, Repository, is_code, read  # noqa: E402
+from marked import Pages, block_of  # noqa: E402
 
 TOP = "run_program"
 PAGE = os.path.join(ROOT, "docs", "THEOREM.md")

@@ -18,8 +18,9 @@ import shutil
 import subprocess
 import sys
 
-from definitions import BELOW, ROOT, is_code, read
-from marked import Pages
+sys.dont_write_bytecode = True
+from definitions import BELOW, ROOT, is_code, read  # noqa: E402
+from marked import Pages  # noqa: E402
 
 # The types over the system: of the crates that declare the first all code counts, of the others the one file.
 WHOLE = ("TcpHub", "FileDisk")
