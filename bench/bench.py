@@ -30,6 +30,7 @@ LOGGED = 200  # rows that are added alone to a server with a log
 REGISTERED = 2_000_000  # rows over which a query is registered while another session waits
 SENTINEL = b"watch nothing_is_named_so"  # a line that is answered by LAST alone
 LAST = b"err 4 no query\n"
+LOG = "create table log(sign, a, b, c, d);"
 
 
 # The program over a pipe, and SQLite
@@ -82,7 +83,7 @@ class Session:
 
 def base_of(script):
     base = sqlite3.connect(":memory:", isolation_level=None)
-    base.executescript("create table log(sign, a, b, c, d);" + script)
+    base.executescript(LOG + script)
     return base
 
 
@@ -90,15 +91,21 @@ def base_bytes(base):
     return base.execute("select page_count * page_size from pragma_page_count, pragma_page_size").fetchone()[0]
 
 
-def apply(base, changes, at_once=1):
-    """Gives SQLite the changes, one after another, or so many a transaction, and reads what its triggers logged; gives
-    the seconds, and the log. A row that is there has one copy more, or one less, and a trigger deletes it with its
-    last."""
+def statements(changes):
+    """SQLite's statements for some changes: a row that is there has one copy more, or one less, and a trigger deletes it
+    with its last."""
     words = {}
-    for table in {table for _, table, _ in changes}:
+    for table in sorted({table for _, table, _ in changes}):
         wanted = " and ".join(f"{name} = ?" for name in ("x", "y"))
         words["add", table] = f"insert into {table}(x, y) values (?, ?) on conflict do update set copies = copies + 1"
         words["del", table] = f"update {table} set copies = copies - 1 where {wanted}"
+    return words
+
+
+def apply(base, changes, at_once=1):
+    """Gives SQLite the changes, one after another, or so many a transaction, and reads what its triggers logged; gives
+    the seconds, and the log."""
+    words = statements(changes)
     base.execute("delete from log")
     begin = time.perf_counter()
     for at, (word, table, row) in enumerate(changes):
@@ -198,12 +205,17 @@ JOIN_BASE = (
 )  # fmt: skip
 
 
-def join(program, count):
-    """Rows below a join of two atoms, about one partner each; then a listing of it, and its rows go again."""
-    half = count // 2
-    changes = []
+def join_rows(count):
+    """Rows of the two relations of a join, in turns, about one partner each."""
+    half, changes = count // 2, []
     for (x, y), (z, w) in zip(pairs(half, half, 2), pairs(half, half, 3)):
         changes += [("add", "r", (x, y)), ("add", "s", (w, z))]
+    return changes
+
+
+def join(program, count):
+    """Rows below a join of two atoms; then a listing of it, and its rows go again."""
+    changes = join_rows(count)
     gone = [("del", table, row) for _, table, row in changes]
     base = base_of(JOIN_BASE)
     theirs, _ = apply(base, changes)
@@ -279,14 +291,23 @@ def register(program, count):
     yield "register: a query over all rows", ours, time.perf_counter() - begin, "ms"
 
 
-def dead_ends(program, count):
-    """The first ten answers, where nearly every row of the middle has a partner on one side only."""
+def dead_end_rows(count):
+    """Rows of a path of three atoms, of which nearly every one of the middle has a partner on one side only."""
     half = count // 4 * 2
     rows = [(table, (at, at)) for table in "rt" for at in range(0, half, 2)]
     rows += [("s", (at, at + 1) if at % 2 == 0 else (at, at - 1)) for at in range(half)]
     rows += [("s", (at, at)) for at in range(half - 20, half, 2)]
     random.Random(4).shuffle(rows)
-    changes = [("add", table, row) for table, row in rows]
+    return [("add", table, row) for table, row in rows]
+
+
+PATH_BASE = "".join(map(PAIR.format, "rst")) + "create trigger n after insert on r when 0 begin select 0; end;"
+FIRST_OF_PATH = "select r.x, s.x, t.x, t.y from r, s, t where r.y = s.x and s.y = t.x limit "
+
+
+def dead_ends(program, count):
+    """The first ten answers, where a search by trying meets dead ends."""
+    changes = dead_end_rows(count)
     path = "query p(a,b,c,d) <- r(a,b), s(b,c), t(c,d)"
     times = 1000
     with Session(program) as session:
@@ -294,10 +315,10 @@ def dead_ends(program, count):
         session.feed(lines_of(changes))
         _, told = session.feed(["open c p", "next c 20", "close c"])
         ours, _ = session.feed(["open c p", "next c 10", "close c"] * times)
-    base = base_of("".join(map(PAIR.format, "rst")) + "create trigger n after insert on r when 0 begin select 0; end;")
+    base = base_of(PATH_BASE)
     apply(base, changes)
     base.execute("analyze")
-    wanted = "select r.x, s.x, t.x, t.y from r, s, t where r.y = s.x and s.y = t.x limit ?"
+    wanted = FIRST_OF_PATH + "?"
     same(answers_of(told), sorted(base.execute(wanted, (20,))), "dead ends")
     begin = time.perf_counter()
     for _ in range(3):
@@ -315,8 +336,8 @@ FAN_BASE = "".join(map(PAIR.format, "rst")) + """
       insert into log(sign) values ('at'); end;"""
 
 
-def fan_out(program, count):
-    """A watched path of three atoms: each change of the middle brings or takes sixteen answers."""
+def fan_changes(count):
+    """The rows at both ends of a path of three atoms, and changes of its middle, each of which brings or takes sixteen answers."""
     groups = count // 8
     fill = [("add", "r", (4 * at + k, at)) for at in range(groups) for k in range(4)]
     fill += [("add", "t", (at, 4 * at + k)) for at in range(groups) for k in range(4)]
@@ -324,6 +345,12 @@ def fan_out(program, count):
     for _ in range(min(groups, 5000)):
         row = (chance.randrange(groups), chance.randrange(groups))
         changes += [("add", "s", row), ("del", "s", row)]
+    return fill, changes
+
+
+def fan_out(program, count):
+    """A watched path of three atoms: each change of the middle brings or takes sixteen answers."""
+    fill, changes = fan_changes(count)
     with Session(program) as session:
         session.feed(["rel r int int", "rel s int int", "rel t int int", "query p(a,b,c,d) <- r(a,b), s(b,c), t(c,d)"])
         session.feed(lines_of(fill))
