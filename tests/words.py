@@ -6,7 +6,7 @@
 Prints, per thousand words, how often these words occur on each page and in the comments of crates (`///` and `//!`). Redis'
 README and LevelDB's pages have the figures in MEASURE; the pages in READERS may have twice as many. A sentence of a page in SHORT
 has 35 words at most, and each page says first whom it is for. Comments may not have more of them than CEILING says, so that the
-numbers only fall. PROGRAM isn't looked at. Last `words: N passed, M failed` is printed; the status is 0 if none failed.
+numbers only fall. PROGRAM isn't looked at. Last `N passed, M failed` is printed; the status is 0 if none failed.
 """
 
 import glob
@@ -32,7 +32,8 @@ FORMS = {
 MEASURE = {"tell": 0.0, "come, go": 0.5, "keep": 0.8, "take": 0.2, "stand": 0.0, "behind": 0.0, "where": 0.7, "say": 0.3,
            "exactly": 0.2}
 # the same of the comments of crates when this was written: to be lowered with each crate whose comments are rewritten
-CEILING = {}
+CEILING = {"tell": 4.4, "come, go": 8.3, "keep": 4.0, "take": 6.9, "stand": 4.4, "behind": 4.9, "where": 11.3, "say": 3.7,
+           "exactly": 1.7}
 
 READERS = ["README.md", "SECURITY.md", *(f"docs/{name}.md" for name in ("PROTOCOL", "QUERIES", "RECIPES", "OPERATIONS", "PERFORMANCE"))]
 SHORT = ["README.md", "docs/PROTOCOL.md"]
@@ -147,7 +148,10 @@ def held_comments():
     words, found = counts(comments())
     show("comments in src", words, found)
     for name, most in CEILING.items():
-        check(rate(found[name], words) <= most, f"comments: `{name}` occurs {rate(found[name], words)} in a thousand words, {most} at most")
+        now = rate(found[name], words)
+        check(now <= most, f"comments: `{name}` occurs {now} times in a thousand words, and {most} at most are wanted")
+        if now < most:
+            print(f"comments: `{name}` may be lowered to {now} in CEILING")
 
 
 def held_sentences():
@@ -173,7 +177,7 @@ def main():
     held_comments()
     held_sentences()
     held_openings()
-    print(f"words: {passed} passed, {failed} failed")
+    print(f"{passed} passed, {failed} failed")
     return 1 if failed else 0
 
 
