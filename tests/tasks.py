@@ -126,7 +126,7 @@ def stop(process, port):
 
 
 def first_session():
-    ((said, answered),) = sessions(section("README.md", "First session"))
+    ((said, answered),) = sessions(page("README.md"))
     return said, answered
 
 
@@ -143,7 +143,7 @@ def first_run():
     said, answered = first_session()
     got, status = PLACE.run("djq run", "".join(line + "\n" for line in said))
     expect((in_any_order(got), status), (in_any_order(answered), 0))
-    (serve, shell), (serve_page, web) = blocks_of(section("README.md", "First session"), "sh")
+    (serve, shell), (serve_page, web) = blocks_of(section("README.md", "Run it"), "sh")
     PLACE.server, PLACE.serve = PLACE.start(serve), serve
     PLACE.talk("7007", [])
     got, _ = PLACE.run(shell, "".join(line + "\n" for line in said))
@@ -159,7 +159,7 @@ def first_run():
 
 @test
 def first_program():
-    ((*program,),) = blocks_of(section("README.md", "First session"), "python")
+    ((*program,),) = blocks_of(section("README.md", "Run it"), "python")
     with open(os.path.join(PLACE.folder, "first.py"), "w", encoding="utf-8") as file:
         file.write(PLACE.here("\n".join(program).replace('"127.0.0.1", 7007', '"127.0.0.1", ' + PLACE.ports["7007"])))
     process = PLACE.start("python3 first.py")
