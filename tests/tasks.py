@@ -185,7 +185,7 @@ def first_outage():
     expect(PLACE.talk("7007", ["has waiting 2 12", "has waiting 2 13", "has waiting 2 99"]), ["yes", "yes", "no"])
     (count,) = PLACE.talk("7007", ["watch waiting"])
     (added,) = PLACE.talk("7007", ['add jobs 99 2 "waiting"'])
-    expect(added, f"ok added {int(count.removeprefix('ok watch ')) + 1} 1", "SEQ continues")
+    expect(added, f"ok added {int(count.split()[-1]) + 1} 1", "SEQ continues")
     stop(PLACE.server, "7007")
     serve, backup, mend = blocks_of(page("docs/OPERATIONS.md"), "text")
     server = PLACE.start(serve[0].removeprefix("$ "))
@@ -232,9 +232,9 @@ def first_change_of_a_command():
     expect(complaint in PLACE.run(command)[0], False, "the pages as they are")
     with open(os.path.join(copy, "README.md"), encoding="utf-8") as file:
         text = file.read()
-    expect(text.count("ok watch 1"), 1)
+    expect(text.count("ok query 5"), 1)
     with open(os.path.join(copy, "README.md"), "w", encoding="utf-8") as file:
-        file.write(text.replace("ok watch 1", "ok watching 1"))
+        file.write(text.replace("ok query 5", "ok registered 5"))
     got, status = PLACE.run(command)
     expect((complaint in got, status), (True, 1), "a page that shows the new reply, before the code has it")
 
