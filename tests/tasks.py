@@ -4,8 +4,9 @@
     python3 tests/tasks.py PROGRAM
 
 The first run and the first program are README.md's, the first outage is docs/OPERATIONS.md's, the first change of a command follows
-docs/CHANGING.md, and 'Is this for me?' is README.md's again. PROGRAM takes the place of the built one: building isn't tried. Ports of
-the pages become free ones, and their absolute paths folders. Last `N passed, M failed` is printed; the status is 0 if none failed.
+docs/CHANGING.md, and 'Is this for me?' is README.md's again. PROGRAM takes the place of the built one: building isn't tried.
+Ports of the pages become free ones, and their absolute paths folders. Last `N passed, M failed` is printed; the status is 0 if
+none failed.
 """
 
 import os
@@ -150,10 +151,13 @@ def first_run():
     expect("ok query 5" in got and "+ waiting 2 12" in got, True, got)
     server = PLACE.start(serve_page)
     PLACE.talk("7008", [])
-    PLACE.start(f"{web} --listen 127.0.0.1:7080")
-    address = PLACE.here("http://127.0.0.1:7080/")
-    shown = until(lambda: urllib.request.urlopen(address, timeout=PATIENCE).read(), "the page in a browser")
-    expect(b"<html" in shown.lower(), True, shown[:80])
+    if sys.version_info >= (3, 11):
+        PLACE.start(f"{web} --listen 127.0.0.1:7080")
+        address = PLACE.here("http://127.0.0.1:7080/")
+        got = until(lambda: urllib.request.urlopen(address, timeout=PATIENCE).read(), "the page in a browser")
+        expect(b"<html" in got.lower(), True, got[:80])
+    else:
+        print("the page in a browser is skipped: Python 3.11 isn't there")
     stop(server, "7008")
 
 
