@@ -3,7 +3,7 @@
 
     bench/beside_c.py PROGRAM [--rows N] [--runs R] [--write]
 
-Four rows of bench.py's first table, with N rows (200,000): each the best of R runs. The same statements are given to SQLite by
+Three rows of bench.py's first table, with N rows (200,000): each the best of R runs. The same statements are given to SQLite by
 beside_c/sqlite.c, which is compiled with cc and SQLite's library (on Debian, gcc and libsqlite3-dev), and the rows that its
 triggers log are held against those that Python saw. `--write` puts the table into README.md.
 """
@@ -97,17 +97,14 @@ def dead_ends_in_c(program, count):
 
 
 ROWS = [
-    ("a row added below a join of two relations", "join", "join: add a row below q(x,y,z) <- r(x,y), s(y,z)", join_in_c),
-    ("memory of such a row", "join", "join: memory", None),
-    ("a change that sends a watcher 16 answers", "fan-out", "fan-out: a watched change that tells 16 answers", fan_out_in_c),
+    ("insert below a join of two relations", "join", "join: add a row below q(x,y,z) <- r(x,y), s(y,z)", join_in_c),
+    ("a change that publishes 16 answers", "fan-out", "fan-out: a watched change that tells 16 answers", fan_out_in_c),
     ("the first ten answers of a join of three, most rows being dead ends", "dead-ends",
      "dead ends: open, first 10 answers, close", dead_ends_in_c),
 ]
 
 
-def shown(value, unit):
-    if unit == "bytes a row":
-        return f"{value:,.0f} bytes"
+def shown(value):
     return f"{value * 1e6:.1f} µs" if value < 1e-3 else f"{value * 1e3:.0f} ms"
 
 
@@ -116,9 +113,9 @@ def table(given, in_c):
     parts = {name: bench.least(bench.PARTS[name], given.program, given.rows, given.runs) for name in names}
     lines = "| | djq | SQLite, from C | SQLite, through Python |\n|---|---|---|---|\n"
     for said, part, what, measure in ROWS:
-        ours, theirs, unit = parts[part][what]
-        from_c = min(measure(in_c, given.rows) for _ in range(given.runs)) if measure else theirs
-        lines += f"| {said} | {shown(ours, unit)} | {shown(from_c, unit)} | {shown(theirs, unit)} |\n"
+        ours, theirs, _ = parts[part][what]
+        from_c = min(measure(in_c, given.rows) for _ in range(given.runs))
+        lines += f"| {said} | {shown(ours)} | {shown(from_c)} | {shown(theirs)} |\n"
     return lines
 
 

@@ -121,6 +121,21 @@ def paths():
                     last = found or last
 
 
+def anchors_of(page):
+    """The headings of a page, as links name them."""
+    for heading in re.findall(r"^#+ (.*)$", "\n".join(prose(page)), re.MULTILINE):
+        yield re.sub(r"[^\w\- ]", "", heading.strip().lower()).replace(" ", "-")
+
+
+def anchors():
+    for page in pages():
+        text = "\n".join(prose(read(page)))
+        for target, anchor in re.findall(r"\]\(([^)#\s]*)#([^)\s]*)\)", text):
+            path = os.path.join(os.path.dirname(page), target) if target else page
+            if "://" not in target and os.path.exists(path):
+                check(anchor in anchors_of(read(path)), f"{os.path.relpath(page, ROOT)}: {target} has no section #{anchor}")
+
+
 # Names
 
 
@@ -250,6 +265,7 @@ def main():
     if len(sys.argv) != 2:
         raise SystemExit(__doc__)
     paths()
+    anchors()
     names()
     definitions()
     shown_sessions(os.path.abspath(sys.argv[1]))
