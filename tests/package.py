@@ -195,13 +195,18 @@ def usage(program):
     return subprocess.run([program], capture_output=True, text=True, timeout=PATIENCE).stdout
 
 
+def man_pages():
+    return sorted(name for name in os.listdir(os.path.join(ROOT, "packaging")) if re.search(r"\.\d$", name))
+
+
 @test("man")
 def the_man_pages_are_sound(program, folder):
-    for name in ("djq.1", "djq-log.5"):
+    expect(man_pages(), ["djq-log.5", "djq-shell.1", "djq-web.1", "djq.1"], "the pages")
+    for name in man_pages():
         path = os.path.join(ROOT, "packaging", name)
         words = ["man", "--warnings", "-E", "UTF-8", "-l", "-Tutf8", path]
         done = subprocess.run(words, capture_output=True, text=True, timeout=PATIENCE, env={**os.environ, "MANROFFOPT": "-c"})
-        expect((done.returncode, done.stderr, len(done.stdout) > 1000), (0, "", True), name)
+        expect((done.returncode, done.stderr, done.stdout.count("\n") > 20), (0, "", True), name)
 
 
 @test()
@@ -222,16 +227,20 @@ def the_examples_of_the_man_pages_run(program, folder):
     place = os.path.join(folder, "examples")
     os.mkdir(place)
     os.symlink(program, os.path.join(place, "djq"))
+    with open(os.path.join(place, "djq-shell"), "w", encoding="utf-8") as file:
+        file.write(f'#!/bin/sh\nexec {sys.executable} -m djq.shell --program {program} "$@"\n')
+    os.chmod(os.path.join(place, "djq-shell"), 0o755)
+    paths = {"PATH": place + ":" + os.environ["PATH"], "PYTHONPATH": os.path.join(ROOT, "clients", "python")}
     shown = 0
-    for name in ("djq.1", "djq-log.5"):
+    for name in man_pages():
         section = text("packaging", name).partition(".SH EXAMPLE")[2].partition(".nf\n")[2].partition(".fi")[0]
         plain = section.replace("\\(aq", "'").replace("\\-", "-").replace("\\e", "\\")
-        for example in plain.removeprefix("$ ").split("\n$ "):
+        for example in filter(None, re.split(r"^\$ ", plain, flags=re.MULTILINE)):
             command, _, wanted = example.partition("\n")
-            told = run("sh", "-c", command, cwd=place, env={**os.environ, "PATH": place + ":" + os.environ["PATH"]})
+            told = run("sh", "-c", command, cwd=place, env={**os.environ, **paths})
             expect([line.split() for line in told.splitlines()], [line.split() for line in wanted.splitlines()], command)
             shown += 1
-    expect(shown, 3, "examples")
+    expect(shown, 4, "examples")
 
 
 def settings(path):
