@@ -317,7 +317,9 @@ def a_release_is_of_what_the_gate_tested(program, folder):
 
     released(whole)
     told = read(os.path.join(into, "BUILD")).decode()
-    for line in (f"commit   {commit}", f"kit      {run('rt', 'version').strip()}", "gate     rt: ok; done in this run: 0 of the 90 proofs"):
+    for line in (f"commit   {commit}", f"kit      {run('rt', 'version').strip()}", "gate     rt: ok; done in this run: 0 of the 90 proofs",
+                 "gate     rt ci: 90 passed, 0 failed (0 skipped)", "gate     tests/package.py: 12 passed, 0 failed",
+                 "gate     tests/random_driver.py: 3 passed, 0 failed"):
         expect(line in told.splitlines(), True, told)
     expect(re.search(r"^gate     ended \d{4}-\d\d-\d\dT\d\d:\d\d:\d\dZ$", told, re.MULTILINE) is not None, True, told)
     released(whole.replace(commit, "0" * 40), "of another commit")
