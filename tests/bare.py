@@ -56,7 +56,8 @@ class System:
     def __init__(self, folder):
         self.folder = folder
         words = ["unshare", "--mount", "--pid", "--net", "--uts", "--ipc", "--cgroup", "--fork", "--kill-child"]
-        self.outer = subprocess.Popen([*words, "sh", "-c", BOOT, folder], stdout=subprocess.DEVNULL, stderr=subprocess.PIPE, text=True)
+        words += ["sh", "-c", BOOT, folder]
+        self.outer = subprocess.Popen(words, stdout=subprocess.DEVNULL, stderr=subprocess.PIPE, text=True)
         self.first = None
 
     def first_process(self):
@@ -107,7 +108,7 @@ class System:
         environment = {**os.environ, "PYTHONPATH": os.path.join(ROOT, "clients", "python"), "PYTHONDONTWRITEBYTECODE": "1"}
         until = time.monotonic() + PATIENCE
         while True:
-            done = subprocess.run(words, capture_output=True, text=True, timeout=PATIENCE, env=environment)
+            done = subprocess.run(words, capture_output=True, text=True, timeout=5 * PATIENCE, env=environment)
             if done.returncode == 0:
                 say("client:", done.stdout.strip())
                 return done.stdout.strip()
@@ -179,16 +180,21 @@ def survives(system, package):
         equal(system.client("new = False\n" + ROWS), "[(1, 2), (3, 4)]", f"the rows after {' '.join(words)}")
 
 
+# Adds rows until the server has no memory for one; then a row goes and comes again, and a query is asked.
 FILL = """
+server.relation('r', int, int)
+server.query('all(x,y) <- r(x,y)')
+server.add('r', 1, 2)
 server.relation('full', str)
+text = lambda number: str(number).rjust(250, '-')
 held = 0
 try:
     while True:
-        server.add('full', str(held).rjust(200, '-'))
+        server.add('full', text(held))
         held += 1
 except djq.OutOfMemory:
     pass
-print(held > 1000, server.add('r', 5, 6).copies, server.delete('r', 5, 6).copies, server.has('all', 1, 2))
+print(held > 1000, server.delete('full', text(0)).copies, server.add('full', text(0)).copies, server.has('all', 1, 2))
 """
 
 
@@ -197,12 +203,11 @@ def answers_at_its_limit(system):
     folder = os.path.join(system.folder, "etc/systemd/system/djq.service.d")
     os.makedirs(folder)
     with open(os.path.join(folder, "limit.conf"), "w", encoding="utf-8") as file:
-        file.write("[Service]\nLimitAS=32M\nExecStart=\nExecStart=/usr/bin/djq serve ${DJQ_ADDRESS}\n")
+        file.write("[Service]\nLimitAS=40M\nExecStart=\nExecStart=/usr/bin/djq serve ${DJQ_ADDRESS}\n")
     system.run("systemctl", "daemon-reload")
     system.run("systemctl", "restart", "djq")
     process = system.show("MainPID")
-    told = system.client("server.relation('r', int, int)\nserver.query('all(x,y) <- r(x,y)')\nserver.add('r', 1, 2)\n" + FILL)
-    equal(told, "True 1 0 True", "a server without memory")
+    equal(system.client(FILL), "True 0 1 True", "a server without memory")
     equal((system.show("MainPID"), system.show("NRestarts")), (process, "0"), "the server that answers")
     shutil.rmtree(folder)
     system.run("systemctl", "daemon-reload")
