@@ -239,8 +239,8 @@ def crates():
         listed[row[0]] = row[1]
     check(sorted(listed) == sorted(below), "docs/ARCHITECTURE.md and crates.txt differ:", sorted(set(listed) ^ set(below)))
     for name, needs in listed.items():
-        for need in re.findall(r"[a-z_]+", re.sub(r"\(.*?\)|and those below( it)?|and", "", needs)):
-            check("djq_" + need in below.get(name, []), f"docs/ARCHITECTURE.md: {name} doesn't stand on {need}")
+        for need in re.findall(r"[a-z_]+", needs):
+            check("djq_" + need in below.get(name, []), f"docs/ARCHITECTURE.md: {name} doesn't depend on {need}")
     proved = read(os.path.join(ROOT, "docs", "PROVED.md"))
     for name in below:
         check(re.search(rf"^\| {name} \|", proved, re.MULTILINE), f"docs/PROVED.md doesn't speak of {name}")
