@@ -1,6 +1,6 @@
 #!/usr/bin/env python3
-"""Holds the pages against what they speak of: paths, names, sessions, the table of crates, the kit's line; and that no two
-definitions have one name.
+"""Compares the pages with what they speak of: paths, names, sessions, the table of crates, the files that a change touches, the
+kit's line; and checks that no two definitions have one name.
 
     tests/docs.py PATH_TO_DJQ
 
@@ -162,6 +162,58 @@ def names():
                 check(not missing, f"{name}: nothing is named {', '.join(missing)} (`{word}`)")
 
 
+# Files that a change has to touch
+
+
+SEARCH = re.compile(r"<!-- each file of (.*?) with: (.*) -->")
+IMPORT = re.compile(r"^(?:pub )?(?:ghost )?use [^;{\n]*(?:\{[^}]*\})?[^\n]*$", re.MULTILINE)
+COMMENT = re.compile(r"(?:--|//).*")
+
+
+def searched(folder):
+    """The files of a folder that a search goes through, each with its text: of a crate its sources, definitions and proofs, without
+    imports and comments."""
+    for path in sorted(glob.glob(os.path.join(ROOT, folder, "**", "*"), recursive=True)):
+        text = ""
+        if re.search(r"/(src|specs|proofs)/.*\.(rt|antt)$", path):
+            text = COMMENT.sub("", IMPORT.sub("", read(path)))
+        elif "crates" not in folder and re.search(r"\.(py|txt|c)$", path) and path != os.path.abspath(__file__):
+            text = read(path)
+        if text and "/out/" not in path:
+            yield path, text
+
+
+def named_in(section, page):
+    """The files and folders that the tables of a section name."""
+    found = set()
+    for row in re.findall(r"^\|.*\|$", section, re.MULTILINE):
+        last = None
+        for word in re.findall(r"`([^` ]+)`", row):
+            if is_path(word):
+                last = find(word, page, row, last) or last
+                found.add(last)
+    return found - {None}
+
+
+def changing():
+    """The pages on a change name every file that their searches find, and all limits."""
+    path = os.path.join(ROOT, "docs", "CHANGING.md")
+    sections = re.split(r"^## ", read(path), flags=re.MULTILINE)[1:]
+    for section in sections:
+        title, named = section.split("\n")[0], named_in(section, path)
+        searches = SEARCH.findall(section)
+        check(searches, f"docs/CHANGING.md, {title}: no search holds this list")
+        for folders, words in searches:
+            hits = [file for folder in folders.split() for file, text in searched(folder) if re.search(words, text)]
+            check(hits, f"docs/CHANGING.md, {title}: no file has {words}")
+            for hit in hits:
+                is_named = any(hit == one or hit.startswith(one.rstrip("/") + "/") for one in named)
+                check(is_named, f"docs/CHANGING.md, {title}: {os.path.relpath(hit, ROOT)} has {words}, and isn't named")
+    limits = re.findall(r"^pub const (\w+)", read(os.path.join(ROOT, "crates", "djq_protocol", "src", "limits.rt")), re.MULTILINE)
+    for limit in limits:
+        check(f"`{limit}`" in "".join(sections), f"docs/CHANGING.md doesn't speak of the limit {limit}")
+
+
 # Sessions
 
 
@@ -268,6 +320,7 @@ def main():
     anchors()
     names()
     definitions()
+    changing()
     shown_sessions(os.path.abspath(sys.argv[1]))
     crates()
     kit()
