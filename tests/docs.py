@@ -214,6 +214,26 @@ def changing():
         check(f"`{limit}`" in "".join(sections), f"docs/CHANGING.md doesn't speak of the limit {limit}")
 
 
+# Decisions
+
+
+ASPECTS = ["Context", "Choice", "Why", "Cost"]
+
+
+def decisions():
+    """Each decision is in the index, in order, has its four parts, and at most 300 words."""
+    page = read(os.path.join(ROOT, "docs", "DECISIONS.md"))
+    index, *entries = re.split(r"^### ", page, flags=re.MULTILINE)
+    listed = re.findall(r"^- \[(.*)\]\((#.*)\)$", index, re.MULTILINE)
+    titles = [entry.split("\n")[0] for entry in entries]
+    anchors = ["#" + re.sub(r"[^\w\- ]", "", title.lower()).replace(" ", "-") for title in titles]
+    check(titles and listed == list(zip(titles, anchors)), "docs/DECISIONS.md: the index isn't the list of its entries")
+    for title, entry in zip(titles, entries):
+        entry = re.split(r"^## ", entry, flags=re.MULTILINE)[0]
+        check(re.findall(r"^- \*\*(\w+)\.\*\*", entry, re.MULTILINE) == ASPECTS, f"docs/DECISIONS.md, {title}: not {', '.join(ASPECTS)}")
+        check(len(entry.split()) <= 300, f"docs/DECISIONS.md, {title}: {len(entry.split())} words")
+
+
 # Sessions
 
 
@@ -321,6 +341,7 @@ def main():
     names()
     definitions()
     changing()
+    decisions()
     shown_sessions(os.path.abspath(sys.argv[1]))
     crates()
     kit()
