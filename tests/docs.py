@@ -234,6 +234,16 @@ def decisions():
         check(len(entry.split()) <= 300, f"docs/DECISIONS.md, {title}: {len(entry.split())} words")
 
 
+def glossary():
+    """No word is explained twice."""
+    words = []
+    for section in re.split(r"^## ", read(os.path.join(ROOT, "docs", "GLOSSARY.md")), flags=re.MULTILINE)[1:]:
+        for cell in re.findall(r"^\| ([^|]+) \|", section, re.MULTILINE)[1:]:
+            words += [] if section.startswith("Words of the code") else re.split(r", ", cell)
+    for word in sorted(set(words)):
+        check(words.count(word) == 1, f"docs/GLOSSARY.md: {word} is explained {words.count(word)} times")
+
+
 # Sessions
 
 
@@ -342,6 +352,7 @@ def main():
     definitions()
     changing()
     decisions()
+    glossary()
     shown_sessions(os.path.abspath(sys.argv[1]))
     crates()
     kit()
