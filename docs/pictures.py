@@ -9,6 +9,7 @@ parts of docs/ARCHITECTURE.md that crates.txt decides: the last column of its ta
 import os
 import re
 import sys
+import textwrap
 
 HERE = os.path.dirname(os.path.abspath(__file__))
 
@@ -102,7 +103,7 @@ def crates():
             row.sort(key=lambda name: (round(middle[name], 6), name))
             for i, name in enumerate(row):
                 spot[name] = (i + 0.5) / len(row)
-    step, high, wide = 66, 28, 104
+    step, high, wide = 66, 28, 116
     width = max(map(len, rows)) * (wide + 14) + 20
     height = len(rows) * step + 10
     place = {}
@@ -119,7 +120,7 @@ def crates():
     for name, (x, y) in sorted(place.items()):
         parts.append(box(x - wide // 2, y - high // 2, wide, high))
         parts.append(text(x, y + 4, name.removeprefix("djq_")))
-    return picture(width, height, "The crates of djq: each stands on those that a line leads down to", parts)
+    return picture(width, height, "The crates of djq: each depends on those that a line leads down to", parts)
 
 
 def table(x, y, width, title, rows, new=()):
@@ -183,8 +184,8 @@ def architecture():
         text = page.read()
     text = ROW.sub(lambda row: f"| {row[1]} | {row[2]} | {', '.join(direct.get(row[1], []))} |".replace("|  |", "| |"), text)
     longest = chain(below)
-    words = f"The longest chain has {len(longest)} crates: {', '.join(longest)}.\n"
-    return CHAIN.sub(lambda part: part[1] + words + part[2], text)
+    words = textwrap.fill(f"The longest chain has {len(longest)} crates: {', '.join(longest)}.", 130)
+    return CHAIN.sub(lambda part: part[1] + words + "\n" + part[2], text)
 
 
 def pictures():

@@ -335,6 +335,16 @@ def kit():
     check(line and line in read(os.path.join(ROOT, "README.md")), f"README.md doesn't name the kit's line: {line}")
 
 
+# The pages for whoever works on djq, each of which says first whom it is for.
+INNER = ["CONTRIBUTING.md"] + [f"docs/{name}.md" for name in ("ARCHITECTURE", "CHANGING", "DECISIONS", "GLOSSARY", "PROVED")]
+
+
+def readers():
+    for name in INNER:
+        first = read(os.path.join(ROOT, name)).split("\n")[2]
+        check(first.startswith("*For "), f"{name} doesn't say first whom it is for")
+
+
 def front_page():
     size = os.path.getsize(os.path.join(ROOT, "README.md"))
     check(size <= 8192, f"README.md has {size} bytes, and 8192 at most are wanted")
@@ -356,6 +366,7 @@ def main():
     shown_sessions(os.path.abspath(sys.argv[1]))
     crates()
     kit()
+    readers()
     front_page()
     print(f"{passed} passed, {failed} failed")
     return 1 if failed else 0
