@@ -1,15 +1,17 @@
 #!/usr/bin/env python3
-"""Draws the pages' pictures: the crates as crates.txt lists them, and a join's tree as `explain` tells it.
+"""Draws the pages' pictures, the crates as crates.txt lists them and a join's tree as `explain` prints it, and fills in the
+parts of docs/ARCHITECTURE.md that crates.txt decides: the last column of its table of crates, and the longest chain.
 
-    docs/pictures.py            writes docs/crates.svg and docs/join.svg anew
-    docs/pictures.py --check    says which of them differ from what would be written; the status is 1 where one does
+    docs/pictures.py            writes docs/crates.svg, docs/join.svg and these parts of docs/ARCHITECTURE.md
+    docs/pictures.py --check    prints which of them differ from what would be written; the status is 1 if one does
 """
 
 import os
+import re
 import sys
+import textwrap
 
 HERE = os.path.dirname(os.path.abspath(__file__))
-BENCHES = {"djq_index_bench", "djq_listing_bench"}
 
 STYLE = """<style>
 text { font: 13px sans-serif; fill: #1f2328; text-anchor: middle }
@@ -49,7 +51,7 @@ def listed():
             if ":" in line:
                 name, needs = line.split(":")
                 below[name.split()[0]] = needs.split()
-    return {name: [need for need in needs if need in below] for name, needs in below.items() if name not in BENCHES}
+    return {name: [need for need in needs if need in below] for name, needs in below.items()}
 
 
 def ranks(below):
@@ -101,7 +103,7 @@ def crates():
             row.sort(key=lambda name: (round(middle[name], 6), name))
             for i, name in enumerate(row):
                 spot[name] = (i + 0.5) / len(row)
-    step, high, wide = 66, 28, 104
+    step, high, wide = 66, 28, 116
     width = max(map(len, rows)) * (wide + 14) + 20
     height = len(rows) * step + 10
     place = {}
@@ -118,7 +120,7 @@ def crates():
     for name, (x, y) in sorted(place.items()):
         parts.append(box(x - wide // 2, y - high // 2, wide, high))
         parts.append(text(x, y + 4, name.removeprefix("djq_")))
-    return picture(width, height, "The crates of djq: each stands on those that a line leads down to", parts)
+    return picture(width, height, "The crates of djq: each depends on those that a line leads down to", parts)
 
 
 def table(x, y, width, title, rows, new=()):
@@ -156,8 +158,38 @@ def join():
     return picture(830, 430, "The tree that keeps the join of machines and jobs, and a new job's way through it", parts)
 
 
+# A row of the table of crates: the name, the crate's job, and what it stands on.
+ROW = re.compile(r"^\| (djq\w*) \| ([^|]+) \|[^|\n]*\|$", re.MULTILINE)
+CHAIN = re.compile(r"(<!-- begin: docs/pictures.py chain -->\n).*?(<!-- end -->)", re.DOTALL)
+
+
+def chain(below):
+    """The longest chain of crates, the lowest first. Of several the first in the alphabet, seen from the top."""
+    rank = ranks(below)
+    name = min(name for name in rank if rank[name] == max(rank.values()))
+    found = [name]
+    while rank[name]:
+        name = min(need for need in below[name] if rank[need] == rank[name] - 1)
+        found.insert(0, name)
+    return found
+
+
+def architecture():
+    """The page with the table's last column and the longest chain as crates.txt has them."""
+    below = listed()
+    direct = {name: [] for name in below}
+    for name, need in sorted(needed(below)):
+        direct[name].append(need.removeprefix("djq_"))
+    with open(os.path.join(HERE, "ARCHITECTURE.md"), encoding="utf-8") as page:
+        text = page.read()
+    text = ROW.sub(lambda row: f"| {row[1]} | {row[2]} | {', '.join(direct.get(row[1], []))} |".replace("|  |", "| |"), text)
+    longest = chain(below)
+    words = textwrap.fill(f"The longest chain has {len(longest)} crates: {', '.join(longest)}.", 130)
+    return CHAIN.sub(lambda part: part[1] + words + "\n" + part[2], text)
+
+
 def pictures():
-    return {"crates.svg": crates(), "join.svg": join()}
+    return {"crates.svg": crates(), "join.svg": join(), "ARCHITECTURE.md": architecture()}
 
 
 def main():
@@ -167,7 +199,7 @@ def main():
         if "--check" in sys.argv[1:]:
             with open(path, encoding="utf-8") as there:
                 if there.read() != drawn:
-                    print(f"{name} isn't what docs/pictures.py draws")
+                    print(f"{name} isn't what docs/pictures.py writes")
                     differ = True
         else:
             with open(path, "w", encoding="utf-8") as out:

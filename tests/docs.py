@@ -1,6 +1,6 @@
 #!/usr/bin/env python3
-"""Holds the pages against what they speak of: paths, names, sessions, the table of crates, the kit's line; and that no two
-definitions have one name.
+"""Compares the pages with what they speak of: paths, names, sessions, the table of crates, the files that a change touches, the
+kit's line; and checks that no two definitions have one name.
 
     tests/docs.py PATH_TO_DJQ
 
@@ -162,6 +162,88 @@ def names():
                 check(not missing, f"{name}: nothing is named {', '.join(missing)} (`{word}`)")
 
 
+# Files that a change has to touch
+
+
+SEARCH = re.compile(r"<!-- each file of (.*?) with: (.*) -->")
+IMPORT = re.compile(r"^(?:pub )?(?:ghost )?use [^;{\n]*(?:\{[^}]*\})?[^\n]*$", re.MULTILINE)
+COMMENT = re.compile(r"(?:--|//).*")
+
+
+def searched(folder):
+    """The files of a folder that a search goes through, each with its text: of a crate its sources, definitions and proofs, without
+    imports and comments."""
+    for path in sorted(glob.glob(os.path.join(ROOT, folder, "**", "*"), recursive=True)):
+        text = ""
+        if re.search(r"/(src|specs|proofs)/.*\.(rt|antt)$", path):
+            text = COMMENT.sub("", IMPORT.sub("", read(path)))
+        elif "crates" not in folder and re.search(r"\.(py|txt|c)$", path) and path != os.path.abspath(__file__):
+            text = read(path)
+        if text and "/out/" not in path:
+            yield path, text
+
+
+def named_in(section, page):
+    """The files and folders that the tables of a section name."""
+    found = set()
+    for row in re.findall(r"^\|.*\|$", section, re.MULTILINE):
+        last = None
+        for word in re.findall(r"`([^` ]+)`", row):
+            if is_path(word):
+                last = find(word, page, row, last) or last
+                found.add(last)
+    return found - {None}
+
+
+def changing():
+    """The pages on a change name every file that their searches find, and all limits."""
+    path = os.path.join(ROOT, "docs", "CHANGING.md")
+    sections = re.split(r"^## ", read(path), flags=re.MULTILINE)[1:]
+    for section in sections:
+        title, named = section.split("\n")[0], named_in(section, path)
+        searches = SEARCH.findall(section)
+        check(searches, f"docs/CHANGING.md, {title}: no search holds this list")
+        for folders, words in searches:
+            hits = [file for folder in folders.split() for file, text in searched(folder) if re.search(words, text)]
+            check(hits, f"docs/CHANGING.md, {title}: no file has {words}")
+            for hit in hits:
+                is_named = any(hit == one or hit.startswith(one.rstrip("/") + "/") for one in named)
+                check(is_named, f"docs/CHANGING.md, {title}: {os.path.relpath(hit, ROOT)} has {words}, and isn't named")
+    limits = re.findall(r"^pub const (\w+)", read(os.path.join(ROOT, "crates", "djq_protocol", "src", "limits.rt")), re.MULTILINE)
+    for limit in limits:
+        check(f"`{limit}`" in "".join(sections), f"docs/CHANGING.md doesn't speak of the limit {limit}")
+
+
+# Decisions
+
+
+ASPECTS = ["Context", "Choice", "Why", "Cost"]
+
+
+def decisions():
+    """Each decision is in the index, in order, has its four parts, and at most 300 words."""
+    page = read(os.path.join(ROOT, "docs", "DECISIONS.md"))
+    index, *entries = re.split(r"^### ", page, flags=re.MULTILINE)
+    listed = re.findall(r"^- \[(.*)\]\((#.*)\)$", index, re.MULTILINE)
+    titles = [entry.split("\n")[0] for entry in entries]
+    anchors = ["#" + re.sub(r"[^\w\- ]", "", title.lower()).replace(" ", "-") for title in titles]
+    check(titles and listed == list(zip(titles, anchors)), "docs/DECISIONS.md: the index isn't the list of its entries")
+    for title, entry in zip(titles, entries):
+        entry = re.split(r"^## ", entry, flags=re.MULTILINE)[0]
+        check(re.findall(r"^- \*\*(\w+)\.\*\*", entry, re.MULTILINE) == ASPECTS, f"docs/DECISIONS.md, {title}: not {', '.join(ASPECTS)}")
+        check(len(entry.split()) <= 300, f"docs/DECISIONS.md, {title}: {len(entry.split())} words")
+
+
+def glossary():
+    """No word is explained twice."""
+    words = []
+    for section in re.split(r"^## ", read(os.path.join(ROOT, "docs", "GLOSSARY.md")), flags=re.MULTILINE)[1:]:
+        for cell in re.findall(r"^\| ([^|]+) \|", section, re.MULTILINE)[1:]:
+            words += [] if section.startswith("Words of the code") else re.split(r", ", cell)
+    for word in sorted(set(words)):
+        check(words.count(word) == 1, f"docs/GLOSSARY.md: {word} is explained {words.count(word)} times")
+
+
 # Sessions
 
 
@@ -239,8 +321,8 @@ def crates():
         listed[row[0]] = row[1]
     check(sorted(listed) == sorted(below), "docs/ARCHITECTURE.md and crates.txt differ:", sorted(set(listed) ^ set(below)))
     for name, needs in listed.items():
-        for need in re.findall(r"[a-z_]+", re.sub(r"\(.*?\)|and those below( it)?|and", "", needs)):
-            check("djq_" + need in below.get(name, []), f"docs/ARCHITECTURE.md: {name} doesn't stand on {need}")
+        for need in re.findall(r"[a-z_]+", needs):
+            check("djq_" + need in below.get(name, []), f"docs/ARCHITECTURE.md: {name} doesn't depend on {need}")
     proved = read(os.path.join(ROOT, "docs", "PROVED.md"))
     for name in below:
         check(re.search(rf"^\| {name} \|", proved, re.MULTILINE), f"docs/PROVED.md doesn't speak of {name}")
@@ -251,6 +333,16 @@ def crates():
 def kit():
     line = subprocess.run(["rt", "version"], capture_output=True, text=True).stdout.strip()
     check(line and line in read(os.path.join(ROOT, "README.md")), f"README.md doesn't name the kit's line: {line}")
+
+
+# The pages for whoever works on djq, each of which says first whom it is for.
+INNER = ["CONTRIBUTING.md"] + [f"docs/{name}.md" for name in ("ARCHITECTURE", "CHANGING", "DECISIONS", "GLOSSARY", "PROVED")]
+
+
+def readers():
+    for name in INNER:
+        first = read(os.path.join(ROOT, name)).split("\n")[2]
+        check(first.startswith("*For "), f"{name} doesn't say first whom it is for")
 
 
 def front_page():
@@ -268,9 +360,13 @@ def main():
     anchors()
     names()
     definitions()
+    changing()
+    decisions()
+    glossary()
     shown_sessions(os.path.abspath(sys.argv[1]))
     crates()
     kit()
+    readers()
     front_page()
     print(f"{passed} passed, {failed} failed")
     return 1 if failed else 0

@@ -134,14 +134,18 @@ class Statement:
 
 
 def repository(kind):
-    """How much the whole repository is: its crates, its must-fail edits, its lines of code, of definitions and of proofs."""
+    """How much the whole repository is: its crates, its tests, its must-fail edits and the crates that have some, its lines of code,
+    of definitions and of proofs."""
     if kind == "crates":
         return str(len(BELOW))
     patterns = {
-        "edits": "must-fail/*.edit", "source": "src/**/*.rt", "specs": "specs/**/*.antt", "proofs": "proofs/**/*.antt",
+        "edits": "must-fail/*.edit", "edited": "must-fail", "tests": "src/**/*.rt",
+        "source": "src/**/*.rt", "specs": "specs/**/*.antt", "proofs": "proofs/**/*.antt",
     }
     paths = glob.glob(os.path.join(ROOT, "crates", "*", patterns[kind]), recursive=True)
-    if kind == "edits":
+    if kind == "tests":
+        return str(sum(read(path).count("#[test]") for path in paths))
+    if kind in ("edits", "edited"):
         return str(len(paths))
     return number(sum(is_code(line) for path in paths for line in read(path).split("\n")))
 

@@ -40,8 +40,8 @@ def sources(pattern="src/**/*.rt"):
 
 
 def is_test(path):
-    """Whether a file of `src/` is compiled with tests alone."""
-    return bool(re.search(r"(^|_)tests?\.rt$", os.path.basename(path))) or "/tests/" in path
+    """Whether a file of `src/` is of a crate of tests."""
+    return "/djq_examples_" in path
 
 
 def is_main(path):
