@@ -9,7 +9,7 @@ use Rattle.djq_model.specs.Answer.{IsListing}
 use Rattle.djq_model.specs.Listed.{Listed, listed_name, listed_of}
 use Rattle.djq_abstract.specs.Rows.{Database, AnswersOver, RowEdit, all_edited}
 use Rattle.djq_abstract.specs.Deltas.{AnswerDelta, delta_applied}
-use Rattle.djq_abstract.specs.Clients.{CursorState, valid, stale, Client, Core, nobody, with_client, with_cursor, with_subscription, IsAdmitted, HaveOwnNames, CoreCommand, edit, batch, done, abandon, register, drop, open_cursor, next, close, has, subscribe, unsubscribe, ask, CoreMessage, ok, refused, not_free_connex, told, is_answer, page, delta, CoreEvent, connects, disconnects, says, Sent, sent_to}
+use Rattle.djq_abstract.specs.Clients.{CursorState, valid, stale, Client, Core, nobody, with_client, with_cursor, with_subscription, IsAdmitted, HaveOwnNames, CoreCommand, edit, batch, done, abandon, register, drop, open_cursor, next, close, has, subscribe, unsubscribe, ask, CoreMessage, ok, refused, not_free_connex, replied, is_answer, page, delta, CoreEvent, connects, disconnects, says, Sent, sent_to}
 use Rattle.djq_abstract.specs.Moves.{IsPage, StaysConnected, ChangesDatabase, Edits, Replies, Registers, ReturnsPage}
 use Rattle.djq_abstract.specs.Moves.{Accepts, MayRefuse, RefusesCommand, CoreStep}
 use Rattle.djq_abstract.specs.Histories.{Happening, state_after, CoreRun, IsSubscribedAlong, deltas_applied, all_sent}
@@ -29,7 +29,7 @@ applied_more q ts (delta n d k ∷ ms) more =
 applied_more q ts (ok ∷ ms) more = applied_more q ts ms more
 applied_more q ts (refused ∷ ms) more = applied_more q ts ms more
 applied_more q ts (not_free_connex ∷ ms) more = applied_more q ts ms more
-applied_more q ts (told ∷ ms) more = applied_more q ts ms more
+applied_more q ts (replied ∷ ms) more = applied_more q ts ms more
 applied_more q ts (is_answer b ∷ ms) more = applied_more q ts ms more
 applied_more q ts (page us b ∷ ms) more = applied_more q ts ms more
 
@@ -45,24 +45,32 @@ quiet_reply q ts s t m quiet = step (t == s)
     step true = quiet q ts
     step false = refl
 
-quiet_refusal : (c : CoreCommand) (m : CoreMessage) → MayRefuse c m → IsQuiet m
-quiet_refusal (register q) m may = by may
+-- the two refusals
+pub refusals : (c : CoreCommand) (m : CoreMessage) → MayRefuse c m → (m ≡ refused) ⊎ (m ≡ not_free_connex)
+refusals (register q) m may = by may
   where
-    by : (m ≡ refused) ⊎ ((m ≡ not_free_connex) × (IsAdmitted q → ⊥)) → IsQuiet m
+    by : (m ≡ refused) ⊎ ((m ≡ not_free_connex) × (IsAdmitted q → ⊥)) → (m ≡ refused) ⊎ (m ≡ not_free_connex)
+    by (inl e) = inl e
+    by (inr e) = inr e.0
+refusals (edit e) m may = inl may
+refusals batch m may = inl may
+refusals done m may = inl may
+refusals abandon m may = inl may
+refusals (drop q) m may = inl may
+refusals (open_cursor c q) m may = inl may
+refusals (next c k) m may = inl may
+refusals (close c) m may = inl may
+refusals (has q t) m may = inl may
+refusals (subscribe q) m may = inl may
+refusals (unsubscribe q) m may = inl may
+refusals ask m may = inl may
+
+quiet_refusal : (c : CoreCommand) (m : CoreMessage) → MayRefuse c m → IsQuiet m
+quiet_refusal c m may = by (refusals c m may)
+  where
+    by : (m ≡ refused) ⊎ (m ≡ not_free_connex) → IsQuiet m
     by (inl e) = subst IsQuiet (sym e) (λ n ts. refl)
-    by (inr e) = subst IsQuiet (sym e.0) (λ n ts. refl)
-quiet_refusal (edit e) m may = subst IsQuiet (sym may) (λ n ts. refl)
-quiet_refusal batch m may = subst IsQuiet (sym may) (λ n ts. refl)
-quiet_refusal done m may = subst IsQuiet (sym may) (λ n ts. refl)
-quiet_refusal abandon m may = subst IsQuiet (sym may) (λ n ts. refl)
-quiet_refusal (drop q) m may = subst IsQuiet (sym may) (λ n ts. refl)
-quiet_refusal (open_cursor c q) m may = subst IsQuiet (sym may) (λ n ts. refl)
-quiet_refusal (next c k) m may = subst IsQuiet (sym may) (λ n ts. refl)
-quiet_refusal (close c) m may = subst IsQuiet (sym may) (λ n ts. refl)
-quiet_refusal (has q t) m may = subst IsQuiet (sym may) (λ n ts. refl)
-quiet_refusal (subscribe q) m may = subst IsQuiet (sym may) (λ n ts. refl)
-quiet_refusal (unsubscribe q) m may = subst IsQuiet (sym may) (λ n ts. refl)
-quiet_refusal ask m may = subst IsQuiet (sym may) (λ n ts. refl)
+    by (inr e) = subst IsQuiet (sym e) (λ n ts. refl)
 
 -- ---- the deltas of a change
 
@@ -159,66 +167,66 @@ module _ (old : Core) (t : ℕ) (db : Database) (sent : Sent) (new : Core) (h : 
     (names : HaveOwnNames old.queries) (s : ℕ) (q : Listed) (ts : List Tuple)
     (before : (old.client s).subscribed (listed_name q) ≡ true) (has_listing : HasListing old q ts)
   where
-  abbrev pub name : Bytes
-  name = listed_name q
+    abbrev pub name : Bytes
+    name = listed_name q
 
-  both : (b c : Bool) → b ≡ true → c ≡ true → (b && c) ≡ true
-  both true c e k = k
-  both false c e k = absurd (cc)
+    both : (b c : Bool) → b ≡ true → c ≡ true → (b && c) ≡ true
+    both true c e k = k
+    both false c e k = absurd (cc)
 
-  left : (b c : Bool) → b ≡ false → (b && c) ≡ false
-  left true c e = absurd (cc)
-  left false c e = refl
+    left : (b c : Bool) → b ≡ false → (b && c) ≡ false
+    left true c e = absurd (cc)
+    left false c e = refl
 
-  -- the query's delta, if it is affected, and no change of its answers, if it isn't
-  by_delta : (g : StaysConnected old h.affected new s (sent s) (sent_to t (ok ∷ []) s)) → (b : Bool)
-      → h.affected name ≡ b
-      → IsListing (AnswersOver new.db q)
-      (cond (h.affected name && (old.client s).subscribed name) (delta_applied (g.delta_of name) ts) ts)
-  by_delta g true e =
-      let due : (h.affected name && (old.client s).subscribed name) ≡ true =
-      both (h.affected name) ((old.client s).subscribed name) e before in
-      subst (λ (b : Bool). IsListing (AnswersOver new.db q) (cond b (delta_applied (g.delta_of name) ts) ts)) (sym due)
-      (applied_lists (AnswersOver old.db q) (AnswersOver new.db q) ts (g.delta_of name) has_listing.listing
-      (g.are_deltas name q has_listing.found due))
-  by_delta g false e =
-      let same : SameRows old.db db q = not_affected old.db db q
-      (λ a. let yes : h.affected name ≡ true = (h.affected_if name q has_listing.found).1 a in absurd (cc (yes, e))) in
-      let back : SameRows db old.db q = λ r u reads. sym (same r u reads) in
-      subst (λ (b : Bool). IsListing (AnswersOver new.db q) (cond b (delta_applied (g.delta_of name) ts) ts))
-      (sym (left (h.affected name) ((old.client s).subscribed name) e))
-      (subst (λ (d : Database). IsListing (AnswersOver d q) ts) (sym h.db_is) (record {
-        different = has_listing.listing.different;
-        answers = All-weaker (AnswersOver old.db q) (AnswersOver db q)
-            (λ u a. same_answers old.db db q u same a) ts has_listing.listing.answers;
-        complete = λ u a. has_listing.listing.complete u (same_answers db old.db q u back a);
-      }))
+    -- the query's delta, if it is affected, and no change of its answers, if it isn't
+    by_delta : (g : StaysConnected old h.affected new s (sent s) (sent_to t (ok ∷ []) s)) → (b : Bool)
+        → h.affected name ≡ b
+        → IsListing (AnswersOver new.db q)
+        (cond (h.affected name && (old.client s).subscribed name) (delta_applied (g.delta_of name) ts) ts)
+    by_delta g true e =
+        let due : (h.affected name && (old.client s).subscribed name) ≡ true =
+        both (h.affected name) ((old.client s).subscribed name) e before in
+        subst (λ (b : Bool). IsListing (AnswersOver new.db q) (cond b (delta_applied (g.delta_of name) ts) ts)) (sym due)
+        (applied_lists (AnswersOver old.db q) (AnswersOver new.db q) ts (g.delta_of name) has_listing.listing
+        (g.are_deltas name q has_listing.found due))
+    by_delta g false e =
+        let same : SameRows old.db db q = not_affected old.db db q
+        (λ a. let yes : h.affected name ≡ true = (h.affected_if name q has_listing.found).1 a in absurd (cc (yes, e))) in
+        let back : SameRows db old.db q = λ r u reads. sym (same r u reads) in
+        subst (λ (b : Bool). IsListing (AnswersOver new.db q) (cond b (delta_applied (g.delta_of name) ts) ts))
+        (sym (left (h.affected name) ((old.client s).subscribed name) e))
+        (subst (λ (d : Database). IsListing (AnswersOver d q) ts) (sym h.db_is) (record {
+          different = has_listing.listing.different;
+          answers = All-weaker (AnswersOver old.db q) (AnswersOver db q)
+              (λ u a. same_answers old.db db q u same a) ts has_listing.listing.answers;
+          complete = λ u a. has_listing.listing.complete u (same_answers db old.db q u back a);
+        }))
 
-  applied_is : (g : StaysConnected old h.affected new s (sent s) (sent_to t (ok ∷ []) s))
-      → deltas_applied name ts (sent s)
-      ≡ cond (h.affected name && (old.client s).subscribed name) (delta_applied (g.delta_of name) ts) ts
-  applied_is g =
-      ap (λ ms. deltas_applied name ts ms) g.is_sent
-      ∙ applied_more name ts (notices (λ n. h.affected n && (old.client s).subscribed n) g.delta_of new.seq old.queries)
-      (sent_to t (ok ∷ []) s)
-      ∙ quiet_reply name (deltas_applied name ts
-      (notices (λ n. h.affected n && (old.client s).subscribed n) g.delta_of new.seq old.queries)) t s ok (λ n us. refl)
-      ∙ one_due (λ n. h.affected n && (old.client s).subscribed n) g.delta_of new.seq old.queries name q ts names
-      has_listing.found
+    applied_is : (g : StaysConnected old h.affected new s (sent s) (sent_to t (ok ∷ []) s))
+        → deltas_applied name ts (sent s)
+        ≡ cond (h.affected name && (old.client s).subscribed name) (delta_applied (g.delta_of name) ts) ts
+    applied_is g =
+        ap (λ ms. deltas_applied name ts ms) g.is_sent
+        ∙ applied_more name ts (notices (λ n. h.affected n && (old.client s).subscribed n) g.delta_of new.seq old.queries)
+        (sent_to t (ok ∷ []) s)
+        ∙ quiet_reply name (deltas_applied name ts
+        (notices (λ n. h.affected n && (old.client s).subscribed n) g.delta_of new.seq old.queries)) t s ok (λ n us. refl)
+        ∙ one_due (λ n. h.affected n && (old.client s).subscribed n) g.delta_of new.seq old.queries name q ts names
+        has_listing.found
 
-  pub changes_live : (new.client s).subscribed name ≡ true → HasListing new q (deltas_applied name ts (sent s))
-  changes_live behind = record {
-    found = subst (λ qs. listed_of qs name ≡ Some q) (sym h.queries_stay) has_listing.found;
-    listing = by (h.clients s);
-  }
-    where
-      by : StaysConnected old h.affected new s (sent s) (sent_to t (ok ∷ []) s)
-          ⊎ ((new.client s ≡ nobody) × ((old.client s).connected ≡ false → sent s ≡ []))
-          → IsListing (AnswersOver new.db q) (deltas_applied name ts (sent s))
-      by (inl g) = subst (λ us. IsListing (AnswersOver new.db q) us) (sym (applied_is g))
-          (by_delta g (h.affected name) refl)
-      by (inr g) = let no : (new.client s).subscribed name ≡ false = ap (λ (x : Client). x.subscribed name) g.0 in
-          absurd (cc (no, behind))
+    pub changes_live : (new.client s).subscribed name ≡ true → HasListing new q (deltas_applied name ts (sent s))
+    changes_live behind = record {
+      found = subst (λ qs. listed_of qs name ≡ Some q) (sym h.queries_stay) has_listing.found;
+      listing = by (h.clients s);
+    }
+      where
+        by : StaysConnected old h.affected new s (sent s) (sent_to t (ok ∷ []) s)
+            ⊎ ((new.client s ≡ nobody) × ((old.client s).connected ≡ false → sent s ≡ []))
+            → IsListing (AnswersOver new.db q) (deltas_applied name ts (sent s))
+        by (inl g) = subst (λ us. IsListing (AnswersOver new.db q) us) (sym (applied_is g))
+            (by_delta g (h.affected name) refl)
+        by (inr g) = let no : (new.client s).subscribed name ≡ false = ap (λ (x : Client). x.subscribed name) g.0 in
+            absurd (cc (no, behind))
 
 -- ---- a step
 
@@ -298,7 +306,7 @@ module _ (s : ℕ) (q : Listed) (ts : List Tuple) where
   accepts_live old t (unsubscribe n) sent new h names before behind l =
       replies_live old t ok (with_subscription n false (old.client t)) sent new s q ts h.1 (λ m us. refl) l
   accepts_live old t ask sent new h names before behind l =
-      replies_live old t told (old.client t) sent new s q ts h (λ m us. refl) l
+      replies_live old t replied (old.client t) sent new s q ts h (λ m us. refl) l
 
   refuses_live : (old : Core) (t : ℕ) (c : CoreCommand) (sent : Sent) (new : Core) → RefusesCommand old t c sent new
       → HasListing old q ts → HasListing new q (deltas_applied (listed_name q) ts (sent s))
@@ -319,13 +327,13 @@ module _ (s : ℕ) (q : Listed) (ts : List Tuple) where
       nothing true = refl
       nothing false = refl
   step_live old (disconnects t) sent new h names before behind l =
-      same_listing old new q ts (deltas_applied (listed_name q) ts (sent s)) (ap (λ (st : Core). st.db) h.2)
-      (ap (λ (st : Core). st.queries) h.2)
-      (ap (λ (f : Sent). deltas_applied (listed_name q) ts (f s)) h.1
-      ∙ other (s == t) (subst (λ (st : Core). (st.client s).subscribed (listed_name q) ≡ true) h.2 behind)) l
+      same_listing old new q ts (deltas_applied (listed_name q) ts (sent s)) (ap (λ (st : Core). st.db) h.3)
+      (ap (λ (st : Core). st.queries) h.3)
+      (ap (λ (f : Sent). deltas_applied (listed_name q) ts (f s)) h.2
+      ∙ other (s == t) (subst (λ (st : Core). (st.client s).subscribed (listed_name q) ≡ true) h.3 behind)) l
     where
       other : (b : Bool) → (cond b nobody (old.client s)).subscribed (listed_name q) ≡ true
-          → deltas_applied (listed_name q) ts (cond b h.0 []) ≡ ts
+          → deltas_applied (listed_name q) ts (cond b h.1 []) ≡ ts
       other true k = absurd (cc)
       other false k = refl
   step_live old (says t c) sent new h names before behind l = by h.1

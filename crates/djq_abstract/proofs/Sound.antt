@@ -10,7 +10,7 @@ use Rattle.djq_model.specs.Answer.{AreDifferent, IsListing}
 use Rattle.djq_model.specs.Listed.{Listed, a_query, a_union, listed_name, listed_of, queries_of}
 use Rattle.djq_abstract.specs.Rows.{Database, is_present, Matches, IsAnswerOver, AnswersOver, ReadsRelation, RowEdit}
 use Rattle.djq_abstract.specs.Rows.{all_edited, IsAffected}
-use Rattle.djq_abstract.specs.Clients.{CursorState, valid, stale, Client, Core, nobody, with_client, with_cursor, with_subscription, UsesQuery, overtaken, HaveOwnNames, CoreCommand, edit, batch, done, abandon, register, drop, open_cursor, next, close, has, subscribe, unsubscribe, ask, CoreMessage, ok, told, is_answer, page, CoreEvent, connects, disconnects, says, Sent, sent_to}
+use Rattle.djq_abstract.specs.Clients.{CursorState, valid, stale, Client, Core, nobody, with_client, with_cursor, with_subscription, UsesQuery, overtaken, HaveOwnNames, CoreCommand, edit, batch, done, abandon, register, drop, open_cursor, next, close, has, subscribe, unsubscribe, ask, CoreMessage, ok, replied, is_answer, page, CoreEvent, connects, disconnects, says, Sent, sent_to}
 use Rattle.djq_abstract.specs.Moves.{IsPage, StaysConnected, ChangesDatabase, Edits, Replies, Registers, ReturnsPage}
 use Rattle.djq_abstract.specs.Moves.{Accepts, client_refused, RefusesCommand, CoreStep}
 use Rattle.djq_abstract.specs.Histories.{Happening, state_after, CoreRun, IsReached}
@@ -199,11 +199,11 @@ page_holds old s c count (stale q) sent new h sound was = absurd h
 page_holds old s c count (valid q returned finished) sent new h sound was =
     let f = some_there (listed_of old.queries q) (λ l. HasReturned (AnswersOver old.db l) returned finished) was in
     let g : (ts : List Tuple) × (last : Bool) × IsPage (AnswersOver old.db f.0) returned ts count last
-        × Replies old s (page ts last) (with_cursor c (Some (valid q (returned ++ ts) last)) (old.client s)) sent new
-        = subst (λ o. IsSomeAnd o (λ l.
-        (ts : List Tuple) × (last : Bool) × IsPage (AnswersOver old.db l) returned ts count last
-        × Replies old s (page ts last) (with_cursor c (Some (valid q (returned ++ ts) last)) (old.client s)) sent new))
-        f.1 h in
+    × Replies old s (page ts last) (with_cursor c (Some (valid q (returned ++ ts) last)) (old.client s)) sent new
+    = subst (λ o. IsSomeAnd o (λ l.
+    (ts : List Tuple) × (last : Bool) × IsPage (AnswersOver old.db l) returned ts count last
+    × Replies old s (page ts last) (with_cursor c (Some (valid q (returned ++ ts) last)) (old.client s)) sent new))
+    f.1 h in
     let given : HasReturned (AnswersOver old.db f.0) returned finished = f.2 in
     let paged : IsPage (AnswersOver old.db f.0) returned g.0 count g.1 = g.2 in
     replies_sound old s (page g.0 g.1) (with_cursor c (Some (valid q (returned ++ g.0) g.1)) (old.client s)) sent new g.3
@@ -269,7 +269,7 @@ accepts_sound old s (subscribe q) sent new h sound =
     replies_sound old s ok (with_subscription q true (old.client s)) sent new h.1 sound (sound.cursors s)
 accepts_sound old s (unsubscribe q) sent new h sound =
     replies_sound old s ok (with_subscription q false (old.client s)) sent new h.1 sound (sound.cursors s)
-accepts_sound old s ask sent new h sound = replies_sound old s told (old.client s) sent new h sound (sound.cursors s)
+accepts_sound old s ask sent new h sound = replies_sound old s replied (old.client s) sent new h sound (sound.cursors s)
 
 -- a refused command leaves the cursors
 refused_cursors : (c : CoreCommand) (x : Client) → (client_refused c x).cursor ≡ x.cursor
@@ -306,7 +306,7 @@ pub step_sound : (old : Core) (event : CoreEvent) (sent : Sent) (new : Core) →
 step_sound old (connects s) sent new h sound =
     subst IsSoundCore (sym h.2) (client_sound old s (record nobody { connected = true }) sound (λ c. tt))
 step_sound old (disconnects s) sent new h sound =
-    subst IsSoundCore (sym h.2) (client_sound old s nobody sound (λ c. tt))
+    subst IsSoundCore (sym h.3) (client_sound old s nobody sound (λ c. tt))
 step_sound old (says s c) sent new h sound = by h.1
   where
     by : Accepts old s c sent new ⊎ RefusesCommand old s c sent new → IsSoundCore new

@@ -96,7 +96,7 @@ pub data CoreMessage : Type 0 where
   ok : CoreMessage
   refused : CoreMessage
   not_free_connex : CoreMessage
-  told : CoreMessage
+  replied : CoreMessage
   is_answer : Bool → CoreMessage
   page : List Tuple → (last : Bool) → CoreMessage
   delta : (query : Bytes) → AnswerDelta → (seq : ℕ) → CoreMessage

@@ -4,3 +4,4 @@ pub mod Clients
 pub mod Moves
 pub mod Histories
 pub mod Promises
+pub mod Worked

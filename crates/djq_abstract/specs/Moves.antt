@@ -38,7 +38,7 @@ use Rattle.djq_abstract.specs.Clients.{
   ok,
   refused,
   not_free_connex,
-  told,
+  replied,
   is_answer,
   page,
   delta,
@@ -105,7 +105,7 @@ ReturnsPage old s c count (valid q returned finished) sent new = IsSomeAnd (list
     (ts : List Tuple) × (last : Bool) × IsPage (AnswersOver old.db l) returned ts count last
     × Replies old s (page ts last) (with_cursor c (Some (valid q (returned ++ ts) last)) (old.client s)) sent new)
 
--- A command is accepted.
+-- A command is accepted. While a batch is open the server accepts only some of these.
 abbrev pub Accepts : Core → ℕ → CoreCommand → Sent → Core → Type 0
 Accepts old s (edit e) sent new = MatchOption (old.client s).batch
     (Edits old s (e ∷ []) sent new)
@@ -132,7 +132,7 @@ Accepts old s (subscribe q) sent new = IsSome (listed_of old.queries q)
     × Replies old s ok (with_subscription q true (old.client s)) sent new
 Accepts old s (unsubscribe q) sent new = IsSome (listed_of old.queries q)
     × Replies old s ok (with_subscription q false (old.client s)) sent new
-Accepts old s ask sent new = Replies old s told (old.client s) sent new
+Accepts old s ask sent new = Replies old s replied (old.client s) sent new
 
 -- How a command may be refused: any by one word, whose reason the layers below give, and a query also since it isn't
 -- free-connex.
@@ -161,7 +161,7 @@ pub record RefusesCommand (old : Core) (s : ℕ) (c : CoreCommand) (sent : Sent)
 abbrev pub CoreStep : Core → CoreEvent → Sent → Core → Type 0
 CoreStep old (connects s) sent new = ((old.client s).connected ≡ false) × (sent ≡ sent_to s [])
     × (new ≡ with_client s (record nobody { connected = true }) old)
-CoreStep old (disconnects s) sent new =
-    (ms : List CoreMessage) × (sent ≡ sent_to s ms) × (new ≡ with_client s nobody old)
+CoreStep old (disconnects s) sent new = ((old.client s).connected ≡ true)
+    × (ms : List CoreMessage) × (sent ≡ sent_to s ms) × (new ≡ with_client s nobody old)
 CoreStep old (says s c) sent new = ((old.client s).connected ≡ true)
     × (Accepts old s c sent new ⊎ RefusesCommand old s c sent new)

@@ -16,6 +16,7 @@
 #![tactic(auto)]
 
 ghost use Rattle.djq_abstract.specs.Promises.{FinishedCursorsListed, SubscribersHaveAnswers};
+ghost use Rattle.djq_abstract.specs.Worked.{ReadmeHappens, ReadmeOnlySo};
 
 /// In each state after a run that began with nobody connected: a finished cursor that no change
 /// overtook has returned each answer over the present rows once, and nothing else.
@@ -27,4 +28,11 @@ pub fn finished_cursors_listed()
 /// the present rows by applying the deltas that it is sent, along every run.
 pub fn subscribers_have_answers()
     ensures { SubscribersHaveAnswers }
+{}
+
+/// The session of README, reply by reply: the core has a run in which its client says these commands
+/// and is sent these replies. With another answer in the delta, or on the page, it has none.
+pub fn readme_is_a_run()
+    ensures happens { ReadmeHappens }
+    ensures only_so { ReadmeOnlySo }
 {}
