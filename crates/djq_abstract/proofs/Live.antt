@@ -9,8 +9,8 @@ use Rattle.djq_model.specs.Answer.{IsListing}
 use Rattle.djq_model.specs.Listed.{Listed, listed_name, listed_of}
 use Rattle.djq_abstract.specs.Rows.{Database, AnswersOver, RowEdit, all_edited}
 use Rattle.djq_abstract.specs.Deltas.{AnswerDelta, delta_applied}
-use Rattle.djq_abstract.specs.Clients.{CursorState, valid, stale, Client, Core, nobody, with_client, with_cursor, with_subscription, IsAdmitted, HaveOwnNames, CoreCommand, edit, batch, done, abandon, register, drop, open_cursor, next, close, has, subscribe, unsubscribe, ask, CoreMessage, ok, refused, not_free_connex, replied, is_answer, page, delta, CoreEvent, connects, disconnects, says, Sent, sent_to}
-use Rattle.djq_abstract.specs.Moves.{IsPage, StaysConnected, ChangesDatabase, Edits, Replies, Registers, ReturnsPage}
+use Rattle.djq_abstract.specs.Clients.{CursorState, valid, stale, Client, Core, nobody, with_client, client_with_cursor, with_subscription, IsAdmitted, HaveOwnNames, CoreCommand, edit, batch, done, abandon, register, drop, open_cursor, next, close, has, subscribe, unsubscribe, ask, CoreMessage, ok, refused, not_free_connex, replied, is_answer, page, delta, CoreEvent, connects, disconnects, says, Sent, only_sent}
+use Rattle.djq_abstract.specs.Moves.{IsPage, StaysConnected, ChangesDatabase, Edits, OnlyReplies, SetsQueries, ReturnsPage}
 use Rattle.djq_abstract.specs.Moves.{Accepts, MayRefuse, RefusesCommand, CoreStep}
 use Rattle.djq_abstract.specs.Histories.{Happening, state_after, CoreRun, IsSubscribedAlong, deltas_applied, all_sent}
 use Rattle.djq_abstract.specs.Promises.{SubscribersHaveAnswers}
@@ -38,7 +38,7 @@ abbrev pub IsQuiet : CoreMessage → Type 0
 IsQuiet m = (q : Bytes) (ts : List Tuple) → deltas_applied q ts (m ∷ []) ≡ ts
 
 quiet_reply : (q : Bytes) (ts : List Tuple) (s t : ℕ) (m : CoreMessage) → IsQuiet m
-    → deltas_applied q ts (sent_to s (m ∷ []) t) ≡ ts
+    → deltas_applied q ts (only_sent s (m ∷ []) t) ≡ ts
 quiet_reply q ts s t m quiet = step (t == s)
   where
     step : (b : Bool) → deltas_applied q ts (cond b (m ∷ []) []) ≡ ts
@@ -142,7 +142,7 @@ same_listing old new q ts us d k e h = record {
 }
 
 replies_live : (old : Core) (t : ℕ) (m : CoreMessage) (x : Client) (sent : Sent) (new : Core) (s : ℕ) (q : Listed)
-    (ts : List Tuple) → Replies old t m x sent new → IsQuiet m → HasListing old q ts
+    (ts : List Tuple) → OnlyReplies old t m x sent new → IsQuiet m → HasListing old q ts
     → HasListing new q (deltas_applied (listed_name q) ts (sent s))
 replies_live old t m x sent new s q ts r quiet h =
     same_listing old new q ts (deltas_applied (listed_name q) ts (sent s)) (ap (λ (st : Core). st.db) r.1)
@@ -150,7 +150,7 @@ replies_live old t m x sent new s q ts r quiet h =
     (ap (λ (f : Sent). deltas_applied (listed_name q) ts (f s)) r.0 ∙ quiet_reply (listed_name q) ts t s m quiet) h
 
 registers_live : (old : Core) (t : ℕ) (qs : List Listed) (sent : Sent) (new : Core) (s : ℕ) (q : Listed)
-    (ts : List Tuple) → Registers old t qs sent new → listed_of qs (listed_name q) ≡ Some q → HasListing old q ts
+    (ts : List Tuple) → SetsQueries old t qs sent new → listed_of qs (listed_name q) ≡ Some q → HasListing old q ts
     → HasListing new q (deltas_applied (listed_name q) ts (sent s))
 registers_live old t qs sent new s q ts r found h = record {
   found = subst (λ ps. listed_of ps (listed_name q) ≡ Some q) (sym (ap (λ (st : Core). st.queries) r.1)) found;
@@ -179,7 +179,7 @@ module _ (old : Core) (t : ℕ) (db : Database) (sent : Sent) (new : Core) (h : 
     left false c e = refl
 
     -- the query's delta, if it is affected, and no change of its answers, if it isn't
-    by_delta : (g : StaysConnected old h.affected new s (sent s) (sent_to t (ok ∷ []) s)) → (b : Bool)
+    by_delta : (g : StaysConnected old h.affected new s (sent s) (only_sent t (ok ∷ []) s)) → (b : Bool)
         → h.affected name ≡ b
         → IsListing (AnswersOver new.db q)
         (cond (h.affected name && (old.client s).subscribed name) (delta_applied (g.delta_of name) ts) ts)
@@ -202,13 +202,13 @@ module _ (old : Core) (t : ℕ) (db : Database) (sent : Sent) (new : Core) (h : 
           complete = λ u a. has_listing.listing.complete u (same_answers db old.db q u back a);
         }))
 
-    applied_is : (g : StaysConnected old h.affected new s (sent s) (sent_to t (ok ∷ []) s))
+    applied_is : (g : StaysConnected old h.affected new s (sent s) (only_sent t (ok ∷ []) s))
         → deltas_applied name ts (sent s)
         ≡ cond (h.affected name && (old.client s).subscribed name) (delta_applied (g.delta_of name) ts) ts
     applied_is g =
         ap (λ ms. deltas_applied name ts ms) g.is_sent
         ∙ applied_more name ts (notices (λ n. h.affected n && (old.client s).subscribed n) g.delta_of new.seq old.queries)
-        (sent_to t (ok ∷ []) s)
+        (only_sent t (ok ∷ []) s)
         ∙ quiet_reply name (deltas_applied name ts
         (notices (λ n. h.affected n && (old.client s).subscribed n) g.delta_of new.seq old.queries)) t s ok (λ n us. refl)
         ∙ one_due (λ n. h.affected n && (old.client s).subscribed n) g.delta_of new.seq old.queries name q ts names
@@ -220,7 +220,7 @@ module _ (old : Core) (t : ℕ) (db : Database) (sent : Sent) (new : Core) (h : 
       listing = by (h.clients s);
     }
       where
-        by : StaysConnected old h.affected new s (sent s) (sent_to t (ok ∷ []) s)
+        by : StaysConnected old h.affected new s (sent s) (only_sent t (ok ∷ []) s)
             ⊎ ((new.client s ≡ nobody) × ((old.client s).connected ≡ false → sent s ≡ []))
             → IsListing (AnswersOver new.db q) (deltas_applied name ts (sent s))
         by (inl g) = subst (λ us. IsListing (AnswersOver new.db q) us) (sym (applied_is g))
@@ -249,9 +249,9 @@ module _ (s : ℕ) (q : Listed) (ts : List Tuple) where
   page_live old t c count (valid n returned finished) sent new h has_listing =
       let f = some_there (listed_of old.queries n) (λ l. (us : List Tuple) × (last : Bool)
       × IsPage (AnswersOver old.db l) returned us count last
-      × Replies old t (page us last) (with_cursor c (Some (valid n (returned ++ us) last)) (old.client t)) sent new) h in
+      × OnlyReplies old t (page us last) (client_with_cursor c (Some (valid n (returned ++ us) last)) (old.client t)) sent new) h in
       replies_live old t (page f.2.0 f.2.1)
-      (with_cursor c (Some (valid n (returned ++ f.2.0) f.2.1)) (old.client t)) sent new s q ts f.2.3 (λ m us. refl)
+      (client_with_cursor c (Some (valid n (returned ++ f.2.0) f.2.1)) (old.client t)) sent new s q ts f.2.3 (λ m us. refl)
       has_listing
 
   -- a batch that is done is no more open, and all else of its client is as before
@@ -269,7 +269,7 @@ module _ (s : ℕ) (q : Listed) (ts : List Tuple) where
   accepts_live old t (edit e) sent new h names before behind l = by (old.client t).batch h
     where
       by : (o : Option (List RowEdit)) → MatchOption o (Edits old t (e ∷ []) sent new)
-          (λ es. Replies old t ok (record (old.client t) { batch = Some (es ++ e ∷ []) }) sent new)
+          (λ es. OnlyReplies old t ok (record (old.client t) { batch = Some (es ++ e ∷ []) }) sent new)
           → HasListing new q (deltas_applied (listed_name q) ts (sent s))
       by None k = edits_live old t (e ∷ []) sent new k names before behind l
       by (Some es) k = replies_live old t ok (record (old.client t) { batch = Some (es ++ e ∷ []) }) sent new s q ts k
@@ -291,15 +291,15 @@ module _ (s : ℕ) (q : Listed) (ts : List Tuple) where
       (found_less old.queries n (listed_name q) q
       (λ same. h.0 s (inr (subst (λ (m : Bytes). (old.client s).subscribed m ≡ true) same before))) l.found) l
   accepts_live old t (open_cursor c n) sent new h names before behind l =
-      replies_live old t ok (with_cursor c (Some (valid n [] false)) (old.client t)) sent new s q ts h.2 (λ m us. refl) l
+      replies_live old t ok (client_with_cursor c (Some (valid n [] false)) (old.client t)) sent new s q ts h.2 (λ m us. refl) l
   accepts_live old t (next c count) sent new h names before behind l =
       let f = some_there ((old.client t).cursor c) (λ k. ReturnsPage old t c count k sent new) h in
       page_live old t c count f.0 sent new f.2 l
   accepts_live old t (close c) sent new h names before behind l =
-      replies_live old t ok (with_cursor c None (old.client t)) sent new s q ts h.1 (λ m us. refl) l
+      replies_live old t ok (client_with_cursor c None (old.client t)) sent new s q ts h.1 (λ m us. refl) l
   accepts_live old t (has n u) sent new h names before behind l =
       let f = some_there (listed_of old.queries n) (λ p. (holds : Bool) × ((holds ≡ true) ↔ AnswersOver old.db p u)
-      × Replies old t (is_answer holds) (old.client t) sent new) h in
+      × OnlyReplies old t (is_answer holds) (old.client t) sent new) h in
       replies_live old t (is_answer f.2.0) (old.client t) sent new s q ts f.2.2 (λ m us. refl) l
   accepts_live old t (subscribe n) sent new h names before behind l =
       replies_live old t ok (with_subscription n true (old.client t)) sent new s q ts h.1 (λ m us. refl) l

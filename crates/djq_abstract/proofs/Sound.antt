@@ -10,8 +10,8 @@ use Rattle.djq_model.specs.Answer.{AreDifferent, IsListing}
 use Rattle.djq_model.specs.Listed.{Listed, a_query, a_union, listed_name, listed_of, queries_of}
 use Rattle.djq_abstract.specs.Rows.{Database, is_present, Matches, IsAnswerOver, AnswersOver, ReadsRelation, RowEdit}
 use Rattle.djq_abstract.specs.Rows.{all_edited, IsAffected}
-use Rattle.djq_abstract.specs.Clients.{CursorState, valid, stale, Client, Core, nobody, with_client, with_cursor, with_subscription, UsesQuery, overtaken, HaveOwnNames, CoreCommand, edit, batch, done, abandon, register, drop, open_cursor, next, close, has, subscribe, unsubscribe, ask, CoreMessage, ok, replied, is_answer, page, CoreEvent, connects, disconnects, says, Sent, sent_to}
-use Rattle.djq_abstract.specs.Moves.{IsPage, StaysConnected, ChangesDatabase, Edits, Replies, Registers, ReturnsPage}
+use Rattle.djq_abstract.specs.Clients.{CursorState, valid, stale, Client, Core, nobody, with_client, client_with_cursor, with_subscription, UsesQuery, overtaken, HaveOwnNames, CoreCommand, edit, batch, done, abandon, register, drop, open_cursor, next, close, has, subscribe, unsubscribe, ask, CoreMessage, ok, replied, is_answer, page, CoreEvent, connects, disconnects, says, Sent, only_sent}
+use Rattle.djq_abstract.specs.Moves.{IsPage, StaysConnected, ChangesDatabase, Edits, OnlyReplies, SetsQueries, ReturnsPage}
 use Rattle.djq_abstract.specs.Moves.{Accepts, client_refused, RefusesCommand, CoreStep}
 use Rattle.djq_abstract.specs.Histories.{Happening, state_after, CoreRun, IsReached}
 use Rattle.djq_abstract.specs.Promises.{FinishedCursorsListed}
@@ -88,14 +88,14 @@ client_sound old s x h holds = record { names = h.names; cursors = λ t c. step 
     step t c false = h.cursors t c
 
 replies_sound : (old : Core) (s : ℕ) (m : CoreMessage) (x : Client) (sent : Sent) (new : Core)
-    → Replies old s m x sent new → IsSoundCore old → ((c : Bytes) → CursorHolds old.queries old.db (x.cursor c))
+    → OnlyReplies old s m x sent new → IsSoundCore old → ((c : Bytes) → CursorHolds old.queries old.db (x.cursor c))
     → IsSoundCore new
 replies_sound old s m x sent new r h holds = subst IsSoundCore (sym r.1) (client_sound old s x h holds)
 
 -- a cursor is opened, read or closed
 cursor_holds : (old : Core) (x : Client) (name : Bytes) (k : Option CursorState)
     → ((c : Bytes) → CursorHolds old.queries old.db (x.cursor c)) → CursorHolds old.queries old.db k
-    → (c : Bytes) → CursorHolds old.queries old.db ((with_cursor name k x).cursor c)
+    → (c : Bytes) → CursorHolds old.queries old.db ((client_with_cursor name k x).cursor c)
 cursor_holds old x name k others one c = step (bytes_eq c name)
   where
     step : (b : Bool) → CursorHolds old.queries old.db (cond b k (x.cursor c))
@@ -149,7 +149,7 @@ module _ (old : Core) (s : ℕ) (db : Database) (sent : Sent) (new : Core) (h : 
         (by t c (h.clients t)));
   }
     where
-      by : (t : ℕ) (c : Bytes) → StaysConnected old h.affected new t (sent t) (sent_to s (ok ∷ []) t)
+      by : (t : ℕ) (c : Bytes) → StaysConnected old h.affected new t (sent t) (only_sent s (ok ∷ []) t)
           ⊎ ((new.client t ≡ nobody) × ((old.client t).connected ≡ false → sent t ≡ []))
           → CursorHolds old.queries db ((new.client t).cursor c)
       by t c (inl g) = subst (λ (x : Client). CursorHolds old.queries db (x.cursor c)) (sym g.becomes)
@@ -164,7 +164,7 @@ edits_sound old s es sent new h sound =
 
 -- ---- other queries are registered
 
-registers_sound : (old : Core) (s : ℕ) (qs : List Listed) (sent : Sent) (new : Core) → Registers old s qs sent new
+registers_sound : (old : Core) (s : ℕ) (qs : List Listed) (sent : Sent) (new : Core) → SetsQueries old s qs sent new
     → HaveOwnNames qs
     → ((t : ℕ) (c : Bytes) → CursorHolds qs old.db ((old.client t).cursor c)) → IsSoundCore new
 registers_sound old s qs sent new r names cursors =
@@ -199,14 +199,14 @@ page_holds old s c count (stale q) sent new h sound was = absurd h
 page_holds old s c count (valid q returned finished) sent new h sound was =
     let f = some_there (listed_of old.queries q) (λ l. HasReturned (AnswersOver old.db l) returned finished) was in
     let g : (ts : List Tuple) × (last : Bool) × IsPage (AnswersOver old.db f.0) returned ts count last
-    × Replies old s (page ts last) (with_cursor c (Some (valid q (returned ++ ts) last)) (old.client s)) sent new
+    × OnlyReplies old s (page ts last) (client_with_cursor c (Some (valid q (returned ++ ts) last)) (old.client s)) sent new
     = subst (λ o. IsSomeAnd o (λ l.
     (ts : List Tuple) × (last : Bool) × IsPage (AnswersOver old.db l) returned ts count last
-    × Replies old s (page ts last) (with_cursor c (Some (valid q (returned ++ ts) last)) (old.client s)) sent new))
+    × OnlyReplies old s (page ts last) (client_with_cursor c (Some (valid q (returned ++ ts) last)) (old.client s)) sent new))
     f.1 h in
     let given : HasReturned (AnswersOver old.db f.0) returned finished = f.2 in
     let paged : IsPage (AnswersOver old.db f.0) returned g.0 count g.1 = g.2 in
-    replies_sound old s (page g.0 g.1) (with_cursor c (Some (valid q (returned ++ g.0) g.1)) (old.client s)) sent new g.3
+    replies_sound old s (page g.0 g.1) (client_with_cursor c (Some (valid q (returned ++ g.0) g.1)) (old.client s)) sent new g.3
     sound
     (cursor_holds old (old.client s) c (Some (valid q (returned ++ g.0) g.1)) (sound.cursors s)
     (and_some (listed_of old.queries q) (λ l. HasReturned (AnswersOver old.db l) (returned ++ g.0) g.1) f.0 f.1 (record {
@@ -222,7 +222,7 @@ accepts_sound : (old : Core) (s : ℕ) (c : CoreCommand) (sent : Sent) (new : Co
 accepts_sound old s (edit e) sent new h sound = by (old.client s).batch h
   where
     by : (o : Option (List RowEdit)) → MatchOption o (Edits old s (e ∷ []) sent new)
-        (λ es. Replies old s ok (record (old.client s) { batch = Some (es ++ e ∷ []) }) sent new) → IsSoundCore new
+        (λ es. OnlyReplies old s ok (record (old.client s) { batch = Some (es ++ e ∷ []) }) sent new) → IsSoundCore new
     by None k = edits_sound old s (e ∷ []) sent new k sound
     by (Some es) k = replies_sound old s ok (record (old.client s) { batch = Some (es ++ e ∷ []) }) sent new k sound
         (sound.cursors s)
@@ -243,7 +243,7 @@ accepts_sound old s (drop q) sent new h sound =
     (own_names_less old.queries (λ l. not (bytes_eq (listed_name l) q)) sound.names)
     (λ t c. less_holds old.queries q old.db (old.client t) c (h.0 t) ((old.client t).cursor c) refl (sound.cursors t c))
 accepts_sound old s (open_cursor c q) sent new h sound =
-    replies_sound old s ok (with_cursor c (Some (valid q [] false)) (old.client s)) sent new h.2 sound
+    replies_sound old s ok (client_with_cursor c (Some (valid q [] false)) (old.client s)) sent new h.2 sound
     (cursor_holds old (old.client s) c (Some (valid q [] false)) (sound.cursors s)
     (by (listed_of old.queries q) h.1))
   where
@@ -259,11 +259,11 @@ accepts_sound old s (next c count) sent new h sound =
     page_holds old s c count f.0 sent new f.2 sound
     (subst (λ o. CursorHolds old.queries old.db o) f.1 (sound.cursors s c))
 accepts_sound old s (close c) sent new h sound =
-    replies_sound old s ok (with_cursor c None (old.client s)) sent new h.1 sound
+    replies_sound old s ok (client_with_cursor c None (old.client s)) sent new h.1 sound
     (cursor_holds old (old.client s) c None (sound.cursors s) tt)
 accepts_sound old s (has q t) sent new h sound =
     let f = some_there (listed_of old.queries q) (λ l. (holds : Bool) × ((holds ≡ true) ↔ AnswersOver old.db l t)
-    × Replies old s (is_answer holds) (old.client s) sent new) h in
+    × OnlyReplies old s (is_answer holds) (old.client s) sent new) h in
     replies_sound old s (is_answer f.2.0) (old.client s) sent new f.2.2 sound (sound.cursors s)
 accepts_sound old s (subscribe q) sent new h sound =
     replies_sound old s ok (with_subscription q true (old.client s)) sent new h.1 sound (sound.cursors s)

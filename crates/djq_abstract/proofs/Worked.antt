@@ -20,8 +20,8 @@ use Rattle.djq_model.specs.Listed.{Listed, a_query, listed_name, listed_of}
 use Rattle.djq_abstract.specs.Rows.{Database, is_present, Matches, IsAnswerOver, AnswersOver, copies_set}
 use Rattle.djq_abstract.specs.Rows.{ReadsRelation, AreRowsChanged, IsAffected}
 use Rattle.djq_abstract.specs.Deltas.{AnswerDelta, IsDeltaBetween}
-use Rattle.djq_abstract.specs.Clients.{valid, Client, Core, nobody, with_client, with_cursor, with_subscription, client_overtaken, IsAdmitted, CoreCommand, edit, register, open_cursor, next, subscribe, ask, CoreMessage, ok, refused, not_free_connex, replied, page, delta, says, Sent, sent_to}
-use Rattle.djq_abstract.specs.Moves.{IsPage, StaysConnected, ChangesDatabase, Edits, Replies, Accepts, RefusesCommand}
+use Rattle.djq_abstract.specs.Clients.{valid, Client, Core, nobody, with_client, client_with_cursor, with_subscription, client_overtaken, IsAdmitted, CoreCommand, edit, register, open_cursor, next, subscribe, ask, CoreMessage, ok, refused, not_free_connex, replied, page, delta, says, Sent, only_sent}
+use Rattle.djq_abstract.specs.Moves.{IsPage, StaysConnected, ChangesDatabase, Edits, OnlyReplies, Accepts, RefusesCommand}
 use Rattle.djq_abstract.specs.Moves.{CoreStep, ReturnsPage}
 use Rattle.djq_abstract.specs.Worked.{one_client, machine_row, job_row, inserting, waiting_query, waiting_answer, ReadmeHappens, ReadmeOnlySo}
 use Rattle.djq_abstract.proofs.Listings.{some_there}
@@ -174,7 +174,7 @@ inserted_sent d old = λ t. if t == 1 then map (λ n. delta n d (suc old.seq))
 -- what becomes of a client
 abbrev pub Fares : Core → Database → AnswerDelta → ℕ → Type 0
 Fares old db d t =
-    StaysConnected old (λ n. true) (inserted_state db old) t (inserted_sent d old t) (sent_to 1 (ok ∷ []) t)
+    StaysConnected old (λ n. true) (inserted_state db old) t (inserted_sent d old t) (only_sent 1 (ok ∷ []) t)
     ⊎ (((inserted_state db old).client t ≡ nobody) × ((old.client t).connected ≡ false → inserted_sent d old t ≡ []))
 
 insert_changes : (old : Core) (db : Database) (d : AnswerDelta) → (old.client 1).connected ≡ true → IsAlone old
@@ -233,11 +233,11 @@ abbrev st_6 : Core
 st_6 = inserted_state with_job st_5
 
 abbrev st_7 : Core
-st_7 = with_client 1 (with_cursor (codes "c") (Some (valid (codes "waiting") [] false)) (st_6.client 1)) st_6
+st_7 = with_client 1 (client_with_cursor (codes "c") (Some (valid (codes "waiting") [] false)) (st_6.client 1)) st_6
 
 abbrev st_8 : Core
 st_8 = with_client 1
-    (with_cursor (codes "c") (Some (valid (codes "waiting") ([] ++ waiting_answer ∷ []) true)) (st_7.client 1)) st_7
+    (client_with_cursor (codes "c") (Some (valid (codes "waiting") ([] ++ waiting_answer ∷ []) true)) (st_7.client 1)) st_7
 
 alone_2 : IsAlone st_2
 alone_2 t e = ap (λ b. cond b (st_1.client 1) (cond b (st_0.client 1) (cond b (record nobody { connected = true }) nobody))) e
@@ -278,12 +278,12 @@ the_page = record {
 
 pub readme_happens : ReadmeHappens
 readme_happens = (
-  sent_to 1 (replied ∷ []),
+  only_sent 1 (replied ∷ []),
   st_1,
   (refl, inl (refl, refl)),
   refl,
   (
-    sent_to 1 (replied ∷ []),
+    only_sent 1 (replied ∷ []),
     st_2,
     (refl, inl (refl, refl)),
     refl,
@@ -293,12 +293,12 @@ readme_happens = (
       (refl, inl machine_inserted),
       refl,
       (
-        sent_to 1 (ok ∷ []),
+        only_sent 1 (ok ∷ []),
         st_4,
         (refl, inl (waiting_admitted, refl, (refl, refl))),
         refl,
         (
-          sent_to 1 (ok ∷ []),
+          only_sent 1 (ok ∷ []),
           st_5,
           (refl, inl (refl, (refl, refl))),
           refl,
@@ -308,12 +308,12 @@ readme_happens = (
             (refl, inl job_inserted),
             refl,
             (
-              sent_to 1 (ok ∷ []),
+              only_sent 1 (ok ∷ []),
               st_7,
               (refl, inl (refl, refl, (refl, refl))),
               refl,
               (
-                sent_to 1 (page (waiting_answer ∷ []) true ∷ []),
+                only_sent 1 (page (waiting_answer ∷ []) true ∷ []),
                 st_8,
                 (refl, inl (waiting_answer ∷ [], true, the_page, (refl, refl))),
                 refl,
@@ -356,7 +356,7 @@ accepted old c sent new m ms h e plain free = by h.1
     by (inr k) = absurd (neither (refusal_is m c old sent new ms k e))
 
 reply_stands : (old : Core) (m : CoreMessage) (f : Client → Client) (sent : Sent) (new : Core) (db : Database)
-    (qs : List Listed) (x : Client) → Replies old 1 m (f (old.client 1)) sent new → Stands old db qs x
+    (qs : List Listed) (x : Client) → OnlyReplies old 1 m (f (old.client 1)) sent new → Stands old db qs x
     → Stands new db qs (f x)
 reply_stands old m f sent new db qs x r h = record {
   db_is = ap (λ (st : Core). st.db) r.1 ∙ h.db_is;
@@ -374,7 +374,7 @@ insert_is old relation row sent new m ms db qs x st none h e plain free =
     let none_open : (old.client 1).batch ≡ None = ap (λ (y : Client). y.batch) st.client_is ∙ none in
     let edits : Edits old 1 (inserting relation row ∷ []) sent new =
     subst (λ o. MatchOption o (Edits old 1 (inserting relation row ∷ []) sent new)
-    (λ es. Replies old 1 ok (record (old.client 1) { batch = Some (es ++ inserting relation row ∷ []) }) sent new))
+    (λ es. OnlyReplies old 1 ok (record (old.client 1) { batch = Some (es ++ inserting relation row ∷ []) }) sent new))
     none_open (accepted old (edit (inserting relation row)) sent new m ms h e plain free) in
     subst (λ (d : Database). ChangesDatabase old 1 (copies_set d relation row (suc (d relation row))) sent new) st.db_is edits
 
@@ -383,7 +383,7 @@ goes_on : (old : Core) (db : Database) (sent : Sent) (new : Core) (h : ChangesDa
     → (new.client 1).connected ≡ true → StaysConnected old h.affected new 1 (sent 1) (ok ∷ [])
 goes_on old db sent new h there = by (h.clients 1)
   where
-    by : StaysConnected old h.affected new 1 (sent 1) (sent_to 1 (ok ∷ []) 1)
+    by : StaysConnected old h.affected new 1 (sent 1) (only_sent 1 (ok ∷ []) 1)
         ⊎ ((new.client 1 ≡ nobody) × ((old.client 1).connected ≡ false → sent 1 ≡ []))
         → StaysConnected old h.affected new 1 (sent 1) (ok ∷ [])
     by (inl g) = g
@@ -438,7 +438,7 @@ delta_is old sent new inserted st h there e =
 
 -- and so has the page
 page_is : (old : Core) (sent : Sent) (new : Core) (listed : Tuple) (x : Client)
-    → Stands old with_job readers (with_cursor (codes "c") (Some (valid (codes "waiting") [] false)) x)
+    → Stands old with_job readers (client_with_cursor (codes "c") (Some (valid (codes "waiting") [] false)) x)
     → CoreStep old (says 1 (next (codes "c") 10)) sent new → sent 1 ≡ page (listed ∷ []) true ∷ []
     → listed ≡ waiting_answer
 page_is old sent new listed x st h e =
@@ -451,14 +451,14 @@ page_is old sent new listed x st h e =
     subst (λ o. IsSomeAnd o (λ k. ReturnsPage old 1 c 10 k sent new)) cursor_is a in
     let f = some_there (listed_of old.queries (codes "waiting")) (λ l.
     (ts : List Tuple) × (last : Bool) × IsPage (AnswersOver old.db l) [] ts 10 last
-    × Replies old 1 (page ts last)
-    (with_cursor c (Some (valid (codes "waiting") ([] ++ ts) last)) (old.client 1)) sent new) r in
+    × OnlyReplies old 1 (page ts last)
+    (client_with_cursor c (Some (valid (codes "waiting") ([] ++ ts) last)) (old.client 1)) sent new) r in
     let found : listed_of old.queries (codes "waiting") ≡ Some (a_query waiting_query) =
     ap (λ qs. listed_of qs (codes "waiting")) st.queries_is in
     let some : Some f.0 ≡ Some (a_query waiting_query) = sym f.1 ∙ found in
     let query_is : f.0 ≡ a_query waiting_query = cc in
     let paged : IsPage (AnswersOver old.db f.0) [] f.2.0 10 f.2.1 = f.2.2 in
-    let said : page f.2.0 f.2.1 ∷ [] ≡ page (listed ∷ []) true ∷ [] = sym (ap {y = sent_to 1 (page f.2.0 f.2.1 ∷ [])} (λ (k : Sent). k 1) f.2.3.0) ∙ e in
+    let said : page f.2.0 f.2.1 ∷ [] ≡ page (listed ∷ []) true ∷ [] = sym (ap (λ (k : Sent). k 1) f.2.3.0) ∙ e in
     let one : f.2.0 ≡ listed ∷ [] = cc in
     let answers : All (AnswersOver old.db f.0) (listed ∷ []) =
     subst (λ ts. All (AnswersOver old.db f.0) ts) one paged.answers in
@@ -507,7 +507,7 @@ readme_only_so inserted listed d1 =
     let a7 : Accepts d6.1 1 (open_cursor (codes "c") (codes "waiting")) d7.0 d7.1 =
     accepted d6.1 (open_cursor (codes "c") (codes "waiting")) d7.0 d7.1 ok [] d7.2 d7.3 (λ k. cc) (λ k. cc) in
     let s7 : Stands d7.1 with_job readers
-    (with_cursor (codes "c") (Some (valid (codes "waiting") [] false)) subscriber) =
-    reply_stands d6.1 ok (with_cursor (codes "c") (Some (valid (codes "waiting") [] false))) d7.0 d7.1 with_job readers
+    (client_with_cursor (codes "c") (Some (valid (codes "waiting") [] false)) subscriber) =
+    reply_stands d6.1 ok (client_with_cursor (codes "c") (Some (valid (codes "waiting") [] false))) d7.0 d7.1 with_job readers
     subscriber a7.2 s6 in
     (delta_is d5.1 d6.0 d6.1 inserted s5 h6 d7.2.0 d6.3, page_is d7.1 d8.0 d8.1 listed subscriber s7 d8.2 d8.3)

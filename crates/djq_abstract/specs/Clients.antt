@@ -42,8 +42,8 @@ abbrev pub with_client : ℕ → Client → Core → Core
 with_client s x st = record st { client = λ t. if t == s then x else st.client t }
 
 -- A client with another cursor under a name, or with none.
-abbrev pub with_cursor : Bytes → Option CursorState → Client → Client
-with_cursor c cursor x = record x { cursor = λ n. if bytes_eq n c then cursor else x.cursor n }
+abbrev pub client_with_cursor : Bytes → Option CursorState → Client → Client
+client_with_cursor c cursor x = record x { cursor = λ n. if bytes_eq n c then cursor else x.cursor n }
 
 -- A client that subscribes to a query, or doesn't.
 abbrev pub with_subscription : Bytes → Bool → Client → Client
@@ -112,5 +112,5 @@ abbrev pub Sent : Type 0
 Sent = ℕ → List CoreMessage
 
 -- One client is sent these, and no other anything.
-abbrev pub sent_to : ℕ → List CoreMessage → Sent
-sent_to s ms = λ t. if t == s then ms else []
+abbrev pub only_sent : ℕ → List CoreMessage → Sent
+only_sent s ms = λ t. if t == s then ms else []

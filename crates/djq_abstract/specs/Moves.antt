@@ -15,7 +15,7 @@ use Rattle.djq_abstract.specs.Clients.{
   Core,
   nobody,
   with_client,
-  with_cursor,
+  client_with_cursor,
   with_subscription,
   UsesQuery,
   client_overtaken,
@@ -47,7 +47,7 @@ use Rattle.djq_abstract.specs.Clients.{
   disconnects,
   says,
   Sent,
-  sent_to,
+  only_sent,
 }
 
 -- A page: further answers, each once, as many as asked for or all that are left. It is the last exactly if none is
@@ -83,7 +83,7 @@ pub record ChangesDatabase (old : Core) (s : ℕ) (db : Database) (sent : Sent) 
   pub affected : Bytes → Bool
   pub affected_if : (n : Bytes) (q : Listed) → listed_of old.queries n ≡ Some q
       → (affected n ≡ true) ↔ IsAffected old.db db q
-  pub clients : (t : ℕ) → StaysConnected old affected new t (sent t) (sent_to s (ok ∷ []) t)
+  pub clients : (t : ℕ) → StaysConnected old affected new t (sent t) (only_sent s (ok ∷ []) t)
       ⊎ ((new.client t ≡ nobody) × ((old.client t).connected ≡ false → sent t ≡ []))
 
 -- Edits change the database, if none deletes a row that isn't present then.
@@ -91,48 +91,48 @@ abbrev pub Edits : Core → ℕ → List RowEdit → Sent → Core → Type 0
 Edits old s es sent new = IsSomeAnd (all_edited es old.db) (λ db. ChangesDatabase old s db sent new)
 
 -- A client gets one reply and becomes another, and nothing else happens.
-abbrev pub Replies : Core → ℕ → CoreMessage → Client → Sent → Core → Type 0
-Replies old s m x sent new = (sent ≡ sent_to s (m ∷ [])) × (new ≡ with_client s x old)
+abbrev pub OnlyReplies : Core → ℕ → CoreMessage → Client → Sent → Core → Type 0
+OnlyReplies old s m x sent new = (sent ≡ only_sent s (m ∷ [])) × (new ≡ with_client s x old)
 
 -- Other queries are registered.
-abbrev pub Registers : Core → ℕ → List Listed → Sent → Core → Type 0
-Registers old s queries sent new = (sent ≡ sent_to s (ok ∷ [])) × (new ≡ record old { queries = queries })
+abbrev pub SetsQueries : Core → ℕ → List Listed → Sent → Core → Type 0
+SetsQueries old s queries sent new = (sent ≡ only_sent s (ok ∷ [])) × (new ≡ record old { queries = queries })
 
 -- A cursor returns a page, unless it is stale.
 abbrev pub ReturnsPage : Core → ℕ → (cursor : Bytes) (count : ℕ) → CursorState → Sent → Core → Type 0
 ReturnsPage old s c count (stale q) sent new = ⊥
 ReturnsPage old s c count (valid q returned finished) sent new = IsSomeAnd (listed_of old.queries q) (λ l.
     (ts : List Tuple) × (last : Bool) × IsPage (AnswersOver old.db l) returned ts count last
-    × Replies old s (page ts last) (with_cursor c (Some (valid q (returned ++ ts) last)) (old.client s)) sent new)
+    × OnlyReplies old s (page ts last) (client_with_cursor c (Some (valid q (returned ++ ts) last)) (old.client s)) sent new)
 
 -- A command is accepted. While a batch is open the server accepts only some of these.
 abbrev pub Accepts : Core → ℕ → CoreCommand → Sent → Core → Type 0
 Accepts old s (edit e) sent new = MatchOption (old.client s).batch
     (Edits old s (e ∷ []) sent new)
-    (λ es. Replies old s ok (record (old.client s) { batch = Some (es ++ e ∷ []) }) sent new)
+    (λ es. OnlyReplies old s ok (record (old.client s) { batch = Some (es ++ e ∷ []) }) sent new)
 Accepts old s batch sent new = ((old.client s).batch ≡ None)
-    × Replies old s ok (record (old.client s) { batch = Some [] }) sent new
+    × OnlyReplies old s ok (record (old.client s) { batch = Some [] }) sent new
 Accepts old s done sent new = IsSomeAnd (old.client s).batch
     (λ es. Edits (with_client s (record (old.client s) { batch = None }) old) s es sent new)
 Accepts old s abandon sent new = IsSome (old.client s).batch
-    × Replies old s ok (record (old.client s) { batch = None }) sent new
+    × OnlyReplies old s ok (record (old.client s) { batch = None }) sent new
 Accepts old s (register q) sent new = IsAdmitted q × (listed_of old.queries (listed_name q) ≡ None)
-    × Registers old s (old.queries ++ q ∷ []) sent new
+    × SetsQueries old s (old.queries ++ q ∷ []) sent new
 Accepts old s (drop q) sent new = ((t : ℕ) → UsesQuery q (old.client t) → ⊥)
-    × Registers old s (filter (λ l. not (bytes_eq (listed_name l) q)) old.queries) sent new
+    × SetsQueries old s (filter (λ l. not (bytes_eq (listed_name l) q)) old.queries) sent new
 Accepts old s (open_cursor c q) sent new = ((old.client s).cursor c ≡ None) × IsSome (listed_of old.queries q)
-    × Replies old s ok (with_cursor c (Some (valid q [] false)) (old.client s)) sent new
+    × OnlyReplies old s ok (client_with_cursor c (Some (valid q [] false)) (old.client s)) sent new
 Accepts old s (next c count) sent new =
     IsSomeAnd ((old.client s).cursor c) (λ k. ReturnsPage old s c count k sent new)
 Accepts old s (close c) sent new = IsSome ((old.client s).cursor c)
-    × Replies old s ok (with_cursor c None (old.client s)) sent new
+    × OnlyReplies old s ok (client_with_cursor c None (old.client s)) sent new
 Accepts old s (has q t) sent new = IsSomeAnd (listed_of old.queries q) (λ l.
-    (holds : Bool) × ((holds ≡ true) ↔ AnswersOver old.db l t) × Replies old s (is_answer holds) (old.client s) sent new)
+    (holds : Bool) × ((holds ≡ true) ↔ AnswersOver old.db l t) × OnlyReplies old s (is_answer holds) (old.client s) sent new)
 Accepts old s (subscribe q) sent new = IsSome (listed_of old.queries q)
-    × Replies old s ok (with_subscription q true (old.client s)) sent new
+    × OnlyReplies old s ok (with_subscription q true (old.client s)) sent new
 Accepts old s (unsubscribe q) sent new = IsSome (listed_of old.queries q)
-    × Replies old s ok (with_subscription q false (old.client s)) sent new
-Accepts old s ask sent new = Replies old s replied (old.client s) sent new
+    × OnlyReplies old s ok (with_subscription q false (old.client s)) sent new
+Accepts old s ask sent new = OnlyReplies old s replied (old.client s) sent new
 
 -- How a command may be refused: any by one word, whose reason the layers below give, and a query also since it isn't
 -- free-connex.
@@ -150,7 +150,7 @@ client_refused c x = x
 pub record RefusesCommand (old : Core) (s : ℕ) (c : CoreCommand) (sent : Sent) (new : Core) : Type 0 where
   pub message : CoreMessage
   pub may : MayRefuse c message
-  pub is_sent : sent ≡ sent_to s (message ∷ [])
+  pub is_sent : sent ≡ only_sent s (message ∷ [])
   pub affected : Bytes → Bool
   pub becomes : new ≡ record old {
     client = λ t. client_overtaken affected
@@ -159,9 +159,9 @@ pub record RefusesCommand (old : Core) (s : ℕ) (c : CoreCommand) (sent : Sent)
 
 -- One step, and what each client is sent in it.
 abbrev pub CoreStep : Core → CoreEvent → Sent → Core → Type 0
-CoreStep old (connects s) sent new = ((old.client s).connected ≡ false) × (sent ≡ sent_to s [])
+CoreStep old (connects s) sent new = ((old.client s).connected ≡ false) × (sent ≡ only_sent s [])
     × (new ≡ with_client s (record nobody { connected = true }) old)
 CoreStep old (disconnects s) sent new = ((old.client s).connected ≡ true)
-    × (ms : List CoreMessage) × (sent ≡ sent_to s ms) × (new ≡ with_client s nobody old)
+    × (ms : List CoreMessage) × (sent ≡ only_sent s ms) × (new ≡ with_client s nobody old)
 CoreStep old (says s c) sent new = ((old.client s).connected ≡ true)
     × (Accepts old s c sent new ⊎ RefusesCommand old s c sent new)
