@@ -4,7 +4,7 @@
     tests/shell.py PATH_TO_DJQ [NAME ..]
 
 As a filter it needs Python's standard library alone. Tests of the terminal need pexpect, prompt_toolkit and rich,
-in this Python or in /usr/bin/python3, that of the package setuptools, wheel and pip, and that of its types mypy: what
+in this Python or in /usr/bin/python3, those of the package venv, pip and aiohttp, and that of its types mypy: what
 isn't there is named, and its tests are skipped. One line is printed for each test that fails or is skipped, and last
 `N passed, N failed`, with `, N skipped` and what they were without; the status is 0 where none failed.
 """
@@ -829,28 +829,61 @@ def a_server_beside_it_is_found_and_ends_with_it(program):
 # The package
 
 
-@test("setuptools", "wheel", "venv", "pip")
+@test("venv", "pip")
 def the_package_is_installed_without_a_network(program):
     with tempfile.TemporaryDirectory() as directory:
         source, made = os.path.join(directory, "source"), os.path.join(directory, "made")
         subprocess.run(["cp", "-r", CLIENT, source], check=True)
-        subprocess.run([sys.executable, "-m", "venv", "--system-site-packages", "--without-pip", made], check=True)
-        python = os.path.join(made, "bin", "python3")
-        environment = {**os.environ, "PIP_NO_INDEX": "1", "PIP_DISABLE_PIP_VERSION_CHECK": "1"}
-        environment.pop("PYTHONPATH", None)
-        run = lambda *words, **more: subprocess.run(
-            words, capture_output=True, text=True, env=environment, cwd=directory, timeout=9 * SECONDS, **more
-        )
-        words = ["-m", "pip", "install", "--no-index", "--no-build-isolation", "--no-deps", "--quiet", source]
-        done = run(python, *words)
+        # nothing of this Python's packages is there, so pip can't fall back on a setuptools of it
+        run = pip_environment(directory, made)
+        done = run("-m", "pip", "install", "--no-index", "--quiet", source)
         assert done.returncode == 0, done.stdout + done.stderr
-        asked = "import djq, djq.aio, djq.shell, os; print(djq.__file__, os.listdir(os.path.dirname(djq.__file__)))"
-        done = run(python, "-c", asked)
-        assert done.stdout.startswith(made) and "py.typed" in done.stdout, done.stdout + done.stderr
+        asked = "import djq, djq.aio, djq.shell, os; print(djq.__version__, djq.__file__, os.listdir(os.path.dirname(djq.__file__)))"
+        done = run("-c", asked)
+        assert done.stdout.startswith(f"{djq.__version__} {made}") and "py.typed" in done.stdout, done.stdout + done.stderr
+        assert f"Version: {djq.__version__}\n" in run("-m", "pip", "show", "djq").stdout
         shell = os.path.join(made, "bin", "djq-shell")
         done = run(shell, "--local", "--program", program, input="rel r int\nadd r 1\n")
         expect((done.stdout, done.returncode), ("ok\nok added 1 1\n", 0), done.stderr)
         assert "--local" in run(shell, "--help").stdout
+        packed = [name for name in run("-m", "pip", "show", "--files", "djq").stdout.split() if name.startswith("djq/web/")]
+        for name in os.listdir(os.path.join(CLIENT, "djq", "web")):
+            assert name == "__pycache__" or f"djq/web/{name}" in packed, name
+        # of the sources where they are, for who works on them
+        done = run("-m", "pip", "install", "--no-index", "--quiet", "--editable", source)
+        assert done.returncode == 0, done.stdout + done.stderr
+        assert run("-c", "import djq; print(djq.__file__)").stdout.startswith(source)
+
+
+@test("venv", "pip", "prompt_toolkit", "rich", "aiohttp")
+def what_the_package_can_use_is_named(program):
+    """Each extra is met by what Debian has, and one that isn't there is missed without a network."""
+    with tempfile.TemporaryDirectory() as directory:
+        source, made = os.path.join(directory, "source"), os.path.join(directory, "made")
+        subprocess.run(["cp", "-r", CLIENT, source], check=True)
+        run = pip_environment(directory, made, "--system-site-packages")
+        done = run("-m", "pip", "install", "--no-index", "--quiet", f"{source}[shell,web]")
+        assert done.returncode == 0, done.stdout + done.stderr
+        asked = "from importlib.metadata import requires; print(*requires('djq'), sep='\\n')"
+        needs = run("-c", asked).stdout
+        assert 'extra == "shell"' in needs and 'aiohttp>=3.8 ; extra == "web"' in needs, needs
+        run = pip_environment(directory, os.path.join(directory, "bare"))
+        done = run("-m", "pip", "install", "--no-index", "--quiet", f"{source}[web]")
+        assert done.returncode != 0 and "aiohttp" in done.stderr, done.stderr
+
+
+def pip_environment(directory, made, *words):
+    """A virtual environment, and what runs its Python, or another program, without a network."""
+    subprocess.run([sys.executable, "-m", "venv", *words, made], check=True)
+    environment = {**os.environ, "PIP_NO_INDEX": "1", "PIP_DISABLE_PIP_VERSION_CHECK": "1", "PIP_NO_CACHE_DIR": "1"}
+    environment.pop("PYTHONPATH", None)
+
+    def run(*given, **more):
+        front = [] if os.path.isabs(given[0]) else [os.path.join(made, "bin", "python3")]
+        settings = {"capture_output": True, "text": True, "env": environment, "cwd": directory, "timeout": 9 * SECONDS}
+        return subprocess.run([*front, *given], **settings, **more)
+
+    return run
 
 
 @test()

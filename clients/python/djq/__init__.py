@@ -45,6 +45,7 @@ from .protocol import (
     Update, Value, read_values, spell,
 )  # fmt: skip
 from .table import Table
+from .version import __version__
 
 __all__ = [
     "MOST_ANSWERS", "MOST_HELD", "MOST_MEMBERS", "REFUSALS", "Absent", "Added", "Answer", "Arity", "BadName", "Batch",
@@ -52,5 +53,5 @@ __all__ = [
     "HeadRepeated", "HeadUnbound", "InUse", "LimitReached", "Live", "Lives", "MemberRefused", "Misplaced", "NoCursor",
     "NoQuery", "NoRelation", "NotFreeConnex", "NotWatched", "OutOfMemory", "Overtaken", "Page", "Pending", "Pipeline",
     "Protocol", "Refused", "Removed", "SomeRefused", "Stale", "Syntax", "Table", "Taken", "TooLong", "Unanswered",
-    "Update", "Value", "VariableType", "WrongType", "connect", "read_values", "spell",
+    "Update", "Value", "VariableType", "WrongType", "__version__", "connect", "read_values", "spell",
 ]  # fmt: skip
