@@ -19,7 +19,7 @@ from typing import Any, Iterator
 try:
     import tomllib
 except ImportError:  # before Python 3.11
-    import tomli as tomllib  # type: ignore[import,no-redef]
+    import tomli as tomllib  # type: ignore[no-redef]
 
 HERE = Path(__file__).resolve().parent
 PACKAGE = "djq"

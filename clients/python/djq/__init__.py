@@ -33,12 +33,15 @@ Inside, `protocol` knows the lines and no socket: what a command sends, which re
 `live` keeps them up to date, and `table` keeps rows by key.
 """
 
-from .connection import Batch, Connection, Cursor, Pipeline, connect
+from .connection import Batch, Connection, Cursor, Pipeline, PipelinedBatch, connect
 from .errors import (
     REFUSALS, Arity, BadName, ComparisonUnbound, Cyclic, Disconnected, Ended, Error, HeadRepeated, HeadUnbound, InUse,
     LimitReached, MemberRefused, Misplaced, NoCursor, NoQuery, NoRelation, NotFreeConnex, NotWatched, OutOfMemory,
-    Overtaken, Refused, SomeRefused, Stale, Syntax, Taken, TooLong, Unanswered, VariableType, WrongType,
+    Overtaken, Refused, SomeRefused, Stale, Syntax, Taken, TooLong, TwoThreads, Unanswered, VariableType, WrongType,
 )  # fmt: skip
+from .expiring import Expiring
+from .folds import Columns, Index, Key
+from .kept import Moment
 from .live import Live, Lives
 from .protocol import (
     MOST_ANSWERS, MOST_HELD, MOST_MEMBERS, Absent, Added, Answer, Change, Done, Page, Pending, Protocol, Removed,
@@ -49,9 +52,10 @@ from .version import __version__
 
 __all__ = [
     "MOST_ANSWERS", "MOST_HELD", "MOST_MEMBERS", "REFUSALS", "Absent", "Added", "Answer", "Arity", "BadName", "Batch",
-    "Change", "ComparisonUnbound", "Connection", "Cursor", "Cyclic", "Disconnected", "Done", "Ended", "Error",
-    "HeadRepeated", "HeadUnbound", "InUse", "LimitReached", "Live", "Lives", "MemberRefused", "Misplaced", "NoCursor",
-    "NoQuery", "NoRelation", "NotFreeConnex", "NotWatched", "OutOfMemory", "Overtaken", "Page", "Pending", "Pipeline",
-    "Protocol", "Refused", "Removed", "SomeRefused", "Stale", "Syntax", "Table", "Taken", "TooLong", "Unanswered",
-    "Update", "Value", "VariableType", "WrongType", "__version__", "connect", "read_values", "spell",
+    "Change", "Columns", "ComparisonUnbound", "Connection", "Cursor", "Cyclic", "Disconnected", "Done", "Ended",
+    "Error", "Expiring", "HeadRepeated", "HeadUnbound", "InUse", "Index", "Key", "LimitReached", "Live", "Lives", "MemberRefused",
+    "Misplaced", "Moment", "NoCursor", "NoQuery", "NoRelation", "NotFreeConnex", "NotWatched", "OutOfMemory",
+    "Overtaken", "Page", "Pending", "Pipeline", "PipelinedBatch", "Protocol", "Refused", "Removed", "SomeRefused",
+    "Stale", "Syntax", "Table", "Taken", "TooLong", "TwoThreads", "Unanswered", "Update", "Value", "VariableType",
+    "WrongType", "__version__", "connect", "read_values", "spell",
 ]  # fmt: skip

@@ -4,6 +4,7 @@ from __future__ import annotations
 
 import selectors
 import socket
+import threading
 import time
 from collections import deque
 from types import TracebackType
@@ -11,10 +12,10 @@ from typing import TYPE_CHECKING, Any, Callable, Iterable, Iterator, Sequence, T
 
 from . import protocol
 from .batch import Collected
-from .errors import Disconnected, Error, NoCursor, NotWatched, Refused, SomeRefused, Unanswered
+from .errors import Disconnected, Error, NoCursor, NotWatched, Refused, SomeRefused, TwoThreads, Unanswered
 from .listing import WITHIN, Said, list_whole
 from .protocol import FIRST_REFUSALS, MOST_ANSWERS, Added, Answer, Change, Done, Page, Pending, Protocol, Rows, Update
-from .protocol import Value, checked, column_type, fitting, spell, spell_line, spell_union
+from .protocol import Value, checked, column_type, fitting, spell, spell_line, spell_query, spell_union
 
 if TYPE_CHECKING:
     from .live import Live, Lives
@@ -29,10 +30,29 @@ ROWS_AT_ONCE = 500  # that a load makes lines of
 KEEPALIVE = (("TCP_KEEPIDLE", 30), ("TCP_KEEPINTVL", 10), ("TCP_KEEPCNT", 3))
 
 
+class OneThread:
+    """Held by the thread that is in a call of a connection. Another one that calls it meanwhile is told so."""
+
+    def __init__(self) -> None:
+        self._lock = threading.RLock()
+        self._thread = ""  # that held it last
+
+    def __enter__(self) -> None:
+        if not self._lock.acquire(blocking=False):
+            raise TwoThreads(
+                f"the thread {threading.current_thread().name!r} calls a connection that {self._thread!r} is in a call of:"
+                " a connection is used from one thread, so each thread makes its own by djq.connect"
+            )
+        self._thread = threading.current_thread().name
+
+    def __exit__(self, *_: object) -> None:
+        self._lock.release()
+
+
 class Connection:
     """One session of a server. Each method sends one command, waits for its reply, and raises what it was refused with.
 
-    It is used from one thread. Whatever interrupts a call while it waits (a signal's handler that raises, Ctrl-C)
+    It is used from one thread: one that calls it while another is in a call raises `TwoThreads`. Whatever interrupts a call while it waits (a signal's handler that raises, Ctrl-C)
     leaves the connection whole: later replies go where they belong, and only the interrupted command is open, which may
     be done, or be sent with the next one. What interrupts it while bytes are moved closes it, and is the `__cause__` of
     the `Disconnected` that each later call raises.
@@ -56,6 +76,7 @@ class Connection:
         self._interest = selectors.EVENT_READ
         self._protocol = Protocol()
         self._torn = False  # whether bytes are being moved, or were as something interrupted it
+        self._using = OneThread()
         self._watched: set[str] = set()
         self._names = 0
 
@@ -67,7 +88,8 @@ class Connection:
 
     def close(self) -> None:
         """Closes the connection; the server gives up the session's cursors and watches."""
-        self._lose(Disconnected("the connection was closed"))
+        with self._using:
+            self._lose(Disconnected("the connection was closed"))
 
     def fileno(self) -> int:
         """The socket's descriptor, to wait for several connections; -1 once it is closed."""
@@ -91,7 +113,7 @@ class Connection:
 
     def query(self, text: str) -> int:
         """Registers a query, as `q(x,y) <- r(x,z), s(z,y)`. Gives the most steps that one answer costs."""
-        return self._do(fitting(f"query {text}"), protocol.READ_QUERY)
+        return self._do(spell_query(text), protocol.READ_QUERY)
 
     def union(self, name: str, *members: str) -> int:
         """Registers the union of two to eight queries, whose answers are of the same types: it has the answers that any
@@ -164,17 +186,21 @@ class Connection:
 
     # Answers that are kept up to date
 
-    def live(self, query: str, **settings: Any) -> Live:
-        """The query's answers, kept up to date, over a connection of its own. For `settings` see `Lives`."""
+    def live(
+        self, query: str, *, within: float = WITHIN, reconnect: bool = False, ping: float | None = None
+    ) -> Live:
+        """The query's answers, kept up to date, over a connection of its own. For the settings see `Lives`."""
         from .live import Lives
 
-        return Lives(self.host, self.port, timeout=self.timeout, **settings).only(query)
+        return Lives(self.host, self.port, self.timeout, within, reconnect, ping).only(query)
 
-    def lives(self, *queries: str, **settings: Any) -> Lives:
-        """The answers of several queries, kept up to date over one further connection. For `settings` see `Lives`."""
+    def lives(
+        self, *queries: str, within: float = WITHIN, reconnect: bool = False, ping: float | None = None
+    ) -> Lives:
+        """The answers of several queries, kept up to date over one further connection. For the settings see `Lives`."""
         from .live import Lives
 
-        group = Lives(self.host, self.port, timeout=self.timeout, **settings)
+        group = Lives(self.host, self.port, self.timeout, within, reconnect, ping)
         try:
             for query in queries:
                 group.add(query)
@@ -267,12 +293,14 @@ class Connection:
     ) -> Pending[T]:
         """Queues a command."""
         line.encode()  # what isn't UTF-8 fails here, where nothing is half done
-        self._check()
-        return self._whole(self._protocol.say, line, read, failed)
+        with self._using:
+            self._check()
+            return self._whole(self._protocol.say, line, read, failed)
 
     def _do(self, line: str, read: Callable[[list[str]], T | None]) -> T:
-        pending = self._say(line, read)
-        self._settle()
+        with self._using:
+            pending = self._say(line, read)
+            self._settle()
         return pending.result()
 
     def _settle(self) -> None:
@@ -287,18 +315,23 @@ class Connection:
     def _drain(self, due: int, outgoing: int) -> None:
         """Sends and reads until no more than this is due and queued."""
         own = self._protocol
-        while own.ended is None and (own.due > due or len(own.outgoing) > outgoing):
-            self._await(self.timeout)
-        if own.ended is not None:
-            self._lose(own.ended)
+        with self._using:
+            while own.ended is None and (own.due > due or len(own.outgoing) > outgoing):
+                self._await(self.timeout)
+            if own.ended is not None:
+                self._lose(own.ended)
 
     def _await(self, timeout: float | None, hold: bool = False) -> None:
         """Moves bytes, or closes the connection where none could be moved in so many seconds."""
         if not self._move(timeout, hold):
             self._lose(Disconnected(f"nothing came in {timeout:g} s"))
 
-    def _turn(self, lines: Sequence[Said], until: float) -> list[Pending] | None:
+    def _turn(self, lines: Sequence[Said], until: float) -> list[Pending[Any]] | None:
         """Sends lines in one write, and reads their replies once all are there. None where that took too long."""
+        with self._using:
+            return self._turn_of(lines, until)
+
+    def _turn_of(self, lines: Sequence[Said], until: float) -> list[Pending[Any]] | None:
         self._settle()
         pending = [self._say(line, read) for line, read in lines]
         self._whole(self._protocol.hold)
@@ -317,11 +350,7 @@ class Connection:
         """Puts the rows of these lines in by a batch, which is abandoned where that goes wrong."""
         try:
             self._do("batch", protocol.READ_OK)
-            held = _Load(self, None)
-            for at in range(0, len(rows), ROWS_AT_ONCE):
-                if not held.send(rows[at : at + ROWS_AT_ONCE]):
-                    break
-            held.finish()
+            self._hold(rows)
             done = self._say("done", protocol.READ_DONE)
         except Unanswered as error:
             raise Disconnected("the connection was lost; the batch wasn't done") from error
@@ -330,6 +359,15 @@ class Connection:
             raise
         self._settle()
         return done.result()
+
+    def _hold(self, rows: list[str]) -> None:
+        """Adds the rows of these lines to the batch that is open, and waits until they are held. Raises
+        `SomeRefused`."""
+        held = _Load(self, None)
+        for at in range(0, len(rows), ROWS_AT_ONCE):
+            if not held.send(rows[at : at + ROWS_AT_ONCE]):
+                break
+        held.finish()
 
     def _give_up(self, cursor: str) -> None:
         """Closes a cursor without waiting for the reply, as something else has gone wrong."""
@@ -375,6 +413,10 @@ class Connection:
 
     def _move(self, timeout: float | None, hold: bool = False) -> bool:
         """Reads and writes what can be; false where nothing could be in so many seconds."""
+        with self._using:
+            return self._move_bytes(timeout, hold)
+
+    def _move_bytes(self, timeout: float | None, hold: bool) -> bool:
         self._check()
         if self._protocol.holds() and not hold:  # a listing was interrupted
             self._whole(self._protocol.read)
@@ -489,6 +531,22 @@ class Batch(Collected):
             self._result = self._connection._put_in(lines)
 
 
+class PipelinedBatch(Collected):
+    """Rows that go in at once, within a pipeline: see `Pipeline.batch`."""
+
+    def __init__(self, pipeline: Pipeline) -> None:
+        super().__init__()
+        self._pipeline = pipeline
+
+    def __enter__(self) -> PipelinedBatch:
+        return self
+
+    def __exit__(self, kind: type | None, error: BaseException | None, trace: TracebackType | None) -> None:
+        lines = self._end()
+        if error is None:
+            self._reply = self._pipeline._put_in(lines)
+
+
 class Pipeline:
     """Commands that are sent together. Each method gives a `Pending` reply."""
 
@@ -527,17 +585,56 @@ class Pipeline:
 
     def query(self, text: str) -> Pending[int]:
         """Registers a query."""
-        return self._say(fitting(f"query {text}"), protocol.READ_QUERY)
+        return self._say(spell_query(text), protocol.READ_QUERY)
 
     def union(self, name: str, *members: str) -> Pending[int]:
         """Registers a union."""
         return self._say(spell_union(name, members), protocol.READ_UNION)
+
+    def batch(self) -> PipelinedBatch:
+        """Rows that are added in the block go in at its end, all at once or none of them, behind what the pipeline has
+        said before:
+
+        with server.pipeline() as many:
+            orders = []
+            for number in range(100):
+                with many.batch() as order:
+                    order.add("orders", number, "bo")
+                    order.add("lines", number, 1, "bolt")
+                orders.append(order)
+        came = sum(order.result().rows for order in orders)
+
+        The block's end waits until the server holds the rows, since one that is refused gives the batch up. What became
+        of it is a reply as any other of the pipeline: `result()` gives it once the pipeline's block has ended. A batch
+        with refused rows raises `SomeRefused` there, and its refusals count among those of the pipeline.
+        """
+        return PipelinedBatch(self)
 
     def _say(self, line: str, read: Callable[[list[str]], T | None]) -> Pending[T]:
         self._connection._pump()
         pending = self._connection._say(line, read, self._failed)
         self._sent += 1
         return pending
+
+    def _put_in(self, rows: list[str]) -> Pending[Done]:
+        """Puts the rows of these lines in by a batch, without waiting for what becomes of it."""
+        own = self._connection
+        opened = self._say("batch", protocol.READ_OK)
+        own._settle()
+        if opened.failure is not None:  # without an open batch each row would go in alone
+            return Pending.failed("done", opened.failure)
+        self._sent += len(rows)
+        try:
+            own._hold(rows)
+        except SomeRefused as refused:
+            own._say("abandon", protocol.READ_OK)
+            self._refused += refused.refused
+            self._first += refused.first[: FIRST_REFUSALS - len(self._first)]
+            return Pending.failed("done", refused)
+        except BaseException:
+            own._say_last("abandon")
+            raise
+        return self._say("done", protocol.READ_DONE)
 
     def _failed(self, error: Error) -> None:
         if not isinstance(error, Refused):

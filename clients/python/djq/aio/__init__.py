@@ -20,8 +20,8 @@ belongs. Errors are those of `djq`.
 that blocks knows no socket.
 """
 
-from .connection import Batch, Connection, Cursor, Pipeline, connect
+from .connection import Batch, Connection, Cursor, Pipeline, PipelinedBatch, connect
 from .live import Live, Lives
 from .table import Table
 
-__all__ = ["Batch", "Connection", "Cursor", "Live", "Lives", "Pipeline", "Table", "connect"]
+__all__ = ["Batch", "Connection", "Cursor", "Live", "Lives", "Pipeline", "PipelinedBatch", "Table", "connect"]

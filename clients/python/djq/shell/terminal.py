@@ -25,6 +25,7 @@ except ImportError:  # lines are read without it then
     PromptSession = None  # type: ignore[assignment,misc]
     Completer = object  # type: ignore[assignment,misc]
 
+HAS_PROMPT = PromptSession is not None
 OWN = [line.split()[0] for line in HELP.split("\n") if line.startswith("\\")]
 OF_RELATIONS = ("add", "del", "\\columns")
 IN_BATCH = ("add", "done", "abandon", "quit", "stop")
