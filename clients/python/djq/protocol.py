@@ -7,6 +7,7 @@ from collections import deque
 from dataclasses import dataclass
 from typing import Any, Callable, Generic, Sequence, TypeVar, Union
 
+from . import syntax
 from .errors import REFUSALS, BadName, Cyclic, Ended, Error, NotFreeConnex, Refused, Stale, TooLong
 
 Value = Union[int, str]
@@ -30,6 +31,7 @@ _NEEDS_ESCAPE = re.compile(r'["\\\n]')
 _VALUE = re.compile(r' *(?:(-?[0-9]+)|"((?:[^"\\]|\\.)*)")')
 _WORD = re.compile(r'"(?:[^"\\]|\\.)*"|[^ "]+')  # of a line: a text with its quotes, or what stands between spaces
 _NAME = re.compile(r"[a-z][a-z0-9_]{0,31}")
+_RELATION = re.compile(r"([a-z][a-z0-9_]*) *\(")
 _QUOTED = re.compile(r'"(?:[^"\\]|\\.)*"', re.DOTALL)
 _ESCAPE_OR_END = re.compile(r"\\.|\n", re.DOTALL)
 _BLANKS = re.compile(r" *[\t\r\n][ \t\r\n]*")
@@ -355,7 +357,11 @@ def refusal(reply: str, line: str = "", columns: dict[str, tuple[str, ...]] | No
 
 def what_is_wrong(number: int, line: str, columns: dict[str, tuple[str, ...]]) -> str:
     """What is wrong with a line that was refused by this number, where the line and the columns tell it."""
-    command, _, rest = line.partition(" ")
+    command, _, rest = line.strip(" ").partition(" ")
+    if number == 1:
+        return "; ".join(syntax.of_line(line.strip(" ")))
+    if number == 3 and command == "query":
+        return "; ".join(filter(None, map(syntax.of_relation, _RELATION.findall(rest.partition("<-")[2]))))
     if number == 18:
         return "no batch is open" if command in ("done", "abandon") else "a batch is open"
     name, _, said = rest.partition(" ")

@@ -203,6 +203,8 @@ class Names(Completer):
             return ["int", "text"] if place > 1 else []
         if command == "union":
             return [name for name in names.queries if name not in (*names.unions, *words)] if place > 1 else []
+        if command == "\\d" and place == 1:
+            return [*names.relations, *names.queries]
         if command in OF_RELATIONS and place == 1 or (command == "\\load" and place == 2):
             return list(names.relations)
         if command in OF_QUERIES and place == 1 or (command == "open" and place == 2):
