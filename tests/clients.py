@@ -1160,19 +1160,29 @@ def test_cache(program):
     with Server(program) as server, server.connect() as client:
         told = output(server, "cache.py", "--size", "2", given="1 1 2\n1 3 2\n")
         assert told.splitlines() == [
-            "1 asked: Ada cake, Ada tea", "1 kept: Ada cake, Ada tea", "2 asked: Bo soup",
-            "1 kept: Ada cake, Ada tea", "3 asked: nothing", "2 asked: Bo soup",
+            "1 made: Ada cake, Ada tea", "1 kept: Ada cake, Ada tea", "2 made: Bo soup",
+            "1 kept: Ada cake, Ada tea", "3 made: nothing", "2 made: Bo soup",
         ]  # fmt: skip
         with example(server, "cache.py") as process:
             ask = lambda key: print(key, file=process.stdin, flush=True) or process.stdout.readline().strip()
-            assert ask(1).startswith("1 asked: ") and ask(2).startswith("2 asked: ")
+            assert ask(1).startswith("1 made: ") and ask(2).startswith("2 made: ") and ask(9) == "9 made: nothing"
+            # one query serves all keys
+            raises(djq.NoQuery, lambda: client.watch("customer_1"))
+            raises(djq.InUse, lambda: client.drop("ordered"))
             client.add("orders", 1, "beer")
             wait_until(lambda: ask(1) != "1 kept: Ada cake, Ada tea")
             assert ask(1) == "1 kept: Ada beer, Ada cake, Ada tea"
-            assert ask(2) == "2 kept: Bo soup"
+            assert ask(2) == "2 kept: Bo soup" and ask(9) == "9 kept: nothing"
             client.delete("customers", 2, "Bo")
             wait_until(lambda: ask(2) != "2 kept: Bo soup")
             assert ask(2) == "2 kept: nothing"
+            client.load("customers", [(number, "Cai") for number in range(10, 3000)])
+            client.load("orders", [(number, "milk") for number in range(10, 3000)])
+            wait_until(lambda: ask(2999) == "2999 kept: Cai milk")
+            assert all(ask(number) == f"{number} made: Cai milk" for number in range(10, 2000))
+            client.add("orders", 1500, "nuts")
+            wait_until(lambda: ask(1500) == "1500 kept: Cai milk, Cai nuts")
+            assert all(ask(number) == f"{number} kept: Cai milk" for number in range(10, 1500))
 
 
 TREE = """4 trim  -
