@@ -25,12 +25,19 @@ change what is answered. Rows that belong together come by a batch, all at once 
         batch.add("lines", 7, 1, "bolt")
     print(batch.result())                           # Done(seq=3, rows=2)
 
-One connection is one session of the server; it is used from one thread. Values are `int` (64 bits) and `str` (at most
-255 bytes of UTF-8). Each error that the server may answer is an exception of its own, under `Refused`.
+What is computed of live answers is updated by what came and went, and nothing is asked for again:
 
-Inside, `protocol` knows the lines and no socket: what a command sends, which reply is due, and which lines are deltas.
-`connection` moves its bytes, `batch` collects rows that belong together, `listing` lists the answers of one moment,
-`live` keeps them up to date, and `table` keeps rows by key.
+    live.count(by=0), live.sum(1), live.top(10, 1), live.by(0)[7]
+
+One connection is one session of the server; it is used from one thread. Values are `int` (64 bits) and `str` (at most
+255 bytes of UTF-8). Each error that the server may answer is an exception of its own, under `Refused`. All methods stand
+on one page, docs/CLIENT.md in the repository.
+
+Inside, `protocol` knows the lines and no socket: what a command sends, which reply is due, and which lines are deltas;
+`syntax` knows what a line may have meant that the server doesn't understand. `connection` moves the bytes, `batch` collects
+rows that belong together, `listing` lists the answers of one moment, `live` keeps them up to date by `kept`, which takes
+the changes, and `folds`, which are what is computed of them. `table` keeps rows by key, and `expiring` takes them out in
+time.
 """
 
 from .connection import Batch, Connection, Cursor, Pipeline, PipelinedBatch, connect
