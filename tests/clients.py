@@ -898,7 +898,7 @@ def test_two_threads(server):
         time.sleep(0.3)
         for call in (lambda: client.add("tt", 1), client.ping, lambda: client.snapshot("qtt"), client.close):
             error = raises(djq.TwoThreads, call)
-            assert "'MainThread' calls a connection that 'waits' is in a call of" in str(error), error
+            assert "'MainThread' calls a connection that 'waits' is in a call of: " in str(error), error
             assert isinstance(error, djq.Error) and isinstance(error, RuntimeError)
         assert not other.has("qtt", 1)
         other.add("tt", 2)

@@ -228,12 +228,12 @@ WHY_ENDED = {
 
 
 def of_live(error: Error, queries: Sequence[str], before: Error | None = None) -> Error:
-    """An error that ended live answers, told in one sentence which names their queries. `before` is what they were lost by
+    """An error that ended live answers, in one sentence which names their queries. `before` is what they were lost by,
     before a new start failed by this error."""
     if not isinstance(error, (Disconnected, Ended)):
         return error
-    whys = [reason(one) for one in (before, error) if one is not None]
-    words = f"the live answers of {', '.join(queries) or 'no query'} ended: {', and a new start failed: '.join(dict.fromkeys(whys))}"
+    reasons = dict.fromkeys(reason(one) for one in (before, error) if one is not None)
+    words = f"the live answers of {', '.join(queries) or 'no query'} ended: {', and a new start failed: '.join(reasons)}"
     return Ended(error.cause, "", words) if isinstance(error, Ended) else Disconnected(words)
 
 

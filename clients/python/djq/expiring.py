@@ -28,15 +28,15 @@ class Expiring:
         seen = djq.Expiring(server.table("heartbeats", int, str, key=1), seconds=30)
         seen.renew(7, "press")              # machine 7 is there for 30 seconds from now
 
-    When a row is due stands in a relation of its own, `heartbeats_due`, with the row's key and the milliseconds since 1970:
-    so a renewal changes no row of the table, who watches the table is told of rows that come and go alone, and a
-    process that begins again goes on with what it finds. A row that it finds without such a time gets the whole of it.
-    The table's name has at most 23 characters.
+    When a row is due stands in a relation of its own, `heartbeats_due`: the row's key, and milliseconds since 1970. So a
+    renewal changes no row of the table, and who watches the table is told of rows that come and go alone. A process
+    that begins again goes on with the times that it finds; a row without one gets the whole time. The table's name has
+    at most 23 characters.
 
-    A thread with a connection of its own takes out what is due, until `close` or the end of the process. One such thread is
-    enough for a table; with `by_itself=False` there is none, and `expire` does it. Several processes may renew: the
-    latest renewal counts, so their clocks should agree to a fraction of the time. A row that is renewed just as it goes
-    comes back at once.
+    A thread with a connection of its own takes out what is due, until `close` or the end of the process. One such thread
+    is enough for a table; with `by_itself=False` there is none, and `expire` does it. Several processes may renew. The
+    latest time counts, so their clocks should agree to a fraction of it. A row that is renewed just as it goes comes
+    back at once.
     """
 
     def __init__(

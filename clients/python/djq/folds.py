@@ -58,8 +58,8 @@ class Fold:
 class Index(Fold, Mapping[Key, "Set[Answer]"]):
     """The answers by their key: `index[key]` is the set of those that have it, which is empty where none has.
 
-    It follows the answers, as they do the changes that are taken. A set that it gives is the one it goes on with: whoever
-    changes something copies it.
+    It follows the answers, as they do the changes that are taken. A set that it gives is the one that it goes on with, so
+    whoever changes something copies it.
     """
 
     def __init__(self, columns: Columns) -> None:

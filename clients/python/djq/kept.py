@@ -23,8 +23,8 @@ V = TypeVar("V")
 class Kept:
     """The answers of one query, as `answers`, and the number of the last change that is in them, as `seq`.
 
-    What is computed of them, by `by`, `count`, `sum`, `min`, `max` and `top`, is computed once, and then updated by each
-    change that is taken. Columns are numbered from 0, as the values of an answer are.
+    What `by`, `count`, `sum`, `min`, `max` and `top` give is computed once, and then updated by each change that is
+    taken. Columns are numbered from 0, as the values of an answer are.
     """
 
     def __init__(self, query: str) -> None:
@@ -177,8 +177,8 @@ def _largest(ranked: Ordered) -> Value:
 
 @dataclass(frozen=True)
 class Moment:
-    """All that one change of rows did to the queries of a group: the number of the change, and by the name of each query
-    that it told of the change of its answers."""
+    """All that one change of rows did to the queries of a group: its number, and by name, of each query that reads what
+    changed, the change of its answers."""
 
     seq: int
     changes: dict[str, Change]
@@ -221,7 +221,7 @@ def _taken(kept: Sequence[K], protocol: Protocol, seq: int) -> Iterator[tuple[K,
 
 
 def first_moment(kept: Sequence[Kept], protocol: Protocol) -> tuple[int | None, bool]:
-    """The number of the change that is the next to take whole, and whether all of it has come, as a later one has. After
+    """The number of the change that is to be taken whole next, and whether all of it has come, as a later one has. After
     a new start there is no such number."""
     if any(one._anew is not None for one in kept):
         return None, False

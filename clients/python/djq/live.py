@@ -86,8 +86,8 @@ class Lives:
     starts anew, and what was missed comes as one change of each query, with `restarted`.
 
     - `within`: the seconds that a listing may take, before it raises `Overtaken`.
-    - `reconnect`: where a start fails, the first one too, since the server isn't there or doesn't know the query yet, it
-      is tried again, with growing pauses, and what it waits for is logged. Without it what failed is raised, in one
+    - `reconnect`: where a start fails, the first one too, since the server isn't there or doesn't know the query yet,
+      it is tried again, with growing pauses, and what it waits for is logged. Without it what failed is raised, in one
       sentence that names the queries, and the next call tries again.
     - `ping`: where nothing came for so many seconds the server is asked for a reply, so that one that is stopped is
       found out. `timeout` is how long it may take, else as many seconds again.
@@ -178,7 +178,7 @@ class Lives:
 
     def next_moment(self, timeout: float | None = None) -> Moment | None:
         """All that the next change of rows did to the queries, together: behind it all sets are those of one moment,
-        whose number is `seq` then. None where none came for so many seconds. Where nothing else has come behind a change
+        whose number is `seq` then. None where none came for so many seconds. Where nothing has come behind a change yet
         it costs a round trip to know that all of it has."""
         until = None if timeout is None else time.monotonic() + timeout
         with self._naming():

@@ -47,8 +47,8 @@ quit, stop                        ends this session; ends the whole server
                                   writes the answers; over: also where the file is there
 \\columns RELATION                 of which types its columns are
 \\d [NAME]                         what this shell has seen; a relation's columns, or how a query is kept
-\\if-missing                       from now on rel, query and union leave what is there as it is, so a file of them can be
-                                  run again; a relation with other columns is refused even so
+\\if-missing                       from now on rel, query and union leave what is there as it is, so a file of them can
+                                  be run again; a relation with other columns is refused even so
 \\names                            what this shell has seen
 \\timing                           tells how long each command takes, or no more
 \\?                                this page
