@@ -790,11 +790,12 @@ def test_a_live_set_waits_for_its_first_start(program):
     """For the server, for the query, and where another set of the group is told of changes meanwhile."""
     with socket.create_server(("127.0.0.1", 0)) as free:
         port = free.getsockname()[1]
-    faults, begun = [], []
+    faults, begun, group = [], [], []
 
     def begin():
         try:
             with djq.Lives("127.0.0.1", port, reconnect=True) as lives:
+                group.append(lives)
                 begun.append(set(lives.add("q").answers))
                 begun.append(set(lives.add("p").answers))
                 begun.append([set(one.answers) for one in lives])
@@ -814,6 +815,8 @@ def test_a_live_set_waits_for_its_first_start(program):
         client.query("q(x) <- r(x)")
         wait_until(lambda: len(begun) == 1)
         client.load("r", [(number,) for number in range(2, 2000)])
+        # what comes for the one is read as it waits for the other
+        wait_until(lambda: len(group[0]._connection._protocol.changes["q"]) > 1000)
         client.query("p(x) <- r(x), x > 1998")
         other.join(SECONDS)
         every = {(number,) for number in range(1, 2000)}
@@ -972,7 +975,14 @@ def test_several_live_sets_over_one_connection(server):
             # each change that one of them reads was told, in order
             seqs = [change.seq for _, change in told]
             assert seqs == sorted(seqs) and seqs[-1] <= lives.seq
-            list(lives)[1].close()
+            # each set is asked alone too, and what comes for the others waits for them
+            one, two, _ = lives
+            for _ in range(3):
+                client.add("ga", 7)
+                client.delete("ga", 7)
+            assert [len(change.came) for change in one.changes(0.2)] == [1, 0] * 3
+            assert len(list(two.changes(0))) == 6
+            two.close()
             client.drop("two")
             client.add("ga", 9)
             (live, change) = lives.next(SECONDS)

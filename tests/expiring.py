@@ -181,6 +181,29 @@ def test_a_renewal_beside_an_expiry(program):
                 assert len(one.expire()) == 50, turn
 
 
+def test_a_renewal_just_before_a_row_goes(program):
+    """A row that was renewed behind the look at what is due, and before it went, comes back."""
+    clock = Clock()
+    with Server(program) as server:
+        with (
+            seen_by(server, 10, by_itself=False, clock=clock) as (_, one),
+            seen_by(server, 10, by_itself=False, clock=clock) as (client, two),
+        ):  # fmt: skip
+            rows = [(number, "") for number in range(20)]
+            two.renew_all(rows)
+            clock.now += 10
+            do = one._do
+
+            def renewed_first(relation, come, go):
+                if relation == "seen" and go:
+                    assert two.renew_all(rows[:15]) == 0
+                do(relation, come, go)
+
+            one._do = renewed_first
+            assert sorted(one.expire()) == rows[15:]
+            assert client.snapshot("seen_rows") == set(rows[:15]) == set(two.table) and two.left(3) == 10
+
+
 def test_keys_of_several_columns(program):
     clock = Clock()
     with Server(program) as server, server.connect() as client:
@@ -210,7 +233,7 @@ def test_the_thread_waits_for_the_server(program):
 
 TESTS = [
     test_ten_thousand_rows, test_a_process_that_is_killed_is_gone_on_for, test_rows_go_by_themselves, test_what_others_do,
-    test_a_renewal_beside_an_expiry, test_keys_of_several_columns, test_the_thread_waits_for_the_server,
+    test_a_renewal_beside_an_expiry, test_a_renewal_just_before_a_row_goes, test_keys_of_several_columns, test_the_thread_waits_for_the_server,
 ]  # fmt: skip
 
 

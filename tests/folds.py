@@ -7,12 +7,16 @@ Ends with a line `N passed, N failed`; a failure is exit status 1.
 """
 
 import asyncio
+import contextlib
 import logging
 import os
 import random
 import signal
+import socket
 import sys
 import tempfile
+import threading
+import time
 import traceback
 
 from serving import SECONDS, Server, djq, raises
@@ -261,6 +265,46 @@ def test_moments(program):
             assert set(lives.next_moment(SECONDS).changes) == {"a", "ab"} and lives.next_moment(0) is None
 
 
+class OneByOne:
+    """Stands between a client and a server, and hands the server's lines on one by one."""
+
+    def __init__(self, server):
+        self.listener = socket.create_server(("127.0.0.1", 0))
+        self.port = self.listener.getsockname()[1]
+        self.server = server
+        threading.Thread(target=self.run, daemon=True).start()
+
+    def run(self):
+        client, _ = self.listener.accept()
+        behind = socket.create_connection(("127.0.0.1", self.server.port))
+        client.setsockopt(socket.IPPROTO_TCP, socket.TCP_NODELAY, 1)
+        threading.Thread(target=self.say, args=(client, behind), daemon=True).start()
+        with behind.makefile("rb") as told, contextlib.suppress(OSError):
+            for line in told:
+                client.sendall(line)
+                time.sleep(0.003)
+
+    def say(self, client, behind):
+        with contextlib.suppress(OSError):
+            while piece := client.recv(4096):
+                behind.sendall(piece)
+            behind.close()
+
+
+def test_a_moment_is_whole(program):
+    """Also where its lines come one by one, each behind a pause."""
+    draw, rows, states = random.Random(12), set(), {0: [set(), set(), set()]}
+    with Server(program) as server, server.connect() as client:
+        begin_moments(client)
+        with djq.Lives("127.0.0.1", OneByOne(server).port, SECONDS) as lives:
+            sets = [lives.add(name) for name in ("a", "ab", "b")]
+            for turn in range(20):
+                moved(client, draw, rows, states)
+                while lives.seq < max(states):
+                    moment = lives.next_moment(SECONDS)
+                    assert [live.answers for live in sets] == states[moment.seq], (turn, moment)
+
+
 def test_moments_over_a_start_anew(program):
     with tempfile.TemporaryDirectory() as folder:
         log = os.path.join(folder, "log")
@@ -317,7 +361,8 @@ def test_moments_with_asyncio(program):
 
 TESTS = [
     test_folds_beside_plain_ones, test_items_in_order, test_folds_that_are_interrupted, test_columns_that_dont_suit,
-    test_an_index_tells_what_a_change_touched, test_folds_of_a_live_set, test_moments, test_moments_over_a_start_anew,
+    test_an_index_tells_what_a_change_touched, test_folds_of_a_live_set, test_moments, test_a_moment_is_whole,
+    test_moments_over_a_start_anew,
     test_several_changes_of_one_query_are_one, test_moments_with_asyncio,
 ]  # fmt: skip
 

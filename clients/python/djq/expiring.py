@@ -193,7 +193,7 @@ class Expiring:
 
     def _keep(self) -> None:
         """Takes rows out as they are due, over a connection of its own, until `close`."""
-        waits = Waits([self.table.relation])
+        waits = Waits(f"the rows of {self.table.relation} that are due")
         while not self._closing.is_set():
             try:
                 self._keep_connected()

@@ -5,7 +5,7 @@ from __future__ import annotations
 import contextlib
 import logging
 import time
-from typing import Callable, Iterator, Sequence
+from typing import Callable, Iterator
 
 from .connection import Connection
 from .errors import Disconnected, Ended, Error, NoQuery, OutOfMemory, Overtaken, of_live, reason
@@ -25,8 +25,8 @@ log = logging.getLogger("djq")
 class Waits:
     """The pauses between starts that fail, which grow. What each waits for is logged as a warning, once each reason."""
 
-    def __init__(self, queries: Sequence[str]) -> None:
-        self._queries, self._pause = queries, FIRST_PAUSE
+    def __init__(self, what: str) -> None:
+        self._what, self._pause = what, FIRST_PAUSE
         self._told: set[str] = set()
 
     def next(self, error: Error | None) -> float:
@@ -34,7 +34,7 @@ class Waits:
         pause, self._pause = self._pause, min(2 * self._pause, LONGEST_PAUSE)
         if error is not None and reason(error) not in self._told:
             self._told.add(reason(error))
-            log.warning("the live answers of %s wait: %s", ", ".join(self._queries), reason(error))
+            log.warning("%s wait: %s", self._what, reason(error))
         return pause
 
 
@@ -273,7 +273,7 @@ class Lives:
 
     def _begin(self, live: Live) -> None:
         """Watches and lists a further query, and where the session is ended as too slow a reader, again with less."""
-        until, waits = time.monotonic() + self._within, Waits([live.query])
+        until, waits = time.monotonic() + self._within, Waits(f"the live answers of {live.query}")
         while True:
             try:
                 if not self._whole or self._connection._protocol.ended is not None:
@@ -306,7 +306,7 @@ class Lives:
         if self._closed:
             raise Disconnected("they were closed")
         self._lost = self._lost or lost
-        waits = waits or Waits([live.query for live in self._lives])
+        waits = waits or Waits(f"the live answers of {', '.join(live.query for live in self._lives)}")
         while (error := self._try()) is not None:
             pause = waits.next(error)
             left = pause if until is None else until - time.monotonic()

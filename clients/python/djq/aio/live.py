@@ -229,7 +229,7 @@ class Lives:
 
     async def _begin(self, live: Live) -> None:
         """Watches and lists a further query, and where the session is ended as too slow a reader, again with less."""
-        until, waits = time.monotonic() + self._within, Waits([live.query])
+        until, waits = time.monotonic() + self._within, Waits(f"the live answers of {live.query}")
         while True:
             try:
                 if not self._whole or self._connection._protocol.ended is not None:
@@ -261,7 +261,7 @@ class Lives:
     async def _restart(self, until: float | None, lost: Error | None, waits: Waits | None = None) -> bool:
         """Starts anew. Where that fails and may come right, it is tried again as long as there is time, or raised."""
         self._lost = self._lost or lost
-        waits = waits or Waits([live.query for live in self._lives])
+        waits = waits or Waits(f"the live answers of {', '.join(live.query for live in self._lives)}")
         while (error := await self._try()) is not None:
             pause = waits.next(error)
             left = pause if until is None else until - time.monotonic()
