@@ -293,6 +293,11 @@ async def first_start(program):
     lives.close()
     live.close()
     try:
+        async with djq.aio.Lives("127.0.0.1", port):
+            raise AssertionError("not raised")
+    except djq.Disconnected as error:
+        assert str(error).startswith("[Errno 111]"), error
+    try:
         async with djq.aio.Lives("127.0.0.1", port, "q"):
             raise AssertionError("not raised")
     except djq.Disconnected as error:

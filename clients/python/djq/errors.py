@@ -230,10 +230,10 @@ WHY_ENDED = {
 def of_live(error: Error, queries: Sequence[str], before: Error | None = None) -> Error:
     """An error that ended live answers, in one sentence which names their queries. `before` is what they were lost by,
     before a new start failed by this error."""
-    if not isinstance(error, (Disconnected, Ended)):
+    if not queries or not isinstance(error, (Disconnected, Ended)):
         return error
     reasons = dict.fromkeys(reason(one) for one in (before, error) if one is not None)
-    words = f"the live answers of {', '.join(queries) or 'no query'} ended: {', and a new start failed: '.join(reasons)}"
+    words = f"the live answers of {', '.join(queries)} ended: {', and a new start failed: '.join(reasons)}"
     return Ended(error.cause, "", words) if isinstance(error, Ended) else Disconnected(words)
 
 

@@ -84,6 +84,8 @@ class Lives:
 
     async def __aenter__(self) -> Lives:
         try:
+            with self._naming(*(live.query for live in self._first)):
+                await self._restart(None, None, Waits("live answers"))
             for live in self._first:
                 await self._add(live)
         except BaseException:
