@@ -898,7 +898,7 @@ def test_two_threads(server):
         told = []
         waiting = threading.Thread(target=lambda: told.append(client.next_change("qtt", SECONDS)), name="waits")
         waiting.start()
-        time.sleep(0.3)
+        wait_until(lambda: client._using._holder == waiting.ident)
         for call in (lambda: client.add("tt", 1), client.ping, lambda: client.snapshot("qtt"), client.close):
             error = raises(djq.TwoThreads, call)
             assert "'MainThread' calls a connection that 'waits' is in a call of: " in str(error), error

@@ -253,7 +253,8 @@ def test_moments(program):
             for _ in range(60):
                 for _ in range(draw.choice((1, 1, 5))):
                     moved(client, draw, rows, states)
-                for moment in lives.moments(0.05):
+                while lives.seq < max(states):
+                    moment = lives.next_moment(SECONDS)
                     assert lives.seq == moment.seq and moment.changes
                     assert [live.answers for live in sets] == states[moment.seq], moment
                     assert all(change.seq == moment.seq for change in moment.changes.values())
@@ -319,8 +320,8 @@ def test_moments_over_a_start_anew(program):
                 moved(client, draw, rows, states)
             moment = lives.next_moment(SECONDS)
             assert set(moment.changes) == {"a", "ab", "b"} and moment.changes["a"].restarted
-            for moment in [moment, *lives.moments(0.2)]:
-                pass
+            while lives.seq < max(states):
+                moment = next(lives.moments(SECONDS))
             assert [live.answers for live in lives] == states[moment.seq] == states[max(states)]
         lives.close()
 
@@ -345,11 +346,12 @@ async def awaited_moments(server):
                 for _ in range(30):
                     for _ in range(draw.choice((1, 3))):
                         moved(client, draw, rows, states)
-                    async for moment in lives.moments(0.05):
+                    while lives.seq < max(states):
+                        moment = await lives.next_moment(SECONDS)
                         assert [live.answers for live in sets] == states[moment.seq], moment
                     assert [live.answers for live in sets] == states[max(states)]
                 assert sets[0].count() == len(sets[0].answers) and set(sets[0].by(0)) == {x for x, in sets[0].answers}
-                assert await lives.next_moment(0) is None
+                assert [moment async for moment in lives.moments(0)] == []
 
 
 def test_moments_with_asyncio(program):
