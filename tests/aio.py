@@ -122,7 +122,7 @@ def test_the_same_script(program):
 
 def test_the_same_methods(program):
     """What one has, the other has too, and with the same parameters."""
-    for kind in ("Batch", "Connection", "Cursor", "Live", "Lives", "Pipeline", "PipelinedBatch", "Table"):
+    for kind in ("Batch", "Connection", "Cursor", "Expiring", "Live", "Lives", "Pipeline", "PipelinedBatch", "Table"):
         own, other = getattr(djq, kind), getattr(djq.aio, kind)
         for name, method in inspect.getmembers(own, inspect.isfunction):
             if not name.startswith("_") and name != "fileno":  # what is waited for is the loop's business
@@ -259,6 +259,39 @@ async def batches_in_a_pipeline(server):
 def test_batches_in_a_pipeline(program):
     with Server(program) as server:
         asyncio.run(batches_in_a_pipeline(server))
+
+
+async def rows_expire(server):
+    now = [1000.0]
+    async with client_of(server) as client:
+        table = await client.table("seen", int, str, key=1)
+        async with djq.aio.Expiring(table, 30, by_itself=False, clock=lambda: now[0]) as seen:
+            rows = [(number, "") for number in range(500)]
+            assert await seen.renew_all(rows) == 500 and await seen.next_due() == 30
+            now[0] += 20
+            # any number of tasks renew, also one that is cancelled
+            renewing = [asyncio.create_task(seen.renew(*row)) for row in rows[::2]]
+            await asyncio.sleep(0)
+            renewing[0].cancel()
+            await asyncio.wait(renewing)
+            now[0] += 10
+            gone, renewed = await asyncio.gather(seen.expire(), seen.renew(0, "other"))
+            assert sorted(gone) == rows[1::2] and renewed is True and await seen.left(0) == 30
+            assert set(table) == {(0, "other"), *rows[2::2]} and await seen.left(1) is None
+            # a client that blocks goes on with the times
+            with server.connect() as other:
+                twin = djq.Expiring(other.table("seen", int, str, key=1), 1, False, lambda: now[0])
+                now[0] += 20
+                assert len(twin.expire()) == 249 and set(twin.table) == {(0, "other")} and twin.left(0) == 10
+        table = await client.table("few", int, key=1)
+        async with djq.aio.Expiring(table, 1) as few, client.live("few_rows") as live:
+            assert await few.renew(1) is True
+            assert [(len((await live.next(SECONDS)).came), len(live.answers)) for _ in range(2)] == [(1, 1), (0, 0)]
+
+
+def test_rows_expire(program):
+    with Server(program) as server:
+        asyncio.run(rows_expire(server))
 
 
 async def first_start(program):
@@ -545,7 +578,7 @@ def test_a_reply_that_doesnt_come(program):
 
 TESTS = [
     test_the_same_script, test_the_same_methods, test_pipelines_and_cursors, test_batches, test_batches_in_a_pipeline,
-    test_a_live_set_waits_for_its_first_start, test_tasks_share_a_connection,
+    test_a_live_set_waits_for_its_first_start, test_rows_expire, test_tasks_share_a_connection,
     test_a_live_set_starts_while_rows_change, test_a_live_set_comes_back, test_several_live_sets,
     test_live_sets_find_out_that_a_server_is_stopped, test_a_table_with_a_key, test_a_reply_that_doesnt_come,
 ]  # fmt: skip

@@ -192,14 +192,14 @@ def test_a_renewal_just_before_a_row_goes(program):
             rows = [(number, "") for number in range(20)]
             two.renew_all(rows)
             clock.now += 10
-            do = one._do
+            send = one._send
 
             def renewed_first(relation, come, go):
                 if relation == "seen" and go:
                     assert two.renew_all(rows[:15]) == 0
-                do(relation, come, go)
+                send(relation, come, go)
 
-            one._do = renewed_first
+            one._send = renewed_first
             assert sorted(one.expire()) == rows[15:]
             assert client.snapshot("seen_rows") == set(rows[:15]) == set(two.table) and two.left(3) == 10
 

@@ -37,7 +37,7 @@ Inside, `protocol` knows the lines and no socket: what a command sends, which re
 `syntax` knows what a line may have meant that the server doesn't understand. `connection` moves the bytes, `many` sends
 commands together, `batch` collects rows that belong together, `listing` lists the answers of one moment, and `live`
 keeps them up to date: `kept` takes the changes, and `folds` are what is computed of the answers. `table` keeps rows by
-key, and `expiring` takes them out in time.
+key, and `expiring` takes them out in time, by `expiry`.
 """
 
 from .connection import Connection, Cursor, connect
