@@ -958,6 +958,9 @@ def test_several_live_sets_over_one_connection(server):
         texts = {"one": "one(x) <- ga(x)", "two": "two(x) <- ga(x), gb(x)", "three": "three(x,y) <- gb(x), gc(y)"}
         for text in texts.values():
             client.query(text)
+        with client.lives() as none:
+            assert none.fileno() >= 0 and none.next(0) is None and none.sync() == [] and none.next_moment(0) is None
+            assert none.add("one").answers == set() and len(list(none)) == 1
         with client.lives("one", "two") as lives, selectors.DefaultSelector() as waiting:
             lives.add("three")
             assert [live.query for live in lives] == list(texts) and lives.add("two") is list(lives)[1]

@@ -9,7 +9,8 @@ It needs Python's standard library alone. One line is printed for each place tha
 
 A block of a page that begins with ```lines is a session, and the ```replies behind it what is answered. In a block
 ```session each line has its reply beside it, at least two spaces away, and further replies stand alone below, also behind
-spaces. In both, answers (`= ..`) that stand together come in any order.
+spaces. In both, answers (`= ..`) that stand together come in any order. The Python sessions of docs/CLIENT.md are run over one
+server, and the page has to name each method and error of the client.
 """
 
 import glob

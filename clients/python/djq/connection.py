@@ -208,6 +208,7 @@ class Connection:
         try:
             for query in queries:
                 group.add(query)
+            group._connect()
         except BaseException:
             group.close()
             raise

@@ -114,6 +114,7 @@ class Lives:
         self._lost: Error | None = None  # what the last session was lost by, until another one is whole
 
     def __enter__(self) -> Lives:
+        self._connect()
         return self
 
     def __exit__(self, *_: object) -> None:
@@ -209,6 +210,11 @@ class Lives:
         if self._made is None:
             raise Disconnected("not connected yet")
         return self._made
+
+    def _connect(self) -> None:
+        """Connects, where no query was added, which does it too."""
+        if self._made is None:
+            self._restart(None, None, Waits("live answers"))
 
     @contextlib.contextmanager
     def _naming(self, *further: str) -> Iterator[None]:
