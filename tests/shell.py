@@ -4,7 +4,7 @@
     tests/shell.py PATH_TO_DJQ [NAME ..]
 
 As a filter it needs Python's standard library alone. Tests of the terminal need pexpect, prompt_toolkit and rich,
-in this Python or in /usr/bin/python3, those of the package venv, pip and aiohttp, and that of its types mypy: what
+in this Python or in /usr/bin/python3, those of the package ensurepip (of python3-venv) and aiohttp, and that of its types mypy: what
 isn't there is named, and its tests are skipped. One line is printed for each test that fails or is skipped, and last
 `N passed, N failed`, with `, N skipped` and what they were without; the status is 0 where none failed.
 """
@@ -899,7 +899,7 @@ def a_server_beside_it_is_found_and_ends_with_it(program):
 # The package
 
 
-@test("venv", "pip")
+@test("ensurepip")
 def the_package_is_installed_without_a_network(program):
     with tempfile.TemporaryDirectory() as directory:
         source, made = os.path.join(directory, "source"), os.path.join(directory, "made")
@@ -925,7 +925,7 @@ def the_package_is_installed_without_a_network(program):
         assert run("-c", "import djq; print(djq.__file__)").stdout.startswith(source)
 
 
-@test("venv", "pip", "prompt_toolkit", "rich", "aiohttp")
+@test("ensurepip", "prompt_toolkit", "rich", "aiohttp")
 def what_the_package_can_use_is_named(program):
     """Each extra is met by what Debian has, and one that isn't there is missed without a network."""
     with tempfile.TemporaryDirectory() as directory:
