@@ -2,7 +2,7 @@
 """Measures what the Python client keeps: a cache of many keys by one query, what is computed of live answers, and rows that
 expire.
 
-    bench/client.py PROGRAM [--keys N] [--rows N] [--json FILE]
+    bench/client.py PROGRAM [--keys N] [--rows N] [--only KIND ..] [--json FILE]
 
 PROGRAM is the built server; it listens on a free port of loopback. Times are of one run, of both ends on one machine.
 """
@@ -22,6 +22,7 @@ from serving import SECONDS, Server, djq
 
 import cache as cached
 
+KINDS = ("cache", "folds", "expiring", "moments")
 CHANGES = 2000  # single changes of which each is timed
 
 
@@ -167,15 +168,20 @@ def main():
     words.add_argument("program")
     words.add_argument("--keys", type=int, default=100_000)
     words.add_argument("--rows", type=int, default=10_000)
+    words.add_argument("--only", nargs="+", choices=KINDS, default=KINDS, help="what is measured")
     words.add_argument("--json", metavar="FILE", help="write the figures there too")
     given = words.parse_args()
     program, report = os.path.abspath(given.program), Report()
     commit = subprocess.run(["git", "log", "-1", "--format=%h"], cwd=HERE, capture_output=True, text=True).stdout.strip()
     print(f"client {djq.__version__} at {commit}, Python {platform.python_version()}, {os.cpu_count()} processors")
-    bench_cache(program, report, given.keys)
-    bench_folds(report, given.keys)
-    bench_expiring(program, report, given.rows)
-    bench_moments(program, report)
+    if "cache" in given.only:
+        bench_cache(program, report, given.keys)
+    if "folds" in given.only:
+        bench_folds(report, given.keys)
+    if "expiring" in given.only:
+        bench_expiring(program, report, given.rows)
+    if "moments" in given.only:
+        bench_moments(program, report)
     if given.json:
         with open(given.json, "w", encoding="utf-8") as file:
             json.dump(report.figures, file, indent=1)
