@@ -44,9 +44,10 @@ def in_browser(function):
 
 
 class Stream:
-    """A viewer of `/live/..`: the events that came, and the answers that they leave."""
+    """A viewer of `/live/..`: the events that came, and the answers that they leave. One that comes again had an event
+    of the id `last`, and `answers`."""
 
-    def __init__(self, web, path="/live/rows", last=None, **headers):
+    def __init__(self, web, path="/live/rows", last=None, answers=None, **headers):
         told = {"Accept": "text/event-stream", **{k.replace("_", "-"): v for k, v in headers.items()}}
         if last is not None:
             told["Last-Event-ID"] = last
@@ -55,7 +56,8 @@ class Stream:
         self._reply = self._connection.getresponse()
         assert self._reply.status == 200, (self._reply.status, self._reply.read())
         self.headers = dict(self._reply.getheaders())
-        self.events, self.answers, self.status, self.last, self.columns = [], None, {}, last, None
+        self.events, self.status, self.last, self.columns, self.error = [], {}, last, None, None
+        self.answers = None if answers is None else set(answers)
         self.size = 0
         self._changed = threading.Condition()
         threading.Thread(target=self._read, daemon=True).start()
@@ -80,7 +82,10 @@ class Stream:
                     elif word == "id":
                         self.last = rest
                     elif word == "data":
-                        self._take(name, json.loads(rest))
+                        try:
+                            self._take(name, json.loads(rest))
+                        except AssertionError as error:
+                            self.error = self.error or error
                     self._changed.notify_all()
 
     def _take(self, name, view):
@@ -98,7 +103,9 @@ class Stream:
 
     def until(self, holds):
         with self._changed:
-            assert self._changed.wait_for(holds, SECONDS), self.events[-5:]
+            assert self._changed.wait_for(lambda: self.error or holds(), SECONDS), self.events[-5:]
+        if self.error is not None:
+            raise self.error
         return self
 
     def until_answers(self, *answers):
@@ -153,8 +160,7 @@ def a_viewer_that_comes_again_gets_what_it_missed(program):
             last = stream.last
         client.add("r", 3, "three")
         client.delete("r", 2, "two")
-        with Stream(web, last=last) as again:
-            again.answers = {(1, "one"), (2, "two")}
+        with Stream(web, last=last, answers=stream.answers) as again:
             again.until(lambda: len(again.names()) == 2)
             expect((again.names(), again.answers), (["change", "change"], {(1, "one"), (3, "three")}))
             client.add("r", 4, "four")
@@ -205,8 +211,7 @@ def a_viewer_may_ask_for_a_value(program):
         by_key[2].__exit__()
         client.add("r", 0, "of another")
         client.add("r", 2, "missed")
-        with Stream(web, "/live/rows?key=2", last=last) as again:
-            again.answers = set(by_key[2].answers)
+        with Stream(web, "/live/rows?key=2", last=last, answers=by_key[2].answers) as again:
             again.until(lambda: (2, "missed") in again.answers)
             expect(again.names(), ["change"])
         for path, why in (
@@ -289,10 +294,10 @@ def with_a_page_its_queries_alone_are_sent(program):
         with Web(server, page, "--all") as web, Stream(web, "/live/other") as stream:
             stream.until_answers((1,))
         for name in ("Rows", "a-b", "x" * 33):
-            expect(Web and web_status(server, name), 404, name)
+            expect(status_of(server, name), 404, name)
 
 
-def web_status(server, name):
+def status_of(server, name):
     with Web(server, None) as web:
         return web.ask(f"/live/{name}")[0]
 
@@ -348,26 +353,12 @@ def what_viewers_have_is_what_the_server_has(program):
                 place = chance.randrange(len(paths))
                 old = streams[place]
                 old.__exit__()
-                new = Stream.__new__(Stream)
-                answers = old.answers
-                new = come_again(web, paths[place], old.last, answers)
-                streams[place] = stack.enter_context(new)
+                streams[place] = stack.enter_context(Stream(web, paths[place], old.last, old.answers))
         for key, stream in zip((None, 0, 1, 2), streams):
             wanted = {row for row in there if key is None or row[0] == key}
             stream.until(lambda stream=stream, wanted=wanted: stream.answers == wanted)
         resumed = [stream for stream in streams if stream.names()[:1] == ["change"]]
         assert resumed, "no viewer was resumed"
-
-
-def come_again(web, path, last, answers):
-    """A viewer with the answers of one that has gone."""
-
-    class Again(Stream):
-        def _read(self):
-            self.answers = set(answers)
-            super()._read()
-
-    return Again(web, path, last)
 
 
 @test
