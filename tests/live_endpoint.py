@@ -270,7 +270,7 @@ def other_origins_are_let_in_by_a_list(program):
             expect(web.ask("/live/rows", "OPTIONS", Origin=origin)[0], 204)
             for path in ("/", "/show/rows", "/offer"):
                 expect(web.ask(path, Origin=origin)[0], 403, path)
-        for origin in ("https://other.example", "https://factory.example.evil", "http://factory.example", "https://factory.example:1"):
+        for origin in ("https://other.example", f"{allowed}.evil", "http://factory.example", f"{allowed}:1"):
             status, headers, text = web.ask("/live/rows", Origin=origin)
             expect((status, "Access-Control-Allow-Origin" in headers), (403, False), origin)
             assert "--allow" in text, text
@@ -368,12 +368,12 @@ def two_thousand_viewers_are_served(program):
     with served(program, words=HEAD) as (client, web), contextlib.ExitStack() as stack:
         client.load("r", [(key, "first") for key in range(count)])
         many = stack.enter_context(Many(web.port, count))
-        many.until(lambda: all(b"event: answers" in got for got in many.got))
+        many.until(b"event: answers")
         status, _, text = web.ask("/live/rows?key=1")
         assert status == 503 and "2000 viewers" in text, (status, text)
         expect(web.ask()[0], 200, "a page without a stream is shown")
         client.add("r", 1234, "second")
-        many.until(lambda: b"second" in many.got[1234])
+        many.until(b"second", [1234])
         expect([key for key in range(count) if b"second" in many.got[key]], [1234], "nobody else was sent it")
         established = connections_to(web.process.pid, client.port)
         expect(established, 1, "connections to the server")
@@ -414,16 +414,24 @@ class Many:
             one.close()
 
     def read(self, timeout):
+        """Takes what has come: for each viewer to whom something did, how much it had before."""
+        came = {}
         for key, _ in self._selector.select(timeout):
             piece = key.fileobj.recv(1 << 16)
             assert piece, f"viewer {key.data} was closed: {bytes(self.got[key.data][-200:])}"
+            came[key.data] = len(self.got[key.data])
             self.got[key.data] += piece
+        return came
 
-    def until(self, holds):
+    def until(self, mark, numbers=None):
+        """Waits until all of these viewers, else all there are, were sent this."""
         until = time.monotonic() + 3 * SECONDS
-        while not holds():
-            assert time.monotonic() < until, "waited too long"
-            self.read(0.05)
+        left = {number for number in numbers or range(len(self.got)) if mark not in self.got[number]}
+        while left:
+            assert time.monotonic() < until, f"waited too long for {len(left)} viewers"
+            for number, before in self.read(0.05).items():
+                if self.got[number].find(mark, max(0, before - len(mark))) >= 0:
+                    left.discard(number)
 
 
 @in_browser
@@ -440,9 +448,8 @@ def the_example_shows_a_live_table(program, browser):
 
 
 def shows_a_live_table(server, client, browser, origin):
-    rows = lambda: sorted(  # noqa: E731
-        browser.run("return [...document.querySelectorAll('tr')].map(row => [...row.cells].map(cell => cell.textContent))")
-    )
+    cells = "return [...document.querySelectorAll('tr')].map(row => [...row.cells].map(cell => cell.textContent))"
+    rows = lambda: sorted(browser.run(cells))  # noqa: E731
     status = lambda: browser.run("return document.getElementById('status').textContent")  # noqa: E731
     with Web(server, None, "--allow", origin) as web:
         port = web.port
@@ -491,7 +498,8 @@ def main(program, names):
         except Exception:
             failed += 1
             print(f"{function.__name__}: {traceback.format_exc(limit=-2)}")
-    print(f"{passed} passed, {failed} failed" + (f", {skipped} skipped, without {', '.join(missed)}" if skipped else ""))
+    without = f", {skipped} skipped, without {', '.join(missed)}" if skipped else ""
+    print(f"{passed} passed, {failed} failed{without}")
     return 1 if failed or not chosen else 0
 
 

@@ -700,6 +700,12 @@ class Browser:
     def run(self, script):
         return self.driver.execute_script(script)
 
+    def painted(self):
+        """The seconds from the page's being asked for until it was painted first."""
+        paints = "return performance.getEntriesByName('first-contentful-paint').map(paint => paint.startTime / 1000)"
+        wait_until(lambda: self.run(paints))
+        return self.run(paints)[0]
+
     def rows(self):
         return self.run(
             "return [...document.querySelectorAll('tbody tr')].map("
@@ -935,7 +941,8 @@ def a_browser_shows_an_alarm_in_red(program, browser):
 @in_browser
 def a_browser_turns_pages(program, browser):
     rows = [(key, f"text {key}") for key in range(10)]
-    with shown(program, *rows, page=ALARMS.split("[[panel]]\nkind = \"table\"\ntitle = \"Others\"")[0]) as (client, web):
+    page = "[[panel]]".join(ALARMS.split("[[panel]]")[:2])
+    with shown(program, *rows, page=page) as (client, web):
         browser.open(web)
         keys = lambda: [int(row[1]) for row in browser.rows()]  # noqa: E731
         press = lambda rel: browser.run(f"document.querySelector('a[rel={rel}]').click()")  # noqa: E731
@@ -976,8 +983,7 @@ def a_browser_shows_ten_thousand_rows_at_once(program, browser):
         wait_until(lambda: "10,000" in web.page())
         browser.open(web)
         wait_until(lambda: len(browser.rows()) == 5)
-        paint = browser.run("return performance.getEntriesByName('first-contentful-paint')[0].startTime")
-        assert paint < 1000, paint
+        assert browser.painted() < 1, browser.painted()
         took = []
         for key in range(9):
             client.add("r", -1 - key, "x" * 255)
@@ -1091,7 +1097,8 @@ def main(program, names):
             except Exception:
                 failed += 1
                 print(f"{function.__name__}: {traceback.format_exc(limit=-2)}")
-    print(f"{passed} passed, {failed} failed" + (f", {skipped} skipped, without {', '.join(missed)}" if skipped else ""))
+    without = f", {skipped} skipped, without {', '.join(missed)}" if skipped else ""
+    print(f"{passed} passed, {failed} failed{without}")
     return 1 if failed or not chosen else 0
 
 

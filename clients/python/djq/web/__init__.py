@@ -55,8 +55,8 @@ examples/live.html in the repository. With `--page` only the queries of the page
 `--all` any. The program changes no rows. It registers a query only where somebody asks for a relation's table.
 
 `page` reads the file. `feeds` follows queries over one connection; `board` holds what a page shows, by the views of
-`rows` and `lines`, and `track` what viewers lack of it. `live` is for `/live`. `site` has all of these, `serve`, `stream`
-and `render` bring them to browsers, `names` is what is known of the server, and `demo` moves a small factory.
+`rows` and `lines`, and `track` what viewers lack of it. `live` is for `/live`. `site` has all of these; `serve`,
+`stream` and `render` bring them to browsers; `names` is what is known of the server; `demo` moves a small factory.
 """
 
 from .command import main

@@ -115,13 +115,8 @@ class Chart:
     def change(self, feed: Feed, change: Change) -> None:
         """The answers changed."""
         if self._panel.value is not None:
-            if change.restarted:  # the query may be another of the same name
-                for key in [key for key in self._groups if key[0] == feed.query]:
-                    del self._groups[key]
-                self._put(feed.query, feed.answers)
-            else:
-                self._take(feed.query, change.went)
-                self._put(feed.query, change.came)
+            self._take(feed.query, change.went)
+            self._put(feed.query, change.came)
         self._measure(feed)
 
     def state(self, feed: Feed) -> None:

@@ -1,8 +1,8 @@
 """What the server has, as far as this program can know it: queries with the names of their columns, and relations.
 
-The server has no command that lists its relations or queries. So what is known is what the page file and `--query` name,
-what the demo registers, and what somebody asked for by its name and was found. All that depends on that is here: once
-the server can be asked, `queries`, `relations` and `look_up` ask it.
+The server has no command that lists its relations or queries. So what is known is what the page file and `--query`
+name, what the demo registers, and what somebody asked for by its name and was found. All that depends on that is here:
+once the server can be asked, `queries`, `relations` and `look_up` ask it.
 """
 
 from __future__ import annotations
@@ -68,15 +68,17 @@ class Names:
             return int(column) - 1
         return None
 
-    async def look_up(self, server: Connection, name: str) -> str | None:
+    async def look_up(self, server: Connection, name: str, registers: bool = True) -> str | None:
         """The query by which this name is shown: its own, or for a relation one that has the relation's rows, which is
-        registered where it isn't there. None where the server has neither."""
+        registered where it isn't there and where that is wanted. None where there is neither."""
         try:
             await server.shape(name)
             self.know(name)
             return name
         except NoQuery:
             pass
+        if not registers:
+            return self._relations.get(name)
         width = await _width(server, name)
         if width == 0:
             return None

@@ -2,7 +2,7 @@
 // Keeps the page up to date by the stream of events. Whatever comes is put in as text, never as markup.
 
 const SVG = "http://www.w3.org/2000/svg";
-const SILENT = 15000; // milliseconds without a word, after which the connection is made anew
+const SILENT = 25000; // milliseconds without a word, after which the connection is made anew
 const AGAIN = 2000; // milliseconds before it is, where the browser doesn't try by itself
 const CALM = 1500; // milliseconds between two changes that are read out
 
@@ -205,12 +205,13 @@ function drawTable(section, view, number) {
   const keys = keysOf(view.rows);
   const wanted = new Set(keys);
   for (const [key, row] of kept) if (!wanted.has(key)) row.remove();
+  const word = section.classList.contains("alarm") ? "alarm" : "new";
   let place = body.firstElementChild;
   view.rows.forEach(({ cells, came }, at) => {
     const row = kept.get(keys[at]) ?? makeRow(keys[at], cells, view.numbers);
     if (row === place) place = place.nextElementSibling;
     else body.insertBefore(row, place);
-    setFresh(row, came, (on) => showMark(row, on, section.classList.contains("alarm") ? "alarm" : "new"));
+    setFresh(row, came, (on) => showMark(row, on, word));
   });
 }
 
@@ -291,7 +292,8 @@ function drawChart(section, view) {
   const scale = scaleOf(view);
   const marks = [];
   for (let value = scale.low; value <= scale.top + scale.step / 2; value += scale.step) marks.push(value);
-  const named = marks.map((value) => value.toLocaleString("en", { notation: scale.top > 99999 ? "compact" : "standard" }));
+  const notation = scale.top > 99999 ? "compact" : "standard";
+  const named = marks.map((value) => value.toLocaleString("en", { notation }));
   const wide = Math.max(...named.map((name) => name.length));
   const box = { left: 12 + 8 * wide, right: svg.clientWidth - 2, top: 8, bottom: svg.clientHeight - 20 };
   const shapes = [];
@@ -313,20 +315,23 @@ function drawChart(section, view) {
 
 // What each line is called, and what it reads
 function drawKey(list, lines) {
-  const labels = lines.map((line) => line.label).join("\n");
-  if (list.childElementCount !== lines.length || [...list.querySelectorAll(".label")].map((e) => e.textContent).join("\n") !== labels) {
-    list.replaceChildren(...lines.map((line, place) => {
-      const entry = make("li");
-      const sample = makeShape("svg", { "aria-hidden": "true", viewBox: "0 0 28 8" });
-      sample.append(makeShape("path", { class: `line${place}`, d: "M0 4H28" }));
-      entry.append(sample, make("span", line.label, "label"), " ", make("span", "", "now"), " ", make("span", "", "words"));
-      return entry;
-    }));
+  const labels = JSON.stringify(lines.map((line) => line.label));
+  if (list.labels !== labels) {
+    list.labels = labels;
+    list.replaceChildren(...lines.map(makeEntry));
   }
   lines.forEach((line, place) => {
     setText(list.children[place].querySelector(".now"), nowOf(line));
     setText(list.children[place].querySelector(".words"), line.span);
   });
+}
+
+function makeEntry({ label }, place) {
+  const sample = makeShape("svg", { "aria-hidden": "true", viewBox: "0 0 28 8" });
+  sample.append(makeShape("path", { class: `line${place}`, d: "M0 4H28" }));
+  const entry = make("li");
+  entry.append(sample, make("span", label, "label"), " ", make("span", "", "now"), " ", make("span", "", "words"));
+  return entry;
 }
 
 // The least and the largest value of the axis, and the distance of those that are named, which are six at most. Counts

@@ -96,7 +96,8 @@ def render_offer(server: str, silent: str, queries: list[str], relations: list[s
     if is_open:
         body += (
             '<section class="list"><h2>Another one</h2>\n'
-            "<p>A djq server doesn't list what it has. Type the name of a query or a relation to see it as a table.</p>\n"
+            "<p>A djq server doesn't list what it has. "
+            "Type the name of a query or a relation to see it as a table.</p>\n"
             '<form action="/show" method="get">\n'
             '<label for="name">Name</label> <input id="name" name="name" required maxlength="32" '
             'pattern="[a-z][a-z0-9_]*" autocapitalize="none" autocomplete="off" spellcheck="false">\n'

@@ -85,7 +85,7 @@ class Table:
             self._came.move_to_end(answer)
         # after a new start the query may be another of the same name, whose values don't compare with the old ones
         if change.restarted or len(change.came) + len(change.went) > MANY:
-            self._rows = sorted(feed.answers, key=self._key)
+            self._rows = sorted(set(self._rows) - change.went | change.came, key=self._key)
             return
         for answer in change.went:
             del self._rows[bisect.bisect_left(self._rows, self._key(answer), key=self._key)]

@@ -8,6 +8,7 @@ are for the origins that are listed as well.
 from __future__ import annotations
 
 import asyncio
+import functools
 import ipaddress
 import json
 import socket
@@ -28,7 +29,7 @@ from .rows import FRESH, now
 from .site import Site
 from .stream import Connection, Room, Stream
 
-SPARE = 200  # connections beside those of viewers
+SPARE = 500  # connections beside those of viewers
 WAIT = 5.0  # seconds that the server may take to say whether it has a query
 
 # the page runs no script but its own, loads from nowhere else, is in no frame, and makes no markup of a text
@@ -76,7 +77,7 @@ class Doors:
 
     def admit(self, request: web.Request) -> dict[str, str]:
         """The headers of an answer to this request. Raises `Refusal` where it gets none."""
-        hosts = request.headers.getall("Host", [])
+        hosts: list[str] = request.headers.getall("Host", [])
         if len(hosts) != 1 or hosts[0].strip().lower() not in self._hosts:
             raise Refusal(421, "this is none of the names of this page; others are given by --name")
         origins = [origin.strip().lower() for origin in request.headers.getall("Origin", [])]
@@ -117,11 +118,13 @@ class Web:
     @web.middleware
     async def _guard(self, request: web.Request, handler: Handler) -> web.StreamResponse:
         """Admits a request, and says in words what isn't answered."""
-        if isinstance(request.protocol, Connection):
-            request.protocol.asked()
         more: dict[str, str] = {}
         try:
             more = request["more"] = self._doors.admit(request)
+            if isinstance(request.protocol, Connection):
+                request.protocol.asked()
+                if request.protocol.room.is_over:
+                    raise Full("this page has too many connections")
             if request.method == "OPTIONS" and more:
                 response: web.StreamResponse = web.Response(status=204, headers={"Access-Control-Allow-Methods": "GET"})
             elif request.method not in ("GET", "HEAD"):
@@ -165,7 +168,7 @@ class Web:
         """A table of a query, or of a relation."""
         name = self._named(request.match_info["name"])
         try:
-            query = await self._look_up(name)
+            query = await self._look_up(name, request.headers.get("Sec-Fetch-Site", "none") in ("none", "same-origin"))
         except Error as error:
             follower = self._site.follower
             return page(render_missing(name, explain(error, follower.host, follower.port)), 503)
@@ -173,12 +176,13 @@ class Web:
             return page(render_missing(name, f"The server has no query and no relation named {name}."), 404)
         return self._page(request, self._site.table(query, name), f"/show/{query}/events")
 
-    async def _look_up(self, name: str) -> str | None:
+    async def _look_up(self, name: str, registers: bool) -> str | None:
+        """The query by which a name is shown. By a link of another's page no query is registered for it."""
         if name in self._site.names.queries() or not self._site.is_open:
             return name
         follower = self._site.follower
         async with connect(follower.host, follower.port, WAIT) as server:
-            return await self._site.names.look_up(server, name)
+            return await self._site.names.look_up(server, name, registers)
 
     def _named(self, name: str) -> str:
         """A name that may be asked for."""
@@ -273,11 +277,10 @@ async def open_site(application: web.Application, listener: socket.socket, most_
     """Serves an application at a socket that is bound, as long as the loop runs."""
     runner = web.AppRunner(application, access_log=None)
     await runner.setup()
-    loop = asyncio.get_running_loop()
-    manager = runner.server
-    assert manager is not None
-    room = Room(most_viewers + SPARE)
-    await loop.create_server(lambda: Connection(manager, loop, room), sock=listener, backlog=1024)
+    manager, loop, room = runner.server, asyncio.get_running_loop(), Room(most_viewers + SPARE)
+    if manager is not None:  # it is there, behind `setup`
+        make = functools.partial(Connection, manager, loop, room)
+        await loop.create_server(make, sock=listener, backlog=1024)
 
 
 def page(text: str, status: int = 200) -> web.Response:

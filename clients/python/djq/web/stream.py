@@ -4,37 +4,38 @@ from __future__ import annotations
 
 import asyncio
 import time
-from typing import Callable, Iterator
+from typing import Any, Callable, Iterator
 
 from aiohttp import web
 
-BEAT = 5.0  # seconds without news, after which a browser is told that the program is still there
+BEAT = 10.0  # seconds without news, after which a browser is told that the program is still there
 STUCK = 20.0  # seconds that a browser may take for its request, and for what it is sent
+IDLE = 5.0  # seconds for which a connection is held that may ask for more
 PIECE = 1 << 16  # bytes that are handed to the system at a time
 STEPS = 50  # parts of the seconds between two beats, in which a part of the viewers has its turn
 
 
-FULL = (
-    b"HTTP/1.1 503 Service Unavailable\r\nContent-Type: text/plain; charset=utf-8\r\nRetry-After: 5\r\n"
-    b"Connection: close\r\n\r\ntoo many connections; try again later\n"
-)
-
-
 class Room:
-    """How many connections there are, and may be."""
+    """How many connections there are, and how many may be. Some more are told that there is no room."""
 
     def __init__(self, most: int) -> None:
         self.most = most
         self.taken = 0
+
+    @property
+    def is_over(self) -> bool:
+        """Whether there are more connections than there is room for."""
+        return self.taken > self.most
 
 
 class Connection(web.RequestHandler):
     """One connection of a browser. It is closed where no request comes for too long, and its stream ends with it."""
 
     def __init__(self, manager: web.Server, loop: asyncio.AbstractEventLoop, room: Room) -> None:
-        super().__init__(manager, loop=loop, keepalive_timeout=STUCK, access_log=None, tcp_keepalive=True)
+        settings: dict[str, Any] = {"keepalive_timeout": IDLE, "access_log": None, "tcp_keepalive": True}
+        super().__init__(manager, loop=loop, **settings)
         self.stream: Stream | None = None
-        self._room = room
+        self.room = room
         self._limit = loop.call_later(STUCK, self._give_up)
 
     def asked(self) -> None:
@@ -42,16 +43,15 @@ class Connection(web.RequestHandler):
         self._limit.cancel()
 
     def connection_made(self, transport: asyncio.BaseTransport) -> None:
-        """A browser has connected; where there is no room, it is told so."""
+        """A browser has connected."""
         super().connection_made(transport)
-        self._room.taken += 1
-        if self._room.taken > self._room.most and isinstance(transport, asyncio.Transport):
-            transport.write(FULL)
-            transport.close()
+        self.room.taken += 1
+        if self.room.taken > 2 * self.room.most:  # not even that there is no room can be said to so many
+            self._give_up()
 
     def connection_lost(self, exc: BaseException | None) -> None:
         """The browser went away."""
-        self._room.taken -= 1
+        self.room.taken -= 1
         self._limit.cancel()
         if self.stream is not None:
             self.stream.lose()
@@ -81,7 +81,7 @@ class Stream:
         """It is time for a beat; a stream that took nothing for too long is closed."""
         transport = self._request.transport
         if self._since is not None and time.monotonic() - self._since > STUCK and transport is not None:
-            transport.abort()  # type: ignore[attr-defined]
+            transport.abort()
         self._beats = True
         self.wake()
 
