@@ -377,7 +377,8 @@ def it_waits_for_the_server_and_finds_it_again(program):
         with Server(program, port) as server, fill(server, (1, "one")):
             events.until(lambda views: views["status"]["live"] and events.rows() == [("1", "one")])
             server.__exit__()
-            events.until(lambda views: not views["status"]["live"] and "doesn't answer" in views["0"]["state"])
+            events.until(lambda views: not views["status"]["live"] and "Not up to date since" in views["0"]["state"])
+            assert "doesn't answer" in events.views["status"]["words"], events.views["status"]
             expect(events.rows(), [("1", "one")], "what was shown stays, and says that it isn't up to date")
             assert 'class="waiting"' in web.page()
         with Server(program, port) as again, fill(again, (1, "one"), (3, "three")):
@@ -572,13 +573,13 @@ def alone_it_offers_what_is_there(program):
             expect(web.ask("/show/keys")[0], 200)
             assert '<a href="/show/keys">keys</a>' in web.page(), "what was found is offered"
             with Events(web, "/show/rows/events") as events:
-                events.until_whole(2).until(lambda views: events.rows("1") == [("1", "one")])
-                expect(events.views["1"]["columns"], ["key", "text"])
+                events.until_whole(1).until(lambda views: events.rows() == [("1", "one")])
+                expect(events.views["0"]["columns"], ["key", "text"])
                 client.add("r", 2, "two")
-                events.until(lambda views: events.rows("1") == [("1", "one"), ("2", "two")])
+                events.until(lambda views: events.rows() == [("1", "one"), ("2", "two")])
             expect(web.ask("/show/r")[0], 200, "a relation is a table too")
             with Events(web, "/show/web_r/events") as events:
-                events.until_whole(2).until(lambda views: events.rows("1") == [("1", "one"), ("2", "two")])
+                events.until_whole(1).until(lambda views: events.rows() == [("1", "one"), ("2", "two")])
             assert '<a href="/show/r">r</a>' in web.page()
             status, _, text = web.ask("/show/nothing")
             assert status == 404 and "no query and no relation named nothing" in text, text
@@ -884,7 +885,7 @@ def a_phone_shows_all_in_its_width(program, browser):
                     "const all = (words) => [...document.querySelectorAll(words)];"
                     "const button = box(document.getElementById('pause'));"
                     "return {inner: innerWidth, wide: document.documentElement.scrollWidth,"
-                    " right: Math.max(...all('header, section, svg, #latest').map(e => box(e).right)),"
+                    " right: Math.max(...all('header, section, svg, #latest, .count').map(e => box(e).right)),"
                     " touch: Math.min(button.height, button.width),"
                     " small: Math.min(...all('body *').map(e => parseFloat(getComputedStyle(e).fontSize)))}"
                 )

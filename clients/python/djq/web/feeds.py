@@ -11,7 +11,7 @@ import asyncio
 import time
 from typing import Coroutine, Protocol
 
-from ..aio import Lives, connect
+from ..aio import Lives
 from ..aio.live import Live
 from ..errors import Ended, Error, NoQuery, OutOfMemory, Overtaken
 from ..live import PASSING
@@ -25,6 +25,7 @@ TIMEOUT = 15.0  # seconds without a reply, after which the connection is given u
 WITHIN = 15.0  # seconds that a listing may take
 LINGER = 30.0  # seconds for which a query is followed that nobody listens to any more
 BURST = 0.01  # seconds of changes, after which others have their turn
+NOTHING = "djq_web_asks_for_a_reply"  # a name that no query has, for where nothing else is asked
 MOST_FEEDS = 300  # queries that are followed at once
 
 
@@ -49,6 +50,8 @@ class Feed:
         self.answers: set[Answer] = set()
         self.began = False  # whether answers were ever listed
         self.words = "waiting for the server"  # why it isn't up to date; empty where it is
+        self.since = ""  # the time of the day since when it isn't
+        self.is_own = False  # whether that is of this query alone
         self.unused = time.monotonic()  # since when nobody listens
         self._listeners: list[Listener] = []
         self._live: Live | None = None
@@ -69,6 +72,13 @@ class Feed:
     def is_used(self) -> bool:
         """Whether anybody listens, or did until a moment ago."""
         return bool(self._listeners) or time.monotonic() - self.unused < LINGER
+
+    @property
+    def state(self) -> str | None:
+        """Why it isn't up to date, for a page that says itself where the server is lost; none where it is."""
+        if not self.words or self.is_own or not self.began:
+            return self.words or None
+        return f"Not up to date since {self.since}."
 
     # By the follower
 
@@ -98,16 +108,18 @@ class Feed:
             for listener in self._listeners:
                 listener.change(self, change)
 
-    def stop(self, words: str) -> None:
+    def stop(self, words: str, is_own: bool = True) -> None:
         """The answers aren't up to date any more. They stay, so that what is missed is one change."""
         self._live = None
-        self.say(words)
+        self.say(words, is_own)
 
-    def say(self, words: str) -> None:
+    def say(self, words: str, is_own: bool = True) -> None:
         """Says why the feed isn't up to date, once for each reason."""
         if words == self.words:
             return
-        self.words = words
+        if not self.words:
+            self.since = time.strftime("%H:%M:%S")
+        self.words, self.is_own = words, is_own
         for listener in self._listeners:
             listener.state(self)
 
@@ -220,8 +232,10 @@ class Follower:
             for live, change in await lives.sync():
                 self._hand(live.query, change)
         else:
-            async with connect(self.host, self.port, TIMEOUT) as server:
-                await server.ping()
+            try:
+                await lives.add(NOTHING)
+            except NoQuery:
+                pass
         self._hear()
 
     def _hear(self) -> None:
@@ -231,7 +245,7 @@ class Follower:
     def _lose(self, words: str) -> None:
         self.words = words
         for feed in self._feeds.values():
-            feed.stop(words)
+            feed.stop(words, is_own=False)
 
 
 async def _both(*coroutines: Coroutine[object, object, None]) -> None:

@@ -121,7 +121,7 @@ class Chart:
 
     def state(self, feed: Feed) -> None:
         """Whether the feed is up to date has changed."""
-        self._states[feed.query] = feed.words
+        self._states[feed.query] = feed.state or ""
         for (query, _), line in self._lines.items():
             if query == feed.query:
                 line.known = not feed.words

@@ -4,6 +4,7 @@
 const SVG = "http://www.w3.org/2000/svg";
 const SILENT = 25000; // milliseconds without a word, after which the connection is made anew
 const AGAIN = 2000; // milliseconds before it is, where the browser doesn't try by itself
+const MANY = 6; // characters of a number, above which it is smaller
 const CALM = 1500; // milliseconds between two changes that are read out
 
 const sections = new Map();
@@ -23,8 +24,7 @@ let lasting = 0; // milliseconds for which a row that came is marked
 
 function connect() {
   if (source !== null) source.close();
-  const asked = new URLSearchParams([...places].map(([number, page]) => [`p${number}`, page]));
-  source = new EventSource(`${document.body.dataset.events}?${asked}`);
+  source = new EventSource(`${document.body.dataset.events}?${askedPages()}`);
   heard = Date.now();
   listen("page", (sent) => {
     const { mark, now, fresh } = JSON.parse(sent);
@@ -99,6 +99,10 @@ function applyLines(view, { lines, delta, ...rest }) {
 
 // Which page of a table is shown
 
+function askedPages() {
+  return new URLSearchParams([...places].map(([number, page]) => [`p${number}`, page]));
+}
+
 function turnPages() {
   for (const [number, section] of sections) {
     const given = new URLSearchParams(location.search).get(`p${number}`);
@@ -108,6 +112,7 @@ function turnPages() {
       if (link === null) return;
       event.preventDefault();
       places.set(number, new URLSearchParams(link.search).get(`p${number}`));
+      history.replaceState(null, "", `?${askedPages()}`);
       section.querySelector(".scroll").scrollTop = 0;
       connect();
     });
@@ -280,6 +285,7 @@ function drawCount(section, view) {
   const count = section.querySelector(".count");
   setText(count, nowOf(line));
   count.classList.toggle("some", line.now !== null && line.now !== "0");
+  count.classList.toggle("many", (line.now ?? "").length > MANY);
   setText(section.querySelector(".words"), `${line.span} in ${view.words}`);
   const svg = section.querySelector("svg");
   const box = { left: 1, right: svg.clientWidth - 1, top: 3, bottom: svg.clientHeight - 3 };

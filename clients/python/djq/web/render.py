@@ -13,6 +13,7 @@ from .page import Panel
 from .rows import is_fresh
 from .track import View
 
+MANY = 6  # characters of a number, above which it is smaller
 LONG = 40  # characters of a cell, from which on it is clamped until somebody looks at it
 
 HEAD = """<!doctype html>
@@ -192,7 +193,8 @@ def _newest(panel: Panel, view: View, number: int) -> str:
 def _count(panel: Panel, view: View, number: int) -> str:
     line = view["lines"][0]
     some = " some" if line["now"] not in (None, "0") else ""
-    return f"""<p class="count{some}">{_now(line)}</p>
+    many = " many" if len(line["now"] or "") > MANY else ""
+    return f"""<p class="count{some}{many}">{_now(line)}</p>
 <svg aria-hidden="true"></svg>
 <p class="words">{text(line["span"])} in {text(view["words"])}</p>
 """

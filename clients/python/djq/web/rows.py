@@ -94,7 +94,7 @@ class Table:
 
     def state(self, feed: Feed) -> None:
         """Whether the feed is up to date has changed."""
-        self._words = feed.words or None
+        self._words = feed.state
 
     def tick(self) -> bool:
         """Time passes. Whether the view is another by that."""
@@ -211,7 +211,7 @@ class Newest:
 
     def state(self, feed: Feed) -> None:
         """Whether the feed is up to date has changed."""
-        self._state = feed.words or None
+        self._state = feed.state
 
     def tick(self) -> bool:
         """Time passes. Whether the view is another by that."""

@@ -15,8 +15,9 @@ from .page import Page, Panel
 from .stream import Streams
 
 BETWEEN = 0.03  # seconds at least between two times that viewers are sent changes
+SHARE = 0.0001  # seconds that each viewer adds to that, so that many leave time for the rest
 TICK = 0.5  # seconds without a change, after which lines grow
-ROWS = 100  # of a page of a table that is shown by its query's name
+ROWS = 50  # of a page of a table that is shown by its query's name
 MOST_BOARDS = 200  # that are shown by a query's name
 
 
@@ -47,11 +48,9 @@ class Site:
         if query not in self._boards:
             if len(self._boards) >= MOST_BOARDS:
                 raise Full("too many tables are looked at")
-            panels = [
-                Panel("count", "Rows", [query], [query]),
-                Panel("table", title, [query], [query], columns=self.names.columns(query), rows=ROWS, wide=True),
-            ]
-            return self._board(query, Page(title, panels))
+            columns = self.names.columns(query)
+            panel = Panel("table", title, [query], [query], columns=columns, rows=ROWS, wide=True)
+            return self._board(query, Page(title, [panel]))
         return self._boards[query]
 
     def hub(self, query: str) -> Hub:
@@ -76,7 +75,7 @@ class Site:
                 board.status(self.follower.silent)
                 board.tick()
                 board.publish()
-            await asyncio.sleep(BETWEEN)
+            await asyncio.sleep(BETWEEN + SHARE * sum(len(board.viewers) for board in self._boards.values()))
             try:
                 await asyncio.wait_for(self._changed.wait(), TICK)
             except asyncio.TimeoutError:
