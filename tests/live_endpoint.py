@@ -332,6 +332,56 @@ def a_viewer_that_reads_nothing_holds_nobody_up(program):
 
 
 @test
+def who_reads_slowly_gets_all_anew(program):
+    """Random changes, of which viewers take what waits now and then, with little room for it: each has the answers of
+    what it took last, and some were sent all answers anew."""
+    from djq.protocol import Change
+    from djq.web import live
+    from djq.web.feeds import Feed
+    from djq.web.names import Names
+
+    chance, most = random.Random(3), live.MOST_PENDING
+    live.MOST_PENDING = 300
+    try:
+        feed, there, anew = Feed("q"), set(), 0
+        feed.began = True
+        hub = live.Hub(feed, Names())
+        asked = ({}, {}, {0: "1"}, {0: "2", 1: "a"})
+        watchers = [live.Watcher(hub, wanted, lambda: None) for wanted in asked]
+        has = [None] * len(watchers)
+        for watcher in watchers:
+            hub.join(watcher, "")
+        for seq in range(600):
+            row = (chance.randrange(3), chance.choice("abc"))
+            came, went = frozenset([row] if row not in there else []), frozenset([row] if row in there else [])
+            there = there - went | came
+            feed.answers = there
+            hub.change(feed, Change(seq, came, went))
+            for place, watcher in enumerate(watchers):
+                if chance.random() < 0.2:
+                    has[place], all_came = taken(has[place], watcher.take())
+                    anew += all_came
+                    wanted = {row for row in there if watcher.asks_for(row)}
+                    expect(has[place], wanted, place, seq)
+        assert anew > 2 * len(watchers), anew
+    finally:
+        live.MOST_PENDING = most
+
+
+def taken(answers, sent):
+    """The answers of a viewer that had these and takes these events; and whether all answers came."""
+    anew = False
+    for event in filter(None, sent.decode().split("\n\n")):
+        fields = dict(line.partition(": ")[::2] for line in event.split("\n"))
+        view = json.loads(fields["data"])
+        if fields["event"] == "answers":
+            answers, anew = {tuple(answer) for answer in view["answers"]}, True
+        elif fields["event"] == "change":
+            answers = answers - {tuple(answer) for answer in view["went"]} | {tuple(answer) for answer in view["came"]}
+    return answers, anew
+
+
+@test
 def what_viewers_have_is_what_the_server_has(program):
     """Random changes, and viewers that go and come again with the last id, some of them by key."""
     chance = random.Random(1)
