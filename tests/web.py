@@ -1093,7 +1093,7 @@ def take_pictures(program, paths, seconds=100):
                 browser.set_scheme(scheme)
                 browser.open(web)
                 wait_until(lambda: browser.run("return document.querySelectorAll('tr.came').length") > 1)
-                browser.resize(1080, min(1000, browser.run("return document.body.offsetHeight")))
+                browser.resize(1080, min(1100, browser.run("return document.body.offsetHeight")))
                 time.sleep(1)
                 browser.driver.save_screenshot(path)
         finally:
