@@ -1037,12 +1037,19 @@ def a_browser_shows_ten_thousand_rows_at_once(program, browser):
         browser.open(web)
         wait_until(lambda: len(browser.rows()) == 5)
         assert browser.painted() < 1, browser.painted()
+        # when each row is the first of the table, by the browser's clock, which is this machine's
+        browser.run(
+            "window.seen = {};"
+            "new MutationObserver(() => {"
+            "  window.seen[document.querySelector('tbody tr').cells[1].textContent] ??= Date.now();"
+            "}).observe(document.querySelector('tbody'), { childList: true });"
+        )
         took = []
-        for key in range(9):
-            client.add("r", -1 - key, "x" * 255)
-            begun = time.monotonic()
-            wait_until(lambda: browser.rows()[0][1] == str(-1 - key))
-            took.append(time.monotonic() - begun)
+        for key in map(str, range(-1, -10, -1)):
+            begun = time.time()
+            client.add("r", int(key), "x" * 255)
+            wait_until(lambda key=key: browser.run("return window.seen").get(key))
+            took.append(browser.run("return window.seen")[key] / 1000 - begun)
         assert sorted(took)[4] < 0.1, took
         expect(browser.complaints(), [])
 

@@ -11,7 +11,7 @@ import time
 from typing import Callable, Protocol
 
 from ..protocol import Change
-from .feeds import LINGER, Feed
+from .feeds import LINGER, WAITING, Feed
 from .lines import Chart
 from .page import Page, Panel
 from .rows import Newest, Table, clock, shown_row
@@ -56,7 +56,7 @@ class Board:
         self._panels = [VIEWS[panel.kind](panel, str(number)) for number, panel in enumerate(page.panels)]
         self._titles = _titles(page)
         self._dirty: set[int] = set(range(len(self._panels)))
-        self._status = Track("status", {"live": False, "words": "waiting for the server"})
+        self._status = Track("status", {"live": False, "words": WAITING})
         self._latest = Track("latest", {"words": ""})
         self._news = ""
 

@@ -13,7 +13,7 @@ from importlib import resources
 
 from ..errors import BadName, Error
 from .demo import QUERIES, run_demo
-from .feeds import Follower
+from .feeds import WAITING, Follower
 from .names import Names
 from .page import Page, PageError, read_page
 
@@ -76,12 +76,12 @@ async def _serve(
 
 async def _report(follower: Follower) -> None:
     """Says on standard error whenever the server is found or lost."""
-    said = ""
+    was_live: bool | None = None
     while True:
-        words = follower.silent or "live"
-        if words != said and (not said or words == "live" or said == "live"):
-            print(f"djq-web: {words}", file=sys.stderr, flush=True)
-            said = words
+        words = follower.silent
+        if words != WAITING and was_live != (not words):
+            was_live = not words
+            print(f"djq-web: {words or 'live'}", file=sys.stderr, flush=True)
         await asyncio.sleep(0.2)
 
 
@@ -91,8 +91,8 @@ def _words() -> argparse.ArgumentParser:
     add("server", metavar="HOST:PORT", help="of the djq server")
     add("--page", metavar="FILE.toml", help="what the page shows; its form is described by `pydoc djq.web`")
     add("--demo", action="store_true", help="fill relations with a small factory that moves, and show it")
-    add("--query", metavar="NAME(COLUMN,..)", action="append", default=[],
-        help="a query of the server that is offered, and how its columns are called; may be repeated")  # fmt: skip
+    add("--query", metavar="HEAD", action="append", default=[],
+        help="a query that is offered and how its columns are called, as 'board(machine,job)'; may be repeated")  # fmt: skip
     add("--all", action="store_true", help="offer every query of the server; else with --page only those of the page")
     add("--allow", metavar="ORIGIN", action="append", default=[],
         help="an origin whose pages may read /live/QUERY, as https://factory.example; may be repeated")  # fmt: skip
@@ -158,5 +158,5 @@ def _viewers(asked: int) -> int:
     if least == resource.RLIM_INFINITY or least >= wanted:
         return max(1, asked)
     served = max(1, least - SPARE - 50)
-    print(f"djq-web: {served} viewers are served, since a process may open {least} files here", file=sys.stderr)
+    print(f"djq-web: at most {served} viewers, since a process may open {least} files here", file=sys.stderr)
     return served

@@ -25,6 +25,7 @@ TIMEOUT = 15.0  # seconds without a reply, after which the connection is given u
 WITHIN = 15.0  # seconds that a listing may take
 LINGER = 30.0  # seconds for which a query is followed that nobody listens to any more
 BURST = 0.01  # seconds of changes, after which others have their turn
+WAITING = "waiting for the server"  # before it was ever asked
 NOTHING = "djq_web_asks_for_a_reply"  # a name that no query has, for where nothing else is asked
 MOST_FEEDS = 300  # queries that are followed at once
 
@@ -49,7 +50,7 @@ class Feed:
         self.query = query
         self.answers: set[Answer] = set()
         self.began = False  # whether answers were ever listed
-        self.words = "waiting for the server"  # why it isn't up to date; empty where it is
+        self.words = WAITING  # why it isn't up to date; empty where it is
         self.since = ""  # the time of the day since when it isn't
         self.is_own = False  # whether that is of this query alone
         self.unused = time.monotonic()  # since when nobody listens
@@ -129,7 +130,7 @@ class Follower:
 
     def __init__(self, host: str, port: int) -> None:
         self.host, self.port = host, port
-        self.words = "waiting for the server"  # why nothing is up to date; empty where the server answers
+        self.words = WAITING  # why nothing is up to date; empty where the server answers
         self._feeds: dict[str, Feed] = {}
         self._heard = 0.0  # when the server answered last
         self._wanted = asyncio.Event()  # set as a feed is to be begun
@@ -144,10 +145,6 @@ class Follower:
             feed.words = self.words or "being listed"
             self._wanted.set()
         return feed
-
-    def queries(self) -> list[str]:
-        """The queries that are followed and were found on the server."""
-        return sorted(name for name, feed in self._feeds.items() if not feed.words)
 
     @property
     def silent(self) -> str:

@@ -7,7 +7,7 @@ from collections import deque
 from typing import Iterable
 
 from ..protocol import Answer, Change, Value
-from .feeds import Feed
+from .feeds import WAITING, Feed
 from .page import MOST_LINES, Panel
 from .rows import counted, now, shown
 from .track import Track, View
@@ -97,7 +97,7 @@ class Chart:
 
     def __init__(self, panel: Panel, name: str) -> None:
         self._panel = panel
-        self._states = {query: "waiting for the server" for query in panel.queries}
+        self._states = {query: WAITING for query in panel.queries}
         self._groups: dict[Key, Folded] = {}  # by query, and by the column that parts lines
         fixed = [] if panel.by is not None else list(zip(panel.queries, panel.labels))
         self._lines: dict[Key, History] = {

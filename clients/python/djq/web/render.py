@@ -68,6 +68,8 @@ PLAIN = (
 """
 )
 
+AGAIN = '<meta http-equiv="refresh" content="10">\n'
+
 
 def render(board: Board, mark: str, events: str, places: dict[str, str]) -> str:
     """A board with what is shown now."""
@@ -107,17 +109,16 @@ def render_offer(server: str, silent: str, queries: list[str], relations: list[s
     return PLAIN.format(title=f"djq at {text(server)}", more="", body=body)
 
 
-def render_missing(name: str, reason: str) -> str:
-    """That a name can't be shown, and why."""
+def render_missing(name: str, reason: str, again: bool) -> str:
+    """That a name can't be shown, and why; where it may be soon, the page is asked for again by itself."""
     body = f'<p>{text(reason)}</p>\n<p><a href="/offer">All queries</a></p>\n'
-    return PLAIN.format(title=text(name), more="", body=body)
+    return PLAIN.format(title=text(name), more=AGAIN if again else "", body=body)
 
 
 def render_full(most: int) -> str:
     """That there are too many viewers; the page is asked for again by itself."""
     body = f"<p>This page has {most:,} viewers, which are the most that it takes. It is tried again by itself.</p>\n"
-    more = '<meta http-equiv="refresh" content="10">\n'
-    return PLAIN.format(title="Too many viewers", more=more, body=body)
+    return PLAIN.format(title="Too many viewers", more=AGAIN, body=body)
 
 
 def text(value: object) -> str:

@@ -5,10 +5,9 @@ from __future__ import annotations
 import bisect
 import time
 from collections import OrderedDict
-from typing import Iterable
 
 from ..protocol import Answer, Change, Value
-from .feeds import Feed
+from .feeds import WAITING, Feed
 from .page import Panel
 from .track import Track, View
 
@@ -68,7 +67,7 @@ class Table:
         self._panel, self._name = panel, name
         self._rows: list[Answer] = []
         self._came: OrderedDict[Answer, float] = OrderedDict()  # when the rows came that are still marked
-        self._words: str | None = "waiting for the server"
+        self._words: str | None = WAITING
         self._parts: dict[int, Part] = {}
         self._part(0)
 
@@ -193,7 +192,7 @@ class Newest:
         self._panel = panel
         self._answer: Answer | None = None
         self._words = ""
-        self._state: str | None = "waiting for the server"
+        self._state: str | None = WAITING
         self._came: float | None = None
         self._track = Track(name, self._view())
 
@@ -204,7 +203,7 @@ class Newest:
     def change(self, feed: Feed, change: Change) -> None:
         """The answers changed."""
         if change.came:
-            self._answer, self._came = _last(change.came), now()
+            self._answer, self._came = max(change.came), now()
             self._words = f"came at {clock()}"
         elif self._answer in change.went:
             self._words += f", gone at {clock()}"
@@ -234,7 +233,3 @@ class Newest:
             "cells": cells,
             "came": self._came,
         }
-
-
-def _last(answers: Iterable[Answer]) -> Answer:
-    return max(answers)

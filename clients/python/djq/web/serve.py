@@ -171,9 +171,9 @@ class Web:
             query = await self._look_up(name, request.headers.get("Sec-Fetch-Site", "none") in ("none", "same-origin"))
         except Error as error:
             follower = self._site.follower
-            return page(render_missing(name, explain(error, follower.host, follower.port)), 503)
+            return page(render_missing(name, explain(error, follower.host, follower.port), True), 503)
         if query is None:
-            return page(render_missing(name, f"The server has no query and no relation named {name}."), 404)
+            return page(render_missing(name, f"The server has no query and no relation named {name}.", False), 404)
         return self._page(request, self._site.table(query, name), f"/show/{query}/events")
 
     async def _look_up(self, name: str, registers: bool) -> str | None:
