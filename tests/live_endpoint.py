@@ -48,11 +48,11 @@ class Stream:
     of the id `last`, and `answers`."""
 
     def __init__(self, web, path="/live/rows", last=None, answers=None, **headers):
-        told = {"Accept": "text/event-stream", **{k.replace("_", "-"): v for k, v in headers.items()}}
+        sent = {"Accept": "text/event-stream", **{k.replace("_", "-"): v for k, v in headers.items()}}
         if last is not None:
-            told["Last-Event-ID"] = last
+            sent["Last-Event-ID"] = last
         self._connection = http.client.HTTPConnection("127.0.0.1", web.port, timeout=SECONDS)
-        self._connection.request("GET", path, headers=told)
+        self._connection.request("GET", path, headers=sent)
         self._reply = self._connection.getresponse()
         assert self._reply.status == 200, (self._reply.status, self._reply.read())
         self.headers = dict(self._reply.getheaders())
@@ -303,7 +303,7 @@ def status_of(server, name):
 
 
 @test
-def one_viewer_too_many_is_told_so(program):
+def one_viewer_too_many_gets_a_page(program):
     words = (*HEAD, "--viewers", "2", "--allow", "https://factory.example")
     with served(program, (1, "one"), words=words) as (_, web), Stream(web) as one, Stream(web) as two:
         one.until_answers((1, "one"))

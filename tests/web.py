@@ -528,8 +528,6 @@ def a_change_is_sent_by_a_few_bytes(program):
 def deltas_lead_from_any_version_to_the_present_one(program):
     """Random changes of a table and of lines: what a viewer shows that has taken the deltas, and what one that was away
     for some versions is sent, is what the panel shows."""
-    from djq.protocol import Change
-    from djq.web.feeds import Feed
     from djq.web.lines import Chart
     from djq.web.page import read_page
     from djq.web.rows import Table
@@ -540,38 +538,47 @@ def deltas_lead_from_any_version_to_the_present_one(program):
     )
     chance = random.Random(7)
     for _ in range(20):
-        feed, there = Feed("q"), set()
         panels = [(Table(page.panels[0], "0"), "1"), (Table(page.panels[0], "0"), "2"), (Chart(page.panels[1], "0"), "")]
         tracks = [panel.track(place) for panel, place in panels]
         for track in tracks:
             track.viewers = 1
-        views = [{0: json.loads(json.dumps(track.whole))} for track in tracks]
-        for _ in range(chance.randrange(80)):
-            row = (chance.randrange(5), chance.choice("abcdefgh"))
-            came = frozenset([row] if row not in there else [])
-            went = frozenset(chance.sample(sorted(there), min(len(there), chance.choice((0, 0, 1, 3)))))
-            there = there - went | came
-            feed.answers = there
-            for (panel, _), track, seen in zip(panels, tracks, views):
-                panel.change(feed, Change(1, came, went, restarted=chance.random() < 0.1))
-                if chance.random() < 0.7:
-                    panel.publish()
-                version = chance.choice(sorted(seen))
-                view = copy.deepcopy(seen[version])
-                for event in filter(None, track.since(version).decode().split("\n\n")) if version < track.version else ():
-                    view = shown_by(view, json.loads(event.partition("data: ")[2]))
-                expect(view, json.loads(json.dumps(track.whole)), version, track.version)
-                seen[track.version] = view
-        for panel, _ in panels:
-            panel.publish()
+        there = change_at_random([panel for panel, _ in panels], tracks, chance)
         rows = sorted(there, key=lambda row: (row[1], row), reverse=True)
         for at, track in ((0, tracks[0]), (4, tracks[1])):
             wanted = [[str(a), b] for a, b in (rows[at : at + 4] if len(rows) > at else rows[:4])]
             expect([row["cells"] for row in track.whole["rows"]], wanted)
-        sums = {line["label"]: line["now"] for line in tracks[2].whole["lines"]}
-        for label, now in sums.items():
-            wanted = [a for a, b in there if b == label]
-            expect(now, str(sum(wanted)) if wanted else None, label)
+        for line in tracks[2].whole["lines"]:
+            wanted = [a for a, b in there if b == line["label"]]
+            expect(line["now"], str(sum(wanted)) if wanted else None, line["label"])
+
+
+def change_at_random(panels, tracks, chance):
+    """Changes panels and publishes them now and then, looks at what each delta makes of an earlier view, and gives the
+    answers at the end."""
+    from djq.protocol import Change
+    from djq.web.feeds import Feed
+
+    feed, there = Feed("q"), set()
+    views = [{track.version: json.loads(json.dumps(track.whole))} for track in tracks]
+    for _ in range(chance.randrange(80)):
+        row = (chance.randrange(5), chance.choice("abcdefgh"))
+        came = frozenset([row] if row not in there else [])
+        went = frozenset(chance.sample(sorted(there), min(len(there), chance.choice((0, 0, 1, 3)))))
+        there = feed.answers = there - went | came
+        for panel, track, seen in zip(panels, tracks, views):
+            panel.change(feed, Change(1, came, went, restarted=chance.random() < 0.1))
+            if chance.random() < 0.7:
+                panel.publish()
+            version = chance.choice(sorted(seen))
+            view = copy.deepcopy(seen[version])
+            events = track.since(version).decode() if version < track.version else ""
+            for event in filter(None, events.split("\n\n")):
+                view = shown_by(view, json.loads(event.partition("data: ")[2]))
+            expect(view, json.loads(json.dumps(track.whole)), version, track.version)
+            seen[track.version] = view
+    for panel in panels:
+        panel.publish()
+    return there
 
 
 @test
@@ -642,7 +649,7 @@ def alone_it_offers_what_is_there(program):
 
 
 @test
-def one_viewer_too_many_is_told_so(program):
+def one_viewer_too_many_gets_a_page(program):
     with shown(program, (1, "one"), words=("--viewers", "3")) as (_, web), contextlib.ExitStack() as stack:
         streams = [stack.enter_context(Events(web)) for _ in range(3)]
         for events in streams:

@@ -102,10 +102,10 @@ def _words() -> argparse.ArgumentParser:
     return words
 
 
-def _address(words: argparse.ArgumentParser, told: str) -> tuple[str, int]:
-    host, _, port = told.rpartition(":")
+def _address(words: argparse.ArgumentParser, text: str) -> tuple[str, int]:
+    host, _, port = text.rpartition(":")
     if not (host and port.isascii() and port.isdigit() and int(port) < 65536):
-        words.error(f"not HOST:PORT: {told}")
+        words.error(f"not HOST:PORT: {text}")
     return host.removeprefix("[").removesuffix("]"), int(port)
 
 
@@ -133,7 +133,7 @@ def _names(words: argparse.ArgumentParser, given: argparse.Namespace) -> Names:
     return names
 
 
-def _listener(address: tuple[str, int], told: str) -> socket.socket:
+def _listener(address: tuple[str, int], text: str) -> socket.socket:
     """The socket at which browsers connect."""
     family = socket.AF_INET6 if ":" in address[0] else socket.AF_INET
     listener = socket.socket(family, socket.SOCK_STREAM)
@@ -143,7 +143,7 @@ def _listener(address: tuple[str, int], told: str) -> socket.socket:
         listener.listen(1024)
     except OSError as error:
         listener.close()
-        sys.exit(f"djq-web: {told}: {error.strerror}")
+        sys.exit(f"djq-web: {text}: {error.strerror}")
     return listener
 
 

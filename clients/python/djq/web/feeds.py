@@ -31,7 +31,7 @@ MOST_FEEDS = 300  # queries that are followed at once
 
 
 class Listener(Protocol):
-    """Who is told what becomes of a feed."""
+    """Who takes what becomes of a feed."""
 
     def begin(self, feed: Feed) -> None:
         """The answers were listed for the first time."""
@@ -58,7 +58,7 @@ class Feed:
         self._live: Live | None = None
 
     def add(self, listener: Listener) -> None:
-        """One more listener, which is told at once what is known."""
+        """One more listener, which gets at once what is known."""
         self._listeners.append(listener)
         if self.began:
             listener.begin(self)

@@ -87,7 +87,7 @@ class Hub:
     def __init__(self, feed: Feed, names: Names) -> None:
         self.feed = feed
         self._names = names
-        self._mark = secrets.token_hex(4)  # so that an id of an earlier run is told apart
+        self._mark = secrets.token_hex(4)  # so that an id of an earlier run isn't taken for one of this
         self._count = 0  # changes so far, of which ids are made
         self._log: deque[tuple[int, Change]] = deque()
         self._logged = 0  # answers in the log

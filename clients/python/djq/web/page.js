@@ -17,7 +17,7 @@ const state = document.getElementById("status");
 const latest = document.getElementById("latest");
 let source = null;
 let heard = 0;
-let behind = 0; // by how many milliseconds the clock here is ahead of the one by which rows came
+let ahead = 0; // by how many milliseconds the clock here is ahead of the one by which rows came
 let lasting = 0; // milliseconds for which a row that came is marked
 
 // What comes
@@ -29,7 +29,7 @@ function connect() {
   listen("page", (sent) => {
     const { mark, now, fresh } = JSON.parse(sent);
     if (mark !== document.body.dataset.mark) location.reload();
-    behind = Date.now() - 1000 * now;
+    ahead = Date.now() - 1000 * now;
     lasting = 1000 * fresh;
   });
   listen("beat", () => {});
@@ -62,7 +62,7 @@ function tellState({ live, words }) {
   setText(state, words);
 }
 
-// A screen reader isn't told more often than it can read out.
+// A screen reader gets no more than it can read out.
 let news = null;
 let calm = null;
 
@@ -192,7 +192,7 @@ function setText(element, text) {
 // The mark that a row came; it goes by itself.
 function setFresh(element, came, show) {
   clearTimeout(element.fades);
-  const left = came === null ? 0 : lasting - (Date.now() - behind - 1000 * came);
+  const left = came === null ? 0 : lasting - (Date.now() - ahead - 1000 * came);
   show(left > 0);
   if (left > 0) element.fades = setTimeout(() => show(false), left);
 }
@@ -205,15 +205,15 @@ function drawTable(section, view, number) {
   const table = section.querySelector("table");
   setHeads(table.tHead.rows[0], view);
   const body = table.tBodies[0];
-  const kept = new Map();
-  for (const row of body.rows) kept.set(keyOf(row), row);
+  const there = new Map();
+  for (const row of body.rows) there.set(keyOf(row), row);
   const keys = keysOf(view.rows);
   const wanted = new Set(keys);
-  for (const [key, row] of kept) if (!wanted.has(key)) row.remove();
+  for (const [key, row] of there) if (!wanted.has(key)) row.remove();
   const word = section.classList.contains("alarm") ? "alarm" : "new";
   let place = body.firstElementChild;
   view.rows.forEach(({ cells, came }, at) => {
-    const row = kept.get(keys[at]) ?? makeRow(keys[at], cells, view.numbers);
+    const row = there.get(keys[at]) ?? makeRow(keys[at], cells, view.numbers);
     if (row === place) place = place.nextElementSibling;
     else body.insertBefore(row, place);
     setFresh(row, came, (on) => showMark(row, on, word));

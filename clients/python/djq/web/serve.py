@@ -278,7 +278,7 @@ async def open_site(application: web.Application, listener: socket.socket, most_
     runner = web.AppRunner(application, access_log=None)
     await runner.setup()
     manager, loop, room = runner.server, asyncio.get_running_loop(), Room(most_viewers + SPARE)
-    if manager is not None:  # it is there, behind `setup`
+    if manager is not None:  # it is there, after `setup`
         make = functools.partial(Connection, manager, loop, room)
         await loop.create_server(make, sock=listener, backlog=1024)
 

@@ -8,7 +8,7 @@ from typing import Any, Callable, Iterator
 
 from aiohttp import web
 
-BEAT = 10.0  # seconds without news, after which a browser is told that the program is still there
+BEAT = 10.0  # seconds without news, after which a browser gets a sign that the program is there
 STUCK = 20.0  # seconds that a browser may take for its request, and for what it is sent
 IDLE = 5.0  # seconds for which a connection is held that may ask for more
 PIECE = 1 << 16  # bytes that are handed to the system at a time
@@ -16,7 +16,7 @@ STEPS = 50  # parts of the seconds between two beats, in which a part of the vie
 
 
 class Room:
-    """How many connections there are, and how many may be. Some more are told that there is no room."""
+    """How many connections there are, and how many may be. Some more get an answer that there is no room."""
 
     def __init__(self, most: int) -> None:
         self.most = most
