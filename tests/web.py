@@ -704,6 +704,19 @@ def a_page_file_that_is_none_is_told_why(program):
         assert status == 2 and why in told, told
 
 
+@test
+def without_aiohttp_it_says_what_is_missing(program):
+    script = "import sys; sys.modules['aiohttp'] = None; from djq.web import main; main()"
+    done = subprocess.run(
+        [sys.executable, "-c", script],
+        env=dict(os.environ, PYTHONPATH=os.path.join(HERE, "..", "clients", "python")),
+        stderr=subprocess.PIPE,
+        timeout=3 * SECONDS,
+    )
+    words = "djq-web needs aiohttp, as by `apt install python3-aiohttp`\n"
+    expect((done.returncode, done.stderr.decode()), (1, words))
+
+
 def run_web(*words):
     done = subprocess.run(
         [sys.executable, "-m", "djq.web", *words],
