@@ -23,6 +23,7 @@ import re
 import shutil
 import signal
 import socket
+import socketserver
 import subprocess
 import sys
 import tempfile
@@ -702,6 +703,27 @@ def a_page_file_that_is_none_is_told_why(program):
     ):
         status, told = run_web(*words)
         assert status == 2 and why in told, told
+
+
+@test
+def what_is_no_djq_server_is_said_so(program):
+    handler = type("Other", (socketserver.StreamRequestHandler,), {"handle": answer_as_another})
+    with socketserver.ThreadingTCPServer(("127.0.0.1", 0), handler) as other, tempfile.NamedTemporaryFile("w") as file:
+        threading.Thread(target=other.serve_forever, daemon=True).start()
+        file.write(PAGE)
+        file.flush()
+        server = f"127.0.0.1:{other.server_address[1]}"
+        try:
+            status, words = run_web(server, "--page", file.name, "--listen", "127.0.0.1:0")
+        finally:
+            other.shutdown()
+    assert status == 1 and f"{server} answers, but not as a djq server does" in words, (status, words)
+
+
+def answer_as_another(handler):
+    """Answers the first line as a server of HTTP does."""
+    handler.rfile.readline()
+    handler.wfile.write(b"HTTP/1.1 400 Bad Request\r\n\r\n")
 
 
 @test

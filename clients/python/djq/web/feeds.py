@@ -13,7 +13,7 @@ from typing import Coroutine, Protocol
 
 from ..aio import Lives
 from ..aio.live import Live
-from ..errors import Ended, Error, NoQuery, OutOfMemory, Overtaken
+from ..errors import Ended, Error, NoQuery, OutOfMemory, Overtaken, Refused
 from ..live import PASSING
 from ..protocol import Answer, Change
 
@@ -209,7 +209,7 @@ class Follower:
             since = "any more" if feed.began else "yet"
             feed.stop(f"There is no query {feed.query} {since}. It is shown here once it is registered.")
             return
-        except (OutOfMemory, Overtaken) as error:
+        except (Refused, Overtaken) as error:
             self._hear()
             feed.stop(explain(error, self.host, self.port))
             return
@@ -269,7 +269,9 @@ def explain(error: Error, host: str, port: int) -> str:
     if isinstance(error, OutOfMemory):
         return "The server is out of memory for this. Trying again."
     if isinstance(error, Overtaken):
-        return "Rows change faster than all of them can be listed. Trying again."
+        return "Not all rows could be listed in time: they change too fast, or the server is slow. Trying again."
     if isinstance(error, NoQuery):
         return "A query was dropped. Beginning again."
+    if isinstance(error, Refused):
+        return f"The server refused this: {error.words}"
     return f"The server at {host}:{port} doesn't answer. Trying again."

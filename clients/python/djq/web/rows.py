@@ -12,6 +12,7 @@ from .page import Panel
 from .track import Track, View
 
 FRESH = 6.0  # seconds for which a row that came is marked
+MOST_UNSEEN = 20  # parts of a table that are held though nobody may see them
 MANY = 200  # rows of a change, from which on a table is put in order anew
 
 Row = tuple[Answer, "float | None"]  # and when it came, where that is to be marked
@@ -103,9 +104,7 @@ class Table:
         """Brings each part that somebody sees up to date."""
         while self._came and not is_fresh(next(iter(self._came.values()))):
             self._came.popitem(last=False)
-        for number, part in list(self._parts.items()):
-            if number > 0 and part.track.viewers == 0:
-                del self._parts[number]
+        self._sweep()
         return any([self._show(part) for part in self._parts.values()])
 
     def track(self, place: str) -> Track:
@@ -118,9 +117,17 @@ class Table:
     def _part(self, number: int) -> Part:
         part = self._parts.get(number)
         if part is None:
+            if len(self._parts) > MOST_UNSEEN:
+                self._sweep()
             part = self._parts[number] = Part(number, self._name)
             self._show(part)
         return part
+
+    def _sweep(self) -> None:
+        """Gives up the parts that nobody sees any more, but for the first."""
+        for number, part in list(self._parts.items()):
+            if number > 0 and part.track.viewers == 0:
+                del self._parts[number]
 
     def _show(self, part: Part) -> bool:
         most, total = self._panel.rows, len(self._rows)
