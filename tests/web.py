@@ -743,6 +743,7 @@ def run_web(*words):
     done = subprocess.run(
         [sys.executable, "-m", "djq.web", *words],
         env=dict(os.environ, PYTHONPATH=os.path.join(HERE, "..", "clients", "python")),
+        stdout=subprocess.DEVNULL,
         stderr=subprocess.PIPE,
         timeout=3 * SECONDS,
     )
