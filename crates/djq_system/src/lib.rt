@@ -43,11 +43,15 @@
 mod conn;
 mod file_disk;
 mod listening;
+mod request;
+mod size_limit;
+mod standard;
 mod std_sink;
 mod std_source;
 mod tcp_hub;
 
 pub use file_disk::FileDisk;
+pub use standard::{StandardInput, StandardOutput};
 pub use std_sink::StdSink;
 pub use std_source::StdSource;
 pub use tcp_hub::{PLACES, TcpHub};
