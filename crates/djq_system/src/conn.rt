@@ -1,4 +1,4 @@
-ghost use Rattle.std.specs.Prelude.{ℕ, ◌<◌, length, IfSome};
+ghost use Rattle.std.specs.Prelude.{◌≡◌, ℕ, ◌<◌, true, length, IfSome};
 ghost use Rattle.djq_io.specs.Hub.{Takes};
 ghost use Rattle.djq_system.specs.Found.{FoundFits};
 
@@ -12,10 +12,10 @@ use std::net::Shutdown;
 /// The connection of a session.
 #[derive(Drop)]
 pub(crate) struct Conn {
-    id: u64,
+    pub id: u64,
     stream: TcpStream,
     /// Whether it may have bytes. A read that finds none says no, and the system says yes again.
-    ready: bool,
+    pub ready: bool,
     /// Whether its first line was looked at, which is no request of HTTP.
     heard: bool,
     /// Whether the client sends no more, so that a line that isn't whole stays so.
@@ -52,16 +52,6 @@ impl Conn {
             over: false,
             full: false,
         }
-    }
-
-    /// The id of its session.
-    pub(crate) fn id(&self) -> u64 {
-        self.id
-    }
-
-    /// Whether it may have bytes.
-    pub(crate) fn is_ready(&self) -> bool {
-        self.ready
     }
 
     /// Reads what the client sent, once its first line was looked at.
@@ -128,7 +118,8 @@ impl Conn {
 
     /// Sends a first part of the piece, unless the connection is full.
     fn send(&mut self, piece: &[u8]) -> Sent
-        ensures { Takes result piece.now }
+        ensures takes { Takes result piece.now }
+        ensures full { self.old.full ≡ true → result ≡ Sent.Again }
     {
         if self.full {
             return Sent::Again;

@@ -176,8 +176,8 @@ impl<R: Net<Listener = net::TcpListener, Stream = net::TcpStream> + Eprint + Dro
         }
         let conn = &mut self.conns[self.at];
         self.at += 1;
-        let id = conn.id();
-        if !conn.is_ready() || !self.sessions.is_running(id) {
+        let id = conn.id;
+        if !conn.ready || !self.sessions.is_running(id) {
             return Turn::Idle;
         }
         match conn.read(buf) {
