@@ -308,7 +308,10 @@ def requests():
         yield [whole[:cut], whole[cut:]]
     yield [b"G", b"ET", b" ", b"/\n"]
     yield [whole[at:at + 1] for at in range(len(whole))]
-    yield [b"COPY /" + b"a" * 3000, b"a" * 1000 + b" HTTP/1.1\r\n"]
+    # as long as a line may be that is run
+    long = b"COPY /" + b"a" * 4081 + b" HTTP/1.1\r\n"
+    for cut in (3000, 4095, 4096, 4097):
+        yield [long[:cut], long[cut:]]
 
 
 @test
@@ -343,7 +346,9 @@ def a_first_line_that_is_no_request_is_run_in_whatever_pieces():
             ([b"HTTP/1.\nquit\n"], b"err 1 syntax\nbye\n"),
             ([b"rel t text\nadd t \"GET / HTTP/1.1\"\nquit\n"], b"ok\nok added 1 1\nbye\n"),
             ([b"add t \"POST / HTTP/1.1\"\nPOST / HTTP/1.1\nquit\n"], b"ok added 2 1\nerr 1 syntax\nbye\n"),
+            ([b"quit" + b" " * 4092, b"\r", b"\n"], b"bye\n"),
             ([long[:4000], long[4000:]], b"end long\n"),
+            ([b"quit" + b" " * 4092 + b"\r", b" "], b"end long\n"),
             ([b"a" * 4097], b"end long\n"),
         ]:
             client = serving.client()

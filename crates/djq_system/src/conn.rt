@@ -34,9 +34,6 @@ pub(crate) enum Found {
     Broken,
 }
 
-/// Of a first line so many bytes are waited for at most. A longer one isn't run.
-const LONGEST_LINE: usize = 4096;
-
 /// How many pieces are read away at most as a connection is closed, so that a client that goes on
 /// to send can't hold the server.
 const MOST_READ_AWAY: u32 = 64;
@@ -91,7 +88,7 @@ impl Conn {
         match beginning_of(&buf[..count]) {
             Beginning::Blanks(blanks) => self.take(&mut buf[..blanks]),
             Beginning::Request => Found::End,
-            Beginning::Part if !self.over && count < LONGEST_LINE.min(buf.len()) => {
+            Beginning::Part if !self.over && count < buf.len() => {
                 self.ready = false;
                 Found::Nothing
             }

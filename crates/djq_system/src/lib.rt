@@ -29,7 +29,7 @@
 //!
 //! A connection that begins with a request of HTTP is returned as one whose input ended: a web page can send
 //! such a request to any port of its reader's machine. So the first line that isn't empty is looked at as a
-//! whole. It stays with the system until it is, or has 4,096 bytes, or the client sends no more.
+//! whole. It stays with the system until it is, or is too long to be run, or the client sends no more.
 //!
 //! ```text
 //! a client connects              Opened(1)

@@ -13,6 +13,9 @@ const REQUESTS: [&[u8]; 7] = [
     b"OPTIONS ",
 ];
 
+/// How many bytes a line has at most that is run, without those that end it.
+const LONGEST_LINE: usize = 4096;
+
 /// How many bytes the version of HTTP has at the end of a request's first line.
 const VERSION_BYTES: usize = 8;
 
@@ -23,9 +26,9 @@ pub(crate) enum Beginning {
     Blanks(usize),
     /// As a request of HTTP does.
     Request,
-    /// With a line that is no request.
+    /// With a line that is no request, or one that is too long to be run.
     Line,
-    /// With a first part of a line.
+    /// With a first part of a line, which may be a request's.
     Part,
 }
 
@@ -46,10 +49,17 @@ pub(crate) fn beginning_of(bytes: &[u8]) -> Beginning
         return Beginning::Request;
     }
     match bytes.iter().position(|byte| *byte == b'\n') {
+        None if is_too_long(bytes) => Beginning::Line,
         None => Beginning::Part,
         Some(end) if names_version(&bytes[..end]) => Beginning::Request,
         Some(_) => Beginning::Line,
     }
+}
+
+/// Whether these bytes of a line are more than those of one that is run. The last may belong to its end.
+fn is_too_long(bytes: &[u8]) -> bool {
+    let line = bytes.strip_suffix(b"\r").unwrap_or(bytes);
+    LONGEST_LINE < line.len()
 }
 
 /// Whether a byte is a space, or ends a line.
