@@ -86,7 +86,7 @@ impl Conn {
             Err(error) => return self.found_none(error),
         };
         match beginning_of(&buf[..count]) {
-            Beginning::Blanks(blanks) => self.take(&mut buf[..blanks]),
+            Beginning::EmptyLines(end) => self.take(&mut buf[..end]),
             Beginning::Request => Found::End,
             Beginning::Part if !self.over && count < buf.len() => {
                 self.ready = false;

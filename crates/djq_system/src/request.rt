@@ -1,4 +1,5 @@
 //! How a connection begins that a web page opened.
+ghost use Rattle.std.specs.Prelude.{◌≤◌, length};
 ghost use Rattle.djq_system.specs.Request.{BeginsSo};
 
 /// How requests of HTTP begin that a browser sends for a page of whatever origin, also where no
@@ -23,7 +24,7 @@ const VERSION_BYTES: usize = 8;
 #[derive(Clone, Copy, Debug, PartialEq, Eq)]
 pub(crate) enum Beginning {
     /// With so many bytes of empty lines, behind which it may go on in any way.
-    Blanks(usize),
+    EmptyLines(usize),
     /// As a request of HTTP does.
     Request,
     /// With a line that is no request, or one that is too long to be run.
@@ -37,15 +38,12 @@ pub(crate) enum Beginning {
 pub(crate) fn beginning_of(bytes: &[u8]) -> Beginning
     ensures { BeginsSo result bytes.now }
 {
-    if bytes.is_empty() {
-        return Beginning::Part;
+    let blanks = count_blanks(bytes);
+    if let Some(end) = bytes[..blanks].iter().rposition(|byte| *byte == b'\n') {
+        return Beginning::EmptyLines(end + 1);
     }
-    match bytes.iter().position(|byte| !is_blank(*byte)) {
-        Some(0) => {}
-        Some(blanks) => return Beginning::Blanks(blanks),
-        None => return Beginning::Blanks(bytes.len()),
-    }
-    if REQUESTS.iter().any(|start| bytes.starts_with(start)) {
+    let words = &bytes[blanks..];
+    if REQUESTS.iter().any(|start| words.starts_with(start)) {
         return Beginning::Request;
     }
     match bytes.iter().position(|byte| *byte == b'\n') {
@@ -60,6 +58,16 @@ pub(crate) fn beginning_of(bytes: &[u8]) -> Beginning
 fn is_too_long(bytes: &[u8]) -> bool {
     let line = bytes.strip_suffix(b"\r").unwrap_or(bytes);
     LONGEST_LINE < line.len()
+}
+
+/// How many blanks stand in front of all else.
+fn count_blanks(bytes: &[u8]) -> usize
+    ensures { result ≤ length bytes.now }
+{
+    match bytes.iter().position(|byte| !is_blank(*byte)) {
+        Some(at) => at,
+        None => bytes.len(),
+    }
 }
 
 /// Whether a byte is a space, or ends a line.
