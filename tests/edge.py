@@ -142,13 +142,12 @@ def to_the_end(stream):
 
 
 def traced(words, calls, *more):
-    """The words that trace these calls of a program into a file."""
-    if not shutil.which("strace"):
-        raise Skipped("strace isn't there")
+    """The words that trace these calls of a program."""
     return ["strace", "-f", "-qq", "-e", f"trace={calls}", "-e", "signal=none", *more, *words]
 
 
 def may_trace():
+    """Skips a test where nothing can be traced."""
     if not shutil.which("strace"):
         raise Skipped("strace isn't there")
     done = subprocess.run(["strace", "-qq", "-e", "trace=none", "true"], capture_output=True, check=False)
@@ -169,7 +168,7 @@ class Tracing:
         until = time.monotonic() + PATIENCE
         while not tracer_of(self.process):
             if self.strace.poll() is not None:
-                raise Skipped(f"strace may not trace: {self.strace.stderr.read().decode().strip()}")
+                raise Skipped(f"strace may not attach: {self.strace.stderr.read().decode().strip()}")
             expect(time.monotonic() < until, True, "strace attaches")
             time.sleep(0.01)
         return self
@@ -195,9 +194,9 @@ def tracer_of(process):
 # ---------------------------------------------------------------- clients that don't read
 
 
-def stalled_server(stalled):
+def stalled_server(stalled, below=()):
     """A server with so many clients that have asked for more than any buffer takes, and read nothing; and one more."""
-    serving = Serving()
+    serving = Serving(below=below)
     try:
         client = serving.client()
         ask(client, b"rel t text", b"ok")
@@ -234,7 +233,8 @@ def clients_that_dont_read_cost_no_call_of_the_system():
             time.sleep(0.5)
             with Tracing(serving.program.pid) as tracing:
                 change_often(client)
-            expect((tracing.refused(), tracing.count("sendto")), (0, CHANGES), f"sends beside {stalled} that don't read")
+            sent = tracing.refused(), tracing.count("sendto")
+            expect(sent, (0, CHANGES), f"refused sends, and sends, beside {stalled} that don't read")
 
 
 @test
@@ -253,26 +253,22 @@ def a_client_that_reads_again_is_sent_the_rest():
                 break
             told += piece
         lines = told.splitlines()
-        expect((lines.count(b"ok open"), sum(line[:2] == b"= " for line in lines), lines[-1]), (4, 4000, b"no"), "what it read")
+        answers = sum(line[:2] == b"= " for line in lines)
+        expect((lines.count(b"ok open"), answers, lines[-1]), (4, 4000, b"no"), "what it read")
         ask(client, b"stop", b"bye")
 
 
 def instructions(stalled):
-    """What changes beside clients that don't read cost in instructions."""
-    below = ["valgrind", "--tool=callgrind", "--instr-atstart=no", "--callgrind-out-file=/dev/null"]
-    with tempfile.NamedTemporaryFile("r") as told:
-        global Serving
-        plain = Serving
-        try:
-            Serving = lambda: plain(below=[*below, f"--log-file={told.name}"])  # noqa: E731
-            serving, client = stalled_server(stalled)
-        finally:
-            Serving = plain
+    """What a change beside so many clients that don't read costs in instructions."""
+    with tempfile.NamedTemporaryFile("r", prefix="djq-edge-") as told:
+        counting = ["valgrind", "--tool=callgrind", "--instr-atstart=no", "--callgrind-out-file=/dev/null"]
+        serving, client = stalled_server(stalled, (*counting, f"--log-file={told.name}"))
         with serving:
-            process = str(serving.program.pid)
-            subprocess.run(["callgrind_control", "-i", "on", process], check=True, capture_output=True)
-            change_often(client)
-            subprocess.run(["callgrind_control", "-i", "off", process], check=True, capture_output=True)
+            for switch in ("on", "off"):
+                words = ["callgrind_control", "-i", switch, str(serving.program.pid)]
+                subprocess.run(words, check=True, capture_output=True)
+                if switch == "on":
+                    change_often(client)
             ask(client, b"stop", b"bye")
             serving.end()
         return int(re.search(r"Collected : (\d+)", told.read())[1]) / CHANGES
@@ -286,7 +282,7 @@ def clients_that_dont_read_cost_few_instructions():
         raise Skipped("valgrind isn't there")
     alone, beside = instructions(0), instructions(STALLED)
     each = (beside - alone) / STALLED
-    print(f"a change takes {alone:,.0f} instructions alone, {beside:,.0f} beside {STALLED} that don't read: {each:.0f} for each")
+    print(f"a change takes {alone:,.0f} instructions alone, {beside:,.0f} beside {STALLED} that don't read: {each:.0f} each")
     expect(each <= MOST_INSTRUCTIONS, True, f"{each:.0f} instructions for each client that doesn't read")
 
 
@@ -297,8 +293,9 @@ HEADERS = b"\r\nHost: 127.0.0.1\r\nContent-Length: 99\r\n\r\n"
 
 def requests():
     """How requests begin, and in which pieces they come."""
-    for line in (b"PROPFIND /a HTTP/1.1", b"CONNECT a.example:443 HTTP/1.1", b"PRI * HTTP/2.0", b"LINK x HTTP/1.0", b"M-SEARCH * HTTP/1.1",
-                 b"POST / HTTP/1.1", b"TRACE / HTTP/1.1 ", b"rel r int HTTP/1.1"):
+    for line in (b"PROPFIND /a HTTP/1.1", b"CONNECT a.example:443 HTTP/1.1", b"PRI * HTTP/2.0", b"LINK x HTTP/1.0",
+                 b"M-SEARCH * HTTP/1.1", b"POST / HTTP/1.1", b"TRACE / HTTP/1.1 ", b"rel r int HTTP/1.1",
+                 b"  PUT x HTTP/1.1"):
         yield [line + HEADERS]
     for empty in (b"\r\n", b"\n", b" \r\n\n ", b"\n" * 9000):
         yield [empty + b"POST / HTTP/1.1" + HEADERS]
@@ -413,7 +410,8 @@ def behind_a_link_the_folder_of_the_file_is_synced():
                 os.remove(log)
             trace = os.path.join(here, "trace")
             words = traced([PROGRAM, "replay", "--log", path], "fsync,fdatasync", "-y", "-o", trace)
-            done = subprocess.run(words, input=b"", capture_output=True, timeout=PATIENCE, check=False, cwd=os.path.dirname(log))
+            settings = {"capture_output": True, "timeout": PATIENCE, "cwd": os.path.dirname(log)}
+            done = subprocess.run(words, input=b"", check=False, **settings)
             expect((done.stdout, done.returncode), (b"", 0), path)
             with open(trace, encoding="utf-8") as file:
                 synced = re.findall(r"f(?:data)?sync\(\d+<(.*?)>\)\s+= 0", file.read())
@@ -424,7 +422,7 @@ def behind_a_link_the_folder_of_the_file_is_synced():
 def the_check_of_a_copy_says_whole_of_no_file_that_isnt_there():
     with open(os.path.join(ROOT, "docs", "OPERATIONS.md"), encoding="utf-8") as file:
         shown = re.findall(r"(\S.*)djq replay --log \S+ < /dev/null(?: && echo whole)?", file.read())
-    expect([before for before in shown if "test -s " not in before], [], "checks that don't ask first whether there is a file")
+    expect([before for before in shown if "test -s " not in before], [], "checks that don't look first for a file")
     check = 'test -s "$2" && "$1" replay --log "$2" < /dev/null && echo whole'
     with folder() as here:
         log = os.path.join(here, "log")
@@ -507,7 +505,8 @@ def interrupted(call, shown, words, said):
         run(["replay", "--log", log], b"open 1\nsay 1 rel r int\n")
         with open(log, "rb") as file:
             kept = file.read()
-        subprocess.run(traced([PROGRAM, *words], call, "-y", "-o", trace), input=said, capture_output=True, timeout=PATIENCE, check=False)
+        settings = {"input": said, "capture_output": True, "timeout": PATIENCE}
+        subprocess.run(traced([PROGRAM, *words], call, "-y", "-o", trace), check=False, **settings)
         with open(trace, encoding="utf-8", errors="replace") as file:
             lines = [line for line in file if f"{call}(" in line]
         at = next((number for number, line in enumerate(lines, 1) if shown.replace("LOG", log) in line), None)
@@ -515,7 +514,7 @@ def interrupted(call, shown, words, said):
         with open(log, "wb") as file:
             file.write(kept)
         words = traced([PROGRAM, *words], call, "-o", trace, "-e", f"inject={call}:error=EINTR:when={at}")
-        done = subprocess.run(words, input=said, capture_output=True, timeout=PATIENCE, check=False)
+        done = subprocess.run(words, check=False, **settings)
         with open(trace, encoding="utf-8", errors="replace") as file:
             expect("EINTR" in file.read(), True, f"{call} is interrupted")
         return done.stdout, done.returncode, done.stderr
@@ -541,22 +540,24 @@ def a_write_of_the_log_past_the_limit_isnt_made():
     with folder() as here:
         log = os.path.join(here, "log")
         for limit in (0, HEADER - 1):
-            expect(run(["replay", "--log", log], **limited(limit)), (b"", 9, failed("writing", log, LIMIT_SAID)), f"a limit of {limit}")
+            done = run(["replay", "--log", log], **limited(limit))
+            expect(done, (b"", 9, failed("writing", log, LIMIT_SAID)), f"a limit of {limit}")
             expect(os.path.getsize(log), 0, "nothing was written, so a later start takes it")
         expect(run(["replay", "--log", log], b"open 1\nsay 1 rel r int\n"), (b"1< ok\n", 0, b""))
+        empty = os.path.getsize(log)
         for limit in range(60, 76, 3):
-            before = os.path.getsize(log)
             with Serving("--log", log, **limited(limit)) as serving:
                 client = serving.client()
-                client.sendall(b"".join(b"add r %d\n" % (number % 10) for number in range(100)))
-                told = to_the_end(client)
-                expect(serving.end()[0], 9, f"a limit of {limit}")
-            count = told.count(b"ok added")
-            expect(before <= os.path.getsize(log) <= max(limit, before), True, f"a limit of {limit}")
-            told, status, said = run(["replay", "--log", log], b"open 1\nsay 1 query q(x) <- r(x)\nsay 1 abandon\n")
+                client.sendall(b"".join(b"add r %d\n" % number for number in range(100)))
+                count = to_the_end(client).count(b"ok added")
+                status, said = serving.end()
+            expect((status, said.endswith(failed("writing", log, LIMIT_SAID))), (9, True), f"a limit of {limit}: {said}")
+            expect(empty < os.path.getsize(log) <= limit, True, f"a limit of {limit}")
+            asked = b"open 1\nsay 1 query q(x) <- r(x)\nsay 1 open c q\nsay 1 next c 1000\n"
+            told, status, said = run(["replay", "--log", log], asked)
+            rows = {int(row) for row in re.findall(rb"^1< = (\d+)$", told, re.MULTILINE)}
             expect((status, said), (0, b""), f"a limit of {limit}: the log is whole")
-            expect(told.count(b"\n"), 2, told)
-            expect(count <= 100, True)
+            expect(rows in (set(range(count)), set(range(count + 1))), True, f"{count} were answered, and there are {rows}")
             os.truncate(log, 0)
             run(["replay", "--log", log], b"open 1\nsay 1 rel r int\n")
 
@@ -569,6 +570,12 @@ def a_log_past_the_limit_says_so():
         expect(run(["replay", "--log", log], b"open 1\nsay 1 add r 1\n", **limited(os.path.getsize(log))),
                (b"", 9, failed("writing", log, LIMIT_SAID)))
         expect(run(["replay", "--log", log], b"open 1\nsay 1 add r 1\n"), (b"1< ok added 1 1\n", 0, b""))
+
+
+def written_to(file, said, limit):
+    """`run`, whose output goes into a file, of which there may be so many bytes."""
+    settings = {"input": said, "stdout": file, "stderr": subprocess.PIPE, "timeout": PATIENCE}
+    return subprocess.run([PROGRAM, "run"], check=False, **settings, **limited(limit))
 
 
 @test
@@ -584,7 +591,7 @@ def a_write_of_the_output_past_the_limit_isnt_made():
             with open(path, "wb") as file:
                 file.write(before)
             with open(path, how) as file:
-                done = subprocess.run([PROGRAM, "run"], input=said, stdout=file, stderr=subprocess.PIPE, timeout=PATIENCE, check=False, **limited(100))
+                done = written_to(file, said, 100)
             with open(path, "rb") as file:
                 told = file.read()
             expect((done.returncode, done.stderr), (3, fault), f"behind {len(before)} bytes")
@@ -593,7 +600,7 @@ def a_write_of_the_output_past_the_limit_isnt_made():
         # what is no file has no limit
         expect(run(["run"], said, **limited(0)), (whole, 0, b""), "a pipe")
         with open("/dev/null", "wb") as null:
-            done = subprocess.run([PROGRAM, "run"], input=said, stdout=null, stderr=subprocess.PIPE, timeout=PATIENCE, check=False, **limited(0))
+            done = written_to(null, said, 0)
         expect((done.returncode, done.stderr), (0, b""), "/dev/null")
 
 
