@@ -31,6 +31,7 @@ pub struct TcpHub<R: Net<Listener = net::TcpListener, Stream = net::TcpStream> +
     rt: R,
     listening: Option<Listening>,
     events: Events,
+    /// The connections, by rising ids.
     conns: Vec<Conn>,
     sessions: Sessions,
     /// The place that is looked at next: of a connection, or behind them all of the listener.
@@ -128,13 +129,7 @@ impl<R: Net<Listener = net::TcpListener, Stream = net::TcpStream> + Eprint + Dro
         };
         match listening.accept(id as usize) {
             Ok(stream) => {
-                let conn = Conn {
-                    id,
-                    stream,
-                    ready: true,
-                    heard: false,
-                };
-                if self.conns.push(conn).is_err() {
+                if self.conns.push(Conn::new(id, stream)).is_err() {
                     return Turn::Idle;
                 }
                 self.sessions.open(id);
