@@ -171,6 +171,8 @@ def all_say_one_version(program, folder):
     expect(reported.startswith(f"djq {version()}: listening on 127.0.0.1:"), True, reported)
     numbers = re.findall(r"^## (\d\S*?),? ", text("CHANGELOG.md"), re.MULTILINE)
     expect(numbers[0], version(), "the newest section of CHANGELOG.md")
+    names = set(re.findall(r"djq[_-](\d+\.\d+\.\d+)[-_/]", text("README.md")))
+    expect(names, {version()}, "the packages that README.md names")
 
 
 @test(*PACKAGERS)
