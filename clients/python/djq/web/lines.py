@@ -2,10 +2,10 @@
 
 from __future__ import annotations
 
-import bisect
 from collections import deque
-from typing import Iterable
+from typing import Any, Iterable
 
+from ..folds import Ranks, Totals
 from ..protocol import Answer, Change, Value
 from .feeds import WAITING, Feed
 from .page import MOST_LINES, Panel
@@ -18,34 +18,34 @@ Key = tuple[str, "Value | None"]  # of a line: its query, and the value that par
 
 
 class Folded:
-    """The values of one line, of which one number is drawn: the largest, the least, or their sum."""
+    """The number of each line of a query: of the answers with one value in the column that parts lines, the largest or
+    the least value of a further column, or their sum."""
 
-    def __init__(self, fold: str) -> None:
-        self._fold = fold
-        self._sorted: list[int] = []
-        self._sum = 0
+    def __init__(self, panel: Panel, column: int) -> None:
+        self._by, self._column, self._fold = panel.by, column, panel.fold
+        self._totals = Totals(panel.by, column)
+        self._ranks = Ranks(panel.by, column)
 
-    def put(self, value: int) -> None:
-        """One more value."""
-        bisect.insort(self._sorted, value)
-        self._sum += value
+    def change(self, came: Iterable[Answer], went: Iterable[Answer]) -> None:
+        """Takes answers in, and others out. Texts, and columns that aren't there, draw no line."""
+        fold = self._totals if self._fold == "sum" else self._ranks
+        fold.take([*filter(self._draws, came)], [*filter(self._draws, went)])
 
-    def take(self, value: int) -> None:
-        """One value less."""
-        del self._sorted[bisect.bisect_left(self._sorted, value)]
-        self._sum -= value
+    def keys(self) -> Iterable[Any]:
+        """By what there are lines: the values of the column that parts them, or one key without it."""
+        return [*self._totals.sums] if self._fold == "sum" else [*self._ranks.groups]
 
-    @property
-    def number(self) -> int | None:
-        """What is drawn; none without a value, but for a sum."""
+    def number(self, key: Any) -> int | None:
+        """What a line reads; none without answers."""
         if self._fold == "sum":
-            return self._sum
-        if not self._sorted:
+            return self._totals.sums.get(key)
+        if (ordered := self._ranks.groups.get(key)) is None:
             return None
-        return self._sorted[-1] if self._fold == "max" else self._sorted[0]
+        value, _ = next(reversed(ordered)) if self._fold == "max" else next(iter(ordered))
+        return int(value)
 
-    def __len__(self) -> int:
-        return len(self._sorted)
+    def _draws(self, answer: Answer) -> bool:
+        return len(answer) > max(self._column, self._by or 0) and isinstance(answer[self._column], int)
 
 
 class History:
@@ -98,7 +98,8 @@ class Chart:
     def __init__(self, panel: Panel, name: str) -> None:
         self._panel = panel
         self._states = {query: WAITING for query in panel.queries}
-        self._groups: dict[Key, Folded] = {}  # by query, and by the column that parts lines
+        column = panel.value
+        self._folds = {} if column is None else {query: Folded(panel, column) for query in panel.queries}
         fixed = [] if panel.by is not None else list(zip(panel.queries, panel.labels))
         self._lines: dict[Key, History] = {
             (query, None): History(label, panel.minutes) for query, label in fixed
@@ -108,16 +109,11 @@ class Chart:
 
     def begin(self, feed: Feed) -> None:
         """The answers were listed for the first time."""
-        if self._panel.value is not None:
-            self._put(feed.query, feed.answers)
-        self._measure(feed)
+        self._fold(feed, feed.answers, ())
 
     def change(self, feed: Feed, change: Change) -> None:
         """The answers changed."""
-        if self._panel.value is not None:
-            self._take(feed.query, change.went)
-            self._put(feed.query, change.came)
-        self._measure(feed)
+        self._fold(feed, change.came, change.went)
 
     def state(self, feed: Feed) -> None:
         """Whether the feed is up to date has changed."""
@@ -162,53 +158,30 @@ class Chart:
             "lines": [line.view() for line in self._lines.values()],
         }
 
-    def _put(self, query: str, answers: Iterable[Answer]) -> None:
-        for key, value in self._values(query, answers):
-            if key not in self._groups:
-                self._groups[key] = Folded(self._panel.fold)
-            self._groups[key].put(value)
+    def _fold(self, feed: Feed, came: Iterable[Answer], went: Iterable[Answer]) -> None:
+        """The numbers of the lines of a query, by what came and went."""
+        folded = self._folds.get(feed.query)
+        if folded is not None:
+            folded.change(came, went)
+            if self._panel.by is not None:
+                self._part_lines(feed.query, folded)
+        empty = 0 if self._panel.fold == "sum" and self._panel.by is None else None
+        for (query, key), line in self._lines.items():
+            if query == feed.query:
+                number = folded.number(() if key is None else key) if folded is not None else len(feed.answers)
+                line.number = empty if number is None else number
 
-    def _take(self, query: str, answers: Iterable[Answer]) -> None:
-        for key, value in self._values(query, answers):
-            self._groups[key].take(value)
-            if len(self._groups[key]) == 0:
-                del self._groups[key]
-
-    def _values(self, query: str, answers: Iterable[Answer]) -> Iterable[tuple[Key, int]]:
-        """The values that answers have, each with its line. Texts, and columns that aren't there, draw no line."""
-        value, by = self._panel.value, self._panel.by
-        for answer in answers:
-            if value is None or len(answer) <= max(value, by or 0):
-                continue
-            number = answer[value]
-            if isinstance(number, int):
-                yield (query, None if by is None else answer[by]), number
-
-    def _measure(self, feed: Feed) -> None:
-        """The numbers of the lines of a query, by its answers now."""
-        if self._panel.by is not None:
-            self._part_lines(feed)
-        for key, line in self._lines.items():
-            if key[0] != feed.query:
-                continue
-            if self._panel.value is None:
-                line.number = len(feed.answers)
-            else:
-                group = self._groups.get(key)
-                empty = 0 if self._panel.fold == "sum" and self._panel.by is None else None
-                line.number = group.number if group is not None else empty
-
-    def _part_lines(self, feed: Feed) -> None:
+    def _part_lines(self, query: str, folded: Folded) -> None:
         """A line for each value of the column that parts them, the first six in order."""
-        wanted = sorted((key for key in self._groups if key[0] == feed.query), key=_place)
-        for key in [key for key, line in self._lines.items() if key not in self._groups and line.is_empty]:
+        there = set(folded.keys())
+        for key in [key for key, line in self._lines.items() if key[1] not in there and line.is_empty]:
             del self._lines[key]
-        for key in wanted:
-            if key not in self._lines and len(self._lines) < MOST_LINES:
-                line = self._lines[key] = History(shown(key[1] if key[1] is not None else ""), self._panel.minutes)
+        for value in sorted(there, key=lambda value: _place((query, value))):
+            if (query, value) not in self._lines and len(self._lines) < MOST_LINES:
+                line = self._lines[query, value] = History(shown(value), self._panel.minutes)
                 line.known = True
         self._lines = dict(sorted(self._lines.items(), key=lambda item: _place(item[0])))
-        more = len(wanted) - sum(key in self._lines for key in wanted)
+        more = len(there) - sum(value in there for _, value in self._lines)
         self._words = f", without {more} further lines" if more > 0 else ""
 
 
