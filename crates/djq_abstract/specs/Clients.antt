@@ -14,6 +14,7 @@ pub data CursorState : Type 0 where
   valid : (query : Bytes) (returned : List Tuple) (finished : Bool) → CursorState
   stale : (query : Bytes) → CursorState
 
+-- The query over which it is.
 abbrev pub query_of_cursor : CursorState → Bytes
 query_of_cursor (valid q returned finished) = q
 query_of_cursor (stale q) = q

@@ -43,10 +43,11 @@ abbrev pub one_client : Core
 one_client = with_client 1 (record nobody { connected = true })
     (record { db = λ relation row. 0; queries = []; seq = 0; client = λ s. nobody })
 
--- A machine, and a job that waits for it.
+-- A machine.
 abbrev pub machine_row : Tuple
 machine_row = Int (pos 2) ∷ Text (codes "bellows") ∷ []
 
+-- A job that waits for it.
 abbrev pub job_row : Tuple
 job_row = Int (pos 12) ∷ Int (pos 2) ∷ Text (codes "waiting") ∷ []
 
