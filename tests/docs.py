@@ -26,6 +26,10 @@ ELSEWHERE = {
     "MemoryMax", "cert", "CAfile", "ulimit", "SIGTERM", "SIGINT", "SIGPIPE", "EMFILE", "LD_PRELOAD", "stdin", "stdout", "stderr", "NAME",
 }
 
+# words of SQL and of Redis, that pages compare with
+ELSEWHERE |= set("AND COUNT DATE DECIMAL DELETE DISTINCT EXCEPT EXISTS EXPLAIN HAVING INSERT INTERSECT LIKE LISTEN MULTI NOT NOTIFY NULL "
+                 "OR SELECT SUBSCRIBE SUM UNION UPDATE".split())
+
 passed, failed = 0, 0
 
 
@@ -154,11 +158,12 @@ def names():
     known = known_words()
     for page in pages():
         name = os.path.relpath(page, ROOT)
+        own = known | {word for _, lines in blocks(read(page)) for word in re.findall(r"[a-z_0-9]+", "\n".join(lines))}
         for line in prose(read(page)):
             for word in re.findall(r"`([A-Za-z_][A-Za-z0-9_]*(?:(?:::|\.)[A-Za-z_][A-Za-z0-9_]*)*)(?:\(\))?`", line):
                 if is_path(word):
                     continue
-                missing = [part for part in re.split(r"::|\.", word) if part not in known]
+                missing = [part for part in re.split(r"::|\.", word) if part not in own]
                 check(not missing, f"{name}: nothing is named {', '.join(missing)} (`{word}`)")
 
 
