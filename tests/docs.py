@@ -158,7 +158,8 @@ def names():
     known = known_words()
     for page in pages():
         name = os.path.relpath(page, ROOT)
-        own = known | {word for _, lines in blocks(read(page)) for word in re.findall(r"[a-z_0-9]+", "\n".join(lines))}
+        said = [line for kind, lines in blocks(read(page)) if kind.split(" ")[0] in ("session", "lines", "djq") for line in lines]
+        own = known | set(re.findall(r"[a-z_0-9]+", "\n".join(said)))
         for line in prose(read(page)):
             for word in re.findall(r"`([A-Za-z_][A-Za-z0-9_]*(?:(?:::|\.)[A-Za-z_][A-Za-z0-9_]*)*)(?:\(\))?`", line):
                 if is_path(word):
