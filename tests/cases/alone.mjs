@@ -1,6 +1,8 @@
 // What concerns the client for Node alone: node alone.mjs PORT, at a server without relations.
 
 import assert from "node:assert/strict";
+import { once } from "node:events";
+import net from "node:net";
 
 import * as djq from "../../clients/node/lib/index.mjs";
 import { Protocol, READ } from "../../clients/node/lib/protocol.mjs";
@@ -105,11 +107,41 @@ async function endings(server) {
   assert.equal((await failure(djq.connect({ port: 1 }))).name, "Disconnected");
 }
 
+/** What isn't of the protocol ends the session with an error, and not the process; a server that sends nothing times out. */
+async function strangers() {
+  for (const [greeting, words] of [["220 mail ready\n", /isn't of the line protocol/], ["", /no reply in 100 ms/]]) {
+    const stranger = net.createServer((socket) => socket.write(greeting || " ")).listen(0, "127.0.0.1");
+    await once(stranger, "listening");
+    const own = await djq.connect({ port: stranger.address().port, timeout: 100 });
+    await new Promise((resolve) => setTimeout(resolve, 50));
+    const error = await failure(own.add("r", 1));
+    assert.ok(error instanceof djq.Disconnected && words.test(error.message), error.message);
+    stranger.close();
+  }
+}
+
+/** Several tasks wait for one live set, and each change is returned to one of them. */
+async function severalWait(server) {
+  await server.relation("few", "int");
+  await server.query("all_of_few(x) <- few(x)");
+  const set = await server.live("all_of_few");
+  const waiting = [set.next({ timeout: 20_000 }), set.next({ timeout: 20_000 }), set.next({ timeout: 100 })];
+  await new Promise((resolve) => setTimeout(resolve, 200));
+  await server.add("few", 1);
+  await server.add("few", 2);
+  const changes = await Promise.all(waiting);
+  assert.deepEqual(changes.map((change) => change?.came[0][0] ?? null).sort(), [1, 2, null].sort());
+  assert.equal(set.answers.size, 2);
+  set.close();
+}
+
 bytesOneByOne();
 heldBytes();
+await strangers();
 await endLines();
 const server = await djq.connect({ port, timeout: 20_000 });
 await inOrder(server);
+await severalWait(server);
 await refusalsHaveCures(server);
 await valuesThatArentSent(server);
 await endings(server);

@@ -8,6 +8,7 @@ import { listWhole } from "./listing.mjs";
 import { Live } from "./live.mjs";
 import { Protocol, READ, valuesOf } from "./protocol.mjs";
 import { Queue } from "./queue.mjs";
+import { Signal } from "./signal.mjs";
 
 export const MOST_ANSWERS = 1000; // of one `next`
 export const MOST_HELD = 1000; // rows of a batch
@@ -158,13 +159,13 @@ export class Connection {
 
   async watch(query) {
     const seq = await this._say(spellLine("watch", query, []), READ.watch);
-    if (!this._watched.has(query)) this._watched.set(query, { changes: [], wake: null });
+    if (!this._watched.has(query)) this._watched.set(query, { changes: new Queue(), signal: new Signal() });
     return seq;
   }
 
   async unwatch(query) {
     await this._say(spellLine("unwatch", query, []), READ.ok);
-    this._watched.get(query)?.wake?.();
+    this._watched.get(query)?.signal.wake();
     this._watched.delete(query);
   }
 
@@ -172,16 +173,7 @@ export class Connection {
   async nextChange(query, { timeout } = {}) {
     const watched = this._watched.get(query);
     if (watched === undefined) throw new Error(`not watched: ${query}`);
-    if (watched.changes.length === 0) {
-      await new Promise((resolve) => {
-        const timer = timeout === undefined ? null : setTimeout(resolve, timeout);
-        watched.wake = () => {
-          clearTimeout(timer);
-          resolve();
-        };
-      });
-      watched.wake = null;
-    }
+    if (watched.changes.length === 0 && this.ended === null) await watched.signal.wait(timeout);
     const change = watched.changes.shift();
     if (change === undefined && this.ended !== null) throw this.ended;
     return change === undefined ? null : { seq: change.seq, came: valuesOf(change.came), went: valuesOf(change.went) };
@@ -302,7 +294,11 @@ export class Connection {
   }
 
   _feed(piece) {
-    this._protocol.feed(piece);
+    try {
+      this._protocol.feed(piece);
+    } catch (error) {
+      this._lose(new Disconnected(`the server sent what isn't of the line protocol: ${error.message}`));
+    }
     if (this.ended !== null) {
       this._lose(this.ended);
       return;
@@ -328,7 +324,7 @@ export class Connection {
     const watched = this._watched.get(query);
     if (watched === undefined) return;
     watched.changes.push(change);
-    watched.wake?.();
+    watched.signal.wake();
   }
 
   _lose(error) {
@@ -340,7 +336,7 @@ export class Connection {
     for (const unsent of [...this._queue.clear(), ...this._ofBatch.clear()]) {
       for (const command of unsent.commands) command.reject(this.ended);
     }
-    for (const watched of this._watched.values()) watched.wake?.();
+    for (const watched of this._watched.values()) watched.signal.wake();
     this._socket.destroy();
     this.onend?.(this.ended);
   }

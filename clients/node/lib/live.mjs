@@ -4,6 +4,8 @@ import { connect } from "./connection.mjs";
 import { Disconnected, DjqError, Ended, LiveEnded, Overtaken, Refused } from "./errors.mjs";
 import { checked, readValues, spell } from "./lines.mjs";
 import { FIRST_PAGES, MOST_PAGES, listWhole } from "./listing.mjs";
+import { Queue } from "./queue.mjs";
+import { Signal } from "./signal.mjs";
 
 const FIRST_PAUSE = 50; // milliseconds before a failed start is tried again; each further pause is twice as long
 const LONGEST_PAUSE = 5000;
@@ -72,10 +74,10 @@ export class Live {
     this.seq = 0;
     this._address = ping > 0 && address.timeout <= 0 ? { ...address, timeout: ping } : address;
     this._settings = { reconnect, within, ping };
-    this._queue = []; // listings and deltas that weren't returned yet
+    this._queue = new Queue(); // listings and deltas that weren't returned yet
     this._connection = null;
     this._most = MOST_PAGES;
-    this._wake = null;
+    this._signal = new Signal();
     this._error = null;
     this._closed = false;
     this._pinging = null;
@@ -86,7 +88,7 @@ export class Live {
     this._closed = true;
     clearInterval(this._pinging);
     this._connection?.close();
-    this._wake?.();
+    this._signal.wake();
   }
 
   /** The next change, once it is in `answers`; null after so many milliseconds without one, or once this is closed. */
@@ -97,7 +99,7 @@ export class Live {
       if (this._error !== null) throw this._error;
       const left = until - Date.now();
       if (left < 0) return null;
-      await this._wait(left);
+      await this._signal.wait(left === Infinity ? left : left + 1);
     }
     return this._seen(this._queue.shift());
   }
@@ -117,17 +119,6 @@ export class Live {
 
   // Inside
 
-  _wait(left) {
-    return new Promise((resolve) => {
-      const timer = left === Infinity ? null : setTimeout(() => this._wake?.(), left + 1);
-      this._wake = () => {
-        clearTimeout(timer);
-        this._wake = null;
-        resolve();
-      };
-    });
-  }
-
   _seen(item) {
     if (item.texts === undefined) {
       this.seq = item.seq;
@@ -140,7 +131,7 @@ export class Live {
 
   _put(item) {
     this._queue.push(item);
-    this._wake?.();
+    this._signal.wake();
   }
 
   /** Starts, and starts again if that failed and may succeed later. */
@@ -187,7 +178,7 @@ export class Live {
     if (this._closed) return;
     const failed = (reason) => {
       this._error = reason;
-      this._wake?.();
+      this._signal.wake();
     };
     if (this._settings.reconnect) this._start().catch(failed);
     else failed(new LiveEnded(this.query, error));
