@@ -301,6 +301,37 @@ def test_the_example(program):
             process.communicate()
 
 
+@contextlib.contextmanager
+def installed():
+    """A folder in which the package is installed."""
+    with tempfile.TemporaryDirectory() as folder:
+        os.mkdir(os.path.join(folder, "node_modules"))
+        os.symlink(os.path.abspath(NODE), os.path.join(folder, "node_modules", "djq"))
+        yield folder
+
+
+def test_the_readme(program):
+    """What the page of the client shows runs as it is written, its endless loop last."""
+    with open(os.path.join(NODE, "README.md"), encoding="utf-8") as file:
+        shown = re.findall(r"^```js\n(.*?)^```$", file.read(), re.MULTILINE | re.DOTALL)
+    begin, loop = shown[0].split("for await", 1)
+    with Server(program) as server, installed() as folder:
+        path = os.path.join(folder, "shown.mjs")
+        with open(path, "w", encoding="utf-8") as file:
+            file.write("\n".join([begin.replace("7007", str(server.port)), *shown[1:], f"for await{loop}"]))
+        process = subprocess.Popen(["node", path], cwd=folder, stdout=subprocess.PIPE, text=True)
+        timer = threading.Timer(LONGEST, process.kill)
+        timer.start()
+        try:
+            told = [process.stdout.readline() for _ in range(3)]
+        finally:
+            timer.cancel()
+            process.kill()
+            process.communicate()
+    assert told[0].startswith("1 err 1 syntax queries have no not: "), told
+    assert told[1:] == ["2 [ [ 3, 12 ] ] [] 1\n", "3 [ [ 3, 13 ] ] [] 2\n"], told
+
+
 def test_no_dependency(_):
     """The client imports its own files and node:net, and its package has no dependency and the program's version."""
     for path in glob.glob(os.path.join(NODE, "lib", "*.mjs")):
@@ -316,9 +347,7 @@ def test_no_dependency(_):
 def test_types(_):
     """The types are those of the package, and a program in TypeScript finds what is wrong."""
     command = ["tsc", "--noEmit", "--strict", "--target", "es2022", "--module", "nodenext", "--moduleResolution", "nodenext"]
-    with tempfile.TemporaryDirectory() as folder:
-        os.mkdir(os.path.join(folder, "node_modules"))
-        os.symlink(os.path.abspath(NODE), os.path.join(folder, "node_modules", "djq"))
+    with installed() as folder:
         for name in ("typed.mts", "mistyped.mts"):
             shutil.copy(os.path.join(CASES, name), folder)
         typed = subprocess.run([*command, "typed.mts"], cwd=folder, capture_output=True, text=True)
@@ -347,7 +376,7 @@ def tests(program):
     for case in cases:
         for client in clients:
             yield f"{case['name']} ({client.__name__})", lambda case=case, client=client: of_case(program, case, client)
-    alone = [test_alone, test_listing_while_rows_change, test_the_example] if len(clients) == 2 else []
+    alone = [test_alone, test_listing_while_rows_change, test_the_example, test_the_readme] if len(clients) == 2 else []
     alone += [test_no_dependency]
     if shutil.which("tsc"):
         alone += [test_types]
