@@ -1,16 +1,16 @@
 #!/usr/bin/env python3
-"""A read-through cache of joined rows, which deltas alone make invalid.
+"""A cache of joined rows, which deltas alone make invalid.
 
     crates/djq/out/djq serve 127.0.0.1:7007 &
     echo "1 1 2" | python3 examples/cache.py 127.0.0.1:7007
 
-A key is a customer's number; what is kept for it is the customer's name beside each item that was ordered. A key that
-is asked for the first time gets a query of its own, with the number as a constant, and is watched. As long as no
-delta of that query brings or takes an answer, what was listed is given again, without asking the server. No time
-limit is needed, and rows of other customers leave the key alone. What is kept may be late by as long as a delta takes.
+A key is a customer's number; what is made for it is a line with the customer's name beside each item that was ordered.
+One query serves all keys: its answers are kept up to date, with an index by their first column. A delta names the keys
+whose lines are made anew, by the answers that it brings and takes; all others stay. So no key is asked for, and no time
+limit is needed. What is given may be late by as long as a delta takes.
 
-Keys are read from the standard input, words apart, and each is answered by a line. `--size N` keeps N keys at most;
-the one that wasn't asked for longest goes first.
+Keys are read from the standard input, words apart, and each is answered by a line. `--size N` keeps the lines of N keys
+at most; the one that wasn't asked for longest goes first.
 """
 
 import argparse
@@ -25,37 +25,34 @@ RELATIONS = [
     ("customers", (int, str), [(1, "Ada"), (2, "Bo")]),
     ("orders", (int, str), [(1, "tea"), (1, "cake"), (2, "soup")]),
 ]
+QUERY = "ordered(customer,name,item) <- customers(customer,name), orders(customer,item)"
 
 
 class Cache:
-    """Joined rows by key, over one session."""
+    """What `make` makes of the answers of each key, the value of their first column."""
 
-    def __init__(self, server, size):
-        self.server, self.size = server, size
-        self.kept = collections.OrderedDict()  # for each key its rows, or None where they are invalid
+    def __init__(self, live, make, size):
+        self.live, self.make, self.size = live, make, size
+        self.rows = live.by(0)
+        self.made = collections.OrderedDict()  # the key that wasn't asked for longest first
 
     def get(self, key):
-        """A key's rows, and whether they were kept."""
-        query = f"customer_{key}"
-        if key not in self.kept:
-            self._watch(key, query)
-        while (change := self.server.next_change(query, 0)) is not None:
-            if change.came or change.went:
-                self.kept[key] = None
-        self.kept.move_to_end(key)
-        hit = self.kept[key] is not None
-        if not hit:
-            self.kept[key] = sorted(self.server.snapshot(query))
-        return self.kept[key], hit
+        """What is made for a key, and whether it was kept."""
+        while (change := self.live.next(0)) is not None:
+            for touched in self.rows.touched(change):
+                self.made.pop(touched, None)
+        kept = key in self.made
+        if not kept:
+            self.made[key] = self.make(self.rows[key])
+            if len(self.made) > self.size:
+                self.made.popitem(last=False)
+        self.made.move_to_end(key)
+        return self.made[key], kept
 
-    def _watch(self, key, query):
-        if len(self.kept) == self.size:
-            oldest, _ = self.kept.popitem(last=False)
-            self.server.unwatch(f"customer_{oldest}")
-            quietly(djq.InUse, self.server.drop, f"customer_{oldest}")
-        quietly(djq.Taken, self.server.query, f"{query}(name,item) <- customers({key},name), orders({key},item)")
-        self.server.watch(query)
-        self.kept[key] = None
+
+def line(rows):
+    """What is shown for a key."""
+    return ", ".join(f"{name} {item}" for _, name, item in sorted(rows)) or "nothing"
 
 
 def quietly(refusal, call, *given):
@@ -70,7 +67,7 @@ def quietly(refusal, call, *given):
 def main():
     words = argparse.ArgumentParser(description=__doc__.splitlines()[0])
     words.add_argument("address", help="HOST:PORT of a server")
-    words.add_argument("--size", type=int, default=64, help="the most keys that are kept")
+    words.add_argument("--size", type=int, default=100_000, help="the most keys whose lines are kept")
     given = words.parse_args()
     host, _, port = given.address.rpartition(":")
     with djq.connect(host, int(port)) as server:
@@ -78,12 +75,13 @@ def main():
             if quietly(djq.Taken, server.relation, name, *types):
                 for row in rows:
                     server.add(name, *row)
-        cache = Cache(server, given.size)
-        for line in sys.stdin:
-            for key in line.split():
-                rows, hit = cache.get(int(key))
-                said = ", ".join(f"{name} {item}" for name, item in rows) or "nothing"
-                print(f"{key} {'kept' if hit else 'asked'}: {said}", flush=True)
+        quietly(djq.Taken, server.query, QUERY)
+        with server.live("ordered", reconnect=True) as live:
+            cache = Cache(live, line, given.size)
+            for words in sys.stdin:
+                for key in words.split():
+                    told, kept = cache.get(int(key))
+                    print(f"{key} {'kept' if kept else 'made'}: {told}", flush=True)
 
 
 if __name__ == "__main__":

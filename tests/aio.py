@@ -1,15 +1,17 @@
 """Tests of the client for asyncio beside the one that blocks, on the same script, and of what only it does.
 
-    python3 tests/aio.py PROGRAM
+    python3 tests/aio.py PROGRAM [NAME ..]
 
 Ends with a line `N passed, N failed`; a failure is exit status 1.
 """
 
 import asyncio
 import inspect
+import logging
 import os
 import random
 import signal
+import socket
 import sys
 import time
 import traceback
@@ -120,7 +122,7 @@ def test_the_same_script(program):
 
 def test_the_same_methods(program):
     """What one has, the other has too, and with the same parameters."""
-    for kind in ("Batch", "Connection", "Cursor", "Live", "Lives", "Pipeline", "Table"):
+    for kind in ("Batch", "Connection", "Cursor", "Expiring", "Live", "Lives", "Pipeline", "PipelinedBatch", "Table"):
         own, other = getattr(djq, kind), getattr(djq.aio, kind)
         for name, method in inspect.getmembers(own, inspect.isfunction):
             if not name.startswith("_") and name != "fileno":  # what is waited for is the loop's business
@@ -221,6 +223,122 @@ async def tasks(server):
         for failed in done:
             assert isinstance(failed, (int, asyncio.CancelledError)), failed
         assert {number for (number,) in await client.snapshot("every")} >= {n for n in range(500) if n % 3}
+
+
+async def batches_in_a_pipeline(server):
+    async with djq.aio.connect("127.0.0.1", server.port, SECONDS) as client:
+        await client.relation("r", int)
+        await client.query("q(x) <- r(x)")
+        told = []
+        async with client.pipeline(raises=False) as many:
+            for rows in ([1, 2], [3, "four"], [5]):
+                async with many.batch() as order:
+                    for row in rows:
+                        order.add("r", row)
+                told.append(order)
+            one = await many.add("r", 6)
+            # other tasks' lines stand before or behind a batch, never in one
+            await asyncio.gather(*(client.add("r", 100 + number) for number in range(20)))
+        assert [told[0].result(), told[2].result()] == [djq.Done(1, 2), djq.Done(2, 1)] and one.result().seq == 3
+        try:
+            told[1].result()
+            raise AssertionError("not raised")
+        except djq.SomeRefused as error:
+            assert (error.sent, error.refused, error.first[0].line) == (2, 1, 'add r "four"')
+        assert (many.sent, many.refused) == (4 + 3 + 3 + 1, 1), (many.sent, many.refused)
+        assert len(await client.snapshot("q")) == 4 + 20
+        try:
+            async with client.pipeline() as many:
+                async with many.batch() as order:
+                    order.add("r", "seven")
+            raise AssertionError("not raised")
+        except djq.SomeRefused as error:
+            assert (error.sent, error.refused) == (2, 1)
+
+
+def test_batches_in_a_pipeline(program):
+    with Server(program) as server:
+        asyncio.run(batches_in_a_pipeline(server))
+
+
+async def rows_expire(server):
+    now = [1000.0]
+    async with client_of(server) as client:
+        table = await client.table("seen", int, str, key=1)
+        async with djq.aio.Expiring(table, 30, by_itself=False, clock=lambda: now[0]) as seen:
+            rows = [(number, "") for number in range(500)]
+            assert await seen.renew_all(rows) == 500 and await seen.next_due() == 30
+            now[0] += 20
+            # any number of tasks renew, also one that is cancelled
+            renewing = [asyncio.create_task(seen.renew(*row)) for row in rows[::2]]
+            await asyncio.sleep(0)
+            renewing[0].cancel()
+            await asyncio.wait(renewing)
+            now[0] += 10
+            gone, renewed = await asyncio.gather(seen.expire(), seen.renew(0, "other"))
+            assert sorted(gone) == rows[1::2] and renewed is True and await seen.left(0) == 30
+            assert set(table) == {(0, "other"), *rows[2::2]} and await seen.left(1) is None
+            # a client that blocks goes on with the times
+            with server.connect() as other:
+                twin = djq.Expiring(other.table("seen", int, str, key=1), 1, False, lambda: now[0])
+                now[0] += 20
+                assert len(twin.expire()) == 249 and set(twin.table) == {(0, "other")} and twin.left(0) == 10
+        table = await client.table("few", int, key=1)
+        async with djq.aio.Expiring(table, 1) as few, client.live("few_rows") as live:
+            assert await few.renew(1) is True
+            assert [(len((await live.next(SECONDS)).came), len(live.answers)) for _ in range(2)] == [(1, 1), (0, 0)]
+
+
+def test_rows_expire(program):
+    with Server(program) as server:
+        asyncio.run(rows_expire(server))
+
+
+async def first_start(program):
+    """A set waits for the server, and for its query; what ends it names the query."""
+    with socket.create_server(("127.0.0.1", 0)) as free:
+        port = free.getsockname()[1]
+    lives = djq.aio.Lives("127.0.0.1", port, "q", "p", reconnect=True)
+    beginning = asyncio.create_task(lives.__aenter__())
+    await asyncio.sleep(0.2)
+    with Server(program, port) as server, server.connect() as client:
+        await asyncio.sleep(0.2)
+        assert not beginning.done()
+        client.relation("r", int)
+        client.query("q(x) <- r(x)")
+        client.add("r", 1)
+        await asyncio.sleep(0.2)
+        assert not beginning.done()
+        client.query("p(x) <- r(x)")
+        await asyncio.wait_for(beginning, SECONDS)
+        await lives.sync()
+        assert [live.answers for live in lives] == [{(1,)}, {(1,)}]
+        live = client_of(server).live("q")
+        await live.__aenter__()
+        client.stop()
+        server.process.wait(SECONDS)
+    for _ in range(2):
+        try:
+            await live.next(SECONDS)
+            raise AssertionError("not raised")
+        except djq.Disconnected as error:
+            assert str(error).startswith("the live answers of q ended: ") and "and a new start failed: " in str(error), error
+    lives.close()
+    live.close()
+    try:
+        async with djq.aio.Lives("127.0.0.1", port):
+            raise AssertionError("not raised")
+    except djq.Disconnected as error:
+        assert str(error).startswith("[Errno 111]"), error
+    try:
+        async with djq.aio.Lives("127.0.0.1", port, "q"):
+            raise AssertionError("not raised")
+    except djq.Disconnected as error:
+        assert str(error).startswith("the live answers of q ended: [Errno 111]"), error
+
+
+def test_a_live_set_waits_for_its_first_start(program):
+    asyncio.run(first_start(program))
 
 
 def test_tasks_share_a_connection(program):
@@ -459,25 +577,27 @@ def test_a_reply_that_doesnt_come(program):
 
 
 TESTS = [
-    test_the_same_script, test_the_same_methods, test_pipelines_and_cursors, test_batches,
-    test_tasks_share_a_connection,
+    test_the_same_script, test_the_same_methods, test_pipelines_and_cursors, test_batches, test_batches_in_a_pipeline,
+    test_a_live_set_waits_for_its_first_start, test_rows_expire, test_tasks_share_a_connection,
     test_a_live_set_starts_while_rows_change, test_a_live_set_comes_back, test_several_live_sets,
     test_live_sets_find_out_that_a_server_is_stopped, test_a_table_with_a_key, test_a_reply_that_doesnt_come,
 ]  # fmt: skip
 
 
 def main():
-    program = os.path.abspath(sys.argv[1])
+    program, names = os.path.abspath(sys.argv[1]), sys.argv[2:]
+    logging.getLogger("djq").setLevel(logging.ERROR)
     failed = 0
-    for test in TESTS:
+    tests = [test for test in TESTS if not names or test.__name__ in names]
+    for test in tests:
         try:
             test(program)
         except Exception:
             failed += 1
             print(f"{test.__name__} failed")
             traceback.print_exc()
-    print(f"{len(TESTS) - failed} passed, {failed} failed")
-    sys.exit(1 if failed else 0)
+    print(f"{len(tests) - failed} passed, {failed} failed")
+    sys.exit(1 if failed or not tests else 0)
 
 
 if __name__ == "__main__":

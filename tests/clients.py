@@ -8,11 +8,13 @@ Runs all tests, or those of these names. Ends with a line `N passed, N failed`; 
 
 import collections
 import contextlib
+import logging
 import os
 import random
 import resource
 import selectors
 import signal
+import socket
 import subprocess
 import sys
 import tempfile
@@ -384,6 +386,66 @@ def test_pipelines(server):
         assert set(client.answers("qc", page=7)) == {(y, x) for x, y in rows[1:500]}
 
 
+def test_batches_in_a_pipeline(server):
+    with server.connect() as client, server.connect() as other:
+        client.relation("po", int, str)
+        client.query("qpo(o,who) <- po(o,who)")
+        seq, orders = other.watch("qpo"), []
+        with client.pipeline() as many:
+            first = many.add("po", 0, "alone")
+            for number in range(1, 6):
+                with many.batch() as order:
+                    for row in range(number):
+                        order.add("po", 10 * number + row, "bo")
+                orders.append(order)
+                raises(djq.Error, lambda: order.add("po", 1, "late"))
+            raises(djq.Error, orders[-1].result)  # its reply is due
+            last = many.has("qpo", 50, "bo")
+        assert first.result().seq == seq + 1 and last.result() is True
+        assert [order.result() for order in orders] == [djq.Done(seq + 1 + number, number) for number in range(1, 6)]
+        changes = [other.next_change("qpo", SECONDS) for _ in range(6)]
+        assert [len(change.came) for change in changes] == [1, 1, 2, 3, 4, 5]
+
+
+def test_batches_in_a_pipeline_that_are_refused(server):
+    with server.connect() as client:
+        client.relation("pr", int)
+        client.query("qpr(x) <- pr(x)")
+
+        def orders(many):
+            for rows in ([1, 2], [3, "four", "five"], [6], [7] * (djq.MOST_HELD + 1), [8]):
+                with many.batch() as order:
+                    for row in rows:
+                        order.add("pr", row)
+                yield order
+
+        with client.pipeline(raises=False) as many:
+            told = list(orders(many))
+            refused = many.add("none", 1)
+        assert [order.result().rows for order in (told[0], told[2], told[4])] == [2, 1, 1]
+        error = raises(djq.SomeRefused, told[1].result)
+        assert (error.sent, error.refused, error.first[0].line) == (3, 2, 'add pr "four"')
+        assert isinstance(raises(djq.SomeRefused, told[3].result).first[0], djq.LimitReached)
+        raises(djq.NoRelation, refused.result)
+        assert client.snapshot("qpr") == {(1,), (2,), (6,), (8,)}
+        with_all = lambda many: (list(orders(many)), many.add("none", 1))
+        error = raises(djq.SomeRefused, lambda: in_pipeline(client, with_all))
+        assert error.refused == 4 and error.sent == 5 + 1008 + 3 + 1, (error.sent, error.refused)
+        # a block that raises sends nothing of its batch, and the pipeline goes on
+        with client.pipeline() as many:
+            with contextlib.suppress(ZeroDivisionError), many.batch() as order:
+                order.add("pr", 9)
+                order.add("pr", 1 // 0)
+            more = many.add("pr", 10)
+        raises(djq.Error, order.result)
+        assert more.result().copies == 1 and not client.has("qpr", 9)
+
+
+def in_pipeline(client, say):
+    with client.pipeline() as many:
+        say(many)
+
+
 def batch_of(client, *rows):
     """What becomes of a batch of these rows, each behind the name of its relation."""
     with client.batch() as batch:
@@ -674,7 +736,10 @@ def test_what_isnt_sent(server):
         for name in ("", "N", "a b", "a\nstop", "1a", "a" * 33, "ä"):
             for call in (client.watch, client.explain, client.drop, client.relation, client.add, client.cursor):
                 raises(djq.BadName, lambda: call(name))
-        raises(ValueError, lambda: client.query("q(x) <- r(x)\nstop"))
+        for blank in "\n\r\t":  # is a space of the query, and ends no line
+            raises(djq.Syntax, lambda: client.query(f"q(x) <- r(x){blank}stop"))
+        raises(ValueError, lambda: client.query('q(x) <- r("a\\\n")'))
+        raises(djq.Syntax, lambda: client.query('q(x) <- r("a\nstop'))
         raises(ValueError, lambda: client.add("r", "\ud800"))
         raises(djq.TooLong, lambda: client.add("r", *["t" * 255] * 16))
         raises(djq.NotWatched, lambda: client.next_change("q", 0))
@@ -718,6 +783,157 @@ def test_a_server_that_is_started_again_with_its_log(program):
         live.close()
 
 
+# How live sets begin and end
+
+
+def test_a_live_set_waits_for_its_first_start(program):
+    """For the server, for the query, and where another set of the group is told of changes meanwhile."""
+    with socket.create_server(("127.0.0.1", 0)) as free:
+        port = free.getsockname()[1]
+    faults, begun, group = [], [], []
+
+    def begin():
+        try:
+            with djq.Lives("127.0.0.1", port, reconnect=True) as lives:
+                group.append(lives)
+                begun.append(set(lives.add("q").answers))
+                begun.append(set(lives.add("p").answers))
+                begun.append([set(one.answers) for one in lives])
+                lives.sync()
+                begun.append([set(one.answers) for one in lives])
+        except Exception as error:
+            faults.append(error)
+
+    other = threading.Thread(target=begin)
+    other.start()
+    time.sleep(0.3)
+    with Server(program, port) as server, server.connect() as client:
+        time.sleep(0.3)
+        assert not begun and not faults, (begun, faults)
+        client.relation("r", int)
+        client.add("r", 1)
+        client.query("q(x) <- r(x)")
+        wait_until(lambda: len(begun) == 1)
+        client.load("r", [(number,) for number in range(2, 2000)])
+        # what comes for the one is read as it waits for the other
+        wait_until(lambda: len(group[0]._connection._protocol.changes["q"]) > 1000)
+        client.query("p(x) <- r(x), x > 1998")
+        other.join(SECONDS)
+        every = {(number,) for number in range(1, 2000)}
+        assert not faults and begun == [{(1,)}, {(1999,)}, [{(1,)}, {(1999,)}], [every, {(1999,)}]], faults
+        # without the setting what is wrong is raised at once
+        error = raises(djq.NoQuery, lambda: client.live("none"))
+        assert "no query is named none" in str(error)
+        with client.live("q", reconnect=True) as live:
+            assert live.answers == every
+    error = raises(djq.Disconnected, lambda: djq.Lives("127.0.0.1", port).add("q"))
+    assert str(error) == "the live answers of q ended: [Errno 111] Connection refused", error
+
+
+def test_a_live_set_says_what_it_waits_for(program):
+    told = []
+    handler = logging.Handler()
+    handler.emit = lambda record: told.append(record.getMessage())
+    log = logging.getLogger("djq")
+    level, _ = log.level, (log.addHandler(handler), log.setLevel(logging.WARNING))
+    try:
+        with Server(program) as server, server.connect() as client:
+            client.relation("r", int)
+            timer = threading.Timer(0.4, lambda: server.connect().query("q(x) <- r(x)"))
+            timer.start()
+            client.live("q", reconnect=True).close()
+    finally:
+        log.removeHandler(handler)
+        log.setLevel(level)
+    assert told == ["the live answers of q wait: err 4 no query: no query is named q (sent: watch q)"], told
+
+
+def test_what_ends_a_live_set_names_its_query(program):
+    with Server(program) as server:
+        client = server.connect()
+        client.relation("r", int)
+        for name in ("q", "p"):
+            client.query(f"{name}(x) <- r(x)")
+        live, both = client.live("q"), client.lives("p", "q")
+        client.stop()
+        server.process.wait(SECONDS)
+    lost = "the server closed the connection, and a new start failed: [Errno 111] Connection refused"
+    for one, names in ((live, "q"), (both, "p, q")):
+        for _ in range(2):
+            for call in (one.next, getattr(one, "sync", one.next), getattr(one, "next_moment", one.next)):
+                error = raises(djq.Disconnected, call)
+                assert str(error) == f"the live answers of {names} ended: {lost}", error
+        one.close()
+        assert str(raises(djq.Disconnected, one.next)) == f"the live answers of {names} ended: they were closed"
+
+
+def test_an_end_of_a_live_set_by_the_server_names_its_query(program):
+    """A server that ends each session: as a reader that is too slow, or as it is full."""
+    slow = "the server ended the session, as too little was read of what it sent (end slow)"
+    full = "the server takes no further session (end full)"
+    for cause, words in (("slow", slow), ("full", full)):
+        with socket.create_server(("127.0.0.1", 0)) as listener:
+
+            def serve():
+                with contextlib.suppress(OSError):
+                    while True:
+                        session, _ = listener.accept()
+                        session.recv(4096)
+                        session.sendall(f"end {cause}\n".encode())
+                        session.close()
+
+            threading.Thread(target=serve, daemon=True).start()
+            port = listener.getsockname()[1]
+            error = raises(djq.Ended, lambda: djq.Lives("127.0.0.1", port, within=1).add("board"))
+            assert (str(error), error.cause) == (f"the live answers of board ended: {words}", cause), error
+            listener.shutdown(socket.SHUT_RDWR)
+
+
+def test_two_threads(server):
+    """A call beside another thread's says so and does nothing; one after another is nobody's business."""
+    with server.connect() as client, server.connect() as other:
+        client.relation("tt", int)
+        client.query("qtt(x) <- tt(x)")
+        client.watch("qtt")
+        told = []
+        waiting = threading.Thread(target=lambda: told.append(client.next_change("qtt", SECONDS)), name="waits")
+        waiting.start()
+        wait_until(lambda: client._using._holder == waiting.ident)
+        for call in (lambda: client.add("tt", 1), client.ping, lambda: client.snapshot("qtt"), client.close):
+            error = raises(djq.TwoThreads, call)
+            assert "'MainThread' calls a connection that 'waits' is in a call of: " in str(error), error
+            assert isinstance(error, djq.Error) and isinstance(error, RuntimeError)
+        assert not other.has("qtt", 1)
+        other.add("tt", 2)
+        waiting.join(SECONDS)
+        assert [change.came for change in told] == [{(2,)}]
+        assert client.add("tt", 3).copies == 1
+        for number in range(5):
+            handed = threading.Thread(target=client.add, args=("tt", 10 + number))
+            handed.start()
+            handed.join(SECONDS)
+        assert len(client.snapshot("qtt")) == 7
+
+
+def test_queries_over_several_lines(server):
+    with server.connect() as client:
+        client.relation("ql", int, str)
+        text = """
+            several(x,
+            \tname) <-
+                ql(x, name),\r
+                x >= 0,     name != "tab\there,
+            and a \\"line\\" end"
+        """
+        assert client.query(text) == 5
+        name = 'tab\there,\n            and a "line" end'
+        client.load("ql", [(1, name), (2, "other"), (-3, "less")])
+        assert client.snapshot("several") == {(2, "other")}
+        with client.pipeline() as many:
+            again = many.query("again(x)\n<-\n\tql(x,_)\n")
+        assert again.result() == 3
+
+
 # Many sets, many rows
 
 
@@ -742,6 +958,9 @@ def test_several_live_sets_over_one_connection(server):
         texts = {"one": "one(x) <- ga(x)", "two": "two(x) <- ga(x), gb(x)", "three": "three(x,y) <- gb(x), gc(y)"}
         for text in texts.values():
             client.query(text)
+        with client.lives() as none:
+            assert none.fileno() >= 0 and none.next(0) is None and none.sync() == [] and none.next_moment(0) is None
+            assert none.add("one").answers == set() and len(list(none)) == 1
         with client.lives("one", "two") as lives, selectors.DefaultSelector() as waiting:
             lives.add("three")
             assert [live.query for live in lives] == list(texts) and lives.add("two") is list(lives)[1]
@@ -759,7 +978,14 @@ def test_several_live_sets_over_one_connection(server):
             # each change that one of them reads was told, in order
             seqs = [change.seq for _, change in told]
             assert seqs == sorted(seqs) and seqs[-1] <= lives.seq
-            list(lives)[1].close()
+            # each set is asked alone too, and what comes for the others waits for them
+            one, two, _ = lives
+            for _ in range(3):
+                client.add("ga", 7)
+                client.delete("ga", 7)
+            assert [len(change.came) for change in one.changes(0.2)] == [1, 0] * 3
+            assert len(list(two.changes(0))) == 6
+            two.close()
             client.drop("two")
             client.add("ga", 9)
             (live, change) = lives.next(SECONDS)
@@ -947,19 +1173,29 @@ def test_cache(program):
     with Server(program) as server, server.connect() as client:
         told = output(server, "cache.py", "--size", "2", given="1 1 2\n1 3 2\n")
         assert told.splitlines() == [
-            "1 asked: Ada cake, Ada tea", "1 kept: Ada cake, Ada tea", "2 asked: Bo soup",
-            "1 kept: Ada cake, Ada tea", "3 asked: nothing", "2 asked: Bo soup",
+            "1 made: Ada cake, Ada tea", "1 kept: Ada cake, Ada tea", "2 made: Bo soup",
+            "1 kept: Ada cake, Ada tea", "3 made: nothing", "2 made: Bo soup",
         ]  # fmt: skip
         with example(server, "cache.py") as process:
             ask = lambda key: print(key, file=process.stdin, flush=True) or process.stdout.readline().strip()
-            assert ask(1).startswith("1 asked: ") and ask(2).startswith("2 asked: ")
+            assert ask(1).startswith("1 made: ") and ask(2).startswith("2 made: ") and ask(9) == "9 made: nothing"
+            # one query serves all keys
+            raises(djq.NoQuery, lambda: client.watch("customer_1"))
+            raises(djq.InUse, lambda: client.drop("ordered"))
             client.add("orders", 1, "beer")
             wait_until(lambda: ask(1) != "1 kept: Ada cake, Ada tea")
             assert ask(1) == "1 kept: Ada beer, Ada cake, Ada tea"
-            assert ask(2) == "2 kept: Bo soup"
+            assert ask(2) == "2 kept: Bo soup" and ask(9) == "9 kept: nothing"
             client.delete("customers", 2, "Bo")
             wait_until(lambda: ask(2) != "2 kept: Bo soup")
             assert ask(2) == "2 kept: nothing"
+            client.load("customers", [(number, "Cai") for number in range(10, 3000)])
+            client.load("orders", [(number, "milk") for number in range(10, 3000)])
+            wait_until(lambda: ask(2999) == "2999 kept: Cai milk")
+            assert all(ask(number) == f"{number} made: Cai milk" for number in range(10, 2000))
+            client.add("orders", 1500, "nuts")
+            wait_until(lambda: ask(1500) == "1500 kept: Cai milk, Cai nuts")
+            assert all(ask(number) == f"{number} kept: Cai milk" for number in range(10, 1500))
 
 
 TREE = """4 trim  -
@@ -1021,18 +1257,22 @@ SERVED = [
     test_live_beside_a_fresh_listing, test_live_begins_while_rows_change, test_a_stalled_reader_comes_back,
     test_errors_tell_what_is_wrong, test_what_isnt_sent, test_unwatch_forgets,
     test_several_live_sets_over_one_connection, test_more_descriptors_than_select_takes, test_loads,
-    test_a_table_with_a_key,
+    test_a_table_with_a_key, test_batches_in_a_pipeline, test_batches_in_a_pipeline_that_are_refused, test_two_threads,
+    test_queries_over_several_lines,
 ]  # fmt: skip
 # each with a server of its own
 APART = [
     test_explain, test_stop, test_dashboard, test_alarm, test_rules, test_cache, test_a_reply_that_doesnt_come,
     test_a_server_that_is_started_again_with_its_log, test_a_batch_that_is_interrupted,
+    test_a_live_set_waits_for_its_first_start, test_a_live_set_says_what_it_waits_for,
+    test_what_ends_a_live_set_names_its_query, test_an_end_of_a_live_set_by_the_server_names_its_query,
     *pages.TESTS, *busy.TESTS,
 ]  # fmt: skip
 
 
 def main():
     program, names = os.path.abspath(sys.argv[1]), sys.argv[2:]
+    logging.getLogger("djq").setLevel(logging.ERROR)
     passed = failed = 0
     with Server(program) as server:
         runs = [(test, ()) for test in ALONE] + [(test, (server,)) for test in SERVED]

@@ -10,6 +10,7 @@ It needs Python's standard library alone. One line is printed for each place tha
 A block of a page that begins with ```lines is a session, and the ```replies behind it what is answered. In a block
 ```session each line has its reply beside it, at least two spaces away, and further replies stand alone below, also behind
 spaces. A block ```session more goes on with the session before it. In all, answers (`= ..`) that stand together come in any order.
+The Python sessions of docs/CLIENT.md are run over one server, and the page has to name each method and error of the client.
 """
 
 import glob
@@ -293,6 +294,35 @@ def shown_sessions(program):
                   + "\n  ".join(f"{a!r} is shown, {b!r} came" for a, b in zip(in_any_order(answered), in_any_order(got)) if a != b))
 
 
+# The client's page
+
+
+KINDS = ("Connection", "Cursor", "Pipeline", "Batch", "Live", "Lives", "Index", "Table", "Expiring")
+
+
+def client_page(program):
+    """Its sessions are as shown, and each method and each error of the client is named."""
+    sys.path.insert(0, os.path.join(ROOT, "tests"))
+    import pages as sessions_of
+
+    djq = sessions_of.djq
+    try:
+        ran = sessions_of.run_page("CLIENT.md", program)
+        check(ran["python"] > 10, f"docs/CLIENT.md: {ran['python']} sessions were run")
+    except Exception as error:  # noqa: BLE001
+        check(False, f"docs/CLIENT.md: {error!r}")
+    page = read(os.path.join(ROOT, "docs", "CLIENT.md"))
+    told = set(re.findall(r"\b([A-Za-z_]+)\(", page)) | set(re.findall(r"`([A-Za-z_]+)`", page))
+    for kind in KINDS:
+        for name in dir(getattr(djq, kind)):
+            if not name.startswith("_") and callable(getattr(getattr(djq, kind), name)):
+                inside = kind == "Index" and name in ("begin", "clear", "take", "get", "items", "keys", "values")
+                check(inside or name in told, f"docs/CLIENT.md doesn't name {kind}.{name}")
+    for name in djq.__all__:
+        if isinstance(getattr(djq, name), type) and issubclass(getattr(djq, name), Exception):
+            check(name in told or name in ("Error", "Refused"), f"docs/CLIENT.md doesn't name {name}")
+
+
 # Definitions
 
 
@@ -370,6 +400,7 @@ def main():
     decisions()
     glossary()
     shown_sessions(os.path.abspath(sys.argv[1]))
+    client_page(os.path.abspath(sys.argv[1]))
     crates()
     kit()
     readers()

@@ -161,11 +161,18 @@ def all_say_one_version(program, folder):
     with zipfile.ZipFile(os.path.join(dist, f"djq-{version()}-py3-none-any.whl")) as wheel:
         lines = wheel.read(f"djq-{version()}.dist-info/METADATA").decode().splitlines()
     expect(f"Version: {version()}" in lines, True, "the wheel")
-    words = [PYTHON, "-c", "import djq.version; print(djq.version.__version__)"]
+    words = [PYTHON, "-c", "import djq; print(djq.__version__)"]
     for path in (os.path.join(tree, "usr/lib/python3/dist-packages"), os.path.join(ROOT, "clients/python")):
         expect(run(*words, env={**os.environ, "PYTHONPATH": path, "PYTHONDONTWRITEBYTECODE": "1"}).strip(), version(), path)
+    serving = subprocess.Popen([program, "serve", "127.0.0.1:0"], stderr=subprocess.PIPE, text=True)
+    reported = serving.stderr.readline()
+    serving.kill()
+    serving.communicate()
+    expect(reported.startswith(f"djq {version()}: listening on 127.0.0.1:"), True, reported)
     numbers = re.findall(r"^## (\d\S*?),? ", text("CHANGELOG.md"), re.MULTILINE)
     expect(numbers[0], version(), "the newest section of CHANGELOG.md")
+    names = set(re.findall(r"djq[_-](\d+\.\d+\.\d+)[-_/]", text("README.md")))
+    expect(names, {version()}, "the packages that README.md names")
 
 
 @test(*PACKAGERS)

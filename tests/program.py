@@ -9,6 +9,7 @@ It needs Python's standard library alone. One line is printed for each test that
 
 import os
 import random
+import re
 import resource
 import select
 import socket
@@ -830,7 +831,7 @@ def where_it_listens_is_said():
     program = subprocess.Popen(words, stdin=subprocess.DEVNULL, stdout=subprocess.PIPE, stderr=subprocess.PIPE)
     try:
         line = program.stderr.readline()
-        expect(line.startswith(b"djq: listening on 127.0.0.1:"), True, line)
+        expect(re.match(rb"djq \d+\.\d+\.\d+: listening on 127\.0\.0\.1:\d+\n", line) is not None, True, line)
         client = Client(socket.create_connection(("127.0.0.1", int(line.rpartition(b":")[2])), PATIENCE))
         client.ask(b"stop", b"bye")
         client.close()

@@ -13,13 +13,10 @@ Each question is asked over the rows of `given`, and is one of three:
 At least LEAST have to be answered or cured. A line is printed for each that fails or is open, and last `N passed, N failed`.
 """
 
-import collections
-import heapq
 import json
 import os
 import re
 import socket
-import statistics
 import subprocess
 import sys
 
@@ -28,7 +25,6 @@ from serving import HERE, SECONDS, Server
 
 ROOT = os.path.abspath(os.path.join(HERE, ".."))
 LEAST, ALL = 23, 25
-NAMES = {"collections": collections, "heapq": heapq, "statistics": statistics}
 
 
 def run(program, lines):
@@ -77,7 +73,7 @@ def cured(program, given, question):
     with Server(program) as server:
         send(server.port, given + question["lines"])
         with server.connect() as client:
-            compare(question["python"], repr(eval(question["python"], {**NAMES, "server": client})), question["gives"])
+            compare(question["python"], repr(eval(question["python"], {"server": client})), question["gives"])
 
 
 def main():

@@ -4,7 +4,7 @@
     tests/shell.py PATH_TO_DJQ [NAME ..]
 
 As a filter it needs Python's standard library alone. Tests of the terminal need pexpect, prompt_toolkit and rich,
-in this Python or in /usr/bin/python3, that of the package setuptools, wheel and pip, and that of its types mypy: what
+in this Python or in /usr/bin/python3, those of the package ensurepip (of python3-venv) and aiohttp, and that of its types mypy: what
 isn't there is named, and its tests are skipped. One line is printed for each test that fails or is skipped, and last
 `N passed, N failed`, with `, N skipped` and what they were without; the status is 0 where none failed.
 """
@@ -191,6 +191,66 @@ def the_status_is_that_of_the_refusals(program):
     expect((done.stdout, done.returncode), (b"", 2))
     assert done.stderr.startswith(b"djq-shell: ") and b"Traceback" not in done.stderr, done.stderr
     expect(subprocess.run([*SHELL, "nowhere"], input=b"", capture_output=True, env=ENVIRONMENT).returncode, 2)
+
+
+SCHEMA = """\\if-missing
+rel r int text
+rel s int
+query q(x,y) <- r(x,y)
+query p(x,y) <- r(x,y), s(x)
+union u q p
+"""
+
+
+@test()
+def a_file_of_what_there_is_can_be_run_twice(program):
+    with Server(program) as server, server.connect() as client:
+        expect(filtered(SCHEMA, server=server), ("ok\nok\nok query 5\nok query 5\nok union 13\n", "", 0))
+        client.add("r", 1, "one")
+        expect(filtered(SCHEMA, server=server), ("err 2 taken\n" * 5, "", 0))
+        expect(filtered(SCHEMA + "\\d r\n\\d u\n", "--stop", server=server)[1:], ("", 0))
+        assert client.has("u", 1, "one")
+        # other columns are another thing, and without the word each line is refused
+        for line in ("rel s text", "rel s int int", "rel r int int"):
+            _, told, status = filtered(f"\\if-missing\n{line}\nrel s int\n", server=server)
+            expect((len(told.splitlines()), status), (1, 1), told)
+            assert "line 2: err 2 taken" in told and "is there with other columns: int" in told, told
+        expect(filtered(SCHEMA.partition("\n")[2], server=server)[2], 1)
+        # also where a batch is open behind the line, and in lines that come as one
+        written, told, status = filtered("\\if-missing\nrel s int\nbatch\nadd s 1\nrel s int\ndone\n", server=server)
+        expect((written.splitlines()[-2:], status), (["err 18 batch", "ok done 2 1"], 1), told)
+
+
+ADVICE = (
+    ("query q(x) <- r(x,y), not t(y)", "queries have no not"), ("query q(x) <- r(x,y), !t(y)", "queries have no not"),
+    ("query q(x) <- r(x,y), not(y)", "queries have no not"), ("query q(x) <- t(x) or r(x,_)", "queries have no or"),
+    ("query q(x) <- t(x) | r(x,_)", "queries have no or"), ("query q(x) <- r(x,y), y in (1,2)", "queries have no or"),
+    ("query q(count(x)) <- r(x,y)", "queries compute nothing"), ("query q(x) <- count(x)", "queries compute nothing"),
+    ("query q(x,n) <- r(x,y), n = count(y)", "live.count(by=..)"), ("query q(x) <- r(x,y) and t(y)", "a comma stands between"),
+    ("query q(x,y) <- r(x,y), x < y", "to compare two columns"), ("query q(x,y) <- r(x,y), x != y", "to compare two columns"),
+    ("query q(x,y) <- r(x,y), x = y", "columns with equal values have one name"), ("query q(x) :- r(x,y)", "<- stands behind"),
+    ("query q(x) <- r(x,y), 5 < y", "a variable is compared with a constant alone"), ("add r 1 'a'", "in double quotes"),
+    ("add r 1 2.5", "there are no fractions"),
+)  # fmt: skip
+
+
+@test()
+def advice_stands_in_pipes_and_exceptions(program):
+    with Server(program) as server, server.connect() as client:
+        client.relation("r", int, int)
+        client.relation("t", int)
+        written, told, status = filtered("".join(line + "\n" for line, _ in ADVICE), server=server)
+        expect((len(written.splitlines()), len(told.splitlines()), status), (len(ADVICE), len(ADVICE), 1))
+        for reply, complaint, (line, advice) in zip(written.splitlines(), told.splitlines(), ADVICE):
+            assert advice in complaint and reply in complaint, (line, complaint)
+            command, _, text = line.partition(" ")
+            said = (lambda: client.query(text)) if command == "query" else (lambda: client._do(line, djq.protocol.READ_OK))
+            error = raises(djq.Refused, said)
+            assert advice in error.why and advice in str(error), (line, error)
+        # what is right isn't advised, whatever its names and texts are
+        client.relation("count", int, str)
+        client.query('sums(not1,min) <- count(not1,min), min != "a or b", not1 != 5')
+        expect(raises(djq.Arity, lambda: client.query("q(x) <- count(x)")).why, "")
 
 
 @test()
@@ -586,6 +646,12 @@ def commands_are_typed(program):
         shell.runs("\\timing", "timing is off")
         shell.runs("\\names", "cursor c of q")
         shell.runs("\\columns r", "rel r int text")
+        shell.runs("\\d r", "rel r int text")
+        shell.runs("\\d", "rel r int text")
+        assert "├── one\n" in shell.runs("\\d u", "union of").replace("\n\n", "\n")
+        shell.runs("\\d none", "err 4 no query")
+        shell.runs("\\if-missing", "")
+        shell.runs("rel r int text", "it is there already, and stays as it is")
         assert "\\load FILE.csv RELATION" in shell.runs("\\?", "rel NAME int text ..")
         shell.runs("\\load", "it is written \\load FILE.csv RELATION")
         shell.runs("\\nothing", "no command is named \\nothing")
@@ -621,6 +687,10 @@ def refusals_say_what_to_do(program):
             ('query q(x) <- s(x,y), y > "a"', "err 7 type", "texts have no order"),
             ('query q(x) <- s(x,y), x = "a"', "err 7 type", "x stands in column 1 of s, of ints"),
             ("query q(x) <- r(x,_), z > 5", "err 16 unbound", "no atom has z"),
+            ("query q(x) <- r(x,y), not s(x,_)", "err 1 syntax", "queries have no not"),
+            ("query q(x) <- r(x,y), not(x)", "err 3 no relation", "queries have no not"),
+            ("query q(count(x)) <- r(x,y)", "err 1 syntax", "queries compute nothing"),
+            ("query q(x) <- r(x,_) or s(x,_)", "err 1 syntax", "queries have no or"),
         ):
             if advice.endswith("q_has"):
                 advice = "query q_has(x,z) <- r(z,x)"
@@ -829,28 +899,61 @@ def a_server_beside_it_is_found_and_ends_with_it(program):
 # The package
 
 
-@test("setuptools", "wheel", "venv", "pip")
+@test("ensurepip")
 def the_package_is_installed_without_a_network(program):
     with tempfile.TemporaryDirectory() as directory:
         source, made = os.path.join(directory, "source"), os.path.join(directory, "made")
         subprocess.run(["cp", "-r", CLIENT, source], check=True)
-        subprocess.run([sys.executable, "-m", "venv", "--system-site-packages", "--without-pip", made], check=True)
-        python = os.path.join(made, "bin", "python3")
-        environment = {**os.environ, "PIP_NO_INDEX": "1", "PIP_DISABLE_PIP_VERSION_CHECK": "1"}
-        environment.pop("PYTHONPATH", None)
-        run = lambda *words, **more: subprocess.run(
-            words, capture_output=True, text=True, env=environment, cwd=directory, timeout=9 * SECONDS, **more
-        )
-        words = ["-m", "pip", "install", "--no-index", "--no-build-isolation", "--no-deps", "--quiet", source]
-        done = run(python, *words)
+        # nothing of this Python's packages is there, so pip can't fall back on a setuptools of it
+        run = pip_environment(directory, made)
+        done = run("-m", "pip", "install", "--no-index", "--quiet", source)
         assert done.returncode == 0, done.stdout + done.stderr
-        asked = "import djq, djq.aio, djq.shell, os; print(djq.__file__, os.listdir(os.path.dirname(djq.__file__)))"
-        done = run(python, "-c", asked)
-        assert done.stdout.startswith(made) and "py.typed" in done.stdout, done.stdout + done.stderr
+        asked = "import djq, djq.aio, djq.shell, os; print(djq.__version__, djq.__file__, os.listdir(os.path.dirname(djq.__file__)))"
+        done = run("-c", asked)
+        assert done.stdout.startswith(f"{djq.__version__} {made}") and "py.typed" in done.stdout, done.stdout + done.stderr
+        assert f"Version: {djq.__version__}\n" in run("-m", "pip", "show", "djq").stdout
         shell = os.path.join(made, "bin", "djq-shell")
         done = run(shell, "--local", "--program", program, input="rel r int\nadd r 1\n")
         expect((done.stdout, done.returncode), ("ok\nok added 1 1\n", 0), done.stderr)
         assert "--local" in run(shell, "--help").stdout
+        packed = [name for name in run("-m", "pip", "show", "--files", "djq").stdout.split() if name.startswith("djq/web/")]
+        for name in os.listdir(os.path.join(CLIENT, "djq", "web")):
+            assert name == "__pycache__" or f"djq/web/{name}" in packed, name
+        # of the sources where they are, for who works on them
+        done = run("-m", "pip", "install", "--no-index", "--quiet", "--editable", source)
+        assert done.returncode == 0, done.stdout + done.stderr
+        assert run("-c", "import djq; print(djq.__file__)").stdout.startswith(source)
+
+
+@test("ensurepip", "prompt_toolkit", "rich", "aiohttp")
+def what_the_package_can_use_is_named(program):
+    """Each extra is met by what Debian has, and one that isn't there is missed without a network."""
+    with tempfile.TemporaryDirectory() as directory:
+        source, made = os.path.join(directory, "source"), os.path.join(directory, "made")
+        subprocess.run(["cp", "-r", CLIENT, source], check=True)
+        run = pip_environment(directory, made, "--system-site-packages")
+        done = run("-m", "pip", "install", "--no-index", "--quiet", f"{source}[shell,web]")
+        assert done.returncode == 0, done.stdout + done.stderr
+        asked = "from importlib.metadata import requires; print(*requires('djq'), sep='\\n')"
+        needs = run("-c", asked).stdout
+        assert 'extra == "shell"' in needs and 'aiohttp>=3.8 ; extra == "web"' in needs, needs
+        run = pip_environment(directory, os.path.join(directory, "bare"))
+        done = run("-m", "pip", "install", "--no-index", "--quiet", f"{source}[web]")
+        assert done.returncode != 0 and "aiohttp" in done.stderr, done.stderr
+
+
+def pip_environment(directory, made, *words):
+    """A virtual environment, and what runs its Python, or another program, without a network."""
+    subprocess.run([sys.executable, "-m", "venv", *words, made], check=True)
+    environment = {**os.environ, "PIP_NO_INDEX": "1", "PIP_DISABLE_PIP_VERSION_CHECK": "1", "PIP_NO_CACHE_DIR": "1"}
+    environment.pop("PYTHONPATH", None)
+
+    def run(*given, **more):
+        front = [] if os.path.isabs(given[0]) else [os.path.join(made, "bin", "python3")]
+        settings = {"capture_output": True, "text": True, "env": environment, "cwd": directory, "timeout": 9 * SECONDS}
+        return subprocess.run([*front, *given], **settings, **more)
+
+    return run
 
 
 @test()
@@ -865,10 +968,40 @@ def a_server_of_its_own_keeps_its_rows(program):
 
 @test("mypy")
 def a_checker_accepts_the_types(program):
-    words = [sys.executable, "-m", "mypy", "--no-error-summary", "--ignore-missing-imports", "djq", "--cache-dir"]
+    words = [sys.executable, "-m", "mypy", "--strict", "--no-error-summary", "--ignore-missing-imports", "--cache-dir"]
     with tempfile.TemporaryDirectory() as cache:
-        done = subprocess.run([*words, cache], capture_output=True, text=True, cwd=CLIENT)
-    expect((done.stdout, done.returncode), ("", 0))
+        check = lambda *given: subprocess.run([*words, cache, *given], capture_output=True, text=True, cwd=CLIENT)
+        done = check("djq", "wheel_backend.py")
+        expect((done.stdout, done.returncode), ("", 0))
+        path = os.path.join(cache, "uses.py")
+        with open(path, "w") as file:
+            file.write(USES)
+        found = [line.split(" ", 1)[0] + " " + line for line in check(path).stdout.splitlines() if " error: " in line]
+        wrong = [number for number, line in enumerate(USES.splitlines(), 1) if "# wrong" in line]
+        expect([int(line.split(":")[1]) for line in found], wrong, found)
+        assert "reconect" in found[0] and "reconect" in found[1], found
+
+
+USES = """\
+import djq
+import djq.aio
+
+server = djq.connect()
+server.live("q", reconect=True)  # wrong
+server.lives("q", "p", reconect=True)  # wrong
+djq.aio.connect().live("q", reconect=True)  # wrong
+server.live("q", within="a minute")  # wrong
+live = server.live("q", reconnect=True, ping=10, within=5.0)
+count: int = live.count()
+by_group: int = live.count(by=1)["a"]
+grouped: int = live.count(by=1)  # wrong
+first: list[djq.Answer] = live.top(10, 2)
+firsts: list[djq.Answer] = live.top(10, 2, by=(0, 1))[(1, 2)]
+least: int = live.min(1)  # wrong
+index: djq.Index = live.by(0, 1)
+djq.Expiring(server.table("seen", int), seconds=30).renew(7)
+version: str = djq.__version__
+"""
 
 
 def main():

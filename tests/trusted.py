@@ -103,7 +103,7 @@ def libraries():
         crate = waiting.pop()
         met.add(crate)
         waiting += [below for below in BELOW.get(crate, ()) if below not in met]
-    return (*sorted(met - set(BELOW)), *STD)
+    return (*sorted(met - set(BELOW) - set(STD)), *STD)
 
 
 def kit_rows(folder):

@@ -25,32 +25,45 @@ change what is answered. Rows that belong together come by a batch, all at once 
         batch.add("lines", 7, 1, "bolt")
     print(batch.result())                           # Done(seq=3, rows=2)
 
-One connection is one session of the server; it is used from one thread. Values are `int` (64 bits) and `str` (at most
-255 bytes of UTF-8). Each error that the server may answer is an exception of its own, under `Refused`.
+What is computed of live answers is updated by what came and went, and nothing is asked for again:
 
-Inside, `protocol` knows the lines and no socket: what a command sends, which reply is due, and which lines are deltas.
-`connection` moves its bytes, `batch` collects rows that belong together, `listing` lists the answers of one moment,
-`live` keeps them up to date, and `table` keeps rows by key.
+    live.count(by=0), live.sum(1), live.top(10, 1), live.by(0)[7]
+
+One connection is one session of the server; it is used from one thread. Values are `int` (64 bits) and `str` (at most
+255 bytes of UTF-8). Each error that the server may answer is an exception of its own, under `Refused`. All methods
+stand on one page, docs/CLIENT.md in the repository.
+
+Inside, `protocol` knows the lines and no socket: what a command sends, which reply is due, and which lines are deltas;
+`syntax` knows what a line may have meant that the server doesn't understand. `connection` moves the bytes, `many` sends
+commands together, `batch` collects rows that belong together, `listing` lists the answers of one moment, and `live`
+keeps them up to date: `kept` takes the changes, and `folds` are what is computed of the answers. `table` keeps rows by
+key, and `expiring` takes them out in time, by `expiry`.
 """
 
-from .connection import Batch, Connection, Cursor, Pipeline, connect
+from .connection import Connection, Cursor, connect
 from .errors import (
     REFUSALS, Arity, BadName, ComparisonUnbound, Cyclic, Disconnected, Ended, Error, HeadRepeated, HeadUnbound, InUse,
     LimitReached, MemberRefused, Misplaced, NoCursor, NoQuery, NoRelation, NotFreeConnex, NotWatched, OutOfMemory,
-    Overtaken, Refused, SomeRefused, Stale, Syntax, Taken, TooLong, Unanswered, VariableType, WrongType,
+    Overtaken, Refused, SomeRefused, Stale, Syntax, Taken, TooLong, TwoThreads, Unanswered, VariableType, WrongType,
 )  # fmt: skip
+from .expiring import Expiring
+from .folds import Columns, Index, Key
+from .kept import Moment
 from .live import Live, Lives
+from .many import Batch, Pipeline, PipelinedBatch
 from .protocol import (
     MOST_ANSWERS, MOST_HELD, MOST_MEMBERS, Absent, Added, Answer, Change, Done, Page, Pending, Protocol, Removed,
     Update, Value, read_values, spell,
 )  # fmt: skip
 from .table import Table
+from .version import __version__
 
 __all__ = [
     "MOST_ANSWERS", "MOST_HELD", "MOST_MEMBERS", "REFUSALS", "Absent", "Added", "Answer", "Arity", "BadName", "Batch",
-    "Change", "ComparisonUnbound", "Connection", "Cursor", "Cyclic", "Disconnected", "Done", "Ended", "Error",
-    "HeadRepeated", "HeadUnbound", "InUse", "LimitReached", "Live", "Lives", "MemberRefused", "Misplaced", "NoCursor",
-    "NoQuery", "NoRelation", "NotFreeConnex", "NotWatched", "OutOfMemory", "Overtaken", "Page", "Pending", "Pipeline",
-    "Protocol", "Refused", "Removed", "SomeRefused", "Stale", "Syntax", "Table", "Taken", "TooLong", "Unanswered",
-    "Update", "Value", "VariableType", "WrongType", "connect", "read_values", "spell",
+    "Change", "Columns", "ComparisonUnbound", "Connection", "Cursor", "Cyclic", "Disconnected", "Done", "Ended",
+    "Error", "Expiring", "HeadRepeated", "HeadUnbound", "InUse", "Index", "Key", "LimitReached", "Live", "Lives",
+    "MemberRefused", "Misplaced", "Moment", "NoCursor", "NoQuery", "NoRelation", "NotFreeConnex", "NotWatched",
+    "OutOfMemory", "Overtaken", "Page", "Pending", "Pipeline", "PipelinedBatch", "Protocol", "Refused", "Removed",
+    "SomeRefused", "Stale", "Syntax", "Table", "Taken", "TooLong", "TwoThreads", "Unanswered", "Update", "Value",
+    "VariableType", "WrongType", "__version__", "connect", "read_values", "spell",
 ]  # fmt: skip

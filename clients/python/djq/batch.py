@@ -3,7 +3,7 @@
 from __future__ import annotations
 
 from .errors import Error
-from .protocol import Done, Value, spell_line
+from .protocol import Done, Pending, Value, spell_line
 
 
 class Collected:
@@ -13,6 +13,7 @@ class Collected:
         self._lines: list[str] = []
         self._ended = False
         self._result: Done | None = None
+        self._reply: Pending[Done] | None = None  # of a batch in a pipeline
 
     def add(self, relation: str, *values: Value) -> None:
         """Gives a row one copy more, at the block's end."""
@@ -23,7 +24,9 @@ class Collected:
         self._lines.append(line)
 
     def result(self) -> Done:
-        """What became of the rows, once the block has ended."""
+        """What became of the rows, once the block has ended; of a batch in a pipeline, once that has."""
+        if self._reply is not None:
+            return self._reply.result()
         if self._result is None:
             raise Error("the batch isn't done")
         return self._result

@@ -4,17 +4,18 @@ from __future__ import annotations
 
 import selectors
 import socket
+import threading
 import time
 from collections import deque
 from types import TracebackType
 from typing import TYPE_CHECKING, Any, Callable, Iterable, Iterator, Sequence, TypeVar
 
 from . import protocol
-from .batch import Collected
-from .errors import Disconnected, Error, NoCursor, NotWatched, Refused, SomeRefused, Unanswered
+from .errors import Disconnected, Error, NoCursor, NotWatched, SomeRefused, TwoThreads, Unanswered
 from .listing import WITHIN, Said, list_whole
-from .protocol import FIRST_REFUSALS, MOST_ANSWERS, Added, Answer, Change, Done, Page, Pending, Protocol, Rows, Update
-from .protocol import Value, checked, column_type, fitting, spell, spell_line, spell_union
+from .many import Batch, Load, Pipeline
+from .protocol import MOST_ANSWERS, Added, Answer, Change, Done, Page, Pending, Protocol, Rows, Update
+from .protocol import Value, checked, column_type, fitting, spell, spell_line, spell_query, spell_union
 
 if TYPE_CHECKING:
     from .live import Live, Lives
@@ -29,13 +30,36 @@ ROWS_AT_ONCE = 500  # that a load makes lines of
 KEEPALIVE = (("TCP_KEEPIDLE", 30), ("TCP_KEEPINTVL", 10), ("TCP_KEEPCNT", 3))
 
 
+class OneThread:
+    """Held by the thread that is in a call of a connection. Another one that calls it meanwhile is told so."""
+
+    def __init__(self) -> None:
+        self._lock = threading.RLock()
+        self._holder = 0  # the thread that held it last
+
+    def __enter__(self) -> None:
+        if not self._lock.acquire(False):
+            raise TwoThreads(
+                f"the thread {threading.current_thread().name!r} calls a connection that {self._name()!r} is in a call"
+                " of: a connection is used from one thread, so each thread makes its own by djq.connect"
+            )
+        self._holder = threading.get_ident()
+
+    def __exit__(self, *_: object) -> None:
+        self._lock.release()
+
+    def _name(self) -> str:
+        return next((one.name for one in threading.enumerate() if one.ident == self._holder), "another thread")
+
+
 class Connection:
     """One session of a server. Each method sends one command, waits for its reply, and raises what it was refused with.
 
-    It is used from one thread. Whatever interrupts a call while it waits (a signal's handler that raises, Ctrl-C)
-    leaves the connection whole: later replies go where they belong, and only the interrupted command is open, which may
-    be done, or be sent with the next one. What interrupts it while bytes are moved closes it, and is the `__cause__` of
-    the `Disconnected` that each later call raises.
+    It is used from one thread: in one that calls it while another is in a call, `TwoThreads` is raised. Whatever
+    interrupts a call while it waits (a signal's handler that raises, Ctrl-C) leaves the connection whole: later replies
+    go where they belong, and only the interrupted command is open, which may be done, or be sent with the next one. What
+    interrupts it while bytes are moved closes it, and is the `__cause__` of the `Disconnected` that each later call
+    raises.
     """
 
     def __init__(self, host: str, port: int, timeout: float | None = None) -> None:
@@ -56,6 +80,7 @@ class Connection:
         self._interest = selectors.EVENT_READ
         self._protocol = Protocol()
         self._torn = False  # whether bytes are being moved, or were as something interrupted it
+        self._using = OneThread()
         self._watched: set[str] = set()
         self._names = 0
 
@@ -67,7 +92,8 @@ class Connection:
 
     def close(self) -> None:
         """Closes the connection; the server gives up the session's cursors and watches."""
-        self._lose(Disconnected("the connection was closed"))
+        with self._using:
+            self._lose(Disconnected("the connection was closed"))
 
     def fileno(self) -> int:
         """The socket's descriptor, to wait for several connections; -1 once it is closed."""
@@ -91,7 +117,7 @@ class Connection:
 
     def query(self, text: str) -> int:
         """Registers a query, as `q(x,y) <- r(x,z), s(z,y)`. Gives the most steps that one answer costs."""
-        return self._do(fitting(f"query {text}"), protocol.READ_QUERY)
+        return self._do(spell_query(text), protocol.READ_QUERY)
 
     def union(self, name: str, *members: str) -> int:
         """Registers the union of two to eight queries, whose answers are of the same types: it has the answers that any
@@ -164,20 +190,25 @@ class Connection:
 
     # Answers that are kept up to date
 
-    def live(self, query: str, **settings: Any) -> Live:
-        """The query's answers, kept up to date, over a connection of its own. For `settings` see `Lives`."""
+    def live(
+        self, query: str, *, within: float = WITHIN, reconnect: bool = False, ping: float | None = None
+    ) -> Live:
+        """The query's answers, kept up to date, over a connection of its own. For the settings see `Lives`."""
         from .live import Lives
 
-        return Lives(self.host, self.port, timeout=self.timeout, **settings).only(query)
+        return Lives(self.host, self.port, self.timeout, within, reconnect, ping).only(query)
 
-    def lives(self, *queries: str, **settings: Any) -> Lives:
-        """The answers of several queries, kept up to date over one further connection. For `settings` see `Lives`."""
+    def lives(
+        self, *queries: str, within: float = WITHIN, reconnect: bool = False, ping: float | None = None
+    ) -> Lives:
+        """The answers of several queries, kept up to date over one further connection. For the settings see `Lives`."""
         from .live import Lives
 
-        group = Lives(self.host, self.port, timeout=self.timeout, **settings)
+        group = Lives(self.host, self.port, self.timeout, within, reconnect, ping)
         try:
             for query in queries:
                 group.add(query)
+            group._connect()
         except BaseException:
             group.close()
             raise
@@ -225,7 +256,7 @@ class Connection:
         At the first refusal no further rows are sent, and `SomeRefused` is raised once those that were are answered.
         """
         front = f"add {checked(relation)} "
-        load = _Load(self, progress)
+        load = Load(self, progress)
         lines: list[str] = []
         for row in rows:
             line = front + " ".join([str(v) if type(v) is int else spell(v) for v in row])
@@ -267,22 +298,32 @@ class Connection:
     ) -> Pending[T]:
         """Queues a command."""
         line.encode()  # what isn't UTF-8 fails here, where nothing is half done
+        with self._using:
+            return self._queue(line, read, failed)
+
+    def _queue(
+        self, line: str, read: Callable[[list[str]], T | None], failed: Callable[[Error], None] | None = None
+    ) -> Pending[T]:
         self._check()
         return self._whole(self._protocol.say, line, read, failed)
 
     def _do(self, line: str, read: Callable[[list[str]], T | None]) -> T:
-        pending = self._say(line, read)
-        self._settle()
+        line.encode()  # what isn't UTF-8 fails here, where nothing is half done
+        with self._using:
+            pending = self._queue(line, read)
+            self._drain(0, 0)
         return pending.result()
 
     def _settle(self) -> None:
         """Sends what is queued, and waits for every reply that is due."""
-        self._drain(0, 0)
+        with self._using:
+            self._drain(0, 0)
 
     def _pump(self) -> None:
         """Sends and reads until no more is due and queued than may be as more is said."""
         if self._protocol.due > MOST_DUE or len(self._protocol.outgoing) > MOST_OUTGOING:
-            self._drain(MOST_DUE // 2, MOST_OUTGOING // 2)
+            with self._using:
+                self._drain(MOST_DUE // 2, MOST_OUTGOING // 2)
 
     def _drain(self, due: int, outgoing: int) -> None:
         """Sends and reads until no more than this is due and queued."""
@@ -294,20 +335,24 @@ class Connection:
 
     def _await(self, timeout: float | None, hold: bool = False) -> None:
         """Moves bytes, or closes the connection where none could be moved in so many seconds."""
-        if not self._move(timeout, hold):
+        if not self._move_bytes(timeout, hold):
             self._lose(Disconnected(f"nothing came in {timeout:g} s"))
 
-    def _turn(self, lines: Sequence[Said], until: float) -> list[Pending] | None:
+    def _turn(self, lines: Sequence[Said], until: float) -> list[Pending[Any]] | None:
         """Sends lines in one write, and reads their replies once all are there. None where that took too long."""
-        self._settle()
-        pending = [self._say(line, read) for line, read in lines]
+        with self._using:
+            return self._turn_of(lines, until)
+
+    def _turn_of(self, lines: Sequence[Said], until: float) -> list[Pending[Any]] | None:
+        self._drain(0, 0)
+        pending = [self._queue(line, read) for line, read in lines]
         self._whole(self._protocol.hold)
         while self._protocol.ended is None and self._protocol.kept() < len(pending):
             left = until - time.monotonic()
             if left <= 0:
                 return None
             if self.timeout is None or left < self.timeout:
-                self._move(left, hold=True)
+                self._move_bytes(left, hold=True)
             else:
                 self._await(self.timeout, hold=True)
         self._whole(self._protocol.read)
@@ -315,21 +360,27 @@ class Connection:
 
     def _put_in(self, rows: list[str]) -> Done:
         """Puts the rows of these lines in by a batch, which is abandoned where that goes wrong."""
-        try:
-            self._do("batch", protocol.READ_OK)
-            held = _Load(self, None)
-            for at in range(0, len(rows), ROWS_AT_ONCE):
-                if not held.send(rows[at : at + ROWS_AT_ONCE]):
-                    break
-            held.finish()
-            done = self._say("done", protocol.READ_DONE)
-        except Unanswered as error:
-            raise Disconnected("the connection was lost; the batch wasn't done") from error
-        except BaseException:
-            self._say_last("abandon")
-            raise
-        self._settle()
+        with self._using:
+            try:
+                self._do("batch", protocol.READ_OK)
+                self._hold(rows)
+                done = self._say("done", protocol.READ_DONE)
+            except Unanswered as error:
+                raise Disconnected("the connection was lost; the batch wasn't done") from error
+            except BaseException:
+                self._say_last("abandon")
+                raise
+            self._settle()
         return done.result()
+
+    def _hold(self, rows: list[str]) -> None:
+        """Adds the rows of these lines to the batch that is open, and waits until they are held. Raises
+        `SomeRefused`."""
+        held = Load(self, None)
+        for at in range(0, len(rows), ROWS_AT_ONCE):
+            if not held.send(rows[at : at + ROWS_AT_ONCE]):
+                break
+        held.finish()
 
     def _give_up(self, cursor: str) -> None:
         """Closes a cursor without waiting for the reply, as something else has gone wrong."""
@@ -375,6 +426,10 @@ class Connection:
 
     def _move(self, timeout: float | None, hold: bool = False) -> bool:
         """Reads and writes what can be; false where nothing could be in so many seconds."""
+        with self._using:
+            return self._move_bytes(timeout, hold)
+
+    def _move_bytes(self, timeout: float | None, hold: bool) -> bool:
         self._check()
         if self._protocol.holds() and not hold:  # a listing was interrupted
             self._whole(self._protocol.read)
@@ -471,124 +526,3 @@ class Cursor:
     def close(self) -> None:
         """Gives the cursor up."""
         self.connection._do(f"close {self.name}", protocol.READ_OK)
-
-
-class Batch(Collected):
-    """Rows that go in at once: see `Connection.batch`."""
-
-    def __init__(self, connection: Connection) -> None:
-        super().__init__()
-        self._connection = connection
-
-    def __enter__(self) -> Batch:
-        return self
-
-    def __exit__(self, kind: type | None, error: BaseException | None, trace: TracebackType | None) -> None:
-        lines = self._end()
-        if error is None:
-            self._result = self._connection._put_in(lines)
-
-
-class Pipeline:
-    """Commands that are sent together. Each method gives a `Pending` reply."""
-
-    def __init__(self, connection: Connection, raises: bool = True) -> None:
-        self._connection = connection
-        self._raises = raises
-        self._sent = self._refused = 0
-        self._first: list[Refused] = []
-        self._lost: Error | None = None
-
-    def __enter__(self) -> Pipeline:
-        return self
-
-    def __exit__(self, kind: type | None, error: BaseException | None, trace: TracebackType | None) -> None:
-        if error is not None:
-            if isinstance(error, Exception) and not isinstance(error, Error):
-                self._connection._settle()
-            return
-        self._connection._settle()
-        if self._lost is not None:
-            raise self._lost
-        if self._refused and self._raises:
-            raise SomeRefused(self._sent, self._refused, self._first)
-
-    def add(self, relation: str, *values: Value) -> Pending[Added]:
-        """Gives a row one copy more."""
-        return self._say(spell_line("add", relation, values), protocol.READ_ADDED)
-
-    def delete(self, relation: str, *values: Value) -> Pending[Update]:
-        """Takes one copy of a row."""
-        return self._say(spell_line("del", relation, values), protocol.READ_REMOVED)
-
-    def has(self, query: str, *values: Value) -> Pending[bool]:
-        """Whether this is an answer."""
-        return self._say(spell_line("has", query, values), protocol.READ_HAS)
-
-    def query(self, text: str) -> Pending[int]:
-        """Registers a query."""
-        return self._say(fitting(f"query {text}"), protocol.READ_QUERY)
-
-    def union(self, name: str, *members: str) -> Pending[int]:
-        """Registers a union."""
-        return self._say(spell_union(name, members), protocol.READ_UNION)
-
-    def _say(self, line: str, read: Callable[[list[str]], T | None]) -> Pending[T]:
-        self._connection._pump()
-        pending = self._connection._say(line, read, self._failed)
-        self._sent += 1
-        return pending
-
-    def _failed(self, error: Error) -> None:
-        if not isinstance(error, Refused):
-            self._lost = self._lost or error
-            return
-        self._refused += 1
-        if len(self._first) < FIRST_REFUSALS:
-            self._first.append(error)
-
-
-class _Load:
-    """Rows on their way, some hundred at a time."""
-
-    def __init__(self, connection: Connection, progress: Callable[[int], None] | None) -> None:
-        self._connection = connection
-        self._progress = progress
-        self._open: deque[Rows] = deque()
-        self._sent = self._answered = self._changed = self._refused = 0
-        self._first: list[Refused] = []
-        self._lost: Error | None = None
-
-    def send(self, lines: list[str]) -> bool:
-        """Queues lines, and sends and reads what can be. False where one of those before was refused."""
-        text = ("\n".join(lines) + "\n").encode()
-        self._connection._check()
-        self._open.append(self._connection._whole(self._connection._protocol.say_rows, lines, text))
-        self._sent += len(lines)
-        self._connection._move(0)
-        self._connection._pump()
-        self._collect()
-        return self._refused == 0
-
-    def finish(self) -> int:
-        """Waits for all replies. Gives how many rows came, or raises what went wrong."""
-        self._connection._settle()
-        self._collect()
-        if self._lost is not None:
-            raise self._lost
-        if self._refused:
-            raise SomeRefused(self._sent, self._refused, self._first)
-        return self._changed
-
-    def _collect(self) -> None:
-        before = self._answered
-        while self._open and self._open[0].done:
-            rows = self._open.popleft()
-            self._answered += rows.replies
-            self._changed += rows.changed
-            self._refused += rows.refused
-            self._first += rows.first[: FIRST_REFUSALS - len(self._first)]
-            if rows.lost is not None:
-                self._lost = self._lost or rows.lost
-        if self._progress is not None and self._answered > before:
-            self._progress(self._answered)

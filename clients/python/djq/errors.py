@@ -3,6 +3,8 @@ of the client's own."""
 
 from __future__ import annotations
 
+from typing import Sequence
+
 LONGEST_SHOWN = 160  # characters of a line that an error's text shows
 
 
@@ -29,19 +31,24 @@ class Unanswered(Disconnected):
 
     def __init__(self, words: str, line: str) -> None:
         super().__init__(f"{words}; this had no reply, and may have been done: {shown(line)}")
-        self.line = line
+        self.words, self.line = words, line
 
 
 class Ended(Error):
     """The server ended the session. `cause` is `long`, `slow`, `memory` or `full`. What had no reply wasn't done."""
 
-    def __init__(self, cause: str, line: str = "") -> None:
-        super().__init__(f"the server ended the session: {cause}" + (f"; not done: {shown(line)}" if line else ""))
+    def __init__(self, cause: str, line: str = "", words: str = "") -> None:
+        words = words or f"the server ended the session: {cause}"
+        super().__init__(words + (f"; not done: {shown(line)}" if line else ""))
         self.cause, self.line = cause, line
 
     def about(self, line: str) -> Ended:
         """The same, of a command that is without its reply."""
         return Ended(self.cause, line)
+
+
+class TwoThreads(Error, RuntimeError):
+    """A thread called a connection while another one was in a call of it. The call did nothing."""
 
 
 class Refused(Error):
@@ -211,6 +218,30 @@ class SomeRefused(Error):
         told = "".join(f"\n  {error}" for error in first)
         super().__init__(f"{refused} of {sent} commands were refused" + (", the first:" if first else "") + told)
         self.sent, self.refused, self.first = sent, refused, first
+
+
+WHY_ENDED = {
+    "slow": "the server ended the session, as too little was read of what it sent (end slow)",
+    "memory": "the server ended the session, as it had no memory left (end memory)",
+    "full": "the server takes no further session (end full)",
+}
+
+
+def of_live(error: Error, queries: Sequence[str], before: Error | None = None) -> Error:
+    """An error that ended live answers, in one sentence which names their queries. `before` is what they were lost by,
+    before a new start failed by this error."""
+    if not queries or not isinstance(error, (Disconnected, Ended)):
+        return error
+    reasons = dict.fromkeys(reason(one) for one in (before, error) if one is not None)
+    words = f"the live answers of {', '.join(queries)} ended: {', and a new start failed: '.join(reasons)}"
+    return Ended(error.cause, "", words) if isinstance(error, Ended) else Disconnected(words)
+
+
+def reason(error: Error) -> str:
+    """What went wrong, without the command that was under way."""
+    if isinstance(error, Ended):
+        return WHY_ENDED.get(error.cause, str(error))
+    return error.words if isinstance(error, Unanswered) else str(error)
 
 
 def shown(text: str) -> str:

@@ -2,15 +2,16 @@
 
 from __future__ import annotations
 
-import math
+import contextlib
+import logging
 import time
-from collections import deque
-from typing import Iterator, Sequence, TypeVar
+from typing import Callable, Iterator
 
 from .connection import Connection
-from .errors import Disconnected, Ended, Error, NoQuery, OutOfMemory, Overtaken
-from .listing import FIRST_PAGES, MOST_PAGES, WITHIN, Listing, list_whole
-from .protocol import Answer, Change, Protocol, checked
+from .errors import Disconnected, Ended, Error, NoQuery, OutOfMemory, Overtaken, of_live, reason
+from .kept import Kept, Moment, first_moment, has_come, take_first, take_moment, take_until
+from .listing import FIRST_PAGES, MOST_PAGES, WITHIN, list_whole
+from .protocol import Change
 
 FIRST_PAUSE = 0.05  # seconds before a start that failed is tried again; each further one waits twice as long
 LONGEST_PAUSE = 5.0
@@ -18,60 +19,23 @@ LONGEST_PAUSE = 5.0
 # what may be over after a while: the server isn't there, or isn't yet what it was
 PASSING = (Disconnected, Ended, NoQuery, OutOfMemory, Overtaken)
 
-
-class Kept:
-    """The answers of one query, as `answers`, and the number of the last change that is in them, as `seq`."""
-
-    def __init__(self, query: str) -> None:
-        self.query = checked(query)
-        self.answers: set[Answer] = set()
-        self.seq = 0
-        self._anew: tuple[set[Answer], int] | None = None  # a new listing, which wasn't told yet
-
-    def _listed(self, listing: Listing, protocol: Protocol) -> None:
-        """A listing came to its end that watched the query first. What changed before its last line is in it; what
-        changed after isn't."""
-        seq = listing.seq
-        changes = protocol.changes.setdefault(self.query, deque())
-        while changes and changes[0][0] < listing.at:
-            seq = changes.popleft()[1].seq
-        self._anew = (listing.answers, seq)
-
-    def _restarted(self) -> Change:
-        """What the new listing brings, as one change."""
-        answers, seq = self._anew or (self.answers, self.seq)
-        came, went = frozenset(answers - self.answers), frozenset(self.answers - answers)
-        change = Change(seq, came, went, restarted=True, lost=seq < self.seq)
-        self.answers, self.seq, self._anew = answers, seq, None
-        return change
+log = logging.getLogger("djq")
 
 
-K = TypeVar("K", bound=Kept)
+class Waits:
+    """The pauses between starts that fail, which grow. What each waits for is logged as a warning, once each reason."""
 
+    def __init__(self, what: str) -> None:
+        self._what, self._pause = what, FIRST_PAUSE
+        self._told: set[str] = set()
 
-def take_first(kept: Sequence[K], protocol: Protocol, until: float = math.inf) -> tuple[K, Change] | None:
-    """The change that came first, once it is in the answers; none where none has come up to the number `until`."""
-    for one in kept:
-        if one._anew is not None:
-            return one, one._restarted()
-    waiting = [(protocol.changes[one.query], one) for one in kept if protocol.changes.get(one.query)]
-    if not waiting:
-        return None
-    changes, first = min(waiting, key=lambda pair: pair[0][0][0])
-    change = changes[0][1]
-    if change.seq > until:
-        return None
-    # it leaves the queue last, and what was done of it before comes to the same when it is done again
-    first.answers -= change.went
-    first.answers |= change.came
-    first.seq = change.seq
-    del changes[0]
-    return first, change
-
-
-def take_until(kept: Sequence[K], protocol: Protocol, seq: int) -> list[tuple[K, Change]]:
-    """The changes that have come, up to this one, in order."""
-    return list(iter(lambda: take_first(kept, protocol, seq), None))
+    def next(self, error: Error | None) -> float:
+        """The seconds to wait for after this."""
+        pause, self._pause = self._pause, min(2 * self._pause, LONGEST_PAUSE)
+        if error is not None and reason(error) not in self._told:
+            self._told.add(reason(error))
+            log.warning("%s wait: %s", self._what, reason(error))
+        return pause
 
 
 class Live(Kept):
@@ -122,8 +86,9 @@ class Lives:
     starts anew, and what was missed comes as one change of each query, with `restarted`.
 
     - `within`: the seconds that a listing may take, before it raises `Overtaken`.
-    - `reconnect`: where the start anew fails, since the server isn't there or doesn't know the query yet, it is tried
-      again, with growing pauses. Without it what failed is raised, and the next call tries again.
+    - `reconnect`: where a start fails, the first one too, since the server isn't there or doesn't know the query yet,
+      it is tried again, with growing pauses, and what it waits for is logged. Without it what failed is raised, in one
+      sentence that names the queries, and the next call tries again.
     - `ping`: where nothing came for so many seconds the server is asked for a reply, so that one that is stopped is
       found out. `timeout` is how long it may take, else as many seconds again.
     """
@@ -137,17 +102,19 @@ class Lives:
         reconnect: bool = False,
         ping: float | None = None,
     ) -> None:
-        self.seq = 0  # up to which change all sets are told, by the last `sync`
-        self._open = lambda: Connection(host, port, timeout if timeout is not None else ping)
+        self.seq = 0  # up to which change all sets are told, by the last `sync` or `next_moment`
+        self._open: Callable[[], Connection] = lambda: Connection(host, port, timeout if timeout is not None else ping)
         self._within, self._reconnect, self._ping = within, reconnect, ping
         self._lives: list[Live] = []
         self._most = MOST_PAGES  # that a listing asks for in one turn
         self._closed = False
         self._heard = time.monotonic()  # when bytes came last
-        self._connection = self._open()
-        self._whole = True  # whether all queries are watched and listed over the connection
+        self._made: Connection | None = None
+        self._whole = False  # whether all queries are watched and listed over the connection
+        self._lost: Error | None = None  # what the last session was lost by, until another one is whole
 
     def __enter__(self) -> Lives:
+        self._connect()
         return self
 
     def __exit__(self, *_: object) -> None:
@@ -158,12 +125,12 @@ class Lives:
 
     def close(self) -> None:
         """Closes the connection."""
-        self._closed = True
-        self._connection.close()
+        self._closed, self._lost = True, None
+        self._drop()
 
     def fileno(self) -> int:
         """The descriptor to wait for; after a change with `restarted` it is another, and -1 while there is none."""
-        return self._connection.fileno()
+        return -1 if self._made is None else self._made.fileno()
 
     def add(self, query: str) -> Live:
         """One more query; where it is kept already, that."""
@@ -171,7 +138,8 @@ class Lives:
             if live.query == query:
                 return live
         live = Live(self, query)
-        self._begin(live)
+        with self._naming(query):
+            self._begin(live)
         live._restarted()
         self._lives.append(live)
         return live
@@ -204,35 +172,88 @@ class Lives:
         """The changes that have come, without waiting: all that are behind a descriptor that can be read."""
         return list(iter(lambda: self.next(0), None))
 
+    def moments(self, timeout: float | None = None) -> Iterator[Moment]:
+        """As `next_moment`, one after another; with a timeout, until none came for so many seconds."""
+        while (moment := self.next_moment(timeout)) is not None:
+            yield moment
+
+    def next_moment(self, timeout: float | None = None) -> Moment | None:
+        """All that the next change of rows did to the queries, together: behind it all sets are those of one moment,
+        whose number is `seq` then. None where none came for so many seconds. Where nothing has come behind a change yet
+        it costs a round trip to know that all of it has."""
+        until = None if timeout is None else time.monotonic() + timeout
+        with self._naming():
+            while self._come(timeout, self._lives):
+                protocol = self._connection._protocol
+                seq, whole = first_moment(self._lives, protocol)
+                fence = seq if whole else self._fence(until)
+                if fence is not None:
+                    self.seq = fence if seq is None else seq
+                    return take_moment(self._lives, protocol, self.seq)
+                timeout = None if until is None else until - time.monotonic()
+        return None
+
     def sync(self) -> list[tuple[Live, Change]]:
         """Waits until all sets are told up to one change, which is `seq` then, and gives the changes till there."""
         if not self._lives:
             return []
-        while True:
-            try:
-                self._check()
-                seq = self._connection.watch(self._lives[0].query)
-                break
-            except (Ended, Disconnected):
-                self._restart(None)
+        with self._naming():
+            while (seq := self._fence(None)) is None:
+                pass
         self.seq = seq
         return take_until(self._lives, self._connection._protocol, seq)
 
     # Inside
 
+    @property
+    def _connection(self) -> Connection:
+        if self._made is None:
+            raise Disconnected("not connected yet")
+        return self._made
+
+    def _connect(self) -> None:
+        """Connects, where no query was added, which does it too."""
+        if self._made is None:
+            self._restart(None, None, Waits("live answers"))
+
+    @contextlib.contextmanager
+    def _naming(self, *further: str) -> Iterator[None]:
+        """Names the queries in what ends them."""
+        try:
+            yield
+        except (Ended, Disconnected) as error:
+            queries = [*(live.query for live in self._lives), *further]
+            raise of_live(error, queries, self._lost) from error.__cause__
+
     def _next(self, timeout: float | None, lives: list[Live]) -> tuple[Live, Change] | None:
+        with self._naming():
+            if not self._come(timeout, lives):
+                return None
+            return take_first(lives, self._connection._protocol)
+
+    def _come(self, timeout: float | None, lives: list[Live]) -> bool:
+        """Waits until there is a change to take; false where none came in so many seconds."""
         until = None if timeout is None else time.monotonic() + timeout
         left = timeout
-        while not self._whole or (told := take_first(lives, self._connection._protocol)) is None:
+        while not self._whole or not has_come(lives, self._connection._protocol):
             if left is not None and left < 0:
-                return None
+                return False
             try:
                 self._check()
                 self._wait(left)
-            except (Ended, Disconnected):
-                self._restart(until)
+            except (Ended, Disconnected) as error:
+                self._restart(until, error)
             left = None if until is None else until - time.monotonic()
-        return told
+        return True
+
+    def _fence(self, until: float | None) -> int | None:
+        """The number of a change up to which all have come; none where the session was lost meanwhile."""
+        try:
+            self._check()
+            return self._connection.watch(self._lives[0].query)
+        except (Ended, Disconnected) as error:
+            self._restart(until, error)
+            return None
 
     def _wait(self, left: float | None) -> None:
         """Waits for bytes at most so long, and asks for a reply where none came for long."""
@@ -250,22 +271,27 @@ class Lives:
 
     def _check(self) -> None:
         """Raises where there is no connection, or one that isn't begun whole."""
-        if self._closed or not self._whole:
-            raise Disconnected("closed")
+        if self._closed:
+            raise Disconnected("they were closed")
+        if not self._whole:
+            raise self._lost or Disconnected("not connected yet")
         self._connection._check()
 
     def _begin(self, live: Live) -> None:
         """Watches and lists a further query, and where the session is ended as too slow a reader, again with less."""
-        until = time.monotonic() + self._within
+        until, waits = time.monotonic() + self._within, Waits(f"the live answers of {live.query}")
         while True:
             try:
                 if not self._whole or self._connection._protocol.ended is not None:
-                    self._restart(until)
+                    self._restart(None, self._lost, waits)
                 self._start(live)
                 return
-            except Ended as error:
-                if error.cause != "slow" or time.monotonic() > until:
+            except PASSING as error:
+                slow = isinstance(error, Ended) and error.cause == "slow" and time.monotonic() <= until
+                if not slow and not self._reconnect:
+                    self._unwatch(live.query)
                     raise
+                self._pause(0 if slow else waits.next(error))
             except Error:
                 self._unwatch(live.query)
                 raise
@@ -281,36 +307,56 @@ class Lives:
             raise
         live._listed(listing, connection._protocol)
 
-    def _restart(self, until: float | None) -> None:
+    def _restart(self, until: float | None, lost: Error | None, waits: Waits | None = None) -> None:
         """Starts anew. Where that fails and may come right, it is tried again as long as there is time, or raised."""
         if self._closed:
-            raise Disconnected("closed")
-        pause = FIRST_PAUSE
-        while not self._try():
+            raise Disconnected("they were closed")
+        self._lost = self._lost or lost
+        waits = waits or Waits(f"the live answers of {', '.join(live.query for live in self._lives)}")
+        while (error := self._try()) is not None:
+            pause = waits.next(error)
             left = pause if until is None else until - time.monotonic()
             if left <= 0:
                 return
             time.sleep(min(pause, left))
-            pause = min(2 * pause, LONGEST_PAUSE)
 
-    def _try(self) -> bool:
-        """One start anew of all queries, which is whole or isn't."""
+    def _try(self) -> Error | None:
+        """One start anew of all queries, which is whole, or isn't: then what it failed by, where that may be over after
+        a while and is waited for."""
         self._whole = False
-        self._connection.close()
+        self._drop()
         try:
-            self._connection = self._open()
+            self._made = self._open()
             for live in self._lives:
                 self._start(live)
             self._heard = time.monotonic()
-            self._whole = True
-        except PASSING:
-            if not self._reconnect:
+            self._whole, self._lost = True, None
+            return None
+        except PASSING as error:
+            if not self._reconnect and not self._with_less(error):
                 raise
+            return error
         finally:
             if not self._whole:
-                self._connection.close()
-        return self._whole
+                self._drop()
+
+    def _with_less(self, error: Error) -> bool:
+        """Whether the next start asks for less at once, as this one was too slow a reader."""
+        return isinstance(error, Ended) and error.cause == "slow" and self._most > FIRST_PAGES
+
+    def _pause(self, seconds: float) -> None:
+        """Waits, and reads meanwhile what comes for other sets."""
+        until = time.monotonic() + seconds
+        while (left := until - time.monotonic()) > 0:
+            if self._whole and self._connection._protocol.ended is None:
+                self._connection._move(left)
+            else:
+                time.sleep(left)
+
+    def _drop(self) -> None:
+        if self._made is not None:
+            self._made.close()
 
     def _unwatch(self, query: str) -> None:
-        if self._connection._protocol.ended is None and query in self._connection._watched:
+        if self._whole and self._connection._protocol.ended is None and query in self._connection._watched:
             self._connection.unwatch(query)

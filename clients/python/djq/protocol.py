@@ -5,8 +5,9 @@ from __future__ import annotations
 import re
 from collections import deque
 from dataclasses import dataclass
-from typing import Callable, Generic, Sequence, TypeVar, Union
+from typing import Any, Callable, Generic, Sequence, TypeVar, Union
 
+from . import syntax
 from .errors import REFUSALS, BadName, Cyclic, Ended, Error, NotFreeConnex, Refused, Stale, TooLong
 
 Value = Union[int, str]
@@ -30,6 +31,10 @@ _NEEDS_ESCAPE = re.compile(r'["\\\n]')
 _VALUE = re.compile(r' *(?:(-?[0-9]+)|"((?:[^"\\]|\\.)*)")')
 _WORD = re.compile(r'"(?:[^"\\]|\\.)*"|[^ "]+')  # of a line: a text with its quotes, or what stands between spaces
 _NAME = re.compile(r"[a-z][a-z0-9_]{0,31}")
+_RELATION = re.compile(r"([a-z][a-z0-9_]*) *\(")
+_QUOTED = re.compile(r'"(?:[^"\\]|\\.)*"', re.DOTALL)
+_ESCAPE_OR_END = re.compile(r"\\.|\n", re.DOTALL)
+_BLANKS = re.compile(r" *[\t\r\n][ \t\r\n]*")
 _CHANGED = re.compile(r"^ok (?:added [0-9]+ 1|removed [0-9]+ 0)$", re.MULTILINE)  # the first copy came, the last went
 
 
@@ -50,6 +55,21 @@ def spell_union(name: str, members: tuple[str, ...]) -> str:
 def spell_line(command: str, name: str, values: tuple[Value, ...] = ()) -> str:
     """The line of a command that names something and gives values. Raises `BadName` and `TooLong`."""
     return fitting(" ".join([command, checked(name), *map(spell, values)]))
+
+
+def spell_query(text: str) -> str:
+    """The line that registers a query, whose text may go over several lines and have tabs: outside of texts each is a
+    space, and within one a line end is said as the server reads it. Raises `TooLong`."""
+    at, pieces = 0, []
+    for found in _QUOTED.finditer(text):
+        pieces += [_BLANKS.sub(" ", text[at : found.start()]), _ESCAPE_OR_END.sub(_spell_end, found[0])]
+        at = found.end()
+    pieces.append(_BLANKS.sub(" ", text[at:]))
+    return fitting("query " + "".join(pieces).strip(" "))
+
+
+def _spell_end(found: re.Match[str]) -> str:
+    return "\\n" if found[0] == "\n" else found[0]
 
 
 def checked(name: str) -> str:
@@ -220,6 +240,18 @@ class Pending(Generic[T]):
         self._result: T | None = None
         self._error: Error | None = None
 
+    @classmethod
+    def failed(cls, line: str, error: Error) -> Pending[T]:
+        """Of a command that isn't sent, since one before it has failed."""
+        pending: Pending[T] = cls(line, lambda lines: None)
+        pending.fail(error)
+        return pending
+
+    @property
+    def failure(self) -> Error | None:
+        """What the command was refused with, or is without a reply by."""
+        return self._error
+
     def result(self) -> T:
         """The reply; raises what the server refused."""
         if self._error is not None:
@@ -325,7 +357,11 @@ def refusal(reply: str, line: str = "", columns: dict[str, tuple[str, ...]] | No
 
 def what_is_wrong(number: int, line: str, columns: dict[str, tuple[str, ...]]) -> str:
     """What is wrong with a line that was refused by this number, where the line and the columns tell it."""
-    command, _, rest = line.partition(" ")
+    command, _, rest = line.strip(" ").partition(" ")
+    if number == 1:
+        return "; ".join(syntax.of_line(line.strip(" ")))
+    if number == 3 and command == "query":
+        return "; ".join(filter(None, map(syntax.of_relation, _RELATION.findall(rest.partition("<-")[2]))))
     if number == 18:
         return "no batch is open" if command in ("done", "abandon") else "a batch is open"
     name, _, said = rest.partition(" ")
@@ -453,7 +489,7 @@ class Protocol:
         self._lines = 0
         self._incoming = bytearray()
         self._kept: ReplyCount | None = None
-        self._pending: deque[Pending | Rows] = deque()
+        self._pending: deque[Pending[Any] | Rows] = deque()
         self._came: dict[str, set[Answer]] = {}
         self._went: dict[str, set[Answer]] = {}
 
@@ -477,7 +513,7 @@ class Protocol:
         self._queue(rows, text, len(lines))
         return rows
 
-    def _queue(self, pending: Pending | Rows, line: bytes, replies: int) -> None:
+    def _queue(self, pending: Pending[Any] | Rows, line: bytes, replies: int) -> None:
         self.outgoing += line
         self._pending.append(pending)
         self.due += replies

@@ -21,7 +21,7 @@ class Keyed:
     def __init__(self, relation: str, types: Sequence[type | str], key: int) -> None:
         if not 1 <= key <= len(types):
             raise ValueError("a key has at least one column, and at most all")
-        self.relation, self.key = relation, key
+        self.relation, self.types, self.key = relation, tuple(types), key
         self._rows: dict[Answer, set[Answer]] = {}
         columns = ",".join(f"c{place}" for place in range(len(types)))
         self._query = f"{relation}_rows"

@@ -8,7 +8,7 @@
 //! which is the program over any of them.
 //!
 //! What surprises: a failed call of the system is said on standard error, with the system's reason, by
-//! the stream or the hub that it failed. Why the program ends otherwise `main` says there.
+//! the stream, the hub or the disk that it failed. Why the program ends otherwise `main` says there.
 //!
 //! ```text
 //! djq run < stdin > stdout          one session, status 0 at its end, at `quit` and at `stop`
@@ -21,7 +21,7 @@ ghost use Rattle.std.specs.Prelude.{◌≡◌};
 
 use djq_counters::{Blanks, Ledgers, Steps};
 use djq_program::{Status, Telling, run_program};
-use djq_system::{FileDisk, StdSink, StdSource, TcpHub};
+use djq_system::{FileDisk, StandardInput, StandardOutput, StdSink, StdSource, TcpHub};
 use std::alloc::AllocError;
 use std::marker::Brand;
 use std::process::ExitCode;
@@ -33,11 +33,15 @@ fn main(rt: HostRuntime) -> ExitCode {
     ExitCode::from(status.number())
 }
 
-/// Says on standard error why the program ends so. What failed at the hub or at a standard stream they have said
-/// themselves, with the system's reason.
+/// Says on standard error why the program ends so. What failed at the hub, at the disk or at a standard stream they
+/// have said themselves, with the system's reason.
 fn say_why(rt: &HostRuntime, status: Status) {
     let reason = match status {
-        Status::Done | Status::HubFault | Status::ReadFault | Status::WriteFault => return,
+        Status::Done
+        | Status::HubFault
+        | Status::DiskFault
+        | Status::ReadFault
+        | Status::WriteFault => return,
         Status::Schedule(line) => {
             let _ = eprintln!(rt; "djq: line {line} of the schedule is outside its grammar");
             return;
@@ -50,7 +54,6 @@ fn say_why(rt: &HostRuntime, status: Status) {
             let _ = eprintln!(rt; "djq: line {line} is none that a mirror can follow");
             return;
         }
-        Status::DiskFault => "the log can't be opened, read or written",
         Status::LogFull => "the log is full",
         Status::Usage => "these words are no command",
         Status::TurnsUsed => "all turns were taken",
@@ -73,8 +76,8 @@ fn start<L: Ledgers>(rt: &HostRuntime, blanks: Blanks) -> Result<Status, AllocEr
     Ok(run_program(
         alloc,
         &words,
-        &mut StdSource::new(Telling::new(rt.reader(), *rt)),
-        &mut StdSink::new(Telling::new(io::writer(rt), *rt)),
+        &mut StdSource::new(Telling::new(StandardInput::new(rt.reader()), *rt)),
+        &mut StdSink::new(Telling::new(StandardOutput::new(io::writer(rt), *rt), *rt)),
         &mut TcpHub::new(*rt, alloc)?,
         &mut FileDisk::new(*rt),
         &mut Steps::<L>::new(rt, blanks),

@@ -2,3 +2,4 @@ pub mod StdSink
 pub mod StdSource
 pub mod Tcp
 pub mod Found
+pub mod Request

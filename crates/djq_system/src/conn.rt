@@ -1,35 +1,29 @@
-ghost use Rattle.std.specs.Prelude.{◌<◌, length};
+ghost use Rattle.std.specs.Prelude.{◌≡◌, ℕ, ◌<◌, true, length, IfSome};
 ghost use Rattle.djq_io.specs.Hub.{Takes};
 ghost use Rattle.djq_system.specs.Found.{FoundFits};
 
+use crate::request::{Beginning, beginning_of};
 use djq_io::Sent;
 use mio::event::Event;
 use mio::net::TcpStream;
-use std::io::{ErrorKind, Read, Write};
+use std::io::{self, ErrorKind, Read, Write};
 use std::net::Shutdown;
 
 /// The connection of a session.
 #[derive(Drop)]
 pub(crate) struct Conn {
     pub id: u64,
-    pub stream: TcpStream,
+    stream: TcpStream,
     /// Whether it may have bytes. A read that finds none says no, and the system says yes again.
     pub ready: bool,
-    /// Whether bytes of it were read already.
-    pub heard: bool,
+    /// Whether its first line was looked at, which is no request of HTTP.
+    heard: bool,
+    /// Whether the client sends no more, so that a line that isn't whole stays so.
+    over: bool,
+    /// Whether the last send took nothing. The system says when bytes are taken again, and isn't
+    /// asked before that: a client that doesn't read costs the others no call of the system.
+    full: bool,
 }
-
-/// How requests of HTTP begin that a browser sends for a page of whatever origin. No line of the protocol
-/// begins so.
-const REQUESTS: [&[u8]; 7] = [
-    b"GET /",
-    b"POST /",
-    b"HEAD /",
-    b"PUT /",
-    b"PATCH /",
-    b"DELETE /",
-    b"OPTIONS ",
-];
 
 /// What a read of a connection found.
 #[derive(Clone, Copy, Debug, PartialEq, Eq)]
@@ -45,42 +39,112 @@ pub(crate) enum Found {
 const MOST_READ_AWAY: u32 = 64;
 
 impl Conn {
-    /// Reads what the client sent. One that begins with a request of HTTP has ended: a web page can send such
-    /// a request to any port of its reader's machine, with lines of the protocol in it.
+    /// The connection of a session with this id, which may have bytes.
+    pub(crate) fn new(id: u64, stream: TcpStream) -> Self {
+        Conn {
+            id,
+            stream,
+            ready: true,
+            heard: false,
+            over: false,
+            full: false,
+        }
+    }
+
+    /// Reads what the client sent, once its first line was looked at.
     pub(crate) fn read(&mut self, buf: &mut [u8]) -> Found
+        ensures { FoundFits result (length buf.new) }
+    {
+        if self.heard {
+            self.take(buf)
+        } else {
+            self.begin(buf)
+        }
+    }
+
+    /// Reads what the client sent.
+    fn take(&mut self, buf: &mut [u8]) -> Found
         ensures { FoundFits result (length buf.new) }
     {
         match self.stream.read(buf) {
             Ok(0) => Found::End,
-            Ok(n) => {
-                if !self.heard && is_request(&buf[..n]) {
-                    return Found::End;
-                }
-                self.heard = true;
-                Found::Bytes(n)
-            }
-            Err(error) => match error.kind() {
-                ErrorKind::WouldBlock => {
-                    self.ready = false;
-                    Found::Nothing
-                }
-                ErrorKind::Interrupted => Found::Nothing,
-                _ => Found::Broken,
-            },
+            Ok(n) => Found::Bytes(n),
+            Err(error) => self.found_none(error),
         }
     }
 
-    /// Sends a first part of the piece.
-    fn send(&mut self, piece: &[u8]) -> Sent
-        ensures { Takes result piece.now }
+    /// Looks at the first line as a whole, and leaves it with the system until it is. A connection
+    /// that begins with a request of HTTP has ended: a web page can send such a request to any port
+    /// of its reader's machine, with lines of the protocol in it.
+    #[inline(never)]
+    fn begin(&mut self, buf: &mut [u8]) -> Found
+        ensures { FoundFits result (length buf.new) }
     {
+        let count = match self.stream.peek(buf) {
+            Ok(0) => return Found::End,
+            Ok(count) => count,
+            Err(error) => return self.found_none(error),
+        };
+        match beginning_of(&buf[..count]) {
+            Beginning::EmptyLines(end) => self.take(&mut buf[..end]),
+            Beginning::Request => Found::End,
+            Beginning::Part if !self.over && count < buf.len() => {
+                self.ready = false;
+                Found::Nothing
+            }
+            Beginning::Part | Beginning::Line => {
+                self.heard = true;
+                self.take(buf)
+            }
+        }
+    }
+
+    /// What a read found that failed so.
+    fn found_none(&mut self, error: io::Error) -> Found
+        ensures { (room : ℕ) → FoundFits result room }
+    {
+        match error.kind() {
+            ErrorKind::WouldBlock => {
+                self.ready = false;
+                Found::Nothing
+            }
+            ErrorKind::Interrupted => Found::Nothing,
+            _ => Found::Broken,
+        }
+    }
+
+    /// Sends a first part of the piece, unless the connection is full.
+    fn send(&mut self, piece: &[u8]) -> Sent
+        ensures takes { Takes result piece.now }
+        ensures full { self.old.full ≡ true → result ≡ Sent.Again }
+    {
+        if self.full {
+            return Sent::Again;
+        }
         match self.stream.write(piece) {
             Ok(0) => Sent::Gone,
             Ok(n) => Sent::Took(n),
             Err(error) => match error.kind() {
-                ErrorKind::WouldBlock | ErrorKind::Interrupted => Sent::Again,
+                ErrorKind::WouldBlock => {
+                    self.full = true;
+                    Sent::Again
+                }
+                ErrorKind::Interrupted => Sent::Again,
                 _ => Sent::Gone,
             },
+        }
+    }
+
+    /// Notes what the system tells of it.
+    fn note(&mut self, event: &Event) {
+        if event.is_readable() || event.is_read_closed() || event.is_error() {
+            self.ready = true;
+        }
+        if event.is_read_closed() || event.is_error() {
+            self.over = true;
+        }
+        if event.is_writable() || event.is_write_closed() || event.is_error() {
+            self.full = false;
         }
     }
 
@@ -99,17 +163,17 @@ impl Conn {
     }
 }
 
-/// Whether bytes begin as a request of HTTP does.
-fn is_request(bytes: &[u8]) -> bool {
-    REQUESTS.iter().any(|start| bytes.starts_with(start))
+/// Where the connection with this id stands among those with rising ids.
+fn place_of(conns: &[Conn], id: u64) -> Option<usize>
+    ensures { IfSome result (λ at. at < length conns.now) }
+{
+    conns.binary_search_by_key(&id, |conn| conn.id).ok()
 }
 
 /// Notes what the system tells of the connection with this id.
 pub(crate) fn note(conns: &mut [Conn], id: u64, event: &Event) {
-    for conn in conns.iter_mut() {
-        if conn.id == id && (event.is_readable() || event.is_read_closed() || event.is_error()) {
-            conn.ready = true;
-        }
+    if let Some(at) = place_of(conns, id) {
+        conns[at].note(event);
     }
 }
 
@@ -117,20 +181,16 @@ pub(crate) fn note(conns: &mut [Conn], id: u64, event: &Event) {
 pub(crate) fn send(conns: &mut [Conn], id: u64, piece: &[u8]) -> Sent
     ensures { Takes result piece.now }
 {
-    for conn in conns.iter_mut() {
-        if conn.id == id {
-            return conn.send(piece);
-        }
+    match place_of(conns, id) {
+        Some(at) => conns[at].send(piece),
+        None => Sent::Gone,
     }
-    Sent::Gone
 }
 
 /// Closes the connection with this id.
 pub(crate) fn close(conns: &mut Vec<Conn>, id: u64) {
-    for conn in conns.iter_mut() {
-        if conn.id == id {
-            conn.finish();
-        }
+    if let Some(at) = place_of(conns, id) {
+        conns[at].finish();
     }
     conns.retain(|conn| conn.id != id);
 }

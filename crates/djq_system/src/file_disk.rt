@@ -1,12 +1,14 @@
 ghost use Rattle.std.specs.Prelude.{◌≡◌, ◌+◌, ◌<◌, ◌≤◌, length, None, IfOk};
+ghost use Rattle.djq_io.specs.Faults.{Counted};
 ghost use Rattle.djq_disk.specs.History.{FitsRead};
 ghost use Rattle.djq_disk.specs.DiskFaults.{CountsOpen, CountsLen, CountsDiskRead, CountsDid};
 
+use crate::size_limit::{passes_limit, past_limit};
 use djq_disk::{Disk, DiskDid, DiskLen, DiskOpen, DiskRead};
 use std::fs::{self, Files, OpenOptions, TryLockError};
-use std::io;
+use std::io::{self, Eprint, ErrorKind};
 use std::marker::Model;
-use std::os::unix::fs::FileExt;
+use std::os::unix::fs::{FileExt, OpenOptionsExt};
 use std::path::Path;
 
 /// Past this place no file has a byte.
@@ -15,17 +17,23 @@ const LAST_PLACE: u64 = 9_223_372_036_854_775_807;
 /// How many bytes a read gives at most.
 const READ_BYTES: usize = 1 << 20;
 
+/// Who may read and write a file that is made: its owner.
+const MODE: u32 = 0o600;
+
 /// A file of the operating system as a disk, seen as its count of faults. It tells nothing.
 ///
-/// Until it is opened, each other call fails.
+/// Until it is opened, each other call fails. On standard error it says of each call that fails which
+/// one it was, the path as it was given, and the system's reason.
 #[derive(Drop)]
-pub struct FileDisk<R: Files<File = fs::File> + Drop> {
+pub struct FileDisk<R: Files<File = fs::File> + AllocGlobal + Eprint + Drop> {
     rt: R,
     file: Option<fs::File>,
+    /// The path that was opened last, where there was memory for it.
+    path: Option<String>,
     faults: u64,
 }
 
-impl<R: Files<File = fs::File> + Drop> Model for FileDisk<R> {
+impl<R: Files<File = fs::File> + AllocGlobal + Eprint + Drop> Model for FileDisk<R> {
     ghost use Rattle.std.specs.Prelude.{ℕ};
 
     ghost Value = { ℕ };
@@ -33,75 +41,128 @@ impl<R: Files<File = fs::File> + Drop> Model for FileDisk<R> {
     ghost view = { λ d. d.faults };
 }
 
+/// A call of the system that failed, as it is said, and why.
+#[derive(Drop)]
+struct Failure {
+    call: &'static str,
+    error: io::Error,
+}
+
 /// Opens the file at the path for this process alone, where it makes it if none is there.
-fn open_alone<R: Files<File = fs::File>>(rt: &R, path: &str) -> io::Result<fs::File> {
-    let file = OpenOptions::new()
-        .read(true)
-        .write(true)
-        .create(true)
-        .open(rt, path)?;
-    match file.try_lock() {
-        Ok(()) => {}
-        Err(TryLockError::WouldBlock) => return Err(io::ErrorKind::WouldBlock.into()),
-        Err(TryLockError::Error(error)) => return Err(error),
-    }
-    sync_folder(rt, path)?;
+fn open_alone<R: Files<File = fs::File> + AllocGlobal>(
+    rt: &R,
+    path: &str,
+) -> Result<fs::File, Failure> {
+    let file = open_or_make(rt, path).map_err(|error| Failure {
+        call: "opening",
+        error,
+    })?;
+    lock(&file).map_err(|error| Failure {
+        call: "locking",
+        error,
+    })?;
+    sync_folder(rt, path).map_err(|error| Failure {
+        call: "syncing the folder of",
+        error,
+    })?;
     Ok(file)
 }
 
-/// Syncs the folder of a path, so that a file that was made there outlives a stop.
-fn sync_folder<R: Files<File = fs::File>>(rt: &R, path: &str) -> io::Result<()> {
-    let folder = match Path::new(path).parent() {
+/// Opens the file at the path, where it makes it for its owner alone if none is there.
+fn open_or_make<R: Files<File = fs::File>>(rt: &R, path: &str) -> io::Result<fs::File> {
+    let opened = OpenOptions::new()
+        .read(true)
+        .write(true)
+        .create(true)
+        .mode(MODE)
+        .open(rt, path);
+    match opened {
+        // A file that isn't there is made, so what isn't there is its folder.
+        Err(error) if error.kind() == ErrorKind::NotFound => {
+            Err(io::Error::new(ErrorKind::NotFound, "no such folder"))
+        }
+        opened => opened,
+    }
+}
+
+/// Takes the lock on the file, unless another process has it.
+fn lock(file: &fs::File) -> io::Result<()> {
+    match file.try_lock() {
+        Ok(()) => Ok(()),
+        Err(TryLockError::WouldBlock) => Err(io::Error::new(
+            ErrorKind::WouldBlock,
+            "locked by another process",
+        )),
+        Err(TryLockError::Error(error)) => Err(error),
+    }
+}
+
+/// Syncs the folder that has the file at the path, also behind symbolic links, so that a file that was
+/// made there outlives a stop.
+fn sync_folder<R: Files<File = fs::File> + AllocGlobal>(rt: &R, path: &str) -> io::Result<()> {
+    let whole = fs::canonicalize(rt, path)?;
+    let folder = match whole.as_path().parent() {
         Some(folder) => folder,
         None => Path::new("/"),
     };
-    let folder = if folder == Path::new("") {
-        Path::new(".")
-    } else {
-        folder
-    };
     OpenOptions::new().read(true).open(rt, folder)?.sync_all()
+}
+
+/// The failure of a call before an open that was ready.
+fn not_open() -> io::Error {
+    io::Error::new(ErrorKind::NotConnected, "no file is open")
 }
 
 /// How many bytes the file has.
 fn measure(file: &Option<fs::File>) -> io::Result<u64> {
     match file {
         Some(file) => Ok(file.metadata()?.len()),
-        None => Err(io::ErrorKind::NotConnected.into()),
+        None => Err(not_open()),
     }
 }
 
-/// Reads some bytes, or none where the file ends before the place.
+/// Reads some bytes, or none where the file ends before the place. A signal doesn't end it.
 fn read_some(file: &Option<fs::File>, at: u64, buf: &mut [u8]) -> io::Result<usize>
     ensures { IfOk result (λ n. (n ≤ length buf.new) × (at + n ≤ 18446744073709551615)) }
 {
     let Some(file) = file else {
-        return Err(io::ErrorKind::NotConnected.into());
+        return Err(not_open());
     };
     if LAST_PLACE < at {
         return Ok(0);
     }
     let most = buf.len().min(READ_BYTES);
-    file.read_at(&mut buf[..most], at)
+    for _ in 0..u64::MAX {
+        match file.read_at(&mut buf[..most], at) {
+            Err(error) if error.kind() == ErrorKind::Interrupted => {}
+            read => return read,
+        }
+    }
+    Err(ErrorKind::Interrupted.into())
 }
 
-/// Writes the whole piece.
-fn write_all(file: &Option<fs::File>, at: u64, piece: &[u8]) -> io::Result<()> {
-    match file {
-        Some(file) => file.write_all_at(piece, at),
-        None => Err(io::ErrorKind::NotConnected.into()),
+/// Writes the whole piece, unless it would pass the process's limit of a file's size.
+fn write_all(file: &Option<fs::File>, at: u64, piece: &[u8]) -> io::Result<()>
+    requires { at + length piece.now ≤ 18446744073709551615 }
+{
+    let Some(file) = file else {
+        return Err(not_open());
+    };
+    if passes_limit(at + piece.len() as u64) {
+        return Err(past_limit());
     }
+    file.write_all_at(piece, at)
 }
 
 /// Waits until all is on the disk.
 fn sync_all(file: &Option<fs::File>) -> io::Result<()> {
     match file {
         Some(file) => file.sync_all(),
-        None => Err(io::ErrorKind::NotConnected.into()),
+        None => Err(not_open()),
     }
 }
 
-impl<R: Files<File = fs::File> + Drop> FileDisk<R> {
+impl<R: Files<File = fs::File> + AllocGlobal + Eprint + Drop> FileDisk<R> {
     /// A disk without a file, over the runtime.
     pub fn new(rt: R) -> Self
         ensures { result ≡ 0 }
@@ -109,25 +170,38 @@ impl<R: Files<File = fs::File> + Drop> FileDisk<R> {
         FileDisk {
             rt,
             file: None,
+            path: None,
             faults: 0,
         }
     }
 
+    /// Counts a fault, and says which call failed on which file, and why.
+    fn fail(&mut self, call: &str, error: io::Error)
+        ensures { Counted self.old self.new }
+    {
+        let path = match &self.path {
+            Some(path) => path.as_str(),
+            None => "",
+        };
+        let _ = eprintln!(self.rt; "djq: {call} the log {path} failed: {error}");
+        self.faults = self.faults.saturating_add(1);
+    }
+
     /// Says what the system did, and counts a fault where it failed.
-    fn did(&mut self, answer: io::Result<()>) -> DiskDid
+    fn did(&mut self, call: &str, answer: io::Result<()>) -> DiskDid
         ensures { CountsDid result self.old self.new }
     {
         match answer {
             Ok(()) => DiskDid::Done,
-            Err(_) => {
-                self.faults = self.faults.saturating_add(1);
+            Err(error) => {
+                self.fail(call, error);
                 DiskDid::Failed
             }
         }
     }
 }
 
-impl<R: Files<File = fs::File> + Drop> Disk for FileDisk<R> {
+impl<R: Files<File = fs::File> + AllocGlobal + Eprint + Drop> Disk for FileDisk<R> {
     ghost told = { λ _. None };
 
     ghost faults = { λ faults. faults };
@@ -135,13 +209,14 @@ impl<R: Files<File = fs::File> + Drop> Disk for FileDisk<R> {
     fn open(&mut self, path: &str) -> DiskOpen
         ensures faults { CountsOpen result self.old self.new }
     {
+        self.path = String::from_str(self.rt.alloc(), path).ok();
         match open_alone(&self.rt, path) {
             Ok(file) => {
                 self.file = Some(file);
                 DiskOpen::Ready
             }
-            Err(_) => {
-                self.faults = self.faults.saturating_add(1);
+            Err(Failure { call, error }) => {
+                self.fail(call, error);
                 DiskOpen::Failed
             }
         }
@@ -152,8 +227,8 @@ impl<R: Files<File = fs::File> + Drop> Disk for FileDisk<R> {
     {
         match measure(&self.file) {
             Ok(n) => DiskLen::Len(n),
-            Err(_) => {
-                self.faults = self.faults.saturating_add(1);
+            Err(error) => {
+                self.fail("measuring", error);
                 DiskLen::Failed
             }
         }
@@ -167,8 +242,8 @@ impl<R: Files<File = fs::File> + Drop> Disk for FileDisk<R> {
         match read_some(&self.file, at, buf) {
             Ok(0) => DiskRead::End,
             Ok(n) => DiskRead::Got(n),
-            Err(_) => {
-                self.faults = self.faults.saturating_add(1);
+            Err(error) => {
+                self.fail("reading", error);
                 DiskRead::Failed
             }
         }
@@ -179,13 +254,13 @@ impl<R: Files<File = fs::File> + Drop> Disk for FileDisk<R> {
         ensures faults { CountsDid result self.old self.new }
     {
         let answer = write_all(&self.file, at, piece);
-        self.did(answer)
+        self.did("writing", answer)
     }
 
     fn sync(&mut self) -> DiskDid
         ensures faults { CountsDid result self.old self.new }
     {
         let answer = sync_all(&self.file);
-        self.did(answer)
+        self.did("syncing", answer)
     }
 }

@@ -2,11 +2,12 @@
 //! see it.
 //!
 //! [`TcpHub`] is a hub of sessions over TCP, [`FileDisk`] a file as a disk, [`StdSource`] and
-//! [`StdSink`] a reader and a writer of `std::io`. Each is a few lines over std or `mio`. None tells
-//! what bytes it was given (its record is `None`), and each counts its faults.
+//! [`StdSink`] a reader and a writer of `std::io`, such as [`StandardInput`] and [`StandardOutput`]. Each
+//! is a few lines over std, `mio` or `libc`. None tells what bytes it was given (its record is `None`), and
+//! each counts its faults.
 //!
-//! What this crate is not: it reads no lines, has no authentication and no encryption, buffers and
-//! retries nothing. What a client doesn't read stays with the server, which ends such a session by its
+//! What this crate is not: it runs no lines, has no authentication and no encryption, and buffers
+//! nothing. What a client doesn't read stays with the server, which ends such a session by its
 //! own rule.
 //!
 //! # Sockets
@@ -21,33 +22,54 @@
 //!
 //! Nothing that a client does is a fault of the hub, only of its session. A read that fails is
 //! returned as the end of the input, and a send that fails as a session that is gone. A connection that
-//! can't be accepted is only counted. One that begins with a request of HTTP is returned as one whose
-//! input ended: a web page can send such a request to any port of its reader's machine.
+//! can't be accepted is only counted.
+//!
+//! A client that doesn't read costs the others nothing: once a send took none of its bytes, the hub answers
+//! `Again` for that session by itself, until the system says that the connection takes bytes.
+//!
+//! A connection that begins with a request of HTTP is returned as one whose input ended: a web page can send
+//! such a request to any port of its reader's machine. So the first line that isn't empty is looked at as a
+//! whole. It stays with the system until it is, or is too long to be run, or the client sends no more.
 //!
 //! ```text
 //! a client connects              Opened(1)
 //! it sends rel r int             Bytes(1, 10), with the line's end
 //! it sends no more               Ended(1)
-//! another sends GET / HTTP/1.1   Opened(2), and then Ended(2)
+//! another sends PO               Opened(2)
+//! and then ST / HTTP/1.1         Ended(2)
 //! nobody sends anything          Idle, after a quarter of a second
 //! ```
 //!
 //! # Files
 //!
-//! A disk's `open` makes an absent file, takes the lock on it, so that a second server on the same file
-//! fails, and syncs the folder, so that a file that was made outlives a crash. It holds one file at a
+//! A disk's `open` makes an absent file for its owner alone, takes the lock on it, so that a second server
+//! on the same file fails, and syncs the folder, so that a file that was made outlives a crash. Behind a
+//! symbolic link that is the folder of the file itself. It holds one file at a
 //! time. The lock is advisory: a program that doesn't ask for it isn't stopped. Where a sync failed,
 //! what a read gives needn't be on the disk: a caller that goes on has to open the file anew.
+//!
+//! Of each call that fails standard error has a line, with the call, the path and the system's reason.
+//!
+//! # Limits and signals
+//!
+//! A write past the limit of a file's size would end the process by a signal, with nothing said. So it
+//! isn't made, of the log and of a standard output that is a file: it fails. A read or a write that a signal
+//! interrupts is made again. A standard stream that never waits, as another process may have left it, is waited
+//! for.
 #![tactic(auto)]
 
 mod conn;
 mod file_disk;
 mod listening;
+mod request;
+mod size_limit;
+mod standard;
 mod std_sink;
 mod std_source;
 mod tcp_hub;
 
 pub use file_disk::FileDisk;
+pub use standard::{StandardInput, StandardOutput};
 pub use std_sink::StdSink;
 pub use std_source::StdSource;
 pub use tcp_hub::{PLACES, TcpHub};

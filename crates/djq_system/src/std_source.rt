@@ -9,7 +9,7 @@ use std::marker::Model;
 /// A reader of `std::io` as a source, seen as its count of faults. It tells no bytes.
 ///
 /// Each read is one read of the reader, into the buffer that was passed. What fails is counted and
-/// not tried again, an interrupted read included.
+/// not tried again: [`StandardInput`](crate::StandardInput) is a reader that a signal doesn't fail.
 #[derive(Debug, Drop)]
 pub struct StdSource<R: io::Read + Drop> {
     reader: R,

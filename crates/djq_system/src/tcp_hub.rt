@@ -18,19 +18,23 @@ use std::net::{self, Net};
 /// that is told so and closed.
 pub const PLACES: usize = 65;
 
+/// The version that is reported as serving begins; the file `VERSION` at the top has the same.
+const VERSION: &str = "0.2.0";
+
 /// For how many milliseconds a turn waits at most.
 const LONGEST_WAIT: u64 = 250;
 
 /// A hub over TCP. It tells no bytes, and shows the ids of its sessions and its counts of faults.
 ///
-/// Each call is a few lines over the system's. On standard error it says where it listens, or why it can't, and
-/// once that connections can't be accepted, which it counts. A turn waits at most a quarter of a second, and then
-/// nothing came. After the id 18446744073709551615 no connection is accepted any more.
+/// Each call is a few lines over the system's. On standard error it says its version and where it listens, or why it
+/// can't, and once that connections can't be accepted, which it counts. A turn waits at most a quarter of a second, and
+/// then nothing came. After the id 18446744073709551615 no connection is accepted any more.
 #[derive(Drop)]
 pub struct TcpHub<R: Net<Listener = net::TcpListener, Stream = net::TcpStream> + Eprint + Drop> {
     rt: R,
     listening: Option<Listening>,
     events: Events,
+    /// The connections, by rising ids.
     conns: Vec<Conn>,
     sessions: Sessions,
     /// The place that is looked at next: of a connection, or behind them all of the listener.
@@ -128,13 +132,7 @@ impl<R: Net<Listener = net::TcpListener, Stream = net::TcpStream> + Eprint + Dro
         };
         match listening.accept(id as usize) {
             Ok(stream) => {
-                let conn = Conn {
-                    id,
-                    stream,
-                    ready: true,
-                    heard: false,
-                };
-                if self.conns.push(conn).is_err() {
+                if self.conns.push(Conn::new(id, stream)).is_err() {
                     return Turn::Idle;
                 }
                 self.sessions.open(id);
@@ -275,7 +273,7 @@ impl<R: Net<Listener = net::TcpListener, Stream = net::TcpStream> + Eprint + Dro
         match Listening::at(&self.rt, addr) {
             Ok(listening) => {
                 if let Ok(address) = listening.address() {
-                    let _ = eprintln!(self.rt; "djq: listening on {address}");
+                    let _ = eprintln!(self.rt; "djq {VERSION}: listening on {address}");
                 }
                 self.listening = Some(listening);
                 self.knocks = true;

@@ -16,12 +16,13 @@ One connection is one session, and any number of tasks of one loop may use it: t
 in which they were said. A task that is cancelled as it waits leaves its command to be done, and the reply goes where it
 belongs. Errors are those of `djq`.
 
-`connection` is one session, `live` keeps answers up to date, `table` keeps rows by key; what they share with the client
-that blocks knows no socket.
+`connection` is one session, `live` keeps answers up to date, `table` keeps rows by key, and `expiring` takes them out in
+time; what they share with the client that blocks knows no socket.
 """
 
-from .connection import Batch, Connection, Cursor, Pipeline, connect
+from .connection import Batch, Connection, Cursor, Pipeline, PipelinedBatch, connect
+from .expiring import Expiring
 from .live import Live, Lives
 from .table import Table
 
-__all__ = ["Batch", "Connection", "Cursor", "Live", "Lives", "Pipeline", "Table", "connect"]
+__all__ = ["Batch", "Connection", "Cursor", "Expiring", "Live", "Lives", "Pipeline", "PipelinedBatch", "Table", "connect"]

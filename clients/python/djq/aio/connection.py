@@ -12,7 +12,7 @@ from ..batch import Collected
 from ..errors import Disconnected, Error, NoCursor, NotWatched, Refused, SomeRefused, Unanswered
 from ..listing import CLOSE, MOST_PAGES, WITHIN, Listing, Said
 from ..protocol import FIRST_REFUSALS, MOST_ANSWERS, Added, Answer, Change, Done, Page, Pending, Protocol, Rows, Update
-from ..protocol import Value, checked, column_type, fitting, spell_line, spell_union
+from ..protocol import Value, checked, column_type, fitting, spell_line, spell_query, spell_union
 
 if TYPE_CHECKING:
     from .live import Live, Lives
@@ -47,8 +47,8 @@ class Connection:
         self._transport: asyncio.Transport | None = None
         self._order = asyncio.Lock()  # held by a listing's turn, and as a command is said
         self._listing = asyncio.Lock()  # held by a listing, since all have one cursor's name
-        self._waiting: deque[tuple[Pending, asyncio.Future]] = deque()
-        self._sleepers: list[asyncio.Future] = []  # that are woken as bytes come, or the connection is lost
+        self._waiting: deque[tuple[Pending[Any], asyncio.Future[None]]] = deque()
+        self._sleepers: list[asyncio.Future[None]] = []  # that are woken as bytes come, or the connection is lost
         self._heard = time.monotonic()  # when bytes came last
         self._watched: set[str] = set()
         self._paused = False
@@ -98,7 +98,7 @@ class Connection:
 
     async def query(self, text: str) -> int:
         """Registers a query. Gives the most steps that one answer costs."""
-        return await self._do(fitting(f"query {text}"), protocol.READ_QUERY)
+        return await self._do(spell_query(text), protocol.READ_QUERY)
 
     async def union(self, name: str, *members: str) -> int:
         """Registers the union of two to eight queries, whose answers are of the same types: it has the answers that any
@@ -168,19 +168,23 @@ class Connection:
 
     # Answers that are kept up to date
 
-    def live(self, query: str, **settings: Any) -> Live:
-        """The query's answers, kept up to date as long as its `async with` lasts, over a connection of its own. For
-        `settings` see `Lives`."""
-        from .live import Lives
+    def live(
+        self, query: str, *, within: float = WITHIN, reconnect: bool = False, ping: float | None = None
+    ) -> Live:
+        """The query's answers, kept up to date as long as its `async with` lasts, over a connection of its own. For the
+        settings see `djq.Lives`."""
+        return self.lives(within=within, reconnect=reconnect, ping=ping).only(query)
 
-        return Lives(self.host, self.port, timeout=self.timeout, **settings).only(query)
-
-    def lives(self, *queries: str, **settings: Any) -> Lives:
+    def lives(
+        self, *queries: str, within: float = WITHIN, reconnect: bool = False, ping: float | None = None
+    ) -> Lives:
         """The answers of several queries, kept up to date over one further connection as long as its `async with`
-        lasts. For `settings` see `Lives`."""
+        lasts. For the settings see `djq.Lives`."""
         from .live import Lives
 
-        return Lives(self.host, self.port, *queries, timeout=self.timeout, **settings)
+        return Lives(
+            self.host, self.port, *queries, timeout=self.timeout, within=within, reconnect=reconnect, ping=ping
+        )
 
     async def table(self, relation: str, *types: type | str, key: int = 1) -> Table:
         """A relation whose first `key` columns are a key. It is made where it isn't there: see `djq.Table`."""
@@ -319,7 +323,7 @@ class Connection:
             first = [error for some in held for error in some.first]
             raise SomeRefused(sum(len(some.lines) for some in held), refused, first[:FIRST_REFUSALS])
 
-    async def _done(self, pending: Pending) -> None:
+    async def _done(self, pending: Pending[Any]) -> None:
         """Waits for a reply, and loses the connection where nothing comes for too long."""
         if pending.done:
             return
@@ -358,11 +362,11 @@ class Connection:
         await asyncio.wait([future], timeout=left)
         return future.done()
 
-    async def _turn(self, lines: Sequence[Said], until: float) -> list[Pending] | None:
+    async def _turn(self, lines: Sequence[Said], until: float) -> list[Pending[Any]] | None:
         """Sends lines in one write, and reads their replies once all are there. None where that took too long."""
         async with self._order:
             await self._settle()
-            pending: list[Pending] = [self._say(line, read) for line, read in lines]
+            pending: list[Pending[Any]] = [self._say(line, read) for line, read in lines]
             self._protocol.hold()
             try:
                 self._flush()
@@ -481,6 +485,22 @@ class Batch(Collected):
             self._result = await self._connection._put_in(lines)
 
 
+class PipelinedBatch(Collected):
+    """Rows that go in at once, within a pipeline: see `Pipeline.batch`."""
+
+    def __init__(self, pipeline: Pipeline) -> None:
+        super().__init__()
+        self._pipeline = pipeline
+
+    async def __aenter__(self) -> PipelinedBatch:
+        return self
+
+    async def __aexit__(self, kind: type | None, error: BaseException | None, trace: object) -> None:
+        lines = self._end()
+        if error is None:
+            self._reply = await self._pipeline._put_in(lines)
+
+
 class Pipeline:
     """Commands that are sent together. Each method gives a `Pending` reply, and waits only where many are due."""
 
@@ -521,11 +541,43 @@ class Pipeline:
 
     async def query(self, text: str) -> Pending[int]:
         """Registers a query."""
-        return await self._say(fitting(f"query {text}"), protocol.READ_QUERY)
+        return await self._say(spell_query(text), protocol.READ_QUERY)
 
     async def union(self, name: str, *members: str) -> Pending[int]:
         """Registers a union."""
         return await self._say(spell_union(name, members), protocol.READ_UNION)
+
+    def batch(self) -> PipelinedBatch:
+        """Rows that are added in the block go in at its end, all at once or none of them, as `djq.Pipeline.batch`."""
+        return PipelinedBatch(self)
+
+    async def _put_in(self, rows: list[str]) -> Pending[Done]:
+        """Puts the rows of these lines in by a batch, without waiting for what becomes of it."""
+        own = self._connection
+        async with own._order:
+            try:
+                await own._hold(rows)
+                done = own._say("done", protocol.READ_DONE, self._failed)
+            except (SomeRefused, Refused) as error:
+                if isinstance(error, SomeRefused):
+                    own._say("abandon", protocol.READ_OK)
+                self._count(error, len(rows))
+                return Pending.failed("done", error)
+            except BaseException:
+                if own._protocol.ended is None:
+                    own._say("abandon", protocol.READ_OK)
+                raise
+            finally:
+                own._flush()
+        self.sent += len(rows) + 2
+        return done
+
+    def _count(self, error: SomeRefused | Refused, rows: int) -> None:
+        """Counts what was refused of a batch."""
+        refused = error.first if isinstance(error, SomeRefused) else [error]
+        self.sent += 1 + (rows if isinstance(error, SomeRefused) else 0)
+        self.refused += error.refused if isinstance(error, SomeRefused) else 1
+        self.first += refused[: FIRST_REFUSALS - len(self.first)]
 
     async def _say(self, line: str, read: Callable[[list[str]], T | None]) -> Pending[T]:
         own = self._connection

@@ -3,13 +3,15 @@
 from __future__ import annotations
 
 import asyncio
+import contextlib
 import time
-from typing import AsyncIterator, Iterator, Sequence
+from typing import AsyncIterator, Callable, Iterator
 
 from .. import protocol
-from ..errors import Disconnected, Ended
+from ..errors import Disconnected, Ended, Error, of_live
+from ..kept import Kept, Moment, first_moment, has_come, take_first, take_moment, take_until
 from ..listing import FIRST_PAGES, MOST_PAGES, WITHIN
-from ..live import FIRST_PAUSE, LONGEST_PAUSE, PASSING, Kept, take_first, take_until
+from ..live import PASSING, Waits
 from ..protocol import Change
 from .connection import Connection, list_whole
 
@@ -66,8 +68,9 @@ class Lives:
         reconnect: bool = False,
         ping: float | None = None,
     ) -> None:
-        self.seq = 0  # up to which change all sets are told, by the last `sync`
-        self._open = lambda: Connection(host, port, timeout if timeout is not None else ping)
+        self.seq = 0  # up to which change all sets are told, by the last `sync` or `next_moment`
+        wait = timeout if timeout is not None else ping
+        self._open: Callable[[], Connection] = lambda: Connection(host, port, wait)
         self._within, self._reconnect, self._ping = within, reconnect, ping
         self._lives: list[Live] = []
         self._first = [Live(self, query) for query in dict.fromkeys(queries)]  # that are added as it is begun
@@ -77,11 +80,12 @@ class Lives:
         self._starting = asyncio.Lock()  # held as queries are watched and listed
         self._connection = self._open()
         self._whole = False  # whether all queries are watched and listed over the connection
+        self._lost: Error | None = None  # what the last session was lost by, until another one is whole
 
     async def __aenter__(self) -> Lives:
         try:
-            await self._connection.open()
-            self._whole = True
+            with self._naming(*(live.query for live in self._first)):
+                await self._restart(None, None, Waits("live answers"))
             for live in self._first:
                 await self._add(live)
         except BaseException:
@@ -97,7 +101,7 @@ class Lives:
 
     def close(self) -> None:
         """Closes the connection."""
-        self._closed = True
+        self._closed, self._lost = True, None
         self._connection.close()
 
     async def add(self, query: str) -> Live:
@@ -130,30 +134,74 @@ class Lives:
         """The changes that have come, without waiting."""
         return [told async for told in self.changes(0)]
 
+    async def moments(self, timeout: float | None = None) -> AsyncIterator[Moment]:
+        """As `next_moment`, one after another; with a timeout, until none came for so many seconds."""
+        while (moment := await self.next_moment(timeout)) is not None:
+            yield moment
+
+    async def next_moment(self, timeout: float | None = None) -> Moment | None:
+        """All that the next change of rows did to the queries, together, as `djq.Lives.next_moment`."""
+        until = None if timeout is None else time.monotonic() + timeout
+        with self._naming():
+            while await self._come(until, self._lives):
+                protocol = self._connection._protocol
+                seq, whole = first_moment(self._lives, protocol)
+                fence = seq if whole else await self._fence(until)
+                # another task may have taken it meanwhile
+                if fence is not None and has_come(self._lives, self._connection._protocol):
+                    self.seq = fence if seq is None else seq
+                    return take_moment(self._lives, self._connection._protocol, self.seq)
+        return None
+
     async def sync(self) -> list[tuple[Live, Change]]:
         """Waits until all sets are told up to one change, which is `seq` then, and gives the changes till there."""
-        while self._lives:
-            try:
-                self._check()
-                self.seq = await self._connection.watch(self._lives[0].query)
-                return take_until(self._lives, self._connection._protocol, self.seq)
-            except (Ended, Disconnected):
-                await self._restart(None)
-        return []
+        if not self._lives:
+            return []
+        with self._naming():
+            while (seq := await self._fence(None)) is None:
+                pass
+        self.seq = seq
+        return take_until(self._lives, self._connection._protocol, seq)
 
     # Inside
 
-    async def _next(self, timeout: float | None, lives: Sequence[Live]) -> tuple[Live, Change] | None:
+    @contextlib.contextmanager
+    def _naming(self, *further: str) -> Iterator[None]:
+        """Names the queries in what ends them."""
+        try:
+            yield
+        except (Ended, Disconnected) as error:
+            queries = [*(live.query for live in self._lives), *further]
+            raise of_live(error, queries, self._lost) from error.__cause__
+
+    async def _next(self, timeout: float | None, lives: list[Live]) -> tuple[Live, Change] | None:
         until = None if timeout is None else time.monotonic() + timeout
-        while not self._whole or (told := take_first(lives, self._connection._protocol)) is None:
+        with self._naming():
+            while await self._come(until, lives):
+                if (told := take_first(lives, self._connection._protocol)) is not None:
+                    return told
+        return None
+
+    async def _come(self, until: float | None, lives: list[Live]) -> bool:
+        """Waits until there is a change to take; false where none came until then."""
+        while not self._whole or not has_come(lives, self._connection._protocol):
             try:
                 self._check()
                 if not await self._wait(until):
-                    return None
-            except (Ended, Disconnected):
-                if not await self._restart(until):
-                    return None
-        return told
+                    return False
+            except (Ended, Disconnected) as error:
+                if not await self._restart(until, error):
+                    return False
+        return True
+
+    async def _fence(self, until: float | None) -> int | None:
+        """The number of a change up to which all have come; none where the session was lost meanwhile."""
+        try:
+            self._check()
+            return await self._connection.watch(self._lives[0].query)
+        except (Ended, Disconnected) as error:
+            await self._restart(until, error)
+            return None
 
     async def _wait(self, until: float | None) -> bool:
         """Waits for bytes, and asks for a reply where none came for long. False where none came until then."""
@@ -167,29 +215,39 @@ class Lives:
 
     def _check(self) -> None:
         """Raises where there is no connection, or one that isn't begun whole."""
-        if self._closed or not self._whole:
-            raise Disconnected("closed")
+        if self._closed:
+            raise Disconnected("they were closed")
+        if not self._whole:
+            raise self._lost or Disconnected("not connected yet")
         self._connection._check()
 
     async def _add(self, live: Live) -> Live:
-        """Watches and lists a further query, and where the session is ended as too slow a reader, again with less."""
-        until = time.monotonic() + self._within
-        while True:
-            try:
-                if not self._whole or self._connection._protocol.ended is not None:
-                    await self._restart(until)
-                async with self._starting:
-                    await self._start(live)
-                break
-            except Ended as error:
-                if error.cause != "slow" or time.monotonic() > until:
-                    raise
-            except BaseException:
-                self._unwatch(live)
-                raise
+        """Watches and lists a further query."""
+        with self._naming(live.query):
+            await self._begin(live)
         live._restarted()
         self._lives.append(live)
         return live
+
+    async def _begin(self, live: Live) -> None:
+        """Watches and lists a further query, and where the session is ended as too slow a reader, again with less."""
+        until, waits = time.monotonic() + self._within, Waits(f"the live answers of {live.query}")
+        while True:
+            try:
+                if not self._whole or self._connection._protocol.ended is not None:
+                    await self._restart(None, self._lost, waits)
+                async with self._starting:
+                    await self._start(live)
+                return
+            except PASSING as error:
+                slow = isinstance(error, Ended) and error.cause == "slow" and time.monotonic() <= until
+                if not slow and not self._reconnect:
+                    self._unwatch(live)
+                    raise
+                await asyncio.sleep(0 if slow else waits.next(error))
+            except BaseException:
+                self._unwatch(live)
+                raise
 
     async def _start(self, live: Live) -> None:
         """Watches and lists a query."""
@@ -202,24 +260,26 @@ class Lives:
             raise
         live._listed(listing, connection._protocol)
 
-    async def _restart(self, until: float | None) -> bool:
+    async def _restart(self, until: float | None, lost: Error | None, waits: Waits | None = None) -> bool:
         """Starts anew. Where that fails and may come right, it is tried again as long as there is time, or raised."""
-        pause = FIRST_PAUSE
-        while not await self._try():
+        self._lost = self._lost or lost
+        waits = waits or Waits(f"the live answers of {', '.join(live.query for live in self._lives)}")
+        while (error := await self._try()) is not None:
+            pause = waits.next(error)
             left = pause if until is None else until - time.monotonic()
             if left <= 0:
                 return False
             await asyncio.sleep(min(pause, left))
-            pause = min(2 * pause, LONGEST_PAUSE)
         return True
 
-    async def _try(self) -> bool:
-        """One start anew of all queries, which is whole or isn't."""
+    async def _try(self) -> Error | None:
+        """One start anew of all queries, which is whole, or isn't: then what it failed by, where that may be over after
+        a while and is waited for."""
         async with self._starting:
             if self._closed:
-                raise Disconnected("closed")
+                raise Disconnected("they were closed")
             if self._whole and self._connection._protocol.ended is None:
-                return True  # by another task
+                return None  # by another task
             self._whole = False
             self._connection.close()
             try:
@@ -227,19 +287,23 @@ class Lives:
                 for live in self._lives:
                     await self._start(live)
                 self._whole = not self._closed
+                self._lost = None
             except PASSING as error:
                 less = isinstance(error, Ended) and error.cause == "slow" and self._most > FIRST_PAGES
                 if not self._reconnect and not less:
                     raise
+                return error
             finally:
                 if not self._whole:
                     self._connection.close()
-            return self._whole
+            if not self._whole:
+                raise Disconnected("they were closed")
+            return None
 
     def _unwatch(self, live: Live) -> None:
         """Asks for no more of a query, and waits for no reply."""
         connection = self._connection
-        if connection._protocol.ended is None and live.query in connection._watched:
+        if self._whole and connection._protocol.ended is None and live.query in connection._watched:
             connection._say(f"unwatch {live.query}", protocol.READ_OK)
             connection._flush()
             connection._watched.discard(live.query)

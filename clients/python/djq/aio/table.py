@@ -3,7 +3,7 @@
 from __future__ import annotations
 
 import asyncio
-from typing import Iterator, Sequence
+from typing import Any, Iterator, Sequence
 
 from ..errors import Refused, Taken
 from ..listing import WITHIN
@@ -75,7 +75,7 @@ class Table(Keyed):
                 gone = [connection._say(line, READ_REMOVED) for line in dels]
                 came = [connection._say(line, READ_ADDED) for line in adds]
                 connection._flush()
-            pending: list[Pending] = [*gone, *came]
+            pending: list[Pending[Any]] = [*gone, *came]
             for reply in pending:
                 await connection._done(reply)
             try:

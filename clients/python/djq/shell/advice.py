@@ -6,6 +6,7 @@ import difflib
 import re
 from typing import Callable
 
+from .. import syntax
 from ..errors import NotFreeConnex, Refused, Stale
 from ..protocol import MOST_ANSWERS, MOST_HELD, MOST_MEMBERS
 from .names import Names
@@ -43,9 +44,6 @@ LIMITS = {
     "open": "a session has at most 16 cursors: close one",
 }
 LIMITS["done"] = f"no row of the batch came: {LIMITS['add']}"
-
-# the sign of a comparison in front of a name or `_`, or behind a constant
-COMPARED = re.compile(r'([<>=]|!=) *[a-z_]|(^|[ ,(])(-?[0-9]+|""|_) *([<>=]|!=)(?!-)')
 
 Columns = Callable[[str], "tuple[str, ...] | None"]
 
@@ -127,24 +125,8 @@ def _of_syntax(line: str, command: str) -> list[str]:
         close = difflib.get_close_matches(command.lower(), FORMS, 1)
         meant = f"did you mean {close[0]}? " if close else ""
         return [f"there is no command {command}: {meant}\\? lists them all"]
-    told = [FORMS[command].strip()]
-    bare = re.sub(r'"(?:[^"\\]|\\.)*"', '""', line)  # without what texts say
-    body = bare.partition("<-")[2] if command == "query" else ""
-    rules = (
-        ("'" in bare, 'a text stands in double quotes: "a text"'),
-        (bare.count('"') % 2 == 1, 'a text is without its closing quote; a quote within one is \\"'),
-        (re.search("[A-Z]", bare), "names are of small letters, digits and _, and begin with a letter"),
-        ("\t" in bare, "a tab isn't a space"),
-        (bare.rstrip().endswith(";"), "no semicolon stands at the end"),
-        (re.search(r"\d\.\d", bare), "there are no fractions: an int of the smallest unit, or a text"),
-        (command == "query" and "<-" not in bare, "behind the head comes <-, and then the atoms"),
-        (command == "next", f"the count is from 1 to {MOST_ANSWERS}"),
-        ("<-" in body, "<- is one sign: less than -5 is < -5, with a space"),
-        (re.search("==|<>|=<|=>", body), "the signs of comparisons are < <= > >= = and !="),
-        (COMPARED.search(body), "a variable is compared with a constant alone, and stands before the sign: x < 5"),
-        (body and "(" not in body, "an atom stands in the body too: what is compared is a variable of it"),
-    )
-    return told + [rule for holds, rule in rules if holds]
+    count = [f"the count is from 1 to {MOST_ANSWERS}"] * (command == "next")
+    return [FORMS[command].strip(), *count, *syntax.of_line(line)]
 
 
 def _of_names(number: int, command: str, line: str, names: Names) -> list[str]:
@@ -169,6 +151,8 @@ def _of_names(number: int, command: str, line: str, names: Names) -> list[str]:
             query = read_query(line.strip()[len("query") :])
             missing = [atom.relation for atom in query.atoms if atom.relation not in names.relations] if query else []
             name = missing[0] if missing else ""
+            if meant := syntax.of_relation(name):
+                return [meant]
         return _near(name, sorted(names.relations), f"make it: rel {name or 'NAME'} int text ..")
     if number == 4:
         return _near(name, sorted(names.queries), f"register it: query {name}(x,y) <- REL(x,y)")

@@ -10,7 +10,7 @@ import sys
 import time
 from typing import Callable
 
-from ..errors import Disconnected, Ended, Error, Refused
+from ..errors import Disconnected, Ended, Error, Refused, Syntax, Taken
 from ..listing import WITHIN, list_whole
 from ..protocol import MOST_ANSWERS, Page, read_page, spell
 from .advice import advice
@@ -46,13 +46,17 @@ quit, stop                        ends this session; ends the whole server
 \\dump QUERY FILE.csv [header] [over]
                                   writes the answers; over: also where the file is there
 \\columns RELATION                 of which types its columns are
+\\d [NAME]                         what this shell has seen; a relation's columns, or how a query is kept
+\\if-missing                       from now on rel, query and union leave what is there as it is, so a file of them can
+                                  be run again; a relation with other columns is refused even so
 \\names                            what this shell has seen
 \\timing                           tells how long each command takes, or no more
 \\?                                this page
 \\q                                ends the shell"""
 
 AGAIN = "; to load the rest: \\load {} {} new"
-ASKING = ("\\show", "\\explain", "\\load", "\\dump", "\\columns")  # what is refused as long as a batch is open
+ASKING = ("\\show", "\\explain", "\\load", "\\dump", "\\columns", "\\d")  # what is refused as long as a batch is open
+MAKING = ("rel", "query", "union")  # what \\if-missing is of
 SHOWN = 50  # answers that \show draws where it isn't told how many
 
 
@@ -91,6 +95,7 @@ class Shell:
         self.screen, self.raw = screen, raw
         self.names = Names()
         self.timing = False
+        self.if_missing = False  # whether what is there already is left as it is, without a refusal
         self.done = False  # whether the shell was told to end
         self.refused = 0  # how many lines were
         self.lost: Error | None = None  # what a line is without its reply by
@@ -244,6 +249,12 @@ class Shell:
         self.screen.line(f"{count}, and these are the last" if page.last else f"{count}, and there are more", "quiet")
 
     def _refuse(self, error: Error, told: Said) -> None:
+        if self.if_missing and isinstance(error, Taken) and told.line.split()[0] in MAKING:
+            other = self._other_columns(told.line)
+            if not other:
+                self._leave_it(told)
+                return
+            error = Taken(error.words, error.line, other)
         self.refused += 1
         if self.raw:
             self._write("\n".join(told.reply))
@@ -251,8 +262,24 @@ class Shell:
             return
         self._tell_refusal(told.reply[0], error, told.line)
 
+    def _other_columns(self, line: str) -> str:
+        """Which other columns the relation has that a line makes, where it has."""
+        command, name, *kinds = line.split()
+        found = self.columns(name) if command == "rel" else None
+        if found is None or found == tuple(kinds):
+            return ""
+        return f"{name} is there with other columns: {' '.join(found)}"
+
+    def _leave_it(self, told: Said) -> None:
+        """Tells that what a line makes is there, which is no refusal."""
+        self.names.saw(told.line)
+        if self.raw:
+            self._write("\n".join(told.reply))
+        else:
+            self.screen.line("it is there already, and stays as it is", "quiet")
+
     def _tell_refusal(self, words: str, error: Error, line: str) -> None:
-        why = getattr(error, "why", "")
+        why = "" if isinstance(error, Syntax) else getattr(error, "why", "")  # which the advice tells line by line
         self.screen.line(f"{words}: {why}" if why else words, "error")
         self._advise(error, line)
 
@@ -280,8 +307,8 @@ class Shell:
         name, given = words[0], words[1:]
         commands: dict[str, Callable[..., None]] = {
             "\\show": self._show, "\\explain": self._explain, "\\load": self._load, "\\dump": self._dump,
-            "\\columns": self._columns, "\\names": self._names, "\\timing": self._timing, "\\?": self._help,
-            "\\q": self._quit,
+            "\\columns": self._columns, "\\d": self._describe, "\\if-missing": self._if_missing,
+            "\\names": self._names, "\\timing": self._timing, "\\?": self._help, "\\q": self._quit,
         }  # fmt: skip
         if name not in commands:
             raise Usage(f"no command is named {name}; \\? lists them all")
@@ -290,7 +317,7 @@ class Shell:
         try:
             inspect.signature(commands[name]).bind(*given)
         except TypeError:
-            form = next(told for told in HELP.split("\n") if told.startswith(name))
+            form = next(told for told in HELP.split("\n") if told.split(" ")[0] == name)
             raise Usage(f"it is written {form.split('  ')[0]}") from None
         commands[name](*given)
 
@@ -299,6 +326,17 @@ class Shell:
 
     def _help(self) -> None:
         self.screen.line(HELP)
+
+    def _if_missing(self) -> None:
+        self.if_missing = True
+
+    def _describe(self, name: str = "") -> None:
+        if not name:
+            self._names()
+        elif name in self.names.queries or self.columns(name) is None:
+            self._explain(name)
+        else:
+            self._columns(name)
 
     def _timing(self) -> None:
         self.timing = not self.timing

@@ -11,7 +11,7 @@ from typing import Sequence
 from ..errors import Error
 from . import local, pipe, terminal
 from .commands import Shell
-from .screen import Console, Screen
+from .screen import HAS_RICH, Screen
 from .session import Session
 
 WORDS = """\
@@ -77,8 +77,9 @@ def _run(given: argparse.Namespace, host: str, port: int) -> int:
     rows = f"are kept in {given.log}" if given.log else "are gone as the shell ends"
     own = f" of its own, whose rows {rows}" if given.local else ""
     screen.line(f"djq at {host}:{port}, a server{own}; \\? for help, \\q to end", "quiet")
-    if fancy and (terminal.PromptSession is None or Console is None):
-        missing = [name for name, there in (("prompt_toolkit", terminal.PromptSession), ("rich", Console)) if not there]
+    there = {"prompt_toolkit": terminal.HAS_PROMPT, "rich": HAS_RICH}
+    if fancy and not all(there.values()):
+        missing = [name for name, is_there in there.items() if not is_there]
         screen.line(f"it is better with {' and '.join(missing)}", "quiet")
     terminal.run(shell, fancy)
     return 0

@@ -6,7 +6,7 @@ import os
 import select
 import sys
 
-from .commands import Shell
+from .commands import MAKING, Shell
 
 PIECE = 1 << 16
 MOST_DUE = 2000  # replies that are due, above which no more is read
@@ -43,6 +43,8 @@ def _run(shell: Shell, line: str) -> None:
         shell.run(line)
     elif line.strip(" "):
         shell.say(line)
+        if shell.if_missing and line.split()[0] in MAKING:
+            shell.settle()  # the server may be asked for a relation's columns, which isn't possible in a batch
 
 
 def _move(shell: Shell, lines: _Lines, more: bool) -> None:

@@ -6,7 +6,7 @@ import re
 import sys
 import time
 import unicodedata
-from typing import Sequence
+from typing import Iterator, Sequence
 
 from ..protocol import Answer, Change, Value, spell
 
@@ -18,6 +18,7 @@ try:
 except ImportError:  # drawn without it then
     Console = None  # type: ignore[assignment,misc]
 
+HAS_RICH = Console is not None
 MOST_DRAWN = 40  # answers of one change that are drawn
 STYLES = {"came": "green", "went": "red", "error": "bold red", "advice": "cyan", "quiet": "bright_black"}
 
@@ -144,7 +145,7 @@ def tree(lines: list[str]) -> list[str]:
         members = [line.removeprefix("m ") for line in lines]
         branches = ["├── "] * (len(members) - 1) + ["└── "]
         return ["union of", *(branch + member for branch, member in zip(branches, members))]
-    nodes = {}
+    nodes: dict[str, Node] = {}
     for line in lines:
         words = line.split(" ")
         out = words[-1] == "out"
@@ -155,7 +156,10 @@ def tree(lines: list[str]) -> list[str]:
     return [f"{_padded(text, places, False)}   {remark}".rstrip() for text, remark in drawn]
 
 
-def _branch(nodes: dict, number: str, first: str, further: str):
+Node = tuple[str, list[str], str, bool]  # its kind, what it is made of, its variables, and whether it is listed
+
+
+def _branch(nodes: dict[str, Node], number: str, first: str, further: str) -> Iterator[tuple[str, str]]:
     kind, given, variables, out = nodes[number]
     name = f"{kind} {given[0]}" if kind == "leaf" else kind
     text = f"{number} {name}  {'' if variables == '-' else variables}".rstrip()

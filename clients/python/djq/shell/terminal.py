@@ -25,6 +25,7 @@ except ImportError:  # lines are read without it then
     PromptSession = None  # type: ignore[assignment,misc]
     Completer = object  # type: ignore[assignment,misc]
 
+HAS_PROMPT = PromptSession is not None
 OWN = [line.split()[0] for line in HELP.split("\n") if line.startswith("\\")]
 OF_RELATIONS = ("add", "del", "\\columns")
 IN_BATCH = ("add", "done", "abandon", "quit", "stop")
@@ -202,6 +203,8 @@ class Names(Completer):
             return ["int", "text"] if place > 1 else []
         if command == "union":
             return [name for name in names.queries if name not in (*names.unions, *words)] if place > 1 else []
+        if command == "\\d" and place == 1:
+            return [*names.relations, *names.queries]
         if command in OF_RELATIONS and place == 1 or (command == "\\load" and place == 2):
             return list(names.relations)
         if command in OF_QUERIES and place == 1 or (command == "open" and place == 2):

@@ -18,6 +18,7 @@ MOST_LINES = 6  # of a chart: as many as can be told apart
 MOST_ROWS = 500  # of a table
 MOST_MINUTES = 24 * 60
 MOST_COLUMNS = 256  # that a head may name
+FOLDS = ("max", "min", "sum")  # what becomes of several values of one line
 
 
 class PageError(Exception):
@@ -38,6 +39,10 @@ class Panel:
     rows: int = 15
     minutes: int = 5
     wide: bool = False
+    alarm: bool = False
+    value: int | None = None
+    by: int | None = None
+    fold: str = "max"
 
 
 @dataclass(frozen=True)
@@ -54,11 +59,19 @@ class Page:
 
 # The fields of each kind, and whether they have to be there.
 FIELDS: dict[str, dict[str, bool]] = {
-    "table": {"query": True, "columns": False, "order": False, "descending": False, "rows": False, "wide": False},
-    "newest": {"query": True, "columns": False, "wide": False},
-    "count": {"query": True, "minutes": False, "wide": False},
-    "chart": {"queries": True, "labels": False, "minutes": False, "wide": False},
-}
+    "table": {
+        "query": True, "columns": False, "order": False, "descending": False, "rows": False, "wide": False,
+        "alarm": False,
+    },
+    "newest": {"query": True, "columns": False, "wide": False, "alarm": False},
+    "count": {
+        "query": True, "minutes": False, "wide": False, "alarm": False, "columns": False, "value": False, "fold": False
+    },
+    "chart": {
+        "queries": False, "query": False, "labels": False, "minutes": False, "wide": False, "columns": False,
+        "value": False, "by": False, "fold": False,
+    },
+}  # fmt: skip
 
 
 def read_page(text: str) -> Page:
@@ -86,20 +99,19 @@ def _panel(told: dict[str, Any], where: str) -> Panel:
     for name, needed in fields.items():
         if needed and name not in told:
             raise PageError(f"{where}: a {kind} has a {name}")
-    queries = _names(told, "queries", where) if "queries" in fields else [_value(told, "query", str, "", where)]
-    if not 1 <= len(queries) <= MOST_LINES:
-        raise PageError(f"{where}: queries are from 1 to {MOST_LINES}")
-    for query in queries:
-        try:
-            checked(query)
-        except BadName as error:
-            raise PageError(f"{where}: {error}") from error
+    queries = _queries(told, where)
     labels = _names(told, "labels", where) or queries
     if len(labels) != len(queries):
         raise PageError(f"{where}: {len(labels)} labels, and {len(queries)} queries")
     columns = _names(told, "columns", where)
     if len(columns) > MOST_COLUMNS or len(set(columns)) < len(columns):
         raise PageError(f"{where}: columns are {MOST_COLUMNS} at most, each with a name of its own")
+    value, by = _column(told, "value", columns, where), _column(told, "by", columns, where)
+    if by is not None and (value is None or len(queries) > 1):
+        raise PageError(f"{where}: by goes with one query and a value")
+    fold = _value(told, "fold", str, FOLDS[0], where)
+    if fold not in FOLDS:
+        raise PageError(f"{where}: fold is one of {', '.join(FOLDS)}")
     return Panel(
         kind=kind,
         title=_value(told, "title", str, ", ".join(labels), where),
@@ -111,7 +123,36 @@ def _panel(told: dict[str, Any], where: str) -> Panel:
         rows=_number(told, "rows", 15, MOST_ROWS, where),
         minutes=_number(told, "minutes", 5, MOST_MINUTES, where),
         wide=_value(told, "wide", bool, False, where),
+        alarm=_value(told, "alarm", bool, False, where),
+        value=value,
+        by=by,
+        fold=fold,
     )
+
+
+def _queries(told: dict[str, Any], where: str) -> list[str]:
+    """The queries of a panel, which names one or several."""
+    if ("query" in told) == ("queries" in told):
+        raise PageError(f"{where}: a {told['kind']} has a query, or queries")
+    queries = [_value(told, "query", str, "", where)] if "query" in told else _names(told, "queries", where)
+    if not 1 <= len(queries) <= MOST_LINES:
+        raise PageError(f"{where}: queries are from 1 to {MOST_LINES}")
+    for query in queries:
+        try:
+            checked(query)
+        except BadName as error:
+            raise PageError(f"{where}: {error}") from error
+    return queries
+
+
+def _column(told: dict[str, Any], name: str, columns: list[str], where: str) -> int | None:
+    """The place of the one column that a field names; none without the field."""
+    if name not in told:
+        return None
+    column = _value(told, name, str, "", where)
+    if column not in columns:
+        raise PageError(f"{where}: {name} names {column!r}, which is none of its columns")
+    return columns.index(column)
 
 
 def _order(names: list[str], columns: list[str], where: str) -> list[int]:

@@ -1,4 +1,4 @@
-"""The page as a browser gets it first: whole also where no script runs. `page.js` keeps it up to date from there on.
+"""Pages as a browser gets them first: whole also where no script runs. `page.js` keeps them up to date from there on.
 
 All that comes from the page file or from rows goes through `text`.
 """
@@ -8,11 +8,15 @@ from __future__ import annotations
 import html
 from typing import Callable
 
-from .board import Board, View, is_fresh
+from .board import Board
 from .page import Panel
+from .rows import is_fresh
+from .track import View
 
-# how a page begins and ends; `mark` tells the script whether it is of this page, after the program was started anew
-FRAME = """<!doctype html>
+MANY = 6  # characters of a number, above which it is smaller
+LONG = 40  # characters of a cell, from which on it is clamped until somebody looks at it
+
+HEAD = """<!doctype html>
 <html lang="en">
 <head>
 <meta charset="utf-8">
@@ -20,10 +24,15 @@ FRAME = """<!doctype html>
 <title>{title}</title>
 <link rel="icon" href="/icon.svg" type="image/svg+xml">
 <link rel="stylesheet" href="/page.css">
-<script src="/page.js" defer></script>
+"""
+
+# how a page begins and ends; `mark` says to the script whether it is of this page, after the program was started anew
+FRAME = (
+    HEAD
+    + """<script src="/page.js" defer></script>
 <noscript><meta http-equiv="refresh" content="5"></noscript>
 </head>
-<body data-mark="{mark}">
+<body data-mark="{mark}" data-events="{events}" data-long="{long}">
 <header>
 <h1>{title}</h1>
 <p id="status" role="status" class="{state}">{status}</p>
@@ -32,28 +41,84 @@ FRAME = """<!doctype html>
 <p id="latest" aria-live="polite">{latest}</p>
 <main>
 {panels}</main>
+<footer><a href="/offer">All queries</a></footer>
 </body>
 </html>
 """
+)
 
 PANEL = """<section class="{classes}" data-panel="{number}" data-kind="{kind}" aria-labelledby="title{number}">
 <h2 id="title{number}">{title}</h2>
+<p class="why">{why}</p>
 {body}</section>
 """
 
+# a page of words: what there is, or why nothing is shown
+PLAIN = (
+    HEAD
+    + """{more}</head>
+<body>
+<header>
+<h1>{title}</h1>
+</header>
+<main class="plain">
+{body}</main>
+</body>
+</html>
+"""
+)
 
-def render(board: Board, mark: str) -> str:
-    """The page with what is shown now."""
-    views = board.views()
+AGAIN = '<meta http-equiv="refresh" content="10">\n'
+
+
+def render(board: Board, mark: str, events: str, places: dict[str, str]) -> str:
+    """A board with what is shown now."""
+    views = board.views(places)
     panels = [_panel(panel, number, views[str(number)]) for number, panel in enumerate(board.page.panels)]
     return FRAME.format(
         title=text(board.page.title),
         mark=text(mark),
+        events=text(events),
+        long=LONG,
         state="live" if views["status"]["live"] else "waiting",
         status=text(views["status"]["words"]),
         latest=text(views["latest"]["words"]),
         panels="".join(panels),
     )
+
+
+def render_offer(server: str, silent: str, queries: list[str], relations: list[str], is_open: bool) -> str:
+    """What can be shown, as links."""
+    body = f"<p>{text(silent or 'The server answers.')}</p>\n"
+    for title, names in (("Queries", queries), ("Relations", relations)):
+        if names:
+            links = "".join(f'<li><a href="/show/{text(name)}">{text(name)}</a></li>\n' for name in names)
+            body += f'<section class="list"><h2>{title}</h2>\n<ul>\n{links}</ul></section>\n'
+    if not queries and not relations:
+        body += "<p>No query is known here yet.</p>\n"
+    if is_open:
+        body += (
+            '<section class="list"><h2>Another one</h2>\n'
+            "<p>A djq server doesn't list what it has. "
+            "Type the name of a query or a relation to see it as a table.</p>\n"
+            '<form action="/show" method="get">\n'
+            '<label for="name">Name</label> <input id="name" name="name" required maxlength="32" '
+            'pattern="[a-z][a-z0-9_]*" autocapitalize="none" autocomplete="off" spellcheck="false">\n'
+            '<button type="submit">Show</button>\n</form></section>\n'
+        )
+    return PLAIN.format(title=f"djq at {text(server)}", more="", body=body)
+
+
+def render_missing(name: str, reason: str, again: bool) -> str:
+    """That a name can't be shown, and why; where it may be soon, the page is asked for again by itself."""
+    body = f'<p>{text(reason)}</p>\n<p><a href="/offer">All queries</a></p>\n'
+    return PLAIN.format(title=text(name), more=AGAIN if again else "", body=body)
+
+
+def render_full(most: int) -> str:
+    """That there are too many viewers; the page is asked for again by itself."""
+    body = f"<p>This page has {most:,} viewers, which are the most that it takes. It is tried again by itself.</p>\n"
+    return PLAIN.format(title="Too many viewers", more=AGAIN, body=body)
 
 
 def text(value: object) -> str:
@@ -62,21 +127,27 @@ def text(value: object) -> str:
 
 
 def _panel(panel: Panel, number: int, view: View) -> str:
+    classes = [panel.kind, *(word for word in ("wide", "alarm") if getattr(panel, word))]
+    if view["state"]:
+        classes.append("lost")
     return PANEL.format(
-        classes=f"{panel.kind} wide" if panel.wide else panel.kind,
+        classes=" ".join(classes),
         number=number,
         kind=panel.kind,
         title=text(panel.title),
-        body=BODIES[panel.kind](view, number),
+        why=text(view["state"] or ""),
+        body=BODIES[panel.kind](panel, view, number),
     )
 
 
-def _table(view: View, number: int) -> str:
+def _table(panel: Panel, view: View, number: int) -> str:
     heads = "".join(
         f'<th scope="col"{_number(numeric)}>{text(name)}</th>'
         for name, numeric in zip(view["columns"], view["numbers"])
     )
-    rows = "".join(_row(row, view["numbers"]) for row in view["rows"])
+    rows = "".join(_row(row, view["numbers"], "alarm" if panel.alarm else "new") for row in view["rows"])
+    page, pages = view["page"], view["pages"]
+    hidden = "" if pages > 1 else " hidden"
     return f"""<div class="scroll" role="region" tabindex="0" aria-labelledby="title{number}">
 <table>
 <caption>{text(view["words"])}</caption>
@@ -84,41 +155,57 @@ def _table(view: View, number: int) -> str:
 <tbody>{rows}</tbody>
 </table>
 </div>
+<nav class="pages" aria-label="Pages of {text(panel.title)}"{hidden}>
+<a rel="prev" href="?p{number}={max(1, page - 1)}">Previous</a>
+<span>Page {page:,} of {pages:,}</span>
+<a rel="next" href="?p{number}={min(pages, page + 1)}">Next</a>
+</nav>
 """
 
 
-def _row(row: View, numbers: list[bool]) -> str:
-    kind, mark = (' class="came"', "<span>new</span>") if is_fresh(row["came"]) else ("", "")
-    cells = "".join(f"<td{_number(numeric)}>{text(cell)}</td>" for cell, numeric in zip(row["cells"], numbers))
+def _row(row: View, numbers: list[bool], word: str) -> str:
+    kind, mark = (' class="came"', f"<span>{word}</span>") if is_fresh(row["came"]) else ("", "")
+    cells = "".join(f"<td{_number(numeric)}>{_cell(cell)}</td>" for cell, numeric in zip(row["cells"], numbers))
     return f'<tr{kind}><td class="mark">{mark}</td>{cells}</tr>'
+
+
+def _cell(cell: str) -> str:
+    """A cell; one that is long can be looked at, and is whole then."""
+    return f'<span class="long" tabindex="0">{text(cell)}</span>' if is_long(cell) else text(cell)
+
+
+def is_long(cell: str) -> bool:
+    """Whether a cell is clamped."""
+    return len(cell) > LONG or cell.count("\n") > 1
 
 
 def _number(numeric: bool) -> str:
     return ' class="number"' if numeric else ""
 
 
-def _newest(view: View, number: int) -> str:
+def _newest(panel: Panel, view: View, number: int) -> str:
     cells = view["cells"] or []
     pairs = "".join(
-        f"<div><dt>{text(name)}</dt><dd>{text(cell)}</dd></div>" for name, cell in zip(view["columns"], cells)
+        f"<div><dt>{text(name)}</dt><dd>{_cell(cell)}</dd></div>" for name, cell in zip(view["columns"], cells)
     )
     return f'<dl>{pairs}</dl>\n<p class="words">{text(view["words"])}</p>\n'
 
 
-def _count(view: View, number: int) -> str:
+def _count(panel: Panel, view: View, number: int) -> str:
     line = view["lines"][0]
-    count = "–" if line["count"] is None else line["count"]
-    return f"""<p class="count">{count}</p>
+    some = " some" if line["now"] not in (None, "0") else ""
+    many = " many" if len(line["now"] or "") > MANY else ""
+    return f"""<p class="count{some}{many}">{_now(line)}</p>
 <svg aria-hidden="true"></svg>
 <p class="words">{text(line["span"])} in {text(view["words"])}</p>
 """
 
 
-def _chart(view: View, number: int) -> str:
+def _chart(panel: Panel, view: View, number: int) -> str:
     lines = "".join(
         f'<li><svg aria-hidden="true" viewBox="0 0 28 8"><path class="line{place}" d="M0 4H28"/></svg>'
         f'<span class="label">{text(line["label"])}</span> '
-        f'<span class="now">{"–" if line["count"] is None else line["count"]}</span> '
+        f'<span class="now">{_now(line)}</span> '
         f'<span class="words">{text(line["span"])}</span></li>'
         for place, line in enumerate(view["lines"])
     )
@@ -128,6 +215,10 @@ def _chart(view: View, number: int) -> str:
 """
 
 
-BODIES: dict[str, Callable[[View, int], str]] = {
+def _now(line: View) -> str:
+    return "–" if line["now"] is None else text(line["now"])
+
+
+BODIES: dict[str, Callable[[Panel, View, int], str]] = {
     "table": _table, "newest": _newest, "count": _count, "chart": _chart
 }  # fmt: skip

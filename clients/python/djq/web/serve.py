@@ -1,34 +1,41 @@
-"""Brings a board to browsers: the page, and the stream of events that keeps it up to date.
+"""Answers what browsers ask for over HTTP.
 
-It only reads, and it is for whoever opens its own page: a request for another host's name, or by a page of another
-origin, is refused, so no page that a browser shows beside it can read it by way of that browser.
+It only reads, and a page is for whoever opens it: a request for another host's name, or by a page of another origin, is
+refused, so no page that a browser shows beside it can read it by way of that browser. Answers as events (`/live/QUERY`)
+are for the origins that are listed as well.
 """
 
 from __future__ import annotations
 
-import hashlib
+import asyncio
+import functools
 import ipaddress
 import json
-import secrets
 import socket
-import socketserver
-import sys
-import threading
-from http.server import BaseHTTPRequestHandler, ThreadingHTTPServer
 from importlib import resources
-from typing import Any
+from typing import Awaitable, Callable
 
-from .board import FRESH, Board, now
-from .render import render
+from aiohttp import web
 
-BEAT = 5.0  # seconds without news, after which a viewer is told that the program is still there
-STUCK = 20  # seconds that a browser may take for its request, and for each piece that it is sent
-MOST_CONNECTIONS = 100
+from ..aio import connect
+from ..errors import BadName, Error
+from ..protocol import checked
+from .board import Board, Viewer
+from .feeds import explain
+from .live import Full, Watcher
+from .names import MOST_COLUMNS
+from .render import render, render_full, render_missing, render_offer
+from .rows import FRESH, now
+from .site import Site
+from .stream import Connection, Room, Stream
+
+SPARE = 500  # connections beside those of viewers
+WAIT = 5.0  # seconds that the server may take to say whether it has a query
 
 # the page runs no script but its own, loads from nowhere else, is in no frame, and makes no markup of a text
 HEADERS = {
     "Content-Security-Policy": "default-src 'none'; script-src 'self'; style-src 'self'; img-src 'self'; "
-    "connect-src 'self'; base-uri 'none'; form-action 'none'; frame-ancestors 'none'; "
+    "connect-src 'self'; base-uri 'none'; form-action 'self'; frame-ancestors 'none'; "
     "require-trusted-types-for 'script'; trusted-types 'none'",
     "X-Content-Type-Options": "nosniff",
     "X-Frame-Options": "DENY",
@@ -36,160 +43,260 @@ HEADERS = {
     "Cross-Origin-Opener-Policy": "same-origin",
     "Cross-Origin-Resource-Policy": "same-origin",
     "Cache-Control": "no-store",
+    "Server": "djq-web",
 }
 
-FILES = {
-    "/page.css": ("page.css", "text/css; charset=utf-8"),
-    "/page.js": ("page.js", "text/javascript; charset=utf-8"),
-    "/icon.svg": ("icon.svg", "image/svg+xml"),
-}
+FILES = {"page.css": "text/css", "page.js": "text/javascript", "icon.svg": "image/svg+xml"}
+
+Handler = Callable[[web.Request], Awaitable[web.StreamResponse]]
 
 
 class Refusal(Exception):
-    """A request that isn't answered, by the status and the reason that are told instead."""
+    """A request that isn't answered, by the status and the reason that are sent instead."""
 
     def __init__(self, status: int, reason: str) -> None:
         super().__init__(reason)
         self.status, self.reason = status, reason
 
 
-class WebServer(ThreadingHTTPServer):
-    """Listens for browsers. `names` are those by which it may be asked, beside the ones of loopback."""
+class Doors:
+    """From where requests are answered: the hosts' names by which the page may be asked for, and other origins whose
+    pages may read answers as events."""
 
-    daemon_threads = True
-    request_queue_size = MOST_CONNECTIONS
-
-    def __init__(self, address: tuple[str, int], board: Board, names: list[str]) -> None:
-        self.address_family = socket.AF_INET6 if ":" in address[0] else socket.AF_INET
-        self.board = board
-        # of the run as well as of the page file: what a script of an earlier run holds may be of other panels
-        self.mark = hashlib.sha256(secrets.token_bytes(16) + repr(board.page).encode()).hexdigest()[:16]
-        self._room = threading.BoundedSemaphore(MOST_CONNECTIONS)
-        super().__init__(address, Handler)
-        port = self.server_address[1]
+    def __init__(self, address: tuple[str, int], names: list[str], origins: list[str]) -> None:
+        host, port = address
         hosts = [name.lower() for name in names]
-        if not is_any(address[0]):
-            hosts.append(bracketed(address[0]))
-        if is_loopback(address[0]):
+        if not is_any(host):
+            hosts.append(bracketed(host))
+        if is_loopback(host):
             hosts += ["localhost", "127.0.0.1", "[::1]"]
-        self.hosts = {f"{host}:{port}" for host in hosts} | {name.lower() for name in names}
+        self._hosts = {f"{host}:{port}" for host in hosts} | {name.lower() for name in names}
         if port == 80:
-            self.hosts.update(hosts)
+            self._hosts.update(hosts)
+        self._origins = {origin.lower().rstrip("/") for origin in origins}
 
-    def server_bind(self) -> None:
-        """Listens without asking the system for the machine's name, which may take long."""
-        socketserver.TCPServer.server_bind(self)
-        self.server_name, self.server_port = str(self.server_address[0]), self.server_address[1]
-
-    def process_request(self, request: Any, client_address: Any) -> None:
-        """Answers in a thread, or closes the connection where there are too many."""
-        if not self._room.acquire(blocking=False):
-            self.shutdown_request(request)
-            return
-        try:
-            super().process_request(request, client_address)
-        except BaseException:
-            self._room.release()
-            raise
-
-    def process_request_thread(self, request: Any, client_address: Any) -> None:
-        """Answers one connection, and makes room for another."""
-        try:
-            super().process_request_thread(request, client_address)
-        finally:
-            self._room.release()
-
-    def handle_error(self, request: Any, client_address: Any) -> None:
-        """A browser that went away is no error; what else went wrong is told."""
-        if not isinstance(sys.exc_info()[1], (ConnectionError, TimeoutError)):
-            super().handle_error(request, client_address)
-
-
-class Handler(BaseHTTPRequestHandler):
-    """Answers the requests of one connection."""
-
-    server: WebServer
-    protocol_version = "HTTP/1.1"
-    timeout = STUCK
-
-    def do_GET(self) -> None:
-        """A page, one of its files, or the stream of events."""
-        try:
-            self._admit()
-            path = self.path.partition("?")[0]
-            if path == "/":
-                self._answer(200, "text/html; charset=utf-8", render(self.server.board, self.server.mark).encode())
-            elif path in FILES:
-                name, kind = FILES[path]
-                self._answer(200, kind, resources.files(__package__).joinpath(name).read_bytes())
-            elif path == "/events":
-                self._events()
-            else:
-                raise Refusal(404, "there is no such page")
-        except Refusal as refusal:
-            self._answer(refusal.status, "text/plain; charset=utf-8", f"{refusal.reason}\n".encode())
-
-    do_HEAD = do_GET
-
-    def _refuse_method(self) -> None:
-        self.close_connection = True  # a body that isn't read would be taken for the next request
-        self._answer(405, "text/plain; charset=utf-8", b"this page only reads\n")
-
-    do_POST = do_PUT = do_DELETE = do_PATCH = do_OPTIONS = _refuse_method
-
-    def _admit(self) -> None:
-        """Refuses what asks for another host's name, and what another's page asks for."""
-        hosts: list[str] = self.headers.get_all("Host", [])
-        if len(hosts) != 1 or hosts[0].strip().lower() not in self.server.hosts:
+    def admit(self, request: web.Request) -> dict[str, str]:
+        """The headers of an answer to this request. Raises `Refusal` where it gets none."""
+        hosts: list[str] = request.headers.getall("Host", [])
+        if len(hosts) != 1 or hosts[0].strip().lower() not in self._hosts:
             raise Refusal(421, "this is none of the names of this page; others are given by --name")
-        for origin in self.headers.get_all("Origin", []):
-            scheme, _, host = origin.strip().lower().partition("://")
-            if scheme not in ("http", "https") or host not in self.server.hosts:
-                raise Refusal(403, "asked for by another's page")
-        site = self.headers.get("Sec-Fetch-Site", "none")
-        followed = self.headers.get("Sec-Fetch-Mode") == "navigate" and self.headers.get("Sec-Fetch-Dest") == "document"
-        if site not in ("none", "same-origin") and not followed:
+        origins = [origin.strip().lower() for origin in request.headers.getall("Origin", [])]
+        if request.path.startswith("/live/") and len(origins) == 1 and origins[0] in self._origins:
+            return {"Access-Control-Allow-Origin": request.headers["Origin"], "Vary": "Origin",
+                    "Cross-Origin-Resource-Policy": "cross-origin"}  # fmt: skip
+        for origin in origins:
+            scheme, _, host = origin.partition("://")
+            if scheme not in ("http", "https") or host not in self._hosts:
+                raise Refusal(403, "asked for by another's page; its origin may be listed by --allow")
+        site = request.headers.get("Sec-Fetch-Site", "none")
+        followed = (request.headers.get("Sec-Fetch-Mode"), request.headers.get("Sec-Fetch-Dest"))
+        if site not in ("none", "same-origin") and followed != ("navigate", "document"):
             raise Refusal(403, "asked for by another's page")
+        return {}
 
-    def _answer(self, status: int, kind: str, body: bytes) -> None:
-        more = {"Allow": "GET, HEAD"} if status == 405 else {}
-        self._head(status, kind, {"Content-Length": str(len(body)), **more})
-        if self.command != "HEAD":
-            self.wfile.write(body)
 
-    def _head(self, status: int, kind: str, more: dict[str, str]) -> None:
-        self.send_response(status)
-        for name, value in {"Content-Type": kind, **HEADERS, **more}.items():
-            self.send_header(name, value)
-        if self.close_connection:
-            self.send_header("Connection", "close")
-        self.end_headers()
+class Web:
+    """The answers to all requests."""
 
-    def _events(self) -> None:
-        """Tells what is shown, then what is newer, without end."""
-        self.close_connection = True
-        self._head(200, "text/event-stream; charset=utf-8", {})
-        if self.command == "HEAD":
-            return
-        page = json.dumps({"mark": self.server.mark, "now": now(), "fresh": FRESH})
-        self.wfile.write(f"retry: 1000\nevent: page\ndata: {page}\n\n".encode())
-        version = 0
-        while True:
-            version, news = self.server.board.after(version, BEAT)
-            events = [f"event: {name}\ndata: {told}\n\n" for name, told in news]
-            self.wfile.write("".join(events or ["event: beat\ndata:\n\n"]).encode())
+    def __init__(self, site: Site, doors: Doors) -> None:
+        self._site, self._doors = site, doors
 
-    def send_error(self, code: int, message: str | None = None, explain: str | None = None) -> None:
-        """What isn't HTTP, or is of another method, is refused as all else is."""
-        self.close_connection = True
-        self._answer(code, "text/plain; charset=utf-8", b"refused\n")
+    def application(self) -> web.Application:
+        """What aiohttp serves."""
+        made = web.Application(middlewares=[self._guard])
+        made.router.add_get("/", self._home)
+        made.router.add_get("/events", self._home_events)
+        made.router.add_get("/offer", self._offer)
+        made.router.add_get("/show", self._find)
+        made.router.add_get("/show/{name}", self._table)
+        made.router.add_get("/show/{name}/events", self._table_events)
+        made.router.add_get("/live/{query}", self._live)
+        for name in FILES:
+            made.router.add_get(f"/{name}", self._file)
+        return made
 
-    def version_string(self) -> str:
-        """Says no version."""
-        return "djq-web"
+    @web.middleware
+    async def _guard(self, request: web.Request, handler: Handler) -> web.StreamResponse:
+        """Admits a request, and says in words what isn't answered."""
+        more: dict[str, str] = {}
+        try:
+            more = request["more"] = self._doors.admit(request)
+            if isinstance(request.protocol, Connection):
+                request.protocol.asked()
+                if request.protocol.room.is_over:
+                    raise Full("this page has too many connections")
+            if request.method == "OPTIONS" and more:
+                response: web.StreamResponse = web.Response(status=204, headers={"Access-Control-Allow-Methods": "GET"})
+            elif request.method not in ("GET", "HEAD"):
+                response = words(405, "this page only reads", {"Allow": "GET, HEAD"})
+                response.force_close()  # a body that isn't read would be taken for the next request
+            else:
+                response = await handler(request)
+        except Refusal as refusal:
+            response = words(refusal.status, refusal.reason)
+        except Full as full:
+            response = words(503, f"{full}; try again later", {"Retry-After": "5"})
+        except web.HTTPException as error:
+            response = words(error.status, "there is no such page" if error.status == 404 else error.reason)
+        if not response.prepared:
+            response.headers.update({**HEADERS, **more})
+        return response
 
-    def log_message(self, *_: object) -> None:
-        """Nothing is logged."""
+    # Pages
+
+    async def _home(self, request: web.Request) -> web.StreamResponse:
+        """The page of the page file; what there is, where none was given."""
+        board = self._site.home()
+        if board is None:
+            return await self._offer(request)
+        return self._page(request, board, "/events")
+
+    async def _offer(self, request: web.Request) -> web.StreamResponse:
+        """What can be shown."""
+        names, follower = self._site.names, self._site.follower
+        return page(
+            render_offer(f"{follower.host}:{follower.port}", follower.silent, names.queries(), names.relations(),
+                         self._site.is_open)
+        )  # fmt: skip
+
+    async def _find(self, request: web.Request) -> web.StreamResponse:
+        """Goes to the table of a name that was typed."""
+        name = self._named(request.query.get("name", "").strip())
+        return web.Response(status=303, headers={"Location": f"/show/{name}"})
+
+    async def _table(self, request: web.Request) -> web.StreamResponse:
+        """A table of a query, or of a relation."""
+        name = self._named(request.match_info["name"])
+        try:
+            query = await self._look_up(name, request.headers.get("Sec-Fetch-Site", "none") in ("none", "same-origin"))
+        except Error as error:
+            follower = self._site.follower
+            return page(render_missing(name, explain(error, follower.host, follower.port), True), 503)
+        if query is None:
+            return page(render_missing(name, f"The server has no query and no relation named {name}.", False), 404)
+        return self._page(request, self._site.table(query, name), f"/show/{query}/events")
+
+    async def _look_up(self, name: str, registers: bool) -> str | None:
+        """The query by which a name is shown. By a link of another's page no query is registered for it."""
+        if name in self._site.names.queries() or not self._site.is_open:
+            return name
+        follower = self._site.follower
+        async with connect(follower.host, follower.port, WAIT) as server:
+            return await self._site.names.look_up(server, name, registers)
+
+    def _named(self, name: str) -> str:
+        """A name that may be asked for."""
+        try:
+            checked(name)
+        except BadName as error:
+            raise Refusal(404, "a name is a letter a to z, then a to z, 0 to 9 and _; 32 at most") from error
+        if not self._site.offers(name):
+            raise Refusal(404, f"this page doesn't show {name}; --query {name} or --all would")
+        return name
+
+    def _page(self, request: web.Request, board: Board, events: str) -> web.Response:
+        if self._site.streams.is_full:
+            return page(render_full(self._site.streams.most), 503)
+        return page(render(board, self._site.mark(board), events, places_of(request)))
+
+    async def _file(self, request: web.Request) -> web.StreamResponse:
+        """A file of the page."""
+        name = request.path[1:]
+        body = resources.files(__package__).joinpath(name).read_bytes()
+        return web.Response(body=body, content_type=FILES[name], charset="utf-8")
+
+    # Streams
+
+    async def _home_events(self, request: web.Request) -> web.StreamResponse:
+        board = self._site.home()
+        if board is None:
+            raise Refusal(404, "there is no page")
+        return await self._board_events(request, board)
+
+    async def _table_events(self, request: web.Request) -> web.StreamResponse:
+        query = self._named(request.match_info["name"])
+        return await self._board_events(request, self._site.table(query, query))
+
+    async def _board_events(self, request: web.Request, board: Board) -> web.StreamResponse:
+        """What a page shows, then what is newer, without end."""
+        stream, response = self._stream(request)
+        if request.method == "HEAD":
+            return response
+        view = json.dumps({"mark": self._site.mark(board), "now": now(), "fresh": FRESH})
+        first = f"retry: 1000\nevent: page\ndata: {view}\n\n".encode()
+        viewer = Viewer(board, places_of(request), stream.wake)
+        self._site.streams.add(stream)
+        try:
+            await stream.run(response, first, viewer.take, lambda: b"event: beat\ndata:\n\n")
+        finally:
+            viewer.leave()
+            self._site.streams.remove(stream)
+        return response
+
+    async def _live(self, request: web.Request) -> web.StreamResponse:
+        """A query's answers as events, then each change, without end."""
+        query = self._named(request.match_info["query"])
+        wanted = self._wanted(request, query)
+        stream, response = self._stream(request)
+        response.headers.update(request["more"])
+        if request.method == "HEAD":
+            return response
+        hub = self._site.hub(query)
+        watcher = Watcher(hub, wanted, stream.wake)
+        hub.join(watcher, request.headers.get("Last-Event-ID", ""))
+        self._site.streams.add(stream)
+        try:
+            await stream.run(response, b"retry: 1000\n\n", watcher.take, hub.beat)
+        finally:
+            hub.leave(watcher)
+            self._site.streams.remove(stream)
+        return response
+
+    def _wanted(self, request: web.Request, query: str) -> dict[int, str]:
+        """The columns by which a viewer asks, each with its value."""
+        wanted: dict[int, str] = {}
+        for column, value in request.query.items():
+            place = self._site.names.place(query, column)
+            if place is None:
+                named = ", ".join(self._site.names.columns(query)) or f"1 to {MOST_COLUMNS}, by their place"
+                raise Refusal(400, f"{query} has no column {column}; its columns are {named}")
+            if place in wanted:
+                raise Refusal(400, f"{column} is asked for twice")
+            wanted[place] = value
+        return wanted
+
+    def _stream(self, request: web.Request) -> tuple[Stream, web.StreamResponse]:
+        """A stream, where there is place for one more."""
+        if self._site.streams.is_full:
+            raise Full(f"this page has {self._site.streams.most} viewers, which are the most")
+        headers = {**HEADERS, "Content-Type": "text/event-stream; charset=utf-8", "X-Accel-Buffering": "no"}
+        return Stream(request), web.StreamResponse(headers=headers)
+
+
+async def open_site(application: web.Application, listener: socket.socket, most_viewers: int) -> None:
+    """Serves an application at a socket that is bound, as long as the loop runs."""
+    runner = web.AppRunner(application, access_log=None)
+    await runner.setup()
+    manager, loop, room = runner.server, asyncio.get_running_loop(), Room(most_viewers + SPARE)
+    if manager is not None:  # it is there, after `setup`
+        make = functools.partial(Connection, manager, loop, room)
+        await loop.create_server(make, sock=listener, backlog=1024)
+
+
+def page(text: str, status: int = 200) -> web.Response:
+    """A page of HTML."""
+    headers = {"Retry-After": "5"} if status == 503 else {}
+    return web.Response(text=text, status=status, content_type="text/html", charset="utf-8", headers=headers)
+
+
+def words(status: int, text: str, more: dict[str, str] | None = None) -> web.Response:
+    """An answer in words."""
+    return web.Response(text=f"{text}\n", status=status, headers=more)
+
+
+def places_of(request: web.Request) -> dict[str, str]:
+    """Which page of each panel a viewer is at: `p3=2` says the second one of panel 3."""
+    return {name[1:]: value for name, value in request.query.items() if name[:1] == "p"}
 
 
 def is_loopback(host: str) -> bool:
