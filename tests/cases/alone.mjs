@@ -2,9 +2,12 @@
 
 import assert from "node:assert/strict";
 import { once } from "node:events";
+import fs from "node:fs";
 import net from "node:net";
+import readline from "node:readline";
 
 import * as djq from "../../clients/node/lib/index.mjs";
+import { cureOf } from "../../clients/node/lib/errors.mjs";
 import { Protocol, READ } from "../../clients/node/lib/protocol.mjs";
 
 const port = Number(process.argv[2]);
@@ -120,6 +123,49 @@ async function strangers() {
   }
 }
 
+/** A server that ends each first session as too slow, within a delta, and has other answers in the second one. */
+function slowServer() {
+  let sessions = 0;
+  const speak = (socket, number) => (line) => {
+    const [word] = line.split(" ");
+    const replies = { watch: `ok watch ${number}`, open: "ok open", next: number === 1 ? "= 1\n= 2\nend" : "= 2\n= 3\nend", close: "ok" };
+    socket.write(`${replies[word]}\n`);
+    if (word === "close" && number === 1) setTimeout(() => socket.end("+ q 9\nend slow\n"), 50);
+  };
+  return net.createServer((socket) => {
+    sessions += 1;
+    readline.createInterface({ input: socket }).on("line", speak(socket, sessions));
+  });
+}
+
+/** Without reconnection a live set ends by an error that names the query; with it the difference is one change. */
+async function tooSlow() {
+  for (const reconnect of [false, true]) {
+    const slow = slowServer().listen(0, "127.0.0.1");
+    await once(slow, "listening");
+    const set = await djq.live("q", { port: slow.address().port, reconnect });
+    assert.deepEqual([...set.answers].sort(), [[1], [2]]);
+    if (reconnect) {
+      const change = { seq: 2, came: [[3]], went: [[1]], restarted: true, lost: false };
+      assert.deepEqual(await set.next({ timeout: 20_000 }), change);
+    } else {
+      const error = await failure(set.next());
+      assert.match(error.message, /^the live set of q ended: the server ended the session: slow/);
+      assert.equal(error.cause.reason, "slow");
+    }
+    set.close();
+    slow.close();
+  }
+}
+
+/** Each refusal that the page of the protocol lists has a cure, but for syntax, which depends on the line, and a cut input. */
+function eachRefusalHasACure() {
+  const page = fs.readFileSync(new URL("../../docs/PROTOCOL.md", import.meta.url), "utf8");
+  const numbers = [...page.matchAll(/^\| `err (\d+) /gm)].map((found) => Number(found[1]));
+  assert.ok(numbers.length > 10);
+  assert.deepEqual(numbers.filter((number) => cureOf(number, "") === ""), [1, 13]);
+}
+
 /** Several tasks wait for one live set, and each change is returned to one of them. */
 async function severalWait(server) {
   await server.relation("few", "int");
@@ -137,7 +183,9 @@ async function severalWait(server) {
 
 bytesOneByOne();
 heldBytes();
+eachRefusalHasACure();
 await strangers();
+await tooSlow();
 await endLines();
 const server = await djq.connect({ port, timeout: 20_000 });
 await inOrder(server);
