@@ -158,6 +158,25 @@ async function tooSlow() {
   }
 }
 
+/** A listing that becomes stale between two pages has no answer of the pages before. */
+async function staleListing() {
+  let [opened, pages] = [0, 0];
+  const speak = (socket) => (line) => {
+    const [word] = line.split(" ");
+    opened += word === "open" ? 1 : 0;
+    pages += word === "next" ? 1 : 0;
+    const stale = pages === 1 ? "= 1\nmore" : "stale l r 2";
+    socket.write(`${{ open: "ok open", close: "ok", next: opened === 1 ? stale : "= 2\nend" }[word]}\n`);
+  };
+  const scripted = net.createServer((socket) => readline.createInterface({ input: socket }).on("line", speak(socket)));
+  await once(scripted.listen(0, "127.0.0.1"), "listening");
+  const own = await djq.connect({ port: scripted.address().port, timeout: 20_000 });
+  assert.deepEqual(await own.snapshot("q"), [[2]]);
+  assert.equal(opened, 2);
+  own.close();
+  scripted.close();
+}
+
 /** Each refusal that the page of the protocol lists has a cure, but for syntax, which depends on the line, and a cut input. */
 function eachRefusalHasACure() {
   const page = fs.readFileSync(new URL("../../docs/PROTOCOL.md", import.meta.url), "utf8");
@@ -186,6 +205,7 @@ heldBytes();
 eachRefusalHasACure();
 await strangers();
 await tooSlow();
+await staleListing();
 await endLines();
 const server = await djq.connect({ port, timeout: 20_000 });
 await inOrder(server);
