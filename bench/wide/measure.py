@@ -27,7 +27,7 @@ MOMENTS = 10
 PACED = 500
 FIRSTS = 20
 BATCH = 1000
-LOGGED_SETS = ("none", "q3", "lines")
+LOGGED_SETS = ("none", "q3", "lines", "every")
 SIDES = ("run", "tcp", "log", "sqlite", "postgres", "synced")
 MODULUS = 1 << 64
 
@@ -217,13 +217,13 @@ class Sql(Side):
 
     def begin(self, script, queries):
         self.filled(script, queries)
-        script.add("memory") if self.engine == SQLITE else None
+        script.add("memory")
         if queries:
             script.add(text("say", "\n".join(keeping.indexes(queries)) + "\nanalyze;"))
         for query in queries:
             tables = ",".join(sorted(query.tables))
             script.add(text(f"register {query.name} {tables}", Kept(self.engine, query).script()))
-        script.add("memory") if self.engine == SQLITE else None
+        script.add("memory")
 
     def statements(self, script):
         for table, kinds, sql in keeping.statements(self.engine):
@@ -296,9 +296,7 @@ class PostgresSide(Sql):
             steps = self.loaded(server, base)
         server.sql("postgres", "drop database if exists wide")
         server.sql("postgres", f"create database wide template {base}")
-        steps += self.driven(script, "wide", "on" if self.slow else "off")
-        self.sizes = server.sizes("wide")
-        return steps
+        return steps + self.driven(script, "wide", "on" if self.slow else "off")
 
     def loaded(self, server, base):
         server.sql("postgres", f"drop database if exists {base}")
@@ -405,8 +403,6 @@ def measured_set(name, sides, compared):
             continue
         steps = side.measured(name)
         figures = Figures(steps, [BY_NAME[query] for query in SETS[name]], side.data.load_count)
-        if getattr(side, "sizes", None):
-            figures.sizes = side.sizes
         found[side.name] = figures
         answers[side.slow][side.name] = figures.answers
     for group in answers.values():
@@ -438,7 +434,7 @@ def main():
     words.add_argument("--changes", type=int, default=60_000, help="changes at the largest scale; fewer at the others, in proportion")
     words.add_argument("--logged", type=int, default=3_000, help="changes where each is synced to a disk")
     words.add_argument("--runs", type=int, default=3)
-    words.add_argument("--sets", nargs="+", default=list(SETS), choices=list(SETS))
+    words.add_argument("--sets", nargs="+", default=[name for name in SETS if name != "every"], choices=list(SETS))
     words.add_argument("--sides", nargs="+", default=list(SIDES), choices=list(MAKERS))
     words.add_argument("--by-hand", help="bench/by_hand's program, for the side `hand`")
     words.add_argument("--disk", help="a folder for logs and PostgreSQL's files; the temporary one where it isn't given")

@@ -3,7 +3,8 @@
  *     postgres POSTMASTER CONNECTION < SCRIPT
  *
  * POSTMASTER is the process of the server, whose processes' time is counted, CONNECTION the words to connect. The script's commands are those of
- * sqlite.c but `save` and `restore`; `register NAME TABLES TEXT` needs no tables here, and `refresh NAME TEXT` is a timed statement.
+ * sqlite.c but `save` and `restore`; `register NAME TABLES TEXT` needs no tables here, `refresh NAME TEXT`
+ * is a timed statement, and `memory` is what the tables take on the disk.
  * In `changes` many are on their way at once, each a transaction of its own.
  */
 
@@ -125,7 +126,6 @@ static struct change parsed(char *line) {
     return made;
 }
 
-/* Ends each value of a change, and gives the array that libpq wants. */
 static void send_change(struct change *change) {
     char name[16];
     snprintf(name, sizeof name, "s%d", change->statement);
@@ -277,6 +277,15 @@ static void ask(const char *word) {
     free(sql);
 }
 
+/* What all tables take on the disk, with their indexes. */
+static void memory(void) {
+    PGresult *result = PQexec(changer, "select coalesce(sum(pg_total_relation_size(oid)), 0) from pg_class "
+                                       "where relkind = 'r' and relnamespace = 'public'::regnamespace");
+    check(PQresultStatus(result) == PGRES_TUPLES_OK, changer);
+    printf("{\"what\": \"memory\", \"bytes\": %s", PQgetvalue(result, 0, 0));
+    PQclear(result);
+}
+
 static void new_statement(void) {
     char table[NAME_BYTES], name[16];
     must(statement_count < STATEMENTS, "too many statements");
@@ -325,6 +334,8 @@ int main(int count, char **words) {
         } else if (strcmp(word, "watch") == 0) {
             must(read_word(name), "a name");
             printf("{\"what\": \"watch\"");
+        } else if (strcmp(word, "memory") == 0) {
+            memory();
         } else if (strcmp(word, "first") == 0 || strcmp(word, "all") == 0) {
             ask(word);
         } else if (strcmp(word, "changes") == 0 || strcmp(word, "paced") == 0) {

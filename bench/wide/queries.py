@@ -6,7 +6,7 @@
 
 import re
 
-from schema import INT, TABLES, day
+from schema import TABLES, day
 
 TOKEN = re.compile(r'\s*(?:([a-z][a-z0-9_]*)|(-?\d+)|"([^"]*)"|(<-|<=|>=|!=|[<>=(),:]))')
 SIGNS = ("<", "<=", ">", ">=", "=", "!=")
@@ -324,6 +324,9 @@ SETS = {
     "sold": ("sold",),
     "twelve": ("q2", "q3", "q4", "q7_there", "q8", "q10", "q11", "q12", "q14", "q21", "q18", "q9"),
 }
+
+# all that are admitted, for the test
+SETS["every"] = tuple(query.name for query in QUERIES if query.name not in REFUSED)
 
 UNIONS = [("q7", ("q7_there", "q7_back"))]
 

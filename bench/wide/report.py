@@ -1,0 +1,180 @@
+#!/usr/bin/env python3
+"""The tables of docs/WIDE.md: those of figures, for measure.py, and the one of queries, which the program is asked for.
+
+    bench/wide/report.py PROGRAM       puts the table of queries into the page
+"""
+
+import json
+import os
+import re
+import statistics
+import subprocess
+import sys
+
+sys.dont_write_bytecode = True
+from queries import BY_NAME, PLAIN_HEADS, QUERIES, SETS, with_head  # noqa: E402
+from schema import TABLES  # noqa: E402
+
+PAGE = os.path.join(os.path.dirname(os.path.abspath(__file__)), "..", "..", "docs", "WIDE.md")
+NAMES = {"run": "djq `run`", "tcp": "djq, TCP", "log": "djq, TCP, log", "hand": "by hand, `run`", "sqlite": "SQLite", "postgres": "PostgreSQL",
+         "synced": "PostgreSQL, synced"}
+SAID = {"none": "no query", "q3": "Q3's join", "placed": "orders, customer, nation, region", "offered": "partsupp, part, supplier",
+        "lines": "lineitem, orders: 13 columns", "sold": "lineitem, orders, customer: 16 columns", "twelve": "twelve queries", "every": "every query"}
+
+
+def median(runs, read):
+    """The median of what some runs say; none where they don't say it."""
+    values = [value for value in map(read, runs) if value is not None]
+    return statistics.median(values) if values else None
+
+
+def each(name, part):
+    """What one of some work costs."""
+    def read(figures):
+        values = figures.values
+        return values[name, part] / values[name, "count"] if values.get((name, "count")) else None
+    return read
+
+
+def plain(name, part):
+    return lambda figures: figures.values.get((name, part))
+
+
+def shown(value, unit):
+    """A number of seconds in micro- or milliseconds, or of bytes."""
+    if value is None:
+        return ""
+    value *= {"µs": 1e6, "ms": 1e3, "s": 1, "": 1}[unit]
+    return f"{value:,.0f}" if value >= 100 else f"{value:.1f}" if value >= 10 else f"{value:.2f}"
+
+
+def table(head, rows):
+    rows = [row for row in rows if any(cell for cell in row[1:])]
+    lines = ["| " + " | ".join(row) + " |" for row in [head, ["---"] * len(head), *rows]]
+    return "\n".join(lines) + "\n"
+
+
+def by_side(sets, sides, read, unit, more=()):
+    """A row a set, a column a side, and quotients of two sides behind them."""
+    sides = [side for side in sides if any(side in found for found in sets.values())]
+    rows = []
+    for name, found in sets.items():
+        values = {side: median(found[side], read) if side in found else None for side in sides}
+        row = [SAID[name]] + [shown(values[side], unit) for side in sides]
+        for over, under in more:
+            row.append(f"{values[over] / values[under]:.2f}" if values.get(over) and values.get(under) else "")
+        rows.append(row)
+    return table([""] + [NAMES[side] for side in sides] + [f"{NAMES[over]} / {NAMES[under]}" for over, under in more], rows)
+
+
+ALL = ("run", "tcp", "log", "hand", "sqlite", "postgres", "synced")
+MEMORY = ("run", "sqlite", "postgres")
+RATIOS = (("run", "sqlite"), ("tcp", "sqlite"))
+
+
+def loading(sets):
+    found = sets.get("none", {})
+    rows = [[part] + [shown(median(found[side], each("load", part)), "µs") for side in found] for part in ("processor", "wall")]
+    return table(["µs a row"] + [NAMES[side] for side in found], rows)
+
+
+def bytes_of_tables(tables, rows):
+    sides = [side for side in MEMORY if side in tables]
+    made = [[name, str(len(TABLES[name].columns)), f"{count:,}"] + [shown(tables[side][name] / count, "") for side in sides]
+            for name, count in rows.items() if count > 100]
+    return table(["bytes a row", "columns", "rows"] + [NAMES[side] for side in sides], made)
+
+
+def bytes_below(sets, rows):
+    made = []
+    for name, found in sets.items():
+        queries = [BY_NAME[query] for query in SETS[name]]
+        if len(queries) != 1 or not any(side in found for side in MEMORY):
+            continue
+        read = sum(rows[table] for table in queries[0].tables)
+        sides = [side for side in MEMORY if side in found]
+        grown = {side: median(found[side], lambda figures: figures.memory[-1] - figures.memory[-2]) for side in sides}
+        made.append([SAID[name], str(len(queries[0].head)), f"{read:,}"] + [shown(grown[side] / read, "") for side in sides])
+        heads = [NAMES[side] for side in sides]
+    return table(["bytes a row that is read", "columns of the head", "rows that are read"] + heads, made) if made else ""
+
+
+def page(runs, tables, rows, compared):
+    """All tables of a measurement."""
+    text = f"{compared:,} listings of answers were compared.\n"
+    for scale, sets in sorted(runs.items(), reverse=True):
+        text += f"\n### {sum(rows[scale].values()):,} rows (scale {scale})\n"
+        parts = (
+            ("Processor time a change, µs", by_side(sets, ALL, each("change", "processor"), "µs", RATIOS)),
+            ("Wall time a change with many on their way, µs", by_side(sets, ALL, each("change", "wall"), "µs", RATIOS)),
+            ("From a change to its delta at the watcher, one after another: the median, µs", by_side(sets, ALL, plain("delay", "median"), "µs")),
+            ("The same: the 99th of a hundred, µs", by_side(sets, ALL, plain("delay", "p99"), "µs")),
+            ("Loading a row, no query", loading(sets)),
+            ("Registering, ms of the processor", by_side(sets, ALL, each("register", "processor"), "ms")),
+            ("The first ten answers, µs", by_side(sets, ALL, each("first", "wall"), "µs")),
+            ("All answers as they are kept, ms of the processor", by_side(sets, ALL, each("kept", "processor"), "ms")),
+            ("All answers asked anew, ms of the processor", by_side(sets, ("sqlite", "postgres"), each("anew", "processor"), "ms")),
+            ("`refresh materialized view`, ms of the processor", by_side(sets, ("postgres",), each("refresh", "processor"), "ms")),
+            ("Memory of the relations, with their keys", bytes_of_tables(tables[scale], rows[scale])),
+            ("Memory below a query", bytes_below(sets, rows[scale])),
+        )
+        for title, body in parts:
+            text += f"\n**{title}**\n\n{body}" if body.count("\n") > 2 else ""
+    return text
+
+
+def keep(path, runs, tables, rows, compared):
+    """The figures of each run, as JSON."""
+    figures = {str(scale): {name: {side: [{**{".".join(key): value for key, value in run.values.items()}, "memory": run.memory} for run in made]
+                                   for side, made in sides.items()} for name, sides in sets.items()} for scale, sets in runs.items()}
+    with open(path, "w", encoding="utf-8") as file:
+        json.dump({"figures": figures, "tables": tables, "rows": rows, "compared": compared}, file, indent=1)
+
+
+def put(mark, text):
+    """Puts a text into the page, between two marks."""
+    with open(PAGE, encoding="utf-8") as file:
+        found = file.read()
+    begin, end = f"<!-- begin: {mark} -->\n", "<!-- end -->"
+    before, _, rest = found.partition(begin)
+    with open(PAGE, "w", encoding="utf-8") as file:
+        file.write(before + begin + text + rest[rest.index(end):])
+
+
+def write(text):
+    put("bench/wide/measure.py --write", text)
+
+
+def replies(program, lines):
+    """What the program replies to lines behind those that make the tables."""
+    begin = [f"rel {one.name} {' '.join(one.columns.values())}" for one in TABLES.values()]
+    done = subprocess.run([program, "run"], input="\n".join(begin + lines) + "\n", capture_output=True, text=True, check=True)
+    return done.stdout.splitlines()[len(begin):]
+
+
+def verdicts(program):
+    """Of each query: `flat`, `linear`, or why it is refused."""
+    said = replies(program, [line for query in QUERIES for line in (query.djq(), f"shape {query.name}")])
+    return {query.name: shape if answer.startswith("ok query") else answer for query, answer, shape in zip(QUERIES, said[::2], said[1::2])}
+
+
+def verdicts_of_heads(program):
+    """Of each query with TPC-H's own head, where that is another one: whether it is admitted."""
+    said = replies(program, [with_head(BY_NAME[name], head) for name, head in PLAIN_HEADS.items()])
+    return {name: " ".join(reply.split()[:2]) for name, reply in zip(PLAIN_HEADS, said)}
+
+
+def queries(program):
+    """The table of queries: what each joins, what the program says of it and of TPC-H's own head, and what it can't be asked."""
+    found, heads, rows = verdicts(program), verdicts_of_heads(program), []
+    for query in QUERIES:
+        words, head = found[query.name], heads.get(query.name, "as it is")
+        rows.append([f"`{query.name}`", ", ".join(atom.table for atom in query.atoms), f"`{words}`" if words.startswith("no ") else words,
+                     {"ok query": "admitted", "no connex": "`no connex`"}.get(head, head), query.beyond])
+    return table(["query", "joins", "what a change costs", "with TPC-H's head", "what can't be asked"], rows)
+
+
+if __name__ == "__main__":
+    if len(sys.argv) != 2:
+        raise SystemExit(__doc__)
+    put("bench/wide/report.py PROGRAM", queries(os.path.abspath(sys.argv[1])))
