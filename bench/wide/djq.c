@@ -25,7 +25,7 @@
 #include <sys/socket.h>
 #include <sys/wait.h>
 
-#define WINDOW 4096           /* lines on their way at most */
+#define WINDOW 1024           /* lines on their way at most */
 #define READ_BYTES (1u << 20)
 #define PAGES 32              /* lines `next` on their way at once */
 

@@ -10,7 +10,6 @@ were sent and what they list is held against each other at ten moments, and wher
 import argparse
 import json
 import os
-import statistics
 import subprocess
 import sys
 import tempfile
@@ -138,6 +137,7 @@ class Side:
 
     def __init__(self, name, tools, data, given):
         self.name, self.tools, self.data, self.given = name, tools, data, given
+        self.whole = True  # whether answers are listed at each moment, or at the first and the last alone
         self.slow = name in ("log", "synced")
         self.count = min(data.change_count, given.logged) if self.slow else data.change_count
 
@@ -156,8 +156,9 @@ class Side:
                 self.first(script, query)
         for begin, count in self.changes():
             script.add(f"changes {self.data.path('changes', self.kind)} {begin} {count}")
-            for query in queries:
-                self.moment(script, query)
+            if self.whole or begin + count == self.count:
+                for query in queries:
+                    self.moment(script, query)
         if len(queries) == 1:
             script.add(f"paced {self.data.path('paced_' + queries[0].name, self.kind)} {PACED}")
             self.listing(script, queries[0])
@@ -346,7 +347,8 @@ class Figures:
         def of(what):
             return [step for step in steps if step["what"] == what]
         self.keep("change", of("changes"), sum(step["count"] for step in of("changes")))
-        self.keep("register", of("register"), 1)
+        if self.queries:
+            self.keep("register", of("register"), 1)
         if of("first"):
             self.keep("first", of("first"), sum(step["times"] for step in of("first")))
         for step in of("paced"):
@@ -419,9 +421,12 @@ def measured(given, folder, tools):
         sides = [MAKERS[name](name, tools, data, given) for name in given.sides]
         rows[scale] = data.rows
         for run in range(given.runs):
+            taking = [side for side in sides if run == 0 or side.name not in given.once]
+            for side in taking:
+                side.whole = run == 0
             for name in given.sets:
                 print(f"scale {scale}, run {run + 1}, {name}", file=sys.stderr, flush=True)
-                for side, figures in measured_set(name, sides, compared).items():
+                for side, figures in measured_set(name, taking, compared).items():
                     runs.setdefault(scale, {}).setdefault(name, {}).setdefault(side, []).append(figures)
         tables[scale] = {side.name: side.by_table() for side in sides if side.name in ("run", "sqlite", "postgres")}
     return runs, tables, rows, sum(compared)
@@ -436,6 +441,7 @@ def main():
     words.add_argument("--runs", type=int, default=3)
     words.add_argument("--sets", nargs="+", default=[name for name in SETS if name != "every"], choices=list(SETS))
     words.add_argument("--sides", nargs="+", default=list(SIDES), choices=list(MAKERS))
+    words.add_argument("--once", nargs="+", default=[], choices=list(MAKERS), help="sides that take part in the first run alone")
     words.add_argument("--by-hand", help="bench/by_hand's program, for the side `hand`")
     words.add_argument("--disk", help="a folder for logs and PostgreSQL's files; the temporary one where it isn't given")
     words.add_argument("--keep", help="a file for the figures, as JSON")

@@ -57,6 +57,7 @@ def table(head, rows):
 def by_side(sets, sides, read, unit, more=()):
     """A row a set, a column a side, and quotients of two sides behind them."""
     sides = [side for side in sides if any(side in found for found in sets.values())]
+    more = [pair for pair in more if set(pair) <= set(sides)]
     rows = []
     for name, found in sets.items():
         values = {side: median(found[side], read) if side in found else None for side in sides}
@@ -65,6 +66,14 @@ def by_side(sets, sides, read, unit, more=()):
             row.append(f"{values[over] / values[under]:.2f}" if values.get(over) and values.get(under) else "")
         rows.append(row)
     return table([""] + [NAMES[side] for side in sides] + [f"{NAMES[over]} / {NAMES[under]}" for over, under in more], rows)
+
+
+def said_of_runs(sets):
+    """Of how many runs the figures are the median."""
+    counts = {side: len(made) for found in sets.values() for side, made in found.items()}
+    by_count = {count: ", ".join(NAMES[side] for side, made in counts.items() if made == count) for count in sorted(counts.values(), reverse=True)}
+    said = "; ".join(f"{count} {'run' if count == 1 else 'runs'} of {sides}" for count, sides in by_count.items())
+    return f"Medians of {said}."
 
 
 ALL = ("run", "tcp", "log", "hand", "sqlite", "postgres", "synced")
@@ -101,9 +110,9 @@ def bytes_below(sets, rows):
 
 def page(runs, tables, rows, compared):
     """All tables of a measurement."""
-    text = f"{compared:,} listings of answers were compared.\n"
+    text = f"{compared:,} listings of answers were compared, and all were the same.\n"
     for scale, sets in sorted(runs.items(), reverse=True):
-        text += f"\n### {sum(rows[scale].values()):,} rows (scale {scale})\n"
+        text += f"\n### {sum(rows[scale].values()):,} rows (scale {scale})\n\n{said_of_runs(sets)}\n"
         parts = (
             ("Processor time a change, µs", by_side(sets, ALL, each("change", "processor"), "µs", RATIOS)),
             ("Wall time a change with many on their way, µs", by_side(sets, ALL, each("change", "wall"), "µs", RATIOS)),

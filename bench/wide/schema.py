@@ -46,7 +46,7 @@ TABLES = {table.name: table for table in (
 )}
 
 # what an update may change, of which table
-UPDATES = [("orders", "orderstatus"), ("lineitem", "quantity"), ("customer", "nationkey"), ("nation", "regionkey")]
+UPDATES = [("orders", "orderstatus"), ("lineitem", "quantity"), ("partsupp", "availqty"), ("customer", "nationkey"), ("nation", "regionkey")]
 
 REGIONS = "AFRICA AMERICA ASIA EUROPE MIDDLE_EAST".split()
 NATIONS = [("ALGERIA", 0), ("ARGENTINA", 1), ("BRAZIL", 1), ("CANADA", 1), ("EGYPT", 4), ("ETHIOPIA", 0), ("FRANCE", 3), ("GERMANY", 3),
@@ -184,7 +184,7 @@ class Stream:
             self.put(name, row)
         self.load = [("insert", name, row) for name, rows in self.tables.items() for row in rows.values()]
         self.rows.random.shuffle(self.load)
-        self.order_keys = list(self.tables["orders"])
+        self.order_keys, self.offers = list(self.tables["orders"]), list(self.tables["partsupp"])
         self.changes = []
         nations = {changes * part // 5 for part in range(1, 5)}
         while len(self.changes) < changes:
@@ -217,16 +217,18 @@ class Stream:
             self.lines.setdefault(row[0], []).append(row[3])
 
     def next_change(self):
-        """One event: an order comes with its lines, one goes, a quantity, a status or, seldom, a customer's nation changes."""
+        """One event: an order comes with its lines, one goes, or a quantity, a status or, seldom, a customer's nation changes."""
         chance = self.rows.below(1000)
         if chance < 110:
             self.new_order()
         elif chance < 220 and len(self.order_keys) > 1:
             self.drop_order()
-        elif chance < 740:
+        elif chance < 620:
             order = self.one_order()
             line = self.rows.one_of(self.lines[order])
             self.changes.append(self.updated("lineitem", (order, line), "quantity", self.rows.between(1, 50)))
+        elif chance < 740:
+            self.changes.append(self.updated("partsupp", self.rows.one_of(self.offers), "availqty", self.rows.between(1, 9999)))
         elif chance < 998:
             self.changes.append(self.updated("orders", (self.one_order(),), "orderstatus", self.rows.one_of("FOP")))
         else:
@@ -252,10 +254,9 @@ class Stream:
 
     def updated(self, name, key, column, value):
         old = self.tables[name][key]
+        if value == TABLES[name].value(old, column):  # another one
+            value = value + 1 if isinstance(value, int) else "O" if value == "F" else "F"
         new = TABLES[name].changed(old, column, value)
-        if new == old:
-            new = TABLES[name].changed(old, column, "O" if value == "F" else "F" if value in "OP" else value) if isinstance(value, str) \
-                else TABLES[name].changed(old, column, value + 1)
         self.tables[name][key] = new
         return "update", name, old, new, column
 
