@@ -16,7 +16,7 @@ import tempfile
 
 sys.dont_write_bytecode = True
 import keeping  # noqa: E402
-import schema  # noqa: E402
+import report  # noqa: E402
 from engines import Postgres, compiled, missing_for  # noqa: E402
 from keeping import POSTGRES, SQLITE, Kept, parameters  # noqa: E402
 from queries import BY_NAME, SETS, Variable  # noqa: E402
@@ -384,6 +384,11 @@ class Figures:
                 raise Different(f"{query} at moment {moment}: the deltas don't add up to the {found[0]} answers that are listed")
 
 
+    def plain(self):
+        """The figures by name, as they are kept."""
+        return {**{".".join(key): value for key, value in self.values.items()}, "memory": self.memory}
+
+
 def held(scale, name, found):
     """That all sides have the same answers at each moment that they share."""
     sides = list(found)
@@ -413,23 +418,29 @@ def measured_set(name, sides, compared):
 
 
 def measured(given, folder, tools):
-    """All runs of a scale after another: {scale: {set: {side: [figures of a run, ..]}}}, {scale: {side: bytes of each table}}."""
-    runs, tables, rows, compared = {}, {}, {}, []
+    """All runs of all scales: of each scale, set and side the figures of each run, and the bytes of each table."""
+    found, compared = {"figures": {}, "tables": {}, "rows": {}}, []
     for scale in given.scales:
         changes = round(given.changes * scale / max(given.scales))
         data = Data(os.path.join(folder, f"data_{scale}"), scale, changes)
         sides = [MAKERS[name](name, tools, data, given) for name in given.sides]
-        rows[scale] = data.rows
+        found["rows"][str(scale)] = data.rows
+        sets = found["figures"].setdefault(str(scale), {})
         for run in range(given.runs):
-            taking = [side for side in sides if run == 0 or side.name not in given.once]
-            for side in taking:
-                side.whole = run == 0
-            for name in given.sets:
-                print(f"scale {scale}, run {run + 1}, {name}", file=sys.stderr, flush=True)
-                for side, figures in measured_set(name, taking, compared).items():
-                    runs.setdefault(scale, {}).setdefault(name, {}).setdefault(side, []).append(figures)
-        tables[scale] = {side.name: side.by_table() for side in sides if side.name in ("run", "sqlite", "postgres")}
-    return runs, tables, rows, sum(compared)
+            run_once(run, given, sides, sets, compared)
+        found["tables"][str(scale)] = {side.name: side.by_table() for side in sides if side.name in report.MEMORY}
+    return {**found, "compared": sum(compared)}
+
+
+def run_once(run, given, sides, sets, compared):
+    """One run of all sets."""
+    taking = [side for side in sides if run == 0 or side.name not in given.once]
+    for side in taking:
+        side.whole = run == 0
+    for name in given.sets:
+        print(f"scale {sides[0].data.scale}, run {run + 1}, {name}", file=sys.stderr, flush=True)
+        for side, figures in measured_set(name, taking, compared).items():
+            sets.setdefault(name, {}).setdefault(side, []).append(figures.plain())
 
 
 def main():
@@ -453,7 +464,6 @@ def main():
         if missing:
             print(f"{side} is left out: {missing} isn't there", file=sys.stderr)
             given.sides.remove(side)
-    import report
     with tempfile.TemporaryDirectory() as folder:
         tools = compiled(folder, given.sides)
         if not {"postgres", "synced"} & set(given.sides):
@@ -461,10 +471,10 @@ def main():
         else:
             with Postgres(given.disk) as server:
                 found = measured(given, folder, {**tools, "server": server})
-    page = report.page(*found)
+    page = report.page(found)
     print(page, end="")
     if given.keep:
-        report.keep(given.keep, *found)
+        report.keep(given.keep, found)
     if given.write:
         report.write(page)
 

@@ -1,7 +1,9 @@
 #!/usr/bin/env python3
 """The tables of docs/WIDE.md: those of figures, for measure.py, and the one of queries, which the program is asked for.
 
-    bench/wide/report.py PROGRAM       puts the table of queries into the page
+    bench/wide/report.py PROGRAM               puts the table of queries into the page
+    bench/wide/report.py --figures FILE ..     puts the tables of figures into it, of what measure.py kept by `--keep`;
+                                               of a side that several files have, of the last
 """
 
 import json
@@ -31,13 +33,12 @@ def median(runs, read):
 def each(name, part):
     """What one of some work costs."""
     def read(figures):
-        values = figures.values
-        return values[name, part] / values[name, "count"] if values.get((name, "count")) else None
+        return figures[f"{name}.{part}"] / figures[f"{name}.count"] if figures.get(f"{name}.count") else None
     return read
 
 
-def plain(name, part):
-    return lambda figures: figures.values.get((name, part))
+def plain(name):
+    return lambda figures: figures.get(name)
 
 
 def shown(value, unit):
@@ -102,42 +103,58 @@ def bytes_below(sets, rows):
             continue
         read = sum(rows[table] for table in queries[0].tables)
         sides = [side for side in MEMORY if side in found]
-        grown = {side: median(found[side], lambda figures: figures.memory[-1] - figures.memory[-2]) for side in sides}
+        grown = {side: median(found[side], lambda figures: figures["memory"][-1] - figures["memory"][-2]) for side in sides}
         made.append([SAID[name], str(len(queries[0].head)), f"{read:,}"] + [shown(grown[side] / read, "") for side in sides])
         heads = [NAMES[side] for side in sides]
     return table(["bytes a row that is read", "columns of the head", "rows that are read"] + heads, made) if made else ""
 
 
-def page(runs, tables, rows, compared):
+def page(found):
     """All tables of a measurement."""
-    text = f"{compared:,} listings of answers were compared, and all were the same.\n"
-    for scale, sets in sorted(runs.items(), reverse=True):
-        text += f"\n### {sum(rows[scale].values()):,} rows (scale {scale})\n\n{said_of_runs(sets)}\n"
+    text = f"{found['compared']:,} listings of answers were compared, and all were the same.\n"
+    for scale, sets in sorted(found["figures"].items(), key=lambda one: -float(one[0])):
+        rows = found["rows"][scale]
+        text += f"\n### {sum(rows.values()):,} rows (scale {scale})\n\n{said_of_runs(sets)}\n"
         parts = (
             ("Processor time a change, µs", by_side(sets, ALL, each("change", "processor"), "µs", RATIOS)),
             ("Wall time a change with many on their way, µs", by_side(sets, ALL, each("change", "wall"), "µs", RATIOS)),
-            ("From a change to its delta at the watcher, one after another: the median, µs", by_side(sets, ALL, plain("delay", "median"), "µs")),
-            ("The same: the 99th of a hundred, µs", by_side(sets, ALL, plain("delay", "p99"), "µs")),
+            ("From a change to its delta at the watcher, one after another: the median, µs", by_side(sets, ALL, plain("delay.median"), "µs")),
+            ("The same: the 99th of a hundred, µs", by_side(sets, ALL, plain("delay.p99"), "µs")),
             ("Loading a row, no query", loading(sets)),
-            ("Registering, ms of the processor", by_side(sets, ALL, each("register", "processor"), "ms")),
+            ("Registering, ms of the processor", by_side(sets, ALL, each("register", "processor"), "ms", RATIOS)),
             ("The first ten answers, µs", by_side(sets, ALL, each("first", "wall"), "µs")),
             ("All answers as they are kept, ms of the processor", by_side(sets, ALL, each("kept", "processor"), "ms")),
             ("All answers asked anew, ms of the processor", by_side(sets, ("sqlite", "postgres"), each("anew", "processor"), "ms")),
             ("`refresh materialized view`, ms of the processor", by_side(sets, ("postgres",), each("refresh", "processor"), "ms")),
-            ("Memory of the relations, with their keys", bytes_of_tables(tables[scale], rows[scale])),
-            ("Memory below a query", bytes_below(sets, rows[scale])),
+            ("Memory of the relations, with their keys", bytes_of_tables(found["tables"][scale], rows)),
+            ("Memory below a query", bytes_below(sets, rows)),
         )
         for title, body in parts:
             text += f"\n**{title}**\n\n{body}" if body.count("\n") > 2 else ""
     return text
 
 
-def keep(path, runs, tables, rows, compared):
-    """The figures of each run, as JSON."""
-    figures = {str(scale): {name: {side: [{**{".".join(key): value for key, value in run.values.items()}, "memory": run.memory} for run in made]
-                                   for side, made in sides.items()} for name, sides in sets.items()} for scale, sets in runs.items()}
+def keep(path, found):
     with open(path, "w", encoding="utf-8") as file:
-        json.dump({"figures": figures, "tables": tables, "rows": rows, "compared": compared}, file, indent=1)
+        json.dump(found, file, indent=1)
+
+
+def merged(paths):
+    """The figures of several files as one."""
+    all_of = {"figures": {}, "tables": {}, "rows": {}, "compared": 0}
+    for path in paths:
+        with open(path, encoding="utf-8") as file:
+            found = json.load(file)
+        all_of["compared"] += found["compared"]
+        all_of["rows"].update(found["rows"])
+        for scale, sets in found["figures"].items():
+            for name in SETS:
+                all_of["figures"].setdefault(scale, {}).setdefault(name, {}).update(sets.get(name, {}))
+            all_of["tables"].setdefault(scale, {}).update(found["tables"][scale])
+    for sets in all_of["figures"].values():
+        for name in [name for name, sides in sets.items() if not sides]:
+            del sets[name]
+    return all_of
 
 
 def put(mark, text):
@@ -183,7 +200,14 @@ def queries(program):
     return table(["query", "joins", "what a change costs", "with TPC-H's head", "what can't be asked"], rows)
 
 
-if __name__ == "__main__":
-    if len(sys.argv) != 2:
+def main():
+    if len(sys.argv) > 2 and sys.argv[1] == "--figures":
+        write(page(merged(sys.argv[2:])))
+    elif len(sys.argv) == 2:
+        put("bench/wide/report.py PROGRAM", queries(os.path.abspath(sys.argv[1])))
+    else:
         raise SystemExit(__doc__)
-    put("bench/wide/report.py PROGRAM", queries(os.path.abspath(sys.argv[1])))
+
+
+if __name__ == "__main__":
+    main()
