@@ -55,18 +55,22 @@ def table(head, rows):
     return "\n".join(lines) + "\n"
 
 
-def by_side(sets, sides, read, unit, more=()):
-    """A row a set, a column a side, and quotients of two sides behind them."""
+def row_of(title, found, sides, read, unit, quotients):
+    """A row: a value a side, and quotients of two sides behind them."""
+    values = {side: median(found[side], read) if side in found else None for side in sides}
+    parts = [f"{values[over] / values[under]:.2f}" if values[over] and values[under] else "" for over, under in quotients]
+    return [title] + [shown(values[side], unit) for side in sides] + parts
+
+
+def head_of(title, sides, quotients):
+    return [title] + [NAMES[side] for side in sides] + [f"{NAMES[over]} / {NAMES[under]}" for over, under in quotients]
+
+
+def by_side(sets, sides, read, unit, quotients=()):
+    """A row a set, a column a side."""
     sides = [side for side in sides if any(side in found for found in sets.values())]
-    more = [pair for pair in more if set(pair) <= set(sides)]
-    rows = []
-    for name, found in sets.items():
-        values = {side: median(found[side], read) if side in found else None for side in sides}
-        row = [SAID[name]] + [shown(values[side], unit) for side in sides]
-        for over, under in more:
-            row.append(f"{values[over] / values[under]:.2f}" if values.get(over) and values.get(under) else "")
-        rows.append(row)
-    return table([""] + [NAMES[side] for side in sides] + [f"{NAMES[over]} / {NAMES[under]}" for over, under in more], rows)
+    quotients = [pair for pair in quotients if set(pair) <= set(sides)]
+    return table(head_of("", sides, quotients), [row_of(SAID[name], found, sides, read, unit, quotients) for name, found in sets.items()])
 
 
 def said_of_runs(sets):
@@ -78,25 +82,31 @@ def said_of_runs(sets):
 
 
 ALL = ("run", "tcp", "log", "hand", "sqlite", "postgres", "synced")
+SQL = ("sqlite", "postgres")
 MEMORY = ("run", "sqlite", "postgres")
 RATIOS = (("run", "sqlite"), ("tcp", "sqlite"))
 
 
 def loading(sets):
     found = sets.get("none", {})
-    rows = [[part] + [shown(median(found[side], each("load", part)), "µs") for side in found] for part in ("processor", "wall")]
-    return table(["µs a row"] + [NAMES[side] for side in found], rows)
+    sides = [side for side in ALL if side in found]
+    quotients = [pair for pair in RATIOS if set(pair) <= set(sides)]
+    return table(head_of("µs a row", sides, quotients),
+                 [row_of(part, found, sides, each("load", part), "µs", quotients) for part in ("processor", "wall")])
 
 
 def bytes_of_tables(tables, rows):
     sides = [side for side in MEMORY if side in tables]
-    made = [[name, str(len(TABLES[name].columns)), f"{count:,}"] + [shown(tables[side][name] / count, "") for side in sides]
-            for name, count in rows.items() if count > 100]
-    return table(["bytes a row", "columns", "rows"] + [NAMES[side] for side in sides], made)
+    made = []
+    for name, count in rows.items():
+        columns = len(TABLES[name].columns)
+        if count > 100:
+            made.append([name, str(columns), f"{count:,}", str(8 * columns + 40)] + [shown(tables[side][name] / count, "") for side in sides])
+    return table(["bytes a row", "columns", "rows", "8 a column and 40"] + [NAMES[side] for side in sides], made)
 
 
 def bytes_below(sets, rows):
-    made = []
+    made, sides = [], []
     for name, found in sets.items():
         queries = [BY_NAME[query] for query in SETS[name]]
         if len(queries) != 1 or not any(side in found for side in MEMORY):
@@ -105,8 +115,7 @@ def bytes_below(sets, rows):
         sides = [side for side in MEMORY if side in found]
         grown = {side: median(found[side], lambda figures: figures["memory"][-1] - figures["memory"][-2]) for side in sides}
         made.append([SAID[name], str(len(queries[0].head)), f"{read:,}"] + [shown(grown[side] / read, "") for side in sides])
-        heads = [NAMES[side] for side in sides]
-    return table(["bytes a row that is read", "columns of the head", "rows that are read"] + heads, made) if made else ""
+    return table(["bytes a row that is read", "columns of the head", "rows that are read"] + [NAMES[side] for side in sides], made)
 
 
 def page(found):
@@ -122,9 +131,11 @@ def page(found):
             ("The same: the 99th of a hundred, µs", by_side(sets, ALL, plain("delay.p99"), "µs")),
             ("Loading a row, no query", loading(sets)),
             ("Registering, ms of the processor", by_side(sets, ALL, each("register", "processor"), "ms", RATIOS)),
+            ("Registering, ms that others wait", by_side(sets, ALL, each("register", "wall"), "ms")),
             ("The first ten answers, µs", by_side(sets, ALL, each("first", "wall"), "µs")),
+            ("The first ten answers asked anew, µs", by_side(sets, SQL, each("first anew", "wall"), "µs")),
             ("All answers as they are kept, ms of the processor", by_side(sets, ALL, each("kept", "processor"), "ms")),
-            ("All answers asked anew, ms of the processor", by_side(sets, ("sqlite", "postgres"), each("anew", "processor"), "ms")),
+            ("All answers asked anew, ms of the processor", by_side(sets, SQL, each("anew", "processor"), "ms")),
             ("`refresh materialized view`, ms of the processor", by_side(sets, ("postgres",), each("refresh", "processor"), "ms")),
             ("Memory of the relations, with their keys", bytes_of_tables(found["tables"][scale], rows)),
             ("Memory below a query", bytes_below(sets, rows)),
