@@ -9,8 +9,8 @@ It needs Python's standard library alone. One line is printed for each place tha
 
 A block of a page that begins with ```lines is a session, and the ```replies behind it what is answered. In a block
 ```session each line has its reply beside it, at least two spaces away, and further replies stand alone below, also behind
-spaces. In both, answers (`= ..`) that stand together come in any order. The Python sessions of docs/CLIENT.md are run over one
-server, and the page has to name each method and error of the client.
+spaces. A block ```session more goes on with the session before it. In all, answers (`= ..`) that stand together come in any order.
+The Python sessions of docs/CLIENT.md are run over one server, and the page has to name each method and error of the client.
 """
 
 import glob
@@ -23,9 +23,13 @@ ROOT = os.path.abspath(os.path.join(os.path.dirname(os.path.abspath(__file__)), 
 
 # names of other programs, of the system and of mathematics that pages put between backticks
 ELSEWHERE = {
-    "nc", "sqlite", "valgrind", "callgrind", "gcc", "epoll", "stunnel", "openssl", "git", "pip", "python3", "redis", "netcat",
+    "nc", "sqlite", "valgrind", "callgrind", "gcc", "epoll", "stunnel", "openssl", "git", "pip", "python3", "redis", "netcat", "nodejs",
     "MemoryMax", "cert", "CAfile", "ulimit", "SIGTERM", "SIGINT", "SIGPIPE", "EMFILE", "LD_PRELOAD", "stdin", "stdout", "stderr", "NAME",
 }
+
+# words of SQL and of Redis, that pages compare with
+ELSEWHERE |= set("AND AS CASE COUNT DATE DECIMAL DELETE DISTINCT EXCEPT EXISTS EXPLAIN FETCH FILTER FROM HAVING INSERT INTERSECT "
+                 "LIKE LISTEN MULTI NOT NOTIFY NULL OFFSET OR SELECT SUBSCRIBE SUM UNION UPDATE USING WITH".split())
 
 passed, failed = 0, 0
 
@@ -77,7 +81,7 @@ def prose(page):
 
 
 PATH = re.compile(r"^[A-Za-z0-9_.\-]*(/[A-Za-z0-9_.\-]+)*/?$")
-ENDING = re.compile(r"\.(md|rt|antt|py|txt|svg|json|edit|sh|c)$")
+ENDING = re.compile(r"\.(md|rt|antt|py|mjs|ts|txt|svg|json|edit|sh|c)$")
 
 
 def is_path(word):
@@ -142,7 +146,7 @@ def anchors():
 
 def known_words():
     words = set(ELSEWHERE)
-    for pattern in ("crates/**/*.rt", "crates/**/*.antt", "**/*.py", "crates/*/must-fail/*.edit"):
+    for pattern in ("crates/**/*.rt", "crates/**/*.antt", "**/*.py", "**/*.mjs", "clients/node/*/*.d.ts", "crates/*/must-fail/*.edit"):
         for path in glob.glob(os.path.join(ROOT, pattern), recursive=True):
             if "/out/" not in path:
                 words.update(re.findall(r"[A-Za-z_][A-Za-z0-9_]*", read(path)))
@@ -155,11 +159,13 @@ def names():
     known = known_words()
     for page in pages():
         name = os.path.relpath(page, ROOT)
+        said = [line for kind, lines in blocks(read(page)) if kind.split(" ")[0] in ("session", "lines", "djq") for line in lines]
+        own = known | set(re.findall(r"[a-z_0-9]+", "\n".join(said)))
         for line in prose(read(page)):
             for word in re.findall(r"`([A-Za-z_][A-Za-z0-9_]*(?:(?:::|\.)[A-Za-z_][A-Za-z0-9_]*)*)(?:\(\))?`", line):
                 if is_path(word):
                     continue
-                missing = [part for part in re.split(r"::|\.", word) if part not in known]
+                missing = [part for part in re.split(r"::|\.", word) if part not in own]
                 check(not missing, f"{name}: nothing is named {', '.join(missing)} (`{word}`)")
 
 
@@ -257,8 +263,8 @@ def sessions(page):
         elif kind == "replies":
             yield lines, rows
             lines = None
-        elif kind == "session":
-            said, answered = [], []
+        elif kind in ("session", "session more"):
+            said, answered = (said[:], answered[:]) if kind.endswith("more") else ([], [])
             for row in rows:
                 parts = re.split(r"\s{2,}", row.strip(), maxsplit=1) if not row.startswith(" ") else ["", row.strip()]
                 said += [parts[0]] if parts[0] else []

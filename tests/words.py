@@ -36,8 +36,8 @@ CEILING = {"tell": 4.4, "come, go": 8.3, "keep": 4.0, "take": 6.9, "stand": 4.4,
            "exactly": 1.7}
 
 READERS = ["README.md", "SECURITY.md", "docs/PROTOCOL.md", "docs/QUERIES.md", "docs/RECIPES.md", "docs/OPERATIONS.md",
-           "docs/PERFORMANCE.md"]
-SHORT = ["README.md", "docs/PROTOCOL.md"]
+           "docs/PERFORMANCE.md", "docs/TUTORIAL.md", "docs/MODELLING.md", "docs/FROM-SQL.md", "docs/BESIDE.md"]
+SHORT = ["README.md", "docs/PROTOCOL.md", "docs/TUTORIAL.md", "docs/MODELLING.md", "docs/FROM-SQL.md", "docs/BESIDE.md"]
 MOST_WORDS = 35
 # pages that don't say yet whom they are for: one that does has to leave this list
 UNADDRESSED = {"docs/THEOREM.md"}
