@@ -1,0 +1,5 @@
+pub mod Listings
+pub mod Names
+pub mod Sound
+pub mod Live
+pub mod Worked
