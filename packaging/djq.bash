@@ -8,7 +8,7 @@ _djq_options() {
         djq:serve) echo "--log --turns" ;;
         djq:replay) echo "--log" ;;
         djq-shell:*) echo "--local --log --plain --program --stop --timeout --help" ;;
-        djq-web:*) echo "--demo --listen --name --page --help" ;;
+        djq-web:*) echo "--all --allow --demo --listen --name --page --query --viewers --help" ;;
     esac
 }
 
@@ -16,7 +16,7 @@ _djq() {
     local program=${COMP_WORDS[0]##*/} word=${COMP_WORDS[COMP_CWORD]} before=${COMP_WORDS[COMP_CWORD-1]}
     case "$before" in
         --log|--program|--page) mapfile -t COMPREPLY < <(compgen -f -- "$word"); return ;;
-        --turns|--timeout|--listen|--name) COMPREPLY=(); return ;;
+        --turns|--timeout|--listen|--name|--allow|--query|--viewers) COMPREPLY=(); return ;;
     esac
     if [ "$program" = djq ] && [ "$COMP_CWORD" = 1 ]; then
         mapfile -t COMPREPLY < <(compgen -W "$_djq_commands" -- "$word")

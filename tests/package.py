@@ -293,7 +293,7 @@ def bash_completes_the_words(program, folder):
     expect(completed("djq", "serve", "127.0.0.1:7007", "--log", "a-"), ["a-log"], "a file")
     for name in ("djq-shell", "djq-web"):
         module = name.replace("-", ".")
-        help = run(sys.executable, "-m", module, "--help", env={**os.environ, "PYTHONPATH": os.path.join(ROOT, "clients/python")})
+        help = run(PYTHON, "-m", module, "--help", env={**os.environ, "PYTHONPATH": os.path.join(ROOT, "clients/python")})
         expect(set(completed(name, "--")), set(re.findall(r"--\w+", help)), name)
 
 
