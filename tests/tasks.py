@@ -139,6 +139,13 @@ def what_builds_and_tests_is_there():
     expect(os.access(os.path.join(ROOT, gate.split()[0]), os.X_OK), True, gate)
 
 
+def python_with_aiohttp():
+    """A Python that the page runs with: the one of the path or Debian's, or none."""
+    seeks = "import sys, importlib.util as u; sys.exit(sys.version_info < (3, 11) or u.find_spec('aiohttp') is None)"
+    pythons = (sys.executable, "/usr/bin/python3")
+    return next((it for it in pythons if os.path.exists(it) and subprocess.run([it, "-c", seeks]).returncode == 0), None)
+
+
 @test
 def first_run():
     said, answered = first_session()
@@ -151,13 +158,14 @@ def first_run():
     expect("ok query 5" in got and "+ waiting 2 12" in got, True, got)
     server = PLACE.start(serve_page)
     PLACE.talk("7008", [])
-    if sys.version_info >= (3, 11):
-        PLACE.start(f"{web} --listen 127.0.0.1:7080")
+    python = python_with_aiohttp()
+    if python:
+        PLACE.start(f"{web} --listen 127.0.0.1:7080".replace("python3 ", f"{python} ", 1))
         address = PLACE.here("http://127.0.0.1:7080/")
         got = until(lambda: urllib.request.urlopen(address, timeout=PATIENCE).read(), "the page in a browser")
         expect(b"<html" in got.lower(), True, got[:80])
     else:
-        print("the page in a browser is skipped: Python 3.11 isn't there")
+        print("the page in a browser is skipped: Python 3.11 with aiohttp isn't there")
     stop(server, "7008")
 
 
