@@ -25,7 +25,7 @@ sys.dont_write_bytecode = True
 from docs import ROOT, blocks, in_any_order, read, sessions  # noqa: E402
 from harness import expect, run_tests, test  # noqa: E402
 
-PATIENCE = 60
+PATIENCE = 240
 PORTS = ("7007", "7008", "7080")
 ABSOLUTE = ("/var/lib/djq", "/backup")
 PLACE = None  # the folder in which the tasks are done
