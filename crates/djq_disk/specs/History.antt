@@ -1,6 +1,9 @@
 -- What a disk went through, and what each of its calls does to that.
 use Rattle.std.specs.Prelude.{◌≡◌, ℕ, ◌+◌, ◌≤◌, List, [], ◌∷◌, ◌++◌, length, take, drop, Option, IfSome, IsSomeAnd}
+use Rattle.std.specs.Prelude.{Bool, true}
 use Rattle.djq_disk.specs.File.{File, settled, with_written, piece_put, Torn}
+use Rattle.djq_disk.specs.declared.disk.DiskOpen.{DiskOpen}
+use Rattle.djq_disk.specs.declared.disk.DiskOpen.TheVariants.{Ready, Failed as Unopened}
 use Rattle.djq_disk.specs.declared.disk.DiskLen.{DiskLen}
 use Rattle.djq_disk.specs.declared.disk.DiskLen.TheVariants.{Len, Failed as Unmeasured}
 use Rattle.djq_disk.specs.declared.disk.DiskRead.{DiskRead}
@@ -32,6 +35,11 @@ moved_to file h = record { paths = h.paths; past = h.past ++ h.file ∷ []; file
 -- An open adds its path, whatever it answers.
 abbrev pub OpensPath : List ℕ → History → History → Type 0
 OpensPath path old new = new ≡ record old { paths = old.paths ++ path ∷ [] }
+
+-- The file is open behind an open that was ready. One that failed leaves it open or not, as it was.
+abbrev pub Opens : DiskOpen → Bool → Bool → Type 0
+Opens Ready old new = new ≡ true
+Opens Unopened old new = new ≡ old
 
 -- The length that is answered is the file's, and nothing changes.
 abbrev pub Sizes : DiskLen → History → History → Type 0

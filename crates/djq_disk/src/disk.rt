@@ -32,43 +32,56 @@ pub enum DiskDid {
 
 /// A disk with one file.
 pub trait Disk {
-    ghost use Rattle.std.specs.Prelude.{◌≡◌, ℕ, ◌+◌, ◌<◌, ◌≤◌, length, Option};
-    ghost use Rattle.djq_disk.specs.History.{History, WhereHistoryTold, OpensPath, Sizes, DiskReads, FitsRead};
+    ghost use Rattle.std.specs.Prelude.{◌≡◌, ℕ, ◌+◌, ◌<◌, ◌≤◌, length, Option, Bool, true};
+    ghost use Rattle.djq_disk.specs.History.{History, WhereHistoryTold, OpensPath, Opens, Sizes, DiskReads, FitsRead};
     ghost use Rattle.djq_disk.specs.History.{DiskWrites, Syncs};
     ghost use Rattle.djq_disk.specs.DiskFaults.{CountsOpen, CountsLen, CountsDiskRead, CountsDid};
 
     // What it went through, where the disk tells it.
     ghost told: { Self → Option History };
 
+    // Whether its file is open, which every disk shows.
+    ghost is_open: { Self → Bool };
+
     // How many faults it has met.
     ghost faults: { Self → ℕ };
 
-    /// Opens the file at the path, where it makes it if none is there.
+    /// Opens the file at the path, where it makes it if none is there. Nothing else can be asked of a disk
+    /// before.
     fn open(&mut self, path: &str) -> DiskOpen
+        ensures is_open { Opens result (is_open self.old) (is_open self.new) }
         ensures told { WhereHistoryTold (told self.old) (told self.new) (OpensPath path.now) }
         ensures faults { CountsOpen result (faults self.old) (faults self.new) };
 
     /// How many bytes the file has.
     fn len(&mut self) -> DiskLen
+        requires { is_open self.old ≡ true }
+        ensures is_open { is_open self.new ≡ true }
         ensures told { WhereHistoryTold (told self.old) (told self.new) (Sizes result) }
         ensures faults { CountsLen result (faults self.old) (faults self.new) };
 
     /// Reads some bytes from the place on into the start of the buffer. Past them the buffer may
     /// change too.
     fn read(&mut self, at: u64, buf: &mut [u8]) -> DiskRead
-        requires { 0 < length buf.old }
+        requires is_open { is_open self.old ≡ true }
+        requires room { 0 < length buf.old }
+        ensures is_open { is_open self.new ≡ true }
         ensures fits { FitsRead result at buf.new }
         ensures told { WhereHistoryTold (told self.old) (told self.new) (DiskReads result at buf.new) }
         ensures faults { CountsDiskRead result (faults self.old) (faults self.new) };
 
     /// Writes the whole piece at the place.
     fn write_at(&mut self, at: u64, piece: &[u8]) -> DiskDid
-        requires { at + length piece.now ≤ 18446744073709551615 }
+        requires is_open { is_open self.old ≡ true }
+        requires place { at + length piece.now ≤ 18446744073709551615 }
+        ensures is_open { is_open self.new ≡ true }
         ensures told { WhereHistoryTold (told self.old) (told self.new) (DiskWrites result at piece.now) }
         ensures faults { CountsDid result (faults self.old) (faults self.new) };
 
     /// Waits until all that was written outlives a stop.
     fn sync(&mut self) -> DiskDid
+        requires { is_open self.old ≡ true }
+        ensures is_open { is_open self.new ≡ true }
         ensures told { WhereHistoryTold (told self.old) (told self.new) (Syncs result) }
         ensures faults { CountsDid result (faults self.old) (faults self.new) };
 }

@@ -1,4 +1,4 @@
-ghost use Rattle.std.specs.Prelude.{◌≡◌, ◌+◌, ◌≤◌, length};
+ghost use Rattle.std.specs.Prelude.{◌≡◌, ◌+◌, ◌≤◌, length, true};
 ghost use Rattle.djq_disk.specs.History.{WhereHistoryTold};
 ghost use Rattle.djq_disk.specs.DiskFaults.{CountsFill};
 ghost use Rattle.djq_disk.specs.Filling.{FillsBuffer, FillsWithin};
@@ -18,6 +18,8 @@ pub enum Filled {
 /// Fills the whole buffer with the bytes of the file from the place on, by as many reads as it
 /// takes.
 pub fn fill<D: Disk>(disk: &mut D, at: u64, buf: &mut [u8]) -> Filled
+    requires { D.is_open disk.old ≡ true }
+    ensures is_open { D.is_open disk.new ≡ true }
     ensures told { WhereHistoryTold (D.told disk.old) (D.told disk.new) (FillsBuffer result at buf.new) }
     ensures within { FillsWithin result at buf.new }
     ensures faults { CountsFill result (D.faults disk.old) (D.faults disk.new) }

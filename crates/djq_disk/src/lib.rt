@@ -5,7 +5,7 @@
 //! these files the definitions say which images a stop may leave: every byte that was synced and not
 //! written since is as it was, and all else may be anything, also the length past the synced one. So
 //! "whatever a stop leaves, at every moment since" is said of a list of files, and stretches of time
-//! compose as lists do.
+//! compose as lists do. And every disk shows whether it is open: nothing but an open can be asked of it before.
 //!
 //! What it isn't for: it has no names of files, no folders and no second file, it buffers nothing, and
 //! it doesn't retry what failed.

@@ -1,4 +1,4 @@
-ghost use Rattle.std.specs.Prelude.{◌≡◌, ◌+◌, ◌<◌, ◌≤◌, [], ◌∷◌, ◌++◌, length, Some, OnOk, OnErr, IfOk, IfSome};
+ghost use Rattle.std.specs.Prelude.{◌≡◌, ◌+◌, ◌<◌, ◌≤◌, [], ◌∷◌, ◌++◌, length, Some, OnOk, OnErr, IfOk, IfSome, true};
 ghost use Rattle.std.specs.Option.{option_copied};
 ghost use Rattle.djq_io.specs.Failing.{after_call, failed_count};
 ghost use Rattle.djq_disk.specs.File.{piece_put};
@@ -15,7 +15,8 @@ use djq_io::{Failing, Piece};
 use std::alloc::{AllocError, Global};
 use std::marker::Model;
 
-/// A disk in memory, which tells all that it went through, and so all that a stop may leave.
+/// A disk in memory, which tells all that it went through, and so all that a stop may leave. Its file is
+/// there from the start, and so it is always open.
 ///
 /// It fails only where it was told to ([`MemDisk::fail_at`]); a write that fails leaves the bytes as
 /// they were, and counts as written. Where a growth is refused, it goes on to answer, and tells
@@ -149,6 +150,8 @@ fn read_from(bytes: &[u8], at: u64, buf: &mut [u8]) -> DiskRead
 
 impl Disk for MemDisk {
     ghost told = { λ d. told_by d.log };
+
+    ghost is_open = { λ _. true };
 
     ghost faults = { λ d. failed_count d.to_fail };
 

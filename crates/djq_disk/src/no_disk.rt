@@ -1,16 +1,19 @@
-ghost use Rattle.std.specs.Prelude.{◌≡◌, ℕ, ◌+◌, ◌<◌, ◌≤◌, length, None};
-ghost use Rattle.djq_disk.specs.History.{History, WhereHistoryTold, OpensPath, Sizes, DiskReads, FitsRead, DiskWrites};
-ghost use Rattle.djq_disk.specs.History.{Syncs};
+ghost use Rattle.std.specs.Prelude.{◌≡◌, ℕ, ◌+◌, ◌<◌, ◌≤◌, length, None, true};
+ghost use Rattle.djq_disk.specs.History.{History, WhereHistoryTold, OpensPath, Opens, Sizes, DiskReads, FitsRead};
+ghost use Rattle.djq_disk.specs.History.{DiskWrites, Syncs};
 ghost use Rattle.djq_disk.specs.DiskFaults.{CountsOpen, CountsLen, CountsDiskRead, CountsDid};
 
 use crate::disk::{Disk, DiskDid, DiskLen, DiskOpen, DiskRead};
 
-/// A disk that keeps nothing, for a program without a file. It tells nothing and never fails.
+/// A disk that keeps nothing, for a program without a file. It tells nothing, never fails, and is
+/// always open.
 #[derive(Clone, Copy, Debug)]
 pub struct NoDisk;
 
 impl Disk for NoDisk {
     ghost told = { λ _. None };
+
+    ghost is_open = { λ _. true };
 
     ghost faults = { λ _. 0 };
 

@@ -11,7 +11,6 @@ fn a_file_is_written_and_read_by_one_at_a_time(rt: HostRuntime) -> Result<(), Fa
         .join(rt.alloc(), name.as_str())?
         .into_string();
     let mut disk = FileDisk::new(rt);
-    assert_eq!(rt; disk.sync(), DiskDid::Failed, "no file is open");
     assert_eq!(rt; disk.open(path.as_str()), DiskOpen::Ready);
     assert_eq!(rt; disk.len(), DiskLen::Len(0), "a new file");
     assert_eq!(rt; disk.write_at(2, b"abc"), DiskDid::Done);

@@ -1,4 +1,4 @@
-ghost use Rattle.std.specs.Prelude.{◌≡◌, ◌+◌, ◌<◌, ◌≤◌, ℕ, List, length, take, drop, ◌++◌, [], ◌∷◌, IfSome, IfNone};
+ghost use Rattle.std.specs.Prelude.{◌≡◌, ◌+◌, ◌<◌, ◌≤◌, ℕ, List, length, take, drop, ◌++◌, [], ◌∷◌, IfSome, IfNone, true};
 ghost use Rattle.std.specs.List.{AllByRecursion};
 ghost use Rattle.djq_disk.specs.History.{WhereHistoryTold};
 ghost use Rattle.djq_disk.specs.DiskFaults.{CountsDid};
@@ -62,8 +62,10 @@ fn gate_before<G: Group>(group: &G, i: usize) -> u8
 /// Writes the records of a group behind the gate, which stays as it is: they are gathered, and written in
 /// a piece where the next one finds no room, and at the end.
 fn write_records<D: Disk, G: Group>(disk: &mut D, gate: u64, group: &G) -> DiskDid
+    requires is_open { D.is_open disk.old ≡ true }
     requires lines { AllByRecursion IsJournalLine (G.lines group.now) }
     requires room { gate_after gate (G.lines group.now) ≤ LAST_GATE }
+    ensures is_open { D.is_open disk.new ≡ true }
     ensures told { (lines : List (List ℕ)) → WhereHistoryTold (D.told disk.old) (D.told disk.new)
         (λ o n. IsIdle lines gate o.file → IsStaged result lines gate (G.lines group.now) o n) }
     ensures faults { CountsDid result (D.faults disk.old) (D.faults disk.new) }
@@ -92,9 +94,11 @@ fn write_records<D: Disk, G: Group>(disk: &mut D, gate: u64, group: &G) -> DiskD
 /// Appends a group at a gate for which there is room: its records are written and synced behind the
 /// closed gate, and then the gate is opened and synced.
 pub(crate) fn append_at<D: Disk, G: Group>(disk: &mut D, gate: u64, group: &G) -> DiskDid
+    requires is_open { D.is_open disk.old ≡ true }
     requires some { 1 ≤ length (G.lines group.now) }
     requires lines { AllByRecursion IsJournalLine (G.lines group.now) }
     requires room { gate_after gate (G.lines group.now) ≤ LAST_GATE }
+    ensures is_open { D.is_open disk.new ≡ true }
     ensures told { (lines : List (List ℕ)) → WhereHistoryTold (D.told disk.old) (D.told disk.new)
         (λ o n. IsIdle lines gate o.file → AppendsAt result lines gate (G.lines group.now) o n) }
     ensures faults { CountsDid result (D.faults disk.old) (D.faults disk.new) }

@@ -1,4 +1,4 @@
-ghost use Rattle.std.specs.Prelude.{◌≡◌, ◌+◌, ◌≤◌, ℕ, List, length, [], ◌∷◌};
+ghost use Rattle.std.specs.Prelude.{◌≡◌, ◌+◌, ◌≤◌, ℕ, List, length, [], ◌∷◌, true};
 ghost use Rattle.std.specs.List.{AllByRecursion};
 ghost use Rattle.djq_disk.specs.History.{WhereHistoryTold};
 ghost use Rattle.djq_journal.specs.Format.{IsJournalLine};
@@ -62,6 +62,8 @@ impl Model for Journal {
 /// Makes a journal without lines at the start of the file, which has to be empty: bytes that stand
 /// behind it don't count.
 pub fn create<D: Disk>(disk: &mut D) -> Made
+    requires { D.is_open disk.old ≡ true }
+    ensures is_open { D.is_open disk.new ≡ true }
     ensures told { WhereHistoryTold (D.told disk.old) (D.told disk.new) (MakesJournal result) }
     ensures faults { CountsMade result (D.faults disk.old) (D.faults disk.new) }
 {
@@ -74,6 +76,8 @@ pub fn create<D: Disk>(disk: &mut D) -> Made
 impl Journal {
     /// Opens the journal that the file is, behind a sync.
     pub fn open<D: Disk>(disk: &mut D) -> Opened
+        requires { D.is_open disk.old ≡ true }
+        ensures is_open { D.is_open disk.new ≡ true }
         ensures told { WhereHistoryTold (D.told disk.old) (D.told disk.new) (JournalOpens result) }
         ensures faults { CountsOpened result (D.faults disk.old) (D.faults disk.new) }
     {
@@ -103,6 +107,8 @@ impl Journal {
 
     /// Reads the next line into the start of the buffer, and stands behind it then.
     pub fn next_line<D: Disk>(&mut self, disk: &mut D, buf: &mut [u8; 4096]) -> Line
+        requires { D.is_open disk.old ≡ true }
+        ensures is_open { D.is_open disk.new ≡ true }
         ensures told { (lines : List (List ℕ)) → WhereHistoryTold (D.told disk.old) (D.told disk.new)
             (λ o n. (n ≡ o)
             × (IsAtGate lines self.old o.file → JournalReads result lines self.old self.new buf.new o.file)) }
@@ -121,8 +127,10 @@ impl Journal {
     /// The journal is idle on this disk: [`next_line`](Journal::next_line) answered `End`, or an append
     /// gave it, and nothing was written since. A caller whose disk tells nothing is bound by the same.
     pub fn append_all<D: Disk, G: Group>(self, disk: &mut D, group: &G) -> Appended
+        requires is_open { D.is_open disk.old ≡ true }
         requires some { 1 ≤ length (G.lines group.now) }
         requires lines { AllByRecursion IsJournalLine (G.lines group.now) }
+        ensures is_open { D.is_open disk.new ≡ true }
         ensures room { HasGroupRoom result self (G.lines group.now) }
         ensures told { (lines : List (List ℕ)) → WhereHistoryTold (D.told disk.old) (D.told disk.new)
             (λ o n. IsIdle lines self o.file → Appends result lines (G.lines group.now) o n) }
@@ -139,8 +147,10 @@ impl Journal {
 
     /// Appends a line, as a group of one.
     pub fn append<D: Disk>(self, disk: &mut D, line: &[u8]) -> Appended
+        requires is_open { D.is_open disk.old ≡ true }
         requires some { 1 ≤ length line.now }
         requires short { length line.now ≤ LINE_BYTES }
+        ensures is_open { D.is_open disk.new ≡ true }
         ensures room { HasGroupRoom result self (line.now ∷ []) }
         ensures told { (lines : List (List ℕ)) → WhereHistoryTold (D.told disk.old) (D.told disk.new)
             (λ o n. IsIdle lines self o.file → Appends result lines (line.now ∷ []) o n) }

@@ -1,4 +1,4 @@
-ghost use Rattle.std.specs.Prelude.{◌≡◌, ◌≤◌, ℕ, List, None, Some, length};
+ghost use Rattle.std.specs.Prelude.{◌≡◌, ◌≤◌, ℕ, List, None, Some, IfSome, length, true};
 ghost use Rattle.std.specs.List.{AllByRecursion};
 ghost use Rattle.djq_disk.specs.History.{WhereHistoryTold};
 ghost use Rattle.djq_journal.specs.Format.{IsJournalLine};
@@ -56,7 +56,9 @@ impl Log {
     /// Where it isn't kept the journal is gone, and lines are kept nowhere from then on: who wants them
     /// kept doesn't go on.
     pub fn keep<D: Disk, G: Group>(&mut self, disk: &mut D, group: &G) -> Kept
-        requires { AllByRecursion IsJournalLine (G.lines group.now) }
+        requires is_open { IfSome self.old (λ _. D.is_open disk.old ≡ true) }
+        requires lines { AllByRecursion IsJournalLine (G.lines group.now) }
+        ensures is_open { D.is_open disk.new ≡ D.is_open disk.old }
         ensures nowhere { self.old ≡ None → (result ≡ Kept.All) × (self.new ≡ None) }
         ensures room { FillsLog result self.old (G.lines group.now) }
         ensures told { WhereHistoryTold (D.told disk.old) (D.told disk.new) (Keeps result self.old self.new

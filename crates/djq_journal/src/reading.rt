@@ -1,4 +1,4 @@
-ghost use Rattle.std.specs.Prelude.{◌≡◌, ◌+◌, ◌*◌, ◌<◌, ◌≤◌, ℕ, List, ◌++◌, length, drop};
+ghost use Rattle.std.specs.Prelude.{◌≡◌, ◌+◌, ◌*◌, ◌<◌, ◌≤◌, ℕ, List, ◌++◌, length, drop, true};
 ghost use Rattle.djq_disk.specs.History.{WhereHistoryTold};
 ghost use Rattle.djq_journal.specs.Standing.{IsAtGate};
 ghost use Rattle.djq_journal.specs.Calls.{JournalReads, LineFits, CountsLine};
@@ -30,6 +30,8 @@ fn number_of(high: u8, low: u8) -> usize
 
 /// Reads the head of a place.
 pub(crate) fn read_head<D: Disk>(disk: &mut D, at: u64) -> Head
+    requires { D.is_open disk.old ≡ true }
+    ensures is_open { D.is_open disk.new ≡ true }
     ensures told { WhereHistoryTold (D.told disk.old) (D.told disk.new)
         (λ o n. IsHead result (drop at o.file.bytes) × (n ≡ o)) }
     ensures fits { HeadFits result at }
@@ -60,7 +62,9 @@ pub(crate) fn read_head<D: Disk>(disk: &mut D, at: u64) -> Head
 
 /// Reads the line at a gate's place into the start of the buffer.
 pub(crate) fn read_line<D: Disk>(disk: &mut D, gate: u64, buf: &mut [u8]) -> Line
-    requires { length buf.old ≡ LINE_BYTES }
+    requires is_open { D.is_open disk.old ≡ true }
+    requires room { length buf.old ≡ LINE_BYTES }
+    ensures is_open { D.is_open disk.new ≡ true }
     ensures told { (lines : List (List ℕ)) → WhereHistoryTold (D.told disk.old) (D.told disk.new)
         (λ o n. (n ≡ o)
         × (IsAtGate lines gate o.file → JournalReads result lines gate (place_after gate result) buf.new o.file)) }

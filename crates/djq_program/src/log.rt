@@ -1,4 +1,4 @@
-ghost use Rattle.std.specs.Prelude.{◌≡◌, [], None, IfSome, MatchResult};
+ghost use Rattle.std.specs.Prelude.{◌≡◌, [], None, IfSome, IfOk, MatchResult, true};
 ghost use Rattle.djq_disk.specs.History.{WhereHistoryTold};
 ghost use Rattle.djq_journal.specs.Standing.{IsAtGate};
 ghost use Rattle.djq_machine.specs.State.{opening};
@@ -33,7 +33,8 @@ pub(crate) fn open_log<D: Disk, L: Ledgers>(
 ) -> Result<Log, Status>
     requires fresh { machine.old.state ≡ opening }
     requires closed { machine.old.batch ≡ None }
-    ensures { OpensLog (log_seen path.entry (disk_seen (D.told disk.old) (D.faults disk.old))
+    ensures is_open { IfOk result (λ log. IfSome log (λ _. D.is_open disk.new ≡ true)) }
+    ensures opens { OpensLog (log_seen path.entry (disk_seen (D.told disk.old) (D.faults disk.old))
         (disk_seen (D.told disk.new) (D.faults disk.new)))
         result machine.new.state (counts steps.old.listing steps.old.update steps.old.rows)
         (counts steps.new.listing steps.new.update steps.new.rows) }
@@ -56,7 +57,8 @@ fn read_log<D: Disk, L: Ledgers>(
 ) -> Result<Journal, Status>
     requires fresh { machine.old.state ≡ opening }
     requires closed { machine.old.batch ≡ None }
-    ensures { MatchResult result
+    ensures is_open { IfOk result (λ _. D.is_open disk.new ≡ true) }
+    ensures reads { MatchResult result
         (λ journal. ReadsLog (log_seen_at path.now (disk_seen (D.told disk.old) (D.faults disk.old))
         (disk_seen (D.told disk.new) (D.faults disk.new)))
         journal (loading_in machine.new) machine.new.state steps.old.listing steps.new.listing)
@@ -73,12 +75,13 @@ fn read_log<D: Disk, L: Ledgers>(
 
 /// Opens the journal at a path, which is made where the file is empty.
 fn open_journal<D: Disk>(disk: &mut D, path: &str) -> Result<Journal, Status>
-    ensures { MatchResult result
+    ensures is_open { IfOk result (λ _. D.is_open disk.new ≡ true) }
+    ensures opens { MatchResult result
         (λ journal. OpensJournal path.now journal (disk_seen (D.told disk.old) (D.faults disk.old))
         (disk_seen (D.told disk.new) (D.faults disk.new)))
         (λ status. UnloadedFor status (D.faults disk.old)
         (disk_seen (D.told disk.new) (D.faults disk.new))
-        × WhereHistoryTold (D.told disk.old) (D.told disk.new) (LeavesUnloaded path.now)) }
+        × WhereHistoryTold (D.told disk.old) (D.told disk.new) (LeavesUnloaded status path.now)) }
 {
     match open_file(disk, path) {
         DiskDid::Done => {}
@@ -93,7 +96,8 @@ fn open_journal<D: Disk>(disk: &mut D, path: &str) -> Result<Journal, Status>
 
 /// Opens the file at a path, and makes a journal in it where it is empty.
 fn open_file<D: Disk>(disk: &mut D, path: &str) -> DiskDid
-    ensures { OpensFile result path.now (disk_seen (D.told disk.old) (D.faults disk.old))
+    ensures is_open { result ≡ DiskDid.Done → D.is_open disk.new ≡ true }
+    ensures opens { OpensFile result path.now (disk_seen (D.told disk.old) (D.faults disk.old))
         (disk_seen (D.told disk.new) (D.faults disk.new)) }
 {
     match disk.open(path) {
@@ -120,6 +124,8 @@ fn end_batch<D: Disk, L: Ledgers>(
     steps: &mut Steps<L>,
 ) -> Result<Log, Status>
     requires none { machine.old.state.sessions ≡ [] }
+    requires is_open { D.is_open disk.old ≡ true }
+    ensures is_open { D.is_open disk.new ≡ true }
     ensures ends { MatchResult result
         (λ log. EndsBatch journal log (loading_in machine.old) (loading_in machine.new)
         (disk_seen (D.told disk.old) (D.faults disk.old)) (disk_seen (D.told disk.new) (D.faults disk.new)))
@@ -150,7 +156,9 @@ fn load_lines<D: Disk, L: Ledgers>(
     requires fresh { machine.old.state ≡ opening }
     requires closed { machine.old.batch ≡ None }
     requires first { IfSome (D.told disk.old) (λ h. IsAtGate [] journal h.file) }
-    ensures { MatchResult result
+    requires is_open { D.is_open disk.old ≡ true }
+    ensures is_open { D.is_open disk.new ≡ true }
+    ensures loads { MatchResult result
         (λ journal. LoadsLines journal (loading_in machine.new) machine.new.state
         (disk_seen (D.told disk.old) (D.faults disk.old))
         (disk_seen (D.told disk.new) (D.faults disk.new))

@@ -1,3 +1,4 @@
+pub mod Openings
 pub mod Logs
 pub mod ProgramRuns
 pub mod Replays

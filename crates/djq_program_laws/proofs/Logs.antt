@@ -1,5 +1,5 @@
--- How a log is opened, loaded and written behind, and what a stop leaves of it.
-use Rattle.std.specs.Prelude.{ℕ, List, [], ◌∷◌, ◌++◌, ◌≡◌, Option, None, Some, IfSome, length, take, drop, ◌<◌, IsSome}
+-- How a log is loaded and written behind, and what a stop leaves of it.
+use Rattle.std.specs.Prelude.{ℕ, List, [], ◌∷◌, ◌++◌, ◌≡◌, Option, None, Some, length, ◌<◌, IsSome}
 use Rattle.std.specs.Prelude.{codes, ◌≤◌, ◌+◌, ◌-◌}
 use Rattle.std.proofs.Common.{sym, ap, ◌∙◌, subst, inl, inr, refl, arith, append-nil, ap₂, append_assoc, length-append}
 use Rattle.std.specs.Borrow.{Bor}
@@ -9,15 +9,12 @@ use Rattle.djq_model.specs.Data.{Bytes}
 use Rattle.djq_disk.specs.File.{File, settled}
 use Rattle.djq_disk.specs.History.{History, WhereHistoryTold}
 use Rattle.djq_disk.specs.Leaving.{LeavesOnly}
-use Rattle.djq_disk.proofs.Files.{told_both, told_so, told_none, leaves_move}
-use Rattle.djq_journal.specs.declared.journal.Opened.TheVariants.{Ready}
-use Rattle.djq_journal.specs.declared.line.Line.TheVariants.{Got, End, BadLog as BadLine}
+use Rattle.djq_disk.proofs.Files.{told_both, told_so, told_none}
 use Rattle.djq_journal.specs.declared.limits.TheConstants.{LAST_GATE}
 use Rattle.djq_journal.specs.declared.journal.Appended.{Appended}
 use Rattle.djq_journal.specs.declared.journal.Appended.TheVariants.{Done, Failed, Full}
-use Rattle.djq_journal.specs.Format.{FileOpensTo, IsBad, front}
-use Rattle.djq_journal.specs.Standing.{IsAtGate, IsIdle}
-use Rattle.djq_journal.specs.Calls.{after_sync, JournalOpens, JournalReads}
+use Rattle.djq_journal.specs.Format.{FileOpensTo}
+use Rattle.djq_journal.specs.Standing.{IsIdle}
 use Rattle.djq_journal.specs.Keeping.{OpensWithin, IsKeeping, whole_lines, WasKeeping}
 use Rattle.djq_journal.specs.Appending.{Appends, gate_after}
 use Rattle.djq_journal.specs.Logging.{HasKeptGroups, Overfull}
@@ -45,197 +42,14 @@ use Rattle.djq_serve.specs.declared.served.Served.{Served}
 use Rattle.djq_serve.specs.declared.served.Served.TheVariants.{Stopped, Over, TurnsUsed, HubFault, DiskFault, LogFull}
 use Rattle.djq_serve.specs.Logged.{AllKept, LastLost, LastLeft, KeepsBy, DiskCounts, IsNotOfDisk}
 use Rattle.djq_serve.specs.Server.{all_done}
-use Rattle.djq_program_laws.specs.Logged.{asked_for, LogIsMade, FindsLines, LeavesUnloaded, DiskSeen, abandoning}
+use Rattle.djq_program_laws.specs.Logged.{FindsLines, LeavesUnloaded, DiskSeen, abandoning}
 use Rattle.djq_program_laws.specs.Logged.{first_kept, LogSeen, log_seen_at, log_seen, SinceOpened, KeptAs, Logs}
-use Rattle.djq_program_laws.specs.Logged.{FoundIn, Begins, UnloadedFor, Unloaded, NeverBegins}
-use Rattle.djq_program_laws.specs.Parts.{HasFile, IsOpened, EndsBatch, CantEnd, OpensJournal, LoadsLines, StopsLoading}
-use Rattle.djq_program_laws.specs.Parts.{ReadsLog}
+use Rattle.djq_program_laws.specs.Logged.{FoundIn, Begins, IsOnlyRead, UnloadedFor, Unloaded, NeverBegins}
+use Rattle.djq_program_laws.specs.Parts.{IsOpened, EndsBatch, CantEnd, OpensJournal}
+use Rattle.djq_program_laws.specs.Parts.{LoadsLines, StopsLoading, ReadsLog}
 use Rattle.djq_program_laws.specs.Reopened.{answered, Reopens, LogsReopen}
 use Rattle.djq_program_laws.proofs.ProgramRuns.{starts}
-
--- ---- How a log is opened, and its lines are loaded.
-
--- What is told in the end, by what was told before, if it matters.
-pub told_end : (old new : Option History) (P : History → History → Type 0) (Q : History → Type 0)
-    → ((o n : History) → P o n → Q n) → WhereHistoryTold old new P → IfSome new Q
-told_end old None P Q so told = tt
-told_end None (Some n) P Q so told = absurd told
-told_end (Some o) (Some n) P Q so told = so o n told
-
-pub told_on : (old new : Option History) (P : History → History → Type 0) (Q R : History → Type 0)
-    → ((o n : History) → Q o → P o n → R n) → IfSome old Q → WhereHistoryTold old new P → IfSome new R
-told_on old None P Q R so before told = tt
-told_on None (Some n) P Q R so before told = absurd told
-told_on (Some o) (Some n) P Q R so before told = so o n before told
-
--- Of a moment before, and of what came since.
-pub told_then : (old mid new : Option History) (P Q : History → History → Type 0) (R : History → Type 0)
-    (S : History → History → Type 0)
-    → ((o m n : History) → P o m → R n → Q m n → S o n) → WhereHistoryTold old mid P → IfSome new R
-    → WhereHistoryTold mid new Q
-    → WhereHistoryTold old new S
-told_then old mid None P Q R S so p r q = tt
-told_then old None (Some n) P Q R S so p r q = absurd q
-told_then None (Some m) (Some n) P Q R S so p r q = absurd p
-told_then (Some o) (Some m) (Some n) P Q R S so p r q = so o m n p r q
-
--- A journal that was made stays idle behind a sync.
-idle_none : (gate : ℕ) (h : History) → IsIdle [] gate h.file → IsKeeping [] [] gate h h
-idle_none gate h idle = (keeps_on.none) [] gate h idle
-
-idle_synced : (gate : ℕ) (h : History) → IsIdle [] gate h.file → IsKeeping [] [] gate h (after_sync h)
-idle_synced gate h idle =
-    let keeping = idle_none gate h idle in
-    let same : settled h.file.bytes ≡ h.file = sym idle.still in
-    let now : LeavesOnly (OpensWithin [] [] 0) (settled h.file.bytes) = subst
-    (λ (f : File). LeavesOnly (OpensWithin [] [] 0) f) (sym same) (keeping.leaves).now in
-    record {
-      idle = subst (λ (f : File). IsIdle [] gate f) (sym same) idle;
-      leaves = leaves_move (OpensWithin [] [] 0) h h (settled h.file.bytes) keeping.leaves now;
-    }
-
-made_finds : (path : Bytes) (old since new : History) → LogIsMade path [] old since → IsKeeping [] [] 8 since new
-    → FindsLines path [] [] 8 old new
-made_finds path old since new made keeping = record { since = since; begins = inl made; holds = keeping }
-
--- behind the sync of an opening
-opened_synced : (path : Bytes) (o m n : History) → HasFile path o m → n ≡ after_sync m → IsOpened path o n
-opened_synced path o m n (inl is) same = inl (same ∙ ap after_sync is)
-opened_synced path o m n (inr (made, idle)) same = inr (subst (λ (h : History). FindsLines path [] [] 8 o h) (sym same)
-    (made_finds path o m (after_sync m) made (idle_synced 8 m idle)))
-
-leaves_opened : (path : Bytes) (o n : History) → IsOpened path o n → LeavesUnloaded path o n
-leaves_opened path o n (inl is) = inl (inr (inr is))
-leaves_opened path o n (inr finds) = inr (inr (inl ([], 8, finds)))
-
-pub ready_opened : (path : Bytes) (gate : ℕ) (old mid new : Option History) → WhereHistoryTold old mid (HasFile path)
-    → WhereHistoryTold mid new (JournalOpens (Ready gate))
-    → WhereHistoryTold old new (IsOpened path)
-ready_opened path gate old mid new has opens =
-    told_both old mid new (HasFile path) (JournalOpens (Ready gate)) (IsOpened path)
-    (λ o m n p q. opened_synced path o m n p q.0) has opens
-
-pub ready_first : (gate : ℕ) (mid new : Option History) → WhereHistoryTold mid new (JournalOpens (Ready gate))
-    → IfSome new (λ h. IsAtGate [] gate h.file)
-ready_first gate mid new opens =
-    told_end mid new (JournalOpens (Ready gate)) (λ h. IsAtGate [] gate h.file) (λ m n p. p.1) opens
-
--- What was opened is left where its lines weren't loaded: nothing was written.
-pub opened_leaves : (path : Bytes) (old mid new : Option History) → WhereHistoryTold old mid (IsOpened path)
-    → WhereHistoryTold mid new (λ o n. n ≡ o)
-    → WhereHistoryTold old new (LeavesUnloaded path)
-opened_leaves path old mid new opened same = told_both old mid new (IsOpened path) (λ o n. n ≡ o) (LeavesUnloaded path)
-    (λ o m n p q. subst (λ (h : History). LeavesUnloaded path o h) (sym q) (leaves_opened path o m p)) opened same
-
--- the older journal has these lines
-older_finds : (path : Bytes) (found : List Bytes) (gate : ℕ) (o n : History) → n ≡ after_sync (asked_for path o)
-    → IsIdle found gate n.file → FindsLines path found [] gate o n
-older_finds path found gate o n is idle = record {
-  since = n;
-  begins = inr (record {
-    lines = subst (λ (bytes : List ℕ). FileOpensTo found bytes) (ap (λ (h : History). h.file.bytes) is)
-        idle.opens;
-    is = is;
-  });
-  holds = (keeps_on.none) found gate n idle;
-}
-
--- a journal that was made has none
-made_has_none : (path : Bytes) (found : List Bytes) (gate : ℕ) (o n : History) → FindsLines path [] [] 8 o n
-    → IsIdle found gate n.file → FindsLines path found [] gate o n
-made_has_none path found gate o n finds idle =
-    let none : [] ≡ found = opens_once [] found n.file.bytes ((finds.holds).idle).opens idle.opens in
-    let place : 8 ≡ gate = ((finds.holds).idle).place ∙ ap (λ (ls : List Bytes). length (front ls)) none
-    ∙ sym idle.place in
-    subst (λ (k : ℕ). FindsLines path found [] k o n) place
-    (subst (λ (ls : List Bytes). FindsLines path ls [] 8 o n) none finds)
-
--- All lines were found.
-pub opened_finds : (path : Bytes) (found : List Bytes) (gate : ℕ) (old mid new : Option History)
-    → WhereHistoryTold old mid (IsOpened path)
-    → IfSome new (λ h. IsIdle found gate h.file) → WhereHistoryTold mid new (λ o n. n ≡ o)
-    → WhereHistoryTold old new (FindsLines path found [] gate)
-opened_finds path found gate old mid new opened idle same =
-    told_then old mid new (IsOpened path) (λ o n. n ≡ o) (λ h. IsIdle found gate h.file) (FindsLines path found [] gate)
-    (λ o m n p r q. all o m n p r q) opened idle same
-  where
-    at_moment : (o n : History) → IsOpened path o n → IsIdle found gate n.file → FindsLines path found [] gate o n
-    at_moment o n (inl is) r = older_finds path found gate o n is r
-    at_moment o n (inr finds) r = made_has_none path found gate o n finds r
-
-    all : (o m n : History) → IsOpened path o m → IsIdle found gate n.file → n ≡ m → FindsLines path found [] gate o n
-    all o m n p r q = at_moment o n (subst (λ (h : History). IsOpened path o h) (sym q) p) r
-
--- What is read at a journal's place.
-pub read_line : (found : List Bytes) (n gate gate' : ℕ) (buf : List ℕ) (old new : Option History)
-    → IfSome old (λ h. IsAtGate found gate h.file)
-    → WhereHistoryTold old new
-    (λ o n'. (n' ≡ o) × (IsAtGate found gate o.file → JournalReads (Got n) found gate gate' buf o.file))
-    → IfSome new (λ h. IsAtGate (found ++ take n buf ∷ []) gate' h.file)
-read_line found n gate gate' buf old new at told =
-    told_on old new (λ o n'. (n' ≡ o) × (IsAtGate found gate o.file → JournalReads (Got n) found gate gate' buf o.file))
-    (λ h. IsAtGate found gate h.file)
-    (λ h. IsAtGate (found ++ take n buf ∷ []) gate' h.file)
-    (λ o n' is p. subst (λ (h : History). IsAtGate (found ++ take n buf ∷ []) gate' h.file) (sym p.0) (p.1 is)) at told
-
-pub read_end : (found : List Bytes) (gate gate' : ℕ) (buf : List ℕ) (old new : Option History)
-    → IfSome old (λ h. IsAtGate found gate h.file)
-    → WhereHistoryTold old new
-    (λ o n. (n ≡ o) × (IsAtGate found gate o.file → JournalReads End found gate gate' buf o.file))
-    → IfSome new (λ h. IsIdle found gate h.file)
-read_end found gate gate' buf old new at told =
-    told_on old new (λ o n. (n ≡ o) × (IsAtGate found gate o.file → JournalReads End found gate gate' buf o.file))
-    (λ h. IsAtGate found gate h.file)
-    (λ h. IsIdle found gate h.file)
-    (λ o n is p. subst (λ (h : History). IsIdle found gate h.file) (sym p.0) (p.1 is).0) at told
-
-pub read_bad : (found : List Bytes) (at gate gate' : ℕ) (buf : List ℕ) (old new : Option History)
-    → IfSome old (λ h. IsAtGate found gate h.file)
-    → WhereHistoryTold old new
-    (λ o n. (n ≡ o) × (IsAtGate found gate o.file → JournalReads (BadLine at) found gate gate' buf o.file))
-    → IfSome new (λ h. IsAtGate found at h.file) × IfSome new (λ h. IsBad (drop at h.file.bytes))
-read_bad found at gate gate' buf old new is told =
-    let P = λ (o n : History). (n ≡ o)
-    × (IsAtGate found gate o.file → JournalReads (BadLine at) found gate gate' buf o.file) in (
-      told_on old new P (λ h. IsAtGate found gate h.file) (λ h. IsAtGate found at h.file)
-          (λ o n q p. stands o n q p) is told,
-      told_on old new P (λ h. IsAtGate found gate h.file) (λ h. IsBad (drop at h.file.bytes))
-          (λ o n q p. bad o n q p) is
-          told,
-    )
-  where
-    stands : (o n : History) → IsAtGate found gate o.file → (n ≡ o)
-        × (IsAtGate found gate o.file → JournalReads (BadLine at) found gate gate' buf o.file)
-        → IsAtGate found at n.file
-    stands o n q p = subst (λ (h : History). IsAtGate found at h.file) (sym p.0)
-        (subst (λ (k : ℕ). IsAtGate found k o.file) (sym (p.1 q).0) q)
-
-    bad : (o n : History) → IsAtGate found gate o.file → (n ≡ o)
-        × (IsAtGate found gate o.file → JournalReads (BadLine at) found gate gate' buf o.file)
-        → IsBad (drop at n.file.bytes)
-    bad o n q p = subst (λ (h : History). IsBad (drop at h.file.bytes)) (sym p.0)
-        (subst (λ (k : ℕ). IsBad (drop k o.file.bytes)) (sym (p.1 q).0) (p.1 q).1)
-
--- a call that changes nothing of the disk, behind others
-pub same_both : (old mid new : Option History) (R : History → History → Type 0)
-    → WhereHistoryTold old mid (λ o n. n ≡ o)
-    → WhereHistoryTold mid new (λ o n. (n ≡ o) × R o n) → WhereHistoryTold old new (λ o n. n ≡ o)
-same_both old mid new R same told = told_both old mid new (λ o n. n ≡ o) (λ o n. (n ≡ o) × R o n) (λ o n. n ≡ o)
-    (λ o m n p q. q.0 ∙ p) same told
-
--- Reading a line changes nothing of the disk.
-pub read_still : (found : List Bytes) (gate : ℕ) (R : History → History → Type 0) (old new : Option History)
-    → IfSome old (λ h. IsAtGate found gate h.file)
-    → WhereHistoryTold old new (λ o n. (n ≡ o) × R o n) → IfSome new (λ h. IsAtGate found gate h.file)
-read_still found gate R old new at told =
-    told_on old new (λ o n. (n ≡ o) × R o n) (λ h. IsAtGate found gate h.file) (λ h. IsAtGate found gate h.file)
-    (λ o n is p. subst (λ (h : History). IsAtGate found gate h.file) (sym p.0) is) at told
-
-pub stands_behind : (found : List Bytes) (line : Bytes) (gate : ℕ) (told : Option History)
-    → IfSome told (λ h. IsAtGate (found ++ line ∷ []) gate h.file)
-    → IfSome told (λ h. (behind : ℕ) × IsAtGate (found ++ line ∷ []) behind h.file)
-stands_behind found line gate None at = tt
-stands_behind found line gate (Some h) at = (gate, at)
+use Rattle.djq_program_laws.proofs.Openings.{told_end, opened_leaves, opened_finds}
 
 -- ---- How a batch that lines left open is ended, or isn't.
 
@@ -298,8 +112,8 @@ has_no_room gate old before now is_open same full appended = (
   full,
   λ found. told_so before.told now.told
       (λ o n. IsIdle (found ++ whole_lines []) gate o.file → Appends Full (found ++ whole_lines []) abandoning o n)
-      (λ o n. (start : History) → IsKeeping found [] gate start o → IsKeeping found [] gate start n)
-      (λ o n p start keeping. ((keeps_on.more) found [] gate start o keeping).full abandoning n (p keeping.idle))
+      (λ o n. (start : History) → IsKeeping found [] gate start o → n ≡ o)
+      (λ o n p start keeping. p keeping.idle)
       (appended (found ++ whole_lines [])),
 )
 
@@ -424,7 +238,7 @@ pub never_began : (path : Option (Bor Bytes)) (disk : DiskSeen) (counted : Count
 never_began None disk counted = (refl, refl)
 never_began (Some path) disk counted = record {
   caused = refl;
-  leaves = told_none disk.told (LeavesUnloaded path.now) (λ o. inl (inl refl));
+  leaves = told_none disk.told (LeavesUnloaded NoMemory path.now) (λ o. inl refl);
   unlisted = refl;
 }
 
@@ -456,7 +270,7 @@ pub unloaded_begins : (log : LogSeen) (first : ℕ) (mid : DiskSeen) (status : S
     → StopsLoading status mid log.now counted.listing counted'.listing → Unloaded log status counted counted'
 unloaded_begins log first mid status counted counted' opens stops = record {
   caused = subst (λ (n : ℕ). UnloadedFor status n log.now) opens.faults stops.caused;
-  leaves = opened_leaves log.path log.before.told mid.told log.now.told opens.opened stops.same;
+  leaves = opened_leaves status log.path log.before.told mid.told log.now.told opens.opened stops.same stops.lines;
   unlisted = stops.unlisted;
 }
 
@@ -481,9 +295,9 @@ ended_begins path before mid now gate log end new state start counted loaded lis
   },
   subst (λ (k : Option ℕ). FoundIn (Some (log_seen_at path before now)) r.found (first_kept end.batch) k) (sym e.at) (
     e.faults ∙ r.faults,
-    told_both before.told mid.told now.told (FindsLines path r.found [] gate) _
+    told_both before.told mid.told now.told (λ o n. IsOpened path o n × FindsLines path r.found [] gate o n) _
         (FindsLines path r.found (first_kept end.batch) e.behind)
-        (λ o m n p q. record { since = p.since; begins = p.begins; holds = q p.since p.holds }) r.finds
+        (λ o m n p q. record { since = p.1.since; begins = p.1.begins; holds = q p.1.since p.1.holds }) r.finds
         (e.kept r.found),
   ),
 )
@@ -492,6 +306,23 @@ ended_begins path before mid now gate log end new state start counted loaded lis
     closed = ap (λ (b : Option (List HeldRow)). record { store = new.store; batch = b }) e.closed
         ∙ ap (λ (st : Store). loading st) same
 
+-- A journal with lines that leave a batch open is no new one.
+open_older : (path : Bytes) (found : List Bytes) (gate : ℕ) (end : Loading) (o n : History)
+    → Loads (loading opening.store) found end → IsSome end.batch
+    → IsOpened path o n × FindsLines path found [] gate o n → IsOnlyRead path o n
+open_older path found gate end o n loads some (inl read, finds) = read
+open_older path [] gate end o n loads some (inr made, finds) =
+    absurd (none (subst (λ (l : Loading). IsSome l.batch) loads some))
+  where
+    none : IsSome (loading opening.store).batch → ⊥
+    none w = cc
+open_older path (line ∷ found) gate end o n loads some (inr (since, made, keeping), finds) =
+    absurd (differ (opens_once [] ((line ∷ found) ++ whole_lines []) n.file.bytes (keeping.idle).opens
+    ((finds.holds).idle).opens))
+  where
+    differ : [] ≡ (line ∷ found) ++ whole_lines [] → ⊥
+    differ e = cc
+
 -- It isn't.
 pub unended_begins : (path : Bytes) (before mid now : DiskSeen) (gate : ℕ) (status : Status) (end : Loading)
     (state : State) (counted counted' : Counts) (listing : ℕ)
@@ -499,12 +330,13 @@ pub unended_begins : (path : Bytes) (before mid now : DiskSeen) (gate : ℕ) (st
     → counted'.listing ≡ listing → Unloaded (log_seen_at path before now) status counted counted'
 unended_begins path before mid now gate DiskFailed end state counted counted' listing r c unlisted = record {
   caused = subst (λ (n : ℕ). Counted n now.faults) r.faults c.1;
-  leaves = told_both before.told mid.told now.told (FindsLines path r.found [] gate) _ (LeavesUnloaded path)
-      (λ o m n p q. inr (inr (inr (record {
+  leaves = told_both before.told mid.told now.told (λ o n. IsOpened path o n × FindsLines path r.found [] gate o n) _
+      (LeavesUnloaded StatusDiskFault path)
+      (λ o m n p q. inr (inr (record {
         found = r.found;
         leaves = record { end = end; loads = r.loads; is_open = c.0 };
-        lost = record { since = p.since; begins = p.begins; holds = q p.since p.holds };
-      })))) r.finds (c.2 r.found);
+        lost = record { since = p.1.since; begins = p.1.begins; holds = q p.1.since p.1.holds };
+      }))) r.finds (c.2 r.found);
   unlisted = unlisted ∙ r.unlisted;
 }
 unended_begins path before mid now gate Filled end state counted counted' listing r c unlisted = record {
@@ -515,19 +347,21 @@ unended_begins path before mid now gate Filled end state counted counted' listin
       leaves = record { end = end; loads = r.loads; is_open = c.0 };
       gate = gate;
       full = c.2;
-      idle = told_end before.told now.told (FindsLines path r.found [] gate) (λ h. IsIdle r.found gate h.file)
-          (λ o n p. subst (λ (ls : List Bytes). IsIdle ls gate n.file) (append-nil r.found) ((p.holds).idle)) still;
+      idle = told_end before.told now.told Read (λ h. IsIdle r.found gate h.file)
+          (λ o n p. subst (λ (ls : List Bytes). IsIdle ls gate n.file) (append-nil r.found) (((p.1).holds).idle)) still;
     },
   );
-  leaves = told_so before.told now.told (FindsLines path r.found [] gate) (LeavesUnloaded path)
-      (λ o n p. inr (inr (inl (r.found, gate, p)))) still;
+  leaves = told_so before.told now.told Read (LeavesUnloaded StatusLogFull path)
+      (λ o n p. open_older path r.found gate end o n r.loads c.0 p) still;
   unlisted = unlisted ∙ r.unlisted;
 }
   where
-    still : WhereHistoryTold before.told now.told (FindsLines path r.found [] gate)
-    still = told_both before.told mid.told now.told (FindsLines path r.found [] gate) _
-        (FindsLines path r.found [] gate)
-        (λ o m n p q. record { since = p.since; begins = p.begins; holds = q p.since p.holds }) r.finds (c.3 r.found)
+    Read : History → History → Type 0
+    Read o n = IsOpened path o n × FindsLines path r.found [] gate o n
+
+    still : WhereHistoryTold before.told now.told Read
+    still = told_both before.told mid.told now.told Read _ Read
+        (λ o m n p q. subst (λ (h : History). Read o h) (sym (q p.1.since p.1.holds)) p) r.finds (c.3 r.found)
 unended_begins path before mid now gate StatusDone end state counted counted' listing r c unlisted = absurd c
 unended_begins path before mid now gate Usage end state counted counted' listing r c unlisted = absurd c
 unended_begins path before mid now gate ReadFault end state counted counted' listing r c unlisted = absurd c

@@ -1,5 +1,5 @@
 -- How the log of a program is opened and loaded, and what it keeps of the run that follows.
-use Rattle.std.specs.Prelude.{ℕ, List, [], ◌∷◌, ◌++◌, ◌≡◌, ◌⊎◌, Option, None, Some, IsSome, IfSome, drop, codes}
+use Rattle.std.specs.Prelude.{ℕ, List, [], ◌∷◌, ◌++◌, ◌≡◌, ◌≢◌, ◌⊎◌, Option, None, Some, IsSome, IfSome, drop, codes}
 use Rattle.std.specs.Borrow.{Bor}
 use Rattle.djq_io.specs.Faults.{Counted}
 use Rattle.djq_disk.specs.History.{History, WhereHistoryTold}
@@ -164,10 +164,14 @@ pub record Begins (log : Option LogSeen) (found : List Bytes) (first : List Grou
   pub fresh : start ≡ record opening { store = start.store }
   pub counts : LoadCounts log found counted loaded
 
--- Of the file at the path nothing was written: it wasn't asked for; or it was, and no more; or its
--- journal was opened too.
+-- A file that has bytes was opened, by this path, and read behind a sync. Nothing was written.
+pub record IsOnlyRead (path : Bytes) (old new : History) : Type 0 where
+  pub some : old.file.bytes ≢ []
+  pub is : new ≡ after_sync (asked_for path old)
+
+-- A file was to be opened, by this path, and to be read behind a sync. Nothing was written.
 abbrev pub IsUnwritten : Bytes → History → History → Type 0
-IsUnwritten path old new = (new ≡ old) ⊎ ((new ≡ asked_for path old) ⊎ (new ≡ after_sync (asked_for path old)))
+IsUnwritten path old new = (new ≡ asked_for path old) ⊎ (new ≡ after_sync (asked_for path old))
 
 -- A journal was to be made, in a file without bytes.
 pub record IsUnmade (path : Bytes) (old new : History) : Type 0 where
@@ -187,11 +191,14 @@ pub record IsUnended (path : Bytes) (old new : History) : Type 0 where
   pub leaves : LeavesOpen found
   pub lost : SinceOpened path found (λ since. WasKeeping found [] abandoning since new) old
 
--- What is left of the file where nothing begins: all that it was; or what failed to become a journal;
--- or a journal with its lines and nothing behind them; or with `abandon` behind them, or not.
-abbrev pub LeavesUnloaded : Bytes → History → History → Type 0
-LeavesUnloaded path old new = IsUnwritten path old new ⊎ (IsUnmade path old new
-    ⊎ (((found : List Bytes) × (gate : ℕ) × FindsLines path found [] gate old new) ⊎ IsUnended path old new))
+-- What is left of the file where nothing begins, by the status. Of a log that is bad or full all that it
+-- was, and it had bytes; so too where memory was wanted, unless nothing was asked of the disk. Where the
+-- disk failed: all that it was; or what was to become a journal, in a file without bytes; or its lines, with
+-- `abandon` behind them, or without.
+abbrev pub LeavesUnloaded : Status → Bytes → History → History → Type 0
+LeavesUnloaded DiskFault path old new = IsUnwritten path old new ⊎ (IsUnmade path old new ⊎ IsUnended path old new)
+LeavesUnloaded NoMemory path old new = (new ≡ old) ⊎ IsOnlyRead path old new
+LeavesUnloaded _ path old new = IsOnlyRead path old new
 
 -- the file doesn't begin as a journal does; the place is its first
 abbrev pub HasNoHeader : ℕ → History → Type 0
@@ -237,7 +244,7 @@ UnloadedFor _ faults now = ⊥
 -- failed, the log is full or bad, or memory was wanted. No lookup or link of a listing was counted.
 pub record Unloaded (log : LogSeen) (status : Status) (counted counted' : Counts) : Type 0 where
   pub caused : UnloadedFor status log.before.faults log.now
-  pub leaves : WhereHistoryTold log.before.told log.now.told (LeavesUnloaded log.path)
+  pub leaves : WhereHistoryTold log.before.told log.now.told (LeavesUnloaded status log.path)
   pub unlisted : counted'.listing ≡ counted.listing
 
 -- So nothing began; without a log memory was wanted, before anything was done.

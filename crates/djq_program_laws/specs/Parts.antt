@@ -1,13 +1,13 @@
 -- What the parts of the program promise that open a log and tell what was sent.
-use Rattle.std.specs.Prelude.{ℕ, List, [], ◌≡◌, ◌⊎◌, false, Option, None, Some, IsSome, IfSome, Result, MatchResult}
+use Rattle.std.specs.Prelude.{ℕ, List, [], ◌≡◌, ◌≢◌, ◌⊎◌, false, Option, None, Some, IsSome, IfSome, Result, MatchResult}
 use Rattle.djq_io.specs.Faults.{Counted}
 use Rattle.djq_io.specs.SteadyHub.{has_gone}
 use Rattle.djq_io.specs.declared.hub.Told.{Told}
 use Rattle.djq_disk.specs.History.{History, WhereHistoryTold}
 use Rattle.djq_disk.specs.declared.disk.DiskDid.{DiskDid}
 use Rattle.djq_disk.specs.declared.disk.DiskDid.TheVariants.{Done, Failed}
+use Rattle.djq_journal.specs.Format.{FileOpensTo}
 use Rattle.djq_journal.specs.Standing.{IsAtGate, IsIdle}
-use Rattle.djq_journal.specs.Calls.{after_sync}
 use Rattle.djq_journal.specs.Keeping.{IsKeeping, WasKeeping}
 use Rattle.djq_journal.specs.Logging.{Overfull}
 use Rattle.djq_model.specs.Data.{Bytes}
@@ -19,12 +19,13 @@ use Rattle.djq_run.specs.declared.status.Status.{Status}
 use Rattle.djq_run.specs.declared.status.Status.TheVariants.{NoMemory, DiskFault, LogFull}
 use Rattle.djq_schedule.specs.Sent.{sent_text}
 use Rattle.djq_program_laws.specs.Logged.{DiskSeen, LogSeen, asked_for, LogIsMade, abandoning, first_kept, FindsLines}
-use Rattle.djq_program_laws.specs.Logged.{IsUnmade, UnloadedFor, Begins, FoundIn, NeverBegins}
+use Rattle.djq_program_laws.specs.Logged.{IsOnlyRead, IsUnmade, UnloadedFor, Begins, FoundIn, NeverBegins}
 use Rattle.djq_program_laws.specs.Replay.{first_fault}
 
--- A file was opened, and where it had no bytes a journal without lines was made in it.
+-- A file was opened, which has bytes; or it had none, and a journal without lines was made in it.
 abbrev pub HasFile : Bytes → History → History → Type 0
-HasFile path old new = (new ≡ asked_for path old) ⊎ (LogIsMade path [] old new × IsIdle [] 8 new.file)
+HasFile path old new = ((old.file.bytes ≢ []) × (new ≡ asked_for path old))
+    ⊎ (LogIsMade path [] old new × IsIdle [] 8 new.file)
 
 -- A file was to be opened, and a journal was to be made in it where it had no bytes.
 abbrev pub LacksFile : Bytes → History → History → Type 0
@@ -36,9 +37,13 @@ OpensFile Done path before now = (now.faults ≡ before.faults) × WhereHistoryT
 OpensFile Failed path before now = Counted before.faults now.faults
     × WhereHistoryTold before.told now.told (LacksFile path)
 
+-- A journal without lines was made, and is there.
+abbrev pub HasMade : Bytes → History → History → Type 0
+HasMade path old new = (since : History) × LogIsMade path [] old since × IsKeeping [] [] 8 since new
+
 -- An older journal was opened, or one without lines that was made.
 abbrev pub IsOpened : Bytes → History → History → Type 0
-IsOpened path old new = (new ≡ after_sync (asked_for path old)) ⊎ FindsLines path [] [] 8 old new
+IsOpened path old new = IsOnlyRead path old new ⊎ HasMade path old new
 
 -- A journal was opened, and stands at its first gate.
 pub record OpensJournal (path : Bytes) (gate : ℕ) (before now : DiskSeen) : Type 0 where
@@ -57,9 +62,11 @@ pub record LoadsLines (gate : ℕ) (end : Loading) (state : State) (before now :
   pub faults : now.faults ≡ before.faults
   pub unlisted : listing' ≡ listing
 
--- Loading stopped before the end, and nothing was written.
+-- Loading stopped before the end, and nothing was written. Of a journal without lines it stops by the disk
+-- alone.
 pub record StopsLoading (status : Status) (before now : DiskSeen) (listing listing' : ℕ) : Type 0 where
   pub caused : UnloadedFor status before.faults now
+  pub lines : IfSome now.told (λ h. FileOpensTo [] h.file.bytes → ⊥) ⊎ (status ≡ DiskFault)
   pub same : WhereHistoryTold before.told now.told (λ o n. n ≡ o)
   pub unlisted : listing' ≡ listing
 
@@ -69,7 +76,8 @@ pub record ReadsLog (log : LogSeen) (gate : ℕ) (end : Loading) (state : State)
   pub loads : Loads (loading opening.store) found end
   pub fresh : state ≡ record opening { store = state.store }
   pub faults : log.now.faults ≡ log.before.faults
-  pub finds : WhereHistoryTold log.before.told log.now.told (FindsLines log.path found [] gate)
+  pub finds : WhereHistoryTold log.before.told log.now.told
+      (λ o n. IsOpened log.path o n × FindsLines log.path found [] gate o n)
   pub unlisted : listing' ≡ listing
 
 -- Behind lines that left a batch open `abandon` was loaded and kept, and behind others nothing was done.
@@ -90,7 +98,7 @@ CantEnd DiskFault gate old before now = IsSome old.batch × Counted before.fault
 CantEnd LogFull gate old before now = IsSome old.batch × (now.faults ≡ before.faults)
     × Overfull (Some gate) abandoning
     × ((found : List Bytes) → WhereHistoryTold before.told now.told (λ o n. (start : History)
-    → IsKeeping found [] gate start o → IsKeeping found [] gate start n))
+    → IsKeeping found [] gate start o → n ≡ o))
 CantEnd _ gate old before now = ⊥
 
 -- What opening a log and loading its lines comes to, where one is asked for: a state to start from,

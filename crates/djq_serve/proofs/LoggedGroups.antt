@@ -1,6 +1,6 @@
 -- Groups that are logged one after another, and how taking turns ends.
 use Rattle.std.specs.Prelude.{ℕ, List, [], ◌∷◌, ◌++◌, ◌≡◌, Bool, true, false, codes, Option, None, Some, ◌==◌, ◌+◌, ◌<◌}
-use Rattle.std.specs.Prelude.{◌≤◌, find}
+use Rattle.std.specs.Prelude.{◌≤◌, find, IfSome}
 use Rattle.std.proofs.Common.{refl, sym, ap, ◌∙◌, subst, inl, inr, append-nil, append_assoc, arith}
 use Rattle.std.specs.List.{AllByRecursion}
 use Rattle.djq_io.specs.Faults.{Counted}
@@ -65,6 +65,14 @@ step_lines old s new mid now false the_lines hold ran (none, no_lines) = subst
 step_lines old s new mid now true the_lines hold (l, inl m) is = absurd (none_is the_lines is)
 step_lines old s new mid now true the_lines hold (l, inr m) is = kept_lines old s l m.effect m.step.mid m.step.acts hold
     the_lines is
+
+-- The disk of a log stays open.
+pub still_open : (old new : Option ℕ) (before now : Bool) → (old ≡ None → new ≡ None) → now ≡ before
+    → IfSome old (λ _. before ≡ true) → IfSome new (λ _. now ≡ true)
+still_open None new before now nowhere same is = subst (λ (log : Option ℕ). IfSome log (λ _. now ≡ true))
+    (sym (nowhere refl)) tt
+still_open (Some gate) None before now nowhere same is = tt
+still_open (Some gate) (Some next) before now nowhere same is = same ∙ is
 
 -- ---- Groups that are kept in one stretch after another.
 

@@ -1,4 +1,4 @@
-ghost use Rattle.std.specs.Prelude.{◌≡◌, None, MatchBool};
+ghost use Rattle.std.specs.Prelude.{◌≡◌, None, IfSome, MatchBool, true};
 ghost use Rattle.djq_machine.specs.Call.{counts};
 ghost use Rattle.djq_run_laws.specs.Holding.{HoldLines};
 ghost use Rattle.djq_serve.specs.Told.{hub_shown};
@@ -28,6 +28,7 @@ pub(crate) fn run_lines<M: Machine, H: Hub, D: Disk, L: Ledgers>(
     requires agrees { Agrees (M.state machine.old) (H.ids hub.old) }
     requires settled { OthersSettled id (M.state machine.old) }
     requires lines { HoldLines (M.state machine.old) }
+    requires is_open { IfSome log.old (λ _. D.is_open disk.old ≡ true) }
     ensures runs { RunsLines result (hub_shown (H.past hub.old) (H.script hub.old) (H.ids hub.old))
         (counts steps.old.listing steps.old.update steps.old.rows) (M.state machine.old) id
         (hub_shown (H.past hub.new) (H.script hub.new) (H.ids hub.new))
@@ -38,6 +39,7 @@ pub(crate) fn run_lines<M: Machine, H: Hub, D: Disk, L: Ledgers>(
     ensures answer { MayLose result }
     ensures faults { H.faults hub.new ≡ H.faults hub.old }
     ensures disk { DiskCounts result (D.faults disk.old) (D.faults disk.new) }
+    ensures is_open { D.is_open disk.new ≡ D.is_open disk.old }
     ensures nowhere { log.old ≡ None → (result ≡ None) × (log.new ≡ None) }
 {
     'lines: while is_served(machine, id) {

@@ -1,4 +1,4 @@
-ghost use Rattle.std.specs.Prelude.{◌≡◌, [], None, Some, false, length};
+ghost use Rattle.std.specs.Prelude.{◌≡◌, [], None, Some, IfSome, true, false, length};
 ghost use Rattle.djq_io.specs.Faults.{Counted};
 ghost use Rattle.djq_machine.specs.Call.{counts, state_ids};
 ghost use Rattle.djq_io.specs.declared.limits.TheConstants.{READ_BYTES};
@@ -53,7 +53,7 @@ pub fn serve<M: Machine, H: Hub, L: Ledgers>(
 /// batch that it ends, whole, before anything is sent behind it. Serving ends too where that can't be kept;
 /// nothing is sent then any more.
 ///
-/// The log's journal is idle on this disk.
+/// The log's journal is idle on this disk, which is open.
 pub fn serve_logged<M: Machine, H: Hub, D: Disk, L: Ledgers>(
     machine: &mut M,
     hub: &mut H,
@@ -67,6 +67,7 @@ pub fn serve_logged<M: Machine, H: Hub, D: Disk, L: Ledgers>(
     requires none { (M.state machine.old).sessions ≡ [] }
     requires alone { (H.ids hub.old).open_ids ≡ [] }
     requires going { (M.state machine.old).stopped ≡ false }
+    requires is_open { IfSome log.old (λ _. D.is_open disk.old ≡ true) }
     ensures logs { ServeLogs result turns
         (hub_shown (H.past hub.old) (H.script hub.old) (H.ids hub.old))
         (counts steps.old.listing steps.old.update steps.old.rows) (M.state machine.old)
@@ -75,6 +76,7 @@ pub fn serve_logged<M: Machine, H: Hub, D: Disk, L: Ledgers>(
         log.old log.new (D.told disk.old) (D.told disk.new) }
     ensures faults { FaultsCount result (H.faults hub.old) (H.faults hub.new) }
     ensures disk { DiskCounts (Some result) (D.faults disk.old) (D.faults disk.new) }
+    ensures is_open { D.is_open disk.new ≡ D.is_open disk.old }
     ensures nowhere { log.old ≡ None → IsNotOfDisk result }
 {
     let served = take_turns(machine, hub, disk, log, buffer, turns, steps);
@@ -96,6 +98,7 @@ fn take_turns<M: Machine, H: Hub, D: Disk, L: Ledgers>(
     requires agrees { Agrees (M.state machine.old) (H.ids hub.old) }
     requires settled { AllSettled (M.state machine.old) }
     requires lines { HoldLines (M.state machine.old) }
+    requires is_open { IfSome log.old (λ _. D.is_open disk.old ≡ true) }
     ensures took { Took result turns
         (hub_shown (H.past hub.old) (H.script hub.old) (H.ids hub.old))
         (counts steps.old.listing steps.old.update steps.old.rows) (M.state machine.old)
@@ -105,6 +108,7 @@ fn take_turns<M: Machine, H: Hub, D: Disk, L: Ledgers>(
     ensures agrees { Agrees (M.state machine.new) (H.ids hub.new) }
     ensures faults { FaultsCount result (H.faults hub.old) (H.faults hub.new) }
     ensures disk { DiskCounts (Some result) (D.faults disk.old) (D.faults disk.new) }
+    ensures is_open { D.is_open disk.new ≡ D.is_open disk.old }
     ensures nowhere { log.old ≡ None → IsNotOfDisk result }
 {
     for _ in 0..turns {

@@ -1,4 +1,4 @@
-ghost use Rattle.std.specs.Prelude.{◌≡◌, ◌<◌, None, false, length, Contains};
+ghost use Rattle.std.specs.Prelude.{◌≡◌, ◌<◌, None, IfSome, true, false, length, Contains};
 ghost use Rattle.djq_io.specs.Faults.{Counted};
 ghost use Rattle.djq_machine.specs.Step.{opened};
 ghost use Rattle.djq_machine.specs.Call.{IsOpen, Makes, counts};
@@ -34,6 +34,7 @@ pub(crate) fn take_turn<M: Machine, H: Hub, D: Disk, L: Ledgers>(
     requires agrees { Agrees (M.state machine.old) (H.ids hub.old) }
     requires settled { AllSettled (M.state machine.old) }
     requires lines { HoldLines (M.state machine.old) }
+    requires is_open { IfSome log.old (λ _. D.is_open disk.old ≡ true) }
     ensures takes { TakesTurn result (hub_shown (H.past hub.old) (H.script hub.old) (H.ids hub.old))
         (counts steps.old.listing steps.old.update steps.old.rows) (M.state machine.old)
         (hub_shown (H.past hub.new) (H.script hub.new) (H.ids hub.new))
@@ -43,6 +44,7 @@ pub(crate) fn take_turn<M: Machine, H: Hub, D: Disk, L: Ledgers>(
     ensures settled { SettledUnless result (M.state machine.new) }
     ensures faults { TurnAnswers result (H.faults hub.old) (H.faults hub.new) }
     ensures disk { DiskCounts result (D.faults disk.old) (D.faults disk.new) }
+    ensures is_open { D.is_open disk.new ≡ D.is_open disk.old }
     ensures nowhere { log.old ≡ None → IsPlainTurn result × (log.new ≡ None) }
 {
     match hub.turn(buffer) {

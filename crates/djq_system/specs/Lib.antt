@@ -3,3 +3,4 @@ pub mod StdSource
 pub mod Tcp
 pub mod Found
 pub mod Request
+pub mod FileDisk

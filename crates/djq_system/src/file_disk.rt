@@ -1,6 +1,6 @@
-ghost use Rattle.std.specs.Prelude.{◌≡◌, ◌+◌, ◌<◌, ◌≤◌, length, None, IfOk};
+ghost use Rattle.std.specs.Prelude.{◌≡◌, ◌+◌, ◌<◌, ◌≤◌, length, None, IfOk, true, false};
 ghost use Rattle.djq_io.specs.Faults.{Counted};
-ghost use Rattle.djq_disk.specs.History.{FitsRead};
+ghost use Rattle.djq_disk.specs.History.{Opens, FitsRead};
 ghost use Rattle.djq_disk.specs.DiskFaults.{CountsOpen, CountsLen, CountsDiskRead, CountsDid};
 
 use crate::size_limit::{passes_limit, past_limit};
@@ -20,10 +20,11 @@ const READ_BYTES: usize = 1 << 20;
 /// Who may read and write a file that is made: its owner.
 const MODE: u32 = 0o600;
 
-/// A file of the operating system as a disk, seen as its count of faults. It tells nothing.
+/// A file of the operating system as a disk, seen as whether it is open and its count of faults. It tells
+/// nothing.
 ///
-/// Until it is opened, each other call fails. On standard error it says of each call that fails which
-/// one it was, the path as it was given, and the system's reason.
+/// On standard error it says of each call that fails which one it was, the path as it was given, and the
+/// system's reason.
 #[derive(Drop)]
 pub struct FileDisk<R: Files<File = fs::File> + AllocGlobal + Eprint + Drop> {
     rt: R,
@@ -34,11 +35,12 @@ pub struct FileDisk<R: Files<File = fs::File> + AllocGlobal + Eprint + Drop> {
 }
 
 impl<R: Files<File = fs::File> + AllocGlobal + Eprint + Drop> Model for FileDisk<R> {
-    ghost use Rattle.std.specs.Prelude.{ℕ};
+    ghost use Rattle.std.specs.Prelude.{is_some};
+    ghost use Rattle.djq_system.specs.FileDisk.{FileSeen};
 
-    ghost Value = { ℕ };
+    ghost Value = { FileSeen };
 
-    ghost view = { λ d. d.faults };
+    ghost view = { λ d. record { is_open = is_some d.file; faults = d.faults } };
 }
 
 /// A call of the system that failed, as it is said, and why.
@@ -108,26 +110,10 @@ fn sync_folder<R: Files<File = fs::File> + AllocGlobal>(rt: &R, path: &str) -> i
     OpenOptions::new().read(true).open(rt, folder)?.sync_all()
 }
 
-/// The failure of a call before an open that was ready.
-fn not_open() -> io::Error {
-    io::Error::new(ErrorKind::NotConnected, "no file is open")
-}
-
-/// How many bytes the file has.
-fn measure(file: &Option<fs::File>) -> io::Result<u64> {
-    match file {
-        Some(file) => Ok(file.metadata()?.len()),
-        None => Err(not_open()),
-    }
-}
-
 /// Reads some bytes, or none where the file ends before the place. A signal doesn't end it.
-fn read_some(file: &Option<fs::File>, at: u64, buf: &mut [u8]) -> io::Result<usize>
+fn read_some(file: &fs::File, at: u64, buf: &mut [u8]) -> io::Result<usize>
     ensures { IfOk result (λ n. (n ≤ length buf.new) × (at + n ≤ 18446744073709551615)) }
 {
-    let Some(file) = file else {
-        return Err(not_open());
-    };
     if LAST_PLACE < at {
         return Ok(0);
     }
@@ -142,30 +128,19 @@ fn read_some(file: &Option<fs::File>, at: u64, buf: &mut [u8]) -> io::Result<usi
 }
 
 /// Writes the whole piece, unless it would pass the process's limit of a file's size.
-fn write_all(file: &Option<fs::File>, at: u64, piece: &[u8]) -> io::Result<()>
+fn write_all(file: &fs::File, at: u64, piece: &[u8]) -> io::Result<()>
     requires { at + length piece.now ≤ 18446744073709551615 }
 {
-    let Some(file) = file else {
-        return Err(not_open());
-    };
     if passes_limit(at + piece.len() as u64) {
         return Err(past_limit());
     }
     file.write_all_at(piece, at)
 }
 
-/// Waits until all is on the disk.
-fn sync_all(file: &Option<fs::File>) -> io::Result<()> {
-    match file {
-        Some(file) => file.sync_all(),
-        None => Err(not_open()),
-    }
-}
-
 impl<R: Files<File = fs::File> + AllocGlobal + Eprint + Drop> FileDisk<R> {
     /// A disk without a file, over the runtime.
     pub fn new(rt: R) -> Self
-        ensures { result ≡ 0 }
+        ensures { result ≡ record { is_open = false; faults = 0 } }
     {
         FileDisk {
             rt,
@@ -175,9 +150,20 @@ impl<R: Files<File = fs::File> + AllocGlobal + Eprint + Drop> FileDisk<R> {
         }
     }
 
+    /// The file that is open.
+    fn file(&self) -> &fs::File
+        requires { self.now.is_open ≡ true }
+    {
+        match &self.file {
+            Some(file) => file,
+            None => unreachable!(),
+        }
+    }
+
     /// Counts a fault, and says which call failed on which file, and why.
     fn fail(&mut self, call: &str, error: io::Error)
-        ensures { Counted self.old self.new }
+        ensures is_open { self.new.is_open ≡ self.old.is_open }
+        ensures faults { Counted self.old.faults self.new.faults }
     {
         let path = match &self.path {
             Some(path) => path.as_str(),
@@ -189,7 +175,8 @@ impl<R: Files<File = fs::File> + AllocGlobal + Eprint + Drop> FileDisk<R> {
 
     /// Says what the system did, and counts a fault where it failed.
     fn did(&mut self, call: &str, answer: io::Result<()>) -> DiskDid
-        ensures { CountsDid result self.old self.new }
+        ensures is_open { self.new.is_open ≡ self.old.is_open }
+        ensures faults { CountsDid result self.old.faults self.new.faults }
     {
         match answer {
             Ok(()) => DiskDid::Done,
@@ -204,10 +191,13 @@ impl<R: Files<File = fs::File> + AllocGlobal + Eprint + Drop> FileDisk<R> {
 impl<R: Files<File = fs::File> + AllocGlobal + Eprint + Drop> Disk for FileDisk<R> {
     ghost told = { λ _. None };
 
-    ghost faults = { λ faults. faults };
+    ghost is_open = { λ d. d.is_open };
+
+    ghost faults = { λ d. d.faults };
 
     fn open(&mut self, path: &str) -> DiskOpen
-        ensures faults { CountsOpen result self.old self.new }
+        ensures is_open { Opens result self.old.is_open self.new.is_open }
+        ensures faults { CountsOpen result self.old.faults self.new.faults }
     {
         self.path = String::from_str(self.rt.alloc(), path).ok();
         match open_alone(&self.rt, path) {
@@ -223,10 +213,12 @@ impl<R: Files<File = fs::File> + AllocGlobal + Eprint + Drop> Disk for FileDisk<
     }
 
     fn len(&mut self) -> DiskLen
-        ensures faults { CountsLen result self.old self.new }
+        requires { self.old.is_open ≡ true }
+        ensures is_open { self.new.is_open ≡ true }
+        ensures faults { CountsLen result self.old.faults self.new.faults }
     {
-        match measure(&self.file) {
-            Ok(n) => DiskLen::Len(n),
+        match self.file().metadata() {
+            Ok(found) => DiskLen::Len(found.len()),
             Err(error) => {
                 self.fail("measuring", error);
                 DiskLen::Failed
@@ -235,11 +227,13 @@ impl<R: Files<File = fs::File> + AllocGlobal + Eprint + Drop> Disk for FileDisk<
     }
 
     fn read(&mut self, at: u64, buf: &mut [u8]) -> DiskRead
-        requires { 0 < length buf.old }
+        requires is_open { self.old.is_open ≡ true }
+        requires room { 0 < length buf.old }
+        ensures is_open { self.new.is_open ≡ true }
         ensures fits { FitsRead result at buf.new }
-        ensures faults { CountsDiskRead result self.old self.new }
+        ensures faults { CountsDiskRead result self.old.faults self.new.faults }
     {
-        match read_some(&self.file, at, buf) {
+        match read_some(self.file(), at, buf) {
             Ok(0) => DiskRead::End,
             Ok(n) => DiskRead::Got(n),
             Err(error) => {
@@ -250,17 +244,21 @@ impl<R: Files<File = fs::File> + AllocGlobal + Eprint + Drop> Disk for FileDisk<
     }
 
     fn write_at(&mut self, at: u64, piece: &[u8]) -> DiskDid
-        requires { at + length piece.now ≤ 18446744073709551615 }
-        ensures faults { CountsDid result self.old self.new }
+        requires is_open { self.old.is_open ≡ true }
+        requires place { at + length piece.now ≤ 18446744073709551615 }
+        ensures is_open { self.new.is_open ≡ true }
+        ensures faults { CountsDid result self.old.faults self.new.faults }
     {
-        let answer = write_all(&self.file, at, piece);
+        let answer = write_all(self.file(), at, piece);
         self.did("writing", answer)
     }
 
     fn sync(&mut self) -> DiskDid
-        ensures faults { CountsDid result self.old self.new }
+        requires { self.old.is_open ≡ true }
+        ensures is_open { self.new.is_open ≡ true }
+        ensures faults { CountsDid result self.old.faults self.new.faults }
     {
-        let answer = sync_all(&self.file);
+        let answer = self.file().sync_all();
         self.did("syncing", answer)
     }
 }

@@ -24,6 +24,7 @@ loop-done-preserved g c =
     record {
       within = filled_within done n buf got after within fits is;
       fits = omega (arith, c.in-Got.ensures.fits.2);
+      is_open = c.in-Got.ensures.is_open;
       told = told_both _ _ _
           (λ o m. (take done buf ≡ take done (drop at o.file.bytes)) × (m ≡ o)) (DiskReads (Got n) (at + done) got)
           (λ o k. (take (done + n) after ≡ take (done + n) (drop at o.file.bytes)) × (k ≡ o))

@@ -1,4 +1,4 @@
-use Rattle.std.proofs.Common.{◌≡◌, ◌+◌, ◌-◌, ◌≤◌, length, take, drop}
+use Rattle.std.proofs.Common.{◌≡◌, ◌+◌, ◌-◌, ◌≤◌, length, take, drop, true}
 use Rattle.djq_disk.specs.History.{WhereHistoryTold}
 use Rattle.djq_disk.proofs.filling.fill.Given as goal
 
@@ -7,6 +7,7 @@ abbrev pub invariant-loop-done : goal.invariant-loop-done
 invariant-loop-done g l = record {
   within : l.done ≤ length l.buf;
   fits : l.at + l.done ≤ 18446744073709551615;
+  is_open : g.D.Disk.is_open l.disk ≡ true;
   told : WhereHistoryTold (g.D.Disk.told l.fn.disk) (g.D.Disk.told l.disk)
       (λ o n. (take l.done l.buf ≡ take l.done (drop l.at o.file.bytes)) × (n ≡ o));
   faults : g.D.Disk.faults l.disk ≡ g.D.Disk.faults l.fn.disk;

@@ -1,5 +1,5 @@
 -- What is written and what is gathered make up the records of the lines so far, all behind the gate.
-use Rattle.std.proofs.Common.{◌≡◌, ◌+◌, ◌-◌, ◌≤◌, ℕ, List, [], ◌∷◌, ◌++◌, length, take, drop, refl, sym, ap, subst, ◌∙◌}
+use Rattle.std.proofs.Common.{◌≡◌, ◌+◌, ◌-◌, ◌≤◌, ℕ, List, [], ◌∷◌, ◌++◌, length, take, drop, refl, sym, ap, subst, ◌∙◌, true}
 use Rattle.std.proofs.Common.{arith, length-take, length-drop, length-append}
 use borrow.Rule.Slice.PartMut.{put_mid}
 use Rattle.std.proofs.lemmas.Slice.{take-put_mid}
@@ -24,14 +24,15 @@ loop-line-init g c = record {
   within = omega arith;
   written = [];
   gathers = gathers_none (g.G.Group.lines c.args.group.now) c.args.gate (c.args.gate + 1) (omega arith);
+  is_open = c.requires.is_open;
   told = λ lines. told_none (g.D.Disk.told c.args.disk.now)
       (λ o n. IsIdle lines c.args.gate o.file → Stages lines c.args.gate [] o n)
       (λ o idle. staged_none lines c.args.gate o idle);
   faults = refl;
 }
 
-pub write_at-requires : goal.write_at-requires
-write_at-requires g c =
+pub write_at-requires-clause-place : goal.write_at-requires-clause-place
+write_at-requires-clause-place g c =
     let inv = c.loop-line.invariant in
     piece_within _ _ _ _ (omega (arith, gathers_end _ _ _ _ _ _ inv.gathers, inv.size, c.requires.room))
 
@@ -128,6 +129,10 @@ loop-line-preserved g c =
         ap g.D.Disk.faults w.disk-is ∙ inv.faults,
       )
     ] in
+    let is_open : g.D.Disk.is_open disk ≡ true = elim c.if-filled-size.branch [
+      | then-filled-size+in-Done w ↦ ap g.D.Disk.is_open w.disk-is ∙ w.in-Done.ensures.is_open
+      | else-filled-size w ↦ ap g.D.Disk.is_open w.disk-is ∙ inv.is_open
+    ] in
     let room : filled + size ≤ PIECE_BYTES = elim c.if-filled-size.branch [
       | then-filled-size+in-Done w ↦ omega (arith, short, w.filled-is)
       | else-filled-size w ↦ omega (arith, w.filled-is, w.if-filled-size, inv.within)
@@ -159,12 +164,13 @@ loop-line-preserved g c =
       gathers = subst (λ (xs : List ℕ). StagesLines group (i + 1) gate at so_far.0 xs) (sym laid)
           (gathers_line group i line next gate at so_far.0 (take filled buf) c.in-Some.ensures c.gate_before.ensures
           so_far.1);
+      is_open = is_open;
       told = so_far.2;
       faults = so_far.3;
     }
 
-pub write_at-requires-2 : goal.write_at-requires-2
-write_at-requires-2 g c =
+pub write_at-requires-2-clause-place : goal.write_at-requires-2-clause-place
+write_at-requires-2-clause-place g c =
     let inv = c.loop-line.invariant in
     piece_within _ _ _ _ (omega (arith, gathers_end _ _ _ _ _ _ inv.gathers, inv.size, c.requires.room))
 

@@ -1,4 +1,4 @@
-use Rattle.std.proofs.Common.{◌≡◌, ◌-◌, ◌≤◌, ℕ, List, length, take}
+use Rattle.std.proofs.Common.{◌≡◌, ◌-◌, ◌≤◌, ℕ, List, length, take, true}
 use Rattle.djq_disk.specs.History.{WhereHistoryTold}
 use Rattle.djq_journal.specs.Standing.{IsIdle}
 use Rattle.djq_journal.specs.Staging.{Stages, StagesLines}
@@ -13,6 +13,7 @@ invariant-loop-line g l = record {
   within : l.filled ≤ PIECE_BYTES;
   written : List ℕ;
   gathers : StagesLines (g.G.Group.lines l.group) l.i l.gate l.at written (take l.filled l.buf);
+  is_open : g.D.Disk.is_open l.disk ≡ true;
   told : (lines : List (List ℕ)) → WhereHistoryTold (g.D.Disk.told l.fn.disk) (g.D.Disk.told l.disk)
       (λ o n. IsIdle lines l.gate o.file → Stages lines l.gate written o n);
   faults : g.D.Disk.faults l.disk ≡ g.D.Disk.faults l.fn.disk;

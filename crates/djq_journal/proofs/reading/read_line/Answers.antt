@@ -18,7 +18,7 @@ returns-in-Whole-clause-told g c lines =
     let got = c.fill.new.buf in
     let behind = drop n c.args.buf.now in
     let size : length got
-    ≡ n = omega (arith, c.fill.auto.buf, length-take n c.args.buf.now, c.requires, c.in-Open.ensures.fits.1) in
+    ≡ n = omega (arith, c.fill.auto.buf, length-take n c.args.buf.now, c.requires.room, c.in-Open.ensures.fits.1) in
     told_both _ _ _ (λ o m. IsHead (Open n) (drop gate o.file.bytes) × (m ≡ o)) (FillsBuffer Whole (gate + 3) got)
     (λ o k. (k ≡ o)
     × (IsAtGate lines gate o.file → IsAtGate (lines ++ take n (got ++ behind) ∷ []) (gate + (3 + n)) o.file))

@@ -12,7 +12,8 @@ use Rattle.djq_machine.specs.declared.machine.Loaded.TheVariants.{Ran}
 use Rattle.djq_machine.specs.Loading.{Loading, loading, LoadStep}
 use Rattle.djq_commands.specs.Views.{loading_in}
 use Rattle.djq_machine.proofs.Relations.{walk_more}
-use Rattle.djq_program_laws.proofs.Logs.{read_line, read_end, read_bad, read_still, stands_behind, same_both}
+use Rattle.djq_program_laws.proofs.Openings.{read_line, read_end, read_bad, read_still, stands_behind, same_both}
+use Rattle.djq_program_laws.proofs.Openings.{read_lines, bad_lines}
 use Rattle.djq_program.proofs.log.load_lines.Goals as goal
 
 pub lines-init : goal.lines-init
@@ -28,6 +29,7 @@ lines-init g c = record {
   same = told_none (g.D.Disk.told c.args.disk.now) (λ (o n : History). n ≡ o)
       (λ (o : History). refl {A = History} {a = o});
   unlisted = refl;
+  is_open = c.requires.is_open;
 }
 
 pub load-requires : goal.load-requires
@@ -54,10 +56,11 @@ lines-preserved g c =
       faults = c.in-Got.ensures.faults ∙ c.lines.invariant.faults;
       same = same_both _ _ _ _ c.lines.invariant.same (c.in-Got.ensures.told found);
       unlisted = c.in-Ran.ensures.listing ∙ c.lines.invariant.unlisted;
+      is_open = c.in-Got.ensures.is_open;
     }
 
-pub returns-in-Refused : goal.returns-in-Refused
-returns-in-Refused g c =
+pub returns-in-Refused-clause-loads : goal.returns-in-Refused-clause-loads
+returns-in-Refused-clause-loads g c =
     let begun = c.lines.invariant.loading in
     let found = begun.0 in
     let told = g.D.Disk.told c.next_line.new.disk in
@@ -80,19 +83,26 @@ returns-in-Refused g c =
           });
         }),
       );
+      lines = inl (read_lines found _ c.next_line.new.self told behind);
       same = same_both _ _ _ _ c.lines.invariant.same (c.in-Got.ensures.told found);
       unlisted = c.in-Refused.ensures.listing ∙ c.lines.invariant.unlisted;
     }
 
-pub returns-in-NoMem : goal.returns-in-NoMem
-returns-in-NoMem g c = record {
-  caused = c.in-Got.ensures.faults ∙ c.lines.invariant.faults;
-  same = same_both _ _ _ _ c.lines.invariant.same (c.in-Got.ensures.told c.lines.invariant.loading.0);
-  unlisted = c.in-NoMem.ensures.listing ∙ c.lines.invariant.unlisted;
-}
+pub returns-in-NoMem-clause-loads : goal.returns-in-NoMem-clause-loads
+returns-in-NoMem-clause-loads g c =
+    let begun = c.lines.invariant.loading in
+    let found = begun.0 in
+    let behind = read_line found c.in-Got.n c.lines.journal c.next_line.new.self c.next_line.new.buf _ _ begun.2
+    (c.in-Got.ensures.told found) in
+    record {
+      caused = c.in-Got.ensures.faults ∙ c.lines.invariant.faults;
+      lines = inl (read_lines found _ c.next_line.new.self (g.D.Disk.told c.next_line.new.disk) behind);
+      same = same_both _ _ _ _ c.lines.invariant.same (c.in-Got.ensures.told found);
+      unlisted = c.in-NoMem.ensures.listing ∙ c.lines.invariant.unlisted;
+    }
 
-pub returns-in-End : goal.returns-in-End
-returns-in-End g c =
+pub returns-in-End-clause-loads : goal.returns-in-End-clause-loads
+returns-in-End-clause-loads g c =
     let begun = c.lines.invariant.loading in
     let found = begun.0 in
     record {
@@ -108,8 +118,8 @@ returns-in-End g c =
       unlisted = c.lines.invariant.unlisted;
     }
 
-pub returns-in-BadLog : goal.returns-in-BadLog
-returns-in-BadLog g c =
+pub returns-in-BadLog-clause-loads : goal.returns-in-BadLog-clause-loads
+returns-in-BadLog-clause-loads g c =
     let begun = c.lines.invariant.loading in
     let found = begun.0 in
     let bad = read_bad found c.in-BadLog.at c.lines.journal c.next_line.new.self c.next_line.new.buf _ _ begun.2
@@ -125,14 +135,16 @@ returns-in-BadLog g c =
           bad = inl bad.1;
         }),
       );
+      lines = inl (bad_lines found c.in-BadLog.at (g.D.Disk.told c.next_line.new.disk) bad.0 bad.1);
       same = same_both _ _ _ _ c.lines.invariant.same (c.in-BadLog.ensures.told found);
       unlisted = c.lines.invariant.unlisted;
     }
 
-pub returns-in-Failed : goal.returns-in-Failed
-returns-in-Failed g c = record {
+pub returns-in-Failed-clause-loads : goal.returns-in-Failed-clause-loads
+returns-in-Failed-clause-loads g c = record {
   caused = subst (λ (k : ℕ). Counted k (g.D.Disk.faults c.next_line.new.disk)) c.lines.invariant.faults
       c.in-Failed.ensures.faults;
+  lines = inr refl;
   same = same_both _ _ _ _ c.lines.invariant.same (c.in-Failed.ensures.told c.lines.invariant.loading.0);
   unlisted = c.lines.invariant.unlisted;
 }

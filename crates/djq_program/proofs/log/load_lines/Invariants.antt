@@ -1,4 +1,4 @@
-use Rattle.std.proofs.Common.{◌≡◌, ◌-◌, List}
+use Rattle.std.proofs.Common.{◌≡◌, ◌-◌, List, true}
 use Rattle.std.specs.Prelude.{IfSome}
 use Rattle.djq_disk.specs.History.{WhereHistoryTold}
 use Rattle.djq_journal.specs.Standing.{IsAtGate}
@@ -19,6 +19,7 @@ invariant-lines g l =
       faults : g.D.Disk.faults l.disk ≡ g.D.Disk.faults l.fn.disk;
       same : WhereHistoryTold (told l.fn.disk) (told l.disk) (λ o n. n ≡ o);
       unlisted : l.steps.listing ≡ l.fn.steps.listing;
+      is_open : g.D.Disk.is_open l.disk ≡ true;
     }
 
 -- Each line brings the journal nearer to the last place.

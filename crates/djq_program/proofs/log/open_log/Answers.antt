@@ -11,8 +11,8 @@ use Rattle.djq_program_laws.specs.Parts.{OpensLog}
 use Rattle.djq_program_laws.proofs.Logs.{begins_empty, ended_begins, unended_begins}
 use Rattle.djq_program.proofs.log.open_log.Goals as goal
 
-pub returns-in_default : goal.returns-in_default
-returns-in_default g c =
+pub returns-in_default-clause-opens : goal.returns-in_default-clause-opens
+returns-in_default-clause-opens g c =
     let seen = disk_seen (g.D.Disk.told c.args.disk.now) (g.D.Disk.faults c.args.disk.now) in
     let before = c.args.steps.now in
     let counted = counts before.listing before.update before.rows in
@@ -22,10 +22,13 @@ returns-in_default g c =
     ([], [], begins_empty counted c.args.machine.now.state c.requires.fresh, c.nowhere.ensures)
 
 pub end_batch-requires : goal.end_batch-requires
-end_batch-requires g c = record { none = ap (λ (st : State). st.sessions) c.in-Ok.ensures.fresh }
+end_batch-requires g c = record {
+  none = ap (λ (st : State). st.sessions) c.in-Ok.ensures.reads.fresh;
+  is_open = c.in-Ok.ensures.is_open;
+}
 
-pub returns-in-Ok : goal.returns-in-Ok
-returns-in-Ok g c =
+pub returns-in-Ok-clause-opens : goal.returns-in-Ok-clause-opens
+returns-in-Ok-clause-opens g c =
     let told = g.D.Disk.told in
     let faults = g.D.Disk.faults in
     let before = c.args.steps.now in
@@ -47,12 +50,12 @@ returns-in-Ok g c =
     (MatchResult-weaker c.end_batch.result
     ended.ends
     (λ log ends. ended_begins path first mid last c.in-Ok.journal log end new state start counted loaded then.listing
-    c.in-Ok.ensures ends refl ended.rest ended.listing)
+    c.in-Ok.ensures.reads ends refl ended.rest ended.listing)
     (λ status cant. unended_begins path first mid last c.in-Ok.journal status end state counted loaded then.listing
-    c.in-Ok.ensures cant ended.listing))
+    c.in-Ok.ensures.reads cant ended.listing))
 
-pub returns-in-Err : goal.returns-in-Err
-returns-in-Err g c =
+pub returns-in-Err-clause-opens : goal.returns-in-Err-clause-opens
+returns-in-Err-clause-opens g c =
     let told = g.D.Disk.told in
     let faults = g.D.Disk.faults in
     let before = c.args.steps.now in
@@ -61,4 +64,4 @@ returns-in-Err g c =
     let last = disk_seen (told c.read_log.new.disk) (faults c.read_log.new.disk) in
     subst (λ (path : Option (Bor Bytes)). OpensLog (log_seen path first last) (Err c.in-Err.status)
     c.read_log.new.machine.state (counts before.listing before.update before.rows)
-    (counts now.listing now.update now.rows)) (sym c.in-Some.is) c.in-Err.ensures
+    (counts now.listing now.update now.rows)) (sym c.in-Some.is) c.in-Err.ensures.reads

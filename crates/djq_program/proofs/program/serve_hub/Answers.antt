@@ -19,19 +19,19 @@ pub open_log-requires : goal.open_log-requires
 open_log-requires g c = record { fresh = c.in-Ok.ensures.state; closed = c.in-Ok.ensures.batch }
 
 pub returns-in-Err : goal.returns-in-Err
-returns-in-Err g c = inr (inr (c.in-Err.ensures, refl))
+returns-in-Err g c = inr (inr (c.in-Err.ensures.opens, refl))
 
 pub serve_logged-served-requires-clause-room : goal.serve_logged-served-requires-clause-room
 serve_logged-served-requires-clause-room g c = omega (arith, c.in-Ok-vec.ensures.len, c.deref_mut.ensures.len)
 
 pub serve_logged-served-requires-clause-none : goal.serve_logged-served-requires-clause-none
-serve_logged-served-requires-clause-none g c = ap (λ (st : State). st.sessions) (c.in-Ok-open_log.ensures.2).fresh
+serve_logged-served-requires-clause-none g c = ap (λ (st : State). st.sessions) (c.in-Ok-open_log.ensures.opens.2).fresh
 
 pub serve_logged-served-requires-clause-alone : goal.serve_logged-served-requires-clause-alone
 serve_logged-served-requires-clause-alone g c = ap (λ (ids : Ids). ids.open_ids) c.in-Ready.ensures.ids ∙ c.requires
 
 pub serve_logged-served-requires-clause-going : goal.serve_logged-served-requires-clause-going
-serve_logged-served-requires-clause-going g c = ap (λ (st : State). st.stopped) (c.in-Ok-open_log.ensures.2).fresh
+serve_logged-served-requires-clause-going g c = ap (λ (st : State). st.stopped) (c.in-Ok-open_log.ensures.opens.2).fresh
 
 pub returns-in-Ready : goal.returns-in-Ready
 returns-in-Ready g c =
@@ -41,7 +41,7 @@ returns-in-Ready g c =
     let told = g.D.Disk.told in
     let faults = g.D.Disk.faults in
     let heard = c.in-Ready.ensures in
-    let begun = c.in-Ok-open_log.ensures in
+    let begun = c.in-Ok-open_log.ensures.opens in
     let served = c.serve_logged-served.ensures in
     let before = c.args.steps.now in
     let now = c.open_log.new.steps in
@@ -71,7 +71,7 @@ returns-in-Ready g c =
 
 pub returns : goal.returns
 returns g c =
-    let begun = c.in-Ok-open_log.ensures in
+    let begun = c.in-Ok-open_log.ensures.opens in
     let unheard = c.in-Failed.ensures in
     inr (inl (record {
       found = begun.0;

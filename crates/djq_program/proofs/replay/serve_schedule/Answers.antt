@@ -18,16 +18,16 @@ pub open_log-requires : goal.open_log-requires
 open_log-requires g c = record { fresh = c.in-Ok.ensures.state; closed = c.in-Ok.ensures.batch }
 
 pub returns-in-Err : goal.returns-in-Err
-returns-in-Err g c = inl c.in-Err.ensures
+returns-in-Err g c = inl c.in-Err.ensures.opens
 
 pub of-hub-requires : goal.of-hub-requires
 of-hub-requires g c = made_steady c.args.bytes.now c.args.hub c.requires
 
 pub serve_logged-served-requires-clause-none : goal.serve_logged-served-requires-clause-none
-serve_logged-served-requires-clause-none g c = ap (λ (st : State). st.sessions) (c.in-Ok-open_log.ensures.2).fresh
+serve_logged-served-requires-clause-none g c = ap (λ (st : State). st.sessions) (c.in-Ok-open_log.ensures.opens.2).fresh
 
 pub serve_logged-served-requires-clause-going : goal.serve_logged-served-requires-clause-going
-serve_logged-served-requires-clause-going g c = ap (λ (st : State). st.stopped) (c.in-Ok-open_log.ensures.2).fresh
+serve_logged-served-requires-clause-going g c = ap (λ (st : State). st.stopped) (c.in-Ok-open_log.ensures.opens.2).fresh
 
 pub returns : goal.returns
 returns g c =
@@ -42,7 +42,7 @@ returns g c =
     let first = disk_seen (told c.args.disk.now) (faults c.args.disk.now) in
     let last = disk_seen (told c.serve_logged-served.new.disk) (faults c.serve_logged-served.new.disk) in
     let log = log_seen c.args.path first last in
-    let begun = c.in-Ok-open_log.ensures in
+    let begun = c.in-Ok-open_log.ensures.opens in
     let served = c.serve_logged-served.ensures in
     let then = disk_seen (told c.open_log.new.disk) (faults c.open_log.new.disk) in
     let begins = begins_still c.args.path first then last begun.0 begun.1 counted c.open_log.new.machine.state loaded

@@ -6,7 +6,7 @@ use Rattle.djq_machine.specs.Call.{counts, groups_by}
 use Rattle.djq_serve.specs.declared.served.Served.TheVariants.{DiskFault, LogFull}
 use Rattle.djq_serve.specs.Server.{lines, server}
 use Rattle.djq_serve.specs.Goes.{far}
-use Rattle.djq_serve.proofs.LoggedGroups.{step_group, step_lines, none_kept, kept_then, keeps_then, lines_kept}
+use Rattle.djq_serve.proofs.LoggedGroups.{step_group, step_lines, none_kept, kept_then, keeps_then, lines_kept, still_open}
 use Rattle.djq_serve.proofs.LoggedGroups.{lines_lost, lines_left, some_group, full_some, failed_isnt_all, full_isnt_all}
 use Rattle.djq_serve.proofs.Moves.{goes_hold_lines}
 use Rattle.djq_serve.proofs.Turns.{lines_begun, ran_agrees, line_then, line_fails, line_fills, line_smaller, not_lined}
@@ -23,6 +23,7 @@ lines-init g c = record {
   );
   faults = refl;
   disk = refl;
+  is_open = refl;
   nowhere = λ none. none;
 }
 
@@ -30,13 +31,18 @@ pub step-requires : goal.step-requires
 step-requires g c = c.lines-test.ensures.is_open
 
 -- What the step kept are lines.
-pub keep-requires : goal.keep-requires
-keep-requires g c =
+pub keep-requires-clause-lines : goal.keep-requires-clause-lines
+keep-requires-clause-lines g c =
     let state = g.M.Machine.state in
     let st = state c.lines.machine in
     step_lines st c.args.id (state c.step.new.self) _ _ c.in-Ran.kept (g.M.Machine.kept c.step.new.self)
     (goes_hold_lines _ _ _ (server st (lines c.args.id)) (c.lines.invariant.lining.1.goes (far 0 [])) c.requires.lines)
     c.in-Ran.ensures.0 c.in-Ran.ensures.1
+
+pub keep-requires-clause-is_open : goal.keep-requires-clause-is_open
+keep-requires-clause-is_open g c =
+    let inv = c.lines.invariant in
+    still_open c.args.log.now c.lines.log _ _ inv.nowhere inv.is_open c.requires.is_open
 
 pub flush-requires : goal.flush-requires
 flush-requires g c =
@@ -76,6 +82,7 @@ lines-preserved g c =
       );
       faults = c.flush.ensures.faults ∙ c.lines.invariant.faults;
       disk = c.in-All.ensures.faults ∙ c.lines.invariant.disk;
+      is_open = c.in-All.ensures.is_open ∙ c.lines.invariant.is_open;
       nowhere = λ none. (c.in-All.ensures.nowhere (c.lines.invariant.nowhere none)).1;
     }
 
@@ -108,6 +115,7 @@ returns-in-Failed g c =
       faults = c.lines.invariant.faults;
       disk = subst (λ (n : ℕ). Counted n (g.D.Disk.faults c.keep.new.disk)) c.lines.invariant.disk
           c.in-Failed.ensures.faults;
+      is_open = c.in-Failed.ensures.is_open ∙ c.lines.invariant.is_open;
       nowhere = λ none. absurd (failed_isnt_all (c.in-Failed.ensures.nowhere (c.lines.invariant.nowhere none)).0);
     }
 
@@ -139,6 +147,7 @@ returns-in-Full g c =
       answer = tt;
       faults = c.lines.invariant.faults;
       disk = c.in-Full.ensures.faults ∙ c.lines.invariant.disk;
+      is_open = c.in-Full.ensures.is_open ∙ c.lines.invariant.is_open;
       nowhere = λ none. absurd (full_isnt_all (c.in-Full.ensures.nowhere (c.lines.invariant.nowhere none)).0);
     }
 
@@ -155,6 +164,7 @@ returns-in-Dry g c =
       answer = tt;
       faults = c.lines.invariant.faults;
       disk = c.lines.invariant.disk;
+      is_open = c.lines.invariant.is_open;
       nowhere = λ none. (refl, c.lines.invariant.nowhere none);
     }
 
@@ -171,6 +181,7 @@ returns-in-Ended g c =
       answer = tt;
       faults = c.lines.invariant.faults;
       disk = c.lines.invariant.disk;
+      is_open = c.lines.invariant.is_open;
       nowhere = λ none. (refl, c.lines.invariant.nowhere none);
     }
 
@@ -187,5 +198,6 @@ returns g c =
       answer = tt;
       faults = c.lines.invariant.faults;
       disk = c.lines.invariant.disk;
+      is_open = c.lines.invariant.is_open;
       nowhere = λ none. (refl, c.lines.invariant.nowhere none);
     }

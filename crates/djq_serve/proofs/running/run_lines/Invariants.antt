@@ -24,6 +24,7 @@ invariant-lines g l =
           × AllKept l.fn.log l.log groups (g.D.Disk.told l.fn.disk) (g.D.Disk.told l.disk);
       faults : g.H.Hub.faults l.hub ≡ g.H.Hub.faults l.fn.hub;
       disk : g.D.Disk.faults l.disk ≡ g.D.Disk.faults l.fn.disk;
+      is_open : g.D.Disk.is_open l.disk ≡ g.D.Disk.is_open l.fn.disk;
       nowhere : l.fn.log ≡ None → l.log ≡ None;
     }
 

@@ -5,6 +5,7 @@ use Rattle.djq_machine.specs.Call.{counts}
 use Rattle.djq_serve.specs.Server.{waiting, server}
 use Rattle.djq_serve.proofs.Moves.{goes_hold_lines}
 use Rattle.djq_serve.proofs.LoggedGroups.{taking_begun, turn_more, turn_ends_it, answer_faults, disk_faults, all_taken}
+use Rattle.djq_serve.proofs.LoggedGroups.{still_open}
 use Rattle.djq_serve.proofs.serving.take_turns.Goals as goal
 
 pub loop-init : goal.loop-init
@@ -15,6 +16,7 @@ loop-init g c = record {
       (g.M.Machine.state c.args.machine.now) c.args.log.now (g.D.Disk.told c.args.disk.now);
   faults = refl;
   disk = refl;
+  is_open = refl;
   nowhere = λ none. none;
   room = c.requires.room;
 }
@@ -23,6 +25,11 @@ pub take_turn-requires-clause-lines : goal.take_turn-requires-clause-lines
 take_turn-requires-clause-lines g c =
     goes_hold_lines _ _ _ (server (g.M.Machine.state c.loop.machine) waiting) (c.loop.invariant.taking).goes
     c.requires.lines
+
+pub take_turn-requires-clause-is_open : goal.take_turn-requires-clause-is_open
+take_turn-requires-clause-is_open g c =
+    let inv = c.loop.invariant in
+    still_open c.args.log.now c.loop.log _ _ inv.nowhere inv.is_open c.requires.is_open
 
 pub loop-preserved : goal.loop-preserved
 loop-preserved g c =
@@ -37,6 +44,7 @@ loop-preserved g c =
           c.in_default.ensures.takes;
       faults = c.in_default.ensures.faults ∙ c.loop.invariant.faults;
       disk = c.in_default.ensures.disk ∙ c.loop.invariant.disk;
+      is_open = c.in_default.ensures.is_open ∙ c.loop.invariant.is_open;
       nowhere = λ none. (c.in_default.ensures.nowhere (c.loop.invariant.nowhere none)).1;
       room = c.take_turn.auto.buffer ∙ c.loop.invariant.room;
     }

@@ -24,6 +24,7 @@ invariant-loop g l =
           l.counter;
       faults : g.H.Hub.faults l.hub ≡ g.H.Hub.faults l.fn.hub;
       disk : g.D.Disk.faults l.disk ≡ g.D.Disk.faults l.fn.disk;
+      is_open : g.D.Disk.is_open l.disk ≡ g.D.Disk.is_open l.fn.disk;
       nowhere : l.fn.log ≡ None → l.log ≡ None;
       room : length l.buffer ≡ READ_BYTES;
     }
