@@ -39,7 +39,7 @@ use Rattle.djq_run_laws.specs.Form.{row_comes, row_goes, rows_come}
 use Rattle.djq_run_laws.specs.Sound.{IsSoundStore, IsSoundBatch, IsHeldBySaying}
 use Rattle.djq_run_laws.proofs.Forms.{done_of, none_holds, rel_stored, query_stored, union_stored, drop_stored}
 use Rattle.djq_run_laws.proofs.Lists.{nothing_apart, texts_apart}
-use Rattle.djq_run_laws.proofs.RegisteredQueries.{HasMembers, said_members}
+use Rattle.djq_run_laws.proofs.RegisteredQueries.{HasParts, said_parts}
 use Rattle.djq_run_laws.proofs.RowCommands.{added, deleted, types_moved, types_suit, batch_still, held_more}
 use Rattle.djq_run_laws.proofs.Batches.{batched}
 use Rattle.djq_run_laws.proofs.SoundStores.{stored_sound, made_sound, moved_store}
@@ -557,28 +557,28 @@ closed_sound : (st : Store) → IsSoundStore st → IsSoundLoading (loading st)
 closed_sound st sound = record { store = sound; batch = tt }
 
 -- a command outside a batch
-command_sound : (old : Store) (c : Command) → HasMembers c → (how : Loaded) (new : Store) → StoreLoads old c how new
+command_sound : (old : Store) (c : Command) → HasParts c → (how : Loaded) (new : Store) → StoreLoads old c how new
     → IsSoundStore old → IsSoundStore new
-command_sound old (Rel name types) two how new (r, made, e) sound =
-    stored_sound (λ q. false) old new (rel_stored (λ q. false) old new name types r made) sound
-command_sound old (Register q) two how new (r, made, e) sound =
+command_sound old (Rel name types) parts how new (r, made, e) sound =
+    stored_sound (λ q. false) old new (rel_stored (λ q. false) old new name types r parts made) sound
+command_sound old (Register q) parts how new (r, made, e) sound =
     stored_sound (λ p. false) old new (query_stored (λ p. false) old new q r made) sound
-command_sound old (Union name members) two how new (r, made, e) sound =
-    stored_sound (λ p. false) old new (union_stored (λ p. false) old new name members r two made) sound
-command_sound old (Drop q) two how new (r, made, e) sound =
+command_sound old (Union name members) parts how new (r, made, e) sound =
+    stored_sound (λ p. false) old new (union_stored (λ p. false) old new name members r parts made) sound
+command_sound old (Drop q) parts how new (r, made, e) sound =
     stored_sound (λ p. false) old new (drop_stored (λ p. false) old new q r made) sound
-command_sound old (Add name row) two how new (r, made, e) sound =
+command_sound old (Add name row) parts how new (r, made, e) sound =
     made_sound (row_comes name row) old (add_outcome (row_in old.relations name row) r) new
     (added old name row r new made) tt sound
-command_sound old (Del name row) two how new (r, made, e) sound =
+command_sound old (Del name row) parts how new (r, made, e) sound =
     made_sound (row_goes name row) old (delete_outcome (row_out old.relations name row) r) new
     (deleted old name row r new made) tt sound
-command_sound old c two how new h sound = stays_sound old new h.1 sound
+command_sound old c parts how new h sound = stays_sound old new h.1 sound
 
-outside_sound : (old : Store) (l : Bytes) (c : Command) → HasMembers c → (how : Loaded) (new : Loading)
+outside_sound : (old : Store) (l : Bytes) (c : Command) → HasParts c → (how : Loaded) (new : Loading)
     → CommandLoads (loading old) l c how new → IsSoundStore old
     → IsSoundLoading new
-outside_sound old l Batch two how new (inl h) sound =
+outside_sound old l Batch parts how new (inl h) sound =
     stays_so (holding old []) new h.1 (record {
       store = sound;
       batch = record {
@@ -587,9 +587,9 @@ outside_sound old l Batch two how new (inl h) sound =
         lines = All-nil IsHeldBySaying;
       };
     })
-outside_sound old l Batch two how new (inr h) sound = stays_so (loading old) new h.1 (closed_sound old sound)
-outside_sound old l c two how new h sound =
-    of_batch IsSoundLoading new None h.1 (closed_sound new.store (command_sound old c two how new.store h.0 sound))
+outside_sound old l Batch parts how new (inr h) sound = stays_so (loading old) new h.1 (closed_sound old sound)
+outside_sound old l c parts how new h sound =
+    of_batch IsSoundLoading new None h.1 (closed_sound new.store (command_sound old c parts how new.store h.0 sound))
 
 -- a command where a batch is open
 within_sound : (old : Store) (held : List HeldRow) (l : Bytes) (c : Command) → reading_of l ≡ says_command c
@@ -629,7 +629,7 @@ reading_sound old l (says_command c) is how new (inl h) sound = by old.batch ref
         subst (λ (k : Option (List HeldRow)). CommandLoads (record { store = old.store; batch = k }) l c how new) e h
 
     by : (o : Option (List HeldRow)) → old.batch ≡ o → IsSoundLoading new
-    by None e = outside_sound old.store l c (said_members l c is) how new (loads None e) sound.store
+    by None e = outside_sound old.store l c (said_parts l c is) how new (loads None e) sound.store
     by (Some held) e = within_sound old.store held l c is how new (loads (Some held) e) (at (Some held) e)
 
 line_sound : (old : Loading) (line : Bytes) (new : Loading) → LoadStep old line ran new → IsSoundLoading old

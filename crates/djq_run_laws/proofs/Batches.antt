@@ -1,9 +1,9 @@
 -- What a batch of rows makes of a store, and a command of rows of a state.
-use Rattle.std.specs.Prelude.{ℕ, zero, suc, List, [], ◌∷◌, ◌≡◌, ◌≤◌, ◌+◌, ◌++◌, ◌&&◌, ◌||◌, Bool, true, false, cond}
+use Rattle.std.specs.Prelude.{ℕ, zero, suc, List, [], ◌∷◌, ◌≡◌, ◌≢◌, ◌<◌, ◌≤◌, ◌+◌, ◌++◌, ◌&&◌, ◌||◌, Bool, true, false, cond}
 use Rattle.std.specs.Prelude.{not, length, nat_le, None, Some, find, map, Result, Ok, Err, All, Contains, ◌==◌}
 use Rattle.std.proofs.Common.{refl, sym, ap, ◌∙◌, subst, inl, inr, arith}
 use Rattle.std.proofs.lemmas.List.Elements.{All-nil, All-cons, All-head, All-tail, All-contains}
-use Rattle.std.proofs.lemmas.Bool.{or_parts}
+use Rattle.std.proofs.lemmas.Bool.{or_parts, leb-false}
 use Rattle.djq_model.specs.declared.relation.Relation.{Relation}
 use Rattle.djq_model.specs.declared.relation.CountedRow.{CountedRow}
 use Rattle.djq_model.specs.Data.{Bytes, bytes_eq, counted_of, rows_of, with_row, with_copies, change_first}
@@ -14,7 +14,6 @@ use Rattle.djq_protocol.specs.declared.limits.TheConstants.{TEXTS, ROWS, COPIES,
 use Rattle.djq_protocol.specs.declared.answer.Refusal.{Refusal}
 use Rattle.djq_protocol.specs.declared.answer.Refusal.TheVariants.{Limit, NoMemory}
 use Rattle.djq_protocol.specs.declared.held.HeldRow.{HeldRow}
-use Rattle.djq_protocol.specs.Conditions.{first_refusal}
 use Rattle.djq_store_spec.specs.Store.{Store}
 use Rattle.djq_store_spec.specs.Relations.{with_rows}
 use Rattle.djq_store_spec.specs.Rows.{copies_of, with_copies_of}
@@ -32,8 +31,9 @@ use Rattle.djq_machine.specs.Command.{without_batch}
 use Rattle.djq_run_laws.specs.Sound.{AreApart, IsSoundRelation, IsCopyCount}
 use Rattle.djq_run_laws.specs.Form.{LearnsTexts, rows_come, RowCommand, row_comes, row_goes, RowsChanged}
 use Rattle.djq_run_laws.proofs.RegisteredQueries.{SameAnswers, read_same}
-use Rattle.djq_run_laws.proofs.Forms.{none_first}
+use Rattle.djq_run_laws.proofs.Forms.{AllFail, all_fail, second_fails}
 use Rattle.djq_run_laws.proofs.RowCommands.{RowsMade, learns_keeps, one_more, other_names, other_rows, suits_more}
+use Rattle.djq_run_laws.proofs.RowCommands.{other_count}
 use Rattle.djq_run_laws.proofs.RowCommands.{suits_copies, added, deleted, SameTypes, types_with_rows, types_suit}
 use Rattle.djq_run_laws.proofs.RowCommands.{all_suit, suit_fits}
 
@@ -47,19 +47,39 @@ pub record Gains (suit : Type 0) (old new : Store) : Type 0 where
       → AreApart (map (λ (x : Relation). x.name) new.relations)
   pub types : SameTypes old.relations new.relations
   pub rows : suit → All IsSoundRelation old.relations → All IsSoundRelation new.relations
+  pub count : length new.relations ≡ length old.relations
   pub texts : List Bytes
   pub store : new ≡ record old { relations = new.relations; texts = all_learned old.texts texts }
+
+-- what a batch asks of each of its rows before it is done
+abbrev place_conditions : Store → HeldRow → List (Bool × Refusal)
+place_conditions st h =
+    (nat_le COPIES (copies_of st h.relation h.row), Limit)
+    ∷ (not (is_there st h) && nat_le ROWS (length (rows_of st.relations h.relation)), Limit)
+    ∷ (not (is_there st h) && nat_le LAST_SEQ st.seq, Limit)
+    ∷ []
 
 -- one of them
 module _ (st : Store) (h : HeldRow) (none : place_refusal st h ≡ None) where
   abbrev has : List CountedRow
   has = counted_of st.relations h.relation
 
+  fail : AllFail (place_conditions st h)
+  fail = all_fail (place_conditions st h) none
+
   may : IsCopyCount (copies_of st h.relation h.row + 1)
-  may = one_more (copies_of st h.relation h.row)
-      (none_first (nat_le COPIES (copies_of st h.relation h.row)) Limit
-      (first_refusal ((not (is_there st h) && nat_le ROWS (length (rows_of st.relations h.relation)), Limit)
-      ∷ (not (is_there st h) && nat_le LAST_SEQ st.seq, Limit) ∷ [])) none)
+  may = one_more (copies_of st h.relation h.row) fail.0
+
+  place : is_there st h ≡ false → length (rows_of st.relations h.relation) < ROWS
+  place absent =
+      leb-false ROWS (length (rows_of st.relations h.relation))
+      (second_fails (not (is_there st h)) (nat_le ROWS (length (rows_of st.relations h.relation))) (ap not absent)
+      fail.1.0)
+
+  below_last : is_there st h ≡ false → st.seq < LAST_SEQ
+  below_last absent =
+      leb-false LAST_SEQ st.seq
+      (second_fails (not (is_there st h)) (nat_le LAST_SEQ st.seq) (ap not absent) fail.1.1.0)
 
   pub one_gains : Gains (suit_refusal st h.relation h.row ≡ None) st (with_held st h)
   one_gains = by (is_there st h) refl
@@ -77,6 +97,7 @@ module _ (st : Store) (h : HeldRow) (none : place_refusal st h ≡ None) where
             types = types_with_rows st.relations h.relation (with_copies has h.row n);
             rows = λ suit. other_rows st h.relation (with_copies has h.row n)
                 (suits_copies st h.relation h.row n may);
+            count = other_count st h.relation (with_copies has h.row n);
             texts = [];
             store = refl;
           }
@@ -84,7 +105,8 @@ module _ (st : Store) (h : HeldRow) (none : place_refusal st h ≡ None) where
         names = other_names st h.relation (with_row has h.row);
         types = types_with_rows st.relations h.relation (with_row has h.row);
         rows = λ suit. other_rows st h.relation (with_row has h.row)
-            (suits_more st h.relation h.row (suit_fits st h.relation h.row suit) absent);
+            (suits_more st h.relation h.row (suit_fits st h.relation h.row suit) absent (place absent));
+        count = other_count st h.relation (with_row has h.row);
         texts = texts_in h.row;
         store = refl;
       }
@@ -107,6 +129,7 @@ all_gain st [] places = record {
   names = λ apart. apart;
   types = λ n. refl;
   rows = λ suit sound. sound;
+  count = refl;
   texts = [];
   store = refl;
 }
@@ -118,6 +141,7 @@ all_gain st (h ∷ hs) places =
       types = λ n. b.types n ∙ a.types n;
       rows = λ suit sound. b.rows (suit_behind st h hs a.types suit)
           (a.rows (All-head (λ (k : HeldRow). suit_refusal st k.relation k.row ≡ None) h hs suit) sound);
+      count = b.count ∙ a.count;
       texts = a.texts ++ b.texts;
       store = b.store
           ∙ ap (λ (m : Store). record m { relations = now.relations; texts = all_learned m.texts b.texts }) a.store
@@ -130,6 +154,32 @@ few_texts : (st : Store) (held : List HeldRow) → HavePlaces st held → length
     → length (with_all st held).texts ≤ TEXTS
 few_texts st [] places few = few
 few_texts st (h ∷ hs) places few = few_texts (with_held st h) hs places.2 places.1
+
+-- where a row came, one more change may be counted
+held_seq : (st : Store) (h : HeldRow) → (with_held st h).seq ≡ st.seq
+held_seq st h = by (is_there st h)
+  where
+    by : (b : Bool) → (cond b (record st {
+      relations = with_copies_of st.relations h.relation h.row (copies_of st h.relation h.row + 1);
+    }) (record st {
+      relations = with_rows st.relations h.relation (with_row (counted_of st.relations h.relation) h.row);
+      texts = all_learned st.texts (texts_in h.row);
+    })).seq ≡ st.seq
+    by true = refl
+    by false = refl
+
+pub came_below : (st : Store) (held : List HeldRow) → HavePlaces st held → count_came st held ≢ 0 → st.seq < LAST_SEQ
+came_below st [] places some = absurd (some refl)
+came_below st (h ∷ hs) places some =
+    by (is_there st h) refl some (λ k. came_below (with_held st h) hs places.2 k)
+  where
+    by : (b : Bool) → is_there st h ≡ b → cond b 0 1 + count_came (with_held st h) hs ≢ 0
+        → (count_came (with_held st h) hs ≢ 0 → (with_held st h).seq < LAST_SEQ) → st.seq < LAST_SEQ
+    by true there k more =
+        let below = more (λ none. k (omega (arith, none))) in
+        let same = held_seq st h in
+        omega (arith, below, same)
+    by false absent k more = below_last st h places.0 absent
 
 -- ---- of which relations rows come
 
@@ -275,6 +325,7 @@ batched old held (Ok zero) new h =
       names = g.names;
       types = g.types;
       rows = g.rows;
+      count = g.count;
       texts = g.texts;
       few = λ few. subst (λ (st : Store). length st.texts ≤ TEXTS) (sym after) (few_texts old held h.0 few);
       store = after ∙ g.store;
@@ -288,6 +339,8 @@ batched old held (Ok (suc n)) new h =
       names = g.names;
       types = g.types;
       rows = g.rows;
+      count = g.count;
+      below = came_below old held h.0 (λ none. let is = h.1 in omega (arith, is, none));
       texts = g.texts;
       few = λ few. subst (λ (st : Store). length st.texts ≤ TEXTS) (sym after) (few_texts old held h.0 few);
       store = after ∙ ap (λ (st : Store). record st { seq = old.seq + 1 }) g.store;

@@ -181,12 +181,12 @@ stored_gives : (old : State) (store : Store) → Stored (in_use old) old.store s
     → CursorsGive (record old { store = store })
 stored_gives old store (learns_texts h) g =
     subst (λ (st : Store). CursorsGive (record old { store = st })) (sym h.store) g
-stored_gives old store (makes_relation name types none e) g =
+stored_gives old store (makes_relation name types may e) g =
     subst (λ (st : Store). CursorsGive (record old { store = st })) (sym e)
     (relations_give old.store.relations
     (old.store.relations ++ record { name = name; types = types; rows = [] } ∷ []) old.store.queries old.sessions
     (new_relation_same old.store.relations name types) g)
-stored_gives old store (registers q none may few e) g =
+stored_gives old store (registers q none may place few e) g =
     subst (λ (st : Store). CursorsGive (record old { store = st })) (sym e)
     (registered_give old.store.relations old.store.queries q old.sessions g)
 stored_gives old store (drops_query q unused free e) g =

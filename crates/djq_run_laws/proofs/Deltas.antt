@@ -326,12 +326,12 @@ module _ (q : Listed) (s : ℕ) (queued : List (ℕ × Bytes)) (changes : Bool) 
   -- what a command of the store makes of it
   stored_stays : (used : Bytes → Bool) (old new : Store) → Stored used old new → StepTells q s old new queued changes
   stored_stays used old new (learns_texts h) = learned_stays old new h
-  stored_stays used old new (makes_relation name types none e) =
+  stored_stays used old new (makes_relation name types may e) =
       is_quiet
       (subst (λ (rs : List Relation). SameAnswers old.relations rs q) (sym (ap (λ (st : Store). st.relations) e))
       (new_relation_same old.relations name types q))
       (inl (ap (λ (st : Store). st.seq) e))
-  stored_stays used old new (registers p none may few e) =
+  stored_stays used old new (registers p none may place few e) =
       stays old new (ap (λ (st : Store). st.relations) e) (ap (λ (st : Store). st.seq) e)
   stored_stays used old new (drops_query name unused free e) =
       stays old new (ap (λ (st : Store). st.relations) e) (ap (λ (st : Store). st.seq) e)

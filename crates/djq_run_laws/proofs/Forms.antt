@@ -1,29 +1,31 @@
 -- Each command does what its form says.
 use Rattle.std.specs.Prelude.{ℕ, List, [], ◌∷◌, ◌≡◌, ◌≤◌, ◌⊎◌, ◌++◌, ◌+◌, ◌||◌, Bool, true, false, cond, length, nat_le}
 use Rattle.std.specs.Prelude.{nat_lt, Option, None, Some, is_some, is_none, IsSome, IsSomeAnd, MatchOption, codes, map}
-use Rattle.std.specs.Prelude.{Result, Ok, Err, ⊤}
+use Rattle.std.specs.Prelude.{Result, Ok, Err, ⊤, ◌&&◌}
+use Rattle.std.specs.List.{list_any}
 use Rattle.std.proofs.Common.{refl, sym, ap, ◌∙◌, subst, inl, inr, arith}
-use Rattle.std.proofs.lemmas.Bool.{or_parts}
+use Rattle.std.proofs.lemmas.Bool.{or_parts, leb-false, ltb-false}
 use Rattle.djq_model.specs.declared.relation.ColumnType.{ColumnType}
 use Rattle.djq_model.specs.declared.query.Query.{Query}
 use Rattle.djq_model.specs.Data.{Bytes, Tuple, bytes_eq, drop_first, relation_of}
 use Rattle.djq_model.specs.Listed.{Listed, a_query, a_union, listed_name, listed_of}
 use Rattle.djq_model.specs.Known.{texts_in}
-use Rattle.djq_protocol.specs.declared.limits.TheConstants.{COLUMNS, RELATIONS, QUERIES, CURSORS, TEXTS}
+use Rattle.djq_protocol.specs.declared.limits.TheConstants.{COLUMNS, RELATIONS, QUERIES, CURSORS, TEXTS, MEMBERS}
+use Rattle.djq_protocol.specs.declared.limits.TheConstants.{ATOMS, VARIABLES, HEAD_VARIABLES, COMPARISONS}
 use Rattle.djq_protocol.specs.declared.rest.QueryOutcome.{QueryOutcome}
 use Rattle.djq_protocol.specs.declared.rest.QueryOutcome.TheVariants.{Registered, Cyclic, NotConnex}
 use Rattle.djq_protocol.specs.declared.answer.EndCause.TheVariants.{Quit as SaidQuit, Stop as SaidStop}
 use Rattle.djq_protocol.specs.declared.answer.Refusal.{Refusal}
-use Rattle.djq_protocol.specs.declared.answer.Refusal.TheVariants.{Taken, NoRelation, NoQuery, NoCursor, Limit}
-use Rattle.djq_protocol.specs.declared.answer.Refusal.TheVariants.{NoMemory, InUse, Syntax, Misplaced}
+use Rattle.djq_protocol.specs.declared.answer.Refusal.TheVariants.{Taken, NoQuery, NoCursor, Limit}
+use Rattle.djq_protocol.specs.declared.answer.Refusal.TheVariants.{NoMemory, InUse, Syntax, Misplaced, Member}
 use Rattle.djq_protocol.specs.declared.command.Command.{Command}
 use Rattle.djq_protocol.specs.declared.command.Command.TheVariants.{Rel, Add, Del, Query as Register, Union, Drop, Open}
 use Rattle.djq_protocol.specs.declared.command.Command.TheVariants.{Next, Close, Has, Watch, Unwatch, Explain, Shape}
 use Rattle.djq_protocol.specs.declared.command.Command.TheVariants.{Batch, Done, Abandon, Quit, Stop}
 use Rattle.djq_protocol.specs.declared.held.HeldRow.{HeldRow}
 use Rattle.djq_protocol.specs.Conditions.{first_refusal, Answers, OutOfMemoryWhere}
-use Rattle.djq_protocol.specs.QueryFault.{reads_unknown, query_faults}
-use Rattle.djq_protocol.specs.Variables.{constants_of}
+use Rattle.djq_protocol.specs.QueryFault.{query_faults, is_too_large}
+use Rattle.djq_protocol.specs.Variables.{constants_of, variables_of}
 use Rattle.djq_protocol.specs.Grammar.{Reading, outside, past_limit, says_command, reading_of, takes_memory_to_read}
 use Rattle.djq_protocol.specs.Reply.{line, answer_line, refusal_line, ok_reply, query_reply, union_reply, has_reply}
 use Rattle.djq_protocol.specs.Reply.{shape_reply, watch_reply, held_reply, stale_line, text_of, listing_lines, bye}
@@ -33,7 +35,7 @@ use Rattle.djq_store_spec.specs.Relations.{RefusedByTexts, MakesRelation, rel_re
 use Rattle.djq_store_spec.specs.Registering.{RefusedLate, RegistersAs, RegistersQuery, DropsQuery, query_refusal}
 use Rattle.djq_store_spec.specs.Registering.{drop_refusal, is_member, answer_steps}
 use Rattle.djq_store_spec.specs.Asking.{has_steps}
-use Rattle.djq_store_spec.specs.Union.{union_refusal, AreUnder, RegistersUnion}
+use Rattle.djq_store_spec.specs.Union.{union_refusal, AreUnder, RegistersUnion, stands_twice, is_union, types_differ}
 use Rattle.djq_store_spec.specs.Batch.{hold_refusal}
 use Rattle.djq_answer_laws.proofs.Lists.{some_there, nothing_of}
 use Rattle.djq_machine.specs.State.{State, Session, Cursor, with_session, cursor_of, with_position}
@@ -44,12 +46,13 @@ use Rattle.djq_machine.specs.Command.{without_watch, with_batch, without_batch, 
 use Rattle.djq_machine.specs.Command.{CloseStep, CommandStep, QueryStep, QueryCutStep, AddStep, DoneStep, ExplainStepOf}
 use Rattle.djq_machine.specs.Command.{TellsLines, explain_lines, union_lines}
 use Rattle.djq_machine.specs.LineStep.{ReadStep, past_limit_refusal}
+use Rattle.djq_run_laws.specs.Sound.{IsWithinLimits}
 use Rattle.djq_run_laws.specs.Form.{form_of, add_form, done_form, Turn, opens_cursor, moves_cursor, closes_cursor}
 use Rattle.djq_run_laws.specs.Form.{starts_watching, stops_watching, opens_batch, holds_row, closes_batch, SaysAlone}
 use Rattle.djq_run_laws.specs.Form.{Replied, is_whole, is_cut, Stored, LearnsTexts, learns_texts, makes_relation}
 use Rattle.djq_run_laws.specs.Form.{registers, drops_query, in_use, without_cursor, SessionTurned, DoesStore, DoesTurn}
 use Rattle.djq_run_laws.specs.Form.{is_turned, is_refused, FormDoes}
-use Rattle.djq_run_laws.proofs.RegisteredQueries.{said_members, may_unite}
+use Rattle.djq_run_laws.proofs.RegisteredQueries.{said_parts, may_unite}
 
 -- ---- what the conditions of a command tell, where it is done
 
@@ -62,6 +65,24 @@ pub none_holds : {A : Type 0} (o : Option Refusal) (a : A) (D : A → Type 0) (L
     → Answers o (Ok a) D L → o ≡ None
 none_holds None a D L h = refl
 none_holds (Some r) a D L h = absurd h
+
+-- All conditions fail where none refuses.
+abbrev pub AllFail : List (Bool × Refusal) → Type 0
+AllFail [] = ⊤
+AllFail (c ∷ cs) = (c.0 ≡ false) × AllFail cs
+
+pub all_fail : (cs : List (Bool × Refusal)) → first_refusal cs ≡ None → AllFail cs
+all_fail [] e = tt
+all_fail (c ∷ cs) e = by c.0 refl e (λ f. all_fail cs f)
+  where
+    by : (b : Bool) → c.0 ≡ b → cond b (Some c.1) (first_refusal cs) ≡ None → (first_refusal cs ≡ None → AllFail cs)
+        → AllFail (c ∷ cs)
+    by true k f more = absurd cc
+    by false k f more = (k, more f)
+
+pub second_fails : (a b : Bool) → a ≡ true → (a && b) ≡ false → b ≡ false
+second_fails true b e f = f
+second_fails false b e f = absurd cc
 
 pub none_first : (a : Bool) (r : Refusal) (o : Option Refusal) → cond a (Some r) o ≡ None → a ≡ false
 none_first true r o h = absurd cc
@@ -95,6 +116,49 @@ pub stays_learned : (old new : Store) → new ≡ old → LearnsTexts old new
 stays_learned old new e =
     record { texts = []; few = λ few. subst (λ (st : Store). length st.texts ≤ TEXTS) (sym e) few; store = e }
 
+-- A query that isn't too large is within its limits.
+four_fail : (a b c d : Bool) → (a || (b || (c || d))) ≡ false → (a ≡ false) × (b ≡ false) × (c ≡ false) × (d ≡ false)
+four_fail false false false false e = (refl, refl, refl, refl)
+four_fail true b c d e = absurd cc
+four_fail false true c d e = absurd cc
+four_fail false false true d e = absurd cc
+four_fail false false false true e = absurd cc
+
+within_limits : (q : Query) → is_too_large q ≡ false → IsWithinLimits q
+within_limits q e =
+    let f = four_fail (nat_lt ATOMS (length q.atoms)) (nat_lt VARIABLES (length (variables_of q.atoms)))
+    (nat_lt HEAD_VARIABLES (length q.head)) (nat_lt COMPARISONS (length q.comparisons)) e in
+    let atoms = ltb-false ATOMS (length q.atoms) f.0 in
+    let variables = ltb-false VARIABLES (length (variables_of q.atoms)) f.1 in
+    let head = ltb-false HEAD_VARIABLES (length q.head) f.2 in
+    let comparisons = ltb-false COMPARISONS (length q.comparisons) f.3 in record {
+      atoms = omega (arith, atoms);
+      variables = omega (arith, variables);
+      head = omega (arith, head);
+      comparisons = omega (arith, comparisons);
+    }
+
+-- what `query` and `union` ask before they are done
+abbrev pub query_conditions : Store → Query → List (Bool × Refusal)
+query_conditions st q =
+    (is_some (listed_of st.queries q.name), Taken)
+    ∷ query_faults st.relations q
+    ++ (nat_le QUERIES (length st.queries), Limit)
+    ∷ []
+
+abbrev pub union_conditions : Store → Bytes → List Bytes → List (Bool × Refusal)
+union_conditions st name members =
+    (is_some (listed_of st.queries name), Taken)
+    ∷ (list_any (λ n. is_none (listed_of st.queries n)) members, NoQuery)
+    ∷ (
+      stands_twice members || list_any (λ n. is_union (listed_of st.queries n)) members
+          || types_differ st members,
+      Member,
+    )
+    ∷ (nat_lt MEMBERS (length members), Limit)
+    ∷ (nat_le QUERIES (length st.queries), Limit)
+    ∷ []
+
 -- A late refusal changes no more than which texts are known.
 pub late_learned : (old : Store) (texts : List Bytes) (new : Store) (r : Refusal) → RefusedByTexts old texts new r
     → LearnsTexts old new
@@ -121,18 +185,22 @@ module _ (used : Bytes → Bool) (old new : Store) where
   keeps_store : new ≡ old → Stored used old new
   keeps_store e = learns_texts (stays_learned old new e)
 
-  pub rel_stored : (name : Bytes) (types : List ColumnType) (r : Result ⊤ Refusal) → MakesRelation old name types r new
-      → Stored used old new
-  rel_stored name types (Err r) h = keeps_store h.stays
-  rel_stored name types (Ok u) h =
+  pub rel_stored : (name : Bytes) (types : List ColumnType) (r : Result ⊤ Refusal) → 1 ≤ length types
+      → MakesRelation old name types r new → Stored used old new
+  rel_stored name types (Err r) some h = keeps_store h.stays
+  rel_stored name types (Ok u) some h =
       let none = none_holds (rel_refusal old name types) u
       (λ _. new ≡ record old { relations = old.relations ++ record { name = name; types = types; rows = [] } ∷ [] })
       (OutOfMemoryWhere ⊤) h.answer in
-      makes_relation name types
-      (nothing_of (relation_of old.relations name)
-      (none_first (is_some (relation_of old.relations name)) Taken
-      (first_refusal ((nat_lt COLUMNS (length types), Limit) ∷ (nat_le RELATIONS (length old.relations), Limit) ∷ []))
-      none))
+      let fails = all_fail ((is_some (relation_of old.relations name), Taken)
+      ∷ (nat_lt COLUMNS (length types), Limit) ∷ (nat_le RELATIONS (length old.relations), Limit) ∷ []) none in
+      let columns = ltb-false COLUMNS (length types) fails.1.0 in
+      makes_relation name types (record {
+        new = nothing_of (relation_of old.relations name) fails.0;
+        some = some;
+        columns = omega (arith, columns);
+        place = leb-false RELATIONS (length old.relations) fails.1.1.0;
+      })
       (done_of (rel_refusal old name types) u _ (OutOfMemoryWhere ⊤) h.answer)
 
   pub query_stored : (q : Query) (r : Result QueryOutcome Refusal) → RegistersQuery old q r new → Stored used old new
@@ -155,13 +223,10 @@ module _ (used : Bytes → Bool) (old new : Store) where
       h.answer in
       let d = done_of (query_refusal old q) (Registered most) (RegistersAs old q new) (RefusedLate old q new) h.answer
       in
-      registers (a_query q)
-      (nothing_of (listed_of old.queries q.name)
-      (none_first (is_some (listed_of old.queries q.name)) Taken
-      (first_refusal (query_faults old.relations q ++ (nat_le QUERIES (length old.queries), Limit) ∷ [])) none)) (
-        d.0,
-        none_second (is_some (listed_of old.queries q.name)) (reads_unknown old.relations q) Taken NoRelation _ none,
-      )
+      let fails = all_fail (query_conditions old q) none in
+      registers (a_query q) (nothing_of (listed_of old.queries q.name) fails.0)
+      (d.0, fails.1.0, within_limits q fails.1.1.1.1.1.1.1.1.1.0)
+      (leb-false QUERIES (length old.queries) fails.1.1.1.1.1.1.1.1.1.1.0)
       (λ _. d.2) d.3
 
   pub union_stored : (name : Bytes) (members : List Bytes) (r : Result ℕ Refusal) → 2 ≤ length members
@@ -173,9 +238,10 @@ module _ (used : Bytes → Bool) (old new : Store) where
       × (new ≡ record old { queries = old.queries ++ a_union name qs ∷ [] }) in
       let none = none_holds (union_refusal old name members) most D (OutOfMemoryWhere ⊤) h.answer in
       let d = done_of (union_refusal old name members) most D (OutOfMemoryWhere ⊤) h.answer in
-      registers (a_union name d.0)
-      (nothing_of (listed_of old.queries name) (none_first (is_some (listed_of old.queries name)) Taken _ none))
+      let fails = all_fail (union_conditions old name members) none in
+      registers (a_union name d.0) (nothing_of (listed_of old.queries name) fails.0)
       (may_unite old name members d.0 two none d.1)
+      (leb-false QUERIES (length old.queries) fails.1.1.1.1.0)
       (λ few. subst (λ (st : Store). length st.texts ≤ TEXTS) (sym d.3) few) d.3
 
   pub drop_stored : (name : Bytes) (r : Result ⊤ Refusal) → DropsQuery old (used name) name r new → Stored used old new
@@ -242,15 +308,13 @@ open_does : (old : State) (s : ℕ) (x : Session) (c q : Bytes) (r : Result ⊤ 
 open_does old s x c q (Err r) new answer after = is_refused (is_whole after)
 open_does old s x c q (Ok u) new answer after =
     let none = none_holds (open_refusal old.store x.cursors c q) u (λ _. ⊤) (OutOfMemoryWhere ⊤) answer in
-    let rest = first_refusal ((nat_le CURSORS (length x.cursors), Limit) ∷ []) in
+    let fails = all_fail ((is_some (cursor_of x.cursors c), Taken)
+    ∷ (is_none (listed_of old.store.queries q), NoQuery) ∷ (nat_le CURSORS (length x.cursors), Limit) ∷ []) none in
     is_turned (
-      nothing_of (cursor_of x.cursors c)
-          (none_first (is_some (cursor_of x.cursors c)) Taken
-          (cond (is_none (listed_of old.store.queries q)) (Some NoQuery) rest) none),
-      some_found (listed_of old.store.queries q)
-          (none_second (is_some (cursor_of x.cursors c)) (is_none (listed_of old.store.queries q)) Taken NoQuery rest
-          none),
+      nothing_of (cursor_of x.cursors c) fails.0,
+      some_found (listed_of old.store.queries q) fails.1.0,
       after,
+      leb-false CURSORS (length x.cursors) fails.1.1.0,
     )
 
 next_at_does : (old : State) (s : ℕ) (x : Session) (c : Bytes) (k : Cursor) (q : Listed) (count : ℕ) (p : Position)
@@ -434,12 +498,12 @@ pub command_does : (old : State) (s : ℕ) (x : Session) (l : Bytes) (c : Comman
     → reading_of l ≡ says_command c → CommandStep old s x l c e new → FormDoes (form_of x.batch l c) old s x e new
 command_does old s x l (Rel name types) e new said h =
     stored_whole old s (ok_reply (codes "ok") h.result) _ h.store e new h.effect
-    (rel_stored (in_use old) old.store h.store name types h.result h.done) h.state
+    (rel_stored (in_use old) old.store h.store name types h.result (said_parts l (Rel name types) said) h.done) h.state
 command_does old s x l (Register q) e new said h = query_does old s q e new h
 command_does old s x l (Union name members) e new said h =
     stored_whole old s (union_reply h.result) _ h.store e new h.effect
     (union_stored (in_use old) old.store h.store name members h.result
-    (said_members l (Union name members) said) h.done) h.state
+    (said_parts l (Union name members) said) h.done) h.state
 command_does old s x l (Drop q) e new said h =
     stored_whole old s (ok_reply (codes "ok") h.result) _ h.store e new h.effect
     (drop_stored (in_use old) old.store h.store q h.result h.done) h.state

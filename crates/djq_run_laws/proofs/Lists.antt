@@ -77,6 +77,16 @@ less_dropped p (x ∷ xs) = by (p x) (less_dropped p xs)
     by true h = omega arith
     by false h = omega (arith, h)
 
+-- as many are left where one is changed
+pub long_changed : {A : Type 0} (p : A → Bool) (f : A → A) (xs : List A) → length (change_first p f xs) ≡ length xs
+long_changed p f [] = refl
+long_changed p f (x ∷ xs) = by (p x) (long_changed p f xs)
+  where
+    by : (b : Bool) → length (change_first p f xs) ≡ length xs
+        → length (cond b (f x ∷ xs) (x ∷ change_first p f xs)) ≡ length (x ∷ xs)
+    by true h = refl
+    by false h = omega (arith, h)
+
 pub all_mapped : {A : Type 0} (P Q : A → Type 0) (f : A → A) → ((x : A) → P x → Q (f x)) → (xs : List A) → All P xs
     → All Q (map f xs)
 all_mapped P Q f keeps [] h = All-nil Q

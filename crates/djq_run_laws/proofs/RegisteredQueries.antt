@@ -243,40 +243,54 @@ all_long item (t ∷ ts) = by (item t) (all_of item ts) (all_long item ts)
     by (Some a) None h = tt
     by (Some a) (Some xs) h = omega (arith, h)
 
--- A command of a union has two members at least.
-abbrev pub HasMembers : Command → Type 0
-HasMembers (Union name members) = 2 ≤ length members
-HasMembers _ = ⊤
+-- A command of a union has two members at least, and one of a relation a column.
+abbrev pub HasParts : Command → Type 0
+HasParts (Union name members) = 2 ≤ length members
+HasParts (Rel name types) = 1 ≤ length types
+HasParts _ = ⊤
 
-abbrev MayHaveMembers : Option Command → Type 0
-MayHaveMembers None = ⊤
-MayHaveMembers (Some c) = HasMembers c
+abbrev MayHaveParts : Option Command → Type 0
+MayHaveParts None = ⊤
+MayHaveParts (Some c) = HasParts c
 
-mapped_has : {A : Type 0} (f : A → Command) → ((a : A) → HasMembers (f a)) → (o : Option A)
-    → MayHaveMembers (option_map f o)
+mapped_has : {A : Type 0} (f : A → Command) → ((a : A) → HasParts (f a)) → (o : Option A)
+    → MayHaveParts (option_map f o)
 mapped_has f has None = tt
 mapped_has f has (Some a) = has a
 
-nothing_has : (c : Command) → HasMembers c → (ts : List Token) → MayHaveMembers (at_line_end c ts)
+nothing_has : (c : Command) → HasParts c → (ts : List Token) → MayHaveParts (at_line_end c ts)
 nothing_has c has [] = has
 nothing_has c has (t ∷ ts) = tt
 
-union_has : (ts : List Token) → MayHaveMembers (command_behind UnionWord ts)
+union_has : (ts : List Token) → MayHaveParts (command_behind UnionWord ts)
 union_has [] = tt
 union_has (n ∷ []) = tt
 union_has (n ∷ a ∷ []) = tt
 union_has (word n ∷ a ∷ b ∷ ts) = by (is_name n) (all_of name_of (a ∷ b ∷ ts)) (all_long name_of (a ∷ b ∷ ts))
   where
     by : (named : Bool) (o : Option (List Bytes)) → HasLength (length (a ∷ b ∷ ts)) o
-        → MayHaveMembers (option_map (λ (p : Bytes × List Bytes). Union p.0 p.1)
+        → MayHaveParts (option_map (λ (p : Bytes × List Bytes). Union p.0 p.1)
         (cond named (option_map (λ (xs : List Bytes). (n, xs)) o) None))
     by false o h = tt
     by true None h = tt
     by true (Some xs) h = omega (arith, h)
 union_has (n ∷ a ∷ b ∷ ts) = tt
 
-behind_has : (k : Keyword) (ts : List Token) → MayHaveMembers (command_behind k ts)
-behind_has RelWord ts = mapped_has (λ (p : Bytes × List ColumnType). Rel p.0 p.1) (λ p. tt) (named_some type_of ts)
+rel_has : (ts : List Token) → MayHaveParts (command_behind RelWord ts)
+rel_has [] = tt
+rel_has (word n ∷ []) = tt
+rel_has (word n ∷ a ∷ ts) = by (is_name n) (all_of type_of (a ∷ ts)) (all_long type_of (a ∷ ts))
+  where
+    by : (named : Bool) (o : Option (List ColumnType)) → HasLength (length (a ∷ ts)) o
+        → MayHaveParts (option_map (λ (p : Bytes × List ColumnType). Rel p.0 p.1)
+        (cond named (option_map (λ (xs : List ColumnType). (n, xs)) o) None))
+    by false o h = tt
+    by true None h = tt
+    by true (Some xs) h = omega (arith, h)
+rel_has (n ∷ ts) = tt
+
+behind_has : (k : Keyword) (ts : List Token) → MayHaveParts (command_behind k ts)
+behind_has RelWord ts = rel_has ts
 behind_has AddWord ts = mapped_has (λ (p : Bytes × Tuple). Add p.0 p.1) (λ p. tt) (named_some literal_of ts)
 behind_has DelWord ts = mapped_has (λ (p : Bytes × Tuple). Del p.0 p.1) (λ p. tt) (named_some literal_of ts)
 behind_has QueryWord ts = mapped_has (λ q. Register q) (λ q. tt) (query_of_tokens ts)
@@ -296,33 +310,33 @@ behind_has AbandonWord ts = nothing_has Abandon tt ts
 behind_has QuitWord ts = nothing_has Quit tt ts
 behind_has StopWord ts = nothing_has Stop tt ts
 
-with_has : (o : Option Keyword) (ts : List Token) → MayHaveMembers (command_with o ts)
+with_has : (o : Option Keyword) (ts : List Token) → MayHaveParts (command_with o ts)
 with_has None ts = tt
 with_has (Some k) ts = behind_has k ts
 
-in_has : (ts : List Token) → MayHaveMembers (command_in ts)
+in_has : (ts : List Token) → MayHaveParts (command_in ts)
 in_has [] = tt
 in_has (word w ∷ ts) = with_has (keyword_of w) ts
 in_has (t ∷ ts) = tt
 
-line_has : (l : Bytes) → MayHaveMembers (command_of l)
+line_has : (l : Bytes) → MayHaveParts (command_of l)
 unfolding command_of
 line_has l = by (is_utf8 l)
   where
-    by : (b : Bool) → MayHaveMembers (cond b (command_in (tokens l)) None)
+    by : (b : Bool) → MayHaveParts (cond b (command_in (tokens l)) None)
     by true = in_has (tokens l)
     by false = tt
 
-pub said_members : (l : Bytes) (c : Command) → reading_of l ≡ says_command c → HasMembers c
-said_members l c e = by (command_of l) (line_has l) e
+pub said_parts : (l : Bytes) (c : Command) → reading_of l ≡ says_command c → HasParts c
+said_parts l c e = by (command_of l) (line_has l) e
   where
-    by : (o : Option Command) → MayHaveMembers o → reading_in o ≡ says_command c → HasMembers c
+    by : (o : Option Command) → MayHaveParts o → reading_in o ≡ says_command c → HasParts c
     by None h e = absurd cc
     by (Some d) h e = within (is_in_range d) e
       where
-        within : (b : Bool) → cond b (says_command d) (past_limit d) ≡ says_command c → HasMembers c
+        within : (b : Bool) → cond b (says_command d) (past_limit d) ≡ says_command c → HasParts c
         within false e = absurd cc
-        within true e = let same : d ≡ c = cc in subst HasMembers same h
+        within true e = let same : d ≡ c = cc in subst HasParts same h
 
 -- ---- what is registered under its members' names
 

@@ -2,7 +2,7 @@
 use Rattle.std.specs.Prelude.{List, [], ◌∷◌, ◌==◌, ◌≡◌, ◌<◌, ◌++◌, nat_le, Bool, true, false, cond, not, length, Option}
 use Rattle.std.specs.Prelude.{None, Some, is_none, IfSome, option_map, ℕ, ◌&&◌, ◌≤◌, ◌+◌, map, Result, Ok, Err, All}
 use Rattle.std.proofs.Common.{refl, sym, ap, ◌∙◌, subst, arith, length-append}
-use Rattle.std.proofs.lemmas.Bool.{leb-false}
+use Rattle.std.proofs.lemmas.Bool.{leb-false, eq-eqb, not-false}
 use Rattle.std.proofs.lemmas.List.Elements.{All-weaker, All-push, All-nil}
 use Rattle.djq_model.specs.declared.relation.ColumnType.{ColumnType}
 use Rattle.djq_model.specs.declared.relation.Relation.{Relation}
@@ -39,8 +39,9 @@ use Rattle.djq_machine.specs.Step.{SameRelations}
 use Rattle.djq_run_laws.specs.Sound.{IsHeldBySaying, IsSoundBatch, AreApart, IsCopyCount, IsSoundRelation}
 use Rattle.djq_run_laws.specs.Form.{RowCommand, row_comes, row_goes, rows_come, LearnsTexts}
 use Rattle.djq_run_laws.proofs.Forms.{none_first, done_of, none_holds, stays_learned, late_learned, refused_learned}
+use Rattle.djq_run_laws.proofs.Forms.{AllFail, all_fail, second_fails}
 use Rattle.djq_run_laws.proofs.Lists.{all_changed, all_found, all_dropped, names_changed, rows_more, rows_less}
-use Rattle.djq_run_laws.proofs.Lists.{without_dropped}
+use Rattle.djq_run_laws.proofs.Lists.{without_dropped, less_dropped, long_changed}
 use Rattle.djq_run_laws.proofs.RegisteredQueries.{SameAnswers, rows_same, Spares, one_spares}
 
 -- ---- Rows suit their relations as long as these keep their types.
@@ -229,8 +230,8 @@ RowsSuit old (row_comes name row) = Unit {0}
 RowsSuit old (row_goes name row) = Unit {0}
 RowsSuit old (rows_come held) = SuitAll old held
 
--- A command of rows makes a change of a store, which outdates some queries: it is counted, and texts
--- become known.
+-- A command of rows makes a change of a store, which outdates some queries: it is counted, where one
+-- more may be, and texts become known.
 pub record MakesChange (c : RowCommand) (old : Store) (change : RowsChange) (new : Store) : Type 0 where
   pub outdates : (q : Listed) → change.outdater q ≡ outdater_by old c q
   pub spares : Spares old.relations change
@@ -238,6 +239,8 @@ pub record MakesChange (c : RowCommand) (old : Store) (change : RowsChange) (new
       → AreApart (map (λ (x : Relation). x.name) change.after)
   pub types : SameTypes old.relations change.after
   pub rows : RowsSuit old c → All IsSoundRelation old.relations → All IsSoundRelation change.after
+  pub count : length change.after ≡ length old.relations
+  pub below : old.seq < LAST_SEQ
   pub texts : List Bytes
   pub few : length old.texts ≤ TEXTS → length new.texts ≤ TEXTS
   pub store : new ≡ record old {
@@ -254,6 +257,7 @@ pub record KeepsRows (c : RowCommand) (old new : Store) : Type 0 where
       → AreApart (map (λ (x : Relation). x.name) relations)
   pub types : SameTypes old.relations relations
   pub rows : RowsSuit old c → All IsSoundRelation old.relations → All IsSoundRelation relations
+  pub count : length relations ≡ length old.relations
   pub texts : List Bytes
   pub few : length old.texts ≤ TEXTS → length new.texts ≤ TEXTS
   pub store : new ≡ record old { relations = relations; texts = all_learned old.texts texts }
@@ -265,6 +269,7 @@ learns_keeps c old new h = record {
   names = λ apart. apart;
   types = λ n. refl;
   rows = λ suit sound. sound;
+  count = refl;
   texts = h.texts;
   few = h.few;
   store = h.store;
@@ -289,36 +294,46 @@ rows_found : (P : List CountedRow → Type 0) (o : Option Relation) (x : Relatio
     → P (counted_in o)
 rows_found P o x found h = subst (λ (p : Option Relation). P (counted_in p)) (sym found) h
 
--- a row that isn't refused fits, and may have a copy more
-row_passes : (a b d e : Bool) (r t u v : Refusal) (o : Option Refusal)
-    → cond a (Some r) (cond b (Some t) (cond (not d) (Some u) (cond e (Some v) o))) ≡ None → (d ≡ true) × (e ≡ false)
-row_passes false false true false r t u v o h = (refl, refl)
-row_passes true b d e r t u v o h = absurd cc
-row_passes false true d e r t u v o h = absurd cc
-row_passes false false false e r t u v o h = absurd cc
-row_passes false false true true r t u v o h = absurd cc
+-- what `add` and `del` ask before they are done
+abbrev pub add_conditions : Store → Bytes → Tuple → List (Bool × Refusal)
+add_conditions st name row = let rows = rows_of st.relations name in row_refusals st name row
+    ++ (nat_le COPIES (copies_of st name row), Limit)
+    ∷ (not (has_row rows row) && nat_le ROWS (length rows), Limit)
+    ∷ (not (has_row rows row) && nat_le LAST_SEQ st.seq, Limit)
+    ∷ []
+
+abbrev pub delete_conditions : Store → Bytes → Tuple → List (Bool × Refusal)
+delete_conditions st name row = row_refusals st name row
+    ++ ((copies_of st name row == 1) && nat_le LAST_SEQ st.seq, Limit)
+    ∷ []
 
 -- a copy more, where there may be one
 pub one_more : (n : ℕ) → nat_le COPIES n ≡ false → IsCopyCount (n + 1)
 one_more n few = let below = leb-false COPIES n few in (omega arith, omega (arith, below))
 
+-- A row that isn't refused fits, and may have a copy more. Where it isn't there, there is a place for
+-- it, and one more change may be counted.
 module _ (old : Store) (name : Bytes) (row : Tuple) (none : add_refusal old name row ≡ None) where
-  row_suits : (fits (types_of (relation_of old.relations name)) row ≡ true)
-      × (nat_le COPIES (copies_of old name row) ≡ false)
-  row_suits =
-      let rows = rows_of old.relations name in
-      row_passes (is_none (relation_of old.relations name))
-      (not (length row == length (types_of (relation_of old.relations name))))
-      (fits (types_of (relation_of old.relations name)) row)
-      (nat_le COPIES (copies_of old name row)) NoRelation Arity WrongType Limit
-      (first_refusal ((not (has_row rows row) && nat_le ROWS (length rows), Limit)
-      ∷ (not (has_row rows row) && nat_le LAST_SEQ old.seq, Limit) ∷ [])) none
+  fail : AllFail (add_conditions old name row)
+  fail = all_fail (add_conditions old name row) none
 
   row_fits : fits (types_of (relation_of old.relations name)) row ≡ true
-  row_fits = row_suits.0
+  row_fits = not-false (fits (types_of (relation_of old.relations name)) row) fail.1.1.0
 
   once_more : IsCopyCount (copies_of old name row + 1)
-  once_more = one_more (copies_of old name row) row_suits.1
+  once_more = one_more (copies_of old name row) fail.1.1.1.0
+
+  row_place : has_row (rows_of old.relations name) row ≡ false → length (rows_of old.relations name) < ROWS
+  row_place absent =
+      leb-false ROWS (length (rows_of old.relations name))
+      (second_fails (not (has_row (rows_of old.relations name) row)) (nat_le ROWS (length (rows_of old.relations name)))
+      (ap not absent) fail.1.1.1.1.0)
+
+  one_below : has_row (rows_of old.relations name) row ≡ false → old.seq < LAST_SEQ
+  one_below absent =
+      leb-false LAST_SEQ old.seq
+      (second_fails (not (has_row (rows_of old.relations name) row)) (nat_le LAST_SEQ old.seq) (ap not absent)
+      fail.1.1.1.1.1.0)
 
 -- A row that isn't added changes no more than which texts are known.
 not_added : (old : Store) (name : Bytes) (row : Tuple) (r : Refusal) (new : Store) → AddsRow old name row (Err r) new
@@ -332,7 +347,7 @@ not_added old name row r new h =
 module _ (old : Store) (name : Bytes) (rows : List CountedRow) where
   abbrev pub Suits : Relation → List CountedRow → Type 0
   Suits x rows = All (λ t. fits x.types t ≡ true) (plain_of rows) × AreDifferent (plain_of rows)
-      × All (λ (c : CountedRow). IsCopyCount c.copies) rows
+      × All (λ (c : CountedRow). IsCopyCount c.copies) rows × (length (plain_of rows) ≤ ROWS)
 
   pub other_names : AreApart (map (λ (x : Relation). x.name) old.relations)
       → AreApart (map (λ (x : Relation). x.name) (with_rows old.relations name rows))
@@ -343,9 +358,19 @@ module _ (old : Store) (name : Bytes) (rows : List CountedRow) where
       → Suits x rows)
       → All IsSoundRelation old.relations → All IsSoundRelation (with_rows old.relations name rows)
   other_rows suits sound = rows_there old.relations name rows sound (λ x found k.
-      let held = rows_found (Suits x) (relation_of old.relations name) x found (k.typed, k.once, k.copies) in
-      let is = suits x found held in
-      record { typed = is.0; once = is.1; copies = is.2 })
+      let held = rows_found (Suits x) (relation_of old.relations name) x found (k.typed, k.once, k.copies, k.few) in
+      let is = suits x found held in record {
+        some = k.some;
+        columns = k.columns;
+        few = is.3;
+        typed = is.0;
+        once = is.1;
+        copies = is.2;
+      })
+
+  pub other_count : length (with_rows old.relations name rows) ≡ length old.relations
+  other_count = long_changed (λ (x : Relation). bytes_eq x.name name) (λ (x : Relation). record x { rows = rows })
+      old.relations
 
 -- a row that comes, another number of copies of one, and a row that goes
 module _ (old : Store) (name : Bytes) (row : Tuple) where
@@ -353,15 +378,21 @@ module _ (old : Store) (name : Bytes) (row : Tuple) where
   before = counted_of old.relations name
 
   pub suits_more : fits (types_of (relation_of old.relations name)) row ≡ true → has_row (plain_of before) row ≡ false
-      → (x : Relation) → relation_of old.relations name ≡ Some x → Suits old name before x before
-      → Suits old name before x (with_row before row)
-  suits_more fitting absent x found k = (
+      → length (plain_of before) < ROWS → (x : Relation) → relation_of old.relations name ≡ Some x
+      → Suits old name before x before → Suits old name before x (with_row before row)
+  suits_more fitting absent place x found k = (
     subst (λ ts. All (λ t. fits x.types t ≡ true) ts) (sym (tuples_with_row before row))
         (All-push (λ t. fits x.types t ≡ true) (plain_of before) row k.0
         (subst (λ (o : Option Relation). fits (types_of o) row ≡ true) found fitting)),
     subst AreDifferent (sym (tuples_with_row before row)) (rows_more (plain_of before) row k.1 absent),
     all_with_row (λ (c : CountedRow). IsCopyCount c.copies) before row k.2 (omega arith, omega arith),
+    more,
   )
+    where
+      more : length (plain_of (with_row before row)) ≤ ROWS
+      more =
+          let long = ap length (tuples_with_row before row) ∙ length-append (plain_of before) (row ∷ []) in
+          omega (arith, long, place)
 
   pub suits_copies : (n : ℕ) → IsCopyCount n → (x : Relation) → relation_of old.relations name ≡ Some x
       → Suits old name before x before → Suits old name before x (with_copies before row n)
@@ -369,6 +400,7 @@ module _ (old : Store) (name : Bytes) (row : Tuple) where
     subst (λ ts. All (λ t. fits x.types t ≡ true) ts) (sym (tuples_with_copies before row n)) k.0,
     subst AreDifferent (sym (tuples_with_copies before row n)) k.1,
     all_with_copies (λ (c : CountedRow). IsCopyCount c.copies) before row n k.2 may,
+    subst (λ ts. length ts ≤ ROWS) (sym (tuples_with_copies before row n)) k.3,
   )
 
   suits_less : (x : Relation) → relation_of old.relations name ≡ Some x → Suits old name before x before
@@ -378,10 +410,18 @@ module _ (old : Store) (name : Bytes) (row : Tuple) where
         (all_dropped (λ t. fits x.types t ≡ true) (λ t. tuple_eq t row) (plain_of before) k.0),
     subst AreDifferent (sym (tuples_without before row)) (rows_less (plain_of before) row k.1),
     all_without (λ (c : CountedRow). IsCopyCount c.copies) before row k.2,
+    less,
   )
     where
       without_is : plain_of (without_copies before row) ≡ drop_first (λ t. tuple_eq t row) (plain_of before)
       without_is = tuples_without before row ∙ without_dropped (plain_of before) row
+
+      less : length (plain_of (without_copies before row)) ≤ ROWS
+      less =
+          let fewer = less_dropped (λ t. tuple_eq t row) (plain_of before) in
+          let long = ap length without_is in
+          let most = k.3 in
+          omega (arith, fewer, long, most)
 
   -- Of another number of copies each relation keeps its rows.
   recounted : (c : RowCommand) (n : ℕ) (new : Store) → (All IsSoundRelation old.relations → IsCopyCount n)
@@ -392,6 +432,7 @@ module _ (old : Store) (name : Bytes) (row : Tuple) where
     names = other_names old name (with_copies before row n);
     types = types_with_rows old.relations name (with_copies before row n);
     rows = λ suit sound. other_rows old name (with_copies before row n) (suits_copies n (may sound)) sound;
+    count = other_count old name (with_copies before row n);
     texts = [];
     few = λ few. subst (λ (st : Store). length st.texts ≤ TEXTS) (sym after) few;
     store = after;
@@ -409,7 +450,10 @@ added old name row (Ok First) new h =
       spares = one_spares old.relations name rows;
       names = other_names old name rows;
       types = types_with_rows old.relations name rows;
-      rows = λ suit. other_rows old name rows (suits_more old name row (row_fits old name row none) d.0);
+      rows = λ suit. other_rows old name rows
+          (suits_more old name row (row_fits old name row none) d.0 (row_place old name row none d.0));
+      count = other_count old name rows;
+      below = one_below old name row none d.0;
       texts = texts_in row;
       few = λ few. d.1;
       store = d.2;
@@ -445,12 +489,19 @@ pub deleted : (old : Store) (name : Bytes) (row : Tuple) (r : Result DeleteOutco
     → RowsMade (row_goes name row) old (delete_outcome (row_out old.relations name row) r) new
 deleted old name row (Ok Last) new h =
     let d = done_of (delete_refusal old name row) Last (DeletesAs old name row new) (OutOfMemoryWhere ⊥) h.answer in
+    let none = none_holds (delete_refusal old name row) Last (DeletesAs old name row new) (OutOfMemoryWhere ⊥) h.answer
+    in
+    let fails = all_fail (delete_conditions old name row) none in
     let rows = without_copies (counted_of old.relations name) row in record {
       outdates = λ q. refl;
       spares = one_spares old.relations name rows;
       names = other_names old name rows;
       types = types_with_rows old.relations name rows;
       rows = λ suit. other_rows old name rows (suits_less old name row);
+      count = other_count old name rows;
+      below = leb-false LAST_SEQ old.seq
+          (second_fails (copies_of old name row == 1) (nat_le LAST_SEQ old.seq)
+          (eq-eqb (copies_of old name row) 1 d.1) fails.1.1.1.0);
       texts = [];
       few = λ few. subst (λ (st : Store). length st.texts ≤ TEXTS) (sym d.2) few;
       store = d.2;

@@ -11,7 +11,7 @@ use Rattle.djq_model.specs.declared.relation.Relation.{Relation}
 use Rattle.djq_model.specs.Known.{all_learned}
 use Rattle.djq_model.specs.Data.{Bytes, bytes_eq, drop_first}
 use Rattle.djq_model.specs.Listed.{Listed, listed_name, listed_of}
-use Rattle.djq_protocol.specs.declared.limits.TheConstants.{SESSIONS}
+use Rattle.djq_protocol.specs.declared.limits.TheConstants.{SESSIONS, CURSORS}
 use Rattle.djq_protocol.specs.declared.answer.EndCause.{EndCause}
 use Rattle.djq_protocol.specs.declared.answer.EndCause.TheVariants.{Input, Memory}
 use Rattle.djq_protocol.specs.declared.command.Command.{Command}
@@ -37,7 +37,7 @@ use Rattle.djq_machine.specs.Run.{Did}
 use Rattle.djq_machine.proofs.Relations.{walk_keeps}
 use Rattle.djq_run_laws.specs.Sound.{IsSoundListed, IsConnex, AreApart, IsSoundStore, IsSoundRelation, GaveOnce}
 use Rattle.djq_run_laws.specs.Sound.{IsSoundCursor, IsHeldBySaying, IsSoundBatch, IsSoundSession, IsSoundState, IsStart}
-use Rattle.djq_run_laws.specs.Sound.{RunsKeepSound, OpeningIsStart, StatesAreSound}
+use Rattle.djq_run_laws.specs.Sound.{AreWithinLimits, RunsKeepSound, OpeningIsStart, StatesAreSound}
 use Rattle.djq_run_laws.specs.Form.{form_of, Form, asking, storing, turning, changing, ending, Turn, opens_cursor}
 use Rattle.djq_run_laws.specs.Form.{moves_cursor, closes_cursor, starts_watching, stops_watching, opens_batch}
 use Rattle.djq_run_laws.specs.Form.{holds_row, closes_batch, RowCommand, row_comes, row_goes, rows_come, Replied}
@@ -50,10 +50,10 @@ use Rattle.djq_run_laws.proofs.RowCommands.{more_suits, batch_still, held_more}
 use Rattle.djq_run_laws.proofs.Batches.{closing, begun, rows_do}
 use Rattle.djq_run_laws.proofs.Lists.{change_keeps, session_changed, all_changed, all_found, all_dropped, all_mapped}
 use Rattle.djq_run_laws.proofs.Lists.{nothing_apart, pairs_push, pairs_dropped, other_name, names_push, names_changed}
-use Rattle.djq_run_laws.proofs.Lists.{names_dropped, names_mapped}
+use Rattle.djq_run_laws.proofs.Lists.{names_dropped, names_mapped, long_changed}
 use Rattle.djq_run_laws.proofs.Sessions.{step_rises, acts_ids, queued_ids}
 use Rattle.djq_run_laws.proofs.Cursors.{found_in_front, dropped_query}
-use Rattle.djq_run_laws.proofs.SoundStores.{stored_sound, made_sound, moved_store}
+use Rattle.djq_run_laws.proofs.SoundStores.{stored_sound, made_sound, moved_store, one_place, one_dropped, as_many}
 
 abbrev IsNamed : Cursor → Bytes
 IsNamed c = c.name
@@ -63,6 +63,7 @@ ended_session : (store : Store) (cause : EndCause) (x : Session) → IsSoundSess
 ended_session store cause x = record {
   cursors = All-nil (IsSoundCursor store.queries);
   names = nothing_apart (λ a b. a ≢ b);
+  few = omega arith;
   registered = All-nil (λ w. IsSome (listed_of store.queries w));
   once = nothing_apart (λ a b. a ≢ b);
   batch = tt;
@@ -89,6 +90,7 @@ another_store old new x keeps still g = record {
   cursors = All-weaker (IsSoundCursor old.queries) (IsSoundCursor new.queries)
       (λ c k. record { registered = keeps c.query k.registered; once = k.once }) x.cursors g.cursors;
   names = g.names;
+  few = g.few;
   registered = All-weaker (λ w. IsSome (listed_of old.queries w)) (λ w. IsSome (listed_of new.queries w))
       (λ w k. keeps w k) x.watches g.registered;
   once = g.once;
@@ -116,6 +118,7 @@ batch_kept : (store : Store) (x : Session) (held : List HeldRow) → x.cause ≡
 batch_kept store x held runs sound g = record {
   cursors = g.cursors;
   names = g.names;
+  few = g.few;
   registered = g.registered;
   once = g.once;
   batch = sound;
@@ -126,6 +129,7 @@ closed_kept : (store : Store) (x : Session) → IsSoundSession store x → IsSou
 closed_kept store x g = record {
   cursors = g.cursors;
   names = g.names;
+  few = g.few;
   registered = g.registered;
   once = g.once;
   batch = tt;
@@ -180,6 +184,7 @@ others_stay old new s f cursors watches batch cause after k =
     session_kept old new s f after (λ x found g. let qs = old.store.queries in record {
       cursors = subst (λ (cs : List Cursor). All (IsSoundCursor qs) cs) (sym (cursors x)) g.cursors;
       names = subst (λ (cs : List Cursor). AreApart (map IsNamed cs)) (sym (cursors x)) g.names;
+      few = subst (λ (cs : List Cursor). length cs ≤ CURSORS) (sym (cursors x)) g.few;
       registered = subst (λ (ws : List Bytes). All (λ w. IsSome (listed_of qs w)) ws) (sym (watches x)) g.registered;
       once = subst AreApart (sym (watches x)) g.once;
       batch = subst (λ (o : Option (List HeldRow)). IfSome o (IsSoundBatch old.store)) (sym (batch x)) g.batch;
@@ -212,6 +217,8 @@ outdated_sound store qs outdater n x g = record {
             k.once;
       }) x.cursors g.cursors;
   names = names_mapped IsNamed (outdated_cursor qs outdater n) (λ c. refl) x.cursors g.names;
+  few = as_many x.cursors (map (outdated_cursor qs outdater n) x.cursors)
+      (length-map x.cursors (outdated_cursor qs outdater n)) g.few;
   registered = g.registered;
   once = g.once;
   batch = g.batch;
@@ -259,6 +266,7 @@ not_used store q x unused g =
         once = k.once;
       };
       names = g.names;
+      few = g.few;
       registered = λ j e within. subst (λ (o : Option Listed). IsSome o)
           (sym (dropped_query qs q (slice_index_or x.watches j e) (unwatched j e within))) (g.registered j e within);
       once = g.once;
@@ -280,12 +288,12 @@ stored_kept old store h k = (
         subst (λ (st : Store). All (IsSoundSession st) old.sessions) (sym h.store)
         (all_another old.store (record old.store { texts = all_learned old.store.texts h.texts }) old.sessions
         (λ name there. there) (λ name row h. h) k.1)
-    by (makes_relation name types none e) =
+    by (makes_relation name types may e) =
         let more : Relation = record { name = name; types = types; rows = [] } in
         subst (λ (st : Store). All (IsSoundSession st) old.sessions) (sym e)
         (all_another old.store (record old.store { relations = old.store.relations ++ more ∷ [] }) old.sessions
         (λ name there. there) (more_suits old.store more) k.1)
-    by (registers q none may few e) =
+    by (registers q none may place few e) =
         subst (λ (st : Store). All (IsSoundSession st) old.sessions) (sym e)
         (all_another old.store (record old.store {
           texts = all_learned old.store.texts (listed_texts q);
@@ -335,6 +343,7 @@ turned_kept old s x (opens_cursor c q) new found runs fits h k =
       cursors = All-push (IsSoundCursor old.store.queries) x.cursors more g.cursors
           (record { registered = h.1; once = nothing_apart (λ a b. a ≡ b → ⊥) });
       names = names_push IsNamed x.cursors more g.names h.0;
+      few = one_place x.cursors more CURSORS h.3;
       registered = g.registered;
       once = g.once;
       batch = g.batch;
@@ -349,6 +358,9 @@ turned_kept old s x (moves_cursor c) new found runs fits h k =
           (λ z at was. record { registered = was.registered; once = h.tells.different });
       names = names_changed IsNamed (λ (z : Cursor). bytes_eq z.name c)
           (λ (z : Cursor). record z { position = position }) (λ z. refl) x.cursors g.names;
+      few = as_many x.cursors (with_position x.cursors c position)
+          (long_changed (λ (z : Cursor). bytes_eq z.name c) (λ (z : Cursor). record z { position = position })
+          x.cursors) g.few;
       registered = g.registered;
       once = g.once;
       batch = g.batch;
@@ -359,6 +371,7 @@ turned_kept old s x (closes_cursor c) new found runs fits h k =
     (λ g. record {
       cursors = all_dropped (IsSoundCursor old.store.queries) (λ (d : Cursor). bytes_eq d.name c) x.cursors g.cursors;
       names = names_dropped IsNamed (λ n. bytes_eq n c) x.cursors g.names;
+      few = one_dropped (λ (d : Cursor). bytes_eq d.name c) x.cursors CURSORS g.few;
       registered = g.registered;
       once = g.once;
       batch = g.batch;
@@ -369,6 +382,7 @@ turned_kept old s x (starts_watching q) new found runs fits h k =
     let both = watched old.store.queries q x.watches (is_watching q x) refl h.0 g.registered g.once in record {
       cursors = g.cursors;
       names = g.names;
+      few = g.few;
       registered = both.0;
       once = both.1;
       batch = g.batch;
@@ -378,6 +392,7 @@ turned_kept old s x (stops_watching q) new found runs fits h k =
     session_runs old new s x (without_watch q) found h (λ g. record {
       cursors = g.cursors;
       names = g.names;
+      few = g.few;
       registered = all_dropped (λ w. IsSome (listed_of old.store.queries w)) (λ w. bytes_eq w q) x.watches g.registered;
       once = pairs_dropped (λ a b. a ≢ b) (λ w. bytes_eq w q) x.watches g.once;
       batch = g.batch;
@@ -476,6 +491,7 @@ fresh_sound : (store : Store) (s : ℕ) → IsSoundSession store (fresh s)
 fresh_sound store s = record {
   cursors = All-nil (IsSoundCursor store.queries);
   names = nothing_apart (λ a b. a ≢ b);
+  few = omega arith;
   registered = All-nil (λ w. IsSome (listed_of store.queries w));
   once = nothing_apart (λ a b. a ≢ b);
   batch = tt;
@@ -605,10 +621,16 @@ opening_is_start = record {
     relations = nothing_apart (λ a b. a ≢ b);
     rows = All-nil IsSoundRelation;
     texts = nothing_apart (λ a b. a ≢ b);
-    few = omega arith;
     queries = nothing_apart (λ a b. a ≢ b);
     connex = All-nil IsConnex;
     listed = All-nil (IsSoundListed [] []);
+    limits = All-nil AreWithinLimits;
+    places = record {
+      relations = omega arith;
+      texts = omega arith;
+      queries = omega arith;
+      seq = omega arith;
+    };
   };
   none = refl;
   going = refl;

@@ -1,11 +1,12 @@
 -- What is registered stays sound, as the commands change the store.
 use Rattle.std.specs.Prelude.{List, [], ◌∷◌, ◌≡◌, ◌++◌, Bool, false, Some, is_none, unwrap_or, map, All, Contains, ◌≤◌}
-use Rattle.std.specs.Prelude.{true, length}
+use Rattle.std.specs.Prelude.{true, length, ℕ, ◌<◌}
 use Rattle.std.specs.List.{list_any}
-use Rattle.std.proofs.Common.{refl, sym, ap₂, ◌∙◌, ap, subst}
+use Rattle.std.proofs.Common.{refl, sym, ap₂, ◌∙◌, ap, subst, arith}
+use Rattle.std.proofs.lemmas.List.{length-append}
 use Rattle.std.proofs.lemmas.List.Elements.{All-contains, All-weaker, All-push, All-nil, All-cons, All-head, All-tail}
 use Rattle.std.proofs.lemmas.Bool.{or_parts, or_from}
-use Rattle.std.proofs.lemmas.List.Sorted.{All-permutation}
+use Rattle.std.proofs.lemmas.List.Sorted.{All-permutation, length_permutation}
 use Rattle.djq_model.specs.declared.relation.ColumnType.{ColumnType}
 use Rattle.djq_model.specs.declared.relation.Relation.{Relation}
 use Rattle.djq_model.specs.declared.query.Query.{Query}
@@ -15,7 +16,7 @@ use Rattle.djq_model.specs.Data.{Bytes, bytes_eq, drop_first, relation_of, tuple
 use Rattle.djq_model.specs.Listed.{Listed, a_query, a_union, listed_name, members_of, listed_of}
 use Rattle.djq_model.specs.Typed.{fits}
 use Rattle.djq_model.proofs.Copies.{tuples_moved, differ_moved}
-use Rattle.djq_protocol.specs.declared.limits.TheConstants.{TEXTS}
+use Rattle.djq_protocol.specs.declared.limits.TheConstants.{TEXTS, RELATIONS, COLUMNS, QUERIES}
 use Rattle.djq_protocol.specs.QueryFault.{reads_unknown}
 use Rattle.djq_store_spec.specs.Store.{Store}
 use Rattle.djq_store_spec.specs.Asking.{type_among, variable_type, answer_types, listed_types}
@@ -25,8 +26,10 @@ use Rattle.djq_answer_laws.proofs.Lists.{first_there, hold_each}
 use Rattle.djq_answer_laws.proofs.Choices.{none_any}
 use Rattle.djq_machine.specs.Step.{SameRelations}
 use Rattle.djq_run_laws.specs.Sound.{IsConnex, IsSoundListed, AreApart, IsCopyCount, IsSoundRelation, IsSoundStore}
+use Rattle.djq_run_laws.specs.Sound.{IsWithinLimits, AreWithinLimits}
 use Rattle.djq_run_laws.specs.Form.{MayRegister, RowCommand, Stored, LearnsTexts, learns_texts, listed_texts}
 use Rattle.djq_run_laws.specs.Form.{makes_relation, registers, drops_query}
+use Rattle.djq_run_laws.proofs.Lists.{less_dropped}
 use Rattle.djq_run_laws.proofs.Lists.{all_found, all_dropped, names_push, names_dropped, texts_apart, nothing_apart}
 use Rattle.djq_run_laws.proofs.Cursors.{found_in_front, dropped_query}
 use Rattle.djq_run_laws.proofs.RowCommands.{SameTypes, types_at, types_found, there_still, more_types, types_moved}
@@ -141,6 +144,15 @@ may_connex st (a_union name qs) h connex =
     (λ q is. all_found IsConnex (λ (l : Listed). bytes_eq (listed_name l) q.name) st.queries (a_query q) connex is)
     qs h.registered
 
+-- So its members are within their limits.
+may_limits : (st : Store) (l : Listed) → MayRegister st l → All AreWithinLimits st.queries → AreWithinLimits l
+may_limits st (a_query q) h limits = All-cons IsWithinLimits q [] h.2 (All-nil IsWithinLimits)
+may_limits st (a_union name qs) h limits =
+    All-weaker (λ (q : Query). listed_of st.queries q.name ≡ Some (a_query q)) IsWithinLimits
+    (λ q is. All-head IsWithinLimits q []
+    (all_found AreWithinLimits (λ (l : Listed). bytes_eq (listed_name l) q.name) st.queries (a_query q) limits is))
+    qs h.registered
+
 -- What is no member is dropped.
 pub dropped_sound : (rs : List Relation) (ls : List Listed) (name : Bytes) → is_member ls name ≡ false
     → All (IsSoundListed rs ls) ls
@@ -165,55 +177,92 @@ dropped_sound rs ls name free sound =
 
 -- ---- What the commands do to the store keeps it sound.
 
+-- one more where there is a place, one less, and as many
+pub one_place : {A : Type 0} (xs : List A) (x : A) (most : ℕ) → length xs < most → length (xs ++ x ∷ []) ≤ most
+one_place xs x most place = let long = length-append xs (x ∷ []) in omega (arith, long, place)
+
+pub one_dropped : {A : Type 0} (p : A → Bool) (xs : List A) (most : ℕ) → length xs ≤ most → length (drop_first p xs) ≤ most
+one_dropped p xs most few = let less = less_dropped p xs in omega (arith, less, few)
+
+pub as_many : {A : Type 0} (xs ys : List A) {most : ℕ} → length ys ≡ length xs → length xs ≤ most → length ys ≤ most
+as_many xs ys same few = omega (arith, same, few)
+
 -- Where no more than texts become known.
 learned_sound : (old new : Store) → LearnsTexts old new → IsSoundStore old → IsSoundStore new
 learned_sound old new h s = subst IsSoundStore (sym h.store) (record {
   relations = s.relations;
   rows = s.rows;
   texts = texts_apart old.texts h.texts s.texts;
-  few = subst (λ (st : Store). length st.texts ≤ TEXTS) h.store (h.few s.few);
   queries = s.queries;
   connex = s.connex;
   listed = s.listed;
+  limits = s.limits;
+  places = record {
+    relations = s.places.relations;
+    texts = subst (λ (st : Store). length st.texts ≤ TEXTS) h.store (h.few s.places.texts);
+    queries = s.places.queries;
+    seq = s.places.seq;
+  };
 })
 
 -- What a command of the store makes of it.
 pub stored_sound : (used : Bytes → Bool) (old new : Store) → Stored used old new → IsSoundStore old → IsSoundStore new
 stored_sound used old new (learns_texts h) s = learned_sound old new h s
-stored_sound used old new (makes_relation name types none e) s =
+stored_sound used old new (makes_relation name types may e) s =
     let made : Relation = record { name = name; types = types; rows = [] } in
     subst IsSoundStore (sym e) (record {
-      relations = names_push (λ (x : Relation). x.name) old.relations made s.relations none;
+      relations = names_push (λ (x : Relation). x.name) old.relations made s.relations may.new;
       rows = All-push IsSoundRelation old.relations made s.rows
           (record {
+            some = may.some;
+            columns = may.columns;
+            few = omega arith;
             typed = All-nil (λ t. fits types t ≡ true);
             once = nothing_apart (λ a b. a ≡ b → ⊥);
             copies = All-nil (λ (c : CountedRow). IsCopyCount c.copies);
           });
       texts = s.texts;
-      few = s.few;
       queries = s.queries;
       connex = s.connex;
       listed = more_sound old.relations made old.queries s.listed;
+      limits = s.limits;
+      places = record {
+        relations = one_place old.relations made RELATIONS may.place;
+        texts = s.places.texts;
+        queries = s.places.queries;
+        seq = s.places.seq;
+      };
     })
-stored_sound used old new (registers q none may few e) s = subst IsSoundStore (sym e) (record {
+stored_sound used old new (registers q none may place few e) s = subst IsSoundStore (sym e) (record {
   relations = s.relations;
   rows = s.rows;
   texts = texts_apart old.texts (listed_texts q) s.texts;
-  few = subst (λ (st : Store). length st.texts ≤ TEXTS) e (few s.few);
   queries = names_push listed_name old.queries q s.queries none;
   connex = All-push IsConnex old.queries q s.connex (may_connex old q may s.connex);
   listed = registered_sound old q may s.listed;
+  limits = All-push AreWithinLimits old.queries q s.limits (may_limits old q may s.limits);
+  places = record {
+    relations = s.places.relations;
+    texts = subst (λ (st : Store). length st.texts ≤ TEXTS) e (few s.places.texts);
+    queries = one_place old.queries q QUERIES place;
+    seq = s.places.seq;
+  };
 })
 stored_sound used old new (drops_query name unused free e) s = subst IsSoundStore (sym e) (record {
   relations = s.relations;
   rows = s.rows;
   texts = s.texts;
-  few = s.few;
   queries = names_dropped listed_name (λ n. bytes_eq n name) old.queries s.queries;
   connex = all_dropped IsConnex (λ (x : Listed). bytes_eq (listed_name x) name)
       old.queries s.connex;
   listed = dropped_sound old.relations old.queries name free s.listed;
+  limits = all_dropped AreWithinLimits (λ (x : Listed). bytes_eq (listed_name x) name) old.queries s.limits;
+  places = record {
+    relations = s.places.relations;
+    texts = s.places.texts;
+    queries = one_dropped (λ (x : Listed). bytes_eq (listed_name x) name) old.queries QUERIES s.places.queries;
+    seq = s.places.seq;
+  };
 })
 
 -- What a command of rows makes of it.
@@ -223,20 +272,32 @@ made_sound c old (accepted change) new h suit s = subst IsSoundStore (sym h.stor
   relations = h.names s.relations;
   rows = h.rows suit s.rows;
   texts = texts_apart old.texts h.texts s.texts;
-  few = subst (λ (st : Store). length st.texts ≤ TEXTS) h.store (h.few s.few);
   queries = s.queries;
   connex = s.connex;
   listed = same_types_sound old.relations change.after h.types old.queries s.listed;
+  limits = s.limits;
+  places = record {
+    relations = as_many old.relations change.after h.count s.places.relations;
+    texts = subst (λ (st : Store). length st.texts ≤ TEXTS) h.store (h.few s.places.texts);
+    queries = s.places.queries;
+    seq = let below = h.below in omega (arith, below);
+  };
 })
 made_sound c old (out_of_memory change) new h suit s = learned_sound old new h s
 made_sound c old unchanged new h suit s = subst IsSoundStore (sym h.store) (record {
   relations = h.names s.relations;
   rows = h.rows suit s.rows;
   texts = texts_apart old.texts h.texts s.texts;
-  few = subst (λ (st : Store). length st.texts ≤ TEXTS) h.store (h.few s.few);
   queries = s.queries;
   connex = s.connex;
   listed = same_types_sound old.relations h.relations h.types old.queries s.listed;
+  limits = s.limits;
+  places = record {
+    relations = as_many old.relations h.relations h.count s.places.relations;
+    texts = subst (λ (st : Store). length st.texts ≤ TEXTS) h.store (h.few s.places.texts);
+    queries = s.places.queries;
+    seq = s.places.seq;
+  };
 })
 
 -- The rows in another order.
@@ -248,12 +309,21 @@ moved_names (r ∷ rs) (m ∷ ms) h = ap (λ n. n ∷ map (λ (x : Relation). x.
 moved_names [] (m ∷ ms) h = absurd h
 moved_names (r ∷ rs) [] h = absurd h
 
+moved_count : (rs moved : List Relation) → SameRelations rs moved → length moved ≡ length rs
+moved_count [] [] h = refl
+moved_count (r ∷ rs) (m ∷ ms) h = let rest = moved_count rs ms h.3 in omega (arith, rest)
+moved_count [] (m ∷ ms) h = absurd h
+moved_count (r ∷ rs) [] h = absurd h
+
 moved_rows : (rs moved : List Relation) → SameRelations rs moved → All IsSoundRelation rs → All IsSoundRelation moved
 moved_rows [] [] h s = s
 moved_rows (r ∷ rs) (m ∷ ms) h s =
     let k = All-head IsSoundRelation r rs s in
     let rows = tuples_moved r.rows m.rows h.2 in
     All-cons IsSoundRelation m ms (record {
+      some = subst (λ (types : List ColumnType). 1 ≤ length types) (sym h.1) k.some;
+      columns = subst (λ (types : List ColumnType). length types ≤ COLUMNS) (sym h.1) k.columns;
+      few = as_many (tuples_in r) (tuples_in m) (length_permutation (tuples_in r) (tuples_in m) rows) k.few;
       typed = subst (λ types. All (λ t. fits types t ≡ true) (tuples_in m)) (sym h.1)
           (All-permutation (λ t. fits r.types t ≡ true) (tuples_in r) (tuples_in m) rows k.typed);
       once = differ_moved (tuples_in r) (tuples_in m) rows k.once;
@@ -268,8 +338,14 @@ moved_store old relations h s = record {
   relations = subst AreApart (sym (moved_names old.relations relations h)) s.relations;
   rows = moved_rows old.relations relations h s.rows;
   texts = s.texts;
-  few = s.few;
   queries = s.queries;
   connex = s.connex;
   listed = same_types_sound old.relations relations (types_moved old.relations relations h) old.queries s.listed;
+  limits = s.limits;
+  places = record {
+    relations = as_many old.relations relations (moved_count old.relations relations h) s.places.relations;
+    texts = s.places.texts;
+    queries = s.places.queries;
+    seq = s.places.seq;
+  };
 }

@@ -166,8 +166,8 @@ module _ (q : Listed) (s : ℕ) (old : State) (registered : listed_of old.store.
   still_registered : (store : Store) → Stored (in_use old) old.store store → listed_of store.queries (listed_name q)
       ≡ Some q
   still_registered store (learns_texts h) = same_queries store (ap (λ (st : Store). st.queries) h.store)
-  still_registered store (makes_relation name types none e) = same_queries store (ap (λ (st : Store). st.queries) e)
-  still_registered store (registers p none may few e) =
+  still_registered store (makes_relation name types may e) = same_queries store (ap (λ (st : Store). st.queries) e)
+  still_registered store (registers p none may place few e) =
       ap (λ (st : Store). listed_of st.queries (listed_name q)) e
       ∙ found_in_front old.store.queries p (listed_name q) q registered
   still_registered store (drops_query p unused free e) =

@@ -6,6 +6,7 @@ use Rattle.std.specs.Prelude.{
   ◌∷◌,
   ◌≡◌,
   ◌≤◌,
+  ◌<◌,
   ◌++◌,
   Bool,
   false,
@@ -20,7 +21,7 @@ use Rattle.djq_model.specs.declared.relation.ColumnType.{ColumnType}
 use Rattle.djq_model.specs.Data.{Bytes, Tuple, bytes_eq, drop_first, relation_of}
 use Rattle.djq_model.specs.Listed.{Listed, a_query, a_union, listed_name, AnswersOf, listed_of}
 use Rattle.djq_model.specs.Known.{all_learned, texts_in}
-use Rattle.djq_protocol.specs.declared.limits.TheConstants.{TEXTS}
+use Rattle.djq_protocol.specs.declared.limits.TheConstants.{TEXTS, RELATIONS, COLUMNS, QUERIES, CURSORS}
 use Rattle.djq_protocol.specs.declared.answer.EndCause.{EndCause}
 use Rattle.djq_protocol.specs.declared.answer.EndCause.TheVariants.{Memory}
 use Rattle.djq_protocol.specs.declared.held.HeldRow.{HeldRow}
@@ -67,7 +68,7 @@ use Rattle.djq_machine.specs.Command.{
 }
 use Rattle.djq_store_spec.specs.Batch.{hold_refusal}
 use Rattle.djq_run_laws.specs.Moved.{EndsByRun}
-use Rattle.djq_run_laws.specs.Sound.{IsConnex, IsSoundListed}
+use Rattle.djq_run_laws.specs.Sound.{IsConnex, IsSoundListed, IsWithinLimits}
 
 -- What a command may make of the session that says it.
 pub data Turn : Type 0 where
@@ -161,24 +162,33 @@ abbrev pub listed_texts : Listed → List Bytes
 listed_texts (a_query q) = texts_in (constants_of q)
 listed_texts (a_union name qs) = []
 
--- What may be registered: a free-connex query that reads relations that are there, or a sound union.
+-- A relation may be made where its name is new, it has a column at least and no more than it may, and
+-- there is a place for it.
+pub record MayMake (st : Store) (name : Bytes) (types : List ColumnType) : Type 0 where
+  pub new : relation_of st.relations name ≡ None
+  pub some : 1 ≤ length types
+  pub columns : length types ≤ COLUMNS
+  pub place : length st.relations < RELATIONS
+
+-- What may be registered: a free-connex query within limits that reads relations that are there, or a
+-- sound union.
 abbrev pub MayRegister : Store → Listed → Type 0
 MayRegister st (a_query q) =
-    IsConnex (a_query q) × IsSoundListed st.relations st.queries (a_query q)
+    IsConnex (a_query q) × IsSoundListed st.relations st.queries (a_query q) × IsWithinLimits q
 MayRegister st (a_union name qs) = IsSoundListed st.relations st.queries (a_union name qs)
 
 -- What a command of the store makes of it, where some queries are in use.
 pub data Stored (used : Bytes → Bool) (old new : Store) : Type 0 where
   -- no more than that texts become known
   learns_texts : LearnsTexts old new → Stored used old new
-  -- a relation of a new name is made, without rows
-  makes_relation : (name : Bytes) → (types : List ColumnType) → relation_of old.relations name ≡ None
+  -- a relation that may be is made, without rows
+  makes_relation : (name : Bytes) → (types : List ColumnType) → MayMake old name types
       → new ≡ record old {
         relations = old.relations ++ record { name = name; types = types; rows = [] } ∷ [];
       } → Stored used old new
-  -- what may be, and is of a new name, is registered, and its texts become known
+  -- what may be, and is of a new name, is registered where there is a place, and its texts become known
   registers : (q : Listed) → listed_of old.queries (listed_name q) ≡ None → MayRegister old q
-      → (length old.texts ≤ TEXTS → length new.texts ≤ TEXTS)
+      → length old.queries < QUERIES → (length old.texts ≤ TEXTS → length new.texts ≤ TEXTS)
       → new ≡ record old {
         texts = all_learned old.texts (listed_texts q);
         queries = old.queries ++ q ∷ [];
@@ -225,6 +235,7 @@ pub record HoldsRow (old : State) (s : ℕ) (x : Session) (l name : Bytes) (row 
 abbrev pub SessionTurned : State → ℕ → Session → Turn → State → Type 0
 SessionTurned old s x (opens_cursor c q) new = (cursor_of x.cursors c ≡ None)
     × IsSome (listed_of old.store.queries q) × (new ≡ with_session old s (with_cursor c q))
+    × (length x.cursors < CURSORS)
 SessionTurned old s x (moves_cursor c) new = CursorMoves old s x c new
 SessionTurned old s x (closes_cursor c) new = new ≡ with_session old s (without_cursor c)
 SessionTurned old s x (starts_watching q) new =

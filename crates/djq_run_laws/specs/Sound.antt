@@ -21,14 +21,17 @@ use Rattle.djq_model.specs.declared.relation.Relation.{Relation}
 use Rattle.djq_model.specs.declared.query.Query.{Query}
 use Rattle.djq_model.specs.Data.{Bytes, tuples_in}
 use Rattle.djq_model.specs.Answer.{AreDifferent}
-use Rattle.djq_model.specs.Listed.{Listed, a_query, a_union, listed_name, listed_of}
+use Rattle.djq_model.specs.Listed.{Listed, a_query, a_union, listed_name, listed_of, queries_of}
 use Rattle.djq_model.specs.Typed.{fits}
-use Rattle.djq_protocol.specs.declared.limits.TheConstants.{SESSIONS, TEXTS, COPIES, HELD, MEMBERS}
+use Rattle.djq_protocol.specs.declared.limits.TheConstants.{SESSIONS, CURSORS, HELD, RELATIONS, COLUMNS, ROWS, COPIES}
+use Rattle.djq_protocol.specs.declared.limits.TheConstants.{TEXTS, LAST_SEQ, QUERIES, MEMBERS, ATOMS, VARIABLES}
+use Rattle.djq_protocol.specs.declared.limits.TheConstants.{HEAD_VARIABLES, COMPARISONS}
 use Rattle.djq_protocol.specs.declared.held.HeldRow.{HeldRow}
 use Rattle.djq_protocol.specs.declared.command.Command.TheVariants.{Add}
 use Rattle.djq_protocol.specs.Grammar.{says_command, reading_of}
 use Rattle.djq_protocol.specs.Hypergraph.{edges_of, head_of}
 use Rattle.djq_protocol.specs.QueryFault.{reads_unknown}
+use Rattle.djq_protocol.specs.Variables.{variables_of}
 use Rattle.djq_store_spec.specs.Batch.{SuitAll}
 use Rattle.djq_hypergraph.specs.JoinTree.{IsFreeConnex}
 use Rattle.djq_store_spec.specs.Asking.{answer_types, listed_types}
@@ -45,8 +48,12 @@ AreApart names = AllPairs (λ a b. a ≢ b) names
 abbrev pub IsCopyCount : ℕ → Type 0
 IsCopyCount n = (1 ≤ n) × (n ≤ COPIES)
 
--- The rows of a relation are of its columns' types, and none stands twice; each has copies.
+-- A relation has a column at least, and no more columns and rows than may be. Its rows are of its
+-- columns' types, and none stands twice; each has copies.
 pub record IsSoundRelation (r : Relation) : Type 0 where
+  pub some : 1 ≤ length r.types
+  pub columns : length r.types ≤ COLUMNS
+  pub few : length (tuples_in r) ≤ ROWS
   pub typed : All (λ row. fits r.types row ≡ true) (tuples_in r)
   pub once : AreDifferent (tuples_in r)
   pub copies : All (λ c. IsCopyCount c.copies) r.rows
@@ -55,6 +62,17 @@ pub record IsSoundRelation (r : Relation) : Type 0 where
 abbrev pub IsConnex : Listed → Type 0
 IsConnex (a_query q) = IsFreeConnex (edges_of q) (head_of q)
 IsConnex (a_union name qs) = All (λ q. IsFreeConnex (edges_of q) (head_of q)) qs
+
+-- A query has no more atoms, variables, holes among them, head variables and comparisons than it may.
+pub record IsWithinLimits (q : Query) : Type 0 where
+  pub atoms : length q.atoms ≤ ATOMS
+  pub variables : length (variables_of q.atoms) ≤ VARIABLES
+  pub head : length q.head ≤ HEAD_VARIABLES
+  pub comparisons : length q.comparisons ≤ COMPARISONS
+
+-- So has each query of what is registered.
+abbrev pub AreWithinLimits : Listed → Type 0
+AreWithinLimits l = All IsWithinLimits (queries_of l)
 
 -- A union has two members at least and no more than may be. Each is registered, none twice, and the
 -- answers of each are of the union's types.
@@ -73,16 +91,25 @@ abbrev pub IsSoundListed : List Relation → List Listed → Listed → Type 0
 IsSoundListed relations queries (a_query q) = reads_unknown relations q ≡ false
 IsSoundListed relations queries (a_union name qs) = IsSoundUnion relations queries name qs
 
--- Relations have names of their own, and what is registered, each of which is free-connex and sound;
--- and each known text is known once, and no more are than may be.
+-- There are no more relations, known texts and registered queries and unions than may be, and no more
+-- changes are counted.
+pub record HasPlaces (st : Store) : Type 0 where
+  pub relations : length st.relations ≤ RELATIONS
+  pub texts : length st.texts ≤ TEXTS
+  pub queries : length st.queries ≤ QUERIES
+  pub seq : st.seq ≤ LAST_SEQ
+
+-- Relations have names of their own, and what is registered, each of which is free-connex, sound and
+-- within limits; each known text is known once; and there are no more of them than may be.
 pub record IsSoundStore (st : Store) : Type 0 where
   pub relations : AreApart (map (λ r. r.name) st.relations)
   pub rows : All IsSoundRelation st.relations
   pub texts : AreApart st.texts
-  pub few : length st.texts ≤ TEXTS
   pub queries : AreApart (map listed_name st.queries)
   pub connex : All IsConnex st.queries
   pub listed : All (IsSoundListed st.relations st.queries) st.queries
+  pub limits : All AreWithinLimits st.queries
+  pub places : HasPlaces st
 
 -- An open cursor has given no answer twice.
 abbrev pub GaveOnce : Position → Type 0
@@ -104,11 +131,13 @@ pub record IsSoundBatch (st : Store) (held : List HeldRow) : Type 0 where
   pub suit : SuitAll st held
   pub lines : All IsHeldBySaying held
 
--- A session's cursors have names of their own, what it watches are registered queries, each once, and
--- its batch is sound. A session that has ended has no cursors, no watches and no batch.
+-- A session's cursors have names of their own, and are no more than may be. What it watches are
+-- registered queries, each once, and its batch is sound. A session that has ended has no cursors, no
+-- watches and no batch.
 pub record IsSoundSession (st : Store) (x : Session) : Type 0 where
   pub cursors : All (IsSoundCursor st.queries) x.cursors
   pub names : AreApart (map (λ c. c.name) x.cursors)
+  pub few : length x.cursors ≤ CURSORS
   pub registered : All (λ w. IsSome (listed_of st.queries w)) x.watches
   pub once : AreApart x.watches
   pub batch : IfSome x.batch (IsSoundBatch st)

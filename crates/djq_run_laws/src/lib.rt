@@ -76,7 +76,13 @@ pub fn line_is_taken()
 /// there, and are free-connex; the members of a union are registered queries, two at least, none
 /// twice, with answers of the same types; cursors and watches are of what is registered; the rows
 /// that a batch holds suit their relations, each said by its line; a session that has ended has none
-/// of them; and copies, texts, held rows and sessions are within their limits, sessions by rising id.
+/// of them; and sessions are by rising id.
+///
+/// The limits of the protocol hold in it: on relations, their columns (one at least) and rows, the
+/// copies of a row, known texts, queries and unions, their members, a query's atoms, variables, head
+/// variables and comparisons, the number of changes, a session's cursors, the rows of its batch, and
+/// sessions. That names and values are within theirs is `states_are_sayable` of djq_mirror_laws.
+///
 /// Every run keeps it so. The state in which nothing has happened is one to start from.
 pub fn states_are_sound()
     ensures kept { RunsKeepSound }
