@@ -59,7 +59,7 @@ use Rattle.djq_mirror_laws.proofs.MirrorReplies.{delta_shown, not_before, Behind
 use Rattle.djq_mirror_laws.proofs.MirrorReplies.{opened_shown, stale_idles, more_stays, last_stays, last_lives}
 use Rattle.djq_mirror_laws.proofs.MirrorReplies.{shows_with}
 use Rattle.djq_mirror_laws.proofs.StoredNames.{IsFine, one_fine, number_small, answers_fine, answer_sayable}
-use Rattle.djq_mirror_laws.proofs.StoredNames.{second_fails}
+use Rattle.djq_run_laws.proofs.Forms.{second_fails}
 use Rattle.djq_mirror_laws.proofs.Replies.{ExplainsNone, IsHarmless, harmless_form, last_reply, last_fine, behind_fine}
 use Rattle.djq_mirror_laws.proofs.Replies.{listing_text, talks}
 use Rattle.djq_mirror_laws.proofs.SayableStates.{step_sayable}

@@ -60,12 +60,12 @@ use Rattle.djq_machine.specs.Command.{AddStep, HoldStep, QueryStep, NextStepAt, 
 use Rattle.djq_machine.specs.Command.{explain_lines, union_lines, CommandStep}
 use Rattle.djq_run_laws.specs.Sound.{IsSoundStore}
 use Rattle.djq_run_laws.proofs.Lists.{all_found}
-use Rattle.djq_run_laws.proofs.Forms.{done_of, none_holds}
+use Rattle.djq_run_laws.proofs.Forms.{done_of, none_holds, all_fail}
 use Rattle.djq_mirror_laws.specs.Sayable.{IsSayableQuery, IsSayableListed, IsSayableStore, IsSayablePosition}
 use Rattle.djq_mirror_laws.specs.Sayable.{IsSayableCursor, IsSayableSession}
 use Rattle.djq_mirror_laws.specs.Told.{replies_text, is_told_of}
 use Rattle.djq_mirror_laws.proofs.Deltas.{text_append}
-use Rattle.djq_mirror_laws.proofs.StoredNames.{IsFine, number_small, answers_fine, all_fail, came_few, query_few}
+use Rattle.djq_mirror_laws.proofs.StoredNames.{IsFine, number_small, answers_fine, came_few, query_few}
 use Rattle.djq_mirror_laws.proofs.StoredNames.{union_small}
 use Rattle.djq_mirror_laws.proofs.LineLengths.{query_weight, rest_short, cyclic_light, connex_light, cyclic_below}
 use Rattle.djq_mirror_laws.proofs.LineLengths.{connex_below}

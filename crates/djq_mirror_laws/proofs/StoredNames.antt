@@ -1,7 +1,7 @@
 -- What commands make of the store has names and values that lines can say.
-use Rattle.std.specs.Prelude.{ℕ, zero, suc, ◌+◌, ◌-◌, ◌*◌, ◌^◌, ◌<◌, ◌≢◌, List, [], ◌∷◌, ◌==◌, ◌&&◌, ◌||◌, ◌≡◌, ◌≤◌}
-use Rattle.std.specs.Prelude.{◌++◌, ◌⊎◌, Bool, true, false, not, cond, nat_le, nat_lt, length, Option, None, Some}
-use Rattle.std.specs.Prelude.{is_some, is_none, Result, Ok, Err, map, All, Contains, ⊤}
+use Rattle.std.specs.Prelude.{ℕ, zero, suc, ◌+◌, ◌-◌, ◌*◌, ◌^◌, ◌<◌, ◌≢◌, List, [], ◌∷◌, ◌==◌, ◌||◌, ◌≡◌, ◌≤◌}
+use Rattle.std.specs.Prelude.{◌++◌, ◌⊎◌, Bool, true, false, not, cond, nat_le, length, Option, None, Some}
+use Rattle.std.specs.Prelude.{Result, Ok, Err, map, All, Contains, ⊤}
 use Rattle.std.specs.List.{list_any}
 use Rattle.std.proofs.Common.{refl, sym, ap, ◌∙◌, subst, inl, inr, arith}
 use Rattle.std.proofs.lemmas.Bool.{eq-eqb, leb-false, ltb-false, not-false}
@@ -26,12 +26,11 @@ use Rattle.djq_model.specs.Listed.{Listed, a_query, a_union, listed_name, Answer
 use Rattle.djq_model.specs.Known.{texts_in, all_learned}
 use Rattle.djq_model.proofs.Copies.{tuples_with_row, tuples_with_copies, tuples_without, tuples_moved, copies_hold}
 use Rattle.djq_value.specs.Literal.{IsName}
-use Rattle.djq_protocol.specs.declared.limits.TheConstants.{LAST_SEQ, COPIES, ROWS, QUERIES, MEMBERS, ATOMS, VARIABLES}
-use Rattle.djq_protocol.specs.declared.limits.TheConstants.{HEAD_VARIABLES, COMPARISONS}
+use Rattle.djq_protocol.specs.declared.limits.TheConstants.{LAST_SEQ, COPIES, MEMBERS}
+use Rattle.djq_protocol.specs.declared.limits.TheConstants.{HEAD_VARIABLES}
 use Rattle.djq_protocol.specs.declared.rest.QueryOutcome.{QueryOutcome}
 use Rattle.djq_protocol.specs.declared.rest.QueryOutcome.TheVariants.{Registered, Cyclic, NotConnex}
 use Rattle.djq_protocol.specs.declared.answer.Refusal.{Refusal}
-use Rattle.djq_protocol.specs.declared.answer.Refusal.TheVariants.{Taken, NoQuery, Member, Limit}
 use Rattle.djq_protocol.specs.declared.answer.AddOutcome.{AddOutcome}
 use Rattle.djq_protocol.specs.declared.answer.AddOutcome.TheVariants.{First, More}
 use Rattle.djq_protocol.specs.declared.answer.DeleteOutcome.{DeleteOutcome}
@@ -39,18 +38,18 @@ use Rattle.djq_protocol.specs.declared.answer.DeleteOutcome.TheVariants.{Last, L
 use Rattle.djq_protocol.specs.declared.held.HeldRow.{HeldRow}
 use Rattle.djq_protocol.specs.declared.answer.Sign.{Sign}
 use Rattle.djq_protocol.specs.declared.answer.Sign.TheVariants.{Came, Went}
-use Rattle.djq_protocol.specs.Conditions.{first_refusal, OutOfMemoryWhere}
-use Rattle.djq_protocol.specs.QueryFault.{is_too_large, query_faults}
-use Rattle.djq_protocol.specs.Variables.{constants_of, is_variable, stands_in, variables_of}
+use Rattle.djq_protocol.specs.Conditions.{OutOfMemoryWhere}
+use Rattle.djq_protocol.specs.QueryFault.{is_too_large}
+use Rattle.djq_protocol.specs.Variables.{constants_of, is_variable, stands_in}
 use Rattle.djq_mirror.specs.Replies.{Reply, answer, changed, counted, is_cell, are_cells, IsNumber, IsPrinted}
 use Rattle.djq_store_spec.specs.Store.{Store}
 use Rattle.djq_store_spec.specs.Relations.{RefusedByTexts, MakesRelation, with_rows, rel_refusal}
 use Rattle.djq_store_spec.specs.Registering.{RefusedLate, RegistersAs, RegistersQuery, DropsQuery, query_refusal}
 use Rattle.djq_store_spec.specs.Registering.{drop_refusal, answer_steps, most_steps, width_of, atoms_of}
-use Rattle.djq_store_spec.specs.Rows.{AddsRow, AddsAs, DeletesRow, DeletesAs, with_copies_of, copies_of, row_refusals}
+use Rattle.djq_store_spec.specs.Rows.{AddsRow, AddsAs, DeletesRow, DeletesAs, with_copies_of, copies_of}
 use Rattle.djq_store_spec.specs.Rows.{add_refusal, delete_refusal}
-use Rattle.djq_store_spec.specs.Union.{stands_twice, is_union, types_differ, union_refusal, AreUnder, RegistersUnion}
-use Rattle.djq_store_spec.specs.Batch.{is_there, with_held, with_all, count_came, HavePlaces, AddsBatch}
+use Rattle.djq_store_spec.specs.Union.{union_refusal, AreUnder, RegistersUnion}
+use Rattle.djq_store_spec.specs.Batch.{is_there, with_held, with_all, count_came, AddsBatch}
 use Rattle.djq_store_spec.specs.Delta.{Change, HasChanged}
 use Rattle.djq_answer_laws.specs.Finite.{IsBound}
 use Rattle.djq_answer_laws.proofs.Lists.{nothing_there, first_or_later, first_there, later_there, hold_each, some_one}
@@ -58,36 +57,18 @@ use Rattle.djq_answer_laws.proofs.Choices.{none_any}
 use Rattle.djq_machine.specs.Step.{SameRelations}
 use Rattle.djq_run_laws.specs.Form.{LearnsTexts}
 use Rattle.djq_run_laws.specs.Sound.{IsCopyCount, IsSoundStore}
-use Rattle.djq_run_laws.proofs.Forms.{done_of, none_holds, stays_learned, late_learned, refused_learned}
-use Rattle.djq_run_laws.proofs.Batches.{all_gain, is_behind, not_batched}
+use Rattle.djq_run_laws.proofs.Forms.{done_of, none_holds, stays_learned, late_learned, refused_learned, all_fail}
+use Rattle.djq_run_laws.proofs.Forms.{second_fails, within_limits, query_conditions, union_conditions}
+use Rattle.djq_run_laws.proofs.Batches.{all_gain, is_behind, not_batched, came_below}
 use Rattle.djq_run_laws.proofs.Lists.{all_changed, all_found, all_dropped, without_dropped, mapped_from}
 use Rattle.djq_run_laws.proofs.RegisteredQueries.{under_names, under_registered}
-use Rattle.djq_run_laws.proofs.RowCommands.{counted_sound}
+use Rattle.djq_run_laws.proofs.RowCommands.{counted_sound, add_conditions, delete_conditions}
 use Rattle.djq_mirror_laws.specs.Sayable.{IsSayableValue, IsSayableRow, IsSayableRelation, IsSayableQuery, IsAskable}
 use Rattle.djq_mirror_laws.specs.Sayable.{IsSayableListed, IsSayableHeld, IsSayableStore}
 use Rattle.djq_mirror_laws.specs.Lines.{IsShort}
 use Rattle.djq_mirror_laws.specs.Told.{delta_replies}
 
 -- ---- What commands make of the store has names, and values within their limits.
-
--- ---- conditions that all fail
-
-abbrev pub AllFail : List (Bool × Refusal) → Type 0
-AllFail [] = Unit {0}
-AllFail (c ∷ cs) = (c.0 ≡ false) × AllFail cs
-
-pub all_fail : (cs : List (Bool × Refusal)) → first_refusal cs ≡ None → AllFail cs
-all_fail [] e = tt
-all_fail (c ∷ cs) e = by c.0 refl e (λ f. all_fail cs f)
-  where
-    by : (b : Bool) → c.0 ≡ b → cond b (Some c.1) (first_refusal cs) ≡ None → (first_refusal cs ≡ None → AllFail cs)
-        → AllFail (c ∷ cs)
-    by true k f more = absurd cc
-    by false k f more = (k, more f)
-
-pub second_fails : (a b : Bool) → a ≡ true → (a && b) ≡ false → b ≡ false
-second_fails true b e f = f
-second_fails false b e f = absurd cc
 
 -- ---- answers
 
@@ -162,26 +143,6 @@ other_copies rs name row n h =
     other_rows rs name (with_copies (counted_of rs name) row n) h
     (subst (λ (ts : List Tuple). All IsSayableRow ts) (sym (tuples_with_copies (counted_of rs name) row n))
     (rows_sayable rs name h))
-
--- what `add`, `del` and `query` ask before they are done
-abbrev pub add_conditions : Store → Bytes → Tuple → List (Bool × Refusal)
-add_conditions st name row = let rows = rows_of st.relations name in row_refusals st name row
-    ++ (nat_le COPIES (copies_of st name row), Limit)
-    ∷ (not (has_row rows row) && nat_le ROWS (length rows), Limit)
-    ∷ (not (has_row rows row) && nat_le LAST_SEQ st.seq, Limit)
-    ∷ []
-
-abbrev pub delete_conditions : Store → Bytes → Tuple → List (Bool × Refusal)
-delete_conditions st name row = row_refusals st name row
-    ++ ((copies_of st name row == 1) && nat_le LAST_SEQ st.seq, Limit)
-    ∷ []
-
-abbrev query_conditions : Store → Query → List (Bool × Refusal)
-query_conditions st q =
-    (is_some (listed_of st.queries q.name), Taken)
-    ∷ query_faults st.relations q
-    ++ (nat_le QUERIES (length st.queries), Limit)
-    ∷ []
 
 pub add_sayable : (old : Store) (name : Bytes) (row : Tuple) (r : Result AddOutcome Refusal) (new : Store)
     → AddsRow old name row r new → IsSayableRow row → IsSayableStore old → IsSayableStore new
@@ -277,35 +238,6 @@ all_held_sayable st (h ∷ hs) said all =
     all_held_sayable (with_held st h) hs (All-tail IsSayableHeld h hs said)
     (held_sayable st h (All-head IsSayableHeld h hs said) all)
 
-held_seq : (st : Store) (h : HeldRow) → (with_held st h).seq ≡ st.seq
-held_seq st h = by (is_there st h)
-  where
-    by : (b : Bool) → (behind_one st h b).seq ≡ st.seq
-    by true = refl
-    by false = refl
-
--- where a row came, one more change may be counted
-came_below : (st : Store) (held : List HeldRow) → HavePlaces st held → count_came st held ≢ 0 → st.seq < LAST_SEQ
-came_below st [] places some = absurd (some refl)
-came_below st (h ∷ hs) places some =
-    by (is_there st h) refl some (λ k. came_below (with_held st h) hs places.2 k)
-  where
-    absent_below : is_there st h ≡ false → st.seq < LAST_SEQ
-    absent_below absent =
-        let fails = all_fail ((nat_le COPIES (copies_of st h.relation h.row), Limit)
-        ∷ (not (is_there st h) && nat_le ROWS (length (rows_of st.relations h.relation)), Limit)
-        ∷ (not (is_there st h) && nat_le LAST_SEQ st.seq, Limit) ∷ []) places.0 in
-        leb-false LAST_SEQ st.seq
-        (second_fails (not (is_there st h)) (nat_le LAST_SEQ st.seq) (ap not absent) fails.1.1.0)
-
-    by : (b : Bool) → is_there st h ≡ b → cond b 0 1 + count_came (with_held st h) hs ≢ 0
-        → (count_came (with_held st h) hs ≢ 0 → (with_held st h).seq < LAST_SEQ) → st.seq < LAST_SEQ
-    by true there k more =
-        let below = more (λ none. k (omega (arith, none))) in
-        let same = held_seq st h in
-        omega (arith, below, same)
-    by false absent k more = absent_below absent
-
 pub done_sayable : (old : Store) (held : List HeldRow) (r : Result ℕ Refusal) (new : Store) → AddsBatch old held r new
     → All IsSayableHeld held → IsSayableStore old → IsSayableStore new
 done_sayable old held (Ok zero) new h said s =
@@ -338,19 +270,6 @@ came_few st (h ∷ hs) = by (is_there st h) (came_few (with_held st h) hs)
 
 -- ---- unions
 
-abbrev union_conditions : Store → Bytes → List Bytes → List (Bool × Refusal)
-union_conditions st name members =
-    (is_some (listed_of st.queries name), Taken)
-    ∷ (list_any (λ n. is_none (listed_of st.queries n)) members, NoQuery)
-    ∷ (
-      stands_twice members || list_any (λ n. is_union (listed_of st.queries n)) members
-          || types_differ st members,
-      Member,
-    )
-    ∷ (nat_lt MEMBERS (length members), Limit)
-    ∷ (nat_le QUERIES (length st.queries), Limit)
-    ∷ []
-
 -- registered queries are such, whatever their names
 members_sayable : (old : Store) (members : List Bytes) (qs : List Query) → IsSayableStore old
     → AreUnder old.queries members qs → All (λ (q : Query). IsSayableListed (a_query q)) qs
@@ -363,12 +282,12 @@ members_sayable old members qs s under =
 
 width_small : (qs : List Query) → All (λ (q : Query). IsSayableListed (a_query q)) qs → width_of qs ≤ HEAD_VARIABLES
 width_small [] all = omega arith
-width_small (q ∷ qs) all = (All-head (λ (p : Query). IsSayableListed (a_query p)) q qs all).1.few
+width_small (q ∷ qs) all = (All-head (λ (p : Query). IsSayableListed (a_query p)) q qs all).1.limits.head
 
 atoms_small : (qs : List Query) → All (λ (q : Query). IsSayableListed (a_query q)) qs → atoms_of qs ≤ 32 * length qs
 atoms_small [] all = omega arith
 atoms_small (q ∷ qs) all =
-    let first = (All-head (λ (p : Query). IsSayableListed (a_query p)) q qs all).1.atoms in
+    let first = (All-head (λ (p : Query). IsSayableListed (a_query p)) q qs all).1.limits.atoms in
     let rest = atoms_small qs (All-tail (λ (p : Query). IsSayableListed (a_query p)) q qs all) in
     omega (arith, first, rest)
 
@@ -396,20 +315,9 @@ bound_where q e x c =
     let t = some_pass (is_variable x) (a.0).terms a.2 in
     (a.0, a.1, subst (λ (u : Term). Contains (a.0).terms u) (variable_is x t.0 t.2) t.1)
 
-few_where : (a b c d : Bool) → (a || (b || (c || d))) ≡ false → (a ≡ false) × (c ≡ false)
-few_where false false false d e = (refl, refl)
-few_where true b c d e = absurd cc
-few_where false true c d e = absurd cc
-few_where false false true d e = absurd cc
-
 askable_where : (q : Query) → list_any (λ x. not (stands_in q.atoms x)) q.head ≡ false → is_too_large q ≡ false
     → IsAskable q
-askable_where q unbound large =
-    let few = few_where (nat_lt ATOMS (length q.atoms)) (nat_lt VARIABLES (length (variables_of q.atoms)))
-    (nat_lt HEAD_VARIABLES (length q.head)) (nat_lt COMPARISONS (length q.comparisons)) large in
-    let most = ltb-false HEAD_VARIABLES (length q.head) few.1 in
-    let atoms = ltb-false ATOMS (length q.atoms) few.0 in
-    record { bound = bound_where q unbound; few = omega (arith, most); atoms = omega (arith, atoms) }
+askable_where q unbound large = record { bound = bound_where q unbound; limits = within_limits q large }
 
 -- a head has few variables, where its query is registered
 pub query_few : (old : Store) (q : Query) (most : ℕ) (new : Store) → RegistersQuery old q (Ok (Registered most)) new
@@ -418,7 +326,7 @@ query_few old q most new h =
     let none = none_holds (query_refusal old q) (Registered most) (RegistersAs old q new) (RefusedLate old q new)
     h.answer in
     let fails = all_fail (query_conditions old q) none in
-    (askable_where q fails.1.1.1.1.1.1.1.1.0 fails.1.1.1.1.1.1.1.1.1.0).few
+    (within_limits q fails.1.1.1.1.1.1.1.1.1.0).head
 
 pub query_sayable : (old : Store) (q : Query) (r : Result QueryOutcome Refusal) (new : Store)
     → RegistersQuery old q r new → IsSayableQuery q → IsSayableStore old → IsSayableStore new
@@ -550,7 +458,7 @@ cells_fine (v ∷ t) h =
 query_answer_fine : (rs : List Relation) → All IsSayableRelation rs → (q : Query) → IsSayableListed (a_query q)
     → (t : Tuple) → IsAnswer rs q t → IsFine (answer t)
 query_answer_fine rs h q k t a =
-    let few = k.1.few in
+    let few = k.1.limits.head in
     let same = ap length a.on_head ∙ length-map q.head a.assignment in
     (cells_fine t (answer_sayable rs h (a_query q) k t a), omega (arith, few, same))
 

@@ -1,5 +1,5 @@
 -- What lines can say: names, and values within their limits.
-use Rattle.std.specs.Prelude.{List, ◌≡◌, ◌≤◌, true, IfSome, length, All}
+use Rattle.std.specs.Prelude.{List, ◌≡◌, ◌≤◌, true, IfSome, All}
 use Rattle.std.specs.Str.{is_utf8}
 use Rattle.djq_model.specs.declared.value.Value.{Value}
 use Rattle.djq_model.specs.declared.value.Value.TheVariants.{Int, Text}
@@ -12,13 +12,13 @@ use Rattle.djq_model.specs.declared.query.Query.{Query}
 use Rattle.djq_model.specs.Data.{Tuple, tuples_in}
 use Rattle.djq_model.specs.Listed.{Listed, a_query, a_union}
 use Rattle.djq_value.specs.Literal.{IsName, is_small_value}
-use Rattle.djq_protocol.specs.declared.limits.TheConstants.{LAST_SEQ, ATOMS, HEAD_VARIABLES}
+use Rattle.djq_protocol.specs.declared.limits.TheConstants.{LAST_SEQ}
 use Rattle.djq_protocol.specs.declared.held.HeldRow.{HeldRow}
 use Rattle.djq_answer_laws.specs.Finite.{IsBound}
 use Rattle.djq_store_spec.specs.Store.{Store, Position, open_at, stale}
 use Rattle.djq_machine.specs.State.{State, Session, Cursor, opening}
 use Rattle.djq_machine.specs.Run.{Did, Run}
-use Rattle.djq_run_laws.specs.Sound.{IsStart}
+use Rattle.djq_run_laws.specs.Sound.{IsWithinLimits, IsStart}
 
 -- A text is of UTF-8; nothing is said of an integer.
 abbrev pub HasUtf8 : Value → Type 0
@@ -61,12 +61,10 @@ pub record IsSayableQuery (q : Query) : Type 0 where
   pub atoms : All IsSayableAtom q.atoms
   pub comparisons : All IsSayableComparison q.comparisons
 
--- A query's head is bound by its body, and it has no more variables there and no more atoms than it
--- may have.
+-- A query's head is bound by its body, and it is within its limits.
 pub record IsAskable (q : Query) : Type 0 where
   pub bound : IsBound q
-  pub few : length q.head ≤ HEAD_VARIABLES
-  pub atoms : length q.atoms ≤ ATOMS
+  pub limits : IsWithinLimits q
 
 -- What is registered is such a query, and can be asked; or a union of such under a name.
 abbrev pub IsSayableListed : Listed → Type 0

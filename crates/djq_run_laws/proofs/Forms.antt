@@ -124,7 +124,7 @@ four_fail false true c d e = absurd cc
 four_fail false false true d e = absurd cc
 four_fail false false false true e = absurd cc
 
-within_limits : (q : Query) → is_too_large q ≡ false → IsWithinLimits q
+pub within_limits : (q : Query) → is_too_large q ≡ false → IsWithinLimits q
 within_limits q e =
     let f = four_fail (nat_lt ATOMS (length q.atoms)) (nat_lt VARIABLES (length (variables_of q.atoms)))
     (nat_lt HEAD_VARIABLES (length q.head)) (nat_lt COMPARISONS (length q.comparisons)) e in

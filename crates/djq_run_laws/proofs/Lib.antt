@@ -15,5 +15,6 @@ pub mod Watchers
 pub mod SoundStores
 pub mod SoundStates
 pub mod CursorListings
+pub mod Starts
 pub mod BatchLines
 pub mod EndedSessions

@@ -9,6 +9,7 @@ pub mod Watched
 pub mod Form
 pub mod Staying
 pub mod Live
+pub mod Finished
 pub mod Sound
 pub mod Listed
 pub mod Copies

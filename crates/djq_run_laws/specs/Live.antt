@@ -19,6 +19,7 @@ use Rattle.djq_run_laws.specs.Watched.{
   all_added_up,
 }
 use Rattle.djq_run_laws.specs.Staying.{GoesOn, KeepsWatch}
+use Rattle.djq_run_laws.specs.Sound.{IsStart}
 
 -- A cursor of a session was told the end, and has given these.
 pub record HasListed (q : Listed) (s : ℕ) (st : State) (given : List Tuple) : Type 0 where
@@ -53,3 +54,8 @@ LiveFrom old = (q : Listed) (s : ℕ) (given : List Tuple) → HasListed q s old
 -- It is so where cursors give what they should.
 abbrev pub ListingsStayLive : Type 0
 ListingsStayLive = (old : State) → CursorsGive old → LiveFrom old
+
+-- So it is from each state on that a run comes to from a state to start from.
+abbrev pub RunsStayLive : Type 0
+RunsStayLive = (start : State) → IsStart start → (done : List Did) (new : State) → Run start done new
+    → LiveFrom new

@@ -36,7 +36,8 @@ ghost use Rattle.djq_run_laws.specs.Watched.{WatchersHaveAnswers};
 ghost use Rattle.djq_run_laws.specs.Staying.{WatchersStay};
 ghost use Rattle.djq_run_laws.specs.Stopping.{KeptSaysNoStop};
 ghost use Rattle.djq_run_laws.specs.Silent.{OverIsSilent, OverOnce};
-ghost use Rattle.djq_run_laws.specs.Live.{ListingsStayLive};
+ghost use Rattle.djq_run_laws.specs.Live.{ListingsStayLive, RunsStayLive};
+ghost use Rattle.djq_run_laws.specs.Finished.{RunsHaveListed};
 ghost use Rattle.djq_run_laws.specs.Sound.{RunsKeepSound, OpeningIsStart, StatesAreSound};
 ghost use Rattle.djq_run_laws.specs.Copies.{RowsHaveCopies, AddsCopy, TakesCopy, AddsHeld};
 ghost use Rattle.djq_run_laws.specs.Listed.{GivenIsTold, ListedIsTold};
@@ -144,6 +145,12 @@ pub fn runs_give()
     ensures { RunsGive }
 {}
 
+/// In each state that a run comes to from a state to start from, an open cursor that was told the end
+/// has given a listing of its query: each answer over the present rows, once, and nothing else.
+pub fn runs_have_listed()
+    ensures { RunsHaveListed }
+{}
+
 /// What an open cursor has given is what its session was told since it opened it: the replies to
 /// its `next` lines, but those that a batch doesn't let through, are page by page those answers, in
 /// order, and the last of them tells the end exactly where the cursor is finished. So a session that
@@ -180,7 +187,10 @@ pub fn watchers_stay()
 
 /// A session that has listed a query through a cursor, and watches it, has the answers over the
 /// present rows by adding up what it is told, as long as it goes on and doesn't unwatch it: one
-/// delta for each accepted change of a relation that the query reads, by rising number.
+/// delta for each accepted change of a relation that the query reads, by rising number. So it is
+/// wherever cursors give what they should, and from each state on that a run comes to from a state to
+/// start from.
 pub fn listings_stay_live()
-    ensures { ListingsStayLive }
+    ensures live { ListingsStayLive }
+    ensures started { RunsStayLive }
 {}
