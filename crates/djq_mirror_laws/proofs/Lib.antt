@@ -1,4 +1,5 @@
 mod ReadCommands
+mod KnownTexts
 mod StoredNames
 pub mod SayableStates
 mod Deltas

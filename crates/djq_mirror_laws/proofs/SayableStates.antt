@@ -51,7 +51,7 @@ use Rattle.djq_run_laws.specs.Form.{opens_batch, holds_row, closes_batch, Replie
 use Rattle.djq_run_laws.specs.Form.{SessionTurned, DoesTurn, is_turned, is_refused}
 use Rattle.djq_run_laws.proofs.Forms.{add_does, command_does, Reads, turned_down, carried_out, line_reads}
 use Rattle.djq_run_laws.proofs.Lists.{session_changed, all_changed, all_found, all_dropped, all_mapped, change_keeps}
-use Rattle.djq_mirror_laws.specs.Sayable.{IsSayableRow, IsSayableRelation, IsSayableListed, IsSayableStore}
+use Rattle.djq_mirror_laws.specs.Sayable.{IsSayableRow, IsSayableRelation, IsSayableListed, IsSayableStore, IsSayableText}
 use Rattle.djq_mirror_laws.specs.Sayable.{IsSayablePosition, IsSayableCursor, IsSayableHeld, IsSayableSession}
 use Rattle.djq_mirror_laws.specs.Sayable.{IsSayableState, RunsKeepSayable, OpeningIsSayable, StatesAreSayable}
 use Rattle.djq_mirror_laws.specs.Loaded.{LoadedAreSayable}
@@ -488,7 +488,12 @@ runs_keep_sayable old done new w k =
 
 pub opening_is_sayable : OpeningIsSayable
 opening_is_sayable = record {
-  store = record { relations = All-nil IsSayableRelation; queries = All-nil IsSayableListed; seq = omega arith };
+  store = record {
+    relations = All-nil IsSayableRelation;
+    texts = All-nil IsSayableText;
+    queries = All-nil IsSayableListed;
+    seq = omega arith;
+  };
   sessions = All-nil IsSayableSession;
 }
 

@@ -64,7 +64,9 @@ use Rattle.djq_run_laws.proofs.Lists.{all_changed, all_found, all_dropped, witho
 use Rattle.djq_run_laws.proofs.RegisteredQueries.{under_names, under_registered}
 use Rattle.djq_run_laws.proofs.RowCommands.{counted_sound, add_conditions, delete_conditions}
 use Rattle.djq_mirror_laws.specs.Sayable.{IsSayableValue, IsSayableRow, IsSayableRelation, IsSayableQuery, IsAskable}
-use Rattle.djq_mirror_laws.specs.Sayable.{IsSayableListed, IsSayableHeld, IsSayableStore}
+use Rattle.djq_mirror_laws.specs.Sayable.{IsSayableListed, IsSayableHeld, IsSayableStore, IsSayableText}
+use Rattle.djq_mirror_laws.proofs.KnownTexts.{all_learned_said, row_texts, refused_said, late_said, constants_said}
+use Rattle.djq_mirror_laws.proofs.KnownTexts.{all_held_texts, refused_texts}
 use Rattle.djq_mirror_laws.specs.Lines.{IsShort}
 use Rattle.djq_mirror_laws.specs.Told.{delta_replies}
 
@@ -111,9 +113,15 @@ answer_sayable rs h (a_union name qs) k t a =
 
 -- ---- stores
 
-pub learned_sayable : (old new : Store) → LearnsTexts old new → IsSayableStore old → IsSayableStore new
-learned_sayable old new h s =
-    subst IsSayableStore (sym h.store) (record { relations = s.relations; queries = s.queries; seq = s.seq })
+pub learned_sayable : (old new : Store) → LearnsTexts old new → All IsSayableText new.texts → IsSayableStore old
+    → IsSayableStore new
+learned_sayable old new h texts s =
+    subst IsSayableStore (sym h.store) (record {
+      relations = s.relations;
+      texts = subst (λ (st : Store). All IsSayableText st.texts) h.store texts;
+      queries = s.queries;
+      seq = s.seq;
+    })
 
 pub rel_sayable : (old : Store) (name : Bytes) (types : List ColumnType) (r : Result ⊤ Refusal) (new : Store)
     → MakesRelation old name types r new → IsName name → IsSayableStore old → IsSayableStore new
@@ -126,6 +134,7 @@ rel_sayable old name types (Ok u) new h named s =
     (record {
       relations = All-push IsSayableRelation old.relations made s.relations
           (record { name = named; rows = All-nil IsSayableRow });
+      texts = s.texts;
       queries = s.queries;
       seq = s.seq;
     })
@@ -158,6 +167,7 @@ add_sayable old name row (Ok First) new h said s =
       relations = other_rows old.relations name (with_row before row) s.relations
           (subst (λ (ts : List Tuple). All IsSayableRow ts) (sym (tuples_with_row before row))
           (All-push IsSayableRow (plain_of before) row (rows_sayable old.relations name s.relations) said));
+      texts = all_learned_said old.texts (texts_in row) (row_texts row said) s.texts;
       queries = s.queries;
       seq = omega (arith, below);
     })
@@ -165,6 +175,7 @@ add_sayable old name row (Ok (More copies)) new h said s =
     let d = done_of (add_refusal old name row) (More copies) (AddsAs old name row new) _ h.answer in
     subst IsSayableStore (sym d.2) (record {
       relations = other_copies old.relations name row copies s.relations;
+      texts = s.texts;
       queries = s.queries;
       seq = s.seq;
     })
@@ -172,7 +183,10 @@ add_sayable old name row (Err r) new h said s =
     learned_sayable old new
     (refused_learned (add_refusal old name row) r (AddsAs old name row new)
     (λ t. (has_row (rows_of old.relations name) row ≡ false) × RefusedByTexts old (texts_in row) new t) old new h.answer
-    h.stays (λ late. late_learned old (texts_in row) new r late.1)) s
+    h.stays (λ late. late_learned old (texts_in row) new r late.1))
+    (refused_said (add_refusal old name row) r (AddsAs old name row new)
+    (λ t. (has_row (rows_of old.relations name) row ≡ false) × RefusedByTexts old (texts_in row) new t) old new h.answer
+    h.stays (λ late. late_said old (texts_in row) new r late.1 (row_texts row said) s.texts) s.texts) s
 
 pub del_sayable : (old : Store) (name : Bytes) (row : Tuple) (r : Result DeleteOutcome Refusal) (new : Store)
     → DeletesRow old name row r new → IsSayableStore old → IsSayableStore new
@@ -192,6 +206,7 @@ del_sayable old name row (Ok Last) new h s =
           (subst (λ (ts : List Tuple). All IsSayableRow ts) (sym is)
           (all_dropped IsSayableRow (λ t. tuple_eq t row) (plain_of before)
           (rows_sayable old.relations name s.relations)));
+      texts = s.texts;
       queries = s.queries;
       seq = omega (arith, below);
     })
@@ -200,6 +215,7 @@ del_sayable old name row (Ok (Left copies)) new h s =
     h.answer in
     subst IsSayableStore (sym d.3) (record {
       relations = other_copies old.relations name row copies s.relations;
+      texts = s.texts;
       queries = s.queries;
       seq = s.seq;
     })
@@ -243,6 +259,8 @@ pub done_sayable : (old : Store) (held : List HeldRow) (r : Result ℕ Refusal) 
 done_sayable old held (Ok zero) new h said s =
     subst IsSayableStore (sym (h.2 ∙ is_behind old held zero h.1 ∙ (all_gain old held h.0).store)) (record {
       relations = all_held_sayable old held said s.relations;
+      texts = subst (λ (st : Store). All IsSayableText st.texts) (all_gain old held h.0).store
+          (all_held_texts old held said s.texts);
       queries = s.queries;
       seq = s.seq;
     })
@@ -253,10 +271,13 @@ done_sayable old held (Ok (suc n)) new h said s =
     (sym (h.2 ∙ is_behind old held (suc n) h.1
     ∙ ap (λ (st : Store). record st { seq = old.seq + 1 }) (all_gain old held h.0).store)) (record {
       relations = all_held_sayable old held said s.relations;
+      texts = subst (λ (st : Store). All IsSayableText st.texts) (all_gain old held h.0).store
+          (all_held_texts old held said s.texts);
       queries = s.queries;
       seq = omega (arith, below);
     })
-done_sayable old held (Err r) new h said s = learned_sayable old new (not_batched old held r new h) s
+done_sayable old held (Err r) new h said s =
+    learned_sayable old new (not_batched old held r new h) (refused_texts old held r new h said s.texts) s
 
 -- no more rows come than are held
 pub came_few : (st : Store) (held : List HeldRow) → count_came st held ≤ length held
@@ -343,6 +364,7 @@ query_sayable old q (Ok (Registered most)) new h said s =
     let fails = all_fail (query_conditions old q) none in
     subst IsSayableStore (sym d.3) (record {
       relations = s.relations;
+      texts = all_learned_said old.texts (texts_in (constants_of q)) (constants_said q said) s.texts;
       queries = All-push IsSayableListed old.queries (a_query q) s.queries
           (said, askable_where q fails.1.1.1.1.1.1.1.1.0 fails.1.1.1.1.1.1.1.1.1.0);
       seq = s.seq;
@@ -350,11 +372,17 @@ query_sayable old q (Ok (Registered most)) new h said s =
 query_sayable old q (Err r) new h said s =
     learned_sayable old new
     (refused_learned (query_refusal old q) r (RegistersAs old q new) (RefusedLate old q new) old new h.answer
-    h.stays (λ late. by late)) s
+    h.stays (λ late. by late))
+    (refused_said (query_refusal old q) r (RegistersAs old q new) (RefusedLate old q new) old new h.answer h.stays
+    (λ late. known late) s.texts) s
   where
     by : RefusedLate old q new r → LearnsTexts old new
     by (inl k) = late_learned old (texts_in (constants_of q)) new r k.1
     by (inr k) = stays_learned old new k.1
+
+    known : RefusedLate old q new r → All IsSayableText new.texts
+    known (inl k) = late_said old (texts_in (constants_of q)) new r k.1 (constants_said q said) s.texts
+    known (inr k) = subst (λ (st : Store). All IsSayableText st.texts) (sym k.1) s.texts
 
 -- a union of registered queries
 pub union_sayable : (old : Store) (name : Bytes) (members : List Bytes) (r : Result ℕ Refusal) (new : Store)
@@ -366,6 +394,7 @@ union_sayable old name members (Ok most) new h named s =
     let d = done_of (union_refusal old name members) most D (OutOfMemoryWhere ⊤) h.answer in
     subst IsSayableStore (sym d.3) (record {
       relations = s.relations;
+      texts = s.texts;
       queries = All-push IsSayableListed old.queries (a_union name d.0) s.queries
           (named, members_sayable old members d.0 s d.1);
       seq = s.seq;
@@ -404,6 +433,7 @@ drop_sayable old used name (Ok u) new h s =
     h.answer))
     (record {
       relations = s.relations;
+      texts = s.texts;
       queries = all_dropped IsSayableListed (λ (q : Listed). bytes_eq (listed_name q) name) old.queries s.queries;
       seq = s.seq;
     })
@@ -425,6 +455,7 @@ pub moved_store_sayable : (old : Store) (relations : List Relation) → SameRela
     → IsSayableStore old → IsSayableStore (record old { relations = relations })
 moved_store_sayable old relations h s = record {
   relations = moved_sayable old.relations relations h s.relations;
+  texts = s.texts;
   queries = s.queries;
   seq = s.seq;
 }

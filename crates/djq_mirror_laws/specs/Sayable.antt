@@ -9,7 +9,7 @@ use Rattle.djq_model.specs.declared.query.Term.TheVariants.{Variable, Hole, Cons
 use Rattle.djq_model.specs.declared.query.Atom.{Atom}
 use Rattle.djq_model.specs.declared.query.Comparison.{Comparison}
 use Rattle.djq_model.specs.declared.query.Query.{Query}
-use Rattle.djq_model.specs.Data.{Tuple, tuples_in}
+use Rattle.djq_model.specs.Data.{Bytes, Tuple, tuples_in}
 use Rattle.djq_model.specs.Listed.{Listed, a_query, a_union}
 use Rattle.djq_value.specs.Literal.{IsName, is_small_value}
 use Rattle.djq_protocol.specs.declared.limits.TheConstants.{LAST_SEQ}
@@ -28,6 +28,10 @@ HasUtf8 (Text t) = is_utf8 t ≡ true
 -- a value within its limit, of UTF-8 where it is a text
 abbrev pub IsSayableValue : Value → Type 0
 IsSayableValue v = (is_small_value v ≡ true) × HasUtf8 v
+
+-- such a text
+abbrev pub IsSayableText : Bytes → Type 0
+IsSayableText t = IsSayableValue (Text t)
 
 -- a row, or an answer, of such values
 abbrev pub IsSayableRow : Tuple → Type 0
@@ -71,9 +75,10 @@ abbrev pub IsSayableListed : Listed → Type 0
 IsSayableListed (a_query q) = IsSayableQuery q × IsAskable q
 IsSayableListed (a_union name qs) = IsName name × All (λ q. IsSayableQuery q × IsAskable q) qs
 
--- The relations and the queries are such, and changes are counted as far as may be.
+-- The relations, the known texts and the queries are such, and changes are counted as far as may be.
 pub record IsSayableStore (st : Store) : Type 0 where
   pub relations : All IsSayableRelation st.relations
+  pub texts : All IsSayableText st.texts
   pub queries : All IsSayableListed st.queries
   pub seq : st.seq ≤ LAST_SEQ
 

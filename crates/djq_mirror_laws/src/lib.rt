@@ -38,8 +38,8 @@ ghost use Rattle.djq_mirror_laws.specs.Whole.{SessionsAreReadBack, OpenedAreRead
 /// Along every run from a state to start from whose names and values lines can say, all names are
 /// names, all values are within their limits and their texts of UTF-8, and each variable of a
 /// registered query's head stands in its body: of relations, queries, unions, cursors and watches, of
-/// rows and constants, of what cursors have given, and of what batches hold. What lines that are loaded come
-/// to is such a state to start from.
+/// rows, known texts and constants, of what cursors have given, and of what batches hold. What lines that
+/// are loaded come to is such a state to start from.
 pub fn states_are_sayable()
     ensures kept { RunsKeepSayable }
     ensures opening { OpeningIsSayable }
