@@ -1,4 +1,5 @@
 pub mod Openings
 pub mod Logs
 pub mod ProgramRuns
+pub mod ServedRuns
 pub mod Replays

@@ -9,3 +9,4 @@ pub mod Ends
 pub mod Finished
 pub mod Live
 pub mod ReadBack
+pub mod Served

@@ -7,6 +7,7 @@
 //!
 //! ```text
 //! ProgramEnds  ->  FinishedCursors, RunIsLive, ServeIsLive, RunIsReadBack, ServeIsReadBack, LogsReopen
+//! Serving      ->  HaveListed, StayLive, AreReadBack, of `serve` and of `replay`
 //! ```
 //!
 //! What surprises: no law needs to know how the join machine is made. So this crate stands on the
@@ -15,12 +16,14 @@
 //! What this crate is not: it runs nothing. djq_program has the calls that keep the promise, and cites the
 //! lemmas in `proofs/` of how logs open and how runs go on.
 //!
-//! Inside, `laws` has the laws.
+//! Inside, `laws` has the laws, and `served` those that hold of every serving, under whichever command.
 #![tactic(auto)]
 
 mod laws;
+mod served;
 
 pub use laws::{
     finished_cursors_have_listed, logs_reopen, run_is_read_back, run_stays_live,
     serve_is_read_back, serve_stays_live,
 };
+pub use served::{served_are_read_back, served_cursors_have_listed, served_stay_live};
