@@ -197,11 +197,11 @@ learned_sound old new h s = subst IsSoundStore (sym h.store) (record {
   connex = s.connex;
   listed = s.listed;
   limits = s.limits;
-  places = record {
-    relations = s.places.relations;
-    texts = subst (λ (st : Store). length st.texts ≤ TEXTS) h.store (h.few s.places.texts);
-    queries = s.places.queries;
-    seq = s.places.seq;
+  numbers = record {
+    relations = s.numbers.relations;
+    texts = subst (λ (st : Store). length st.texts ≤ TEXTS) h.store (h.few s.numbers.texts);
+    queries = s.numbers.queries;
+    seq = s.numbers.seq;
   };
 })
 
@@ -226,11 +226,11 @@ stored_sound used old new (makes_relation name types may e) s =
       connex = s.connex;
       listed = more_sound old.relations made old.queries s.listed;
       limits = s.limits;
-      places = record {
+      numbers = record {
         relations = one_place old.relations made RELATIONS may.place;
-        texts = s.places.texts;
-        queries = s.places.queries;
-        seq = s.places.seq;
+        texts = s.numbers.texts;
+        queries = s.numbers.queries;
+        seq = s.numbers.seq;
       };
     })
 stored_sound used old new (registers q none may place few e) s = subst IsSoundStore (sym e) (record {
@@ -241,11 +241,11 @@ stored_sound used old new (registers q none may place few e) s = subst IsSoundSt
   connex = All-push IsConnex old.queries q s.connex (may_connex old q may s.connex);
   listed = registered_sound old q may s.listed;
   limits = All-push AreWithinLimits old.queries q s.limits (may_limits old q may s.limits);
-  places = record {
-    relations = s.places.relations;
-    texts = subst (λ (st : Store). length st.texts ≤ TEXTS) e (few s.places.texts);
+  numbers = record {
+    relations = s.numbers.relations;
+    texts = subst (λ (st : Store). length st.texts ≤ TEXTS) e (few s.numbers.texts);
     queries = one_place old.queries q QUERIES place;
-    seq = s.places.seq;
+    seq = s.numbers.seq;
   };
 })
 stored_sound used old new (drops_query name unused free e) s = subst IsSoundStore (sym e) (record {
@@ -257,11 +257,11 @@ stored_sound used old new (drops_query name unused free e) s = subst IsSoundStor
       old.queries s.connex;
   listed = dropped_sound old.relations old.queries name free s.listed;
   limits = all_dropped AreWithinLimits (λ (x : Listed). bytes_eq (listed_name x) name) old.queries s.limits;
-  places = record {
-    relations = s.places.relations;
-    texts = s.places.texts;
-    queries = one_dropped (λ (x : Listed). bytes_eq (listed_name x) name) old.queries QUERIES s.places.queries;
-    seq = s.places.seq;
+  numbers = record {
+    relations = s.numbers.relations;
+    texts = s.numbers.texts;
+    queries = one_dropped (λ (x : Listed). bytes_eq (listed_name x) name) old.queries QUERIES s.numbers.queries;
+    seq = s.numbers.seq;
   };
 })
 
@@ -276,10 +276,10 @@ made_sound c old (accepted change) new h suit s = subst IsSoundStore (sym h.stor
   connex = s.connex;
   listed = same_types_sound old.relations change.after h.types old.queries s.listed;
   limits = s.limits;
-  places = record {
-    relations = as_many old.relations change.after h.count s.places.relations;
-    texts = subst (λ (st : Store). length st.texts ≤ TEXTS) h.store (h.few s.places.texts);
-    queries = s.places.queries;
+  numbers = record {
+    relations = as_many old.relations change.after h.count s.numbers.relations;
+    texts = subst (λ (st : Store). length st.texts ≤ TEXTS) h.store (h.few s.numbers.texts);
+    queries = s.numbers.queries;
     seq = let below = h.below in omega (arith, below);
   };
 })
@@ -292,11 +292,11 @@ made_sound c old unchanged new h suit s = subst IsSoundStore (sym h.store) (reco
   connex = s.connex;
   listed = same_types_sound old.relations h.relations h.types old.queries s.listed;
   limits = s.limits;
-  places = record {
-    relations = as_many old.relations h.relations h.count s.places.relations;
-    texts = subst (λ (st : Store). length st.texts ≤ TEXTS) h.store (h.few s.places.texts);
-    queries = s.places.queries;
-    seq = s.places.seq;
+  numbers = record {
+    relations = as_many old.relations h.relations h.count s.numbers.relations;
+    texts = subst (λ (st : Store). length st.texts ≤ TEXTS) h.store (h.few s.numbers.texts);
+    queries = s.numbers.queries;
+    seq = s.numbers.seq;
   };
 })
 
@@ -342,10 +342,10 @@ moved_store old relations h s = record {
   connex = s.connex;
   listed = same_types_sound old.relations relations (types_moved old.relations relations h) old.queries s.listed;
   limits = s.limits;
-  places = record {
-    relations = as_many old.relations relations (moved_count old.relations relations h) s.places.relations;
-    texts = s.places.texts;
-    queries = s.places.queries;
-    seq = s.places.seq;
+  numbers = record {
+    relations = as_many old.relations relations (moved_count old.relations relations h) s.numbers.relations;
+    texts = s.numbers.texts;
+    queries = s.numbers.queries;
+    seq = s.numbers.seq;
   };
 }

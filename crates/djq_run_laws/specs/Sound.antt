@@ -93,7 +93,7 @@ IsSoundListed relations queries (a_union name qs) = IsSoundUnion relations queri
 
 -- There are no more relations, known texts and registered queries and unions than may be, and no more
 -- changes are counted.
-pub record HasPlaces (st : Store) : Type 0 where
+pub record StoreKeepsLimits (st : Store) : Type 0 where
   pub relations : length st.relations ≤ RELATIONS
   pub texts : length st.texts ≤ TEXTS
   pub queries : length st.queries ≤ QUERIES
@@ -109,7 +109,7 @@ pub record IsSoundStore (st : Store) : Type 0 where
   pub connex : All IsConnex st.queries
   pub listed : All (IsSoundListed st.relations st.queries) st.queries
   pub limits : All AreWithinLimits st.queries
-  pub places : HasPlaces st
+  pub numbers : StoreKeepsLimits st
 
 -- An open cursor has given no answer twice.
 abbrev pub GaveOnce : Position → Type 0
