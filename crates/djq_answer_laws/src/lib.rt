@@ -32,6 +32,7 @@ ghost use Rattle.djq_answer_laws.specs.Finite.{AnswersAreFinite, DeltasExist};
 ghost use Rattle.djq_answer_laws.specs.Bounded.{AnswersAreBounded};
 ghost use Rattle.djq_answer_laws.specs.Growing.{AnswersStay, AnswersCome, AnswersGo, RowComes, RowsCome, RowGoes};
 ghost use Rattle.djq_answer_laws.specs.Growing.{ChangesSpareOthers, BatchesSpareOthers, AnswersRest};
+ghost use Rattle.djq_answer_laws.specs.Net.{NetDelta, UnionsReport};
 
 /// A tuple is an answer of what is registered over some relations, or it isn't.
 pub fn answers_are_decided()
@@ -72,4 +73,16 @@ pub fn answers_rest()
     ensures rest { AnswersRest }
     ensures changes { ChangesSpareOthers }
     ensures batches { BatchesSpareOthers }
+{}
+
+/// Where rows come and others go at once, all that come first, the answers that came and those that went,
+/// without what came and went, are the delta of the whole change.
+pub fn net_deltas()
+    ensures { NetDelta }
+{}
+
+/// To a union came, and from it went, exactly what stands in the delta of a member and what all members
+/// agree with.
+pub fn union_deltas()
+    ensures { UnionsReport }
 {}

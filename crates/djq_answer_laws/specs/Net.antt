@@ -1,0 +1,56 @@
+-- Changes by which rows come and others go at once: what is left of both is the delta.
+use Rattle.std.specs.Prelude.{List, ◌++◌, ◌↔◌, ◌⊎◌, All, Any, Contains, map}
+use Rattle.djq_model.specs.declared.relation.Relation.{Relation}
+use Rattle.djq_model.specs.Answer.{IsAnswer, AreDifferent}
+use Rattle.djq_model.specs.Data.{Bytes}
+use Rattle.djq_model.specs.Listed.{Listed, a_union, AnswersOf}
+use Rattle.djq_protocol.specs.declared.answer.Sign.{Sign}
+use Rattle.djq_protocol.specs.declared.answer.Sign.TheVariants.{Came, Went}
+use Rattle.djq_store_spec.specs.Delta.{Change, HasChanged, IsDelta}
+use Rattle.djq_store_spec.specs.DeltaCost.{Part}
+use Rattle.djq_answer_laws.specs.Growing.{HaveRows}
+
+abbrev pub opposite_sign : Sign → Sign
+opposite_sign Came = Went
+opposite_sign Went = Came
+
+-- the same answer, the other way
+abbrev pub opposite : Change → Change
+opposite c = record { sign = opposite_sign c.sign; answer = c.answer }
+
+-- Of these changes those stay whose opposite isn't among them, each once.
+pub record Settles (old new : List Change) : Type 0 where
+  pub different : AreDifferent (map (λ c. c.answer) new)
+  pub within : (c : Change) → Contains new c → Contains old c
+  pub alone : (c : Change) → Contains new c → Contains old (opposite c) → ⊥
+  pub complete : (c : Change) → Contains old c → (Contains old (opposite c) → ⊥) → Contains new c
+
+-- Rows come, up to relations between, and from there rows go: the answers that came and those that
+-- went, settled, are the delta of the whole change.
+abbrev pub NetDelta : Type 0
+NetDelta = (before between after : List Relation) (q : Listed)
+    → HaveRows before between → HaveRows after between → (come gone new : List Change)
+    → IsDelta (AnswersOf before q) (AnswersOf between q) come
+    → IsDelta (AnswersOf between q) (AnswersOf after q) gone
+    → Settles (come ++ gone) new → IsDelta (AnswersOf before q) (AnswersOf after q) new
+
+-- how the answers of a member of a union changed
+abbrev pub IsPart : (before after : List Relation) → Part → Type 0
+IsPart before after p = IsDelta (IsAnswer before p.query) (IsAnswer after p.query) p.changes
+
+-- A member agrees with a change of the union: nothing in its delta is the opposite, and where its
+-- delta doesn't have the change, the answer isn't its own afterwards.
+abbrev pub Agrees : List Relation → Change → Part → Type 0
+Agrees after c p = (Contains p.changes (opposite c) → ⊥)
+    × (Contains p.changes c ⊎ (IsAnswer after p.query c.answer → ⊥))
+
+-- What is reported of a union: what stands in the delta of a member, and all members agree with.
+abbrev pub IsReported : List Relation → List Part → Change → Type 0
+IsReported after parts c = Any (λ p. Contains p.changes c) parts × All (Agrees after c) parts
+
+-- That is exactly what came to the union, and what went.
+abbrev pub UnionsReport : Type 0
+UnionsReport = (before after : List Relation) (name : Bytes) (parts : List Part) (c : Change)
+    → All (IsPart before after) parts → IsReported after parts c
+    ↔ HasChanged (AnswersOf before (a_union name (map (λ p. p.query) parts)))
+    (AnswersOf after (a_union name (map (λ p. p.query) parts))) c.sign c.answer
