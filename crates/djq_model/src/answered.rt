@@ -4,8 +4,8 @@ ghost use Rattle.djq_model.specs.ValueRef.{value_lent};
 use crate::value::Row;
 use crate::value_ref::ValueRef;
 
-/// A tuple whose values are lent one at a time, wherever they stand: an answer is told from it
-/// without being made.
+/// A tuple whose values are borrowed one at a time from their storage: an answer is read through it
+/// without being built.
 pub trait Answered {
     ghost use Rattle.std.specs.Prelude.{◌≡◌, ◌<◌, Some, length, slice_get};
     ghost use Rattle.djq_model.specs.Data.{Tuple};

@@ -1,9 +1,9 @@
-//! The data that djq speaks of: values, rows, relations and conjunctive queries, as plain types,
-//! and what an answer is.
+//! The data of djq: values, rows, relations and conjunctive queries, as plain types, and what an
+//! answer is.
 //!
-//! The types have no logic. `specs/` says what they mean: which rows an assignment satisfies an
-//! atom by, which tuples are answers of a query, what a listing of them is. Nothing here knows of a
-//! server, a session or a way to compute answers.
+//! The types have no logic. `specs/` defines their meaning: by which rows an assignment satisfies
+//! an atom, which tuples are answers of a query, and what a listing of them is. Nothing here
+//! depends on a server, a session or a way to compute answers.
 //!
 //! ```text
 //! r int int   (1,2) (3,4)       s int   (2)       q(x) <- r(x,y), s(y)
@@ -13,17 +13,17 @@
 //! [(1)]              a listing: each answer once, and nothing else
 //! ```
 //!
-//! What surprises: an answer is one however many assignments give it. A hole may stand for any
-//! value, each by itself. An assignment gives a value to every name, also to those that no atom
-//! has, so that a head's variable that stands in no atom would have any value.
+//! What surprises: an answer is one, however many assignments give it. Each hole may have any
+//! value, independently of other holes. An assignment gives a value to every name, also to those
+//! that no atom has. So a head's variable that is in no atom would have any value.
 //!
-//! Every list is a [`Sequence`], which contracts see as a list; `==` on names, texts, values and
-//! tuples is `bytes_eq`, `value_eq` and `tuple_eq` of `specs/Data.antt`, and `specs/Equality.antt`
-//! says that these decide equality.
+//! Every list is a [`Sequence`], which contracts see as a list. On names, texts, values and tuples
+//! `==` is `bytes_eq`, `value_eq` and `tuple_eq` of `specs/Data.antt`, and `specs/Equality.antt`
+//! states that these decide equality.
 //!
-//! Inside, a [`Name`] stands inline, so that it is copied without memory, and a [`Text`] is a list
-//! of bytes. A value whose text stands elsewhere is a [`ValueRef`], and a tuple that is told from where
-//! it stands is [`Answered`]. To read first: `specs/Answer.antt`.
+//! Inside, a [`Name`] is stored inline, so that a copy allocates nothing, and a [`Text`] is a list
+//! of bytes. A [`ValueRef`] is a value whose text is borrowed, and an [`Answered`] is a tuple whose
+//! values are read in place. To read first: `specs/Answer.antt`.
 #![tactic(auto)]
 
 pub use answered::Answered;

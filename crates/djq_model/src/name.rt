@@ -9,7 +9,7 @@ pub const NAME_BYTES: usize = 32;
 /// Contracts see the list of its bytes.
 #[derive(Clone, Copy, Debug)]
 pub struct Name {
-    // zeros stand behind the name, so that a list of bytes is the name of one value alone
+    // zeros follow the name, so that a list of bytes is the name of one value alone
     bytes: [u8; NAME_BYTES],
     len: u8,
 }

@@ -2,7 +2,7 @@ use crate::name::Name;
 use crate::sequence::Sequence;
 use crate::value::Value;
 
-/// What stands in an atom for a column: a variable, a hole or a constant.
+/// A term of an atom, for one of its columns: a variable, a hole or a constant.
 #[derive(Debug, Drop)]
 pub enum Term {
     /// A variable, by its name.
@@ -31,7 +31,7 @@ pub type Atoms = Sequence<Atom>;
 /// A list of names, as a query's head.
 pub type Names = Sequence<Name>;
 
-/// How a comparison's variable has to stand to its constant.
+/// The order or equality that a comparison requires between its variable and its constant.
 #[derive(Clone, Copy, Debug, PartialEq, Eq)]
 pub enum Operator {
     /// `<`
@@ -53,11 +53,11 @@ pub enum Operator {
 pub struct Comparison {
     /// The variable, by its name.
     pub variable: Name,
-    /// How it has to stand to the constant.
+    /// The order or equality that it requires.
     pub operator: Operator,
     /// The constant.
     pub constant: Value,
-    /// How many atoms stand before it in the body.
+    /// The number of atoms before it in the body.
     pub behind: usize,
 }
 

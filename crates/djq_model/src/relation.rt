@@ -2,7 +2,7 @@ use crate::name::Name;
 use crate::sequence::Sequence;
 use crate::value::{Row, Value};
 
-/// What the cells of a column hold.
+/// The type of a column's cells.
 #[derive(Clone, Copy, Debug, PartialEq, Eq)]
 pub enum ColumnType {
     /// Integers.
@@ -41,12 +41,12 @@ impl ColumnType {
 /// The types of a relation's columns.
 pub type Types = Sequence<ColumnType>;
 
-/// A row of a relation, with how many copies of it are there.
+/// A row of a relation, with its number of copies.
 #[derive(Debug, Drop)]
 pub struct CountedRow {
     /// The row.
     pub row: Row,
-    /// How many copies of it are there, from 1 to 4,294,967,295.
+    /// The number of its copies, from 1 to 4,294,967,295.
     pub copies: u32,
 }
 

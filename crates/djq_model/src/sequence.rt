@@ -21,7 +21,7 @@ impl<T> Model for Sequence<T> {
 }
 
 impl<T> Sequence<T> {
-    /// No items. It takes no memory.
+    /// No items. Allocates nothing.
     pub fn new(alloc: Global) -> Self
         ensures { result ≡ [] }
     {
@@ -51,7 +51,7 @@ impl<T> Sequence<T> {
         self.items.as_slice()
     }
 
-    /// The item at a place, where there is one.
+    /// The item at a place, if there is one.
     pub fn get(&self, at: usize) -> Option<&T>
         ensures { option_copied result ≡ slice_get self.now at }
     {
@@ -73,7 +73,7 @@ impl<T: Drop> Sequence<T> {
         Ok(())
     }
 
-    /// Takes out the item at a place; those behind it move one place to the front.
+    /// Removes the item at a place; those after it move one place to the front.
     pub fn remove(&mut self, at: usize) -> T
         requires { at < length self.old }
         ensures item { slice_get self.old at ≡ Some result }

@@ -60,7 +60,7 @@ impl PartialEq for Text {
     }
 }
 
-/// What a cell of a row holds.
+/// The value of a row's cell.
 #[derive(Debug, Drop)]
 pub enum Value {
     /// A signed integer of 64 bits.
@@ -70,7 +70,7 @@ pub enum Value {
 }
 
 impl Value {
-    /// The value, lent.
+    /// The value, borrowed.
     pub fn lend(&self) -> ValueRef<'_>
         ensures { value_lent result ≡ self.now }
     {
@@ -101,5 +101,5 @@ impl PartialEq for Value {
 /// A row of a relation, or any other tuple of values.
 pub type Row = Sequence<Value>;
 
-/// The rows of a relation, in the order in which they are kept.
+/// The rows of a relation, in the order in which they are stored.
 pub type Rows = Sequence<Row>;

@@ -1,4 +1,4 @@
-/// A value whose text stands elsewhere, so that reading it takes no memory.
+/// A value whose text is borrowed, so that reading it allocates nothing.
 ///
 /// Contracts see the value that it is by `value_lent` of `specs/ValueRef.antt`.
 #[derive(Clone, Copy, Debug)]
