@@ -8,14 +8,14 @@ use crate::edges::Edges;
 use crate::join_tree::{JoinTree, Link};
 use crate::var_set::VarSet;
 
-/// Whether one of the links stands for the edge at the position.
+/// Whether one of the links is of the edge at the position.
 fn stands(links: &[Link], position: usize) -> bool
     ensures { result ≡ list_any (λ k. position == k.edge) links.now }
 {
     links.iter().any(|link| position == link.edge)
 }
 
-/// Whether the link may be put behind the links before it, whose edges have the variables `seen`.
+/// Whether the link may follow the links before it, whose edges have the variables `seen`.
 fn link_fits(edges: &[VarSet], before: &[Link], seen: VarSet, link: Link) -> bool
     requires below { (p : ℕ) → 0 < places p before.now → p < length edges.now }
     requires seen { (x : ℕ) → member x seen ≡ nat_lt 0 (degree x (link_edges edges.now before.now)) }
@@ -37,12 +37,12 @@ fn link_fits(edges: &[VarSet], before: &[Link], seen: VarSet, link: Link) -> boo
     shared.is_subset(edges[link.parent])
 }
 
-/// Whether the tree is a join tree of the edges: each edge stands once in its order, each but the
-/// first hangs on an earlier one, and for each variable of an edge exactly one edge that has it is
-/// the first or hangs on one without it.
+/// Whether the tree is a join tree of the edges: each edge occurs once in its order, and each but
+/// the first has an earlier one as its parent. For each variable of an edge, one edge that has it,
+/// and no other, is the first or has a parent without it.
 ///
-/// Goes once through the links: an edge may share with those before it only what its parent has.
-/// With m edges it takes O(m^2) operations on words and no memory.
+/// Reads the links once: an edge may share with those before it only what its parent has. With m
+/// edges it needs O(m^2) operations on words and allocates nothing.
 pub fn check_join_tree(edges: &Edges, tree: &JoinTree) -> bool
     ensures { IsTrue result ↔ IsJoinTree edges.now (reverse tree.now) }
 {

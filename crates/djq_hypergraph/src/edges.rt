@@ -34,7 +34,7 @@ pub(crate) fn variables(sets: &[VarSet]) -> VarSet
 }
 
 impl Edges {
-    /// The list of no edge, which takes no memory.
+    /// The list of no edge, which allocates nothing.
     pub fn new(alloc: Global) -> Edges
         ensures { result ≡ [] }
     {
@@ -58,7 +58,7 @@ impl Edges {
         Ok(Edges { sets })
     }
 
-    /// Puts an edge behind the others.
+    /// Appends an edge.
     pub fn push(&mut self, edge: VarSet) -> Result<(), AllocError>
         ensures ok { OnOk result (self.new ≡ self.old ++ edge ∷ []) }
         ensures err { OnErr result (self.new ≡ self.old) }

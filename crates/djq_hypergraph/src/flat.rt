@@ -5,11 +5,12 @@ ghost use Rattle.djq_hypergraph.specs.Flat.{IsFlatAt, IsFlat};
 use crate::edges::variables;
 use crate::var_set::VarSet;
 
-/// Whether the variable and any other are as in a flat query, where `all` has the edges' variables.
+/// Whether the variable and any other are as in a flat query, given that `all` has the edges'
+/// variables.
 ///
-/// One pass over the edges compares it with all others at once: `near` has the variables of the
-/// edges with it, `far` those of the edges without it, and `shared` those that each edge with it
-/// has.
+/// One pass over the edges compares it with all others at once. `near` has the variables of the
+/// edges with it, and `far` those of the edges without it. `shared` has those that each edge with
+/// it has.
 fn is_flat_at(edges: &[VarSet], head: VarSet, all: VarSet, variable: usize) -> bool
     requires { (y : ℕ) → member y all ≡ nat_lt 0 (degree y edges.now) }
     ensures { IsTrue result ↔ IsFlatAt edges.now head variable }
@@ -35,12 +36,13 @@ fn is_flat_at(edges: &[VarSet], head: VarSet, all: VarSet, variable: usize) -> b
     shared.intersection(far).is_subset(head)
 }
 
-/// Whether the query with these edges and this head is flat: of any two variables all edges of one
-/// have the other or no edge has both, and a variable that has all edges of a head variable, and
-/// further ones, is in the head (q-hierarchical: Berkholz, Keppeler and Schweikardt 2017).
+/// Whether the query with these edges and this head is flat (q-hierarchical: Berkholz, Keppeler and
+/// Schweikardt 2017). It is if and only if two conditions hold. Of any two variables all edges of
+/// one have the other or no edge has both. A variable that has all edges of a head variable, and
+/// further ones, is in the head.
 ///
-/// Goes once through the edges, and once more for each variable of an edge or of the head. It takes
-/// no memory.
+/// Reads the edges once, and once more for each variable of an edge or of the head. It allocates
+/// nothing.
 pub fn is_flat(edges: &[VarSet], head: &VarSet) -> bool
     ensures { IsTrue result ↔ IsFlat edges.now head.now }
 {

@@ -3,13 +3,12 @@ ghost use Rattle.std.specs.Prelude.{◌≡◌, ◌<◌, ◌==◌, ◌++◌, ◌�
 use std::alloc::{AllocError, Global};
 use std::marker::Model;
 
-/// An edge of a join tree, and the edge that it hangs on, both by their positions in the list of
-/// edges.
+/// An edge of a join tree, and its parent, both by their positions in the list of edges.
 #[derive(Clone, Copy, Debug, PartialEq, Eq)]
 pub struct Link {
     /// The edge's position.
     pub edge: usize,
-    /// The position of the edge that it hangs on. It isn't read in the first link.
+    /// The parent's position. It isn't read in the first link.
     pub parent: usize,
 }
 
@@ -32,7 +31,7 @@ impl Model for JoinTree {
 }
 
 impl JoinTree {
-    /// The tree of no edge, which takes no memory.
+    /// The tree of no edge, which allocates nothing.
     pub fn new(alloc: Global) -> JoinTree
         ensures { result ≡ [] }
     {
@@ -41,7 +40,7 @@ impl JoinTree {
         }
     }
 
-    /// Puts a link behind the others.
+    /// Appends a link.
     pub fn push(&mut self, link: Link) -> Result<(), AllocError>
         ensures ok { OnOk result (self.new ≡ self.old ++ link ∷ []) }
         ensures err { OnErr result (self.new ≡ self.old) }

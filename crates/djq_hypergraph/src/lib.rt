@@ -1,18 +1,18 @@
 //! Hypergraphs and their join trees.
 //!
 //! A hypergraph is a list of edges, and an edge a set of at most [`VARIABLES`] variables. Equal
-//! edges, empty edges and no edge at all are fine. A join tree hangs each edge but the first on an
-//! earlier one so that the edges with any one variable hang together (Beeri, Fagin, Maier and
-//! Yannakakis 1983). A hypergraph that has a join tree is called acyclic.
+//! edges, empty edges and no edge at all are allowed. A join tree gives each edge but the first an
+//! earlier edge as its parent, so that the edges with any one variable are connected (Beeri, Fagin,
+//! Maier and Yannakakis 1983). A hypergraph that has a join tree is called acyclic.
 //!
 //! This crate has the definitions (`specs/`), also of what refuses a query that isn't free-connex,
-//! the types, and [`check_join_tree`], which tells exactly whether a proposed tree is a join tree.
-//! It makes no tree: `djq_plan` decides whether there is one. It isn't for atoms, relations or values
-//! either: a query is nothing but its sets of variables here.
+//! the types, and [`check_join_tree`], which decides whether a proposed tree is a join tree. It
+//! builds no tree: `djq_plan` decides whether there is one. It isn't for atoms, relations or values
+//! either: here a query is only its sets of variables.
 //!
 //! What surprises: a join tree is a list of links, in which the first link's parent is never read,
-//! and a list of no edges has the tree of no links. That exactly one edge is topmost is asked only of
-//! variables that lie in an edge.
+//! and a list of no edges has the tree of no links. That one edge and no other is topmost is
+//! required only of variables that are in an edge.
 //!
 //! ```text
 //! 0  x y          a join tree: 0, then 1 below 0, then 2 below 1

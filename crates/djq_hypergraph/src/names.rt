@@ -20,7 +20,7 @@ impl Model for Names {
 }
 
 impl Names {
-    /// The list of no name, which takes no memory.
+    /// The list of no name, which allocates nothing.
     pub fn new(alloc: Global) -> Names
         ensures { result ≡ [] }
     {
@@ -29,7 +29,7 @@ impl Names {
         }
     }
 
-    /// Puts a copy of a name behind the others.
+    /// Appends a copy of a name.
     pub fn push(&mut self, alloc: Global, name: &[u8]) -> Result<(), AllocError>
         ensures ok { OnOk result (self.new ≡ self.old ++ name.now ∷ []) }
         ensures err { OnErr result (self.new ≡ self.old) }

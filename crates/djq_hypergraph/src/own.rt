@@ -3,9 +3,9 @@ ghost use Rattle.djq_hypergraph.specs.Hypergraph.{member, degree};
 
 use crate::var_set::VarSet;
 
-/// The variables that lie in exactly one of the sets.
+/// The variables that are in one of the sets and in no other.
 ///
-/// Goes once through them, with two words of memory.
+/// Reads them once, with two words of memory.
 pub fn own_variables(sets: &[VarSet]) -> VarSet
     ensures { (x : ℕ) → member x result ≡ (degree x sets.now == 1) }
 {

@@ -2,18 +2,18 @@
 /// Positions are those of the list that the step is applied to.
 #[derive(Clone, Copy, Debug, PartialEq, Eq)]
 pub enum Step {
-    /// Takes a variable that lies in no other edge out of an edge.
+    /// Removes from an edge a variable that is in no other edge.
     Vertex {
         /// The edge's position.
         edge: usize,
         /// The variable.
         variable: usize,
     },
-    /// Takes an edge that lies within another one out of the list. The edges behind it move up.
+    /// Removes from the list an edge that is a subset of another one. The edges after it move up.
     Edge {
         /// The edge's position.
         edge: usize,
-        /// The position of the edge that it lies within.
+        /// The position of the edge that it is a subset of.
         within: usize,
     },
 }

@@ -7,7 +7,7 @@ use std::marker::Model;
 /// How many variables there may be: a variable is a number below this.
 pub const VARIABLES: usize = 128;
 
-/// A set of variables, held in one word with a bit for each.
+/// A set of variables, stored in one word with a bit for each.
 ///
 /// Contracts see the list of its variables in rising order.
 #[derive(Clone, Copy, Debug, PartialEq, Eq)]
@@ -129,7 +129,7 @@ impl VarSet {
         Some(self.mask.trailing_zeros() as usize)
     }
 
-    /// Takes the lowest variable out.
+    /// Removes the lowest variable.
     pub fn pop(&mut self) -> Option<usize>
         ensures taken { self.old ≡ option_to_list result ++ self.new }
         ensures none { IfNone result (self.old ≡ []) }
