@@ -1,10 +1,9 @@
 use djq_hypergraph::VarSet;
 
-/// What the planner's choice rule names as the next step, by places in the list of the current
-/// nodes.
+/// The next step by the planner's choice rule, with places in the list of the current nodes.
 #[derive(Clone, Copy, Debug, PartialEq, Eq)]
 pub enum Choice {
-    /// A node loses variables that lie in no other current one.
+    /// A node loses variables that are in no other current one.
     Trim {
         /// The node's place.
         place: usize,

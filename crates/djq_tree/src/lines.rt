@@ -23,7 +23,7 @@ impl Model for Lines {
 }
 
 impl Lines {
-    /// No line, which takes no memory.
+    /// No line, which allocates nothing.
     pub fn new(alloc: Global) -> Lines
         ensures { result ≡ [] }
     {
@@ -39,7 +39,7 @@ impl Lines {
         &self.bytes
     }
 
-    /// Puts a text behind what is there.
+    /// Appends a text.
     pub(crate) fn push_text(&mut self, text: &[u8]) -> Result<(), AllocError>
         ensures { OnOk result (self.new ≡ self.old ++ text.now) }
     {
@@ -47,7 +47,7 @@ impl Lines {
         Ok(())
     }
 
-    /// Puts a number behind what is there, in decimal.
+    /// Appends a number, in decimal.
     pub(crate) fn push_number(&mut self, number: usize) -> Result<(), AllocError>
         ensures { OnOk result (self.new ≡ self.old ++ decimal number) }
     {
@@ -55,7 +55,7 @@ impl Lines {
         self.push_text(buffer.format(number).as_bytes())
     }
 
-    /// Puts what a node is behind what is there.
+    /// Appends the description of a node.
     pub(crate) fn push_node(&mut self, node: Node, atoms: &Names) -> Result<(), AllocError>
         requires { IsNamed atoms.now node }
         ensures { OnOk result (self.new ≡ self.old ++ node_text atoms.now node) }
@@ -78,7 +78,7 @@ impl Lines {
         }
     }
 
-    /// Puts the variables of a label behind what is there, in order of number.
+    /// Appends the variables of a label, in order of number.
     pub(crate) fn push_label(&mut self, label: VarSet, variables: &Names) -> Result<(), AllocError>
         requires { (x : ℕ) → member x label ≡ true → x < length variables.now }
         ensures { OnOk result (self.new ≡ self.old ++ label_text variables.now label) }

@@ -5,10 +5,10 @@ ghost use Rattle.djq_tree.specs.Tree.{IsRising, parent, path_of};
 use crate::node::Node;
 use std::marker::Model;
 
-/// The nodes of a path to the root, from where it stands: an iterator that takes no memory.
+/// The nodes of a path from the current node to the root: an iterator that allocates nothing.
 ///
-/// Contracts see the list of the nodes that are still to come. The next one is found by going on
-/// through the nodes from the last one, so that a whole path looks at each node once.
+/// Contracts see the list of the nodes that are still to be returned. The search for the next one
+/// continues through the nodes from the last one, so that a whole path reads each node once.
 #[derive(Debug, Drop)]
 pub struct Path<'a> {
     nodes: &'a [Node],
@@ -55,7 +55,7 @@ impl<'a> Iterator for Path<'a> {
     }
 }
 
-/// The node that has a node as a child, which is sought above it.
+/// The node that has a node as a child, which is searched for above it.
 pub(crate) fn parent_of(nodes: &[Node], node: usize) -> Option<usize>
     requires within { node < length nodes.now }
     requires rising { IsRising nodes.now }

@@ -23,15 +23,15 @@ use djq_hypergraph::{Names, VarSet};
 use std::alloc::{AllocError, Global};
 use std::marker::Model;
 
-/// For how many nodes it is told at once which their parents are. The parents of others are sought.
+/// The number of nodes whose parents are stored. The parents of others are searched for.
 const TOLD: usize = 64;
 
 /// A generalised join tree of a query: how its atoms' tuples are projected and matched, step by
 /// step.
 ///
 /// The leaves are the atoms. An inner node is a trim of one node or a meet of two, and each node
-/// but the root is a child of exactly one. The part `out` is where the query's answers are read
-/// off.
+/// but the root is a child of one node and no other. The query's answers are read from the part
+/// `out`.
 #[derive(Debug, Drop)]
 pub struct Tree {
     nodes: Vec<Node>,
@@ -67,7 +67,7 @@ impl Model for Tree {
     }) };
 }
 
-/// Tells of a node which its parent is, where there is room.
+/// Stores a node's parent, if there is room.
 fn tell(told: &mut [u8; TOLD], node: usize, parent: usize) {
     if node < TOLD && parent <= u8::MAX as usize {
         told[node] = parent as u8;
@@ -203,7 +203,7 @@ impl Tree {
         }
     }
 
-    /// The node that is told to have a node as a child, where it does.
+    /// The node that the hint names as the parent of a node, if it is the parent.
     fn told(&self, at: usize) -> Option<usize>
         ensures { IfSome result (λ up. parent self.now.nodes at ≡ Some up) }
     {
@@ -290,7 +290,7 @@ impl Tree {
         Ok(lines)
     }
 
-    /// The line of a node, behind the others.
+    /// Appends the line of a node.
     fn push_line(
         &self,
         lines: &mut Lines,
