@@ -1,14 +1,14 @@
 //! Counters that contracts read and that cost nothing at run time.
 //!
 //! A [`Tally`] is seen as a number. Each tick adds one to it, so a clause such as
-//! `tally.new ≤ tally.old + 5` bounds how many ticks a call makes. It is no measure of time, and
-//! nothing can read it while the program runs: it takes no bytes, and a tick does nothing.
+//! `tally.new ≤ tally.old + 5` bounds how many ticks a call makes. It doesn't measure time, and
+//! nothing can read it while the program runs: it has no bytes, and a tick does nothing.
 //!
-//! What surprises: a tally is made only together with two others, by [`Steps::new`], which takes
-//! the runtime. A call that is handed steps is handed no runtime, so it can't count on tallies of
-//! its own in place of those that it was given.
+//! What surprises: a tally is made only together with two others, by [`Steps::new`], which requires
+//! the runtime. A call that is given steps is given no runtime, so it can't count on tallies of its
+//! own in place of those that it was given.
 //!
-//! `main` and a test pick the ledgers where they call a function that is generic in them, as
+//! `main` and a test pick the ledgers at their call of a function that is generic in them, as
 //! `counted` of djq_examples_theory does:
 //!
 //! ```text
@@ -21,7 +21,7 @@
 //! fn main(rt: HostRuntime) { counted::<Brand>(&rt, Blanks::new(&rt)) }
 //! ```
 //!
-//! with this pick in `proofs/main/Invariants.antt` (a test that asserts takes `g` before `a`):
+//! with this pick in `proofs/main/Invariants.antt` (for a test that asserts, `g` precedes `a`):
 //!
 //! ```text
 //! abbrev pub ghosts-counted : goal.ghosts-counted

@@ -48,8 +48,8 @@ impl<L: Ledgers> Ledger for Rows<L> {
     ghost parts = { 1 };
 }
 
-/// The three counters of a program: the steps of listings, those of updates, and those of reads
-/// and writes of rows, which no bound speaks of.
+/// The three counters of a program: the steps of listings, those of updates, and those of reads and
+/// writes of rows, which no bound is about.
 #[derive(Drop)]
 pub struct Steps<L: Ledgers> {
     pub listing: Tally<Listing<L>>,
@@ -57,7 +57,7 @@ pub struct Steps<L: Ledgers> {
     pub rows: Tally<Rows<L>>,
 }
 
-/// Three ledgers that no type stands for yet, each of one part.
+/// Three ledgers that no type represents yet, each of one part.
 #[derive(Drop)]
 pub struct Blanks {
     pub listing: Blank,
@@ -67,7 +67,7 @@ pub struct Blanks {
 }
 
 impl Blanks {
-    /// Three new ledgers. It takes the runtime, as [`Steps::new`] does.
+    /// Three new ledgers. It requires the runtime, as [`Steps::new`] does.
     pub fn new(_rt: &HostRuntime) -> Self {
         Blanks {
             listing: Blank::new(1),

@@ -12,7 +12,7 @@ const LINK: u64 = 1;
 /// What a change of one entry counts.
 const EDIT: u64 = 1;
 
-/// A counter of the ledger `L`, seen as a number. It can't be cloned or taken down.
+/// A counter of the ledger `L`, seen as a number. It can't be cloned or dismantled.
 #[derive(Drop)]
 pub struct Tally<L: Ledger> {
     book: Book<L>,
