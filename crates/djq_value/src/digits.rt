@@ -1,4 +1,4 @@
-//! The digits of a number, written where they stand.
+//! The digits of a number, written in place.
 ghost use Rattle.std.specs.Prelude.{◌≡◌, ◌<◌, ◌≤◌, length};
 ghost use Rattle.std.specs.Fmt.{decimal};
 ghost use Rattle.djq_value.specs.Output.{Says};
@@ -67,7 +67,7 @@ fn short_count(number: u64) -> usize
     }
 }
 
-/// Appends the digits of a number, of which there are so many, in the room that there is.
+/// Appends the digits of a number, of which there are so many, in the present room.
 #[inline]
 pub fn extend_digits(number: u64, count: usize, out: &mut BytesMut)
     requires count { count ≡ length (decimal number) }

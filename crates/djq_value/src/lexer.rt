@@ -30,7 +30,7 @@ pub enum Token<'a> {
     Arrow,
     /// The sign of a comparison.
     Operator(Operator),
-    /// What is no token: a `!` that begins no `!=`, or a text that is spelled wrongly.
+    /// No token: a `!` that begins no `!=`, or a text that is spelled wrongly.
     Stray,
 }
 
@@ -46,7 +46,7 @@ impl<'a> Token<'a> {
     }
 }
 
-/// Gives the tokens of a line, one by one. Contracts see the list of the tokens that are left.
+/// Returns the tokens of a line, one by one. Contracts see the list of the tokens that are left.
 #[derive(Debug, Drop)]
 pub struct Lexer<'a> {
     rest: &'a [u8],
@@ -62,7 +62,7 @@ impl<'a> Model for Lexer<'a> {
 }
 
 impl<'a> Lexer<'a> {
-    /// A lexer that stands in front of a line.
+    /// A lexer at the front of a line.
     pub fn new(line: &'a [u8]) -> Self
         ensures { result ≡ tokens line.now }
     {
@@ -83,7 +83,7 @@ impl<'a> Lexer<'a> {
         space_count(self.rest) == self.rest.len()
     }
 
-    /// The next token; none exactly where only spaces are left.
+    /// The next token; none if and only if only spaces are left.
     pub fn next(&mut self) -> Option<Token<'a>>
         ensures { TakesToken self.old result self.new }
     {
@@ -98,7 +98,7 @@ impl<'a> Lexer<'a> {
         }
     }
 
-    /// The word in front, without its token. Where none is given, the lexer stays where it is.
+    /// The next word, without its token. If none is returned, the lexer doesn't move.
     #[inline]
     pub(crate) fn plain_word(&mut self) -> Option<&'a [u8]>
         ensures { TakesPlainWord self.old result self.new }
@@ -112,8 +112,8 @@ impl<'a> Lexer<'a> {
         Some(&bytes[..len])
     }
 
-    /// The integer in front, where it has at most 18 digits, without its token. Where none is given,
-    /// the lexer stays where it is.
+    /// The next integer, if it has at most 18 digits, without its token. If none is returned, the
+    /// lexer doesn't move.
     #[inline(always)]
     pub fn next_small(&mut self) -> Option<i64>
         ensures { TakesSmall self.old result self.new }
@@ -128,8 +128,8 @@ impl<'a> Lexer<'a> {
         }
     }
 
-    /// The name in front, where no space is before it and one is behind it, without its token. Where
-    /// none is given, the lexer stays where it is, and a name may stand there in another way.
+    /// The next name, if no space is before it and one is after it, without its token. If none is
+    /// returned, the lexer doesn't move, and there may still be a name in another form.
     #[inline]
     pub fn next_close_name(&mut self) -> Option<&'a [u8]>
         ensures { TakesCloseName self.old result self.new }
@@ -145,7 +145,7 @@ impl<'a> Lexer<'a> {
     }
 }
 
-/// The token that begins with the first byte, and what is behind it.
+/// The token that begins with the first byte, and the bytes after it.
 pub(crate) fn front_token(bytes: &[u8]) -> (Token<'_>, &[u8])
     requires { 0 < length bytes.now }
     ensures { token_front bytes.now ≡ Some (lexeme_of result.0, result.1.now) }
@@ -167,7 +167,7 @@ pub(crate) fn front_token(bytes: &[u8]) -> (Token<'_>, &[u8])
     }
 }
 
-/// What a `<` begins, by what is behind it.
+/// The token that a `<` begins, given the bytes after it.
 fn arrow_or_less(behind: &[u8]) -> (Token<'_>, &[u8])
     ensures { less_front behind.now ≡ (lexeme_of result.0, result.1.now) }
 {
@@ -178,7 +178,7 @@ fn arrow_or_less(behind: &[u8]) -> (Token<'_>, &[u8])
     }
 }
 
-/// What a `>` begins, by what is behind it.
+/// The token that a `>` begins, given the bytes after it.
 fn greater(behind: &[u8]) -> (Token<'_>, &[u8])
     ensures { greater_front behind.now ≡ (lexeme_of result.0, result.1.now) }
 {
@@ -188,7 +188,7 @@ fn greater(behind: &[u8]) -> (Token<'_>, &[u8])
     }
 }
 
-/// What a `!` begins, by what is behind it.
+/// The token that a `!` begins, given the bytes after it.
 fn not_equal_or_stray(behind: &[u8]) -> (Token<'_>, &[u8])
     ensures { not_front behind.now ≡ (lexeme_of result.0, result.1.now) }
 {
@@ -198,7 +198,7 @@ fn not_equal_or_stray(behind: &[u8]) -> (Token<'_>, &[u8])
     }
 }
 
-/// What an opening quote begins, by what is behind it.
+/// The token that an opening quote begins, given the bytes after it.
 fn text_or_stray(behind: &[u8]) -> (Token<'_>, &[u8])
     ensures { text_front (text_in false behind.now) ≡ (lexeme_of result.0, result.1.now) }
 {
@@ -213,7 +213,7 @@ fn text_or_stray(behind: &[u8]) -> (Token<'_>, &[u8])
     }
 }
 
-/// Whether a word or a text may end in front of these bytes.
+/// Whether a word or a text may end before these bytes.
 pub(crate) fn may_end(behind: &[u8]) -> bool
     ensures { result ≡ may_end_of behind.now }
 {
@@ -223,7 +223,7 @@ pub(crate) fn may_end(behind: &[u8]) -> bool
     }
 }
 
-/// How many spaces stand in front.
+/// The number of spaces at the front.
 pub(crate) fn space_count(bytes: &[u8]) -> usize
     ensures within { result ≤ length bytes.now }
     ensures behind { drop result bytes.now ≡ behind_spaces bytes.now }
@@ -235,7 +235,7 @@ pub(crate) fn space_count(bytes: &[u8]) -> usize
     count
 }
 
-/// How many bytes in front are of a word.
+/// The number of bytes at the front that belong to a word.
 fn word_len(bytes: &[u8]) -> usize
     ensures within { result ≤ length bytes.now }
     ensures word { take result bytes.now ≡ word_front bytes.now }

@@ -1,8 +1,8 @@
 //! Tokens and literals: what the words of a line are, and how values are printed.
 //!
-//! [`Lexer`] gives the tokens of a line, [`read_literal`] and [`read_name`] say what a token is,
-//! and [`print_cell`] appends the text of a value behind a space. [`read_value`] reads one in front
-//! of bytes that go on behind it.
+//! [`Lexer`] returns the tokens of a line, [`read_literal`] and [`read_name`] return what a token
+//! denotes, and [`print_cell`] appends a space and the text of a value. [`read_value`] reads a
+//! value at the front of bytes that continue after it.
 //!
 //! ```text
 //! add r -20 "a\"b"     the words add, r and -20, and a text
@@ -12,22 +12,21 @@
 //! 9223372036854775808  no value: it is past 64 bits
 //! ```
 //!
-//! An integer of at most 18 digits can be taken without a token: [`Lexer::next_small`] is for rows,
+//! An integer of at most 18 digits can be read without a token: [`Lexer::next_small`] is for rows,
 //! of which most values are such. So can a name that a space follows: [`Lexer::next_close_name`].
 //!
-//! Nothing here knows of commands, replies, relations or types of columns.
+//! Nothing here depends on commands, replies, relations or types of columns.
 //!
-//! What surprises: output goes into a `BytesMut`, of which contracts see the bytes and the room
-//! behind them. Whoever prints leaves 32 bytes of room ([`KEPT`]), so that a session's last line
-//! never needs memory. What is printed in part only, out of memory, is taken back: a call appends
-//! its text whole, or nothing. An integer has several spellings and is printed in one; a text has
-//! one.
+//! What surprises: output is appended to a `BytesMut`, of which contracts see the bytes and the
+//! room after them. Every call that prints leaves 32 bytes of room ([`KEPT`]), so that a session's
+//! last line never needs memory. A text that is printed only in part, because memory runs out, is
+//! removed: a call appends its text whole, or nothing. An integer has several spellings and is
+//! printed in one; a text has one.
 //!
-//! Inside, `lexer` cuts, `word`, `number`, `literal` and `quoted` read; `print` and `output` append,
-//! and `write` writes into bytes that are there.
-//! A text stays in its line as [`Quoted`] until it is copied. `laws` has the promises on both ways
-//! at once: what is printed is read back, and tokens and values are read exactly as they are
-//! spelled.
+//! Inside, `lexer` cuts, `word`, `number`, `literal` and `quoted` read; `print` and `output`
+//! append, and `write` writes into existing bytes. A text remains in its line as [`Quoted`] until
+//! it is copied. `laws` has the promises on both directions at once: a value that is printed is
+//! read back, and tokens and values are read if and only if they are spelled so.
 #![tactic(auto)]
 
 pub use digits::{digit_count, extend_digits};

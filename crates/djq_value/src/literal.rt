@@ -30,8 +30,8 @@ pub enum LiteralRefusal {
 ///
 /// # Errors
 ///
-/// `Syntax` exactly where the token is no literal, `Range` exactly where it is one past its limit.
-/// `NoMem` comes only for a text within its limit: an integer takes no memory.
+/// `Syntax` if and only if the token is no literal, `Range` if and only if it is one past its
+/// limit. `NoMem` is returned only for a text within its limit: an integer allocates nothing.
 pub fn read_literal(alloc: Global, token: &Token<'_>) -> Result<Value, LiteralRefusal>
     ensures { ReadsLiteral (literal_of (lexeme_of token.now)) result }
 {

@@ -1,4 +1,4 @@
-//! What number a word is.
+//! The number that a word is.
 ghost use Rattle.std.specs.Prelude.{◌≡◌, ◌<◌, ◌≤◌, Some, length, pos, option_map};
 ghost use Rattle.djq_value.specs.Literal.{integer_of, minus, natural_of};
 ghost use Rattle.djq_value.specs.Number.{capped, number_from};
@@ -6,10 +6,10 @@ ghost use Rattle.djq_value.specs.Small.{AreDigitsAt, AreDigitsInFront, IsSmallAt
 
 use crate::lexer::{may_end, space_count};
 
-/// The most digits that any number of them is within 64 bits with.
+/// The largest number of digits with which every number is within 64 bits.
 const FEW_DIGITS: usize = 18;
 
-/// What a word says of an integer.
+/// The reading of a word as an integer.
 #[derive(Clone, Copy, Debug)]
 pub(crate) enum Number {
     // No integer.
@@ -20,8 +20,8 @@ pub(crate) enum Number {
     Small(i64),
 }
 
-/// The number that digits denote, or the greatest of 64 bits where it is above that; none where
-/// there is another byte, or none at all.
+/// The number that digits denote, or the greatest of 64 bits if it is above that; none if there is
+/// another byte, or no byte at all.
 pub fn read_natural(digits: &[u8]) -> Option<u64>
     ensures { result ≡ option_map capped (natural_of digits.now) }
 {
@@ -34,7 +34,7 @@ pub fn read_natural(digits: &[u8]) -> Option<u64>
     }
 }
 
-/// Of so few digits: 18 can't go past 64 bits.
+/// For so few digits: 18 can't exceed 64 bits.
 fn read_short(digits: &[u8]) -> Option<u64>
     requires some { 0 < length digits.now }
     requires few { length digits.now ≤ 18 }
@@ -50,7 +50,7 @@ fn read_short(digits: &[u8]) -> Option<u64>
     Some(value)
 }
 
-/// Of any number of digits.
+/// For any number of digits.
 fn read_long(digits: &[u8]) -> Option<u64>
     requires { 0 < length digits.now }
     ensures { result ≡ option_map capped (natural_of digits.now) }
@@ -84,7 +84,7 @@ pub(crate) fn read_integer(word: &[u8]) -> Number
     }
 }
 
-/// The integer of this size, where it is within 64 bits.
+/// The integer of this size, if it is within 64 bits.
 fn positive(size: u64) -> Number
     ensures { result ≡ number_from (Some (pos size)) }
 {
@@ -94,7 +94,7 @@ fn positive(size: u64) -> Number
     }
 }
 
-/// The integer below zero of this size, where it is within 64 bits.
+/// The integer below zero of this size, if it is within 64 bits.
 fn negative(size: u64) -> Number
     ensures { result ≡ number_from (Some (minus size)) }
 {
@@ -107,8 +107,8 @@ fn negative(size: u64) -> Number
     }
 }
 
-/// The integer of few digits in front, behind spaces, and how many bytes both take. Most often one
-/// space is there, and no sign.
+/// The integer of few digits at the front, after spaces, and the number of bytes of both. Most
+/// often there is one space, and no sign.
 #[inline(always)]
 pub(crate) fn small_front(bytes: &[u8]) -> Option<(i64, usize)>
     ensures { IsSmallInFront bytes.now result }
@@ -119,7 +119,7 @@ pub(crate) fn small_front(bytes: &[u8]) -> Option<(i64, usize)>
     }
 }
 
-/// The number of few digits in front, behind one space, and how many bytes both take.
+/// The number of few digits at the front, after one space, and the number of bytes of both.
 #[inline]
 fn spaced_digits(bytes: &[u8]) -> Option<(u64, usize)>
     ensures { AreDigitsInFront bytes.now result }
@@ -133,7 +133,7 @@ fn spaced_digits(bytes: &[u8]) -> Option<(u64, usize)>
     }
 }
 
-/// The integer in front, however many spaces there are, and with a sign or without.
+/// The integer at the front, however many spaces there are, and with a sign or without.
 #[inline(never)]
 fn small_behind(bytes: &[u8]) -> Option<(i64, usize)>
     ensures { IsSmallInFront bytes.now result }
@@ -145,8 +145,8 @@ fn small_behind(bytes: &[u8]) -> Option<(i64, usize)>
     }
 }
 
-/// The integer of few digits that bytes begin with, and how many bytes it takes. It needs no care of
-/// 64 bits; where none is given, another one may stand there.
+/// The integer of few digits at the front of bytes, and the number of its bytes. It can't exceed 64
+/// bits; if none is returned, there may be another one.
 #[inline]
 fn small_at(bytes: &[u8]) -> Option<(i64, usize)>
     ensures { IsSmallAt bytes.now result }
@@ -173,8 +173,8 @@ fn negated(size: u64) -> i64
     -(size as i64)
 }
 
-/// The number of the few digits that bytes begin with, up to where a word may end, and how many they
-/// are.
+/// The number of the few digits at the front of bytes, up to a place at which a word may end, and
+/// how many they are.
 #[inline]
 fn digits_at(bytes: &[u8]) -> Option<(u64, usize)>
     ensures { AreDigitsAt bytes.now result }

@@ -3,14 +3,15 @@ ghost use Rattle.djq_value.specs.Output.{Puts};
 use bytes::BytesMut;
 use djq_model::NoMem;
 
-/// How many bytes of room stay behind what is queued: enough for a session's last line.
+/// The number of bytes of room that remain after the queued bytes: enough for a session's last
+/// line.
 pub const KEPT: usize = 32;
 
 /// Appends a piece, and leaves [`KEPT`] bytes of room.
 ///
 /// # Errors
 ///
-/// `NoMem` comes only where the room is too small and can't grow; the output is then as before.
+/// `NoMem` is returned only if the room is too small and can't grow; the output is then as before.
 pub fn put(out: &mut BytesMut, piece: &[u8]) -> Result<(), NoMem>
     ensures { Puts out.old out.new piece.now result }
 {

@@ -16,7 +16,7 @@ use djq_model::{NoMem, ValueRef};
 ///
 /// # Errors
 ///
-/// `NoMem` comes only where the room is too small and can't grow; the output is then as before.
+/// `NoMem` is returned only if the room is too small and can't grow; the output is then as before.
 pub fn print_cell(value: ValueRef<'_>, out: &mut BytesMut) -> Result<(), NoMem>
     ensures { Puts out.old out.new (32 ∷ value_text (value_lent value.entry)) result }
 {
@@ -43,7 +43,7 @@ fn print_integer(number: i64, out: &mut BytesMut) -> Result<(), NoMem>
     Ok(())
 }
 
-/// A space and a text in quotes. Room for the whole of it is taken at once.
+/// A space and a text in quotes. Room for the whole of it is allocated at once.
 fn print_text(text: &[u8], out: &mut BytesMut) -> Result<(), NoMem>
     ensures { Puts out.old out.new (32 ∷ quoted text.now) result }
 {
@@ -83,7 +83,7 @@ pub(crate) fn is_escaped(byte: u8) -> bool
     byte <= b'\\' && ((byte == b'"') | (byte == b'\\') | (byte == b'\n'))
 }
 
-/// The bytes of a text with their escapes, in one piece where there is none.
+/// The bytes of a text with their escapes, in one piece if there are no escapes.
 fn extend_escaped(text: &[u8], len: usize, out: &mut BytesMut)
     requires len { len ≡ length (flat_map escaped text.now) }
     requires room { len ≤ out.old.spare }
@@ -106,7 +106,7 @@ fn extend_bytes(text: &[u8], out: &mut BytesMut)
     }
 }
 
-/// A byte as it stands in a text that is printed.
+/// The form of a byte in a text that is printed.
 fn extend_byte(byte: u8, out: &mut BytesMut)
     requires { length (escaped byte) ≤ out.old.spare }
     ensures { Says out.old out.new (escaped byte) }

@@ -11,12 +11,12 @@ use djq_model::{NoMem, Text};
 use std::alloc::Global;
 use std::marker::Model;
 
-/// A text as a line spells it. Contracts see the bytes that it stands for.
+/// A text as a line spells it. Contracts see the bytes that it denotes.
 #[derive(Debug, Drop)]
 pub struct Quoted<'a> {
-    // what stands behind the opening quote, to the line's end
+    // the bytes after the opening quote, to the line's end
     from: &'a [u8],
-    // the place behind the closing quote
+    // the place after the closing quote
     end: usize,
     // the number of bytes of the text
     len: usize,
@@ -34,7 +34,7 @@ impl<'a> Model for Quoted<'a> {
 }
 
 impl<'a> Quoted<'a> {
-    /// The text whose opening quote stands before these bytes.
+    /// The text whose opening quote is before these bytes.
     pub(crate) fn new(from: &'a [u8], end: usize, len: usize) -> Self
         requires { EndsAt from.now end len }
         ensures { result ≡ text_at from.now }
@@ -58,7 +58,7 @@ impl<'a> Quoted<'a> {
     }
 }
 
-/// What a byte of a text is.
+/// The meaning of a byte of a text.
 #[derive(Clone, Copy, Debug)]
 pub(crate) enum Step {
     // The closing quote.
@@ -71,7 +71,7 @@ pub(crate) enum Step {
     Bad,
 }
 
-/// What a byte is, behind a backslash or not.
+/// The meaning of a byte, after a backslash or not.
 fn step_of(escape: bool, byte: u8) -> Step
     ensures { (rest : Bytes) → text_in escape (byte ∷ rest) ≡ stepped result rest }
 {
@@ -86,14 +86,15 @@ fn step_of(escape: bool, byte: u8) -> Step
     }
 }
 
-/// Where the text that begins here ends, behind its closing quote, and how many bytes it has.
+/// The end of the text that begins here, after its closing quote, and the number of its bytes.
 pub(crate) fn text_end(bytes: &[u8]) -> Option<(usize, usize)>
     ensures { TextEnds bytes.now result }
 {
     text_end_from(bytes, plain_len(bytes))
 }
 
-/// How many bytes in front stand for themselves, whatever is behind them. Alone, its loop is short.
+/// The number of bytes at the front that denote themselves, whatever follows them. In a function of
+/// its own, the loop is short.
 #[inline(never)]
 fn plain_len(bytes: &[u8]) -> usize
     ensures within { result ≤ length bytes.now }
@@ -107,7 +108,7 @@ fn plain_len(bytes: &[u8]) -> usize
     len
 }
 
-/// The same as where it ends, behind so many bytes that stand for themselves.
+/// The same end and number, given so many bytes at the front that denote themselves.
 fn text_end_from(bytes: &[u8], plain: usize) -> Option<(usize, usize)>
     requires within { plain ≤ length bytes.now }
     requires read { text_in false bytes.now
@@ -130,7 +131,7 @@ fn text_end_from(bytes: &[u8], plain: usize) -> Option<(usize, usize)>
     None
 }
 
-/// The bytes of the text that begins here, in one piece where it has no escape.
+/// The bytes of the text that begins here, in one piece if it has no escape.
 fn copied(alloc: Global, bytes: &[u8], end: usize, len: usize) -> Result<Vec<u8>, NoMem>
     requires ends { EndsAt bytes.now end len }
     requires few { len ≤ TEXT_BYTES }

@@ -9,19 +9,19 @@ use thiserror::Error;
 /// Why no value is read. `at` is the place of the first byte that is no space.
 #[derive(Clone, Copy, Debug, PartialEq, Eq, Error)]
 pub enum ValueRefusal {
-    /// No literal stands there.
+    /// There is no literal at that place.
     #[error("no literal at byte {at}")]
     Syntax {
         /// Its place.
         at: usize,
     },
-    /// An integer past 64 bits stands there.
+    /// An integer past 64 bits is at that place.
     #[error("an integer past 64 bits at byte {at}")]
     IntRange {
         /// Its place.
         at: usize,
     },
-    /// A text of more than 255 bytes stands there.
+    /// A text of more than 255 bytes is at that place.
     #[error("a text of more than 255 bytes at byte {at}")]
     TextLong {
         /// Its place.
@@ -32,13 +32,14 @@ pub enum ValueRefusal {
     NoMem,
 }
 
-/// The value that a literal in front of bytes is, and how many bytes it takes with the spaces
+/// The value of the literal at the front of bytes, and the length of the literal with the spaces
 /// before it.
 ///
 /// # Errors
 ///
-/// `Syntax` exactly where no literal stands there, `IntRange` and `TextLong` exactly where one past
-/// its limit does. `NoMem` comes only for a text within its limit: an integer takes no memory.
+/// `Syntax` if and only if there is no literal, `IntRange` and `TextLong` if and only if there is
+/// one past its limit. `NoMem` is returned only for a text within its limit: an integer allocates
+/// nothing.
 pub fn read_value(alloc: Global, bytes: &[u8]) -> Result<(Value, usize), ValueRefusal>
     ensures { ReadsValue bytes.now result }
 {

@@ -1,4 +1,4 @@
-//! What a word may be: a keyword or a name.
+//! The kinds of a word: a keyword or a name.
 ghost use Rattle.std.specs.Prelude.{◌≡◌, Some, None, if◌then◌else◌};
 ghost use Rattle.std.specs.List.{list_all};
 ghost use Rattle.djq_model.specs.Data.{bytes_eq};
@@ -10,7 +10,7 @@ ghost use Rattle.djq_value.specs.Word.{is_tail_of, may_follow_of};
 use crate::lexer::{Lexer, Token};
 use djq_model::Name;
 
-/// The most bytes that a name has behind its first.
+/// The most bytes that a name has after its first.
 const MORE_BYTES: usize = 31;
 
 /// Whether a word is this text.
@@ -42,14 +42,14 @@ pub fn is_name(word: &[u8]) -> bool
     is_letter(word[0]) && tail
 }
 
-/// Whether these may be the bytes of a name behind its first.
+/// Whether these may be the bytes of a name after its first.
 fn is_tail(bytes: &[u8]) -> bool
     ensures { result ≡ is_tail_of bytes.now }
 {
     all_follow(bytes) && bytes.len() <= MORE_BYTES
 }
 
-/// Whether each of these bytes may stand in a name behind its first.
+/// Whether each of these bytes may occur in a name after its first.
 fn all_follow(bytes: &[u8]) -> bool
     ensures { result ≡ list_all may_follow_of bytes.now }
 {
@@ -63,15 +63,15 @@ fn is_letter(byte: u8) -> bool
     byte >= b'a' && byte <= b'z'
 }
 
-/// Whether a byte may stand in a name behind its first.
+/// Whether a byte may occur in a name after its first.
 fn may_follow(byte: u8) -> bool
     ensures { result ≡ may_follow_of byte }
 {
     is_letter(byte) || (byte >= b'0' && byte <= b'9') || byte == b'_'
 }
 
-/// How many bytes the name has with which bytes begin, where a space is behind it; none where it ends
-/// in another way, or isn't there.
+/// The number of bytes of the name at the front of bytes, if a space is after it; none if the name
+/// ends in another way, or there is no name.
 #[inline]
 pub(crate) fn spaced_name_len(bytes: &[u8]) -> Option<usize>
     ensures { IsNameAt bytes.now result }
@@ -85,7 +85,7 @@ pub(crate) fn spaced_name_len(bytes: &[u8]) -> Option<usize>
     }
 }
 
-/// The same of the bytes behind a name's first.
+/// The same of the bytes after a name's first.
 #[inline]
 fn spaced_tail_len(bytes: &[u8]) -> Option<usize>
     ensures { IsTailAt bytes.now result }
@@ -104,7 +104,7 @@ fn spaced_tail_len(bytes: &[u8]) -> Option<usize>
     }
 }
 
-/// The word in front, where one is there. The token in front is passed over in any case.
+/// The next word, if the next token is one. The next token is consumed in any case.
 pub fn next_word<'a>(lexer: &mut Lexer<'a>) -> Option<&'a [u8]>
     ensures { TakesWord lexer.old result lexer.new }
 {
@@ -117,7 +117,7 @@ pub fn next_word<'a>(lexer: &mut Lexer<'a>) -> Option<&'a [u8]>
     }
 }
 
-/// The name in front, where one is there. The token in front is passed over in any case.
+/// The next name, if the next token is one. The next token is consumed in any case.
 pub fn next_name(lexer: &mut Lexer<'_>) -> Option<Name>
     ensures { TakesName lexer.old result lexer.new }
 {

@@ -1,4 +1,4 @@
-//! Values written into bytes that are there, from a place on.
+//! Values written into existing bytes, from a place on.
 ghost use Rattle.std.specs.Prelude.{◌≡◌, ◌+◌, ◌*◌, ◌∷◌, [], ◌<◌, ◌≤◌, IsTrue, length};
 ghost use Rattle.std.specs.Fmt.{decimal, signed_decimal};
 ghost use Rattle.std.specs.List.{flat_map};
@@ -11,11 +11,11 @@ use crate::print::is_escaped;
 use djq_model::ValueRef;
 use itoa::write_digits;
 
-/// The most that a space and an integer take, with a sign and 20 digits.
+/// The maximum length of a space and an integer, with a sign and 20 digits.
 const INTEGER_ROOM: usize = 22;
 
-/// Writes a space and a value, as [`print_cell`](crate::print_cell) prints it, and gives where it
-/// ends; none where there may be too little room for it.
+/// Writes a space and a value, as [`print_cell`](crate::print_cell) prints it, and returns the
+/// place of its end; none if there may be too little room for it.
 #[inline]
 pub fn write_cell(value: ValueRef<'_>, bytes: &mut [u8], at: usize) -> Option<usize>
     requires { at ≤ length bytes.old }
@@ -55,8 +55,8 @@ fn write_signed(number: i64, bytes: &mut [u8], at: usize) -> usize
     }
 }
 
-/// A number without a sign. How many digits a short one has is told by the way that leads to it, so
-/// that each is written without asking again.
+/// A number without a sign. The branch that is followed determines how many digits a short one has,
+/// so that each is written without another test.
 #[inline]
 fn write_natural(number: u64, bytes: &mut [u8], at: usize) -> usize
     requires { at + 20 ≤ length bytes.old }
@@ -110,7 +110,7 @@ fn write_counted(number: u64, count: usize, bytes: &mut [u8], at: usize) -> usiz
     end
 }
 
-/// A space and a text in quotes. There is room where each byte may need an escape.
+/// A space and a text in quotes; none if there is too little room for an escape of each byte.
 #[inline]
 fn write_text(text: &[u8], bytes: &mut [u8], at: usize) -> Option<usize>
     requires { at ≤ length bytes.old }
@@ -126,7 +126,7 @@ fn write_text(text: &[u8], bytes: &mut [u8], at: usize) -> Option<usize>
     Some(write_byte(b'"', bytes, close))
 }
 
-/// The bytes of a text with their escapes, in one piece where there is none.
+/// The bytes of a text with their escapes, in one piece if there are no escapes.
 #[inline]
 fn write_escaped(text: &[u8], bytes: &mut [u8], at: usize) -> usize
     requires { at + 2 * length text.now ≤ length bytes.old }
@@ -154,7 +154,7 @@ fn write_each(text: &[u8], bytes: &mut [u8], at: usize) -> usize
     end
 }
 
-/// A byte as it stands in a text that is printed.
+/// The form of a byte in a text that is printed.
 #[inline]
 fn write_escape(byte: u8, bytes: &mut [u8], at: usize) -> usize
     requires { at + 2 ≤ length bytes.old }
@@ -182,7 +182,7 @@ fn is_plain(text: &[u8]) -> bool
     true
 }
 
-/// Writes a byte, and gives the place behind it.
+/// Writes a byte, and returns the place after it.
 #[inline]
 pub fn write_byte(byte: u8, bytes: &mut [u8], at: usize) -> usize
     requires { at < length bytes.old }
@@ -192,7 +192,7 @@ pub fn write_byte(byte: u8, bytes: &mut [u8], at: usize) -> usize
     at + 1
 }
 
-/// Writes bytes, and gives the place behind them.
+/// Writes bytes, and returns the place after them.
 #[inline]
 pub fn write_bytes(piece: &[u8], bytes: &mut [u8], at: usize) -> usize
     requires { at + length piece.now ≤ length bytes.old }
