@@ -3,7 +3,7 @@
 pub enum Refusal {
     /// 1: the line is in no form of the grammar.
     Syntax,
-    /// 2: the name is there already.
+    /// 2: the name is in use already.
     Taken,
     /// 3: no relation has the name.
     NoRelation,
@@ -18,9 +18,9 @@ pub enum Refusal {
     WrongType,
     /// 8: a variable of the head is in no atom.
     HeadUnbound,
-    /// 9: a variable stands twice in the head.
+    /// 9: a variable occurs twice in the head.
     HeadRepeated,
-    /// 10: a variable stands in columns of two types.
+    /// 10: a variable occurs in columns of two types.
     VariableType,
     /// 11: a limit is reached.
     Limit,
@@ -30,9 +30,9 @@ pub enum Refusal {
     InUse,
     /// 16: a comparison's variable is in no atom.
     Unbound,
-    /// 17: a union's member stands twice or is a union, or members' answers are of other types.
+    /// 17: a union's member occurs twice or is a union, or members' answers are of other types.
     Member,
-    /// 18: a batch is open, and the command isn't one for a batch; or none is, and it is.
+    /// 18: a batch is open, and the command isn't one for a batch; or none is open, and it is one.
     Misplaced,
 }
 
@@ -56,12 +56,12 @@ pub enum DeleteOutcome {
     Absent,
 }
 
-/// What bounds an update of a query, as the query alone tells.
+/// The bound of a query's updates, as far as the query alone determines it.
 #[derive(Clone, Copy, Debug, PartialEq, Eq)]
 pub enum Shape {
-    /// A bound that knows no rows.
+    /// A bound that doesn't depend on the rows.
     Flat,
-    /// One in proportion to the rows, and none that knows no rows is promised.
+    /// One in proportion to the rows, and none that is independent of the rows is promised.
     Linear,
     /// That of each of its members: it is a union.
     Union,
@@ -80,7 +80,7 @@ pub enum EndLine {
     Full,
 }
 
-/// Whether an answer came or went with a change.
+/// Whether a change inserted an answer or deleted one.
 #[derive(Clone, Copy, Debug, PartialEq, Eq)]
 pub enum Sign {
     /// It is an answer now.
@@ -89,14 +89,14 @@ pub enum Sign {
     Went,
 }
 
-/// Why a session takes no further commands.
+/// Why a session reads no further commands.
 #[derive(Clone, Copy, Debug, PartialEq, Eq)]
 pub enum EndCause {
     /// Its input ended.
     Input,
-    /// It said `quit`.
+    /// It sent `quit`.
     Quit,
-    /// It said `stop`.
+    /// It sent `stop`.
     Stop,
     /// A line was too long.
     Long,

@@ -1,6 +1,6 @@
 use djq_model::{Name, Names, Query, Row, Types};
 
-/// A command, as a line says it.
+/// A command, as a line spells it.
 #[derive(Debug, Drop)]
 pub enum Command {
     /// `rel NAME TYPE ..`: a new relation.
@@ -10,14 +10,14 @@ pub enum Command {
         /// The types of its columns.
         types: Types,
     },
-    /// `add NAME VALUE ..`: a row goes into a relation.
+    /// `add NAME VALUE ..`: a row is inserted into a relation.
     Add {
         /// The relation.
         name: Name,
         /// The row.
         row: Row,
     },
-    /// `del NAME VALUE ..`: a row goes out of a relation.
+    /// `del NAME VALUE ..`: a row is deleted from a relation.
     Del {
         /// The relation.
         name: Name,
@@ -36,7 +36,7 @@ pub enum Command {
         /// Its members, two at least.
         members: Names,
     },
-    /// `drop QUERY`: a query is given up.
+    /// `drop QUERY`: a query is removed.
     Drop {
         /// The query.
         query: Name,
@@ -55,7 +55,7 @@ pub enum Command {
         /// The most answers.
         count: u32,
     },
-    /// `close CURSOR`: a cursor is given up.
+    /// `close CURSOR`: a cursor is removed.
     Close {
         /// The cursor.
         cursor: Name,
@@ -67,12 +67,12 @@ pub enum Command {
         /// The tuple.
         row: Row,
     },
-    /// `watch QUERY`: the session is told what changes of the query's answers.
+    /// `watch QUERY`: each change of the query's answers is reported to the session.
     Watch {
         /// The query.
         query: Name,
     },
-    /// `unwatch QUERY`: it is told no more.
+    /// `unwatch QUERY`: changes are reported to it no more.
     Unwatch {
         /// The query.
         query: Name,
@@ -82,14 +82,14 @@ pub enum Command {
         /// The query.
         query: Name,
     },
-    /// `shape QUERY`: whether an update's cost has a bound that knows no rows.
+    /// `shape QUERY`: whether an update's cost has a bound that doesn't depend on the rows.
     Shape {
         /// The query.
         query: Name,
     },
     /// `batch`: rows that are added are held from now on.
     Batch,
-    /// `done`: the rows that are held go in, all at once.
+    /// `done`: the rows that are held are inserted, all at once.
     Done,
     /// `abandon`: they are dropped.
     Abandon,

@@ -1,12 +1,12 @@
-//! Lines: what a session says and is answered, as plain types and definitions.
+//! Lines: what a session sends and receives, as plain types and definitions.
 //!
-//! `specs/` says how bytes are cut into lines, which lines are commands and which command each
-//! says, why a query can't be asked, what its hypergraph is, and the bytes of every reply. `src/`
-//! holds the types of commands and answers, and every limit of the protocol as a constant, which
+//! `specs/` defines how bytes are cut into lines, which lines are commands and which command each
+//! is, why a query can't be asked, what its hypergraph is, and the bytes of every reply. `src/` has
+//! the types of commands and answers, and every limit of the protocol as a constant, which
 //! definitions and code cite alike.
 //!
 //! Nothing here reads or prints: djq_parser and djq_reply do, and are proved against these
-//! definitions. Nothing says either what a command does: that is djq_machine's.
+//! definitions. Nothing defines either what a command does: djq_machine does.
 //!
 //! ```text
 //! query q(x) <- r(x,3)     Command::Query, of a query with one atom
@@ -14,13 +14,13 @@
 //! query q(x) <- r(y,3)     Refusal::HeadUnbound             err 8 head unbound
 //! ```
 //!
-//! What surprises: the most bytes of a name and of a text aren't among the [`limits`], but stand
-//! with their types in djq_model. A refusal's number isn't its place in [`Refusal`]: 13 belongs to
-//! a line that the end of the input cut, which is no command's refusal.
+//! What surprises: the most bytes of a name and of a text aren't among the [`limits`], but beside
+//! their types in djq_model. A refusal's number isn't its place in [`Refusal`]: 13 belongs to a
+//! line that the end of the input cut, which is no command's refusal.
 //!
-//! Inside, `command` and `keyword` are what is said, `held` what is kept of it in a batch, `answer` and
-//! `rest` what is answered. To read
-//! first: `specs/Grammar.antt` and `specs/Reply.antt`, a case for each form.
+//! Inside, `command` and `keyword` are what a session sends, `held` what a batch stores of it,
+//! `answer` and `rest` the answers. To read first: `specs/Grammar.antt` and `specs/Reply.antt`, a
+//! case for each form.
 #![tactic(auto)]
 
 pub use answer::{AddOutcome, DeleteOutcome, EndCause, EndLine, Refusal, Shape, Sign};

@@ -1,4 +1,4 @@
-//! The limits of the protocol. The most bytes of a name and of a text stand with these types, in
+//! The limits of the protocol. The most bytes of a name and of a text are beside these types, in
 //! djq_model.
 
 use djq_value::KEPT;
@@ -57,9 +57,9 @@ pub const NEXT_COUNT: u32 = 1000;
 /// The most bytes that are pending as a command begins.
 pub const PENDING_BYTES: usize = 1_048_576;
 
-/// The bytes of room that are kept for a reply before its command begins.
+/// The bytes of room that are reserved for a reply before its command begins.
 pub const REPLY_BYTES: usize = 256;
 
-/// The bytes of room that are kept for a session's last line as long as it goes on: those that
-/// printing leaves.
+/// The bytes of room that are reserved for a session's last line as long as the session is open:
+/// those that printing leaves.
 pub const LAST_LINE_BYTES: usize = KEPT;

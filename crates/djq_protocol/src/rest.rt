@@ -9,11 +9,11 @@ pub struct NamedRest {
     pub names: Names,
 }
 
-/// What `query` found of a query that has no fault.
+/// The outcome of `query` on a query that has no fault.
 #[derive(Debug, Drop)]
 pub enum QueryOutcome {
-    /// It is free-connex, and registered. One of its answers takes at most so many lookups and
-    /// links, and the end too.
+    /// It is free-connex, and registered. Each of its answers costs at most so many lookups and
+    /// links, and so does the end.
     Registered(u64),
     /// Its hypergraph has no join tree, as a rest of it shows.
     Cyclic(NamedRest),
