@@ -1,6 +1,6 @@
-//! The body of a query: its atoms and comparisons, as they stand between commas.
+//! The body of a query: its atoms and comparisons, between commas.
 //!
-//! As in lists, a body is read on out of memory and behind a literal past its limit.
+//! As in lists, reading continues if memory runs out, and after a literal past its limit.
 ghost use Rattle.std.specs.Prelude.{◌≡◌, List, Option, Some, length, option_map};
 ghost use Rattle.std.specs.List.{list_all};
 ghost use Rattle.djq_model.specs.declared.query.Term.{Term as TermOf};
@@ -33,7 +33,7 @@ pub(crate) struct Parts {
     has_atom: bool,
 }
 
-/// What stands behind the head of a query, to the line's end.
+/// The body after the head of a query, to the line's end.
 pub(crate) fn read_body(alloc: Global, lexer: &mut Lexer<'_>) -> Result<Body, LineRefusal>
     ensures { ReadsAs is_small_body (body_in lexer.old) result }
 {
@@ -85,7 +85,7 @@ fn is_comma(token: &Token<'_>) -> bool
     matches!(token, Token::Comma)
 }
 
-/// The parts that were read, and an item more; none where no item is in front.
+/// The parts that were read, and an item more; none if no item is next.
 fn read_item(alloc: Global, lexer: &mut Lexer<'_>, parts: Parts) -> Option<Parts>
     ensures { (b : BodyOf) → BodyIsRead b parts
         → ReadsOn b (item_in (length b.0) lexer.old) result lexer.new }
@@ -114,7 +114,7 @@ fn read_constant(alloc: Global, lexer: &mut Lexer<'_>) -> Result<Value, LineRefu
     }
 }
 
-/// The parts and an atom of these terms; none where the terms are outside the grammar.
+/// The parts and an atom of these terms; none if the terms are outside the grammar.
 fn with_atom(parts: Parts, relation: Name, terms: Result<Terms, LineRefusal>) -> Option<Parts>
     ensures { (b : BodyOf) (o : Option (List TermOf))
         → BodyIsRead b parts → ReadsAs (list_all is_small_term) o terms
@@ -145,7 +145,7 @@ fn add_atom(
     Ok((atoms, comparisons))
 }
 
-/// The parts and a comparison with this constant, behind the atoms that were read; none where the
+/// The parts and a comparison with this constant, after the atoms that were read; none if the
 /// constant is outside the grammar.
 fn with_comparison(
     parts: Parts,
@@ -167,7 +167,7 @@ fn with_comparison(
     })
 }
 
-/// What was read, and a comparison more behind the atoms so far, unless one of both was refused.
+/// What was read, and a comparison more after the atoms so far, unless one of both was refused.
 fn add_comparison(
     read: Result<Body, LineRefusal>,
     variable: Name,

@@ -16,13 +16,13 @@ use djq_value::{Lexer, next_word};
 use std::alloc::Global;
 use std::str;
 
-/// The command that a line says.
+/// The command that a line denotes.
 ///
 /// # Errors
 ///
-/// `Syntax` exactly where the line is outside the grammar. Else `Range` exactly where a literal is
-/// past its limit. `NoMem` only for a line that is in range and holds types, literals, a query or
-/// members of a union.
+/// `Syntax` if and only if the line is outside the grammar. Else `Range` if and only if a literal
+/// is past its limit. `NoMem` only for a line that is in range and holds types, literals, a query
+/// or members of a union.
 pub fn read_command(alloc: Global, line: &[u8]) -> Result<Command, LineRefusal>
     ensures { LineReadsAs line.now result }
 {
@@ -40,7 +40,7 @@ pub(crate) fn is_utf8(line: &[u8]) -> bool
     str::from_utf8(line).is_ok()
 }
 
-/// A keyword, and what stands behind it.
+/// A keyword, and its arguments.
 fn read_tokens(alloc: Global, lexer: &mut Lexer<'_>) -> Result<Command, LineRefusal>
     ensures { GivesCommand (command_in lexer.old) result }
 {
@@ -53,7 +53,7 @@ fn read_tokens(alloc: Global, lexer: &mut Lexer<'_>) -> Result<Command, LineRefu
     }
 }
 
-/// What stands behind a keyword.
+/// The arguments after a keyword.
 fn read_arguments(
     alloc: Global,
     keyword: Keyword,

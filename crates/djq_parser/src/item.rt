@@ -1,4 +1,4 @@
-//! What one token of a line says: a name, a type, a value, a term.
+//! What one token of a line denotes: a name, a type, a value, a term.
 ghost use Rattle.std.specs.Prelude.{◌≡◌};
 ghost use Rattle.djq_value.specs.Lexing.{lexeme_of};
 ghost use Rattle.djq_parser.specs.Reading.{ReadsAs};

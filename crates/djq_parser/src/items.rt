@@ -1,7 +1,7 @@
 //! Lists of items: to the line's end, or in parentheses.
 //!
-//! Out of memory, or behind an item that isn't in range, the line is read on, since an item that is
-//! outside the grammar comes first in the order of refusals.
+//! If memory runs out, and after an item that isn't in range, the reader continues to the end,
+//! since an item that is outside the grammar is first in the order of refusals.
 ghost use Rattle.std.specs.Prelude.{◌≡◌, ◌∷◌, ◌++◌, ◌&&◌, [], Bool, List, Some};
 ghost use Rattle.std.specs.List.{list_all};
 ghost use Rattle.djq_protocol.specs.Grammar.{all_of, list_in, more_in, put_first};
@@ -29,7 +29,7 @@ pub(crate) fn added<T: Drop>(
     Ok(items)
 }
 
-/// What was read of two parts; or why one of them isn't there.
+/// What was read of two parts; or why one of them is missing.
 pub(crate) fn both<T: Drop, U: Drop>(
     one: Result<T, LineRefusal>,
     other: Result<U, LineRefusal>,
@@ -85,7 +85,7 @@ pub(crate) fn read_list<T: Item>(
     }
 }
 
-/// Items with commas between, behind a `(`, to the `)`.
+/// Items with commas between, after a `(`, to the `)`.
 pub(crate) fn read_opened<T: Item>(
     alloc: Global,
     lexer: &mut Lexer<'_>,

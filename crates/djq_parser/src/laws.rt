@@ -1,13 +1,13 @@
-//! What is read of a line, said of the line alone. The functions do nothing: what they ensure holds
-//! of the definitions.
+//! What is read of a line, stated of the line alone. The functions do nothing: what they ensure
+//! holds of the definitions.
 ghost use Rattle.djq_parser.specs.Laws.{CommandsAreSaid, CommandsAreSpelled};
 
-/// Tokens are read as a command exactly where they say it.
+/// Tokens are read as a command if and only if they denote it.
 pub fn commands_are_said()
     ensures { CommandsAreSaid }
 {}
 
-/// A line says a command exactly where it spells it.
+/// A line denotes a command if and only if it spells it.
 pub fn commands_are_spelled()
     ensures { CommandsAreSpelled }
 {}

@@ -1,9 +1,9 @@
 //! From a session's bytes to lines, and from a line to a command.
 //!
-//! [`Splitter`] finds the line in front of the bytes that a session holds, and [`read_command`]
-//! gives the command that a line says. [`read_row`] reads lines of rows, which are most lines, by
-//! the same grammar into room that its caller keeps. Nothing here keeps state between lines, and
-//! only what a command holds (types, a row, a query) takes memory.
+//! [`Splitter`] finds the line at the front of the bytes that a session holds, and [`read_command`]
+//! returns the command that a line denotes. [`read_row`] reads lines of rows, which are most lines,
+//! by the same grammar into room that its caller owns. Nothing here stores state between lines, and
+//! only what a command holds (types, a row, a query) needs memory.
 //!
 //! ```text
 //! add edge 1 -20       Command::Add { name: edge, row: (1, -20) }
@@ -12,18 +12,18 @@
 //! next c 1001          Syntax: a count is from 1 to 1000
 //! ```
 //!
-//! It runs no command, and asks nothing of relations and queries: that a relation is there and a
-//! row suits it is the engine's to say. It prints nothing; djq_reply does.
+//! It runs no command, and asks nothing of relations and queries: whether a relation exists and a
+//! row suits it is decided by the engine. It prints nothing; djq_reply does.
 //!
 //! What surprises: a line without an end may be refused already. [`Splitter::front`] answers that
 //! it is too long as soon as no end could make it short enough, and looks at no more than 4,098
-//! bytes for that. A literal past its limit is `Range` only where the line is in the grammar.
+//! bytes for that. A literal past its limit is `Range` only if the line is in the grammar.
 //!
-//! Inside, a line is cut into tokens by the lexer of djq_value, and `keyword` says by the first
-//! what stands behind: `command` has a reader for each form, over names, literals and lists of them
-//! (`parts`, `item`, `items`), and `row` reads rows into room. `query` reads a query's head, and
-//! `body` its atoms and comparisons. `laws` has two functions that do nothing: what they promise is
-//! that a line is read as a command exactly where it spells it, said without reading
+//! Inside, a line is cut into tokens by the lexer of djq_value. `keyword` determines by the first
+//! token what has to follow: `command` has a reader for each form, over names, literals and lists
+//! of them (`parts`, `item`, `items`). `row` reads rows into room, `query` reads a query's head,
+//! and `body` its atoms and comparisons. `laws` has two functions that do nothing. They promise
+//! that a line is read as a command if and only if it spells it, stated without reading
 //! (`specs/Saying.antt`, and `specs/Spelling.antt` of djq_value).
 #![tactic(auto)]
 

@@ -1,4 +1,4 @@
-//! What stands behind a keyword, to the line's end.
+//! The arguments after a keyword, to the line's end.
 ghost use Rattle.std.specs.Prelude.{◌≡◌, true, Err, Ok};
 ghost use Rattle.std.specs.List.{list_all};
 ghost use Rattle.std.specs.Option.{ok_or};

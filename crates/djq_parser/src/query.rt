@@ -20,7 +20,7 @@ pub(crate) fn read_query(alloc: Global, lexer: &mut Lexer<'_>) -> Result<Query, 
     if is_outside(&head) {
         return Err(LineRefusal::Syntax);
     }
-    // the head's refusal can only be out of memory, which comes last
+    // the head's refusal can only be out of memory, which is last
     let (atoms, comparisons) = read_body(alloc, lexer)?;
     let head = head?;
     Ok(Query {

@@ -5,7 +5,7 @@ use djq_model::NoMem;
 use djq_value::LiteralRefusal;
 use thiserror::Error;
 
-/// Why a line gives no command.
+/// Why a line is no command.
 #[derive(Clone, Copy, Debug, PartialEq, Eq, Error)]
 pub enum LineRefusal {
     /// The line is in no form of the grammar.
@@ -20,7 +20,7 @@ pub enum LineRefusal {
 }
 
 impl LineRefusal {
-    /// The one that comes first in the order of refusals.
+    /// The one that is first in the order of refusals.
     pub(crate) fn first(self, other: Self) -> Self
         ensures { result ≡ earlier_of self other }
     {

@@ -1,4 +1,4 @@
-//! Lines of a row, read into room that the caller keeps.
+//! Lines of a row, read into room that the caller owns.
 ghost use Rattle.std.specs.Prelude.{◌≡◌, ◌≤◌, ◌++◌, ◌∷◌, [], Some, length, take, true};
 ghost use Rattle.std.specs.List.{list_all};
 ghost use Rattle.djq_model.specs.Data.{Tuple};
@@ -21,17 +21,17 @@ use djq_model::Value;
 use djq_value::{Lexer, is_name, is_text, next_word};
 use std::alloc::Global;
 
-/// How many bytes a row's keyword has, with the space behind it.
+/// The number of bytes of a row's keyword, with the space after it.
 const WORD_BYTES: usize = 4;
 
-/// What a line is to who reads rows. A name is bytes of the line.
+/// What a line is to a caller that reads rows. A name is bytes of the line.
 #[derive(Clone, Copy, Debug)]
 pub enum RowLine<'a> {
     /// The row that was read is to be added to the relation of this name.
     Add(&'a [u8]),
     /// A copy of it is to be deleted from that.
     Del(&'a [u8]),
-    /// The line begins as one that does this with a row, and gives none.
+    /// The line begins as one that does this with a row, and denotes none.
     Refused(RowWord, LineRefusal),
     /// It doesn't.
     Other,
@@ -46,8 +46,8 @@ pub enum RowWord {
     Del,
 }
 
-/// What a line says of a row, whose values are put in place of those that are there. Where it is
-/// another line, nothing is read of it, and they stay.
+/// The reading of a line of a row, whose values replace those in `row`. Of any other line nothing
+/// is read, and they are unchanged.
 pub fn read_row<'a>(alloc: Global, line: &'a [u8], row: &mut Vec<Value>) -> RowLine<'a>
     ensures { ReadsRow line.now result row.old.items row.new.items }
 {
@@ -63,7 +63,7 @@ pub fn read_row<'a>(alloc: Global, line: &'a [u8], row: &mut Vec<Value>) -> RowL
     }
 }
 
-/// What the keyword in front does with a row, where it is such a keyword, and what is behind it.
+/// What the next keyword does with a row, if it is such a keyword, and the tokens after it.
 #[inline]
 fn begin_row<'a>(line: &'a [u8]) -> Option<(RowWord, Lexer<'a>)>
     ensures { BeginsRow (tokens line.now) result }
@@ -74,7 +74,7 @@ fn begin_row<'a>(line: &'a [u8]) -> Option<(RowWord, Lexer<'a>)>
     }
 }
 
-/// What the keyword does that is a line's first bytes, where a space is behind it.
+/// What the keyword does that is a line's first bytes, if a space is after it.
 #[inline]
 fn close_row_word(line: &[u8]) -> Option<RowWord>
     ensures { IsCloseRowWord line.now result }
@@ -88,7 +88,7 @@ fn close_row_word(line: &[u8]) -> Option<RowWord>
     }
 }
 
-/// The keyword in front and what is behind it, of any line.
+/// The next keyword and the tokens after it, of any line.
 fn find_row_word<'a>(line: &'a [u8]) -> Option<(RowWord, Lexer<'a>)>
     ensures { BeginsRow (tokens line.now) result }
 {
@@ -102,7 +102,8 @@ fn find_row_word<'a>(line: &'a [u8]) -> Option<(RowWord, Lexer<'a>)>
     }
 }
 
-/// Whether a line may begin with a row's keyword, by its first byte: this tells apart most others.
+/// Whether a line may begin with a row's keyword, by its first byte: this excludes most other
+/// lines.
 fn may_begin_row(line: &[u8]) -> bool
     ensures { result ≡ may_begin line.now }
 {
@@ -112,7 +113,7 @@ fn may_begin_row(line: &[u8]) -> bool
     }
 }
 
-/// What the keyword in front does with a row, where it is such a keyword.
+/// What the next keyword does with a row, if it is such a keyword.
 fn read_row_word(lexer: &mut Lexer<'_>) -> Option<RowWord>
     ensures { TakesRowWord lexer.old result lexer.new }
 {
@@ -128,8 +129,8 @@ fn read_row_word(lexer: &mut Lexer<'_>) -> Option<RowWord>
     }
 }
 
-/// A name, and values to the line's end, one at least. Most rows are as wide as the one before, and of
-/// integers of few digits as that was: these are written over its own, without memory.
+/// A name, and values to the line's end, one at least. Most rows are as wide as the one before, and
+/// of integers of few digits as that was: these overwrite its own, and allocate nothing.
 #[inline]
 fn read_named<'a>(
     alloc: Global,
@@ -155,8 +156,8 @@ fn read_named<'a>(
     }
 }
 
-/// The values behind integers that were read, one at least with them. Where each is an integer of few
-/// digits the line has no byte that isn't ASCII, so only others are asked whether it is UTF-8.
+/// The values after integers that were read, one at least with them. If each is an integer of few
+/// digits the line has no byte that isn't ASCII, so only others are checked for UTF-8.
 #[inline(never)]
 fn read_others(
     alloc: Global,
@@ -181,7 +182,7 @@ fn read_others(
     read_values(alloc, &mut rest, row)
 }
 
-/// The name in front, where one is there, and what is behind it.
+/// The next name, if there is one, and the tokens after it.
 #[inline]
 fn take_name<'a>(lexer: Lexer<'a>) -> Option<(&'a [u8], Lexer<'a>)>
     ensures { TakesNameInFront lexer.entry result }
@@ -193,7 +194,7 @@ fn take_name<'a>(lexer: Lexer<'a>) -> Option<(&'a [u8], Lexer<'a>)>
     }
 }
 
-/// The same, however it stands there.
+/// The same, for a name in any form.
 fn find_name<'a>(lexer: Lexer<'a>) -> Option<(&'a [u8], Lexer<'a>)>
     ensures { TakesNameInFront lexer.entry result }
 {
@@ -210,8 +211,8 @@ fn find_name<'a>(lexer: Lexer<'a>) -> Option<(&'a [u8], Lexer<'a>)>
     }
 }
 
-/// The integers of few digits in front, written over those with which a row begins: how many, and
-/// what is behind them.
+/// The next integers of few digits, written over those with which a row begins: how many, and the
+/// tokens after them.
 #[inline]
 fn overwrite_numbers<'a>(lexer: Lexer<'a>, row: &mut [Value]) -> (usize, Lexer<'a>)
     ensures read { ReadsNumbers lexer.entry [] result.1 (take result.0 row.new) }
@@ -232,7 +233,7 @@ fn overwrite_numbers<'a>(lexer: Lexer<'a>, row: &mut [Value]) -> (usize, Lexer<'
     (count, ahead)
 }
 
-/// The integers of few digits in front, as far as there is memory for them.
+/// The next integers of few digits, as far as there is memory for them.
 fn read_numbers(lexer: &mut Lexer<'_>, row: &mut Vec<Value>)
     ensures read { ReadsNumbers lexer.old row.old.items lexer.new row.new.items }
     ensures fewer { length lexer.new ≤ length lexer.old }
@@ -245,7 +246,7 @@ fn read_numbers(lexer: &mut Lexer<'_>, row: &mut Vec<Value>)
     }
 }
 
-/// Values to the line's end, behind those that are there.
+/// Values to the line's end, after those that were read.
 fn read_values(
     alloc: Global,
     lexer: &mut Lexer<'_>,
@@ -273,7 +274,7 @@ fn read_values(
     Ok(())
 }
 
-/// Why there are no values where those before the lexer are refused: the first in the order of
+/// Why there are no values if those before the lexer are refused: the first in the order of
 /// refusals to the line's end.
 #[inline(never)]
 fn read_refused(alloc: Global, lexer: &mut Lexer<'_>, refusal: LineRefusal) -> LineRefusal
@@ -290,7 +291,7 @@ fn read_refused(alloc: Global, lexer: &mut Lexer<'_>, refusal: LineRefusal) -> L
     first
 }
 
-/// The first refusal, where one more item was read.
+/// The first refusal, after one more item was read.
 fn refused_by(first: LineRefusal, item: Result<Value, LineRefusal>) -> LineRefusal
     ensures { (xs : Tuple) (x : Datum)
         → IsRefused (Some xs) first → ReadsAs is_small_value (Some x) item

@@ -6,19 +6,19 @@ ghost use Rattle.djq_parser.specs.Splitting.{IsFront, IsFirstLf};
 use djq_protocol::limits::LINE_BYTES;
 use memchr::memchr;
 
-/// What stands in front of a session's bytes.
+/// What a session's bytes begin with.
 #[derive(Clone, Copy, Debug)]
 pub enum Front {
-    /// A line: `end` bytes, and what is behind it begins at `rest`.
+    /// A line: `end` bytes, and the bytes after it begin at `rest`.
     Line {
         /// The number of its bytes, without LF and without one CR before it.
         end: usize,
-        /// Where what is behind the line begins.
+        /// The place at which the bytes after the line begin.
         rest: usize,
     },
     /// No whole line.
     Dry,
-    /// A line that is too long, or that is going to be.
+    /// A line that is too long, or that will be.
     Long,
 }
 
@@ -26,7 +26,7 @@ pub enum Front {
 pub struct Splitter;
 
 impl Splitter {
-    /// What stands in front of the bytes. It looks at no more than 4,098 of them.
+    /// What the bytes begin with. It looks at no more than 4,098 of them.
     pub fn front(bytes: &[u8]) -> Front
         ensures { IsFront bytes.now result }
     {
