@@ -1,4 +1,4 @@
-//! The lines that end a session, in the room that is kept for its last line.
+//! The lines that end a session, in the room that is reserved for its last line.
 ghost use Rattle.std.specs.Prelude.{◌≡◌, ◌≤◌};
 ghost use Rattle.djq_protocol.specs.Reply.{end_line, input_cut};
 ghost use Rattle.djq_protocol.specs.declared.limits.TheConstants.{LAST_LINE_BYTES};
@@ -8,7 +8,7 @@ use crate::short::say;
 use bytes::BytesMut;
 use djq_protocol::EndLine;
 
-/// Tells that the input ended within a line.
+/// Reports that the input ended within a line.
 pub fn say_cut(out: &mut BytesMut)
     requires { LAST_LINE_BYTES ≤ out.old.spare }
     ensures { Says out.old out.new input_cut }
@@ -16,7 +16,7 @@ pub fn say_cut(out: &mut BytesMut)
     say(out, b"err 13 cut");
 }
 
-/// Tells why the session is ended.
+/// Reports why the session is ended.
 pub fn say_end(out: &mut BytesMut, end: EndLine)
     requires { LAST_LINE_BYTES ≤ out.old.spare }
     ensures { Says out.old out.new (end_line end) }
@@ -24,7 +24,7 @@ pub fn say_end(out: &mut BytesMut, end: EndLine)
     out.extend_reserved(end_bytes(end));
 }
 
-/// The line that tells why a session is ended, for one that has no output.
+/// The line that reports why a session is ended, for one that has no output.
 pub fn end_bytes(end: EndLine) -> &'static [u8]
     ensures { result.now ≡ end_line end }
 {

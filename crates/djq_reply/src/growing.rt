@@ -1,8 +1,8 @@
 //! The lines of listings and changes, which are of any length.
 //!
-//! A line of values is written into all the room that there is, which is taken once; what it doesn't
-//! need is given back. Where the room may be too small, the line is printed piece by piece, and each
-//! piece asks for its own. Out of memory its pieces are taken back, once for the whole line.
+//! A line of values is written into all the room that there is, which is claimed once; unused room
+//! is released. If the room may be too small, the line is printed piece by piece, and each piece
+//! reserves its own. If memory runs out, its pieces are removed, once for the whole line.
 ghost use Rattle.std.specs.Prelude.{◌≡◌, ◌≤◌, ◌++◌, codes, length};
 ghost use Rattle.djq_protocol.specs.Reply.{answer_line, at_line, cells_text, change_line, last_line};
 ghost use Rattle.djq_protocol.specs.Reply.{line};
@@ -24,7 +24,7 @@ use djq_value::{
 ///
 /// # Errors
 ///
-/// `NoMem` comes only where the room is too small and can't grow; the output is then as before.
+/// `NoMem` is returned only if the room is too small and can't grow; the output is then as before.
 #[tactic(auto, using(crate::proofs::Printing::line_put, crate::proofs::Printing::none_put, crate::proofs::Printing::puts_alike))]
 pub fn put_answer<A: Answered>(answer: &A, out: &mut BytesMut) -> Result<(), NoMem>
     ensures { Puts out.old out.new (answer_line (A.values answer.now)) result }
@@ -54,7 +54,7 @@ fn write_answer<A: Answered>(answer: &A, bytes: &mut [u8], at: usize) -> Option<
     write_values(answer, bytes, front)
 }
 
-/// An answer, where the room for it may be too small.
+/// An answer, if the room for it may be too small.
 #[inline(never)]
 fn put_answer_by_pieces<A: Answered>(answer: &A, out: &mut BytesMut) -> Result<(), NoMem>
     ensures { Puts out.old out.new (answer_line (A.values answer.now)) result }
@@ -67,7 +67,7 @@ fn put_answer_by_pieces<A: Answered>(answer: &A, out: &mut BytesMut) -> Result<(
     outcome
 }
 
-/// An answer's line value by value, each asking for its own room.
+/// An answer's line value by value, each reserving its own room.
 fn add_answer<A: Answered>(answer: &A, out: &mut BytesMut) -> Result<(), NoMem>
     ensures { AppendsPart out.old out.new (answer_line (A.values answer.now)) result }
 {
@@ -76,11 +76,11 @@ fn add_answer<A: Answered>(answer: &A, out: &mut BytesMut) -> Result<(), NoMem>
     put(out, b"\n")
 }
 
-/// Appends an answer that came or went, as a watch reports it.
+/// Appends an answer that a change inserted or deleted, as a watch reports it.
 ///
 /// # Errors
 ///
-/// `NoMem` comes only where the room is too small and can't grow; the output is then as before.
+/// `NoMem` is returned only if the room is too small and can't grow; the output is then as before.
 #[tactic(auto, using(crate::proofs::Printing::line_put, crate::proofs::Printing::none_put, crate::proofs::Printing::puts_alike))]
 pub fn put_change<A: Answered>(
     sign: Sign,
@@ -103,7 +103,7 @@ pub fn put_change<A: Answered>(
     }
 }
 
-/// An answer that came or went, from a place on.
+/// An answer that was inserted or deleted, from a place on.
 fn write_change<A: Answered>(
     sign: Sign,
     query: &[u8],
@@ -123,7 +123,7 @@ fn write_change<A: Answered>(
     write_values(answer, bytes, front)
 }
 
-/// An answer that came or went, where the room for it may be too small.
+/// An answer that was inserted or deleted, if the room for it may be too small.
 #[inline(never)]
 fn put_change_by_pieces<A: Answered>(
     sign: Sign,
@@ -141,7 +141,7 @@ fn put_change_by_pieces<A: Answered>(
     outcome
 }
 
-/// A change's line value by value, each asking for its own room.
+/// A change's line value by value, each reserving its own room.
 fn add_change<A: Answered>(
     sign: Sign,
     query: &Name,
@@ -155,7 +155,7 @@ fn add_change<A: Answered>(
     put(out, b"\n")
 }
 
-/// What stands in front of the values.
+/// The text before the values.
 fn add_front(sign: Sign, query: &[u8], out: &mut BytesMut) -> Result<(), NoMem>
     ensures { Puts out.old out.new (sign_text_of sign ++ query.now) result }
 {
@@ -165,7 +165,7 @@ fn add_front(sign: Sign, query: &[u8], out: &mut BytesMut) -> Result<(), NoMem>
     Ok(())
 }
 
-/// The sign in front of an answer that came or went, with its space.
+/// The sign before an answer that was inserted or deleted, with its space.
 fn sign_text(sign: Sign) -> &'static [u8]
     ensures { result.now ≡ sign_text_of sign }
 {
@@ -175,12 +175,12 @@ fn sign_text(sign: Sign) -> &'static [u8]
     }
 }
 
-/// Appends the line behind the answers that came or went with a change: the query, and the number
+/// Appends the line after the answers that a change inserted or deleted: the query, and the number
 /// of the change.
 ///
 /// # Errors
 ///
-/// `NoMem` comes only where the room is too small and can't grow; the output is then as before.
+/// `NoMem` is returned only if the room is too small and can't grow; the output is then as before.
 pub fn put_at(query: &Name, seq: u64, out: &mut BytesMut) -> Result<(), NoMem>
     ensures { Puts out.old out.new (at_line query.now seq) result }
 {
@@ -195,12 +195,12 @@ pub fn put_at(query: &Name, seq: u64, out: &mut BytesMut) -> Result<(), NoMem>
     Ok(())
 }
 
-/// Appends the lines that explain the tree of a query, each with its line end, and `end` behind
+/// Appends the lines that explain the tree of a query, each with its line end, and `end` after
 /// them.
 ///
 /// # Errors
 ///
-/// `NoMem` comes only where the room is too small and can't grow; the output is then as before.
+/// `NoMem` is returned only if the room is too small and can't grow; the output is then as before.
 pub fn put_explained(lines: &[u8], out: &mut BytesMut) -> Result<(), NoMem>
     ensures { Puts out.old out.new (lines.now ++ codes "end\n") result }
 {
@@ -214,7 +214,7 @@ pub fn put_explained(lines: &[u8], out: &mut BytesMut) -> Result<(), NoMem>
 ///
 /// # Errors
 ///
-/// `NoMem` comes only where the room is too small and can't grow; the output is then as before.
+/// `NoMem` is returned only if the room is too small and can't grow; the output is then as before.
 pub fn put_member(name: &Name, out: &mut BytesMut) -> Result<(), NoMem>
     ensures { Puts out.old out.new (member_line name.now) result }
 {
@@ -230,7 +230,7 @@ pub fn put_member(name: &Name, out: &mut BytesMut) -> Result<(), NoMem>
 ///
 /// # Errors
 ///
-/// `NoMem` comes only where the room is too small and can't grow; the output is then as before.
+/// `NoMem` is returned only if the room is too small and can't grow; the output is then as before.
 pub fn put_last(is_end: bool, out: &mut BytesMut) -> Result<(), NoMem>
     ensures { Puts out.old out.new (last_line is_end) result }
 {
@@ -241,7 +241,7 @@ pub fn put_last(is_end: bool, out: &mut BytesMut) -> Result<(), NoMem>
     }
 }
 
-/// Values, each behind a space.
+/// Values, each after a space.
 fn add_cells<A: Answered>(answer: &A, out: &mut BytesMut) -> Result<(), NoMem>
     requires { KEPT ≤ out.old.spare }
     ensures { AppendsPart out.old out.new (cells_text (A.values answer.now)) result }
@@ -252,8 +252,8 @@ fn add_cells<A: Answered>(answer: &A, out: &mut BytesMut) -> Result<(), NoMem>
     Ok(())
 }
 
-/// Takes all the room but the one that stays behind what is queued, and gives the place where it
-/// begins.
+/// Claims all the room but the bytes that remain after the queued ones, and returns the place at
+/// which it begins.
 fn take_room(out: &mut BytesMut) -> usize
     ensures { RoomIsTaken out.old out.new result }
 {
@@ -262,7 +262,7 @@ fn take_room(out: &mut BytesMut) -> usize
     start
 }
 
-/// Values, each behind a space, and the line's end, from a place on.
+/// Values, each after a space, and the line's end, from a place on.
 fn write_values<A: Answered>(answer: &A, bytes: &mut [u8], at: usize) -> Option<usize>
     requires { at ≤ length bytes.old }
     ensures { Writes bytes.old bytes.new at (line (cells_text (A.values answer.now))) result }

@@ -1,9 +1,9 @@
 //! Every reply and end line of the protocol, as bytes that are queued for a session.
 //!
-//! A short reply goes into room that was kept before its command began: it takes no memory and
-//! leaves room for the session's last line. The lines of a listing, of a change and of a rest are
-//! of any length, and so is the text that explains a tree: each is appended whole, or out of memory
-//! not at all.
+//! A short reply is written into room that was reserved before its command began: it allocates
+//! nothing and leaves room for the session's last line. The lines of a listing, of a change and of
+//! a rest are of any length, and so is the text that explains a tree. Each is appended whole, or,
+//! out of memory, not at all.
 //!
 //! ```text
 //! say_added      Ok(More(2)), at 7 changes    ok added 7 2
@@ -19,17 +19,16 @@
 //! say_end        EndLine::Slow                end slow
 //! ```
 //!
-//! `specs/Reply.antt` of djq_protocol says what the bytes of each reply are. Nothing here decides
-//! which reply a command gets, and nothing sends: who calls owns the buffer.
+//! `specs/Reply.antt` of djq_protocol defines the bytes of each reply. Nothing here decides which
+//! reply a command gets, and nothing sends: the caller owns the buffer.
 //!
-//! What surprises: room is asked for in the contract of a call. A `say_` call can't fail, and its
-//! caller owes it 256 bytes and 32 behind them, or for a last line those 32 alone. A `put_` call
-//! asks for memory where its room is too small.
+//! What surprises: room is required in the contract of a call. A `say_` call can't fail, and its
+//! caller has to provide 256 bytes and 32 after them, or for a last line those 32 alone. A `put_`
+//! call allocates if its room is too small.
 //!
 //! Inside, `short` and `refusal` are the replies of fixed room, `registered` that of `query`,
 //! `growing` those of any length, and `ending` the last lines. Values are printed by djq_value, and
-//! an answer is told from where it stands, by the trait [`Answered`](djq_model::Answered), without
-//! being made.
+//! an answer is read in place, by the trait [`Answered`](djq_model::Answered), without being built.
 #![tactic(auto)]
 
 pub use ending::{end_bytes, say_cut, say_end};

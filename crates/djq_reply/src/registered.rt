@@ -1,5 +1,5 @@
-//! What `query` is answered. A rest is of any length: its line is printed piece by piece, and taken
-//! back out of memory.
+//! The reply to `query`. A rest is of any length: its line is printed piece by piece, and removed
+//! if memory runs out.
 ghost use Rattle.std.specs.Prelude.{◌≡◌, ◌+◌, ◌≤◌, ◌∷◌, ◌++◌, codes};
 ghost use Rattle.djq_hypergraph.specs.Naming.{edge_text, comma_listed, name_at};
 ghost use Rattle.djq_protocol.specs.Reply.{edges_text, query_reply, rest_line};
@@ -19,8 +19,8 @@ use djq_value::put;
 ///
 /// # Errors
 ///
-/// `NoMem` comes only where the room is too small, so for a rest alone, and can't grow; the output
-/// is then as before.
+/// `NoMem` is returned only if the room is too small, so for a rest alone, and can't grow; the
+/// output is then as before.
 pub fn put_registered(
     outcome: &Result<QueryOutcome, Refusal>,
     out: &mut BytesMut,
@@ -54,7 +54,7 @@ fn put_rest(words: &[u8], rest: &NamedRest, out: &mut BytesMut) -> Result<(), No
     outcome
 }
 
-/// A rest behind these words, edge by edge.
+/// A rest after these words, edge by edge.
 fn add_rest(words: &[u8], rest: &NamedRest, out: &mut BytesMut) -> Result<(), NoMem>
     ensures { AppendsPart out.old out.new (rest_line words.now rest.now) result }
 {
@@ -63,7 +63,7 @@ fn add_rest(words: &[u8], rest: &NamedRest, out: &mut BytesMut) -> Result<(), No
     put(out, b"\n")
 }
 
-/// Edges, each behind a space.
+/// Edges, each after a space.
 fn add_edges(names: &Names, edges: &Edges, out: &mut BytesMut) -> Result<(), NoMem>
     requires { KEPT ≤ out.old.spare }
     ensures { AppendsPart out.old out.new (edges_text names.now edges.now) result }
@@ -74,7 +74,7 @@ fn add_edges(names: &Names, edges: &Edges, out: &mut BytesMut) -> Result<(), NoM
     Ok(())
 }
 
-/// An edge behind a space.
+/// An edge after a space.
 fn add_edge(names: &Names, edge: VarSet, out: &mut BytesMut) -> Result<(), NoMem>
     ensures { AppendsPart out.old out.new (32 ∷ edge_text names.now edge) result }
 {
@@ -89,7 +89,7 @@ fn add_edge(names: &Names, edge: VarSet, out: &mut BytesMut) -> Result<(), NoMem
     }
 }
 
-/// Variables, each behind a comma.
+/// Variables, each after a comma.
 fn add_listed(names: &Names, variables: VarSet, out: &mut BytesMut) -> Result<(), NoMem>
     requires { KEPT ≤ out.old.spare }
     ensures { AppendsPart out.old out.new (comma_listed names.now variables) result }
@@ -101,7 +101,7 @@ fn add_listed(names: &Names, variables: VarSet, out: &mut BytesMut) -> Result<()
     Ok(())
 }
 
-/// A variable behind a comma.
+/// A variable after a comma.
 fn add_variable(names: &Names, variable: usize, out: &mut BytesMut) -> Result<(), NoMem>
     ensures { AppendsPart out.old out.new (codes "," ++ name_at names.now variable) result }
 {
@@ -109,7 +109,7 @@ fn add_variable(names: &Names, variable: usize, out: &mut BytesMut) -> Result<()
     put(out, name_of(names, variable))
 }
 
-/// The name of a variable; empty where it has none.
+/// The name of a variable; empty if it has none.
 fn name_of(names: &Names, variable: usize) -> &[u8]
     ensures { result.now ≡ name_at names.now variable }
 {

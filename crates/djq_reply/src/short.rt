@@ -1,4 +1,4 @@
-//! Replies of at most 256 bytes, in room that was kept.
+//! Replies of at most 256 bytes, in room that was reserved.
 ghost use Rattle.std.specs.Prelude.{◌≡◌, ◌+◌, ◌<◌, ◌≤◌, ◌++◌, codes, length};
 ghost use Rattle.std.specs.Fmt.{decimal};
 ghost use Rattle.djq_protocol.specs.Reply.{add_reply, bye, delete_reply, done_reply, has_reply};
@@ -33,8 +33,8 @@ fn say_decimal(out: &mut BytesMut, number: u64)
     extend_digits(number, digit_count(number), out);
 }
 
-/// Words, a number of 20 digits at most, and what stands behind it. Where it is called the words are
-/// known, and are put there without a copy whose length isn't.
+/// Words, a number of 20 digits at most, and what follows it. At its call sites the words are
+/// known, so they are written without a copy of unknown length.
 #[inline(always)]
 #[tactic(auto, using(crate::proofs::Printing::few_digits))]
 fn say_digits(out: &mut BytesMut, words: &[u8], number: u64, behind: &[u8])
@@ -218,7 +218,7 @@ pub fn say_held(out: &mut BytesMut, outcome: Result<(), Refusal>, held: usize)
     }
 }
 
-/// Answers `done` with how many rows came, at a number of changes.
+/// Answers `done` with how many rows were inserted, at a number of changes.
 pub fn say_batch_done(out: &mut BytesMut, outcome: Result<usize, Refusal>, seq: u64)
     requires room { REPLY_BYTES + LAST_LINE_BYTES ≤ out.old.spare }
     ensures kept { LAST_LINE_BYTES ≤ out.new.spare }
