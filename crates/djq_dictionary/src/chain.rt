@@ -5,9 +5,9 @@ ghost use Rattle.djq_dictionary.specs.declared.dict.TheConstants.{MOST_TEXTS};
 
 use std::marker::Model;
 
-/// Where a chain goes on: at a number, or nowhere.
+/// The next number of a chain, or its end.
 ///
-/// Contracts see one past the number, and 0 where the chain ends.
+/// Contracts see one past the number, and 0 at the end of the chain.
 #[derive(Clone, Copy, Debug)]
 pub(crate) struct Chain {
     past: u32,
@@ -24,14 +24,14 @@ impl Model for Chain {
 }
 
 impl Chain {
-    /// A chain that goes nowhere.
+    /// A chain at its end.
     pub(crate) fn end() -> Chain
         ensures { result ≡ 0 }
     {
         Chain { past: 0 }
     }
 
-    /// A chain that goes on at a number.
+    /// A chain whose next number is this one.
     pub(crate) fn at(number: u32) -> Chain
         requires { number < MOST_TEXTS }
         ensures { result ≡ number + 1 }
@@ -40,7 +40,7 @@ impl Chain {
     }
 }
 
-/// What the index keeps of the text with a number.
+/// What the index stores of the text with a number.
 #[derive(Clone, Copy, Debug)]
 pub(crate) struct Link {
     /// The lower half of its hash.
@@ -49,7 +49,7 @@ pub(crate) struct Link {
     pub(crate) next: Chain,
 }
 
-/// The bucket of a hash, where there are so many buckets.
+/// The bucket of a hash, among so many buckets.
 pub(crate) fn bucket_of(hash: u32, buckets: usize) -> usize
     requires { 0 < buckets }
     ensures value { result ≡ bucket_of buckets hash }
@@ -58,7 +58,8 @@ pub(crate) fn bucket_of(hash: u32, buckets: usize) -> usize
     hash as usize & (buckets - 1)
 }
 
-/// Puts the link of a number in front of its bucket's chain, where those before it are in theirs.
+/// Puts the link of a number at the front of its bucket's chain, given that those before it are in
+/// theirs.
 pub(crate) fn put_in_front(links: &mut [Link], heads: &mut [Chain], number: usize)
     requires within { number < length links.old }
     requires few { length links.old ≤ MOST_TEXTS }
@@ -87,7 +88,7 @@ pub(crate) fn chain_all(links: &mut [Link], heads: &mut [Chain])
 
 /// The first number with a hash on the rest of a chain.
 ///
-/// Where the chain is the one of a bucket below n, this is the last number below n with the hash.
+/// If the chain is the one of a bucket below n, this is the last number below n with the hash.
 pub(crate) fn follow(links: &[Link], from: Chain, hash: u32) -> Option<u32>
     requires within { from ≤ length links.now }
     requires falling { IsFalling (nexts_of links.now) }

@@ -71,7 +71,7 @@ impl Dict {
         self.texts.get(number as usize)
     }
 
-    /// The number of a text, none exactly where the text isn't known.
+    /// The number of a text, none if and only if the text isn't known.
     pub fn find(&self, text: &[u8]) -> Option<u32>
         ensures known { IfSome result (λ n. slice_get self.now n ≡ Some text.now) }
         ensures unknown { IfNone result (IsUnknown self.now text.now) }
@@ -82,9 +82,9 @@ impl Dict {
 
     /// The number of a text, which becomes known if it isn't.
     ///
-    /// A known text takes no memory. For a new one all memory is taken before it becomes known, so a refusal
-    /// leaves all as it was: [`InternRefusal::Full`] exactly where the text is unknown and [`MOST_TEXTS`] are
-    /// known, [`InternRefusal::NoMem`] out of memory.
+    /// A known text allocates nothing. For a new one all memory is allocated before it becomes
+    /// known, so a refusal leaves all as it was. It is [`InternRefusal::Full`] if and only if the
+    /// text is unknown and [`MOST_TEXTS`] are known, and [`InternRefusal::NoMem`] out of memory.
     pub fn intern(&mut self, text: &[u8]) -> Result<u32, InternRefusal>
         ensures number { IfOk result (λ n. slice_get self.new n ≡ Some text.now) }
         ensures learned { OnOk result (Learns self.old text.now self.new) }

@@ -62,7 +62,7 @@ impl Index {
         follow(&self.links, link.next, link.hash)
     }
 
-    /// Makes room for one more number. There are at least as many buckets as numbers afterwards.
+    /// Reserves room for one more number. There are at least as many buckets as numbers afterwards.
     pub(crate) fn reserve(&mut self) -> Result<(), AllocError>
         ensures kept { self.new.hashes ≡ self.old.hashes }
         ensures place { OnOk result (0 < self.new.places) }
@@ -85,7 +85,7 @@ impl Index {
         Ok(())
     }
 
-    /// Gives the next number to a hash, in room that was made for it.
+    /// Gives the next number to a hash, in room that was reserved for it.
     pub(crate) fn push(&mut self, hash: u32)
         requires few { length self.old.hashes < MOST_TEXTS }
         requires place { 0 < self.old.places }

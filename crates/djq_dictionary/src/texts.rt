@@ -3,7 +3,7 @@ ghost use Rattle.std.specs.Prelude.{◌≡◌, ◌<◌, ◌≤◌, ◌++◌, ◌
 use std::alloc::{AllocError, Global};
 use std::marker::Model;
 
-/// A list of texts whose bytes stand in one buffer.
+/// A list of texts whose bytes are in one buffer.
 ///
 /// Contracts see the texts, and for how many bytes and how many texts there is room.
 #[derive(Debug, Drop)]
@@ -30,7 +30,7 @@ impl Model for Texts {
 }
 
 impl Texts {
-    /// No text, which takes no memory.
+    /// No text. Allocates nothing.
     pub(crate) fn new(alloc: Global) -> Texts
         ensures { result.texts ≡ [] }
     {
@@ -56,7 +56,7 @@ impl Texts {
         &self.bytes[start..self.ends[position]]
     }
 
-    /// Makes room for one more text, of so many bytes.
+    /// Reserves room for one more text, of so many bytes.
     pub(crate) fn reserve(&mut self, bytes: usize) -> Result<(), AllocError>
         ensures kept { self.new.texts ≡ self.old.texts }
         ensures room { OnOk result (bytes ≤ self.new.room) }
@@ -67,7 +67,7 @@ impl Texts {
         Ok(())
     }
 
-    /// Puts a text behind the others, in room that was made for it.
+    /// Appends a text, in room that was reserved for it.
     pub(crate) fn push(&mut self, text: &[u8])
         requires room { length text.now ≤ self.old.room }
         requires place { 0 < self.old.places }
@@ -78,7 +78,7 @@ impl Texts {
     }
 }
 
-/// Where a text starts in the buffer: where the one before it ends.
+/// The start of a text in the buffer: the end of the one before it.
 fn start_of(ends: &[usize], position: usize) -> usize
     requires { position < length ends.now }
     ensures { slice_get (0 ∷ ends.now) position ≡ Some result }
