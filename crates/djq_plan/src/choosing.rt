@@ -1,4 +1,4 @@
-//! The choice rule: which step comes next.
+//! The choice rule: which step is next.
 ghost use Rattle.std.specs.Prelude.{◌≡◌, ◌<◌, ◌&&◌, not, length, is_some};
 ghost use Rattle.djq_hypergraph.specs.Hypergraph.{subset};
 ghost use Rattle.djq_tree.specs.Choosing.{choose, choose_equal, choose_inside, cover, lowest, twin};
@@ -6,12 +6,12 @@ ghost use Rattle.djq_tree.specs.Choosing.{choose, choose_equal, choose_inside, c
 use djq_hypergraph::{VarSet, own_variables};
 use djq_tree::Choice;
 
-/// The step that the rule names for the current labels, where the variables of `keep` may not be
-/// removed.
+/// The step that the rule names for the current labels, given that the variables of `keep` may not
+/// be removed.
 ///
-/// The lowest node with a variable that lies in no other label and may be removed is trimmed of all
+/// The lowest node with a variable that is in no other label and may be removed is trimmed of all
 /// such variables. Failing that, the lowest two nodes with equal labels meet; failing that, the
-/// lowest node whose label lies properly within another one meets the lowest such node.
+/// lowest node whose label is a proper subset of another one meets the lowest such node.
 pub(crate) fn choose_step(labels: &[VarSet], keep: VarSet) -> Choice
     ensures { result ≡ choose keep labels.now }
 {
@@ -25,7 +25,7 @@ pub(crate) fn choose_step(labels: &[VarSet], keep: VarSet) -> Choice
     choose_twins(labels)
 }
 
-/// The lowest two nodes with equal labels meet; else one that lies within another.
+/// The lowest two nodes with equal labels meet; else one whose label is a subset of another's.
 fn choose_twins(labels: &[VarSet]) -> Choice
     ensures { result ≡ choose_equal labels.now (lowest (λ a. is_some (twin labels.now a)) labels.now) }
 {
@@ -37,7 +37,8 @@ fn choose_twins(labels: &[VarSet]) -> Choice
     choose_covered(labels)
 }
 
-/// The lowest node whose label lies properly within another one meets the lowest such node; else no step applies.
+/// The lowest node whose label is a proper subset of another one meets the lowest such node; else
+/// no step applies.
 fn choose_covered(labels: &[VarSet]) -> Choice
     ensures { result ≡ choose_inside labels.now (lowest (λ s. is_some (cover labels.now s)) labels.now) }
 {
@@ -82,7 +83,7 @@ fn are_equal(a: VarSet, b: VarSet) -> bool
     a.is_subset(b) && b.is_subset(a)
 }
 
-/// Whether a label lies properly within another one.
+/// Whether a label is a proper subset of another one.
 fn is_inside(inner: VarSet, outer: VarSet) -> bool
     ensures { result ≡ (subset inner outer && not (subset outer inner)) }
 {

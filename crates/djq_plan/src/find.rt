@@ -5,7 +5,7 @@ ghost use Rattle.djq_plan.specs.Search.{HasNoOwn};
 
 use djq_hypergraph::{Step, VarSet, own_variables};
 
-/// A step that takes out a variable which lies in one edge only.
+/// A step that removes a variable which is in one edge only.
 fn find_vertex(sets: &[VarSet]) -> Option<Step>
     ensures none { IfNone result (HasNoOwn sets.now) }
     ensures some { IfSome result (IsStep sets.now) }
@@ -20,7 +20,7 @@ fn find_vertex(sets: &[VarSet]) -> Option<Step>
     None
 }
 
-/// Another edge that the edge lies within.
+/// Another edge that the edge is a subset of.
 fn find_over(sets: &[VarSet], edge: usize) -> Option<usize>
     requires { edge < length sets.now }
     ensures none { IfNone result ((j : ℕ) → IsStep sets.now (Step.Edge edge j) → ⊥) }
@@ -35,7 +35,7 @@ fn find_over(sets: &[VarSet], edge: usize) -> Option<usize>
     None
 }
 
-/// A step that takes out an edge which lies within another one.
+/// A step that removes an edge which is a subset of another one.
 fn find_edge(sets: &[VarSet]) -> Option<Step>
     ensures none { IfNone result ((i j : ℕ) → IsStep sets.now (Step.Edge i j) → ⊥) }
     ensures some { IfSome result (IsStep sets.now) }
@@ -59,7 +59,7 @@ pub fn find_step(sets: &[VarSet]) -> Option<Step>
     find_edge(sets)
 }
 
-/// A variable that lies in an edge, if there is one.
+/// A variable that is in an edge, if there is one.
 pub fn find_variable(sets: &[VarSet]) -> Option<usize>
     ensures none { IfNone result (HasNoVariables sets.now) }
     ensures some { IfSome result (λ x. 0 < degree x sets.now) }

@@ -59,7 +59,7 @@ impl Growing {
         self.nodes.len()
     }
 
-    /// Puts a node with its label behind the others, without making it current.
+    /// Appends a node with its label, without making it current.
     fn push_node(&mut self, node: Node, label: VarSet) -> Result<(), AllocError>
         ensures { OnOk result (self.new ≡ record self.old {
           nodes = self.old.nodes ++ node
@@ -105,7 +105,7 @@ impl Growing {
         Ok(())
     }
 
-    /// Takes the step that the choice rule names, and says whether there is one.
+    /// Applies the step that the choice rule names, and returns whether there is one.
     fn take_step(&mut self, keep: VarSet) -> Result<bool, AllocError>
         ensures { IfOk result (λ b. Steps keep self.old self.new b) }
     {
@@ -123,7 +123,7 @@ impl Growing {
     }
 
     /// The first stage: steps that remove no variable of the head, until no others are left.
-    /// Whether it came to its end.
+    /// Returns whether it reached its end.
     pub(crate) fn run_first(&mut self, head: VarSet) -> Result<bool, AllocError>
         ensures { IfOk result (λ b. IsStageEnd (are_within head) head self.old self.new b) }
     {
@@ -136,7 +136,7 @@ impl Growing {
     }
 
     /// The second stage: steps that may remove any variable, until one node without any is left.
-    /// Whether it came to its end.
+    /// Returns whether it reached its end.
     fn run_second(&mut self) -> Result<bool, AllocError>
         ensures { IfOk result (λ b. IsStageEnd is_root [] self.old self.new b) }
     {
@@ -148,7 +148,7 @@ impl Growing {
         Ok(true)
     }
 
-    /// Runs the second stage and says, where it comes to its end, which nodes are in `out`: those
+    /// Runs the second stage and returns, if it reaches its end, which nodes are in `out`: those
     /// that were current as it began, and all later ones.
     pub(crate) fn grow_out(&mut self, alloc: Global) -> Result<Option<Vec<bool>>, AllocError>
         ensures { IfOk result (λ out. MatchOption out (IsStuckAt is_root [] self.old self.new)
@@ -240,7 +240,7 @@ fn numbers_to(alloc: Global, end: usize) -> Result<Vec<usize>, AllocError>
     Ok(numbers)
 }
 
-/// Takes an item out and puts another one last, which takes no memory.
+/// Removes an item and appends another one, which allocates nothing.
 fn replace_one<T: Copy>(list: &mut Vec<T>, place: usize, last: T)
     requires { place < length list.old.items }
     ensures { list.new.items ≡ remove list.old.items place ++ last ∷ [] }
@@ -249,7 +249,7 @@ fn replace_one<T: Copy>(list: &mut Vec<T>, place: usize, last: T)
     list.push(last).unwrap();
 }
 
-/// Takes two items out and puts another one last, which takes no memory.
+/// Removes two items and appends another one, which allocates nothing.
 fn replace_two<T: Copy>(list: &mut Vec<T>, left: usize, right: usize, last: T)
     requires left { left < length list.old.items }
     requires right { right < length list.old.items }
@@ -262,7 +262,7 @@ fn replace_two<T: Copy>(list: &mut Vec<T>, left: usize, right: usize, last: T)
     list.push(last).unwrap();
 }
 
-/// Whether each label lies within the set.
+/// Whether each label is a subset of the set.
 fn all_within(labels: &[VarSet], set: VarSet) -> bool
     ensures { result ≡ are_within set labels.now }
 {

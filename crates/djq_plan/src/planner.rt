@@ -13,24 +13,24 @@ use djq_hypergraph::{Edges, VarSet};
 use djq_tree::Tree;
 use std::alloc::{AllocError, Global};
 
-/// The tree over which the answers of a query are kept and listed: that of the query with these
-/// edges, the sets of its atoms' variables, and this head.
+/// The tree over which the answers of a query are maintained and listed: that of the query with
+/// these edges, the sets of its atoms' variables, and this head.
 ///
-/// It is `Ok` exactly where the query is free-connex (Bagan, Durand and Grandjean 2007), `Cyclic`
-/// exactly where the edges have no join tree, and `NotConnex` exactly where they have one, but the
-/// head's edge followed by them has none whose root is the head; these three exclude each other.
-/// Any of them may be replaced by `NoMem`.
+/// It is `Ok` if and only if the query is free-connex (Bagan, Durand and Grandjean 2007), and
+/// `Cyclic` if and only if the edges have no join tree. It is `NotConnex` if and only if they have
+/// one, but the head's edge followed by them has none whose root is the head. These three exclude
+/// each other. Any of them may be replaced by `NoMem`.
 ///
 /// The tree is the one that the choice rule of `djq_tree` names, step by step. Its labels in `out`
 /// have the head's variables and no others. With m edges, v variables and h head variables it has
 /// 2m - 1 nodes that aren't trims and at most v trims, of which at most h are of the second stage.
 ///
-/// A flat query has a plan, and it is flat exactly where the two labels of each meet of its tree are
-/// equal: its updates then take a number of steps that doesn't grow with the rows.
+/// A flat query has a plan, and it is flat if and only if the two labels of each meet of its tree
+/// are equal. Its updates then need a number of steps that doesn't grow with the rows.
 ///
-/// Each of the at most 2m + v steps is found by O(m^2) operations on words; nothing is ever taken
-/// back. Beside the tree, the numbers and labels of the at most m current nodes take memory while
-/// it grows.
+/// Each of the at most 2m + v steps is found by O(m^2) operations on words; no step is ever undone.
+/// Beside the tree, the numbers and labels of the at most m current nodes need memory while it
+/// grows.
 pub fn plan(alloc: Global, edges: &Edges, head: &VarSet) -> Result<Tree, PlanRefusal>
     requires some { 0 < length edges.now }
     requires head { AreCovered head.now edges.now }
@@ -46,7 +46,7 @@ pub fn plan(alloc: Global, edges: &Edges, head: &VarSet) -> Result<Tree, PlanRef
     }
 }
 
-/// The tree that the two stages grow, where both come to their end.
+/// The tree that the two stages grow, if both reach their end.
 fn grow_tree(alloc: Global, edges: &Edges, head: VarSet) -> Result<Option<Tree>, AllocError>
     requires some { 0 < length edges.now }
     requires head { AreCovered head edges.now }

@@ -9,21 +9,21 @@ use crate::take::take_step;
 use djq_hypergraph::{Edges, VarSet};
 use std::alloc::{AllocError, Global};
 
-/// What a reduction came to.
+/// The result of a reduction.
 #[derive(Debug, Drop)]
 pub struct Reduction {
-    /// The steps that were taken.
+    /// The steps that were applied.
     pub steps: Steps,
-    /// The edges that are left, or none where no variable is left.
+    /// The edges that are left, or none if no variable is left.
     pub rest: Edges,
 }
 
-/// Reduces the edges as far as it goes (Graham 1979; Yu and Ozsoyoglu 1979).
+/// Reduces the edges as far as possible (Graham 1979; Yu and Ozsoyoglu 1979).
 ///
-/// The rest is empty exactly where the edges have a join tree. Then the steps lead from the edges
+/// The rest is empty if and only if the edges have a join tree. Then the steps lead from the edges
 /// to edges without a variable; otherwise they lead to the rest, to which no step applies.
 ///
-/// With m edges of at most v variables it takes at most mv + m steps, each found by O(m^2)
+/// With m edges of at most v variables it needs at most mv + m steps, each found by O(m^2)
 /// operations on words. It makes no lists but those of the answer.
 pub fn reduce(alloc: Global, edges: &Edges) -> Result<Reduction, AllocError>
     ensures acyclic { IfOk result (λ r. (r.rest ≡ []) ↔ HasJoinTree edges.now) }

@@ -14,8 +14,8 @@ pub enum PlanRefusal {
     /// The edges have no join tree. A rest of their reduction shows it.
     #[error("the edges have no join tree")]
     Cyclic(Edges),
-    /// The edges have a join tree, but with the head's edge in front of them none whose root it is.
-    /// A rest of the reduction of these shows it.
+    /// The edges have a join tree, but with the head's edge before them none whose root it is. A
+    /// rest of the reduction of these shows it.
     #[error("the edges have no join tree rooted at the head")]
     NotConnex(Edges),
     /// Memory ran out.
@@ -45,7 +45,7 @@ pub(crate) fn refuse(alloc: Global, edges: &Edges, head: VarSet) -> PlanRefusal
     }
 }
 
-/// The rest of the edges where they have one, else that of the head followed by them.
+/// The rest of the edges if they have one, else that of the head followed by them.
 fn find_rest(alloc: Global, edges: &Edges, head: VarSet) -> Result<PlanRefusal, AllocError>
     requires { IsFreeConnex edges.now head → ⊥ }
     ensures { IfOk result (λ e. IsRefusal edges.now head e) }

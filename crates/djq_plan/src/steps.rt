@@ -3,8 +3,8 @@ ghost use Rattle.std.specs.Prelude.{◌≡◌, ◌==◌, length};
 use djq_hypergraph::Step;
 use std::marker::Model;
 
-/// The steps of a reduction, in the order in which they were taken. A step's positions are those of
-/// the list that it is applied to: after an edge is taken out, the edges behind it have moved up.
+/// The steps of a reduction, in the order in which they were applied. A step's positions are those
+/// of the list that it is applied to: after an edge is removed, the edges after it have moved up.
 #[derive(Debug, Drop)]
 pub struct Steps {
     steps: Vec<Step>,

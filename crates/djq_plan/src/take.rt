@@ -3,7 +3,7 @@ ghost use Rattle.djq_hypergraph.specs.Gyo.{IsStep, reduced};
 
 use djq_hypergraph::{Step, VarSet};
 
-/// Takes the step.
+/// Applies the step.
 pub fn take_step(sets: &mut Vec<VarSet>, step: Step)
     requires { IsStep sets.old.items step }
     ensures { sets.new.items ≡ reduced sets.old.items step }
