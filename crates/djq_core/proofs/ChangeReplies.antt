@@ -34,7 +34,7 @@ use Rattle.djq_commands.proofs.Replies.{refused}
 use Rattle.djq_commands.proofs.TakenLines.{with_room}
 use Rattle.djq_core.specs.Unwatched.{AffectsUnwatched}
 use Rattle.djq_core.proofs.Replies.{queued}
-use Rattle.djq_core.proofs.Sessions.{cut_at, set_at}
+use Rattle.djq_core.proofs.SessionSteps.{cut_at, set_at}
 use Rattle.djq_core.proofs.Deltas.{goes_on_same}
 use Rattle.djq_core.proofs.Queues.{has_part, queue_last, end_queued, is_of, pushed}
 

@@ -32,7 +32,7 @@ use Rattle.djq_commands.proofs.Watchers.{count_among, none_watching, unwatched, 
 use Rattle.djq_commands.proofs.Watchers.{quiet_split}
 use Rattle.djq_commands.proofs.Replies.{is_watched_none}
 use Rattle.djq_core.proofs.Replies.{queued}
-use Rattle.djq_core.proofs.Sessions.{cut_at, set_at, ids_seen, apart_of}
+use Rattle.djq_core.proofs.SessionSteps.{cut_at, set_at, ids_seen, apart_of}
 use Rattle.djq_core.proofs.Queues.{bridged, has_part, part_stays, ids_queued}
 
 -- ---- One session after another is told.

@@ -1,5 +1,6 @@
 pub mod Replies
-pub mod Sessions
+pub mod Placed
+pub mod SessionSteps
 pub mod Queues
 pub mod Changes
 pub mod Printing

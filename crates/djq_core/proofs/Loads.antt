@@ -41,7 +41,7 @@ use Rattle.djq_engine.specs.Kept.{outdated_held, Uses, DropGives, DropsRegistere
 use Rattle.djq_engine.specs.Watching.{Enrols}
 use Rattle.djq_store.specs.Registering.{EnrolsUnion}
 use Rattle.djq_commands.specs.declared.open.OpenSession.{OpenSession}
-use Rattle.djq_commands.specs.Sound.{BatchSuits, BatchesSuit, batches_of, IsSound, IsCore}
+use Rattle.djq_commands.specs.Sound.{BatchSuits, BatchesSuit, batches_of, IsSound}
 use Rattle.djq_commands.specs.Views.{session_seen, state_in}
 use Rattle.djq_commands.specs.Stepping.{refused_as}
 use Rattle.djq_commands.specs.Batching.{MakesRow, RefusedBy, held_row_of}
@@ -174,18 +174,11 @@ sound_idle k idle = record {
     nobody zero e = refl
     nobody (suc n) e = absurd (false≢true (sym e ∙ lt-ltb 0 (suc n) (omega arith)))
 
-pub idle_core : (k : Kept) (is : List ℕ) (xs : List OpenSession) (id_room room : ℕ) → IsCore k is xs id_room room → xs
-    ≡ [] → IsUnused k
-idle_core k is xs id_room room core none = idle_sound k (subst (IsSound k) none core.sound)
+pub idle_core : (k : Kept) (xs : List OpenSession) → IsSound k xs → xs ≡ [] → IsUnused k
+idle_core k xs sound none = idle_sound k (subst (IsSound k) none sound)
 
-pub core_idle : (old new : Kept) (is : List ℕ) (xs : List OpenSession) (id_room room : ℕ)
-    → IsCore old is xs id_room room → xs ≡ [] → IsUnused new → IsCore new is xs id_room room
-core_idle old new is xs id_room room core none idle = record {
-  ids_are = core.ids_are;
-  sound = subst (IsSound new) (sym none) (sound_idle new idle);
-  room_for_ids = core.room_for_ids;
-  room_for_all = core.room_for_all;
-}
+pub core_idle : (new : Kept) (xs : List OpenSession) → xs ≡ [] → IsUnused new → IsSound new xs
+core_idle new xs none idle = subst (IsSound new) (sym none) (sound_idle new idle)
 
 -- where no session is open, the batch of the loaded lines is the only one
 pub suits_loaded : (st : Store) (batch : Option (List HeldRow)) (xs : List OpenSession) → xs ≡ [] → BatchSuits st batch

@@ -22,7 +22,7 @@ use Rattle.djq_session.specs.Dialog.{dialog_is_due}
 use Rattle.djq_engine.specs.Kept.{Kept, HeldCursor}
 use Rattle.djq_commands.specs.declared.open.OpenSession.{OpenSession}
 use Rattle.djq_commands.specs.Views.{session_seen, state_in}
-use Rattle.djq_commands.specs.Sound.{IsBelowAll, Rises, IsCore}
+use Rattle.djq_commands.specs.Sound.{IsBelowAll, Rises, IsSound}
 use Rattle.djq_commands.specs.Telling.{HearsDelta}
 
 -- ---- The first session to which something is due, as it is kept and as the join machine sees it.
@@ -74,13 +74,13 @@ seen_ids : (hs : List HeldCursor) (xs : List OpenSession) → map (λ (x : OpenS
 seen_ids hs [] = refl
 seen_ids hs (x ∷ xs) = ap (λ (is : List ℕ). x.id ∷ is) (seen_ids hs xs)
 
-pub first_is_due : (k : Kept) (stopped : Bool) (is : List ℕ) (xs : List OpenSession) (id_room room from : ℕ)
-    (st : State) → IsCore k is xs id_room room → state_in k stopped xs ≡ st
+pub first_is_due : (k : Kept) (stopped : Bool) (xs : List OpenSession) (from : ℕ) (st : State) → IsSound k xs
+    → state_in k stopped xs ≡ st
     → option_map (λ (x : OpenSession). x.id)
     (find (λ (x : OpenSession). nat_le from x.id && dialog_is_due x.session) xs)
     ≡ first_due st from
-first_is_due k stopped is xs id_room room from st core seen =
-    seen_first k.cursors xs from (core.sound).rising
+first_is_due k stopped xs from st sound seen =
+    seen_first k.cursors xs from sound.rising
     ∙ ap (first_of k.cursors xs from) (seen_ids k.cursors xs)
     ∙ ap (λ (s : State). first_due s from) seen
 

@@ -1,2 +1,4 @@
 pub mod Loading
 pub mod Unwatched
+pub mod Sessions
+pub mod Lends

@@ -27,11 +27,12 @@
 //! session let go of it; `load` takes it in again. Of a batch that is done its lines are kept, which
 //! stay where they were held until the next step.
 //!
-//! Inside: `serving` has the sessions by id and the calls, `serving/load` the lines that are loaded, and
-//! `tell` what a command on rows leaves to do: each delta printed once, and then its answer.
+//! Inside: `sessions` has the sessions by id, `serving` the calls, `serving/load` the lines that are
+//! loaded, and `tell` what a command on rows leaves to do: each delta printed once, and then its answer.
 #![tactic(auto)]
 
 pub use serving::Core;
 
 mod serving;
+mod sessions;
 mod tell;

@@ -1,12 +1,10 @@
-ghost use Rattle.std.specs.Prelude.{◌≡◌, ◌<◌, ◌&&◌, [], None, nat_le, IfOk, find, option_map};
-ghost use Rattle.std.specs.Prelude.{length, slice_index, Contains};
+ghost use Rattle.std.specs.Prelude.{◌≡◌, [], None, IfOk, length};
 ghost use Rattle.djq_model.specs.Data.{rows_of};
 ghost use Rattle.djq_machine.specs.State.{opening};
-ghost use Rattle.djq_session.specs.Dialog.{dialog_is_due};
-ghost use Rattle.djq_commands.specs.Sound.{Rises};
 ghost use Rattle.djq_commands.specs.Changing.{line_where};
 ghost use Rattle.djq_commands.specs.Stepping.{line_kept};
 
+use crate::sessions::Sessions;
 use crate::tell::tell_change;
 use bytes::BytesMut;
 use djq_commands::{
@@ -28,15 +26,13 @@ mod load;
 /// last step kept, and what the batch of the loaded lines holds.
 ///
 /// ```text
-/// ids:      [ 1, 4, 5 ]              rising; a session is found by binary search
-/// sessions: [ s1, s4, s5 ]           each with its bytes and its cursors by name
+/// sessions: s1, s4, s5               by rising id, each with its bytes and its cursors by name
 /// engine:   the store: relations, queries, unions, and the cursors that the names stand for
 /// ```
 #[derive(Drop)]
 pub struct Core {
     engine: Store,
-    ids: Vec<u64>,
-    sessions: Vec<OpenSession>,
+    sessions: Sessions,
     stopped: bool,
     // where a delta is printed once for all who watch
     text: BytesMut,
@@ -55,15 +51,13 @@ impl Model for Core {
 
     ghost Value = { Visible };
 
-    ghost use Rattle.std.specs.Prelude.{vec_capacity};
     ghost use Rattle.djq_commands.specs.Views.{seen_in};
-    ghost use Rattle.djq_commands.specs.Sound.{IsCore, BatchesSuit, batches_of};
+    ghost use Rattle.djq_commands.specs.Sound.{IsSound, BatchesSuit, batches_of};
 
-    ghost view = { λ c. seen_in c.engine c.stopped c.sessions.items c.kept c.copied c.batch };
+    ghost view = { λ c. seen_in c.engine c.stopped c.sessions c.kept c.copied c.batch };
 
-    ghost invariant = { λ c. IsCore c.engine c.ids.items c.sessions.items (vec_capacity c.ids)
-        (vec_capacity c.sessions)
-        × BatchesSuit (c.engine).store (batches_of c.batch c.sessions.items) };
+    ghost invariant = { λ c. IsSound c.engine c.sessions
+        × BatchesSuit (c.engine).store (batches_of c.batch c.sessions) };
 }
 
 impl Core {
@@ -80,8 +74,7 @@ impl Core {
     {
         Ok(Core {
             engine: Store::new(alloc)?,
-            ids: Vec::with_capacity(alloc, SESSIONS)?,
-            sessions: Vec::with_capacity(alloc, SESSIONS)?,
+            sessions: Sessions::new(alloc)?,
             stopped: false,
             text: BytesMut::new(alloc),
             copied: Copied::new(alloc)?,
@@ -113,13 +106,12 @@ impl Machine for Core {
     ghost kept = { λ c. c.kept };
 
     fn open_session(&mut self, id: u64) -> Result<(), OpenRefusal> {
-        if self.ids.len() >= SESSIONS {
+        if self.sessions.len() >= SESSIONS {
             return Err(OpenRefusal::Full);
         }
         match Session::new(self.alloc) {
             Ok(session) => {
-                self.ids.push_reserved(id);
-                self.sessions.push_reserved(OpenSession { id, session });
+                self.sessions.insert(OpenSession { id, session });
                 Ok(())
             }
             Err(_) => Err(OpenRefusal::NoMem),
@@ -127,32 +119,27 @@ impl Machine for Core {
     }
 
     fn feed(&mut self, id: u64, piece: &[u8]) -> Fed {
-        let at = place_of(self.ids.as_slice(), id);
-        let found = &mut self.sessions[at];
-        if let Some(cause) = found.session.cause() {
+        let at = self.sessions.find(id);
+        let found = self.sessions.get_mut(at);
+        if let Some(cause) = found.cause() {
             return Fed::Ended(cause);
         }
-        match found.session.feed(piece) {
+        match found.feed(piece) {
             Ok(()) => Fed::Held,
             Err(_) => {
-                end_by(
-                    &mut self.engine,
-                    &mut found.session,
-                    EndLine::Memory,
-                    EndCause::Memory,
-                );
+                end_by(&mut self.engine, found, EndLine::Memory, EndCause::Memory);
                 Fed::Ended(EndCause::Memory)
             }
         }
     }
 
     fn step<L: Ledgers>(&mut self, id: u64, steps: &mut Steps<L>) -> Stepped {
-        let at = place_of(self.ids.as_slice(), id);
-        let found = &mut self.sessions[at];
+        let at = self.sessions.find(id);
+        let found = self.sessions.get_mut(at);
         let (stepped, left) = step_session(
             self.alloc,
             &mut self.engine,
-            &mut found.session,
+            found,
             &mut self.copied,
             &mut self.row,
             steps,
@@ -183,44 +170,43 @@ impl Machine for Core {
 
     #[inline]
     fn pending(&self, id: u64) -> &[u8] {
-        let at = place_of(self.ids.as_slice(), id);
-        self.sessions[at].session.pending()
+        let at = self.sessions.find(id);
+        self.sessions.get(at).pending()
     }
 
     #[inline]
     fn took(&mut self, id: u64, count: usize) {
-        let at = place_of(self.ids.as_slice(), id);
-        self.sessions[at].session.took(count);
+        let at = self.sessions.find(id);
+        self.sessions.get_mut(at).took(count);
     }
 
     fn end_session(&mut self, id: u64) {
-        let at = place_of(self.ids.as_slice(), id);
-        let found = &mut self.sessions[at];
-        match found.session.cause() {
+        let at = self.sessions.find(id);
+        let found = self.sessions.get_mut(at);
+        match found.cause() {
             Some(_had_ended) => {}
-            None => end_input(&mut self.engine, &mut found.session),
+            None => end_input(&mut self.engine, found),
         }
     }
 
     fn close_session(&mut self, id: u64) {
-        let at = place_of(self.ids.as_slice(), id);
-        let found = &mut self.sessions[at];
-        give_up(&mut self.engine, &mut found.session);
-        let _id = self.ids.remove(at);
-        let _closed = self.sessions.remove(at);
+        let at = self.sessions.find(id);
+        let found = self.sessions.get_mut(at);
+        give_up(&mut self.engine, found);
+        self.sessions.remove(at);
     }
 
     fn ids(&self) -> &[u64] {
-        self.ids.as_slice()
+        self.sessions.ids()
     }
 
     fn cause(&self, id: u64) -> Option<EndCause> {
-        let at = place_of(self.ids.as_slice(), id);
-        self.sessions[at].session.cause()
+        let at = self.sessions.find(id);
+        self.sessions.get(at).cause()
     }
 
     fn due(&self, from: u128) -> Option<u64> {
-        first_due(self.sessions.as_slice(), from)
+        self.sessions.first_due(from)
     }
 
     fn stopped(&self) -> bool {
@@ -235,29 +221,5 @@ fn is_line_kept(stepped: Stepped) -> bool
     match stepped {
         Stepped::Ran { kept } => kept,
         Stepped::Dry | Stepped::Ended(_) => false,
-    }
-}
-
-/// The first of these sessions of at least this id to which something is due.
-fn first_due(sessions: &[OpenSession], from: u128) -> Option<u64>
-    ensures { result ≡ option_map (λ x. x.id) (find (λ x. nat_le from x.id && dialog_is_due x.session) sessions.now) }
-{
-    sessions
-        .iter()
-        .find(|open| from <= u128::from(open.id) && open.session.is_due())
-        .map(|open| open.id)
-}
-
-/// Where the session of an id stands.
-#[inline]
-fn place_of(ids: &[u64], id: u64) -> usize
-    requires rising { Rises ids.now }
-    requires there { Contains ids.now id }
-    ensures within { result < length ids.now }
-    ensures there { slice_index ids.now result ≡ id }
-{
-    match ids.binary_search(&id) {
-        Ok(at) => at,
-        Err(_) => unreachable!(),
     }
 }

@@ -18,8 +18,9 @@ ghost use Rattle.djq_commands.specs.Telling.{
 };
 ghost use Rattle.djq_core.specs.Unwatched.{AffectsUnwatched};
 
+use crate::sessions::Sessions;
 use bytes::BytesMut;
-use djq_commands::{OpenSession, Outcome, cut_off, end_by};
+use djq_commands::{Outcome, end_by};
 use djq_model::Name;
 use djq_protocol::limits::{PENDING_BYTES, REPLY_BYTES};
 use djq_protocol::{AddOutcome, DeleteOutcome, EndCause, EndLine};
@@ -90,17 +91,16 @@ fn tell_watcher(engine: &mut Store, session: &mut Session<CursorId, Name>, whole
 /// queries are told in order of registration, in which most are watched too.
 fn tell_query(
     engine: &mut Store,
-    sessions: &mut Vec<OpenSession>,
+    sessions: &mut Sessions,
     id: QueryId,
     near: usize,
     text: &mut BytesMut,
 ) -> usize
-    requires sound { IsSound engine.old sessions.old.items }
+    requires sound { IsSound engine.old sessions.old }
     requires registered { IsRegistered engine.old id }
-    ensures tells { (r : Registered) → registered_at engine.old.registered id ≡ Some r
-        → TellsQuery engine.old id (listed_name r.query) sessions.old.items
-        engine.new sessions.new.items }
-    ensures cap { sessions.new.cap ≡ sessions.old.cap }
+    ensures { (r : Registered) → registered_at engine.old.registered id ≡ Some r
+        → TellsQuery engine.old id (listed_name r.query) sessions.old
+        engine.new sessions.new }
 {
     if engine.watchers(id) == 0 {
         return near;
@@ -110,8 +110,8 @@ fn tell_query(
     let whole = print_delta(engine, id, &query, text);
     let mut next = near;
     for at in 0..sessions.len() {
-        if let Some(place) = sessions[at].session.watch_near(query, near) {
-            tell_watcher(engine, &mut sessions[at].session, whole, text.as_slice());
+        if let Some(place) = sessions.get(at).watch_near(query, near) {
+            tell_watcher(engine, sessions.get_mut(at), whole, text.as_slice());
             next = place.saturating_add(1);
         }
     }
@@ -134,11 +134,10 @@ fn some_watched(engine: &Store) -> bool
 /// The deltas of the queries that a change affected are told, in order of registration. It stands apart
 /// from the way of a change that nobody watches.
 #[inline(never)]
-fn tell_affected(engine: &mut Store, sessions: &mut Vec<OpenSession>, text: &mut BytesMut)
-    requires sound { IsSound engine.old sessions.old.items }
+fn tell_affected(engine: &mut Store, sessions: &mut Sessions, text: &mut BytesMut)
+    requires sound { IsSound engine.old sessions.old }
     requires registered { All (IsRegistered engine.old) engine.old.affected }
-    ensures tells { TellsAffected engine.old sessions.old.items engine.new sessions.new.items }
-    ensures cap { sessions.new.cap ≡ sessions.old.cap }
+    ensures { TellsAffected engine.old sessions.old engine.new sessions.new }
 {
     let mut near = 0;
     for nth in 0..engine.affected_count() {
@@ -148,11 +147,10 @@ fn tell_affected(engine: &mut Store, sessions: &mut Vec<OpenSession>, text: &mut
 }
 
 /// So they are, where somebody watches one.
-fn tell_watched(engine: &mut Store, sessions: &mut Vec<OpenSession>, text: &mut BytesMut)
-    requires sound { IsSound engine.old sessions.old.items }
+fn tell_watched(engine: &mut Store, sessions: &mut Sessions, text: &mut BytesMut)
+    requires sound { IsSound engine.old sessions.old }
     requires registered { All (IsRegistered engine.old) engine.old.affected }
-    ensures tells { TellsAffected engine.old sessions.old.items engine.new sessions.new.items }
-    ensures cap { sessions.new.cap ≡ sessions.old.cap }
+    ensures { TellsAffected engine.old sessions.old engine.new sessions.new }
 {
     if some_watched(engine) {
         tell_affected(engine, sessions, text);
@@ -183,23 +181,22 @@ fn answer_last(engine: &mut Store, session: &mut Session<CursorId, Name>, outcom
 /// Tells a change to all who watch, where it was accepted, and answers it.
 pub(crate) fn tell_change(
     engine: &mut Store,
-    sessions: &mut Vec<OpenSession>,
+    sessions: &mut Sessions,
     at: usize,
     outcome: &Outcome,
     text: &mut BytesMut,
 )
-    requires sound { IsSound engine.old sessions.old.items }
-    requires room { IsSomeAnd (slice_get sessions.old.items at)
+    requires sound { IsSound engine.old sessions.old }
+    requires room { IsSomeAnd (slice_get sessions.old at)
         (λ x. REPLY_BYTES + LAST_LINE_BYTES ≤ x.session.room) }
     requires registered { is_accepted outcome.now ≡ true
         → All (IsRegistered engine.old) engine.old.affected }
-    ensures tells { IsSomeAnd (slice_get sessions.old.items at)
+    ensures { IsSomeAnd (slice_get sessions.old at)
         (λ x. TellsAll (is_accepted outcome.now) (reply_of outcome.now engine.old.store.seq) engine.old
-        x.id sessions.old.items engine.new sessions.new.items) }
-    ensures cap { sessions.new.cap ≡ sessions.old.cap }
+        x.id sessions.old engine.new sessions.new) }
 {
     if is_accepted(outcome) {
         tell_watched(engine, sessions, text);
     }
-    answer_last(engine, &mut sessions[at].session, outcome);
+    answer_last(engine, sessions.get_mut(at), outcome);
 }

@@ -1,7 +1,5 @@
-use Rattle.std.specs.Prelude.{◌≡◌}
 use Rattle.djq_core.proofs.Deltas.{AffectedSoFar}
 use Rattle.djq_core.proofs.tell.tell_affected.Given as goal
 
 abbrev pub invariant-loop-nth : goal.invariant-loop-nth
-invariant-loop-nth l = AffectedSoFar l.fn.engine l.fn.sessions.items l.nth l.engine l.sessions.items
-    × (l.sessions.cap ≡ l.fn.sessions.cap)
+invariant-loop-nth l = AffectedSoFar l.fn.engine l.fn.sessions l.nth l.engine l.sessions

@@ -9,38 +9,36 @@ use Rattle.djq_core.proofs.serving.Core.load.Goals as goal
 
 pub load_alone-loaded-requires : goal.load_alone-loaded-requires
 load_alone-loaded-requires g c =
-    idle_core c.self.inside.engine c.self.inside.ids.items c.self.inside.sessions.items _ _ c.self.invariant.0
-    (none_open c.self.inside.engine c.self.inside.stopped c.self.inside.sessions.items (c.args.self.now).state
+    idle_core c.self.inside.engine c.self.inside.sessions c.self.invariant.0
+    (none_open c.self.inside.engine c.self.inside.stopped c.self.inside.sessions (c.args.self.now).state
     (ap (λ (v : Visible). v.state) c.self.view_is) c.requires.none)
 
 pub load_in_batch-loaded-requires-clause-idle : goal.load_in_batch-loaded-requires-clause-idle
 load_in_batch-loaded-requires-clause-idle g c =
-    idle_core c.self.inside.engine c.self.inside.ids.items c.self.inside.sessions.items _ _ c.self.invariant.0
-    (none_open c.self.inside.engine c.self.inside.stopped c.self.inside.sessions.items (c.args.self.now).state
+    idle_core c.self.inside.engine c.self.inside.sessions c.self.invariant.0
+    (none_open c.self.inside.engine c.self.inside.stopped c.self.inside.sessions (c.args.self.now).state
     (ap (λ (v : Visible). v.state) c.self.view_is) c.requires.none)
 
 pub invariant_of-self : goal.invariant_of-self
 invariant_of-self g c =
-    let none = none_open c.self.inside.engine c.self.inside.stopped c.self.inside.sessions.items (c.args.self.now).state
+    let none = none_open c.self.inside.engine c.self.inside.stopped c.self.inside.sessions (c.args.self.now).state
     (ap (λ (v : Visible). v.state) c.self.view_is) c.requires.none in
     let loads = c.load_alone-loaded.ensures.loads in (
-      core_idle c.self.inside.engine c.load_alone-loaded.new.engine c.self.inside.ids.items c.self.inside.sessions.items
-          _ _ c.self.invariant.0 none loads.idle,
-      suits_loaded (c.load_alone-loaded.new.engine).store c.load_alone-loaded.result.1 c.self.inside.sessions.items none
+      core_idle c.load_alone-loaded.new.engine c.self.inside.sessions none loads.idle,
+      suits_loaded (c.load_alone-loaded.new.engine).store c.load_alone-loaded.result.1 c.self.inside.sessions none
           (loads.suits tt),
     )
 
 pub invariant_of-self-in-Some : goal.invariant_of-self-in-Some
 invariant_of-self-in-Some g c =
-    let none = none_open c.self.inside.engine c.self.inside.stopped c.self.inside.sessions.items (c.args.self.now).state
+    let none = none_open c.self.inside.engine c.self.inside.stopped c.self.inside.sessions (c.args.self.now).state
     (ap (λ (v : Visible). v.state) c.self.view_is) c.requires.none in
     let loads = c.load_in_batch-loaded.ensures.loads in
     let suits = subst (BatchSuits (c.self.inside.engine).store) (sym c.take.ensures.value ∙ c.in-Some.is)
     c.self.invariant.1.0 in (
-      core_idle c.self.inside.engine c.load_in_batch-loaded.new.engine c.self.inside.ids.items
-          c.self.inside.sessions.items _ _ c.self.invariant.0 none loads.idle,
+      core_idle c.load_in_batch-loaded.new.engine c.self.inside.sessions none loads.idle,
       suits_loaded (c.load_in_batch-loaded.new.engine).store c.load_in_batch-loaded.result.1
-          c.self.inside.sessions.items none (loads.suits suits),
+          c.self.inside.sessions none (loads.suits suits),
     )
 
 pub returns-in-None-clause-loads : goal.returns-in-None-clause-loads

@@ -3,24 +3,20 @@ use Rattle.std.proofs.Common.{◌∙◌, sym, ap}
 use Rattle.djq_machine.specs.State.{State}
 use Rattle.djq_machine.specs.Run.{pending_of}
 use Rattle.djq_commands.specs.Views.{Visible}
-use Rattle.djq_core.proofs.Sessions.{here_by, is_there_in, ids_rise_in, pending_at}
+use Rattle.djq_core.specs.Sessions.{opened_at}
+use Rattle.djq_core.proofs.SessionSteps.{here, is_there, pending_at}
 use Rattle.djq_core.proofs.serving.CoreMachine.pending.Goals as goal
 
-pub place_of-at-requires-clause-rising : goal.place_of-at-requires-clause-rising
-place_of-at-requires-clause-rising c = ids_rise_in c.self.inside.engine c.self.inside.ids.items c.as_slice.result.now
-    c.self.inside.sessions.items _ _ c.self.invariant.0 c.as_slice.ensures.value
-
-pub place_of-at-requires-clause-there : goal.place_of-at-requires-clause-there
-place_of-at-requires-clause-there c = is_there_in c.self.inside.engine (c.args.self.now).state c.self.inside.stopped
-    c.self.inside.ids.items c.as_slice.result.now c.self.inside.sessions.items _ _ c.args.id c.self.invariant.0
-    c.as_slice.ensures.value (ap (λ (v : Visible). v.state) c.self.view_is) c.requires
+pub find-at-requires : goal.find-at-requires
+find-at-requires c = is_there c.self.inside.engine (c.args.self.now).state c.self.inside.stopped
+    c.self.inside.sessions c.args.id (ap (λ (v : Visible). v.state) c.self.view_is) c.requires
 
 pub returns : goal.returns
 returns c =
-    let h = here_by c.self.inside.engine c.self.inside.ids.items c.as_slice.result.now c.self.inside.sessions.items _ _
-    c.place_of-at.result c.args.id c.index.result.now c.self.invariant.0 c.as_slice.ensures.value
-    c.place_of-at.ensures.within c.place_of-at.ensures.there c.index.ensures in
+    let h = here c.self.inside.engine c.self.inside.sessions c.find-at.result c.args.id
+    c.get.result.now c.self.invariant.0 c.find-at.ensures.within c.find-at.ensures.there
+    c.get.ensures in
     c.pending.ensures ∙ sym
     (ap (λ (st : State). pending_of st c.args.id) (sym (ap (λ (v : Visible). v.state) c.self.view_is))
-    ∙ pending_at c.self.inside.engine c.self.inside.stopped c.self.inside.sessions.items c.place_of-at.result
-    c.args.id c.index.result.now h)
+    ∙ pending_at c.self.inside.engine c.self.inside.stopped c.self.inside.sessions c.find-at.result
+    c.args.id (opened_at c.self.inside.sessions c.find-at.result c.get.result.now) h)

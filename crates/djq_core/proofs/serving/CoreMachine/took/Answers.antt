@@ -7,62 +7,60 @@ use Rattle.djq_machine.specs.Run.{pending_of}
 use Rattle.djq_machine.specs.Call.{Makes}
 use Rattle.djq_commands.specs.Sound.{BatchSuits}
 use Rattle.djq_commands.specs.Views.{Talk, state_in, Visible}
-use Rattle.djq_core.proofs.Sessions.{here_by, is_there_in, ids_rise_in, pending_at, takes, within_by}
+use Rattle.djq_core.specs.Sessions.{opened_at}
+use Rattle.djq_core.proofs.SessionSteps.{stands, here, is_there, pending_at, takes}
 use Rattle.djq_core.proofs.Loads.{suits_at, suited_set}
 use Rattle.djq_core.proofs.serving.CoreMachine.took.Goals as goal
 
-pub place_of-at-requires-clause-rising : goal.place_of-at-requires-clause-rising
-place_of-at-requires-clause-rising c = ids_rise_in c.self.inside.engine c.self.inside.ids.items c.as_slice.result.now
-    c.self.inside.sessions.items _ _ c.self.invariant.0 c.as_slice.ensures.value
-
-pub place_of-at-requires-clause-there : goal.place_of-at-requires-clause-there
-place_of-at-requires-clause-there c = is_there_in c.self.inside.engine (c.args.self.now).state c.self.inside.stopped
-    c.self.inside.ids.items c.as_slice.result.now c.self.inside.sessions.items _ _ c.args.id c.self.invariant.0
-    c.as_slice.ensures.value (ap (λ (v : Visible). v.state) c.self.view_is) c.requires.open
+pub find-at-requires : goal.find-at-requires
+find-at-requires c = is_there c.self.inside.engine (c.args.self.now).state c.self.inside.stopped
+    c.self.inside.sessions c.args.id (ap (λ (v : Visible). v.state) c.self.view_is) c.requires.open
 
 pub took-requires : goal.took-requires
 took-requires c =
-    let h = here_by c.self.inside.engine c.self.inside.ids.items c.as_slice.result.now c.self.inside.sessions.items _ _
-    c.place_of-at.result c.args.id c.index_mut.result.now c.self.invariant.0 c.as_slice.ensures.value
-    c.place_of-at.ensures.within c.place_of-at.ensures.there c.index_mut.ensures.value in
+    let h = here c.self.inside.engine c.self.inside.sessions c.find-at.result c.args.id
+    c.get_mut.result.now c.self.invariant.0 c.find-at.ensures.within c.find-at.ensures.there
+    c.get_mut.ensures.value in
     let pending = ap (λ (st : State). pending_of st c.args.id) (sym (ap (λ (v : Visible). v.state) c.self.view_is))
-    ∙ pending_at c.self.inside.engine c.self.inside.stopped c.self.inside.sessions.items c.place_of-at.result
-    c.args.id c.index_mut.result.now h in
+    ∙ pending_at c.self.inside.engine c.self.inside.stopped c.self.inside.sessions c.find-at.result
+    c.args.id (opened_at c.self.inside.sessions c.find-at.result c.get_mut.result.now) h in
     subst (λ (bs : Bytes). c.args.count ≤ length bs) pending c.requires.pending
 
 pub invariant_of-self : goal.invariant_of-self
 invariant_of-self c =
-    let h = here_by c.self.inside.engine c.self.inside.ids.items c.as_slice.result.now c.self.inside.sessions.items _ _
-    c.place_of-at.result c.args.id c.index_mut.result.now c.self.invariant.0 c.as_slice.ensures.value
-    c.place_of-at.ensures.within c.place_of-at.ensures.there c.index_mut.ensures.value in
-    let within = within_by c.self.inside.engine c.self.inside.ids.items c.as_slice.result.now
-    c.self.inside.sessions.items _ _ c.place_of-at.result c.self.invariant.0 c.as_slice.ensures.value
-    c.place_of-at.ensures.within in
+    let h = here c.self.inside.engine c.self.inside.sessions c.find-at.result c.args.id
+    c.get_mut.result.now c.self.invariant.0 c.find-at.ensures.within c.find-at.ensures.there
+    c.get_mut.ensures.value in
+    let within = c.find-at.ensures.within in
     let own = subst (BatchSuits (c.self.inside.engine).store) (sym (ap (λ (x : Talk). x.batch) c.took.ensures))
-    (suits_at (c.self.inside.engine).store c.self.inside.batch c.self.inside.sessions.items c.place_of-at.result
-    c.index_mut.result.now c.self.invariant.1 within c.index_mut.ensures.value) in (
-      (takes c.self.inside.engine c.self.inside.ids.items c.self.inside.sessions.items _ _ c.place_of-at.result
-          c.args.id c.args.count c.index_mut.result.now c.took.new.self c.self.inside.stopped c.self.invariant.0 h
+    (suits_at (c.self.inside.engine).store c.self.inside.batch c.self.inside.sessions c.find-at.result
+    (opened_at c.self.inside.sessions c.find-at.result c.get_mut.result.now) c.self.invariant.1 within (stands
+    c.self.inside.sessions c.find-at.result (opened_at c.self.inside.sessions c.find-at.result c.get_mut.result.now)
+    c.get_mut.ensures.value)) in (
+      (takes c.self.inside.engine c.self.inside.sessions c.find-at.result
+          c.args.id c.args.count (opened_at c.self.inside.sessions c.find-at.result c.get_mut.result.now) c.took.new.self
+          c.self.inside.stopped h
           c.took.ensures).1,
       suited_set (c.self.inside.engine).store (c.self.inside.engine).store c.self.inside.batch
-          c.self.inside.sessions.items c.place_of-at.result
-          (record c.index_mut.result.now { session = c.took.new.self }) c.self.invariant.1 refl own,
+          c.self.inside.sessions c.find-at.result
+          (opened_at c.self.inside.sessions c.find-at.result c.took.new.self) c.self.invariant.1 refl own,
     )
 
 pub returns : goal.returns
 returns c =
-    let h = here_by c.self.inside.engine c.self.inside.ids.items c.as_slice.result.now c.self.inside.sessions.items _ _
-    c.place_of-at.result c.args.id c.index_mut.result.now c.self.invariant.0 c.as_slice.ensures.value
-    c.place_of-at.ensures.within c.place_of-at.ensures.there c.index_mut.ensures.value in
+    let h = here c.self.inside.engine c.self.inside.sessions c.find-at.result c.args.id
+    c.get_mut.result.now c.self.invariant.0 c.find-at.ensures.within c.find-at.ensures.there
+    c.get_mut.ensures.value in
     let new = state_in c.self.inside.engine c.self.inside.stopped
-    (set c.self.inside.sessions.items c.place_of-at.result
-    (record c.index_mut.result.now { session = c.took.new.self })) in
+    (set c.self.inside.sessions c.find-at.result
+    (opened_at c.self.inside.sessions c.find-at.result c.took.new.self)) in
     let pending = ap (λ (st : State). pending_of st c.args.id) (sym (ap (λ (v : Visible). v.state) c.self.view_is))
-    ∙ pending_at c.self.inside.engine c.self.inside.stopped c.self.inside.sessions.items c.place_of-at.result
-    c.args.id c.index_mut.result.now h in
+    ∙ pending_at c.self.inside.engine c.self.inside.stopped c.self.inside.sessions c.find-at.result
+    c.args.id (opened_at c.self.inside.sessions c.find-at.result c.get_mut.result.now) h in
     subst (λ (bs : Bytes). Makes (c.args.self.now).state (took c.args.id (take c.args.count bs)) new) (sym pending)
-    (subst (λ (st : State). Makes st (took c.args.id (take c.args.count ((c.index_mut.result.now).session).pending))
+    (subst (λ (st : State). Makes st (took c.args.id (take c.args.count (c.get_mut.result.now).pending))
     new) (ap (λ (v : Visible). v.state) c.self.view_is)
-    (takes c.self.inside.engine c.self.inside.ids.items c.self.inside.sessions.items _ _ c.place_of-at.result
-    c.args.id c.args.count c.index_mut.result.now c.took.new.self c.self.inside.stopped c.self.invariant.0 h
+    (takes c.self.inside.engine c.self.inside.sessions c.find-at.result
+    c.args.id c.args.count (opened_at c.self.inside.sessions c.find-at.result c.get_mut.result.now) c.took.new.self
+    c.self.inside.stopped h
     c.took.ensures).0)
