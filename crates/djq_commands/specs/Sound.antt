@@ -169,11 +169,3 @@ BatchesSuit st (b ∷ bs) = BatchSuits st b × BatchesSuit st bs
 -- the batches of the sessions, behind that of the loaded lines
 abbrev pub batches_of : Option (List HeldRow) → List OpenSession → List (Option (List HeldRow))
 batches_of loading xs = loading ∷ map (λ (x : OpenSession). (x.session).batch) xs
-
--- What holds of the core: the ids are those of the sessions, which are sound, and there is room for as many as may be
--- open.
-pub record IsCore (k : Kept) (ids : List ℕ) (xs : List OpenSession) (id_room room : ℕ) : Type 0 where
-  pub ids_are : ids ≡ map (λ (x : OpenSession). x.id) xs
-  pub sound : IsSound k xs
-  pub room_for_ids : SESSIONS ≤ id_room
-  pub room_for_all : SESSIONS ≤ room
