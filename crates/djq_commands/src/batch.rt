@@ -1,4 +1,4 @@
-//! A session's batch: its rows are held, and go in at once where it is done.
+//! A session's batch: its rows are held, and are inserted at once when it is done.
 ghost use Rattle.std.specs.Prelude.{◌≡◌, ◌+◌, ◌≤◌, None, IsSome, false, length, take, drop};
 ghost use Rattle.djq_protocol.specs.Line.{a_line, front_of, is_blank as is_blank_line};
 ghost use Rattle.djq_protocol.specs.declared.command.Command.TheVariants.{Batch};
@@ -30,8 +30,8 @@ pub(crate) fn run_batch(engine: &Store, session: &mut Session<CursorId, Name>)
     session.answer_batch(Ok(()));
 }
 
-/// Takes the line in front of a session with a batch open, runs what it says, and tells what is left to
-/// do. Room for a reply was kept.
+/// Reads and removes the next line of a session with a batch open, runs its command, and returns what is left to
+/// do. Room for a reply has been reserved.
 pub(crate) fn run_in_batch<L: Ledgers>(
     alloc: Global,
     engine: &mut Store,
@@ -89,7 +89,7 @@ pub(crate) fn run_in_batch<L: Ledgers>(
     }
 }
 
-/// A row that was made is held, unless memory is wanting, and that is answered.
+/// A row that was made is held, unless there is no memory for it, and the outcome is answered.
 fn hold(session: &mut Session<CursorId, Name>, made: Result<HeldRow, Refusal>)
     requires open { IsSome session.old.batch }
     requires room { REPLY_BYTES + LAST_LINE_BYTES ≤ session.old.room }
@@ -105,7 +105,7 @@ fn hold(session: &mut Session<CursorId, Name>, made: Result<HeldRow, Refusal>)
     session.answer_held(outcome, session.rows_held());
 }
 
-/// `done`: the batch is closed, and its rows go in at once. What is left is to tell it and to answer.
+/// `done`: the batch is closed, and its rows are inserted at once. What is left is to publish it and to answer.
 fn run_done<L: Ledgers>(
     engine: &mut Store,
     session: &mut Session<CursorId, Name>,

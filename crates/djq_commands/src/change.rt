@@ -5,7 +5,7 @@ ghost use Rattle.djq_commands.specs.Stepping.{is_kept_by};
 use djq_model::Sequence;
 use djq_protocol::{AddOutcome, DeleteOutcome, HeldRow, Refusal};
 
-/// What a command that may change rows came to.
+/// The outcome of a command that may change rows.
 #[derive(Drop)]
 pub enum Outcome {
     /// Of `add`.
@@ -16,7 +16,7 @@ pub enum Outcome {
     Done(Result<usize, Refusal>, Sequence<HeldRow>),
 }
 
-/// Whether a copy of a row went.
+/// Whether a copy of a row was deleted.
 pub fn is_removal(outcome: Result<DeleteOutcome, Refusal>) -> bool
     ensures { result ≡ is_removal outcome }
 {
@@ -26,22 +26,22 @@ pub fn is_removal(outcome: Result<DeleteOutcome, Refusal>) -> bool
     }
 }
 
-/// What is left to do once a session's line was run.
+/// What is left to do after a session's line was run.
 #[derive(Drop)]
 pub enum Left {
     /// Nothing.
     Nothing {
-        /// Whether the line is kept.
+        /// Whether the line is to be logged.
         kept: bool,
     },
     /// The server is stopped.
     Stopping,
-    /// A command that may change rows was done or refused: that is to be told to those who watch, and answered.
+    /// A command that may change rows was done or refused: that is to be published to those who watch, and answered.
     Telling(Outcome),
 }
 
 impl Left {
-    /// Whether the line is kept, alone or with the batch that it ends.
+    /// Whether the line is to be logged, alone or with the batch that it ends.
     pub fn is_kept(&self) -> bool
         ensures { result ≡ is_kept_by self.now }
     {

@@ -24,7 +24,7 @@ use djq_session::Session;
 use djq_store::{CursorId, Explained, Store};
 use std::alloc::Global;
 
-/// `rel`: a new relation. The answer is whether the line is kept.
+/// `rel`: a new relation. Returns whether the line is to be logged.
 pub(crate) fn run_rel(
     engine: &mut Store,
     session: &mut Session<CursorId, Name>,
@@ -42,7 +42,7 @@ pub(crate) fn run_rel(
 }
 
 /// `query`: a query is registered, or a rest shows why it isn't. Out of memory in a long rest, the
-/// session ends. The answer is whether the line is kept.
+/// session ends. Returns whether the line is to be logged.
 pub(crate) fn run_query<L: Ledgers>(
     engine: &mut Store,
     session: &mut Session<CursorId, Name>,
@@ -65,7 +65,7 @@ pub(crate) fn run_query<L: Ledgers>(
     kept
 }
 
-/// `union`: the union of some queries is registered. The answer is whether the line is kept.
+/// `union`: the union of some queries is registered. Returns whether the line is to be logged.
 pub(crate) fn run_union(
     engine: &mut Store,
     session: &mut Session<CursorId, Name>,
@@ -94,7 +94,7 @@ pub fn is_registered(outcome: &Result<QueryOutcome, Refusal>) -> bool
     }
 }
 
-/// `open`: a cursor in front of a query's answers.
+/// `open`: a cursor before the first of a query's answers.
 pub(crate) fn run_open(
     engine: &mut Store,
     session: &mut Session<CursorId, Name>,
@@ -109,7 +109,7 @@ pub(crate) fn run_open(
     session.answer_opened(outcome);
 }
 
-/// A new cursor of the store under a name of the session, where nothing refuses it.
+/// A new cursor of the store under a name of the session, if nothing refuses it.
 fn open_cursor(
     engine: &mut Store,
     session: &mut Session<CursorId, Name>,
@@ -139,7 +139,7 @@ fn open_cursor(
     }
 }
 
-/// `close`: a cursor is given up.
+/// `close`: a cursor is closed.
 pub(crate) fn run_close(engine: &mut Store, session: &mut Session<CursorId, Name>, name: &Name)
     requires { CommandIsReady engine.old session.old }
     ensures { Executes (Close name.now) false engine.old session.old engine.new session.new 0 0 }
@@ -154,7 +154,7 @@ pub(crate) fn run_close(engine: &mut Store, session: &mut Session<CursorId, Name
     }
 }
 
-/// `drop`: a query is registered no more. The answer is whether the line is kept.
+/// `drop`: a query's registration is removed. Returns whether the line is to be logged.
 pub(crate) fn run_drop(
     engine: &mut Store,
     session: &mut Session<CursorId, Name>,
@@ -185,7 +185,7 @@ pub(crate) fn run_has<L: Ledgers>(
     session.answer_has(outcome);
 }
 
-/// The lines that explain a union's members go behind a text.
+/// Appends the lines that explain a union's members to a text.
 fn put_members(engine: &Store, union: &Name, count: usize, text: &mut BytesMut) -> Result<(), NoMem>
     requires { IsSomeAnd (listed_of engine.now.store.queries union.now)
         (λ q. count ≡ length (members_of q)) }

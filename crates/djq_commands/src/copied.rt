@@ -7,8 +7,8 @@ use djq_protocol::limits::LINE_BYTES;
 use std::alloc::Global;
 use std::marker::Model;
 
-/// Where the line in front of a session is copied before it is taken, since what kept it may go.
-/// The memory for it is taken once. Contracts see the bytes of the last copy.
+/// The memory that the next line of a session is copied to before it is removed, since its buffer may be freed.
+/// It is allocated once. Contracts see the bytes of the last copy.
 #[derive(Drop)]
 pub struct Copied {
     bytes: BytesMut,

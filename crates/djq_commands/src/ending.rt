@@ -1,4 +1,4 @@
-//! A session's end: its cursors are given up, and its last line is queued.
+//! A session's end: its cursors are closed, and its last line is queued.
 ghost use Rattle.std.specs.Prelude.{◌≡◌, [], false, None, Some};
 ghost use Rattle.djq_protocol.specs.Reply.{end_line, input_cut};
 ghost use Rattle.djq_protocol.specs.declared.answer.EndCause.TheVariants.{Input};
@@ -13,7 +13,7 @@ use djq_protocol::{EndCause, EndLine};
 use djq_session::Session;
 use djq_store::{CursorId, Store};
 
-/// The store gives up the cursors of a session, and nothing else.
+/// Closes the cursors of a session in the store, and changes nothing else.
 fn give_up_cursors(engine: &mut Store, session: &mut Session<CursorId, Name>)
     requires { IsOwn engine.old session.old }
     ensures { GivesUpCursors engine.old session.old engine.new session.new }
@@ -36,7 +36,7 @@ fn give_up_watches(engine: &mut Store, session: &mut Session<CursorId, Name>)
     }
 }
 
-/// The store gives up the cursors and the watches of a session, and nothing else.
+/// Closes the cursors of a session in the store and ends its watches, and changes nothing else.
 pub fn give_up(engine: &mut Store, session: &mut Session<CursorId, Name>)
     requires { IsOwn engine.old session.old }
     ensures gives_up { SessionGivesUp engine.old session.old engine.new session.new }
@@ -46,7 +46,7 @@ pub fn give_up(engine: &mut Store, session: &mut Session<CursorId, Name>)
     give_up_watches(engine, session);
 }
 
-/// Out of memory in the midst of a reply, a session ends, and is told so.
+/// Ends a session that is out of memory in the midst of a reply, with the line that reports it.
 pub fn cut_off(engine: &mut Store, session: &mut Session<CursorId, Name>)
     requires own { IsOwn engine.old session.old }
     requires running { session.old.cause ≡ None }
@@ -56,7 +56,7 @@ pub fn cut_off(engine: &mut Store, session: &mut Session<CursorId, Name>)
     session.end_by(EndLine::Memory, EndCause::Memory);
 }
 
-/// A session ends with a line that tells why.
+/// Ends a session with a line that has the reason.
 pub fn end_by(
     engine: &mut Store,
     session: &mut Session<CursorId, Name>,
@@ -76,7 +76,7 @@ pub fn end_by(
     session.end_by(line, cause);
 }
 
-/// A session's input has ended: where bytes are held, which no line end follows, that is said.
+/// Ends a session whose input has ended. If it holds bytes that no line end follows, its last line reports that.
 pub fn end_input(engine: &mut Store, session: &mut Session<CursorId, Name>)
     requires own { IsOwn engine.old session.old }
     requires running { session.old.cause ≡ None }

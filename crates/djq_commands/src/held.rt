@@ -9,8 +9,8 @@ use djq_store::Store;
 use std::alloc::Global;
 use std::mem;
 
-/// A row that is to be held behind so many others, with the line that says it. Its values are taken, so that no text is
-/// copied; others stand in their places, and are of no use.
+/// A row that is to be held after so many others, with the line that it was read from. Its values are moved out of `row`,
+/// so that no text is copied; `row` has other values in their places, which are of no use.
 ///
 /// # Errors
 ///
@@ -62,7 +62,7 @@ fn copy_line(alloc: Global, line: &[u8]) -> Result<Sequence<u8>, NoMem>
     Ok(copy)
 }
 
-/// A row's values, taken.
+/// A row's values, moved out of it.
 fn take_values(alloc: Global, row: &mut Vec<Value>) -> Result<Row, NoMem>
     ensures { IfOk result (λ taken. taken ≡ row.old.items) }
 {

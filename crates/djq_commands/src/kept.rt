@@ -7,19 +7,19 @@ use crate::change::{Outcome, is_removal};
 use djq_model::Sequence;
 use djq_protocol::HeldRow;
 
-/// What the last step kept.
+/// What the last step has for the log.
 #[derive(Drop)]
 pub enum KeptLines {
     /// Nothing.
     Nothing,
     /// The line that it ran.
     Line,
-    /// The batch that this line ended, with the rows that it held: their lines stay where they are.
+    /// The batch that this line ended, with the rows that it held: their lines aren't copied.
     Batch(Sequence<HeldRow>),
 }
 
 impl KeptLines {
-    /// The line that was run is kept in place of what was, or nothing.
+    /// Replaces what there was by the line that was run if it is to be logged, or else by nothing.
     pub fn put_line(&mut self, kept: bool)
         ensures { self.new ≡ line_where kept }
     {
@@ -38,7 +38,7 @@ impl KeptLines {
         }
     }
 
-    /// What is kept of a command that may change rows is kept in place of what was.
+    /// Replaces what there was by what is to be logged of a command that may change rows.
     pub fn put_outcome(&mut self, outcome: Outcome)
         ensures { self.new ≡ lines_kept outcome }
     {
@@ -55,7 +55,7 @@ impl KeptLines {
         }
     }
 
-    /// The line with this number, counted from 0, of those that were kept, where this is a copy of the
+    /// The line with this number, counted from 0, of those to be logged, if `copied` is a copy of the
     /// line that was run.
     pub fn get<'a>(&'a self, i: usize, copied: &'a [u8]) -> Option<&'a [u8]>
         ensures { option_copied result ≡ slice_get (lines_of_step self.now copied.now) i }

@@ -1,7 +1,7 @@
 //! One line of one session, run over a store.
 //!
-//! [`step_session`] takes the next line of a session and runs it: the order of checks before a line is
-//! run, then the command. It is handed the store and that session alone, and promises a step of the
+//! [`step_session`] reads the next line of a session and runs it: the order of checks before a line is
+//! run, then the command. It gets the store and that session alone, and promises a step of the
 //! machine whatever sessions there are besides (`specs/Performs.antt`); so no command can read or write
 //! another session. What a command on rows leaves to do is returned ([`Left`]): publishing it to all
 //! who watch is djq_core's.
@@ -14,13 +14,13 @@
 //!
 //! What this crate is not: it knows no other session, sends nothing, and looks no session up.
 //!
-//! What surprises: a cursor's name belongs to its session, and stands for a cursor of the store. A line
+//! What surprises: a cursor's name belongs to its session, and denotes a cursor of the store. A line
 //! of a row is read into memory that is used again, and any other command is made anew.
 //!
 //! Inside: `line` has the order of checks and the dispatch; `commands`, `watch`, `listing` and `ending`
 //! what commands do, `next` line by line, and a session's end. While a session has a batch open,
-//! `reading` says what its line is to the batch, `held` makes the rows that are held, and `batch` runs
-//! it. `copied` is where a line is copied, and `kept` what a step is to log.
+//! `reading` has what its line means to the batch, `held` makes the rows that are held, and `batch` runs
+//! it. `copied` is the memory that a line is copied to, and `kept` what a step is to log.
 #![tactic(auto)]
 
 mod batch;

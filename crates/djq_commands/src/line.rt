@@ -1,4 +1,4 @@
-//! The order of checks before a line is run, and which command it says.
+//! The order of checks before a line is run, and the command that a line is read as.
 ghost use Rattle.std.specs.Prelude.{◌≡◌, ◌≤◌, ◌||◌, None, Bool, false, length, take, drop, ⊤};
 ghost use Rattle.djq_protocol.specs.Line.{a_line, front_of, is_blank as is_blank_line};
 ghost use Rattle.djq_protocol.specs.declared.limits.TheConstants.{PENDING_BYTES};
@@ -30,7 +30,7 @@ use djq_session::Session;
 use djq_store::{CursorId, Store};
 use std::alloc::Global;
 
-/// Runs a command that isn't on a row, and tells what is left to do.
+/// Runs a command that isn't on a row, and returns what is left to do.
 fn run_command<L: Ledgers>(
     alloc: Global,
     engine: &mut Store,
@@ -108,8 +108,8 @@ fn run_command<L: Ledgers>(
     }
 }
 
-/// Takes the line in front of a session, with a batch open or without, runs what it says, and tells
-/// what is left to do. Room for a reply was kept.
+/// Reads and removes the next line of a session, with a batch open or without, runs its command, and returns
+/// what is left to do. Room for a reply has been reserved.
 fn run_line<L: Ledgers>(
     alloc: Global,
     engine: &mut Store,
@@ -154,7 +154,7 @@ fn run_line<L: Ledgers>(
     }
 }
 
-/// The same of a line that isn't one of a row, where no batch is open. It stands apart so that a
+/// The same for a line that isn't one of a row, if no batch is open. It is a separate function so that a
 /// row's line clears no room for a command.
 #[inline(never)]
 fn run_other<L: Ledgers>(
@@ -200,8 +200,7 @@ fn is_for_batch(command: &Command) -> bool
     matches!(command, Command::Done | Command::Abandon)
 }
 
-/// Runs the line in front of a session that goes on, in the order of checks, and tells what is left
-/// to do.
+/// Runs the next line of a session that hasn't ended, in the order of checks, and returns what is left to do.
 fn step_line<L: Ledgers>(
     alloc: Global,
     engine: &mut Store,
@@ -250,7 +249,7 @@ fn step_line<L: Ledgers>(
     }
 }
 
-/// Runs the line in front of a session, unless it has ended, and tells what is left to do. The line
+/// Runs the next line of a session, unless it has ended, and returns what is left to do. The line
 /// is copied before.
 pub fn step_session<L: Ledgers>(
     alloc: Global,

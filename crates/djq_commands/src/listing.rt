@@ -13,7 +13,7 @@ use djq_protocol::Refusal;
 use djq_session::Session;
 use djq_store::{Answer, CursorId, Next, Store};
 
-/// How a listing came out.
+/// The outcome of a listing.
 #[derive(Clone, Copy, Debug)]
 pub(crate) enum Listed {
     /// All its lines are queued.
@@ -48,8 +48,8 @@ pub(crate) fn run_next<L: Ledgers>(
     }
 }
 
-/// Reads a cursor, and queues its answers and the last line, as long as there is room. It is kept apart
-/// from the other commands, so that its loop has the registers for itself.
+/// Reads a cursor, and queues its answers and the last line, as long as there is room. It is a separate
+/// function from the other commands, so that its loop has the registers for itself.
 #[inline(never)]
 fn list_answers<L: Ledgers>(
     engine: &mut Store,
@@ -80,7 +80,7 @@ fn list_answers<L: Ledgers>(
     ended(session.queue_last(!more))
 }
 
-/// A listing that ends with its last line, where that was queued.
+/// The outcome of a listing that ends with its last line, if that was queued.
 fn ended(last: Result<(), NoMem>) -> Listed
     ensures { Lasts last result }
 {

@@ -1,4 +1,4 @@
-//! What a line says while a batch is open: few commands are for one.
+//! What a line means while a batch is open: few commands are for one.
 ghost use Rattle.std.specs.Prelude.{◌≡◌, false};
 ghost use Rattle.djq_model.specs.Data.{Tuple};
 ghost use Rattle.djq_parser.specs.RowReading.{begins_row};
@@ -11,7 +11,7 @@ use djq_parser::{LineRefusal, RowLine, RowWord, read_command, read_row};
 use djq_protocol::{Command, Refusal};
 use std::alloc::Global;
 
-/// What a line says while a batch is open. A name is bytes of the line.
+/// What a line means while a batch is open. A name is bytes of the line.
 #[derive(Clone, Copy, Debug)]
 pub enum BatchLine<'a> {
     /// The row that was read is to be held for the relation of this name.
@@ -28,8 +28,7 @@ pub enum BatchLine<'a> {
     Refused(Refusal),
 }
 
-/// What a line says while a batch is open. The values of a row are put in place of those that are
-/// there.
+/// Reads a line while a batch is open. The values of a row replace those that `row` has.
 pub fn read_in_batch<'a>(alloc: Global, line: &'a [u8], row: &mut Vec<Value>) -> BatchLine<'a>
     ensures { ReadsInBatch line.now result row.new.items }
 {
@@ -41,7 +40,7 @@ pub fn read_in_batch<'a>(alloc: Global, line: &'a [u8], row: &mut Vec<Value>) ->
     }
 }
 
-/// The same of a line that isn't one of a row.
+/// The same for a line that isn't one of a row.
 fn read_other<'a>(alloc: Global, line: &[u8]) -> BatchLine<'a>
     requires { begins_row (tokens line.now) ≡ false }
     ensures { (row : Tuple) → ReadsInBatch line.now result row }
@@ -52,7 +51,7 @@ fn read_other<'a>(alloc: Global, line: &[u8]) -> BatchLine<'a>
     }
 }
 
-/// What a command that isn't one of a row comes to in a batch.
+/// What a command that isn't one of a row means in a batch.
 fn line_of<'a>(command: &Command) -> BatchLine<'a>
     ensures { result ≡ in_batch command.now }
 {
@@ -65,7 +64,7 @@ fn line_of<'a>(command: &Command) -> BatchLine<'a>
     }
 }
 
-/// What a line of a row that gives none is answered in a batch.
+/// The refusal that answers, in a batch, a line of a row that gives no row.
 fn row_refusal_of(verb: RowWord, refusal: LineRefusal) -> Refusal
     ensures { result ≡ row_refused_as verb refusal }
 {
@@ -75,7 +74,7 @@ fn row_refusal_of(verb: RowWord, refusal: LineRefusal) -> Refusal
     }
 }
 
-/// What a line that gives no command is answered, where its command isn't misplaced.
+/// The refusal that answers a line that gives no command, if its command isn't misplaced.
 pub fn refusal_of(refusal: LineRefusal) -> Refusal
     ensures { result ≡ refused_as refusal }
 {
@@ -86,7 +85,7 @@ pub fn refusal_of(refusal: LineRefusal) -> Refusal
     }
 }
 
-/// What it is answered where its command would be.
+/// The refusal that answers it if its command would be misplaced.
 fn misplaced_of(refusal: LineRefusal) -> Refusal
     ensures { result ≡ misplaced_as refusal }
 {

@@ -10,7 +10,7 @@ use djq_protocol::Refusal;
 use djq_session::Session;
 use djq_store::{CursorId, Store};
 
-/// `watch`: the session is told from now on how the answers of a query change.
+/// `watch`: from now on the session is sent how the answers of a query change.
 pub(crate) fn run_watch(engine: &mut Store, session: &mut Session<CursorId, Name>, query: &Name)
     requires { CommandIsReady engine.old session.old }
     ensures { Executes (Watch query.now) false engine.old session.old engine.new session.new 0 0 }
@@ -19,7 +19,7 @@ pub(crate) fn run_watch(engine: &mut Store, session: &mut Session<CursorId, Name
     session.answer_watched(outcome, engine.seq());
 }
 
-/// The session watches a query, where it is registered and isn't watched yet.
+/// The session begins to watch a query, if that is registered and isn't watched yet.
 fn begin_watch(
     engine: &mut Store,
     session: &mut Session<CursorId, Name>,
@@ -42,7 +42,7 @@ fn begin_watch(
     Ok(())
 }
 
-/// `unwatch`: the session is told no more how the answers of a query change.
+/// `unwatch`: from now on the session is no longer sent how the answers of a query change.
 pub(crate) fn run_unwatch(engine: &mut Store, session: &mut Session<CursorId, Name>, query: &Name)
     requires { CommandIsReady engine.old session.old }
     ensures { Executes (Unwatch query.now) false engine.old session.old engine.new session.new 0 0 }
@@ -51,7 +51,7 @@ pub(crate) fn run_unwatch(engine: &mut Store, session: &mut Session<CursorId, Na
     session.answer_done(outcome);
 }
 
-/// The session watches a query no more, where it did.
+/// The session ceases to watch a query, if it watched it.
 fn cease_watch(
     engine: &mut Store,
     session: &mut Session<CursorId, Name>,
