@@ -7,7 +7,7 @@ use std::marker::Model;
 
 /// The calls of an object that are to fail, each as the number of calls until it.
 ///
-/// The next call has number 1. A call that has failed stays, with number 0, so that the list is
+/// The next call has number 1. A call that has failed remains, with number 0, so that the list is
 /// the object's count of faults too.
 #[derive(Debug, Drop)]
 pub struct Failing {
@@ -32,7 +32,7 @@ impl Failing {
         }
     }
 
-    /// Lets a further call fail.
+    /// Adds a further call that is to fail.
     pub fn push(&mut self, call: u64) -> Result<(), AllocError>
         requires { 0 < call }
         ensures ok { OnOk result (self.new ≡ self.old ++ call ∷ []) }
@@ -42,7 +42,7 @@ impl Failing {
         Ok(())
     }
 
-    /// Counts a call. Says whether it is to fail.
+    /// Counts a call. Returns whether it is to fail.
     pub fn count_down(&mut self) -> bool
         ensures due { result ≡ is_failing self.old }
         ensures counted { self.new ≡ after_call self.old }
@@ -56,7 +56,7 @@ impl Failing {
     }
 }
 
-/// A send that is to fail: to which session, and as which of the sends to it from now on, or 0 where
+/// A send that is to fail: to which session, and as which of the sends to it from now on, or 0 if
 /// it has failed.
 #[derive(Clone, Copy, Debug, Drop)]
 pub struct FailingSend {
@@ -80,7 +80,7 @@ impl FailingSend {
     }
 }
 
-/// The sends of a hub that are to fail. One that has failed stays, as in [`Failing`].
+/// The sends of a hub that are to fail. One that has failed remains, as in [`Failing`].
 #[derive(Debug, Drop)]
 pub(crate) struct FailingSends {
     sends: Vec<FailingSend>,
@@ -105,7 +105,7 @@ impl FailingSends {
         }
     }
 
-    /// Lets a further send fail.
+    /// Adds a further send that is to fail.
     pub(crate) fn push(&mut self, send: FailingSend) -> Result<(), AllocError>
         ensures ok { OnOk result (self.new ≡ self.old ++ send ∷ []) }
         ensures err { OnErr result (self.new ≡ self.old) }
@@ -114,7 +114,7 @@ impl FailingSends {
         Ok(())
     }
 
-    /// Counts a send to this session. Says whether it is to fail.
+    /// Counts a send to this session. Returns whether it is to fail.
     pub(crate) fn count_down(&mut self, id: u64) -> bool
         ensures due { result ≡ is_send_due id self.old }
         ensures counted { self.new ≡ after_send id self.old }

@@ -13,13 +13,13 @@ pub enum Listened {
 pub enum Turn {
     /// A new session, with an id above all before it.
     Opened(u64),
-    /// So many bytes of a session stand at the start of the buffer, at least 1.
+    /// So many bytes of a session are at the start of the buffer, at least 1.
     Bytes(u64, usize),
     /// A session's input ended.
     Ended(u64),
-    /// Nothing came.
+    /// No event.
     Idle,
-    /// Nothing will come any more.
+    /// There will be no further event.
     Over,
     /// The hub failed.
     Failed,
@@ -48,11 +48,11 @@ pub struct Coming {
 /// The answer to a send.
 #[derive(Clone, Copy, Debug, PartialEq, Eq)]
 pub enum Sent {
-    /// So many bytes were taken from the start of the piece, at least 1.
+    /// So many bytes from the start of the piece were accepted, at least 1.
     Took(usize),
-    /// None can be taken now.
+    /// No bytes can be accepted now.
     Again,
-    /// The session takes nothing any more.
+    /// The session accepts nothing any more.
     Gone,
 }
 
@@ -63,13 +63,13 @@ pub enum Told {
     Listening(Piece, Listened),
     /// A turn, with the bytes that it brought.
     Turning(Turn, Piece),
-    /// A send to a session: how many bytes were offered, the answer, and the bytes that it took.
+    /// A send to a session: how many bytes were offered, the answer, and the bytes that it accepted.
     Sending(u64, usize, Sent, Piece),
     /// A session was closed.
     Closing(u64),
 }
 
-/// Sessions that open, bring bytes, take bytes and end.
+/// Sessions that open, bring bytes, accept bytes and end.
 pub trait Hub {
     ghost use Rattle.std.specs.Prelude.{◌≡◌, ℕ, ◌<◌, List, [], ◌∷◌, length, Contains, Option};
     ghost use Rattle.djq_io.specs.Sink.{Gains};
@@ -78,10 +78,10 @@ pub trait Hub {
     ghost use Rattle.djq_io.specs.Script.{Script, WhereTold, AnswersByScript, Sends};
     ghost use Rattle.djq_io.specs.declared.hub.Told.{Told};
 
-    // The turns to come and who is blocked, where the hub tells them.
+    // The further turns and who is blocked, if the hub shows them.
     ghost script: { Self → Option Script };
 
-    // All calls so far with their answers, where the hub tells them.
+    // All calls so far with their answers, if the hub shows them.
     ghost past: { Self → Option (List Told) };
 
     // The ids of the sessions, which every hub shows.
@@ -101,7 +101,7 @@ pub trait Hub {
         ensures faults { CountsListen result (faults self.old) (faults self.new) }
         ensures sessions { SameCounts (ids self.old).open_ids (session_faults self.old) (session_faults self.new) };
 
-    /// Waits for the next thing to come. Bytes stand at the start of the buffer.
+    /// Waits for the next event. Its bytes are at the start of the buffer.
     fn turn(&mut self, buf: &mut [u8]) -> Turn
         requires { 0 < length buf.old }
         ensures past { Gains (past self.old) (past self.new) (Told.Turning result (brought result buf.new) ∷ []) }

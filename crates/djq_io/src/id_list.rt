@@ -19,7 +19,7 @@ impl Model for IdList {
 }
 
 impl IdList {
-    /// No ids, which take no memory.
+    /// No ids, which allocates nothing.
     pub fn empty(alloc: Global) -> Self
         ensures { result ≡ [] }
     {

@@ -1,13 +1,13 @@
 //! What a program meets outside: sources of bytes, sinks of bytes, and a hub of sessions.
 //!
 //! A [`Source`] has bytes left and pieces given, a [`Sink`] has its writes with their answers, and
-//! a [`Hub`] has a script of turns to come and a past. Contracts name them where they are told, as
-//! `Some`: an object in memory tells all, the standard input tells nothing (`None`). So code that
-//! is generic in them is proved once for both, and a claim on bytes is made where they are told as
+//! a [`Hub`] has a script of further turns and a past. Contracts name them, if they are shown, as
+//! `Some`: an object in memory shows all, the standard input shows nothing (`None`). So code that
+//! is generic in them is proved once for both, and a claim on bytes is made if they are shown when
 //! the call returns.
 //!
 //! Each of the three counts its faults, and a hub also those of each session. A call answers
-//! `Failed` only where its count *rose*: it is greater than at the call's start, or stands at the
+//! `Failed` only if its count *rose*: it is greater than at the call's start, or is at the
 //! end of its range. Every other answer leaves the count as it was, and no count falls.
 //!
 //! ```text
@@ -18,16 +18,16 @@
 //!
 //! What this crate is not: it buffers nothing, retries nothing, and reads no lines.
 //!
-//! What surprises: an object in memory may lose its record, where the memory for it was refused. It
-//! goes on, and claims nothing from then on. A turn of a script that can't come reads as nothing.
+//! What surprises: an object in memory may lose its record, if the memory for it was refused. It
+//! still answers calls, and claims nothing from then on. A turn of a script that can't occur reads as nothing.
 //!
-//! [`MemSource`], [`MemSink`] and [`MemHub`] stand in memory, tell everything, and fail only at the
-//! calls that they were told to; a [`SteadyHub`] never fails. Those over the operating system are
-//! djq_system's. [`Sessions`] keeps the ids and counts that every hub shows.
+//! [`MemSource`], [`MemSink`] and [`MemHub`] are in memory, show everything, and fail only at the
+//! calls that were named to them; a [`SteadyHub`] never fails. Those over the operating system are
+//! djq_system's. [`Sessions`] has the ids and counts that every hub shows.
 //!
 //! How it works inside: a record is a list or lost; the calls that are to fail are counted down,
-//! and those at 0 are the faults so far; a script is a queue, before which stands the rest of a
-//! piece that was longer than the buffer.
+//! and those at 0 are the faults so far; a script is a queue, with the rest of a piece that was longer
+//! than the buffer before it.
 #![tactic(auto)]
 
 mod failing;

@@ -25,15 +25,15 @@ pub enum HubCall {
     Listen(u64),
     /// A turn.
     Turn(u64),
-    /// A send to this session, which is gone then.
+    /// A send to this session, which is answered `Gone`.
     Send(u64, u64),
 }
 
-/// A hub in memory, which goes by a script and keeps its past. It tells everything.
+/// A hub in memory, which follows a script and has a record of its past. It shows everything.
 ///
-/// A turn that can't come brings nothing: an id that isn't new, and bytes or the end of a session
-/// that isn't open or has ended. It fails only where it was told to ([`MemHub::fail`]). A send
-/// takes the whole piece. Where a growth of its past is refused, it tells nothing from then on.
+/// A turn that can't occur brings nothing: an id that isn't new, and bytes or the end of a session
+/// that isn't open or has ended. It fails only at the calls that were named to it ([`MemHub::fail`]). A send
+/// accepts the whole piece. If a growth of its past is refused, it shows nothing from then on.
 #[derive(Debug, Drop)]
 pub struct MemHub {
     alloc: Global,
@@ -84,7 +84,7 @@ impl MemHub {
         }
     }
 
-    /// Puts a turn at the end of the script.
+    /// Appends a turn to the script.
     pub fn push(&mut self, coming: Coming) -> Result<(), AllocError>
         ensures ok { OnOk result (self.new ≡ with_coming self.old coming) }
         ensures err { OnErr result (self.new ≡ self.old) }
@@ -93,7 +93,7 @@ impl MemHub {
         self.script.push(coming)
     }
 
-    /// Lets a call fail.
+    /// Adds a call that is to fail.
     pub fn fail(&mut self, call: HubCall) -> Result<(), AllocError>
         requires { 0 < call_number call }
         ensures ok { OnOk result (self.new ≡ with_failing self.old call) }
@@ -106,14 +106,14 @@ impl MemHub {
         }
     }
 
-    /// All calls so far with their answers, or `None` once they are lost.
+    /// All calls so far with their answers, or `None` after they are lost.
     pub fn past(&self) -> Option<&[Told]>
         ensures { option_copied result ≡ self.now.past }
     {
         self.past.items()
     }
 
-    /// Takes the next turn of the script.
+    /// Removes the next turn of the script and returns it.
     fn follow(&mut self, buf: &mut [u8]) -> Turn
         requires { 0 < length buf.old }
         ensures script { AnswersByScript self.old.ids result buf.new self.old.script self.new.script }
@@ -260,7 +260,7 @@ fn brought_by(turn: Turn, buf: &[u8]) -> &[u8]
     }
 }
 
-/// The bytes of a piece that a send took.
+/// The bytes of a piece that a send accepted.
 fn taken_of(sent: Sent, piece: &[u8]) -> &[u8]
     requires { Takes sent piece.now }
     ensures { result.now ≡ taken_by sent piece.now }

@@ -11,11 +11,11 @@ use crate::sink::{Sink, Write, Wrote};
 use std::alloc::{AllocError, Global};
 use std::marker::Model;
 
-/// A sink that keeps what it takes in memory, seen as its writes with their answers, or as `None`
-/// once it has lost them, and the writes that are to fail. It takes each piece whole.
+/// A sink that stores the bytes written to it in memory, seen as its writes with their answers, or as `None`
+/// after it has lost them, and the writes that are to fail. It accepts each piece whole.
 ///
-/// It fails only where it was told to ([`MemSink::fail_at`]). Where a growth of its record is
-/// refused, it still takes the piece, and tells nothing from then on.
+/// It fails only at the writes that were named to it ([`MemSink::fail_at`]). If a growth of its record is
+/// refused, it still accepts the piece, and shows nothing from then on.
 #[derive(Debug, Drop)]
 pub struct MemSink {
     taken: Vec<u8>,
@@ -37,7 +37,7 @@ impl Model for MemSink {
 }
 
 impl MemSink {
-    /// A sink that took nothing yet.
+    /// A sink that nothing was written to yet.
     pub fn new(alloc: Global) -> Self
         ensures { result ≡ record { told = Some []; to_fail = [] } }
     {
@@ -48,7 +48,7 @@ impl MemSink {
         }
     }
 
-    /// The bytes that it took, or `None` once its record was lost.
+    /// The bytes that it accepted, or `None` after its record was lost.
     pub fn taken(&self) -> Option<&[u8]>
         ensures { option_copied result ≡ option_map bytes_of self.now.told }
     {
@@ -58,14 +58,14 @@ impl MemSink {
         }
     }
 
-    /// Its writes with their answers, or `None` once its record was lost.
+    /// Its writes with their answers, or `None` after its record was lost.
     pub fn writes(&self) -> Option<&[Write]>
         ensures { option_copied result ≡ self.now.told }
     {
         self.writes.items()
     }
 
-    /// Lets a write fail: 1 is the next one, 2 the one behind it, and so on.
+    /// Adds a write that is to fail: 1 is the next one, 2 the one after it, and so on.
     pub fn fail_at(&mut self, write: u64) -> Result<(), AllocError>
         requires { 0 < write }
         ensures ok { OnOk result (self.new ≡ record self.old { to_fail = self.old.to_fail ++ write ∷ [] }) }
@@ -75,7 +75,7 @@ impl MemSink {
     }
 }
 
-/// A write and its answer, where there is memory for it. What it took comes behind the bytes taken.
+/// A write and its answer, if there is memory for it. The bytes that it accepted are after those accepted before.
 fn take(taken: &mut Vec<u8>, piece: &[u8], answer: Wrote) -> Result<Write, AllocError>
     requires { TakesPart answer piece.now }
     ensures write { IfOk result (λ write. write ≡ record { piece = piece.now; answer = answer }) }

@@ -9,19 +9,19 @@ use crate::source::{Read, Source};
 use std::alloc::AllocError;
 use std::marker::Model;
 
-/// Where a piece stands in the bytes of a source.
+/// The place of a piece in the bytes of a source.
 #[derive(Clone, Copy, Debug, Drop)]
 struct Span {
     from: usize,
     to: usize,
 }
 
-/// Bytes in memory as a source. It tells everything.
+/// Bytes in memory as a source. It shows everything.
 ///
 /// A read gives as many bytes as the buffer has room for, and never more than a greatest number.
-/// It fails only where it was told to ([`MemSource::fail_at`]). Where a growth of its record of
-/// the pieces is refused, it still gives the piece, and tells nothing from then on. What it gave is
-/// gone from the bytes left in any case.
+/// It fails only at the reads that were named to it ([`MemSource::fail_at`]). If a growth of its record of
+/// the pieces is refused, it still gives the piece, and shows nothing from then on. What it gave is
+/// removed from the bytes left in any case.
 #[derive(Debug, Drop)]
 pub struct MemSource {
     bytes: Vec<u8>,
@@ -64,7 +64,7 @@ impl MemSource {
         }
     }
 
-    /// Lets a read fail: 1 is the next one, 2 the one behind it, and so on.
+    /// Adds a read that is to fail: 1 is the next one, 2 the one after it, and so on.
     pub fn fail_at(&mut self, read: u64) -> Result<(), AllocError>
         requires { 0 < read }
         ensures ok { OnOk result (self.new ≡ record self.old { to_fail = self.old.to_fail ++ read ∷ [] }) }

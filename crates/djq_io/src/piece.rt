@@ -3,7 +3,7 @@ ghost use Rattle.std.specs.Prelude.{◌≡◌, ◌≤◌, ◌↔◌, [], length,
 use std::alloc::{AllocError, Global};
 use std::marker::Model;
 
-/// Bytes that a call brought or took, seen as a list.
+/// Bytes that a call brought or accepted, seen as a list.
 #[derive(Debug, Drop)]
 pub struct Piece {
     bytes: Vec<u8>,
@@ -21,7 +21,7 @@ impl Model for Piece {
 }
 
 impl Piece {
-    /// A piece without bytes, which takes no memory.
+    /// A piece without bytes, which allocates nothing.
     pub fn empty(alloc: Global) -> Self
         ensures { result ≡ [] }
     {
@@ -66,7 +66,7 @@ impl Piece {
         self.len() == 0
     }
 
-    /// Copies as many of the first bytes as fit to the start of a buffer, and says how many.
+    /// Copies as many of the first bytes as fit to the start of a buffer, and returns how many.
     pub fn copy_to(&self, buf: &mut [u8]) -> usize
         ensures n { result ≡ min (length self.now) (length buf.old) }
         ensures copied { take result buf.new ≡ take result self.now }

@@ -5,10 +5,10 @@ ghost use Rattle.djq_io.specs.Sink.{Gains};
 use std::alloc::{AllocError, Global};
 use std::marker::Model;
 
-/// What an object in memory went through, in order, seen as that list, or as `None` once it is
+/// The events of an object in memory, in order, seen as that list, or as `None` after it is
 /// lost.
 ///
-/// It is lost where a growth is refused, and for ever: a record with a gap would be a false one.
+/// It is lost when a growth is refused, and for ever: a record with a gap would be a false one.
 #[derive(Debug, Drop)]
 pub struct Recording<T: Drop> {
     items: Vec<T>,
@@ -34,7 +34,7 @@ impl<T: Drop> Recording<T> {
         }
     }
 
-    /// All of it, in order, or `None` once it is lost.
+    /// All of it, in order, or `None` after it is lost.
     pub fn items(&self) -> Option<&[T]>
         ensures { option_copied result ≡ self.now }
     {
@@ -45,7 +45,7 @@ impl<T: Drop> Recording<T> {
         }
     }
 
-    /// Puts one more at the end.
+    /// Appends one more.
     pub fn push(&mut self, item: T)
         ensures { Gains self.old self.new (item ∷ []) }
     {
@@ -54,7 +54,7 @@ impl<T: Drop> Recording<T> {
         }
     }
 
-    /// Puts one more at the end, or loses all where there was no memory to make it.
+    /// Appends one more, or loses all if there was no memory to make it.
     pub fn push_made(&mut self, item: Result<T, AllocError>)
         ensures { MatchResult item (λ made. Gains self.old self.new (made ∷ [])) (λ _. self.new ≡ None) }
     {
@@ -66,7 +66,7 @@ impl<T: Drop> Recording<T> {
 }
 
 impl Recording<u8> {
-    /// Puts bytes at the end.
+    /// Appends bytes.
     pub fn extend(&mut self, bytes: &[u8])
         ensures { Gains self.old self.new bytes.now }
     {

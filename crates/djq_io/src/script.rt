@@ -16,10 +16,10 @@ struct Rest {
     piece: Piece,
 }
 
-/// A script from where it stands.
+/// A script from its present turn on.
 ///
 /// The turn of a piece of which a first part was given isn't put back into the queue: its rest
-/// stands before it, and who is blocked after it is blocked already.
+/// is before it, and who is blocked after it is blocked already.
 #[derive(Debug, Drop)]
 pub(crate) struct ScriptQueue {
     blocked: IdList,
@@ -51,7 +51,7 @@ impl ScriptQueue {
         }
     }
 
-    /// Puts a turn at the end.
+    /// Appends a turn.
     pub(crate) fn push(&mut self, coming: Coming) -> Result<(), AllocError>
         ensures ok { OnOk result (self.new.script ≡ record self.old.script
             { turns = self.old.script.turns ++ coming ∷ [] }) }
@@ -61,7 +61,7 @@ impl ScriptQueue {
         Ok(())
     }
 
-    /// More than the number of turns to come, by at most 2.
+    /// More than the number of further turns, by at most 2.
     pub(crate) fn len_bound(&self) -> usize
         ensures { length self.now.script.turns < result }
     {
@@ -75,7 +75,7 @@ impl ScriptQueue {
         self.blocked.contains(id)
     }
 
-    /// Takes the next turn.
+    /// Removes the next turn and returns it.
     pub(crate) fn pop(&mut self) -> Option<Incoming>
         ensures next { MatchOption result ((self.old.script.turns ≡ [])
             × (self.new.script ≡ self.old.script)) (λ next. ScriptPasses self.old.script next
@@ -90,7 +90,7 @@ impl ScriptQueue {
         Some(turn)
     }
 
-    /// Puts the rest of a piece back, of the turn that was taken last.
+    /// Puts the rest of a piece back, of the turn that was removed last.
     pub(crate) fn put_back(&mut self, id: u64, piece: Piece)
         requires { self.old.has_rest ≡ false }
         ensures { self.new.script ≡ record self.old.script {

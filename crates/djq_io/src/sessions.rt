@@ -44,7 +44,7 @@ impl Session {
     }
 }
 
-/// The sessions of a hub, seen as their ids, and the room for further ones that it has taken ahead.
+/// The sessions of a hub, seen as their ids, and the room for further ones that it has allocated ahead.
 #[derive(Debug, Drop)]
 pub struct Sessions {
     newest: Option<u64>,
@@ -84,7 +84,7 @@ impl Sessions {
         }
     }
 
-    /// Takes room for so many more sessions than are open.
+    /// Allocates room for so many more sessions than are open.
     pub fn reserve(&mut self, more: usize) -> Result<(), AllocError>
         ensures ids { self.new.ids ≡ self.old.ids }
         ensures counts { self.new.counts ≡ self.old.counts }
@@ -101,7 +101,7 @@ impl Sessions {
         self.places.len() < self.places.capacity()
     }
 
-    /// The least id above all before, or `None` where there is none.
+    /// The least id above all before, or `None` if there is none.
     pub fn next_id(&self) -> Option<u64>
         ensures { IfSome result (λ id. IsNewId self.now.ids id) }
     {

@@ -5,26 +5,26 @@ use crate::piece::Piece;
 /// The answer to a write.
 #[derive(Clone, Copy, Debug, PartialEq, Eq)]
 pub enum Wrote {
-    /// So many bytes were taken from the start of the piece, at least 1.
+    /// So many bytes from the start of the piece were accepted, at least 1.
     Took(usize),
-    /// The write failed, and took nothing.
+    /// The write failed, and nothing was accepted.
     Failed,
 }
 
-/// A write, as a sink tells it: the piece that it was offered, and its answer.
+/// A write, as a sink shows it: the piece that it was offered, and its answer.
 #[derive(Debug, Drop)]
 pub struct Write {
     pub piece: Piece,
     pub answer: Wrote,
 }
 
-/// Where bytes go.
+/// The destination of bytes.
 pub trait Sink {
     ghost use Rattle.std.specs.Prelude.{◌≡◌, ℕ, ◌<◌, List, [], ◌∷◌, length, Option};
     ghost use Rattle.djq_io.specs.Sink.{Gains, TakesPart, CountsWrite};
     ghost use Rattle.djq_io.specs.declared.sink.Write.{Write};
 
-    // All writes so far with their answers, where the sink tells them.
+    // All writes so far with their answers, if the sink shows them.
     ghost told: { Self → Option (List Write) };
 
     // How many faults it has met.
@@ -47,7 +47,7 @@ pub enum Written {
     Failed(usize),
 }
 
-/// Writes the piece until all of it is taken or a write failed. An empty piece is written at once.
+/// Writes the piece until all of it is accepted or a write failed. An empty piece is written at once.
 pub fn write_all<K: Sink>(sink: &mut K, piece: &[u8]) -> Written
     ensures written { WritesAll result (K.told sink.old) (K.told sink.new) piece.now }
     ensures faults { CountsWritten result (K.faults sink.old) (K.faults sink.new) }

@@ -8,8 +8,8 @@ use std::marker::Model;
 
 /// A hub in memory of which no call is to fail.
 ///
-/// Its counts of faults are 0 and stay so, so that what serves it meets no fault: a hub answers
-/// that it failed, or that a session is gone, only where a count rises.
+/// Its counts of faults are 0 and never rise, so that what serves it meets no fault: a hub answers
+/// that it failed, or that a session is `Gone`, only if a count rises.
 #[derive(Debug, Drop)]
 pub struct SteadyHub {
     hub: MemHub,
@@ -35,8 +35,8 @@ impl SteadyHub {
         SteadyHub { hub }
     }
 
-    /// All calls so far with their answers, or `None` once they are lost. No send among them found
-    /// its session gone.
+    /// All calls so far with their answers, or `None` after they are lost. No send among them was answered
+    /// `Gone`.
     pub fn past(&self) -> Option<&[Told]>
         ensures past { option_copied result ≡ self.now.past }
         ensures steady { NeverFails self.now }
@@ -48,7 +48,7 @@ impl SteadyHub {
 impl Hub for SteadyHub {
     ghost use Rattle.std.specs.Prelude.{Some};
 
-    // It is told even where the record of the past is lost.
+    // It is shown even if the record of the past is lost.
     ghost script = { λ h. Some h.script };
 
     ghost past = { λ h. h.past };
