@@ -1,7 +1,7 @@
 //! The join machine, as definitions: its state, what each event may do to it and queue, what a run
-//! is, and what the calls of whoever keeps such a state promise.
+//! is, and what the calls of an object with such a state promise.
 //!
-//! [`Machine`] is a trait: a call of it makes a step. djq_core keeps the state in code; the loops
+//! [`Machine`] is a trait: a call of it makes a step. djq_core has the state in code; the loops
 //! of `run`, `serve` and `gen` are proved over any machine.
 //!
 //! ```text
@@ -11,11 +11,11 @@
 //!               cost: 0                      kept: the line
 //! ```
 //!
-//! This crate has no way to compute anything, and knows nothing of how rows are kept.
+//! This crate has no way to compute anything, and knows nothing of how rows are stored.
 //!
 //! What surprises: `Step` is a relation and no function, so it leaves open what the product leaves
 //! open: the order of a query's answers and of a relation's rows, and when memory runs out. Each
-//! step may leave rows in another order. What a step may cost in lookups and links stands beside
+//! step may leave rows in another order. What a step may cost in lookups and links is given beside
 //! what it queues, and bounds what code counts.
 //!
 //! To read first: `specs/Step.antt`, from `Step` at its end backwards. From there `LineStep.antt`
