@@ -10,7 +10,7 @@
 //! add r 1 2                        r with the row (1,2), two copies; seq 1: no row came
 //! ```
 //!
-//! To read first: `specs/Store.antt`, what is kept; then `Changes.antt`, what a change of rows is, and
+//! To read first: `specs/Store.antt`, what a store contains; then `Changes.antt`, what a change of rows is, and
 //! `Delta.antt`, how answers change with it. `Relations`, `Rows`, `Registering`, `Union` and `Batch` have
 //! for each command its refusals in their order and what it does; `Asking` and `Listing` what it may
 //! return; `DeltaCost` what listing a delta may cost.
