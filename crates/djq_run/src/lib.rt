@@ -3,8 +3,8 @@
 //! [`run_session`] opens session 1, reads pieces, feeds them to the machine, runs each whole line
 //! that they complete and writes what it answers before the next line is run. It is generic in the
 //! machine, the source and the sink, so it is proved from their contracts alone. What it promises
-//! is one sentence: the machine went by a course of the program from the state that it had to the
-//! state that it has, and the [`Status`] says how far it went and which faults there were.
+//! is one sentence: the machine followed a course of the program from the state that it had to the
+//! state that it has, and the [`Status`] reports how far it got and which faults there were.
 //!
 //! What this crate is not: it buffers nothing, allocates nothing, and knows no command.
 //!
@@ -22,7 +22,7 @@
 //! ```
 //!
 //! Inside, `session` has the loop in three: a read and what it brings, the lines that a session
-//! holds, and the writes behind each. What a write took is told to the machine before the next one.
+//! holds, and the writes after each. The bytes that a write accepted are removed from the machine before the next one.
 //! `status` has what the exit status of the process is, for the other commands too. A course is a
 //! definition of djq_run_laws (`specs/Course.antt`), and what holds of every course is a law there.
 #![tactic(auto)]

@@ -16,7 +16,7 @@ use djq_protocol::EndCause;
 /// The id of the one session of a run.
 const ID: u64 = 1;
 
-/// What the session has come to, once the lines that it holds were run.
+/// The state of the session, after the lines that it holds were run.
 #[derive(Clone, Copy, Debug)]
 enum Served {
     /// It holds no whole line, and all that was queued was written.
@@ -46,8 +46,8 @@ impl Served {
 /// its input ends. No session of the machine is open before.
 ///
 /// It reads at most as many bytes at a time as the buffer has. What was read is fed, each line that
-/// it completes is run, and what that queues is written, before the next read. Nothing is read once
-/// the session has ended, and nothing is done behind a write that failed.
+/// it completes is run, and what that queues is written, before the next read. Nothing is read after
+/// the session has ended, and nothing is done after a write that failed.
 pub fn run_session<M: Machine, S: Source, K: Sink, L: Ledgers>(
     machine: &mut M,
     source: &mut S,
@@ -76,7 +76,7 @@ pub fn run_session<M: Machine, S: Source, K: Sink, L: Ledgers>(
     Status::TurnsUsed
 }
 
-/// Reads once, and serves what was read. It answers the status with which the run ends, if it does.
+/// Reads once, and serves what was read. It returns the status with which the run ends, if it does.
 fn serve_read<M: Machine, S: Source, K: Sink, L: Ledgers>(
     machine: &mut M,
     source: &mut S,
@@ -142,9 +142,9 @@ fn serve_held<M: Machine, K: Sink, L: Ledgers>(
     Served::WriteFault
 }
 
-/// Writes what is pending for the session, and tells whether all of it was taken. What a write took
-/// is told to the machine before the next one, and nothing is done behind one that failed. Where one
-/// took all, the machine isn't asked again what is pending.
+/// Writes what is pending for the session, and returns whether all of it was accepted. The bytes that a write accepted
+/// are removed from the machine before the next one, and nothing is done after one that failed. If one
+/// accepted all, the machine isn't asked again what is pending.
 fn flush<M: Machine, K: Sink>(machine: &mut M, sink: &mut K) -> bool
     requires { IsOpen (M.state machine.old) 1 }
     ensures { Flushed result (K.told sink.old) (K.faults sink.old) (M.state machine.old)
