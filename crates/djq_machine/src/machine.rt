@@ -2,12 +2,12 @@ use djq_counters::{Ledgers, Steps};
 use djq_protocol::EndCause;
 use thiserror::Error;
 
-/// What became of the line in front of a session's bytes.
+/// The outcome of running the next line of a session.
 #[derive(Clone, Copy, Debug, PartialEq, Eq)]
 pub enum Stepped {
-    /// It was run, or dropped where it is blank.
+    /// It was run, or dropped if it is blank.
     Ran {
-        /// Whether it is kept, alone or with the batch that it ends: loaded again, these lines do what
+        /// Whether it is to be logged, alone or with the batch that it ends: loaded again, these lines do what
         /// it did to the relations, their rows and copies, and the queries.
         kept: bool,
     },
@@ -17,7 +17,7 @@ pub enum Stepped {
     Ended(EndCause),
 }
 
-/// What became of bytes that came.
+/// The outcome of feeding bytes to a session.
 #[derive(Clone, Copy, Debug, PartialEq, Eq)]
 pub enum Fed {
     /// They are held.
@@ -26,16 +26,16 @@ pub enum Fed {
     Ended(EndCause),
 }
 
-/// What became of a line that is loaded while no session is open. Lines that were kept of a batch are
+/// The outcome of a line that is loaded while no session is open. The logged lines of a batch are
 /// loaded as in a session: those between `batch` and `done` are held.
 #[derive(Clone, Copy, Debug, PartialEq, Eq)]
 pub enum Loaded {
-    /// It is done: it is a line that is kept.
+    /// It is done: it is a line that is logged.
     Ran,
-    /// It isn't a line that is kept, as it is outside the grammar, of another kind, or refused; or it
-    /// isn't for a batch, where the lines before it opened one.
+    /// It isn't a line that is logged, as it is outside the grammar, of another kind, or refused; or it
+    /// isn't for a batch, and the lines before it opened one.
     Refused,
-    /// Memory is wanting.
+    /// Out of memory.
     NoMem,
 }
 
@@ -50,7 +50,7 @@ pub enum OpenRefusal {
     NoMem,
 }
 
-/// A join machine: whatever keeps a state, and makes steps of the machine by its calls.
+/// A join machine: whatever has a state, and makes steps of the machine by its calls.
 ///
 /// A session is open from [`open_session`](Machine::open_session) until
 /// [`close_session`](Machine::close_session).
@@ -64,23 +64,23 @@ pub trait Machine {
     ghost use Rattle.djq_machine.specs.Call.{IsOpen, Makes, OpenGives, FedGives, StepGives};
     ghost use Rattle.djq_machine.specs.Call.{cause_of, held_of, state_ids, first_due, counts};
 
-    // The state of the join machine that it keeps.
+    // The state of the join machine that it has.
     ghost state: { Self → State };
 
-    // The lines that its last step kept.
+    // The lines of its last step that are to be logged.
     ghost kept: { Self → List Bytes };
 
     /// Opens a session with an id above those of the open ones.
     ///
     /// # Errors
     ///
-    /// `Full` exactly where [`SESSIONS`](djq_protocol::limits::SESSIONS) are open; `NoMem` below that,
+    /// `Full` if and only if [`SESSIONS`](djq_protocol::limits::SESSIONS) are open; `NoMem` below that,
     /// out of memory.
     fn open_session(&mut self, id: u64) -> Result<(), OpenRefusal>
         requires { All (λ x. x.id < id) (state self.old).sessions }
         ensures { OpenGives (state self.old) id result (state self.new) };
 
-    /// Bytes of an open session come. Where it has ended they are dropped.
+    /// Feeds bytes to an open session. If it has ended they are dropped.
     fn feed(&mut self, id: u64, piece: &[u8]) -> Fed
         requires { IsOpen (state self.old) id }
         ensures makes { Makes (state self.old) (fed id piece.now) (state self.new) }
@@ -94,16 +94,16 @@ pub trait Machine {
             (counts steps.new.listing steps.new.update steps.new.rows)
             (kept self.new) };
 
-    /// The line with this number, counted from 0, of those that the last step kept.
+    /// The line with this number, counted from 0, of those of the last step that are to be logged.
     fn accepted(&self, i: usize) -> Option<&[u8]>
         ensures { option_copied result ≡ slice_get (kept self.now) i };
 
-    /// The bytes that are queued to an open session and aren't taken.
+    /// The bytes that are queued to an open session and aren't removed yet.
     fn pending(&self, id: u64) -> &[u8]
         requires { IsOpen (state self.now) id }
         ensures { result.now ≡ pending_of (state self.now) id };
 
-    /// The first bytes that are pending for an open session are taken.
+    /// Removes the first bytes that are pending for an open session.
     fn took(&mut self, id: u64, count: usize)
         requires open { IsOpen (state self.old) id }
         requires pending { count ≤ length (pending_of (state self.old) id) }
@@ -116,7 +116,7 @@ pub trait Machine {
         requires dry { IsSome (cause_of (state self.old) id) ⊎ (is_dry (held_of (state self.old) id) ≡ true) }
         ensures { Makes (state self.old) (ended id) (state self.new) };
 
-    /// An open session is gone, with the bytes that are pending for it.
+    /// Removes an open session, with the bytes that are pending for it.
     fn close_session(&mut self, id: u64)
         requires { IsOpen (state self.old) id }
         ensures { Makes (state self.old) (closed id (pending_of (state self.old) id)) (state self.new) };
@@ -125,7 +125,7 @@ pub trait Machine {
     fn ids(&self) -> &[u64]
         ensures { result.now ≡ state_ids (state self.now) };
 
-    /// The end cause that an open session keeps.
+    /// The end cause that an open session has.
     fn cause(&self, id: u64) -> Option<EndCause>
         requires { IsOpen (state self.now) id }
         ensures { result ≡ cause_of (state self.now) id };
@@ -135,7 +135,7 @@ pub trait Machine {
     fn due(&self, from: u128) -> Option<u64>
         ensures { result ≡ first_due (state self.now) from };
 
-    /// Whether a session said `stop`.
+    /// Whether a session ran `stop`.
     fn stopped(&self) -> bool
         ensures { result ≡ (state self.now).stopped };
 }
