@@ -1,6 +1,6 @@
-//! Values as they are printed, each behind a space.
+//! Values as they are printed, each after a space.
 //!
-//! What stands there is read as a literal and printed again: it is a value exactly where the two are
+//! A piece is read as a literal and printed again: it is a value if and only if the two are
 //! the same.
 ghost use Rattle.std.specs.Prelude.{◌≡◌, ◌<◌, ◌&&◌, IfOk, length};
 ghost use Rattle.std.specs.Fmt.{signed_decimal};
@@ -19,7 +19,7 @@ use djq_value::{ValueRefusal, print_cell, read_value};
 use itoa::Buffer;
 use std::alloc::Global;
 
-/// Whether bytes are values, each behind a space.
+/// Whether bytes are values, each after a space.
 #[tactic(auto, using(crate::proofs::Spellings::cells_behind, crate::proofs::Spellings::cells_fail, crate::proofs::Spellings::cells_empty, crate::proofs::Spellings::cell_shorter))]
 pub(crate) fn are_cells(alloc: Global, bytes: &[u8]) -> Result<bool, NoMem>
     ensures { IfOk result (λ yes. yes ≡ are_cells_in bytes.now) }
@@ -34,7 +34,7 @@ pub(crate) fn are_cells(alloc: Global, bytes: &[u8]) -> Result<bool, NoMem>
     Ok(true)
 }
 
-/// What is behind a space and a value in front of these bytes, where they stand there.
+/// The bytes after a space and a value, if these bytes begin with the two.
 fn behind_cell(alloc: Global, bytes: &[u8]) -> Result<Option<&[u8]>, NoMem>
     requires { 0 < length bytes.now }
     ensures { IfOk result (λ found. option_map (λ b. b.now) found ≡ behind_cell_of bytes.now) }
@@ -46,7 +46,7 @@ fn behind_cell(alloc: Global, bytes: &[u8]) -> Result<Option<&[u8]>, NoMem>
     }
 }
 
-/// What is behind a value in front of these bytes, where one stands there.
+/// The bytes after a value, if these bytes begin with one.
 fn behind_value(alloc: Global, bytes: &[u8]) -> Result<Option<&[u8]>, NoMem>
     ensures { IfOk result (λ found.
         option_map (λ b. b.now) found ≡ behind_value_of bytes.now (literal_at bytes.now)) }

@@ -1,4 +1,4 @@
-//! What a mirror leaves of what a session was sent, written to a sink.
+//! What a mirror has after what a session was sent, written to a sink.
 ghost use Rattle.std.specs.Prelude.{◌≡◌, IfOk, MatchResult};
 ghost use Rattle.djq_mirror.specs.Mirror.{written};
 ghost use Rattle.djq_mirror.specs.Ends.{HaltIsTold, IsUntold, MirrorLeaves, LeavesNone, MirrorEnds, unfollowed_line};
@@ -17,9 +17,9 @@ use std::alloc::Global;
 /// How `mirror` ended.
 #[derive(Clone, Copy, Debug, PartialEq, Eq)]
 pub enum Mirrored {
-    /// The input was read to its end and followed, and what it leaves was written.
+    /// The input was read to its end and followed, and the answers after it were written.
     Done,
-    /// This line, counted from 1, can't be followed, and that was written.
+    /// This line, counted from 1, can't be followed, and its number was written.
     Outside(u64),
     /// A read failed. Nothing was written.
     ReadFault,
@@ -31,9 +31,9 @@ pub enum Mirrored {
     NoMemory,
 }
 
-/// Reads what one session was sent from the source, and writes the answers of a query that this
-/// leaves, as lines in byte order with `end` behind them; `none` where they aren't known whole; or
-/// which line is the first that can't be followed, and nothing is read behind it.
+/// Reads what one session was sent from the source, and writes the answers of a query after it.
+/// They are lines in byte order with `end` after them, or `none` if they aren't known whole. If a line can't
+/// be followed, it writes which line is the first, and nothing is read after it.
 pub fn run_mirror<S: Source, K: Sink>(
     alloc: Global,
     query: Name,
@@ -53,8 +53,8 @@ pub fn run_mirror<S: Source, K: Sink>(
     }
 }
 
-/// Reads what a session was sent, and gives what is to be written of it, with the answer where it is;
-/// or the answer where nothing is.
+/// Reads what a session was sent, and returns what is to be written of it with the outcome; or the
+/// outcome alone, if nothing is to be written.
 fn leave<S: Source>(
     alloc: Global,
     query: Name,
@@ -90,7 +90,7 @@ fn written(alloc: Global, mirror: &Mirror) -> Result<(BytesMut, Mirrored), Mirro
     }
 }
 
-/// What is written where the mirror can't follow any further.
+/// What is written if the mirror can't follow any further.
 fn tell_halt(alloc: Global, halt: Halt) -> Result<(BytesMut, Mirrored), Mirrored>
     ensures { MatchResult result (λ made. HaltIsTold halt made.0.items made.1) (IsUntold halt) }
 {
@@ -101,7 +101,7 @@ fn tell_halt(alloc: Global, halt: Halt) -> Result<(BytesMut, Mirrored), Mirrored
     }
 }
 
-/// The line that says which line can't be followed.
+/// The line that reports which line can't be followed.
 fn tell_outside(alloc: Global, number: u64) -> Result<(BytesMut, Mirrored), Mirrored>
     ensures { MatchResult result
         (λ made. (made.0.items ≡ unfollowed_line number) × (made.1 ≡ Mirrored.Outside number))
@@ -113,7 +113,7 @@ fn tell_outside(alloc: Global, number: u64) -> Result<(BytesMut, Mirrored), Mirr
     }
 }
 
-/// The same without the answer.
+/// The same without the outcome.
 fn outside_text(alloc: Global, number: u64) -> Result<BytesMut, NoMem>
     ensures { IfOk result (λ text. text.items ≡ unfollowed_line number) }
 {

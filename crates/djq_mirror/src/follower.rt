@@ -13,7 +13,7 @@ use std::marker::Model;
 pub(crate) enum Halt {
     /// This line, counted from 1, can't be followed.
     Outside(u64),
-    /// More lines came than can be counted.
+    /// There were more lines than can be counted.
     TooMany,
     /// Out of memory.
     NoMem,
@@ -67,8 +67,8 @@ impl Follower {
         self.mirror
     }
 
-    /// Follows the lines that a piece ends, and keeps the front of one that it begins. It answers why
-    /// it goes no further, if it doesn't.
+    /// Follows the lines that a piece ends, and stores the front of one that it begins. It returns why
+    /// it follows no further, if it doesn't.
     pub(crate) fn feed(&mut self, piece: &[u8]) -> Option<Halt>
         ensures { TakesPiece self.old piece.now result self.new }
     {
@@ -84,7 +84,7 @@ impl Follower {
         self.keep_front(rest)
     }
 
-    /// The number of the line that has begun and wasn't ended, where there is one: why it goes no
+    /// The number of the line that has begun and wasn't ended, if there is one: the reason to follow no
     /// further at the end of the input.
     pub(crate) fn end(&self) -> Option<Halt>
         ensures { HaltsAtEnd self.now result }
@@ -113,7 +113,7 @@ impl Follower {
         }
     }
 
-    /// Tells the mirror the line whose last bytes these are.
+    /// Hands the mirror the line whose last bytes these are.
     fn follow_line(&mut self, last: &[u8]) -> Result<(), MirrorRefusal>
         requires { HasNoLf last.now }
         ensures { FollowsLine self.old last.now result self.new }
@@ -129,7 +129,7 @@ impl Follower {
         followed
     }
 
-    /// Keeps the front of a line.
+    /// Stores the front of a line.
     fn keep_front(&mut self, front: &[u8]) -> Option<Halt>
         requires { HasNoLf front.now }
         ensures { KeepsFront self.old front.now result self.new }
@@ -144,7 +144,7 @@ impl Follower {
     }
 }
 
-/// The number behind this one, as that of a line that can't be followed.
+/// The number after this one, as that of a line that can't be followed.
 fn next_line(count: u64) -> Halt
     ensures { IsHaltLine count result }
 {

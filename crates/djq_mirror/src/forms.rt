@@ -1,4 +1,4 @@
-//! Lines that tell nothing of a listing or of a query, by their words.
+//! Lines that report nothing of a listing or of a query, by their words.
 ghost use Rattle.std.specs.Prelude.{◌≡◌, ◌||◌, codes};
 ghost use Rattle.std.specs.List.{list_all};
 ghost use Rattle.djq_model.specs.Data.{bytes_eq};
@@ -50,7 +50,7 @@ pub(crate) fn is_fixed(line: &[u8]) -> bool
     lines.contains(&line)
 }
 
-/// Whether a line tells nothing, by its first word and those behind it.
+/// Whether a line reports nothing, by its first word and those after it.
 pub(crate) fn is_worded(first: &[u8], words: &mut Parts<'_>) -> bool
     ensures { result ≡ is_worded_of first.now words.old }
 {
@@ -67,7 +67,7 @@ pub(crate) fn is_worded(first: &[u8], words: &mut Parts<'_>) -> bool
     }
 }
 
-/// Whether words are those behind `ok` where numbers are told.
+/// Whether words are those after `ok` if numbers are reported.
 fn is_counted(words: &mut Parts<'_>) -> bool
     ensures { result ≡ is_counted_of words.old }
 {
@@ -86,7 +86,7 @@ fn is_counted(words: &mut Parts<'_>) -> bool
     }
 }
 
-/// Whether one number is told behind a word.
+/// Whether one number is reported after a word.
 fn has_one(word: &[u8]) -> bool
     ensures { result ≡ (bytes_eq word.now (codes "absent") || bytes_eq word.now (codes "held")
         || bytes_eq word.now (codes "query") || bytes_eq word.now (codes "union")
@@ -107,7 +107,7 @@ fn has_two(word: &[u8]) -> bool
     is_text(word, b"added") || is_text(word, b"removed") || is_text(word, b"done")
 }
 
-/// Whether words are those behind `no` where a rest is told.
+/// Whether words are those after `no` if a rest is reported.
 fn is_rest(words: &mut Parts<'_>) -> bool
     ensures { result ≡ is_rest_told words.old }
 {
@@ -133,7 +133,7 @@ fn are_edges(words: &mut Parts<'_>) -> bool
     true
 }
 
-/// Whether words are those behind `n`, where a node of a tree is told.
+/// Whether words are those after `n`, which reports a node of a tree.
 fn is_node(words: &mut Parts<'_>) -> bool
     ensures { result ≡ is_node_told words.old }
 {
@@ -143,7 +143,7 @@ fn is_node(words: &mut Parts<'_>) -> bool
     }
 }
 
-/// Whether words are those behind a node's number.
+/// Whether words are those after a node's number.
 fn is_kind(words: &mut Parts<'_>) -> bool
     ensures { result ≡ is_node_kind words.old }
 {
@@ -161,7 +161,7 @@ fn is_kind(words: &mut Parts<'_>) -> bool
     }
 }
 
-/// Whether words tell the rest of a leaf: a relation, and its label.
+/// Whether words are the rest of a leaf: a relation, and its label.
 fn is_leaf(words: &mut Parts<'_>) -> bool
     ensures { result ≡ is_leaf_told words.old }
 {
@@ -171,7 +171,7 @@ fn is_leaf(words: &mut Parts<'_>) -> bool
     }
 }
 
-/// Whether words tell the rest of a trim: its child, and its label.
+/// Whether words are the rest of a trim: its child, and its label.
 fn is_trim(words: &mut Parts<'_>) -> bool
     ensures { result ≡ is_trim_told words.old }
 {
@@ -181,7 +181,7 @@ fn is_trim(words: &mut Parts<'_>) -> bool
     }
 }
 
-/// Whether words tell the rest of a meet: its guard, its side, and its label.
+/// Whether words are the rest of a meet: its guard, its side, and its label.
 fn is_meet(words: &mut Parts<'_>) -> bool
     ensures { result ≡ is_meet_told words.old }
 {
@@ -191,7 +191,7 @@ fn is_meet(words: &mut Parts<'_>) -> bool
     }
 }
 
-/// Whether words are a label, and `out` or nothing behind it.
+/// Whether words are a label, and `out` or nothing after it.
 fn is_labelled(words: &mut Parts<'_>) -> bool
     ensures { result ≡ is_label_end words.old }
 {
@@ -207,7 +207,7 @@ fn is_labelled(words: &mut Parts<'_>) -> bool
     }
 }
 
-/// Whether words are the one behind `m`, where a member of a union is told.
+/// Whether words are the one after `m`, which reports a member of a union.
 fn is_member(words: &mut Parts<'_>) -> bool
     ensures { result ≡ is_member_told words.old }
 {

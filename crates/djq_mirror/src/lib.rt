@@ -1,7 +1,7 @@
 //! The answers of one query, from the bytes alone that a session was sent.
 //!
-//! A [`Mirror`] is handed one line after another. It knows no rows and asks nobody: it goes by what
-//! the lines tell of a listing and of the changes behind it. `specs/Replies.antt` says which lines a
+//! A [`Mirror`] is handed one line after another. It knows no rows and asks nobody: it follows what
+//! the lines report of a listing and of the changes after it. `specs/Replies.antt` defines which lines a
 //! session can be sent, form by form, and `specs/Mirror.antt` what each does.
 //!
 //! ```text
@@ -15,21 +15,21 @@
 //! stale c r 5                                Idle: the answers aren't known any more
 //! ```
 //!
-//! [`Mirror::write`] appends the answers in byte order where all of them are known, else `none`.
+//! [`Mirror::write`] appends the answers in byte order if all of them are known, else `none`.
 //!
-//! What this crate is not: a client. It keeps the answers of one query, of one cursor at a time.
+//! What this crate is not: a client. It has the answers of one query, of one cursor at a time.
 //!
-//! What surprises: answers are kept as they were printed, so that none is made. A line of another
+//! What surprises: answers are stored as they were printed, so that none is made. A line of another
 //! query's name does nothing, but a stale cursor is believed of any name, since a cursor's line
-//! doesn't tell its query. A number is a line's only as djq prints it, without zeros before it.
+//! doesn't contain its query. A number is a line's only as djq prints it, without zeros before it.
 //!
-//! Inside, `parts` cuts bytes at a sign, `words` and `cells` read what stands between, `forms` and
+//! Inside, `parts` cuts bytes at a sign, `words` and `cells` read what is between, `forms` and
 //! `told` read a line, `turn` is the table of what it does, and `texts` the set.
 //!
 //! # The loop of `djq mirror`
 //!
 //! [`run_mirror`] reads what a session was sent from a source, piece by piece, to the source's end or to
-//! the first line that a mirror can't follow, and writes what that leaves. Its contract says so of the
+//! the first line that a mirror can't follow, and writes the answers after it. Its contract promises so of the
 //! bytes that were read, however they are cut into pieces.
 //!
 //! ```text
@@ -40,8 +40,8 @@
 //! ```
 //!
 //! Lines are lent from the buffer that was read into. Only a line that a piece leaves unfinished is
-//! copied, and of one that is too long no more is kept than a piece above the limit; the source isn't
-//! read on then.
+//! copied. Of one that is too long no more is stored than a piece above the limit, and the source isn't
+//! read any further then.
 #![tactic(auto)]
 
 pub use command::{Mirrored, run_mirror};

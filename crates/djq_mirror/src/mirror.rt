@@ -17,10 +17,10 @@ use std::collections::BTreeSet;
 use std::marker::Model;
 use thiserror::Error;
 
-/// Why a line isn't taken.
+/// Why a line isn't followed.
 #[derive(Clone, Copy, Debug, PartialEq, Eq, Error)]
 pub enum MirrorRefusal {
-    /// It isn't allowed: it is of no form, too long, or nothing that may come here.
+    /// It isn't allowed: it is of no form, too long, or nothing that may follow the lines before it.
     #[error("a line that is not allowed")]
     Outside,
     /// Out of memory.
@@ -28,7 +28,7 @@ pub enum MirrorRefusal {
     NoMem,
 }
 
-/// The answers of one query, as far as the lines tell that a session was sent.
+/// The answers of one query, as far as the lines that a session was sent report them.
 ///
 /// Contracts see the query's name, the mode, and the texts of the answers in byte order.
 #[derive(Debug, Drop)]
@@ -66,11 +66,11 @@ impl Mirror {
         }
     }
 
-    /// Takes the next line that the session was sent, without its LF.
+    /// Follows the next line that the session was sent, without its LF.
     ///
     /// # Errors
     ///
-    /// `Outside` exactly where the line isn't allowed, `NoMem` out of memory. Either leaves all as
+    /// `Outside` if and only if the line isn't allowed, `NoMem` out of memory. Either leaves all as
     /// before.
     pub fn line(&mut self, line: &[u8]) -> Result<(), MirrorRefusal>
         ensures { LineEnds self.old line.now result self.new }
@@ -85,7 +85,7 @@ impl Mirror {
         }
     }
 
-    /// Does what a line tells.
+    /// Does what a line reports.
     fn take(&mut self, told: Told<'_>) -> Result<(), MirrorRefusal>
         ensures { MirrorTurns self.old (turn_by self.old.name self.old.held.mode (news_by told.entry))
             result self.new }

@@ -7,7 +7,7 @@ ghost use Rattle.djq_mirror.specs.Parts.{TakesFirstPart, parts_left};
 use memchr::memchr;
 use std::marker::Model;
 
-/// The bytes before the first of these signs, or all, and what is behind it, where there is one.
+/// The bytes before the first of these signs, or all, and the bytes after it, if there is one.
 pub(crate) fn split_at(bytes: &[u8], sign: u8) -> (&[u8], Option<&[u8]>)
     ensures within { length result.0.now ≤ length bytes.now }
     ensures before { result.0.now ≡ before sign bytes.now }
@@ -38,7 +38,7 @@ impl<'a> Model for Parts<'a> {
 }
 
 impl<'a> Parts<'a> {
-    /// The parts of what is behind a sign, where there is one.
+    /// The parts of the bytes after a sign, if there is one.
     pub(crate) fn behind(rest: Option<&'a [u8]>, sign: u8) -> Self
         ensures { result ≡ parts_left sign (option_map (λ behind. behind.now) rest.entry) }
     {

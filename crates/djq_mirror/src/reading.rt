@@ -19,7 +19,7 @@ pub(crate) enum Followed {
 }
 
 /// Reads what a session was sent to its end, and follows it, or to the first line that can't be
-/// followed. It reads at most as many bytes at a time as the buffer has, and reads nothing behind such
+/// followed. It reads at most as many bytes at a time as the buffer has, and reads nothing after such
 /// a line. The mirror holds nothing before.
 pub(crate) fn follow<S: Source>(
     follower: &mut Follower,

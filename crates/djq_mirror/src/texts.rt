@@ -27,7 +27,7 @@ pub(crate) fn act_on(alloc: Global, texts: &mut Texts, act: Act<'_>) -> Result<(
     }
 }
 
-/// Puts a text in that isn't there.
+/// Inserts a text that isn't in the set.
 fn put_in(alloc: Global, texts: &mut Texts, text: &[u8]) -> Result<(), MirrorRefusal>
     ensures { ActsOn (set_texts texts.old) (put text.now) result (set_texts texts.new) }
 {
@@ -43,11 +43,11 @@ fn put_in(alloc: Global, texts: &mut Texts, text: &[u8]) -> Result<(), MirrorRef
     Ok(())
 }
 
-/// Takes a text out that is there.
+/// Deletes a text that is in the set.
 fn take_out(texts: &mut Texts, text: &[u8]) -> Result<(), MirrorRefusal>
     ensures { ActsOn (set_texts texts.old) (take_out_of text.now) result (set_texts texts.new) }
 {
-    // that the texts stand in order
+    // that the texts are in order
     let _count = texts.len();
     if texts.remove(text) {
         Ok(())

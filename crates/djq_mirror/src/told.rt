@@ -1,4 +1,4 @@
-//! What a line tells.
+//! What a line reports.
 ghost use Rattle.std.specs.Prelude.{◌≡◌, IfOk, Some, drop, length};
 ghost use Rattle.std.specs.Option.{option_map};
 ghost use Rattle.djq_mirror.specs.Cells.{are_cells_in};
@@ -16,20 +16,20 @@ use djq_protocol::Sign;
 use djq_value::{is_name, is_text};
 use std::alloc::Global;
 
-/// What a line tells of a listing or of a query.
+/// What a line reports of a listing or of a query.
 #[derive(Clone, Copy, Debug)]
 pub(crate) enum Told<'a> {
     // A cursor was opened.
     Opened,
-    // An answer that is listed: its values, each behind a space.
+    // An answer that is listed: its values, each after a space.
     Answer(&'a [u8]),
-    // A listing goes on.
+    // There is more of a listing.
     More,
     // No answer is left.
     Last,
     // A cursor is stale.
     Stale,
-    // An answer of a query came or went.
+    // An answer of a query was added or removed.
     Changed(Sign, &'a [u8], &'a [u8]),
     // The number of a change of a query.
     Counted(&'a [u8]),
@@ -37,7 +37,7 @@ pub(crate) enum Told<'a> {
     Nothing,
 }
 
-/// What a line tells; none exactly where it is of no form.
+/// What a line reports; none if and only if it is of no form.
 pub(crate) fn read_line(alloc: Global, line: &[u8]) -> Result<Option<Told<'_>>, NoMem>
     ensures { IfOk result (λ told. option_map news_by told ≡ news_in line.now) }
 {
@@ -53,7 +53,7 @@ pub(crate) fn read_line(alloc: Global, line: &[u8]) -> Result<Option<Told<'_>>, 
     }
 }
 
-/// An answer, by what is behind its sign.
+/// An answer, by the bytes after its sign.
 fn read_answer(alloc: Global, cells: &[u8]) -> Result<Option<Told<'_>>, NoMem>
     ensures { IfOk result (λ told.
         option_map news_by told ≡ told_if_of (are_cells_in cells.now) (lists cells.now)) }
@@ -65,7 +65,7 @@ fn read_answer(alloc: Global, cells: &[u8]) -> Result<Option<Told<'_>>, NoMem>
     }
 }
 
-/// An answer that came or went, by what is behind its sign and a space.
+/// An answer that was added or removed, by the bytes after its sign and a space.
 fn read_change<'a>(
     alloc: Global,
     sign: Sign,
@@ -89,7 +89,7 @@ fn read_change<'a>(
     }
 }
 
-/// A line of words alone, by its first word and what is behind that.
+/// A line of words alone, by its first word and the bytes after that.
 fn read_words<'a>(line: &'a [u8], first: &'a [u8], rest: Option<&'a [u8]>) -> Option<Told<'a>>
     ensures { option_map news_by result ≡ words_told line.now first.now
         (parts_left 32 (option_map (λ b. b.now) rest.entry)) }
@@ -105,7 +105,7 @@ fn read_words<'a>(line: &'a [u8], first: &'a [u8], rest: Option<&'a [u8]>) -> Op
     }
 }
 
-/// Such a line, where it isn't one of those.
+/// Such a line, if it isn't one of those.
 fn read_word<'a>(line: &[u8], first: &[u8], words: &mut Parts<'a>) -> Option<Told<'a>>
     ensures { option_map news_by result ≡ word_told line.now first.now words.old }
 {
@@ -120,14 +120,14 @@ fn read_word<'a>(line: &[u8], first: &[u8], words: &mut Parts<'a>) -> Option<Tol
     }
 }
 
-/// What a line tells where it passes a test.
+/// What a line reports if it passes a test.
 fn told_if<'a>(test: bool, told: Told<'a>) -> Option<Told<'a>>
     ensures { option_map news_by result ≡ told_if_of test (news_by told.entry) }
 {
     if test { Some(told) } else { None }
 }
 
-/// The number of a change, by the words behind `at`.
+/// The number of a change, by the words after `at`.
 fn read_count<'a>(words: &mut Parts<'a>) -> Option<Told<'a>>
     ensures { option_map news_by result ≡ count_told words.old }
 {
@@ -141,7 +141,7 @@ fn read_count<'a>(words: &mut Parts<'a>) -> Option<Told<'a>>
     }
 }
 
-/// Whether words are those behind `stale`.
+/// Whether words are those after `stale`.
 fn is_stale(words: &mut Parts<'_>) -> bool
     ensures { result ≡ is_stale_told words.old }
 {

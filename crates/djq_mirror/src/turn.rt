@@ -9,20 +9,20 @@ use crate::told::Told;
 use djq_protocol::Sign;
 use djq_value::is_text;
 
-/// What becomes of the answers that are held.
+/// What is done to the answers that are held.
 #[derive(Clone, Copy, Debug)]
 pub(crate) enum Act<'a> {
-    // They stay.
+    // They are left as they are.
     Keep,
     // All are dropped.
     Clear,
-    // The answer of this text is put in.
+    // The answer of this text is inserted.
     Put(&'a [u8]),
-    // It is taken out.
+    // It is deleted.
     TakeOut(&'a [u8]),
 }
 
-/// The mode behind a line, and what becomes of the answers; none where the line isn't allowed.
+/// The mode after a line, and what is done to the answers; none if the line isn't allowed.
 pub(crate) fn turn<'a>(name: &[u8], mode: Mode, told: Told<'a>) -> Option<(Mode, Act<'a>)>
     ensures { option_map (λ t. (t.0, act_by t.1)) result ≡ turn_by name.now mode (news_by told.entry) }
 {
@@ -61,7 +61,7 @@ pub(crate) fn turn<'a>(name: &[u8], mode: Mode, told: Told<'a>) -> Option<(Mode,
     }
 }
 
-/// What an answer of the query does that came or went.
+/// What an answer of the query does that was added or removed.
 fn changed<'a>(mode: Mode, sign: Sign, text: &'a [u8]) -> (Mode, Act<'a>)
     ensures { (result.0, act_by result.1) ≡ turn_of_change mode sign text.now }
 {
