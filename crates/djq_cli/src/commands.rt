@@ -11,7 +11,7 @@ use djq_value::is_name;
 use itoa::Buffer;
 use std::alloc::{AllocError, Global};
 
-/// The most turns that `serve` may be asked for, and as many as it takes where it isn't.
+/// The most turns that `serve` may be asked for, and the number that it has if it isn't asked for any.
 pub const MOST_TURNS: u64 = 9_223_372_036_854_775_807;
 
 /// The most changes of a generated load.
@@ -25,7 +25,7 @@ pub const LAST_SEED: u64 = 2_147_483_647;
 pub enum Asked<'a> {
     /// `run`: one session, from the source to the sink.
     Run,
-    /// `serve ADDR [--turns N] [--log PATH]`: the sessions that come to this address, for so many
+    /// `serve ADDR [--turns N] [--log PATH]`: the sessions that connect to this address, for so many
     /// turns, with the log at this path, if there is one.
     Serve(&'a str, u64, Option<&'a str>),
     /// `replay [--log PATH]`: the sessions of a schedule, which is read from the source.
@@ -103,7 +103,7 @@ fn djq_command<'a>(alloc: Global) -> Result<Command<'a>, AllocError>
         .subcommand(mirror)
 }
 
-/// What these words ask for, of which the first is the program's name, or `None` where they are no
+/// What these words ask for, of which the first is the program's name, or `None` if they are no
 /// command. A number is its decimal digits, without a sign or a leading zero.
 ///
 /// # Errors
@@ -177,7 +177,7 @@ fn mirror_asked<'a>(given: &ArgMatches<'a>) -> Option<Asked<'a>>
     }
 }
 
-/// The number that was given under a name, where there is one of 32 bits.
+/// The number that was given under a name, if there is one of 32 bits.
 fn number_given<'a>(given: &ArgMatches<'a>, name: &str) -> Option<u32>
     ensures { NumberIsRead (first_of name.now (rows_of (found_of given.now))) result }
 {
@@ -193,7 +193,7 @@ fn number_given<'a>(given: &ArgMatches<'a>, name: &str) -> Option<u32>
     }
 }
 
-/// The number whose decimal digits the text is. `clap` takes a sign and leading zeros before them;
+/// The number whose decimal digits the text is. `clap` accepts a sign and leading zeros before them;
 /// these are no number here.
 fn number_in(text: &str) -> Option<u64>
     ensures { TextReadsAs text.now result }

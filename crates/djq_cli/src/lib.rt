@@ -1,9 +1,9 @@
 //! The words of the command line: which command they are, and what it is asked.
 //!
-//! [`read_words`] reads them by `clap`, and its contract says exactly which words are a command:
-//! those that `clap` takes for the command set of `specs/Commands.antt`, which shares no code with
+//! [`read_words`] reads them by `clap`, and its contract defines which words are a command, and no others:
+//! those that `clap` accepts for the command set of `specs/Commands.antt`, which shares no code with
 //! the builder here, and whose numbers are decimal digits without a sign or a leading zero, which
-//! `clap` would take.
+//! `clap` would accept.
 //!
 //! ```text
 //! djq run                     Asked::Run
@@ -16,13 +16,13 @@
 //! ```
 //!
 //! What this crate is not: it prints nothing, and it doesn't run what it read. Whether an address
-//! can be listened at is for the hub to say, and whether a file can be opened for the disk.
+//! can be listened at is the hub's to report, and whether a file can be opened the disk's.
 //!
 //! What surprises: `clap`'s own texts aren't used, and help and version words are no command.
-//! Without `--turns`, `serve` takes as many turns as it may be asked for ([`MOST_TURNS`]).
+//! Without `--turns`, `serve` has as many turns as it may be asked for ([`MOST_TURNS`]).
 //!
-//! Inside, the command set is built anew for each call, and what `clap` gives back, a text under a
-//! name, is turned into [`Asked`]. Memory that is wanting is told apart from words that are wrong.
+//! Inside, the command set is built anew for each call, and what `clap` returns, a text under a
+//! name, is turned into [`Asked`]. Out of memory is an error, and words that are wrong are `None`.
 #![tactic(auto)]
 
 mod commands;
