@@ -1,4 +1,4 @@
-//! Schedules of `djq replay`: lines that say, turn by turn, what a hub in memory brings.
+//! Schedules of `djq replay`: lines that define, turn by turn, what a hub in memory brings.
 //!
 //! ```text
 //! open 1              session 1 opens
@@ -9,19 +9,19 @@
 //! end 1               its input ends
 //! ```
 //!
-//! [`schedule_hub`] makes the hub of a schedule, or says which line is the first that is outside
-//! the grammar of `specs/Schedule.antt`. [`sent_text`] tells what a hub was sent, line by line, and
-//! [`outside_line`] that a line is outside.
+//! [`schedule_hub`] makes the hub of a schedule, or returns which line is the first that is outside
+//! the grammar of `specs/Schedule.antt`. [`sent_text`] returns what a hub sent, line by line, and
+//! [`outside_line`] the line that reports that one is outside.
 //!
-//! What this crate is not: it runs nothing, and it knows nothing of the lines that sessions say.
+//! What this crate is not: it runs nothing, and it knows nothing of the lines that sessions send.
 //!
 //! What surprises: whether a line is in the grammar depends on those before it, since it may name
 //! none but sessions that were opened and whose input hasn't ended. `again` and `free` are turns
-//! too, which bring nothing. What a session was sent behind its last line end isn't told.
+//! too, which bring nothing. What a session was sent after its last line end isn't in the text.
 //!
-//! Inside, `line` reads a line's keyword, session and text, `sessions_so_far` keeps what the lines
-//! before it say of sessions, and `schedule` puts a turn for each at the end of a hub's script. `sent`
-//! goes through what a hub tells of its calls, and keeps for each session what is behind its last line
+//! Inside, `line` reads a line's keyword, session and text, `sessions_so_far` has what the lines
+//! before it define of sessions, and `schedule` appends a turn for each to a hub's script. `sent`
+//! reads the record of a hub's calls, and stores for each session the bytes after its last line
 //! end.
 #![tactic(auto)]
 

@@ -19,7 +19,7 @@ pub enum Keyword {
 /// The greatest number of a session in a schedule.
 const LAST_ID: u64 = 1_000_000;
 
-/// The bytes before the first of these, or all, and what is behind it, where there is one.
+/// The bytes before the first of these, or all, and the bytes after it, if there is one.
 pub(crate) fn split_at(bytes: &[u8], sign: u8) -> (&[u8], Option<&[u8]>)
     ensures before { result.0.now ≡ before sign bytes.now }
     ensures behind { option_map (λ rest. rest.now) result.1 ≡ behind sign bytes.now }
@@ -45,7 +45,7 @@ fn read_keyword(word: &[u8]) -> Option<Keyword>
     }
 }
 
-/// Whether text may stand behind the number.
+/// Whether text may follow the number.
 fn may_have_text(keyword: Keyword) -> bool
     ensures { result ≡ takes_text keyword }
 {
@@ -74,7 +74,7 @@ fn read_id(digits: &[u8]) -> Option<u64>
     Some(id)
 }
 
-/// A line's keyword, session and text, or `None` where it is none.
+/// A line's keyword, session and text, or `None` if it is none.
 pub(crate) fn read_order(line: &[u8]) -> Option<(Keyword, u64, Option<&[u8]>)>
     ensures { option_map (λ o. (o.0, (o.1, option_map (λ text. text.now) o.2))) result ≡ order_of
         line.now }

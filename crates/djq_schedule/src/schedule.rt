@@ -24,7 +24,7 @@ pub enum ScheduleRefusal {
 ///
 /// # Errors
 ///
-/// `Outside(n)` exactly where line n, counted from 1, is the first outside the grammar; `NoMem` out
+/// `Outside(n)` if and only if line n, counted from 1, is the first outside the grammar; `NoMem` out
 /// of memory.
 pub fn schedule_hub(alloc: Global, bytes: &[u8]) -> Result<MemHub, ScheduleRefusal>
     ensures { MatchResult result (ScheduleIsMade bytes.now) (ScheduleRefuses bytes.now) }
@@ -60,7 +60,7 @@ pub fn count_lines(bytes: &[u8]) -> u64
     count
 }
 
-/// The first line, without its LF, and what is behind it.
+/// The first line, without its LF, and the bytes after it.
 fn next_line(bytes: &[u8]) -> (&[u8], &[u8])
     ensures line { result.0.now ≡ before 10 bytes.now }
     ensures rest { result.1.now ≡ rest_or_none (behind 10 bytes.now) }
@@ -71,7 +71,7 @@ fn next_line(bytes: &[u8]) -> (&[u8], &[u8])
     }
 }
 
-/// Adds the turn of a line, where it is in the grammar. Says whether it is.
+/// Appends the turn of a line, if it is in the grammar. Returns whether it is.
 fn add_line(
     alloc: Global,
     hub: &mut MemHub,
@@ -90,7 +90,7 @@ fn add_line(
     Ok(true)
 }
 
-/// What a line says, where it is in the grammar.
+/// The keyword, session and text of a line, if it is in the grammar.
 fn read_standing<'a>(
     seen: &SessionsSoFar,
     line: &'a [u8],

@@ -8,7 +8,7 @@ use itoa::Buffer;
 use std::alloc::{AllocError, Global};
 use std::collections::HashMap;
 
-/// The lines that these calls of a hub sent, by the bytes that it took, each behind its session's number and `< `, in
+/// The lines that these calls of a hub sent, by the bytes that were accepted, each after its session's number and `< `, in
 /// the order in which their ends were sent.
 ///
 /// # Errors
@@ -27,7 +27,7 @@ pub fn sent_text(alloc: Global, past: &[Told]) -> Result<Vec<u8>, AllocError>
     Ok(text)
 }
 
-/// Puts the lines that end in a piece of a session at the end of the text, and keeps what is behind
+/// Appends the lines that end in a piece of a session to the text, and stores the bytes after
 /// the last.
 fn add_piece(
     alloc: Global,
@@ -52,8 +52,8 @@ fn add_piece(
     Ok(())
 }
 
-/// Puts the lines that end in these bytes at the end of the text, of which the first began before
-/// them. Gives what is behind the last.
+/// Appends the lines that end in these bytes to the text, of which the first began before
+/// them. Returns the bytes after the last.
 fn end_lines(
     text: &mut Vec<u8>,
     id: u64,
@@ -76,7 +76,7 @@ fn end_lines(
     Ok(line)
 }
 
-/// Puts a session's line at the end of the text.
+/// Appends a session's line to the text.
 fn put_line(text: &mut Vec<u8>, id: u64, line: &[u8]) -> Result<(), AllocError>
     ensures { OnOk result (text.new.items ≡ text.old.items ++ session_line id line.now) }
 {
@@ -88,7 +88,7 @@ fn put_line(text: &mut Vec<u8>, id: u64, line: &[u8]) -> Result<(), AllocError>
     Ok(())
 }
 
-/// The line that says which line of a schedule, counted from 1, is the first outside the grammar.
+/// The line that reports which line of a schedule, counted from 1, is the first outside the grammar.
 ///
 /// # Errors
 ///

@@ -6,7 +6,7 @@ use djq_io::IdList;
 use std::alloc::{AllocError, Global};
 use std::marker::Model;
 
-/// What the lines so far say of sessions: the newest, which were opened, whose input ended, which
+/// What the lines so far define of sessions: the newest, which were opened, whose input ended, which
 /// are blocked.
 #[derive(Debug, Drop)]
 pub(crate) struct SessionsSoFar {
@@ -57,7 +57,7 @@ impl SessionsSoFar {
         }
     }
 
-    /// Behind a line of this keyword.
+    /// Notes a line of this keyword.
     pub(crate) fn note(&mut self, keyword: Keyword, id: u64) -> Result<(), AllocError>
         ensures { OnOk result (self.new ≡ record {
           newest = newest_after keyword id self.old.newest;
@@ -90,7 +90,7 @@ impl SessionsSoFar {
     }
 }
 
-/// Takes an id out of a list.
+/// Removes an id from a list.
 fn remove(ids: &mut Vec<u64>, id: u64)
     ensures { ids.new.items ≡ filter (λ other. not (nat_eq other id)) ids.old.items }
 {
