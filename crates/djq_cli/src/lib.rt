@@ -1,9 +1,8 @@
 //! The words of the command line: which command they are, and what it is asked.
 //!
-//! [`read_words`] reads them by `clap`, and its contract defines which words are a command, and no others:
-//! those that `clap` accepts for the command set of `specs/Commands.antt`, which shares no code with
-//! the builder here, and whose numbers are decimal digits without a sign or a leading zero, which
-//! `clap` would accept.
+//! [`read_words`] reads them by `clap`. By its contract, words are a command if and only if `clap` accepts
+//! them for the command set of `specs/Commands.antt` and their numbers are decimal digits without a sign or
+//! a leading zero, which `clap` would accept. That command set shares no code with the builder here.
 //!
 //! ```text
 //! djq run                     Asked::Run

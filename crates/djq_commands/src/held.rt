@@ -9,8 +9,8 @@ use djq_store::Store;
 use std::alloc::Global;
 use std::mem;
 
-/// A row that is to be held after so many others, with the line that it was read from. Its values are moved out of `row`,
-/// so that no text is copied; `row` has other values in their places, which are of no use.
+/// A row that is to be held after so many others, with the line that it was read from. Its values are moved
+/// out of `row`, so that no text is copied; `row` has other values in their places, which are of no use.
 ///
 /// # Errors
 ///

@@ -25,9 +25,9 @@
 //! calls that were named to them; a [`SteadyHub`] never fails. Those over the operating system are
 //! djq_system's. [`Sessions`] has the ids and counts that every hub shows.
 //!
-//! How it works inside: a record is a list or lost; the calls that are to fail are counted down,
-//! and those at 0 are the faults so far; a script is a queue, with the rest of a piece that was longer
-//! than the buffer before it.
+//! How it works inside: a record is a list or lost. The calls that are to fail are counted down,
+//! and those at 0 are the faults so far. A script is a queue, preceded by the rest of a piece that was
+//! longer than the buffer.
 #![tactic(auto)]
 
 mod failing;

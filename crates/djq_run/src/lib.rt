@@ -3,8 +3,8 @@
 //! [`run_session`] opens session 1, reads pieces, feeds them to the machine, runs each whole line
 //! that they complete and writes what it answers before the next line is run. It is generic in the
 //! machine, the source and the sink, so it is proved from their contracts alone. What it promises
-//! is one sentence: the machine followed a course of the program from the state that it had to the
-//! state that it has, and the [`Status`] reports how far it got and which faults there were.
+//! is that the machine followed a course of the program from the state that it had to the state that
+//! it has. The [`Status`] reports how far it got and which faults there were.
 //!
 //! What this crate is not: it buffers nothing, allocates nothing, and knows no command.
 //!

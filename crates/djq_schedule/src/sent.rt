@@ -8,8 +8,8 @@ use itoa::Buffer;
 use std::alloc::{AllocError, Global};
 use std::collections::HashMap;
 
-/// The lines that these calls of a hub sent, by the bytes that were accepted, each after its session's number and `< `, in
-/// the order in which their ends were sent.
+/// The lines that these calls of a hub sent, by the bytes that were accepted, each after its session's number
+/// and `< `, in the order in which their ends were sent.
 ///
 /// # Errors
 ///
