@@ -2,7 +2,7 @@
 //!
 //! [`read_words`] reads them by `clap`. By its contract, words are a command if and only if `clap` accepts
 //! them for the command set of `specs/Commands.antt` and their numbers are decimal digits without a sign or
-//! a leading zero, which `clap` would accept. That command set shares no code with the builder here.
+//! a leading zero. `clap` would accept both. That command set shares no code with the builder here.
 //!
 //! ```text
 //! djq run                     Asked::Run

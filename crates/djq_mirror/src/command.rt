@@ -17,9 +17,9 @@ use std::alloc::Global;
 /// How `mirror` ended.
 #[derive(Clone, Copy, Debug, PartialEq, Eq)]
 pub enum Mirrored {
-    /// The input was read to its end and followed, and the answers after it were written.
+    /// The input was read to its end and followed, and the answers after it, or `none`, were written.
     Done,
-    /// This line, counted from 1, can't be followed, and its number was written.
+    /// This line, counted from 1, can't be followed, and a line with its number was written.
     Outside(u64),
     /// A read failed. Nothing was written.
     ReadFault,
