@@ -1,6 +1,7 @@
 use crate::shapes::edges_of;
 use djq_hypergraph::{Edges, VarSet};
 use djq_plan::{Step, reduce, rest_is_lean, turn_join_tree};
+use std::alloc::{AllocError, Global};
 use std::test::Fail;
 
 #[test]
@@ -28,6 +29,17 @@ fn leaves_nothing_of_acyclic_edges(rt: HostRuntime) -> Result<(), Fail> {
     Ok(())
 }
 
+/// The edges at these positions.
+fn picked(alloc: Global, edges: &Edges, positions: &[usize]) -> Result<Edges, AllocError> {
+    let mut picked = Edges::new(alloc);
+    for position in positions {
+        if *position < edges.len() {
+            picked.push(edges.get(*position))?;
+        }
+    }
+    Ok(picked)
+}
+
 #[test]
 fn leaves_the_rest_of_others(rt: HostRuntime) -> Result<(), Fail> {
     // The edges, and the positions of those that are left.
@@ -46,12 +58,7 @@ fn leaves_the_rest_of_others(rt: HostRuntime) -> Result<(), Fail> {
         let edges = edges_of(rt.alloc(), rows)?;
         let rest = reduce(rt.alloc(), &edges)?.rest;
         rest_is_lean(&edges, &rest);
-        let mut want = Edges::new(rt.alloc());
-        for position in left {
-            if *position < edges.len() {
-                want.push(edges.get(*position))?;
-            }
-        }
+        let want = picked(rt.alloc(), &edges, left)?;
         assert!(rt; rest.as_slice() == want.as_slice());
     }
     Ok(())

@@ -11,14 +11,14 @@ fn walks_in_rising_order(rt: HostRuntime) {
         .insert(64)
         .insert(9)
         .insert(5);
-    assert_eq!(rt; set.len(), 4);
-    assert_eq!(rt; set.first(), Some(5));
+    assert!(rt; set.len() == 4);
+    assert!(rt; set.first() == Some(5));
     assert!(rt; set.without(VARIABLES) == set);
     let mut rest = set.without(9);
-    assert_eq!(rt; rest.pop(), Some(5));
-    assert_eq!(rt; rest.pop(), Some(64));
-    assert_eq!(rt; rest.pop(), Some(127));
-    assert_eq!(rt; rest.pop(), None);
+    assert!(rt; rest.pop() == Some(5));
+    assert!(rt; rest.pop() == Some(64));
+    assert!(rt; rest.pop() == Some(127));
+    assert!(rt; rest.pop() == None);
     assert!(rt; rest.is_empty());
     set.rises();
 }
@@ -30,7 +30,7 @@ fn compares_and_combines(rt: HostRuntime) {
     assert!(rt; left.contains(0) && !left.contains(2) && !left.contains(VARIABLES));
     assert!(rt; left.intersection(right) == VarSet::new().insert(1));
     assert!(rt; left.difference(right) == VarSet::new().insert(0));
-    assert_eq!(rt; left.union(right).len(), 3);
+    assert!(rt; left.union(right).len() == 3);
     assert!(rt; left.intersection(right).is_subset(left) && !left.is_subset(right));
 }
 
@@ -40,8 +40,8 @@ fn keeps_names(rt: HostRuntime) -> Result<(), Fail> {
     assert!(rt; names.is_empty());
     names.push(rt.alloc(), b"r")?;
     names.push(rt.alloc(), b"item")?;
-    assert_eq!(rt; names.len(), 2);
-    assert_eq!(rt; names.get(1), b"item".as_slice());
+    assert!(rt; names.len() == 2);
+    assert!(rt; names.get(1) == b"item".as_slice());
     Ok(())
 }
 
@@ -115,18 +115,23 @@ fn refuses_others(rt: HostRuntime) -> Result<(), Fail> {
     for (rows, links) in cases {
         let edges = edges_of(rt.alloc(), rows)?;
         let tree = tree_of(rt.alloc(), links)?;
-        assert!(rt; !check_join_tree(&edges, &tree), "{rows:?} {links:?}");
+        assert!(rt; !check_join_tree(&edges, &tree));
     }
     Ok(())
 }
 
 #[test]
-fn keeps_lists(rt: HostRuntime) -> Result<(), Fail> {
+fn keeps_edges(rt: HostRuntime) -> Result<(), Fail> {
     let edges = edges_of(rt.alloc(), &[&[0, 1], &[]])?;
     assert!(rt; edges.len() == 2 && !edges.is_empty());
     assert!(rt; edges.get(0).len() == 2);
     let copy = edges.copy(rt.alloc())?;
-    assert_eq!(rt; copy.as_slice(), edges.as_slice());
+    assert!(rt; copy.as_slice() == edges.as_slice());
+    Ok(())
+}
+
+#[test]
+fn keeps_links(rt: HostRuntime) -> Result<(), Fail> {
     let tree = tree_of(rt.alloc(), &[(0, 0), (1, 0)])?;
     assert!(rt; tree.len() == 2 && !tree.is_empty());
     assert!(rt;

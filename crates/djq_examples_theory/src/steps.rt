@@ -35,5 +35,5 @@ fn tick<L: Ledgers>(steps: &mut Steps<L>)
 
 #[test]
 fn steps_take_no_bytes(rt: HostRuntime) {
-    assert_eq!(rt; counted::<Brand>(&rt, Blanks::new(&rt)), 0);
+    assert!(rt; counted::<Brand>(&rt, Blanks::new(&rt)) == 0);
 }
