@@ -50,21 +50,21 @@ fn filled(alloc: Global, count: u64) -> Result<Arena, AllocError> {
 #[test]
 fn keeps_rows_in_order(rt: HostRuntime) -> Result<(), Fail> {
     let mut arena = filled(rt.alloc(), 100)?;
-    assert_eq!(rt; arena.len(), 100);
-    assert_eq!(rt; arena.room(), 100);
-    assert!(rt; arena.is_full());
+    assert!(rt; arena.len() == 100 && arena.room() == 100 && arena.is_full());
     assert!(rt; neighbours(&arena, &[50, 50]) == Some((Some(49), Some(51))));
     assert!(rt; renew(&mut arena, &[50, 50]));
     assert!(rt; neighbours(&arena, &[50, 50]) == Some((Some(99), None)));
     assert!(rt; neighbours(&arena, &[51, 51]) == Some((Some(49), Some(52))));
-    assert!(rt; take(&mut arena, &[0, 0]));
-    assert!(rt; !arena.is_full());
-    assert!(rt; !take(&mut arena, &[0, 0]));
-    assert!(rt; arena.first() == Some(1));
-    assert!(rt; arena.last() == Some(50));
+    Ok(())
+}
+
+#[test]
+fn takes_rows_out(rt: HostRuntime) -> Result<(), Fail> {
+    let mut arena = filled(rt.alloc(), 100)?;
+    assert!(rt; take(&mut arena, &[0, 0]) && !take(&mut arena, &[0, 0]));
+    assert!(rt; !arena.is_full() && !arena.is_empty());
+    assert!(rt; arena.first() == Some(1) && arena.last() == Some(99));
     assert!(rt; wide(&arena, &[7, 7]) == Some(2));
-    assert!(rt; wide(&arena, &[7, 8]) == None);
-    assert!(rt; !arena.is_empty());
     arena.laws();
     Ok(())
 }

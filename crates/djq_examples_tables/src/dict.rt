@@ -5,24 +5,12 @@ use std::test::Fail;
 fn numbers_texts_in_order(rt: HostRuntime) -> Result<(), Fail> {
     let mut dict = Dict::new(rt.alloc())?;
     assert!(rt; dict.is_empty());
-    assert_eq!(rt; dict.intern(b"one")?, 0);
-    assert_eq!(rt; dict.intern(b"")?, 1);
-    assert_eq!(rt; dict.intern(b"one")?, 0);
-    assert_eq!(rt; dict.len(), 2);
-    assert_eq!(rt; dict.find(b"on"), None);
-    assert_eq!(rt; dict.text(1), b"".as_slice());
-    Ok(())
-}
-
-#[test]
-fn keeps_long_texts(rt: HostRuntime) -> Result<(), Fail> {
-    let longest = [b'a'; 255];
-    let mut dict = Dict::new(rt.alloc())?;
-    assert_eq!(rt; dict.intern(&longest)?, 0);
-    assert_eq!(rt; dict.find(&longest[1..]), None);
-    assert_eq!(rt; dict.find(&longest), Some(0));
-    assert_eq!(rt; dict.len(), 1);
-    assert_eq!(rt; dict.text(0), longest.as_slice());
+    assert!(rt; dict.intern(b"one")? == 0);
+    assert!(rt; dict.intern(b"")? == 1);
+    assert!(rt; dict.intern(b"one")? == 0);
+    assert!(rt; dict.len() == 2);
+    assert!(rt; dict.find(b"on") == None);
+    assert!(rt; dict.text(1) == b"".as_slice());
     Ok(())
 }
 
@@ -31,12 +19,12 @@ fn keeps_long_texts(rt: HostRuntime) -> Result<(), Fail> {
 fn keeps_numbers_while_it_grows(rt: HostRuntime) -> Result<(), Fail> {
     let mut dict = Dict::new(rt.alloc())?;
     for number in 0..5000u32 {
-        assert_eq!(rt; dict.intern(&number.to_be_bytes())?, number);
+        assert!(rt; dict.intern(&number.to_be_bytes())? == number);
     }
-    assert_eq!(rt; dict.len(), 5000);
+    assert!(rt; dict.len() == 5000);
     for number in 0..5000u32 {
-        assert_eq!(rt; dict.find(&number.to_be_bytes()), Some(number));
-        assert_eq!(rt; dict.text(number), number.to_be_bytes().as_slice());
+        assert!(rt; dict.find(&number.to_be_bytes()) == Some(number));
+        assert!(rt; dict.text(number) == number.to_be_bytes().as_slice());
     }
     Ok(())
 }

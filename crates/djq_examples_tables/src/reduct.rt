@@ -16,9 +16,9 @@ fn starts_without_tuples(rt: HostRuntime) -> Result<(), Fail> {
     let tree = Tree::new(nodes, labels, out, VarSet::new(), 1, 1);
     let reducts = Reducts::new(alloc, tree)?;
     reducts.laws();
-    assert_eq!(rt; reducts.tree().len(), 1);
+    assert!(rt; reducts.tree().len() == 1);
     assert!(rt; reducts.table(0).is_empty());
-    assert_eq!(rt; reducts.table(0).width(), 0);
+    assert!(rt; reducts.table(0).width() == 0);
     assert!(rt; reducts.table(0).key().is_empty());
     Ok(())
 }
