@@ -11,19 +11,19 @@ fn a_file_is_written_and_read_by_one_at_a_time(rt: HostRuntime) -> Result<(), Fa
         .join(rt.alloc(), name.as_str())?
         .into_string();
     let mut disk = FileDisk::new(rt);
-    assert_eq!(rt; disk.open(path.as_str()), DiskOpen::Ready);
-    assert_eq!(rt; disk.len(), DiskLen::Len(0), "a new file");
-    assert_eq!(rt; disk.write_at(2, b"abc"), DiskDid::Done);
-    assert_eq!(rt; disk.sync(), DiskDid::Done);
+    assert!(rt; disk.open(path.as_str()) == DiskOpen::Ready);
+    assert!(rt; disk.len() == DiskLen::Len(0));
+    assert!(rt; disk.write_at(2, b"abc") == DiskDid::Done);
+    assert!(rt; disk.sync() == DiskDid::Done);
     let mut other = FileDisk::new(rt);
-    assert_eq!(rt; other.open(path.as_str()), DiskOpen::Failed, "it is taken");
+    assert!(rt; other.open(path.as_str()) == DiskOpen::Failed);
     drop(disk);
-    assert_eq!(rt; other.open(path.as_str()), DiskOpen::Ready);
-    assert_eq!(rt; other.len(), DiskLen::Len(5));
+    assert!(rt; other.open(path.as_str()) == DiskOpen::Ready);
+    assert!(rt; other.len() == DiskLen::Len(5));
     let mut buf = [7; 8];
-    assert_eq!(rt; other.read(1, &mut buf), DiskRead::Got(4));
-    assert_eq!(rt; buf, *b"\0abc\x07\x07\x07\x07");
-    assert_eq!(rt; other.read(5, &mut buf), DiskRead::End);
+    assert!(rt; other.read(1, &mut buf) == DiskRead::Got(4));
+    assert!(rt; buf == *b"\0abc\x07\x07\x07\x07");
+    assert!(rt; other.read(5, &mut buf) == DiskRead::End);
     drop(other);
     fs::remove_file(&rt, path.as_str())?;
     Ok(())

@@ -1,50 +1,39 @@
-ghost use Rattle.std.specs.Prelude.{◌<◌};
-
 use djq_io::{MemSink, MemSource};
 use djq_mirror::{Mirrored, run_mirror};
 use djq_model::Name;
 use std::test::Fail;
 
-/// What is written for what a session was sent, as a mirror of `q` follows it, read in pieces of at
-/// most so many bytes, and how it ends.
-fn mirrored(rt: HostRuntime, sent: &[u8], most: usize, sink: &mut MemSink) -> Result<Mirrored, Fail>
-    requires { 0 < most }
-{
-    let mut source = MemSource::new(sent.to_vec(rt.alloc())?, most);
-    Ok(run_mirror(rt.alloc(), Name::new(b"q"), &mut source, sink))
-}
+/// What a session was sent, how a mirror of `q` that follows it ends, and what it writes.
+const FOLLOWED: [(&[u8], Mirrored, &[u8]); 4] = [
+    (
+        b"ok watch 0\nok open\n= 2\n= 1\nend\n+ q 3\nat q 3\n- q 1\nat q 4\n",
+        Mirrored::Done,
+        b"= 2\n= 3\nend\n",
+    ),
+    // the listing went stale
+    (
+        b"ok watch 0\nok open\n= 1\nmore\n+ q 2\nat q 2\nstale c r 2\n",
+        Mirrored::Done,
+        b"none\n",
+    ),
+    // an answer goes that isn't there
+    (
+        b"ok watch 0\nok open\nend\n- q 1\nok watch",
+        Mirrored::Outside(4),
+        b"mirror 4\n",
+    ),
+    // the last line has no end
+    (b"ok\nok", Mirrored::Outside(2), b"mirror 2\n"),
+];
 
+/// The bytes come in pieces that cut the lines.
 #[test]
-fn writes_the_answers_that_were_told(rt: HostRuntime) -> Result<(), Fail> {
-    for most in [1, 8192] {
+fn follows_what_a_session_was_sent(rt: HostRuntime) -> Result<(), Fail> {
+    for (sent, end, lines) in FOLLOWED {
+        let mut source = MemSource::new(sent.to_vec(rt.alloc())?, 3);
         let mut sink = MemSink::new(rt.alloc());
-        let sent = b"ok watch 0\nok open\n= 2\n= 1\nend\n+ q 3\nat q 3\n- q 1\nat q 4\n";
-        let answer = mirrored(rt, sent, most, &mut sink)?;
-        assert_eq!(rt; answer, Mirrored::Done);
-        assert_eq!(rt; sink.taken(), Some(b"= 2\n= 3\nend\n".as_slice()));
+        assert!(rt; run_mirror(rt.alloc(), Name::new(b"q"), &mut source, &mut sink) == end);
+        assert!(rt; sink.taken() == Some(lines));
     }
-    Ok(())
-}
-
-#[test]
-fn says_where_the_answers_are_not_known(rt: HostRuntime) -> Result<(), Fail> {
-    let mut sink = MemSink::new(rt.alloc());
-    let sent = b"ok watch 0\nok open\n= 1\nmore\n+ q 2\nat q 2\nstale c r 2\n";
-    assert_eq!(rt; mirrored(rt, sent, 8192, &mut sink)?, Mirrored::Done);
-    assert_eq!(rt; sink.taken(), Some(b"none\n".as_slice()));
-    Ok(())
-}
-
-#[test]
-fn tells_the_first_line_that_cant_be_followed(rt: HostRuntime) -> Result<(), Fail> {
-    let mut sink = MemSink::new(rt.alloc());
-    let sent = b"ok watch 0\nok open\nend\n- q 1\nok watch";
-    assert_eq!(rt; mirrored(rt, sent, 1, &mut sink)?, Mirrored::Outside(4));
-    assert_eq!(rt; sink.taken(), Some(b"mirror 4\n".as_slice()));
-    let mut sink = MemSink::new(rt.alloc());
-    assert_eq!(rt;
-        mirrored(rt, b"ok\nok", 8192, &mut sink)?,
-        Mirrored::Outside(2)
-    );
     Ok(())
 }

@@ -13,11 +13,11 @@ fn a_source_gives_its_bytes(rt: HostRuntime) -> Result<(), Fail> {
     let mut source = MemSource::new(b"ok\n".to_vec(rt.alloc())?, 2);
     source.fail_at(2)?;
     let mut buf = [0; 4];
-    assert_eq!(rt; source.read(&mut buf), Read::Got(2));
-    assert_eq!(rt; &buf[..2], b"ok".as_slice());
-    assert_eq!(rt; source.read(&mut buf), Read::Failed);
-    assert_eq!(rt; source.read(&mut buf), Read::Got(1));
-    assert_eq!(rt; source.read(&mut buf), Read::End);
+    assert!(rt; source.read(&mut buf) == Read::Got(2));
+    assert!(rt; &buf[..2] == b"ok".as_slice());
+    assert!(rt; source.read(&mut buf) == Read::Failed);
+    assert!(rt; source.read(&mut buf) == Read::Got(1));
+    assert!(rt; source.read(&mut buf) == Read::End);
     Ok(())
 }
 
@@ -25,10 +25,10 @@ fn a_source_gives_its_bytes(rt: HostRuntime) -> Result<(), Fail> {
 fn a_sink_keeps_what_it_took(rt: HostRuntime) -> Result<(), Fail> {
     let mut sink = MemSink::new(rt.alloc());
     sink.fail_at(2)?;
-    assert_eq!(rt; write_all(&mut sink, b"ok\n"), Written::All);
-    assert_eq!(rt; write_all(&mut sink, b"lost"), Written::Failed(0));
-    assert_eq!(rt; sink.write(b"end\n"), Wrote::Took(4));
-    assert_eq!(rt; sink.taken(), Some(b"ok\nend\n".as_slice()));
+    assert!(rt; write_all(&mut sink, b"ok\n") == Written::All);
+    assert!(rt; write_all(&mut sink, b"lost") == Written::Failed(0));
+    assert!(rt; sink.write(b"end\n") == Wrote::Took(4));
+    assert!(rt; sink.taken() == Some(b"ok\nend\n".as_slice()));
     assert!(rt; sink.writes().is_some_and(|writes| writes.len() == 3));
     Ok(())
 }
@@ -37,11 +37,11 @@ fn a_sink_keeps_what_it_took(rt: HostRuntime) -> Result<(), Fail> {
 fn std_moves_bytes(rt: HostRuntime) -> Result<(), Fail> {
     let mut source = StdSource::new(b"ok\n".as_slice());
     let mut buf = [0; 4];
-    assert_eq!(rt; source.read(&mut buf), Read::Got(3));
-    assert_eq!(rt; &buf[..3], b"ok\n".as_slice());
-    assert_eq!(rt; source.read(&mut buf), Read::End);
+    assert!(rt; source.read(&mut buf) == Read::Got(3));
+    assert!(rt; &buf[..3] == b"ok\n".as_slice());
+    assert!(rt; source.read(&mut buf) == Read::End);
     let mut sink = StdSink::new(Vec::new(rt.alloc()));
-    assert_eq!(rt; sink.write(b"ok\n"), Wrote::Took(3));
+    assert!(rt; sink.write(b"ok\n") == Wrote::Took(3));
     Ok(())
 }
 

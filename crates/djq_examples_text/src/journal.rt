@@ -228,13 +228,13 @@ fn a_row_takes_41_bytes(rt: HostRuntime) -> Result<(), Fail> {
     let mut disk = MemDisk::of(rt.alloc(), b"")?;
     assert!(rt; keep_row(&mut disk).is_some());
     let file = b"DJQLOG1\n\x01\0\x09rel r int\x01\0\x07add r 7\x01\0\x07add r 7\0";
-    assert_eq!(rt; disk.bytes(), file.as_slice());
+    assert!(rt; disk.bytes() == file.as_slice());
     let mut bytes = disk.bytes().to_vec(rt.alloc())?;
-    assert_eq!(rt; bytes.len(), 41);
+    assert!(rt; bytes.len() == 41);
     set_byte(&mut bytes, 10, 255)?;
-    assert_eq!(rt; groups_of(&rt, &bytes)?, None, "a length past the end");
+    assert!(rt; groups_of(&rt, &bytes)? == None);
     set_byte(&mut bytes, 8, 0)?;
-    assert_eq!(rt; groups_of(&rt, &bytes)?, Some(0), "no gate is open");
+    assert!(rt; groups_of(&rt, &bytes)? == Some(0));
     Ok(())
 }
 
@@ -245,9 +245,9 @@ fn a_stop_at_each_call_leaves_whole_groups(rt: HostRuntime) -> Result<(), Fail> 
     assert!(rt; keep_all(&mut disk));
     let calls = disk.calls().ok_or("the record is lost")?;
     for n in 4..calls.len() {
-        assert!(rt; leaves_groups(&rt, &calls[..n])?, "at {n}");
+        assert!(rt; leaves_groups(&rt, &calls[..n])?);
     }
-    assert_eq!(rt; groups_of(&rt, disk.bytes())?, Some(4));
+    assert!(rt; groups_of(&rt, disk.bytes())? == Some(4));
     Ok(())
 }
 
@@ -258,9 +258,9 @@ fn a_call_that_fails_leaves_whole_groups(rt: HostRuntime) -> Result<(), Fail> {
         disk.fail_at(n)?;
         let well = keep_all(&mut disk);
         let calls = disk.calls().ok_or("the record is lost")?;
-        assert!(rt; well == (calls.len() < n as usize), "at {n}");
+        assert!(rt; well == (calls.len() < n as usize));
         if 2 < n {
-            assert!(rt; leaves_groups(&rt, calls)?, "at {n}");
+            assert!(rt; leaves_groups(&rt, calls)?);
         }
     }
     Ok(())
@@ -277,7 +277,7 @@ fn a_thousand_lines_are_written_in_two_pieces(rt: HostRuntime) -> Result<(), Fai
             sizes.push(piece.as_slice().len())?;
         }
     }
-    assert_eq!(rt; sizes.as_slice(), [9, 16_380, 3_620, 1].as_slice());
+    assert!(rt; sizes.as_slice() == [9, 16_380, 3_620, 1].as_slice());
     Ok(())
 }
 
@@ -294,14 +294,11 @@ fn a_stop_between_pieces_leaves_all_or_none(rt: HostRuntime) -> Result<(), Fail>
             for other in [None, Some(1), Some(255)] {
                 let bytes = image(&rt, &calls[..n], kept, other)?;
                 let text = opened(&rt, &bytes)?.ok_or("it doesn't open")?;
-                assert!(rt;
-                    text.is_empty() || text.len() == whole,
-                    "at {n}, {kept} bytes"
-                );
+                assert!(rt; text.is_empty() || text.len() == whole);
             }
         }
     }
     let text = opened(&rt, disk.bytes())?.ok_or("it doesn't open")?;
-    assert_eq!(rt; text.len(), whole);
+    assert!(rt; text.len() == whole);
     Ok(())
 }

@@ -12,11 +12,11 @@ fn gives_the_lines_in_order(rt: HostRuntime) -> Result<(), Fail> {
             text.extend_from_slice(&line[..n])?;
         }
     }
-    assert_eq!(rt;
-        text.as_slice(),
-        b"rel r int int\nrel s int int\nquery q(x,y,z) <- r(x,y), s(y,z)\nadd r 0 1\nadd s 1 1\nadd r 1 0\nadd r 1 1\nadd r 0 1\n".as_slice()
+    assert!(rt;
+        text.as_slice()
+            == b"rel r int int\nrel s int int\nquery q(x,y,z) <- r(x,y), s(y,z)\nadd r 0 1\nadd s 1 1\nadd r 1 0\nadd r 1 1\nadd r 0 1\n".as_slice()
     );
-    assert_eq!(rt; load.line(&mut line), None);
+    assert!(rt; load.line(&mut line) == None);
     Ok(())
 }
 
@@ -41,9 +41,9 @@ fn draws_the_known_numbers(rt: HostRuntime) -> Result<(), Fail> {
             }
         }
     }
-    assert_eq!(rt;
-        text.as_slice(),
-        b"add r 5758 10113\nadd s 31051 5627\nadd r 7419 16212\nadd r 2749 12767\nadd r 12060 32225\n".as_slice()
+    assert!(rt;
+        text.as_slice()
+            == b"add r 5758 10113\nadd s 31051 5627\nadd r 7419 16212\nadd r 2749 12767\nadd r 12060 32225\n".as_slice()
     );
     Ok(())
 }
@@ -56,8 +56,8 @@ fn reads_a_cursor_after_a_hundred_changes(rt: HostRuntime) -> Result<(), Fail> {
     for _ in 0..105 {
         assert!(rt; load.line(&mut line).is_some());
     }
-    assert_eq!(rt; load.line(&mut line), Some(8));
-    assert_eq!(rt; &line[..8], b"close c\n".as_slice());
-    assert_eq!(rt; load.line(&mut line), None);
+    assert!(rt; load.line(&mut line) == Some(8));
+    assert!(rt; &line[..8] == b"close c\n".as_slice());
+    assert!(rt; load.line(&mut line) == None);
     Ok(())
 }
