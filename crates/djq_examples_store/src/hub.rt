@@ -39,7 +39,7 @@ fn a_failed_listen_ends_the_server(rt: HostRuntime) -> Result<(), Fail> {
     let mut hub = schedule_hub(rt.alloc(), WATCHED).or(Err("the schedule is refused"))?;
     hub.fail(HubCall::Listen(1))?;
     let lines = lines_served(&rt, hub, Status::HubFault)?;
-    assert_eq!(rt; lines.as_slice(), b"".as_slice());
+    assert!(rt; lines.as_slice() == b"".as_slice());
     Ok(())
 }
 
@@ -49,10 +49,7 @@ fn a_failed_turn_ends_the_server(rt: HostRuntime) -> Result<(), Fail> {
     let mut hub = schedule_hub(rt.alloc(), WATCHED).or(Err("the schedule is refused"))?;
     hub.fail(HubCall::Turn(6))?;
     let lines = lines_served(&rt, hub, Status::HubFault)?;
-    assert_eq!(rt;
-        lines.as_slice(),
-        b"1< ok\n1< ok query 3\n2< ok watch 0\n".as_slice()
-    );
+    assert!(rt; lines.as_slice() == b"1< ok\n1< ok query 3\n2< ok watch 0\n".as_slice());
     Ok(())
 }
 
@@ -62,9 +59,9 @@ fn a_failed_send_ends_its_session(rt: HostRuntime) -> Result<(), Fail> {
     let mut hub = schedule_hub(rt.alloc(), WATCHED).or(Err("the schedule is refused"))?;
     hub.fail(HubCall::Send(2, 1))?;
     let lines = lines_served(&rt, hub, Status::Done)?;
-    assert_eq!(rt;
-        lines.as_slice(),
-        b"1< ok\n1< ok query 3\n1< ok added 1 1\n1< ok open\n1< = 1\n1< end\n1< end\n".as_slice()
+    assert!(rt;
+        lines.as_slice()
+            == b"1< ok\n1< ok query 3\n1< ok added 1 1\n1< ok open\n1< = 1\n1< end\n1< end\n".as_slice()
     );
     Ok(())
 }

@@ -211,7 +211,7 @@ fn each_agrees<L: Ledgers>(
 #[test]
 fn gives_the_next_of_the_later_members(rt: HostRuntime) -> Result<(), Fail> {
     let given = told::<Brand>(&rt, Blanks::new(&rt), &[0b1110, 0b1101])?;
-    assert_eq!(rt; given.as_slice(), [1, 0, 2, 3].as_slice());
+    assert!(rt; given.as_slice() == [1, 0, 2, 3].as_slice());
     Ok(())
 }
 

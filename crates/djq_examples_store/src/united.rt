@@ -210,7 +210,7 @@ fn given<L: Ledgers>(
 #[test]
 fn gives_each_answer_once(rt: HostRuntime) -> Result<(), Fail> {
     let pairs = given::<Brand>(&rt, Blanks::new(&rt), &[[1, 2], [2, 1], [3, 4]])?;
-    assert_eq!(rt; pairs.len(), 4);
+    assert!(rt; pairs.len() == 4);
     for pair in [(1, 2), (2, 1), (3, 4), (4, 3)] {
         assert!(rt; pairs.contains(&pair));
     }
