@@ -1,7 +1,7 @@
 -- A table's parts: its tuples as the rows of an arena, a note for each slot, and for each group a head.
 use Rattle.std.specs.Prelude.{◌≡◌, ◌≢◌, ◌⊎◌, ⊤, ℕ, ◌+◌, ◌<◌, ◌≤◌, ◌==◌, Bool, true, false, cond, List}
 use Rattle.std.specs.Prelude.{[], ◌∷◌, ◌++◌, map, length, slice_index, slice_index_or, slice_set, max}
-use Rattle.std.specs.Prelude.{vec_capacity, Option, Some, None}
+use Rattle.std.specs.Prelude.{Option, Some, None}
 use Rattle.djq_arena.specs.declared.chain.Pair.{Pair}
 use Rattle.djq_arena.specs.declared.chain.Ends.{Ends}
 use Rattle.djq_arena.specs.Rows.{Row, SlotRows, AreRows, IsAbsent, IsRow, IsFull}
@@ -114,7 +114,7 @@ pub record IsRaw (r : Raw) : Type 0 where
 
 -- no slot is free for a head, or the buffer is too short for its cells
 abbrev pub HasNoRoomForHead : Raw → Type 0
-HasNoRoomForHead r = IsFull r.keys ⊎ (vec_capacity r.cells < length r.key.items)
+HasNoRoomForHead r = IsFull r.keys ⊎ (r.cells.capacity < length r.key.items)
 
 -- the place of a slot, if any
 abbrev pub place_of : Option ℕ → Option Place

@@ -9,7 +9,9 @@ ghost use Rattle.djq_index.specs.Table.{AreColumns};
 ghost use Rattle.djq_index.specs.Raw.{ends_at};
 ghost use Rattle.djq_arena.specs.declared.link.TheConstants.{SLOTS};
 
+use crate::raw::KEY;
 use djq_arena::{Arena, Ends, Link, Pair, ends_after_push, enter, leave, pair_of};
+use smallvec::SmallVec;
 use std::alloc::AllocError;
 
 /// The ends that a head knows.
@@ -89,10 +91,14 @@ fn pick_into(cells: &mut [u64], key: &[usize], tuple: &[u64])
 }
 
 /// Writes the cells of a tuple's key into a buffer, which has as many cells from the first time on.
-pub fn project(cells: &mut Vec<u64>, key: &[usize], tuple: &[u64]) -> Result<(), AllocError>
+pub fn project(
+    cells: &mut SmallVec<u64, KEY>,
+    key: &[usize],
+    tuple: &[u64],
+) -> Result<(), AllocError>
     requires { AreColumns (length tuple.now) key.now }
     ensures picked { IfOk result (λ _. cells.new.items ≡ pick key.now tuple.now) }
-    ensures full { OnErr result (vec_capacity cells.old < length key.now) }
+    ensures full { OnErr result (cells.old.capacity < length key.now) }
 {
     if cells.len() != key.len() {
         cells.resize(key.len(), 0)?;

@@ -1,5 +1,5 @@
 //! A tuple that isn't there is put behind its group, whose head is made where it has none.
-ghost use Rattle.std.specs.Prelude.{◌≡◌, ℕ, ◌-◌, ◌<◌, ◌≤◌, ◌⊎◌, false, [], length, vec_capacity};
+ghost use Rattle.std.specs.Prelude.{◌≡◌, ℕ, ◌-◌, ◌<◌, ◌≤◌, ◌⊎◌, false, [], length};
 ghost use Rattle.std.specs.Prelude.{IfOk, OnErr, Some, None};
 ghost use Rattle.djq_arena.specs.Rows.{AreRows, IsFull};
 ghost use Rattle.djq_index.specs.Tuple.{pick};
@@ -13,8 +13,9 @@ use crate::appending::{append_linked_row, append_row};
 use crate::heads::{cell_at, join, new_head, project};
 use crate::marking::with_slot;
 use crate::place::Place;
-use crate::raw::{Note, Raw, set_note};
+use crate::raw::{KEY, Note, Raw, set_note};
 use djq_arena::{Arena, Ends, hash_of};
+use smallvec::SmallVec;
 use std::alloc::AllocError;
 
 /// The head of the group with these cells, which is made where there is none.
@@ -44,7 +45,7 @@ fn head_of(keys: &mut Arena, ends: &mut Vec<Ends>, cells: &[u64]) -> Result<u32,
 fn find_or_make_wide_head(
     keys: &mut Arena,
     ends: &mut Vec<Ends>,
-    cells: &mut Vec<u64>,
+    cells: &mut SmallVec<u64, KEY>,
     key: &[usize],
     tuple: &[u64],
 ) -> Result<u32, AllocError>
@@ -60,7 +61,7 @@ fn find_or_make_wide_head(
         ends.new.items head (pick key.now tuple.now)) }
     ensures refused { OnErr result (keys.new.rows ≡ keys.old.rows) }
     ensures refused_ends { OnErr result ((k : ℕ) → ends_at ends.new.items k ≡ ends_at ends.old.items k) }
-    ensures full { OnErr result (IsFull keys.old ⊎ vec_capacity cells.old < length key.now) }
+    ensures full { OnErr result (IsFull keys.old ⊎ cells.old.capacity < length key.now) }
 {
     project(cells, key, tuple)?;
     head_of(keys, ends, cells.as_slice())
@@ -70,7 +71,7 @@ fn find_or_make_wide_head(
 fn find_or_make_head(
     keys: &mut Arena,
     ends: &mut Vec<Ends>,
-    cells: &mut Vec<u64>,
+    cells: &mut SmallVec<u64, KEY>,
     key: &[usize],
     tuple: &[u64],
 ) -> Result<u32, AllocError>
@@ -86,7 +87,7 @@ fn find_or_make_head(
         ends.new.items head (pick key.now tuple.now)) }
     ensures refused { OnErr result (keys.new.rows ≡ keys.old.rows) }
     ensures refused_ends { OnErr result ((k : ℕ) → ends_at ends.new.items k ≡ ends_at ends.old.items k) }
-    ensures full { OnErr result (IsFull keys.old ⊎ vec_capacity cells.old < length key.now) }
+    ensures full { OnErr result (IsFull keys.old ⊎ cells.old.capacity < length key.now) }
 {
     match key {
         [column] => head_of(keys, ends, &[cell_at(tuple, *column)]),

@@ -5,6 +5,10 @@ ghost use Rattle.djq_index.specs.Raw.{place_of, note_at};
 use crate::kind::Kind;
 use crate::place::Place;
 use djq_arena::{Arena, Ends, Pair};
+use smallvec::SmallVec;
+
+/// The columns of a key, and its cells, that a table has inline. Most keys have one or two.
+pub const KEY: usize = 2;
 
 /// What a slot's tuple has besides its cells.
 #[derive(Clone, Copy)]
@@ -18,14 +22,14 @@ pub struct Note {
 #[derive(Drop)]
 pub struct Raw {
     pub kind: Kind,
-    pub key: Vec<usize>,
+    pub key: SmallVec<usize, KEY>,
     pub rows: Arena,
     pub notes: Vec<Note>,
     pub links: Vec<Pair>,
     pub keys: Arena,
     pub ends: Vec<Ends>,
     pub marked: Option<u32>,
-    pub cells: Vec<u64>,
+    pub cells: SmallVec<u64, KEY>,
 }
 
 /// The note of a slot.

@@ -14,6 +14,7 @@ use crate::removing::{remove_bare, remove_keyed};
 use crate::walk::{ends_in, newest, oldest};
 use djq_arena::{Arena, pair_of};
 use djq_counters::Tally;
+use smallvec::SmallVec;
 use std::alloc::{AllocError, Global};
 use std::marker::Model;
 use std::sync::ledger::Ledger;
@@ -54,7 +55,7 @@ impl Table {
         requires { AreColumns width key.now }
         ensures { IfOk result (λ t. t ≡ record { width = width; key = key.now; entries = [] }) }
     {
-        let columns = Vec::from_slice(alloc, key)?;
+        let columns = SmallVec::from_slice(alloc, key)?;
         let rows = Arena::new(alloc, width)?;
         rows.laws();
         let keys = Arena::new(alloc, key.len())?;
@@ -68,7 +69,7 @@ impl Table {
             keys,
             ends: Vec::new(alloc),
             marked: None,
-            cells: Vec::new(alloc),
+            cells: SmallVec::new(alloc),
         };
         Ok(Table { raw })
     }

@@ -6,10 +6,10 @@ ghost use Rattle.djq_query.specs.Pattern.{bound, slot_of, test_of, tests_of};
 ghost use Rattle.djq_index.specs.declared.cells.TheConstants.{CELLS};
 
 use crate::numbered::{NumberedAtom, NumberedComparison, NumberedTerm};
-use crate::pattern::{Pattern, Slot, Test};
+use crate::pattern::{Pattern, Slot, Slots, Test, Tests};
 use djq_hypergraph::VarSet;
 use djq_index::Cells;
-use djq_model::{NoMem, Sequence};
+use djq_model::NoMem;
 use std::alloc::Global;
 
 /// The variables of a set, in rising order.
@@ -50,11 +50,11 @@ fn slots_of(
     members: &[u64],
     terms: &[NumberedTerm],
     cells: &[u64],
-) -> Result<Sequence<Slot>, NoMem>
+) -> Result<Slots, NoMem>
     requires { length cells.now ≡ length terms.now }
-    ensures { IfOk result (λ slots. slots ≡ bound members.now terms.now cells.now) }
+    ensures { IfOk result (λ slots. slots.items ≡ bound members.now terms.now cells.now) }
 {
-    let mut slots = Sequence::new(alloc);
+    let mut slots = Slots::new(alloc);
     'terms: for i in 0..terms.len() {
         slots.push(slot_of(members, &terms[i], cells[i]))?;
     }
@@ -67,11 +67,11 @@ fn tests_of(
     members: &[u64],
     comparisons: &[NumberedComparison],
     constants: &[u64],
-) -> Result<Sequence<Test>, NoMem>
+) -> Result<Tests, NoMem>
     requires { length constants.now ≡ length comparisons.now }
-    ensures { IfOk result (λ tests. tests ≡ tests_of members.now comparisons.now constants.now) }
+    ensures { IfOk result (λ tests. tests.items ≡ tests_of members.now comparisons.now constants.now) }
 {
-    let mut tests = Sequence::new(alloc);
+    let mut tests = Tests::new(alloc);
     'comparisons: for i in 0..comparisons.len() {
         let comparison = &comparisons[i];
         if let Some(place) = find(members, comparison.variable as u64) {

@@ -27,7 +27,8 @@ ghost use Rattle.djq_query.specs.Pattern.{
 ghost use Rattle.djq_index.specs.declared.cells.TheConstants.{CELLS};
 
 use djq_index::Cells;
-use djq_model::{Operator, Sequence};
+use djq_model::Operator;
+use smallvec::SmallVec;
 use std::marker::Model;
 
 /// What stands at a column of a pattern.
@@ -50,6 +51,35 @@ pub struct Test {
     pub cell: u64,
 }
 
+impl Default for Slot {
+    ghost use Rattle.std.specs.Prelude.{◌≡◌};
+    ghost use Rattle.djq_query.specs.declared.pattern.Slot.TheVariants.{Place};
+
+    ghost is_default = { λ s. s ≡ Place 0 };
+
+    /// The first variable.
+    fn default() -> Slot {
+        Slot::Place(0)
+    }
+}
+
+impl Default for Test {
+    /// The first variable is zero.
+    fn default() -> Test {
+        Test {
+            place: 0,
+            operator: Operator::Equal,
+            cell: 0,
+        }
+    }
+}
+
+/// The slots of an atom: up to four of them inline.
+pub(crate) type Slots = SmallVec<Slot, 4>;
+
+/// The tests of an atom: one of them inline. Most atoms have none.
+pub(crate) type Tests = SmallVec<Test, 1>;
+
 /// An atom whose constants are cells, with the comparisons of its variables: it turns a row into a
 /// tuple over the atom's variables, in rising order of their numbers, or into nothing.
 ///
@@ -57,8 +87,8 @@ pub struct Test {
 #[derive(Debug, Drop)]
 pub struct Pattern {
     width: usize,
-    slots: Sequence<Slot>,
-    tests: Sequence<Test>,
+    slots: Slots,
+    tests: Tests,
     plain: bool, // the tuple of a row is the row itself
 }
 
@@ -67,9 +97,9 @@ impl Model for Pattern {
 
     ghost Value = { spec.Shape };
 
-    ghost view = { λ p. record { width = p.width; slots = p.slots; tests = p.tests } };
+    ghost view = { λ p. record { width = p.width; slots = p.slots.items; tests = p.tests.items } };
 
-    ghost invariant = { λ p. spec.PatternIsMade (record { width = p.width; slots = p.slots; tests = p.tests }) p.plain };
+    ghost invariant = { λ p. spec.PatternIsMade (record { width = p.width; slots = p.slots.items; tests = p.tests.items }) p.plain };
 }
 
 /// The cell that a tuple gives a column.
@@ -135,9 +165,9 @@ fn is_plain(width: usize, slots: &[Slot]) -> bool
 
 impl Pattern {
     /// A pattern of these parts.
-    pub(crate) fn new(width: usize, slots: Sequence<Slot>, tests: Sequence<Test>) -> Self
-        requires { IsPattern (record { width = width; slots = slots; tests = tests }) }
-        ensures { result ≡ record { width = width; slots = slots; tests = tests } }
+    pub(crate) fn new(width: usize, slots: Slots, tests: Tests) -> Self
+        requires { IsPattern (record { width = width; slots = slots.items; tests = tests.items }) }
+        ensures { result ≡ record { width = width; slots = slots.items; tests = tests.items } }
     {
         let plain = is_plain(width, slots.as_slice());
         Pattern {

@@ -7,5 +7,5 @@ pub head_of-requires-clause-width : goal.head_of-requires-clause-width
 head_of-requires-clause-width c =
     c.requires.width
     ∙ sym
-    (ap (λ (u : List ℕ). length u) (c.as_slice.ensures.value ∙ c.in_ok-project.ensures.picked)
+    (ap (λ (u : List ℕ). length u) (c.as_slice.ensures ∙ c.in_ok-project.ensures.picked)
     ∙ length_pick c.args.key.now c.args.tuple.now)

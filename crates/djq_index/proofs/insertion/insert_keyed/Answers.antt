@@ -178,7 +178,7 @@ join-requires-clause-slot c =
       room_ends = c.in-Ok.ensures.ends;
       seat = subst (λ (key : List ℕ). IsSeat c.args.raw.now.keys.rows c.find_or_make_head.new.keys.rows
           c.args.raw.now.ends.items c.find_or_make_head.new.ends.items c.in-Ok.head
-          (pick key c.args.tuple.now)) c.as_slice.ensures.value c.in-Ok.ensures.seated;
+          (pick key c.args.tuple.now)) c.as_slice.ensures c.in-Ok.ensures.seated;
     } in
     slot_links c.args.raw.now c.append_linked_row.new.rows c.append_linked_row.new.notes.items
     c.append_linked_row.new.links.items c.find_or_make_head.new.keys c.find_or_make_head.new.ends.items
@@ -205,7 +205,7 @@ join-requires-clause-head c =
       room_ends = c.in-Ok.ensures.ends;
       seat = subst (λ (key : List ℕ). IsSeat c.args.raw.now.keys.rows c.find_or_make_head.new.keys.rows
           c.args.raw.now.ends.items c.find_or_make_head.new.ends.items c.in-Ok.head
-          (pick key c.args.tuple.now)) c.as_slice.ensures.value c.in-Ok.ensures.seated;
+          (pick key c.args.tuple.now)) c.as_slice.ensures c.in-Ok.ensures.seated;
     } in
     head_ends c.args.raw.now c.append_linked_row.new.rows c.append_linked_row.new.notes.items
     c.append_linked_row.new.links.items c.find_or_make_head.new.keys c.find_or_make_head.new.ends.items
@@ -227,7 +227,7 @@ join-requires-clause-last c =
       room_ends = c.in-Ok.ensures.ends;
       seat = subst (λ (key : List ℕ). IsSeat c.args.raw.now.keys.rows c.find_or_make_head.new.keys.rows
           c.args.raw.now.ends.items c.find_or_make_head.new.ends.items c.in-Ok.head
-          (pick key c.args.tuple.now)) c.as_slice.ensures.value c.in-Ok.ensures.seated;
+          (pick key c.args.tuple.now)) c.as_slice.ensures c.in-Ok.ensures.seated;
     } in
     last_links c.args.raw.now c.append_linked_row.new.rows c.append_linked_row.new.notes.items
     c.append_linked_row.new.links.items c.find_or_make_head.new.keys c.find_or_make_head.new.ends.items
@@ -266,7 +266,7 @@ returns-in-Ok-clause-heads c =
       room_ends = c.in-Ok.ensures.ends;
       seat = subst (λ (key : List ℕ). IsSeat c.args.raw.now.keys.rows c.find_or_make_head.new.keys.rows
           c.args.raw.now.ends.items c.find_or_make_head.new.ends.items c.in-Ok.head
-          (pick key c.args.tuple.now)) c.as_slice.ensures.value c.in-Ok.ensures.seated;
+          (pick key c.args.tuple.now)) c.as_slice.ensures c.in-Ok.ensures.seated;
     } in
     let s = c.init_note.ensures in
     let n : IsNoted c.args.marked c.args.raw.now c.init_note.new.raw c.append_linked_row.new.rows

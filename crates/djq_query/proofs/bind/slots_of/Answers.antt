@@ -9,10 +9,10 @@ pub terms-preserved : goal.terms-preserved
 terms-preserved c =
     ap (λ (ss : List Slot). ss ++ bound c.args.members.now (drop (c.terms.i + 1) c.args.terms.now)
     (drop (c.terms.i + 1) c.args.cells.now)) c.in_ok-push.ensures.ok
-    ∙ bound_on c.terms.slots c.args.members.now c.args.terms.now c.args.cells.now c.terms.i c.index-terms-i.result
+    ∙ bound_on c.terms.slots.items c.args.members.now c.args.terms.now c.args.cells.now c.terms.i c.index-terms-i.result
     c.slot_of.result c.terms-test.true c.requires c.index-terms-i.is c.slot_of.ensures
     ∙ c.terms.invariant
 
 pub returns : goal.returns
-returns c = sym (bound_over c.terms.slots c.args.members.now c.args.terms.now c.args.cells.now c.terms.i
+returns c = sym (bound_over c.terms.slots.items c.args.members.now c.args.terms.now c.args.cells.now c.terms.i
     c.terms-test.false) ∙ c.terms.invariant
