@@ -5,7 +5,8 @@ ghost use Rattle.djq_store_spec.specs.Store.{empty_store};
 use crate::parts::Parts;
 use djq_database::Catalog;
 use djq_live_query::LiveQuery;
-use djq_model::{Name, NoMem, Sequence};
+use djq_model::{Name, NoMem};
+use djq_reach::QueryPlaces;
 use std::alloc::Global;
 use std::marker::Model;
 
@@ -51,7 +52,7 @@ impl Engine {
                     queries: Vec::new(alloc),
                     watchers: Vec::new(alloc),
                     logs: Vec::new(alloc),
-                    order: Sequence::new(alloc),
+                    order: QueryPlaces::new(alloc),
                     seq: 0,
                     affected: Vec::new(alloc),
                 },

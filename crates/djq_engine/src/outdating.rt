@@ -16,14 +16,14 @@ use crate::parts::Parts;
 use djq_database::{Catalog, RelationId};
 use djq_enumeration::DeltaLog;
 use djq_live_query::LiveQuery;
-use djq_model::{Name, Sequence};
+use djq_model::Name;
 use djq_protocol::HeldRow;
-use djq_reach::{Group, empty_logs, outdate};
+use djq_reach::{Group, QueryPlaces, empty_logs, outdate};
 
 /// The logs of all queries that read a relation are emptied.
 fn empty_readers(
     logs: &mut Vec<DeltaLog>,
-    readers: &Vec<Sequence<usize>>,
+    readers: &Vec<QueryPlaces>,
     catalog: &Catalog,
     relation: &Name,
 )
@@ -45,7 +45,7 @@ fn empty_readers(
 /// The logs of all queries that read a relation of these rows are emptied.
 fn empty_held(
     logs: &mut Vec<DeltaLog>,
-    readers: &Vec<Sequence<usize>>,
+    readers: &Vec<QueryPlaces>,
     catalog: &Catalog,
     held: &[HeldRow],
 )
@@ -66,7 +66,7 @@ fn empty_held(
 /// The open cursors of all queries that read a relation become stale by it.
 fn outdate_named(
     queries: &mut Vec<Option<LiveQuery>>,
-    readers: &Vec<Sequence<usize>>,
+    readers: &Vec<QueryPlaces>,
     catalog: &Catalog,
     relation: &Name,
     seq: u64,
@@ -85,7 +85,7 @@ fn outdate_named(
 /// these relations that a query reads.
 fn outdate_held(
     queries: &mut Vec<Option<LiveQuery>>,
-    readers: &Vec<Sequence<usize>>,
+    readers: &Vec<QueryPlaces>,
     catalog: &Catalog,
     held: &[HeldRow],
     seq: u64,
@@ -111,7 +111,7 @@ fn has_group(groups: &[Group], relation: RelationId) -> bool
 /// relation nothing becomes stale.
 fn outdate_grouped(
     queries: &mut Vec<Option<LiveQuery>>,
-    readers: &Vec<Sequence<usize>>,
+    readers: &Vec<QueryPlaces>,
     catalog: &Catalog,
     relation: &Name,
     groups: &[Group],
@@ -134,7 +134,7 @@ fn outdate_grouped(
 /// these relations among those of held rows.
 pub fn outdate_came(
     queries: &mut Vec<Option<LiveQuery>>,
-    readers: &Vec<Sequence<usize>>,
+    readers: &Vec<QueryPlaces>,
     catalog: &Catalog,
     held: &[HeldRow],
     groups: &[Group],
@@ -159,7 +159,7 @@ fn has_place(places: &[usize], place: usize) -> bool
 }
 
 /// Whether the query in a place reads a relation of the groups.
-fn is_reached(readers: &Vec<Sequence<usize>>, groups: &[Group], place: usize) -> bool
+fn is_reached(readers: &Vec<QueryPlaces>, groups: &[Group], place: usize) -> bool
     requires { All (λ g. g.relation.at < length readers.now.items) groups.now }
     ensures { result ≡ is_reader (reached readers.now.items groups.now) place }
 {
@@ -175,7 +175,7 @@ fn is_reached(readers: &Vec<Sequence<usize>>, groups: &[Group], place: usize) ->
 pub fn affect_reached(
     affected: &mut Vec<usize>,
     order: &[usize],
-    readers: &Vec<Sequence<usize>>,
+    readers: &Vec<QueryPlaces>,
     groups: &[Group],
 )
     requires within { All (λ g. g.relation.at < length readers.now.items) groups.now }

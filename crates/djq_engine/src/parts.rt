@@ -1,7 +1,7 @@
 use djq_database::Catalog;
 use djq_enumeration::DeltaLog;
 use djq_live_query::LiveQuery;
-use djq_model::Sequence;
+use djq_reach::QueryPlaces;
 use std::alloc::Global;
 
 /// What an engine keeps.
@@ -11,7 +11,7 @@ pub struct Parts {
     /// The relations with their rows, and the texts.
     pub catalog: Catalog,
     /// For each relation the places of the queries that read it, in order of registration.
-    pub readers: Vec<Sequence<usize>>,
+    pub readers: Vec<QueryPlaces>,
     /// A place keeps its query until that is dropped, and is vacant then.
     pub queries: Vec<Option<LiveQuery>>,
     /// For each place how many sessions watch its query.
@@ -19,7 +19,7 @@ pub struct Parts {
     /// For each place how the answers of its query changed last, while it was watched.
     pub logs: Vec<DeltaLog>,
     /// The places of the registered queries, in order of registration.
-    pub order: Sequence<usize>,
+    pub order: QueryPlaces,
     /// The number of accepted changes of rows.
     pub seq: u64,
     /// The places of the queries that the last one affected, in order of registration. There is room

@@ -6,7 +6,8 @@ ghost use Rattle.djq_engine.specs.Placing.{GrowsFull, SamePlaces, SameWatchers, 
 
 use djq_enumeration::DeltaLog;
 use djq_live_query::LiveQuery;
-use djq_model::{Name, NoMem, Sequence};
+use djq_model::{Name, NoMem};
+use djq_reach::QueryPlaces;
 use std::alloc::Global;
 
 /// Whether a place has the query of a name.
@@ -70,7 +71,7 @@ fn find_place(places: &[usize], at: usize) -> Option<usize>
 }
 
 /// Takes a place out of a list of different places.
-pub fn leave_out(places: &mut Sequence<usize>, at: usize)
+pub fn leave_out(places: &mut QueryPlaces, at: usize)
     requires { AreOnce places.old }
     ensures { places.new ≡ places_without at places.old }
 {
@@ -88,7 +89,7 @@ pub fn unaffect(places: &mut Vec<usize>, at: usize)
 }
 
 /// Takes a place out of all of these lists of different places.
-pub fn leave_all(lists: &mut Vec<Sequence<usize>>, at: usize)
+pub fn leave_all(lists: &mut Vec<QueryPlaces>, at: usize)
     requires { AllOnce lists.old.items }
     ensures { LeavesAll at lists.old.items lists.new.items }
 {

@@ -14,9 +14,9 @@ use djq_counters::Tally;
 use djq_database::{Catalog, RelationId, RowsRefusal};
 use djq_dictionary::InternRefusal;
 use djq_index::Cells;
-use djq_model::{NoMem, Sequence};
+use djq_model::NoMem;
 use djq_protocol::{AddOutcome, HeldRow, Refusal};
-use djq_reach::Group;
+use djq_reach::{Group, GroupRows};
 use std::alloc::Global;
 use std::sync::ledger::Ledger;
 
@@ -92,7 +92,7 @@ fn join_group(
     if let Some(at) = find_group(groups.as_slice(), relation) {
         return groups[at].rows.push(cells.copy());
     }
-    let mut rows = Sequence::new(alloc);
+    let mut rows = GroupRows::new(alloc);
     rows.push(cells.copy())?;
     match groups.push(Group { relation, rows }) {
         Ok(()) => Ok(()),

@@ -19,10 +19,10 @@ use djq_counters::{Ledgers, Steps};
 use djq_database::{Catalog, RelationId};
 use djq_dictionary::InternRefusal;
 use djq_live_query::LiveQuery;
-use djq_model::{Name, NoMem, Query, Sequence};
+use djq_model::{Name, NoMem, Query};
 use djq_protocol::limits::QUERIES;
 use djq_protocol::{QueryOutcome, Refusal};
-use djq_reach::is_watched;
+use djq_reach::{QueryPlaces, is_watched};
 
 /// Whether a query reads a relation.
 fn reads(query: &Query, relation: &Name) -> bool
@@ -36,7 +36,7 @@ fn reads(query: &Query, relation: &Name) -> bool
 }
 
 /// A place comes last in a list, or it doesn't.
-fn join(list: &mut Sequence<usize>, joins: bool, at: usize) -> Result<(), NoMem>
+fn join(list: &mut QueryPlaces, joins: bool, at: usize) -> Result<(), NoMem>
     ensures ok { OnOk result (list.new ≡ (if joins then list.old ++ at ∷ [] else list.old)) }
     ensures err { OnErr result (list.new ≡ list.old) }
 {
@@ -48,7 +48,7 @@ fn join(list: &mut Sequence<usize>, joins: bool, at: usize) -> Result<(), NoMem>
 
 /// A place comes last among the readers of each relation that a query reads.
 fn join_readers(
-    lists: &mut Vec<Sequence<usize>>,
+    lists: &mut Vec<QueryPlaces>,
     catalog: &Catalog,
     query: &Query,
     at: usize,

@@ -20,14 +20,14 @@ use djq_counters::{Ledgers, Steps};
 use djq_database::RelationId;
 use djq_index::Cells;
 use djq_live_query::LiveQuery;
-use djq_model::{Name, NoMem, Sequence, Types, Value};
+use djq_model::{Name, NoMem, Types, Value};
 use djq_protocol::limits::{COLUMNS, RELATIONS};
 use djq_protocol::{AddOutcome, DeleteOutcome, Refusal};
-use djq_reach::{empty_logs, outdate};
+use djq_reach::{QueryPlaces, empty_logs, outdate};
 
 /// The queries that read a relation are the affected ones from now on. They are few, so that a loop costs less
 /// than a call.
-fn affect(affected: &mut Vec<usize>, readers: &Vec<Sequence<usize>>, id: RelationId)
+fn affect(affected: &mut Vec<usize>, readers: &Vec<QueryPlaces>, id: RelationId)
     requires within { id.at < length readers.now.items }
     requires room { length (readers_at readers.now.items id.at) ≤ vec_capacity affected.old }
     ensures items { affected.new.items ≡ readers_at readers.now.items id.at }
@@ -113,7 +113,7 @@ impl Engine {
                 self.parts.catalog.laws();
                 self.parts
                     .readers
-                    .push_reserved(Sequence::new(self.parts.alloc));
+                    .push_reserved(QueryPlaces::new(self.parts.alloc));
                 Ok(())
             }
             Err(_refusal) => Err(Refusal::NoMemory),

@@ -28,6 +28,17 @@ impl Model for Cells {
     ghost invariant = { λ a. a.len ≤ CELLS };
 }
 
+impl Default for Cells {
+    ghost use Rattle.std.specs.Prelude.{◌≡◌, []};
+
+    ghost is_default = { λ c. c ≡ [] };
+
+    /// No cell.
+    fn default() -> Cells {
+        Cells::new(0)
+    }
+}
+
 /// Copies a tuple's cells. Tuples are short, so that a loop costs less than a call.
 fn copy_cells(into: &mut [u64], from: &[u64])
     requires { length into.old ≡ length from.now }

@@ -11,15 +11,16 @@ ghost use Rattle.djq_reach.specs.Grouping.{reached, group_relations, rows_of_gro
 
 use crate::group::Group;
 use crate::places::is_watched;
+use crate::query_places::QueryPlaces;
 use crate::reach::{clear_if, empty_logs};
 use crate::rows::{give_all_back, insert_all_into_readers};
 use djq_counters::{Ledgers, Steps};
 use djq_enumeration::DeltaLog;
 use djq_live_query::LiveQuery;
-use djq_model::{NoMem, Sequence};
+use djq_model::NoMem;
 
 /// The places of the queries that read a group's relation.
-fn places_of<'a>(readers: &'a [Sequence<usize>], group: &Group) -> &'a [usize]
+fn places_of<'a>(readers: &'a [QueryPlaces], group: &Group) -> &'a [usize]
     requires { group.now.relation.at < length readers.now }
     ensures { result.now ≡ readers_at readers.now group.now.relation.at }
 {
@@ -41,12 +42,7 @@ fn clear_watched(logs: &mut Vec<DeltaLog>, watchers: &[u32], places: &[usize])
 }
 
 /// So are those of the watched queries that read a relation of the groups.
-fn clear_logs(
-    logs: &mut Vec<DeltaLog>,
-    watchers: &[u32],
-    readers: &[Sequence<usize>],
-    groups: &[Group],
-)
+fn clear_logs(logs: &mut Vec<DeltaLog>, watchers: &[u32], readers: &[QueryPlaces], groups: &[Group])
     requires within { All (λ g. g.relation.at < length readers.now) groups.now }
     requires logged { HaveLogs (reached readers.now groups.now) logs.old.items }
     requires watched { length watchers.now ≡ length logs.old.items }
@@ -59,7 +55,7 @@ fn clear_logs(
 }
 
 /// The logs of all queries that read a relation of the groups are emptied.
-fn empty_all(logs: &mut Vec<DeltaLog>, readers: &[Sequence<usize>], groups: &[Group])
+fn empty_all(logs: &mut Vec<DeltaLog>, readers: &[QueryPlaces], groups: &[Group])
     requires within { All (λ g. g.relation.at < length readers.now) groups.now }
     requires logged { HaveLogs (reached readers.now groups.now) logs.old.items }
     ensures { Empties (reached readers.now groups.now) logs.old.items logs.new.items }
@@ -72,7 +68,7 @@ fn empty_all(logs: &mut Vec<DeltaLog>, readers: &[Sequence<usize>], groups: &[Gr
 /// The queries that read a relation of the groups give their rows back, the last group first.
 fn give_groups_back<L: Ledgers>(
     queries: &mut Vec<Option<LiveQuery>>,
-    readers: &[Sequence<usize>],
+    readers: &[QueryPlaces],
     groups: &[Group],
     steps: &mut Steps<L>,
 )
@@ -116,7 +112,7 @@ pub fn insert_batch_into_readers<L: Ledgers>(
     queries: &mut Vec<Option<LiveQuery>>,
     watchers: &[u32],
     logs: &mut Vec<DeltaLog>,
-    readers: &[Sequence<usize>],
+    readers: &[QueryPlaces],
     groups: &[Group],
     steps: &mut Steps<L>,
 ) -> Result<(), NoMem>

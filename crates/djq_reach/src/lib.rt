@@ -31,13 +31,15 @@
 #![tactic(auto)]
 
 pub use batch::insert_batch_into_readers;
-pub use group::Group;
+pub use group::{Group, GroupRows};
 pub use places::is_watched;
+pub use query_places::QueryPlaces;
 pub use reach::{delete_from_readers, empty_logs, insert_into_readers, outdate};
 pub use rows::insert_all_into_readers;
 
 mod batch;
 mod group;
 mod places;
+mod query_places;
 mod reach;
 mod rows;
