@@ -99,6 +99,10 @@ class Python:
         """A method of the connection that needs no translation."""
         return lambda server, *values: getattr(server, name[1:])(*values)
 
+    def _relation(self, server, name, *types):
+        named = types[0] if types and isinstance(types[0], dict) else None
+        server.relation(name, *([] if named else types), **(named or {}))
+
     def _add(self, server, *values):
         return update(server.add(*values))
 

@@ -8,6 +8,7 @@ import { listWhole } from "./listing.mjs";
 import { Live } from "./live.mjs";
 import { Protocol, READ, valuesOf } from "./protocol.mjs";
 import { Queue } from "./queue.mjs";
+import { Schema } from "./schema.mjs";
 import { Signal } from "./signal.mjs";
 
 export const MOST_ANSWERS = 1000; // of one `next`
@@ -39,6 +40,7 @@ export function connect({ host = "127.0.0.1", port = 7007, timeout = 0 } = {}) {
 export class Connection {
   constructor(socket, address) {
     this.address = address;
+    this.schema = new Schema(); // the names of columns
     this.heard = Date.now(); // when bytes arrived last
     this.ondelta = null; // is called with a delta before those are queued that `nextChange` returns
     this.onend = null; // is called with the error that ended the session
@@ -67,8 +69,18 @@ export class Connection {
 
   // Commands
 
+  /** Makes a relation, of types in order, or of an object of each column's name and type. */
   relation(name, ...types) {
-    return this._say(fitting(["rel", checked(name), ...types].join(" ")), READ.ok);
+    const named = types.length === 1 && typeof types[0] === "object" ? types[0] : null;
+    const kinds = named === null ? types : Object.values(named);
+    const line = fitting(["rel", checked(name), ...kinds].join(" "));
+    if (named !== null) this.schema.columns(name, ...Object.keys(named));
+    return this._say(line, READ.ok);
+  }
+
+  /** Names all columns of a relation, in their order, for queries that name them. Nothing is sent. */
+  columns(relation, ...names) {
+    this.schema.columns(relation, ...names);
   }
 
   add(relation, ...values) {
@@ -80,7 +92,7 @@ export class Connection {
   }
 
   query(text) {
-    return this._say(fitting(`query ${onOneLine(text)}`), READ.steps);
+    return this._say(fitting(`query ${onOneLine(this.schema.spell(text))}`), READ.steps);
   }
 
   union(name, ...members) {

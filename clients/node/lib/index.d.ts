@@ -84,10 +84,16 @@ export class Connection {
   /** The error that ended the session; null while it lasts. */
   readonly ended: DjqError | null;
   close(): void;
+  /** The names of columns that this connection knows. */
+  readonly schema: Schema;
   relation(name: string, ...types: ColumnType[]): Promise<null>;
+  /** Makes a relation and names its columns, in the order of the object's properties. */
+  relation(name: string, columns: Record<string, ColumnType>): Promise<null>;
+  /** Names all columns of a relation, in their order, for queries that name them. Nothing is sent. */
+  columns(relation: string, ...names: string[]): void;
   add(relation: string, ...values: Value[]): Promise<Update>;
   delete(relation: string, ...values: Value[]): Promise<Update>;
-  /** Registers a query. Gives the most steps that one answer costs. */
+  /** Registers a query, by places or by the names of columns. Gives the most steps that one answer costs. */
   query(text: string): Promise<number>;
   union(name: string, ...members: string[]): Promise<number>;
   drop(query: string): Promise<null>;
@@ -135,6 +141,14 @@ export class Live implements AsyncIterable<Change> {
   [Symbol.asyncIterator](): AsyncGenerator<Change, void, void>;
 }
 
+/** The names of relations' columns. */
+export class Schema {
+  readonly names: Map<string, string[]>;
+  columns(relation: string, ...names: string[]): void;
+  /** The query with a term for each column, in place of names. */
+  spell(query: string): string;
+}
+
 export class DjqError extends Error {}
 export class Disconnected extends DjqError {}
 export class Unanswered extends Disconnected {
@@ -155,6 +169,8 @@ export class Refused extends DjqError {
   /** What to do; empty if the client doesn't know. */
   readonly cure: string;
 }
+/** A query names columns that can't be written out as places, or names of columns don't fit. Nothing is sent. */
+export class BadColumns extends Refused {}
 export class NotAdmitted extends Refused {
   readonly kind: "cyclic" | "connex";
   readonly edges: string[][];

@@ -6,3 +6,4 @@ export {
 } from "./errors.mjs";
 export { readValues, spell } from "./lines.mjs";
 export { Answers, Live, live } from "./live.mjs";
+export { BadColumns, Schema } from "./schema.mjs";

@@ -11,6 +11,11 @@
             for change in live.changes():           # blocks until rows change
                 print(change.seq, change.came, change.went)
 
+Columns may have names, for queries that name them in place of counting them (`price:` alone is `price: price`):
+
+    server.relation("lines", order=int, line=int, item=str, price=int)
+    server.query("bolts(o,price) <- lines(order: o, item: \"bolt\", price:)")
+
 Where one of several queries is enough, their union is told as one query, an answer of several of them once:
 
     server.query("hot(x) <- reading(x,y), y >= 80")
@@ -34,17 +39,18 @@ One connection is one session of the server; it is used from one thread. Values 
 stand on one page, docs/CLIENT.md in the repository.
 
 Inside, `protocol` knows the lines and no socket: what a command sends, which reply is due, and which lines are deltas;
-`syntax` knows what a line may have meant that the server doesn't understand. `connection` moves the bytes, `many` sends
-commands together, `batch` collects rows that belong together, `listing` lists the answers of one moment, and `live`
-keeps them up to date: `kept` takes the changes, and `folds` are what is computed of the answers. `table` keeps rows by
-key, and `expiring` takes them out in time, by `expiry`.
+`syntax` knows what a line may have meant that the server doesn't understand, and `schema` the names of columns.
+`connection` moves the bytes, `many` sends commands together, `batch` collects rows that belong together, `listing`
+lists the answers of one moment, and `live` keeps them up to date: `kept` takes the changes, and `folds` are what is
+computed of the answers. `table` keeps rows by key, and `expiring` takes them out in time, by `expiry`.
 """
 
 from .connection import Connection, Cursor, connect
 from .errors import (
-    REFUSALS, Arity, BadName, ComparisonUnbound, Cyclic, Disconnected, Ended, Error, HeadRepeated, HeadUnbound, InUse,
-    LimitReached, MemberRefused, Misplaced, NoCursor, NoQuery, NoRelation, NotFreeConnex, NotWatched, OutOfMemory,
-    Overtaken, Refused, SomeRefused, Stale, Syntax, Taken, TooLong, TwoThreads, Unanswered, VariableType, WrongType,
+    REFUSALS, Arity, BadColumns, BadName, ComparisonUnbound, Cyclic, Disconnected, Ended, Error, HeadRepeated,
+    HeadUnbound, InUse, LimitReached, MemberRefused, Misplaced, NoCursor, NoQuery, NoRelation, NotFreeConnex,
+    NotWatched, OutOfMemory, Overtaken, Refused, SomeRefused, Stale, Syntax, Taken, TooLong, TwoThreads, Unanswered,
+    VariableType, WrongType,
 )  # fmt: skip
 from .expiring import Expiring
 from .folds import Columns, Index, Key
@@ -55,15 +61,16 @@ from .protocol import (
     MOST_ANSWERS, MOST_HELD, MOST_MEMBERS, Absent, Added, Answer, Change, Done, Page, Pending, Protocol, Removed,
     Update, Value, read_values, spell,
 )  # fmt: skip
+from .schema import Schema
 from .table import Table
 from .version import __version__
 
 __all__ = [
-    "MOST_ANSWERS", "MOST_HELD", "MOST_MEMBERS", "REFUSALS", "Absent", "Added", "Answer", "Arity", "BadName", "Batch",
-    "Change", "Columns", "ComparisonUnbound", "Connection", "Cursor", "Cyclic", "Disconnected", "Done", "Ended",
-    "Error", "Expiring", "HeadRepeated", "HeadUnbound", "InUse", "Index", "Key", "LimitReached", "Live", "Lives",
-    "MemberRefused", "Misplaced", "Moment", "NoCursor", "NoQuery", "NoRelation", "NotFreeConnex", "NotWatched",
-    "OutOfMemory", "Overtaken", "Page", "Pending", "Pipeline", "PipelinedBatch", "Protocol", "Refused", "Removed",
-    "SomeRefused", "Stale", "Syntax", "Table", "Taken", "TooLong", "TwoThreads", "Unanswered", "Update", "Value",
-    "VariableType", "WrongType", "__version__", "connect", "read_values", "spell",
+    "MOST_ANSWERS", "MOST_HELD", "MOST_MEMBERS", "REFUSALS", "Absent", "Added", "Answer", "Arity", "BadColumns",
+    "BadName", "Batch", "Change", "Columns", "ComparisonUnbound", "Connection", "Cursor", "Cyclic", "Disconnected",
+    "Done", "Ended", "Error", "Expiring", "HeadRepeated", "HeadUnbound", "InUse", "Index", "Key", "LimitReached",
+    "Live", "Lives", "MemberRefused", "Misplaced", "Moment", "NoCursor", "NoQuery", "NoRelation", "NotFreeConnex",
+    "NotWatched", "OutOfMemory", "Overtaken", "Page", "Pending", "Pipeline", "PipelinedBatch", "Protocol", "Refused",
+    "Removed", "Schema", "SomeRefused", "Stale", "Syntax", "Table", "Taken", "TooLong", "TwoThreads", "Unanswered",
+    "Update", "Value", "VariableType", "WrongType", "__version__", "connect", "read_values", "spell",
 ]  # fmt: skip

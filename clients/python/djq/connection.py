@@ -15,7 +15,8 @@ from .errors import Disconnected, Error, NoCursor, NotWatched, SomeRefused, TwoT
 from .listing import WITHIN, Said, list_whole
 from .many import Batch, Load, Pipeline
 from .protocol import MOST_ANSWERS, Added, Answer, Change, Done, Page, Pending, Protocol, Rows, Update
-from .protocol import Value, checked, column_type, fitting, spell, spell_line, spell_query, spell_union
+from .protocol import Value, checked, fitting, spell, spell_line, spell_query, spell_relation, spell_union
+from .schema import Schema
 
 if TYPE_CHECKING:
     from .live import Live, Lives
@@ -62,8 +63,9 @@ class Connection:
     raises.
     """
 
-    def __init__(self, host: str, port: int, timeout: float | None = None) -> None:
+    def __init__(self, host: str, port: int, timeout: float | None = None, schema: Schema | None = None) -> None:
         self.host, self.port, self.timeout = host, port, timeout
+        self.schema = schema if schema is not None else Schema()
         try:
             self._socket = socket.create_connection((host, port), timeout)
         except OSError as error:
@@ -101,11 +103,18 @@ class Connection:
 
     # Commands
 
-    def relation(self, name: str, *types: type | str) -> None:
-        """Makes a relation; each type is `int` or `str`."""
-        columns = tuple(map(column_type, types))
-        self._do(fitting(" ".join(["rel", checked(name), *columns])), protocol.READ_OK)
-        self._protocol.columns[name] = columns
+    def relation(self, name: str, /, *types: type | str, **columns: type | str) -> None:
+        """Makes a relation; each type is `int` or `str`. Given by name, as `orders(number=int, state=str)`, its columns
+        are named from then on, also where the relation is there already."""
+        line, kinds = spell_relation(name, types, columns)
+        if columns:
+            self.schema.columns(name, *columns)
+        self._do(line, protocol.READ_OK)
+        self._protocol.columns[name] = kinds
+
+    def columns(self, relation: str, *names: str) -> None:
+        """Names all columns of a relation, in their order, for queries that name them. Nothing is sent."""
+        self.schema.columns(relation, *names)
 
     def add(self, relation: str, *values: Value) -> Added:
         """Gives a row one copy more; the first puts it in."""
@@ -116,8 +125,9 @@ class Connection:
         return self._do(spell_line("del", relation, values), protocol.READ_REMOVED)
 
     def query(self, text: str) -> int:
-        """Registers a query, as `q(x,y) <- r(x,z), s(z,y)`. Gives the most steps that one answer costs."""
-        return self._do(spell_query(text), protocol.READ_QUERY)
+        """Registers a query, as `q(x,y) <- r(x,z), s(z,y)`, or as `q(n) <- orders(number: n, state: "new")` where the
+        columns have names. Gives the most steps that one answer costs."""
+        return self._do(spell_query(self.schema.spell(text)), protocol.READ_QUERY)
 
     def union(self, name: str, *members: str) -> int:
         """Registers the union of two to eight queries, whose answers are of the same types: it has the answers that any
@@ -483,9 +493,12 @@ class Connection:
                 raise
 
 
-def connect(host: str = "127.0.0.1", port: int = 7007, timeout: float | None = None) -> Connection:
-    """Connects to a server. `timeout` is in seconds, for connecting and for each reply."""
-    return Connection(host, port, timeout)
+def connect(
+    host: str = "127.0.0.1", port: int = 7007, timeout: float | None = None, schema: Schema | None = None
+) -> Connection:
+    """Connects to a server. `timeout` is in seconds, for connecting and for each reply; `schema` has the names of
+    columns that it knows from the start."""
+    return Connection(host, port, timeout, schema)
 
 
 def _of_system(error: OSError) -> bool:

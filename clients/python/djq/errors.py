@@ -89,6 +89,13 @@ class TooLong(Syntax, ValueError):
         super().__init__(f"a line of {size} bytes, and 4096 are the most", line)
 
 
+class BadColumns(Syntax, ValueError):
+    """A query names columns that can't be written out as places, or names of columns don't fit. Nothing is sent."""
+
+    def __init__(self, words: str, why: str = "") -> None:
+        super().__init__(words, "", why)
+
+
 class Taken(Refused):
     """The name is there already."""
 

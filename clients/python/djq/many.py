@@ -87,7 +87,7 @@ class Pipeline:
 
     def query(self, text: str) -> Pending[int]:
         """Registers a query."""
-        return self._say(spell_query(text), protocol.READ_QUERY)
+        return self._say(spell_query(self._connection.schema.spell(text)), protocol.READ_QUERY)
 
     def union(self, name: str, *members: str) -> Pending[int]:
         """Registers a union."""

@@ -5,7 +5,7 @@ from __future__ import annotations
 import re
 from collections import deque
 from dataclasses import dataclass
-from typing import Any, Callable, Generic, Sequence, TypeVar, Union
+from typing import Any, Callable, Generic, Mapping, Sequence, TypeVar, Union
 
 from . import syntax
 from .errors import REFUSALS, BadName, Cyclic, Ended, Error, NotFreeConnex, Refused, Stale, TooLong
@@ -50,6 +50,17 @@ def spell(value: Value) -> str:
 def spell_union(name: str, members: tuple[str, ...]) -> str:
     """The line that registers a union. Raises `BadName` and `TooLong`."""
     return fitting(" ".join(["union", *map(checked, (name, *members))]))
+
+
+def spell_relation(
+    name: str, types: Sequence[type | str], columns: Mapping[str, type | str]
+) -> tuple[str, tuple[str, ...]]:
+    """The line that makes a relation, whose types are given in order or by the names of columns, and its types' words.
+    Raises `BadName` and `TooLong`."""
+    if types and columns:
+        raise TypeError("types are given in order or by name, and not in both ways")
+    kinds = tuple(map(column_type, types or columns.values()))
+    return fitting(" ".join(["rel", checked(name), *kinds])), kinds
 
 
 def spell_line(command: str, name: str, values: tuple[Value, ...] = ()) -> str:

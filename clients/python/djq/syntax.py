@@ -12,6 +12,8 @@ COMPARED = "a variable is compared with a constant alone, and stands before the 
 COLUMNS = COMPARED + "; to compare two columns let the head name both, and compare as the answers are read"
 EQUAL = "columns with equal values have one name, as x in r(x,x); with = a variable is compared with a constant alone"
 
+COLUMN = "a colon stands in an atom alone, behind the name of a column: r(price: x, item: \"bolt\")"
+
 # relations of these names are seldom meant
 MEANT = {"not": NOT, "exists": NOT, "or": OR, "and": AND} | dict.fromkeys(
     ("count", "sum", "min", "max", "avg", "distinct", "top"), COMPUTED
@@ -65,6 +67,7 @@ def _of_query(line: str) -> list[str]:
         (_OR.search(body), OR),
         (_AND.search(body), AND),
         ("<-" in body, "<- is one sign: less than -5 is < -5, with a space"),
+        (":" in line, COLUMN),
         (re.search("==|<>|=<|=>", body), "the signs of comparisons are < <= > >= = and !="),
         (of_columns, COLUMNS),
         (equal, EQUAL),

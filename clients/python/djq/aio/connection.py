@@ -12,7 +12,8 @@ from ..batch import Collected
 from ..errors import Disconnected, Error, NoCursor, NotWatched, Refused, SomeRefused, Unanswered
 from ..listing import CLOSE, MOST_PAGES, WITHIN, Listing, Said
 from ..protocol import FIRST_REFUSALS, MOST_ANSWERS, Added, Answer, Change, Done, Page, Pending, Protocol, Rows, Update
-from ..protocol import Value, checked, column_type, fitting, spell_line, spell_query, spell_union
+from ..protocol import Value, checked, fitting, spell_line, spell_query, spell_relation, spell_union
+from ..schema import Schema
 
 if TYPE_CHECKING:
     from .live import Live, Lives
@@ -41,8 +42,9 @@ class _Wire(asyncio.Protocol):
 class Connection:
     """One session of a server, made by `connect`. Each method sends one command and waits for its reply."""
 
-    def __init__(self, host: str, port: int, timeout: float | None = None) -> None:
+    def __init__(self, host: str, port: int, timeout: float | None = None, schema: Schema | None = None) -> None:
         self.host, self.port, self.timeout = host, port, timeout
+        self.schema = schema if schema is not None else Schema()
         self._protocol = Protocol()
         self._transport: asyncio.Transport | None = None
         self._order = asyncio.Lock()  # held by a listing's turn, and as a command is said
@@ -82,11 +84,18 @@ class Connection:
 
     # Commands
 
-    async def relation(self, name: str, *types: type | str) -> None:
-        """Makes a relation; each type is `int` or `str`."""
-        columns = tuple(map(column_type, types))
-        await self._do(fitting(" ".join(["rel", checked(name), *columns])), protocol.READ_OK)
-        self._protocol.columns[name] = columns
+    async def relation(self, name: str, /, *types: type | str, **columns: type | str) -> None:
+        """Makes a relation; each type is `int` or `str`. Given by name, as `orders(number=int, state=str)`, its columns
+        are named from then on, also where the relation is there already."""
+        line, kinds = spell_relation(name, types, columns)
+        if columns:
+            self.schema.columns(name, *columns)
+        await self._do(line, protocol.READ_OK)
+        self._protocol.columns[name] = kinds
+
+    def columns(self, relation: str, *names: str) -> None:
+        """Names all columns of a relation, in their order, for queries that name them. Nothing is sent."""
+        self.schema.columns(relation, *names)
 
     async def add(self, relation: str, *values: Value) -> Added:
         """Gives a row one copy more; the first puts it in."""
@@ -97,8 +106,8 @@ class Connection:
         return await self._do(spell_line("del", relation, values), protocol.READ_REMOVED)
 
     async def query(self, text: str) -> int:
-        """Registers a query. Gives the most steps that one answer costs."""
-        return await self._do(spell_query(text), protocol.READ_QUERY)
+        """Registers a query, by places or by the names of columns. Gives the most steps that one answer costs."""
+        return await self._do(spell_query(self.schema.spell(text)), protocol.READ_QUERY)
 
     async def union(self, name: str, *members: str) -> int:
         """Registers the union of two to eight queries, whose answers are of the same types: it has the answers that any
@@ -427,9 +436,11 @@ class Connection:
             self._transport.close()
 
 
-def connect(host: str = "127.0.0.1", port: int = 7007, timeout: float | None = None) -> Connection:
+def connect(
+    host: str = "127.0.0.1", port: int = 7007, timeout: float | None = None, schema: Schema | None = None
+) -> Connection:
     """A connection to a server: `async with connect(..) as server`, or `server = await connect(..)`."""
-    return Connection(host, port, timeout)
+    return Connection(host, port, timeout, schema)
 
 
 class Cursor:
@@ -541,7 +552,7 @@ class Pipeline:
 
     async def query(self, text: str) -> Pending[int]:
         """Registers a query."""
-        return await self._say(spell_query(text), protocol.READ_QUERY)
+        return await self._say(spell_query(self._connection.schema.spell(text)), protocol.READ_QUERY)
 
     async def union(self, name: str, *members: str) -> Pending[int]:
         """Registers a union."""

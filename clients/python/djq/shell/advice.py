@@ -7,7 +7,7 @@ import re
 from typing import Callable
 
 from .. import syntax
-from ..errors import NotFreeConnex, Refused, Stale
+from ..errors import BadColumns, NotFreeConnex, Refused, Stale
 from ..protocol import MOST_ANSWERS, MOST_HELD, MOST_MEMBERS
 from .names import Names
 from .queries import MOST_ATOMS, MOST_COLUMNS, MOST_HEAD, Query, cures, read_query, ring
@@ -58,7 +58,7 @@ def advice(error: Exception, line: str, names: Names, columns: Columns) -> list[
         cursor, query = name, names.cursors.get(name, "QUERY")
         return [f"rows changed since it was opened: close {cursor}, then open {cursor} {query}",
                 f"\\show {query} and \\dump list the answers of one moment, also while rows change"]  # fmt: skip
-    if not isinstance(error, Refused):
+    if not isinstance(error, Refused) or isinstance(error, BadColumns):  # which says all itself
         return []
     if error.number == 1:
         return _of_syntax(line, command)

@@ -16,6 +16,7 @@ from ..protocol import MOST_ANSWERS, Page, read_page, spell
 from .advice import advice
 from .files import FURTHER, BadFile, Load, read_rows, write_answers
 from .names import Names, find_columns
+from .queries import lines_of
 from .screen import Screen, safe, tree
 from .session import Delta, Said, Session
 
@@ -27,7 +28,8 @@ batch                             from now on rows that are added are held, up t
 done, abandon                     puts all that are held in at once, or none where one has no place; drops them
 query NAME(x,y) <- REL(x,z), REL(z,y,3), x >= 5, z != "a"
                                   registers a query: equal names stand for equal values, _ for any; a variable is
-                                  compared with a constant by < <= > >= = !=, a text by = and != alone
+                                  compared with a constant by < <= > >= = !=, a text by = and != alone; where columns
+                                  have names, REL(price: x, state: "new", number:), of as many columns as it needs
 union NAME QUERY QUERY ..         registers the union of 2 to 8 queries: the answers that any of them has, each once;
                                   its name is used as a query's
 watch QUERY, unwatch QUERY        tells what comes (+) and goes (-) as rows change, or no more
@@ -45,7 +47,8 @@ quit, stop                        ends this session; ends the whole server
                                   columns; new: rows that are there are left as they are
 \\dump QUERY FILE.csv [header] [over]
                                   writes the answers; over: also where the file is there
-\\columns RELATION                 of which types its columns are
+\\columns RELATION [NAME ..]       of which types its columns are; or names them, all in their order, for queries
+\\read FILE                        runs a file's lines up to one that is refused, as those of a schema
 \\d [NAME]                         what this shell has seen; a relation's columns, or how a query is kept
 \\if-missing                       from now on rel, query and union leave what is there as it is, so a file of them can
                                   be run again; a relation with other columns is refused even so
@@ -97,6 +100,7 @@ class Shell:
         self.timing = False
         self.if_missing = False  # whether what is there already is left as it is, without a refusal
         self.done = False  # whether the shell was told to end
+        self._reading = False  # whether a file's lines are run
         self.refused = 0  # how many lines were
         self.lost: Error | None = None  # what a line is without its reply by
         self.lines = 0  # the number of the last line, where lines are counted
@@ -118,7 +122,9 @@ class Shell:
             if line.lstrip(" ").startswith("\\"):
                 self._own(line.strip())
             else:
-                for told in self.session.wait(self.session.say(line)):
+                said = self.session.say(self._by_places(line))
+                said.number = self.lines
+                for told in self.session.wait(said):
                     self.tell(told)
         except (Error, UnicodeError, ValueError, Usage, BadFile) as error:
             self.fail(error, line)
@@ -128,7 +134,7 @@ class Shell:
     def say(self, line: str) -> None:
         """Queues a line: a further call of `tell_what_came` tells its reply."""
         try:
-            self.session.say(line).number = self.lines
+            self.session.say(self._by_places(line)).number = self.lines
         except (Error, UnicodeError, ValueError) as error:
             self.settle()
             self.fail(error, line)
@@ -184,6 +190,10 @@ class Shell:
             self._advise(error, line)
 
     # Inside
+
+    def _by_places(self, line: str) -> str:
+        """The line as the server reads it: of a query that names columns, with a term for each."""
+        return self.names.schema.spell(line) if line.lstrip(" ").startswith("query ") else line
 
     def _reopen(self) -> None:
         """A new session where the last one ended, for a person who goes on."""
@@ -307,7 +317,7 @@ class Shell:
         name, given = words[0], words[1:]
         commands: dict[str, Callable[..., None]] = {
             "\\show": self._show, "\\explain": self._explain, "\\load": self._load, "\\dump": self._dump,
-            "\\columns": self._columns, "\\d": self._describe, "\\if-missing": self._if_missing,
+            "\\columns": self._columns, "\\read": self._read, "\\d": self._describe, "\\if-missing": self._if_missing,
             "\\names": self._names, "\\timing": self._timing, "\\?": self._help, "\\q": self._quit,
         }  # fmt: skip
         if name not in commands:
@@ -345,7 +355,7 @@ class Shell:
     def _names(self) -> None:
         names = self.names
         for relation in sorted(names.relations):
-            self.screen.line(f"rel {relation} {' '.join(self.columns(relation) or ('?',))}")
+            self._tell_columns(relation, self.columns(relation) or ("?",))
         for query, known in sorted(names.queries.items()):
             told = f"query {known if known is not None else query}"
             if query in names.unions:
@@ -358,8 +368,38 @@ class Shell:
         if names.held is not None:
             self.screen.line(f"batch, which holds {names.held:,}")
 
-    def _columns(self, relation: str) -> None:
-        self.screen.line(f"rel {relation} {' '.join(self._kinds(relation))}")
+    def _columns(self, relation: str, *names: str) -> None:
+        kinds = self._kinds(relation)
+        if not names:
+            self._tell_columns(relation, kinds)
+        elif len(names) != len(kinds):
+            raise Usage(f"{relation} has {len(kinds)} columns, and {len(names)} names were given")
+        else:
+            self.names.schema.columns(relation, *names)
+
+    def _tell_columns(self, relation: str, kinds: tuple[str, ...]) -> None:
+        self.screen.line(f"rel {relation} {' '.join(kinds)}")
+        if relation in self.names.schema.names:
+            self.screen.line(f"\\columns {relation} {' '.join(self.names.schema.names[relation])}")
+
+    def _read(self, path: str) -> None:
+        if self._reading:
+            raise Usage(f"a file that is read doesn't read {path}")
+        try:
+            with open(path, encoding="utf-8") as file:
+                lines = list(lines_of(file.read()))
+        except OSError as error:
+            raise BadFile(f"{path}: {error.strerror}") from error
+        self._reading, before = True, self.refused
+        try:
+            for line in lines:
+                self.run(line)
+                if self.refused > before:
+                    raise BadFile(f"{path}: nothing was run behind the line {line}")
+                if self.done:
+                    return
+        finally:
+            self._reading = False
 
     def _kinds(self, relation: str) -> tuple[str, ...]:
         kinds = self.columns(relation)

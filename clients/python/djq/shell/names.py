@@ -5,6 +5,7 @@ from __future__ import annotations
 import re
 from typing import TYPE_CHECKING
 
+from ..schema import Schema
 from .queries import MOST_COLUMNS, Query, read_query
 
 if TYPE_CHECKING:
@@ -18,6 +19,7 @@ class Names:
 
     def __init__(self) -> None:
         self.columns: dict[str, tuple[str, ...]] = {}  # of relations
+        self.schema = Schema()  # the names of their columns, which a person gave
         self.relations: set[str] = set()
         self.queries: dict[str, Query | None] = {}  # for a union one of its members, by whose head its answers are told
         self.unions: dict[str, tuple[str, ...]] = {}  # each union's members

@@ -9,6 +9,7 @@ from __future__ import annotations
 
 import re
 from dataclasses import dataclass, replace
+from typing import Iterator
 
 MOST_HEAD = 16
 MOST_ATOMS = 32
@@ -58,6 +59,25 @@ class Query:
 
     def __str__(self) -> str:
         return f"{self.name}({','.join(self.head)}) <- {', '.join(map(str, (*self.atoms, *self.comparisons)))}"
+
+
+def incomplete(text: str) -> bool:
+    """Whether a query goes on behind this: no whole one ends so."""
+    return text.lstrip().startswith("query") and re.search(r"(,|<-|\(|[<>=])\s*\Z", text) is not None
+
+
+def lines_of(text: str) -> Iterator[str]:
+    """The commands of what was typed or pasted. A query may go over several lines, each cut behind `,`, `<-`, `(`
+    or the sign of a comparison."""
+    begun = ""
+    for line in text.split("\n"):
+        begun = f"{begun} {line.strip()}" if begun else line.strip().rstrip("\r")
+        if not incomplete(begun):
+            if begun:
+                yield begun
+            begun = ""
+    if begun:
+        yield begun
 
 
 def read_query(text: str) -> Query | None:

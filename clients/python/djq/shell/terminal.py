@@ -12,6 +12,7 @@ from typing import Callable, Iterator
 from ..errors import Error
 from .advice import FORMS
 from .commands import HELP, Shell
+from .queries import incomplete, lines_of
 
 try:
     from prompt_toolkit import PromptSession
@@ -30,6 +31,7 @@ OWN = [line.split()[0] for line in HELP.split("\n") if line.startswith("\\")]
 OF_RELATIONS = ("add", "del", "\\columns")
 IN_BATCH = ("add", "done", "abandon", "quit", "stop")
 VARIABLE = re.compile(r"[(,] *([a-z][a-z0-9_]*)(?= *[,)])")  # that a query names, in its head or in an atom
+OPEN_ATOM = re.compile(r"([a-z][a-z0-9_]*) *\([^()]*\Z")  # that the cursor is in
 OF_QUERIES = ("watch", "unwatch", "has", "explain", "shape", "drop", "\\show", "\\explain", "\\dump")
 
 
@@ -65,25 +67,6 @@ def _agreed() -> bool:
         return input("This ends the server for all, and its rows are gone. Type yes to go on: ").strip() == "yes"
     except EOFError:
         return False
-
-
-def incomplete(text: str) -> bool:
-    """Whether a query goes on behind this: no whole one ends so."""
-    return text.lstrip().startswith("query") and re.search(r"(,|<-|\(|[<>=])\s*\Z", text) is not None
-
-
-def lines_of(text: str) -> Iterator[str]:
-    """The commands of what was typed or pasted. A query may go over several lines, each cut behind `,`, `<-`, `(`
-    or the sign of a comparison."""
-    begun = ""
-    for line in text.split("\n"):
-        begun = f"{begun} {line.strip()}" if begun else line.strip().rstrip("\r")
-        if not incomplete(begun):
-            if begun:
-                yield begun
-            begun = ""
-    if begun:
-        yield begun
 
 
 def prompt(shell: Shell) -> str:
@@ -198,7 +181,7 @@ class Names(Completer):
             return [*(FORMS if names.held is None else IN_BATCH), *OWN]
         command, place = words[0], len(words)
         if command == "query":
-            return [*{*names.relations, *VARIABLE.findall(front)}] if "<-" in front else []
+            return self._of_query(front) if "<-" in front else []
         if command == "rel":
             return ["int", "text"] if place > 1 else []
         if command == "union":
@@ -211,11 +194,17 @@ class Names(Completer):
             return list(names.queries)
         if command in ("next", "close") and place == 1:
             return list(names.cursors)
-        if (command == "\\load" and place == 1) or (command == "\\dump" and place == 2):
+        if (command in ("\\load", "\\read") and place == 1) or (command == "\\dump" and place == 2):
             return _files(begun)
         if command == "\\load" and place > 2:
             return ["header", "new"]
         return ["header", "over"] if command == "\\dump" and place > 2 else []
+
+    def _of_query(self, front: str) -> list[str]:
+        """Relations, variables, and within an atom the names of its columns."""
+        names, atom = self._shell.names, OPEN_ATOM.search(front)
+        columns = names.schema.names.get(atom[1], ()) if atom else ()
+        return [*{*names.relations, *VARIABLE.findall(front), *(f"{column}:" for column in columns)}]
 
 
 def _files(begun: str) -> list[str]:
