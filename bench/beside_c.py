@@ -1,11 +1,11 @@
 #!/usr/bin/env python3
-"""The front page's table: djq beside SQLite in memory, called from C and through Python.
+"""djq beside SQLite in memory, called from C and through Python, on rows of two integers.
 
     bench/beside_c.py PROGRAM [--rows N] [--runs R] [--write]
 
 Three rows of bench.py's first table, with N rows (200,000): each the best of R runs. The same statements are given to SQLite by
 beside_c/sqlite.c, which is compiled with cc and SQLite's library (on Debian, gcc and libsqlite3-dev), and the rows that its
-triggers log are held against those that Python saw. `--write` puts the table into README.md.
+triggers log are held against those that Python saw. `--write` puts the table into docs/PERFORMANCE.md.
 """
 
 import argparse
@@ -19,7 +19,7 @@ sys.dont_write_bytecode = True
 import bench  # noqa: E402
 
 HERE = os.path.dirname(os.path.abspath(__file__))
-PAGE = os.path.join(HERE, "..", "README.md")
+PAGE = os.path.join(HERE, "..", "docs", "PERFORMANCE.md")
 TABLE = re.compile(r"(?<=<!-- begin: bench/beside_c.py --write -->\n).*?(?=<!-- end -->)", re.DOTALL)
 
 
@@ -124,7 +124,7 @@ def main():
     words.add_argument("program")
     words.add_argument("--rows", type=int, default=200_000)
     words.add_argument("--runs", type=int, default=3)
-    words.add_argument("--write", action="store_true", help="put the table into README.md")
+    words.add_argument("--write", action="store_true", help="put the table into docs/PERFORMANCE.md")
     given = words.parse_args()
     with tempfile.TemporaryDirectory() as folder:
         text = table(given, compiled(folder))

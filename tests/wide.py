@@ -10,7 +10,6 @@ for each test that fails, and last `N passed, N failed`; the status is 0 where n
 """
 
 import argparse
-import copy
 import os
 import re
 import sys
@@ -89,11 +88,12 @@ def compared(program, folder, tools, sides):
     given = argparse.Namespace(program=program, by_hand=None, disk=None, logged=CHANGES)
     data = measure.Data(os.path.join(folder, "data"), SCALE, CHANGES)
     made = [measure.MAKERS[name](name, tools, data, given) for name in sides]
-    compared_answers = []
-    measure.measured_set("none", made, compared_answers)
-    found = measure.measured_set("every", made, compared_answers)
+    answers = measure.Answers()
+    for side in made:
+        measure.measured_set("none", side, answers)
+    found = {side.name: measure.measured_set("every", side, answers) for side in made}
     # the beginning, then ten moments, of each query and side
-    expect(sum(compared_answers) // len(SETS["every"]) >= len(found) - 1, True, "answers that were compared")
+    expect(answers.compared, (measure.MOMENTS + 1) * len(SETS["every"]) * len(found), "answers that were compared")
     for side in found.values():
         expect(len(side.answers), (measure.MOMENTS + 1) * len(SETS["every"]), "moments")
     answered = {query for (_, query), (count, _) in found[sides[0]].answers.items() if count}
@@ -104,12 +104,12 @@ def compared(program, folder, tools, sides):
 def differences_are_seen(found):
     """One answer more, or another one, at one side and moment isn't taken for the same; nor are deltas that lack one."""
     one = next(iter(found.values()))
-    other = copy.copy(one)
-    other.answers = dict(one.answers)
-    count, total = other.answers[3, "lines"]
+    side = argparse.Namespace(name="one", slow=False)
+    count, total = one.answers[3, "lines"]
     for wrong in ((count + 1, total), (count, total + 1)):
-        other.answers[3, "lines"] = wrong
-        is_different(lambda: measure.held(SCALE, "every", {"one": one.answers, "other": other.answers}))
+        answers = measure.Answers()
+        answers.hold(SCALE, "every", side, one.answers)
+        is_different(lambda other={**one.answers, (3, "lines"): wrong}: answers.hold(SCALE, "every", side, other))
     count, total = one.answers[0, "lines"]
     begun = {"query": "lines", "count": count, "sum": str(total)}
     one.answer(0, begun, {"lines": ["0", 0, 0]})

@@ -5,7 +5,8 @@
 
 `djq run` and SQLite's driver are run under `valgrind --tool=callgrind`, three times a set: up to the rows, up to the registered and watched
 query, and up to the end of the changes. The differences are what registering and the changes cost. `--by-hand` counts bench/by_hand's
-program too, for sets without comparisons.
+program too, for sets without comparisons. Of some sets each kind of change is counted too: deletes of rows of `lineitem`, inserts of the
+same ones, updates of their quantity.
 """
 
 import argparse
@@ -27,6 +28,9 @@ from schema import TABLES  # noqa: E402
 
 AT_ONCE = 3
 MARK = "bench/wide/instructions.py --write"
+OF_A_KIND = 400  # changes of each kind
+KINDS = ("a delete", "an insert", "an update of a quantity")
+SETS_BY_KIND = ("none", "q3", "lines")
 
 
 def counted(command, text):
@@ -75,6 +79,44 @@ def of_set(name, given, data, tools, pool):
     return found
 
 
+def by_kind(name, given, data, tools, pool):
+    """The instructions of a change of each kind, by djq and SQLite."""
+    queries = [BY_NAME[query] for query in SETS[name]]
+    begins = {"run": ([given.program, "run"], "".join(djq_stages(data, queries)[:2])),
+              "sqlite": ([tools["sqlite"]], "".join(sqlite_stages(data, queries)[:2]))}
+    counts = {"run": [], "sqlite": []}
+    for upto in range(len(KINDS) + 1):
+        for side, (command, begin) in begins.items():
+            if side == "run":
+                text = begin + "".join(of_file(data, f"kind_{at}", "djq") for at in range(upto))
+            else:
+                text = begin + "".join(f"changes {data.path(f'kind_{at}', 'sql')} 0 {OF_A_KIND}\n" for at in range(upto))
+            counts[side].append(pool.submit(counted, command, text))
+    totals = {side: [one.result() for one in waiting] for side, waiting in counts.items()}
+    return {side: [(after - before) / OF_A_KIND for before, after in zip(of, of[1:])] for side, of in totals.items()}
+
+
+def write_kinds(data):
+    """The changes of each kind, of rows of `lineitem` that are there from the start."""
+    lineitem = TABLES["lineitem"]
+    rows = data.lines[:OF_A_KIND]
+    data.write("kind_0", [("delete", "lineitem", row) for row in rows])
+    data.write("kind_1", [("insert", "lineitem", row) for row in rows])
+    data.write("kind_2", [("update", "lineitem", row, lineitem.changed(row, "quantity", lineitem.value(row, "quantity") % 50 + 1), "quantity")
+                          for row in rows])
+
+
+def page_of_kinds(found):
+    """A table: what a change of each kind costs."""
+    rows = []
+    for name, of in found.items():
+        for at, kind in enumerate(KINDS):
+            ours, theirs = of["run"][at], of["sqlite"][at]
+            rows.append([f"{report.SAID[name]}: {kind}", str(1 + (at == 2)), f"{ours:,.0f}", f"{theirs:,.0f}", f"{ours / theirs:.2f}"])
+    head = ["", "lines of djq", report.NAMES["run"], report.NAMES["sqlite"], f"djq / {report.NAMES['sqlite']}"]
+    return f"\n**Instructions a change of `lineitem`, by its kind**\n\n{report.table(head, rows)}"
+
+
 def page(found):
     """A table: what a change costs, then what registering does."""
     sides = [side for side in ("run", "sqlite", "hand") if any(side in of for of in found.values())]
@@ -104,8 +146,10 @@ def main():
     with tempfile.TemporaryDirectory() as folder, concurrent.futures.ThreadPoolExecutor(AT_ONCE) as pool:
         data = measure.Data(os.path.join(folder, "data"), given.scale, given.changes)
         tools = compiled(folder, ["sqlite"])
+        write_kinds(data)
         found = {name: of_set(name, given, data, tools, pool) for name in given.sets}
-    text = f"At scale {given.scale}: {sum(data.rows.values()):,} rows, and {data.change_count:,} changes.\n" + page(found)
+        kinds = {name: by_kind(name, given, data, tools, pool) for name in SETS_BY_KIND if name in given.sets}
+    text = f"At scale {given.scale}: {sum(data.rows.values()):,} rows, and {data.change_count:,} changes.\n" + page(found) + page_of_kinds(kinds)
     print(text, end="")
     if given.write:
         report.put(MARK, text)

@@ -1,7 +1,7 @@
 #!/usr/bin/env python3
 """The joins of TPC-H kept beside changes: djq, SQLite in memory and PostgreSQL, each driven from C, in one run.
 
-    bench/wide/measure.py PROGRAM [--scales S ..] [--changes N] [--runs R] [--sets NAME ..] [--sides NAME ..] [--write]
+    bench/wide/measure.py PROGRAM [--scales S ..] [--changes N] [--runs R] [--sets NAME ..] [--sides NAME ..] [--once NAME ..] [--write]
 
 README.md beside it says what is done and how the tables are read. All sides make the same changes in the same order; what their watchers
 were sent and what they list is held against each other at ten moments, and where it differs the run stops and says so.
@@ -13,10 +13,12 @@ import os
 import subprocess
 import sys
 import tempfile
+import time
 
 sys.dont_write_bytecode = True
 import keeping  # noqa: E402
 import report  # noqa: E402
+import summary  # noqa: E402
 from engines import Postgres, compiled, missing_for  # noqa: E402
 from keeping import POSTGRES, SQLITE, Kept, parameters  # noqa: E402
 from queries import BY_NAME, SETS, Variable  # noqa: E402
@@ -75,6 +77,7 @@ class Data:
         stream = Stream(scale, changes)
         self.rows = {name: sum(1 for change in stream.load if change[1] == name) for name in TABLES}
         self.change_count, self.load_count = len(stream.changes), len(stream.load)
+        self.lines = [row for _, name, row in stream.load if name == "lineitem"][:PACED]
         self.write("load", stream.load)
         self.write("changes", stream.changes)
         for name in TABLES:
@@ -391,58 +394,79 @@ class Figures:
         return {**{".".join(key): value for key, value in self.values.items()}, "memory": self.memory}
 
 
-def held(scale, name, found):
-    """That all sides have the same answers at each moment that they share."""
-    sides = list(found)
-    for side in sides[1:]:
-        for moment, answers in found[side].items():
-            other = found[sides[0]].get(moment)
+class Answers:
+    """What the sides have answered, of each scale and set: a side is held against the first one that made as many changes."""
+
+    def __init__(self):
+        self.first = {}
+        self.compared = 0
+
+    def hold(self, scale, name, side, found):
+        """That a side has the same answers at each moment that it shares with the first one."""
+        first, known = self.first.setdefault((scale, name, side.slow), (side.name, found))
+        for moment, answers in found.items():
+            other = known.get(moment)
             if other is not None and other != answers:
-                raise Different(f"scale {scale}, {name}, {moment[1]} at moment {moment[0]}: {sides[0]} has {other[0]} answers, {side} {answers[0]}, or others")
-    return sum(len(answers) for answers in found.values())
+                raise Different(f"scale {scale}, {name}, {moment[1]} at moment {moment[0]}: {first} has {other[0]} answers, {side.name} {answers[0]}, or others")
+        self.compared += len(found)
 
 
-def measured_set(name, sides, compared):
-    """One run of a set by each side: the figures of each. Those that make fewer changes are compared among themselves."""
-    found, answers = {}, {False: {}, True: {}}
-    for side in sides:
-        if side.slow and name not in LOGGED_SETS:
-            continue
-        if side.name == "hand" and any(BY_NAME[query].comparisons for query in SETS[name]):
-            continue
-        steps = side.measured(name)
-        figures = Figures(steps, [BY_NAME[query] for query in SETS[name]], side.data.load_count)
-        found[side.name] = figures
-        answers[side.slow][side.name] = figures.answers
-    for group in answers.values():
-        compared.append(held(sides[0].data.scale, name, group))
-    return found
+def measured_set(name, side, answers):
+    """One run of a set by a side: its figures; none where it has no part in the set. Its answers are held against the other sides'."""
+    queries = [BY_NAME[query] for query in SETS[name]]
+    if side.slow and name not in LOGGED_SETS:
+        return None
+    if side.name == "hand" and any(query.comparisons for query in queries):
+        return None
+    figures = Figures(side.measured(name), queries, side.data.load_count)
+    answers.hold(side.data.scale, name, side, figures.answers)
+    return figures
 
 
-def measured(given, folder, tools):
+class Measurement:
     """All runs of all scales: of each scale, set and side the figures of each run, and the bytes of each table."""
-    found, compared = {"figures": {}, "tables": {}, "rows": {}}, []
-    for scale in given.scales:
-        changes = round(given.changes * scale / max(given.scales))
-        data = Data(os.path.join(folder, f"data_{scale}"), scale, changes)
-        sides = [MAKERS[name](name, tools, data, given) for name in given.sides]
-        found["rows"][str(scale)] = data.rows
-        sets = found["figures"].setdefault(str(scale), {})
-        for run in range(given.runs):
-            run_once(run, given, sides, sets, compared)
-        found["tables"][str(scale)] = {side.name: side.by_table() for side in sides if side.name in report.MEMORY}
-    return {**found, "compared": sum(compared)}
 
+    def __init__(self, given, folder, tools):
+        self.given, self.folder, self.tools = given, folder, tools
+        self.ends = time.monotonic() + 60 * given.minutes if given.minutes else None
+        self.answers, self.left_out = Answers(), []
+        self.found = {"figures": {}, "tables": {}, "rows": {}}
 
-def run_once(run, given, sides, sets, compared):
-    """One run of all sets."""
-    taking = [side for side in sides if run == 0 or side.name not in given.once]
-    for side in taking:
-        side.whole = run == 0
-    for name in given.sets:
-        print(f"scale {sides[0].data.scale}, run {run + 1}, {name}", file=sys.stderr, flush=True)
-        for side, figures in measured_set(name, taking, compared).items():
-            sets.setdefault(name, {}).setdefault(side, []).append(figures.plain())
+    def run(self):
+        """First the sides that are run each time, then those that are run once, as long as there is time for these."""
+        made = {scale: self.made(scale) for scale in self.given.scales}
+        for run in range(self.given.runs):
+            for scale, sides in made.items():
+                self.passed(scale, run, [side for side in sides if side.name not in self.given.once])
+        for scale, sides in reversed(made.items()):
+            self.passed(scale, 0, [side for side in sides if side.name in self.given.once])
+        for scale, sides in made.items():
+            there = {side for sets in self.found["figures"][str(scale)].values() for side in sets}
+            self.found["tables"][str(scale)] = {side.name: side.by_table() for side in sides if side.name in there and side.name in report.MEMORY}
+        return {**self.found, "compared": self.answers.compared}
+
+    def made(self, scale):
+        """The sides, with the data of a scale."""
+        changes = round(self.given.changes * scale / max(self.given.scales))
+        data = Data(os.path.join(self.folder, f"data_{scale}"), scale, changes)
+        self.found["rows"][str(scale)] = data.rows
+        self.found["figures"][str(scale)] = {}
+        return [MAKERS[name](name, self.tools, data, self.given) for name in self.given.sides]
+
+    def passed(self, scale, run, sides):
+        """One run of all sets by some sides."""
+        for side in sides:
+            side.whole = run == 0
+        for name in self.given.sets:
+            for side in sides:
+                if self.ends and side.name in self.given.once and time.monotonic() > self.ends:
+                    print(f"scale {scale}, {name}, {side.name} is left out: {self.given.minutes} minutes have passed", file=sys.stderr)
+                    continue
+                began = time.monotonic()
+                figures = measured_set(name, side, self.answers)
+                if figures:
+                    self.found["figures"][str(scale)].setdefault(name, {}).setdefault(side.name, []).append(figures.plain())
+                    print(f"scale {scale}, run {run + 1}, {name}, {side.name}: {time.monotonic() - began:.1f} s", file=sys.stderr, flush=True)
 
 
 def main():
@@ -454,11 +478,12 @@ def main():
     words.add_argument("--runs", type=int, default=3)
     words.add_argument("--sets", nargs="+", default=[name for name in SETS if name != "every"], choices=list(SETS))
     words.add_argument("--sides", nargs="+", default=list(SIDES), choices=list(MAKERS))
-    words.add_argument("--once", nargs="+", default=[], choices=list(MAKERS), help="sides that take part in the first run alone")
+    words.add_argument("--once", nargs="+", default=[], choices=list(MAKERS), help="sides that are run once, behind all others")
+    words.add_argument("--minutes", type=float, help="once so many have passed, no further set is begun of a side of --once")
     words.add_argument("--by-hand", help="bench/by_hand's program, for the side `hand`")
     words.add_argument("--disk", help="a folder for logs and PostgreSQL's files; the temporary one where it isn't given")
     words.add_argument("--keep", help="a file for the figures, as JSON")
-    words.add_argument("--write", action="store_true", help="put the tables into docs/WIDE.md")
+    words.add_argument("--write", action="store_true", help="put the tables into docs/WIDE.md, docs/PERFORMANCE.md and README.md")
     given = words.parse_args()
     given.program = os.path.abspath(given.program)
     for side in list(given.sides):
@@ -469,16 +494,16 @@ def main():
     with tempfile.TemporaryDirectory() as folder:
         tools = compiled(folder, given.sides)
         if not {"postgres", "synced"} & set(given.sides):
-            found = measured(given, folder, tools)
+            found = Measurement(given, folder, tools).run()
         else:
             with Postgres(given.disk) as server:
-                found = measured(given, folder, {**tools, "server": server})
+                found = Measurement(given, folder, {**tools, "server": server}).run()
     page = report.page(found)
     print(page, end="")
     if given.keep:
         report.keep(given.keep, found)
     if given.write:
-        report.write(page)
+        summary.write(found)
 
 
 if __name__ == "__main__":

@@ -4,94 +4,37 @@
     python3 bench/wide/queries.py           prints both of each
 """
 
+import os
 import re
+import sys
 
-from schema import TABLES, day
+sys.path.insert(0, os.path.join(os.path.dirname(os.path.abspath(__file__)), "..", "..", "clients", "python"))
+import djq  # noqa: E402
+from djq.shell.queries import read_query  # noqa: E402
+from schema import TABLES, day  # noqa: E402
 
-TOKEN = re.compile(r'\s*(?:([a-z][a-z0-9_]*)|(-?\d+)|"([^"]*)"|(<-|<=|>=|!=|[<>=(),:]))')
-SIGNS = ("<", "<=", ">", ">=", "=", "!=")
+# the names of the tables' columns, by which the client writes a query out
+SCHEMA = djq.Schema()
+for table in TABLES.values():
+    SCHEMA.columns(table.name, *table.columns)
 
 
 class Variable(str):
     """A name of a query, where a constant may stand too."""
 
 
-def tokens(text):
-    at, found = 0, []
-    text = text.strip()
-    while at < len(text):
-        match = TOKEN.match(text, at)
-        if not match:
-            raise ValueError(f"not in the grammar: {text[at:]}")
-        name, number, string, sign = match.groups()
-        found.append(Variable(name) if name else int(number) if number else ("text", string) if string is not None else ("sign", sign))
-        at = match.end()
-    return found
-
-
-class Reader:
-    """Takes a query apart that names columns: `q(a, b) <- r(a, b: 3), s(a, c: d), d < 9`. `a` alone is `a: a`."""
-
-    def __init__(self, text):
-        self.tokens, self.at = tokens(text), 0
-
-    def next(self):
-        self.at += 1
-        return self.tokens[self.at - 1]
-
-    def sees(self, sign):
-        return self.at < len(self.tokens) and self.tokens[self.at] == ("sign", sign)
-
-    def takes(self, sign):
-        if not self.sees(sign):
-            raise ValueError(f"{sign} is expected before {self.tokens[self.at:]}")
-        self.at += 1
-
-    def list_of(self, one):
-        found = [one()]
-        while self.sees(","):
-            self.takes(",")
-            found.append(one())
-        return found
-
-    def term(self):
-        token = self.next()
-        return token[1] if isinstance(token, tuple) else token
-
-    def column(self):
-        name = self.next()
-        if not self.sees(":"):
-            return str(name), name
-        self.takes(":")
-        return str(name), self.term()
-
-    def item(self):
-        name = self.next()
-        if not self.sees("("):
-            return name, self.next()[1], self.term()
-        self.takes("(")
-        columns = self.list_of(self.column)
-        self.takes(")")
-        return Atom(str(name), dict(columns))
-
-    def query(self):
-        name = str(self.next())
-        self.takes("(")
-        head = [str(word) for word in self.list_of(self.next)]
-        self.takes(")")
-        self.takes("<-")
-        return name, head, self.list_of(self.item)
+def term(spelled):
+    """What a term of a query says."""
+    return Variable(spelled) if spelled[0].isalpha() else djq.read_values(f" {spelled}")[0]
 
 
 class Atom:
-    """A table in a query: a term for each column that is named."""
+    """A table in a query: a term for each column that isn't a hole."""
 
-    def __init__(self, table, terms):
-        self.table, self.terms = table, terms
-        self.kinds = TABLES[table].columns
-        unknown = set(terms) - set(self.kinds)
-        if unknown:
-            raise ValueError(f"{table} has no column {', '.join(sorted(unknown))}")
+    def __init__(self, read):
+        self.table = read.relation
+        self.kinds = TABLES[self.table].columns
+        self.terms = {column: term(spelled) for column, spelled in zip(self.kinds, read.terms) if spelled != "_"}
 
     def variables(self):
         """Each variable with the first column that has it."""
@@ -105,10 +48,6 @@ class Atom:
         return [self.terms.get(column) for column in TABLES[self.table].key]
 
 
-def spelled(value):
-    return f'"{value}"' if isinstance(value, str) and not isinstance(value, Variable) else str(value)
-
-
 def quoted(value):
     return "'" + value.replace("'", "''") + "'" if isinstance(value, str) else str(value)
 
@@ -117,17 +56,16 @@ class Query:
     """A join, with what TPC-H's query of that number asks beyond it."""
 
     def __init__(self, text, beyond=""):
-        self.name, self.head, items = Reader(text).query()
-        self.atoms = [item for item in items if isinstance(item, Atom)]
-        self.comparisons = [item for item in items if not isinstance(item, Atom)]
-        self.beyond = beyond
+        self.text = SCHEMA.spell(text)
+        read = read_query(self.text)
+        self.name, self.head, self.beyond = read.name, list(read.head), beyond
+        self.atoms = [Atom(atom) for atom in read.atoms]
+        self.comparisons = [(one.variable, one.operator, term(one.constant)) for one in read.comparisons]
         self.tables = {atom.table for atom in self.atoms}
 
     def djq(self):
         """The query as djq reads it, with a hole for each column that isn't named."""
-        body = [f"{atom.table}({','.join(spelled(atom.terms[c]) if c in atom.terms else '_' for c in atom.kinds)})" for atom in self.atoms]
-        body += [f"{name} {sign} {spelled(value)}" for name, sign, value in self.comparisons]
-        return f"query {self.name}({','.join(self.head)}) <- {', '.join(body)}"
+        return f"query {self.text}"
 
     def kinds(self):
         """The types of the head."""
@@ -216,98 +154,98 @@ class Query:
 
 
 QUERIES = [Query(*one) for one in (
-    ('q1(orderkey, linenumber, returnflag, linestatus, quantity, extendedprice, discount, tax) <- lineitem(orderkey, linenumber, '
-     f'returnflag, linestatus, quantity, extendedprice, discount, tax, shipdate), shipdate <= {day("1998-09-02")}',
+    ('q1(orderkey, linenumber, returnflag, linestatus, quantity, extendedprice, discount, tax) <- lineitem(orderkey:, linenumber:, '
+     f'returnflag:, linestatus:, quantity:, extendedprice:, discount:, tax:, shipdate:), shipdate <= {day("1998-09-02")}',
      "sums, means, counts a group"),
-    ('q2(partkey, suppkey, nationkey, supplycost, acctbal, s_name, n_name, mfgr, address, phone, type) <- part(partkey, mfgr, type, '
-     'size: 15), partsupp(partkey, suppkey, supplycost), supplier(suppkey, name: s_name, address, nationkey, phone, acctbal), '
-     'nation(nationkey, name: n_name, regionkey), region(regionkey, name: "EUROPE")',
+    ('q2(partkey, suppkey, nationkey, supplycost, acctbal, s_name, n_name, mfgr, address, phone, type) <- part(partkey:, mfgr:, type:, '
+     'size: 15), partsupp(partkey:, suppkey:, supplycost:), supplier(suppkey:, name: s_name, address:, nationkey:, phone:, acctbal:), '
+     'nation(nationkey:, name: n_name, regionkey:), region(regionkey:, name: "EUROPE")',
      "`type like '%BRASS'`; the least cost, a subquery; the order and the first 100"),
-    ('q3(orderkey, linenumber, custkey, extendedprice, discount, orderdate, shippriority) <- customer(custkey, mktsegment: "BUILDING"), '
-     'orders(orderkey, custkey, orderdate, shippriority), lineitem(orderkey, linenumber, extendedprice, discount, shipdate), '
+    ('q3(orderkey, linenumber, custkey, extendedprice, discount, orderdate, shippriority) <- customer(custkey:, mktsegment: "BUILDING"), '
+     'orders(orderkey:, custkey:, orderdate:, shippriority:), lineitem(orderkey:, linenumber:, extendedprice:, discount:, shipdate:), '
      f'orderdate < {day("1995-03-15")}, shipdate > {day("1995-03-15")}', "the sum a group; the order and the first 10"),
-    ('q4(orderkey, linenumber, orderpriority, commitdate, receiptdate) <- orders(orderkey, orderdate, orderpriority), '
-     f'lineitem(orderkey, linenumber, commitdate, receiptdate), orderdate >= {day("1993-07-01")}, orderdate < {day("1993-10-01")}',
+    ('q4(orderkey, linenumber, orderpriority, commitdate, receiptdate) <- orders(orderkey:, orderdate:, orderpriority:), '
+     f'lineitem(orderkey:, linenumber:, commitdate:, receiptdate:), orderdate >= {day("1993-07-01")}, orderdate < {day("1993-10-01")}',
      "`commitdate < receiptdate`, two columns; the count a group"),
-    ('q5(orderkey, linenumber, custkey, suppkey, nationkey, n_name, extendedprice, discount) <- customer(custkey, nationkey), '
-     'orders(orderkey, custkey, orderdate), lineitem(orderkey, linenumber, suppkey, extendedprice, discount), '
-     'supplier(suppkey, nationkey), nation(nationkey, name: n_name, regionkey), region(regionkey, name: "ASIA"), '
+    ('q5(orderkey, linenumber, custkey, suppkey, nationkey, n_name, extendedprice, discount) <- customer(custkey:, nationkey:), '
+     'orders(orderkey:, custkey:, orderdate:), lineitem(orderkey:, linenumber:, suppkey:, extendedprice:, discount:), '
+     'supplier(suppkey:, nationkey:), nation(nationkey:, name: n_name, regionkey:), region(regionkey:, name: "ASIA"), '
      f'orderdate >= {day("1994-01-01")}, orderdate < {day("1995-01-01")}', "the sum a group"),
-    ('q5_open(orderkey, linenumber, custkey, suppkey, nationkey, buyer, n_name, extendedprice, discount) <- customer(custkey, '
-     'nationkey: buyer), orders(orderkey, custkey, orderdate), lineitem(orderkey, linenumber, suppkey, extendedprice, discount), '
-     'supplier(suppkey, nationkey), nation(nationkey, name: n_name, regionkey), region(regionkey, name: "ASIA"), '
+    ('q5_open(orderkey, linenumber, custkey, suppkey, nationkey, buyer, n_name, extendedprice, discount) <- customer(custkey:, '
+     'nationkey: buyer), orders(orderkey:, custkey:, orderdate:), lineitem(orderkey:, linenumber:, suppkey:, extendedprice:, discount:), '
+     'supplier(suppkey:, nationkey:), nation(nationkey:, name: n_name, regionkey:), region(regionkey:, name: "ASIA"), '
      f'orderdate >= {day("1994-01-01")}, orderdate < {day("1995-01-01")}',
      "that the buyer's nation is the seller's: the client compares `buyer` with `nationkey`"),
-    (f'q6(orderkey, linenumber, extendedprice, discount) <- lineitem(orderkey, linenumber, quantity, extendedprice, discount, shipdate), '
+    (f'q6(orderkey, linenumber, extendedprice, discount) <- lineitem(orderkey:, linenumber:, quantity:, extendedprice:, discount:, shipdate:), '
      f'shipdate >= {day("1994-01-01")}, shipdate < {day("1995-01-01")}, discount >= 5, discount <= 7, quantity < 24', "the sum"),
-    *((f'q7_{side}(orderkey, linenumber, suppkey, custkey, sold, bought, extendedprice, discount, shipdate) <- supplier(suppkey, '
-       'nationkey: sold), lineitem(orderkey, linenumber, suppkey, extendedprice, discount, shipdate), orders(orderkey, custkey), '
-       f'customer(custkey, nationkey: bought), nation(nationkey: sold, name: "{seller}"), nation(nationkey: bought, name: "{buyer}"), '
+    *((f'q7_{side}(orderkey, linenumber, suppkey, custkey, sold, bought, extendedprice, discount, shipdate) <- supplier(suppkey:, '
+       'nationkey: sold), lineitem(orderkey:, linenumber:, suppkey:, extendedprice:, discount:, shipdate:), orders(orderkey:, custkey:), '
+       f'customer(custkey:, nationkey: bought), nation(nationkey: sold, name: "{seller}"), nation(nationkey: bought, name: "{buyer}"), '
        f'shipdate >= {day("1995-01-01")}, shipdate <= {day("1996-12-31")}',
        "`or`: the union of `q7_there` and `q7_back`; the year of a date, the sum a group")
       for side, seller, buyer in (("there", "FRANCE", "GERMANY"), ("back", "GERMANY", "FRANCE"))),
-    ('q8(orderkey, linenumber, partkey, suppkey, custkey, sold, bought, n_name, extendedprice, discount, orderdate) <- part(partkey, '
-     'type: "ECONOMY ANODIZED STEEL"), lineitem(orderkey, linenumber, partkey, suppkey, extendedprice, discount), '
-     'supplier(suppkey, nationkey: sold), orders(orderkey, custkey, orderdate), customer(custkey, nationkey: bought), '
-     'nation(nationkey: bought, regionkey), region(regionkey, name: "AMERICA"), nation(nationkey: sold, name: n_name), '
+    ('q8(orderkey, linenumber, partkey, suppkey, custkey, sold, bought, n_name, extendedprice, discount, orderdate) <- part(partkey:, '
+     'type: "ECONOMY ANODIZED STEEL"), lineitem(orderkey:, linenumber:, partkey:, suppkey:, extendedprice:, discount:), '
+     'supplier(suppkey:, nationkey: sold), orders(orderkey:, custkey:, orderdate:), customer(custkey:, nationkey: bought), '
+     'nation(nationkey: bought, regionkey:), region(regionkey:, name: "AMERICA"), nation(nationkey: sold, name: n_name), '
      f'orderdate >= {day("1995-01-01")}, orderdate <= {day("1996-12-31")}', "the year of a date, the share a group"),
     ('q9(orderkey, linenumber, partkey, suppkey, nationkey, n_name, p_name, extendedprice, discount, quantity, supplycost, orderdate) <- '
-     'part(partkey, name: p_name), lineitem(orderkey, linenumber, partkey, suppkey, quantity, extendedprice, discount), '
-     'partsupp(partkey, suppkey, supplycost), supplier(suppkey, nationkey), orders(orderkey, orderdate), nation(nationkey, name: n_name)',
+     'part(partkey:, name: p_name), lineitem(orderkey:, linenumber:, partkey:, suppkey:, quantity:, extendedprice:, discount:), '
+     'partsupp(partkey:, suppkey:, supplycost:), supplier(suppkey:, nationkey:), orders(orderkey:, orderdate:), nation(nationkey:, name: n_name)',
      "`name like '%green%'`; the year of a date, the sum a group"),
     ('q10(orderkey, linenumber, custkey, nationkey, c_name, acctbal, n_name, address, phone, comment, extendedprice, discount) <- '
-     'customer(custkey, name: c_name, address, nationkey, phone, acctbal, comment), orders(orderkey, custkey, orderdate), '
-     'lineitem(orderkey, linenumber, extendedprice, discount, returnflag: "R"), nation(nationkey, name: n_name), '
+     'customer(custkey:, name: c_name, address:, nationkey:, phone:, acctbal:, comment:), orders(orderkey:, custkey:, orderdate:), '
+     'lineitem(orderkey:, linenumber:, extendedprice:, discount:, returnflag: "R"), nation(nationkey:, name: n_name), '
      f'orderdate >= {day("1993-10-01")}, orderdate < {day("1994-01-01")}', "the sum a group; the order and the first 20"),
-    ('q11(partkey, suppkey, supplycost, availqty) <- partsupp(partkey, suppkey, availqty, supplycost), supplier(suppkey, nationkey), '
-     'nation(nationkey, name: "GERMANY")', "the sum a group; `having`, over a subquery"),
-    ('q12(orderkey, linenumber, orderpriority, shipmode, shipdate, commitdate, receiptdate) <- orders(orderkey, orderpriority), '
-     f'lineitem(orderkey, linenumber, shipmode, shipdate, commitdate, receiptdate), receiptdate >= {day("1994-01-01")}, '
+    ('q11(partkey, suppkey, supplycost, availqty) <- partsupp(partkey:, suppkey:, availqty:, supplycost:), supplier(suppkey:, nationkey:), '
+     'nation(nationkey:, name: "GERMANY")', "the sum a group; `having`, over a subquery"),
+    ('q12(orderkey, linenumber, orderpriority, shipmode, shipdate, commitdate, receiptdate) <- orders(orderkey:, orderpriority:), '
+     f'lineitem(orderkey:, linenumber:, shipmode:, shipdate:, commitdate:, receiptdate:), receiptdate >= {day("1994-01-01")}, '
      f'receiptdate < {day("1995-01-01")}',
      "`shipmode in (..)`: a union of two queries, or the client; `shipdate < commitdate < receiptdate`, two columns; the count a group"),
-    ('q13(custkey, orderkey, comment) <- customer(custkey), orders(orderkey, custkey, comment)',
+    ('q13(custkey, orderkey, comment) <- customer(custkey:), orders(orderkey:, custkey:, comment:)',
      "customers without orders, an outer join: the difference of two queries; `comment not like ..`; the counts"),
-    ('q14(orderkey, linenumber, partkey, type, extendedprice, discount) <- lineitem(orderkey, linenumber, partkey, extendedprice, '
-     f'discount, shipdate), part(partkey, type), shipdate >= {day("1995-09-01")}, shipdate < {day("1995-10-01")}',
+    ('q14(orderkey, linenumber, partkey, type, extendedprice, discount) <- lineitem(orderkey:, linenumber:, partkey:, extendedprice:, '
+     f'discount:, shipdate:), part(partkey:, type:), shipdate >= {day("1995-09-01")}, shipdate < {day("1995-10-01")}',
      "`type like 'PROMO%'`; the share"),
-    ('q15(suppkey, orderkey, linenumber, s_name, address, phone, extendedprice, discount) <- supplier(suppkey, name: s_name, address, '
-     f'phone), lineitem(orderkey, linenumber, suppkey, extendedprice, discount, shipdate), shipdate >= {day("1996-01-01")}, '
+    ('q15(suppkey, orderkey, linenumber, s_name, address, phone, extendedprice, discount) <- supplier(suppkey:, name: s_name, address:, '
+     f'phone:), lineitem(orderkey:, linenumber:, suppkey:, extendedprice:, discount:, shipdate:), shipdate >= {day("1996-01-01")}, '
      f'shipdate < {day("1996-04-01")}', "the sum a supplier, and the greatest of these"),
-    ('q16(partkey, suppkey, brand, type, size) <- partsupp(partkey, suppkey), part(partkey, brand, type, size), brand != "Brand#45"',
+    ('q16(partkey, suppkey, brand, type, size) <- partsupp(partkey:, suppkey:), part(partkey:, brand:, type:, size:), brand != "Brand#45"',
      "`size in (..)`: a union of eight queries, or the client; `type not like ..`; suppliers without complaints: the difference of two queries; the count a group"),
-    ('q17(orderkey, linenumber, partkey, quantity, extendedprice) <- lineitem(orderkey, linenumber, partkey, quantity, extendedprice), '
-     'part(partkey, brand: "Brand#23", container: "MED BOX")', "less than a fifth of the mean, a subquery; the sum"),
-    ('q18(orderkey, linenumber, custkey, c_name, orderdate, totalprice, quantity) <- customer(custkey, name: c_name), orders(orderkey, '
-     'custkey, totalprice, orderdate), lineitem(orderkey, linenumber, quantity)', "`having sum(quantity) > 300`; the order and the first 100"),
-    ('q19(orderkey, linenumber, partkey, brand, container, size, quantity, shipmode, extendedprice, discount) <- lineitem(orderkey, '
-     'linenumber, partkey, quantity, extendedprice, discount, shipmode, shipinstruct: "DELIVER IN PERSON"), part(partkey, brand, '
-     'container, size), quantity >= 1, quantity <= 30, size >= 1, size <= 15',
+    ('q17(orderkey, linenumber, partkey, quantity, extendedprice) <- lineitem(orderkey:, linenumber:, partkey:, quantity:, extendedprice:), '
+     'part(partkey:, brand: "Brand#23", container: "MED BOX")', "less than a fifth of the mean, a subquery; the sum"),
+    ('q18(orderkey, linenumber, custkey, c_name, orderdate, totalprice, quantity) <- customer(custkey:, name: c_name), orders(orderkey:, '
+     'custkey:, totalprice:, orderdate:), lineitem(orderkey:, linenumber:, quantity:)', "`having sum(quantity) > 300`; the order and the first 100"),
+    ('q19(orderkey, linenumber, partkey, brand, container, size, quantity, shipmode, extendedprice, discount) <- lineitem(orderkey:, '
+     'linenumber:, partkey:, quantity:, extendedprice:, discount:, shipmode:, shipinstruct: "DELIVER IN PERSON"), part(partkey:, brand:, '
+     'container:, size:), quantity >= 1, quantity <= 30, size >= 1, size <= 15',
      "`or` of three, with `in (..)`: a union of queries, or the client; the sum"),
-    ('q20(partkey, suppkey, orderkey, linenumber, s_name, address, p_name, availqty, quantity) <- supplier(suppkey, name: s_name, address, '
-     'nationkey), nation(nationkey, name: "CANADA"), partsupp(partkey, suppkey, availqty), part(partkey, name: p_name), '
-     f'lineitem(orderkey, linenumber, partkey, suppkey, quantity, shipdate), shipdate >= {day("1994-01-01")}, '
+    ('q20(partkey, suppkey, orderkey, linenumber, s_name, address, p_name, availqty, quantity) <- supplier(suppkey:, name: s_name, address:, '
+     'nationkey:), nation(nationkey:, name: "CANADA"), partsupp(partkey:, suppkey:, availqty:), part(partkey:, name: p_name), '
+     f'lineitem(orderkey:, linenumber:, partkey:, suppkey:, quantity:, shipdate:), shipdate >= {day("1994-01-01")}, '
      f'shipdate < {day("1995-01-01")}', "`name like 'forest%'`; more than half of a sum, a subquery"),
     ('q21(orderkey, linenumber, linenumber2, suppkey, suppkey2, s_name, commitdate, receiptdate, commitdate2, receiptdate2) <- '
-     'supplier(suppkey, name: s_name, nationkey), lineitem(orderkey, linenumber, suppkey, commitdate, receiptdate), '
-     'orders(orderkey, orderstatus: "F"), nation(nationkey, name: "SAUDI ARABIA"), lineitem(orderkey, linenumber: linenumber2, '
+     'supplier(suppkey:, name: s_name, nationkey:), lineitem(orderkey:, linenumber:, suppkey:, commitdate:, receiptdate:), '
+     'orders(orderkey:, orderstatus: "F"), nation(nationkey:, name: "SAUDI ARABIA"), lineitem(orderkey:, linenumber: linenumber2, '
      'suppkey: suppkey2, commitdate: commitdate2, receiptdate: receiptdate2)',
      "`receiptdate > commitdate`, `suppkey != suppkey2`, two columns; `not exists`; the count"),
-    ('q22(custkey, phone, acctbal) <- customer(custkey, phone, acctbal), acctbal > 0',
+    ('q22(custkey, phone, acctbal) <- customer(custkey:, phone:, acctbal:), acctbal > 0',
      "without orders: the difference from `q22_orders`; the first two digits of a text; more than a mean, a subquery; the sums"),
-    ('q22_orders(custkey) <- customer(custkey), orders(custkey)', "see `q22`"),
+    ('q22_orders(custkey) <- customer(custkey:), orders(custkey:)', "see `q22`"),
     # joins as they are, without TPC-H's conditions
-    ('placed(orderkey, custkey, nationkey, regionkey, totalprice, orderdate, c_name, n_name, r_name) <- orders(orderkey, custkey, '
-     'totalprice, orderdate), customer(custkey, name: c_name, nationkey), nation(nationkey, name: n_name, regionkey), '
-     'region(regionkey, name: r_name)', ""),
-    ('offered(partkey, suppkey, availqty, supplycost, p_name, brand, size, s_name, acctbal) <- partsupp(partkey, suppkey, availqty, '
-     'supplycost), part(partkey, name: p_name, brand, size), supplier(suppkey, name: s_name, acctbal)', ""),
+    ('placed(orderkey, custkey, nationkey, regionkey, totalprice, orderdate, c_name, n_name, r_name) <- orders(orderkey:, custkey:, '
+     'totalprice:, orderdate:), customer(custkey:, name: c_name, nationkey:), nation(nationkey:, name: n_name, regionkey:), '
+     'region(regionkey:, name: r_name)', ""),
+    ('offered(partkey, suppkey, availqty, supplycost, p_name, brand, size, s_name, acctbal) <- partsupp(partkey:, suppkey:, availqty:, '
+     'supplycost:), part(partkey:, name: p_name, brand:, size:), supplier(suppkey:, name: s_name, acctbal:)', ""),
     ('lines(orderkey, linenumber, partkey, suppkey, quantity, extendedprice, discount, shipdate, shipmode, custkey, orderstatus, orderdate, '
-     'orderpriority) <- lineitem(orderkey, linenumber, partkey, suppkey, quantity, extendedprice, discount, shipdate, shipmode), '
-     'orders(orderkey, custkey, orderstatus, orderdate, orderpriority)', ""),
+     'orderpriority) <- lineitem(orderkey:, linenumber:, partkey:, suppkey:, quantity:, extendedprice:, discount:, shipdate:, shipmode:), '
+     'orders(orderkey:, custkey:, orderstatus:, orderdate:, orderpriority:)', ""),
     ('sold(orderkey, linenumber, partkey, suppkey, quantity, extendedprice, discount, shipdate, shipmode, custkey, orderstatus, orderdate, '
-     'orderpriority, c_name, nationkey, mktsegment) <- lineitem(orderkey, linenumber, partkey, suppkey, quantity, extendedprice, discount, '
-     'shipdate, shipmode), orders(orderkey, custkey, orderstatus, orderdate, orderpriority), customer(custkey, name: c_name, nationkey, '
-     'mktsegment)', ""),
+     'orderpriority, c_name, nationkey, mktsegment) <- lineitem(orderkey:, linenumber:, partkey:, suppkey:, quantity:, extendedprice:, discount:, '
+     'shipdate:, shipmode:), orders(orderkey:, custkey:, orderstatus:, orderdate:, orderpriority:), customer(custkey:, name: c_name, nationkey:, '
+     'mktsegment:)', ""),
 )]
 BY_NAME = {query.name: query for query in QUERIES}
 

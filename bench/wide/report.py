@@ -2,8 +2,6 @@
 """The tables of docs/WIDE.md: those of figures, for measure.py, and the one of queries, which the program is asked for.
 
     bench/wide/report.py PROGRAM               puts the table of queries into the page
-    bench/wide/report.py --figures FILE ..     puts the tables of figures into it, of what measure.py kept by `--keep`;
-                                               of a side that several files have, of the last
 """
 
 import json
@@ -17,7 +15,8 @@ sys.dont_write_bytecode = True
 from queries import BY_NAME, PLAIN_HEADS, QUERIES, SETS, with_head  # noqa: E402
 from schema import TABLES  # noqa: E402
 
-PAGE = os.path.join(os.path.dirname(os.path.abspath(__file__)), "..", "..", "docs", "WIDE.md")
+ROOT = os.path.join(os.path.dirname(os.path.abspath(__file__)), "..", "..")
+MARK = "bench/wide/measure.py --write"
 NAMES = {"run": "djq `run`", "tcp": "djq, TCP", "log": "djq, TCP, log", "hand": "by hand, `run`", "sqlite": "SQLite", "postgres": "PostgreSQL",
          "synced": "PostgreSQL, synced"}
 SAID = {"none": "no query", "q3": "Q3's join", "placed": "orders, customer, nation, region", "offered": "partsupp, part, supplier",
@@ -168,18 +167,17 @@ def merged(paths):
     return all_of
 
 
-def put(mark, text):
-    """Puts a text into the page, between two marks."""
-    with open(PAGE, encoding="utf-8") as file:
+def put(mark, text, page="docs/WIDE.md"):
+    """Puts a text into a page, between two marks."""
+    path = os.path.join(ROOT, page)
+    with open(path, encoding="utf-8") as file:
         found = file.read()
     begin, end = f"<!-- begin: {mark} -->\n", "<!-- end -->"
-    before, _, rest = found.partition(begin)
-    with open(PAGE, "w", encoding="utf-8") as file:
+    before, there, rest = found.partition(begin)
+    if not there:
+        raise SystemExit(f"{page} has no place for {mark}")
+    with open(path, "w", encoding="utf-8") as file:
         file.write(before + begin + text + rest[rest.index(end):])
-
-
-def write(text):
-    put("bench/wide/measure.py --write", text)
 
 
 def replies(program, lines):
@@ -212,12 +210,9 @@ def queries(program):
 
 
 def main():
-    if len(sys.argv) > 2 and sys.argv[1] == "--figures":
-        write(page(merged(sys.argv[2:])))
-    elif len(sys.argv) == 2:
-        put("bench/wide/report.py PROGRAM", queries(os.path.abspath(sys.argv[1])))
-    else:
+    if len(sys.argv) != 2:
         raise SystemExit(__doc__)
+    put("bench/wide/report.py PROGRAM", queries(os.path.abspath(sys.argv[1])))
 
 
 if __name__ == "__main__":
