@@ -3,10 +3,10 @@
 
     python3 tests/redis_out.py PROGRAM [NAME ..]
 
-It needs redis-server and Debian's python3-redis. Without them its tests are skipped by name; with DJQ_NEIGHBOURS=1 in the
-environment they fail. Each process that is started is ended by its id. A line is printed for each test that fails or is
-skipped, and last `N passed, N failed`, with `, N skipped`; the status is 0 where none failed. With TIMES=1 in the
-environment it says how long each took.
+It needs Debian's redis-server, python3-redis and python3-venv. Without them its tests are skipped by name; with
+DJQ_NEIGHBOURS=1 in the environment they fail. Each process that is started is ended by its id. A line is printed for
+each test that fails or is skipped, and last `N passed, N failed`, with `, N skipped`; the status is 0 where none
+failed. With TIMES=1 in the environment it says how long each took.
 """
 
 import contextlib
@@ -47,13 +47,15 @@ from harness import TESTS, expect, test
 from serving import HERE, SECONDS, Server, djq, raises
 
 LACKS = [name for name, there in {
-    "redis-server": shutil.which("redis-server"), "python3-redis": importlib.util.find_spec("redis"),
+    "redis-server": shutil.which("redis-server"), "redis-cli": shutil.which("redis-cli"),
+    "python3-redis": importlib.util.find_spec("redis"), "python3-venv": importlib.util.find_spec("ensurepip"),
 }.items() if not there]  # fmt: skip
 
 if not LACKS:
     import redis
     from djq import redis_feed, redis_out
     from djq.redis_feed import Entry, Reader, read_answer, spell_answer
+    from djq.shards import Merged
 
 CLIENT = os.path.abspath(os.path.join(HERE, "..", "clients", "python"))
 PATIENT = 6 * SECONDS  # for what goes through several processes on a busy machine
@@ -172,26 +174,36 @@ class Rows:
             seq = client.add("r", -1, -1).seq  # a row that is in no answer
             self.states[seq] = self.answers()
             client.query("q(x,y) <- r(x,y), s(y)")
+            client.query("rr(x,y) <- r(x,y)")
+            client.query("ss(y) <- s(y)")
 
     def answers(self):
         return frozenset((x, y) for x, y in self.r if y in self.s)
 
-    def change(self, client):
-        """One change of rows."""
+    def pick(self):
+        """A row to change, with the rows of its relation, and what the relation and the query over it are called."""
         if self.draw.random() < 0.1:
-            rows, row = self.s, self.draw.randrange(8)
-            values = ("s", row)
-        else:
-            rows, row = self.r, (self.draw.randrange(30), self.draw.randrange(8))
-            values = ("r", *row)
-        if row in rows:
-            rows.discard(row)
-            told = client.delete(*values)
-        else:
-            rows.add(row)
-            told = client.add(*values)
-        assert told.changed, (values, told)
-        self.states[told.seq] = self.answers()
+            return self.s, self.draw.randrange(8), "s", "ss"
+        return self.r, (self.draw.randrange(30), self.draw.randrange(8)), "r", "rr"
+
+    def change(self, client, picked=None):
+        """One change of rows."""
+        rows, row, relation, _ = picked or self.pick()
+        values = row if relation == "r" else (row,)
+        told = (client.delete if row in rows else client.add)(relation, *values)
+        assert told.changed, (relation, row, told)
+        self.changed(rows, row, told.seq)
+
+    def changed(self, rows, row, seq):
+        rows ^= {row}
+        self.states[seq] = self.answers()
+
+    def settle(self, client, picked):
+        """What became of a change whose reply didn't come."""
+        rows, row, relation, query = picked
+        if client.has(query, *(row if relation == "r" else (row,))) != (row in rows):
+            self.changed(rows, row, client.watch(query))
+            client.unwatch(query)
 
     def run(self, client, count):
         for _ in range(count):
@@ -209,10 +221,21 @@ class Rows:
         self.thread.join()
 
     def go_on(self):
-        with self.server.connect() as client:
-            while not self.ends.is_set():
-                self.change(client)
+        """Changes rows, also while the server is killed and restarted."""
+        client = picked = None
+        while picked is not None or not self.ends.is_set():
+            try:
+                client = client or self.server.connect()
+                if picked is not None:
+                    self.settle(client, picked)
+                else:
+                    picked = self.pick()
+                    self.change(client, picked)
+                picked = None
                 time.sleep(0.001)
+            except djq.Error:
+                client = None
+                time.sleep(0.02)
 
 
 def present(client, feed="djq:q"):
@@ -388,6 +411,27 @@ def the_command_refuses_words(program):
     assert said("127.0.0.1:7007", "--queries", "q", "--redis", "nothing").startswith("--redis: ")
 
 
+@test
+def the_package_brings_the_command(program):
+    """With its extras, which are met by what Debian has, and without a network."""
+    with tempfile.TemporaryDirectory() as folder:
+        source, made = os.path.join(folder, "source"), os.path.join(folder, "made")
+        shutil.copytree(CLIENT, source)
+        environment = {**os.environ, "PIP_NO_INDEX": "1", "PIP_DISABLE_PIP_VERSION_CHECK": "1", "PIP_NO_CACHE_DIR": "1"}
+        environment.pop("PYTHONPATH", None)
+        for words in (
+            [sys.executable, "-m", "venv", "--system-site-packages", made],
+            [f"{made}/bin/pip", "install", "--quiet", f"{source}[redis]"],
+            [f"{made}/bin/djq-redis", "--help"],
+        ):
+            done = subprocess.run(words, capture_output=True, text=True, env=environment, cwd=folder, timeout=PATIENT)
+            expect(done.returncode, 0, done.stdout + done.stderr)
+        assert done.stdout.startswith("usage: djq-redis"), done.stdout
+        environment["REDIS_URL"] = "redis://:secret@127.0.0.1:1/0"
+        done = subprocess.run(words, capture_output=True, text=True, env=environment, timeout=PATIENT)
+        assert "secret" not in done.stdout, done.stdout
+
+
 # Losses
 
 
@@ -504,11 +548,7 @@ def djq_is_restarted_with_a_log(program):
             for _ in range(3):
                 with server.connect() as changes:
                     rows.run(changes, 30)
-                server.process.kill()
-                server.process.wait()
-                again = Server(program, server.port, log)
-                server.process = again.process
-                again.__enter__()
+                restart(program, server, log)
                 with server.connect() as changes:
                     rows.run(changes, 30)
                 caught_up(client, rows)
@@ -534,11 +574,7 @@ def djq_is_restarted_without_a_log(program):
 
         thread = threading.Thread(target=watch, daemon=True)
         for turn in range(4):
-            server.process.kill()
-            server.process.wait()
-            again = Server(program, server.port)
-            server.process = again.process
-            again.__enter__()
+            restart(program, server)
             rows.states.clear()
             rows.define()
             with server.connect() as changes:
@@ -550,6 +586,48 @@ def djq_is_restarted_without_a_log(program):
         ends.set()
         thread.join()
         expect((min(fewest), max(fewest)), (241, 244))
+
+
+def restart(program, server, log=None):
+    """The server killed, and another one at its place."""
+    server.process.kill()
+    server.process.wait()
+    again = Server(program, server.port, log)
+    server.process = again.process
+    again.__enter__()
+
+
+@test
+def ten_kills_of_each(program):
+    """Of djq with a log, of Redis with a file that is synced, and of two writers, while rows change."""
+    draw, words = random.Random(6), ("--appendonly", "yes", "--appendfsync", "always")
+    with tempfile.TemporaryDirectory() as folder:
+        log = os.path.join(folder, "log")
+        with all_of(program, *words, log=log) as (server, rows, there, client, first), Follower(there, rows) as follower:
+            with Writer(server, there, "--queries", "q") as second:
+
+                def again(one):
+                    one.begun = False
+                    one.kill()
+                    one.start()
+
+                def redis_again():
+                    there.kill()
+                    there.start()
+
+                kills = [lambda: restart(program, server, log), redis_again, lambda: again(first), lambda: again(second)] * 10
+                draw.shuffle(kills)
+                with rows:
+                    for kill in kills:
+                        kill()
+                        changes = follower.changes
+                        until = time.monotonic() + draw.uniform(0, 3)
+                        while follower.changes == changes and time.monotonic() < until:
+                            time.sleep(0.01)
+                caught_up(client, rows)
+                check_chain(entries(client), rows.states)
+                follower.expect_right()
+                expect((follower.restarts, follower.changes > 10), (0, True))
 
 
 # Several
@@ -584,13 +662,13 @@ def of_two_writers_one_writes(program):
 
 @test
 def readers_join_in_the_middle(program):
-    few, redis_feed.FEW = redis_feed.FEW, 5
+    few, page, redis_feed.FEW, redis_feed.PAGE = redis_feed.FEW, redis_feed.PAGE, 5, 5
     try:
         with all_of(program) as (server, rows, there, client, _), contextlib.ExitStack() as stack:
             followers = []
             with rows:
-                for number in range(20):
-                    redis_feed.FEW = 5 if number % 2 else few  # by SSCAN, or by one command
+                for number in range(30):
+                    redis_feed.FEW = few if number > 20 else 5  # by one command, or by several
                     followers.append(stack.enter_context(Follower(there, rows)))
                     time.sleep(0.1)
             caught_up(client, rows)
@@ -599,7 +677,39 @@ def readers_join_in_the_middle(program):
                 follower.expect_right()
                 expect(follower.restarts, 0)
     finally:
-        redis_feed.FEW = few
+        redis_feed.FEW, redis_feed.PAGE = few, page
+
+
+@test
+def feeds_of_two_servers_are_merged(program):
+    """Each has a writer with a prefix of its own, and answers that both have are counted."""
+    draw = random.Random(8)
+    with contextlib.ExitStack() as stack:
+        there = stack.enter_context(Redis())
+        client, clients, rows = stack.enter_context(there.connect()), [], [set(), set()]
+        for number in range(2):
+            server = stack.enter_context(Server(program))
+            clients.append(stack.enter_context(server.connect()))
+            clients[-1].relation("r", int)
+            clients[-1].query("q(x) <- r(x)")
+            rows[number] = set(range(number, 3))
+            clients[-1].load("r", [(row,) for row in rows[number]])
+            stack.enter_context(Writer(server, there, "--queries", "q", "--prefix", f"djq{number}"))
+        readers, merged = [Reader(client, f"djq{number}:q") for number in range(2)], Merged()
+        for reader in readers:
+            merged.take(frozenset(reader.answers), frozenset())
+        expect(merged.answers, {(0,), (1,), (2,)})
+        for _ in range(20):
+            for _ in range(30):
+                number, row = draw.randrange(2), draw.randrange(9)
+                (clients[number].delete if row in rows[number] else clients[number].add)("r", row)
+                rows[number] ^= {row}
+            for number, reader in enumerate(readers):
+                while reader.answers != {(row,) for row in rows[number]}:
+                    change = reader.next(PATIENT)
+                    came, went = merged.take(change.came, change.went)
+                    assert not (came & went) and came <= merged.answers and not went & merged.answers
+            expect(merged.answers, {(row,) for row in rows[0] | rows[1]})
 
 
 # By a column
