@@ -23,7 +23,7 @@ pub enum DiskCall {
     Syncing(DiskDid),
 }
 
-/// The calls of a disk in memory, behind the bytes that its file had at first.
+/// The calls of a disk in memory, after the initial bytes of its file.
 #[derive(Debug, Drop)]
 pub(crate) struct CallLog {
     first: Piece,
@@ -56,7 +56,7 @@ impl CallLog {
         self.calls.items()
     }
 
-    /// Puts a call at the end, or loses all where there was no memory to make it.
+    /// Appends a call, or drops the whole list if there was no memory to make it.
     pub(crate) fn push(&mut self, call: Result<DiskCall, AllocError>)
         ensures first { self.new.first ≡ self.old.first }
         ensures gains { MatchResult call (λ made. GainsCall made self.old self.new) (λ _. self.new.calls ≡ None) }

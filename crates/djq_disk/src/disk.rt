@@ -16,7 +16,7 @@ pub enum DiskLen {
 /// The answer to a read.
 #[derive(Clone, Copy, Debug, PartialEq, Eq)]
 pub enum DiskRead {
-    /// So many bytes stand at the start of the buffer, at least 1.
+    /// The number of bytes read into the start of the buffer, at least 1.
     Got(usize),
     /// The file has no byte at that place.
     End,
@@ -37,7 +37,7 @@ pub trait Disk {
     ghost use Rattle.djq_disk.specs.History.{DiskWrites, Syncs};
     ghost use Rattle.djq_disk.specs.DiskFaults.{CountsOpen, CountsLen, CountsDiskRead, CountsDid};
 
-    // What it went through, where the disk tells it.
+    // Its history, if the disk records one.
     ghost told: { Self → Option History };
 
     // Whether its file is open, which every disk shows.
@@ -46,8 +46,7 @@ pub trait Disk {
     // How many faults it has met.
     ghost faults: { Self → ℕ };
 
-    /// Opens the file at the path, where it makes it if none is there. Nothing else can be asked of a disk
-    /// before.
+    /// Opens the file at the path, and creates it if it is absent. No other call may precede the open of a disk.
     fn open(&mut self, path: &str) -> DiskOpen
         ensures is_open { Opens result (is_open self.old) (is_open self.new) }
         ensures told { WhereHistoryTold (told self.old) (told self.new) (OpensPath path.now) }

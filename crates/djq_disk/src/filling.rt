@@ -15,8 +15,7 @@ pub enum Filled {
     Failed,
 }
 
-/// Fills the whole buffer with the bytes of the file from the place on, by as many reads as it
-/// takes.
+/// Fills the whole buffer with the bytes of the file from the place on, by as many reads as are needed.
 pub fn fill<D: Disk>(disk: &mut D, at: u64, buf: &mut [u8]) -> Filled
     requires { D.is_open disk.old ≡ true }
     ensures is_open { D.is_open disk.new ≡ true }

@@ -1,21 +1,21 @@
-//! A disk with one file, and what a stop may leave of it at any moment.
+//! A disk with one file, and what a crash may leave of it at any moment.
 //!
-//! A [`Disk`] opens, measures, reads, writes and syncs one file. Contracts see its history, where it is
-//! told: the paths that were opened, the file as it was at each earlier moment, and as it is. Of each of
-//! these files the definitions say which images a stop may leave: every byte that was synced and not
-//! written since is as it was, and all else may be anything, also the length past the synced one. So
-//! "whatever a stop leaves, at every moment since" is said of a list of files, and stretches of time
-//! compose as lists do. And every disk shows whether it is open: nothing but an open can be asked of it before.
+//! A [`Disk`] opens, measures, reads, writes and syncs one file. Contracts see its history, if it records one:
+//! the paths that were opened, the file as it was at each earlier moment, and as it is. The definitions state
+//! which images a crash may leave of each of these files. Every byte that was synced and not written since
+//! is as it was, and all else may be anything, also the length past the synced one. So "whatever a crash
+//! leaves, at every moment since" is a property of a list of files, and stretches of time compose as lists
+//! do. And every disk shows whether it is open: no call but an open may be made of it before.
 //!
 //! What it isn't for: it has no names of files, no folders and no second file, it buffers nothing, and
 //! it doesn't retry what failed.
 //!
 //! What surprises: a write that failed may have left any bytes in its part, and counts as written. A
-//! sync that failed counts as none. Within a call there is no further moment, since what a stop leaves
-//! in its middle is among the images before or behind it.
+//! sync that failed counts as none. Within a call there is no further moment, since what a crash leaves
+//! in its middle is among the images before or after it.
 //!
-//! [`MemDisk`] stands in memory, tells everything, keeps its calls, and fails only at those that it was
-//! told to. Where a growth is refused, it still answers, and tells nothing from then on. [`NoDisk`] keeps
+//! [`MemDisk`] is in memory, records its whole history and its calls, and fails only at the calls that were set
+//! to fail. If a growth is refused, it still answers, and records nothing from then on. [`NoDisk`] stores
 //! nothing, for a program without a file.
 //!
 //! ```text
@@ -24,7 +24,7 @@
 //! ```
 //!
 //! Two calls serve every disk: [`fill`] reads a whole buffer over short reads, and [`write_down`] writes
-//! a piece and syncs it, after which a stop at any moment has kept everything outside the piece's part.
+//! a piece and syncs it, after which a crash at any moment has left everything outside the piece's part.
 //!
 //! How it works inside: a disk in memory is its file's first bytes and its calls, and its history is
 //! folded from them.

@@ -15,11 +15,11 @@ use djq_io::{Failing, Piece};
 use std::alloc::{AllocError, Global};
 use std::marker::Model;
 
-/// A disk in memory, which tells all that it went through, and so all that a stop may leave. Its file is
+/// A disk in memory, which records its whole history, and so all that a crash may leave. Its file is
 /// there from the start, and so it is always open.
 ///
-/// It fails only where it was told to ([`MemDisk::fail_at`]); a write that fails leaves the bytes as
-/// they were, and counts as written. Where a growth is refused, it goes on to answer, and tells
+/// It fails only at the calls that were set to fail ([`MemDisk::fail_at`]); a write that fails leaves the
+/// bytes as they were, and counts as written. If a growth is refused, it continues to answer, and records
 /// nothing from then on.
 #[derive(Debug, Drop)]
 pub struct MemDisk {
@@ -76,7 +76,7 @@ impl MemDisk {
         self.log.calls()
     }
 
-    /// Lets a call fail: 1 is the next one, whichever it is, 2 the one behind it, and so on.
+    /// Lets a call fail: 1 is the next one, whichever it is, 2 the one after it, and so on.
     pub fn fail_at(&mut self, call: u64) -> Result<(), AllocError>
         requires { 0 < call }
         ensures ok { OnOk result (self.new ≡ record self.old { to_fail = self.old.to_fail ++ call ∷ [] }) }
@@ -99,7 +99,7 @@ impl MemDisk {
     }
 }
 
-/// Writes a piece into bytes, with zeros before it where they ended earlier.
+/// Writes a piece into bytes, with zeros before it if they ended earlier.
 fn put_piece(bytes: &mut Vec<u8>, at: usize, piece: &[u8]) -> Result<(), AllocError>
     requires { at + length piece.now ≤ 18446744073709551615 }
     ensures { OnOk result (bytes.new.items ≡ piece_put at piece.now bytes.old.items) }
@@ -113,7 +113,7 @@ fn put_piece(bytes: &mut Vec<u8>, at: usize, piece: &[u8]) -> Result<(), AllocEr
     bytes.extend_from_slice(&behind)
 }
 
-/// A write with this answer, as a call to be kept.
+/// A write with this answer, as a call to be recorded.
 fn write(
     bytes: &mut Vec<u8>,
     at: u64,

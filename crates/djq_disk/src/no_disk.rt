@@ -5,7 +5,7 @@ ghost use Rattle.djq_disk.specs.DiskFaults.{CountsOpen, CountsLen, CountsDiskRea
 
 use crate::disk::{Disk, DiskDid, DiskLen, DiskOpen, DiskRead};
 
-/// A disk that keeps nothing, for a program without a file. It tells nothing, never fails, and is
+/// A disk that stores nothing, for a program without a file. It records no history, never fails, and is
 /// always open.
 #[derive(Clone, Copy, Debug)]
 pub struct NoDisk;
