@@ -12,8 +12,7 @@ use crate::group::Group;
 use crate::limits::{LAST_GATE, PIECE_BYTES};
 use djq_disk::{Disk, DiskDid, write_down};
 
-/// The place of the gate behind a group that is appended at this one, or `None` where that is past
-/// the last place.
+/// The place of the gate after a group that is appended at this one, or `None` if that is past the last place.
 pub(crate) fn end_of<G: Group>(gate: u64, group: &G) -> Option<u64>
     requires { AllByRecursion IsJournalLine (G.lines group.now) }
     ensures some { IfSome result (λ end. (end ≡ gate_after gate (G.lines group.now)) × (end ≤ LAST_GATE)) }
@@ -35,8 +34,7 @@ pub(crate) fn end_of<G: Group>(gate: u64, group: &G) -> Option<u64>
     Some(end)
 }
 
-/// Lays out what stands behind a gate, in just as many bytes: the line behind its length, and the next
-/// gate.
+/// Lays out what follows a gate, in just as many bytes: the line after its length, and the next gate.
 fn lay_out(buf: &mut [u8], line: &[u8], gate: u8)
     requires room { length buf.old ≡ 3 + length line.now }
     requires short { length line.now ≤ LINE_BYTES }
@@ -49,7 +47,7 @@ fn lay_out(buf: &mut [u8], line: &[u8], gate: u8)
     buf[end] = gate;
 }
 
-/// The gate before the line with this number: open, or closed where there is no such line.
+/// The gate before the line with this number: open, or closed if there is no such line.
 fn gate_before<G: Group>(group: &G, i: usize) -> u8
     ensures { result ≡ gate_before (drop i (G.lines group.now)) }
 {
@@ -59,8 +57,8 @@ fn gate_before<G: Group>(group: &G, i: usize) -> u8
     }
 }
 
-/// Writes the records of a group behind the gate, which stays as it is: they are gathered, and written in
-/// a piece where the next one finds no room, and at the end.
+/// Writes the records of a group after the gate, which stays as it is. They are gathered, and written in a
+/// piece when the next one finds no room, and at the end.
 fn write_records<D: Disk, G: Group>(disk: &mut D, gate: u64, group: &G) -> DiskDid
     requires is_open { D.is_open disk.old ≡ true }
     requires lines { AllByRecursion IsJournalLine (G.lines group.now) }
@@ -91,7 +89,7 @@ fn write_records<D: Disk, G: Group>(disk: &mut D, gate: u64, group: &G) -> DiskD
     disk.write_at(at, &buf[..filled])
 }
 
-/// Appends a group at a gate for which there is room: its records are written and synced behind the
+/// Appends a group at a gate for which there is room: its records are written and synced after the
 /// closed gate, and then the gate is opened and synced.
 pub(crate) fn append_at<D: Disk, G: Group>(disk: &mut D, gate: u64, group: &G) -> DiskDid
     requires is_open { D.is_open disk.old ≡ true }

@@ -1,4 +1,4 @@
-/// Lines that are kept together: all of them or none.
+/// Lines that are stored together: all of them or none.
 pub trait Group {
     ghost use Rattle.std.specs.Prelude.{◌≡◌, ℕ, List, slice_get};
     ghost use Rattle.std.specs.Option.{option_copied};

@@ -27,7 +27,7 @@ pub enum Made {
 /// The answer to an opening.
 #[derive(Debug, Drop)]
 pub enum Opened {
-    /// The journal stands at its first gate.
+    /// The journal is at its first gate.
     Ready(Journal),
     /// The file doesn't begin with a journal's header. The place is 0.
     BadLog(u64),
@@ -37,15 +37,15 @@ pub enum Opened {
 /// The answer to an append.
 #[derive(Debug, Drop)]
 pub enum Appended {
-    /// The group is kept, and outlives a stop from now on. The journal is idle again.
+    /// The group is stored, and outlives a crash from now on. The journal is idle again.
     Done(Journal),
     /// The disk failed. A stop leaves the whole group or nothing of it.
     Failed,
-    /// The gate behind the group would stand past the last place. Nothing was written.
+    /// The gate after the group would lie past the last place. Nothing was written.
     Full,
 }
 
-/// A journal, by the place of the gate at which it stands.
+/// A journal, by the place of its current gate.
 #[derive(Debug, Drop)]
 pub struct Journal {
     gate: u64,
@@ -59,8 +59,8 @@ impl Model for Journal {
     ghost view = { λ j. j.gate };
 }
 
-/// Makes a journal without lines at the start of the file, which has to be empty: bytes that stand
-/// behind it don't count.
+/// Makes a journal without lines at the start of the file, which has to be empty: bytes that follow it
+/// don't count.
 pub fn create<D: Disk>(disk: &mut D) -> Made
     requires { D.is_open disk.old ≡ true }
     ensures is_open { D.is_open disk.new ≡ true }
@@ -74,7 +74,7 @@ pub fn create<D: Disk>(disk: &mut D) -> Made
 }
 
 impl Journal {
-    /// Opens the journal that the file is, behind a sync.
+    /// Opens the journal that the file is, after a sync.
     pub fn open<D: Disk>(disk: &mut D) -> Opened
         requires { D.is_open disk.old ≡ true }
         ensures is_open { D.is_open disk.new ≡ true }
@@ -98,14 +98,14 @@ impl Journal {
         }
     }
 
-    /// The place of the gate at which it stands.
+    /// The place of its current gate.
     pub fn place(&self) -> u64
         ensures { result ≡ self.now }
     {
         self.gate
     }
 
-    /// Reads the next line into the start of the buffer, and stands behind it then.
+    /// Reads the next line into the start of the buffer, and moves to the gate after it.
     pub fn next_line<D: Disk>(&mut self, disk: &mut D, buf: &mut [u8; 4096]) -> Line
         requires { D.is_open disk.old ≡ true }
         ensures is_open { D.is_open disk.new ≡ true }
@@ -125,7 +125,7 @@ impl Journal {
     /// Appends a group of lines as a whole, with two syncs however many they are.
     ///
     /// The journal is idle on this disk: [`next_line`](Journal::next_line) answered `End`, or an append
-    /// gave it, and nothing was written since. A caller whose disk tells nothing is bound by the same.
+    /// returned it, and nothing was written since. A caller whose disk records no history is bound by the same.
     pub fn append_all<D: Disk, G: Group>(self, disk: &mut D, group: &G) -> Appended
         requires is_open { D.is_open disk.old ≡ true }
         requires some { 1 ≤ length (G.lines group.now) }

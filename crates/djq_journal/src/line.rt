@@ -5,7 +5,7 @@ pub enum Line {
     Got(usize),
     /// There is no further line: the journal is idle.
     End,
-    /// The file is bad at this place, where a gate has to stand and a record behind an open one.
+    /// The file is bad at this place, at which a gate is required, and after an open gate a record.
     BadLog(u64),
     Failed,
 }

@@ -9,10 +9,10 @@ use crate::journal::{Appended, Journal};
 use djq_disk::Disk;
 use std::marker::Model;
 
-/// Whether a group was kept.
+/// Whether a group was stored.
 #[derive(Clone, Copy, Debug, PartialEq, Eq)]
 pub enum Kept {
-    /// All of it is, or lines are kept nowhere.
+    /// All of it is, or the log stores no lines.
     All,
     /// The disk failed. A stop leaves the whole group or nothing of it.
     Failed,
@@ -20,7 +20,7 @@ pub enum Kept {
     Full,
 }
 
-/// Where lines are kept: in a journal, or nowhere. It is seen as the place of the journal's gate.
+/// A log of lines: in a journal, or nowhere. It is seen as the place of the journal's gate.
 #[derive(Debug, Drop)]
 pub struct Log {
     journal: Option<Journal>,
@@ -35,14 +35,14 @@ impl Model for Log {
 }
 
 impl Log {
-    /// Lines are kept nowhere.
+    /// A log that stores no lines.
     pub fn nowhere() -> Self
         ensures { result ≡ None }
     {
         Log { journal: None }
     }
 
-    /// Lines are kept in this journal, which is idle.
+    /// A log that stores lines in this journal, which is idle.
     pub fn of(journal: Journal) -> Self
         ensures { result ≡ Some journal }
     {
@@ -51,10 +51,10 @@ impl Log {
         }
     }
 
-    /// Keeps a group of lines, as a whole. A group without lines asks nothing of the disk.
+    /// Appends a group of lines, as a whole. A group without lines makes no call of the disk.
     ///
-    /// Where it isn't kept the journal is gone, and lines are kept nowhere from then on: who wants them
-    /// kept doesn't go on.
+    /// If it isn't stored the journal is lost, and lines are stored nowhere from then on: a caller that wants them
+    /// stored doesn't continue.
     pub fn keep<D: Disk, G: Group>(&mut self, disk: &mut D, group: &G) -> Kept
         requires is_open { IfSome self.old (λ _. D.is_open disk.old ≡ true) }
         requires lines { AllByRecursion IsJournalLine (G.lines group.now) }

@@ -8,7 +8,7 @@ use crate::limits::LINE_BYTES;
 use crate::line::Line;
 use djq_disk::{Disk, Filled, fill};
 
-/// What stands at a gate's place, as far as its head tells.
+/// What is at a gate's place, as far as its head shows.
 #[derive(Clone, Copy, Debug, PartialEq, Eq)]
 pub(crate) enum Head {
     /// An open gate, and the length of a line.
@@ -85,7 +85,7 @@ pub(crate) fn read_line<D: Disk>(disk: &mut D, gate: u64, buf: &mut [u8]) -> Lin
     }
 }
 
-/// Where a journal stands behind this answer.
+/// The place of a journal's gate after this answer.
 pub(crate) fn place_after(gate: u64, line: Line) -> u64
     requires { EndsWithin line gate }
     ensures { result ≡ place_after gate line }
