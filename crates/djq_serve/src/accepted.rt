@@ -4,7 +4,7 @@ ghost use Rattle.std.specs.Option.{option_copied};
 use djq_journal::Group;
 use djq_machine::Machine;
 
-/// The lines that the last step of a machine kept, as a group.
+/// The lines that the last step of a machine logs, as a group.
 #[derive(Drop)]
 pub(crate) struct Accepted<'a, M: Machine> {
     pub(crate) machine: &'a M,

@@ -27,9 +27,9 @@ pub(crate) fn close<M: Machine, H: Hub>(machine: &mut M, hub: &mut H, id: u64)
     machine.close_session(id);
 }
 
-/// Sends once what is pending for an open session to which something is due, and answers from which
-/// id on the flush goes: it stays where bytes were taken. The session is closed where it is gone,
-/// and where nothing is pending, since then it has ended.
+/// Sends once what is pending for an open session to which something is due, and returns the id at which
+/// the flush continues: the same id if bytes were sent. The session is closed if its client is gone, and if
+/// nothing is pending, since then it has ended.
 fn visit<M: Machine, H: Hub>(machine: &mut M, hub: &mut H, id: u64) -> u128
     requires open { IsOpen (M.state machine.old) id }
     requires agrees { Agrees (M.state machine.old) (H.ids hub.old) }
@@ -63,7 +63,7 @@ fn visit<M: Machine, H: Hub>(machine: &mut M, hub: &mut H, id: u64) -> u128
     }
 }
 
-/// Goes by rising id through the open sessions to which something is due.
+/// Visits the open sessions to which something is due, by rising id.
 pub(crate) fn flush<M: Machine, H: Hub>(machine: &mut M, hub: &mut H)
     requires agrees { Agrees (M.state machine.old) (H.ids hub.old) }
     ensures flushes { Flushes (hub_shown (H.past hub.old) (H.script hub.old) (H.ids hub.old))

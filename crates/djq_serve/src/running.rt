@@ -15,8 +15,8 @@ use djq_io::Hub;
 use djq_journal::{Kept, Log};
 use djq_machine::{Machine, Stepped};
 
-/// Runs the whole lines that a session holds, what each keeps kept and with a flush behind it, until none
-/// is left, the session has ended or is closed, a session said `stop`, or what a line keeps can't be kept.
+/// Runs the whole lines that a session has, logs what each changes, and flushes after each. It returns when
+/// none is left, the session has ended or is closed, a session sent `stop`, or a line can't be logged.
 pub(crate) fn run_lines<M: Machine, H: Hub, D: Disk, L: Ledgers>(
     machine: &mut M,
     hub: &mut H,
@@ -56,7 +56,7 @@ pub(crate) fn run_lines<M: Machine, H: Hub, D: Disk, L: Ledgers>(
     None
 }
 
-/// Whether a session is open, and no session said `stop`.
+/// Whether a session is open, and no session sent `stop`.
 fn is_served<M: Machine>(machine: &M, id: u64) -> bool
     ensures { MatchBool result (IsServed (M.state machine.now) id)
         (NotServed (M.state machine.now) id) }

@@ -1,16 +1,16 @@
 /// How serving a hub ended.
 #[derive(Clone, Copy, Debug, PartialEq, Eq)]
 pub enum Served {
-    /// A session said `stop`.
+    /// A session sent `stop`.
     Stopped,
-    /// Nothing will come any more.
+    /// The hub has no more turns.
     Over,
-    /// All turns were taken.
+    /// All turns were used.
     TurnsUsed,
     /// The hub failed.
     HubFault,
-    /// The disk failed as a line was kept, or a batch. Nothing was sent behind it.
+    /// The disk failed as a line was logged, or a batch. Nothing was sent after it.
     DiskFault,
-    /// The journal had no room for a line, or for a batch. Nothing was sent behind it.
+    /// The journal had no room for a line, or for a batch. Nothing was sent after it.
     LogFull,
 }

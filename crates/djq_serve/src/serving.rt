@@ -20,11 +20,11 @@ use djq_io::Hub;
 use djq_journal::Log;
 use djq_machine::Machine;
 
-/// Serves the sessions of a hub, until a session says `stop`, nothing will come any more, this many
-/// turns were taken, or the hub fails. Then each session that is open is closed.
+/// Serves the sessions of a hub, until a session sends `stop`, the hub has no more turns, this many
+/// turns were used, or the hub fails. Then each session that is open is closed.
 ///
-/// The hub has the sessions of the machine and no others, as where neither has opened one. The
-/// buffer has as many bytes as are read at a time. No memory is taken but by the machine and the
+/// The hub has the sessions of the machine and no others, as when neither has opened one. The
+/// buffer has as many bytes as are read at a time. Nothing is allocated but by the machine and the
 /// hub.
 pub fn serve<M: Machine, H: Hub, L: Ledgers>(
     machine: &mut M,
@@ -49,8 +49,8 @@ pub fn serve<M: Machine, H: Hub, L: Ledgers>(
     serve_logged(machine, hub, &mut NoDisk, &mut log, buffer, turns, steps)
 }
 
-/// Serves the sessions of a hub as [`serve`] does, and keeps in the log what each line keeps, itself or the
-/// batch that it ends, whole, before anything is sent behind it. Serving ends too where that can't be kept;
+/// Serves the sessions of a hub as [`serve`] does, and appends to the log what each line changes: the line
+/// or the batch that it ends, whole, before anything more is sent. Serving ends too if that can't be logged;
 /// nothing is sent then any more.
 ///
 /// The log's journal is idle on this disk, which is open.
@@ -84,7 +84,7 @@ pub fn serve_logged<M: Machine, H: Hub, D: Disk, L: Ledgers>(
     served
 }
 
-/// Takes turns, until serving ends.
+/// Handles turns, until serving ends.
 fn take_turns<M: Machine, H: Hub, D: Disk, L: Ledgers>(
     machine: &mut M,
     hub: &mut H,

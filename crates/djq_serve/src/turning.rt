@@ -21,7 +21,7 @@ use djq_io::{Hub, Turn};
 use djq_journal::Log;
 use djq_machine::{Machine, OpenRefusal};
 
-/// Takes a turn of the hub, and does what it brings. It answers how serving ends, if it does.
+/// Gets a turn of the hub, and handles what it brings. It returns how serving ends, if it does.
 pub(crate) fn take_turn<M: Machine, H: Hub, D: Disk, L: Ledgers>(
     machine: &mut M,
     hub: &mut H,
@@ -101,7 +101,7 @@ fn refuse<H: Hub>(hub: &mut H, id: u64, line: &[u8])
     hub.close(id);
 }
 
-/// Flushes at the end of a turn. Serving ends where a session said `stop`.
+/// Flushes at the end of a turn. Serving ends if a session sent `stop`.
 fn end_turn<M: Machine, H: Hub>(machine: &mut M, hub: &mut H) -> Option<Served>
     requires agrees { Agrees (M.state machine.old) (H.ids hub.old) }
     requires settled { (M.state machine.old).stopped ≡ false → AllSettled (M.state machine.old) }
