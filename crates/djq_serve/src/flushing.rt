@@ -28,7 +28,7 @@ pub(crate) fn close<M: Machine, H: Hub>(machine: &mut M, hub: &mut H, id: u64)
 }
 
 /// Sends once what is pending for an open session to which something is due, and returns the id at which
-/// the flush continues: the same id if bytes were sent. The session is closed if its client is gone, and if
+/// the flush continues: the same id if bytes were sent. The session is closed if the hub answers `Gone`, and if
 /// nothing is pending, since then it has ended.
 fn visit<M: Machine, H: Hub>(machine: &mut M, hub: &mut H, id: u64) -> u128
     requires open { IsOpen (M.state machine.old) id }

@@ -14,14 +14,14 @@ use std::net::Shutdown;
 pub(crate) struct Conn {
     pub id: u64,
     stream: TcpStream,
-    /// Whether it may have bytes. A read that finds none says no, and the system says yes again.
+    /// Whether it may have bytes. A read that finds none clears it, and an event of the system sets it again.
     pub ready: bool,
     /// Whether its first line was looked at, which is no request of HTTP.
     heard: bool,
     /// Whether the client sends no more, so that a line that isn't whole stays so.
     over: bool,
-    /// Whether the last send took nothing. The system says when bytes are taken again, and isn't
-    /// asked before that: a client that doesn't read costs the others no call of the system.
+    /// Whether the last send wrote nothing. The system reports when bytes can be sent again, and no call is
+    /// made before that: a client that doesn't read costs the others no call of the system.
     full: bool,
 }
 
@@ -34,7 +34,7 @@ pub(crate) enum Found {
     Broken,
 }
 
-/// How many pieces are read away at most as a connection is closed, so that a client that goes on
+/// How many pieces are read and dropped at most as a connection is closed, so that a client that continues
 /// to send can't hold the server.
 const MOST_READ_AWAY: u32 = 64;
 
@@ -135,7 +135,7 @@ impl Conn {
         }
     }
 
-    /// Notes what the system tells of it.
+    /// Notes an event that the system reports of it.
     fn note(&mut self, event: &Event) {
         if event.is_readable() || event.is_read_closed() || event.is_error() {
             self.ready = true;
@@ -148,9 +148,8 @@ impl Conn {
         }
     }
 
-    /// Says that nothing more will be sent, and reads away what the client has sent meanwhile. A
-    /// socket that is closed over unread bytes is reset, which can take the last lines from the
-    /// client.
+    /// Shuts down the sending side, and reads and drops what the client has sent meanwhile. A
+    /// socket that is closed over unread bytes is reset, and the client can lose the last lines by that.
     fn finish(&mut self) {
         let _ = self.stream.shutdown(Shutdown::Write);
         let mut rest = [0; 1024];
@@ -163,14 +162,14 @@ impl Conn {
     }
 }
 
-/// Where the connection with this id stands among those with rising ids.
+/// The index of the connection with this id among those with rising ids.
 fn place_of(conns: &[Conn], id: u64) -> Option<usize>
     ensures { IfSome result (λ at. at < length conns.now) }
 {
     conns.binary_search_by_key(&id, |conn| conn.id).ok()
 }
 
-/// Notes what the system tells of the connection with this id.
+/// Notes an event that the system reports of the connection with this id.
 pub(crate) fn note(conns: &mut [Conn], id: u64, event: &Event) {
     if let Some(at) = place_of(conns, id) {
         conns[at].note(event);

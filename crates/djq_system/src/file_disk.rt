@@ -20,16 +20,16 @@ const READ_BYTES: usize = 1 << 20;
 /// Who may read and write a file that is made: its owner.
 const MODE: u32 = 0o600;
 
-/// A file of the operating system as a disk, seen as whether it is open and its count of faults. It tells
-/// nothing.
+/// A file of the operating system as a disk, seen as whether it is open and its count of faults. It records
+/// no history.
 ///
-/// On standard error it says of each call that fails which one it was, the path as it was given, and the
+/// For each call that fails it prints to standard error which call it was, the path as it was given, and the
 /// system's reason.
 #[derive(Drop)]
 pub struct FileDisk<R: Files<File = fs::File> + AllocGlobal + Eprint + Drop> {
     rt: R,
     file: Option<fs::File>,
-    /// The path that was opened last, where there was memory for it.
+    /// The path that was opened last, if there was memory for it.
     path: Option<String>,
     faults: u64,
 }
@@ -43,14 +43,14 @@ impl<R: Files<File = fs::File> + AllocGlobal + Eprint + Drop> Model for FileDisk
     ghost view = { λ d. record { is_open = is_some d.file; faults = d.faults } };
 }
 
-/// A call of the system that failed, as it is said, and why.
+/// A call of the system that failed, by the name that is printed, and why.
 #[derive(Drop)]
 struct Failure {
     call: &'static str,
     error: io::Error,
 }
 
-/// Opens the file at the path for this process alone, where it makes it if none is there.
+/// Opens the file at the path for this process alone, and creates it if it is absent.
 fn open_alone<R: Files<File = fs::File> + AllocGlobal>(
     rt: &R,
     path: &str,
@@ -70,7 +70,7 @@ fn open_alone<R: Files<File = fs::File> + AllocGlobal>(
     Ok(file)
 }
 
-/// Opens the file at the path, where it makes it for its owner alone if none is there.
+/// Opens the file at the path, and creates it for its owner alone if it is absent.
 fn open_or_make<R: Files<File = fs::File>>(rt: &R, path: &str) -> io::Result<fs::File> {
     let opened = OpenOptions::new()
         .read(true)
@@ -87,7 +87,7 @@ fn open_or_make<R: Files<File = fs::File>>(rt: &R, path: &str) -> io::Result<fs:
     }
 }
 
-/// Takes the lock on the file, unless another process has it.
+/// Locks the file, unless another process has the lock.
 fn lock(file: &fs::File) -> io::Result<()> {
     match file.try_lock() {
         Ok(()) => Ok(()),
@@ -99,8 +99,8 @@ fn lock(file: &fs::File) -> io::Result<()> {
     }
 }
 
-/// Syncs the folder that has the file at the path, also behind symbolic links, so that a file that was
-/// made there outlives a stop.
+/// Syncs the folder that has the file at the path, also through symbolic links, so that a file that was
+/// created there outlives a crash.
 fn sync_folder<R: Files<File = fs::File> + AllocGlobal>(rt: &R, path: &str) -> io::Result<()> {
     let whole = fs::canonicalize(rt, path)?;
     let folder = match whole.as_path().parent() {
@@ -110,7 +110,7 @@ fn sync_folder<R: Files<File = fs::File> + AllocGlobal>(rt: &R, path: &str) -> i
     OpenOptions::new().read(true).open(rt, folder)?.sync_all()
 }
 
-/// Reads some bytes, or none where the file ends before the place. A signal doesn't end it.
+/// Reads some bytes, or none if the file ends before the place. A signal doesn't end it.
 fn read_some(file: &fs::File, at: u64, buf: &mut [u8]) -> io::Result<usize>
     ensures { IfOk result (λ n. (n ≤ length buf.new) × (at + n ≤ 18446744073709551615)) }
 {
@@ -160,7 +160,7 @@ impl<R: Files<File = fs::File> + AllocGlobal + Eprint + Drop> FileDisk<R> {
         }
     }
 
-    /// Counts a fault, and says which call failed on which file, and why.
+    /// Counts a fault, and prints which call failed on which file, and why.
     fn fail(&mut self, call: &str, error: io::Error)
         ensures is_open { self.new.is_open ≡ self.old.is_open }
         ensures faults { Counted self.old.faults self.new.faults }
@@ -173,7 +173,7 @@ impl<R: Files<File = fs::File> + AllocGlobal + Eprint + Drop> FileDisk<R> {
         self.faults = self.faults.saturating_add(1);
     }
 
-    /// Says what the system did, and counts a fault where it failed.
+    /// Returns what the system did, and counts a fault if it failed.
     fn did(&mut self, call: &str, answer: io::Result<()>) -> DiskDid
         ensures is_open { self.new.is_open ≡ self.old.is_open }
         ensures faults { CountsDid result self.old.faults self.new.faults }

@@ -3,33 +3,33 @@
 //!
 //! [`TcpHub`] is a hub of sessions over TCP, [`FileDisk`] a file as a disk, [`StdSource`] and
 //! [`StdSink`] a reader and a writer of `std::io`, such as [`StandardInput`] and [`StandardOutput`]. Each
-//! is a few lines over std, `mio` or `libc`. None tells what bytes it was given (its record is `None`), and
+//! is a few lines over std, `mio` or `libc`. None records what bytes it was given (its record is `None`), and
 //! each counts its faults.
 //!
 //! What this crate is not: it runs no lines, has no authentication and no encryption, and buffers
-//! nothing. What a client doesn't read stays with the server, which ends such a session by its
+//! nothing. What a client doesn't read remains with the server, which ends such a session by its
 //! own rule.
 //!
 //! # Sockets
 //!
 //! A hub accepts connections at an address, and each is a session: what a client sends are its bytes,
-//! and the end of what it sends is the end of its input. One thread takes all turns, over sockets that
-//! never wait. The system says by `epoll` which sockets have changed ([`mio`]), and the hub keeps for
-//! each whether it may have bytes. A turn goes round these places, from behind the last one that it
-//! served, and waits only where none has anything. So a busy client delays the others by one piece at
-//! a time, an idle server sleeps, and no reply waits for a clock: a client that takes bytes again wakes
+//! and the end of what it sends is the end of its input. One thread handles all turns, over sockets that
+//! never wait. The system reports by `epoll` which sockets have changed ([`mio`]), and the hub stores for
+//! each whether it may have bytes. A turn visits these places in a circle, starting after the last one that it
+//! served, and waits only if none has anything. So a busy client delays the others by one piece at
+//! a time, an idle server sleeps, and no reply waits for a clock: a client that accepts bytes again wakes
 //! the hub.
 //!
 //! Nothing that a client does is a fault of the hub, only of its session. A read that fails is
 //! returned as the end of the input, and a send that fails as a session that is gone. A connection that
 //! can't be accepted is only counted.
 //!
-//! A client that doesn't read costs the others nothing: once a send took none of its bytes, the hub answers
-//! `Again` for that session by itself, until the system says that the connection takes bytes.
+//! A client that doesn't read costs the others nothing: once a send wrote none of its bytes, the hub answers
+//! `Again` for that session by itself, until the system reports that the connection accepts bytes.
 //!
 //! A connection that begins with a request of HTTP is returned as one whose input ended: a web page can send
 //! such a request to any port of its reader's machine. So the first line that isn't empty is looked at as a
-//! whole. It stays with the system until it is, or is too long to be run, or the client sends no more.
+//! whole. It remains with the system until it is whole, or is too long to be run, or the client sends no more.
 //!
 //! ```text
 //! a client connects              Opened(1)
@@ -42,17 +42,17 @@
 //!
 //! # Files
 //!
-//! A disk's `open` makes an absent file for its owner alone, takes the lock on it, so that a second server
-//! on the same file fails, and syncs the folder, so that a file that was made outlives a crash. Behind a
-//! symbolic link that is the folder of the file itself. It holds one file at a
-//! time. The lock is advisory: a program that doesn't ask for it isn't stopped. Where a sync failed,
-//! what a read gives needn't be on the disk: a caller that goes on has to open the file anew.
+//! A disk's `open` creates an absent file for its owner alone, and locks it, so that a second server
+//! on the same file fails. It syncs the folder, so that a file that was created outlives a crash. For a
+//! symbolic link that is the folder of the file itself. A disk has one file open at a
+//! time. The lock is advisory: a program that doesn't ask for it isn't stopped. If a sync failed,
+//! what a read returns needn't be on the disk: a caller that continues has to open the file anew.
 //!
-//! Of each call that fails standard error has a line, with the call, the path and the system's reason.
+//! For each call that fails standard error has a line, with the call, the path and the system's reason.
 //!
 //! # Limits and signals
 //!
-//! A write past the limit of a file's size would end the process by a signal, with nothing said. So it
+//! A write past the limit of a file's size would end the process by a signal, without a message. So it
 //! isn't made, of the log and of a standard output that is a file: it fails. A read or a write that a signal
 //! interrupts is made again. A standard stream that never waits, as another process may have left it, is waited
 //! for.

@@ -34,10 +34,10 @@ impl Listening {
         self.socket.local_addr()
     }
 
-    /// The next connection, whose events come under this token.
+    /// The next connection, whose events have this token.
     pub fn accept(&self, token: usize) -> io::Result<TcpStream> {
         let (mut stream, _) = self.socket.accept()?;
-        // A reply goes out at once, also behind one that the client hasn't acknowledged.
+        // A reply is sent at once, also after one that the client hasn't acknowledged.
         let _ = stream.set_nodelay(true);
         self.poll.registry().register(
             &mut stream,
@@ -47,7 +47,7 @@ impl Listening {
         Ok(stream)
     }
 
-    /// Waits until something is to be told of the sockets, or for so many milliseconds.
+    /// Waits until there are events of the sockets, or for so many milliseconds.
     pub fn wait(&mut self, events: &mut Events, millis: u64) -> io::Result<()> {
         self.poll.poll(events, Some(Duration::from_millis(millis)))
     }

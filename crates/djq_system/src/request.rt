@@ -2,7 +2,7 @@
 ghost use Rattle.std.specs.Prelude.{◌≤◌, length};
 ghost use Rattle.djq_system.specs.Request.{BeginsSo};
 
-/// How requests of HTTP begin that a browser sends for a page of whatever origin, also where no
+/// How requests of HTTP begin that a browser sends for a page of whatever origin, also if no
 /// version follows. No line of the protocol begins so.
 const REQUESTS: [&[u8]; 7] = [
     b"GET /",
@@ -23,7 +23,7 @@ const VERSION_BYTES: usize = 8;
 /// How a connection begins.
 #[derive(Clone, Copy, Debug, PartialEq, Eq)]
 pub(crate) enum Beginning {
-    /// With so many bytes of empty lines, behind which it may go on in any way.
+    /// With so many bytes of empty lines, after which any bytes may follow.
     EmptyLines(usize),
     /// As a request of HTTP does.
     Request,
@@ -60,7 +60,7 @@ fn is_too_long(bytes: &[u8]) -> bool {
     LONGEST_LINE < line.len()
 }
 
-/// How many blanks stand in front of all else.
+/// How many blanks precede all else.
 fn count_blanks(bytes: &[u8]) -> usize
     ensures { result ≤ length bytes.now }
 {

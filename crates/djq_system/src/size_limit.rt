@@ -7,7 +7,7 @@ use std::io::{Error, ErrorKind};
 /// What the system is asked for.
 const RLIMIT_FSIZE: i32 = 1;
 
-/// How many bytes a file of this process may have; all that a number names where there is no limit.
+/// How many bytes a file of this process may have; all that a number names if there is no limit.
 pub(crate) fn most_bytes() -> u64 {
     let mut limit = rlimit {
         rlim_cur: u64::MAX,

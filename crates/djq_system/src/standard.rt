@@ -8,7 +8,7 @@ use std::io::{ErrorKind, Read, Result, Write};
 /// The path of the standard output, whatever it is.
 const OUTPUT: &str = "/dev/stdout";
 
-/// The standard input, which waits where the stream that it was given doesn't, and goes on after a signal.
+/// The standard input, which waits if the stream that it was given doesn't, and continues after a signal.
 #[derive(Drop)]
 pub struct StandardInput<R: Read + Drop> {
     reader: R,
@@ -34,10 +34,10 @@ impl<R: Read + Drop> Read for StandardInput<R> {
     }
 }
 
-/// The standard output, which waits where the stream that it was given doesn't, and goes on after a signal.
+/// The standard output, which waits if the stream that it was given doesn't, and continues after a signal.
 ///
-/// A write that would pass the limit of a file's size, which is asked for once, fails without being
-/// made: it would end the process. Where such a file is written before its end, what stands behind counts as
+/// A write that would pass the limit of a file's size, which is read once, fails without being
+/// made: it would end the process. If such a file is written before its end, the bytes that follow count as
 /// written already.
 #[derive(Drop)]
 pub struct StandardOutput<W: Write + Drop, F: Files + Drop> {
@@ -47,7 +47,7 @@ pub struct StandardOutput<W: Write + Drop, F: Files + Drop> {
 }
 
 impl<W: Write + Drop, F: Files + Drop> StandardOutput<W, F> {
-    /// Over the writer to descriptor 1, and the runtime that tells where a file ends.
+    /// Over the writer to descriptor 1, and the runtime that reports the end of a file.
     pub fn new(writer: W, rt: F) -> Self {
         StandardOutput {
             writer,
@@ -91,8 +91,8 @@ impl<W: Write + Drop, F: Files + Drop> Write for StandardOutput<W, F> {
     }
 }
 
-/// Waits until the system says that a descriptor is ready, or has failed. Where it can't say so, who
-/// asks for bytes again is answered as before.
+/// Waits until the system reports that a descriptor is ready, or has failed. If it can't report so, the
+/// next call for bytes is answered as before.
 fn wait(fd: i32, events: i16) {
     let mut waited = [pollfd {
         fd,

@@ -7,10 +7,10 @@ use djq_io::{Sink, Wrote};
 use std::io;
 use std::marker::Model;
 
-/// A writer of `std::io` as a sink, seen as its count of faults. It tells nothing.
+/// A writer of `std::io` as a sink, seen as its count of faults. It records no bytes.
 ///
 /// Each write is one write of the writer and a flush, so that who waits for a reply sees it. What
-/// fails is counted and not tried again; a write that takes nothing of a piece is a fault too.
+/// fails is counted and not tried again; a write that accepts nothing of a piece is a fault too.
 #[derive(Debug, Drop)]
 pub struct StdSink<W: io::Write + Drop> {
     writer: W,

@@ -6,7 +6,7 @@ use djq_io::{Read, Source};
 use std::io;
 use std::marker::Model;
 
-/// A reader of `std::io` as a source, seen as its count of faults. It tells no bytes.
+/// A reader of `std::io` as a source, seen as its count of faults. It records no bytes.
 ///
 /// Each read is one read of the reader, into the buffer that was passed. What fails is counted and
 /// not tried again: [`StandardInput`](crate::StandardInput) is a reader that a signal doesn't fail.

@@ -14,8 +14,8 @@ use std::io::{self, Eprint, ErrorKind};
 use std::marker::Model;
 use std::net::{self, Net};
 
-/// How many connections a hub holds at once: those of the 64 sessions that may be open, and one more
-/// that is told so and closed.
+/// How many connections a hub has at once: those of the 64 sessions that may be open, and one more,
+/// which is sent the reason and closed.
 pub const PLACES: usize = 65;
 
 /// The version that is reported as serving begins; the file `VERSION` at the top has the same.
@@ -24,11 +24,11 @@ const VERSION: &str = "0.2.0";
 /// For how many milliseconds a turn waits at most.
 const LONGEST_WAIT: u64 = 250;
 
-/// A hub over TCP. It tells no bytes, and shows the ids of its sessions and its counts of faults.
+/// A hub over TCP. It records no bytes, and shows the ids of its sessions and its counts of faults.
 ///
-/// Each call is a few lines over the system's. On standard error it says its version and where it listens, or why it
-/// can't, and once that connections can't be accepted, which it counts. A turn waits at most a quarter of a second, and
-/// then nothing came. After the id 18446744073709551615 no connection is accepted any more.
+/// Each call is a few lines over the system's. It prints to standard error its version and the address at which it
+/// listens, or why it can't, and once that connections can't be accepted, which it counts. A turn waits at most a
+/// quarter of a second, and then it is idle. After the id 18446744073709551615 no connection is accepted any more.
 #[derive(Drop)]
 pub struct TcpHub<R: Net<Listener = net::TcpListener, Stream = net::TcpStream> + Eprint + Drop> {
     rt: R,
@@ -37,13 +37,13 @@ pub struct TcpHub<R: Net<Listener = net::TcpListener, Stream = net::TcpStream> +
     /// The connections, by rising ids.
     conns: Vec<Conn>,
     sessions: Sessions,
-    /// The place that is looked at next: of a connection, or behind them all of the listener.
+    /// The place that is visited next: of a connection, or after them all of the listener.
     at: usize,
     /// Whether the listener may have a connection.
     knocks: bool,
-    /// Whether the last turn had something without asking the system, which may have more to tell.
+    /// Whether the last turn had something without asking the system, which may have more to report.
     busy: bool,
-    /// Whether it was said that no connection can be accepted, and none has been since.
+    /// Whether it was printed that no connection can be accepted, and none has been since.
     said: bool,
     /// How many connections couldn't be accepted.
     turned_away: u64,
@@ -67,7 +67,7 @@ impl<R: Net<Listener = net::TcpListener, Stream = net::TcpStream> + Eprint + Dro
 }
 
 impl<R: Net<Listener = net::TcpListener, Stream = net::TcpStream> + Eprint + Drop> TcpHub<R> {
-    /// A hub that doesn't listen yet, over the runtime. It takes the memory for all places.
+    /// A hub that doesn't listen yet, over the runtime. It allocates the memory for all places.
     pub fn new(rt: R, alloc: Global) -> Result<Self, AllocError>
         ensures listens { IfOk result (λ hub. hub.listens ≡ false) }
         ensures ids { IfOk result (λ hub. hub.ids ≡ no_ids) }
@@ -91,8 +91,8 @@ impl<R: Net<Listener = net::TcpListener, Stream = net::TcpStream> + Eprint + Dro
         })
     }
 
-    /// The port at which it listens, which the system chose where the address says 0, or `None`
-    /// where it doesn't listen.
+    /// The port at which it listens, which the system chose if the address has 0, or `None`
+    /// if it doesn't listen.
     pub fn port(&self) -> Option<u16>
         ensures { IfSome result (λ _. self.now.listens ≡ true) }
     {
@@ -109,8 +109,8 @@ impl<R: Net<Listener = net::TcpListener, Stream = net::TcpStream> + Eprint + Dro
         self.turned_away
     }
 
-    /// Opens a session where a connection has come and there is a place for it. One that can't be
-    /// accepted is left to the system: it may be gone, or the system may be out of descriptors. That
+    /// Opens a session if a connection is pending and there is a place for it. One that can't be
+    /// accepted is left to the system: it may be closed, or the system may be out of descriptors. That
     /// has a count of its own, since a fault of the hub would end the serving of all others.
     fn accept(&mut self) -> Turn
         ensures ids { Turns result 0 self.old.ids self.new.ids }
@@ -150,7 +150,7 @@ impl<R: Net<Listener = net::TcpListener, Stream = net::TcpStream> + Eprint + Dro
         }
     }
 
-    /// Counts a connection that can't be accepted, and says why for the first since one was.
+    /// Counts a connection that can't be accepted, and prints why for the first since one was.
     fn turn_away(&mut self, error: io::Error)
         ensures shown { self.new ≡ record self.old { turned_away = self.new.turned_away } }
         ensures counted { Counted self.old.turned_away self.new.turned_away }
@@ -198,7 +198,7 @@ impl<R: Net<Listener = net::TcpListener, Stream = net::TcpStream> + Eprint + Dro
         }
     }
 
-    /// Goes round the places until one has something, each once.
+    /// Visits the places in a circle until one has something, each once.
     fn go_round(&mut self, buf: &mut [u8]) -> Turn
         requires { 0 < length buf.old }
         ensures ids { Turns result (length buf.new) self.old.ids self.new.ids }
@@ -218,7 +218,7 @@ impl<R: Net<Listener = net::TcpListener, Stream = net::TcpStream> + Eprint + Dro
         Turn::Idle
     }
 
-    /// Counts a fault of the hub itself, says it, and answers so.
+    /// Counts a fault of the hub itself, prints it, and answers so.
     fn fail(&mut self, error: io::Error) -> Turn
         ensures failed { result ≡ Turn.Failed }
         ensures shown { self.new ≡ record self.old { faults = self.new.faults } }
@@ -229,7 +229,7 @@ impl<R: Net<Listener = net::TcpListener, Stream = net::TcpStream> + Eprint + Dro
         Turn::Failed
     }
 
-    /// Waits until the system tells something of a socket, or for so many milliseconds, and notes it.
+    /// Waits until the system reports an event of a socket, or for so many milliseconds, and notes it.
     fn wait(&mut self, millis: u64) -> io::Result<()>
         ensures { self.new ≡ self.old }
     {
@@ -288,7 +288,7 @@ impl<R: Net<Listener = net::TcpListener, Stream = net::TcpStream> + Eprint + Dro
     }
 
     fn turn(&mut self, buf: &mut [u8]) -> Turn {
-        // A client that always has bytes doesn't keep the others from being heard.
+        // A client that always has bytes doesn't prevent the others from being heard.
         if self.busy {
             if let Err(error) = self.wait(0) {
                 return self.fail(error);
