@@ -19,8 +19,8 @@
 //! nothing, for a program without a file.
 //!
 //! ```text
-//! synced  a b c d          write e f at 1       what a stop leaves: a ? ? d, of any length from 4 on
-//!                          sync                 what a stop leaves: a e f d
+//! synced  a b c d          write e f at 1       what a crash leaves: a ? ? d, of any length from 4 on
+//!                          sync                 what a crash leaves: a e f d
 //! ```
 //!
 //! Two calls serve every disk: [`fill`] reads a whole buffer over short reads, and [`write_down`] writes

@@ -21,7 +21,7 @@
 //! the hub.
 //!
 //! Nothing that a client does is a fault of the hub, only of its session. A read that fails is
-//! returned as the end of the input, and a send that fails as a session that is gone. A connection that
+//! returned as the end of the input, and a send that fails as a session that is `Gone`. A connection that
 //! can't be accepted is only counted.
 //!
 //! A client that doesn't read costs the others nothing: once a send wrote none of its bytes, the hub answers

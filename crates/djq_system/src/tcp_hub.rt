@@ -28,7 +28,7 @@ const LONGEST_WAIT: u64 = 250;
 ///
 /// Each call is a few lines over the system's. It prints to standard error its version and the address at which it
 /// listens, or why it can't, and once that connections can't be accepted, which it counts. A turn waits at most a
-/// quarter of a second, and then it is idle. After the id 18446744073709551615 no connection is accepted any more.
+/// quarter of a second, and then answers `Idle`. After the id 18446744073709551615 no connection is accepted any more.
 #[derive(Drop)]
 pub struct TcpHub<R: Net<Listener = net::TcpListener, Stream = net::TcpStream> + Eprint + Drop> {
     rt: R,
