@@ -1,8 +1,8 @@
 //! The program as a library: what the words of a command line do to any source, sink, hub and disk.
 //!
-//! [`run_program`] is the whole of it. Its contract says what was written: the replies of a run of the
-//! join machine, so it is the theorem of the whole product. And it says what a stop at any moment leaves
-//! of the log. [`Telling`] is a standard stream that says why the system failed it.
+//! [`run_program`] is the whole of it. Its contract states what was written: the replies of a run of the
+//! join machine, so it is the theorem of the whole product. And it states what a crash at any moment leaves
+//! of the log. [`Telling`] is a standard stream that prints why the system failed it.
 //!
 //! ```text
 //! run_program(alloc, ["djq", "run"], source, sink, hub, disk, steps)
@@ -12,7 +12,7 @@
 //! ```
 //!
 //! What surprises: help and version words are no command, and are answered by the usage line. What the
-//! theorem says of bytes it says where the source, sink or hub tells them; of the real ones it says
+//! theorem states of bytes holds if the source, sink or hub records them; of the real ones it states
 //! which calls were made and what their answers did.
 //!
 //! What this crate is not: it opens no file and no socket, and reads no command line. The program's
@@ -20,7 +20,7 @@
 //! [`run_program`] over the crates below.
 //!
 //! Inside, `program` has an arm for each command, `replay` and `load` what two of them do, and `log` opens
-//! and loads the file. What the contracts say of whole runs, and the laws of that, stand in
+//! and loads the file. What the contracts state of whole runs, and the laws of that, are in
 //! djq_program_laws.
 #![tactic(auto)]
 

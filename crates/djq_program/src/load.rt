@@ -14,9 +14,9 @@ use itoa::Buffer;
 use std::alloc::{AllocError, Global};
 
 /// Runs the load of so many changes with a seed through one session of a machine, lists the answers
-/// of its query to their end, and writes what it comes to: how many different rows there are, how
-/// many changes there were, how many answers there are, and what their integers add up to. Out of
-/// memory nothing is written, and no more is counted of listings than the lines that came may cost.
+/// of its query to their end, and writes its totals: how many different rows there are, how
+/// many changes there were, how many answers there are, and the sum of their integers. Out of
+/// memory nothing is written, and no more is counted of listings than the lines that were fed may cost.
 pub(crate) fn generate<K: Sink, L: Ledgers>(
     alloc: Global,
     n: u32,
@@ -34,7 +34,7 @@ pub(crate) fn generate<K: Sink, L: Ledgers>(
     }
 }
 
-/// Runs a load, and tells what it comes to.
+/// Runs a load, and returns its totals.
 fn summarize<L: Ledgers>(
     alloc: Global,
     n: u32,

@@ -19,8 +19,8 @@ use djq_run::Status;
 const ABANDON: &[u8] = b"abandon";
 
 /// Opens the log at a path, and loads its lines into a machine in which nothing has happened, one
-/// after another. Where they end within a batch, as those of a file from elsewhere may, it is ended.
-/// Without a path lines are kept nowhere.
+/// after another. If they end within a batch, as those of a file from elsewhere may, it is ended.
+/// Without a path lines are stored nowhere.
 ///
 /// # Errors
 ///
@@ -73,7 +73,7 @@ fn read_log<D: Disk, L: Ledgers>(
     }
 }
 
-/// Opens the journal at a path, which is made where the file is empty.
+/// Opens the journal at a path, which is made if the file is empty.
 fn open_journal<D: Disk>(disk: &mut D, path: &str) -> Result<Journal, Status>
     ensures is_open { IfOk result (λ _. D.is_open disk.new ≡ true) }
     ensures opens { MatchResult result
@@ -94,7 +94,7 @@ fn open_journal<D: Disk>(disk: &mut D, path: &str) -> Result<Journal, Status>
     }
 }
 
-/// Opens the file at a path, and makes a journal in it where it is empty.
+/// Opens the file at a path, and makes a journal in it if it is empty.
 fn open_file<D: Disk>(disk: &mut D, path: &str) -> DiskDid
     ensures is_open { result ≡ DiskDid.Done → D.is_open disk.new ≡ true }
     ensures opens { OpensFile result path.now (disk_seen (D.told disk.old) (D.faults disk.old))
@@ -115,8 +115,8 @@ fn open_file<D: Disk>(disk: &mut D, path: &str) -> DiskDid
     }
 }
 
-/// Ends the batch that lines of a journal left open, if they did: the line `abandon` is loaded, and kept
-/// behind them.
+/// Ends the batch that lines of a journal left open, if they did: the line `abandon` is loaded, and appended
+/// to them.
 fn end_batch<D: Disk, L: Ledgers>(
     machine: &mut Core,
     disk: &mut D,
@@ -137,7 +137,7 @@ fn end_batch<D: Disk, L: Ledgers>(
     if !machine.load_open() {
         return Ok(Log::of(journal));
     }
-    // In a batch it is never refused, and takes no memory.
+    // In a batch it is never refused, and allocates nothing.
     machine.load(ABANDON, steps);
     match journal.append(disk, ABANDON) {
         Appended::Done(journal) => Ok(Log::of(journal)),
@@ -146,7 +146,7 @@ fn end_batch<D: Disk, L: Ledgers>(
     }
 }
 
-/// Loads the lines of a journal one after another, until it is idle behind them.
+/// Loads the lines of a journal one after another, until it is idle after them.
 fn load_lines<D: Disk, L: Ledgers>(
     machine: &mut Core,
     disk: &mut D,

@@ -31,13 +31,13 @@ const USAGE: &[u8] =
 /// Runs the program by the words of its command line, of which the first is its name.
 ///
 /// `run` serves one session from the source to the sink. `serve` lets the hub listen at an address,
-/// and serves the sessions that come. `replay` serves a hub of its own, whose turns are those of the
-/// schedule in the source, in order. Both start from what the lines of their log give, where they
-/// are asked for one, and keep in it what changes that, before anything is sent behind it. `gen`
-/// runs a generated load, lists the answers of its query to their end, and writes what it comes to.
-/// `mirror` writes the answers of a query that one session was told, by the bytes alone that it was sent,
-/// which the source has. Other words are answered by the usage line. Out of memory no more is counted of listings than the
-/// part that was done may cost.
+/// and serves the sessions that open. `replay` serves a hub of its own, whose turns are those of the
+/// schedule in the source, in order. Both start from what the lines of their log give, if they
+/// have one, and append to it what changes that, before anything more is sent.
+/// `gen` runs a generated load, lists the answers of its query to their end, and writes its totals.
+/// `mirror` writes the answers of a query that one session was sent, by the bytes alone that it was sent,
+/// which the source has. Other words are answered by the usage line. Out of memory no more is counted of
+/// listings than the part that was done may cost.
 ///
 /// The hub has opened no session before, and words other than those of `serve` leave it as it is.
 /// Words without a log leave the disk as it is.
@@ -143,7 +143,7 @@ fn serve_hub<H: Hub, D: Disk, L: Ledgers>(
     }
 }
 
-/// The status that the answer of the loop comes to.
+/// The status for the answer of the loop.
 pub(crate) fn ended_status(served: Served) -> Status
     ensures { result ≡ served_status served }
 {
@@ -156,7 +156,7 @@ pub(crate) fn ended_status(served: Served) -> Status
     }
 }
 
-/// Writes the answers of a query that a session was told which was sent what the source has.
+/// Writes the answers of a query of a session that was sent the bytes of the source.
 fn mirror_source<S: Source, K: Sink>(
     alloc: Global,
     query: &str,
@@ -171,7 +171,7 @@ fn mirror_source<S: Source, K: Sink>(
     mirror_status(run_mirror(alloc, Name::new(query.as_bytes()), source, sink))
 }
 
-/// The status that the end of `mirror` comes to.
+/// The status for the end of `mirror`.
 fn mirror_status(answer: Mirrored) -> Status
     ensures { result ≡ mirror_status answer }
 {

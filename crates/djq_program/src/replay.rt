@@ -24,8 +24,8 @@ use std::alloc::Global;
 
 /// Reads a schedule from the source, serves its hub with the log at the path, if there is one, and
 /// writes each line that was sent to a session, in the order of the sends. What is served are the
-/// turns of the schedule, in order, until none is left, a session said `stop`, or the log failed. A
-/// schedule with a line outside the grammar isn't run, and the first such line is told. Out of memory
+/// turns of the schedule, in order, until none is left, a session sent `stop`, or the log failed. A
+/// schedule with a line outside the grammar isn't run, and the first such line is reported. Out of memory
 /// nothing is written.
 pub(crate) fn replay<S: Source, K: Sink, D: Disk, L: Ledgers>(
     alloc: Global,
@@ -91,7 +91,7 @@ fn read_pieces<S: Source>(
     Err(Status::TurnsUsed)
 }
 
-/// Replays a schedule, and writes what it comes to.
+/// Replays a schedule, and writes its outcome.
 fn replay_schedule<K: Sink, D: Disk, L: Ledgers>(
     alloc: Global,
     bytes: &[u8],
@@ -123,7 +123,7 @@ pub(crate) fn write_text<K: Sink>(sink: &mut K, text: &[u8], status: Status) -> 
     }
 }
 
-/// The status where two things failed: the log's, if it failed as the schedule was run, and else that
+/// The status if two things failed: the log's, if it failed as the schedule was run, and else that
 /// of what failed later.
 fn first_fault(status: Status, later: Status) -> Status
     ensures { result ≡ first_fault status later }
@@ -134,11 +134,11 @@ fn first_fault(status: Status, later: Status) -> Status
     }
 }
 
-/// What is to be written for a schedule, and the status where it is.
+/// What is to be written for a schedule, and the status once it is written.
 ///
 /// # Errors
 ///
-/// The status where nothing is to be written.
+/// The status if nothing is to be written.
 fn make_text<D: Disk, L: Ledgers>(
     alloc: Global,
     bytes: &[u8],
@@ -163,7 +163,7 @@ fn make_text<D: Disk, L: Ledgers>(
     }
 }
 
-/// The line that says which line of a schedule is the first outside the grammar, with its status.
+/// The line that reports which line of a schedule is the first outside the grammar, with its status.
 ///
 /// # Errors
 ///
@@ -179,7 +179,7 @@ fn tell_outside(alloc: Global, number: u64) -> Result<(Vec<u8>, Status), Status>
     }
 }
 
-/// Serves the hub of a schedule, for one turn more than it has lines, and tells what was sent.
+/// Serves the hub of a schedule, for one turn more than it has lines, and returns what was sent.
 fn serve_schedule<D: Disk, L: Ledgers>(
     alloc: Global,
     bytes: &[u8],
@@ -227,7 +227,7 @@ fn serve_schedule<D: Disk, L: Ledgers>(
 ///
 /// # Errors
 ///
-/// The status where there is no memory for them.
+/// The status if there is no memory for them.
 fn tell_sent(alloc: Global, hub: &SteadyHub, status: Status) -> Result<(Vec<u8>, Status), Status>
     ensures { MatchResult result (λ made. TellsWhole made.0.items made.1 hub.now.past status)
         (λ lacking. TellsNone lacking status) }

@@ -1,7 +1,7 @@
 use std::io::{self, Eprint, Result};
 
-/// The standard input or output, which says on standard error why the system failed it. It gives and
-/// takes what the stream below it does.
+/// The standard input or output, which prints to standard error why the system failed it. It reads and
+/// writes the bytes that the stream below it does.
 #[derive(Drop)]
 pub struct Telling<S: Drop, E: Eprint + Drop> {
     stream: S,
@@ -9,7 +9,7 @@ pub struct Telling<S: Drop, E: Eprint + Drop> {
 }
 
 impl<S: Drop, E: Eprint + Drop> Telling<S, E> {
-    /// The stream, and where its failures are said.
+    /// The stream, and the runtime to which its failures are printed.
     pub fn new(stream: S, rt: E) -> Self {
         Telling { stream, rt }
     }
