@@ -7,7 +7,7 @@
 //! ```text
 //! run_program(alloc, ["djq", "run"], source, sink, hub, disk, steps)
 //!
-//! source  rel r int, add r 7       what comes is read, run and answered line by line
+//! source  rel r int, add r 7       each line is read, run and answered
 //! sink    ok, ok added 1 1         and at the source's end the status is Done
 //! ```
 //!
