@@ -3,8 +3,8 @@ ghost use Rattle.djq_program_laws.specs.Live.{RunIsLive, ServeIsLive};
 ghost use Rattle.djq_program_laws.specs.ReadBack.{RunIsReadBack, ServeIsReadBack, RunMomentsAreReadBack, ServeMomentsAreReadBack};
 ghost use Rattle.djq_program_laws.specs.Reopened.{LogsReopen};
 
-/// At each moment of a run of the program, a cursor that was open and had been told the end had
-/// listed every answer of its query over the rows that were there then, each once, and nothing
+/// At each moment of a run of the program, a cursor that was open and whose end was sent had
+/// listed every answer of its query over the rows that were present then, each once, and nothing
 /// else.
 ///
 /// It is empty: its contract is a law of what the program promises of its end.
@@ -13,7 +13,7 @@ pub fn finished_cursors_have_listed()
 {}
 
 /// From each moment of a run of the program on, a session that has listed a query through a cursor,
-/// and watches it, has the answers over the rows that are there by adding up what it is told.
+/// and watches it, has the answers over the present rows by adding up what it is sent.
 pub fn run_stays_live()
     ensures { RunIsLive }
 {}
@@ -31,15 +31,15 @@ pub fn run_is_read_back()
     ensures moments { RunMomentsAreReadBack }
 {}
 
-/// So it is with each session that the program serves, and with what the hub took for it.
+/// The same holds of each session that the program serves, and of the bytes that the hub sent to it.
 pub fn serve_is_read_back()
     ensures end { ServeIsReadBack }
     ensures moments { ServeMomentsAreReadBack }
 {}
 
-/// What a stop leaves of a log behind the program's end opens to lines that, loaded, give what was
-/// there behind a first part of the lines that the run kept. That part has each line that was
-/// answered: all of them, but where the log failed the last.
+/// What a crash leaves of a log after the program's end opens to lines that, loaded, give the state
+/// after a first part of the lines that the run logged. That part has each line that was
+/// answered: all of them, or all but the last if the log failed.
 pub fn logs_reopen()
     ensures { LogsReopen }
 {}

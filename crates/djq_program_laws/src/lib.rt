@@ -1,20 +1,20 @@
 //! What a whole run of the program does, and what follows from it.
 //!
-//! `specs/Ends.antt` says what a run reads, writes and logs, for each command: `ProgramEnds` is the promise
+//! `specs/Ends.antt` defines what a run reads, writes and logs, for each command: `ProgramEnds` is the promise
 //! of the program's top call. The functions here are empty, and their contracts are laws of that promise:
 //! a finished cursor has listed every answer, a subscribed session stays live, what a session was sent is
-//! read back by the mirror, and what a stop leaves of a log opens again.
+//! read back by the mirror, and what a crash leaves of a log opens again.
 //!
 //! ```text
 //! ProgramEnds  ->  FinishedCursors, RunIsLive, ServeIsLive, RunIsReadBack, ServeIsReadBack, LogsReopen
 //! Serving      ->  HaveListed, StayLive, AreReadBack, of `serve` and of `replay`
 //! ```
 //!
-//! What surprises: no law needs to know how the join machine is made. So this crate stands on the
+//! What surprises: no law needs to know how the join machine is made. So this crate depends on the
 //! machine's contract, and on no store.
 //!
-//! What this crate is not: it runs nothing. djq_program has the calls that keep the promise, and cites the
-//! lemmas in `proofs/` of how logs open and how runs go on.
+//! What this crate is not: it runs nothing. djq_program has the calls that fulfil the promise, and cites the
+//! lemmas in `proofs/` of how logs open and how runs continue.
 //!
 //! Inside, `laws` has the laws, and `served` those that hold of every serving, under whichever command.
 #![tactic(auto)]
