@@ -1,27 +1,27 @@
 //! Laws that hold of every run of the join machine, whatever program makes it.
 //!
-//! Each function here is empty: its contract is the law, and its proof says nothing of code. So a
+//! Each function here is empty: its contract is the law, and its proof concerns no code. So a
 //! reader finds the laws in one place, and a program that makes a run has them of that run. They
 //! hold from any state on, over any number of sessions.
 //!
 //! ```text
-//! 1 says  open c q, next c 9      = 1 5, end                       a listing: (1,5)
-//! 1 says  watch q                 ok watch 3
-//! 2 says  add r 2 5               to 1: + q 2 5, at q 4
-//! listings_stay_live              (1,5) (2,5) is a listing of q over the rows behind it
+//! 1 sends open c q, next c 9      = 1 5, end                       a listing: (1,5)
+//! 1 sends watch q                 ok watch 3
+//! 2 sends add r 2 5               to 1: + q 2 5, at q 4
+//! listings_stay_live              (1,5) (2,5) is a listing of q over the rows after it
 //! ```
 //!
-//! What this crate is not: it makes no run, and doesn't say that a program makes one. That djq_run
+//! What this crate is not: it makes no run, and doesn't state that a program makes one. That djq_run
 //! and djq_serve promise, and djq puts the two together in what `run_program` promises. The laws on
-//! lines that are kept are djq_log_laws's.
+//! lines that are logged are djq_log_laws's.
 //!
-//! What surprises: `specs/Course.antt` says what the program may make of a run under the words
-//! `run`, and what its source, its sink and its counters show of it. It is the one reason that this
-//! crate stands on djq_io, and that it has limits. Whoever makes a course, djq_run, cites it.
+//! What surprises: `specs/Course.antt` defines what the program may make of a run under the words
+//! `run`, and what its source, its sink and its counters show of it. It is the one reason for which this
+//! crate depends on djq_io, and has limits. Whoever makes a course, djq_run, cites it.
 //!
-//! Inside, a law over commands goes by their forms: `specs/Form.antt` says what each command may
-//! change, and `proofs/Forms.antt` that it does. A new command is given a form there. Laws over
-//! runs go by induction over steps, each law in a file of `specs/` with the notions that it needs.
+//! Inside, a law over commands is proved by their forms: `specs/Form.antt` defines what each command may
+//! change, and `proofs/Forms.antt` proves that it does. A new command is given a form there. Laws over
+//! runs are proved by induction over steps, each law in a file of `specs/` with the notions that it needs.
 //! That a tuple is an answer of a query or isn't is a law of djq_answer_laws, on which [`deltas_add_up`]
 //! rests.
 #![tactic(auto)]
@@ -47,36 +47,36 @@ pub fn stays_open()
     ensures { StaysOpen }
 {}
 
-/// Bytes that come to a session are held behind those that were, or dropped where it has ended; or
-/// it ends out of memory, and says so.
+/// Bytes that are received for a session are appended to those held, or dropped if it has ended; or
+/// it ends out of memory, and a line reports that.
 pub fn bytes_come()
     ensures { BytesCome }
 {}
 
-/// Bytes that are taken of a session are the first of those that were pending, and nothing else of
+/// Bytes that are sent to a session are the first of those that were pending, and nothing else of
 /// it changes.
 pub fn bytes_are_taken()
     ensures { BytesAreTaken }
 {}
 
-/// A session whose input ends keeps the cause that it has, or that one; and a line says so where
+/// A session whose input ends retains the cause that it has, or has that one; and a line reports that if
 /// bytes were held.
 pub fn input_ends()
     ensures { InputEnds }
 {}
 
-/// A line is taken of a session that hadn't ended, and is gone from the bytes held. What became of
-/// it says whether the session ends, and by which cause.
+/// A line is removed from a session that hadn't ended, and from the bytes held. Its outcome
+/// determines whether the session ends, and by which cause.
 pub fn line_is_taken()
     ensures { LineIsTaken }
 {}
 
-/// Each state that a run comes to from a state to start from is sound: relations, queries, known
+/// Each state that a run reaches from a state to start from is sound. Relations, queries, known
 /// texts, the rows of a relation and the answers that an open cursor has given are without repeats;
-/// rows are of their columns' types, each with one copy at least; queries read relations that are
-/// there, and are free-connex; the members of a union are registered queries, two at least, none
-/// twice, with answers of the same types; cursors and watches are of what is registered; the rows
-/// that a batch holds suit their relations, each said by its line; a session that has ended has none
+/// rows are of their columns' types, each with one copy at least. Queries read relations that are
+/// present, and are free-connex; the members of a union are registered queries, two at least, none
+/// twice, with answers of the same types. Cursors and watches are of what is registered; the rows
+/// that a batch holds suit their relations, each stated by its line. A session that has ended has none
 /// of them; and sessions are by rising id.
 ///
 /// The limits of the protocol hold in it: on relations, their columns (one at least) and rows, the
@@ -84,18 +84,18 @@ pub fn line_is_taken()
 /// variables and comparisons, the number of changes, a session's cursors, the rows of its batch, and
 /// sessions. That names and values are within theirs is `states_are_sayable` of djq_mirror_laws.
 ///
-/// Every run keeps it so. The state in which nothing has happened is one to start from.
+/// Every run preserves this. The state in which nothing has happened is one to start from.
 pub fn states_are_sound()
     ensures kept { RunsKeepSound }
     ensures opening { OpeningIsStart }
     ensures reached { StatesAreSound }
 {}
 
-/// Relations are bags. A row is there exactly where it has a copy. An `add` that is done makes one
-/// copy of its row more, a `del` one less where there is one, and each tells how many there are
-/// then; every other row has as many as before. A change is counted exactly where a row gets its
+/// Relations are bags. A row is present if and only if it has a copy. An `add` that is done makes one
+/// copy of its row more, a `del` one less if there is one, and each reports how many there are
+/// then; every other row has as many as before. A change is counted if and only if a row gets its
 /// first copy or loses its last. A `done` that is done makes as many copies more of each row as its
-/// batch holds, and counts one change exactly where one of them gets its first.
+/// batch holds, and counts one change if and only if one of them gets its first.
 pub fn copies_are_counted()
     ensures there { RowsHaveCopies }
     ensures added { AddsCopy }
@@ -103,8 +103,8 @@ pub fn copies_are_counted()
     ensures held { AddsHeld }
 {}
 
-/// A step that keeps a group of lines says no `stop`. So where a group that is to be kept can't be,
-/// no session said it yet.
+/// A step that logs a group of lines has no `stop`. So if a group that is to be logged can't be,
+/// no session sent it yet.
 pub fn kept_says_no_stop()
     ensures { KeptSaysNoStop }
 {}
@@ -114,27 +114,27 @@ pub fn ids_rise()
     ensures { IdsRise }
 {}
 
-/// What was taken or dropped of a session's bytes, and then what is pending, is what was pending
+/// What was sent or dropped of a session's bytes, and then what is pending, is what was pending
 /// and all that was queued to it, in order: along every run.
 pub fn sent_bytes()
     ensures { SentBytes }
 {}
 
-/// What was taken of a session's bytes comes before what was dropped as it closed, and before what
+/// What was sent of a session's bytes precedes what was dropped as it closed, and what
 /// is pending: along every run in which no session opens twice.
 pub fn sent_in_order()
     ensures { SentInOrder }
 {}
 
 /// Nothing is queued to a session that has ended, or isn't open: no reply, and no delta. It stays so
-/// until a session of its id opens; of one that was open, for good, where none opens twice.
+/// until a session of its id opens; for one that was open, for good, if none opens twice.
 pub fn ended_are_told_nothing()
     ensures silent { OverIsSilent }
     ensures once { OverOnce }
 {}
 
 /// A session's bytes are run in order, whatever the other sessions do: along every run in which it
-/// isn't closed, the lines taken of it are those that its bytes are cut into.
+/// isn't closed, the lines run for it are those that its bytes are cut into.
 pub fn lines_in_order()
     ensures { LinesInOrder }
 {}
@@ -145,50 +145,50 @@ pub fn runs_give()
     ensures { RunsGive }
 {}
 
-/// In each state that a run comes to from a state to start from, an open cursor that was told the end
+/// In each state that a run reaches from a state to start from, an open cursor whose end was sent
 /// has given a listing of its query: each answer over the present rows, once, and nothing else.
 pub fn runs_have_listed()
     ensures { RunsHaveListed }
 {}
 
-/// What an open cursor has given is what its session was told since it opened it: the replies to
+/// What an open cursor has given is what its session was sent since it opened it. The replies to
 /// its `next` lines, but those that a batch doesn't let through, are page by page those answers, in
-/// order, and the last of them tells the end exactly where the cursor is finished. So a session that
-/// has listed a query was told each answer over the present rows, once.
+/// order, and the last of them has the end if and only if the cursor is finished. So a session that
+/// has listed a query was sent each answer over the present rows, once.
 pub fn given_is_told()
     ensures given { GivenIsTold }
     ensures listed { ListedIsTold }
 {}
 
-/// Every course of the program has the headline: the bytes sent, the lines taken, and what the
+/// Every course of the program has the headline: the bytes sent, the lines run, and what the
 /// cursors gave.
 pub fn courses_give()
     ensures { CoursesGive }
 {}
 
-/// A listing and the delta of a change come to a listing of the answers behind it: a session that
-/// takes out the answers that went, and puts in those that came, has what it would list anew.
+/// A listing and the delta of a change make a listing of the answers after it: a session that
+/// deletes the answers that the delta removes, and inserts those that it adds, has what it would list anew.
 pub fn deltas_add_up()
     ensures { DeltasAddUp }
 {}
 
-/// A session that watches a query all along a run, and adds up what it is told of it, has the
-/// answers of the query over the present rows. It is told each accepted change of a relation that
+/// A session that watches a query all along a run, and adds up what it is sent of it, has the
+/// answers of the query over the present rows. It is sent each accepted change of a relation that
 /// the query reads.
 pub fn watchers_have_answers()
     ensures { WatchersHaveAnswers }
 {}
 
-/// A session that watches a registered query does so as long as it goes on and doesn't unwatch it:
+/// A session that watches a registered query does so as long as it runs and doesn't unwatch it:
 /// the query stays registered.
 pub fn watchers_stay()
     ensures { WatchersStay }
 {}
 
 /// A session that has listed a query through a cursor, and watches it, has the answers over the
-/// present rows by adding up what it is told, as long as it goes on and doesn't unwatch it: one
-/// delta for each accepted change of a relation that the query reads, by rising number. So it is
-/// wherever cursors give what they should, and from each state on that a run comes to from a state to
+/// present rows by adding up what it is sent, as long as it runs and doesn't unwatch it: one
+/// delta for each accepted change of a relation that the query reads, by rising number. This holds
+/// if cursors give what they should, and from each state on that a run reaches from a state to
 /// start from.
 pub fn listings_stay_live()
     ensures live { ListingsStayLive }
