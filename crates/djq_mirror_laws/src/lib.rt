@@ -1,30 +1,30 @@
-//! Laws on what sessions are told: which lines they are sent, and what a mirror makes of them.
+//! Laws on what is sent to sessions: which lines they are sent, and what a mirror makes of them.
 //!
-//! Each function here is empty: its contract is the law, and its proof says nothing of code. They are
+//! Each function here is empty: its contract is the law, and its proof concerns no code. They are
 //! laws of every run of the join machine, whatever program makes it.
 //!
 //! ```text
-//! 1 says  watch q           ok watch 0         the mirror of q is idle
-//! 1 says  open c q          ok open            it lists, and has nothing
-//! 1 says  next c 9          = 2, = 1, end      it is live, and has 1 and 2
-//! 2 says  add r 3 5         + q 3, at q 3      it has 1, 2 and 3
-//! 2 says  del r 1 5         - q 1, at q 4      it has 2 and 3, the answers of q
+//! 1 sends watch q           ok watch 0         the mirror of q is idle
+//! 1 sends open c q          ok open            it lists, and has nothing
+//! 1 sends next c 9          = 2, = 1, end      it is live, and has 1 and 2
+//! 2 sends add r 3 5         + q 3, at q 3      it has 1, 2 and 3
+//! 2 sends del r 1 5         - q 1, at q 4      it has 2 and 3, the answers of q
 //! ```
 //!
-//! What this crate is not: it reads no bytes. What a reply line is, and what each form of one does to
-//! what a mirror holds, says djq_mirror, and takes lines apart.
+//! What this crate is not: it reads no bytes. djq_mirror defines what a reply line is, and what each form of
+//! one does to what a mirror holds, and parses lines.
 //!
-//! What surprises: a delta and a listing tell answers by their texts, and a mirror keeps texts. That
-//! two answers have two texts rests on what lines can say: a value within its limit is read back from
+//! What surprises: a delta and a listing send answers by their texts, and a mirror stores texts. That
+//! two answers have two texts depends on what a line can express: a value within its limit is read back from
 //! its text. So the laws on mirrors ask for states that lines have made, and `specs/Sayable.antt`
-//! says which these are.
+//! defines which these are.
 //!
-//! Inside, `proofs/Deltas.antt` says what one session hears of a change, `Replying.antt` what each
+//! Inside, `proofs/Deltas.antt` has what one session is sent of a change, `Replying.antt` what each
 //! command is answered by the forms of replies, `Mirroring.antt` what replies make of what a mirror
-//! holds, and `Mirrored.antt` ties that to the session's cursor, step by step. `Printed.antt` says that
+//! holds, and `Mirrored.antt` ties that to the session's cursor, step by step. `Printed.antt` proves that
 //! what a sayable state is asked is printed by the forms. That a rest is short, `Lengths.antt` and
-//! `Resting.antt` show: its names stand in the line that says the query, and the reduction of
-//! Graham and of Yu and Ozsoyoglu only takes some away.
+//! `Resting.antt` show: its names occur in the line that defines the query, and the reduction of
+//! Graham and of Yu and Ozsoyoglu only deletes some.
 #![tactic(auto)]
 
 ghost use Rattle.djq_mirror_laws.specs.Sayable.{RunsKeepSayable, OpeningIsSayable, StatesAreSayable};
@@ -35,11 +35,11 @@ ghost use Rattle.djq_mirror_laws.specs.Lines.{PrintedAreLines};
 ghost use Rattle.djq_mirror_laws.specs.Mirrored.{StartsAreMirrored, EndsAreMirrored, MirroredAreHeld, ReadersAreReadBack};
 ghost use Rattle.djq_mirror_laws.specs.Whole.{SessionsAreReadBack, OpenedAreReadBack, HeldAlone};
 
-/// Along every run from a state to start from whose names and values lines can say, all names are
+/// Along every run from a state to start from whose names and values a line can express, all names are
 /// names, all values are within their limits and their texts of UTF-8, and each variable of a
-/// registered query's head stands in its body: of relations, queries, unions, cursors and watches, of
-/// rows, known texts and constants, of what cursors have given, and of what batches hold. What lines that
-/// are loaded come to is such a state to start from.
+/// registered query's head occurs in its body. This holds of relations, queries, unions, cursors and watches,
+/// of rows, known texts and constants, of what cursors have given, and of what batches hold. The state that
+/// loaded lines give is such a state to start from.
 pub fn states_are_sayable()
     ensures kept { RunsKeepSayable }
     ensures opening { OpeningIsSayable }
@@ -47,19 +47,19 @@ pub fn states_are_sayable()
     ensures loaded { LoadedAreSayable }
 {}
 
-/// What is queued to a session that watches a query or a union is whole reply lines, and those among them that
-/// tell of the query are its deltas, one after the other, and no others. They add up to the answers
+/// What is queued to a session that watches a query or a union is whole reply lines. Those among them that
+/// concern the query are its deltas, one after the other, and no others. They add up to the answers
 /// over the present rows.
 pub fn watchers_are_told_exactly()
     ensures { WatchersAreToldExactly }
 {}
 
-/// A mirror of a query or a union, of what a session was sent that begins to watch it and then reads
-/// it through one cursor at a time, refuses nothing; and where it is live, it holds the answers over
-/// the present rows, or those that there were as the session's input ended or it was closed. Said of
-/// replies by their forms, and, from a start whose names and values lines can say, of the whole of the
-/// bytes that the session was sent, and behind its end: to the last step of the run, whatever comes
-/// behind that end.
+/// A session begins to watch a query or a union and then reads it through one cursor at a time. A mirror of
+/// it, of what that session was sent, refuses nothing. If it is live, it holds the answers over
+/// the present rows, or over those that were present as the session's input ended or it was closed. This is
+/// stated of replies by their forms. From a start whose names and values a line can express it is also
+/// stated of the whole of the bytes that the session was sent, and after its end: to the last step of the
+/// run, whatever follows that end.
 pub fn readers_are_mirrored()
     ensures watching { WatchersAreMirrored }
     ensures reading { ReadersAreMirrored }
@@ -71,14 +71,14 @@ pub fn readers_are_mirrored()
     ensures opened { OpenedAreReadBack }
 {}
 
-/// An input that comes to what a mirror holds is refused at no line, and whatever else it may come to
+/// An input that leads to what a mirror holds is refused at no line, and whatever else it may lead to
 /// shows the same answers.
 pub fn inputs_are_held_alone()
     ensures { HeldAlone }
 {}
 
-/// A printed reply is one line, without an LF inside, and no longer than 16,384 bytes: a rest too, where
-/// its edges take no more bytes than a line may have. Nothing is said of lines that explain a tree.
+/// A printed reply is one line, without an LF inside, and no longer than 16,384 bytes: a rest too, if
+/// its edges need no more bytes than a line may have. Lines that explain a tree aren't covered.
 pub fn printed_are_lines()
     ensures { PrintedAreLines }
 {}
