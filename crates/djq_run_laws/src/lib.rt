@@ -65,7 +65,7 @@ pub fn input_ends()
     ensures { InputEnds }
 {}
 
-/// A line is removed from a session that hadn't ended, and from the bytes held. Its outcome
+/// A line of a session that hadn't ended is consumed, and removed from the bytes held. Its outcome
 /// determines whether the session ends, and by which cause.
 pub fn line_is_taken()
     ensures { LineIsTaken }
@@ -134,7 +134,7 @@ pub fn ended_are_told_nothing()
 {}
 
 /// A session's bytes are run in order, whatever the other sessions do: along every run in which it
-/// isn't closed, the lines run for it are those that its bytes are cut into.
+/// isn't closed, the lines consumed of it are those that its bytes are cut into.
 pub fn lines_in_order()
     ensures { LinesInOrder }
 {}
@@ -160,7 +160,7 @@ pub fn given_is_told()
     ensures listed { ListedIsTold }
 {}
 
-/// Every course of the program has the headline: the bytes sent, the lines run, and what the
+/// Every course of the program has the headline: the bytes sent, the lines consumed, and what the
 /// cursors gave.
 pub fn courses_give()
     ensures { CoursesGive }
