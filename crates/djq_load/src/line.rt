@@ -6,7 +6,7 @@ use itoa::Buffer;
 /// How many bytes a line's buffer has. No line fills it.
 pub const LINE_BYTES: usize = 64;
 
-/// Writes a piece of a line behind what is there, and gives where the piece ends.
+/// Writes a piece of a line after what is there, and returns the end of the piece.
 pub(crate) fn put(line: &mut [u8; 64], at: usize, piece: &[u8]) -> usize
     requires { at + length piece.now ≤ 64 }
     ensures end { result ≡ at + length piece.now }
@@ -17,7 +17,7 @@ pub(crate) fn put(line: &mut [u8; 64], at: usize, piece: &[u8]) -> usize
     end
 }
 
-/// Writes a number of at most five digits behind what is there, and gives where it ends.
+/// Writes a number of at most five digits after what is there, and returns the end of it.
 fn put_number(line: &mut [u8; 64], at: usize, number: u32) -> usize
     requires room { at + 5 ≤ 64 }
     requires short { number < 100000 }
@@ -44,7 +44,7 @@ fn relation(a: u32) -> &'static [u8]
     if a % 2 == 0 { b"r " } else { b"s " }
 }
 
-/// Writes the line of a change from its three draws, where so many different values are in use.
+/// Writes the line of a change from its three draws, if so many different values are in use.
 pub(crate) fn put_change(line: &mut [u8; 64], values: u32, a: u32, b: u32, c: u32) -> usize
     requires some { 0 < values }
     requires few { values ≤ 32768 }

@@ -19,7 +19,7 @@ pub(crate) enum Due {
 }
 
 impl Due {
-    /// The line that is due, with what is due after it: none where a change is.
+    /// The line that is due, with what is due after it: none if a change is.
     fn fixed(self) -> Option<(&'static [u8], Due)>
         ensures some { IfSome result (λ p. (length p.0.now ≤ 64) × ((more : List (List ℕ))
             → from_due self more ≡ p.0.now ∷ from_due p.1 more)) }
@@ -39,7 +39,7 @@ impl Due {
 
 /// The lines of a load, given one after another.
 ///
-/// Contracts see the list of the lines that are still to come, each with its line end.
+/// Contracts see the list of the lines that remain, each with its line end.
 #[derive(Debug, Drop)]
 pub struct Load {
     values: u32,
@@ -77,8 +77,8 @@ impl Load {
         }
     }
 
-    /// Writes the next line at the front of a buffer, with its line end, and gives its length: none
-    /// exactly after the last line.
+    /// Writes the next line at the front of a buffer, with its line end, and returns its length: none
+    /// if and only if the last line was given.
     pub fn line(&mut self, line: &mut [u8; 64]) -> Option<usize>
         ensures given { IfSome result (λ n. (n ≤ 64) × (self.old ≡ take n line.new ∷ self.new)) }
         ensures over { IfNone result ((self.old ≡ []) × (self.new ≡ [])) }

@@ -21,7 +21,7 @@ use djq_model::NoMem;
 /// The id of the session of a load.
 const ID: u64 = 1;
 
-/// What a load comes to.
+/// The totals of a load.
 #[derive(Clone, Copy, Debug, PartialEq, Eq)]
 pub struct Totals {
     /// The number of answers of its query.
@@ -31,16 +31,16 @@ pub struct Totals {
 }
 
 /// Opens session 1 of a machine, feeds it the load of so many changes with a seed, line by line,
-/// and reads the answers of its query through a cursor, a thousand at a time, until it is told the
-/// end and no further. The session is open then and hasn't ended. Nothing has happened to the
+/// and reads the answers of its query through a cursor, a thousand at a time, until it gets the
+/// `end` and no further. The session is open then and hasn't ended. Nothing has happened to the
 /// machine before. So the answers are no more than the square of the most rows of a relation, and
-/// the end comes.
+/// the `end` is reached.
 ///
 /// # Errors
 ///
-/// `NoMem` where the machine is out of memory: nothing was done, or one of these lines was the last
-/// that came, with each before it answered. No more is counted of listings than the lines that came
-/// may cost.
+/// `NoMem` if the machine is out of memory: nothing was done, or one of these lines was the last
+/// that was fed, with each before it answered. No more is counted of listings than the lines that were
+/// fed may cost.
 pub fn run_load<M: Machine, L: Ledgers>(
     machine: &mut M,
     n: u32,
@@ -63,7 +63,7 @@ pub fn run_load<M: Machine, L: Ledgers>(
     list_answers(machine, steps)
 }
 
-/// Feeds the lines of a load, and runs each. Behind a line at which memory is wanting none comes.
+/// Feeds the lines of a load, and runs each. After a line at which memory is wanting none is fed.
 fn feed_load<M: Machine, L: Ledgers>(
     machine: &mut M,
     n: u32,
@@ -87,7 +87,7 @@ fn feed_load<M: Machine, L: Ledgers>(
     Ok(())
 }
 
-/// Feeds a line and runs it, and takes what it is answered, unless that is that memory is wanting.
+/// Feeds a line and runs it, and consumes the reply, unless that is that memory is wanting.
 fn feed_line<M: Machine, L: Ledgers>(
     machine: &mut M,
     line: &[u8],
@@ -132,7 +132,7 @@ fn open_cursor<M: Machine, L: Ledgers>(machine: &mut M, steps: &mut Steps<L>) ->
     Ok(())
 }
 
-/// Reads the cursor to its end, and not behind it.
+/// Reads the cursor to its end, and no further.
 fn list_answers<M: Machine, L: Ledgers>(
     machine: &mut M,
     steps: &mut Steps<L>,
@@ -184,7 +184,7 @@ fn read_more<M: Machine, L: Ledgers>(
     Ok(after)
 }
 
-/// Feeds a line and runs it. The session goes on behind it; or memory is wanting, as the line came
+/// Feeds a line and runs it. The session continues after it; or memory is wanting, as the line was fed
 /// or as it was to be run.
 fn run_line<M: Machine, L: Ledgers>(
     machine: &mut M,
@@ -214,7 +214,7 @@ fn run_line<M: Machine, L: Ledgers>(
     }
 }
 
-/// Takes all that is pending.
+/// Consumes all that is pending.
 fn take_reply<M: Machine>(machine: &mut M)
     requires { IsOpen (M.state machine.old) 1 }
     ensures { TakesAll (M.state machine.old) (M.state machine.new) }

@@ -3,19 +3,19 @@ ghost use Rattle.djq_load.specs.declared.reading.Place.TheVariants.{Front};
 ghost use Rattle.djq_load.specs.Replies.{reading, at_line_front, in_other, in_answer, within_text, read_byte};
 ghost use Rattle.djq_load.specs.Replies.{read_bytes};
 
-/// Where a reader stands in the replies of a session.
+/// The place of a reader in the replies of a session.
 #[derive(Clone, Copy, Debug)]
 pub(crate) enum Place {
     /// At the front of a line.
     Front,
     /// In a line that is no answer.
     Other,
-    /// In an answer, in a number or in front of a value: whether a minus was read, and what the
-    /// digits that were read come to.
+    /// In an answer, in a number or in front of a value: whether a minus was read, and the number that
+    /// the digits read so far make.
     Answer(bool, u64),
     /// Between the quotes of a text.
     Text,
-    /// Behind a backslash.
+    /// After a backslash.
     Escape,
 }
 
@@ -28,7 +28,7 @@ pub(crate) struct Reading {
     pub sum: u64,
     /// Whether the last line that is no answer begins with an `e`, as `end` does.
     pub ended: bool,
-    /// Where it stands.
+    /// Its place in the line.
     pub place: Place,
 }
 
@@ -45,7 +45,7 @@ impl Reading {
         }
     }
 
-    /// Behind a byte at the front of a line.
+    /// After a byte at the front of a line.
     fn in_front(self, byte: u8) -> Reading
         ensures { result ≡ at_line_front self byte }
     {
@@ -64,7 +64,7 @@ impl Reading {
         }
     }
 
-    /// Behind a byte of a line that is no answer.
+    /// After a byte of a line that is no answer.
     fn in_other(self, byte: u8) -> Reading
         ensures { result ≡ in_other self byte }
     {
@@ -78,7 +78,7 @@ impl Reading {
         }
     }
 
-    /// Behind a byte of an answer, outside texts.
+    /// After a byte of an answer, outside texts.
     fn in_answer(self, below: bool, number: u64, byte: u8) -> Reading
         ensures { result ≡ in_answer self below number byte }
     {
@@ -104,7 +104,7 @@ impl Reading {
         }
     }
 
-    /// Behind a byte of a text.
+    /// After a byte of a text.
     fn in_text(self, byte: u8) -> Reading
         ensures { result ≡ within_text self byte }
     {
@@ -121,7 +121,7 @@ impl Reading {
         }
     }
 
-    /// Behind a byte.
+    /// After a byte.
     fn read_byte(self, byte: u8) -> Reading
         ensures { result ≡ read_byte self byte }
     {
@@ -137,7 +137,7 @@ impl Reading {
         }
     }
 
-    /// Behind these bytes.
+    /// After these bytes.
     pub fn read(self, bytes: &[u8]) -> Reading
         ensures { result ≡ read_bytes self bytes.now }
     {
