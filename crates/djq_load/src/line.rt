@@ -44,7 +44,7 @@ fn relation(a: u32) -> &'static [u8]
     if a % 2 == 0 { b"r " } else { b"s " }
 }
 
-/// Writes the line of a change from its three draws, if so many different values are in use.
+/// Writes the line of a change from its three draws, with so many different values in use.
 pub(crate) fn put_change(line: &mut [u8; 64], values: u32, a: u32, b: u32, c: u32) -> usize
     requires some { 0 < values }
     requires few { values ≤ 32768 }

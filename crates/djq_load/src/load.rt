@@ -19,7 +19,7 @@ pub(crate) enum Due {
 }
 
 impl Due {
-    /// The line that is due, with what is due after it: none if a change is.
+    /// The line that is due, with what is due after it: none if a change is due.
     fn fixed(self) -> Option<(&'static [u8], Due)>
         ensures some { IfSome result (λ p. (length p.0.now ≤ 64) × ((more : List (List ℕ))
             → from_due self more ≡ p.0.now ∷ from_due p.1 more)) }
