@@ -43,7 +43,7 @@ impl<C: Drop> Cursors<C> {
         }
     }
 
-    /// Puts a cursor into a free slot, and tells which.
+    /// Puts a cursor into a free slot, and returns the slot.
     ///
     /// # Errors
     ///
@@ -73,7 +73,7 @@ impl<C: Drop> Cursors<C> {
         }
     }
 
-    /// How far the cursor in a slot has come, to go on with it.
+    /// The progress of the cursor in a slot, to continue its listing.
     pub fn progress_mut(&mut self, slot: usize) -> &mut Progress<C>
         requires { IsSome (slot_at self.old slot) }
         ensures* writes_back { sem 𝓛 (LendsCursor C.row self.entry slot result) }
@@ -89,7 +89,7 @@ impl<C: Drop> Cursors<C> {
         self.slots.is_empty()
     }
 
-    /// Takes the cursor out of a slot.
+    /// Removes the cursor from a slot.
     pub fn close(&mut self, slot: usize)
         requires { IsSome (slot_at self.old slot) }
         ensures { self.new ≡ slice_set self.old slot None }
@@ -97,7 +97,7 @@ impl<C: Drop> Cursors<C> {
         let _ = self.slots.remove(slot);
     }
 
-    /// Makes all cursors stale that go on.
+    /// Makes all cursors stale that are open.
     pub fn outdate(&mut self, relation: Name, seq: u64)
         ensures { self.new ≡ outdated_slots relation seq self.old }
     {

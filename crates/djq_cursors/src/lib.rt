@@ -1,7 +1,7 @@
-//! Cursors in slots, each with how far it has come or with what made it stale.
+//! Cursors in slots, each with its progress or with what made it stale.
 //!
-//! A [`Cursors`] gives each cursor a number, its slot, which stays while the cursor is there. What a
-//! cursor lists is its owner's: cursors of one query and of a union stand in the same slots.
+//! A [`Cursors`] gives each cursor a number, its slot, which doesn't change while the cursor is there. What a
+//! cursor lists is its owner's: cursors of one query and of a union are in the same slots.
 //!
 //! ```text
 //! open      slot 0    open
@@ -11,8 +11,8 @@
 //! open      slot 0    open, stale
 //! ```
 //!
-//! What surprises: a cursor that is stale keeps its slot, and the first change that made it so, until
-//! it is closed. Nothing reads it on.
+//! What surprises: a cursor that is stale retains its slot, and the first change that made it so, until
+//! it is closed. No call continues its listing.
 #![tactic(auto)]
 
 mod cursors;

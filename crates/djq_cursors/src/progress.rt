@@ -1,13 +1,13 @@
-//! How far one cursor has come.
+//! The progress of one cursor.
 ghost use Rattle.std.specs.Prelude.{◌≡◌};
 ghost use Rattle.djq_cursors.specs.Slots.{outdated_progress};
 
 use djq_model::Name;
 
-/// How far a cursor has come.
+/// The progress of a cursor.
 #[derive(Debug, Drop)]
 pub enum Progress<C> {
-    /// It goes on.
+    /// Its listing can continue.
     Open {
         /// The listing, on its way.
         cursor: C,
@@ -24,7 +24,7 @@ pub enum Progress<C> {
 }
 
 impl<C: Drop> Progress<C> {
-    /// Makes a cursor stale that goes on.
+    /// Makes a cursor stale that is open.
     pub(crate) fn outdate(&mut self, relation: Name, seq: u64)
         ensures { self.new ≡ outdated_progress relation seq self.old }
     {
