@@ -33,8 +33,8 @@ use djq_counters::Tally;
 use std::marker::Model;
 use std::sync::ledger::Ledger;
 
-/// The listing of a union, on its way: for each member how far its own listing has come, none where
-/// that hasn't begun. It takes no memory but its own.
+/// The listing of a union in progress: for each member the progress of its own listing, none if
+/// that hasn't begun. It needs no memory but its own.
 #[derive(Drop)]
 pub struct UnionCursor<M: Listing> {
     first: Option<M::State>,
@@ -75,7 +75,7 @@ impl<M: Listing> UnionCursor<M> {
         }
     }
 
-    /// Gives one answer that is left, and says so; false exactly where none is. Of k members that each
+    /// Gives one answer that is left, and returns true; false if and only if none is left. Of k members that each
     /// count at most c a call, and whose tests count M together, it counts at most k·c and (k-1)·M.
     pub fn advance<G: Members<Member = M>, L: Ledger>(
         &mut self,
@@ -122,8 +122,8 @@ impl<M: Listing> UnionCursor<M> {
         self.is_left_from(members, 0, listing)
     }
 
-    /// Goes on with the union of the members from the i-th on: with the first of them, and with the
-    /// later ones where they have its answer, or where it has none left.
+    /// Continues the union of the members from the i-th on: with the first of them, and with the
+    /// later ones if they have its answer, or if it has none left.
     fn advance_from<G: Members<Member = M>, L: Ledger>(
         &mut self,
         members: &G,
@@ -179,7 +179,7 @@ impl<M: Listing> UnionCursor<M> {
         self.is_left_from(members, i + 1, listing)
     }
 
-    /// How far the listing of the i-th member has come.
+    /// The progress of the listing of the i-th member.
     fn state(&self, i: usize) -> &Option<M::State>
         requires { i < 8 }
         ensures { result.now ≡ slice_index_or self.now i None }
@@ -196,7 +196,7 @@ impl<M: Listing> UnionCursor<M> {
         }
     }
 
-    /// Goes on with the listing of the i-th member.
+    /// Continues the listing of the i-th member.
     fn move_at<L: Ledger>(
         &mut self,
         i: usize,
@@ -223,7 +223,7 @@ impl<M: Listing> UnionCursor<M> {
     }
 }
 
-/// Goes on with a member's listing, which begins where it hasn't.
+/// Continues a member's listing, which begins if it hasn't.
 fn go_on<M: Listing, L: Ledger>(
     member: &M,
     state: &mut Option<M::State>,

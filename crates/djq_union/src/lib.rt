@@ -2,17 +2,17 @@
 //! steps a call (Carmeli and Kröll 2021).
 //!
 //! A union has up to eight members that list answers of their own ([`Listing`], [`Members`]). A
-//! [`UnionCursor`] gives one answer of the union a call. Where k members each count at most c a call,
+//! [`UnionCursor`] gives one answer of the union a call. If k members each count at most c a call,
 //! and tests with all of them count M, a call counts at most k·c and (k-1)·M, however many answers the
 //! members have, and share. Of queries, c is twice the width of the head and one, and M the number of
-//! their atoms. It takes no memory: nothing that was given is kept.
+//! their atoms. It allocates nothing: nothing that was given is stored.
 //!
 //! It is no snapshot: a cursor fits members only until one of them changes, and doesn't notice a
 //! change. It offers no order of answers but the one that follows from its members' orders.
 //!
-//! What surprises: an answer that several members have isn't given where the first of them comes to it.
-//! Given is the next one of the later members, whichever that is, and every answer of theirs comes in
-//! this way, or behind the first member's end. So nobody asks whether an answer was given before.
+//! What surprises: an answer that several members have isn't given when the first of them reaches it.
+//! Given is the next one of the later members, whichever that is, and every answer of theirs is given in
+//! this way, or after the first member's end. So no test is needed of whether an answer was given before.
 //!
 //! ```text
 //! member a gives          1   2   3   end
@@ -26,10 +26,10 @@
 //!
 //! To read first: `specs/Order.antt`, in which order a union gives its answers, and `UnionFits` of
 //! `specs/Union.antt`, when states fit the members: each its own, and the later members in step with the
-//! first, never behind.
+//! first, never later than it.
 //!
-//! How it works inside: a cursor holds eight states, none where a member's listing hasn't begun, and
-//! contracts see them as a list. A call goes over the members from the first one on by recursion, as
+//! How it works inside: a cursor holds eight states, none if a member's listing hasn't begun, and
+//! contracts see them as a list. A call visits the members from the first one on by recursion, as
 //! the definitions do. Whether an answer is left is asked of the members one by one; no state moves for
 //! it, and none is copied.
 #![tactic(auto)]

@@ -19,7 +19,7 @@ pub trait Listing {
     ghost use Rattle.std.specs.Bool.{OnTrue, OnFalse};
     ghost use Rattle.djq_union.specs.Answers.{AreSomeCells, AreAllCells, IsListingOfCells};
 
-    /// How far a listing has come.
+    /// The progress of a listing.
     type State: Drop;
 
     /// An answer. Equal ones are one answer.
@@ -49,7 +49,7 @@ pub trait Listing {
         ensures fits { fits self.now result }
         ensures none { given self.now result ≡ [] };
 
-    /// Gives one answer that is left, and says so; false exactly where none is.
+    /// Gives one answer that is left, and returns true; false if and only if none is left.
     fn advance<L: Ledger>(
         &self,
         state: &mut Self::State,
