@@ -3,9 +3,9 @@
 //!
 //! Rows with copies are a function, clients are a function, and commands and messages are data. So
 //! the core has no bytes, limits, memory, texts or costs. Its definitions (`specs/`, read in the order
-//! of `specs/Lib.antt`) are few enough to be read aloud, and each says what it means in a sentence.
+//! of `specs/Lib.antt`) are few enough to be read aloud, and each states what it means in a sentence.
 //!
-//! Each function here is empty: its contract is a law of the core, and its proof says nothing of code.
+//! Each function here is empty: its contract is a law of the core, and its proof concerns no code.
 //!
 //! ```text
 //! 1 subscribes to waiting                ok
@@ -14,13 +14,13 @@
 //! readme_is_a_run                        so it may be, and with no other answer
 //! ```
 //!
-//! What this crate is not: it says nothing of the program yet. That each step of the real machine
+//! What this crate is not: it states nothing of the program yet. That each step of the real machine
 //! (djq_machine) is a step of the core, or none, isn't stated here and isn't proved. It waits for
 //! batches that delete rows, which the core has and the machine hasn't. So these are laws of the core
 //! alone; those of the machine are djq_run_laws's.
 //!
 //! What surprises: the core may refuse any command and disconnect any client at any step, since it
-//! knows no limits and no memory. When the server does so the layers below say. One reason has a
+//! knows no limits and no memory. The layers below define when the server does so. One reason has a
 //! message of its own: a query that isn't free-connex.
 //!
 //! Inside, both laws rest on one invariant (`proofs/Sound.antt`): names are apart, and each cursor that
@@ -42,7 +42,7 @@ pub fn subscribers_have_answers()
     ensures { SubscribersHaveAnswers }
 {}
 
-/// The session of README, reply by reply: the core has a run in which its client says these commands
+/// The session of README, reply by reply: the core has a run in which its client sends these commands
 /// and is sent these replies. With another answer in the delta, or on the page, it has none.
 pub fn readme_is_a_run()
     ensures happens { ReadmeHappens }
