@@ -77,7 +77,7 @@ pub trait Disk {
         ensures told { WhereHistoryTold (told self.old) (told self.new) (DiskWrites result at piece.now) }
         ensures faults { CountsDid result (faults self.old) (faults self.new) };
 
-    /// Waits until all that was written outlives a stop.
+    /// Waits until all that was written outlives a crash.
     fn sync(&mut self) -> DiskDid
         requires { is_open self.old ≡ true }
         ensures is_open { is_open self.new ≡ true }

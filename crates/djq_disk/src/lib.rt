@@ -46,7 +46,7 @@ pub use mem_disk::MemDisk;
 pub use no_disk::NoDisk;
 pub use writing_down::write_down;
 
-/// A file as it reads is one of the images that a stop may leave, and stays so in each call.
+/// A file as it reads is one of the images that a crash may leave, and stays so in each call.
 pub fn stays_an_image()
     ensures { StaysAnImage }
 {}

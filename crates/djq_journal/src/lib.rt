@@ -62,7 +62,7 @@ pub fn a_place_is_one_thing()
     ensures { (rest : List ℕ) → OneOfThree rest }
 {}
 
-/// An idle journal outlives a stop.
+/// An idle journal outlives a crash.
 pub fn an_idle_journal_lasts()
     ensures { IdleLasts }
 {}

@@ -21,7 +21,7 @@
 //!
 //! What this crate is not: it buffers nothing, allocates nothing, and knows no row.
 //!
-//! Inside, `loading` is the loop, a function for each of its three parts, and `reading` reads a
+//! Inside, `loading` is the loop, a function for each of its three parts. `reading` reads a
 //! reply byte by byte: it stores its place in a line, how many answers were read and their
 //! sum.
 //!

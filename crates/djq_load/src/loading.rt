@@ -30,8 +30,8 @@ pub struct Totals {
     pub sum: u64,
 }
 
-/// Opens session 1 of a machine, feeds it the load of so many changes with a seed, line by line,
-/// and reads the answers of its query through a cursor, a thousand at a time, until it gets the
+/// Opens session 1 of a machine, and feeds it the load of so many changes with a seed, line by line.
+/// Then it reads the answers of its query through a cursor, a thousand at a time, until it gets the
 /// `end` and no further. The session is open then and hasn't ended. Nothing has happened to the
 /// machine before. So the answers are no more than the square of the most rows of a relation, and
 /// the `end` is reached.

@@ -28,7 +28,7 @@
 //! wanting.
 //!
 //! Inside, djq_machine's `specs/Loading.antt` defines what loading a line does to a store and to the batch
-//! of the lines before it, and `specs/Kept.antt` has the laws: [`kept_lines_load`] from any store that
+//! of the lines before it, and `specs/Kept.antt` has the laws. [`kept_lines_load`] is from any store that
 //! follows the first, [`runs_reload`] from lines that were there before, and [`stops_reload`] if a
 //! crash left the first groups of lines, whole.
 #![tactic(auto)]

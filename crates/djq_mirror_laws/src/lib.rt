@@ -19,8 +19,8 @@
 //! its text. So the laws on mirrors ask for states that lines have made, and `specs/Sayable.antt`
 //! defines which these are.
 //!
-//! Inside, `proofs/Deltas.antt` has what one session is sent of a change, `Replying.antt` what each
-//! command is answered by the forms of replies, `Mirroring.antt` what replies make of what a mirror
+//! Inside, `proofs/Deltas.antt` has what is queued to one session of a change, and `Replying.antt` what each
+//! command is answered by the forms of replies. `Mirroring.antt` has what replies make of what a mirror
 //! holds, and `Mirrored.antt` ties that to the session's cursor, step by step. `Printed.antt` proves that
 //! what a sayable state is asked is printed by the forms. That a rest is short, `Lengths.antt` and
 //! `Resting.antt` show: its names occur in the line that defines the query, and the reduction of
@@ -35,8 +35,8 @@ ghost use Rattle.djq_mirror_laws.specs.Lines.{PrintedAreLines};
 ghost use Rattle.djq_mirror_laws.specs.Mirrored.{StartsAreMirrored, EndsAreMirrored, MirroredAreHeld, ReadersAreReadBack};
 ghost use Rattle.djq_mirror_laws.specs.Whole.{SessionsAreReadBack, OpenedAreReadBack, HeldAlone};
 
-/// Along every run from a state to start from whose names and values a line can express, all names are
-/// names, all values are within their limits and their texts of UTF-8, and each variable of a
+/// Let a run begin in a state to start from whose names and values a line can express. Along all of it names
+/// are names, values are within their limits and their texts of UTF-8, and each variable of a
 /// registered query's head occurs in its body. This holds of relations, queries, unions, cursors and watches,
 /// of rows, known texts and constants, of what cursors have given, and of what batches hold. The state that
 /// loaded lines give is such a state to start from.
@@ -58,8 +58,8 @@ pub fn watchers_are_told_exactly()
 /// it, of what that session was sent, refuses nothing. If it is live, it holds the answers over
 /// the present rows, or over those that were present as the session's input ended or it was closed. This is
 /// stated of replies by their forms. From a start whose names and values a line can express it is also
-/// stated of the whole of the bytes that the session was sent, and after its end: to the last step of the
-/// run, whatever follows that end.
+/// stated of the whole of the bytes that the session was sent. And it is stated after the session's end: to
+/// the last step of the run, whatever follows that end.
 pub fn readers_are_mirrored()
     ensures watching { WatchersAreMirrored }
     ensures reading { ReadersAreMirrored }

@@ -14,9 +14,9 @@ use itoa::Buffer;
 use std::alloc::{AllocError, Global};
 
 /// Runs the load of so many changes with a seed through one session of a machine, lists the answers
-/// of its query to their end, and writes its totals: how many different rows there are, how
-/// many changes there were, how many answers there are, and the sum of their integers. Out of
-/// memory nothing is written, and no more is counted of listings than the lines that were fed may cost.
+/// of its query to their end, and writes its totals. These are the numbers of different rows, of changes
+/// and of answers, and the sum of the answers' integers. Out of memory nothing is written, and no more is
+/// counted of listings than the lines that were fed may cost.
 pub(crate) fn generate<K: Sink, L: Ledgers>(
     alloc: Global,
     n: u32,

@@ -3,17 +3,16 @@ ghost use Rattle.djq_program_laws.specs.Live.{RunIsLive, ServeIsLive};
 ghost use Rattle.djq_program_laws.specs.ReadBack.{RunIsReadBack, ServeIsReadBack, RunMomentsAreReadBack, ServeMomentsAreReadBack};
 ghost use Rattle.djq_program_laws.specs.Reopened.{LogsReopen};
 
-/// At each moment of a run of the program, a cursor that was open and whose end was sent had
-/// listed every answer of its query over the rows that were present then, each once, and nothing
-/// else.
+/// At each moment of a run of the program, an open cursor whose `end` was queued had listed every
+/// answer of its query over the rows that were present then, each once, and nothing else.
 ///
 /// It is empty: its contract is a law of what the program promises of its end.
 pub fn finished_cursors_have_listed()
     ensures { FinishedCursors }
 {}
 
-/// From each moment of a run of the program on, a session that has listed a query through a cursor,
-/// and watches it, has the answers over the present rows by adding up what it is sent.
+/// A session has listed a query through a cursor, and watches it. From each moment of a run of the
+/// program on it has the answers over the present rows by adding up what is queued to it.
 pub fn run_stays_live()
     ensures { RunIsLive }
 {}
@@ -24,14 +23,14 @@ pub fn serve_stays_live()
 {}
 
 /// `mirror` refuses nothing of what a run of the program wrote that let its session watch a query and read
-/// it through one cursor at a time; and the answers that it writes in the end are those over the rows that
-/// there are, or that there were as the session's input ended.
+/// it through one cursor at a time. The answers that it writes in the end are those over the present rows,
+/// or over the rows that were present as the session's input ended.
 pub fn run_is_read_back()
     ensures end { RunIsReadBack }
     ensures moments { RunMomentsAreReadBack }
 {}
 
-/// The same holds of each session that the program serves, and of the bytes that the hub sent to it.
+/// The same holds of each session that the program serves, and of the bytes that the hub accepted for it.
 pub fn serve_is_read_back()
     ensures end { ServeIsReadBack }
     ensures moments { ServeMomentsAreReadBack }

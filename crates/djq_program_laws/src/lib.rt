@@ -1,8 +1,8 @@
 //! What a whole run of the program does, and what follows from it.
 //!
 //! `specs/Ends.antt` defines what a run reads, writes and logs, for each command: `ProgramEnds` is the promise
-//! of the program's top call. The functions here are empty, and their contracts are laws of that promise:
-//! a finished cursor has listed every answer, a subscribed session stays live, what a session was sent is
+//! of the program's top call. The functions here are empty, and their contracts are laws of that promise.
+//! A finished cursor has listed every answer, a subscribed session stays live, what a session was sent is
 //! read back by the mirror, and what a crash leaves of a log opens again.
 //!
 //! ```text

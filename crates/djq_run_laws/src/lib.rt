@@ -79,10 +79,11 @@ pub fn line_is_taken()
 /// that a batch holds suit their relations, each stated by its line. A session that has ended has none
 /// of them; and sessions are by rising id.
 ///
-/// The limits of the protocol hold in it: on relations, their columns (one at least) and rows, the
-/// copies of a row, known texts, queries and unions, their members, a query's atoms, variables, head
-/// variables and comparisons, the number of changes, a session's cursors, the rows of its batch, and
-/// sessions. That names and values are within theirs is `states_are_sayable` of djq_mirror_laws.
+/// The limits of the protocol hold in it. There are limits on relations, their columns (one at least) and
+/// rows, the copies of a row, known texts, queries and unions, and their members. There are others on a
+/// query's atoms, variables, head variables and comparisons, the number of changes, a session's cursors,
+/// the rows of its batch, and sessions. That names and values are within theirs is `states_are_sayable`
+/// of djq_mirror_laws.
 ///
 /// Every run preserves this. The state in which nothing has happened is one to start from.
 pub fn states_are_sound()
@@ -93,7 +94,7 @@ pub fn states_are_sound()
 
 /// Relations are bags. A row is present if and only if it has a copy. An `add` that is done makes one
 /// copy of its row more, a `del` one less if there is one, and each reports how many there are
-/// then; every other row has as many as before. A change is counted if and only if a row gets its
+/// then. Every other row has as many as before. A change is counted if and only if a row gets its
 /// first copy or loses its last. A `done` that is done makes as many copies more of each row as its
 /// batch holds, and counts one change if and only if one of them gets its first.
 pub fn copies_are_counted()
@@ -145,16 +146,16 @@ pub fn runs_give()
     ensures { RunsGive }
 {}
 
-/// In each state that a run reaches from a state to start from, an open cursor whose end was sent
-/// has given a listing of its query: each answer over the present rows, once, and nothing else.
+/// In each state that a run reaches from a state to start from, an open cursor whose `end` was
+/// queued has given a listing of its query. It is each answer over the present rows, once, and nothing else.
 pub fn runs_have_listed()
     ensures { RunsHaveListed }
 {}
 
-/// What an open cursor has given is what its session was sent since it opened it. The replies to
+/// What an open cursor has given is what was queued to its session since it opened it. The replies to
 /// its `next` lines, but those that a batch doesn't let through, are page by page those answers, in
-/// order, and the last of them has the end if and only if the cursor is finished. So a session that
-/// has listed a query was sent each answer over the present rows, once.
+/// order. The last of them has the `end` if and only if the cursor is finished. So to a
+/// session that has listed a query each answer over the present rows was queued, once.
 pub fn given_is_told()
     ensures given { GivenIsTold }
     ensures listed { ListedIsTold }
@@ -166,14 +167,14 @@ pub fn courses_give()
     ensures { CoursesGive }
 {}
 
-/// A listing and the delta of a change make a listing of the answers after it: a session that
-/// deletes the answers that the delta removes, and inserts those that it adds, has what it would list anew.
+/// A listing and the delta of a change make a listing of the answers after it. So a session that deletes
+/// the answers that were removed, and inserts those that were added, has what it would list anew.
 pub fn deltas_add_up()
     ensures { DeltasAddUp }
 {}
 
-/// A session that watches a query all along a run, and adds up what it is sent of it, has the
-/// answers of the query over the present rows. It is sent each accepted change of a relation that
+/// A session that watches a query all along a run, and adds up what is queued to it of that query, has the
+/// answers of the query over the present rows. Queued to it is each accepted change of a relation that
 /// the query reads.
 pub fn watchers_have_answers()
     ensures { WatchersHaveAnswers }
@@ -185,8 +186,8 @@ pub fn watchers_stay()
     ensures { WatchersStay }
 {}
 
-/// A session that has listed a query through a cursor, and watches it, has the answers over the
-/// present rows by adding up what it is sent, as long as it runs and doesn't unwatch it: one
+/// A session has listed a query through a cursor, and watches it. As long as it runs and doesn't unwatch
+/// it, it has the answers over the present rows by adding up what is queued to it. That is one
 /// delta for each accepted change of a relation that the query reads, by rising number. This holds
 /// if cursors give what they should, and from each state on that a run reaches from a state to
 /// start from.

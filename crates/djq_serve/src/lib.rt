@@ -18,8 +18,8 @@
 //!
 //! What this crate is not: it buffers nothing, allocates nothing, knows no command and no socket.
 //!
-//! What surprises: a line is run in the turn that brings its end, so no turn leaves a whole line unrun;
-//! and a session that accepts nothing now is passed over, so that it delays no other. A session that
+//! What surprises: a line is run in the turn that brings its end, so no turn leaves a whole line unrun.
+//! And a session that accepts nothing now is passed over, so that it delays no other. A session that
 //! isn't admitted is offered one line, `end full` or `end memory`, once, and closed. Serving never ends at
 //! the disk if a session sent `stop`: a line that is logged isn't `stop`.
 //!

@@ -3,8 +3,8 @@
 //!
 //! A union has up to eight members that list answers of their own ([`Listing`], [`Members`]). A
 //! [`UnionCursor`] gives one answer of the union a call. If k members each count at most c a call,
-//! and tests with all of them count M, a call counts at most k·c and (k-1)·M, however many answers the
-//! members have, and share. Of queries, c is twice the width of the head and one, and M the number of
+//! and tests with all of them count M, a call counts at most k·c and (k-1)·M. This holds however many
+//! answers the members have, and share. Of queries, c is twice the width of the head and one, and M the number of
 //! their atoms. It allocates nothing: nothing that was given is stored.
 //!
 //! It is no snapshot: a cursor fits members only until one of them changes, and doesn't notice a
@@ -25,8 +25,8 @@
 //! are different answers of `b`, and `b` has given one fewer: so one is left.
 //!
 //! To read first: `specs/Order.antt`, in which order a union gives its answers, and `UnionFits` of
-//! `specs/Union.antt`, when states fit the members: each its own, and the later members in step with the
-//! first, never later than it.
+//! `specs/Union.antt`, when states fit the members. Each fits its own, and the later members are in step with
+//! the first, never lagging.
 //!
 //! How it works inside: a cursor holds eight states, none if a member's listing hasn't begun, and
 //! contracts see them as a list. A call visits the members from the first one on by recursion, as
