@@ -104,7 +104,7 @@ pub fn copies_are_counted()
     ensures held { AddsHeld }
 {}
 
-/// A step that logs a group of lines has no `stop`. So if a group that is to be logged can't be,
+/// A step that logs a group of lines runs no `stop`. So if a group that is to be logged can't be,
 /// no session sent it yet.
 pub fn kept_says_no_stop()
     ensures { KeptSaysNoStop }
@@ -174,8 +174,8 @@ pub fn deltas_add_up()
 {}
 
 /// A session that watches a query all along a run, and adds up what is queued to it of that query, has the
-/// answers of the query over the present rows. Queued to it is each accepted change of a relation that
-/// the query reads.
+/// answers of the query over the present rows. Each accepted change of a relation that the
+/// query reads is queued to it.
 pub fn watchers_have_answers()
     ensures { WatchersHaveAnswers }
 {}

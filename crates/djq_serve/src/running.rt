@@ -15,8 +15,9 @@ use djq_io::Hub;
 use djq_journal::{Kept, Log};
 use djq_machine::{Machine, Stepped};
 
-/// Runs the whole lines that a session has, logs what each changes, and flushes after each. It returns when
-/// none is left, the session has ended or is closed, a session sent `stop`, or a line can't be logged.
+/// Runs the whole lines that a session has, appends to the log what each logs, and flushes after each. It
+/// returns when none is left, the session has ended or is closed, a session sent `stop`, or what a line logs
+/// can't be appended.
 pub(crate) fn run_lines<M: Machine, H: Hub, D: Disk, L: Ledgers>(
     machine: &mut M,
     hub: &mut H,

@@ -3,7 +3,7 @@
 pub enum Served {
     /// A session sent `stop`.
     Stopped,
-    /// The hub has no more turns.
+    /// Nothing more will arrive.
     Over,
     /// All turns were used.
     TurnsUsed,

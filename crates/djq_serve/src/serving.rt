@@ -20,7 +20,7 @@ use djq_io::Hub;
 use djq_journal::Log;
 use djq_machine::Machine;
 
-/// Serves the sessions of a hub, until a session sends `stop`, the hub has no more turns, this many
+/// Serves the sessions of a hub, until a session sends `stop`, nothing more will arrive, this many
 /// turns were used, or the hub fails. Then each session that is open is closed.
 ///
 /// The hub has the sessions of the machine and no others, as when neither has opened one. The
@@ -49,8 +49,8 @@ pub fn serve<M: Machine, H: Hub, L: Ledgers>(
     serve_logged(machine, hub, &mut NoDisk, &mut log, buffer, turns, steps)
 }
 
-/// Serves the sessions of a hub as [`serve`] does, and appends to the log what each line changes: the line
-/// or the batch that it ends, whole, before anything more is sent. Serving ends too if that can't be logged;
+/// Serves the sessions of a hub as [`serve`] does, and appends to the log what each line logs: itself or the
+/// batch that it ends, whole, before anything more is sent. Serving ends too if that can't be appended;
 /// nothing is sent then any more.
 ///
 /// The log's journal is idle on this disk, which is open.
