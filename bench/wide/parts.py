@@ -5,7 +5,7 @@
 
 `djq run` is run twice a set under `valgrind --tool=callgrind`, without the changes and with them, and each function's instructions
 are subtracted. What a function of the library or of the system costs belongs to the function of djq that calls it. PROGRAM needs the
-names of its functions, so it isn't the one that is installed.
+names of its functions.
 """
 
 import argparse
@@ -34,6 +34,10 @@ PARTS = (
     ("the command: names, refusals in order, sessions", ("djq_commands", "djq_core", "djq_store", "djq_engine", "djq_machine", "djq_cursors", "djq_counters", "djq_model")),
     ("moving bytes, and the program's loop", ("djq",)),
 )
+UNPROVED = """Of a build of the same sources that isn't proved: it checks each sum and each place of a list as it runs, and has no hints on
+inlining. So it takes about twice the program's instructions, most of all to read lines; the parts compare with each other.
+
+"""
 LINE = re.compile(r"(fn|cfn)=\((\d+)\)(?: (.*))?$")
 
 
@@ -107,6 +111,8 @@ def of_set(name, program, data, pool):
     stages = instructions.djq_stages(data, [BY_NAME[query] for query in SETS[name]])
     waiting = [pool.submit(profiled, program, "".join(stages[:upto])) for upto in (2, 3)]
     begin, end = (one.result() for one in waiting)
+    if not any(count for part, count in end.items() if part != "else"):
+        raise SystemExit("the program has no names of functions")
     return {part: (end[part] - begin[part]) / data.change_count for part in [*(name for name, _ in PARTS), "else"]}
 
 
@@ -125,13 +131,14 @@ def main():
     words.add_argument("--scale", type=float, default=0.002)
     words.add_argument("--changes", type=int, default=2400)
     words.add_argument("--sets", nargs="+", default=["none", "q3", "lines", "sold"], choices=list(SETS))
+    words.add_argument("--unproved", action="store_true", help="the program is a build that isn't proved, which the page says then")
     words.add_argument("--write", action="store_true", help="put the table into docs/WIDE.md")
     given = words.parse_args()
     with tempfile.TemporaryDirectory() as folder, concurrent.futures.ThreadPoolExecutor(instructions.AT_ONCE) as pool:
         data = measure.Data(os.path.join(folder, "data"), given.scale, given.changes)
         found = {name: of_set(name, given.program, data, pool) for name in given.sets}
         lines = instructions.of_file(data, "changes", "djq")
-    text = (f"At scale {given.scale}, {sum(data.rows.values()):,} rows. A change is {lines.count(chr(10)) / data.change_count:.2f} lines of "
+    text = UNPROVED * given.unproved + (f"At scale {given.scale}, {sum(data.rows.values()):,} rows. A change is {lines.count(chr(10)) / data.change_count:.2f} lines of "
             f"{len(lines) / data.change_count:.0f} bytes in all.\n\n{page(found)}")
     print(text, end="")
     if given.write:
