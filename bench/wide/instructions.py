@@ -1,7 +1,7 @@
 #!/usr/bin/env python3
 """What a change of a wide schema costs in instructions, which depend little on the machine and not at all on what else it does.
 
-    bench/wide/instructions.py PROGRAM [--by-hand PROGRAM] [--scale S] [--changes N] [--sets NAME ..] [--write]
+    bench/wide/instructions.py PROGRAM [--by-hand PROGRAM] [--scale S] [--changes N] [--sets NAME ..] [--unproved] [--write]
 
 `djq run` and SQLite's driver are run under `valgrind --tool=callgrind`, three times a set: up to the rows, up to the registered and watched
 query, and up to the end of the changes. The differences are what registering and the changes cost. `--by-hand` counts bench/by_hand's
@@ -140,6 +140,7 @@ def main():
     words.add_argument("--scale", type=float, default=0.002)
     words.add_argument("--changes", type=int, default=2400)
     words.add_argument("--sets", nargs="+", default=[name for name in SETS if name != "every"], choices=list(SETS))
+    words.add_argument("--unproved", action="store_true", help="the program is a build that isn't proved, which the page says then")
     words.add_argument("--write", action="store_true", help="put the tables into docs/WIDE.md")
     given = words.parse_args()
     given.program = os.path.abspath(given.program)
@@ -149,7 +150,7 @@ def main():
         write_kinds(data)
         found = {name: of_set(name, given, data, tools, pool) for name in given.sets}
         kinds = {name: by_kind(name, given, data, tools, pool) for name in SETS_BY_KIND if name in given.sets}
-    text = f"At scale {given.scale}: {sum(data.rows.values()):,} rows, and {data.change_count:,} changes.\n" + page(found) + page_of_kinds(kinds)
+    text = report.UNPROVED * given.unproved + f"At scale {given.scale}: {sum(data.rows.values()):,} rows, and {data.change_count:,} changes.\n" + page(found) + page_of_kinds(kinds)
     print(text, end="")
     if given.write:
         report.put(MARK, text)

@@ -34,10 +34,6 @@ PARTS = (
     ("the command: names, refusals in order, sessions", ("djq_commands", "djq_core", "djq_store", "djq_engine", "djq_machine", "djq_cursors", "djq_counters", "djq_model")),
     ("moving bytes, and the program's loop", ("djq",)),
 )
-UNPROVED = """Of a build of the same sources that isn't proved: it checks each sum and each place of a list as it runs, and has no hints on
-inlining. So it takes about twice the program's instructions, most of all to read lines; the parts compare with each other.
-
-"""
 LINE = re.compile(r"(fn|cfn)=\((\d+)\)(?: (.*))?$")
 
 
@@ -138,7 +134,7 @@ def main():
         data = measure.Data(os.path.join(folder, "data"), given.scale, given.changes)
         found = {name: of_set(name, given.program, data, pool) for name in given.sets}
         lines = instructions.of_file(data, "changes", "djq")
-    text = UNPROVED * given.unproved + (f"At scale {given.scale}, {sum(data.rows.values()):,} rows. A change is {lines.count(chr(10)) / data.change_count:.2f} lines of "
+    text = report.UNPROVED * given.unproved + (f"At scale {given.scale}, {sum(data.rows.values()):,} rows. A change is {lines.count(chr(10)) / data.change_count:.2f} lines of "
             f"{len(lines) / data.change_count:.0f} bytes in all.\n\n{page(found)}")
     print(text, end="")
     if given.write:
