@@ -132,12 +132,16 @@ def front(found):
     """The front page's three figures, and how much of SQLite's time a change takes."""
     sets, tables, rows = largest(found)
     one = sets.get(FRONT, {})
+
     def cells(read):
         return [shown(median(one[side], read), "µs") if side in one else "" for side in SIDES]
+
+    def stored(side):
+        return f"{row_bytes(tables, rows, side):.0f} + {median(one[side], below(FRONT)(rows)):.0f}" if side in tables and side in one else ""
     lines = [["a change below a join of 13 columns, µs", *cells(each("change", "processor"))],
              ["its first ten answers, µs", *cells(each("first", "wall"))],
-             ["bytes a row of 16 columns", *(shown(row_bytes(tables, rows, side), "") for side in SIDES)]]
-    text = f"{sum(rows.values()):,} rows of TPC-H ([how it was measured](docs/PERFORMANCE.md)):\n\n"
+             ["bytes a row of 16 columns + of the join", *map(stored, SIDES)]]
+    text = f"{sum(rows.values()):,} rows of TPC-H ([measured so](docs/PERFORMANCE.md)):\n\n"
     text += table(["", *(NAMES[side] for side in SIDES)], lines).replace("| --- | --- | --- | --- | --- |", "|---|---|---|---|---|")
     spreads = [spread(sets, side) for side in ("run", "tcp")]
     return text + (f"\nChanges take {spreads[0]} of SQLite's time, {spreads[1]} over TCP.\n" if all(spreads) else "")
