@@ -138,9 +138,10 @@ def front(found):
 
     def stored(side):
         return f"{row_bytes(tables, rows, side):.0f} + {median(one[side], below(FRONT)(rows)):.0f}" if side in tables and side in one else ""
-    lines = [["a change below a join of 13 columns, µs", *cells(each("change", "processor"))],
+
+    lines = [["a changed row below a join, µs", *cells(each("change", "processor"))],
              ["its first ten answers, µs", *cells(each("first", "wall"))],
-             ["bytes a row of 16 columns + of the join", *map(stored, SIDES)]]
+             ["bytes a row of 16 columns + joined", *map(stored, SIDES)]]
     text = f"{sum(rows.values()):,} rows of TPC-H ([measured so](docs/PERFORMANCE.md)):\n\n"
     text += table(["", *(NAMES[side] for side in SIDES)], lines).replace("| --- | --- | --- | --- | --- |", "|---|---|---|---|---|")
     spreads = [spread(sets, side) for side in ("run", "tcp")]
