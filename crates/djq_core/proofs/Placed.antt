@@ -56,6 +56,13 @@ parts_found xs s i r h =
       above = λ k le l. omega (arith, rises_up xs r i k le l, found.1);
     }
 
+pub parts_here : (xs : List ℕ) (s i : ℕ) → Rises xs → i < length xs → get_or xs i 0 ≡ s → PartsAt xs s i
+parts_here xs s i r l e = record {
+  within = omega (arith, l);
+  below = λ k less. omega (arith, rises_above xs r k i less l, e);
+  above = λ k le more. omega (arith, rises_up xs r i k le more, e);
+}
+
 pub parts_missed : (xs : List ℕ) (s i : ℕ) → Rises xs → IsBinarySearchResult (λ y. nat_cmp y s) xs (Err i) → PartsAt xs s
     i
 parts_missed xs s i r h =

@@ -1,6 +1,9 @@
 -- A search among numbers that rise ends where the lower ones do.
-use Rattle.djq_core.proofs.Placed.{parts_found, parts_missed}
+use Rattle.djq_core.proofs.Placed.{parts_found, parts_here, parts_missed}
 use Rattle.djq_core.proofs.sessions.place_from.Goals as goal
+
+pub returns-then-ids-guess : goal.returns-then-ids-guess
+returns-then-ids-guess c = parts_here c.args.ids.now c.args.id _ c.requires c.if-guess-ids.true c.if-ids-guess.true
 
 pub returns-in-Ok : goal.returns-in-Ok
 returns-in-Ok c = parts_found c.args.ids.now c.args.id c.in-Ok.at c.requires c.in-Ok.ensures.position
