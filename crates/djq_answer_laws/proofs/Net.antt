@@ -13,7 +13,7 @@ use Rattle.djq_protocol.specs.declared.answer.Sign.TheVariants.{Came, Went}
 use Rattle.djq_store_spec.specs.Delta.{Change, HasChanged, IsDelta}
 use Rattle.djq_store_spec.specs.DeltaCost.{Part}
 use Rattle.djq_answer_laws.specs.Growing.{HaveRows}
-use Rattle.djq_answer_laws.specs.Net.{opposite_sign, NetDelta, IsPart, Agrees, IsReported, UnionsReport}
+use Rattle.djq_answer_laws.specs.Net.{opposite_sign, NetDelta, IsMemberDelta, MemberAgrees, IsReportedByMembers, UnionsReport}
 use Rattle.djq_answer_laws.proofs.Lists.{nothing_there, first_or_later, first_there, later_there, hold_each, mapped_there}
 use Rattle.djq_answer_laws.proofs.Lists.{some_one, one_there}
 use Rattle.djq_answer_laws.proofs.Decisions.{query_decided, answers_are_decided}
@@ -132,43 +132,43 @@ unions_report before after name parts c are = (to c.sign c.answer, from c.sign c
     says : (p : Part) (s : Sign) (t : Tuple) → Contains parts p → Contains p.changes (change s t)
         → HasChanged (IsAnswer before p.query) (IsAnswer after p.query) s t
     says p s t k h = said (IsAnswer before p.query) (IsAnswer after p.query) p.changes s t
-        (All-contains (IsPart before after) parts p are k) h
+        (All-contains (IsMemberDelta before after) parts p are k) h
 
     has : (p : Part) (s : Sign) (t : Tuple) → Contains parts p
         → HasChanged (IsAnswer before p.query) (IsAnswer after p.query) s t → Contains p.changes (change s t)
-    has p s t k h = (All-contains (IsPart before after) parts p are k).complete s t h
+    has p s t k h = (All-contains (IsMemberDelta before after) parts p are k).complete s t h
 
     -- a part that agrees with what came hadn't it, and one that agrees with what went hasn't it
-    hadnt : (p : Part) (t : Tuple) → Contains parts p → Agrees after (change Came t) p
+    hadnt : (p : Part) (t : Tuple) → Contains parts p → MemberAgrees after (change Came t) p
         → IsAnswer before p.query t → ⊥
     hadnt p t k (free, inl stands) b = (says p Came t k stands).1 b
     hadnt p t k (free, inr lacks) b = free (has p Went t k (b, lacks))
 
-    hasnt : (p : Part) (t : Tuple) → Contains parts p → Agrees after (change Went t) p
+    hasnt : (p : Part) (t : Tuple) → Contains parts p → MemberAgrees after (change Went t) p
         → IsAnswer after p.query t → ⊥
     hasnt p t k (free, inl stands) a = (says p Went t k stands).1 a
     hasnt p t k (free, inr lacks) a = lacks a
 
-    to : (s : Sign) (t : Tuple) → IsReported after parts (change s t)
+    to : (s : Sign) (t : Tuple) → IsReportedByMembers after parts (change s t)
         → HasChanged (λ u. Any (λ (q : Query). IsAnswer before q u) (queries parts))
         (λ u. Any (λ (q : Query). IsAnswer after q u) (queries parts)) s t
     to Came t r =
         let o = some_one (λ (p : Part). Contains p.changes (change Came t)) parts r.0 in (
           union_has after parts t o.0 o.1 (says o.0 Came t o.1 o.2).0,
           λ b. let p = part_has before parts t b in
-              hadnt p.0 t p.1 (All-contains (Agrees after (change Came t)) parts p.0 r.1 p.1) p.2,
+              hadnt p.0 t p.1 (All-contains (MemberAgrees after (change Came t)) parts p.0 r.1 p.1) p.2,
         )
     to Went t r =
         let o = some_one (λ (p : Part). Contains p.changes (change Went t)) parts r.0 in (
           union_has before parts t o.0 o.1 (says o.0 Went t o.1 o.2).0,
           λ a. let p = part_has after parts t a in
-              hasnt p.0 t p.1 (All-contains (Agrees after (change Went t)) parts p.0 r.1 p.1) p.2,
+              hasnt p.0 t p.1 (All-contains (MemberAgrees after (change Went t)) parts p.0 r.1 p.1) p.2,
         )
 
     -- where an answer came, each part agrees: it has come there too, or isn't there
     agrees_came : (t : Tuple) → (Any (λ (q : Query). IsAnswer before q t) (queries parts) → ⊥) → (p : Part)
         → Contains parts p → (IsAnswer after p.query t ⊎ (IsAnswer after p.query t → ⊥))
-        → Agrees after (change Came t) p
+        → MemberAgrees after (change Came t) p
     agrees_came t none p k (inl a) = (
       λ o. none (union_has before parts t p k (says p Went t k o).0),
       inl (has p Came t k (a, λ b. none (union_has before parts t p k b))),
@@ -178,19 +178,19 @@ unions_report before after name parts c are = (to c.sign c.answer, from c.sign c
     from : (s : Sign) (t : Tuple)
         → HasChanged (λ u. Any (λ (q : Query). IsAnswer before q u) (queries parts))
         (λ u. Any (λ (q : Query). IsAnswer after q u) (queries parts)) s t
-        → IsReported after parts (change s t)
+        → IsReportedByMembers after parts (change s t)
     from Came t h =
         let p = part_has after parts t h.0 in (
           one_there (λ (r : Part). Contains r.changes (change Came t)) parts p.0 p.1
               (has p.0 Came t p.1 (p.2, λ b. h.1 (union_has before parts t p.0 p.1 b))),
-          hold_each (Agrees after (change Came t)) parts
+          hold_each (MemberAgrees after (change Came t)) parts
               (λ r k. agrees_came t h.1 r k (query_decided after r.query t)),
         )
     from Went t h =
         let p = part_has before parts t h.0 in (
           one_there (λ (r : Part). Contains r.changes (change Went t)) parts p.0 p.1
               (has p.0 Went t p.1 (p.2, λ a. h.1 (union_has after parts t p.0 p.1 a))),
-          hold_each (Agrees after (change Went t)) parts
+          hold_each (MemberAgrees after (change Went t)) parts
               (λ r k. (
                 λ o. h.1 (union_has after parts t r k (says r Came t k o).0),
                 inr (λ a. h.1 (union_has after parts t r k a)),

@@ -19,7 +19,7 @@ abbrev pub opposite : Change → Change
 opposite c = record { sign = opposite_sign c.sign; answer = c.answer }
 
 -- Of these changes those stay whose opposite isn't among them, each once.
-pub record Settles (old new : List Change) : Type 0 where
+pub record CancelsOut (old new : List Change) : Type 0 where
   pub different : AreDifferent (map (λ c. c.answer) new)
   pub within : (c : Change) → Contains new c → Contains old c
   pub alone : (c : Change) → Contains new c → Contains old (opposite c) → ⊥
@@ -32,25 +32,25 @@ NetDelta = (before between after : List Relation) (q : Listed)
     → HaveRows before between → HaveRows after between → (come gone new : List Change)
     → IsDelta (AnswersOf before q) (AnswersOf between q) come
     → IsDelta (AnswersOf between q) (AnswersOf after q) gone
-    → Settles (come ++ gone) new → IsDelta (AnswersOf before q) (AnswersOf after q) new
+    → CancelsOut (come ++ gone) new → IsDelta (AnswersOf before q) (AnswersOf after q) new
 
 -- how the answers of a member of a union changed
-abbrev pub IsPart : (before after : List Relation) → Part → Type 0
-IsPart before after p = IsDelta (IsAnswer before p.query) (IsAnswer after p.query) p.changes
+abbrev pub IsMemberDelta : (before after : List Relation) → Part → Type 0
+IsMemberDelta before after p = IsDelta (IsAnswer before p.query) (IsAnswer after p.query) p.changes
 
 -- A member agrees with a change of the union: nothing in its delta is the opposite, and where its
 -- delta doesn't have the change, the answer isn't its own afterwards.
-abbrev pub Agrees : List Relation → Change → Part → Type 0
-Agrees after c p = (Contains p.changes (opposite c) → ⊥)
+abbrev pub MemberAgrees : List Relation → Change → Part → Type 0
+MemberAgrees after c p = (Contains p.changes (opposite c) → ⊥)
     × (Contains p.changes c ⊎ (IsAnswer after p.query c.answer → ⊥))
 
 -- What is reported of a union: what stands in the delta of a member, and all members agree with.
-abbrev pub IsReported : List Relation → List Part → Change → Type 0
-IsReported after parts c = Any (λ p. Contains p.changes c) parts × All (Agrees after c) parts
+abbrev pub IsReportedByMembers : List Relation → List Part → Change → Type 0
+IsReportedByMembers after parts c = Any (λ p. Contains p.changes c) parts × All (MemberAgrees after c) parts
 
 -- That is exactly what came to the union, and what went.
 abbrev pub UnionsReport : Type 0
 UnionsReport = (before after : List Relation) (name : Bytes) (parts : List Part) (c : Change)
-    → All (IsPart before after) parts → IsReported after parts c
+    → All (IsMemberDelta before after) parts → IsReportedByMembers after parts c
     ↔ HasChanged (AnswersOf before (a_union name (map (λ p. p.query) parts)))
     (AnswersOf after (a_union name (map (λ p. p.query) parts))) c.sign c.answer
