@@ -97,11 +97,19 @@ class Postgres:
         words += [word for name, value in settings.items() for word in ("-c", f"{name}={value}")]
         with open(os.path.join(self.folder, "out"), "w") as out:
             self.process = subprocess.Popen([*self.front, *words], stdout=out, stderr=out, cwd=self.folder)
+        try:
+            self.wait()
+        except BaseException:
+            self.__exit__()
+            raise
+        return self
+
+    def wait(self):
+        """Waits until it can be used."""
         until = time.monotonic() + PATIENT
         while True:
             try:
-                connect(self.dsn("postgres")).close()
-                return self
+                return connect(self.dsn("postgres")).close()
             except Exception:  # noqa: BLE001
                 assert time.monotonic() < until and self.process.poll() is None, "PostgreSQL doesn't answer"
                 time.sleep(0.1)
@@ -415,8 +423,10 @@ def lists_of_columns_and_filters_of_rows(postgres):
         sql.execute('CREATE TABLE "T t" ("K" int, a int, "b""c" text, g int GENERATED ALWAYS AS (a * 2) STORED, PRIMARY KEY ("K", a))')
         sql.execute('CREATE PUBLICATION pub FOR TABLE "T t" ("K", a, "b""c") WHERE (((hashint4(a) & 2147483647) % 2) = 1)')
         sql.execute("""INSERT INTO "T t" SELECT n, n % 10, 'x' || n FROM generate_series(1, 500) AS n""")
-        (table,) = published(sql.connection, "pub")
+        sql.execute('CREATE PUBLICATION whole FOR TABLE "T t"')
+        (table,), (whole,) = published(sql.connection, "pub"), published(sql.connection, "whole")
         expect([(one.name, one.in_identity) for one in table.columns], [("K", True), ("a", True), ('b"c', False)])
+        expect((whole.columns, whole.filter), (table.columns, None), "a generated column isn't replicated")
         with Stream(dsn, "filters") as stream, contextlib.closing(connect(dsn)) as reads:
             made = stream.create()
             sql.execute('UPDATE "T t" SET a = a + 1 WHERE "K" % 3 = 0; DELETE FROM "T t" WHERE "K" % 7 = 0')

@@ -94,10 +94,11 @@ class Rows:
 
 
 @contextlib.contextmanager
-def three(program, folder):
-    """Three servers with logs, one with all rows, and a reader of the three."""
+def three(program, folder=None):
+    """Three servers, with logs if there is a folder for them, one with all rows, and a reader of the three."""
     with contextlib.ExitStack() as stack:
-        running = [stack.enter_context(Server(program, log=os.path.join(folder, f"log{n}"))) for n in range(COUNT)]
+        logs = [folder and os.path.join(folder, f"log{n}") for n in range(COUNT)]
+        running = [stack.enter_context(Server(program, log=log)) for log in logs]
         whole = stack.enter_context(stack.enter_context(Server(program)).connect())
         servers = stack.enter_context(shards([("127.0.0.1", one.port) for one in running], by="x", timeout=SECONDS))
         for relation, *types in (("r", int, int), ("t", int, int), ("s", int), ("e", int, int)):
@@ -111,7 +112,7 @@ def three(program, folder):
 
 @test
 def merged_answers_are_those_of_one_server(program):
-    with tempfile.TemporaryDirectory() as folder, three(program, folder) as (_, servers, whole), contextlib.ExitStack() as stack:
+    with three(program) as (_, servers, whole), contextlib.ExitStack() as stack:
         expect(servers.places, {"r": (0,), "t": (0,), "s": (), "e": (0, 1)})
         rows, names = Rows(servers, whole), ["own", "any", "all", "both"]
         for _ in range(50):
@@ -141,7 +142,7 @@ def merged_answers_are_those_of_one_server(program):
 
 @test
 def a_query_that_is_refused_is_nowhere(program):
-    with tempfile.TemporaryDirectory() as folder, three(program, folder) as (_, servers, whole):
+    with three(program) as (_, servers, whole):
         error = raises(Unsuited, lambda: servers.query("far(x,y) <- r(x,z), t(z,y)"))
         assert str(error).startswith("far isn't suited"), error
         raises(djq.NotFreeConnex, lambda: servers.query("far(y,z) <- r(x,y), t(x,z)"))

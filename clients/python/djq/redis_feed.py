@@ -179,8 +179,9 @@ class Reader:
         return bool(self._came)
 
     def _is_elsewhere(self) -> bool:
-        """Whether the last entry isn't the one that was taken last, as after Redis has lost some."""
-        return text(self._redis.hget(self._names.at, "id") or "") != self.id and not self._wait(0.001)
+        """Whether the last entry isn't the one that was taken last, as after Redis has lost some. If it has lost the feed,
+        the answers are as they were until it is written again."""
+        return text(self._redis.hget(self._names.at, "id") or "") not in ("", self.id) and not self._wait(0.001)
 
     def _read(self) -> tuple[set[Answer], tuple[str, int, str]]:
         """All answers of one moment, by one command."""
@@ -191,8 +192,8 @@ class Reader:
         return {read_answer(text(member)) for member in members}, _at(at)
 
     def _scan(self) -> tuple[set[Answer], tuple[str, int, str]] | None:
-        """The same by several commands: what changed between them is in the entries behind the id. None if these aren't
-        there any more."""
+        """The same by several commands (SSCAN): what changed between them is in the entries behind the id. None if these
+        aren't there any more."""
         at = _at(self._ask_at(self._redis))
         members = self._redis.sscan_iter(self._names.now, count=PAGE)
         answers = {read_answer(text(member)) for member in members}
