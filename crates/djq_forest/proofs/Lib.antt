@@ -1,0 +1,12 @@
+pub mod Tuples
+pub mod Links
+pub mod TieChanges
+pub mod TieGrowth
+pub mod Sums
+pub mod Projections
+pub mod TableSums
+pub mod Living
+pub mod Supports
+pub mod Reduction
+pub mod Checking
+pub mod Worked

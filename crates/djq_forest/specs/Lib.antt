@@ -1,0 +1,9 @@
+pub mod Tuple
+pub mod TieLists
+pub mod Ties
+pub mod Forest
+pub mod Shape
+pub mod Invariants
+pub mod Reducts
+pub mod Fold
+pub mod Worked

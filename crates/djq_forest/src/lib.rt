@@ -1,0 +1,60 @@
+//! The entries of a join tree's nodes, tied to each other by links: what a change of a row does to the tables of a query
+//! is found by following ties, with one look-up for each entry that comes.
+//!
+//! This crate is being built. It has the data of a forest with what holds of it (`specs/`, in the order of
+//! `specs/Lib.antt`), and bottom-up the parts that it is made of; the program doesn't use it yet. It is to replace
+//! djq_index, djq_reduct and djq_propagate.
+//!
+//! A *knot* is a leaf of the tree, or a view. A leaf's entries are the tuples that the rows of its relation give it. A
+//! trim is a view that its child's knot *feeds*. A meet makes no knot of its own: where the labels of its guard and its
+//! side differ, its guard's knot has the side's as a *side*, and where they are equal, one view stands for both. An
+//! *edge* leads from a big knot to a small one that has a part of its variables. Each entry of the big one is *tied*
+//! to the one entry of the small one that has its projection, as long as it is there, whether it lives or not.
+//!
+//! ```text
+//! q(x,y) <- r(x,y), s(y)      knots                        entries, each with the one that it is tied to
+//!
+//! n 0 leaf r x,y out          r     feeds y by column 1    1,7 -> 7    2,7 -> 7    3,8 -> 8
+//! n 1 leaf s y out            s     feeds y by column 0    7 -> 7      9 -> 9
+//! n 2 trim 0 y out            y     feeds the root         7 -> ()     8 -> ()     9 -> ()
+//! n 3 meet 1 2 y out
+//! n 4 trim 3 - out            root                         ()
+//!
+//! The view y is both n 2 and n 3. What the edges list for its entries, and for the root's:
+//!
+//!                             from r                       7: 2,7  1,7     8: 3,8     9: none
+//!                             from s                       7: 7            8: none    9: 9
+//!                             from y                       (): 7
+//! ```
+//!
+//! An entry *lives* where each edge that feeds its knot has a living entry tied to it, and each side that it is tied to
+//! lives. Above, 7 of y lives, since r and s feed it; 8 and 9 don't. So a view has entries for dead ends, too: which
+//! entries there are depends on the leaves' tuples alone, and coming to live moves numbers and links. It looks nothing
+//! up, takes no memory and can't fail.
+//!
+//! Each edge lists for each entry of its small knot the entries of its big one that are tied to it; where it feeds,
+//! those of them that live. So a list's length is the number of supports of a trim's tuple.
+//!
+//! What holds of a forest between two changes is `IsForest` (`specs/Invariants.antt`), and what it stands for is
+//! `reducts_of` (`specs/Fold.antt`): the table of each node, with as many supports as the node's reduct has.
+//!
+//! Inside, entries lie in slots. A [`Tie`] has twelve bytes: the slot that it leads to, and its neighbours in that one's
+//! list. Links are four bytes, slots of arrays, no pointers.
+#![tactic(auto)]
+
+mod ties;
+
+ghost use Rattle.djq_forest.specs.Fold.{ForestsAreReducts};
+ghost use Rattle.djq_forest.specs.Worked.{JoinIsWorked};
+
+pub use ties::{Tie, Ties};
+
+/// The forest of the join above is one, over the join's tree, and stands for the join's reducts. It does nothing.
+pub fn join_is_worked()
+    ensures { JoinIsWorked }
+{}
+
+/// What a forest over a tree stands for are the tree's reducts. It does nothing.
+pub fn forests_are_reducts()
+    ensures { ForestsAreReducts }
+{}
