@@ -8,5 +8,6 @@ pub mod TableSums
 pub mod Living
 pub mod Supports
 pub mod Reduction
+pub mod SlotChanges
 pub mod Checking
 pub mod Worked

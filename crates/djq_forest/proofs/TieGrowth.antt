@@ -1,21 +1,21 @@
 -- Ties of new slots, and a slot that is tied to another one while it is in no list.
-use Rattle.std.specs.Prelude.{◌≡◌, ◌≢◌, ⊤, ℕ, zero, suc, ◌<◌, ◌≤◌, ◌-◌, Bool, true, false, List, [], ◌∷◌, ◌++◌, map, length}
-use Rattle.std.specs.Prelude.{slice_index_or, slice_set, replicate, Option, Some, None}
-use Rattle.std.proofs.Common.{refl, sym, ◌∙◌, ap, subst, arith, inl, inr, length-set, length-append, get_or-set_same}
+use Rattle.std.specs.Prelude.{◌≡◌, ℕ, zero, suc, ◌<◌, ◌≤◌, ◌-◌, false, List, [], ◌∷◌, ◌++◌, map, length}
+use Rattle.std.specs.Prelude.{slice_index_or, slice_set, replicate, Option, None}
+use Rattle.std.proofs.Common.{refl, sym, ◌∙◌, ap, subst, arith, inl, inr, length-set, length-append}
 use Rattle.std.proofs.Common.{get_or-set_other}
 use Rattle.std.proofs.lemmas.Bool.{cases_eq, cases_lt}
-use Rattle.std.proofs.lemmas.List.{map-append, map-set, set-get_or, length-replicate, get_or_append_left}
+use Rattle.std.proofs.lemmas.List.{map-append, map-set, length-replicate, get_or_append_left}
 use Rattle.std.proofs.lemmas.List.{get_or-append_right, get_or-replicate}
 use Rattle.djq_arena.specs.declared.chain.Pair.{Pair}
 use Rattle.djq_arena.specs.declared.link.TheConstants.{SLOTS}
-use Rattle.djq_arena.specs.Chains.{IsOut, AreDistinctSlots, AreBelow, Agree, Linked, pair_at}
+use Rattle.djq_arena.specs.Chains.{IsOut, AreDistinctSlots, AreBelow, Agree, Linked}
 use Rattle.djq_arena.proofs.Chains.{linked_same, below_more}
 use Rattle.djq_hypergraph.specs.Hypergraph.{member}
 use Rattle.djq_forest.specs.declared.ties.Tie.{Tie}
-use Rattle.djq_forest.specs.TieLists.{TieLists, is_in_list, retied, with_ties, with_lists, list_at}
+use Rattle.djq_forest.specs.TieLists.{is_in_list, retied, with_ties, with_lists, list_at}
 use Rattle.djq_forest.specs.Ties.{no_tie, tie_in, head_in, tos, pairs, lists_in, to_set, AreTiedTo, IsTieList, AreLinked}
 use Rattle.djq_forest.specs.Ties.{TiesAreSound}
-use Rattle.djq_forest.proofs.Links.{length-tos, length-pairs, tos_at, pairs_at, lists_are, tied_out}
+use Rattle.djq_forest.proofs.Links.{length-tos, tos_at, pairs_at, lists_are, tied_out}
 use Rattle.djq_forest.proofs.TieChanges.{value, seen, seen_same, length-lists, member_not}
 
 -- ---- a slot is tied to another one

@@ -1,15 +1,13 @@
 -- The worked example is as it is said to be: each of its slots is looked at.
-use Rattle.std.specs.Prelude.{◌≡◌, ◌⊎◌, ℕ, zero, suc, ◌<◌, Bool, true, false, not, ◌==◌, ◌&&◌, nat_lt, List, [], ◌∷◌, length}
-use Rattle.std.specs.Prelude.{cond}
-use Rattle.std.proofs.Common.{refl, sym, subst, arith, inl, inr, eqb-true, eq-eqb}
+use Rattle.std.specs.Prelude.{◌≡◌, ◌⊎◌, ℕ, zero, suc, ◌<◌, Bool, true, false, not, ◌==◌, ◌&&◌, nat_lt, [], ◌∷◌, length}
+use Rattle.std.proofs.Common.{refl, subst, arith, inl, inr, eqb-true, eq-eqb}
 use Rattle.std.proofs.lemmas.Bool.{ltb-true}
 use Rattle.djq_arena.specs.Chains.{AreDistinctSlots, IsOut, AreBelow}
 use Rattle.djq_forest.specs.Tuple.{same_tuple, projection, variable_column, label_columns}
 use Rattle.djq_forest.specs.Forest.{nth_knot, nth_edge, entry_tuple, has_entry, missing_at, refs_at, tie_of, list_of}
 use Rattle.djq_forest.specs.Shape.{IsShape, AreAlong, upper, lower, is_need}
 use Rattle.djq_forest.specs.Invariants.{IsForest, unmet, tied_to}
-use Rattle.djq_forest.specs.Fold.{Fold, IsFoldOf, IsFed, IsTrimFold, AreAllNeeds, HasSide, IsOne, knot_of, needs_of, reducts_of}
-use Rattle.djq_forest.specs.Reducts.{columns_in}
+use Rattle.djq_forest.specs.Fold.{IsFoldOf, IsTrimFold, AreAllNeeds, HasSide, IsOne, knot_of, needs_of, reducts_of}
 use Rattle.djq_tree.specs.declared.node.Node.TheVariants.{Leaf, Trim, Meet}
 use Rattle.djq_tree.specs.Labels.{label_at}
 use Rattle.djq_tree.specs.Tree.{node_at}

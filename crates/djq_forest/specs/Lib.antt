@@ -1,6 +1,8 @@
 pub mod Tuple
 pub mod TieLists
 pub mod Ties
+pub mod SlotEntries
+pub mod Slots
 pub mod Forest
 pub mod Shape
 pub mod Invariants

@@ -38,15 +38,18 @@
 //! What holds of a forest between two changes is `IsForest` (`specs/Invariants.antt`), and what it stands for is
 //! `reducts_of` (`specs/Fold.antt`): the table of each node, with as many supports as the node's reduct has.
 //!
-//! Inside, entries lie in slots. A [`Tie`] has twelve bytes: the slot that it leads to, and its neighbours in that one's
-//! list. Links are four bytes, slots of arrays, no pointers.
+//! Inside, entries lie in slots ([`Slots`]): the cells of all one after the other, and a note of twelve bytes for each. A
+//! [`Tie`] has twelve bytes, too: the slot that it leads to, and its neighbours in that one's list. Links are four bytes,
+//! slots of arrays, no pointers.
 #![tactic(auto)]
 
+mod slots;
 mod ties;
 
 ghost use Rattle.djq_forest.specs.Fold.{ForestsAreReducts};
 ghost use Rattle.djq_forest.specs.Worked.{JoinIsWorked};
 
+pub use slots::{Note, OUT, Slots};
 pub use ties::{Tie, Ties};
 
 /// The forest of the join above is one, over the join's tree, and stands for the join's reducts. It does nothing.

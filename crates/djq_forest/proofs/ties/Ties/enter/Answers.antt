@@ -1,12 +1,9 @@
 -- A slot that is in no list comes before the first one of its list.
-use Rattle.std.proofs.Common.{◌≡◌, ◌<◌, sym, ◌∙◌, ap, subst, refl, arith, ℕ, List, Option, length, length-set, slice_set}
-use Rattle.std.proofs.Common.{false}
+use Rattle.std.proofs.Common.{sym, ◌∙◌, ap, subst, arith, ℕ, List, Option, length, length-set, slice_set}
 use Rattle.djq_arena.specs.Chains.{IsSlotBelow}
 use Rattle.djq_forest.specs.declared.ties.Tie.{Tie}
-use Rattle.djq_forest.specs.TieLists.{is_in_list}
-use Rattle.djq_forest.specs.Ties.{tie_in, head_in}
 use Rattle.djq_forest.proofs.Links.{length-tos}
-use Rattle.djq_forest.proofs.TieChanges.{Enters, value, to_inside, head_within, enters_sound, enters_seen, told_empty}
+use Rattle.djq_forest.proofs.TieChanges.{Enters, to_inside, head_within, enters_sound, enters_seen, told_empty}
 use Rattle.djq_forest.proofs.ties.Ties.enter.Goals as goal
 
 pub tie_of-to-requires : goal.tie_of-to-requires

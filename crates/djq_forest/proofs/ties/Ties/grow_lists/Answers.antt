@@ -1,5 +1,5 @@
 -- New slots have empty lists, and the others' lists stay.
-use Rattle.std.proofs.Common.{◌≡◌, ◌-◌, ◌++◌, ℕ, List, Option, sym, subst}
+use Rattle.std.proofs.Common.{ℕ, List, Option, sym, subst}
 use Rattle.std.proofs.lemmas.Result.{IfOk-weaker, on_err_weaker}
 use Rattle.djq_arena.proofs.Slots.{either}
 use Rattle.djq_forest.specs.Ties.{TiesAreSound}

@@ -1,9 +1,9 @@
 -- New slots are tied to slot 0, and the lists stay.
-use Rattle.std.proofs.Common.{◌≡◌, ◌-◌, ◌++◌, List, length, replicate, sym, subst}
+use Rattle.std.proofs.Common.{List, sym, subst}
 use Rattle.std.proofs.lemmas.Result.{IfOk-weaker, on_err_weaker}
 use Rattle.djq_arena.proofs.Slots.{either}
 use Rattle.djq_forest.specs.declared.ties.Tie.{Tie}
-use Rattle.djq_forest.specs.Ties.{no_tie, TiesAreSound}
+use Rattle.djq_forest.specs.Ties.{TiesAreSound}
 use Rattle.djq_forest.proofs.Links.{length-tos}
 use Rattle.djq_forest.proofs.TieGrowth.{more_ties_sound, more_ties_seen, same_ties_seen}
 use Rattle.djq_forest.proofs.ties.Ties.grow_ties.Goals as goal

@@ -1,12 +1,10 @@
 -- A slot of a list stands between its neighbours, which are linked to each other then.
-use Rattle.std.proofs.Common.{◌≡◌, ◌<◌, sym, ◌∙◌, ap, subst, refl, arith, ℕ, List, Option, None, Some, length, length-set}
+use Rattle.std.proofs.Common.{◌≡◌, sym, ◌∙◌, ap, refl, arith, ℕ, List, Option, length}
 use Rattle.std.proofs.Common.{slice_set}
 use Rattle.std.specs.Prelude.{is_none}
-use Rattle.djq_arena.specs.declared.chain.Pair.{Pair}
-use Rattle.djq_arena.specs.Chains.{IsSlotBelow}
 use Rattle.djq_forest.specs.declared.ties.Tie.{Tie}
 use Rattle.djq_forest.specs.Ties.{tie_in}
-use Rattle.djq_forest.proofs.TieChanges.{Place, Leaves, listed_place, place_within, prev_within, next_within}
+use Rattle.djq_forest.proofs.TieChanges.{Leaves, listed_place, place_within, prev_within, next_within}
 use Rattle.djq_forest.proofs.TieChanges.{leaves_sound, leaves_seen, left_some, left_none, length-next_set, head_stays, head_moves, told_none}
 use Rattle.djq_forest.proofs.ties.Ties.leave.Goals as goal
 

@@ -1,5 +1,5 @@
 -- What stands behind a slot of a list is linked behind it.
-use Rattle.std.proofs.Common.{sym, ◌∙◌, ap, ◌≡◌, ℕ, List, ◌∷◌, ◌++◌}
+use Rattle.std.proofs.Common.{◌∙◌, ap, ℕ, List}
 use Rattle.djq_forest.specs.declared.ties.Tie.{Tie}
 use Rattle.djq_forest.proofs.TieChanges.{listed_place, place_within, next_by}
 use Rattle.djq_forest.proofs.ties.Ties.next.Goals as goal

@@ -1,5 +1,5 @@
 -- There are as many ties as slots, and the one that is read is what is seen of it.
-use Rattle.std.proofs.Common.{sym, ◌∙◌, ap, arith}
+use Rattle.std.proofs.Common.{sym, ◌∙◌, ap}
 use Rattle.djq_forest.specs.declared.ties.Tie.{Tie}
 use Rattle.djq_forest.proofs.Links.{length-tos, tos_at}
 use Rattle.djq_forest.proofs.ties.Ties.to.Goals as goal
