@@ -8,6 +8,7 @@ pub mod TableSums
 pub mod Living
 pub mod Supports
 pub mod Reduction
+pub mod Tellings
 pub mod SlotChanges
 pub mod Checking
 pub mod Worked

@@ -6,6 +6,7 @@ pub mod Slots
 pub mod Forest
 pub mod Shape
 pub mod Invariants
+pub mod Telling
 pub mod Reducts
 pub mod Fold
 pub mod Worked

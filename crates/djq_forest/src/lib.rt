@@ -38,6 +38,9 @@
 //! What holds of a forest between two changes is `IsForest` (`specs/Invariants.antt`), and what it stands for is
 //! `reducts_of` (`specs/Fold.antt`): the table of each node, with as many supports as the node's reduct has.
 //!
+//! In the midst of a change some of what lives isn't known everywhere yet: `IsToldSoFar` (`specs/Telling.antt`) says what
+//! holds of lists and counts by what has been told, and each telling keeps it.
+//!
 //! Inside, entries lie in slots ([`Slots`]): the cells of all one after the other, and a note of twelve bytes for each. A
 //! [`Tie`] has twelve bytes, too: the slot that it leads to, and its neighbours in that one's list. Links are four bytes,
 //! slots of arrays, no pointers.
@@ -47,6 +50,7 @@ mod slots;
 mod ties;
 
 ghost use Rattle.djq_forest.specs.Fold.{ForestsAreReducts};
+ghost use Rattle.djq_forest.specs.Telling.{TellingKeeps};
 ghost use Rattle.djq_forest.specs.Worked.{JoinIsWorked};
 
 pub use slots::{Note, OUT, Slots};
@@ -60,4 +64,9 @@ pub fn join_is_worked()
 /// What a forest over a tree stands for are the tree's reducts. It does nothing.
 pub fn forests_are_reducts()
     ensures { ForestsAreReducts }
+{}
+
+/// What has been told of a forest stays so when one more entry is told of. It does nothing.
+pub fn telling_keeps()
+    ensures { TellingKeeps }
 {}
