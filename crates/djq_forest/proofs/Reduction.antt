@@ -71,7 +71,7 @@ trim_reduct t f o k c w h is d =
       | inl p ↦
           sum ∙ over_one (λ i. trim_weight f c d.0 w i (slot_at f.knots K i)) (slots_of f K) p.slot p.within
           (λ i l other. trim_off f c d.0 w i (slot_at f.knots K i)
-          (λ there same. other (h.differ K i p.slot there p.there (same ∙ sym p.tuple))))
+          (λ there same. other (h.entries.differ K i p.slot there p.there (same ∙ sym p.tuple))))
           ∙ trim_on f c d.0 w p.slot (slot_at f.knots K p.slot) d.1.feeds p.there p.tuple
           ∙ isfed_length f o c d.0 K p.slot cols h d.1 p.there
           ∙ ap (λ (v : List ℕ). standing f (knot_of o c) (needs_of o c) (λ u. same_tuple (projection cols u) v)) p.tuple
@@ -117,12 +117,12 @@ side_reduct t f o k g s w tree h fold l d =
     elim (at_or_away f G w) [
       | inl p ↦
           let there = subst (λ (K : ℕ). has_entry f.knots K p.slot ≡ true) (sym d.big) p.there in
-          let in_small = h.tied d.edge p.slot d.within there in
+          let in_small = h.entries.tied d.edge p.slot d.within there in
           let side : At f E.small v = record {
             slot = tie_of E p.slot;
             within = slot_within f.knots E.small (tie_of E p.slot) in_small;
             there = in_small;
-            tuple = h.projected d.edge p.slot d.within there
+            tuple = h.entries.projected d.edge p.slot d.within there
                 ∙ ap₂ (λ (cs : List ℕ) (K : ℕ). projection cs (entry_tuple f.knots K p.slot)) d.columns_are d.big
                 ∙ ap (λ (u : List ℕ). projection (columns_in t g s) u) p.tuple;
           } in
@@ -154,7 +154,7 @@ one_reduct t f o k g s w tree h fold l lg ls label d =
     elim (at_or_away f K w) [
       | inl p ↦
           let wide : length w ≡ length (label_at t.labels g) =
-          ap (λ (u : List ℕ). length u) (sym p.tuple) ∙ h.wide K p.slot p.there ∙ fold.width k l
+          ap (λ (u : List ℕ). length u) (sym p.tuple) ∙ h.entries.wide K p.slot p.there ∙ fold.width k l
           ∙ ap (λ (u : List ℕ). length u) label in
           let own : v ≡ w =
           ap (λ (m : List ℕ). projection (label_columns (label_at t.labels g) m) w) (sym d.labels)

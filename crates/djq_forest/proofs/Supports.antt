@@ -64,7 +64,7 @@ pub standing_at : (f : Forest) (k : ℕ) (ns : List ℕ) (w : List ℕ) → IsFo
     → standing f k ns (λ u. same_tuple u w) ≡ one (meets_needs f ns p.slot)
 standing_at f k ns w h p =
     over_one (λ x. one (hit f k ns (λ u. same_tuple u w) x)) (slots_of f k) p.slot p.within
-    (λ x l other. ap one (unhit f k ns w x (λ i is. other (h.differ k x p.slot i p.there (is ∙ sym p.tuple)))))
+    (λ x l other. ap one (unhit f k ns w x (λ i is. other (h.entries.differ k x p.slot i p.there (is ∙ sym p.tuple)))))
     ∙ ap one (rw (p.there, is_same (entry_tuple f.knots k p.slot) w p.tuple) (and_true (meets_needs f ns p.slot)))
 
 pub standing_away : (f : Forest) (k : ℕ) (ns : List ℕ) (w : List ℕ) → IsAway f k w
@@ -100,10 +100,10 @@ tie_same f e x y h l i there =
     let E = nth_edge f.edges e in
     elim (cases_eq (tie_of E x) y) [
       | inl here ↦ eq-eqb (tie_of E x) y here
-          ∙ sym (is_same _ _ (sym (h.projected e x l i) ∙ ap (λ (z : ℕ). entry_tuple f.knots E.small z) here))
+          ∙ sym (is_same _ _ (sym (h.entries.projected e x l i) ∙ ap (λ (z : ℕ). entry_tuple f.knots E.small z) here))
       | inr other ↦ ne_eqb (tie_of E x) y other
-          ∙ sym (untrue _ (λ is. other (h.differ E.small (tie_of E x) y (h.tied e x l i) there
-          (h.projected e x l i ∙ same_is _ _ is))))
+          ∙ sym (untrue _ (λ is. other (h.entries.differ E.small (tie_of E x) y (h.entries.tied e x l i) there
+          (h.entries.projected e x l i ∙ same_is _ _ is))))
     ]
 
 pub fed_hit : (f : Forest) (e y x : ℕ) (ns : List ℕ) → IsForest f → e < length f.edges → (nth_edge f.edges e).feeds ≡ true
@@ -145,7 +145,7 @@ fed_away f e ns w h l away =
     let E = nth_edge f.edges e in
     over_none _ (slots_of f E.big)
     (λ x m. ap one (unhit_by f E.big ns (λ u. same_tuple (projection E.columns u) w) x (λ i is.
-    away (tie_of E x) (h.tied e x l i) (h.projected e x l i ∙ same_is _ _ is))))
+    away (tie_of E x) (h.entries.tied e x l i) (h.entries.projected e x l i ∙ same_is _ _ is))))
 
 pub hits_alike : (a b c d : Bool) → (a ≡ true → c ≡ d) → (a && (b && c)) ≡ (a && (b && d))
 hits_alike true b c d h = ap (λ (e : Bool). b && e) (h refl)
@@ -201,7 +201,7 @@ pub own_columns : (t : Tree) (f : Forest) (o : Fold) (j x : ℕ) → IsTree t �
     → has_entry f.knots (knot_of o j) x ≡ true
     → projection (columns_in t j j) (entry_tuple f.knots (knot_of o j) x) ≡ entry_tuple f.knots (knot_of o j) x
 own_columns t f o j x tree h fold l i = pick_own (label_at t.labels j) (entry_tuple f.knots (knot_of o j) x)
-    (rises_by (label_at t.labels j) (tree.sets j).rising) (h.wide (knot_of o j) x i ∙ fold.width j l)
+    (rises_by (label_at t.labels j) (tree.sets j).rising) (h.entries.wide (knot_of o j) x i ∙ fold.width j l)
 
 pub copied : (t : Tree) (f : Forest) (o : Fold) (j k e : ℕ) (v : List ℕ) → IsTree t → IsForest f → IsFoldOf t f o
     → j < length t.nodes → (d : IsFed f o j e k (columns_in t j j))

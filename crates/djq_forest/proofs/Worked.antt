@@ -1,5 +1,5 @@
--- The worked example is as it is said to be: each of its slots is looked at.
-use Rattle.std.specs.Prelude.{◌≡◌, ◌⊎◌, ℕ, zero, suc, ◌<◌, Bool, true, false, not, ◌==◌, ◌&&◌, nat_lt, [], ◌∷◌, length}
+-- The worked examples are as they are said to be: each of their slots is looked at.
+use Rattle.std.specs.Prelude.{◌≡◌, ◌⊎◌, ℕ, zero, suc, ◌<◌, Bool, true, false, not, ◌==◌, ◌&&◌, nat_lt, List, [], ◌∷◌, length}
 use Rattle.std.proofs.Common.{refl, subst, arith, inl, inr, eqb-true, eq-eqb}
 use Rattle.std.proofs.lemmas.Bool.{ltb-true}
 use Rattle.djq_arena.specs.Chains.{AreDistinctSlots, IsOut, AreBelow}
@@ -13,125 +13,39 @@ use Rattle.djq_tree.specs.Labels.{label_at}
 use Rattle.djq_tree.specs.Tree.{node_at}
 use Rattle.djq_hypergraph.specs.Hypergraph.{member}
 use Rattle.djq_forest.specs.Worked.{join_forest, join_knots, join_edges, join_fold, join_tree, join_tables}
-use Rattle.djq_forest.proofs.Checking.{agree, agreed, all_below, all_passed, given, at_entries, at_edges, at_ties, at_lists, implied, slot_within}
+use Rattle.djq_forest.specs.Worked.{cover_forest, cover_knots, cover_edges, cover_fold, cover_tree, cover_tables}
+use Rattle.djq_forest.specs.Worked.{JoinIsWorked, CoverIsWorked}
+use Rattle.djq_forest.proofs.Checking.{forest_by, agree, agreed, all_below, all_passed, given, at_entries, at_edges, at_ties, at_lists, implied, slot_within}
 use Rattle.djq_forest.proofs.Tuples.{same_is, is_same}
 
-pub reducts : (reducts_of join_tree join_forest join_fold).tables ≡ join_tables
-reducts = refl
+join_reducts : (reducts_of join_tree join_forest join_fold).tables ≡ join_tables
+join_reducts = refl
 
-not_true : (b : Bool) → not b ≡ true → b ≡ false
-not_true true h = absurd cc
-not_true false h = refl
-
-both : (a b : Bool) → a ≡ true → b ≡ true → (a && b) ≡ true
-both a b h k = rw (h, k) refl
-
-shape : IsShape join_knots join_edges
-shape = record {
-  big = λ j l. ltb-true _ _ (at_edges join_edges (λ j. nat_lt (nth_edge join_edges j).big 4) refl j l);
-  small = λ j l. ltb-true _ _ (at_edges join_edges (λ j. nat_lt (nth_edge join_edges j).small 4) refl j l);
-  view = λ j l. not_true _ (at_edges join_edges (λ j. not (nth_knot join_knots (nth_edge join_edges j).small).leaf) refl j l);
-  rises = λ j l. ltb-true _ _ (at_edges join_edges
-      (λ j. nat_lt (nth_knot join_knots (lower (nth_edge join_edges j))).rank
-      (nth_knot join_knots (upper (nth_edge join_edges j))).rank) refl j l);
-  one_upper = λ i j l m h. eqb-true i j
-      (given (lower (nth_edge join_edges i) == lower (nth_edge join_edges j)) (i == j)
-      (all_passed 3 (λ j. implied (lower (nth_edge join_edges i) == lower (nth_edge join_edges j)) (i == j))
-      (at_edges join_edges
-      (λ i. all_below 3 (λ j. implied (lower (nth_edge join_edges i) == lower (nth_edge join_edges j)) (i == j))) refl i l) j m)
-      (eq-eqb _ _ h));
-  columns = λ j l. eqb-true _ _ (at_edges join_edges
-      (λ j. length (nth_edge join_edges j).columns == (nth_knot join_knots (nth_edge join_edges j).small).width) refl j l);
-}
-
-missing_along : (k : ℕ) → length (nth_knot join_knots k).missing ≡ length (nth_knot join_knots k).tuples
-missing_along zero = refl
-missing_along (suc zero) = refl
-missing_along (suc (suc zero)) = refl
-missing_along (suc (suc (suc zero))) = refl
-missing_along (suc (suc (suc (suc k)))) = refl
-
-refs_along : (k : ℕ) → length (nth_knot join_knots k).refs ≡ length (nth_knot join_knots k).tuples
-refs_along zero = refl
-refs_along (suc zero) = refl
-refs_along (suc (suc zero)) = refl
-refs_along (suc (suc (suc zero))) = refl
-refs_along (suc (suc (suc (suc k)))) = refl
-
-marks_along : (k : ℕ) → length (nth_knot join_knots k).marks ≡ length (nth_knot join_knots k).tuples
-marks_along zero = refl
-marks_along (suc zero) = refl
-marks_along (suc (suc zero)) = refl
-marks_along (suc (suc (suc zero))) = refl
-marks_along (suc (suc (suc (suc k)))) = refl
-
-along : AreAlong join_knots join_edges
-along = record {
-  missing = missing_along;
-  refs = refs_along;
-  marks = marks_along;
-  ties = λ j l. eqb-true _ _ (at_edges join_edges
-      (λ j. length (nth_edge join_edges j).ties == length (nth_knot join_knots (nth_edge join_edges j).big).tuples) refl j l);
-  lists = λ j l. eqb-true _ _ (at_edges join_edges
-      (λ j. length (nth_edge join_edges j).lists == length (nth_knot join_knots (nth_edge join_edges j).small).tuples) refl j l);
-}
-
-tied : (j x : ℕ) → j < 3 → has_entry join_knots (nth_edge join_edges j).big x ≡ true
-    → has_entry join_knots (nth_edge join_edges j).small (tie_of (nth_edge join_edges j) x) ≡ true
-tied j x l i = at_ties join_forest
-    (λ j x. has_entry join_knots (nth_edge join_edges j).small (tie_of (nth_edge join_edges j) x)) refl j x l i
-
-differ : (k x y : ℕ) → has_entry join_knots k x ≡ true → has_entry join_knots k y ≡ true
-    → entry_tuple join_knots k x ≡ entry_tuple join_knots k y → x ≡ y
-unfolding same_tuple
-differ k x y i j h =
-    let test = λ (k x y : ℕ). implied (has_entry join_knots k y && same_tuple (entry_tuple join_knots k x) (entry_tuple join_knots k y)) (x == y) in
-    eqb-true x y
-    (given (has_entry join_knots k y && same_tuple (entry_tuple join_knots k x) (entry_tuple join_knots k y)) (x == y)
-    (all_passed (length (nth_knot join_knots k).tuples) (test k x)
-    (at_entries join_knots (λ k x. all_below (length (nth_knot join_knots k).tuples) (test k x)) refl k x i) y
-    (slot_within join_knots k y j))
-    (both (has_entry join_knots k y) _ j (is_same _ _ h)))
-
-projected : (j x : ℕ) → j < 3 → has_entry join_knots (nth_edge join_edges j).big x ≡ true
-    → entry_tuple join_knots (nth_edge join_edges j).small (tie_of (nth_edge join_edges j) x)
-    ≡ projection (nth_edge join_edges j).columns (entry_tuple join_knots (nth_edge join_edges j).big x)
+join_is_forest : IsForest join_forest
 unfolding same_tuple projection
-projected j x l i = same_is _ _ (at_ties join_forest
-    (λ j x. same_tuple (entry_tuple join_knots (nth_edge join_edges j).small (tie_of (nth_edge join_edges j) x))
-    (projection (nth_edge join_edges j).columns (entry_tuple join_knots (nth_edge join_edges j).big x))) refl j x l i)
-
-once : (j y : ℕ) → j < 3 → AreDistinctSlots (list_of (nth_edge join_edges j) y)
-unfolding AreDistinctSlots IsOut
-once zero zero l = ((λ h. absurd cc, tt), (tt, tt))
-once zero (suc zero) l = (tt, tt)
-once zero (suc (suc zero)) l = tt
-once zero (suc (suc (suc y))) l = tt
-once (suc zero) zero l = (tt, tt)
-once (suc zero) (suc zero) l = tt
-once (suc zero) (suc (suc zero)) l = (tt, tt)
-once (suc zero) (suc (suc (suc y))) l = tt
-once (suc (suc zero)) zero l = (tt, tt)
-once (suc (suc zero)) (suc y) l = tt
-once (suc (suc (suc j))) y l = absurd (omega arith)
-
-pub forest : IsForest join_forest
-forest = record {
-  shape = shape;
-  along = along;
-  wide = λ k x i. eqb-true _ _ (at_entries join_knots
-      (λ k x. length (entry_tuple join_knots k x) == (nth_knot join_knots k).width) refl k x i);
-  differ = differ;
-  tied = tied;
-  projected = projected;
-  refs = λ k y i. eqb-true _ _ (at_entries join_knots (λ k y. refs_at join_knots k y == tied_to join_forest k y) refl k y i);
-  held = λ k y i view. ltb-true _ _ (given (not (nth_knot join_knots k).leaf) (nat_lt 0 (refs_at join_knots k y)) (at_entries join_knots
-      (λ k y. implied (not (nth_knot join_knots k).leaf) (nat_lt 0 (refs_at join_knots k y))) refl k y i) (rw view refl));
-  listed = at_lists join_forest tied along.lists refl refl;
-  once = once;
-  missing = λ k x i. eqb-true _ _ (at_entries join_knots
-      (λ k x. missing_at join_knots k x == unmet join_forest k x) refl k x i);
-}
+join_is_forest = forest_by join_forest (record {
+  big = refl;
+  small = refl;
+  view = refl;
+  rises = refl;
+  one_upper = refl;
+  columns = refl;
+  counts = refl;
+  holds = refl;
+  marks = refl;
+  ties = refl;
+  lists = refl;
+  wide = refl;
+  differ = refl;
+  tied = refl;
+  projected = refl;
+  refs = refl;
+  held = refl;
+  below = refl;
+  right = refl;
+  once = refl;
+  missing = refl;
+})
 
 -- what the leaves need, which is nothing, and what the meet needs
 leaf_whole : (k : ℕ) → (j : ℕ) → j < 3 → k < 2 → is_need k (nth_edge join_edges j) ≡ member j []
@@ -225,5 +139,127 @@ widths (suc (suc (suc zero))) l = refl
 widths (suc (suc (suc (suc zero)))) l = refl
 widths (suc (suc (suc (suc (suc k))))) l = absurd (omega arith)
 
-pub folded : IsFoldOf join_tree join_forest join_fold
-folded = record { long = refl; width = widths; leaf = leaves; trim = trims; meet = meets }
+join_folded : IsFoldOf join_tree join_forest join_fold
+join_folded = record { long = refl; width = widths; leaf = leaves; trim = trims; meet = meets }
+
+pub join_worked : JoinIsWorked
+join_worked = record { forest = join_is_forest; folded = join_folded; reducts = join_reducts }
+
+-- ---- with a side
+
+cover_is_forest : IsForest cover_forest
+unfolding same_tuple projection
+cover_is_forest = forest_by cover_forest (record {
+  big = refl;
+  small = refl;
+  view = refl;
+  rises = refl;
+  one_upper = refl;
+  columns = refl;
+  counts = refl;
+  holds = refl;
+  marks = refl;
+  ties = refl;
+  lists = refl;
+  wide = refl;
+  differ = refl;
+  tied = refl;
+  projected = refl;
+  refs = refl;
+  held = refl;
+  below = refl;
+  right = refl;
+  once = refl;
+  missing = refl;
+})
+
+cover_all : (k : ℕ) (ns : List ℕ) → all_below 3 (λ j. agree (is_need k (nth_edge cover_edges j)) (member j ns)) ≡ true
+    → AreBelow 3 ns → AreAllNeeds cover_edges k ns
+cover_all k ns h below = record {
+  all = λ j l. agreed (is_need k (nth_edge cover_edges j)) (member j ns)
+      (all_passed 3 (λ j. agree (is_need k (nth_edge cover_edges j)) (member j ns)) h j l);
+  below = below;
+}
+
+s_all : AreAllNeeds cover_edges 1 []
+unfolding AreBelow
+s_all = cover_all 1 [] refl tt
+
+view_all : AreAllNeeds cover_edges 2 (0 ∷ [])
+unfolding AreBelow
+view_all = cover_all 2 (0 ∷ []) refl (omega arith, tt)
+
+r_all : AreAllNeeds cover_edges 0 (1 ∷ [])
+unfolding AreBelow
+r_all = cover_all 0 (1 ∷ []) refl (omega arith, tt)
+
+cover_leaves : (k a : ℕ) → k < 4 → node_at cover_tree.nodes k ≡ Leaf a
+    → (knot_of cover_fold k ≡ k) × (needs_of cover_fold k ≡ [])
+cover_leaves zero a l h = (refl, refl)
+cover_leaves (suc zero) a l h = (refl, refl)
+cover_leaves (suc (suc zero)) a l h = absurd cc
+cover_leaves (suc (suc (suc zero))) a l h = absurd cc
+cover_leaves (suc (suc (suc (suc k)))) a l h = absurd (omega arith)
+
+cover_trims : (k c : ℕ) → k < 4 → node_at cover_tree.nodes k ≡ Trim c → IsTrimFold cover_tree cover_forest cover_fold k c
+unfolding label_columns variable_column
+cover_trims zero c l h = absurd cc
+cover_trims (suc zero) c l h = absurd cc
+cover_trims (suc (suc zero)) c l h = absurd cc
+cover_trims (suc (suc (suc zero))) c l h =
+    let is : 2 ≡ c = cc in
+    subst (λ (c : ℕ). IsTrimFold cover_tree cover_forest cover_fold 3 c) is
+    (2, record { edge = omega arith; feeds = refl; big = refl; small = refl; columns_are = refl; whole = r_all }, refl)
+cover_trims (suc (suc (suc (suc k)))) c l h = absurd (omega arith)
+
+cover_meets : (k g s : ℕ) → k < 4 → node_at cover_tree.nodes k ≡ Meet g s
+    → HasSide cover_tree cover_forest cover_fold k g s ⊎ IsOne cover_tree cover_forest cover_fold k g s
+unfolding label_columns variable_column
+cover_meets zero g s l h = absurd cc
+cover_meets (suc zero) g s l h = absurd cc
+cover_meets (suc (suc zero)) g s l h =
+    let guard : 0 ≡ g = cc in
+    let side : 1 ≡ s = cc in
+    inl (subst (λ (g : ℕ). HasSide cover_tree cover_forest cover_fold 2 g s) guard
+    (subst (λ (s : ℕ). HasSide cover_tree cover_forest cover_fold 2 0 s) side
+    (record {
+      edge = 1;
+      within = omega arith;
+      has = refl;
+      big = refl;
+      columns_are = refl;
+      side_needs = 0 ∷ [];
+      side = inr (
+        0,
+        refl,
+        record {
+          edge = omega arith;
+          feeds = refl;
+          big = refl;
+          small = refl;
+          columns_are = refl;
+          whole = s_all;
+        },
+      );
+      whole = view_all;
+      knot = refl;
+      needs = refl;
+    })))
+cover_meets (suc (suc (suc zero))) g s l h = absurd cc
+cover_meets (suc (suc (suc (suc k)))) g s l h = absurd (omega arith)
+
+cover_widths : (k : ℕ) → k < 4 → (nth_knot cover_knots (knot_of cover_fold k)).width ≡ length (label_at cover_tree.labels k)
+cover_widths zero l = refl
+cover_widths (suc zero) l = refl
+cover_widths (suc (suc zero)) l = refl
+cover_widths (suc (suc (suc zero))) l = refl
+cover_widths (suc (suc (suc (suc k)))) l = absurd (omega arith)
+
+cover_folded : IsFoldOf cover_tree cover_forest cover_fold
+cover_folded = record { long = refl; width = cover_widths; leaf = cover_leaves; trim = cover_trims; meet = cover_meets }
+
+cover_reducts : (reducts_of cover_tree cover_forest cover_fold).tables ≡ cover_tables
+cover_reducts = refl
+
+pub cover_worked : CoverIsWorked
+cover_worked = record { forest = cover_is_forest; folded = cover_folded; reducts = cover_reducts }

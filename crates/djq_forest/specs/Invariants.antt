@@ -36,8 +36,8 @@ tied_by ks e y = how_many (λ x. has_entry ks e.big x && (tie_of e x == y)) (len
 abbrev pub tied_to : Forest → ℕ → ℕ → ℕ
 tied_to f k y = sum_by (λ e. cond (e.small == k) (tied_by f.knots e y) 0) f.edges
 
--- what holds of every forest
-pub record IsForest (f : Forest) : Type 0 where
+-- what holds of entries, and of how they are tied, whichever of them live
+pub record AreEntries (f : Forest) : Type 0 where
   pub shape : IsShape f.knots f.edges
   pub along : AreAlong f.knots f.edges
   -- each tuple has its knot's width, and lies in one slot of it
@@ -53,6 +53,10 @@ pub record IsForest (f : Forest) : Type 0 where
   -- the entries that are tied to one are counted there, and a view has none that nothing is tied to
   pub refs : (k y : ℕ) → has_entry f.knots k y ≡ true → refs_at f.knots k y ≡ tied_to f k y
   pub held : (k y : ℕ) → has_entry f.knots k y ≡ true → (nth_knot f.knots k).leaf ≡ false → 0 < refs_at f.knots k y
+
+-- what holds of every forest
+pub record IsForest (f : Forest) : Type 0 where
+  pub entries : AreEntries f
   -- an edge lists once each entry that it has to list, and no other
   pub listed : (j x y : ℕ) → j < length f.edges → member x (list_of (nth_edge f.edges j) y)
       ≡ is_to_list f.knots (nth_edge f.edges j) x y

@@ -39,7 +39,8 @@
 //! `reducts_of` (`specs/Fold.antt`): the table of each node, with as many supports as the node's reduct has.
 //!
 //! In the midst of a change some of what lives isn't known everywhere yet: `IsToldSoFar` (`specs/Telling.antt`) says what
-//! holds of lists and counts by what has been told, and each telling keeps it.
+//! holds of lists and counts by what has been told. Each telling keeps it, and so does each that is undone; where all has
+//! been told that there is to tell, the forest is one.
 //!
 //! Inside, entries lie in slots ([`Slots`]): the cells of all one after the other, and a note of twelve bytes for each. A
 //! [`Tie`] has twelve bytes, too: the slot that it leads to, and its neighbours in that one's list. Links are four bytes,
@@ -51,14 +52,16 @@ mod ties;
 
 ghost use Rattle.djq_forest.specs.Fold.{ForestsAreReducts};
 ghost use Rattle.djq_forest.specs.Telling.{TellingKeeps};
-ghost use Rattle.djq_forest.specs.Worked.{JoinIsWorked};
+ghost use Rattle.djq_forest.specs.Worked.{JoinIsWorked, CoverIsWorked};
 
 pub use slots::{Note, OUT, Slots};
 pub use ties::{Tie, Ties};
 
-/// The forest of the join above is one, over the join's tree, and stands for the join's reducts. It does nothing.
-pub fn join_is_worked()
-    ensures { JoinIsWorked }
+/// The forest above is one, over its tree, and stands for the join's reducts; and so is that of the same rows where s is
+/// a side of r. It does nothing.
+pub fn examples_are_worked()
+    ensures join { JoinIsWorked }
+    ensures cover { CoverIsWorked }
 {}
 
 /// What a forest over a tree stands for are the tree's reducts. It does nothing.
@@ -66,7 +69,8 @@ pub fn forests_are_reducts()
     ensures { ForestsAreReducts }
 {}
 
-/// What has been told of a forest stays so when one more entry is told of. It does nothing.
+/// A forest is one of which all has been told that there is to tell; and one more telling, or one that is undone, leaves
+/// what has been told. It does nothing.
 pub fn telling_keeps()
     ensures { TellingKeeps }
 {}
