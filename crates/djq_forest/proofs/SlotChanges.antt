@@ -14,6 +14,7 @@ use Rattle.djq_hypergraph.specs.Hypergraph.{numbers_below}
 use Rattle.djq_forest.specs.declared.slots.Note.{Note}
 use Rattle.djq_forest.specs.declared.slots.TheConstants.{OUT}
 use Rattle.djq_forest.specs.SlotEntries.{SlotEntries, with_slots, with_entry, with_free, with_numbers}
+use Rattle.djq_forest.specs.SlotEntries.{with_unmet, with_refs, marked_by}
 use Rattle.djq_forest.specs.SlotEntries.{AreSlotEntries}
 use Rattle.djq_forest.specs.Slots.{free_note, note_in, tuple_in, slot_tuples, missing_in, refs_in, marks_in, SlotsAreSound}
 
@@ -348,3 +349,57 @@ note_refs ns x n l is = ap (λ (n : Note). n.refs) is ∙ sym (get_or-map (λ (n
 pub note_mark : (ns : List Note) (x : ℕ) (n : Note) → x < length ns → n ≡ note_in ns x → n.mark ≡ slice_index (marks_in ns) x
 unfolding marks_in
 note_mark ns x n l is = ap (λ (n : Note). n.mark) is ∙ sym (get_or-map (λ (n : Note). n.mark) ns x free_note 0 l)
+
+-- ---- one of an entry's numbers is another one
+
+same_missing : (ns : List Note) (x : ℕ) → x < length ns → slice_set (missing_in ns) x (note_in ns x).missing ≡ missing_in ns
+same_missing ns x l = ap (λ (m : ℕ). slice_set (missing_in ns) x m) (note_missing ns x (note_in ns x) l refl)
+    ∙ set-get_or (missing_in ns) x 0
+
+same_refs : (ns : List Note) (x : ℕ) → x < length ns → slice_set (refs_in ns) x (note_in ns x).refs ≡ refs_in ns
+same_refs ns x l = ap (λ (m : ℕ). slice_set (refs_in ns) x m) (note_refs ns x (note_in ns x) l refl) ∙ set-get_or (refs_in ns) x 0
+
+same_marks : (ns : List Note) (x : ℕ) → x < length ns → slice_set (marks_in ns) x (note_in ns x).mark ≡ marks_in ns
+same_marks ns x l = ap (λ (m : ℕ). slice_set (marks_in ns) x m) (note_mark ns x (note_in ns x) l refl) ∙ set-get_or (marks_in ns) x 0
+
+-- the note that was read, and the one that is written
+pub record Writes (w : ℕ) (cells : List ℕ) (ns ms : List Note) (x : ℕ) (old new : Note) : Type 0 where
+  pub taken : Taken w cells ns x
+  pub some : new.missing ≢ OUT
+  pub read : old ≡ note_in ns x
+  pub written : ms ≡ slice_set ns x new
+
+pub unmet_seen : (w : ℕ) (cells : List ℕ) (ns ms : List Note) (x m : ℕ) (old new : Note) → Writes w cells ns ms x old new
+    → new.missing ≡ m → new.refs ≡ old.refs → new.mark ≡ old.mark → value w cells ms ≡ with_unmet (value w cells ns) x m
+unmet_seen w cells ns ms x m old new h is refs mark =
+    numbers_seen w cells ns ms x new h.taken h.some h.written
+    ∙ ap (λ (n : ℕ). entries w (slot_tuples w cells ns) (slice_set (missing_in ns) x n) (slice_set (refs_in ns) x new.refs)
+    (slice_set (marks_in ns) x new.mark)) is
+    ∙ ap₂ (λ (rs ks : List ℕ). entries w (slot_tuples w cells ns) (slice_set (missing_in ns) x m) rs ks)
+    (ap (λ (n : ℕ). slice_set (refs_in ns) x n) (refs ∙ ap (λ (n : Note). n.refs) h.read) ∙ same_refs ns x h.taken.within)
+    (ap (λ (n : ℕ). slice_set (marks_in ns) x n) (mark ∙ ap (λ (n : Note). n.mark) h.read) ∙ same_marks ns x h.taken.within)
+
+pub refs_seen : (w : ℕ) (cells : List ℕ) (ns ms : List Note) (x m : ℕ) (old new : Note) → Writes w cells ns ms x old new
+    → new.refs ≡ m → new.missing ≡ old.missing → new.mark ≡ old.mark → value w cells ms ≡ with_refs (value w cells ns) x m
+refs_seen w cells ns ms x m old new h is missing mark =
+    numbers_seen w cells ns ms x new h.taken h.some h.written
+    ∙ ap (λ (n : ℕ). entries w (slot_tuples w cells ns) (slice_set (missing_in ns) x new.missing) (slice_set (refs_in ns) x n)
+    (slice_set (marks_in ns) x new.mark)) is
+    ∙ ap₂ (λ (ms ks : List ℕ). entries w (slot_tuples w cells ns) ms (slice_set (refs_in ns) x m) ks)
+    (ap (λ (n : ℕ). slice_set (missing_in ns) x n) (missing ∙ ap (λ (n : Note). n.missing) h.read) ∙ same_missing ns x h.taken.within)
+    (ap (λ (n : ℕ). slice_set (marks_in ns) x n) (mark ∙ ap (λ (n : Note). n.mark) h.read) ∙ same_marks ns x h.taken.within)
+
+pub mark_seen : (w : ℕ) (cells : List ℕ) (ns ms : List Note) (x m : ℕ) (old new : Note) → Writes w cells ns ms x old new
+    → new.mark ≡ m → new.missing ≡ old.missing → new.refs ≡ old.refs → value w cells ms ≡ marked_by (value w cells ns) x m
+mark_seen w cells ns ms x m old new h is missing refs =
+    numbers_seen w cells ns ms x new h.taken h.some h.written
+    ∙ ap (λ (n : ℕ). entries w (slot_tuples w cells ns) (slice_set (missing_in ns) x new.missing) (slice_set (refs_in ns) x new.refs)
+    (slice_set (marks_in ns) x n)) is
+    ∙ ap₂ (λ (ms rs : List ℕ). entries w (slot_tuples w cells ns) ms rs (slice_set (marks_in ns) x m))
+    (ap (λ (n : ℕ). slice_set (missing_in ns) x n) (missing ∙ ap (λ (n : Note). n.missing) h.read) ∙ same_missing ns x h.taken.within)
+    (ap (λ (n : ℕ). slice_set (refs_in ns) x n) (refs ∙ ap (λ (n : Note). n.refs) h.read) ∙ same_refs ns x h.taken.within)
+
+-- the number of unmet needs that was read isn't that of a free slot
+pub read_some : (w : ℕ) (cells : List ℕ) (ns : List Note) (x : ℕ) (old : Note) → Taken w cells ns x → old ≡ note_in ns x
+    → old.missing ≢ OUT
+read_some w cells ns x old t is = λ h. t.some (ap (λ (n : Note). n.missing) (sym is) ∙ h)

@@ -60,6 +60,36 @@ with_numbers s x missing refs mark = record {
   marks = slice_set s.marks x mark;
 }
 
+-- so many needs of the entry in a slot aren't met
+abbrev pub with_unmet : SlotEntries → ℕ → ℕ → SlotEntries
+with_unmet s x missing = record {
+  width = s.width;
+  tuples = s.tuples;
+  missing = slice_set s.missing x missing;
+  refs = s.refs;
+  marks = s.marks;
+}
+
+-- so many entries are tied to the one in a slot
+abbrev pub with_refs : SlotEntries → ℕ → ℕ → SlotEntries
+with_refs s x refs = record {
+  width = s.width;
+  tuples = s.tuples;
+  missing = s.missing;
+  refs = slice_set s.refs x refs;
+  marks = s.marks;
+}
+
+-- the entry in a slot was marked by this change
+abbrev pub marked_by : SlotEntries → ℕ → ℕ → SlotEntries
+marked_by s x mark = record {
+  width = s.width;
+  tuples = s.tuples;
+  missing = s.missing;
+  refs = s.refs;
+  marks = slice_set s.marks x mark;
+}
+
 -- what holds of all slots: each has its numbers, and its tuple the width
 pub record AreSlotEntries (s : SlotEntries) : Type 0 where
   pub missing : length s.missing ≡ length s.tuples

@@ -1,9 +1,10 @@
-ghost use Rattle.std.specs.Prelude.{◌≡◌, ◌≢◌, ◌+◌, ◌*◌, ◌-◌, ◌<◌, ◌≤◌, ◌++◌, ℕ, List, [], length, take, drop};
+ghost use Rattle.std.specs.Prelude.{◌≡◌, ◌≢◌, ◌+◌, ◌*◌, ◌-◌, ◌<◌, ◌≤◌, ◌==◌, ◌++◌, ℕ, List, [], length, take};
+ghost use Rattle.std.specs.Prelude.{drop};
 ghost use Rattle.std.specs.Prelude.{replicate, slice_index, slice_set, is_some, Some, IfOk, OnErr};
 ghost use Rattle.djq_arena.specs.declared.link.TheConstants.{SLOTS};
 ghost use Rattle.djq_arena.specs.Store.{cells_at};
 ghost use Rattle.djq_forest.specs.SlotEntries.{tuple_of_slot, IsTaken, with_slots, with_entry, with_free};
-ghost use Rattle.djq_forest.specs.SlotEntries.{with_numbers, AreSlotEntries};
+ghost use Rattle.djq_forest.specs.SlotEntries.{with_numbers, with_unmet, with_refs, marked_by, AreSlotEntries};
 ghost use Rattle.djq_forest.specs.Slots.{free_note, note_in};
 
 use std::alloc::{AllocError, Global};
@@ -219,5 +220,124 @@ impl Slots {
         ensures { self.new ≡ with_numbers self.old slot note.missing note.refs note.mark }
     {
         set_note(&mut self.notes, slot, note);
+    }
+
+    /// Counts one unmet need less of the entry in a slot. Says whether all are met.
+    pub fn meet(&mut self, slot: u32) -> bool
+        requires taken { IsTaken self.old slot }
+        requires some { 0 < slice_index self.old.missing slot }
+        ensures met { self.new ≡ with_unmet self.old slot (slice_index self.old.missing slot - 1) }
+        ensures all { result ≡ (slice_index self.old.missing slot - 1 == 0) }
+    {
+        let Note {
+            missing,
+            refs,
+            mark,
+        } = note_of(&self.notes, slot);
+        let left = missing - 1;
+        set_note(
+            &mut self.notes,
+            slot,
+            Note {
+                missing: left,
+                refs,
+                mark,
+            },
+        );
+        left == 0
+    }
+
+    /// Counts one unmet need more of the entry in a slot. Says whether all were met before.
+    pub fn miss(&mut self, slot: u32) -> bool
+        requires taken { IsTaken self.old slot }
+        requires few { slice_index self.old.missing slot + 1 < OUT }
+        ensures missed { self.new ≡ with_unmet self.old slot (slice_index self.old.missing slot + 1) }
+        ensures all { result ≡ (slice_index self.old.missing slot == 0) }
+    {
+        let Note {
+            missing,
+            refs,
+            mark,
+        } = note_of(&self.notes, slot);
+        let more = missing + 1;
+        set_note(
+            &mut self.notes,
+            slot,
+            Note {
+                missing: more,
+                refs,
+                mark,
+            },
+        );
+        missing == 0
+    }
+
+    /// Counts one entry more that is tied to the one in a slot.
+    pub fn hold(&mut self, slot: u32)
+        requires taken { IsTaken self.old slot }
+        requires few { slice_index self.old.refs slot < OUT }
+        ensures { self.new ≡ with_refs self.old slot (slice_index self.old.refs slot + 1) }
+    {
+        let Note {
+            missing,
+            refs,
+            mark,
+        } = note_of(&self.notes, slot);
+        let more = refs + 1;
+        set_note(
+            &mut self.notes,
+            slot,
+            Note {
+                missing,
+                refs: more,
+                mark,
+            },
+        );
+    }
+
+    /// Counts one entry less that is tied to the one in a slot. Says whether none is left.
+    pub fn let_go(&mut self, slot: u32) -> bool
+        requires taken { IsTaken self.old slot }
+        requires some { 0 < slice_index self.old.refs slot }
+        ensures held { self.new ≡ with_refs self.old slot (slice_index self.old.refs slot - 1) }
+        ensures none { result ≡ (slice_index self.old.refs slot - 1 == 0) }
+    {
+        let Note {
+            missing,
+            refs,
+            mark,
+        } = note_of(&self.notes, slot);
+        let left = refs - 1;
+        set_note(
+            &mut self.notes,
+            slot,
+            Note {
+                missing,
+                refs: left,
+                mark,
+            },
+        );
+        left == 0
+    }
+
+    /// Marks the entry in a slot by a change.
+    pub fn mark(&mut self, slot: u32, change: u32)
+        requires { IsTaken self.old slot }
+        ensures { self.new ≡ marked_by self.old slot change }
+    {
+        let Note {
+            missing,
+            refs,
+            mark: _,
+        } = note_of(&self.notes, slot);
+        set_note(
+            &mut self.notes,
+            slot,
+            Note {
+                missing,
+                refs,
+                mark: change,
+            },
+        );
     }
 }
