@@ -38,9 +38,9 @@
 //! What holds of a forest between two changes is `IsForest` (`specs/Invariants.antt`), and what it stands for is
 //! `reducts_of` (`specs/Fold.antt`): the table of each node, with as many supports as the node's reduct has.
 //!
-//! In the midst of a change some of what lives isn't known everywhere yet: `IsToldSoFar` (`specs/Telling.antt`) says what
-//! holds of lists and counts by what has been told. Each telling keeps it, and so does each that is undone; where all has
-//! been told that there is to tell, the forest is one.
+//! In the midst of a change some of what lives isn't known everywhere yet: `IsToldSoFar` (`specs/Telling.antt`) is what
+//! holds of lists and counts by what was told. Each telling leaves it, and so does each that is undone; once all was told
+//! that there is to tell, the forest is one.
 //!
 //! Inside, entries lie in slots ([`Slots`]): the cells of all one after the other, and a note of twelve bytes for each. A
 //! [`Tie`] has twelve bytes, too: the slot that it leads to, and its neighbours in that one's list. Links are four bytes,

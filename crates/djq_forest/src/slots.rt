@@ -222,11 +222,11 @@ impl Slots {
         set_note(&mut self.notes, slot, note);
     }
 
-    /// Counts one unmet need less of the entry in a slot. Says whether all are met.
-    pub fn meet(&mut self, slot: u32) -> bool
+    /// Counts one unmet need less of the entry in a slot. Returns whether all are met.
+    pub fn lower_missing(&mut self, slot: u32) -> bool
         requires taken { IsTaken self.old slot }
         requires some { 0 < slice_index self.old.missing slot }
-        ensures met { self.new ≡ with_unmet self.old slot (slice_index self.old.missing slot - 1) }
+        ensures lowered { self.new ≡ with_unmet self.old slot (slice_index self.old.missing slot - 1) }
         ensures all { result ≡ (slice_index self.old.missing slot - 1 == 0) }
     {
         let Note {
@@ -247,11 +247,11 @@ impl Slots {
         left == 0
     }
 
-    /// Counts one unmet need more of the entry in a slot. Says whether all were met before.
-    pub fn miss(&mut self, slot: u32) -> bool
+    /// Counts one unmet need more of the entry in a slot. Returns whether all were met before.
+    pub fn raise_missing(&mut self, slot: u32) -> bool
         requires taken { IsTaken self.old slot }
         requires few { slice_index self.old.missing slot + 1 < OUT }
-        ensures missed { self.new ≡ with_unmet self.old slot (slice_index self.old.missing slot + 1) }
+        ensures raised { self.new ≡ with_unmet self.old slot (slice_index self.old.missing slot + 1) }
         ensures all { result ≡ (slice_index self.old.missing slot == 0) }
     {
         let Note {
@@ -273,7 +273,7 @@ impl Slots {
     }
 
     /// Counts one entry more that is tied to the one in a slot.
-    pub fn hold(&mut self, slot: u32)
+    pub fn raise_refs(&mut self, slot: u32)
         requires taken { IsTaken self.old slot }
         requires few { slice_index self.old.refs slot < OUT }
         ensures { self.new ≡ with_refs self.old slot (slice_index self.old.refs slot + 1) }
@@ -295,11 +295,11 @@ impl Slots {
         );
     }
 
-    /// Counts one entry less that is tied to the one in a slot. Says whether none is left.
-    pub fn let_go(&mut self, slot: u32) -> bool
+    /// Counts one entry less that is tied to the one in a slot. Returns whether none is left.
+    pub fn lower_refs(&mut self, slot: u32) -> bool
         requires taken { IsTaken self.old slot }
         requires some { 0 < slice_index self.old.refs slot }
-        ensures held { self.new ≡ with_refs self.old slot (slice_index self.old.refs slot - 1) }
+        ensures lowered { self.new ≡ with_refs self.old slot (slice_index self.old.refs slot - 1) }
         ensures none { result ≡ (slice_index self.old.refs slot - 1 == 0) }
     {
         let Note {
@@ -321,7 +321,7 @@ impl Slots {
     }
 
     /// Marks the entry in a slot by a change.
-    pub fn mark(&mut self, slot: u32, change: u32)
+    pub fn set_mark(&mut self, slot: u32, change: u32)
         requires { IsTaken self.old slot }
         ensures { self.new ≡ marked_by self.old slot change }
     {

@@ -183,7 +183,7 @@ impl Ties {
         set_to(&mut self.ties, slot, to);
     }
 
-    /// Puts a slot that is in no list in front of that of the slot that it is tied to. Says whether that was empty.
+    /// Puts a slot that is in no list in front of that of the slot that it is tied to. Returns whether that was empty.
     pub fn enter(&mut self, slot: u32) -> bool
         requires within { slot < length self.old.ties }
         requires to { tie_at self.old slot < length self.old.lists }
@@ -200,7 +200,7 @@ impl Ties {
         next.get().is_none()
     }
 
-    /// Takes a slot out of its list. Says whether that is empty now.
+    /// Takes a slot out of its list. Returns whether that is empty now.
     pub fn leave(&mut self, slot: u32) -> bool
         requires { is_in_list self.old slot ≡ true }
         ensures left { self.new ≡ taken_out self.old slot }

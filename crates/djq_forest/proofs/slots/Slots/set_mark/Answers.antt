@@ -1,8 +1,7 @@
 -- The change is written, and the other numbers as they were read.
-use Rattle.std.proofs.Common.{◌≡◌, ◌-◌, ◌+◌, ◌==◌, refl, sym, ◌∙◌, ap, arith, ℕ, slice_index}
-use Rattle.djq_forest.specs.Slots.{missing_in, refs_in}
+use Rattle.std.proofs.Common.{refl}
 use Rattle.djq_forest.proofs.SlotChanges.{taken, note_sound, read_some, mark_seen}
-use Rattle.djq_forest.proofs.slots.Slots.mark.Goals as goal
+use Rattle.djq_forest.proofs.slots.Slots.set_mark.Goals as goal
 
 pub note_of-missing-requires : goal.note_of-missing-requires
 note_of-missing-requires c = (taken c.self.inside.width c.self.inside.cells.items c.self.inside.notes.items c.args.slot

@@ -1,8 +1,8 @@
 -- One entry more is tied: the number that was read is one more.
-use Rattle.std.proofs.Common.{◌≡◌, ◌-◌, ◌+◌, ◌==◌, refl, sym, ◌∙◌, ap, arith, ℕ, slice_index}
-use Rattle.djq_forest.specs.Slots.{missing_in, refs_in}
+use Rattle.std.proofs.Common.{◌+◌, refl, ap, arith, ℕ, slice_index}
+use Rattle.djq_forest.specs.Slots.{refs_in}
 use Rattle.djq_forest.proofs.SlotChanges.{taken, note_sound, note_refs, read_some, refs_seen}
-use Rattle.djq_forest.proofs.slots.Slots.hold.Goals as goal
+use Rattle.djq_forest.proofs.slots.Slots.raise_refs.Goals as goal
 
 pub note_of-missing-requires : goal.note_of-missing-requires
 note_of-missing-requires c = (taken c.self.inside.width c.self.inside.cells.items c.self.inside.notes.items c.args.slot

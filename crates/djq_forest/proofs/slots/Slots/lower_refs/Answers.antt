@@ -1,8 +1,8 @@
 -- One entry less is tied: the number that was read is one less.
-use Rattle.std.proofs.Common.{◌≡◌, ◌-◌, ◌+◌, ◌==◌, refl, sym, ◌∙◌, ap, arith, ℕ, slice_index}
-use Rattle.djq_forest.specs.Slots.{missing_in, refs_in}
+use Rattle.std.proofs.Common.{◌-◌, ◌==◌, refl, ap, arith, ℕ, slice_index}
+use Rattle.djq_forest.specs.Slots.{refs_in}
 use Rattle.djq_forest.proofs.SlotChanges.{taken, note_sound, note_refs, read_some, refs_seen}
-use Rattle.djq_forest.proofs.slots.Slots.let_go.Goals as goal
+use Rattle.djq_forest.proofs.slots.Slots.lower_refs.Goals as goal
 
 pub note_of-missing-requires : goal.note_of-missing-requires
 note_of-missing-requires c = (taken c.self.inside.width c.self.inside.cells.items c.self.inside.notes.items c.args.slot
@@ -24,8 +24,8 @@ pub invariant_of-self : goal.invariant_of-self
 invariant_of-self c = note_sound c.self.inside.width c.self.inside.cells.items c.self.inside.notes.items _ c.args.slot _
     c.self.invariant c.set_note.ensures
 
-pub returns-clause-held : goal.returns-clause-held
-returns-clause-held c =
+pub returns-clause-lowered : goal.returns-clause-lowered
+returns-clause-lowered c =
     let now = note_refs c.self.inside.notes.items c.args.slot c.note_of-missing.result (taken c.self.inside.width c.self.inside.cells.items c.self.inside.notes.items c.args.slot
     (rw (← c.self.view_is) at c.requires.taken)).within
     c.note_of-missing.ensures in
