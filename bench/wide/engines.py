@@ -57,8 +57,9 @@ def compiled(folder, sides):
 
 
 class Postgres:
-    """A server that is there as long as a `with` block runs."""
+    """A server that is there as long as a `with` block runs; started by another program where its words are given before."""
 
+    before = ()
     SETTINGS = {"fsync": "on", "shared_buffers": "512MB", "max_wal_size": "4GB", "autovacuum": "off", "listen_addresses": "127.0.0.1",
                 "max_connections": "20", "jit": "off"}
 
@@ -80,8 +81,9 @@ class Postgres:
             self.port = free.getsockname()[1]
         words = [word for name, value in self.SETTINGS.items() for word in ("-c", f"{name}={value}")]
         with open(os.path.join(self.folder, "said"), "w", encoding="utf-8") as said:
-            self.process = subprocess.Popen([os.path.join(self.programs, "postgres"), "-D", self.data, "-p", str(self.port), "-k", self.folder,
-                                             *words], user=self.user, cwd=self.folder, stdin=subprocess.DEVNULL, stdout=said, stderr=said)
+            program = os.path.join(self.programs, "postgres")
+            self.process = subprocess.Popen([*self.before, program, "-D", self.data, "-p", str(self.port), "-k", self.folder, *words], user=self.user,
+                                            cwd=self.folder, stdin=subprocess.DEVNULL, stdout=said, stderr=said)
         try:
             self.await_ready()
         except BaseException:
