@@ -38,9 +38,9 @@
 //! What holds of a forest between two changes is `IsForest` (`specs/Invariants.antt`), and what it stands for is
 //! `reducts_of` (`specs/Fold.antt`): the table of each node, with as many supports as the node's reduct has.
 //!
-//! In the midst of a change some of what lives isn't known everywhere yet: `IsToldSoFar` (`specs/Telling.antt`) is what
-//! holds of lists and counts by what was told. Each telling leaves it, and so does each that is undone; once all was told
-//! that there is to tell, the forest is one.
+//! In the midst of a change some of what lives isn't known everywhere yet: `IsToldSoFar` (`specs/Telling.antt`) defines
+//! lists and counts by the steps that were propagated. Each step preserves it, done or undone; after the last one the
+//! forest is whole again.
 //!
 //! Inside, entries lie in slots ([`Slots`]): the cells of all one after the other, and a note of twelve bytes for each. A
 //! [`Tie`] has twelve bytes, too: the slot that it leads to, and its neighbours in that one's list. Links are four bytes,
@@ -69,8 +69,8 @@ pub fn forests_are_reducts()
     ensures { ForestsAreReducts }
 {}
 
-/// A forest is one of which all has been told that there is to tell; and one more telling, or one that is undone, leaves
-/// what has been told. It does nothing.
+/// A forest is whole if all steps of a change were propagated; one step more, or one that is undone, leaves a state in
+/// which some were. It does nothing.
 pub fn telling_keeps()
     ensures { TellingKeeps }
 {}

@@ -22,8 +22,8 @@ pub struct Note {
     pub mark: u32,
 }
 
-/// The entries of a knot. Each lies in a slot, whose number stays the same as long as the entry is there; which slot an
-/// entry comes into is told from outside.
+/// The entries of a knot. Each lies in a slot, whose number stays the same as long as the entry is there. The caller
+/// chooses the slot of a new entry.
 #[derive(Drop)]
 pub struct Slots {
     width: usize,
