@@ -6,8 +6,8 @@
 //! djq_index, djq_reduct and djq_propagate.
 //!
 //! A *knot* is a leaf of the tree, or a view. A leaf's entries are the tuples that the rows of its relation give it. A
-//! trim is a view that its child's knot *feeds*. A meet makes no knot of its own: where the labels of its guard and its
-//! side differ, its guard's knot has the side's as a *side*, and where they are equal, one view stands for both. An
+//! trim is a view that its child's knot *feeds*. A meet makes no knot of its own: if the labels of its guard and its
+//! side differ, its guard's knot has the side's as a *side*, and if they are equal, one view is both. An
 //! *edge* leads from a big knot to a small one that has a part of its variables. Each entry of the big one is *tied*
 //! to the one entry of the small one that has its projection, as long as it is there, whether it lives or not.
 //!
@@ -27,12 +27,12 @@
 //!                             from y                       (): 7
 //! ```
 //!
-//! An entry *lives* where each edge that feeds its knot has a living entry tied to it, and each side that it is tied to
+//! An entry *lives* if each edge that feeds its knot has a living entry tied to it, and each side that it is tied to
 //! lives. Above, 7 of y lives, since r and s feed it; 8 and 9 don't. So a view has entries for dead ends, too: which
 //! entries there are depends on the leaves' tuples alone, and coming to live moves numbers and links. It looks nothing
 //! up, takes no memory and can't fail.
 //!
-//! Each edge lists for each entry of its small knot the entries of its big one that are tied to it; where it feeds,
+//! Each edge lists for each entry of its small knot the entries of its big one that are tied to it; if it feeds,
 //! those of them that live. So a list's length is the number of supports of a trim's tuple.
 //!
 //! What holds of a forest between two changes is `IsForest` (`specs/Invariants.antt`), and what it stands for is
@@ -57,7 +57,7 @@ ghost use Rattle.djq_forest.specs.Worked.{JoinIsWorked, CoverIsWorked};
 pub use slots::{Note, OUT, Slots};
 pub use ties::{Tie, Ties};
 
-/// The forest above is one, over its tree, and stands for the join's reducts; and so is that of the same rows where s is
+/// The forest above is one, over its tree, and stands for the join's reducts; and so is that of the same rows if s is
 /// a side of r. It does nothing.
 pub fn examples_are_worked()
     ensures join { JoinIsWorked }

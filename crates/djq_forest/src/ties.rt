@@ -64,7 +64,7 @@ fn set_prev(ties: &mut Vec<Tie>, at: Link, prev: Link)
     }
 }
 
-/// Writes another slot behind one, if there is one.
+/// Links another slot after one, if there is one.
 fn set_next(ties: &mut Vec<Tie>, at: Link, next: Link)
     requires { IsSlotBelow (length ties.old.items) at }
     ensures { ties.new.items ≡ next_set at next ties.old.items }
@@ -166,7 +166,7 @@ impl Ties {
         head_of(&self.heads, to).get()
     }
 
-    /// The slot behind a slot that is in a list, if there is one.
+    /// The slot after a slot of a list, if there is one.
     pub fn next(&self, slot: u32) -> Option<u32>
         requires { is_in_list self.now slot ≡ true }
         ensures { (xs ys : List ℕ) → list_at self.now (tie_at self.now slot) ≡ xs ++ slot ∷ ys → result ≡ first_of ys }
