@@ -1,0 +1,10 @@
+mod Worked
+mod Tables
+mod NamedRows
+mod FirstLines
+mod Places
+mod Judgements
+mod Full
+mod Adding
+mod Transactions
+mod Counts
