@@ -43,7 +43,7 @@ without ids id = record ids {
 -- What a turn may answer, and what it does to the ids: sessions open with rising ids; bytes, some
 -- and at most as many as there is room for, and the end of input come for running sessions alone.
 abbrev pub Turns : Turn → ℕ → Ids → Ids → Type 0
-Turns (Opened id) room old new = IsNewId old id × (new ≡ with_opened old id)
+Turns (Opened id class) room old new = IsNewId old id × (new ≡ with_opened old id)
 Turns (Bytes id n) room old new = (1 ≤ n) × (n ≤ room) × IsRunning old id × (new ≡ old)
 Turns (Ended id) room old new = IsRunning old id × EndsInput id old new
 Turns Idle room old new = new ≡ old
@@ -53,7 +53,7 @@ Turns Failed room old new = new ≡ old
 -- a turn brings at most so many bytes
 abbrev pub FitsTurn : Turn → ℕ → Type 0
 FitsTurn (Bytes id n) room = n ≤ room
-FitsTurn (Opened id) room = Unit {0}
+FitsTurn (Opened id class) room = Unit {0}
 FitsTurn (Ended id) room = Unit {0}
 FitsTurn Idle room = Unit {0}
 FitsTurn Over room = Unit {0}
@@ -62,7 +62,7 @@ FitsTurn Failed room = Unit {0}
 -- the bytes that a turn brought into a buffer
 abbrev pub brought : Turn → List ℕ → List ℕ
 brought (Bytes id n) buf = take n buf
-brought (Opened id) buf = []
+brought (Opened id class) buf = []
 brought (Ended id) buf = []
 brought Idle buf = []
 brought Over buf = []

@@ -14,7 +14,7 @@ CountsListen Unheard old new = Counted old new
 
 -- A hub's own count of faults rises at a failed turn, and stays at every other.
 abbrev pub CountsTurn : Turn → ℕ → ℕ → Type 0
-CountsTurn (Opened id) old new = new ≡ old
+CountsTurn (Opened id class) old new = new ≡ old
 CountsTurn (Bytes id n) old new = new ≡ old
 CountsTurn (Ended id) old new = new ≡ old
 CountsTurn Idle old new = new ≡ old
@@ -31,7 +31,7 @@ SameCountsBut s ids old new = (id : ℕ) → Contains ids id → id ≢ s → ne
 
 -- The sessions' counts of faults stay in a turn, but that the input of one may end by a fault.
 abbrev pub CountsInTurn : Turn → List ℕ → (ℕ → ℕ) → (ℕ → ℕ) → Type 0
-CountsInTurn (Opened id) ids old new = SameCounts ids old new
+CountsInTurn (Opened id class) ids old new = SameCounts ids old new
 CountsInTurn (Bytes id n) ids old new = SameCounts ids old new
 CountsInTurn (Ended id) ids old new = SameCountsBut id ids old new × (old id ≤ new id)
 CountsInTurn Idle ids old new = SameCounts ids old new

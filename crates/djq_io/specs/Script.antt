@@ -1,5 +1,6 @@
 use Rattle.std.specs.Prelude.{◌≡◌, ◌≢◌, ℕ, ◌⊎◌, List, [], ◌∷◌, ◌++◌, length, take, Contains, Option, IfSome, IsSomeAnd}
 use Rattle.djq_io.specs.declared.hub.Coming.{Coming}
+use Rattle.djq_io.specs.declared.hub.Class.TheVariants.{Client}
 use Rattle.djq_io.specs.declared.hub.Incoming.{Incoming}
 use Rattle.djq_io.specs.declared.hub.Incoming.TheVariants.{Opens, Brings, Ends, Nothing}
 use Rattle.djq_io.specs.declared.hub.Turn.{Turn}
@@ -40,7 +41,7 @@ BringsNothing ids Nothing = Unit {0}
 -- of whose piece only as much as fits is given; `Idle` where it brings nothing; `Over` where there
 -- is none; or a failure, after which the script is as it was.
 abbrev pub AnswersByScript : Ids → Turn → List ℕ → Script → Script → Type 0
-AnswersByScript ids (Opened id) buf old new = IsNewId ids id × ScriptPasses old (Opens id) new
+AnswersByScript ids (Opened id Client) buf old new = IsNewId ids id × ScriptPasses old (Opens id) new
 AnswersByScript ids (Bytes id n) buf old new =
     IsRunning ids id
     × (ScriptPasses old (Brings id (take n buf)) new ⊎ ((n ≡ length buf) × Cuts old id (take n buf) new))

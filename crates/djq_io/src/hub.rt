@@ -8,11 +8,18 @@ pub enum Listened {
     Failed,
 }
 
+/// At which address a session opens, by which it is decided what it may do.
+#[derive(Clone, Copy, Debug, PartialEq, Eq)]
+pub enum Class {
+    /// At the address for all: it may read and change.
+    Client,
+}
+
 /// What a turn brings.
 #[derive(Clone, Copy, Debug, PartialEq, Eq)]
 pub enum Turn {
-    /// A new session, with an id above all before it.
-    Opened(u64),
+    /// A new session of this class, with an id above all before it.
+    Opened(u64, Class),
     /// So many bytes of a session are at the start of the buffer, at least 1.
     Bytes(u64, usize),
     /// A session's input ended.
@@ -123,6 +130,14 @@ pub trait Hub {
         ensures faults { faults self.new ≡ faults self.old }
         ensures sessions { CountsSend result id (ids self.old).open_ids (session_faults self.old)
             (session_faults self.new) };
+
+    /// Whether the next turn is at hand, so that it wouldn't wait. It is a hint: nothing is asked and
+    /// nothing changes.
+    fn at_hand(&self) -> bool;
+
+    /// Whether those who wait for a reply have waited so long that no further line should be run before they
+    /// are sent what is pending. It is a hint: nothing changes.
+    fn is_late(&self) -> bool;
 
     /// Closes an open session.
     fn close(&mut self, id: u64)

@@ -46,7 +46,7 @@ mod source;
 mod steady_hub;
 
 pub use failing::{Failing, FailingSend};
-pub use hub::{Coming, Hub, Incoming, Listened, Sent, Told, Turn};
+pub use hub::{Class, Coming, Hub, Incoming, Listened, Sent, Told, Turn};
 pub use id_list::IdList;
 pub use mem_hub::{HubCall, MemHub};
 pub use mem_sink::MemSink;

@@ -10,7 +10,7 @@ ghost use Rattle.djq_io.specs.MemHub.{script_of, listen_of, send_of, call_number
 ghost use Rattle.djq_io.specs.MemHub.{with_coming};
 
 use crate::failing::{Failing, FailingSend, FailingSends};
-use crate::hub::{Coming, Hub, Incoming, Listened, Sent, Told, Turn};
+use crate::hub::{Class, Coming, Hub, Incoming, Listened, Sent, Told, Turn};
 use crate::piece::Piece;
 use crate::recording::Recording;
 use crate::script::ScriptQueue;
@@ -124,7 +124,7 @@ impl MemHub {
         match self.script.pop() {
             Some(Incoming::Opens(id)) if self.sessions.is_new(id) => {
                 self.sessions.open(id);
-                Turn::Opened(id)
+                Turn::Opened(id, Class::Client)
             }
             Some(Incoming::Brings(id, mut piece))
                 if !piece.is_empty() && self.sessions.is_running(id) => {
@@ -232,6 +232,14 @@ impl Hub for MemHub {
         let taken = Piece::copy_of(self.alloc, taken_of(sent, piece));
         self.past.push_made(taken.map(|taken| Told::Sending(id, piece.len(), sent, taken)));
         sent
+    }
+
+    fn at_hand(&self) -> bool {
+        true
+    }
+
+    fn is_late(&self) -> bool {
+        false
     }
 
     fn close(&mut self, id: u64)

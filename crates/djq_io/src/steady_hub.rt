@@ -71,6 +71,14 @@ impl Hub for SteadyHub {
         self.hub.send(id, piece)
     }
 
+    fn at_hand(&self) -> bool {
+        self.hub.at_hand()
+    }
+
+    fn is_late(&self) -> bool {
+        self.hub.is_late()
+    }
+
     fn close(&mut self, id: u64) {
         self.hub.close(id);
     }

@@ -1,14 +1,11 @@
 -- What the calls of a machine promise.
-use Rattle.std.specs.Prelude.{ℕ, List, [], ◌∷◌, ◌≡◌, ◌+◌, ◌<◌, ◌≤◌, ◌⊎◌, ◌&&◌, ◌||◌, Bool, true}
-use Rattle.std.specs.Prelude.{false, nat_le, nat_lt, Option, None, Some, IsSome, MatchOption}
-use Rattle.std.specs.Prelude.{is_some, find, Result, Ok, Err, length, ⊤}
-use Rattle.std.proofs.Common.{inl, inr}
+use Rattle.std.specs.Prelude.{ℕ, List, [], ◌++◌, ◌≡◌, ◌+◌, ◌<◌, ◌≤◌, ◌&&◌, ◌||◌, Bool, not}
+use Rattle.std.specs.Prelude.{nat_le, nat_lt, Option, None, Some, IsSome, MatchOption}
+use Rattle.std.specs.Prelude.{is_none, is_some, find, Result, Ok, Err, length, ⊤}
 use Rattle.djq_model.specs.Data.{Bytes}
 use Rattle.djq_protocol.specs.declared.limits.TheConstants.{SESSIONS}
 use Rattle.djq_protocol.specs.declared.answer.EndCause.{EndCause}
-use Rattle.djq_protocol.specs.declared.answer.EndCause.TheVariants.{Long, Slow, Memory}
-use Rattle.djq_machine.specs.declared.machine.Stepped.{Stepped}
-use Rattle.djq_machine.specs.declared.machine.Stepped.TheVariants.{Ran, Dry, Ended}
+use Rattle.djq_protocol.specs.declared.answer.EndCause.TheVariants.{Memory}
 use Rattle.djq_machine.specs.declared.machine.Fed.{Fed}
 use Rattle.djq_machine.specs.declared.machine.Fed.TheVariants.{Held, Ended as HadEnded}
 use Rattle.djq_machine.specs.declared.machine.OpenRefusal.{OpenRefusal}
@@ -16,9 +13,9 @@ use Rattle.djq_machine.specs.declared.machine.OpenRefusal.TheVariants.{Full, NoM
 use Rattle.djq_machine.specs.State.{State, Session, session_of}
 pub use Rattle.djq_machine.specs.State.{state_ids}
 use Rattle.djq_machine.specs.Effect.{Effect}
-use Rattle.djq_machine.specs.LineStep.{long, blank, slow, no_room, run}
+use Rattle.djq_machine.specs.LineStep.{LineOutcome}
 use Rattle.djq_machine.specs.Step.{Event, opened, stepped, Step, is_dry}
-use Rattle.djq_machine.specs.Run.{Group, groups_in, pending_of}
+use Rattle.djq_machine.specs.Run.{kept_group, lines_in, pending_of}
 
 -- whether a session of this id is open
 abbrev pub IsOpen : State → ℕ → Type 0
@@ -82,39 +79,18 @@ abbrev pub FedGives : State → ℕ → Fed → State → Type 0
 FedGives old s Held new = cause_of new s ≡ None
 FedGives old s (HadEnded c) new = (cause_of new s ≡ Some c) × MatchOption (cause_of old s) (c ≡ Memory) (λ d. d ≡ c)
 
--- a line was blank, or was run
-abbrev pub RanStep : State → ℕ → State → Counts → Counts → Type 0
-RanStep old s new before now = (l : Bytes)
-    × (MakesCounted old (stepped s (blank l)) new before now ⊎ MakesCounted old (stepped s (run l)) new before now)
+-- A line of a session may be run: no session said `stop`, this one hasn't ended, and it holds a line, or a front that
+-- is too long for one.
+abbrev pub may_run : State → ℕ → Bool
+may_run st s = not st.stopped && (is_none (cause_of st s) && not (is_dry (held_of st s)))
 
--- the groups that are kept of it: none, where it was blank
-abbrev pub groups_by : (old : State) (s : ℕ) (new : State) (before now : Counts) → RanStep old s new before now
-    → List Group
-groups_by old s new before now (l, inl m) = []
-groups_by old s new before now (l, inr m) = groups_in l m.effect.kept
+-- the first open session of at least this id of which a line may be run
+abbrev pub first_ready : State → ℕ → Option ℕ
+first_ready st from = find (λ s. nat_le from s && may_run st s) (state_ids st)
 
--- A step tells whether it keeps a group, and of these lines.
-abbrev pub KeepsGroup : Bool → List Group → List Bytes → Type 0
-KeepsGroup true groups lines = groups ≡ lines ∷ []
-KeepsGroup false groups lines = (groups ≡ []) × (lines ≡ [])
-
--- A session ended before its line was run: it was too long, too much was pending, or there was no room for a reply.
-abbrev pub EndedStepAs : EndCause → State → ℕ → State → Counts → Counts → Type 0
-EndedStepAs Long old s new before now = MakesCounted old (stepped s long) new before now
-EndedStepAs Slow old s new before now = (l : Bytes) × MakesCounted old (stepped s (slow l)) new before now
-EndedStepAs Memory old s new before now = (l : Bytes) × MakesCounted old (stepped s (no_room l)) new before now
-EndedStepAs _ old s new before now = ⊥
-
--- What a step answers: a line was run, or dropped where it is blank, and a group of lines is kept or none is; there
--- is no
--- whole line; or the session had ended, or ended before its line was run. A line that is run and ends its own session
--- was
--- run.
-abbrev pub StepGives : State → ℕ → Stepped → State → Counts → Counts → List Bytes → Type 0
-StepGives old s (Ran kept) new before now lines = (ran : RanStep old s new before now)
-    × KeepsGroup kept (groups_by old s new before now ran) lines
-StepGives old s Dry new before now lines =
-    (new ≡ old) × (now ≡ before) × (cause_of old s ≡ None) × (is_dry (held_of old s) ≡ true) × (lines ≡ [])
-StepGives old s (Ended c) new before now lines = (lines ≡ []) × MatchOption (cause_of old s)
-    (EndedStepAs c old s new before now)
-    (λ d. (d ≡ c) × (new ≡ old) × (now ≡ before))
+-- One step of a session's line. What it logs stands behind the lines of the commit.
+pub record StepsLine (old : State) (s : ℕ) (new : State) (before now : Counts) (commit commit' : List Bytes) : Type 0
+  where
+    pub outcome : LineOutcome
+    pub makes : MakesCounted old (stepped s outcome) new before now
+    pub logs : commit' ≡ commit ++ lines_in (kept_group (stepped s outcome) makes.effect.kept)

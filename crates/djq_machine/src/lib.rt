@@ -23,6 +23,6 @@
 //! conditions and what it does to relations and queries. The laws of its runs are djq_run_laws'.
 #![tactic(auto)]
 
-pub use machine::{Fed, Loaded, Machine, OpenRefusal, Stepped};
+pub use machine::{Fed, Loaded, Machine, OpenRefusal};
 
 mod machine;

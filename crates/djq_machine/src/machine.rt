@@ -2,21 +2,6 @@ use djq_counters::{Ledgers, Steps};
 use djq_protocol::EndCause;
 use thiserror::Error;
 
-/// The outcome of running the next line of a session.
-#[derive(Clone, Copy, Debug, PartialEq, Eq)]
-pub enum Stepped {
-    /// It was run, or dropped if it is blank.
-    Ran {
-        /// Whether it is to be logged, alone or with the batch that it ends: loaded again, these lines do what
-        /// it did to the relations, their rows and copies, and the queries.
-        kept: bool,
-    },
-    /// No whole line is held.
-    Dry,
-    /// The session had ended, or ended before the line was run.
-    Ended(EndCause),
-}
-
 /// The outcome of feeding bytes to a session.
 #[derive(Clone, Copy, Debug, PartialEq, Eq)]
 pub enum Fed {
@@ -55,20 +40,23 @@ pub enum OpenRefusal {
 /// A session is open from [`open_session`](Machine::open_session) until
 /// [`close_session`](Machine::close_session).
 pub trait Machine {
-    ghost use Rattle.std.specs.Prelude.{◌≡◌, ◌<◌, ◌≤◌, ◌⊎◌, true, List, IsSome, All, length, take, slice_get};
+    ghost use Rattle.std.specs.Prelude.{◌≡◌, ◌<◌, ◌≤◌, ◌⊎◌, Bool, true, List, [], IsSome, All, length, take, slice_get};
     ghost use Rattle.std.specs.Option.{option_copied};
     ghost use Rattle.djq_model.specs.Data.{Bytes};
     ghost use Rattle.djq_machine.specs.State.{State};
     ghost use Rattle.djq_machine.specs.Step.{fed, took, ended, closed, is_dry};
     ghost use Rattle.djq_machine.specs.Run.{pending_of};
-    ghost use Rattle.djq_machine.specs.Call.{IsOpen, Makes, OpenGives, FedGives, StepGives};
-    ghost use Rattle.djq_machine.specs.Call.{cause_of, held_of, state_ids, first_due, counts};
+    ghost use Rattle.djq_machine.specs.Call.{IsOpen, Makes, OpenGives, FedGives, StepsLine};
+    ghost use Rattle.djq_machine.specs.Call.{cause_of, held_of, state_ids, first_due, may_run, first_ready, counts};
 
     // The state of the join machine that it has.
     ghost state: { Self → State };
 
-    // The lines of its last step that are to be logged.
-    ghost kept: { Self → List Bytes };
+    // The lines of the open commit: those that its steps log, since it was last cleared.
+    ghost commit: { Self → List Bytes };
+
+    // Whether there is room for what one step more logs.
+    ghost room: { Self → Bool };
 
     /// Opens a session with an id above those of the open ones.
     ///
@@ -86,17 +74,36 @@ pub trait Machine {
         ensures makes { Makes (state self.old) (fed id piece.now) (state self.new) }
         ensures answer { FedGives (state self.old) id result (state self.new) };
 
-    /// Runs the next line of an open session.
-    fn step<L: Ledgers>(&mut self, id: u64, steps: &mut Steps<L>) -> Stepped
-        requires { IsOpen (state self.old) id }
-        ensures { StepGives (state self.old) id result (state self.new)
+    /// The first open session of at least this id of which a line may be run.
+    fn ready(&self, from: u128) -> Option<u64>
+        ensures { result ≡ first_ready (state self.now) from };
+
+    /// Runs the next line of a session, and appends what it logs to the commit.
+    ///
+    /// There is room for that in an empty commit, and where `has_room` said so last.
+    fn step<L: Ledgers>(&mut self, id: u64, steps: &mut Steps<L>)
+        requires ready { may_run (state self.old) id ≡ true }
+        requires room { (commit self.old ≡ []) ⊎ (room self.old ≡ true) }
+        ensures { StepsLine (state self.old) id (state self.new)
             (counts steps.old.listing steps.old.update steps.old.rows)
             (counts steps.new.listing steps.new.update steps.new.rows)
-            (kept self.new) };
+            (commit self.old) (commit self.new) };
 
-    /// The line with this number, counted from 0, of those of the last step that are to be logged.
-    fn accepted(&self, i: usize) -> Option<&[u8]>
-        ensures { option_copied result ≡ slice_get (kept self.now) i };
+    /// Whether one line more should be run before the commit is logged: there is memory for what it logs, and
+    /// neither that nor what is pending for a session is much yet.
+    fn has_room(&mut self) -> bool
+        ensures room { room self.new ≡ result }
+        ensures state { state self.new ≡ state self.old }
+        ensures commit { commit self.new ≡ commit self.old };
+
+    /// The line with this number, counted from 0, of those of the commit.
+    fn commit_line(&self, i: usize) -> Option<&[u8]>
+        ensures { option_copied result ≡ slice_get (commit self.now) i };
+
+    /// Empties the commit.
+    fn clear_commit(&mut self)
+        ensures state { state self.new ≡ state self.old }
+        ensures commit { commit self.new ≡ [] };
 
     /// The bytes that are queued to an open session and aren't removed yet.
     fn pending(&self, id: u64) -> &[u8]
@@ -114,7 +121,8 @@ pub trait Machine {
     fn end_session(&mut self, id: u64)
         requires open { IsOpen (state self.old) id }
         requires dry { IsSome (cause_of (state self.old) id) ⊎ (is_dry (held_of (state self.old) id) ≡ true) }
-        ensures { Makes (state self.old) (ended id) (state self.new) };
+        ensures makes { Makes (state self.old) (ended id) (state self.new) }
+        ensures commit { commit self.new ≡ commit self.old };
 
     /// Removes an open session, with the bytes that are pending for it.
     fn close_session(&mut self, id: u64)
