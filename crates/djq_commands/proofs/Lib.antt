@@ -8,3 +8,4 @@ pub mod Printing
 pub mod ReadLines
 pub mod TakenLines
 pub mod LoggedLines
+pub mod CommitLines

@@ -1,14 +1,13 @@
 -- The lines that a step logs, and commands that are never logged.
-use Rattle.std.proofs.Common.{ℕ, zero, suc, ◌-◌, ◌+◌, ◌≡◌, ◌≤◌, ◌∙◌, ◌||◌, Bool, true, false, List, cond, length}
-use Rattle.std.proofs.Common.{Option, None, Some, refl, sym, ap, subst, arith, [], ◌∷◌, map, ◌<◌, inl, inr, ◌⊎◌, ◌++◌}
-use Rattle.std.specs.Prelude.{◌==◌, ◌&&◌, not, nat_le, take, slice_get, slice_index, slice_index_or, IsSomeAnd}
+use Rattle.std.proofs.Common.{ℕ, ◌-◌, ◌+◌, ◌≡◌, ◌≤◌, ◌∙◌, ◌||◌, Bool, true, false, List, cond, length}
+use Rattle.std.proofs.Common.{Option, None, Some, refl, sym, ap, subst, arith, inl, inr}
+use Rattle.std.specs.Prelude.{◌==◌, ◌&&◌, not, nat_le, take, slice_index, IsSomeAnd}
 use Rattle.std.specs.Prelude.{MatchOption}
-use Rattle.std.proofs.lemmas.Bool.{cases_order, leb-true, leb-false, false≢true}
+use Rattle.std.proofs.lemmas.Bool.{leb-true, leb-false, false≢true}
 use Rattle.std.proofs.lemmas.List.{length-take-le}
 use Rattle.djq_model.specs.Data.{Bytes}
 use Rattle.djq_model.specs.Listed.{Listed, a_query, a_union, listed_of}
 use Rattle.djq_protocol.specs.declared.limits.TheConstants.{LINE_BYTES}
-use Rattle.djq_protocol.specs.declared.held.HeldRow.{HeldRow}
 use Rattle.djq_protocol.specs.declared.answer.Refusal.{Refusal}
 use Rattle.djq_protocol.specs.declared.answer.Refusal.TheVariants.{NoQuery, NoCursor}
 use Rattle.djq_protocol.specs.declared.command.Command.{Command}
@@ -17,25 +16,13 @@ use Rattle.djq_protocol.specs.declared.command.Command.TheVariants.{Next, Close,
 use Rattle.djq_protocol.specs.declared.command.Command.TheVariants.{Batch, Done, Abandon, Quit, Stop}
 use Rattle.djq_protocol.specs.Line.{a_line, too_long, line_or_dry, front_of, before_lf, behind_lf, without_cr, is_long}
 use Rattle.djq_store_spec.specs.Store.{Position, open_at, stale}
-use Rattle.djq_machine.specs.declared.machine.Stepped.{Stepped}
-use Rattle.djq_machine.specs.declared.machine.Stepped.TheVariants.{Ran, Dry, Ended}
 use Rattle.djq_machine.specs.State.{Session, State, Cursor, cursor_of}
 use Rattle.djq_machine.specs.Keeping.{no_line}
 use Rattle.djq_machine.specs.Effect.{Effect, RefusedStep}
 use Rattle.djq_machine.specs.Command.{NextStepAt, CloseStep, ExplainStepOf, TellsLines, explain_lines, union_lines}
 use Rattle.djq_engine.specs.Kept.{Kept}
-use Rattle.djq_commands.specs.Stepping.{Copies}
 use Rattle.djq_commands.specs.Views.{Talk}
 use Rattle.djq_commands.specs.Performs.{CommandDoes, Executes, ExecutesKeeping}
-
--- ---- The lines that a step keeps.
-
--- a line that stood in front is copied
-pub copies_front : (stepped : Stepped) (held copy rest : Bytes) → front_of held ≡ a_line copy rest
-    → Copies stepped held copy
-copies_front (Ran kept) held copy rest f = (rest, f)
-copies_front Dry held copy rest f = tt
-copies_front (Ended cause) held copy rest f = tt
 
 -- ---- a line in front of bytes is no longer than a line may be
 
@@ -83,59 +70,6 @@ short_front held line rest e = by (is_long (before_lf held)) refl (behind_lf hel
     by false f (Some behind) g =
         let same : without_cr (before_lf held) ≡ line = cc (g) in
         subst (λ (bs : Bytes). length bs ≤ LINE_BYTES) same (short_line (before_lf held) f)
-
--- ---- the lines of a batch
-
-row_at : (rows : List HeldRow) (last : Bytes) (j : ℕ) (h : HeldRow) → j < length rows → h ≡ slice_index_or rows j h
-    → Some h.line ≡ slice_get (map (λ (r : HeldRow). r.line) rows ++ last ∷ []) j
-row_at [] last j h l e = absurd (omega (arith, l))
-row_at (r ∷ rows) last zero h l e = ap (λ (x : HeldRow). Some x.line) e
-row_at (r ∷ rows) last (suc j) h l e = row_at rows last j h (omega (arith, l)) e
-
-last_at : (rows : List HeldRow) (last : Bytes) (j : ℕ) → j ≡ length rows → Some last
-    ≡ slice_get (map (λ (r : HeldRow). r.line) rows ++ last ∷ []) j
-last_at [] last zero e = refl
-last_at [] last (suc j) e = absurd (omega (arith, e))
-last_at (r ∷ rows) last zero e = absurd (omega (arith, e))
-last_at (r ∷ rows) last (suc j) e = last_at rows last j (omega (arith, e))
-
-past_at : (rows : List HeldRow) (last : Bytes) (j : ℕ) → length rows < j → None
-    ≡ slice_get (map (λ (r : HeldRow). r.line) rows ++ last ∷ []) j
-past_at [] last zero l = absurd (omega (arith, l))
-past_at [] last (suc j) l = refl
-past_at (r ∷ rows) last zero l = absurd (omega (arith, l))
-past_at (r ∷ rows) last (suc j) l = past_at rows last j (omega (arith, l))
-
--- with a line in front
-pub batch_row : (first last : Bytes) (rows : List HeldRow) (i : ℕ) (h : HeldRow) → (i ≡ 0 → ⊥) → i - 1 < length rows → h
-    ≡ slice_index_or rows (i - 1) h
-    → Some h.line ≡ slice_get (first ∷ (map (λ (r : HeldRow). r.line) rows ++ last ∷ [])) i
-batch_row first last rows zero h n l e = absurd (n refl)
-batch_row first last rows (suc j) h n l e =
-    let same : suc j - 1 ≡ j = omega arith in
-    row_at rows last j h (subst (λ (k : ℕ). k < length rows) same l)
-    (subst (λ (k : ℕ). h ≡ slice_index_or rows k h) same e)
-
-pub batch_last : (first last : Bytes) (rows : List HeldRow) (i : ℕ) → i ≡ length rows + 1 → Some last
-    ≡ slice_get (first ∷ (map (λ (r : HeldRow). r.line) rows ++ last ∷ [])) i
-batch_last first last rows zero e = absurd (omega (arith, e))
-batch_last first last rows (suc j) e = last_at rows last j (omega (arith, e))
-
-pub batch_past : (first last : Bytes) (rows : List HeldRow) (i : ℕ) → (i ≡ 0 → ⊥) → (i - 1 < length rows → ⊥)
-    → (i ≡ length rows + 1 → ⊥)
-    → None ≡ slice_get (first ∷ (map (λ (r : HeldRow). r.line) rows ++ last ∷ [])) i
-batch_past first last rows zero n l e = absurd (n refl)
-batch_past first last rows (suc j) n l e =
-    let same : j ≡ suc j - 1 = omega arith in
-    past_at rows last j (beyond j (length rows) (λ k. l (subst (λ (m : ℕ). m < length rows) same k)) e)
-  where
-    beyond : (a b : ℕ) → (a < b → ⊥) → (suc a ≡ b + 1 → ⊥) → b < a
-    beyond a b l e = by (cases_order a b)
-      where
-        by : (a ≡ b) ⊎ ((a < b) ⊎ (b < a)) → b < a
-        by (inl q) = absurd (e (omega (arith, q)))
-        by (inr (inl q)) = absurd (l q)
-        by (inr (inr q)) = q
 
 -- ---- Commands whose lines are never kept.
 

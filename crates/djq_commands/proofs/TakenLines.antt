@@ -2,7 +2,8 @@
 use Rattle.std.proofs.Common.{ℕ, ◌≤◌, ◌≡◌, ◌||◌, Bool, false, List, length, Some, refl, sym, ap, subst, arith, ◌+◌}
 use Rattle.std.proofs.Common.{◌++◌, [], ◌∷◌, Option, None, Result, Ok, Err, codes, ◌∙◌, inl, inr, length-append, ◌<◌}
 use Rattle.std.proofs.Common.{true}
-use Rattle.std.specs.Prelude.{⊤, IsSome, MatchOption}
+use Rattle.std.specs.Prelude.{⊤, IsSome, MatchOption, ◌&&◌, not, is_none}
+use Rattle.std.proofs.lemmas.Bool.{false≢true}
 use Rattle.djq_model.specs.Data.{Bytes, Tuple}
 use Rattle.djq_protocol.specs.declared.limits.TheConstants.{PENDING_BYTES, REPLY_BYTES, LAST_LINE_BYTES}
 use Rattle.djq_protocol.specs.declared.answer.Refusal.{Refusal}
@@ -12,21 +13,20 @@ use Rattle.djq_protocol.specs.declared.command.Command.TheVariants.{Add, Batch, 
 use Rattle.djq_protocol.specs.declared.held.HeldRow.{HeldRow}
 use Rattle.djq_protocol.specs.declared.answer.EndCause.{EndCause}
 use Rattle.djq_protocol.specs.declared.answer.EndCause.TheVariants.{Long, Slow, Memory}
-use Rattle.djq_protocol.specs.Line.{a_line, front_of, is_blank, too_long, dry}
+use Rattle.djq_protocol.specs.Line.{Front, a_line, front_of, is_blank, too_long, dry}
 use Rattle.djq_protocol.specs.Grammar.{Reading, says_command, reading_of}
 use Rattle.djq_protocol.specs.Reply.{refusal_line, ok_reply, held_reply, end_long, end_slow, end_memory}
 use Rattle.djq_protocol.specs.Conditions.{Answers, OutOfMemoryWhere}
 use Rattle.djq_store_spec.specs.Store.{Store}
 use Rattle.djq_store_spec.specs.Batch.{hold_refusal}
-use Rattle.djq_machine.specs.declared.machine.Stepped.TheVariants.{Ran, Dry, Ended}
 use Rattle.djq_machine.specs.State.{Session, State, with_session}
 use Rattle.djq_machine.specs.Keeping.{kept_where, no_line}
 use Rattle.djq_machine.specs.Effect.{Effect, EndsWith}
 use Rattle.djq_machine.specs.Command.{CommandStep, is_misplaced, AddStep, HoldStep, with_batch}
-use Rattle.djq_machine.specs.LineStep.{run, TakenLine, behind_line, ReadStep, long, blank, slow, no_room, FrontStep}
+use Rattle.djq_machine.specs.LineStep.{LineOutcome, run, TakenLine, behind_line, ReadStep, long, blank, slow, no_room}
+use Rattle.djq_machine.specs.LineStep.{FrontStep}
 use Rattle.djq_machine.specs.Call.{Counts}
-use Rattle.djq_machine.specs.Step.{is_dry}
-use Rattle.djq_session.specs.Dialog.{Replies, batch_rows}
+use Rattle.djq_session.specs.Dialog.{Replies, batch_rows, dialog_is_ready, holds_no_line}
 use Rattle.djq_engine.specs.Kept.{Kept}
 use Rattle.djq_commands.specs.declared.open.OpenSession.{OpenSession}
 use Rattle.djq_commands.specs.declared.change.Left.{Left}
@@ -36,8 +36,7 @@ use Rattle.djq_commands.specs.Views.{Talk, session_in, state_in}
 use Rattle.djq_commands.specs.Sound.{IsSound}
 use Rattle.djq_commands.specs.Performs.{among, to_one, to_keep, unqueued, Performs, ExecutesKeeping, Executes}
 use Rattle.djq_commands.specs.Batching.{RefusedBy, HoldsMadeRow, held_row_of, MakesRow}
-use Rattle.djq_commands.specs.Stepping.{FrontsKeeping, is_on_row, Fronts, EndsBefore, Unchanged, StepsTo, Obeys}
-use Rattle.djq_commands.specs.Stepping.{LineLeaves, LeavesTo, is_kept_by}
+use Rattle.djq_commands.specs.Stepping.{FrontsKeeping, is_on_row, Fronts, StepsTo, Obeys, LineLeaves, LeavesTo, is_run}
 use Rattle.djq_commands.specs.Changing.{AddsAll, IsChange}
 use Rattle.djq_commands.proofs.ReadLines.{carried_out, any_line, refused_line, placed_in, refused_in}
 use Rattle.djq_commands.proofs.Cursors.{parts, whole, becomes, looks}
@@ -392,70 +391,56 @@ is_unheard old new before kept mid after l rest was f r e said few p =
 -- a blank line
 pub is_dropped : (k : Kept) (before after : Talk) (l rest : Bytes) (was : ℕ) → front_of before.held ≡ a_line l rest
     → after ≡ record before { held = rest } → is_blank l ≡ true
-    → FrontsKeeping (blank l) false false k before k after was was
+    → Fronts (blank l) false k before k after was was
 is_dropped k before after l rest was f e said = record {
   text = None;
   cost = 0;
   kept = no_line;
   pending = ap (λ (d : Talk). d.pending) e;
   does = λ front back s stopped sound. (
-    (
-      said,
-      record {
-        rest = rest;
-        front = f;
-        then = (
-          refl,
-          ap (λ (d : Talk). state_in k stopped (among front s (unqueued before d) back)) e
-              ∙ becomes k stopped front s before (record before { held = rest }) back (behind_line rest)
-              (parts k front s before back sound) refl,
-        );
-      },
-    ),
-    refl,
+    said,
+    record {
+      rest = rest;
+      front = f;
+      then = (
+        refl,
+        ap (λ (d : Talk). state_in k stopped (among front s (unqueued before d) back)) e
+            ∙ becomes k stopped front s before (record before { held = rest }) back (behind_line rest)
+            (parts k front s before back sound) refl,
+      );
+    },
   );
   sound = λ front back s sound. subst (λ (d : Talk). IsSound k (among front s d back)) (sym e)
       (sound_bytes k front s before rest before.pending before.room back sound);
   counted = omega arith;
 }
 
--- What a step answers.
+-- ---- A session whose next line may be run.
 
-pub ran_blank : (k : Kept) (before after : Talk) (l : Bytes) (was : Counts) → before.cause ≡ None
-    → FrontsKeeping (blank l) false false k before k after was.listing was.listing
-    → StepsTo (Ran false) false k before k after was was
-ran_blank k before after l was c f = (c, (l, inl f))
+pub ready_goes_on : (d : Talk) → dialog_is_ready d ≡ true → d.cause ≡ None
+ready_goes_on d r = by d.cause refl r
+  where
+    by : (c : Option EndCause) → d.cause ≡ c → (is_none c && not (holds_no_line (front_of d.held))) ≡ true
+        → d.cause ≡ None
+    by None e h = e
+    by (Some c) e h = absurd (false≢true h)
 
-pub ran_line : (kept stops : Bool) (old : Kept) (before : Talk) (new : Kept) (after : Talk) (l : Bytes)
-    (was now : Counts) → before.cause ≡ None
-    → FrontsKeeping (run l) kept stops old before new after was.listing now.listing
-    → StepsTo (Ran kept) stops old before new after was now
-ran_line kept stops old before new after l was now c f = (c, (l, inr f))
+pub ready_not_dry : (d : Talk) → dialog_is_ready d ≡ true → front_of d.held ≡ dry → ⊥
+ready_not_dry d r e = by (is_none d.cause)
+    (subst (λ (f : Front). (is_none d.cause && not (holds_no_line f)) ≡ true) e r)
+  where
+    by : (b : Bool) → (b && not (holds_no_line dry)) ≡ true → ⊥
+    by true h = false≢true h
+    by false h = false≢true h
 
-pub ended_before : (cause : EndCause) (old : Kept) (before : Talk) (new : Kept) (after : Talk) (was : Counts)
-    → before.cause ≡ None → EndsBefore cause false old before new after was was
-    → StepsTo (Ended cause) false old before new after was was
-ended_before cause old before new after was c f = subst
-    (λ (o : Option EndCause). MatchOption o (EndsBefore cause false old before new after was was)
-    (λ d. (d ≡ cause) × Unchanged false old before new after was was)) (sym c) f
+-- ---- What a step does.
 
--- a step that does nothing
-
-nothing_changed : (k : Kept) (d : Talk) (was : Counts) → Unchanged false k d k d was was
-nothing_changed k d was = record { goes_on = refl; engine = refl; session = refl; counted = refl }
-
-pub had_ended : (cause : EndCause) (k : Kept) (d : Talk) (was : Counts) → d.cause ≡ Some cause
-    → StepsTo (Ended cause) false k d k d was was
-had_ended cause k d was e = subst
-    (λ (o : Option EndCause). MatchOption o (EndsBefore cause false k d k d was was)
-    (λ c. (c ≡ cause) × Unchanged false k d k d was was)) (sym e) (refl, nothing_changed k d was)
-
-pub is_dry_front : (held : Bytes) → front_of held ≡ dry → is_dry held ≡ true
-is_dry_front held e = cc
-
-pub was_dry : (k : Kept) (d : Talk) (was : Counts) → d.cause ≡ None → is_dry d.held ≡ true
-    → StepsTo Dry false k d k d was was
-was_dry k d was c e = (c, e, nothing_changed k d was)
+-- No line is run: it is blank, or the session ends in its place.
+pub runs_none : (outcome : LineOutcome) (old : Kept) (before : Talk) (new : Kept) (after : Talk) (was now : Counts)
+    → before.cause ≡ None → is_run outcome ≡ false
+    → Fronts outcome false old before new after was.listing now.listing
+    → StepsTo false false old before new after was now
+runs_none outcome old before new after was now c n f = (c, inr (refl, outcome, n, f))
 
 -- ---- What is left to do once a line was run.
 
@@ -523,29 +508,24 @@ pub step_leaves : (left : Left) (old : Kept) (before kept : Talk) (l : Bytes) (n
     (was now : Counts)
     → kept ≡ record before { room = kept.room } → before.cause ≡ None
     → LineLeaves l left old kept new after was.listing now.listing
-    → LeavesTo (Ran (is_kept_by left)) left old before new after was now
+    → LeavesTo left old before new after was now
 step_leaves (Nothing k) old before kept l new after was now e running f =
-    ran_line k false old before new after l was now running
-    (with_room _ false old before kept new after was.listing now.listing e f)
+    (running, inl (l, with_room _ false old before kept new after was.listing now.listing e f))
 step_leaves Stopping old before kept l new after was now e running f =
-    ran_line false true old before new after l was now running
-    (with_room _ true old before kept new after was.listing now.listing e f)
-step_leaves (Telling change) old before kept l new after was now e running c = (
-  refl,
-  record {
-    running = running;
-    line = c.line;
-    rest = c.rest;
-    front = subst (λ (bs : Bytes). front_of bs ≡ a_line c.line c.rest) (ap (λ (d : Talk). d.held) e) c.front;
-    said = c.said;
-    few = subst (λ (bs : Bytes). length bs ≤ PENDING_BYTES) (ap (λ (d : Talk). d.pending) e) c.few;
-    command = c.command;
-    reads = c.reads;
-    changes = subst (λ (d : Talk). IsChange c.command d.batch old change new was.listing now.listing) e c.changes;
-    taken = c.taken ∙ ap (λ (d : Talk). record d { held = c.rest; room = after.room; batch = None }) e;
-    room = c.room;
-  },
-)
+    (running, inl (l, with_room _ true old before kept new after was.listing now.listing e f))
+step_leaves (Telling change) old before kept l new after was now e running c = record {
+  running = running;
+  line = c.line;
+  rest = c.rest;
+  front = subst (λ (bs : Bytes). front_of bs ≡ a_line c.line c.rest) (ap (λ (d : Talk). d.held) e) c.front;
+  said = c.said;
+  few = subst (λ (bs : Bytes). length bs ≤ PENDING_BYTES) (ap (λ (d : Talk). d.pending) e) c.few;
+  command = c.command;
+  reads = c.reads;
+  changes = subst (λ (d : Talk). IsChange c.command d.batch old change new was.listing now.listing) e c.changes;
+  taken = c.taken ∙ ap (λ (d : Talk). record d { held = c.rest; room = after.room; batch = None }) e;
+  room = c.room;
+}
 
 -- ---- What is left to do once a line was run of a session with a batch open.
 

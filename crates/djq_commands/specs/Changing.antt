@@ -4,6 +4,7 @@ use Rattle.std.specs.Prelude.{
   zero,
   suc,
   List,
+  [],
   ◌≡◌,
   ◌+◌,
   ◌≤◌,
@@ -42,8 +43,7 @@ use Rattle.djq_engine.specs.Kept.{Kept, Outdates, same_query}
 use Rattle.djq_store.specs.Watching.{TellsChange}
 use Rattle.djq_commands.specs.declared.change.Outcome.{Outcome}
 use Rattle.djq_commands.specs.declared.change.Outcome.TheVariants.{Added, Deleted, Done}
-use Rattle.djq_commands.specs.declared.kept.KeptLines.{KeptLines}
-use Rattle.djq_commands.specs.declared.kept.KeptLines.TheVariants.{Nothing, Line, Batch}
+use Rattle.djq_commands.specs.Logging.{line_where, batch_lines}
 use Rattle.djq_commands.specs.Views.{Talk}
 
 -- whether the change was accepted; a copy of a row that stays is none
@@ -59,21 +59,11 @@ is_accepted (Done (Ok zero) held) = false
 is_accepted (Done (Ok (suc n)) held) = true
 is_accepted (Done (Err r) held) = false
 
--- whether its line is kept, alone or with the batch that it ends
-abbrev pub is_kept : Outcome → Bool
-is_kept (Added result) = is_done result
-is_kept (Deleted result) = is_removal result
-is_kept (Done result held) = is_done result
-
--- what is kept of it
-abbrev pub line_where : Bool → KeptLines
-line_where kept = if kept then Line else Nothing
-
--- what is kept of an outcome: its line, the batch that it ends, or nothing
-abbrev pub lines_kept : Outcome → KeptLines
-lines_kept (Added result) = line_where (is_done result)
-lines_kept (Deleted result) = line_where (is_removal result)
-lines_kept (Done result held) = if is_done result then Batch held else Nothing
+-- the lines that it logs, where this is its own: that, those of the batch that it ends, or none
+abbrev pub lines_logged : Outcome → Bytes → List Bytes
+lines_logged (Added result) line = line_where (is_done result) line
+lines_logged (Deleted result) line = line_where (is_removal result) line
+lines_logged (Done result held) line = if is_done result then batch_lines held else []
 
 -- its reply, at a number of changes
 abbrev pub reply_of : Outcome → ℕ → Bytes

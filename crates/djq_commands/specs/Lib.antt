@@ -1,3 +1,4 @@
+pub mod Logging
 pub mod Views
 pub mod Sound
 pub mod Performs

@@ -1,5 +1,5 @@
 -- What the join machine sees of what the core keeps.
-use Rattle.std.specs.Prelude.{ℕ, List, [], ◌∷◌, ◌++◌, Bool, Option, None, Some, map, codes}
+use Rattle.std.specs.Prelude.{ℕ, List, [], Bool, Option, None, Some, map}
 use Rattle.djq_model.specs.Data.{Bytes}
 use Rattle.djq_protocol.specs.declared.held.HeldRow.{HeldRow}
 use Rattle.djq_session.specs.declared.named.NamedCursor.{NamedCursor}
@@ -9,8 +9,7 @@ use Rattle.djq_engine.specs.Kept.{Kept, HeldCursor, held_at}
 use Rattle.djq_machine.specs.Loading.{Loading}
 use Rattle.djq_store_spec.specs.Store.{Position, stale}
 use Rattle.djq_machine.specs.State.{Cursor, Session, State}
-use Rattle.djq_commands.specs.declared.kept.KeptLines.{KeptLines}
-use Rattle.djq_commands.specs.declared.kept.KeptLines.TheVariants.{Nothing, Line, Batch}
+use Rattle.djq_commands.specs.Logging.{OpenCommit}
 use Rattle.djq_commands.specs.declared.open.OpenSession.{OpenSession}
 
 -- A session over the engine: its cursors are the engine's, and it watches queries by name.
@@ -52,25 +51,19 @@ session_seen hs x = session_in hs x.id x.session
 abbrev pub state_in : Kept → Bool → List OpenSession → State
 state_in k stopped xs = record { store = k.store; stopped = stopped; sessions = map (session_seen k.cursors) xs }
 
--- What contracts see of the core: the state of the join machine, the lines that its last step kept, and
--- the rows that the batch of the loaded lines holds, where one is open.
+-- What contracts see of the core: the state of the join machine, the lines of the open commit, whether there is
+-- room for what one step more logs, and the rows that the batch of the loaded lines holds, where one is open.
 pub record Visible : Type 0 where
   pub state : State
-  pub kept : List Bytes
+  pub commit : List Bytes
+  pub room : Bool
   pub batch : Option (List HeldRow)
 
 -- where the loading of lines has come to
 abbrev pub loading_in : Visible → Loading
 loading_in c = record { store = (c.state).store; batch = c.batch }
 
--- the lines that a step kept: none, the one that it ran, or the batch that this one ended, whole
-abbrev pub lines_of_step : KeptLines → Bytes → List Bytes
-lines_of_step Nothing line = []
-lines_of_step Line line = line ∷ []
-lines_of_step (Batch held) line = codes "batch" ∷ map (λ h. h.line) held ++ codes "done" ∷ []
-
--- a core with this engine, these sessions, what its last step kept, of which this is the line, and the
--- batch of the loaded lines
-abbrev pub seen_in : Kept → Bool → List OpenSession → KeptLines → Bytes → Option (List HeldRow) → Visible
-seen_in k stopped xs kept line batch =
-    record { state = state_in k stopped xs; kept = lines_of_step kept line; batch = batch }
+-- a core with this engine, these sessions, this open commit, and the batch of the loaded lines
+abbrev pub seen_in : Kept → Bool → List OpenSession → OpenCommit → Option (List HeldRow) → Visible
+seen_in k stopped xs commit batch =
+    record { state = state_in k stopped xs; commit = commit.lines; room = commit.room; batch = batch }

@@ -59,7 +59,7 @@ pub(crate) fn run_in_batch<L: Ledgers>(
             let made = new_row(alloc, engine, session.rows_held(), line, &name, row);
             session.take_line(rest);
             hold(session, made);
-            Left::Nothing { kept: false }
+            Left::Nothing { logged: false }
         }
         BatchLine::Done => {
             session.take_line(rest);
@@ -69,12 +69,12 @@ pub(crate) fn run_in_batch<L: Ledgers>(
             session.take_line(rest);
             let _dropped = session.take_batch();
             session.answer_done(Ok(()));
-            Left::Nothing { kept: false }
+            Left::Nothing { logged: false }
         }
         BatchLine::Quit => {
             session.take_line(rest);
             run_quit(engine, session);
-            Left::Nothing { kept: false }
+            Left::Nothing { logged: false }
         }
         BatchLine::Stop => {
             session.take_line(rest);
@@ -84,7 +84,7 @@ pub(crate) fn run_in_batch<L: Ledgers>(
         BatchLine::Refused(refusal) => {
             session.take_line(rest);
             session.refuse(refusal);
-            Left::Nothing { kept: false }
+            Left::Nothing { logged: false }
         }
     }
 }

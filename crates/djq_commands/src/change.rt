@@ -1,6 +1,5 @@
 ghost use Rattle.std.specs.Prelude.{◌≡◌};
 ghost use Rattle.djq_machine.specs.Keeping.{is_removal};
-ghost use Rattle.djq_commands.specs.Stepping.{is_kept_by};
 
 use djq_model::Sequence;
 use djq_protocol::{AddOutcome, DeleteOutcome, HeldRow, Refusal};
@@ -32,25 +31,10 @@ pub enum Left {
     /// Nothing.
     Nothing {
         /// Whether the line is to be logged.
-        kept: bool,
+        logged: bool,
     },
     /// The server is stopped.
     Stopping,
     /// A command that may change rows was done or refused: that is to be published to those who watch, and answered.
     Telling(Outcome),
-}
-
-impl Left {
-    /// Whether the line is to be logged, alone or with the batch that it ends.
-    pub fn is_kept(&self) -> bool
-        ensures { result ≡ is_kept_by self.now }
-    {
-        match self {
-            Left::Nothing { kept } => *kept,
-            Left::Stopping => false,
-            Left::Telling(Outcome::Added(result)) => result.is_ok(),
-            Left::Telling(Outcome::Deleted(result)) => is_removal(*result),
-            Left::Telling(Outcome::Done(result, _held)) => result.is_ok(),
-        }
-    }
 }

@@ -20,28 +20,29 @@
 //! Inside: `line` has the order of checks and the dispatch; `commands`, `watch`, `listing` and `ending`
 //! what commands do, `next` line by line, and a session's end. While a session has a batch open,
 //! `reading` has what its line means to the batch, `held` makes the rows that are held, and `batch` runs
-//! it. `copied` is the memory that a line is copied to, and `kept` what a step is to log.
+//! it. `commit` has the lines that steps log until they are written, and `queued` counts what is queued for one
+//! session meanwhile.
 #![tactic(auto)]
 
 mod batch;
 mod change;
 mod commands;
-mod copied;
+mod commit;
 mod ending;
 mod held;
-mod kept;
 mod line;
 mod listing;
 mod open;
+mod queued;
 mod reading;
 mod watch;
 
 pub use change::{Left, Outcome, is_removal};
 pub use commands::is_registered;
-pub use copied::Copied;
+pub use commit::{Commit, Entry};
 pub use ending::{cut_off, end_by, end_input, give_up};
 pub use held::new_row;
-pub use kept::KeptLines;
 pub use line::step_session;
 pub use open::OpenSession;
+pub use queued::Queued;
 pub use reading::{BatchLine, read_in_batch};

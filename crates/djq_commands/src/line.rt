@@ -1,5 +1,5 @@
 //! The order of checks before a line is run, and the command that a line is read as.
-ghost use Rattle.std.specs.Prelude.{◌≡◌, ◌≤◌, ◌||◌, None, Bool, false, length, take, drop, ⊤};
+ghost use Rattle.std.specs.Prelude.{◌≡◌, ◌≤◌, ◌||◌, None, Bool, true, false, length, take, drop, ⊤};
 ghost use Rattle.djq_protocol.specs.Line.{a_line, front_of, is_blank as is_blank_line};
 ghost use Rattle.djq_protocol.specs.declared.limits.TheConstants.{PENDING_BYTES};
 ghost use Rattle.djq_machine.specs.Call.{counts};
@@ -7,7 +7,9 @@ ghost use Rattle.djq_parser.specs.RowReading.{begins_row};
 ghost use Rattle.djq_value.specs.Token.{tokens};
 ghost use Rattle.djq_machine.specs.Command.{is_misplaced};
 ghost use Rattle.djq_commands.specs.Sound.{BatchSuits, IsOwn, CommandIsReady};
-ghost use Rattle.djq_commands.specs.Stepping.{Copies, IsRunnable, LeavesTo, LineLeaves, Obeys, is_on_row};
+ghost use Rattle.djq_session.specs.Dialog.{dialog_is_ready};
+ghost use Rattle.djq_commands.specs.Logging.{HasRoom};
+ghost use Rattle.djq_commands.specs.Stepping.{CopiesFront, IsRunnable, LeavesTo, LineLeaves, Obeys, is_on_row};
 
 use crate::batch::{run_batch, run_in_batch};
 use crate::change::{Left, Outcome};
@@ -15,13 +17,13 @@ use crate::commands::{
     run_close, run_drop, run_explain, run_has, run_open, run_query, run_quit, run_rel, run_shape,
     run_stop, run_union,
 };
-use crate::copied::Copied;
+use crate::commit::Commit;
 use crate::ending::end_by;
 use crate::listing::run_next;
+use crate::queued::Queued;
 use crate::reading::refusal_of;
 use crate::watch::{run_unwatch, run_watch};
 use djq_counters::{Ledgers, Steps};
-use djq_machine::Stepped;
 use djq_model::{Name, Value};
 use djq_parser::{Front, RowLine, is_blank, read_command, read_row};
 use djq_protocol::limits::{PENDING_BYTES, REPLY_BYTES};
@@ -47,59 +49,59 @@ fn run_command<L: Ledgers>(
 {
     match command {
         Command::Rel { name, types } => Left::Nothing {
-            kept: run_rel(engine, session, name, types),
+            logged: run_rel(engine, session, name, types),
         },
         Command::Add { .. } => unreachable!(),
         Command::Del { .. } => unreachable!(),
         Command::Query { query } => Left::Nothing {
-            kept: run_query(engine, session, query, steps),
+            logged: run_query(engine, session, query, steps),
         },
         Command::Union { name, members } => Left::Nothing {
-            kept: run_union(engine, session, name, &members),
+            logged: run_union(engine, session, name, &members),
         },
         Command::Open { cursor, query } => {
             run_open(engine, session, &cursor, &query);
-            Left::Nothing { kept: false }
+            Left::Nothing { logged: false }
         }
         Command::Next { cursor, count } => {
             run_next(engine, session, &cursor, count, &mut steps.listing);
-            Left::Nothing { kept: false }
+            Left::Nothing { logged: false }
         }
         Command::Close { cursor } => {
             run_close(engine, session, &cursor);
-            Left::Nothing { kept: false }
+            Left::Nothing { logged: false }
         }
         Command::Drop { query } => Left::Nothing {
-            kept: run_drop(engine, session, &query),
+            logged: run_drop(engine, session, &query),
         },
         Command::Has { query, row } => {
             run_has(engine, session, &query, row.as_slice(), &mut steps.listing);
-            Left::Nothing { kept: false }
+            Left::Nothing { logged: false }
         }
         Command::Watch { query } => {
             run_watch(engine, session, &query);
-            Left::Nothing { kept: false }
+            Left::Nothing { logged: false }
         }
         Command::Unwatch { query } => {
             run_unwatch(engine, session, &query);
-            Left::Nothing { kept: false }
+            Left::Nothing { logged: false }
         }
         Command::Explain { query } => {
             run_explain(alloc, engine, session, &query);
-            Left::Nothing { kept: false }
+            Left::Nothing { logged: false }
         }
         Command::Shape { query } => {
             run_shape(engine, session, &query);
-            Left::Nothing { kept: false }
+            Left::Nothing { logged: false }
         }
         Command::Batch => {
             run_batch(engine, session);
-            Left::Nothing { kept: false }
+            Left::Nothing { logged: false }
         }
         Command::Done | Command::Abandon => unreachable!(),
         Command::Quit => {
             run_quit(engine, session);
-            Left::Nothing { kept: false }
+            Left::Nothing { logged: false }
         }
         Command::Stop => {
             run_stop(engine, session);
@@ -148,7 +150,7 @@ fn run_line<L: Ledgers>(
         RowLine::Refused(_verb, refusal) => {
             session.take_line(rest);
             session.refuse(refusal_of(refusal));
-            Left::Nothing { kept: false }
+            Left::Nothing { logged: false }
         }
         RowLine::Other => run_other(alloc, engine, session, end, rest, steps),
     }
@@ -182,13 +184,13 @@ fn run_other<L: Ledgers>(
         Ok(command) => {
             if is_for_batch(&command) {
                 session.refuse(Refusal::Misplaced);
-                return Left::Nothing { kept: false };
+                return Left::Nothing { logged: false };
             }
             run_command(alloc, engine, session, command, steps)
         }
         Err(refusal) => {
             session.refuse(refusal_of(refusal));
-            Left::Nothing { kept: false }
+            Left::Nothing { logged: false }
         }
     }
 }
@@ -200,7 +202,7 @@ fn is_for_batch(command: &Command) -> bool
     matches!(command, Command::Done | Command::Abandon)
 }
 
-/// Runs the next line of a session that hasn't ended, in the order of checks, and returns what is left to do.
+/// Runs the line in front of a session that goes on, in the order of checks, and returns what is left to do.
 fn step_line<L: Ledgers>(
     alloc: Global,
     engine: &mut Store,
@@ -209,78 +211,89 @@ fn step_line<L: Ledgers>(
     rest: usize,
     row: &mut Vec<Value>,
     steps: &mut Steps<L>,
-) -> (Stepped, Left)
+) -> Left
     requires own { IsOwn engine.old session.old }
     requires suits { BatchSuits engine.old.store session.old.batch }
     requires running { session.old.cause ≡ None }
     requires front { front_of session.old.held ≡ a_line (take end session.old.held)
         (drop rest session.old.held) }
     requires within { (end ≤ length session.old.held) × (rest ≤ length session.old.held) }
-    ensures { LeavesTo result.0 result.1 engine.old session.old engine.new session.new
+    ensures { LeavesTo result engine.old session.old engine.new session.new
         (counts steps.old.listing steps.old.update steps.old.rows)
         (counts steps.new.listing steps.new.update steps.new.rows) }
 {
     if is_blank(&session.held()[..end]) {
         session.take_line(rest);
-        return (Stepped::Ran { kept: false }, Left::Nothing { kept: false });
+        return Left::Nothing { logged: false };
     }
     if session.pending().len() > PENDING_BYTES {
         session.take_line(rest);
         end_by(engine, session, EndLine::Slow, EndCause::Slow);
-        return (
-            Stepped::Ended(EndCause::Slow),
-            Left::Nothing { kept: false },
-        );
+        return Left::Nothing { logged: false };
     }
     match session.keep(REPLY_BYTES) {
-        Ok(()) => {
-            let left = run_line(alloc, engine, session, end, rest, row, steps);
-            let kept = left.is_kept();
-            (Stepped::Ran { kept }, left)
-        }
+        Ok(()) => run_line(alloc, engine, session, end, rest, row, steps),
         Err(_) => {
             session.take_line(rest);
             end_by(engine, session, EndLine::Memory, EndCause::Memory);
-            (
-                Stepped::Ended(EndCause::Memory),
-                Left::Nothing { kept: false },
-            )
+            Left::Nothing { logged: false }
         }
     }
 }
 
-/// Runs the next line of a session, unless it has ended, and returns what is left to do. The line
-/// is copied before.
+/// Runs the line in front of a session that goes on and holds one, or ends it where its front is too long for a line,
+/// and returns what is left to do. The line is copied to the commit before, since the session lets go of it.
+fn step_front<L: Ledgers>(
+    alloc: Global,
+    engine: &mut Store,
+    session: &mut Session<CursorId, Name>,
+    commit: &mut Commit,
+    row: &mut Vec<Value>,
+    steps: &mut Steps<L>,
+) -> Left
+    requires own { IsOwn engine.old session.old }
+    requires suits { BatchSuits engine.old.store session.old.batch }
+    requires ready { dialog_is_ready session.old ≡ true }
+    requires room { HasRoom commit.old }
+    ensures leaves { LeavesTo result engine.old session.old engine.new session.new
+        (counts steps.old.listing steps.old.update steps.old.rows)
+        (counts steps.new.listing steps.new.update steps.new.rows) }
+    ensures copies { CopiesFront session.old.held commit.new.line }
+    ensures commit { commit.new ≡ record commit.old { line = commit.new.line } }
+{
+    match session.front() {
+        Front::Dry => unreachable!(),
+        Front::Long => {
+            end_by(engine, session, EndLine::Long, EndCause::Long);
+            Left::Nothing { logged: false }
+        }
+        Front::Line { end, rest } => {
+            commit.copy(&session.held()[..end]);
+            step_line(alloc, engine, session, end, rest, row, steps)
+        }
+    }
+}
+
+/// Runs the next line of a session, to which the commit comes before, and returns what is left to do.
 pub fn step_session<L: Ledgers>(
     alloc: Global,
     engine: &mut Store,
     session: &mut Session<CursorId, Name>,
-    copied: &mut Copied,
+    commit: &mut Commit,
+    queued: &Queued,
     row: &mut Vec<Value>,
     steps: &mut Steps<L>,
-) -> (Stepped, Left)
+) -> Left
     requires own { IsOwn engine.old session.old }
     requires suits { BatchSuits engine.old.store session.old.batch }
-    ensures leaves { LeavesTo result.0 result.1 engine.old session.old engine.new session.new
+    requires ready { dialog_is_ready session.old ≡ true }
+    requires room { HasRoom commit.old }
+    ensures leaves { LeavesTo result engine.old session.old engine.new session.new
         (counts steps.old.listing steps.old.update steps.old.rows)
         (counts steps.new.listing steps.new.update steps.new.rows) }
-    ensures copies { Copies result.0 session.old.held copied.new }
+    ensures copies { CopiesFront session.old.held commit.new.line }
+    ensures commit { commit.new ≡ record commit.old { line = commit.new.line } }
 {
-    if let Some(cause) = session.cause() {
-        return (Stepped::Ended(cause), Left::Nothing { kept: false });
-    }
-    match session.front() {
-        Front::Dry => (Stepped::Dry, Left::Nothing { kept: false }),
-        Front::Long => {
-            end_by(engine, session, EndLine::Long, EndCause::Long);
-            (
-                Stepped::Ended(EndCause::Long),
-                Left::Nothing { kept: false },
-            )
-        }
-        Front::Line { end, rest } => {
-            copied.copy(&session.held()[..end]);
-            step_line(alloc, engine, session, end, rest, row, steps)
-        }
-    }
+    queued.enter(session);
+    step_front(alloc, engine, session, commit, row, steps)
 }

@@ -49,8 +49,6 @@ use Rattle.djq_store_spec.specs.Rows.{with_copies_of, copies_of, add_refusal, de
 use Rattle.djq_store_spec.specs.Rows.{DeletesAs, DeletesRow}
 use Rattle.djq_store_spec.specs.Batch.{suit_refusal, hold_refusal, SuitAll, is_there, with_held, with_all, count_came}
 use Rattle.djq_store_spec.specs.Batch.{AddsBatch}
-use Rattle.djq_machine.specs.declared.machine.Stepped.{Stepped}
-use Rattle.djq_machine.specs.declared.machine.Stepped.TheVariants.{Ran, Dry, Ended}
 use Rattle.djq_machine.specs.State.{Cursor, Session, State, session_of, with_session, cursor_of, ended_by, state_ids}
 use Rattle.djq_machine.specs.Outdating.{outdated_sessions, changed}
 use Rattle.djq_machine.specs.Effect.{Effect, queue, queue_all, RefusedStep}
@@ -62,7 +60,6 @@ use Rattle.djq_machine.specs.Command.{with_watch, without_watch, TellsLines, exp
 use Rattle.djq_machine.specs.Command.{with_batch, without_batch, HoldStep, DoneStep, is_misplaced, CommandStep}
 use Rattle.djq_machine.specs.LineStep.{LineOutcome, long, blank, slow, no_room, run, behind_line, FrontStep, ReadStep}
 use Rattle.djq_machine.specs.Step.{SameRelations, Step, stepped, with_relations}
-use Rattle.djq_machine.specs.Call.{Counts, StepGives, RanStep, EndedStepAs, cause_of}
 use Rattle.djq_engine.proofs.HeldRows.{refusal_by}
 use Rattle.djq_commands.specs.Sound.{BatchSuits, BatchesSuit}
 use Rattle.djq_commands.proofs.ReadLines.{CarriedOut}
@@ -670,27 +667,3 @@ step_goes old s o e new suited h =
     goes_to old (queue_all moved e.queued) new h.queued
     (goes_then old moved (queue_all moved e.queued) (goes_then old h.mid moved front reordered)
     (goes_queued moved e.queued))
-
-ended_goes : (c : EndCause) (old : State) (s : ℕ) (new : State) (was now : Counts)
-    → BatchesSuit old.store (batches old.sessions) → EndedStepAs c old s new was now → GoesOn old new
-ended_goes Long old s new was now suited h = step_goes old s long h.effect new suited h.step
-ended_goes Slow old s new was now suited h = step_goes old s (slow h.0) h.1.effect new suited h.1.step
-ended_goes Memory old s new was now suited h = step_goes old s (no_room h.0) h.1.effect new suited h.1.step
-ended_goes _ old s new was now suited h = absurd h
-
-ran_goes : (old : State) (s : ℕ) (new : State) (was now : Counts) → BatchesSuit old.store (batches old.sessions)
-    → RanStep old s new was now → GoesOn old new
-ran_goes old s new was now suited (l, inl m) = step_goes old s (blank l) m.effect new suited m.step
-ran_goes old s new was now suited (l, inr m) = step_goes old s (run l) m.effect new suited m.step
-
--- So it is of what a step answers.
-pub given_goes : (old : State) (s : ℕ) (result : Stepped) (new : State) (was now : Counts) (lines : List Bytes)
-    → BatchesSuit old.store (batches old.sessions) → StepGives old s result new was now lines → GoesOn old new
-given_goes old s (Ran kept) new was now lines suited h = ran_goes old s new was now suited h.0
-given_goes old s Dry new was now lines suited h = goes_same old new h.0
-given_goes old s (Ended c) new was now lines suited h = by (cause_of old s) h.1
-  where
-    by : (o : Option EndCause)
-        → MatchOption o (EndedStepAs c old s new was now) (λ d. (d ≡ c) × (new ≡ old) × (now ≡ was)) → GoesOn old new
-    by None k = ended_goes c old s new was now suited k
-    by (Some d) k = goes_same old new k.1

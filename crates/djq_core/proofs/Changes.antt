@@ -1,7 +1,7 @@
 -- A change as a step of the machine: its line, what the engine did, and what was reported.
 use Rattle.std.proofs.Common.{ℕ, zero, suc, ◌+◌, ◌≤◌, ◌≡◌, ◌||◌, Bool, true, false, List, [], ◌∷◌, map, filter, cond}
 use Rattle.std.proofs.Common.{Option, None, Some, option_map, Result, Ok, Err, nat_lt, refl, sym, ap, ◌∙◌, subst, arith}
-use Rattle.std.proofs.Common.{inr, ◌<◌, length, set, inl}
+use Rattle.std.proofs.Common.{inr, ◌<◌, length, set, inl, ◌++◌, append-nil}
 use Rattle.std.specs.Prelude.{◌&&◌, All, IsSome, MatchOption, IsSomeAnd, slice_get}
 use Rattle.std.specs.List.{list_any}
 use Rattle.std.proofs.lemmas.Bool.{lt-ltb}
@@ -27,16 +27,14 @@ use Rattle.djq_store_spec.specs.Changes.{RowsChange, RowsOutcome, accepted, out_
 use Rattle.djq_store_spec.specs.Changes.{add_outcome, delete_outcome, is_made, tried, is_outdated}
 use Rattle.djq_store_spec.specs.DeltaCost.{Delta, AreDeltas, ListsDeltas, deltas_steps}
 use Rattle.djq_answer_laws.proofs.Lists.{hold_each}
-use Rattle.djq_machine.specs.declared.machine.Stepped.TheVariants.{Ran, Dry, Ended}
-use Rattle.djq_machine.specs.declared.machine.Stepped.{Stepped}
 use Rattle.djq_machine.specs.Keeping.{Keeping, kept_where, is_done, is_removal, kept_batch}
-use Rattle.djq_machine.specs.Run.{groups_in}
+use Rattle.djq_machine.specs.Run.{groups_in, lines_in}
 use Rattle.djq_machine.specs.State.{Session, State, with_session}
 use Rattle.djq_machine.specs.Outdating.{sessions_behind, changed}
 use Rattle.djq_machine.specs.Effect.{Effect, queue_all, EndsWith}
 use Rattle.djq_machine.specs.Watch.{Telling, ChangeStep, affected, is_watching}
 use Rattle.djq_machine.specs.LineStep.{run, behind_line, FrontStep, ReadStep}
-use Rattle.djq_machine.specs.Call.{Counts, KeepsGroup, StepGives}
+use Rattle.djq_machine.specs.Call.{Counts, StepsLine}
 use Rattle.djq_machine.specs.Command.{AddStep, HoldStep, DoneStep, CommandStep, is_misplaced, without_batch}
 use Rattle.djq_session.specs.Dialog.{Replies}
 use Rattle.djq_engine.specs.declared.cursor.CursorId.{CursorId}
@@ -47,13 +45,13 @@ use Rattle.djq_engine.specs.Watching.{LogsTell, queries_affected}
 use Rattle.djq_commands.specs.declared.open.OpenSession.{OpenSession}
 use Rattle.djq_commands.specs.declared.change.Outcome.{Outcome}
 use Rattle.djq_commands.specs.declared.change.Outcome.TheVariants.{Added, Deleted, Done}
-use Rattle.djq_commands.specs.declared.change.Left.TheVariants.{Telling as LeftTelling}
-use Rattle.djq_commands.specs.Views.{Talk, session_in, session_seen, state_in, lines_of_step}
+use Rattle.djq_commands.specs.Views.{Talk, session_in, session_seen, state_in}
 use Rattle.djq_commands.specs.Sound.{ids_of_cursors, all_ids, AreHeld, IsSound, is_among_watches, watchers_in, IsOwn}
 use Rattle.djq_commands.specs.Performs.{among, Performs}
-use Rattle.djq_commands.specs.Changing.{EngineChanged, IsChange, LeavesChange, is_accepted, reply_of, is_kept}
-use Rattle.djq_commands.specs.Changing.{lines_kept}
-use Rattle.djq_commands.specs.Stepping.{Copies, LeavesTo}
+use Rattle.djq_commands.specs.Changing.{EngineChanged, IsChange, LeavesChange, is_accepted, reply_of}
+use Rattle.djq_commands.specs.Changing.{lines_logged}
+use Rattle.djq_commands.specs.Logging.{batch_lines}
+use Rattle.djq_commands.specs.Stepping.{CopiesFront}
 use Rattle.djq_commands.specs.Telling.{AreAffected, TellsAll, HearsDelta}
 use Rattle.djq_commands.proofs.Cursors.{agree_same, agree_held, agree_open, outdated_find, outdated_all_held}
 use Rattle.djq_commands.proofs.Cursors.{outdated_open, parts, whole, becomes, looks}
@@ -61,7 +59,7 @@ use Rattle.djq_commands.proofs.ReadLines.{carried_out}
 use Rattle.djq_commands.proofs.Replies.{around_held, around_batch, around_bytes, sound_batch, replied}
 use Rattle.djq_commands.proofs.TakenLines.{sound_bytes, with_room}
 use Rattle.djq_commands.proofs.Watchers.{recount, stays_same, at_its_id}
-use Rattle.djq_core.proofs.Replies.{at_session, one_front, same_relations}
+use Rattle.djq_core.proofs.Replies.{at_session, copied_front, same_relations}
 
 -- ---- A change as a step of the machine: its line, what the engine did, and what was told.
 
@@ -299,17 +297,16 @@ keeping_of (Added result) = kept_where (is_done result)
 keeping_of (Deleted result) = kept_where (is_removal result)
 keeping_of (Done result held) = kept_batch held result
 
--- the group that is
-group_kept : (change : Outcome) (l : Bytes)
-    → KeepsGroup (is_kept change) (groups_in l (keeping_of change)) (lines_of_step (lines_kept change) l)
-group_kept (Added (Ok a)) l = refl
-group_kept (Added (Err r)) l = (refl, refl)
-group_kept (Deleted (Ok Last)) l = refl
-group_kept (Deleted (Ok (Left n))) l = refl
-group_kept (Deleted (Ok Absent)) l = (refl, refl)
-group_kept (Deleted (Err r)) l = (refl, refl)
-group_kept (Done (Ok n) held) l = refl
-group_kept (Done (Err r) held) l = (refl, refl)
+-- the lines that it logs
+lines_kept : (change : Outcome) (l : Bytes) → lines_logged change l ≡ lines_in (groups_in l (keeping_of change))
+lines_kept (Added (Ok a)) l = refl
+lines_kept (Added (Err r)) l = refl
+lines_kept (Deleted (Ok Last)) l = refl
+lines_kept (Deleted (Ok (Left n))) l = refl
+lines_kept (Deleted (Ok Absent)) l = refl
+lines_kept (Deleted (Err r)) l = refl
+lines_kept (Done (Ok n) held) l = sym (append-nil (batch_lines held))
+lines_kept (Done (Err r) held) l = refl
 
 -- A session's batch is closed, where one is open.
 abbrev Shuts : Option (List HeldRow) → ℕ → State → State → Type 0
@@ -427,14 +424,14 @@ shut_batch old stopped front s taken after back (Some held) e same sound =
     (ap (session_in old.cursors s) same)
 
 -- A change that was told and answered is a step of the machine.
-pub change_gives : (change : Outcome) (old mid new : Kept) (before after : Talk) (front : List OpenSession) (s : ℕ)
-    (back ys : List OpenSession) (stopped : Bool) (copy : Bytes) (was now : Counts)
+pub change_steps : (change : Outcome) (old mid new : Kept) (before after : Talk) (front : List OpenSession) (s : ℕ)
+    (back ys : List OpenSession) (stopped : Bool) (copy : Bytes) (was now : Counts) (commit : List Bytes)
     → LeavesChange change old before mid after was.listing now.listing → IsSound old (among front s before back)
     → TellsAll (is_accepted change) (reply_of change (mid.store).seq) mid s (among front s after back) new ys
-    → Copies (Ran (is_kept change)) before.held copy
-    → StepGives (state_in old stopped (among front s before back)) s (Ran (is_kept change)) (state_in new stopped ys)
-    was now (lines_of_step (lines_kept change) copy)
-change_gives change old mid new before after front s back ys stopped copy was now c sound t copies =
+    → CopiesFront before.held copy
+    → StepsLine (state_in old stopped (among front s before back)) s (state_in new stopped ys) was now commit
+    (commit ++ lines_logged change copy)
+change_steps change old mid new before after front s back ys stopped copy was now commit c sound t copies =
     let st = state_in old stopped (among front s before back) in
     let x = session_in old.cursors s before in
     let y = behind_line c.rest x in
@@ -455,39 +452,26 @@ change_gives change old mid new before after front s back ys stopped copy was no
     (sym c.reads)
     (carried_out _ s y c.line c.command r.effect r.last r.placed
     (subst (λ (w : State). CommandStep w s y c.line c.command r.effect r.last) moved r.does)) in
-    let same : copy ≡ c.line = one_front before.held c.line copy c.rest copies.0 c.front copies.1 in (
-      (
-        c.line,
-        inr (record {
-          effect = r.effect;
-          step = record {
-            mid = r.last;
-            acts = at_session old stopped front s before back
-                (λ z. (z.cause ≡ None) × FrontStep st s z (run c.line) r.effect r.last) sound
-                (c.running, (c.said, c.few, record { rest = c.rest; front = c.front; then = read }));
-            relations = ((r.last).store).relations;
-            reordered = same_relations ((r.last).store).relations;
-            queued = sym r.queued;
-          };
-          listing = r.counted;
-        }),
-      ),
-      subst (λ (k : Keeping). KeepsGroup (is_kept change) (groups_in c.line k) (lines_of_step (lines_kept change) copy))
-          (sym r.keeps)
-          (subst (λ (m : Bytes). KeepsGroup (is_kept change) (groups_in c.line (keeping_of change))
-          (lines_of_step (lines_kept change) m)) (sym same) (group_kept change c.line)),
-    )
-
--- ---- A step of a session that leaves a change to tell.
-
--- Only a line that was run leaves one.
-pub telling_ran : (stepped : Stepped) (change : Outcome) (old : Kept) (before : Talk) (new : Kept) (after : Talk)
-    (was now : Counts)
-    → LeavesTo stepped (LeftTelling change) old before new after was now → (stepped ≡ Ran (is_kept change))
-    × LeavesChange change old before new after was.listing now.listing
-telling_ran (Ran kept) change old before new after was now l = (ap (λ (b : Bool). Ran b) l.0, l.1)
-telling_ran Dry change old before new after was now l = absurd l
-telling_ran (Ended c) change old before new after was now l = absurd l
+    let same : copy ≡ c.line = copied_front before.held c.line copy c.rest copies c.front in
+    record {
+      outcome = run c.line;
+      makes = record {
+        effect = r.effect;
+        step = record {
+          mid = r.last;
+          acts = at_session old stopped front s before back
+              (λ z. (z.cause ≡ None) × FrontStep st s z (run c.line) r.effect r.last) sound
+              (c.running, (c.said, c.few, record { rest = c.rest; front = c.front; then = read }));
+          relations = ((r.last).store).relations;
+          reordered = same_relations ((r.last).store).relations;
+          queued = sym r.queued;
+        };
+        listing = r.counted;
+      };
+      logs = ap (λ (lines : List Bytes). commit ++ lines)
+          (ap (lines_logged change) same ∙ lines_kept change c.line
+          ∙ ap (λ (k : Keeping). lines_in (groups_in c.line k)) (sym r.keeps));
+    }
 
 -- What of it the cursors see.
 outdated_by : (command : Command) (batch : Option (List HeldRow)) (old : Kept) (change : Outcome) (new : Kept)

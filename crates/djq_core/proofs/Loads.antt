@@ -26,10 +26,9 @@ use Rattle.djq_store_spec.specs.Registering.{DropsQuery}
 use Rattle.djq_store_spec.specs.Changes.{RowsChange}
 use Rattle.djq_store_spec.specs.Batch.{AddsBatch, hold_refusal}
 use Rattle.djq_answer_laws.proofs.Lists.{hold_each}
-use Rattle.djq_machine.specs.declared.machine.Stepped.{Stepped}
 use Rattle.djq_machine.specs.declared.machine.Loaded.{Loaded}
 use Rattle.djq_machine.specs.declared.machine.Loaded.TheVariants.{Ran as ran, Refused as refused, NoMem as no_memory}
-use Rattle.djq_machine.specs.Call.{Counts, StepGives}
+use Rattle.djq_machine.specs.Call.{Counts, StepsLine}
 use Rattle.djq_machine.specs.State.{State}
 use Rattle.djq_machine.specs.Command.{is_misplaced}
 use Rattle.djq_machine.specs.Keeping.{is_done}
@@ -48,7 +47,7 @@ use Rattle.djq_commands.specs.Batching.{MakesRow, RefusedBy, held_row_of}
 use Rattle.djq_commands.proofs.Cursors.{outdated_find}
 use Rattle.djq_commands.proofs.ReadLines.{in_any_batch, in_memory, in_outside, in_range_past, late_alone, reads_as}
 use Rattle.djq_core.specs.Loading.{IsUnused, LoadsRow, comes_to, is_batch, loading_by}
-use Rattle.djq_core.proofs.BatchRows.{batches, batch_still, given_goes, holds}
+use Rattle.djq_core.proofs.BatchRows.{batches, batch_still, step_goes, holds}
 use Rattle.djq_core.proofs.Replies.{same_relations}
 
 -- ---- What the batches of the core's sessions hold suits, as sessions come, change and go.
@@ -118,13 +117,13 @@ suited_more st batch xs ys y h n e = subst (λ (zs : List OpenSession). BatchesS
 
 -- So it is behind a step.
 pub suited_behind : (k new : Kept) (batch : Option (List HeldRow)) (stopped stops : Bool) (xs ys : List OpenSession)
-    (s : ℕ) (result : Stepped) (was now : Counts) (lines : List Bytes)
+    (s : ℕ) (was now : Counts) (commit commit' : List Bytes)
     → BatchesSuit k.store (batches_of batch xs)
-    → StepGives (state_in k stopped xs) s result (state_in new stops ys) was now lines
+    → StepsLine (state_in k stopped xs) s (state_in new stops ys) was now commit commit'
     → BatchesSuit new.store (batches_of batch ys)
-suited_behind k new batch stopped stops xs ys s result was now lines h gives =
-    let g = given_goes (state_in k stopped xs) s result (state_in new stops ys) was now lines
-    (subst (BatchesSuit k.store) (sym (seen k.cursors xs)) h.1) gives in (
+suited_behind k new batch stopped stops xs ys s was now commit commit' h m =
+    let g = step_goes (state_in k stopped xs) s m.outcome m.makes.effect (state_in new stops ys)
+    (subst (BatchesSuit k.store) (sym (seen k.cursors xs)) h.1) m.makes.step in (
       batch_still k.store new.store batch g.types h.0,
       subst (BatchesSuit new.store) (seen new.cursors ys)
           (g.suits (subst (BatchesSuit k.store) (sym (seen k.cursors xs)) h.1)),

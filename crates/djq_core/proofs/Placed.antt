@@ -17,32 +17,11 @@ use Rattle.slab.proofs.SlabLemmas.{ContainsKey-within, Updates-with_value}
 use Rattle.djq_protocol.specs.declared.limits.TheConstants.{SESSIONS}
 use Rattle.djq_commands.specs.declared.open.OpenSession.{OpenSession}
 use Rattle.djq_commands.specs.Views.{Talk}
-use Rattle.djq_session.specs.Dialog.{dialog_is_due}
 use Rattle.djq_commands.specs.Sound.{IsBelowAll, Rises}
+use Rattle.djq_commands.proofs.CommitLines.{rises_above, rises_up}
 use Rattle.djq_core.specs.Sessions.{ids_of, lies_at, lying_before, lying_in, opened_at}
 use Rattle.djq_core.specs.Sessions.{HasKeys, HoldApart, IsNoneOf, PartsAt}
 use Rattle.djq_commands.proofs.Cursors.{IsAbove, rises_push}
-
--- ---- Numbers that rise, by place.
-
-rises_above : (xs : List ℕ) → Rises xs → (i j : ℕ) → i < j → j < length xs → get_or xs i 0 < get_or xs j 0
-rises_above [] r i j lt l = absurd (omega (arith, l))
-rises_above (x ∷ xs) r i zero lt l = absurd (omega (arith, lt))
-rises_above (x ∷ xs) r zero (suc j) lt l = at xs j r.0 (omega (arith, l))
-  where
-    at : (ys : List ℕ) (k : ℕ) → IsBelowAll x ys → k < length ys → x < get_or ys k 0
-    at [] k b m = absurd (omega (arith, m))
-    at (y ∷ ys) zero b m = b.0
-    at (y ∷ ys) (suc k) b m = at ys k b.1 (omega (arith, m))
-rises_above (x ∷ xs) r (suc i) (suc j) lt l = rises_above xs r.1 i j (omega (arith, lt)) (omega (arith, l))
-
-rises_up : (xs : List ℕ) → Rises xs → (i j : ℕ) → i ≤ j → j < length xs → get_or xs i 0 ≤ get_or xs j 0
-rises_up xs r i j le l = by (cases_order i j)
-  where
-    by : (i ≡ j) ⊎ ((i < j) ⊎ (j < i)) → get_or xs i 0 ≤ get_or xs j 0
-    by (inl e) = omega (arith, ap (λ (k : ℕ). get_or xs k 0) e)
-    by (inr (inl lt)) = omega (arith, rises_above xs r i j lt l)
-    by (inr (inr gt)) = absurd (omega (arith, le, gt))
 
 -- What a search tells: the place of the number, or the one at which it would stand, parts the lower numbers from
 -- the others.
@@ -432,51 +411,15 @@ remove_placed ids keys ids' keys' slab new id_room key_room id_room' key_room' x
       },
     )
 
--- ---- The first session to which something is due.
+-- ---- The first session of at least an id that passes a test.
 
--- whether it is of at least this id, and something is due to it
-abbrev pub due_from : ℕ → OpenSession → Bool
-due_from from x = nat_le from x.id && dialog_is_due x.session
+-- whether it is of at least this id, and passes the test
+abbrev pub passes_from : (Talk → Bool) → ℕ → OpenSession → Bool
+passes_from test from x = nat_le from x.id && test x.session
 
 and_false : (a b : Bool) → a ≡ false → (a && b) ≡ false
 and_false true b e = absurd (cc (e))
 and_false false b e = refl
-
--- the sessions of lower ids are passed over
-pub passed_low : (xs : List OpenSession) (from start : ℕ)
-    → ((at : ℕ) → at < start → get_or (ids_of xs) at 0 < from) → start ≤ length xs
-    → find (due_from from) xs ≡ find (due_from from) (drop start xs)
-passed_low xs from zero low l = refl
-passed_low [] from (suc start) low l = absurd (omega (arith, l))
-passed_low (x ∷ xs) from (suc start) low l =
-    cond-false _ _ _ (and_false (nat_le from x.id) (dialog_is_due x.session) (not_from (nat_le from x.id) refl))
-    ∙ passed_low xs from start (λ at lt. low (suc at) (omega (arith, lt))) (omega (arith, l))
-  where
-    not_from : (b : Bool) → nat_le from x.id ≡ b → b ≡ false
-    not_from true e = absurd (omega (arith, leb-true from x.id e, low 0 (omega arith)))
-    not_from false e = refl
-
--- so is one to which nothing is due
-pub passed_one : (xs : List OpenSession) (from at : ℕ) (x : OpenSession) → slice_get xs at ≡ Some x
-    → due_from from x ≡ false → find (due_from from) (drop at xs) ≡ find (due_from from) (drop (suc at) xs)
-passed_one [] from at x e h = absurd (cc (e))
-passed_one (y ∷ xs) from zero x e h =
-    cond-false _ _ _ (ap (due_from from) (same_Some y x e) ∙ h)
-passed_one (y ∷ xs) from (suc at) x e h = passed_one xs from at x e h
-
--- the first is found
-pub found_one : (xs : List OpenSession) (from at : ℕ) (x : OpenSession) → slice_get xs at ≡ Some x
-    → due_from from x ≡ true → find (due_from from) (drop at xs) ≡ Some x
-found_one [] from at x e h = absurd (cc (e))
-found_one (y ∷ xs) from zero x e h = cond-true _ _ _ (ap (due_from from) (same_Some y x e) ∙ h) ∙ e
-found_one (y ∷ xs) from (suc at) x e h = found_one xs from at x e h
-
--- none is left
-pub none_left : (xs : List OpenSession) (from at : ℕ) → length xs ≤ at → find (due_from from) (drop at xs) ≡ None
-none_left [] from zero l = refl
-none_left [] from (suc at) l = refl
-none_left (x ∷ xs) from zero l = absurd (omega (arith, l))
-none_left (x ∷ xs) from (suc at) l = none_left xs from at (omega (arith, l))
 
 -- the highest id up to a number
 pub low_le : {E : Type 0} (r : Result ℕ E) (from : ℕ) → OkIff r (from < 18446744073709551616) from
@@ -488,37 +431,77 @@ low_le (Err e) from h =
       | inr high ↦ omega (arith, high)
     ]
 
--- nor is one of a lower id the first
-pub passed_lower : (xs : List OpenSession) (from at : ℕ) → at < length xs → get_or (ids_of xs) at 0 < from
-    → find (due_from from) (drop at xs) ≡ find (due_from from) (drop (suc at) xs)
-passed_lower [] from at l low = absurd (omega (arith, l))
-passed_lower (x ∷ xs) from zero l low =
-    cond-false _ _ _ (and_false (nat_le from x.id) (dialog_is_due x.session) (lt-leb from x.id low))
-passed_lower (x ∷ xs) from (suc at) l low = passed_lower xs from at (omega (arith, l)) low
+module _ (test : Talk → Bool) where
+  abbrev passes : ℕ → OpenSession → Bool
+  passes from x = passes_from test from x
 
--- nor one that isn't due
-pub passed_quiet : (xs : List OpenSession) (from at : ℕ) (d : Talk) → slice_get xs at ≡ Some (opened_at xs at d)
-    → dialog_is_due d ≡ false → find (due_from from) (drop at xs) ≡ find (due_from from) (drop (suc at) xs)
-passed_quiet xs from at d e quiet = passed_one xs from at (opened_at xs at d) e
-    (step (nat_le from (slice_index (ids_of xs) at)) (dialog_is_due d) quiet)
-  where
-    step : (a b : Bool) → b ≡ false → (a && b) ≡ false
-    step true b h = h
-    step false b h = refl
+  -- the sessions of lower ids are passed over
+  pub passed_low : (xs : List OpenSession) (from start : ℕ)
+      → ((at : ℕ) → at < start → get_or (ids_of xs) at 0 < from) → start ≤ length xs
+      → find (passes from) xs ≡ find (passes from) (drop start xs)
+  passed_low xs from zero low l = refl
+  passed_low [] from (suc start) low l = absurd (omega (arith, l))
+  passed_low (x ∷ xs) from (suc start) low l =
+      cond-false _ _ _ (and_false (nat_le from x.id) (test x.session) (not_from (nat_le from x.id) refl))
+      ∙ passed_low xs from start (λ at lt. low (suc at) (omega (arith, lt))) (omega (arith, l))
+    where
+      not_from : (b : Bool) → nat_le from x.id ≡ b → b ≡ false
+      not_from true e = absurd (omega (arith, leb-true from x.id e, low 0 (omega arith)))
+      not_from false e = refl
 
--- the one that is found is due
-pub is_found : (xs : List OpenSession) (from at id : ℕ) (d : Talk)
-    → find (due_from from) xs ≡ find (due_from from) (drop at xs) → slice_get xs at ≡ Some (opened_at xs at d)
-    → slice_index (ids_of xs) at ≡ id → from ≤ id → dialog_is_due d ≡ true
-    → Some id ≡ option_map (λ (x : OpenSession). x.id) (find (due_from from) xs)
-is_found xs from at id d so_far e same le due =
-    let here = le-leb from (slice_index (ids_of xs) at) (omega (arith, le, same)) in
-    sym (ap (option_map (λ (x : OpenSession). x.id))
-    (so_far ∙ found_one xs from at (opened_at xs at d) e (ap₂ (λ (a b : Bool). a && b) here due)) ∙ ap Some same)
+  -- so is one that doesn't
+  pub passed_one : (xs : List OpenSession) (from at : ℕ) (x : OpenSession) → slice_get xs at ≡ Some x
+      → passes from x ≡ false → find (passes from) (drop at xs) ≡ find (passes from) (drop (suc at) xs)
+  passed_one [] from at x e h = absurd (cc (e))
+  passed_one (y ∷ xs) from zero x e h =
+      cond-false _ _ _ (ap (passes from) (same_Some y x e) ∙ h)
+  passed_one (y ∷ xs) from (suc at) x e h = passed_one xs from at x e h
 
--- none is due
-pub none_found : (xs : List OpenSession) (from at : ℕ)
-    → find (due_from from) xs ≡ find (due_from from) (drop at xs) → length xs ≤ at
-    → None ≡ option_map (λ (x : OpenSession). x.id) (find (due_from from) xs)
-none_found xs from at so_far l =
-    sym (ap (option_map (λ (x : OpenSession). x.id)) (so_far ∙ none_left xs from at l))
+  -- the first is found
+  pub found_one : (xs : List OpenSession) (from at : ℕ) (x : OpenSession) → slice_get xs at ≡ Some x
+      → passes from x ≡ true → find (passes from) (drop at xs) ≡ Some x
+  found_one [] from at x e h = absurd (cc (e))
+  found_one (y ∷ xs) from zero x e h = cond-true _ _ _ (ap (passes from) (same_Some y x e) ∙ h) ∙ e
+  found_one (y ∷ xs) from (suc at) x e h = found_one xs from at x e h
+
+  -- none is left
+  pub none_left : (xs : List OpenSession) (from at : ℕ) → length xs ≤ at → find (passes from) (drop at xs) ≡ None
+  none_left [] from zero l = refl
+  none_left [] from (suc at) l = refl
+  none_left (x ∷ xs) from zero l = absurd (omega (arith, l))
+  none_left (x ∷ xs) from (suc at) l = none_left xs from at (omega (arith, l))
+
+  -- nor is one of a lower id the first
+  pub passed_lower : (xs : List OpenSession) (from at : ℕ) → at < length xs → get_or (ids_of xs) at 0 < from
+      → find (passes from) (drop at xs) ≡ find (passes from) (drop (suc at) xs)
+  passed_lower [] from at l low = absurd (omega (arith, l))
+  passed_lower (x ∷ xs) from zero l low =
+      cond-false _ _ _ (and_false (nat_le from x.id) (test x.session) (lt-leb from x.id low))
+  passed_lower (x ∷ xs) from (suc at) l low = passed_lower xs from at (omega (arith, l)) low
+
+  -- nor one that doesn't pass
+  pub passed_quiet : (xs : List OpenSession) (from at : ℕ) (d : Talk) → slice_get xs at ≡ Some (opened_at xs at d)
+      → test d ≡ false → find (passes from) (drop at xs) ≡ find (passes from) (drop (suc at) xs)
+  passed_quiet xs from at d e quiet = passed_one xs from at (opened_at xs at d) e
+      (step (nat_le from (slice_index (ids_of xs) at)) (test d) quiet)
+    where
+      step : (a b : Bool) → b ≡ false → (a && b) ≡ false
+      step true b h = h
+      step false b h = refl
+
+  -- the one that is found does
+  pub is_found : (xs : List OpenSession) (from at id : ℕ) (d : Talk)
+      → find (passes from) xs ≡ find (passes from) (drop at xs) → slice_get xs at ≡ Some (opened_at xs at d)
+      → slice_index (ids_of xs) at ≡ id → from ≤ id → test d ≡ true
+      → Some id ≡ option_map (λ (x : OpenSession). x.id) (find (passes from) xs)
+  is_found xs from at id d so_far e same le due =
+      let here = le-leb from (slice_index (ids_of xs) at) (omega (arith, le, same)) in
+      sym (ap (option_map (λ (x : OpenSession). x.id))
+      (so_far ∙ found_one xs from at (opened_at xs at d) e (ap₂ (λ (a b : Bool). a && b) here due)) ∙ ap Some same)
+
+  -- none does
+  pub none_found : (xs : List OpenSession) (from at : ℕ)
+      → find (passes from) xs ≡ find (passes from) (drop at xs) → length xs ≤ at
+      → None ≡ option_map (λ (x : OpenSession). x.id) (find (passes from) xs)
+  none_found xs from at so_far l =
+      sym (ap (option_map (λ (x : OpenSession). x.id)) (so_far ∙ none_left xs from at l))

@@ -1,8 +1,8 @@
 -- Parts that are queued one behind another, and the sessions to which something is due.
 use Rattle.std.proofs.Common.{ℕ, ◌≡◌, ◌&&◌, Bool, true, false, List, [], ◌∷◌, map, find, cond, Option, Some, eqb}
 use Rattle.std.proofs.Common.{nat_le, refl, sym, ap, ap₂, ◌∙◌, arith, ◌++◌, subst, inl, inr, zero, suc, ◌<◌, get_or}
-use Rattle.std.specs.Prelude.{option_map, nat_lt, is_some, length, ◌||◌, MatchOption, All, Contains}
-use Rattle.std.proofs.lemmas.Bool.{cond-false, eq-eqb, eqb-true, cond-true}
+use Rattle.std.specs.Prelude.{None, not, is_none, option_map, nat_lt, is_some, length, ◌||◌, MatchOption, All, Contains}
+use Rattle.std.proofs.lemmas.Bool.{false≢true, cond-false, eq-eqb, eqb-true, cond-true}
 use Rattle.std.specs.List.{list_any}
 use Rattle.std.proofs.lemmas.Grind.{get_or_default_zero}
 use Rattle.djq_model.specs.Data.{Bytes, change_first}
@@ -14,65 +14,72 @@ use Rattle.djq_store_spec.specs.Delta.{delta_lines}
 use Rattle.djq_store_spec.specs.DeltaCost.{Delta}
 use Rattle.djq_machine.specs.State.{Session, State, state_ids, session_of, with_session, ended_by}
 use Rattle.djq_machine.specs.Run.{pending_in}
-use Rattle.djq_machine.specs.Call.{cause_in, first_due, IsOpen}
+use Rattle.djq_machine.specs.Step.{is_dry}
+use Rattle.djq_machine.specs.Call.{cause_in, cause_of, held_in, held_of, first_due, first_ready, may_run, IsOpen}
 use Rattle.djq_machine.specs.Effect.{Effect, queue, queue_all}
 use Rattle.djq_machine.specs.Watch.{Telling, is_watching, says_more, ends_more, watching, watcher_of, TellsWatcher}
 use Rattle.djq_machine.specs.Watch.{TellsSession}
-use Rattle.djq_session.specs.Dialog.{dialog_is_due}
+use Rattle.djq_protocol.specs.Line.{Front, dry, too_long, a_line, front_of}
+use Rattle.djq_session.specs.Dialog.{dialog_is_due, dialog_is_ready, holds_no_line}
 use Rattle.djq_engine.specs.Kept.{Kept, HeldCursor}
 use Rattle.djq_commands.specs.declared.open.OpenSession.{OpenSession}
-use Rattle.djq_commands.specs.Views.{session_seen, state_in}
+use Rattle.djq_commands.specs.Views.{Talk, session_seen, state_in}
 use Rattle.djq_commands.specs.Sound.{IsBelowAll, Rises, IsSound}
 use Rattle.djq_commands.specs.Telling.{HearsDelta}
 
--- ---- The first session to which something is due, as it is kept and as the join machine sees it.
+-- ---- The first session that passes a test, as it is kept and as the join machine sees it.
 
 -- the session of an id
 abbrev at_id : List HeldCursor → List OpenSession → ℕ → Option Session
 at_id hs xs s = find (λ (x : Session). eqb x.id s) (map (session_seen hs) xs)
 
--- whether something is due to it
-abbrev due_in : Option Session → Bool
-due_in o = nat_lt 0 (length (pending_in o)) || is_some (cause_in o)
-
-abbrev first_of : List HeldCursor → List OpenSession → ℕ → List ℕ → Option ℕ
-first_of hs xs from is = find (λ s. nat_le from s && due_in (at_id hs xs s)) is
-
--- a session of a lower id is none of these
-behind : (hs : List HeldCursor) (x : OpenSession) (xs : List OpenSession) (from : ℕ) (is : List ℕ) → IsBelowAll x.id is
-    → first_of hs (x ∷ xs) from is ≡ first_of hs xs from is
-behind hs x xs from [] below = refl
-behind hs x xs from (s ∷ is) below =
-    ap₂ (λ (o : Option Session) (r : Option ℕ). cond (nat_le from s && due_in o) (Some s) r)
-    (cond-false _ _ _ (other (eqb x.id s) refl)) (behind hs x xs from is below.1)
-  where
-    other : (b : Bool) → eqb x.id s ≡ b → b ≡ false
-    other true e = let same : x.id ≡ s = eqb-true x.id s e in absurd (omega (arith, same, below.0))
-    other false e = refl
-
-seen_first : (hs : List HeldCursor) (xs : List OpenSession) (from : ℕ) → Rises (map (λ (x : OpenSession). x.id) xs)
-    → option_map (λ (x : OpenSession). x.id)
-    (find (λ (x : OpenSession). nat_le from x.id && dialog_is_due x.session) xs)
-    ≡ first_of hs xs from (map (λ (x : OpenSession). x.id) xs)
-seen_first hs [] from rising = refl
-seen_first hs (x ∷ xs) from rising =
-    at_first (nat_le from x.id && dialog_is_due x.session)
-    ∙ ap₂ (λ (o : Option Session) (r : Option ℕ). cond (nat_le from x.id && due_in o) (Some x.id) r)
-    (sym (ap (λ (b : Bool). cond b (Some (session_seen hs x)) (at_id hs xs x.id)) (eq-eqb x.id x.id refl)))
-    (seen_first hs xs from rising.1 ∙ sym (behind hs x xs from (map (λ (y : OpenSession). y.id) xs) rising.0))
-  where
-    at_first : (b : Bool)
-        → option_map (λ (y : OpenSession). y.id)
-        (cond b (Some x) (find (λ (y : OpenSession). nat_le from y.id && dialog_is_due y.session) xs))
-        ≡ cond b (Some x.id) (option_map (λ (y : OpenSession). y.id)
-        (find (λ (y : OpenSession). nat_le from y.id && dialog_is_due y.session) xs))
-    at_first true = refl
-    at_first false = refl
-
 seen_ids : (hs : List HeldCursor) (xs : List OpenSession) → map (λ (x : OpenSession). x.id) xs
     ≡ map (λ (x : Session). x.id) (map (session_seen hs) xs)
 seen_ids hs [] = refl
 seen_ids hs (x ∷ xs) = ap (λ (is : List ℕ). x.id ∷ is) (seen_ids hs xs)
+
+module _ (hs : List HeldCursor) (kept : Talk → Bool) (seen : Option Session → Bool)
+    (same : (x : OpenSession) → kept x.session ≡ seen (Some (session_seen hs x))) where
+  abbrev first_of : List OpenSession → ℕ → List ℕ → Option ℕ
+  first_of xs from is = find (λ s. nat_le from s && seen (at_id hs xs s)) is
+
+  -- a session of a lower id is none of these
+  behind : (x : OpenSession) (xs : List OpenSession) (from : ℕ) (is : List ℕ) → IsBelowAll x.id is
+      → first_of (x ∷ xs) from is ≡ first_of xs from is
+  behind x xs from [] below = refl
+  behind x xs from (s ∷ is) below =
+      ap₂ (λ (o : Option Session) (r : Option ℕ). cond (nat_le from s && seen o) (Some s) r)
+      (cond-false _ _ _ (other (eqb x.id s) refl)) (behind x xs from is below.1)
+    where
+      other : (b : Bool) → eqb x.id s ≡ b → b ≡ false
+      other true e = let same : x.id ≡ s = eqb-true x.id s e in absurd (omega (arith, same, below.0))
+      other false e = refl
+
+  seen_first : (xs : List OpenSession) (from : ℕ) → Rises (map (λ (x : OpenSession). x.id) xs)
+      → option_map (λ (x : OpenSession). x.id)
+      (find (λ (x : OpenSession). nat_le from x.id && kept x.session) xs)
+      ≡ first_of xs from (map (λ (x : OpenSession). x.id) xs)
+  seen_first [] from rising = refl
+  seen_first (x ∷ xs) from rising =
+      at_first (nat_le from x.id && kept x.session)
+      ∙ ap (λ (b : Bool). cond (nat_le from x.id && b) (Some x.id)
+      (option_map (λ (y : OpenSession). y.id)
+      (find (λ (y : OpenSession). nat_le from y.id && kept y.session) xs))) (same x)
+      ∙ ap₂ (λ (o : Option Session) (r : Option ℕ). cond (nat_le from x.id && seen o) (Some x.id) r)
+      (sym (ap (λ (b : Bool). cond b (Some (session_seen hs x)) (at_id hs xs x.id)) (eq-eqb x.id x.id refl)))
+      (seen_first xs from rising.1 ∙ sym (behind x xs from (map (λ (y : OpenSession). y.id) xs) rising.0))
+    where
+      at_first : (b : Bool)
+          → option_map (λ (y : OpenSession). y.id)
+          (cond b (Some x) (find (λ (y : OpenSession). nat_le from y.id && kept y.session) xs))
+          ≡ cond b (Some x.id) (option_map (λ (y : OpenSession). y.id)
+          (find (λ (y : OpenSession). nat_le from y.id && kept y.session) xs))
+      at_first true = refl
+      at_first false = refl
+
+-- whether something is due to a session
+abbrev due_in : Option Session → Bool
+due_in o = nat_lt 0 (length (pending_in o)) || is_some (cause_in o)
 
 pub first_is_due : (k : Kept) (stopped : Bool) (xs : List OpenSession) (from : ℕ) (st : State) → IsSound k xs
     → state_in k stopped xs ≡ st
@@ -80,9 +87,63 @@ pub first_is_due : (k : Kept) (stopped : Bool) (xs : List OpenSession) (from : �
     (find (λ (x : OpenSession). nat_le from x.id && dialog_is_due x.session) xs)
     ≡ first_due st from
 first_is_due k stopped xs from st sound seen =
-    seen_first k.cursors xs from sound.rising
-    ∙ ap (first_of k.cursors xs from) (seen_ids k.cursors xs)
+    seen_first k.cursors dialog_is_due due_in (λ x. refl) xs from sound.rising
+    ∙ ap (first_of k.cursors dialog_is_due due_in (λ x. refl) xs from) (seen_ids k.cursors xs)
     ∙ ap (λ (s : State). first_due s from) seen
+
+-- ---- The first session of which a line may be run.
+
+-- whether a session goes on and holds a line
+abbrev ready_in : Option Session → Bool
+ready_in o = is_none (cause_in o) && not (is_dry (held_in o))
+
+is_dry_front : (held : Bytes) → front_of held ≡ dry → is_dry held ≡ true
+is_dry_front held e = cc
+
+is_long_front : (held : Bytes) → front_of held ≡ too_long → is_dry held ≡ false
+is_long_front held e = cc
+
+is_line_front : (held l r : Bytes) → front_of held ≡ a_line l r → is_dry held ≡ false
+is_line_front held l r e = cc
+
+-- as it is kept and as the join machine sees it
+pub same_ready : (d : Talk) → (is_none d.cause && not (is_dry d.held)) ≡ dialog_is_ready d
+same_ready d = ap (λ (b : Bool). is_none d.cause && not b) (by (front_of d.held) refl)
+  where
+    by : (f : Front) → front_of d.held ≡ f → is_dry d.held ≡ holds_no_line (front_of d.held)
+    by dry e = is_dry_front d.held e ∙ sym (ap holds_no_line e)
+    by too_long e = is_long_front d.held e ∙ sym (ap holds_no_line e)
+    by (a_line l r) e = is_line_front d.held l r e ∙ sym (ap holds_no_line e)
+
+pub both_right : (a b : Bool) → (a && b) ≡ true → b ≡ true
+both_right true b h = h
+both_right false b h = absurd (false≢true h)
+
+pub first_is_ready : (k : Kept) (xs : List OpenSession) (from : ℕ) (st : State) → IsSound k xs
+    → state_in k false xs ≡ st
+    → option_map (λ (x : OpenSession). x.id)
+    (find (λ (x : OpenSession). nat_le from x.id && dialog_is_ready x.session) xs)
+    ≡ first_ready st from
+first_is_ready k xs from st sound seen =
+    seen_first k.cursors dialog_is_ready ready_in (λ x. sym (same_ready x.session)) xs from sound.rising
+    ∙ ap (first_of k.cursors dialog_is_ready ready_in (λ x. sym (same_ready x.session)) xs from) (seen_ids k.cursors xs)
+    ∙ ap (λ (s : State). first_ready s from) seen
+
+both_false : (a : Bool) {b : Bool} → b ≡ false → (a && b) ≡ false
+both_false true e = e
+both_false false e = refl
+
+-- where a session sent `stop` there is none
+pub none_ready : (st : State) (from : ℕ) → st.stopped ≡ true → first_ready st from ≡ None
+none_ready st from e = by (state_ids st)
+  where
+    never : (s : ℕ) → (nat_le from s && may_run st s) ≡ false
+    never s = both_false (nat_le from s)
+        (ap (λ (b : Bool). not b && (is_none (cause_of st s) && not (is_dry (held_of st s)))) e)
+
+    by : (is : List ℕ) → find (λ s. nat_le from s && may_run st s) is ≡ None
+    by [] = refl
+    by (s ∷ is) = cond-false _ _ _ (never s) ∙ by is
 
 -- ---- Parts that are queued one behind another, while sessions end.
 

@@ -1,30 +1,26 @@
 -- Commands that leave the session's cursors as they are, from one session to the state of all.
 use Rattle.std.proofs.Common.{ℕ, ◌+◌, ◌≤◌, ◌≡◌, ◌++◌, ◌⊎◌, ◌||◌, Bool, true, false, List, [], ◌∷◌, Option, None, Some}
-use Rattle.std.proofs.Common.{refl, sym, ap, ap₂, ◌∙◌, subst, inl, inr}
-use Rattle.std.specs.Prelude.{IsSomeAnd, MatchOption}
+use Rattle.std.proofs.Common.{refl, sym, ap, ◌∙◌, subst, inl, inr}
+use Rattle.std.specs.Prelude.{IsSomeAnd}
 use Rattle.std.proofs.lemmas.List.Sorted.{IsPermutation-refl}
 use Rattle.djq_model.specs.declared.relation.Relation.{Relation}
 use Rattle.djq_model.specs.Data.{Bytes}
-use Rattle.djq_protocol.specs.declared.answer.EndCause.{EndCause}
-use Rattle.djq_protocol.specs.declared.answer.EndCause.TheVariants.{Input, Quit, Stop, Long, Slow, Memory}
-use Rattle.djq_protocol.specs.Line.{a_line, front_of}
-use Rattle.djq_machine.specs.declared.machine.Stepped.{Stepped}
-use Rattle.djq_machine.specs.declared.machine.Stepped.TheVariants.{Ran, Dry, Ended}
+use Rattle.djq_protocol.specs.Line.{a_line, too_long, front_of}
 use Rattle.djq_machine.specs.State.{Session, State, session_of}
-use Rattle.djq_machine.specs.Keeping.{Keeping, no_line, kept_where}
-use Rattle.djq_machine.specs.Run.{groups_in}
+use Rattle.djq_machine.specs.Keeping.{Keeping, kept_where}
+use Rattle.djq_machine.specs.Run.{groups_in, kept_group, lines_in}
 use Rattle.djq_machine.specs.Effect.{Effect, queue_all}
 use Rattle.djq_machine.specs.LineStep.{LineOutcome, long, blank, slow, no_room, run, FrontStep}
-use Rattle.djq_machine.specs.Step.{Event, stepped, Acts, Step, SameRelations, is_dry}
-use Rattle.djq_machine.specs.Call.{Counts, MakesCounted, RanStep, KeepsGroup, groups_by, EndedStepAs, StepGives}
+use Rattle.djq_machine.specs.Step.{Event, stepped, Acts, Step, SameRelations}
+use Rattle.djq_machine.specs.Call.{Counts, MakesCounted, StepsLine}
 use Rattle.djq_machine.specs.Call.{cause_of, cause_in, held_of, held_in}
 use Rattle.djq_engine.specs.Kept.{Kept}
 use Rattle.djq_commands.specs.declared.open.OpenSession.{OpenSession}
-use Rattle.djq_commands.specs.Changing.{line_where}
-use Rattle.djq_commands.specs.Views.{Talk, session_in, state_in, lines_of_step}
+use Rattle.djq_commands.specs.Logging.{line_where}
+use Rattle.djq_commands.specs.Views.{Talk, session_in, state_in}
 use Rattle.djq_commands.specs.Sound.{IsSound}
 use Rattle.djq_commands.specs.Performs.{among, to_one, to_keep, with_text_behind, unqueued, Performs}
-use Rattle.djq_commands.specs.Stepping.{Fronts, FrontsKeeping, EndsBefore, Unchanged, StepsTo, Copies, line_kept}
+use Rattle.djq_commands.specs.Stepping.{Fronts, FrontsKeeping, StepsTo, CopiesFront, is_run}
 use Rattle.djq_commands.proofs.Cursors.{parts, found, becomes}
 use Rattle.djq_commands.proofs.Replies.{around_bytes}
 
@@ -113,129 +109,68 @@ fronts_keeping o kept stops old before new after was now front back s stopped c 
   (p.does front back s stopped sound).1,
 )
 
-ends_as : (c : EndCause) (stops : Bool) (old : Kept) (before : Talk) (new : Kept) (after : Talk) (was now : Counts)
-    (front back : List OpenSession) (s : ℕ) (stopped : Bool) → before.cause ≡ None
-    → EndsBefore c stops old before new after was now → IsSound old (among front s before back)
-    → EndedStepAs c (state_in old stopped (among front s before back)) s
-    (state_in new (stops || stopped) (among front s after back)) was now
-ends_as Long stops old before new after was now front back s stopped c e sound = fronts long stops old before new after
-    was now front back s stopped c e sound
-ends_as Slow stops old before new after was now front back s stopped c e sound =
-    (e.0, fronts (slow e.0) stops old before new after was now front back s stopped c e.1 sound)
-ends_as Memory stops old before new after was now front back s stopped c e sound =
-    (e.0, fronts (no_room e.0) stops old before new after was now front back s stopped c e.1 sound)
-ends_as Input stops old before new after was now front back s stopped c e sound = absurd e
-ends_as Quit stops old before new after was now front back s stopped c e sound = absurd e
-ends_as Stop stops old before new after was now front back s stopped c e sound = absurd e
+-- the lines that it logs
+ran_lines : (b : Bool) (l : Bytes) → line_where b l ≡ lines_in (groups_in l (kept_where b))
+ran_lines true l = refl
+ran_lines false l = refl
 
--- nothing has changed
-unchanged : (stops : Bool) (old : Kept) (before : Talk) (new : Kept) (after : Talk) (was now : Counts)
-    (front back : List OpenSession) (s : ℕ) (stopped : Bool) → Unchanged stops old before new after was now
-    → state_in new (stops || stopped) (among front s after back) ≡ state_in old stopped (among front s before back)
-unchanged stops old before new after was now front back s stopped u =
-    ap (λ (b : Bool). state_in new (b || stopped) (among front s after back)) u.goes_on
-    ∙ ap₂ (λ (k : Kept) (d : Talk). state_in k stopped (among front s d back)) u.engine u.session
+-- where no line is run, none is logged
+none_logged : (o : LineOutcome) (s : ℕ) (k : Keeping) → is_run o ≡ false → kept_group (stepped s o) k ≡ []
+none_logged long s k e = refl
+none_logged (blank l) s k e = refl
+none_logged (slow l) s k e = refl
+none_logged (no_room l) s k e = refl
+none_logged (run l) s k e = absurd (cc (e))
 
--- the group that is kept of a line, where it is
-pub line_group : (b : Bool) (l : Bytes) → KeepsGroup b (groups_in l (kept_where b)) (lines_of_step (line_where b) l)
-line_group true l = refl
-line_group false l = (refl, refl)
+-- what was copied is the line in front
+pub copied_front : (held l m r : Bytes) → CopiesFront held m → front_of held ≡ a_line l r → m ≡ l
+copied_front held l m r (inl e) f = let g : too_long ≡ a_line l r = sym e ∙ f in absurd (cc (g))
+copied_front held l m r (inr (q, e)) f = let g : a_line l r ≡ a_line m q = sym f ∙ e in cc (g)
 
--- of a blank line none is
-unkept_blank : (b : Bool) (l : Bytes) → no_line ≡ kept_where b → KeepsGroup b [] (lines_of_step (line_where b) l)
-unkept_blank true l e = absurd (cc (e))
-unkept_blank false l e = (refl, refl)
-
--- the line in front is one
-pub one_front : (held l m r q : Bytes) → front_of held ≡ a_line l r → front_of held ≡ a_line m q → m ≡ l
-one_front held l m r q e f = let g : a_line l r ≡ a_line m q = sym e ∙ f in cc (g)
-
--- A step of a session is what a step of the machine answers.
-pub step_gives : (result : Stepped) (stops : Bool) (old : Kept) (before : Talk) (new : Kept) (after : Talk)
-    (copy : Bytes) (was now : Counts) (front back : List OpenSession) (s : ℕ) (stopped : Bool)
-    → StepsTo result stops old before new after was now → Copies result before.held copy
+-- A step of a session is one of the machine, and what it logs stands behind the lines of the commit.
+pub step_makes : (logged stops : Bool) (old : Kept) (before : Talk) (new : Kept) (after : Talk) (copy : Bytes)
+    (was now : Counts) (front back : List OpenSession) (s : ℕ) (stopped : Bool) (commit : List Bytes)
+    → StepsTo logged stops old before new after was now → CopiesFront before.held copy
     → IsSound old (among front s before back)
-    → StepGives (state_in old stopped (among front s before back)) s result
-    (state_in new (stops || stopped) (among front s after back)) was now (lines_of_step (line_kept result) copy)
-step_gives (Ran kept) stops old before new after copy was now front back s stopped t copies sound = by t.1.1
+    → StepsLine (state_in old stopped (among front s before back)) s
+    (state_in new (stops || stopped) (among front s after back)) was now commit (commit ++ line_where logged copy)
+step_makes logged stops old before new after copy was now front back s stopped commit t copies sound = by t.1
   where
-    by : (FrontsKeeping (blank t.1.0) kept stops old before new after was.listing now.listing ⊎ FrontsKeeping
-        (run t.1.0) kept stops old before new after was.listing now.listing)
-        → (ran : RanStep (state_in old stopped (among front s before back)) s
-        (state_in new (stops || stopped) (among front s after back)) was now)
-        × KeepsGroup kept (groups_by (state_in old stopped (among front s before back)) s
-        (state_in new (stops || stopped) (among front s after back)) was now ran) (lines_of_step (line_where kept) copy)
-    by (inl f) =
-        let m = fronts_keeping (blank t.1.0) kept stops old before new after was now front back s stopped t.0 f sound in
+    by : (((l : Bytes) × FrontsKeeping (run l) logged stops old before new after was.listing now.listing)
+        ⊎ ((logged ≡ false) × (outcome : LineOutcome) × (is_run outcome ≡ false)
+        × Fronts outcome stops old before new after was.listing now.listing))
+        → StepsLine (state_in old stopped (among front s before back)) s
+        (state_in new (stops || stopped) (among front s after back)) was now commit
+        (commit ++ line_where logged copy)
+    by (inl (l, f)) =
+        let m = fronts_keeping (run l) logged stops old before new after was now front back s stopped t.0 f sound in
         let d = f.does front back s stopped sound in
-        ((t.1.0, inl m.0), unkept_blank kept copy (sym (ap (λ (e : Effect). e.kept) (d.0.1).then.0) ∙ d.1))
-    by (inr f) =
-        let m = fronts_keeping (run t.1.0) kept stops old before new after was now front back s stopped t.0 f sound in
-        let d = f.does front back s stopped sound in
-        let same : copy ≡ t.1.0 = one_front before.held t.1.0 copy (d.0.2).rest copies.0 (d.0.2).front copies.1 in (
-          (t.1.0, inr m.0),
-          subst (λ (k : Keeping). KeepsGroup kept (groups_in t.1.0 k) (lines_of_step (line_where kept) copy)) (sym m.1)
-              (subst (λ (l : Bytes). KeepsGroup kept (groups_in t.1.0 (kept_where kept))
-              (lines_of_step (line_where kept) l))
-              (sym same) (line_group kept t.1.0)),
-        )
-step_gives Dry stops old before new after copy was now front back s stopped t copies sound = (
-  unchanged stops old before new after was now front back s stopped t.2,
-  t.2.counted,
-  cause_is old stopped front s before back sound ∙ t.0,
-  ap is_dry (held_is old stopped front s before back sound) ∙ t.1,
-  refl,
-)
-step_gives (Ended c) stops old before new after copy was now front back s stopped t copies sound = (
-  refl,
-  subst (λ (o : Option EndCause). MatchOption o
-      (EndedStepAs c (state_in old stopped (among front s before back)) s
-      (state_in new (stops || stopped) (among front s after back)) was now)
-      (λ d. (d ≡ c) × (state_in new (stops || stopped) (among front s after back)
-      ≡ state_in old stopped (among front s before back)) × (now ≡ was)))
-      (sym (cause_is old stopped front s before back sound)) (by before.cause refl t),
-)
-  where
-    by : (o : Option EndCause) → before.cause ≡ o
-        → MatchOption o (EndsBefore c stops old before new after was now)
-        (λ d. (d ≡ c) × Unchanged stops old before new after was now)
-        → MatchOption o (EndedStepAs c (state_in old stopped (among front s before back)) s
-        (state_in new (stops || stopped) (among front s after back)) was now)
-        (λ d. (d ≡ c) × (state_in new (stops || stopped) (among front s after back)
-        ≡ state_in old stopped (among front s before back)) × (now ≡ was))
-    by None e h = ends_as c stops old before new after was now front back s stopped e h sound
-    by (Some d) e h = (h.0, unchanged stops old before new after was now front back s stopped h.1, h.1.counted)
+        let same : copy ≡ l = copied_front before.held l copy (d.0.2).rest copies (d.0.2).front in
+        record {
+          outcome = run l;
+          makes = m.0;
+          logs = ap (λ (lines : List Bytes). commit ++ lines)
+              (ap (line_where logged) same ∙ ran_lines logged l
+              ∙ ap (λ (k : Keeping). lines_in (groups_in l k)) (sym m.1));
+        }
+    by (inr (n, o, e, f)) =
+        let m = fronts o stops old before new after was now front back s stopped t.0 f sound in
+        record {
+          outcome = o;
+          makes = m;
+          logs = ap (λ (lines : List Bytes). commit ++ lines)
+              (ap (λ (b : Bool). line_where b copy) n ∙ ap lines_in (sym (none_logged o s m.effect.kept e)));
+        }
 
 -- what holds afterwards
-pub step_sound : (result : Stepped) (stops : Bool) (old : Kept) (before : Talk) (new : Kept) (after : Talk)
+pub step_sound : (logged stops : Bool) (old : Kept) (before : Talk) (new : Kept) (after : Talk)
     (was now : Counts) (front back : List OpenSession) (s : ℕ)
-    → StepsTo result stops old before new after was now → IsSound old (among front s before back)
+    → StepsTo logged stops old before new after was now → IsSound old (among front s before back)
     → IsSound new (among front s after back)
-step_sound (Ran kept) stops old before new after was now front back s t sound = by t.1.1
+step_sound logged stops old before new after was now front back s t sound = by t.1
   where
-    by : (FrontsKeeping (blank t.1.0) kept stops old before new after was.listing now.listing ⊎ FrontsKeeping
-        (run t.1.0) kept stops old before new after was.listing now.listing) → IsSound new (among front s after back)
-    by (inl f) = f.sound front back s sound
-    by (inr f) = f.sound front back s sound
-step_sound Dry stops old before new after was now front back s t sound = still stops old before new after was now front
-    back s t.2 sound
-  where
-    still : (stops : Bool) (old : Kept) (before : Talk) (new : Kept) (after : Talk) (was now : Counts)
-        (front back : List OpenSession) (s : ℕ) → Unchanged stops old before new after was now
-        → IsSound old (among front s before back) → IsSound new (among front s after back)
-    still stops old before new after was now front back s u sound = subst
-        (λ (k : Kept). IsSound k (among front s after back)) (sym u.engine)
-        (subst (λ (d : Talk). IsSound old (among front s d back)) (sym u.session) sound)
-step_sound (Ended c) stops old before new after was now front back s t sound = by c before.cause t
-  where
-    by : (c : EndCause) (o : Option EndCause)
-        → MatchOption o (EndsBefore c stops old before new after was now)
-        (λ d. (d ≡ c) × Unchanged stops old before new after was now) → IsSound new (among front s after back)
-    by Long None h = h.sound front back s sound
-    by Slow None h = h.1.sound front back s sound
-    by Memory None h = h.1.sound front back s sound
-    by Input None h = absurd h
-    by Quit None h = absurd h
-    by Stop None h = absurd h
-    by c (Some d) h = subst (λ (k : Kept). IsSound k (among front s after back)) (sym h.1.engine)
-        (subst (λ (x : Talk). IsSound old (among front s x back)) (sym h.1.session) sound)
+    by : (((l : Bytes) × FrontsKeeping (run l) logged stops old before new after was.listing now.listing)
+        ⊎ ((logged ≡ false) × (outcome : LineOutcome) × (is_run outcome ≡ false)
+        × Fronts outcome stops old before new after was.listing now.listing)) → IsSound new (among front s after back)
+    by (inl (l, f)) = f.sound front back s sound
+    by (inr (n, o, e, f)) = f.sound front back s sound

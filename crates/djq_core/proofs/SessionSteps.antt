@@ -3,9 +3,9 @@ use Rattle.std.proofs.Common.{ℕ, zero, suc, ◌<◌, ◌≡◌, ◌++◌, ◌�
 use Rattle.std.proofs.Common.{length, map, take, drop, set, get_or, find, filter, cond, Option, None, Some, eqb}
 use Rattle.std.proofs.Common.{refl, sym, ap, ap₂, ◌∙◌, subst, arith, is_some, inl, inr, take-append-drop}
 use Rattle.std.proofs.Common.{append_assoc, length-append, length-take, append-nil}
-use Rattle.std.specs.Prelude.{Contains, MatchOption, IsSomeAnd, All, slice_get, slice_index}
+use Rattle.std.specs.Prelude.{◌&&◌, Contains, MatchOption, IsSomeAnd, All, slice_get, slice_index, is_none}
 use Rattle.std.specs.List.{remove}
-use Rattle.std.proofs.lemmas.Bool.{eqb-true, eq-eqb, cond-true, cond-false}
+use Rattle.std.proofs.lemmas.Bool.{false≢true, eqb-true, eq-eqb, cond-true, cond-false}
 use Rattle.std.proofs.lemmas.List.{length-map}
 use Rattle.std.proofs.lemmas.Option.{get_or_from_slice_get}
 use Rattle.djq_model.specs.Data.{Bytes}
@@ -14,23 +14,24 @@ use Rattle.djq_protocol.specs.declared.answer.EndCause.{EndCause}
 use Rattle.djq_protocol.specs.declared.held.HeldRow.{HeldRow}
 use Rattle.djq_protocol.specs.declared.answer.EndCause.TheVariants.{Memory}
 use Rattle.djq_protocol.specs.Reply.{end_memory}
-use Rattle.djq_machine.specs.declared.machine.Stepped.{Stepped}
 use Rattle.djq_machine.specs.declared.machine.Fed.TheVariants.{Held, Ended}
 use Rattle.djq_machine.specs.State.{Session, State, session_of, fresh}
 use Rattle.djq_machine.specs.Effect.{Effect, EndsWith, nothing}
 use Rattle.djq_machine.specs.Step.{EndedStep, Event, opened, fed, took, ended, closed, Acts, is_dry}
 use Rattle.djq_machine.specs.Run.{pending_of, pending_in}
-use Rattle.djq_machine.specs.Call.{Counts, Makes, IsOpen, FedGives, StepGives, cause_of, held_of, state_ids}
-use Rattle.djq_session.specs.Dialog.{IsNewDialog}
+use Rattle.djq_machine.specs.Call.{Counts, Makes, IsOpen, FedGives, StepsLine, cause_of, cause_in, held_of, held_in}
+use Rattle.djq_machine.specs.Call.{state_ids, may_run}
+use Rattle.djq_session.specs.Dialog.{IsNewDialog, dialog_is_ready}
 use Rattle.djq_engine.specs.declared.cursor.CursorId.{CursorId}
 use Rattle.djq_engine.specs.Kept.{Kept, HeldCursor}
 use Rattle.djq_commands.specs.declared.open.OpenSession.{OpenSession}
-use Rattle.djq_commands.specs.Views.{Talk, cursor_in, session_in, session_seen, state_in, lines_of_step}
+use Rattle.djq_commands.specs.Logging.{line_where, OpenCommit, HasRoom}
+use Rattle.djq_commands.specs.Views.{Talk, Visible, cursor_in, session_in, session_seen, state_in}
 use Rattle.djq_commands.specs.Sound.{IsBelowAll, Rises, IsSound, IsOwn, ids_of_cursors, all_ids, AreHeld}
 use Rattle.djq_commands.specs.Sound.{CursorsDiffer, NoneOnceEnded, AreOwned}
 use Rattle.djq_commands.specs.Ends.{SessionGivesUp, EndsQuietly}
 use Rattle.djq_commands.specs.Performs.{among, to_keep, Performs}
-use Rattle.djq_commands.specs.Stepping.{StepsTo, Copies, line_kept}
+use Rattle.djq_commands.specs.Stepping.{StepsTo, CopiesFront}
 use Rattle.djq_commands.proofs.Watchers.{has_count, count_left, count_more}
 use Rattle.djq_commands.proofs.Cursors.{Agree, held_join, apart_split, agree_open, agree_held, owned_without}
 use Rattle.djq_commands.proofs.Cursors.{ended_join, parts, ids_are, cursors_are, open_are, found, becomes, rises_push}
@@ -39,7 +40,8 @@ use Rattle.djq_commands.proofs.TakenLines.{sound_bytes}
 use Rattle.djq_commands.proofs.CutReplies.{agree_apart, apart_fronts, apart_backs, apart_rest, without}
 use Rattle.djq_core.specs.Sessions.{ids_of, opened_at}
 use Rattle.djq_core.proofs.Placed.{above_ids}
-use Rattle.djq_core.proofs.Replies.{same_relations, makes_step, at_session, cause_is, held_is, step_gives, step_sound}
+use Rattle.djq_core.proofs.Queues.{both_right, same_ready}
+use Rattle.djq_core.proofs.Replies.{same_relations, makes_step, at_session, cause_is, held_is, step_makes, step_sound}
 
 -- what is found at a place stands there
 pub stands : (xs : List OpenSession) (at : ℕ) (e : OpenSession) → slice_get xs at ≡ Some e → e ≡ get_or xs at e
@@ -124,26 +126,49 @@ pub still_sound : (k new : Kept) (xs : List OpenSession) (at s : ℕ) (e : OpenS
 still_sound k new xs at s e d h sound = subst (IsSound new) (sym (h.put d)) sound
 
 -- `step`
-pub steps : (k new : Kept) (xs : List OpenSession) (at s : ℕ) (e : OpenSession) (d : Talk) (result : Stepped)
-    (stops stopped : Bool) (copy : Bytes) (was now : Counts) → Here k xs at s e
-    → StepsTo result stops k e.session new d was now → Copies result (e.session).held copy
-    → StepGives (state_in k stopped xs) s result
-    (state_in new (stops || stopped) (set xs at (record e { session = d }))) was now
-    (lines_of_step (line_kept result) copy)
-steps k new xs at s e d result stops stopped copy was now h t copies =
-    subst (λ (ys : List OpenSession). StepGives (state_in k stopped ys) s result
-    (state_in new (stops || stopped) (set xs at (record e { session = d }))) was now
-    (lines_of_step (line_kept result) copy)) (sym h.is)
-    (subst (λ (ys : List OpenSession). StepGives
-    (state_in k stopped (among (take at xs) s e.session (drop (suc at) xs))) s result
-    (state_in new (stops || stopped) ys) was now (lines_of_step (line_kept result) copy)) (sym (h.put d))
-    (step_gives result stops k e.session new d copy was now (take at xs) (drop (suc at) xs) s stopped t copies h.sound))
+pub steps : (k new : Kept) (xs : List OpenSession) (at s : ℕ) (e : OpenSession) (d : Talk)
+    (logged stops stopped : Bool) (copy : Bytes) (was now : Counts) (commit : List Bytes) → Here k xs at s e
+    → StepsTo logged stops k e.session new d was now → CopiesFront (e.session).held copy
+    → StepsLine (state_in k stopped xs) s
+    (state_in new (stops || stopped) (set xs at (record e { session = d }))) was now commit
+    (commit ++ line_where logged copy)
+steps k new xs at s e d logged stops stopped copy was now commit h t copies =
+    subst (λ (ys : List OpenSession). StepsLine (state_in k stopped ys) s
+    (state_in new (stops || stopped) (set xs at (record e { session = d }))) was now commit
+    (commit ++ line_where logged copy)) (sym h.is)
+    (subst (λ (ys : List OpenSession). StepsLine
+    (state_in k stopped (among (take at xs) s e.session (drop (suc at) xs))) s
+    (state_in new (stops || stopped) ys) was now commit (commit ++ line_where logged copy)) (sym (h.put d))
+    (step_makes logged stops k e.session new d copy was now (take at xs) (drop (suc at) xs) s stopped commit t copies
+    h.sound))
 
-pub steps_sound : (k new : Kept) (xs : List OpenSession) (at s : ℕ) (e : OpenSession) (d : Talk) (result : Stepped)
-    (stops : Bool) (was now : Counts) → Here k xs at s e → StepsTo result stops k e.session new d was now
+pub steps_sound : (k new : Kept) (xs : List OpenSession) (at s : ℕ) (e : OpenSession) (d : Talk)
+    (logged stops : Bool) (was now : Counts) → Here k xs at s e → StepsTo logged stops k e.session new d was now
     → IsSound new (set xs at (record e { session = d }))
-steps_sound k new xs at s e d result stops was now h t = still_sound k new xs at s e d h
-    (step_sound result stops k e.session new d was now (take at xs) (drop (suc at) xs) s t h.sound)
+steps_sound k new xs at s e d logged stops was now h t = still_sound k new xs at s e d h
+    (step_sound logged stops k e.session new d was now (take at xs) (drop (suc at) xs) s t h.sound)
+
+-- ---- The open commit, as the core is seen.
+
+pub room_seen : (v : Visible) (c : OpenCommit) → c.lines ≡ v.commit → c.room ≡ v.room
+    → (v.commit ≡ []) ⊎ (v.room ≡ true) → HasRoom c
+room_seen v c e f (inl h) = inl (e ∙ h)
+room_seen v c e f (inr h) = inr (f ∙ h)
+
+-- with another line copied there is as much room
+pub room_still : (c d : OpenCommit) → d ≡ record c { line = d.line } → HasRoom c → HasRoom d
+room_still c d e (inl h) = inl (ap (λ (o : OpenCommit). o.lines) e ∙ h)
+room_still c d e (inr h) = inr (ap (λ (o : OpenCommit). o.room) e ∙ h)
+
+-- A step of the state, and what it appends to the commit, as the core is seen.
+pub as_seen : (st seen new : State) (s : ℕ) (was now : Counts) (c d : OpenCommit) (commit logged commit' : List Bytes)
+    → st ≡ seen → c.lines ≡ commit → d ≡ record c { line = d.line } → commit' ≡ d.lines ++ logged
+    → StepsLine st s new was now c.lines (c.lines ++ logged) → StepsLine seen s new was now commit commit'
+as_seen st seen new s was now c d commit logged commit' e f same appended m =
+    subst (λ (x : State). StepsLine x s new was now commit commit') e
+    (subst (λ (ls : List Bytes). StepsLine st s new was now ls commit') f
+    (subst (λ (ls : List Bytes). StepsLine st s new was now c.lines ls)
+    (sym (appended ∙ ap (λ (o : OpenCommit). o.lines ++ logged) same)) m))
 
 -- what a session says of the state
 at_here : {A : Type 0} (f : State → A) (k : Kept) (stopped : Bool) (xs : List OpenSession) (at s : ℕ) (e : OpenSession)
@@ -166,6 +191,27 @@ pub pending_at : (k : Kept) (stopped : Bool) (xs : List OpenSession) (at s : ℕ
 pending_at k stopped xs at s e h = at_here (λ st. pending_of st s) k stopped xs at s e (e.session).pending h
     (ap pending_in (found k stopped (take at xs) s e.session (drop (suc at) xs)
     (parts k (take at xs) s e.session (drop (suc at) xs) h.sound)))
+
+-- a session of which a line may be run is open
+pub run_open : (st : State) (s : ℕ) → may_run st s ≡ true → IsOpen st s
+run_open st s m = by (session_of st s) (both_right (not st.stopped) _ m)
+  where
+    -- a session that isn't there holds no line
+    by : (o : Option Session) → (is_none (cause_in o) && not (is_dry (held_in o))) ≡ true → is_some o ≡ true
+    by None h = absurd (false≢true h)
+    by (Some x) h = refl
+
+-- and its next line may be run, as the session is kept
+pub run_ready : (k : Kept) (stopped : Bool) (xs : List OpenSession) (at s : ℕ) (e : OpenSession) (st : State)
+    → Here k xs at s e → state_in k stopped xs ≡ st → may_run st s ≡ true → dialog_is_ready e.session ≡ true
+run_ready k stopped xs at s e st h seen m =
+    let here : (is_none (cause_of st s) && not (is_dry (held_of st s))) ≡ true = both_right (not st.stopped) _ m in
+    let cause : cause_of st s ≡ (e.session).cause = ap (λ (x : State). cause_of x s) (sym seen)
+    ∙ cause_at k stopped xs at s e h in
+    let held : held_of st s ≡ (e.session).held = ap (λ (x : State). held_of x s) (sym seen)
+    ∙ held_at_state k stopped xs at s e h in
+    sym (ap₂ (λ (c : Option EndCause) (bs : Bytes). is_none c && not (is_dry bs)) cause held
+    ∙ same_ready e.session) ∙ here
 
 pub cause_put : (k : Kept) (stopped : Bool) (xs : List OpenSession) (at s : ℕ) (e : OpenSession) (d : Talk) (new : Kept)
     → Here k xs at s e → IsSound new (among (take at xs) s d (drop (suc at) xs))

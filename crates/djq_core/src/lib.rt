@@ -22,10 +22,10 @@
 //! change is published afterwards, by a pass over the sessions for each watched query or union that it
 //! affected.
 //!
-//! What is kept of a step is its line, where the line is one that, loaded into a core without
-//! sessions, does there what it did here: `accepted` lends it, from a copy that was made before the
-//! session let go of it; `load` takes it in again. Of a batch that is done its lines are kept, which
-//! stay where they were held until the next step.
+//! A step logs its line, where the line is one that, loaded into a core without sessions, does there what
+//! it did here: it is appended to the open commit, from a copy that was made before the session let go of
+//! it, and `load` takes it in again. Of a batch that is done the lines are logged, which stay where they were
+//! held until the commit is cleared.
 //!
 //! Inside: `sessions` has the sessions by id, `serving` the calls, `serving/load` the lines that are
 //! loaded, and `tell` what a command on rows leaves to do: each delta printed once, and then its answer.

@@ -1,17 +1,13 @@
 ghost use Rattle.std.specs.Prelude.{◌≡◌, [], None, IfOk, length};
 ghost use Rattle.djq_model.specs.Data.{rows_of};
 ghost use Rattle.djq_machine.specs.State.{opening};
-ghost use Rattle.djq_commands.specs.Changing.{line_where};
-ghost use Rattle.djq_commands.specs.Stepping.{line_kept};
 
 use crate::sessions::Sessions;
 use crate::tell::tell_change;
 use bytes::BytesMut;
-use djq_commands::{
-    Copied, KeptLines, Left, OpenSession, end_by, end_input, give_up, step_session,
-};
+use djq_commands::{Commit, Left, OpenSession, Queued, end_by, end_input, give_up, step_session};
 use djq_counters::{Ledgers, Steps};
-use djq_machine::{Fed, Machine, OpenRefusal, Stepped};
+use djq_machine::{Fed, Machine, OpenRefusal};
 use djq_model::{Name, NoMem, Sequence, Value};
 use djq_protocol::limits::{COLUMNS, SESSIONS};
 use djq_protocol::{EndCause, EndLine, HeldRow};
@@ -22,8 +18,8 @@ use std::marker::Model;
 
 mod load;
 
-/// The join machine: a store, and the open sessions. Contracts see its state, the lines that its
-/// last step kept, and what the batch of the loaded lines holds.
+/// The join machine: a store, and the open sessions. Contracts see its state, the lines of the open
+/// commit, whether there is room for what one step more logs, and what the batch of the loaded lines holds.
 ///
 /// ```text
 /// sessions: s1, s4, s5               by rising id, each with its bytes and its cursors by name
@@ -36,9 +32,9 @@ pub struct Core {
     stopped: bool,
     // where a delta is printed once for all who watch
     text: BytesMut,
-    // the line that was in front of the last step, and what that step kept
-    copied: Copied,
-    kept: KeptLines,
+    // the lines that steps logged since the commit was cleared, and what was queued for one session since then
+    commit: Commit,
+    queued: Queued,
     // the rows that the batch of the loaded lines holds, where one is open
     batch: Option<Sequence<HeldRow>>,
     // the values of the last row that was read, in memory that is used again
@@ -54,22 +50,22 @@ impl Model for Core {
     ghost use Rattle.djq_commands.specs.Views.{seen_in};
     ghost use Rattle.djq_commands.specs.Sound.{IsSound, BatchesSuit, batches_of};
 
-    ghost view = { λ c. seen_in c.engine c.stopped c.sessions c.kept c.copied c.batch };
+    ghost view = { λ c. seen_in c.engine c.stopped c.sessions c.commit c.batch };
 
     ghost invariant = { λ c. IsSound c.engine c.sessions
         × BatchesSuit (c.engine).store (batches_of c.batch c.sessions) };
 }
 
 impl Core {
-    /// The state in which nothing has happened. It takes the room for all sessions, for the line that
-    /// a step keeps, and for a row.
+    /// The state in which nothing has happened. It takes the memory for all sessions, for what a step
+    /// logs, and for a row.
     ///
     /// # Errors
     ///
     /// `NoMem` out of memory.
     pub fn new(alloc: Global) -> Result<Core, NoMem>
         ensures state { IfOk result (λ core. core.state ≡ opening) }
-        ensures kept { IfOk result (λ core. core.kept ≡ []) }
+        ensures commit { IfOk result (λ core. core.commit ≡ []) }
         ensures batch { IfOk result (λ core. core.batch ≡ None) }
     {
         Ok(Core {
@@ -77,8 +73,8 @@ impl Core {
             sessions: Sessions::new(alloc)?,
             stopped: false,
             text: BytesMut::new(alloc),
-            copied: Copied::new(alloc)?,
-            kept: KeptLines::Nothing,
+            commit: Commit::new(alloc)?,
+            queued: Queued::new(),
             batch: None,
             row: Vec::with_capacity(alloc, COLUMNS)?,
             alloc,
@@ -103,7 +99,9 @@ impl Core {
 impl Machine for Core {
     ghost state = { λ c. c.state };
 
-    ghost kept = { λ c. c.kept };
+    ghost commit = { λ c. c.commit };
+
+    ghost room = { λ c. c.room };
 
     fn open_session(&mut self, id: u64) -> Result<(), OpenRefusal> {
         if self.sessions.len() >= SESSIONS {
@@ -133,39 +131,55 @@ impl Machine for Core {
         }
     }
 
-    fn step<L: Ledgers>(&mut self, id: u64, steps: &mut Steps<L>) -> Stepped {
+    fn ready(&self, from: u128) -> Option<u64> {
+        if self.stopped {
+            None
+        } else {
+            self.sessions.first_ready(from)
+        }
+    }
+
+    fn step<L: Ledgers>(&mut self, id: u64, steps: &mut Steps<L>) {
         let at = self.sessions.find(id);
         let found = self.sessions.get_mut(at);
-        let (stepped, left) = step_session(
+        let left = step_session(
             self.alloc,
             &mut self.engine,
             found,
-            &mut self.copied,
+            &mut self.commit,
+            &self.queued,
             &mut self.row,
             steps,
         );
+        self.queued.count(found);
         match left {
-            Left::Nothing { .. } => self.kept.put_line(is_line_kept(stepped)),
-            Left::Stopping => {
-                self.stopped = true;
-                self.kept.put_line(is_line_kept(stepped));
-            }
+            Left::Nothing { logged } => self.commit.log_line(logged),
+            Left::Stopping => self.stopped = true,
             Left::Telling(outcome) => {
                 tell_change(
                     &mut self.engine,
                     &mut self.sessions,
                     at,
                     &outcome,
+                    &mut self.queued,
                     &mut self.text,
                 );
-                self.kept.put_outcome(outcome);
+                self.commit.log_outcome(outcome);
             }
         }
-        stepped
     }
 
-    fn accepted(&self, i: usize) -> Option<&[u8]> {
-        self.kept.get(i, self.copied.line())
+    fn has_room(&mut self) -> bool {
+        self.commit.has_room(self.queued.most())
+    }
+
+    fn commit_line(&self, i: usize) -> Option<&[u8]> {
+        self.commit.get(i)
+    }
+
+    fn clear_commit(&mut self) {
+        self.commit.clear();
+        self.queued.begin();
     }
 
     #[inline]
@@ -211,15 +225,5 @@ impl Machine for Core {
 
     fn stopped(&self) -> bool {
         self.stopped
-    }
-}
-
-/// Whether the line is kept of a step that answers so and leaves no change to tell.
-fn is_line_kept(stepped: Stepped) -> bool
-    ensures { line_where result ≡ line_kept stepped }
-{
-    match stepped {
-        Stepped::Ran { kept } => kept,
-        Stepped::Dry | Stepped::Ended(_) => false,
     }
 }

@@ -4,7 +4,7 @@ ghost use Rattle.std.specs.Prelude.{All, option_map, slice_get, slice_index};
 ghost use Rattle.std.specs.List.{remove};
 ghost use Rattle.std.specs.Borrow.{sem};
 ghost use Rattle.djq_protocol.specs.declared.limits.TheConstants.{SESSIONS};
-ghost use Rattle.djq_session.specs.Dialog.{dialog_is_due};
+ghost use Rattle.djq_session.specs.Dialog.{dialog_is_due, dialog_is_ready};
 ghost use Rattle.djq_commands.specs.Sound.{Rises};
 ghost use Rattle.djq_core.specs.Sessions.{ids_of, opened_at, PartsAt};
 
@@ -108,7 +108,7 @@ impl Sessions {
         &mut self.slab[key]
     }
 
-    /// Opens a session of a higher id than all others. It takes no memory.
+    /// Opens a session of a higher id than all others. It asks for no memory.
     pub(crate) fn insert(&mut self, opened: OpenSession)
         requires few { length self.old < SESSIONS }
         requires last { All (λ x. x.id < opened.id) self.old }
@@ -140,6 +140,22 @@ impl Sessions {
         for at in place_from(self.ids.as_slice(), low)..self.ids.len() {
             let id = self.ids[at];
             if from <= u128::from(id) && self.get(at).is_due() {
+                return Some(id);
+            }
+        }
+        None
+    }
+
+    /// The first session of at least this id of which the next line may be run, looked for as the first to which
+    /// something is due.
+    pub(crate) fn first_ready(&self, from: u128) -> Option<u64>
+        ensures { result ≡ option_map (λ x. x.id)
+            (find (λ x. nat_le from x.id && dialog_is_ready x.session) self.now) }
+    {
+        let low = u64::try_from(from).unwrap_or(u64::MAX);
+        for at in place_from(self.ids.as_slice(), low)..self.ids.len() {
+            let id = self.ids[at];
+            if from <= u128::from(id) && self.get(at).is_ready() {
                 return Some(id);
             }
         }

@@ -20,7 +20,7 @@ ghost use Rattle.djq_core.specs.Unwatched.{AffectsUnwatched};
 
 use crate::sessions::Sessions;
 use bytes::BytesMut;
-use djq_commands::{Outcome, end_by};
+use djq_commands::{Outcome, Queued, end_by};
 use djq_model::Name;
 use djq_protocol::limits::{PENDING_BYTES, REPLY_BYTES};
 use djq_protocol::{AddOutcome, DeleteOutcome, EndCause, EndLine};
@@ -64,8 +64,8 @@ fn print_delta(engine: &Store, id: QueryId, query: &Name, text: &mut BytesMut) -
     put_at(query, engine.seq(), text).is_ok()
 }
 
-/// A session that watches is told a delta, or ends: too much is pending, or there is no memory.
-fn tell_watcher(engine: &mut Store, session: &mut Session<CursorId, Name>, whole: bool, text: &[u8])
+/// Queues a delta for a session that watches, or ends it: too much is pending, or there is no memory.
+fn queue_delta(engine: &mut Store, session: &mut Session<CursorId, Name>, whole: bool, text: &[u8])
     requires own { IsOwn engine.old session.old }
     requires running { session.old.cause ≡ None }
     ensures performs { Performs (λ st s x e st'. HearsDelta whole text.now st s x e st') false
@@ -86,6 +86,26 @@ fn tell_watcher(engine: &mut Store, session: &mut Session<CursorId, Name>, whole
     }
 }
 
+/// The same, and what is queued for the session is counted in the open commit.
+fn tell_watcher(
+    engine: &mut Store,
+    session: &mut Session<CursorId, Name>,
+    whole: bool,
+    queued: &mut Queued,
+    text: &[u8],
+)
+    requires own { IsOwn engine.old session.old }
+    requires running { session.old.cause ≡ None }
+    ensures performs { Performs (λ st s x e st'. HearsDelta whole text.now st s x e st') false
+        engine.old session.old engine.new session.new 0 0 }
+    ensures kept { KeepsTold engine.old engine.new }
+    ensures watches { WatchesOn session.old session.new }
+{
+    queued.enter(session);
+    queue_delta(engine, session, whole, text);
+    queued.count(session);
+}
+
 /// A delta is told to all sessions that watch its query. It is printed once. The query is looked for at
 /// a place of what a session watches first, and the answer is the one behind that where it stood last:
 /// queries are told in order of registration, in which most are watched too.
@@ -94,6 +114,7 @@ fn tell_query(
     sessions: &mut Sessions,
     id: QueryId,
     near: usize,
+    queued: &mut Queued,
     text: &mut BytesMut,
 ) -> usize
     requires sound { IsSound engine.old sessions.old }
@@ -111,7 +132,7 @@ fn tell_query(
     let mut next = near;
     for at in 0..sessions.len() {
         if let Some(place) = sessions.get(at).watch_near(query, near) {
-            tell_watcher(engine, sessions.get_mut(at), whole, text.as_slice());
+            tell_watcher(engine, sessions.get_mut(at), whole, queued, text.as_slice());
             next = place.saturating_add(1);
         }
     }
@@ -134,7 +155,12 @@ fn some_watched(engine: &Store) -> bool
 /// The deltas of the queries that a change affected are told, in order of registration. It stands apart
 /// from the way of a change that nobody watches.
 #[inline(never)]
-fn tell_affected(engine: &mut Store, sessions: &mut Sessions, text: &mut BytesMut)
+fn tell_affected(
+    engine: &mut Store,
+    sessions: &mut Sessions,
+    queued: &mut Queued,
+    text: &mut BytesMut,
+)
     requires sound { IsSound engine.old sessions.old }
     requires registered { All (IsRegistered engine.old) engine.old.affected }
     ensures { TellsAffected engine.old sessions.old engine.new sessions.new }
@@ -142,18 +168,23 @@ fn tell_affected(engine: &mut Store, sessions: &mut Sessions, text: &mut BytesMu
     let mut near = 0;
     for nth in 0..engine.affected_count() {
         let id = engine.affected(nth);
-        near = tell_query(engine, sessions, id, near, text);
+        near = tell_query(engine, sessions, id, near, queued, text);
     }
 }
 
 /// So they are, where somebody watches one.
-fn tell_watched(engine: &mut Store, sessions: &mut Sessions, text: &mut BytesMut)
+fn tell_watched(
+    engine: &mut Store,
+    sessions: &mut Sessions,
+    queued: &mut Queued,
+    text: &mut BytesMut,
+)
     requires sound { IsSound engine.old sessions.old }
     requires registered { All (IsRegistered engine.old) engine.old.affected }
     ensures { TellsAffected engine.old sessions.old engine.new sessions.new }
 {
     if some_watched(engine) {
-        tell_affected(engine, sessions, text);
+        tell_affected(engine, sessions, queued, text);
     }
 }
 
@@ -184,6 +215,7 @@ pub(crate) fn tell_change(
     sessions: &mut Sessions,
     at: usize,
     outcome: &Outcome,
+    queued: &mut Queued,
     text: &mut BytesMut,
 )
     requires sound { IsSound engine.old sessions.old }
@@ -196,7 +228,9 @@ pub(crate) fn tell_change(
         x.id sessions.old engine.new sessions.new) }
 {
     if is_accepted(outcome) {
-        tell_watched(engine, sessions, text);
+        tell_watched(engine, sessions, queued, text);
     }
-    answer_last(engine, sessions.get_mut(at), outcome);
+    let session = sessions.get_mut(at);
+    answer_last(engine, session, outcome);
+    queued.count(session);
 }

@@ -1,67 +1,91 @@
 ghost use Rattle.std.specs.Prelude.{◌≡◌, []};
 
 use crate::program::run_counted;
-use djq_disk::NoDisk;
+use djq_disk::{Disk, NoDisk};
 use djq_io::{HubCall, MemHub, MemSink, MemSource};
 use djq_program::Status;
 use djq_schedule::{schedule_hub, sent_text};
 use std::test::Fail;
 
-/// Serves a hub by these words.
-fn serve_hub(rt: &HostRuntime, words: &[&str], hub: &mut MemHub) -> Status
-    requires { hub.old.ids.open_ids ≡ [] }
+/// Two sessions, whose lines come in two rounds: the end of a session's input ends a round.
+pub(crate) const ROUNDS: &[u8] =
+    b"open 1\nopen 2\nsay 1 rel r int\nsay 1 add r 1\nsay 1 add r 2\nsay 2 add r 3\nsay 2 add r 4\nend 1\nsay 2 add r 5\nend 2";
+
+/// What is sent in the first round. The lines were run by turns, as the numbers of the changes tell.
+pub(crate) const FIRST_ROUND: &[u8] =
+    b"1< ok\n1< ok added 2 1\n1< ok added 4 1\n2< ok added 1 1\n2< ok added 3 1\n";
+
+/// What is sent in both.
+pub(crate) const BOTH_ROUNDS: &[u8] =
+    b"1< ok\n1< ok added 2 1\n1< ok added 4 1\n2< ok added 1 1\n2< ok added 3 1\n2< ok added 5 1\n";
+
+/// Serves a hub by these words, and gives the status and the lines that were sent.
+pub(crate) fn serve_hub<D: Disk>(
+    rt: &HostRuntime,
+    words: &[&str],
+    mut hub: MemHub,
+    disk: &mut D,
+) -> Result<(Status, Vec<u8>), Fail>
+    requires { hub.ids.open_ids ≡ [] }
 {
     let mut source = MemSource::new(Vec::new(rt.alloc()), 8192);
     let mut sink = MemSink::new(rt.alloc());
-    run_counted(rt, words, &mut source, &mut sink, hub, &mut NoDisk)
+    let status = run_counted(rt, words, &mut source, &mut sink, &mut hub, disk);
+    let past = hub.past().ok_or("the past is lost")?;
+    Ok((status, sent_text(rt.alloc(), past)?))
 }
 
-/// Two sessions, of which the second watches and changes what the first lists.
-const WATCHED: &[u8] =
-    b"open 1\nopen 2\nsay 1 rel r int\nsay 1 query q(x) <- r(x)\nsay 2 watch q\nsay 1 add r 1\nsay 1 open c q\npart 2 add r\nsay 1 next c 1\nsay 2  2\nsay 1 next c 1\nend 1\nend 2";
-
-/// Serves the sessions of a hub, and gives the lines that were sent; or, where it ends otherwise, that alone.
-fn lines_served(rt: &HostRuntime, mut hub: MemHub, status: Status) -> Result<Vec<u8>, Fail>
+/// Serves the sessions of a hub without a log.
+fn serve(rt: &HostRuntime, hub: MemHub) -> Result<(Status, Vec<u8>), Fail>
     requires { hub.ids.open_ids ≡ [] }
 {
-    let ended = serve_hub(rt, &["djq", "serve", "a"], &mut hub);
-    let past = hub.past().ok_or("the past is lost")?;
-    if ended == status {
-        Ok(sent_text(rt.alloc(), past)?)
-    } else {
-        Ok(b"another status".to_vec(rt.alloc())?)
-    }
+    serve_hub(rt, &["djq", "serve", "a"], hub, &mut NoDisk)
+}
+
+/// Each session that has a line runs one, and then each runs its next; all is sent after the last.
+#[test]
+fn the_lines_of_a_round_are_run_by_turns(rt: HostRuntime) -> Result<(), Fail> {
+    let hub = schedule_hub(rt.alloc(), ROUNDS).or(Err("the schedule is refused"))?;
+    let (status, lines) = serve(&rt, hub)?;
+    assert_eq!(rt; status, Status::Done);
+    assert_eq!(rt; lines.as_slice(), BOTH_ROUNDS);
+    Ok(())
 }
 
 /// A failed listen ends the server before a session comes.
 #[test]
 fn a_failed_listen_ends_the_server(rt: HostRuntime) -> Result<(), Fail> {
-    let mut hub = schedule_hub(rt.alloc(), WATCHED).or(Err("the schedule is refused"))?;
+    let mut hub = schedule_hub(rt.alloc(), ROUNDS).or(Err("the schedule is refused"))?;
     hub.fail(HubCall::Listen(1))?;
-    let lines = lines_served(&rt, hub, Status::HubFault)?;
-    assert!(rt; lines.as_slice() == b"".as_slice());
+    let (status, lines) = serve(&rt, hub)?;
+    assert_eq!(rt; status, Status::HubFault);
+    assert_eq!(rt; lines.as_slice(), b"".as_slice());
     Ok(())
 }
 
-/// What was sent before the failed turn stays sent.
+/// No line of the round of a failed turn is run. What was sent in an earlier round stays sent.
 #[test]
 fn a_failed_turn_ends_the_server(rt: HostRuntime) -> Result<(), Fail> {
-    let mut hub = schedule_hub(rt.alloc(), WATCHED).or(Err("the schedule is refused"))?;
-    hub.fail(HubCall::Turn(6))?;
-    let lines = lines_served(&rt, hub, Status::HubFault)?;
-    assert!(rt; lines.as_slice() == b"1< ok\n1< ok query 3\n2< ok watch 0\n".as_slice());
+    for (turn, sent) in [(6, b"".as_slice()), (9, FIRST_ROUND)] {
+        let mut hub = schedule_hub(rt.alloc(), ROUNDS).or(Err("the schedule is refused"))?;
+        hub.fail(HubCall::Turn(turn))?;
+        let (status, lines) = serve(&rt, hub)?;
+        assert_eq!(rt; status, Status::HubFault);
+        assert_eq!(rt; lines.as_slice(), sent, "at {turn}");
+    }
     Ok(())
 }
 
 /// A send that finds its session gone ends that session alone.
 #[test]
 fn a_failed_send_ends_its_session(rt: HostRuntime) -> Result<(), Fail> {
-    let mut hub = schedule_hub(rt.alloc(), WATCHED).or(Err("the schedule is refused"))?;
+    let mut hub = schedule_hub(rt.alloc(), ROUNDS).or(Err("the schedule is refused"))?;
     hub.fail(HubCall::Send(2, 1))?;
-    let lines = lines_served(&rt, hub, Status::Done)?;
-    assert!(rt;
-        lines.as_slice()
-            == b"1< ok\n1< ok query 3\n1< ok added 1 1\n1< ok open\n1< = 1\n1< end\n1< end\n".as_slice()
+    let (status, lines) = serve(&rt, hub)?;
+    assert_eq!(rt; status, Status::Done);
+    assert_eq!(rt;
+        lines.as_slice(),
+        b"1< ok\n1< ok added 2 1\n1< ok added 4 1\n".as_slice()
     );
     Ok(())
 }

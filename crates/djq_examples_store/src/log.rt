@@ -1,8 +1,14 @@
+use crate::hub::{BOTH_ROUNDS, FIRST_ROUND, ROUNDS, serve_hub};
 use crate::program::run_counted;
 use djq_disk::{DiskCall, DiskDid, MemDisk};
 use djq_io::{MemHub, MemSink, MemSource};
 use djq_program::Status;
+use djq_schedule::schedule_hub;
 use std::test::Fail;
+
+/// The file after two rounds: the lines in the order in which they were run.
+const ROUNDS_FILE: &[u8] =
+    b"DJQLOG1\n\x01\0\x09rel r int\x01\0\x07add r 3\x01\0\x07add r 1\x01\0\x07add r 4\x01\0\x07add r 2\x01\0\x07add r 5\0";
 
 /// Three lines that are kept, and one that isn't.
 const ROW: &[u8] = b"open 1\nsay 1 rel r int\nsay 1 add r 7\nsay 1 add r 7\nsay 1 del r 9\n";
@@ -170,6 +176,48 @@ fn a_call_that_fails_ends_the_program(rt: HostRuntime) -> Result<(), Fail> {
         let answered = lines.iter().filter(|byte| **byte == b'\n').count() as u64;
         let found = groups_found(&rt, disk.bytes(), PROBE, &PROBED)?.ok_or("the log is bad")?;
         assert!(rt; answered.min(3) <= found, "at {n}");
+    }
+    Ok(())
+}
+
+/// Serves two rounds with the log on the disk.
+fn serve_rounds(rt: &HostRuntime, disk: &mut MemDisk) -> Result<(Status, Vec<u8>), Fail> {
+    let hub = schedule_hub(rt.alloc(), ROUNDS).or(Err("the schedule is refused"))?;
+    serve_hub(rt, &["djq", "serve", "a", "--log", "j"], hub, disk)
+}
+
+/// The five lines of two sessions in the first round are one commit, of two syncs; and so is the line of the
+/// second. Two syncs more make and open the journal.
+#[test]
+fn a_round_is_one_commit_for_all_sessions(rt: HostRuntime) -> Result<(), Fail> {
+    let mut disk = MemDisk::of(rt.alloc(), b"")?;
+    let (status, lines) = serve_rounds(&rt, &mut disk)?;
+    assert_eq!(rt; status, Status::Done);
+    assert_eq!(rt; lines.as_slice(), BOTH_ROUNDS);
+    assert_eq!(rt; disk.bytes(), ROUNDS_FILE);
+    let calls = disk.calls().ok_or("the record is lost")?;
+    assert!(rt; syncs(calls) == 6);
+    Ok(())
+}
+
+/// Where a call of a commit fails nothing of the commit is sent, to any session; and what an earlier one sent
+/// stays sent.
+#[test]
+fn nothing_of_a_failed_commit_is_sent(rt: HostRuntime) -> Result<(), Fail> {
+    let mut disk = MemDisk::of(rt.alloc(), b"")?;
+    serve_rounds(&rt, &mut disk)?;
+    let calls = disk.calls().ok_or("the record is lost")?;
+    for n in 0..calls.len() {
+        let mut failing = MemDisk::of(rt.alloc(), b"")?;
+        failing.fail_at(n as u64 + 1)?;
+        let (status, lines) = serve_rounds(&rt, &mut failing)?;
+        assert!(rt; status == Status::DiskFault, "at {n}");
+        let sent = if syncs(&calls[..n]) < 4 {
+            b"".as_slice()
+        } else {
+            FIRST_ROUND
+        };
+        assert_eq!(rt; lines.as_slice(), sent, "at {n}");
     }
     Ok(())
 }

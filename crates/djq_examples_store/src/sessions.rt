@@ -1,9 +1,9 @@
 ghost use Rattle.std.specs.Prelude.{◌≡◌, ◌<◌, [], true, All};
-ghost use Rattle.djq_machine.specs.Call.{IsOpen};
+ghost use Rattle.djq_machine.specs.Call.{IsOpen, may_run};
 
 use djq_core::Core;
 use djq_counters::{Blanks, Ledgers, Steps};
-use djq_machine::{Loaded, Machine, Stepped};
+use djq_machine::{Loaded, Machine};
 use djq_model::{Name, NoMem};
 use djq_protocol::EndCause;
 use std::marker::Brand;
@@ -22,10 +22,12 @@ pub enum Move {
     IsShut,
     /// It is closed.
     Closes,
-    /// It says something, and all its lines are run.
+    /// It sends something, and all its lines are run, each in a commit of its own.
     Says(&'static [u8]),
     /// It says something, and one line is run.
     Steps(&'static [u8]),
+    /// It sends something, and all its lines are run in one commit.
+    Commits(&'static [u8]),
     /// It is told this, which it takes.
     IsTold(&'static [u8]),
     /// It is told this last.
@@ -34,7 +36,7 @@ pub enum Move {
     HasMore(usize),
     /// It ended so.
     Ended(EndCause),
-    /// The last step kept these lines.
+    /// The commit has these lines.
     Keeps(&'static [&'static [u8]]),
     /// A line is loaded, and comes to this.
     Loads(&'static [u8], Loaded),
@@ -91,16 +93,44 @@ fn close(core: &mut Core, id: u64) -> bool {
     there
 }
 
-/// A session says something, and at most so many of its lines are run.
+/// Whether a session has a line that may be run.
+fn is_ready(core: &Core, id: u64) -> bool
+    ensures { result ≡ true → may_run core.now.state id ≡ true }
+{
+    match core.ready(u128::from(id)) {
+        Some(next) => next == id,
+        None => false,
+    }
+}
+
+/// A session sends something, and its lines are run in one commit, as long as there is room.
+fn commit<L: Ledgers>(core: &mut Core, steps: &mut Steps<L>, id: u64, text: &[u8]) -> bool {
+    if !is_open(core, id) {
+        return false;
+    }
+    core.feed(id, text);
+    core.clear_commit();
+    for _ in 0..100 {
+        if !core.has_room() || !is_ready(core, id) {
+            break;
+        }
+        core.step(id, steps);
+    }
+    true
+}
+
+/// A session sends something, and at most so many of its lines are run, each in a commit of its own.
 fn say<L: Ledgers>(core: &mut Core, steps: &mut Steps<L>, id: u64, text: &[u8], most: u32) -> bool {
     if !is_open(core, id) {
         return false;
     }
     core.feed(id, text);
     for _ in 0..most {
-        if !is_open(core, id) || !matches!(core.step(id, steps), Stepped::Ran { .. }) {
+        if !is_ready(core, id) {
             break;
         }
+        core.clear_commit();
+        core.step(id, steps);
     }
     true
 }
@@ -132,15 +162,15 @@ fn has_ended(core: &Core, id: u64, cause: EndCause) -> bool {
     is_open(core, id) && core.cause(id) == Some(cause)
 }
 
-/// Whether the last step kept these lines.
+/// Whether the commit has these lines.
 fn keeps(core: &Core, lines: &[&[u8]]) -> bool {
     for at in 0..lines.len() {
-        match core.accepted(at) {
+        match core.commit_line(at) {
             Some(line) if line == lines[at] => {}
             _ => return false,
         }
     }
-    core.accepted(lines.len()).is_none()
+    core.commit_line(lines.len()).is_none()
 }
 
 /// Whether no session is open.
@@ -164,6 +194,7 @@ fn goes<L: Ledgers>(core: &mut Core, steps: &mut Steps<L>, id: u64, step: &Move)
         Move::Closes => close(core, id),
         Move::Says(text) => say(core, steps, id, text, 100),
         Move::Steps(text) => say(core, steps, id, text, 1),
+        Move::Commits(text) => commit(core, steps, id, text),
         Move::IsTold(text) => is_told(core, id, text),
         Move::IsLast(text) => is_last(core, id, text),
         Move::HasMore(count) => has_more(core, id, *count),

@@ -1,8 +1,8 @@
 ghost use Rattle.std.specs.Prelude.{◌<◌, length};
 
 use djq_io::{
-    Coming, Hub, HubCall, IdList, Incoming, Listened, MemHub, MemSink, MemSource, Piece, Read,
-    Sent, Sink, Source, Turn, Written, Wrote, write_all,
+    Class, Coming, Hub, HubCall, IdList, Incoming, Listened, MemHub, MemSink, MemSource, Piece,
+    Read, Sent, Sink, Source, Turn, Written, Wrote, write_all,
 };
 use djq_system::{StdSink, StdSource};
 use std::alloc::AllocError;
@@ -64,8 +64,8 @@ fn greet<H: Hub>(
 {
     for _ in 0..u64::MAX {
         match hub.turn(buf) {
-            Turn::Opened(id) => {
-                turns.push(Turn::Opened(id))?;
+            Turn::Opened(id, class) => {
+                turns.push(Turn::Opened(id, class))?;
                 sent.push(hub.send(id, b"hello"))?;
             }
             Turn::Ended(id) => {
@@ -97,7 +97,7 @@ fn a_hub_goes_by_its_script(rt: HostRuntime) -> Result<(), Fail> {
     let mut sent = Vec::new(rt.alloc());
     let end = greet(&mut hub, &mut [0; 4], &mut turns, &mut sent)?;
     let want = [
-        Turn::Opened(1),
+        Turn::Opened(1, Class::Client),
         Turn::Bytes(1, 4),
         Turn::Bytes(1, 3),
         Turn::Ended(1),

@@ -14,7 +14,7 @@ fn serve<H: Hub>(hub: &mut H, buf: &mut [u8], closes: u32) -> Turn
     let mut open = closes;
     for _ in 0..1000 {
         match hub.turn(buf) {
-            Turn::Opened(id) => {
+            Turn::Opened(id, _) => {
                 if id == 1 {
                     flood(hub, id);
                 }

@@ -22,7 +22,7 @@ use Rattle.djq_journal.specs.Staging.{IsFirm, behind_gate, Stages, IsStaged, App
 use Rattle.djq_journal.specs.Standing.{IsIdle}
 use Rattle.djq_journal.specs.Appending.{gate_after, IsBeforeOrAfter, Appends}
 use Rattle.djq_journal.specs.Keeping.{whole_lines, OpensWithin, IsKeeping, KeepsOn}
-use Rattle.djq_journal.specs.Logging.{grouped, Keeps}
+use Rattle.djq_journal.specs.Logging.{grouped, Keeps, HasPassed}
 use Rattle.djq_journal.proofs.Records.{same_start, put_there, put_one, kept_around, front_more, opened_gate}
 
 -- ---- The part of a file that no write since the last sync was in.
@@ -451,3 +451,44 @@ pub keeps_full : (gate : ℕ) (gate' : Option ℕ) (group : List (List ℕ)) (ol
     → Keeps Full (Some gate) gate' group old new
 keeps_full gate gate' group old new appends found groups start kept =
     (keeps_on.more found groups gate start old kept).full group new (appends (found ++ whole_lines groups) kept.idle)
+
+-- ---- A disk goes on by moments, whatever is written.
+
+pub goes_none : (h : History) → HasPassed h h
+goes_none h = ([], record { past = sym (append-nil h.past); paths = refl })
+
+pub goes_both : (old mid new : History) → HasPassed old mid → HasPassed mid new → HasPassed old new
+goes_both old mid new (ms, p) (ns, q) = (
+  ms ++ ns,
+  record {
+    past = q.past ∙ ap (λ files. files ++ ns) p.past ∙ append_assoc old.past ms ns;
+    paths = q.paths ∙ p.paths;
+  },
+)
+
+goes_moved : (file : File) (old new : History) → new ≡ moved_to file old → HasPassed old new
+goes_moved file old new is = subst (λ (h : History). HasPassed old h) (sym is)
+    (old.file ∷ [], record { past = refl; paths = refl })
+
+pub goes_write : (did : DiskDid) (at : ℕ) (piece : List ℕ) (old new : History) → DiskWrites did at piece old new
+    → HasPassed old new
+goes_write did at piece old new writes =
+    let kept = write_keeps did at piece old new writes in
+    goes_moved (with_written (record { at = at; size = length piece }) kept.0 old.file) old new kept.2
+
+pub goes_sync : (did : DiskDid) (old new : History) → Syncs did old new → HasPassed old new
+goes_sync Done old new syncs = goes_moved (settled old.file.bytes) old new syncs
+goes_sync Failed old new syncs = subst (λ (h : History). HasPassed old h) (sym syncs) (goes_none old)
+
+-- and where a piece is written down behind a sync
+pub goes_down : (did : DiskDid) (at : ℕ) (piece : List ℕ) (old mid new : History) → Syncs Done old mid
+    → WritesDown did at piece mid new → HasPassed old new
+goes_down did at piece old mid new syncs writes =
+    let settles : IsSettled mid.file = subst (λ (h : History). IsSettled h.file) (sym syncs) refl in
+    goes_both old mid new (goes_sync Done old mid syncs)
+    ((writes.leaves settles).more, record { past = (writes.leaves settles).past; paths = writes.paths })
+
+-- a group with a first line has one
+pub no_line : (group : List (List ℕ)) (line : List ℕ) → Some line ≡ slice_get group 0 → group ≡ [] → ⊥
+no_line [] line is none = cc
+no_line (l ∷ ls) line is none = cc

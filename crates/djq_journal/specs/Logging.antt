@@ -1,6 +1,7 @@
 -- Where lines are kept: in a journal, or nowhere.
 use Rattle.std.specs.Prelude.{◌≡◌, ℕ, ◌<◌, List, [], ◌∷◌, ◌++◌, Option, None, Some}
 use Rattle.djq_io.specs.Faults.{Counted}
+use Rattle.djq_disk.specs.File.{File}
 use Rattle.djq_disk.specs.History.{History}
 use Rattle.djq_journal.specs.Appending.{gate_after}
 use Rattle.djq_journal.specs.Keeping.{IsKeeping, WasKeeping}
@@ -51,3 +52,12 @@ abbrev pub CountsKept : Kept → ℕ → ℕ → Type 0
 CountsKept All old new = new ≡ old
 CountsKept Failed old new = Counted old new
 CountsKept Full old new = new ≡ old
+
+-- A disk went on by these moments, which have ended: the file as it was at each. No path was opened.
+pub record PassesMoments (moments : List File) (old new : History) : Type 0 where
+  pub past : new.past ≡ old.past ++ moments
+  pub paths : new.paths ≡ old.paths
+
+-- A disk went on by some moments.
+abbrev pub HasPassed : History → History → Type 0
+HasPassed old new = (moments : List File) × PassesMoments moments old new

@@ -4,6 +4,7 @@ ghost use Rattle.djq_disk.specs.History.{WhereHistoryTold};
 ghost use Rattle.djq_disk.specs.DiskFaults.{CountsDid};
 ghost use Rattle.djq_journal.specs.Format.{IsJournalLine, body_of};
 ghost use Rattle.djq_journal.specs.Standing.{IsIdle};
+ghost use Rattle.djq_journal.specs.Logging.{HasPassed};
 ghost use Rattle.djq_journal.specs.Appending.{gate_after};
 ghost use Rattle.djq_journal.specs.Staging.{gate_before, IsStaged, AppendsAt};
 ghost use Rattle.djq_journal.specs.declared.limits.TheConstants.{LINE_BYTES};
@@ -66,6 +67,7 @@ fn write_records<D: Disk, G: Group>(disk: &mut D, gate: u64, group: &G) -> DiskD
     ensures is_open { D.is_open disk.new ≡ true }
     ensures told { (lines : List (List ℕ)) → WhereHistoryTold (D.told disk.old) (D.told disk.new)
         (λ o n. IsIdle lines gate o.file → IsStaged result lines gate (G.lines group.now) o n) }
+    ensures moments { WhereHistoryTold (D.told disk.old) (D.told disk.new) HasPassed }
     ensures faults { CountsDid result (D.faults disk.old) (D.faults disk.new) }
 {
     let mut buf = [0; PIECE_BYTES];
@@ -99,6 +101,7 @@ pub(crate) fn append_at<D: Disk, G: Group>(disk: &mut D, gate: u64, group: &G) -
     ensures is_open { D.is_open disk.new ≡ true }
     ensures told { (lines : List (List ℕ)) → WhereHistoryTold (D.told disk.old) (D.told disk.new)
         (λ o n. IsIdle lines gate o.file → AppendsAt result lines gate (G.lines group.now) o n) }
+    ensures moments { WhereHistoryTold (D.told disk.old) (D.told disk.new) HasPassed }
     ensures faults { CountsDid result (D.faults disk.old) (D.faults disk.new) }
 {
     match write_records(disk, gate, group) {

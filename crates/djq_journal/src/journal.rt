@@ -5,6 +5,7 @@ ghost use Rattle.djq_journal.specs.Format.{IsJournalLine};
 ghost use Rattle.djq_journal.specs.Standing.{IsAtGate, IsIdle};
 ghost use Rattle.djq_journal.specs.Calls.{MakesJournal, JournalOpens, JournalReads, LineFits, CountsMade, CountsOpened};
 ghost use Rattle.djq_journal.specs.Calls.{CountsLine};
+ghost use Rattle.djq_journal.specs.Logging.{HasPassed};
 ghost use Rattle.djq_journal.specs.Appending.{Appends, HasGroupRoom, CountsAppended};
 ghost use Rattle.djq_journal.specs.Reading.{place_after, EndsWithin};
 ghost use Rattle.djq_journal.specs.declared.limits.TheConstants.{LINE_BYTES};
@@ -134,6 +135,7 @@ impl Journal {
         ensures room { HasGroupRoom result self (G.lines group.now) }
         ensures told { (lines : List (List ℕ)) → WhereHistoryTold (D.told disk.old) (D.told disk.new)
             (λ o n. IsIdle lines self o.file → Appends result lines (G.lines group.now) o n) }
+        ensures moments { WhereHistoryTold (D.told disk.old) (D.told disk.new) HasPassed }
         ensures faults { CountsAppended result (D.faults disk.old) (D.faults disk.new) }
     {
         match end_of(self.gate, group) {

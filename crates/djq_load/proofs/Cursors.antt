@@ -34,7 +34,7 @@ use Rattle.djq_machine.specs.Command.{open_refusal, with_cursor, OpensTo, NextSt
 use Rattle.djq_machine.specs.Command.{CommandStep, is_misplaced}
 use Rattle.djq_machine.specs.LineStep.{blank, run, FrontStep, ReadStep, behind_line}
 use Rattle.djq_machine.specs.Run.{to_session, pending_of, pending_in}
-use Rattle.djq_machine.specs.Call.{IsOpen, Makes, RanStep, Counts, cause_of, cause_in, held_of, held_in}
+use Rattle.djq_machine.specs.Call.{IsOpen, Makes, Counts, cause_of, cause_in, held_of, held_in}
 use Rattle.djq_run_laws.specs.Watched.{batch_in}
 use Rattle.djq_run_laws.proofs.RegisteredQueries.{SameAnswers, reordered_same}
 use Rattle.djq_run_laws.proofs.Deltas.{queued_store}
@@ -44,7 +44,7 @@ use Rattle.djq_run_laws.proofs.Events.{says_to, is_stepped}
 use Rattle.djq_run_laws.proofs.TakenLines.{a_line_in}
 use Rattle.djq_load.specs.Totals.{HasLeft, open_line, next_line}
 use Rattle.djq_load.specs.Lines.{SessionIsIdle, LineRuns, TakesAll, session_cursors, cursor_at, CursorStands}
-use Rattle.djq_load.proofs.IdleSessions.{is_fed}
+use Rattle.djq_load.proofs.IdleSessions.{RanStep, ran, is_fed}
 
 -- ---- What is left of a query's answers from step to step.
 
@@ -199,7 +199,7 @@ text_is line text l rest x mid held is found front = ap a_line_in
     (sym front ∙ ap front_of (sym (ap held_in found) ∙ held) ∙ is)
 
 runs : (line text : Bytes) (mid new : State) (before now : Counts) → held_of mid 1 ≡ line → front_of line
-    ≡ a_line text [] → is_blank text ≡ false → RanStep mid 1 new before now → Runs text mid new
+    ≡ a_line text [] → is_blank text ≡ false → RanStep mid new before now → Runs text mid new
 runs line text mid new before now held is full (l, inl m) =
     let h = m.step in
     let f = some_there (session_of mid 1) (λ x. (x.cause ≡ None) × FrontStep mid 1 x (blank l) m.effect h.mid) h.acts in
@@ -389,7 +389,7 @@ next_tells given ended old before new now idle stands h =
     let here = is_fed next_line old mid idle h.is_held h.comes in
     let t = next_run given ended mid new
     (stands_by given ended old mid (fed_has next_line old mid h.is_held h.comes) stands) here.pending h.running
-    (runs next_line (codes "next c 1000") mid new before now here.held next_front refl h.ran) in
+    (runs next_line (codes "next c 1000") mid new before now here.held next_front refl (ran next_line old before new now h)) in
     record {
       told = t.told;
       end = t.end;
@@ -517,7 +517,7 @@ open_stands old before mid now new idle h told takes =
     let here = is_fed open_line old h.mid idle h.is_held h.comes in
     stands_by [] false mid new (took_has mid new takes)
     (open_run h.mid mid here.pending told
-    (runs open_line (codes "open c q") h.mid mid before now here.held open_front refl h.ran))
+    (runs open_line (codes "open c q") h.mid mid before now here.held open_front refl (ran open_line old before mid now h)))
 
 -- Taking what is pending leaves the cursor.
 pub stands_on : (given : List Tuple) (ended : Bool) (old new : State) → TakesAll old new → CursorStands old given ended

@@ -1,6 +1,6 @@
 -- What a line that comes to an idle session makes of it.
 use Rattle.std.specs.Prelude.{ℕ, List, [], ◌∷◌, ◌≡◌, ◌≢◌, Bool, true, false, length, codes, ◌++◌, ◌+◌, ◌<◌, ◌≤◌, Option}
-use Rattle.std.specs.Prelude.{None, Some, IsSome, IsSomeAnd, MatchOption, replicate}
+use Rattle.std.specs.Prelude.{None, Some, IsSome, IsSomeAnd, replicate, ◌⊎◌, ◌&&◌, not, is_none}
 use Rattle.std.proofs.Common.{sym, ap, ap₂, ◌∙◌, arith, refl, subst, inl, inr, append-nil, append_assoc, length-append}
 use Rattle.std.proofs.lemmas.List.{nil_from_length, replicate_more}
 use Rattle.std.proofs.lemmas.Grind.{flat_map-append}
@@ -10,25 +10,24 @@ use Rattle.djq_io.specs.declared.limits.TheConstants.{READ_BYTES}
 use Rattle.djq_model.specs.Data.{Bytes, Tuple, bytes_eq}
 use Rattle.djq_protocol.specs.declared.answer.Refusal.TheVariants.{NoMemory}
 use Rattle.djq_protocol.specs.declared.answer.EndCause.{EndCause}
-use Rattle.djq_protocol.specs.declared.answer.EndCause.TheVariants.{Long, Slow, Memory}
 use Rattle.djq_protocol.specs.Reply.{refusal_line, listing_lines, text_of}
-use Rattle.djq_protocol.specs.Line.{a_line, behind_lf, front_of}
+use Rattle.djq_protocol.specs.Line.{a_line, behind_lf, before_lf, front_of, is_long}
 use Rattle.djq_answer_laws.proofs.Lists.{none_some}
-use Rattle.djq_machine.specs.declared.machine.Stepped.{Stepped}
-use Rattle.djq_machine.specs.declared.machine.Stepped.TheVariants.{Ran, Dry, Ended as HadEnded}
 use Rattle.djq_machine.specs.State.{State, Session, session_of}
 use Rattle.djq_machine.specs.LineStep.{LineOutcome, long, blank, slow, no_room, run}
 use Rattle.djq_machine.specs.Effect.{Effect}
 use Rattle.djq_machine.specs.Step.{Event, fed, stepped, took, is_dry, Step}
 use Rattle.djq_machine.specs.Run.{Did, piece_of, pending_of, pending_in, to_session}
-use Rattle.djq_machine.specs.Call.{IsOpen, Makes, MakesCounted, RanStep, EndedStepAs, StepGives, Counts, cause_of}
+use Rattle.djq_machine.specs.Call.{IsOpen, Makes, MakesCounted, StepsLine, Counts, cause_of, may_run}
 use Rattle.djq_machine.specs.Call.{cause_in, held_of, held_in}
 use Rattle.djq_run_laws.specs.Course.{RunNext, AwaitsInput}
 use Rattle.djq_run_laws.specs.Sent.{gone_by}
-use Rattle.djq_run_laws.specs.Moved.{SessionTakes, InputComes, is_held, out_of_memory, is_dropped, StepsLine}
+use Rattle.djq_run_laws.specs.Moved.{SessionTakes, InputComes, is_held, out_of_memory, is_dropped, LineIsStepped}
 use Rattle.djq_run_laws.proofs.Courses.{walk_then, took_facts, fed_facts, stepped_facts}
 use Rattle.djq_run_laws.proofs.TakenLines.{line_in_front}
 use Rattle.djq_run_laws.proofs.Events.{step_bytes}
+use Rattle.djq_run_laws.proofs.Sessions.{step_stopped}
+use Rattle.djq_run_laws.proofs.Stops.{step_stops}
 use Rattle.djq_load.specs.Lines.{FeedsLines, Feeds, LoadBreaksOff, HadMemory, SessionIsIdle, LineRuns, TakesAll}
 
 -- ---- Bytes that aren't the refusal for want of memory.
@@ -90,11 +89,76 @@ came_open line old mid (is_dropped stays c o n held pending) = stays
 pub fed_open : (line : Bytes) (old mid : State) → Makes old (fed 1 line) mid → IsOpen mid 1
 fed_open line old mid m = came_open line old mid (fed_facts old 1 line m.effect mid m.step)
 
-pub ran_open : (old new : State) (before now : Counts) → RanStep old 1 new before now → IsOpen new 1
-ran_open old new before now (l, inl m) = let f : StepsLine old new 1 (blank l) = stepped_facts old 1 (blank l) m.effect
+-- A line was blank, or was run.
+abbrev pub RanStep : State → State → Counts → Counts → Type 0
+RanStep old new before now = (l : Bytes)
+    × (MakesCounted old (stepped 1 (blank l)) new before now ⊎ MakesCounted old (stepped 1 (run l)) new before now)
+
+-- So it was, where the session goes on after it.
+goes_on : (old new : State) (before now : Counts) (outcome : LineOutcome)
+    → MakesCounted old (stepped 1 outcome) new before now → LineIsStepped old new 1 outcome → cause_of new 1 ≡ None
+    → RanStep old new before now
+goes_on old new before now long m f running = absurd (none_some _ _ running f.cause)
+goes_on old new before now (blank l) m f running = (l, inl m)
+goes_on old new before now (slow l) m f running = absurd (none_some _ _ running f.cause)
+goes_on old new before now (no_room l) m f running = absurd (none_some _ _ running f.cause)
+goes_on old new before now (run l) m f running = (l, inr m)
+
+pub ran : (line : Bytes) (old : State) (before : Counts) (new : State) (now : Counts)
+    → (runs : LineRuns line old before new now) → RanStep runs.mid new before now
+ran line old before new now runs =
+    let m = runs.makes in
+    goes_on runs.mid new before now runs.outcome m (stepped_facts runs.mid 1 runs.outcome m.effect new m.step)
+    runs.running
+
+pub step_open : (mid mid' new : State) (before now : Counts) (commit commit' : List Bytes) → mid' ≡ mid
+    → StepsLine mid' 1 new before now commit commit' → IsOpen new 1
+step_open mid mid' new before now commit commit' same h =
+    let m = h.makes in
+    let f : LineIsStepped mid' new 1 h.outcome = stepped_facts mid' 1 h.outcome m.effect new m.step in f.stays
+
+pub ran_open : (old new : State) (before now : Counts) → RanStep old new before now → IsOpen new 1
+ran_open old new before now (l, inl m) = let f : LineIsStepped old new 1 (blank l) = stepped_facts old 1 (blank l) m.effect
     new m.step in f.stays
-ran_open old new before now (l, inr m) = let f : StepsLine old new 1 (run l) = stepped_facts old 1 (run l) m.effect new
+ran_open old new before now (l, inr m) = let f : LineIsStepped old new 1 (run l) = stepped_facts old 1 (run l) m.effect new
     m.step in f.stays
+
+-- A line that comes to an idle session may be run.
+not_dry : (line : Bytes) → behind_lf line ≡ Some [] → is_dry line ≡ false
+not_dry line one = by (is_long (before_lf line)) refl
+  where
+    by : (b : Bool) → is_long (before_lf line) ≡ b → is_dry line ≡ false
+    by true e = rw e refl
+    by false e = rw e (rw one refl)
+
+runs_by : (stopped : Bool) (cause : Option EndCause) (dry : Bool) → stopped ≡ false → cause ≡ None → dry ≡ false
+    → not stopped && (is_none cause && not dry) ≡ true
+runs_by false None false s c d = refl
+runs_by false None true s c d = cc
+runs_by false (Some x) dry s c d = cc
+runs_by true cause dry s c d = cc
+
+pub line_may_run : (line : Bytes) (old mid mid' : State) → SessionIsIdle old → behind_lf line ≡ Some []
+    → Makes old (fed 1 line) mid → cause_of mid 1 ≡ None → mid' ≡ mid → may_run mid' 1 ≡ true
+line_may_run line old mid mid' idle one m running same =
+    let here = is_fed line old mid idle running m in
+    ap (λ (st : State). may_run st 1) same
+    ∙ runs_by mid.stopped (cause_of mid 1) (is_dry (held_of mid 1))
+    (step_stopped old (fed 1 line) m.effect mid m.step tt ∙ idle.going) running
+    (ap is_dry here.held ∙ not_dry line one)
+
+-- Nobody sends `stop` by a line after which its session goes on, nor as its reply is taken.
+ran_going : (line : Bytes) (old : State) (before : Counts) (new : State) (now : Counts) → SessionIsIdle old
+    → LineRuns line old before new now → new.stopped ≡ false
+ran_going line old before new now idle runs =
+    let m = runs.comes in
+    let n = runs.makes in
+    step_stops runs.mid 1 runs.outcome n.effect new n.step runs.running
+    ∙ step_stopped old (fed 1 line) m.effect runs.mid m.step tt ∙ idle.going
+
+taken_going : (old new : State) → TakesAll old new → new.stopped ≡ old.stopped
+taken_going old new (inl (none, same)) = ap (λ (st : State). st.stopped) same
+taken_going old new (inr (some, m)) = step_stopped old (took 1 (pending_of old 1)) m.effect new m.step tt
 
 -- behind the one line that was held, nothing is
 nothing_left : (held l rest : Bytes) → front_of held ≡ a_line l rest → behind_lf held ≡ Some [] → rest ≡ []
@@ -104,12 +168,12 @@ nothing_left held l rest front one = let f = line_in_front held l rest front in 
     same e = cc
 
 ran_held : (line : Bytes) (old new : State) (before now : Counts) → held_of old 1 ≡ line → behind_lf line ≡ Some []
-    → RanStep old 1 new before now → held_of new 1 ≡ []
+    → RanStep old new before now → held_of new 1 ≡ []
 ran_held line old new before now held one (l, inl m) =
-    let f : StepsLine old new 1 (blank l) = stepped_facts old 1 (blank l) m.effect new m.step in
+    let f : LineIsStepped old new 1 (blank l) = stepped_facts old 1 (blank l) m.effect new m.step in
     nothing_left (held_of old 1) l (held_of new 1) f.held (ap behind_lf held ∙ one)
 ran_held line old new before now held one (l, inr m) =
-    let f : StepsLine old new 1 (run l) = stepped_facts old 1 (run l) m.effect new m.step in
+    let f : LineIsStepped old new 1 (run l) = stepped_facts old 1 (run l) m.effect new m.step in
     nothing_left (held_of old 1) l (held_of new 1) f.held (ap behind_lf held ∙ one)
 
 -- what taking all that is pending leaves
@@ -215,7 +279,7 @@ ran_one old before outcome new now there pending served m =
     (λ e. served (queued_is old (stepped 1 outcome) m.effect new m.step refl pending ∙ e)) m.listing
 
 ran_loads : (old : State) (before : Counts) (new : State) (now : Counts) → IsOpen old 1 → pending_of old 1 ≡ []
-    → pending_of new 1 ≢ refusal_line NoMemory → RanStep old 1 new before now → FeedsLines [] old before new now
+    → pending_of new 1 ≢ refusal_line NoMemory → RanStep old new before now → FeedsLines [] old before new now
 ran_loads old before new now there pending served (l, inl m) = ran_one old before (blank l) new now there pending served
     m
 ran_loads old before new now there pending served (l, inr m) = ran_one old before (run l) new now there pending served m
@@ -243,10 +307,10 @@ line_loads line old before mid now new idle one short runs served takes =
     ((refl, some_byte line one, short, awaits old idle), m.step)
     (quiet (to_session 1 (m.effect).queued)
     (sym (queued_is old (fed 1 line) m.effect runs.mid m.step refl idle.pending) ∙ here.pending)) (omega arith) in
-    let t = taken mid new (ran_open runs.mid mid before now runs.ran) takes in
+    let t = taken mid new (ran_open runs.mid mid before now (ran line old before mid now runs)) takes in
     loads_then (line ∷ []) [] old before runs.mid before new now first
     (loads_then [] [] runs.mid before mid now new now
-    (ran_loads runs.mid before mid now here.is_open here.pending served runs.ran)
+    (ran_loads runs.mid before mid now here.is_open here.pending served (ran line old before mid now runs))
     (took_loads mid now new t.pending takes))
 
 pub line_idle : (line : Bytes) (old : State) (before : Counts) (mid : State) (now : Counts) (new : State)
@@ -255,10 +319,11 @@ pub line_idle : (line : Bytes) (old : State) (before : Counts) (mid : State) (no
     → LineRuns line old before mid now → TakesAll mid new → SessionIsIdle new
 line_idle line old before mid now new idle one runs takes =
     let here = is_fed line old runs.mid idle runs.is_held runs.comes in
-    let t = taken mid new (ran_open runs.mid mid before now runs.ran) takes in
+    let t = taken mid new (ran_open runs.mid mid before now (ran line old before mid now runs)) takes in
     record {
+      going = taken_going mid new takes ∙ ran_going line old before mid now idle runs;
       is_open = t.is_open;
-      held = t.held ∙ ran_held line runs.mid mid before now here.held one runs.ran;
+      held = t.held ∙ ran_held line runs.mid mid before now here.held one (ran line old before mid now runs);
       pending = t.pending;
       running = t.cause ∙ runs.running;
     }
@@ -299,54 +364,38 @@ front_feeds line old before mid outcome new now here comes m =
     (feeds_one (record { event = stepped 1 outcome; effect = m.effect }) mid before new now
     ((refl, flushed mid here.is_open here.pending), m.step) m.listing)
 
-ended_feeds : (line : Bytes) (old : State) (before : Counts) (mid : State) (c : EndCause) (new : State) (now : Counts)
-    → IsFed line mid
-    → Feeds (line ∷ []) old before mid before → EndedStepAs c mid 1 new before now
-    → Feeds (line ∷ []) old before new now
-ended_feeds line old before mid Long new now here comes m = front_feeds line old before mid long new now here comes m
-ended_feeds line old before mid Slow new now here comes (l, m) = front_feeds line old before mid (slow l) new now here
-    comes m
-ended_feeds line old before mid Memory new now here comes (l, m) = front_feeds line old before mid (no_room l) new now
-    here comes m
-ended_feeds line old before mid _ new now here comes m = absurd m
+-- and is run, or ends its session
+pub step_feeds : (line : Bytes) (old : State) (before : Counts) (mid mid' new : State) (now : Counts)
+    (commit commit' : List Bytes) → SessionIsIdle old → 0 < length line → length line ≤ READ_BYTES
+    → Makes old (fed 1 line) mid → cause_of mid 1 ≡ None → mid' ≡ mid
+    → StepsLine mid' 1 new before now commit commit' → Feeds (line ∷ []) old before new now
+step_feeds line old before mid mid' new now commit commit' idle some short m running same h =
+    let own : StepsLine mid 1 new before now commit commit' =
+    subst (λ (st : State). StepsLine st 1 new before now commit commit') same h in
+    front_feeds line old before mid own.outcome new now (is_fed line old mid idle running m)
+    (comes_feeds line old before mid idle some short m) own.makes
 
-ran_feeds : (line : Bytes) (old : State) (before : Counts) (mid new : State) (now : Counts) → IsFed line mid
-    → Feeds (line ∷ []) old before mid before → RanStep mid 1 new before now → Feeds (line ∷ []) old before new now
-ran_feeds line old before mid new now here comes (l, inl m) = front_feeds line old before mid (blank l) new now here
-    comes m
-ran_feeds line old before mid new now here comes (l, inr m) = front_feeds line old before mid (run l) new now here comes
-    m
-
-stepped_by : (line : Bytes) (old : State) (before : Counts) (mid : State) (r : Stepped) (new : State) (now : Counts)
-    (kept : List Bytes) → IsFed line mid → cause_of mid 1 ≡ None
-    → Feeds (line ∷ []) old before mid before → StepGives mid 1 r new before now kept
-    → Feeds (line ∷ []) old before new now
-stepped_by line old before mid (Ran is_kept) new now kept here running comes h = ran_feeds line old before mid new now
-    here comes h.0
-stepped_by line old before mid Dry new now kept here running comes h =
-    subst (λ (st : State). Feeds (line ∷ []) old before st now) (sym h.0)
-    (subst (λ (counted : Counts). Feeds (line ∷ []) old before mid counted) (sym h.1) comes)
-stepped_by line old before mid (HadEnded c) new now kept here running comes h =
-    ended_feeds line old before mid c new now here comes
-    (subst (λ (o : Option EndCause). MatchOption o (EndedStepAs c mid 1 new before now)
-    (λ d. (d ≡ c) × (new ≡ mid) × (now ≡ before))) running h.1)
-
--- and is run or isn't
-pub stepped_feeds : (line : Bytes) (old : State) (before : Counts) (mid : State) (r : Stepped) (new : State)
-    (now : Counts) (kept : List Bytes) → SessionIsIdle old → 0 < length line → length line ≤ READ_BYTES
-    → Makes old (fed 1 line) mid → cause_of mid 1 ≡ None → StepGives mid 1 r new before now kept
-    → Feeds (line ∷ []) old before new now
-stepped_feeds line old before mid r new now kept idle some short m running h =
-    stepped_by line old before mid r new now kept (is_fed line old mid idle running m) running
-    (comes_feeds line old before mid idle some short m) h
+pub step_runs : (line : Bytes) (old : State) (before : Counts) (mid mid' new : State) (now : Counts)
+    (commit commit' : List Bytes) → Makes old (fed 1 line) mid → cause_of mid 1 ≡ None → mid' ≡ mid
+    → StepsLine mid' 1 new before now commit commit' → cause_of new 1 ≡ None → LineRuns line old before new now
+step_runs line old before mid mid' new now commit commit' m held same h running =
+    let own : StepsLine mid 1 new before now commit commit' =
+    subst (λ (st : State). StepsLine st 1 new before now commit commit') same h in record {
+      mid = mid;
+      comes = m;
+      is_held = held;
+      outcome = own.outcome;
+      makes = own.makes;
+      running = running;
+    }
 
 -- and was run
 pub line_feeds : (line : Bytes) (old : State) (before : Counts) (new : State) (now : Counts) → SessionIsIdle old
     → 0 < length line → length line ≤ READ_BYTES
     → LineRuns line old before new now → Feeds (line ∷ []) old before new now
 line_feeds line old before new now idle some short runs =
-    ran_feeds line old before runs.mid new now (is_fed line old runs.mid idle runs.is_held runs.comes)
-    (comes_feeds line old before runs.mid idle some short runs.comes) runs.ran
+    front_feeds line old before runs.mid runs.outcome new now (is_fed line old runs.mid idle runs.is_held runs.comes)
+    (comes_feeds line old before runs.mid idle some short runs.comes) runs.makes
 
 -- At one of some lines memory is wanting.
 pub breaks_at : (earlier : List Bytes) (line : Bytes) (later lines : List Bytes) (old : State) (before : Counts)

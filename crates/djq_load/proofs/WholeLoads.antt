@@ -55,6 +55,7 @@ use Rattle.djq_load.specs.Lines.{LoadBreaksOff, LineRuns, TakesAll}
 use Rattle.djq_load.specs.Totals.{open_line, next_line, ReadsSoFar, so_far, reads_for, TotalsAreTold, AreTotals}
 use Rattle.djq_load.specs.Totals.{RunsLoad, BreaksReading, RunsOut}
 use Rattle.djq_load.specs.Replies.{read_bytes}
+use Rattle.djq_run_laws.proofs.Sessions.{step_stopped}
 use Rattle.djq_load.proofs.RegisteredQueries.{IsHarmless, LeavesJoin, IsFine, step_joins}
 use Rattle.djq_load.proofs.Listings.{AreOnes, load_ones, listing_read}
 use Rattle.djq_load.proofs.IdleSessions.{quiet, listed, loads_one, loads_then, breaks_at, breaks_behind, breaks_before}
@@ -544,12 +545,14 @@ opened_parts old mid none (inr h) =
     ∙ ap (λ (xs : List Session). record old { sessions = xs }) none in
     (ap (λ (st : State). held_of st 1) alone, ap (λ (st : State). cause_of st 1) alone)
 
-opened_idle : (old new : State) → old.sessions ≡ [] → Makes old (opened 1) new → IsOpen new 1 → SessionIsIdle new
-opened_idle old new none m there =
+opened_idle : (old new : State) → old.sessions ≡ [] → old.stopped ≡ false → Makes old (opened 1) new → IsOpen new 1
+    → SessionIsIdle new
+opened_idle old new none going m there =
     let h = m.step in
     let parts = opened_parts old h.mid none h.acts.2 in
     let quiet : to_session 1 m.effect.queued ≡ [] = ap (λ (e : Effect). to_session 1 e.queued) h.acts.0 in
     record {
+      going = step_stopped old (opened 1) m.effect new h tt ∙ going;
       is_open = there;
       held = stepped_held old (opened 1) m.effect new h 1 ∙ parts.0;
       pending = step_bytes old (opened 1) m.effect new h 1 ∙ ap (λ (q : Bytes). pending_of old 1 ++ q) quiet
@@ -563,14 +566,14 @@ pub record Begins (old new : State) (counted : Counts) : Type 0 where
   pub loads : FeedsLines [] old counted new counted
 
 pub begins : (old new : State) (counted : Counts) (r : Result ⊤ OpenRefusal) → is_err r ≡ false → OpenGives old 1 r new
-    → old.sessions ≡ [] → Begins old new counted
-begins old new counted (Ok u) e h none = record {
-  idle = opened_idle old new none h.0 h.1;
+    → old.sessions ≡ [] → old.stopped ≡ false → Begins old new counted
+begins old new counted (Ok u) e h none going = record {
+  idle = opened_idle old new none going h.0 h.1;
   loads = loads_one (record { event = opened 1; effect = h.0.effect }) old counted new counted ((refl, none), h.0.step)
       (quiet (to_session 1 (h.0.effect).queued) (ap (λ (e : Effect). to_session 1 e.queued) (h.0.step).acts.0))
       (omega arith);
 }
-begins old new counted (Err r) e h none = absurd cc
+begins old new counted (Err r) e h none going = absurd cc
 
 -- The whole: the session is opened, the load fed, the cursor opened, and read so many times.
 all_loads : (n seed k : ℕ) (start a : State) (before : Counts) (b : State) (at_b : Counts) (c : State) (at_c : Counts)

@@ -1,14 +1,15 @@
 -- What lines that come to session 1 of a machine make of it.
 use Rattle.std.specs.Prelude.{List, [], ◌∷◌, ◌≡◌, ◌≢◌, ◌+◌, ◌++◌, ◌<◌, ◌≤◌, ◌⊎◌, None, Option, Some}
-use Rattle.std.specs.Prelude.{length, codes, Bool, All}
+use Rattle.std.specs.Prelude.{length, codes, Bool, false, All}
 use Rattle.djq_model.specs.Data.{Bytes, Tuple}
 use Rattle.djq_protocol.specs.declared.answer.Refusal.TheVariants.{NoMemory}
 use Rattle.djq_protocol.specs.Reply.{refusal_line}
 use Rattle.djq_machine.specs.State.{State, Session, Cursor, session_of, cursor_of}
 use Rattle.djq_store_spec.specs.Store.{open_at}
-use Rattle.djq_machine.specs.Step.{fed, took}
+use Rattle.djq_machine.specs.LineStep.{LineOutcome}
+use Rattle.djq_machine.specs.Step.{fed, stepped, took}
 use Rattle.djq_machine.specs.Run.{Did, Walk, pieces_of, cost_of, pending_of, to_session}
-use Rattle.djq_machine.specs.Call.{IsOpen, Makes, RanStep, Counts, cause_of, held_of}
+use Rattle.djq_machine.specs.Call.{IsOpen, Makes, MakesCounted, Counts, cause_of, held_of}
 use Rattle.djq_run_laws.specs.Course.{RunNext}
 use Rattle.djq_run_laws.specs.Watched.{batch_of}
 
@@ -50,8 +51,9 @@ pub record LoadBreaksOff (lines : List Bytes) (old : State) (before : Counts) (n
   pub loads : FeedsLines earlier old before mid between
   pub feeds : Feeds (line ∷ []) mid between new now
 
--- Session 1 is open and goes on, holds nothing and has nothing pending.
+-- Session 1 is open and goes on, holds nothing and has nothing pending; and no session sent `stop`.
 pub record SessionIsIdle (st : State) : Type 0 where
+  pub going : st.stopped ≡ false
   pub is_open : IsOpen st 1
   pub held : held_of st 1 ≡ []
   pub pending : pending_of st 1 ≡ []
@@ -63,7 +65,8 @@ pub record LineRuns (line : Bytes) (old : State) (before : Counts) (new : State)
   pub mid : State
   pub comes : Makes old (fed 1 line) mid
   pub is_held : cause_of mid 1 ≡ None
-  pub ran : RanStep mid 1 new before now
+  pub outcome : LineOutcome
+  pub makes : MakesCounted mid (stepped 1 outcome) new before now
   pub running : cause_of new 1 ≡ None
 
 -- All that is pending is taken, where there is any.

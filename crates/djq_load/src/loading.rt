@@ -15,7 +15,7 @@ ghost use Rattle.djq_load.specs.Totals.{RunsOut};
 use crate::reading::Reading;
 use crate::{LINE_BYTES, Load};
 use djq_counters::{Ledgers, Steps};
-use djq_machine::{Fed, Machine, Stepped};
+use djq_machine::{Fed, Machine};
 use djq_model::NoMem;
 
 /// The id of the session of a load.
@@ -185,14 +185,14 @@ fn read_more<M: Machine, L: Ledgers>(
 }
 
 /// Feeds a line and runs it. The session continues after it; or memory is wanting, as the line was fed
-/// or as it was to be run.
+/// or as it was run.
 fn run_line<M: Machine, L: Ledgers>(
     machine: &mut M,
     line: &[u8],
     steps: &mut Steps<L>,
 ) -> Result<(), NoMem>
     requires idle { SessionIsIdle (M.state machine.old) }
-    requires some { 0 < length line.now }
+    requires one { behind_lf line.now ≡ Some [] }
     requires short { length line.now ≤ READ_BYTES }
     ensures runs { OnOk result (LineRuns line.now
         (M.state machine.old) (counts steps.old.listing steps.old.update steps.old.rows)
@@ -205,9 +205,9 @@ fn run_line<M: Machine, L: Ledgers>(
     let Fed::Held = machine.feed(ID, line) else {
         return Err(NoMem);
     };
-    let Stepped::Ran { .. } = machine.step(ID, steps) else {
-        return Err(NoMem);
-    };
+    // Nothing is logged here, so the commit has no reader.
+    machine.clear_commit();
+    machine.step(ID, steps);
     match machine.cause(ID) {
         None => Ok(()),
         Some(_) => Err(NoMem),

@@ -11,7 +11,8 @@
 //! sink    ok, ok added 1 1         and at the source's end the status is Done
 //! ```
 //!
-//! What surprises: help and version words are no command, and are answered by the usage line. What the
+//! What surprises: help and version words are no command, and are answered by the usage line. Under `serve`
+//! replies come a commit at a time: to all sessions, once what its lines log is in the log. What the
 //! theorem states of bytes holds if the source, sink or hub records them; of the real ones it states
 //! which calls were made and what their answers did.
 //!

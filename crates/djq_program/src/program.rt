@@ -20,6 +20,7 @@ use djq_io::limits::READ_BYTES;
 use djq_io::{Hub, Listened, Sink, Source, Written, write_all};
 use djq_mirror::{Mirrored, run_mirror};
 use djq_model::Name;
+use djq_program_laws::limits::ROUND_TURNS;
 use djq_run::{Status, run_session};
 use djq_serve::{Served, serve_logged};
 use std::alloc::Global;
@@ -33,11 +34,16 @@ const USAGE: &[u8] =
 /// `run` serves one session from the source to the sink. `serve` lets the hub listen at an address,
 /// and serves the sessions that open. `replay` serves a hub of its own, whose turns are those of the
 /// schedule in the source, in order. Both start from what the lines of their log give, if they
-/// have one, and append to it what changes that, before anything more is sent.
+/// have one, and append to it what changes that, a commit at a time, before anything of the commit is sent.
 /// `gen` runs a generated load, lists the answers of its query to their end, and writes its totals.
 /// `mirror` writes the answers of a query that one session was sent, by the bytes alone that it was sent,
 /// which the source has. Other words are answered by the usage line. Out of memory no more is counted of
 /// listings than the part that was done may cost.
+///
+/// Sessions are served in rounds, of at most [`ROUND_TURNS`] turns under `serve` and of one under `replay`.
+/// `ServeEnds` of djq_serve, which is part of the contract, says what rounds promise. Between two lines of a
+/// session each other one that has a line runs one (`fair`). No line waits for the next round (`prompt`). And
+/// what lines log is cut into commits, each of which is logged as one group (`committed`).
 ///
 /// The hub has opened no session before, and words other than those of `serve` leave it as it is.
 /// Words without a log leave the disk as it is.
@@ -136,7 +142,16 @@ fn serve_hub<H: Hub, D: Disk, L: Ledgers>(
     };
     match hub.listen(addr) {
         Listened::Ready => {
-            let served = serve_logged(&mut machine, hub, disk, &mut log, &mut buffer, turns, steps);
+            let served = serve_logged(
+                &mut machine,
+                hub,
+                disk,
+                &mut log,
+                &mut buffer,
+                turns,
+                ROUND_TURNS,
+                steps,
+            );
             ended_status(served)
         }
         Listened::Failed => Status::HubFault,

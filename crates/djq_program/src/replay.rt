@@ -179,7 +179,7 @@ fn tell_outside(alloc: Global, number: u64) -> Result<(Vec<u8>, Status), Status>
     }
 }
 
-/// Serves the hub of a schedule, for one turn more than it has lines, and returns what was sent.
+/// Serves the hub of a schedule, for one turn more than it has lines and one a round, and returns what was sent.
 fn serve_schedule<D: Disk, L: Ledgers>(
     alloc: Global,
     bytes: &[u8],
@@ -218,6 +218,7 @@ fn serve_schedule<D: Disk, L: Ledgers>(
         &mut log,
         &mut buffer,
         most,
+        1,
         steps,
     );
     tell_sent(alloc, &hub, ended_status(served))

@@ -1,5 +1,6 @@
 pub mod Openings
 pub mod Logs
+pub mod Moments
 pub mod ProgramRuns
 pub mod ServedRuns
 pub mod Replays

@@ -3,7 +3,11 @@ use Rattle.std.specs.Prelude.{ℕ, List, [], ◌∷◌, ◌++◌, ◌≡◌, Opt
 use Rattle.std.specs.Prelude.{codes, ◌≤◌, ◌+◌, ◌-◌}
 use Rattle.std.proofs.Common.{sym, ap, ◌∙◌, subst, inl, inr, refl, arith, append-nil, ap₂, append_assoc, length-append}
 use Rattle.std.specs.Borrow.{Bor}
+use Rattle.std.specs.List.{flat_map}
+use Rattle.std.specs.Prelude.{All}
 use Rattle.std.proofs.lemmas.Grind.{flat_map-append}
+use Rattle.std.proofs.lemmas.List.{nil_from_length}
+use Rattle.std.proofs.lemmas.List.Elements.{All-nil, All-cons, All-append, All-head, All-tail}
 use Rattle.djq_io.specs.Faults.{Counted}
 use Rattle.djq_model.specs.Data.{Bytes}
 use Rattle.djq_disk.specs.File.{File, settled}
@@ -17,14 +21,17 @@ use Rattle.djq_journal.specs.Format.{FileOpensTo}
 use Rattle.djq_journal.specs.Standing.{IsIdle}
 use Rattle.djq_journal.specs.Keeping.{OpensWithin, IsKeeping, whole_lines, WasKeeping}
 use Rattle.djq_journal.specs.Appending.{Appends, gate_after}
-use Rattle.djq_journal.specs.Logging.{HasKeptGroups, Overfull}
+use Rattle.djq_journal.specs.Logging.{HasKeptGroups, Overfull, grouped}
 use Rattle.djq_journal.proofs.Appends.{keeps_on}
 use Rattle.djq_journal.proofs.Records.{opens_once}
 use Rattle.djq_protocol.specs.declared.held.HeldRow.{HeldRow}
 use Rattle.djq_store_spec.specs.Store.{Store}
 use Rattle.djq_machine.specs.declared.machine.Loaded.{Loaded}
 use Rattle.djq_machine.specs.declared.machine.Loaded.TheVariants.{Ran}
-use Rattle.djq_machine.specs.Run.{lines_in, Group, Did, Run, groups_of}
+use Rattle.djq_machine.specs.Keeping.{Keeping, no_line, the_line, the_batch}
+use Rattle.djq_machine.specs.LineStep.{long, blank, slow, no_room, run}
+use Rattle.djq_machine.specs.Step.{Event, opened, fed, stepped, took, ended, closed}
+use Rattle.djq_machine.specs.Run.{Walk, lines_in, Group, Did, Run, groups_of, groups_in, kept_group}
 use Rattle.djq_machine.specs.Loading.{Loading, LoadStep, Loads, loading}
 use Rattle.djq_machine.specs.State.{State, opening}
 use Rattle.djq_machine.specs.Call.{Counts}
@@ -41,9 +48,13 @@ use Rattle.djq_run.specs.declared.status.Status.{Status}
 use Rattle.djq_serve.specs.declared.served.Served.{Served}
 use Rattle.djq_serve.specs.declared.served.Served.TheVariants.{Stopped, Over, TurnsUsed, HubFault, DiskFault, LogFull}
 use Rattle.djq_serve.specs.Logged.{AllKept, LastLost, LastLeft, KeepsBy, DiskCounts, IsNotOfDisk}
-use Rattle.djq_serve.specs.Server.{all_done}
+use Rattle.djq_serve.specs.Server.{Move, all_done, all_logged}
+use Rattle.djq_serve.specs.Ends.{IsCommitted}
+use Rattle.djq_serve.proofs.Commits.{commits_first}
 use Rattle.djq_program_laws.specs.Logged.{FindsLines, LeavesUnloaded, DiskSeen, abandoning}
 use Rattle.djq_program_laws.specs.Logged.{first_kept, LogSeen, log_seen_at, log_seen, SinceOpened, KeptAs, Logs}
+use Rattle.djq_serve.specs.Goes.{log_place, LogsMove}
+use Rattle.djq_program_laws.specs.Logged.{IsStored}
 use Rattle.djq_program_laws.specs.Logged.{FoundIn, Begins, IsOnlyRead, UnloadedFor, Unloaded, NeverBegins}
 use Rattle.djq_program_laws.specs.Parts.{IsOpened, EndsBatch, CantEnd, OpensJournal}
 use Rattle.djq_program_laws.specs.Parts.{LoadsLines, StopsLoading, ReadsLog}
@@ -231,6 +242,16 @@ logs_kept (Some path) found first answer groups (Some gate) gate' before mid now
   subst (λ (n : ℕ). DiskCounts (Some answer) n now.faults) lines.0 counted,
   kept_as answer path.now found first groups gate gate' before.told mid.told now.told lines.1 kept,
 )
+
+-- Each move did to the log that was loaded what it says.
+pub is_stored : (path : Option (Bor Bytes)) (found : List Bytes) (first : List Group) (gate gate' : Option ℕ)
+    (before mid now : DiskSeen) (moves : List Move) → FoundIn (log_seen path before mid) found first gate
+    → Walk LogsMove (log_place gate mid.told) moves (log_place gate' now.told)
+    → IsStored (log_seen path before now) found first moves
+is_stored None found first gate gate' before mid now moves lines walk = tt
+is_stored (Some path) found first None gate' before mid now moves lines walk = absurd lines
+is_stored (Some path) found first (Some gate) gate' before mid now moves lines walk =
+    (gate, gate', mid.told, lines.1, walk)
 
 -- Out of memory before anything was done.
 pub never_began : (path : Option (Bor Bytes)) (disk : DiskSeen) (counted : Counts)
@@ -478,35 +499,121 @@ behind_it (f ∷ first) groups (w ∷ whole) later cut few =
     tails : f ∷ (first ++ groups) ≡ w ∷ (whole ++ later) → first ++ groups ≡ whole ++ later
     tails e = cc
 
-reopens : (found : List Bytes) (first : List Group) (start : State) (done : List Did) (state : State) (least : ℕ)
+-- ---- The lines of the first commits are those of the first groups, and of all where there is no other commit.
+
+-- what a commit hands to the log has its lines
+pub grouped_lines : (lines : List Bytes) → lines_in (grouped lines) ≡ lines
+grouped_lines [] = refl
+grouped_lines (l ∷ lines) = append-nil (l ∷ lines)
+
+committed_lines : (commits : List (List Group))
+    → lines_in (flat_map (λ (c : List Group). grouped (lines_in c)) commits)
+    ≡ lines_in (flat_map (λ (c : List Group). c) commits)
+committed_lines [] = refl
+committed_lines (c ∷ commits) =
+    let handed = flat_map (λ (k : List Group). grouped (lines_in k)) commits in
+    let steps = flat_map (λ (k : List Group). k) commits in
+    flat_map-append (λ (g : Group). g) (grouped (lines_in c)) handed
+    ∙ ap₂ (λ (a b : List Bytes). a ++ b) (grouped_lines (lines_in c)) (committed_lines commits)
+    ∙ sym (flat_map-append (λ (g : Group). g) c steps)
+
+-- So the log is handed what the steps log.
+logged_lines : (moves : List Move) → IsCommitted moves
+    → lines_in (all_logged moves) ≡ lines_in (groups_of (all_done moves))
+logged_lines moves c = ap lines_in c.logged ∙ committed_lines c.commits ∙ sym (ap lines_in c.cut)
+
+-- A group has a line.
+HasLine : Group → Type 0
+HasLine g = 0 < length g
+
+line_has : (l : Bytes) (keeping : Keeping) → All HasLine (groups_in l keeping)
+unfolding HasLine
+line_has l no_line = All-nil HasLine
+line_has l the_line = All-cons HasLine (l ∷ []) [] (omega arith) (All-nil HasLine)
+line_has l (the_batch held) =
+    All-cons HasLine (codes "batch" ∷ held ++ codes "done" ∷ []) [] (omega arith) (All-nil HasLine)
+
+step_has : (event : Event) (keeping : Keeping) → All HasLine (kept_group event keeping)
+step_has (stepped s (run l)) keeping = line_has l keeping
+step_has (stepped s long) keeping = All-nil HasLine
+step_has (stepped s (blank l)) keeping = All-nil HasLine
+step_has (stepped s (slow l)) keeping = All-nil HasLine
+step_has (stepped s (no_room l)) keeping = All-nil HasLine
+step_has (opened s) keeping = All-nil HasLine
+step_has (fed s bytes) keeping = All-nil HasLine
+step_has (took s bytes) keeping = All-nil HasLine
+step_has (ended s) keeping = All-nil HasLine
+step_has (closed s bytes) keeping = All-nil HasLine
+
+have_lines : (done : List Did) → All HasLine (groups_of done)
+have_lines [] = All-nil HasLine
+have_lines (d ∷ done) =
+    All-append HasLine (kept_group d.event d.effect.kept) (groups_of done) (step_has d.event d.effect.kept)
+    (have_lines done)
+
+back : (xs ys : List Group) → All HasLine (xs ++ ys) → All HasLine ys
+back [] ys h = h
+back (x ∷ xs) ys h = back xs ys (All-tail HasLine x (xs ++ ys) h)
+
+no_group : (groups : List Group) → All HasLine groups → lines_in groups ≡ [] → groups ≡ []
+unfolding HasLine
+no_group [] h none = refl
+no_group ([] ∷ groups) h none = absurd (omega (arith, All-head HasLine [] groups h))
+no_group ((l ∷ g) ∷ groups) h none = cc
+
+none_behind : (a b : List Bytes) → a ≡ a ++ b → b ≡ []
+none_behind a b e = nil_from_length b (omega (arith, ap length e, length-append a b))
+
+all_groups : (moves : List Move) → IsCommitted moves → (commits others whole later : List Group)
+    → all_logged moves ≡ commits ++ others → groups_of (all_done moves) ≡ whole ++ later
+    → lines_in whole ≡ lines_in commits → others ≡ [] → later ≡ []
+all_groups moves c commits others whole later logged cut same none =
+    let groups = groups_of (all_done moves) in
+    let every : all_logged moves ≡ commits = logged ∙ ap (λ (gs : List Group). commits ++ gs) none
+    ∙ append-nil commits in
+    let lines : lines_in whole ≡ lines_in whole ++ lines_in later = same ∙ sym (ap lines_in every)
+    ∙ logged_lines moves c ∙ ap lines_in cut ∙ flat_map-append (λ (g : Group). g) whole later in
+    no_group later
+    (back whole later (subst (λ (gs : List Group). All HasLine gs) cut (have_lines (all_done moves))))
+    (none_behind (lines_in whole) (lines_in later) lines)
+
+pub reopens : (found : List Bytes) (first : List Group) (start : State) (moves : List Move) (state : State) (least : ℕ)
     (image : List ℕ) → Loads (loading opening.store) (found ++ lines_in first) (loading start.store)
-    → Run start done state → IsSoundState start
-    → OpensWithin found (first ++ groups_of done) (length first + least) image
-    → Reopens (found ++ lines_in first) start done state least image
-reopens found first start done state least image loads run sound o =
-    let b = behind_it first (groups_of done) o.whole o.later o.cut (omega (arith, o.acknowledged)) in
-    let stood = stops_reload (found ++ lines_in first) start loads done state run sound b.rest o.later b.cut in
-    let same : found ++ whole_lines o.whole ≡ (found ++ lines_in first) ++ lines_in b.rest =
+    → Run start (all_done moves) state → IsSoundState start → IsCommitted moves
+    → OpensWithin found (first ++ all_logged moves) (length first + least) image
+    → Reopens (found ++ lines_in first) start moves state least image
+reopens found first start moves state least image loads runs sound committed o =
+    let done = all_done moves in
+    let b = behind_it first (all_logged moves) o.whole o.later o.cut (omega (arith, o.acknowledged)) in
+    let f = commits_first moves committed b.rest o.later b.cut in
+    let stood = stops_reload (found ++ lines_in first) start loads done state runs sound f.first f.later f.cut in
+    let same : found ++ whole_lines o.whole ≡ (found ++ lines_in first) ++ lines_in f.first =
     ap (λ (gs : List Group). found ++ whole_lines gs) b.is
     ∙ ap (λ (ls : List Bytes). found ++ ls) (flat_map-append (λ (g : Group). g) first b.rest)
-    ∙ sym (append_assoc found (lines_in first) (lines_in b.rest)) in
+    ∙ sym (append_assoc found (lines_in first) (lines_in b.rest))
+    ∙ ap (λ (ls : List Bytes). (found ++ lines_in first) ++ ls) (sym f.lines) in
     record {
-      whole = b.rest;
-      later = o.later;
-      cut = b.cut;
+      commits = b.rest;
+      others = o.later;
+      logged = b.cut;
       some = omega (arith, o.acknowledged, ap (λ (gs : List Group). length gs) b.is, length-append first b.rest);
+      whole = f.first;
+      later = f.later;
+      cut = f.cut;
+      of_commits = f.lines;
+      all = all_groups moves committed b.rest o.later f.first f.later b.cut f.cut f.lines;
       opens = subst (λ (ls : List Bytes). FileOpensTo ls image) same o.opens;
       at = stood.0;
       loads = stood.1;
     }
 
 pub logs_reopen : LogsReopen
-logs_reopen log found first counted start loaded begins answer turns hub hub' counted' state ends logs =
-    let done = all_done ends.goes.moves in
-    let groups = groups_of done in
+logs_reopen log found first counted start loaded begins answer turns most hub hub' counted' state ends logs =
+    let moves = ends.goes.moves in
+    let groups = all_logged moves in
     told_end log.before.told log.now.told
     (λ o n. SinceOpened log.path found (λ since. KeptAs answer found first groups since n) o)
-    (λ h. LeavesOnly (Reopens (found ++ lines_in first) start done state (answered answer groups)) h.file)
-    (λ o n s image is. reopens found first start done state (answered answer groups) image begins.loads ends.run
-    (start_sound start (starts (Some log) found first counted start loaded begins))
+    (λ h. LeavesOnly (Reopens (found ++ lines_in first) start moves state (answered answer groups)) h.file)
+    (λ o n s image is. reopens found first start moves state (answered answer groups) image begins.loads ends.run
+    (start_sound start (starts (Some log) found first counted start loaded begins)) ends.committed
     (leaves_groups answer found first groups s.since n s.holds image is)) logs.1

@@ -58,6 +58,7 @@ use Rattle.djq_serve.specs.Ends.{FaultsCount, RunsThrough, ServeEnds}
 use Rattle.djq_serve.specs.Told.{Shown}
 use Rattle.djq_serve.specs.Server.{all_told, all_done}
 use Rattle.djq_program_laws.specs.Finished.{FinishedCursors}
+use Rattle.djq_program_laws.specs.declared.limits.TheConstants.{ROUND_TURNS}
 use Rattle.djq_program_laws.specs.Logged.{LogSeen, Begins}
 use Rattle.djq_program_laws.specs.Live.{RunIsLive, ServeIsLive}
 use Rattle.djq_program_laws.specs.Ends.{Serves}
@@ -97,7 +98,7 @@ starts log found first counted start loaded begins =
 
 pub serve_is_live : ServeIsLive
 serve_is_live log status addr turns hub counted hub' counted' serves earlier mid later passed =
-    listings_stay_live mid ((serves.ends.moments).cursors earlier mid later passed
+    listings_stay_live mid ((serves.ends.throughout).cursors earlier mid later passed
     (nothing_given serves.start
     (starts log serves.found serves.first counted serves.start serves.loaded serves.begins)))
 
@@ -242,13 +243,13 @@ course_is_read_back start h said before now state course none q at reads =
     ∙ ap (λ (bs : Bytes). all_taken 1 course.done ++ bs) (sym none) ∙ head.sent in
     sent_back q (bytes_of course.writes) (out 1 course.done) at same back.held back.input back.live
 
-pub serving_is_read_back : (start : State) → IsStart start → IsSayableStore start.store → (answer : Served) (turns : ℕ)
+pub serving_is_read_back : (start : State) → IsStart start → IsSayableStore start.store → (answer : Served) (turns most : ℕ)
     (hub : Shown) (counted : Counts) (hub' : Shown) (counted' : Counts) (state : State)
-    (ends : ServeEnds answer turns hub counted start hub' counted' state) → (q : Listed) (s : ℕ) (at : State)
+    (ends : ServeEnds answer turns most hub counted start hub' counted' state) → (q : Listed) (s : ℕ) (at : State)
     → ReadsSinceOpened q s start (all_done ends.goes.moves) at state
     → sent_to s (all_told ends.goes.moves) ≡ out s (all_done ends.goes.moves)
     → IsMirroredBack q (sent_to s (all_told ends.goes.moves)) at
-serving_is_read_back start h said answer turns hub counted hub' counted' state ends q s at reads same =
+serving_is_read_back start h said answer turns most hub counted hub' counted' state ends q s at reads same =
     let back = opened_are_read_back start h said q s (all_done ends.goes.moves) at state (inl ends.rising) reads in
     sent_back q (sent_to s (all_told ends.goes.moves)) (out s (all_done ends.goes.moves)) at same back.held back.input
     back.live
@@ -274,13 +275,13 @@ rising_front (x ∷ xs) ys h =
     AllPairs-cons (λ i j. i < j) x xs
     (front (λ j. x < j) xs ys (All-head (λ i. All (λ j. i < j) (xs ++ ys)) x [] l.above)) (rising_front xs ys l.rising)
 
-pub serving_was_read_back : (start : State) → IsStart start → IsSayableStore start.store → (answer : Served) (turns : ℕ)
+pub serving_was_read_back : (start : State) → IsStart start → IsSayableStore start.store → (answer : Served) (turns most : ℕ)
     (hub : Shown) (counted : Counts) (hub' : Shown) (counted' : Counts) (state : State)
-    (ends : ServeEnds answer turns hub counted start hub' counted' state) → (earlier : List Did) (mid : State)
+    (ends : ServeEnds answer turns most hub counted start hub' counted' state) → (earlier : List Did) (mid : State)
     (later : List Did) → RunsThrough start (all_done ends.goes.moves) earlier mid later state
     → (q : Listed) (s : ℕ) (at : State) → ReadsSinceOpened q s start earlier at mid
     → all_taken s earlier ≡ out s earlier → IsMirroredBack q (all_taken s earlier) at
-serving_was_read_back start h said answer turns hub counted hub' counted' state ends earlier mid later through q s at
+serving_was_read_back start h said answer turns most hub counted hub' counted' state ends earlier mid later through q s at
     reads same =
     let rising = rising_front (all_opened earlier) (all_opened later)
     (subst (λ (is : List ℕ). AllPairs (λ i j. i < j) is)
@@ -301,7 +302,7 @@ serve_is_read_back log status addr turns hub counted hub' counted' serves q s at
     serving_is_read_back serves.start
     (starts log serves.found serves.first counted serves.start serves.loaded serves.begins)
     (loaded_are_sayable (serves.found ++ lines_in serves.first) serves.start.store (serves.begins).loads) serves.answer
-    turns
+    turns ROUND_TURNS
     serves.ready serves.loaded hub'.shown counted' serves.state serves.ends q s at reads same
 
 pub run_moments_are_read_back : RunMomentsAreReadBack
@@ -314,5 +315,5 @@ serve_moments_are_read_back log status addr turns hub counted hub' counted' serv
     serving_was_read_back serves.start
     (starts log serves.found serves.first counted serves.start serves.loaded serves.begins)
     (loaded_are_sayable (serves.found ++ lines_in serves.first) serves.start.store (serves.begins).loads) serves.answer
-    turns
+    turns ROUND_TURNS
     serves.ready serves.loaded hub'.shown counted' serves.state serves.ends earlier mid later through q s at reads same

@@ -8,6 +8,7 @@ use Rattle.std.proofs.lemmas.Bool.{or_parts}
 use Rattle.djq_io.specs.declared.hub.Coming.{Coming}
 use Rattle.djq_io.specs.declared.hub.Incoming.{Incoming}
 use Rattle.djq_io.specs.declared.hub.Incoming.TheVariants.{Brings}
+use Rattle.djq_io.specs.declared.hub.Class.TheVariants.{Client}
 use Rattle.djq_io.specs.declared.hub.Turn.{Turn}
 use Rattle.djq_io.specs.declared.hub.Turn.TheVariants.{Opened, Bytes as Brought, Ended, Idle, Over as HubOver, Failed}
 use Rattle.djq_io.specs.declared.hub.Sent.{Sent}
@@ -24,7 +25,7 @@ use Rattle.djq_schedule.specs.Schedule.{schedule_lines}
 use Rattle.djq_schedule.specs.Made.{ScheduleIsMade}
 use Rattle.djq_schedule.proofs.Schedules.{AllShort, turn_for_each_line, turns_are_short}
 use Rattle.djq_machine.specs.State.{State}
-use Rattle.djq_machine.specs.Run.{Walk, Group, groups_of}
+use Rattle.djq_machine.specs.Run.{Walk, Group}
 use Rattle.djq_machine.specs.Call.{Counts}
 use Rattle.djq_run.specs.declared.status.Status.{Status}
 use Rattle.djq_run.specs.declared.status.Status.TheVariants.{NoMemory}
@@ -33,10 +34,10 @@ use Rattle.djq_serve.specs.declared.served.Served.TheVariants.{Stopped, Over, Tu
 use Rattle.djq_serve.specs.declared.served.Served.TheVariants.{HubFault as HubFailed, DiskFault as DiskFailed, LogFull}
 use Rattle.djq_serve.specs.Told.{Shown, hub_shown, Place, hub_place, IsAnswered, turn_is_over, turn_is_failed, by_turn}
 use Rattle.djq_serve.specs.Told.{has_over, turn_failed, turn_in, turns_in}
-use Rattle.djq_serve.specs.Server.{all_told, all_done}
+use Rattle.djq_serve.specs.Server.{all_told, all_logged}
 use Rattle.djq_serve.specs.Logged.{UnkeptIsSilent}
 use Rattle.djq_serve.specs.Ends.{FaultsCount, ServeEnds}
-use Rattle.djq_program_laws.specs.Logged.{DiskSeen, LogSeen, log_seen, IsUnasked, served_status, Begins, Logs}
+use Rattle.djq_program_laws.specs.Logged.{DiskSeen, LogSeen, log_seen, IsUnasked, served_status, Begins, Logs, IsStored}
 use Rattle.djq_program_laws.specs.Replay.{hub_of, ServedWhole, Plays, ReplayComesTo, ComesToNothing, first_fault}
 use Rattle.djq_program_laws.specs.Parts.{TellsWhole, TellsNone}
 use Rattle.djq_program_laws.proofs.Logs.{never_began}
@@ -67,7 +68,7 @@ uncut old id n buf new room all_of (rest, after, some, before, behind) all =
 turned : (turn : Turn) (piece : Bytes) (old new : Place) → IsAnswered old (Turning turn piece) new
     → AllShort old.script.turns → turn_is_over turn ≡ false → turn_is_failed turn ≡ false
     → OneLess old.script.turns new.script.turns
-turned (Opened id) piece old new (buf, room, is, follows, ids) all over failed = passed old.script _ new.script
+turned (Opened id Client) piece old new (buf, room, is, follows, ids) all over failed = passed old.script _ new.script
     follows.1 all
 turned (Brought id n) piece old new (buf, room, is, follows, ids) all over failed = by_piece follows.1
   where
@@ -130,7 +131,7 @@ no_fault (least, inr top) = absurd (omega (arith, top))
 -- Serving such a hub, which tells its turns to the end, ends as it is over, a session says `stop`, or the log fails.
 is_whole : (answer : Served) (turns : List Coming) (most : ℕ) (counted counted' : Counts) (start state : State)
     (past : Option (List Told)) (left : Script) (ids : Ids)
-    → ServeEnds answer most (hub_of turns) counted start (hub_shown past (Some left) ids) counted' state
+    → ServeEnds answer most 1 (hub_of turns) counted start (hub_shown past (Some left) ids) counted' state
     → FaultsCount answer 0 0 → AllShort turns → length turns < most → ServedWhole answer
 is_whole Stopped turns most counted counted' start state past left ids ends faults all fewer = tt
 is_whole Over turns most counted counted' start state past left ids ends faults all fewer = tt
@@ -139,8 +140,8 @@ is_whole LogFull turns most counted counted' start state past left ids ends faul
 is_whole HubFailed turns most counted counted' start state past left ids ends faults all fewer = no_fault faults
 is_whole AllTaken turns most counted counted' start state past left ids ends faults all fewer =
     let begin = hub_place (record { blocked = []; turns = turns }) no_ids in
-    let took = calls (all_told ends.goes.moves) begin (hub_place left ids) ends.goes.told.played all ends.caused.over
-    ends.caused.failed in
+    let took = calls (all_told ends.goes.moves) begin (hub_place left ids) ends.goes.told.played all
+    (ends.caused.over refl (ends.caused.stopped refl)) ends.caused.failed in
     absurd (omega (arith, took.taken, ends.goes.turned, ends.has_taken, fewer))
 
 -- a hub in memory of which no call is to fail, as it shows itself
@@ -168,8 +169,9 @@ made_steady bytes hub made = record {
 pub record EndsKept (log : Option LogSeen) (found : List Bytes) (first : List Group) (answer : Served) (most : ℕ)
     (hub : Shown) (loaded : Counts) (start : State) (hub' : Shown)
     (counted' : Counts) (state : State) : Type 0 where
-  pub ends : ServeEnds answer most hub loaded start hub' counted' state
-  pub logs : Logs log found first answer (groups_of (all_done ends.goes.moves))
+  pub ends : ServeEnds answer most 1 hub loaded start hub' counted' state
+  pub logs : Logs log found first answer (all_logged ends.goes.moves)
+  pub stored : IsStored log found first ends.goes.moves
   pub silent : UnkeptIsSilent answer ends.goes.moves
 
 -- The hub of a schedule was served.
@@ -204,6 +206,7 @@ plays log found first bytes made hub hub' answer most counted loaded counted' st
       answer = answer;
       ends = served.ends;
       logs = served.logs;
+      stored = served.stored;
       silent = served.silent;
       whole = is_whole answer turns (lines + 1) loaded counted' start state hub'.past hub'.script hub'.ids served.ends
           faults (turns_are_short bytes turns is_made.turns) (omega (arith, more));

@@ -12,6 +12,7 @@ use Rattle.djq_mirror_laws.specs.Whole.{ReadsSinceOpened}
 use Rattle.djq_mirror_laws.proofs.SayableStates.{loaded_are_sayable}
 use Rattle.djq_serve.specs.Server.{Move, all_told, all_done}
 use Rattle.djq_serve.specs.Ends.{RunsThrough}
+use Rattle.djq_program_laws.specs.declared.limits.TheConstants.{ROUND_TURNS}
 use Rattle.djq_program_laws.specs.Logged.{LogSeen}
 use Rattle.djq_program_laws.specs.Mirrored.{IsMirroredBack}
 use Rattle.djq_program_laws.specs.Served.{Serving, HaveListed, StayLive, AreReadBack, OfServing, OfServe, OfReplay}
@@ -29,6 +30,7 @@ serve_too Holds every log status addr turns hub counted hub' counted' serves =
       begins = serves.begins;
       answer = serves.answer;
       turns = turns;
+      most = ROUND_TURNS;
       hub = serves.ready;
       hub_left = hub'.shown;
       used = counted';
@@ -46,6 +48,7 @@ replay_too Holds every log turns most counted counted' past plays =
       begins = plays.begins;
       answer = plays.answer;
       turns = most;
+      most = 1;
       hub = _;
       hub_left = _;
       used = counted';
@@ -78,13 +81,13 @@ served_are_read_back log start moves state v =
     let begun = served_start log start moves state v in
     let said = served_sayable log start moves state v in record {
       moments = λ m q s at reads same.
-          serving_was_read_back start begun said v.answer v.turns v.hub v.loaded v.hub_left v.used state v.ends m.done
+          serving_was_read_back start begun said v.answer v.turns v.most v.hub v.loaded v.hub_left v.used state v.ends m.done
           m.at m.later
           (subst (λ (ms : List Move). RunsThrough start (all_done ms) m.done m.at m.later state) (sym v.by_moves)
           m.passed) q s at reads same;
       end = subst
           (λ (ms : List Move). (q : Listed) (s : ℕ) (at : State) → ReadsSinceOpened q s start (all_done ms) at state
           → sent_to s (all_told ms) ≡ out s (all_done ms) → IsMirroredBack q (sent_to s (all_told ms)) at) v.by_moves
-          (λ q s at reads same. serving_is_read_back start begun said v.answer v.turns v.hub v.loaded v.hub_left v.used
+          (λ q s at reads same. serving_is_read_back start begun said v.answer v.turns v.most v.hub v.loaded v.hub_left v.used
           state v.ends q s at reads same);
     }

@@ -11,7 +11,7 @@ use Rattle.djq_io.specs.declared.hub.Told.TheVariants.{Listening}
 use Rattle.djq_model.specs.Data.{Bytes}
 use Rattle.djq_protocol.specs.Reply.{line}
 use Rattle.djq_machine.specs.State.{State, opening}
-use Rattle.djq_machine.specs.Run.{Group, groups_of}
+use Rattle.djq_machine.specs.Run.{Group}
 use Rattle.djq_machine.specs.Call.{Counts}
 use Rattle.djq_run_laws.specs.Course.{Outside}
 use Rattle.djq_run_laws.specs.Given.{Headline}
@@ -20,13 +20,14 @@ use Rattle.djq_run.specs.declared.status.Status.TheVariants.{Usage, WriteFault, 
 use Rattle.djq_run.specs.Ends.{RunEnds}
 use Rattle.djq_serve.specs.declared.served.Served.{Served}
 use Rattle.djq_serve.specs.Told.{Shown}
-use Rattle.djq_serve.specs.Server.{all_done}
+use Rattle.djq_serve.specs.Server.{all_logged}
 use Rattle.djq_serve.specs.Logged.{UnkeptIsSilent}
 use Rattle.djq_serve.specs.Ends.{ServeEnds, FaultsCount}
 use Rattle.djq_cli.specs.declared.commands.Asked.{Asked}
 use Rattle.djq_cli.specs.declared.commands.Asked.TheVariants.{Run, Serve, Replay, Gen, Mirror}
 use Rattle.djq_cli.specs.Asks.{Asks, WordsAsk}
-use Rattle.djq_program_laws.specs.Logged.{DiskSeen, LogSeen, log_seen, served_status, Begins, Logs, FoundIn}
+use Rattle.djq_program_laws.specs.declared.limits.TheConstants.{ROUND_TURNS}
+use Rattle.djq_program_laws.specs.Logged.{DiskSeen, LogSeen, log_seen, served_status, Begins, Logs, IsStored, FoundIn}
 use Rattle.djq_program_laws.specs.Logged.{NeverBegins}
 use Rattle.djq_program_laws.specs.Gen.{GenEnds}
 use Rattle.djq_program_laws.specs.Replay.{ReplayEnds}
@@ -66,9 +67,10 @@ pub record Listens (addr : Bytes) (answer : Listened) (old new : Shown) : Type 0
 
 -- **The theorem of `serve`.** The lines of the log were loaded, and a batch that they left open was
 -- ended by a line kept behind them; the hub listened at the address, and then the server served it from
--- what they gave on: by moves that are a run of the join machine, of which the hub tells, with each
--- session sent what is its. What the run keeps is in the log, before anything is sent behind it. And
--- the status says exactly why it ended.
+-- what they gave on, in rounds of at most so many turns: by moves that are a run of the join machine, of which
+-- the hub tells, with each session sent what is its, lines run by turns and none left for the next round. What the
+-- run logs is in the log, one group a commit, before anything of the commit is sent; and each move says through
+-- which moments of the disk it was stored. And the status says exactly why it ended.
 pub record ServesHub (log : Option LogSeen) (status : Status) (addr : Bytes) (turns : ℕ) (hub : HubSeen)
     (counted : Counts) (hub' : HubSeen) (counted' : Counts) : Type 0 where
   pub found : List Bytes
@@ -80,9 +82,10 @@ pub record ServesHub (log : Option LogSeen) (status : Status) (addr : Bytes) (tu
   pub listens : Listens addr Ready hub.shown ready
   pub state : State
   pub answer : Served
-  pub ends : ServeEnds answer turns ready loaded start hub'.shown counted' state
+  pub ends : ServeEnds answer turns ROUND_TURNS ready loaded start hub'.shown counted' state
   pub faults : FaultsCount answer hub.faults hub'.faults
-  pub logs : Logs log found first answer (groups_of (all_done ends.goes.moves))
+  pub logs : Logs log found first answer (all_logged ends.goes.moves)
+  pub stored : IsStored log found first ends.goes.moves
   pub silent : UnkeptIsSilent answer ends.goes.moves
   pub is : status ≡ served_status answer
 

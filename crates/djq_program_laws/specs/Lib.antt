@@ -5,6 +5,7 @@ pub mod Mirrored
 pub mod Gen
 pub mod Parts
 pub mod Reopened
+pub mod Moments
 pub mod Ends
 pub mod Finished
 pub mod Live

@@ -11,7 +11,7 @@ use Rattle.djq_journal.specs.Logging.{Overfull}
 use Rattle.djq_model.specs.Data.{Bytes}
 use Rattle.djq_protocol.specs.declared.held.HeldRow.{HeldRow}
 use Rattle.djq_machine.specs.State.{State, opening}
-use Rattle.djq_machine.specs.Run.{Group, lines_in}
+use Rattle.djq_machine.specs.Run.{Walk, Group, lines_in}
 use Rattle.djq_machine.specs.Call.{Counts}
 use Rattle.djq_machine.specs.declared.machine.Loaded.TheVariants.{Refused as refused}
 use Rattle.djq_machine.specs.Loading.{Loading, loading, LoadStep, Loads}
@@ -23,6 +23,8 @@ use Rattle.djq_serve.specs.declared.served.Served.TheVariants.{Stopped, Over, Tu
 use Rattle.djq_serve.specs.declared.served.Served.TheVariants.{HubFault as HubFailed}
 use Rattle.djq_serve.specs.declared.served.Served.TheVariants.{DiskFault as DiskFailed}
 use Rattle.djq_serve.specs.declared.served.Served.TheVariants.{LogFull as Full}
+use Rattle.djq_serve.specs.Server.{Move}
+use Rattle.djq_serve.specs.Goes.{log_place, LogsMove}
 use Rattle.djq_serve.specs.Logged.{DiskCounts, IsNotOfDisk}
 
 -- A disk, as the program shows it: what it went through, where that is told, and its count of faults.
@@ -140,6 +142,14 @@ FoundIn None found first gate = gate ≡ None
 FoundIn (Some log) found first None = ⊥
 FoundIn (Some log) found first (Some gate) = (log.now.faults ≡ log.before.faults)
     × WhereHistoryTold log.before.told log.now.told (FindsLines log.path found first gate)
+
+-- Where a log is asked for, its journal stood idle after the lines found and what was kept first, and then each move
+-- did to it what the move says.
+abbrev pub IsStored : Option LogSeen → List Bytes → List Group → List Move → Type 0
+IsStored None found first moves = Unit {0}
+IsStored (Some log) found first moves = (gate : ℕ) × (gate' : Option ℕ) × (mid : Option History)
+    × WhereHistoryTold log.before.told mid (FindsLines log.path found first gate)
+    × Walk LogsMove (log_place (Some gate) mid) moves (log_place gate' log.now.told)
 
 -- What loading counts: no lookup or link of a listing. Where no log is asked for no line is found,
 -- and nothing is counted.

@@ -13,7 +13,7 @@ use Rattle.djq_io.specs.declared.hub.Told.{Told}
 use Rattle.djq_io.specs.Given.{Gave}
 use Rattle.djq_model.specs.Data.{Bytes}
 use Rattle.djq_machine.specs.State.{State}
-use Rattle.djq_machine.specs.Run.{Group, groups_of}
+use Rattle.djq_machine.specs.Run.{Group}
 use Rattle.djq_machine.specs.Call.{Counts}
 use Rattle.djq_io.specs.declared.limits.TheConstants.{MOST_READS}
 use Rattle.djq_run_laws.specs.Course.{Outside}
@@ -27,10 +27,10 @@ use Rattle.djq_schedule.specs.Sent.{sent_text, outside_line}
 use Rattle.djq_serve.specs.declared.served.Served.{Served}
 use Rattle.djq_serve.specs.declared.served.Served.TheVariants.{TurnsUsed as AllTaken, HubFault as HubFailed}
 use Rattle.djq_serve.specs.Told.{Shown, hub_shown}
-use Rattle.djq_serve.specs.Server.{all_done}
+use Rattle.djq_serve.specs.Server.{all_logged}
 use Rattle.djq_serve.specs.Logged.{UnkeptIsSilent}
 use Rattle.djq_serve.specs.Ends.{ServeEnds}
-use Rattle.djq_program_laws.specs.Logged.{LogSeen, IsUnasked, served_status, Begins, Logs, NeverBegins}
+use Rattle.djq_program_laws.specs.Logged.{LogSeen, IsUnasked, served_status, Begins, Logs, IsStored, NeverBegins}
 
 -- It gave these bytes, has nothing left, and no read failed.
 pub record SourceReadsWhole (before now : Option SourceReading) (faults faults' : ℕ) (bytes : Bytes)
@@ -67,8 +67,8 @@ ServedWhole _ = Unit {0}
 -- The lines of the log were loaded, a batch that they left open was ended, and the hub of these turns
 -- was served from what they gave on, until it was over, a session said `stop`, or the log failed: by
 -- moves that are a run of the join machine, which counted no more of listings than it may cost, with
--- each session sent what is its. What the run keeps is in the log. The hub tells what is left of its
--- turns, so each turn that was taken is the next of these. At the end it tells this past.
+-- each session sent what is its, and each turn a round of its own. What the run logs is in the log. The hub
+-- tells what is left of its turns, so each turn that was taken is the next of these. At the end it tells this past.
 pub record Plays (log : Option LogSeen) (turns : List Coming) (most : ℕ) (counted counted' : Counts)
     (past : Option (List Told)) : Type 0 where
   pub found : List Bytes
@@ -80,9 +80,10 @@ pub record Plays (log : Option LogSeen) (turns : List Coming) (most : ℕ) (coun
   pub ids : Ids
   pub state : State
   pub answer : Served
-  pub ends : ServeEnds answer most (hub_of turns) loaded start (hub_shown past (Some left) ids)
+  pub ends : ServeEnds answer most 1 (hub_of turns) loaded start (hub_shown past (Some left) ids)
       counted' state
-  pub logs : Logs log found first answer (groups_of (all_done ends.goes.moves))
+  pub logs : Logs log found first answer (all_logged ends.goes.moves)
+  pub stored : IsStored log found first ends.goes.moves
   pub silent : UnkeptIsSilent answer ends.goes.moves
   pub whole : ServedWhole answer
 

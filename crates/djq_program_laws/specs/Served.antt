@@ -23,7 +23,7 @@ use Rattle.djq_program_laws.specs.Ends.{HubSeen, ServesHub}
 use Rattle.djq_program_laws.specs.Replay.{Plays}
 
 -- A hub was served: the lines of a log were loaded, if there is one, and from what they gave the server went
--- on, by these moves, to this state.
+-- on, by these moves, to this state, in rounds of at most so many turns.
 pub record Serving (log : Option LogSeen) (start : State) (moves : List Move) (state : State) : Type 0 where
   pub found : List Bytes
   pub first : List Group
@@ -32,10 +32,11 @@ pub record Serving (log : Option LogSeen) (start : State) (moves : List Move) (s
   pub begins : Begins log found first counted start loaded
   pub answer : Served
   pub turns : ℕ
+  pub most : ℕ
   pub hub : Shown
   pub hub_left : Shown
   pub used : Counts
-  pub ends : ServeEnds answer turns hub loaded start hub_left used state
+  pub ends : ServeEnds answer turns most hub loaded start hub_left used state
   pub by_moves : ends.goes.moves ≡ moves
 
 -- a moment of it: what was done until then, and the state that it had come to

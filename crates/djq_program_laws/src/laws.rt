@@ -2,6 +2,7 @@ ghost use Rattle.djq_program_laws.specs.Finished.{FinishedCursors};
 ghost use Rattle.djq_program_laws.specs.Live.{RunIsLive, ServeIsLive};
 ghost use Rattle.djq_program_laws.specs.ReadBack.{RunIsReadBack, ServeIsReadBack, RunMomentsAreReadBack, ServeMomentsAreReadBack};
 ghost use Rattle.djq_program_laws.specs.Reopened.{LogsReopen};
+ghost use Rattle.djq_program_laws.specs.Moments.{MomentsReopen};
 
 /// At each moment of a run of the program, an open cursor whose `end` was queued had listed every
 /// answer of its query over the rows that were present then, each once, and nothing else.
@@ -37,8 +38,15 @@ pub fn serve_is_read_back()
 {}
 
 /// What a crash leaves of a log after the program's end opens to lines that, loaded, give the state
-/// after a first part of the lines that the run logged. That part has each line that was
-/// answered: all of them, or all but the last if the log failed.
+/// after a first part of the lines that the run logged. That part ends with a commit, and has each line
+/// that was answered: all of them, or all but those of the last commit if the log failed.
 pub fn logs_reopen()
     ensures { LogsReopen }
+{}
+
+/// What a crash leaves of a log at any moment of serving opens to lines that, loaded, give the state after a
+/// first part of the lines that the run logs. That part has each line that was answered by then: those of every
+/// commit that was appended before.
+pub fn moments_reopen()
+    ensures { MomentsReopen }
 {}

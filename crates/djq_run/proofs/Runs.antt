@@ -1,7 +1,7 @@
 -- How a run goes on, by each of its events, and how it ends.
 use Rattle.std.specs.Prelude.{List, [], ◌∷◌, ◌++◌, ◌≡◌, ◌≢◌, Bool, true, false, ℕ, ◌+◌, ◌<◌, ◌≤◌, Option, None, Some}
-use Rattle.std.specs.Prelude.{IsSome, IsSomeAnd, length, take, ◌⊎◌, Result, Ok, Err, is_err, ⊤, IfSome, MatchOption}
-use Rattle.std.proofs.Common.{refl, sym, ap, ◌∙◌, subst, append-nil, length-take, arith, inl, inr, length-append}
+use Rattle.std.specs.Prelude.{IsSome, IsSomeAnd, length, take, ◌⊎◌, Result, Ok, Err, is_err, ⊤, IfSome}
+use Rattle.std.proofs.Common.{refl, sym, ap, ap₂, ◌∙◌, subst, append-nil, length-take, arith, inl, inr, length-append}
 use Rattle.std.proofs.lemmas.List.Elements.{All-head, All-tail}
 use Rattle.std.proofs.lemmas.Grind.{flat_map-append}
 use Rattle.djq_io.specs.declared.sink.Write.{Write}
@@ -16,21 +16,20 @@ use Rattle.djq_protocol.specs.declared.answer.EndCause.TheVariants.{Input, Quit,
 use Rattle.djq_protocol.specs.declared.limits.TheConstants.{SESSIONS}
 use Rattle.djq_machine.specs.declared.machine.OpenRefusal.{OpenRefusal}
 use Rattle.djq_machine.specs.declared.machine.OpenRefusal.TheVariants.{Full, NoMem}
-use Rattle.djq_machine.specs.declared.machine.Stepped.TheVariants.{Ended as SteppedEnded}
 use Rattle.djq_machine.specs.State.{State, Session, session_of, fresh}
 use Rattle.djq_machine.specs.Run.{all_taken, pending_of, Did, all_fed, pending_in, piece_of, fed_by, to_session}
 use Rattle.djq_machine.specs.LineStep.{LineOutcome, long, blank, slow, no_room, run}
 use Rattle.djq_machine.specs.Step.{Event, opened, fed, stepped, took, ended, is_dry}
 use Rattle.djq_machine.specs.Call.{IsOpen, Makes, MakesCounted, Counts, cause_of, cause_in, held_of, held_in, OpenGives}
-use Rattle.djq_machine.specs.Call.{RanStep, EndedStepAs, StepGives}
+use Rattle.djq_machine.specs.Call.{StepsLine}
 use Rattle.djq_machine.specs.Effect.{Effect}
 use Rattle.djq_run_laws.specs.Course.{RunDoes, last_write, Outside, outside, Course, MayRun, AwaitsInput, writes_by}
-use Rattle.djq_run_laws.specs.Moved.{EndsByRun}
+use Rattle.djq_run_laws.specs.Moved.{EndsByRun, CausedBy, LeavesHeldBytes, LineIsStepped}
 use Rattle.djq_run_laws.proofs.Courses.{does_well, course_begun, course_begun_well, course_one, course_one_done}
 use Rattle.djq_run_laws.proofs.Courses.{course_one_well, course_failed, course_failed_so, course_then}
 use Rattle.djq_run_laws.proofs.Courses.{course_then_failed, course_then_done, headline, InputComes, is_held}
 use Rattle.djq_run_laws.proofs.Courses.{out_of_memory, is_dropped, InputIsOver, input_ends, had_ended, SessionTakes}
-use Rattle.djq_run_laws.proofs.Courses.{StepsLine, stepped_facts}
+use Rattle.djq_run_laws.proofs.Courses.{stepped_facts}
 use Rattle.djq_run_laws.proofs.Lists.{stepped_held, stepped_cause}
 use Rattle.djq_run_laws.proofs.Events.{step_bytes}
 use Rattle.djq_run_laws.proofs.TakenLines.{front_fewer}
@@ -533,94 +532,59 @@ none_pending n old new all t =
       length-take n (pending_of old 1),
     ))
 
--- A line that was blank or was run: the session stays open, its input hasn't ended, and fewer bytes are held.
+-- What may still be run of a session: each byte that it holds, and that it ends, where it hasn't.
+abbrev pub work_by : Option EndCause → Bytes → ℕ
+work_by None held = 1 + length held
+work_by (Some c) held = 0
+
+abbrev pub work : State → ℕ
+work st = work_by (cause_of st 1) (held_of st 1)
+
+-- A line of the session is run, or it ends in its place: it stays open, its input hasn't ended, and less may be run.
 pub record LineRan (old new : State) (before now : Counts) : Type 0 where
   pub course : (o : Outside) (told : Option (List Write)) (faults : ℕ)
       → GoesTo false old (with_sink o told faults before) (with_sink o told faults now) new
   pub is_open : IsOpen new 1
   pub input : cause_of new 1 ≡ Some Input → ⊥
-  pub fewer : length (held_of new 1) < length (held_of old 1)
+  pub fewer : work new < work old
 
-none_input_parts : (c : Option EndCause) → c ≡ None → c ≡ Some Input → ⊥
-none_input_parts c none e = cc
+pub work_same : (old new : State) → cause_of new 1 ≡ cause_of old 1 → held_of new 1 ≡ held_of old 1
+    → work new ≡ work old
+work_same old new cause held = ap₂ work_by cause held
 
-run_input : (c : Option EndCause) → IfSome c EndsByRun → c ≡ Some Input → ⊥
-run_input c h e = subst (λ (o : Option EndCause). IfSome o EndsByRun) e h
+less_work : (c c' : Option EndCause) (held held' : Bytes) → c ≡ None → (c' ≡ None → length held' < length held)
+    → work_by c' held' < work_by c held
+less_work None None held held' running fewer = omega (arith, fewer refl)
+less_work None (Some k) held held' running fewer = omega arith
+less_work (Some k) c' held held' running fewer = cc
 
-pub line_ran : (old new : State) (before now : Counts) → IsOpen old 1 → pending_of old 1 ≡ []
-    → RanStep old 1 new before now → LineRan old new before now
-line_ran old new before now there pending (l, inl m) =
-    let f : StepsLine old new 1 (blank l) = stepped_facts old 1 (blank l) m.effect new m.step in
+-- behind a front of any kind
+no_input : (outcome : LineOutcome) (c : Option EndCause) → CausedBy outcome c → c ≡ Some Input → ⊥
+no_input long c h e = cc
+no_input (blank l) c h e = cc
+no_input (slow l) c h e = cc
+no_input (no_room l) c h e = cc
+no_input (run l) c h e = subst (λ (o : Option EndCause). IfSome o EndsByRun) e h
+
+fewer_held : (outcome : LineOutcome) (c : Option EndCause) (held held' : Bytes) → CausedBy outcome c
+    → LeavesHeldBytes outcome held held' → c ≡ None → length held' < length held
+fewer_held long c held held' h left none = cc
+fewer_held (blank l) c held held' h left none = front_fewer held l held' left
+fewer_held (slow l) c held held' h left none = front_fewer held l held' left
+fewer_held (no_room l) c held held' h left none = front_fewer held l held' left
+fewer_held (run l) c held held' h left none = front_fewer held l held' left
+
+-- A line is run where nothing is pending.
+pub line_ran : (old mid new : State) (before now : Counts) (commit commit' : List Bytes) → mid ≡ old → IsOpen old 1
+    → pending_of old 1 ≡ [] → StepsLine mid 1 new before now commit commit' → LineRan old new before now
+line_ran old mid new before now commit commit' same there pending steps =
+    let own : StepsLine old 1 new before now commit commit' =
+    subst (λ (st : State). StepsLine st 1 new before now commit commit') same steps in
+    let f : LineIsStepped old new 1 own.outcome = stepped_facts old 1 own.outcome own.makes.effect new own.makes.step in
     record {
-      course = λ o told faults. by_line o told faults old new (blank l) before now there pending m;
+      course = λ o told faults. by_line o told faults old new own.outcome before now there pending own.makes;
       is_open = f.stays;
-      input = none_input_parts (cause_of new 1) f.cause;
-      fewer = front_fewer (held_of old 1) l (held_of new 1) f.held;
+      input = no_input own.outcome (cause_of new 1) f.cause;
+      fewer = less_work (cause_of old 1) (cause_of new 1) (held_of old 1) (held_of new 1) f.running
+          (fewer_held own.outcome (cause_of new 1) (held_of old 1) (held_of new 1) f.cause f.held);
     }
-line_ran old new before now there pending (l, inr m) =
-    let f : StepsLine old new 1 (run l) = stepped_facts old 1 (run l) m.effect new m.step in
-    record {
-      course = λ o told faults. by_line o told faults old new (run l) before now there pending m;
-      is_open = f.stays;
-      input = run_input (cause_of new 1) f.cause;
-      fewer = front_fewer (held_of old 1) l (held_of new 1) f.held;
-    }
-
--- A step that ran no line: the session has ended by this cause, before it or by it.
-pub record LineEnded (c : EndCause) (old new : State) (before now : Counts) : Type 0 where
-  pub course : (o : Outside) (told : Option (List Write)) (faults : ℕ)
-      → GoesTo false old (with_sink o told faults before) (with_sink o told faults now) new
-  pub is_open : IsOpen new 1
-  pub cause : cause_of new 1 ≡ Some c
-  pub input : c ≡ Input → cause_of old 1 ≡ Some Input
-
-ended_now : (c : EndCause) (old new : State) (before now : Counts) (outcome : LineOutcome) → IsOpen old 1
-    → pending_of old 1 ≡ []
-    → MakesCounted old (stepped 1 outcome) new before now → (StepsLine old new 1 outcome → cause_of new 1 ≡ Some c)
-    → (c ≡ Input → ⊥) → LineEnded c old new before now
-ended_now c old new before now outcome there pending m cause no_input =
-    let f : StepsLine old new 1 outcome = stepped_facts old 1 outcome m.effect new m.step in
-    record {
-      course = λ o told faults. by_line o told faults old new outcome before now there pending m;
-      is_open = f.stays;
-      cause = cause f;
-      input = λ e. absurd (no_input e);
-    }
-
-ended_by_parts : (c : EndCause) (old new : State) (before now : Counts) → IsOpen old 1 → pending_of old 1 ≡ []
-    → EndedStepAs c old 1 new before now → LineEnded c old new before now
-ended_by_parts Long old new before now there pending m = ended_now Long old new before now long there pending m (λ f. f.cause)
-    (λ e. cc)
-ended_by_parts Slow old new before now there pending m = ended_now Slow old new before now (slow m.0) there pending m.1
-    (λ f. f.cause) (λ e. cc)
-ended_by_parts Memory old new before now there pending m = ended_now Memory old new before now (no_room m.0) there pending m.1
-    (λ f. f.cause) (λ e. cc)
-ended_by_parts Input old new before now there pending m = absurd m
-ended_by_parts Quit old new before now there pending m = absurd m
-ended_by_parts Stop old new before now there pending m = absurd m
-
-ended_before : (c : EndCause) (old new : State) (before now : Counts) (cause : Option EndCause) → cause_of old 1 ≡ cause
-    → IsOpen old 1 → pending_of old 1 ≡ []
-    → MatchOption cause (EndedStepAs c old 1 new before now) (λ d. (d ≡ c) × (new ≡ old) × (now ≡ before))
-    → LineEnded c old new before now
-ended_before c old new before now None e there pending h = ended_by_parts c old new before now there pending h
-ended_before c old new before now (Some d) e there pending h =
-    let same : cause_of old 1 ≡ Some c = e ∙ ap (λ k. Some k) h.0 in
-    record {
-      course = λ o told faults. subst (λ (st : State). GoesTo false old (with_sink o told faults before)
-          (with_sink o told faults now) st) (sym h.1)
-          (subst (λ (k : Counts). GoesTo false old (with_sink o told faults before) (with_sink o told faults k) old)
-          (sym h.2) (goes_begun (with_sink o told faults before) old));
-      is_open = subst (λ (st : State). IsOpen st 1) (sym h.1) there;
-      cause = ap (λ (st : State). cause_of st 1) h.1 ∙ same;
-      input = λ i. same ∙ ap (λ k. Some k) i;
-    }
-
-pub line_ended : (c : EndCause) (old new : State) (before now : Counts) (kept : List Bytes) → IsOpen old 1
-    → pending_of old 1 ≡ [] → StepGives old 1 (SteppedEnded c) new before now kept → LineEnded c old new before now
-line_ended c old new before now kept there pending h = ended_before c old new before now (cause_of old 1) refl there
-    pending h.1
-
--- a session has one end cause
-pub one_cause : (c d : EndCause) (o : Option EndCause) → o ≡ Some c → o ≡ Some d → c ≡ d
-one_cause c d o e f = cc

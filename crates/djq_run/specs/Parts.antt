@@ -1,12 +1,12 @@
 -- What the parts of a run say: a flush, the lines of what is held, a read.
-use Rattle.std.specs.Prelude.{ℕ, List, [], ◌≡◌, ◌<◌, ◌≤◌, Bool, true, false, not, Option, None, Some, length}
+use Rattle.std.specs.Prelude.{ℕ, List, [], ◌∷◌, ◌≡◌, ◌<◌, ◌≤◌, Bool, true, false, not, Option, None, Some, length}
 use Rattle.djq_io.specs.Faults.{Counted}
 use Rattle.djq_io.specs.declared.sink.Write.{Write}
 use Rattle.djq_model.specs.Data.{Bytes}
 use Rattle.djq_protocol.specs.declared.answer.EndCause.TheVariants.{Input, Quit, Stop, Long, Slow, Memory}
 use Rattle.djq_machine.specs.State.{State}
 use Rattle.djq_machine.specs.Run.{pending_of, all_fed}
-use Rattle.djq_machine.specs.Call.{IsOpen, Counts, cause_of, held_of}
+use Rattle.djq_machine.specs.Call.{IsOpen, Counts, cause_of, held_of, state_ids}
 use Rattle.djq_run_laws.specs.Course.{Outside, Course}
 use Rattle.djq_run.specs.declared.status.Status.{Status}
 use Rattle.djq_run.specs.declared.status.Status.TheVariants.{Done, NoMemory, SessionEnded}
@@ -14,6 +14,11 @@ use Rattle.djq_run.specs.declared.status.Status.TheVariants.{WriteFault as Statu
 use Rattle.djq_run.specs.declared.session.Served.{Served}
 use Rattle.djq_run.specs.declared.session.Served.TheVariants.{AwaitsInput, Ended, WriteFault}
 use Rattle.djq_run.specs.Ends.{Awaits, StatusStands, ReadsCount, StatusCount, is_write_fault}
+
+-- Session 1 is the only open one, and no session sent `stop` unless it has ended.
+pub record IsAlone (st : State) : Type 0 where
+  pub only : state_ids st ≡ 1 ∷ []
+  pub going : cause_of st 1 ≡ None → st.stopped ≡ false
 
 -- the outside, with other writes, faults of the sink, and counts
 abbrev pub with_sink : Outside → Option (List Write) → ℕ → Counts → Outside

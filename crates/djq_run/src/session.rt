@@ -1,16 +1,16 @@
-ghost use Rattle.std.specs.Prelude.{◌≡◌, ℕ, ◌<◌, ◌≤◌, [], length};
+ghost use Rattle.std.specs.Prelude.{◌≡◌, ℕ, ◌<◌, ◌≤◌, false, [], length};
 ghost use Rattle.djq_machine.specs.Call.{IsOpen, counts};
 ghost use Rattle.djq_io.specs.declared.limits.TheConstants.{READ_BYTES};
 ghost use Rattle.djq_run_laws.specs.Course.{Outside, outside};
 ghost use Rattle.djq_run.specs.Ends.{Awaits, RunEnds};
 ghost use Rattle.djq_run.specs.Parts.{Flushed, GoesTo, ReadEnds, ServedTo, ServedCount, write_failed, with_sink};
-ghost use Rattle.djq_run.specs.Parts.{status_of};
+ghost use Rattle.djq_run.specs.Parts.{status_of, IsAlone};
 
 use crate::status::Status;
 use djq_counters::{Ledgers, Steps};
 use djq_io::limits::MOST_READS;
 use djq_io::{Read, Sink, Source, Wrote};
-use djq_machine::{Machine, Stepped};
+use djq_machine::Machine;
 use djq_protocol::EndCause;
 
 /// The id of the one session of a run.
@@ -43,7 +43,7 @@ impl Served {
 }
 
 /// Opens session 1 of the machine and serves it from the source to the sink, until the session or
-/// its input ends. No session of the machine is open before.
+/// its input ends. No session of the machine is open before, and none sent `stop`.
 ///
 /// It reads at most as many bytes at a time as the buffer has. What was read is fed, each line that
 /// it completes is run, and what that queues is written, before the next read. Nothing is read after
@@ -58,6 +58,7 @@ pub fn run_session<M: Machine, S: Source, K: Sink, L: Ledgers>(
     requires room { 0 < length buffer.old }
     requires most { length buffer.old ≤ READ_BYTES }
     requires alone { (M.state machine.old).sessions ≡ [] }
+    requires going { (M.state machine.old).stopped ≡ false }
     ensures { RunEnds result
         (outside (S.told source.old) (S.faults source.old) (K.told sink.old) (K.faults sink.old)
         (counts steps.old.listing steps.old.update steps.old.rows))
@@ -87,6 +88,7 @@ fn serve_read<M: Machine, S: Source, K: Sink, L: Ledgers>(
     requires room { 0 < length buffer.old }
     requires most { length buffer.old ≤ READ_BYTES }
     requires awaits { Awaits (M.state machine.old) }
+    requires alone { IsAlone (M.state machine.old) }
     ensures { ReadEnds result
         (outside (S.told source.old) (S.faults source.old) (K.told sink.old) (K.faults sink.old)
         (counts steps.old.listing steps.old.update steps.old.rows))
@@ -118,7 +120,8 @@ fn serve_held<M: Machine, K: Sink, L: Ledgers>(
     sink: &mut K,
     steps: &mut Steps<L>,
 ) -> Served
-    requires { IsOpen (M.state machine.old) 1 }
+    requires is_open { IsOpen (M.state machine.old) 1 }
+    requires alone { IsAlone (M.state machine.old) }
     ensures course { (o : Outside) → GoesTo (write_failed result) (M.state machine.old)
         (with_sink o (K.told sink.old) (K.faults sink.old)
         (counts steps.old.listing steps.old.update steps.old.rows))
@@ -128,16 +131,15 @@ fn serve_held<M: Machine, K: Sink, L: Ledgers>(
     ensures faults { ServedCount result (K.faults sink.old) (K.faults sink.new) }
 {
     'lines: while flush(machine, sink) {
-        match machine.step(ID, steps) {
-            Stepped::Ran { .. } => {}
-            Stepped::Dry => return Served::AwaitsInput,
-            Stepped::Ended(cause) => {
-                if flush(machine, sink) {
-                    return Served::Ended(cause);
-                }
-                return Served::WriteFault;
-            }
+        if machine.ready(0).is_none() {
+            return match machine.cause(ID) {
+                Some(cause) => Served::Ended(cause),
+                None => Served::AwaitsInput,
+            };
         }
+        // Nothing is logged here, so the commit has no reader.
+        machine.clear_commit();
+        machine.step(ID, steps);
     }
     Served::WriteFault
 }

@@ -25,7 +25,7 @@ use Rattle.djq_machine.specs.Run.{piece_of, out}
 use Rattle.djq_machine.specs.Call.{IsOpen, cause_of, held_of, cause_in, held_in}
 use Rattle.djq_machine.specs.Gives.{CursorsGive}
 pub use Rattle.djq_run_laws.specs.Moved.{SessionTakes, InputComes, is_held, out_of_memory, is_dropped, InputIsOver}
-pub use Rattle.djq_run_laws.specs.Moved.{input_ends, had_ended, StepsLine, CausedBy, LeavesHeldBytes}
+pub use Rattle.djq_run_laws.specs.Moved.{input_ends, had_ended, LineIsStepped, CausedBy, LeavesHeldBytes}
 use Rattle.djq_run_laws.specs.Course.{Outside, Course, RunNext, MayRun, RunDoes, writes_by, last_write}
 use Rattle.djq_run_laws.specs.Moved.{SparesSession}
 use Rattle.djq_run_laws.specs.Given.{CoursesGive}
@@ -126,7 +126,7 @@ ended_facts old s e new h =
     (becomes old (ended s) e new h s f.0 t.session t.touches) t.ends
 
 pub stepped_facts : (old : State) (s : ℕ) (outcome : LineOutcome) (e : Effect) (new : State)
-    → Step old (stepped s outcome) e new → StepsLine old new s outcome
+    → Step old (stepped s outcome) e new → LineIsStepped old new s outcome
 stepped_facts old s outcome e new h =
     let f = some_there (session_of old s) (λ x. (x.cause ≡ None) × FrontStep old s x outcome e h.mid) h.acts in
     let t = is_stepped old s f.0 outcome e h.mid f.1 f.2.0 f.2.1 in

@@ -16,5 +16,6 @@ pub mod SoundStores
 pub mod SoundStates
 pub mod CursorListings
 pub mod Starts
+pub mod Stops
 pub mod BatchLines
 pub mod EndedSessions

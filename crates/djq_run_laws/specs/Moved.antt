@@ -74,7 +74,7 @@ LeavesHeldBytes (no_room l) old new = front_of old ≡ a_line l new
 LeavesHeldBytes (run l) old new = front_of old ≡ a_line l new
 
 -- The front of the bytes of a session that hadn't ended comes to this.
-pub record StepsLine (old new : State) (s : ℕ) (outcome : LineOutcome) : Type 0 where
+pub record LineIsStepped (old new : State) (s : ℕ) (outcome : LineOutcome) : Type 0 where
   pub stays : IsOpen new s
   pub running : cause_of old s ≡ None
   pub cause : CausedBy outcome (cause_of new s)
@@ -103,4 +103,4 @@ InputEnds = (old : State) (s : ℕ) (e : Effect) (new : State) → Step old (end
 -- What a step does to a session whose line is taken.
 abbrev pub LineIsTaken : Type 0
 LineIsTaken = (old : State) (s : ℕ) (outcome : LineOutcome) (e : Effect) (new : State)
-    → Step old (stepped s outcome) e new → StepsLine old new s outcome
+    → Step old (stepped s outcome) e new → LineIsStepped old new s outcome

@@ -1,70 +1,29 @@
--- Groups that are logged one after another, and how taking turns ends.
-use Rattle.std.specs.Prelude.{ℕ, List, [], ◌∷◌, ◌++◌, ◌≡◌, Bool, true, false, codes, Option, None, Some, ◌==◌, ◌+◌, ◌<◌}
-use Rattle.std.specs.Prelude.{◌≤◌, find, IfSome}
-use Rattle.std.proofs.Common.{refl, sym, ap, ◌∙◌, subst, inl, inr, append-nil, append_assoc, arith}
-use Rattle.std.specs.List.{AllByRecursion}
-use Rattle.djq_io.specs.Faults.{Counted}
-use Rattle.djq_model.specs.Data.{Bytes}
+-- Groups that the log is handed one after another, and what it has of them in the end.
+use Rattle.std.specs.Prelude.{ℕ, List, [], ◌∷◌, ◌++◌, ◌≡◌, ◌+◌, ◌-◌, Bool, true, false, Option, None, Some, IfSome}
+use Rattle.std.proofs.Common.{refl, sym, ap, ◌∙◌, subst, inl, inr, append-nil, append_assoc, ap₂}
+use Rattle.djq_disk.specs.File.{File}
 use Rattle.djq_disk.specs.History.{History, WhereHistoryTold}
 use Rattle.djq_disk.proofs.Files.{told_none, told_so, told_both}
+use Rattle.djq_io.specs.Faults.{Counted}
+use Rattle.djq_io.specs.declared.hub.Turn.{Turn}
+use Rattle.djq_io.specs.declared.hub.Turn.TheVariants.{Opened, Bytes as Brought, Ended, Idle, Over as TurnOver, Failed as TurnFailed}
+use Rattle.djq_io.specs.declared.hub.Told.{Told}
+use Rattle.djq_model.specs.Data.{Bytes}
+use Rattle.djq_journal.specs.declared.log.Kept.{Kept}
 use Rattle.djq_journal.specs.declared.log.Kept.TheVariants.{All, Failed, Full}
-use Rattle.djq_journal.specs.Format.{IsJournalLine}
-use Rattle.djq_journal.specs.Logging.{grouped, HasKeptGroups, MayHaveKept, Keeps, Overfull, FillsLog}
+use Rattle.djq_journal.specs.Logging.{grouped, HasKeptGroups, MayHaveKept, Keeps, Overfull, FillsLog, HasPassed}
 use Rattle.djq_journal.specs.Keeping.{WasKeeping}
-use Rattle.djq_machine.specs.State.{State, Session}
-use Rattle.djq_machine.specs.Keeping.{Keeping, no_line, the_line, the_batch}
-use Rattle.djq_machine.specs.Run.{Group, groups_in}
-use Rattle.djq_machine.specs.Call.{RanStep, KeepsGroup, Counts, groups_by, held_in}
-use Rattle.djq_machine.specs.Step.{is_dry}
-use Rattle.djq_run_laws.specs.Holding.{HoldLines}
-use Rattle.djq_run_laws.proofs.BatchLines.{kept_lines}
+use Rattle.djq_machine.specs.State.{State}
+use Rattle.djq_machine.specs.Run.{Walk, Did, Group, lines_in}
+use Rattle.djq_machine.specs.Call.{first_due}
 use Rattle.djq_serve.specs.declared.served.Served.{Served}
 use Rattle.djq_serve.specs.declared.served.Served.TheVariants.{Stopped, Over, TurnsUsed, HubFault, DiskFault, LogFull}
-use Rattle.djq_serve.specs.Logged.{AllKept, LastLost, LastLeft, KeepsBy, DiskCounts}
-use Rattle.djq_serve.specs.Told.{Shown}
-use Rattle.djq_serve.specs.Server.{next_turn, waiting, lines, flushing, closing, server}
-use Rattle.djq_serve.specs.Goes.{Far, far, one_turn, with_groups, seen, Goes, GoesQuietly}
-use Rattle.djq_serve.specs.Kept.{AllSettled}
-use Rattle.djq_serve.specs.Ends.{TurnsTaken, FaultsCount}
-use Rattle.djq_serve.specs.Parts.{phase_of, MayAnswer, RunsLines, TakesTurn, TurnAnswers, Took}
-use Rattle.djq_serve.proofs.Moves.{goes_none, goes_then, turns_over}
-use Rattle.djq_serve.proofs.Turns.{no_groups}
-
--- ---- The lines that a step keeps, as its effect says.
-
--- a group that has a line is the one that its lines are
-with_line : (l : Bytes) (ls the_lines : List Bytes) → (l ∷ ls) ∷ [] ≡ the_lines ∷ [] → the_lines ∷ [] ≡ grouped the_lines
-with_line l ls the_lines e = subst (λ (group : Group). group ∷ [] ≡ grouped group) (same e) refl
-  where
-    same : (l ∷ ls) ∷ [] ≡ the_lines ∷ [] → l ∷ ls ≡ the_lines
-    same w = cc
-
-none_is : (the_lines : List Bytes) → [] ≡ the_lines ∷ [] → ⊥
-none_is the_lines e = cc
-
--- The group that a step keeps is the one that its lines are: none, where there are none.
-pub step_group : (old : State) (s : ℕ) (new : State) (mid now : Counts) (kept : Bool) (the_lines : List Bytes)
-    → (ran : RanStep old s new mid now)
-    → KeepsGroup kept (groups_by old s new mid now ran) the_lines → groups_by old s new mid now ran ≡ grouped the_lines
-step_group old s new mid now false the_lines ran (none, no_lines) = none
-    ∙ ap (λ (ls : List Bytes). grouped ls) (sym no_lines)
-step_group old s new mid now true the_lines (l, inl m) is = absurd (none_is the_lines is)
-step_group old s new mid now true the_lines (l, inr m) is = is ∙ by m.effect.kept is
-  where
-    by : (k : Keeping) → groups_in l k ≡ the_lines ∷ [] → the_lines ∷ [] ≡ grouped the_lines
-    by no_line e = absurd (none_is the_lines e)
-    by the_line e = with_line l [] the_lines e
-    by (the_batch held) e = with_line (codes "batch") (held ++ codes "done" ∷ []) the_lines e
-
--- They are lines.
-pub step_lines : (old : State) (s : ℕ) (new : State) (mid now : Counts) (kept : Bool) (the_lines : List Bytes)
-    → HoldLines old → (ran : RanStep old s new mid now)
-    → KeepsGroup kept (groups_by old s new mid now ran) the_lines → AllByRecursion IsJournalLine the_lines
-step_lines old s new mid now false the_lines hold ran (none, no_lines) = subst
-    (λ (ls : List Bytes). AllByRecursion IsJournalLine ls) (sym no_lines) tt
-step_lines old s new mid now true the_lines hold (l, inl m) is = absurd (none_is the_lines is)
-step_lines old s new mid now true the_lines hold (l, inr m) is = kept_lines old s l m.effect m.step.mid m.step.acts hold
-    the_lines is
+use Rattle.djq_serve.specs.Logged.{AllKept, LastLost, LastLeft, KeepsBy, DiskCounts, IsNotOfDisk}
+use Rattle.djq_serve.specs.Server.{Last, Next, more_lines, round_over, Phase, waiting, gathering, running, keeping, flushing}
+use Rattle.djq_serve.specs.Server.{closing, Server, server, Move, all_logged, Brings, TakesTurn, RunsAt, RunsOn, StoredThen}
+use Rattle.djq_serve.specs.Server.{FlushesAt, ClosesFirst, after, after_round, first_open, next_ready, ServesAt, MakesMove}
+use Rattle.djq_serve.specs.Server.{PhasePasses, next_round, no_turn, input_over, is_last}
+use Rattle.djq_serve.specs.Goes.{LogPlace, log_place, LogsGroups, LogsMove}
 
 -- The disk of a log stays open.
 pub still_open : (old new : Option ℕ) (before now : Bool) → (old ≡ None → new ≡ None) → now ≡ before
@@ -202,142 +161,8 @@ failed_isnt_all e = cc
 pub full_isnt_all : Full ≡ All → ⊥
 full_isnt_all e = cc
 
--- ---- How taking turns ends, and closing what is open.
-
--- what a turn keeps in which no line is run
-quiet_kept : (result : Option Served) (gate : Option ℕ) (disk : Option History) → MayAnswer result
-    → KeepsBy result gate gate [] disk disk
-quiet_kept None gate disk may = none_kept gate disk
-quiet_kept (Some answer) gate disk may = subst (λ (a : Served). KeepsBy (Some a) gate gate [] disk disk) (sym may)
-    (none_kept gate disk)
-
-turn_kept : (result : Option Served) (x y : Shown) (before now : Counts) (old new : State) (gate : Option ℕ)
-    (disk : Option History) → KeepsBy result gate gate [] disk disk
-    → ((f : Far) → Goes (seen x before f) (server old waiting) (seen y now (one_turn f)) (server new (phase_of result)))
-    → TakesTurn result x before old y now new gate gate disk disk
-turn_kept result x y before now old new gate disk kept goes = record {
-  groups = [];
-  goes = λ f. subst (λ (k : Far). Goes (seen x before f) (server old waiting) (seen y now k)
-      (server new (phase_of result))) (no_groups (one_turn f)) (goes f);
-  kept = kept;
-}
-
-pub quiet_turn : (result : Option Served) (x y : Shown) (before now : Counts) (old new : State) (gate : Option ℕ)
-    (disk : Option History) → MayAnswer result
-    → ((f : Far) → Goes (seen x before f) (server old waiting) (seen y now (one_turn f)) (server new (phase_of result)))
-    → TakesTurn result x before old y now new gate gate disk disk
-quiet_turn result x y before now old new gate disk may goes = turn_kept result x y before now old new gate disk
-    (quiet_kept result gate disk may) goes
-
-pub over_turn : (x y : Shown) (before now : Counts) (old new : State) (gate : Option ℕ) (disk : Option History)
-    → ((f : Far) → Goes (seen x before f) (server old waiting) (seen y now (one_turn f)) (server new (closing Over)))
-    → TakesTurn (Some Over) x before old y now new gate gate disk disk
-over_turn x y before now old new gate disk goes = turn_kept (Some Over) x y before now old new gate disk
-    (none_kept gate disk) goes
-
-pub failed_turn : (x y : Shown) (before now : Counts) (old new : State) (gate : Option ℕ) (disk : Option History)
-    → ((f : Far) → Goes (seen x before f) (server old waiting) (seen y now (one_turn f))
-    (server new (closing HubFault))) → TakesTurn (Some HubFault) x before old y now new gate gate disk disk
-failed_turn x y before now old new gate disk goes = turn_kept (Some HubFault) x y before now old new gate disk
-    (none_kept gate disk) goes
-
--- lines were run, and one couldn't be kept
-pub lost_turn : (answer : Served) (x y z : Shown) (before now : Counts) (old mid new : State) (s : ℕ) (g g' : Option ℕ)
-    (d d' : Option History)
-    → ((f : Far) → Goes (seen x before f) (server old waiting) (seen y before (one_turn f)) (server mid (lines s)))
-    → RunsLines (Some answer) y before mid s z now new g g' d d'
-    → TakesTurn (Some answer) x before old z now new g g' d d'
-lost_turn answer x y z before now old mid new s g g' d d' feeds runs = record {
-  groups = runs.groups;
-  goes = λ f. goes_then (seen x before f) (server old waiting) (seen y before (one_turn f)) (server mid (lines s))
-      (seen z now (with_groups runs.groups (one_turn f))) (server new (closing answer)) (feeds f)
-      (runs.goes (one_turn f));
-  kept = runs.kept;
-}
-
-run_kept : (result : Option Served) (g g' : Option ℕ) (groups : List Group) (d d' : Option History) → MayAnswer result
-    → AllKept g g' groups d d' → KeepsBy result g g' groups d d'
-run_kept None g g' groups d d' may kept = kept
-run_kept (Some answer) g g' groups d d' may kept = subst (λ (a : Served). KeepsBy (Some a) g g' groups d d') (sym may)
-    kept
-
--- lines were run, all are kept, and the turn's flush followed
-pub kept_turn : (result : Option Served) (x y z w : Shown) (before now : Counts) (old mid ran new : State) (s : ℕ)
-    (g g' : Option ℕ) (d d' : Option History) → MayAnswer result
-    → ((f : Far) → Goes (seen x before f) (server old waiting) (seen y before (one_turn f)) (server mid (lines s)))
-    → RunsLines None y before mid s z now ran g g' d d'
-    → GoesQuietly z (server ran (flushing 0 next_turn)) w (server new (phase_of result))
-    → TakesTurn result x before old w now new g g' d d'
-kept_turn result x y z w before now old mid ran new s g g' d d' may feeds runs ends = record {
-  groups = runs.groups;
-  goes = λ f.
-      let end : Far = with_groups runs.groups (one_turn f) in
-      goes_then (seen x before f) (server old waiting) (seen y before (one_turn f)) (server mid (lines s))
-      (seen w now end) (server new (phase_of result)) (feeds f)
-      (goes_then (seen y before (one_turn f)) (server mid (lines s)) (seen z now end)
-      (server ran (flushing 0 next_turn)) (seen w now end) (server new (phase_of result)) (runs.goes (one_turn f))
-      (ends now end));
-  kept = run_kept result g g' runs.groups d d' may runs.kept;
-}
-
--- a turn ends the serving
-fewer_taken : (answer : Served) (turns taken before now : ℕ) → TurnAnswers (Some answer) before now → taken ≤ turns
-    → TurnsTaken answer turns taken
-fewer_taken Stopped turns taken before now h few = few
-fewer_taken Over turns taken before now h few = few
-fewer_taken HubFault turns taken before now h few = few
-fewer_taken DiskFault turns taken before now h few = few
-fewer_taken LogFull turns taken before now h few = few
-fewer_taken TurnsUsed turns taken before now h few = absurd h
-
--- What taking turns keeps from the first on.
-pub record Taking (x y : Shown) (entry now : Counts) (old st : State) (gate gate' : Option ℕ)
-    (disk disk' : Option History) (taken : ℕ) : Type 0 where
-  pub groups : List Group
-  pub goes : Goes (seen x entry (far 0 [])) (server old waiting) (seen y now (far taken groups)) (server st waiting)
-  pub kept : AllKept gate gate' groups disk disk'
-
-pub taking_begun : (x : Shown) (entry : Counts) (st : State) (gate : Option ℕ) (disk : Option History)
-    → Taking x x entry entry st st gate gate disk disk 0
-taking_begun x entry st gate disk = record
-    { groups = []; goes = goes_none (seen x entry (far 0 [])) (server st waiting); kept = none_kept gate disk }
-
-pub turn_more : (x y z : Shown) (entry before now : Counts) (old st new : State) (g g' g'' : Option ℕ)
-    (d d' d'' : Option History) (taken : ℕ)
-    → Taking x y entry before old st g g' d d' taken → TakesTurn None y before st z now new g' g'' d' d''
-    → Taking x z entry now old new g g'' d d'' (taken + 1)
-turn_more x y z entry before now old st new g g' g'' d d' d'' taken so_far turn = record {
-  groups = so_far.groups ++ turn.groups;
-  goes = goes_then (seen x entry (far 0 [])) (server old waiting) (seen y before (far taken so_far.groups))
-      (server st waiting) (seen z now (far (taken + 1) (so_far.groups ++ turn.groups))) (server new waiting)
-      so_far.goes (turn.goes (far taken so_far.groups));
-  kept = kept_then g g' g'' so_far.groups turn.groups d d' d'' so_far.kept turn.kept;
-}
-
-pub turn_ends_it : (x y z : Shown) (entry before now : Counts) (old st new : State) (answer : Served)
-    (g g' g'' : Option ℕ) (d d' d'' : Option History) (turns taken faults faults' : ℕ)
-    → Taking x y entry before old st g g' d d' taken → TakesTurn (Some answer) y before st z now new g' g'' d' d''
-    → TurnAnswers (Some answer) faults faults' → taken < turns → Took answer turns x entry old z now new g g'' d d''
-turn_ends_it x y z entry before now old st new answer g g' g'' d d' d'' turns taken faults faults' so_far turn answers
-    few = record {
-      taken = taken + 1;
-      groups = so_far.groups ++ turn.groups;
-      goes = goes_then (seen x entry (far 0 [])) (server old waiting) (seen y before (far taken so_far.groups))
-          (server st waiting) (seen z now (far (taken + 1) (so_far.groups ++ turn.groups)))
-          (server new (closing answer))
-          so_far.goes (turn.goes (far taken so_far.groups));
-      has_taken = fewer_taken answer turns (taken + 1) faults faults' answers (omega (arith, few));
-      kept = keeps_then (Some answer) g g' g'' so_far.groups turn.groups d d' d'' so_far.kept turn.kept;
-    }
-
-pub answer_faults : (answer : Served) (entry before now : ℕ) → before ≡ entry → TurnAnswers (Some answer) before now
-    → FaultsCount answer entry now
-answer_faults Stopped entry before now same h = h ∙ same
-answer_faults Over entry before now same h = h ∙ same
-answer_faults HubFault entry before now same h = subst (λ (n : ℕ). Counted n now) same h
-answer_faults DiskFault entry before now same h = h ∙ same
-answer_faults LogFull entry before now same h = h ∙ same
-answer_faults TurnsUsed entry before now same h = absurd h
+pub some_isnt_none : (answer : Served) → Some answer ≡ None → ⊥
+some_isnt_none answer e = cc
 
 -- what a turn's answer says of the disk's faults, behind turns in which it met none
 pub disk_faults : (answer : Option Served) (entry before now : ℕ) → before ≡ entry → DiskCounts answer before now
@@ -350,20 +175,245 @@ disk_faults (Some HubFault) entry before now same h = h ∙ same
 disk_faults (Some LogFull) entry before now same h = h ∙ same
 disk_faults (Some DiskFault) entry before now same h = subst (λ (n : ℕ). Counted n now) same h
 
--- all turns were taken
-pub all_taken : (x y : Shown) (entry now : Counts) (old st : State) (g g' : Option ℕ) (d d' : Option History)
-    (turns taken : ℕ) → Taking x y entry now old st g g' d d' taken → taken ≡ turns
-    → Took TurnsUsed turns x entry old y now st g g' d d'
-all_taken x y entry now old st g g' d d' turns taken so_far all = record {
-  taken = taken;
-  groups = so_far.groups;
-  goes = goes_then (seen x entry (far 0 [])) (server old waiting) (seen y now (far taken so_far.groups))
-      (server st waiting) (seen y now (far taken so_far.groups)) (server st (closing TurnsUsed))
-      so_far.goes (turns_over y st now (far taken so_far.groups));
-  has_taken = all;
-  kept = so_far.kept;
+-- ---- What handing the lines of a commit to the log does.
+
+pub logs_lines : (the_lines : List Bytes) (answer : Kept) (g g' : Option ℕ) (d d' : Option History)
+    → (the_lines ≡ [] → (g' ≡ g) × (d' ≡ d)) → FillsLog answer g the_lines
+    → WhereHistoryTold d d' (Keeps answer g g' the_lines) → WhereHistoryTold d d' HasPassed
+    → (moments : List File) × LogsGroups (grouped the_lines) answer moments (log_place g d) (log_place g' d')
+logs_lines [] answer g g' d d' none fills told goes = let same = none refl in ([], (ap₂ log_place same.0 same.1, refl))
+logs_lines (l ∷ ls) answer g g' d None none fills told goes = ([], (fills, tt))
+logs_lines (l ∷ ls) answer g g' None (Some n) none fills told goes = absurd told
+logs_lines (l ∷ ls) answer g g' (Some o) (Some n) none fills told goes = (goes.0, (fills, (told, goes.1)))
+
+-- ---- What is in the log in the end, by the moves.
+
+-- what is in it by where the server stands: it ends the serving by this answer
+abbrev ByPhase : Phase → Served → LogPlace → List Group → LogPlace → Type 0
+ByPhase (closing a) answer log groups log' = (a ≡ answer) × (groups ≡ []) × (log' ≡ log)
+ByPhase waiting answer log groups log' = KeepsBy (Some answer) log.gate log'.gate groups log.history log'.history
+ByPhase (gathering left) answer log groups log' = KeepsBy (Some answer) log.gate log'.gate groups log.history
+    log'.history
+ByPhase (running from count gs last) answer log groups log' = KeepsBy (Some answer) log.gate log'.gate groups
+    log.history log'.history
+ByPhase (keeping gs next) answer log groups log' = KeepsBy (Some answer) log.gate log'.gate groups log.history
+    log'.history
+ByPhase (flushing from next) answer log groups log' = KeepsBy (Some answer) log.gate log'.gate groups log.history
+    log'.history
+
+phase_by : (p q : Phase) (answer : Served) (log : LogPlace) (groups : List Group) (log' : LogPlace) → q ≡ p
+    → ByPhase q answer log groups log' → ByPhase p answer log groups log'
+phase_by p q answer log groups log' e h = subst (λ (k : Phase). ByPhase k answer log groups log') e h
+
+-- an answer that isn't of the disk: all is kept, which is nothing more
+none_by : (a : Served) (log : LogPlace) → IsNotOfDisk a
+    → KeepsBy (Some a) log.gate log.gate [] log.history log.history
+none_by Stopped log plain = none_kept log.gate log.history
+none_by Over log plain = none_kept log.gate log.history
+none_by TurnsUsed log plain = none_kept log.gate log.history
+none_by HubFault log plain = none_kept log.gate log.history
+none_by DiskFault log plain = absurd plain
+none_by LogFull log plain = absurd plain
+
+plain_by : (a answer : Served) (log : LogPlace) (groups : List Group) (log' : LogPlace) → IsNotOfDisk a
+    → ByPhase (closing a) answer log groups log'
+    → KeepsBy (Some answer) log.gate log'.gate groups log.history log'.history
+plain_by a answer log groups log' plain (same, none, still) =
+    subst (λ (k : LogPlace). KeepsBy (Some answer) log.gate k.gate groups log.history k.history) (sym still)
+    (subst (λ (gs : List Group). KeepsBy (Some answer) log.gate log.gate gs log.history log.history) (sym none)
+    (subst (λ (k : Served). KeepsBy (Some k) log.gate log.gate [] log.history log.history) same (none_by a log plain)))
+
+turn_by : (left : ℕ) (turn : Turn) (piece : Bytes) (st : State) (more : List Told) (done : List Did) (new : State)
+    (next : Phase) (answer : Served) (log : LogPlace) (groups : List Group) (log' : LogPlace)
+    → Brings left turn piece st more done new next → ByPhase next answer log groups log'
+    → KeepsBy (Some answer) log.gate log'.gate groups log.history log'.history
+turn_by left (Opened s class) piece st more done new next answer log groups log' (happens, lets, phase) h =
+    phase_by (gathering left) next answer log groups log' phase h
+turn_by left (Brought s n) piece st more done new next answer log groups log' (happens, none, phase, is) h =
+    phase_by (gathering left) next answer log groups log' phase h
+turn_by left (Ended s) piece st more done new next answer log groups log' (stays, none, phase) h =
+    phase_by (running 0 0 [] (input_over s)) next answer log groups log' phase h
+turn_by left Idle piece st more done new next answer log groups log' (stays, none, phase) h =
+    phase_by (gathering left) next answer log groups log' phase h
+turn_by left TurnOver piece st more done new next answer log groups log' (stays, none, phase) h =
+    phase_by (running 0 0 [] no_turn) next answer log groups log' phase h
+turn_by left TurnFailed piece st more done new next answer log groups log' (stays, none, phase) h =
+    plain_by HubFault answer log groups log' tt (phase_by (closing HubFault) next answer log groups log' phase h)
+
+round_by : (stopped over : Bool) (answer : Served) (log : LogPlace) (groups : List Group) (log' : LogPlace)
+    → ByPhase (after_round stopped over) answer log groups log'
+    → KeepsBy (Some answer) log.gate log'.gate groups log.history log'.history
+round_by true over answer log groups log' h = plain_by Stopped answer log groups log' tt h
+round_by false true answer log groups log' h = plain_by Over answer log groups log' tt h
+round_by false false answer log groups log' h = h
+
+after_by : (st : State) (next : Next) (answer : Served) (log : LogPlace) (groups : List Group) (log' : LogPlace)
+    → ByPhase (after st next) answer log groups log'
+    → KeepsBy (Some answer) log.gate log'.gate groups log.history log'.history
+after_by st (more_lines from last) answer log groups log' h = h
+after_by st (round_over over) answer log groups log' h = round_by st.stopped over answer log groups log' h
+
+runs_by : (s count : ℕ) (gs : List Group) (last : Last) (p : Phase) (answer : Served) (log : LogPlace)
+    (groups : List Group) (log' : LogPlace) → RunsOn s count gs last p → ByPhase p answer log groups log'
+    → KeepsBy (Some answer) log.gate log'.gate groups log.history log'.history
+runs_by s count gs last p answer log groups log' (inl on) h =
+    phase_by (running (s + 1) (count + 1) gs last) p answer log groups log' on.1 h
+runs_by s count gs last p answer log groups log' (inr ends) h =
+    phase_by (keeping gs (more_lines (s + 1) last)) p answer log groups log' ends h
+
+-- A move that hands nothing to the log, and where it leads.
+record Passes (m : Move) (answer : Served) (log : LogPlace) (more : List Group) (log' : LogPlace) : Type 0 where
+  pub none : m.logged ≡ []
+  pub kept : KeepsBy (Some answer) log.gate log'.gate more log.history log'.history
+
+passes_by : (p : Phase) (st : State) (m : Move) (new : Server) (answer : Served) (log : LogPlace) (more : List Group)
+    (log' : LogPlace) → PhasePasses st p m new → ByPhase new.phase answer log more log'
+    → (ByPhase p answer log more log' → KeepsBy (Some answer) log.gate log'.gate more log.history log'.history)
+    → Passes m answer log more log'
+passes_by p st m new answer log more log' (is, same) h so = record {
+  none = ap (λ (k : Move). k.logged) is;
+  kept = so (phase_by p new.phase answer log more log' (ap (λ (k : Server). k.phase) same) h);
 }
 
--- where no session is open all are settled
-pub none_settled : (st : State) → st.sessions ≡ [] → AllSettled st
-none_settled st none s = inr (ap (λ (xs : List Session). is_dry (held_in (find (λ (x : Session). x.id == s) xs))) none)
+turn_passes : (left : ℕ) (st : State) (m : Move) (new : Server) (answer : Served) (log : LogPlace) (more : List Group)
+    (log' : LogPlace) → TakesTurn left st m new → ByPhase new.phase answer log more log'
+    → Passes m answer log more log'
+turn_passes left st m new answer log more log' (turn, piece, calls, is, none, brings) h = record {
+  none = none;
+  kept = turn_by left turn piece st calls m.done new.state new.phase answer log more log' brings h;
+}
+
+lines_pass : (count : ℕ) (gs : List Group) (last : Last) (st : State) (m : Move) (new : Server) (o : Option ℕ)
+    (answer : Served) (log : LogPlace) (more : List Group) (log' : LogPlace) → RunsAt count gs last st m new o
+    → ByPhase new.phase answer log more log' → Passes m answer log more log'
+lines_pass count gs last st m new None answer log more log' (quiet, none, ends, phase) h = record {
+  none = none;
+  kept = phase_by (keeping gs (round_over (is_last last))) new.phase answer log more log' phase h;
+}
+lines_pass count gs last st m new (Some s) answer log more log' (quiet, none, outcome, happens, on) h = record {
+  none = none;
+  kept = runs_by s count _ last new.phase answer log more log' on h;
+}
+
+flush_passes : (next : Next) (st : State) (m : Move) (new : Server) (o : Option ℕ) (answer : Served) (log : LogPlace)
+    (more : List Group) (log' : LogPlace) → FlushesAt next st m new o → ByPhase new.phase answer log more log'
+    → Passes m answer log more log'
+flush_passes next st m new None answer log more log' passes h =
+    passes_by (after st next) st m new answer log more log' passes h (after_by st next answer log more log')
+flush_passes next st m new (Some s) answer log more log' (none, to, visits, phase) h = record {
+  none = none;
+  kept = phase_by (flushing to next) new.phase answer log more log' phase h;
+}
+
+-- a move before others: it hands nothing to the log
+quiet_more : (m : Move) (answer : Served) (log mid : LogPlace) (more : List Group) (log' : LogPlace)
+    → LogsMove log m mid → Passes m answer mid more log'
+    → KeepsBy (Some answer) log.gate log'.gate (m.logged ++ more) log.history log'.history
+quiet_more m answer log mid more log' logs p =
+    let same : mid ≡ log =
+    (subst (λ (gs : List Group). LogsGroups gs m.stored m.moments log mid) p.none logs).0 in
+    subst (λ (gs : List Group). KeepsBy (Some answer) log.gate log'.gate (gs ++ more) log.history log'.history)
+    (sym p.none)
+    (subst (λ (k : LogPlace). KeepsBy (Some answer) k.gate log'.gate more k.history log'.history) same p.kept)
+
+-- the lines of a commit, by what the log answered
+commit_kept : (the_lines : List Bytes) (moments : List File) (log mid : LogPlace)
+    → LogsGroups (grouped the_lines) All moments log mid
+    → AllKept log.gate mid.gate (grouped the_lines) log.history mid.history
+commit_kept [] moments log mid logs = subst (λ (k : LogPlace). AllKept log.gate k.gate [] log.history k.history)
+    (sym logs.0) (none_kept log.gate log.history)
+commit_kept (l ∷ ls) moments log mid (fills, told) =
+    lines_kept log.gate mid.gate (l ∷ ls) (grouped (l ∷ ls)) log.history mid.history refl
+    (told_so log.history mid.history _ (Keeps All log.gate mid.gate (l ∷ ls)) (λ o n both. both.0) told)
+
+commit_lost : (the_lines : List Bytes) (moments : List File) (log mid : LogPlace) → (the_lines ≡ [] → ⊥)
+    → LogsGroups (grouped the_lines) Failed moments log mid
+    → LastLost log.gate (grouped the_lines) log.history mid.history
+commit_lost [] moments log mid some logs = absurd (some refl)
+commit_lost (l ∷ ls) moments log mid some (fills, told) =
+    lines_lost log.gate mid.gate (l ∷ ls) (grouped (l ∷ ls)) log.history mid.history refl fills
+    (told_so log.history mid.history _ (Keeps Failed log.gate mid.gate (l ∷ ls)) (λ o n both. both.0) told)
+
+commit_left : (the_lines : List Bytes) (moments : List File) (log mid : LogPlace) → (the_lines ≡ [] → ⊥)
+    → LogsGroups (grouped the_lines) Full moments log mid
+    → LastLeft log.gate (grouped the_lines) log.history mid.history
+commit_left [] moments log mid some logs = absurd (some refl)
+commit_left (l ∷ ls) moments log mid some (fills, told) =
+    lines_left log.gate mid.gate (l ∷ ls) (grouped (l ∷ ls)) log.history mid.history refl fills
+    (told_so log.history mid.history _ (Keeps Full log.gate mid.gate (l ∷ ls)) (λ o n both. both.0) told)
+
+-- serving ended with it
+last_by : (a answer : Served) (log mid : LogPlace) (groups more : List Group) (log' : LogPlace)
+    → KeepsBy (Some a) log.gate mid.gate groups log.history mid.history → ByPhase (closing a) answer mid more log'
+    → KeepsBy (Some answer) log.gate log'.gate (groups ++ more) log.history log'.history
+last_by a answer log mid groups more log' kept (same, none, still) =
+    subst (λ (k : LogPlace). KeepsBy (Some answer) log.gate k.gate (groups ++ more) log.history k.history) (sym still)
+    (subst (λ (gs : List Group). KeepsBy (Some answer) log.gate mid.gate gs log.history mid.history)
+    (sym (ap (λ (gs : List Group). groups ++ gs) none ∙ append-nil groups))
+    (subst (λ (k : Served). KeepsBy (Some k) log.gate mid.gate groups log.history mid.history) same kept))
+
+commit_by : (answer : Kept) (gs : List Group) (next : Next) (p : Phase) (end : Served) (moments : List File)
+    (log mid : LogPlace) (more : List Group) (log' : LogPlace) → StoredThen answer gs next p
+    → LogsGroups (grouped (lines_in gs)) answer moments log mid → ByPhase p end mid more log'
+    → KeepsBy (Some end) log.gate log'.gate (grouped (lines_in gs) ++ more) log.history log'.history
+commit_by All gs next p end moments log mid more log' phase logs h =
+    keeps_then (Some end) log.gate mid.gate log'.gate (grouped (lines_in gs)) more log.history mid.history log'.history
+    (commit_kept (lines_in gs) moments log mid logs) (phase_by (flushing 0 next) p end mid more log' phase h)
+commit_by Failed gs next p end moments log mid more log' (some, phase) logs h =
+    last_by DiskFault end log mid (grouped (lines_in gs)) more log' (commit_lost (lines_in gs) moments log mid some logs)
+    (phase_by (closing DiskFault) p end mid more log' phase h)
+commit_by Full gs next p end moments log mid more log' (some, phase) logs h =
+    last_by LogFull end log mid (grouped (lines_in gs)) more log' (commit_left (lines_in gs) moments log mid some logs)
+    (phase_by (closing LogFull) p end mid more log' phase h)
+
+closes_by : (a : Served) (st : State) (m : Move) (new : Server) (o : Option ℕ) (answer : Served) (log mid : LogPlace)
+    (more : List Group) (log' : LogPlace) → ClosesFirst a st m new o → LogsMove log m mid
+    → ByPhase new.phase answer mid more log' → ByPhase (closing a) answer log (m.logged ++ more) log'
+closes_by a st m new None answer log mid more log' closes logs h = absurd closes
+closes_by a st m new (Some s) answer log mid more log' (told, none, happens, phase) logs h =
+    let same : mid ≡ log =
+    (subst (λ (gs : List Group). LogsGroups gs m.stored m.moments log mid) none logs).0 in
+    let ends = phase_by (closing a) new.phase answer mid more log' phase h in
+    (ends.0, ap₂ (λ (xs ys : List Group). xs ++ ys) none ends.1, ends.2 ∙ same)
+
+move_by : (most : ℕ) (p : Phase) (st : State) (m : Move) (new : Server) (answer : Served) (log mid : LogPlace)
+    (more : List Group) (log' : LogPlace) → ServesAt most p st m new → LogsMove log m mid
+    → ByPhase new.phase answer mid more log' → ByPhase p answer log (m.logged ++ more) log'
+move_by most waiting st m new answer log mid more log' (inl passes) logs h =
+    quiet_more m answer log mid more log' logs (passes_by (closing TurnsUsed) st m new answer mid more log' passes h
+    (plain_by TurnsUsed answer mid more log' tt))
+move_by most waiting st m new answer log mid more log' (inr takes) logs h =
+    quiet_more m answer log mid more log' logs (turn_passes (most - 1) st m new answer mid more log' takes h)
+move_by most (gathering left) st m new answer log mid more log' (inl passes) logs h =
+    quiet_more m answer log mid more log' logs (passes_by (running 0 0 [] next_round) st m new answer mid more log'
+    passes h (λ k. k))
+move_by most (gathering left) st m new answer log mid more log' (inr (some, takes)) logs h =
+    quiet_more m answer log mid more log' logs (turn_passes (left - 1) st m new answer mid more log' takes h)
+move_by most (running from count gs last) st m new answer log mid more log' g logs h =
+    quiet_more m answer log mid more log' logs
+    (lines_pass count gs last st m new (next_ready st from) answer mid more log' g h)
+move_by most (keeping gs next) st m new answer log mid more log' (quiet, none, is, still, then_it) logs h =
+    subst (λ (xs : List Group). KeepsBy (Some answer) log.gate log'.gate (xs ++ more) log.history log'.history)
+    (sym is)
+    (commit_by m.stored gs next new.phase answer m.moments log mid more log' then_it
+    (subst (λ (xs : List Group). LogsGroups xs m.stored m.moments log mid) is logs) h)
+move_by most (flushing from next) st m new answer log mid more log' g logs h =
+    quiet_more m answer log mid more log' logs (flush_passes next st m new (first_due st from) answer mid more log' g h)
+move_by most (closing a) st m new answer log mid more log' g logs h =
+    closes_by a st m new (first_open st) answer log mid more log' g logs h
+
+walk_by : (most : ℕ) (old : Server) (moves : List Move) (new : State) (answer : Served) (log log' : LogPlace)
+    → Walk (MakesMove most) old moves (server new (closing answer)) → Walk LogsMove log moves log'
+    → ByPhase old.phase answer log (all_logged moves) log'
+walk_by most old [] new answer log log' w logs =
+    subst (λ (k : Server). ByPhase k.phase answer log [] log') w (refl, refl, logs)
+walk_by most old (m ∷ moves) new answer log log' w logs =
+    move_by most old.phase old.state m w.0 answer log logs.0 (all_logged moves) log' w.1.0 logs.1
+    (walk_by most w.0 moves new answer logs.0 log' w.2 logs.2)
+
+-- from the first turn on
+pub serve_keeps : (most : ℕ) (old : State) (moves : List Move) (new : State) (answer : Served) (log log' : LogPlace)
+    → Walk (MakesMove most) (server old waiting) moves (server new (closing answer)) → Walk LogsMove log moves log'
+    → KeepsBy (Some answer) log.gate log'.gate (all_logged moves) log.history log'.history
+serve_keeps most old moves new answer log log' w logs = walk_by most (server old waiting) moves new answer log log' w
+    logs

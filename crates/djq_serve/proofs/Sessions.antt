@@ -1,9 +1,9 @@
--- The sessions of the machine and of the hub, and which of them could run a line.
+-- The sessions of the machine and of the hub.
 use Rattle.std.specs.Prelude.{ℕ, List, [], ◌∷◌, ◌++◌, ◌==◌, ◌≡◌, ◌<◌, ◌≤◌, ◌⊎◌, ◌&&◌, ◌||◌, Bool, true, false, not}
-use Rattle.std.specs.Prelude.{cond, nat_eq, nat_le, nat_lt, MatchBool, Option, None, Some, is_some, IsSome, IsSomeAnd}
-use Rattle.std.specs.Prelude.{IfSome, find, filter, slice_get, length, map, All, Contains, is_none, ◌+◌, take, sum_by}
+use Rattle.std.specs.Prelude.{cond, nat_eq, nat_le, nat_lt, Option, None, Some, is_some, IsSome, IsSomeAnd}
+use Rattle.std.specs.Prelude.{IfSome, find, filter, slice_get, length, map, All, Contains, ◌+◌, take, sum_by}
 use Rattle.std.specs.List.{list_any}
-use Rattle.std.proofs.Common.{refl, sym, ap, ◌∙◌, subst, inl, inr, arith, append-nil, length-append, length-take}
+use Rattle.std.proofs.Common.{refl, sym, ap, ◌∙◌, subst, inl, inr, arith, length-append, length-take}
 use Rattle.std.proofs.lemmas.Bool.{and_parts, eqb-true, eq-eqb, leb-true}
 use Rattle.std.proofs.lemmas.List.Elements.{All-nil, All-cons, All-head, All-tail, All-filter, All-contains}
 use Rattle.std.proofs.lemmas.List.Elements.{All-contains_itself, Contains-push, filter_passes}
@@ -13,23 +13,16 @@ use Rattle.std.proofs.lemmas.List.Filters.{sum_by-filter_both}
 use Rattle.djq_io.specs.Hub.{Ids, IsNewId, IsRunning, with_opened, EndsInput, without}
 use Rattle.djq_io.proofs.Hubs.{is_member}
 use Rattle.djq_model.specs.Data.{Bytes, change_first}
-use Rattle.djq_protocol.specs.declared.answer.EndCause.{EndCause}
-use Rattle.djq_protocol.specs.Line.{too_long, a_line, front_of}
 use Rattle.djq_machine.specs.State.{State, Session, session_of}
-use Rattle.djq_machine.specs.Step.{opened, Event, fed, stepped, took, ended, closed, Step, is_dry, TookStep}
+use Rattle.djq_machine.specs.Step.{opened, Event, took, closed, Step, TookStep}
 use Rattle.djq_machine.specs.Step.{with_relations}
-use Rattle.djq_machine.specs.Run.{pending_of, fed_by, line_by}
-use Rattle.djq_machine.specs.Call.{IsOpen, Makes, cause_of, state_ids, is_due, first_due, held_of, held_in, cause_in}
+use Rattle.djq_machine.specs.Run.{pending_of}
+use Rattle.djq_machine.specs.Call.{IsOpen, Makes, cause_of, state_ids, is_due, first_due}
 use Rattle.djq_machine.specs.Effect.{Effect, nothing, queue_all}
-use Rattle.djq_machine.specs.LineStep.{LineOutcome, long, blank, slow, no_room, run, FrontStep}
-use Rattle.djq_run_laws.specs.Moved.{SparesSession}
 use Rattle.djq_run_laws.proofs.Lists.{all_found, found_passes, some_there}
-use Rattle.djq_run_laws.proofs.Sessions.{step_ids, step_stopped}
-use Rattle.djq_run_laws.proofs.TakenLines.{HeldStep, holds, takes, drops, step_holds, front_fewer}
-use Rattle.djq_run_laws.proofs.Courses.{stepped_facts}
-use Rattle.djq_serve.specs.Server.{first_open, may_run}
-use Rattle.djq_serve.specs.Kept.{Agrees, IsNewSession, HoldsNoLine, AllSettled, OthersSettled, Spares, flush_ahead}
-use Rattle.djq_serve.specs.Parts.{IsServed, NotServed}
+use Rattle.djq_run_laws.proofs.Sessions.{step_ids}
+use Rattle.djq_serve.specs.Server.{first_open}
+use Rattle.djq_serve.specs.Kept.{Agrees, IsNewSession, flush_ahead}
 
 -- ---- That the machine and the hub have the same sessions, and which of them a flush is at.
 
@@ -238,55 +231,14 @@ none_first st none = no_ids (state_ids st) none
     no_ids [] e = refl
     no_ids (i ∷ is) e = absurd cc
 
--- whether an id is among the ids, as the code asks
-pub served_by : (st : State) (s : ℕ) (b : Bool) → b ≡ list_any (λ i. nat_eq i s) (state_ids st) → st.stopped ≡ false
-    → MatchBool b (IsServed st s) (NotServed st s)
-served_by st s true e going = record { is_open = open_any st.sessions s ∙ sym e; going = going }
-served_by st s false e going = inr (λ there. absurd (no_one (sym e ∙ refl) (sym (open_any st.sessions s) ∙ there)))
-  where
-    no_one : list_any (λ i. nat_eq i s) (state_ids st) ≡ false → list_any (λ i. nat_eq i s) (state_ids st) ≡ true → ⊥
-    no_one f t = cc
+-- whether a session is open, as the code asks
+pub open_by : (st : State) (s : ℕ) → is_some (session_of st s) ≡ list_any (λ i. nat_eq i s) (state_ids st)
+open_by st s = open_any st.sessions s
 
 pub new_at_hub : (st : State) (ids : Ids) (s : ℕ) → IsNewSession st ids s → Contains ids.open_ids s
 new_at_hub st ids s n = subst (λ (is : List ℕ). Contains is s) (sym n.same) (Contains-push (state_ids st) s)
 
--- ---- Which sessions hold no line that could be run, behind each step.
-
--- A session holds the same, and has ended where it had.
-abbrev Keeps : State → State → ℕ → Type 0
-Keeps old new t = (held_of new t ≡ held_of old t) × (IsSome (cause_of old t) → IsSome (cause_of new t))
-
-kept_held : (held held' : Bytes) (cause cause' : Option EndCause) → HeldStep [] [] held held' cause cause'
-    → (held' ≡ held) × (IsSome cause → IsSome cause')
-kept_held held held' cause cause' (holds none is so) = (is ∙ append-nil held, λ c. (so c).0)
-kept_held held held' cause cause' (takes l is none front running) = absurd cc
-kept_held held held' cause cause' (drops none is so) = (is, λ c. so)
-
--- a step keeps each session for which it brings nothing and takes no line, and which it doesn't close
-kept : (old : State) (event : Event) (e : Effect) (new : State) → Step old event e new → (t : ℕ) → fed_by t event ≡ []
-    → line_by t event ≡ [] → SparesSession event t → Keeps old new t
-kept old event e new h t none_fed no_line spared =
-    kept_held (held_of old t) (held_of new t) (cause_of old t) (cause_of new t)
-    (subst (λ (came : Bytes). HeldStep came [] (held_of old t) (held_of new t) (cause_of old t) (cause_of new t))
-    none_fed
-    (subst (λ (lines : List Bytes). HeldStep (fed_by t event) lines (held_of old t) (held_of new t) (cause_of old t)
-    (cause_of new t)) no_line
-    (step_holds old event e new h t spared)))
-
-kept_settled : (old new : State) (t : ℕ) → Keeps old new t → HoldsNoLine old t → HoldsNoLine new t
-kept_settled old new t k (inl cause) = inl (k.1 cause)
-kept_settled old new t k (inr dry) = inr (ap (λ (bytes : Bytes). is_dry bytes) k.0 ∙ dry)
-
--- a session that isn't open holds nothing
-none_held : (o : Option Session) → (IsSome o → ⊥) → held_in o ≡ []
-none_held None h = refl
-none_held (Some x) h = absurd (h refl)
-
-pub closed_held : (st : State) (s : ℕ) → (IsOpen st s → ⊥) → held_of st s ≡ []
-closed_held st s h = none_held (session_of st s) h
-
-pub closed_settled : (st : State) (s : ℕ) → (IsOpen st s → ⊥) → HoldsNoLine st s
-closed_settled st s h = inr (ap (λ (bytes : Bytes). is_dry bytes) (closed_held st s h))
+-- ---- A session that is closed.
 
 -- the ids without that of a session don't have it
 pub without_it : (s : ℕ) (xs : List ℕ) → Contains (filter (λ i. not (i == s)) xs) s → ⊥
@@ -305,135 +257,6 @@ pub is_closed : (old : State) (s : ℕ) (bytes : Bytes) (new : State) → Makes 
 is_closed old s bytes new m there =
     without_it s (state_ids old)
     (subst (λ (is : List ℕ). Contains is s) (closed_ids old s bytes new m) (open_contains new s there))
-
--- no further bytes are held, where they are the same
-no_more : (held held' : Bytes) → held' ≡ held → length held' ≤ length held
-no_more held held' e = omega (arith, ap length e)
-
--- What a step of a flush leaves.
-pub took_spares : (old : State) (s : ℕ) (bytes : Bytes) (new : State) → Makes old (took s bytes) new → Spares old new
-took_spares old s bytes new m =
-    let k : (t : ℕ) → Keeps old new t = λ t. kept old (took s bytes) m.effect new m.step t refl refl tt in
-    record {
-      settled = λ t h. kept_settled old new t (k t) h;
-      held = λ t. no_more (held_of old t) (held_of new t) (k t).0;
-      stopped = step_stopped old (took s bytes) m.effect new m.step tt;
-    }
-
-pub closed_spares : (old : State) (s : ℕ) (bytes : Bytes) (new : State) → Makes old (closed s bytes) new
-    → Spares old new
-closed_spares old s bytes new m = record {
-  settled = λ t h. settled_at t (s == t) refl h;
-  held = λ t. held_at t (s == t) refl;
-  stopped = step_stopped old (closed s bytes) m.effect new m.step tt;
-}
-  where
-    gone : (t : ℕ) → (s == t) ≡ true → IsOpen new t → ⊥
-    gone t same there = is_closed old s bytes new m (subst (λ (i : ℕ). IsOpen new i) (sym (eqb-true s t same)) there)
-
-    settled_at : (t : ℕ) (b : Bool) → (s == t) ≡ b → HoldsNoLine old t → HoldsNoLine new t
-    settled_at t true same h = closed_settled new t (gone t same)
-    settled_at t false apart h = kept_settled old new t
-        (kept old (closed s bytes) m.effect new m.step t refl refl apart) h
-
-    held_at : (t : ℕ) (b : Bool) → (s == t) ≡ b → length (held_of new t) ≤ length (held_of old t)
-    held_at t true same = omega (arith, ap length (closed_held new t (gone t same)))
-    held_at t false apart = no_more (held_of old t) (held_of new t)
-        (kept old (closed s bytes) m.effect new m.step t refl refl apart).0
-
-pub spares_same : (st : State) → Spares st st
-spares_same st = record { settled = λ t h. h; held = λ t. omega arith; stopped = refl }
-
-pub spares_then : (a b c : State) → Spares a b → Spares b c → Spares a c
-spares_then a b c g h = record {
-  settled = λ t k. h.settled t (g.settled t k);
-  held = λ t. omega (arith, g.held t, h.held t);
-  stopped = h.stopped ∙ g.stopped;
-}
-
--- what comes of a session leaves the others settled
-pub fed_settled : (old : State) (s : ℕ) (bytes : Bytes) (new : State) → Makes old (fed s bytes) new → AllSettled old
-    → OthersSettled s new
-fed_settled old s bytes new m all t apart =
-    kept_settled old new t (kept old (fed s bytes) m.effect new m.step t (rw apart refl) refl tt) (all t)
-
-pub ran_settled : (old : State) (s : ℕ) (outcome : LineOutcome) (e : Effect) (new : State)
-    → Step old (stepped s outcome) e new → OthersSettled s old → OthersSettled s new
-ran_settled old s outcome e new h others t apart =
-    kept_settled old new t (kept old (stepped s outcome) e new h t refl (rw apart refl) tt) (others t apart)
-
-pub ended_settled : (old : State) (s : ℕ) (new : State) → Makes old (ended s) new → AllSettled old → AllSettled new
-ended_settled old s new m all t = kept_settled old new t (kept old (ended s) m.effect new m.step t refl refl tt) (all t)
-
-pub opened_settled : (old : State) (s : ℕ) (new : State) → Makes old (opened s) new → AllSettled old → AllSettled new
-opened_settled old s new m all t = kept_settled old new t (kept old (opened s) m.effect new m.step t refl refl tt)
-    (all t)
-
--- all are settled: a session and the others
-pub one_and_others : (st : State) (s : ℕ) → HoldsNoLine st s → OthersSettled s st → AllSettled st
-one_and_others st s one others t = at (s == t) refl
-  where
-    at : (b : Bool) → (s == t) ≡ b → HoldsNoLine st t
-    at true same = subst (λ (i : ℕ). HoldsNoLine st i) (eqb-true s t same) one
-    at false apart = others t apart
-
--- ---- What running a line says of the session and of whether one may be run.
-
--- bytes with a front aren't dry
-wet_line : (held l rest : Bytes) → front_of held ≡ a_line l rest → is_dry held ≡ false
-wet_line held l rest e = rw e refl
-
-wet_long : (held : Bytes) → front_of held ≡ too_long → is_dry held ≡ false
-wet_long held e = rw e refl
-
-front_wet : (old : State) (s : ℕ) (x : Session) (outcome : LineOutcome) (e : Effect) (mid : State)
-    → FrontStep old s x outcome e mid → is_dry x.held ≡ false
-front_wet old s x long e mid h = wet_long x.held h.0
-front_wet old s x (blank l) e mid h = wet_line x.held l h.1.rest h.1.front
-front_wet old s x (slow l) e mid h = wet_line x.held l h.2.rest h.2.front
-front_wet old s x (no_room l) e mid h = wet_line x.held l h.2.rest h.2.front
-front_wet old s x (run l) e mid h = wet_line x.held l h.2.rest h.2.front
-
--- a line that came to something was held, by a session that hadn't ended
-pub may_run_by : (old : State) (s : ℕ) (outcome : LineOutcome) (e : Effect) (new : State)
-    → Step old (stepped s outcome) e new → old.stopped ≡ false → may_run old s ≡ true
-may_run_by old s outcome e new h going =
-    let f = some_there (session_of old s) (λ x. (x.cause ≡ None) × FrontStep old s x outcome e h.mid) h.acts in
-    let running : cause_of old s ≡ None = ap cause_in f.1 ∙ f.2.0 in
-    let wet : is_dry (held_of old s) ≡ false = ap (λ (o : Option Session). is_dry (held_in o)) f.1
-    ∙ front_wet old s f.0 outcome e h.mid f.2.1 in
-    rw (going, running, wet) refl
-
--- no line may be run
-pub may_not_dry : (st : State) (s : ℕ) → is_dry (held_of st s) ≡ true → may_run st s ≡ false
-may_not_dry st s dry = by_parts st.stopped (is_none (cause_of st s)) (is_dry (held_of st s)) dry
-  where
-    by_parts : (a b c : Bool) → c ≡ true → (not a && (b && not c)) ≡ false
-    by_parts true b c e = refl
-    by_parts false true c e = ap not e
-    by_parts false false c e = refl
-
-pub may_not_ended : (st : State) (s : ℕ) (c : EndCause) → cause_of st s ≡ Some c → may_run st s ≡ false
-may_not_ended st s c has_ended = by_parts st.stopped (is_none (cause_of st s)) (is_dry (held_of st s)) (ap is_none has_ended)
-  where
-    by_parts : (a b d : Bool) → b ≡ false → (not a && (b && not d)) ≡ false
-    by_parts true b d e = refl
-    by_parts false b d e = ap (λ k. k && not d) e
-
-pub may_not_stopped : (st : State) (s : ℕ) → st.stopped ≡ true → may_run st s ≡ false
-may_not_stopped st s stopped = ap (λ k. not k && (is_none (cause_of st s) && not (is_dry (held_of st s)))) stopped
-
--- a line that was run or was blank is gone
-pub line_fewer : (old : State) (s : ℕ) (l : Bytes) (e : Effect) (new : State)
-    → Step old (stepped s (run l)) e new ⊎ Step old (stepped s (blank l)) e new
-    → length (held_of new s) < length (held_of old s)
-line_fewer old s l e new (inl h) = front_fewer (held_of old s) l (held_of new s)
-    (stepped_facts old s (run l) e new h).held
-line_fewer old s l e new (inr h) = front_fewer (held_of old s) l (held_of new s)
-    (stepped_facts old s (blank l) e new h).held
-
-pub may_not_closed : (st : State) (s : ℕ) → (IsOpen st s → ⊥) → may_run st s ≡ false
-may_not_closed st s gone = may_not_dry st s (ap (λ (bytes : Bytes). is_dry bytes) (closed_held st s gone))
 
 -- ---- That each visit of a flush gets it nearer to its end.
 

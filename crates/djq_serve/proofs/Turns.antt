@@ -1,50 +1,39 @@
--- What a turn brings, the lines of a session, and a flush from session to session.
-use Rattle.std.specs.Prelude.{ℕ, List, [], ◌∷◌, ◌≡◌, ◌<◌, ◌≤◌, cond, Err, length, take, All, ◌++◌, false, Option, None}
-use Rattle.std.specs.Prelude.{Some, IsSome, MatchOption, Bool, true}
-use Rattle.std.proofs.Common.{refl, sym, ap, ◌∙◌, subst, inl, inr, length-take, arith, append-nil, append_assoc}
+-- What a turn brings, and the turns of a round.
+use Rattle.std.specs.Prelude.{ℕ, List, [], ◌∷◌, ◌≡◌, ◌<◌, ◌≤◌, ◌+◌, ◌-◌, cond, Err, length, take, All}
+use Rattle.std.proofs.Common.{refl, sym, ap, ◌∙◌, subst, inl, inr, length-take, arith}
 use Rattle.std.proofs.lemmas.Bool.{lt-ltb, le-ltb}
 use Rattle.std.proofs.lemmas.List.Sorted.{IsPermutation-refl}
-use Rattle.djq_io.specs.declared.hub.Turn.TheVariants.{Opened, Bytes as Brought, Ended, Idle, Over as HubOver, Failed}
+use Rattle.djq_io.specs.declared.hub.Class.{Class}
+use Rattle.djq_io.specs.declared.hub.Turn.{Turn}
+use Rattle.djq_io.specs.declared.hub.Turn.TheVariants.{Opened, Bytes as Brought, Ended, Idle, Over as TurnOver, Failed as TurnFailed}
 use Rattle.djq_io.specs.declared.hub.Sent.{Sent}
 use Rattle.djq_io.specs.declared.hub.Told.{Told}
 use Rattle.djq_io.specs.declared.hub.Told.TheVariants.{Turning, Closing}
 use Rattle.djq_io.specs.declared.limits.TheConstants.{READ_BYTES}
-use Rattle.djq_io.specs.declared.hub.Sent.TheVariants.{Took}
 use Rattle.djq_io.specs.Hub.{Ids, Takes, without}
 use Rattle.djq_model.specs.declared.relation.Relation.{Relation}
 use Rattle.djq_model.specs.Data.{Bytes}
 use Rattle.djq_protocol.specs.declared.limits.TheConstants.{SESSIONS}
-use Rattle.djq_protocol.specs.declared.answer.EndCause.{EndCause}
-use Rattle.djq_protocol.specs.declared.answer.EndCause.TheVariants.{Input, Quit, Stop, Long, Slow, Memory}
 use Rattle.djq_protocol.specs.Reply.{end_full, end_memory}
 use Rattle.djq_machine.specs.declared.machine.OpenRefusal.{OpenRefusal}
 use Rattle.djq_machine.specs.declared.machine.OpenRefusal.TheVariants.{Full, NoMem}
-use Rattle.djq_machine.specs.declared.machine.Stepped.TheVariants.{Dry, Ended as SteppedEnded}
 use Rattle.djq_machine.specs.State.{State, Session}
 use Rattle.djq_machine.specs.Effect.{nothing}
-use Rattle.djq_machine.specs.Step.{opened, fed, ended, SameRelations, Step, stepped, took}
-use Rattle.djq_machine.specs.Call.{IsOpen, Makes, OpenGives, Counts, MakesCounted, RanStep, EndedStepAs, StepGives}
-use Rattle.djq_machine.specs.Call.{cause_of, held_of, groups_by, first_due}
-use Rattle.djq_machine.specs.LineStep.{LineOutcome, long, blank, slow, no_room, run}
-use Rattle.djq_machine.specs.Run.{Group, kept_group, pending_of}
-use Rattle.djq_run_laws.proofs.Sessions.{step_ids}
-use Rattle.djq_run_laws.proofs.Courses.{stepped_facts}
-use Rattle.djq_run_laws.proofs.TakenLines.{some_of}
-use Rattle.djq_serve.specs.declared.served.Served.TheVariants.{HubFault, DiskFault, LogFull, Stopped, Over}
+use Rattle.djq_machine.specs.Step.{opened, fed, SameRelations, Step}
+use Rattle.djq_machine.specs.Call.{IsOpen, Makes, OpenGives, Counts}
+use Rattle.djq_machine.specs.Run.{Did}
+use Rattle.djq_serve.specs.declared.rest.Rest.{Rest}
+use Rattle.djq_serve.specs.declared.rest.Rest.TheVariants.{Nothing, Ends, Over as HubOver, Failed}
 use Rattle.djq_serve.specs.Told.{Shown, HubTells, turns_in}
-use Rattle.djq_serve.specs.Server.{next_turn, no_turn, waiting, lines, flushing, closing, server, offering, LetsIn}
-use Rattle.djq_serve.specs.Server.{refusal_for, Next, more_lines, keeping, may_run, behind_front, after}
-use Rattle.djq_serve.specs.Goes.{Far, one_turn, seen, Goes, far, with_groups, GoesQuietly}
-use Rattle.djq_serve.specs.Kept.{Agrees, IsNewSession, AllSettled, OthersSettled, Spares}
-use Rattle.djq_serve.specs.Parts.{Admits, OffersAndCloses, IsServed, NotServed, Flushes}
-use Rattle.djq_serve.proofs.Moves.{tells_none, tells_more, happens, turn_goes, line_runs, line_kept, line_lost}
-use Rattle.djq_serve.proofs.Moves.{line_left, lines_over, flush_over, visit_takes, goes_none, goes_then, quietly_then}
-use Rattle.djq_serve.proofs.Moves.{quietly_none}
-use Rattle.djq_serve.proofs.Sessions.{is_above, not_open, refused_in, agrees_same, ran_settled, closed_settled}
-use Rattle.djq_serve.proofs.Sessions.{one_and_others, spares_same, spares_then, may_run_by, may_not_dry, may_not_ended}
-use Rattle.djq_serve.proofs.Sessions.{may_not_stopped, may_not_closed, line_fewer}
+use Rattle.djq_serve.specs.Server.{waiting, gathering, server, offering, LetsIn, refusal_for, Brings}
+use Rattle.djq_serve.specs.Goes.{LogPlace, seen, GoesLogging}
+use Rattle.djq_serve.specs.Kept.{Agrees, IsNewSession}
+use Rattle.djq_serve.specs.Parts.{Admits, OffersAndCloses, TakesOne, Gathers, after_turn, after_turns, RestCounts}
+use Rattle.djq_serve.proofs.Going.{tells_none, tells_more, happens, goes_none, goes_then}
+use Rattle.djq_serve.proofs.Moving.{turn_goes, gathered}
+use Rattle.djq_serve.proofs.Sessions.{is_above, not_open, refused_in}
 
--- ---- What a turn brings, up to the flush or the lines behind it.
+-- ---- A session opens at the hub.
 
 -- A session that isn't let in: that is a step too, which changes nothing.
 same_relations : (rs : List Relation) → SameRelations rs rs
@@ -122,368 +111,130 @@ pub unmade_gives : (st new : State) (s : ℕ) (r : OpenRefusal) → r ≡ NoMem 
     → (length st.sessions < SESSIONS) × (new ≡ st)
 unmade_gives st new s r e h = subst (λ (q : OpenRefusal). OpenGives st s (Err q) new) e h
 
--- A session opened.
+-- ---- What a turn brings.
+
+-- a turn was taken, the first of a round or a further one
+turn_takes : (rest : Rest) (hub hub' : Shown) (st new : State) (turn : Turn) (piece : Bytes) (more : List Told)
+    (done : List Did) → ((left : ℕ) → Brings left turn piece st more done new (after_turn left rest))
+    → turns_in more ≡ 0 → HubTells hub hub' (Turning turn piece ∷ more) → TakesOne rest hub st hub' new
+turn_takes rest hub hub' st new turn piece more done brings none told = record {
+  first = λ most counted turns log. turn_goes most (most - 1) waiting hub hub' counted turns log st new turn piece more
+      done (after_turn (most - 1) rest) (λ m b takes. inr takes) (brings (most - 1)) none told;
+  further = λ most left counted turns log some. turn_goes most (left - 1) (gathering left) hub hub' counted turns log st
+      new turn piece more done (after_turn (left - 1) rest) (λ m b takes. inr (some, takes)) (brings (left - 1)) none
+      told;
+}
+
 none_more : (s : ℕ) (st new : State) (more : List Told) → LetsIn s st more new → turns_in more ≡ 0
 none_more s st new more (inl h) = ap turns_in h.1
 none_more s st new more (inr h) = ap turns_in h.3
 
-pub turn_opens : (hub mid hub' : Shown) (counted : Counts) (f : Far) (st new : State) (s : ℕ)
-    → HubTells hub mid (Turning (Opened s) [] ∷ []) → Admits st mid s new hub'
-    → Goes (seen hub counted f) (server st waiting) (seen hub' counted (one_turn f)) (server new (flushing 0 next_turn))
-turn_opens hub mid hub' counted f st new s told a =
-    turn_goes hub hub' counted f st new (Opened s) [] a.more _ (flushing 0 next_turn)
-    (happens (opened s) st new a.makes, a.lets_in, refl) (none_more s st new a.more a.lets_in) refl
-    (tells_more hub mid hub' (Turning (Opened s) [] ∷ []) a.more told a.told)
+-- a session opened
+pub turn_opens : (hub mid hub' : Shown) (st new : State) (s : ℕ) (class : Class)
+    → HubTells hub mid (Turning (Opened s class) [] ∷ []) → Admits st mid s new hub' → TakesOne Nothing hub st hub' new
+turn_opens hub mid hub' st new s class told a =
+    turn_takes Nothing hub hub' st new (Opened s class) [] a.more _
+    (λ left. (happens (opened s) st new a.makes, a.lets_in, refl)) (none_more s st new a.more a.lets_in)
+    (tells_more hub mid hub' (Turning (Opened s class) [] ∷ []) a.more told a.told)
 
 -- bytes came
-pub turn_feeds : (hub hub' : Shown) (counted : Counts) (f : Far) (st new : State) (s n : ℕ) (buf : Bytes) → 1 ≤ n
-    → n ≤ length buf → length buf ≡ READ_BYTES → Makes st (fed s (take n buf)) new
-    → HubTells hub hub' (Turning (Brought s n) (take n buf) ∷ [])
-    → Goes (seen hub counted f) (server st waiting) (seen hub' counted (one_turn f)) (server new (lines s))
-turn_feeds hub hub' counted f st new s n buf some within room makes told =
-    turn_goes hub hub' counted f st new (Brought s n) (take n buf) [] _ (lines s) (
+pub turn_feeds : (hub hub' : Shown) (st new : State) (s n : ℕ) (buf : Bytes) → 1 ≤ n → n ≤ length buf
+    → length buf ≡ READ_BYTES → Makes st (fed s (take n buf)) new
+    → HubTells hub hub' (Turning (Brought s n) (take n buf) ∷ []) → TakesOne Nothing hub st hub' new
+turn_feeds hub hub' st new s n buf some within room makes told =
+    turn_takes Nothing hub hub' st new (Brought s n) (take n buf) [] _
+    (λ left. (
       happens (fed s (take n buf)) st new makes,
       refl,
       refl,
       (omega (arith, length-take n buf, within), omega (arith, some), omega (arith, within, room)),
-    ) refl refl told
+    )) refl told
 
 -- the input of a session ended
-pub turn_ends : (hub hub' : Shown) (counted : Counts) (f : Far) (st new : State) (s : ℕ) → Makes st (ended s) new
-    → HubTells hub hub' (Turning (Ended s) [] ∷ [])
-    → Goes (seen hub counted f) (server st waiting) (seen hub' counted (one_turn f)) (server new (flushing 0 next_turn))
-turn_ends hub hub' counted f st new s makes told =
-    turn_goes hub hub' counted f st new (Ended s) [] [] _ (flushing 0 next_turn)
-    (happens (ended s) st new makes, refl, refl) refl refl told
+pub turn_ends : (hub hub' : Shown) (st : State) (s : ℕ) → HubTells hub hub' (Turning (Ended s) [] ∷ [])
+    → TakesOne (Ends s) hub st hub' st
+turn_ends hub hub' st s told = turn_takes (Ends s) hub hub' st st (Ended s) [] [] []
+    (λ left. ((refl, refl), refl, refl)) refl told
 
 -- nothing came, nothing will come, or the hub failed
-pub turn_idles : (hub hub' : Shown) (counted : Counts) (f : Far) (st : State) → HubTells hub hub' (Turning Idle [] ∷ [])
-    → Goes (seen hub counted f) (server st waiting) (seen hub' counted (one_turn f)) (server st (flushing 0 next_turn))
-turn_idles hub hub' counted f st told = turn_goes hub hub' counted f st st Idle [] [] [] (flushing 0 next_turn)
-    ((refl, refl), refl, refl) refl refl told
+pub turn_idles : (hub hub' : Shown) (st : State) → HubTells hub hub' (Turning Idle [] ∷ [])
+    → TakesOne Nothing hub st hub' st
+turn_idles hub hub' st told = turn_takes Nothing hub hub' st st Idle [] [] [] (λ left. ((refl, refl), refl, refl)) refl
+    told
 
-pub turn_over : (hub hub' : Shown) (counted : Counts) (f : Far) (st : State)
-    → HubTells hub hub' (Turning HubOver [] ∷ [])
-    → Goes (seen hub counted f) (server st waiting) (seen hub' counted (one_turn f)) (server st (flushing 0 no_turn))
-turn_over hub hub' counted f st told = turn_goes hub hub' counted f st st HubOver [] [] [] (flushing 0 no_turn)
-    ((refl, refl), refl, refl) refl refl told
+pub turn_over : (hub hub' : Shown) (st : State) → HubTells hub hub' (Turning TurnOver [] ∷ [])
+    → TakesOne HubOver hub st hub' st
+turn_over hub hub' st told = turn_takes HubOver hub hub' st st TurnOver [] [] []
+    (λ left. ((refl, refl), refl, refl)) refl told
 
-pub turn_fails : (hub hub' : Shown) (counted : Counts) (f : Far) (st : State)
-    → HubTells hub hub' (Turning Failed [] ∷ [])
-    → Goes (seen hub counted f) (server st waiting) (seen hub' counted (one_turn f)) (server st (closing HubFault))
-turn_fails hub hub' counted f st told = turn_goes hub hub' counted f st st Failed [] [] [] (closing HubFault)
-    ((refl, refl), refl, refl) refl refl told
+pub turn_fails : (hub hub' : Shown) (st : State) → HubTells hub hub' (Turning TurnFailed [] ∷ [])
+    → TakesOne Failed hub st hub' st
+turn_fails hub hub' st told = turn_takes Failed hub hub' st st TurnFailed [] [] []
+    (λ left. ((refl, refl), refl, refl)) refl told
 
 -- the buffer keeps its length
 pub at_room : (old new : Bytes) → length new ≡ length old → length old ≡ READ_BYTES → length new ≡ READ_BYTES
 at_room old new same room = same ∙ room
 
--- ---- The lines of a session, one after another.
+-- ---- The turns of a round, one after another.
 
--- What the lines of a session keep from the first on.
-pub record Lining (x y : Shown) (before now : Counts) (old st : State) (s : ℕ) (groups : List Group) : Type 0 where
-  pub agrees : Agrees st y.ids
-  pub settled : OthersSettled s st
-  pub goes : (f : Far) → Goes (seen x before f) (server old (lines s)) (seen y now (with_groups groups f))
-      (server st (lines s))
+-- What gathering keeps from the first turn on.
+pub record Gathering (limit taken : ℕ) (rest : Rest) (x y : Shown) (old st : State) : Type 0 where
+  pub goes : (most : ℕ) → limit ≤ most → (counted : Counts) (turns : ℕ) (log : LogPlace)
+      → GoesLogging most (seen x counted turns) (server old waiting) log (seen y counted (turns + taken))
+      (server st (after_turn (most - taken) rest)) log
 
--- behind them
-pub record Lined (x y : Shown) (before now : Counts) (old new : State) (s : ℕ) (groups : List Group) : Type 0 where
-  pub agrees : Agrees new y.ids
-  pub settled : new.stopped ≡ false → AllSettled new
-  pub goes : (f : Far) → Goes (seen x before f) (server old (lines s)) (seen y now (with_groups groups f))
-      (server new (flushing 0 next_turn))
+pub turns_begun : (limit : ℕ) (rest : Rest) (x y : Shown) (old st : State) → TakesOne rest x old y st
+    → Gathering limit 1 rest x y old st
+turns_begun limit rest x y old st takes = record { goes = λ most within counted turns log. takes.first most counted turns log }
 
--- no groups further, and some groups and others
-pub no_groups : (f : Far) → f ≡ with_groups [] f
-no_groups f = ap (λ (gs : List Group). far f.turns gs) (sym (append-nil f.kept))
-
-pub both_groups : (f : Far) (a b : List Group) → with_groups b (with_groups a f) ≡ with_groups (a ++ b) f
-both_groups f a b = ap (λ (gs : List Group). far f.turns gs) (append_assoc f.kept a b)
-
-pub lines_begun : (x : Shown) (counted : Counts) (st : State) (s : ℕ) → Agrees st x.ids → OthersSettled s st
-    → Lining x x counted counted st st s []
-lines_begun x counted st s agrees settled = record {
-  agrees = agrees;
-  settled = settled;
-  goes = λ f. subst (λ (k : Far). Goes (seen x counted f) (server st (lines s)) (seen x counted k)
-      (server st (lines s))) (no_groups f) (goes_none (seen x counted f) (server st (lines s)));
+pub turn_more : (limit taken : ℕ) (before rest : Rest) (x y z : Shown) (old st new : State)
+    → Gathering limit taken before x y old st → before ≡ Nothing → taken < limit → TakesOne rest y st z new
+    → Gathering limit (taken + 1) rest x z old new
+turn_more limit taken before rest x y z old st new so_far none few takes = record {
+  goes = λ most within counted turns log.
+      let left = most - taken in
+      let some : 0 < left = omega (arith, few, within) in
+      let end : (most - taken) - 1 ≡ most - (taken + 1) = omega arith in
+      let all : (turns + taken) + 1 ≡ turns + (taken + 1) = omega arith in
+      goes_then most (seen x counted turns) (server old waiting) log (seen y counted (turns + taken))
+      (server st (gathering left)) log (seen z counted (turns + (taken + 1)))
+      (server new (after_turn (most - (taken + 1)) rest)) log
+      (subst (λ (r : Rest). GoesLogging most (seen x counted turns) (server old waiting) log
+      (seen y counted (turns + taken)) (server st (after_turn left r)) log) none (so_far.goes most within counted turns log))
+      (subst (λ (k : ℕ). GoesLogging most (seen y counted (turns + taken)) (server st (gathering left)) log
+      (seen z counted k) (server new (after_turn (most - (taken + 1)) rest)) log) all
+      (subst (λ (k : ℕ). GoesLogging most (seen y counted (turns + taken)) (server st (gathering left)) log
+      (seen z counted ((turns + taken) + 1)) (server new (after_turn k rest)) log) end
+      (takes.further most left counted (turns + taken) log some)));
 }
 
--- the hub has the machine's sessions behind a line too
-pub ran_agrees : (st ran : State) (ids : Ids) (s : ℕ) (mid now : Counts) → RanStep st s ran mid now → Agrees st ids
-    → Agrees ran ids
-ran_agrees st ran ids s mid now (l, inl m) a = agrees_same st ran ids ids
-    (step_ids st (stepped s (blank l)) m.effect ran m.step) refl a
-ran_agrees st ran ids s mid now (l, inr m) a = agrees_same st ran ids ids
-    (step_ids st (stepped s (run l)) m.effect ran m.step) refl a
+-- there is no further turn
+turns_end : (rest : Rest) (most left : ℕ) (y : Shown) (st : State) (counted : Counts) (turns : ℕ) (log : LogPlace)
+    → GoesLogging most (seen y counted turns) (server st (after_turn left rest)) log (seen y counted turns)
+    (server st (after_turns rest)) log
+turns_end Nothing most left y st counted turns log = gathered most left y st counted turns log
+turns_end (Ends s) most left y st counted turns log = goes_none most (seen y counted turns)
+    (server st (after_turn left (Ends s))) log
+turns_end HubOver most left y st counted turns log = goes_none most (seen y counted turns)
+    (server st (after_turn left HubOver)) log
+turns_end Failed most left y st counted turns log = goes_none most (seen y counted turns)
+    (server st (after_turn left Failed)) log
 
--- a line was blank or run, and the server keeps what its step did
-line_done : (x y : Shown) (before mid now : Counts) (old st ran : State) (s : ℕ) (groups : List Group)
-    (outcome : LineOutcome)
-    → Lining x y before mid old st s groups → st.stopped ≡ false
-    → (makes : MakesCounted st (stepped s outcome) ran mid now)
-    → behind_front s outcome makes.effect.kept ≡ keeping s (kept_group (stepped s outcome) makes.effect.kept)
-    → (f : Far) → Goes (seen x before f) (server old (lines s))
-    (seen y now (with_groups (groups ++ kept_group (stepped s outcome) makes.effect.kept) f))
-    (server ran (keeping s (kept_group (stepped s outcome) makes.effect.kept)))
-line_done x y before mid now old st ran s groups outcome so_far going makes behind f =
-    let more = kept_group (stepped s outcome) makes.effect.kept in
-    let between : Far = with_groups groups f in
-    subst (λ (k : Far). Goes (seen x before f) (server old (lines s)) (seen y now k) (server ran (keeping s more)))
-    (both_groups f groups more)
-    (goes_then (seen x before f) (server old (lines s)) (seen y mid between) (server st (lines s))
-    (seen y now (with_groups more between)) (server ran (keeping s more)) (so_far.goes f)
-    (subst (λ p. Goes (seen y mid between) (server st (lines s)) (seen y now (with_groups more between)) (server ran p))
-    behind
-    (line_runs y mid now between st ran s outcome (may_run_by st s outcome makes.effect ran makes.step going) makes)))
-
-line_ran : (x y : Shown) (before mid now : Counts) (old st ran : State) (s : ℕ) (groups : List Group)
-    → Lining x y before mid old st s groups → IsServed st s → (r : RanStep st s ran mid now)
-    → (f : Far) → Goes (seen x before f) (server old (lines s))
-    (seen y now (with_groups (groups ++ groups_by st s ran mid now r) f))
-    (server ran (keeping s (groups_by st s ran mid now r)))
-line_ran x y before mid now old st ran s groups so_far served (l, inl m) f = line_done x y before mid now old st ran s
-    groups (blank l) so_far served.going m refl f
-line_ran x y before mid now old st ran s groups so_far served (l, inr m) f = line_done x y before mid now old st ran s
-    groups (run l) so_far served.going m refl f
-
-ran_others : (st ran : State) (s : ℕ) (mid now : Counts) → RanStep st s ran mid now → OthersSettled s st
-    → OthersSettled s ran
-ran_others st ran s mid now (l, inl m) settled = ran_settled st s (blank l) m.effect ran m.step settled
-ran_others st ran s mid now (l, inr m) settled = ran_settled st s (run l) m.effect ran m.step settled
-
--- it is kept, and a flush followed
-pub line_then : (x y z : Shown) (before mid now : Counts) (old st ran new : State) (s : ℕ) (groups : List Group)
-    → Lining x y before mid old st s groups → IsServed st s → (r : RanStep st s ran mid now)
-    → ((next : Next) → GoesQuietly y (server ran (flushing 0 next)) z (server new (after new next))) → Agrees new z.ids
-    → Spares ran new
-    → Lining x z before now old new s (groups ++ groups_by st s ran mid now r)
-line_then x y z before mid now old st ran new s groups so_far served r flushed agrees spares =
-    let more : List Group = groups_by st s ran mid now r in
-    let all : List Group = groups ++ more in
-    record {
-      agrees = agrees;
-      settled = λ t apart. spares.settled t (ran_others st ran s mid now r so_far.settled t apart);
-      goes = λ f. goes_then (seen x before f) (server old (lines s)) (seen y now (with_groups all f))
-          (server ran (flushing 0 (more_lines s))) (seen z now (with_groups all f)) (server new (lines s))
-          (goes_then (seen x before f) (server old (lines s)) (seen y now (with_groups all f))
-          (server ran (keeping s more)) (seen y now (with_groups all f)) (server ran (flushing 0 (more_lines s)))
-          (line_ran x y before mid now old st ran s groups so_far served r f)
-          (line_kept y ran s more now (with_groups all f)))
-          (flushed (more_lines s) now (with_groups all f));
-    }
-
--- it can't be kept
-pub line_fails : (x y : Shown) (before mid now : Counts) (old st ran : State) (s : ℕ) (groups : List Group)
-    → Lining x y before mid old st s groups → IsServed st s → (r : RanStep st s ran mid now)
-    → (groups_by st s ran mid now r ≡ [] → ⊥)
-    → (f : Far) → Goes (seen x before f) (server old (lines s))
-    (seen y now (with_groups (groups ++ groups_by st s ran mid now r) f)) (server ran (closing DiskFault))
-line_fails x y before mid now old st ran s groups so_far served r some f =
-    let more : List Group = groups_by st s ran mid now r in
-    let all : Far = with_groups (groups ++ more) f in
-    goes_then (seen x before f) (server old (lines s)) (seen y now all) (server ran (keeping s more)) (seen y now all)
-    (server ran (closing DiskFault))
-    (line_ran x y before mid now old st ran s groups so_far served r f) (line_lost y ran s more some now all)
-
-pub line_fills : (x y : Shown) (before mid now : Counts) (old st ran : State) (s : ℕ) (groups : List Group)
-    → Lining x y before mid old st s groups → IsServed st s → (r : RanStep st s ran mid now)
-    → (groups_by st s ran mid now r ≡ [] → ⊥)
-    → (f : Far) → Goes (seen x before f) (server old (lines s))
-    (seen y now (with_groups (groups ++ groups_by st s ran mid now r) f)) (server ran (closing LogFull))
-line_fills x y before mid now old st ran s groups so_far served r some f =
-    let more : List Group = groups_by st s ran mid now r in
-    let all : Far = with_groups (groups ++ more) f in
-    goes_then (seen x before f) (server old (lines s)) (seen y now all) (server ran (keeping s more)) (seen y now all)
-    (server ran (closing LogFull))
-    (line_ran x y before mid now old st ran s groups so_far served r f) (line_left y ran s more some now all)
-
--- fewer bytes are held then
-pub line_smaller : (st ran new : State) (s : ℕ) (mid now : Counts) → RanStep st s ran mid now → Spares ran new
-    → length (held_of new s) < length (held_of st s)
-line_smaller st ran new s mid now (l, inl m) spares = omega
-    (arith, line_fewer st s l m.effect ran (inr m.step), spares.held s)
-line_smaller st ran new s mid now (l, inr m) spares = omega
-    (arith, line_fewer st s l m.effect ran (inl m.step), spares.held s)
-
--- no line is run any more, and the state stays
-lined_here : (x y : Shown) (before now : Counts) (old st : State) (s : ℕ) (groups : List Group)
-    → Lining x y before now old st s groups → may_run st s ≡ false → (st.stopped ≡ false → AllSettled st)
-    → Lined x y before now old st s groups
-lined_here x y before now old st s groups so_far may settled = record {
-  agrees = so_far.agrees;
-  settled = settled;
-  goes = λ f. goes_then (seen x before f) (server old (lines s)) (seen y now (with_groups groups f))
-      (server st (lines s)) (seen y now (with_groups groups f)) (server st (flushing 0 next_turn)) (so_far.goes f)
-      (lines_over y st s may now (with_groups groups f));
+pub turns_done : (limit taken : ℕ) (rest : Rest) (x y : Shown) (old st : State)
+    → Gathering limit taken rest x y old st → 0 < taken → taken ≤ limit → Gathers limit taken rest x old y st
+turns_done limit taken rest x y old st so_far some within = record {
+  goes = λ most few counted turns log. goes_then most (seen x counted turns) (server old waiting) log
+      (seen y counted (turns + taken)) (server st (after_turn (most - taken) rest)) log
+      (seen y counted (turns + taken)) (server st (after_turns rest)) log (so_far.goes most few counted turns log)
+      (turns_end rest most (most - taken) y st counted (turns + taken) log);
+  some = some;
+  within = within;
 }
 
-lined_still : (x y : Shown) (before mid now : Counts) (old st new : State) (s : ℕ) (groups : List Group) → new ≡ st
-    → now ≡ mid → Lined x y before mid old st s groups → Lined x y before now old new s groups
-lined_still x y before mid now old st new s groups same counted h =
-    subst (λ (n : State). Lined x y before now old n s groups) (sym same)
-    (subst (λ (k : Counts). Lined x y before k old st s groups) (sym counted) h)
-
--- since the session isn't served, since it holds none, or since it has ended
-pub not_lined : (x y : Shown) (before now : Counts) (old st : State) (s : ℕ) (groups : List Group)
-    → Lining x y before now old st s groups → NotServed st s → Lined x y before now old st s groups
-not_lined x y before now old st s groups so_far (inl stopped) =
-    lined_here x y before now old st s groups so_far (may_not_stopped st s stopped) (λ going. absurd (both going))
-  where
-    both : st.stopped ≡ false → ⊥
-    both going = cc
-not_lined x y before now old st s groups so_far (inr gone) =
-    lined_here x y before now old st s groups so_far (may_not_closed st s gone)
-    (λ going. one_and_others st s (closed_settled st s gone) so_far.settled)
-
-pub dry_lined : (x y : Shown) (before mid now : Counts) (old st new : State) (s : ℕ) (groups : List Group)
-    (kept : List Bytes) → Lining x y before mid old st s groups → StepGives st s Dry new mid now kept
-    → Lined x y before now old new s groups
-dry_lined x y before mid now old st new s groups kept so_far h =
-    lined_still x y before mid now old st new s groups h.0 h.1
-    (lined_here x y before mid old st s groups so_far (may_not_dry st s h.3)
-    (λ going. one_and_others st s (inr h.3) so_far.settled))
-
--- the session ended in place of a line
-cut_lined : (x y : Shown) (before mid now : Counts) (old st new : State) (s : ℕ) (groups : List Group)
-    (outcome : LineOutcome)
-    → Lining x y before mid old st s groups → st.stopped ≡ false
-    → (makes : MakesCounted st (stepped s outcome) new mid now) → behind_front s outcome makes.effect.kept
-    ≡ flushing 0 next_turn → kept_group (stepped s outcome) makes.effect.kept ≡ [] → IsSome (cause_of new s)
-    → Lined x y before now old new s groups
-cut_lined x y before mid now old st new s groups outcome so_far going makes behind unkept has_ended = record {
-  agrees = agrees_same st new y.ids y.ids (step_ids st (stepped s outcome) makes.effect new makes.step) refl
-      so_far.agrees;
-  settled = λ _. one_and_others new s (inl has_ended) (ran_settled st s outcome makes.effect new makes.step so_far.settled);
-  goes = λ f.
-      let between : Far = with_groups groups f in
-      let same : with_groups (kept_group (stepped s outcome) makes.effect.kept) between
-      ≡ between = ap (λ (gs : List Group). with_groups gs between) unkept ∙ sym (no_groups between) in
-      goes_then (seen x before f) (server old (lines s)) (seen y mid between) (server st (lines s)) (seen y now between)
-      (server new (flushing 0 next_turn)) (so_far.goes f)
-      (subst (λ p. Goes (seen y mid between) (server st (lines s)) (seen y now between) (server new p)) behind
-      (subst (λ (k : Far). Goes (seen y mid between) (server st (lines s)) (seen y now k)
-      (server new (behind_front s outcome makes.effect.kept))) same
-      (line_runs y mid now between st new s outcome (may_run_by st s outcome makes.effect new makes.step going)
-      makes)));
-}
-
-cut_as : (x y : Shown) (before mid now : Counts) (old st new : State) (s : ℕ) (groups : List Group) (c : EndCause)
-    → Lining x y before mid old st s groups → st.stopped ≡ false → EndedStepAs c st s new mid now
-    → Lined x y before now old new s groups
-cut_as x y before mid now old st new s groups Long so_far going m =
-    cut_lined x y before mid now old st new s groups long so_far going m refl refl
-    (some_of (cause_of new s) Long (stepped_facts st s long m.effect new m.step).cause)
-cut_as x y before mid now old st new s groups Slow so_far going (l, m) =
-    cut_lined x y before mid now old st new s groups (slow l) so_far going m refl refl
-    (some_of (cause_of new s) Slow (stepped_facts st s (slow l) m.effect new m.step).cause)
-cut_as x y before mid now old st new s groups Memory so_far going (l, m) =
-    cut_lined x y before mid now old st new s groups (no_room l) so_far going m refl refl
-    (some_of (cause_of new s) Memory (stepped_facts st s (no_room l) m.effect new m.step).cause)
-cut_as x y before mid now old st new s groups Input so_far going m = absurd m
-cut_as x y before mid now old st new s groups Quit so_far going m = absurd m
-cut_as x y before mid now old st new s groups Stop so_far going m = absurd m
-
-ended_as : (x y : Shown) (before mid now : Counts) (old st new : State) (s : ℕ) (groups : List Group) (c : EndCause)
-    (o : Option EndCause) → cause_of st s ≡ o → Lining x y before mid old st s groups → st.stopped ≡ false
-    → MatchOption o (EndedStepAs c st s new mid now) (λ d. (d ≡ c) × (new ≡ st) × (now ≡ mid))
-    → Lined x y before now old new s groups
-ended_as x y before mid now old st new s groups c None e so_far going h = cut_as x y before mid now old st new s groups
-    c so_far going h
-ended_as x y before mid now old st new s groups c (Some d) e so_far going h =
-    lined_still x y before mid now old st new s groups h.1 h.2
-    (lined_here x y before mid old st s groups so_far (may_not_ended st s d e)
-    (λ _. one_and_others st s (inl (some_of (cause_of st s) d e)) so_far.settled))
-
-pub ended_lined : (x y : Shown) (before mid now : Counts) (old st new : State) (s : ℕ) (groups : List Group)
-    (c : EndCause) (kept : List Bytes) → Lining x y before mid old st s groups → IsServed st s
-    → StepGives st s (SteppedEnded c) new mid now kept → Lined x y before now old new s groups
-ended_lined x y before mid now old st new s groups c kept so_far served h = ended_as x y before mid now old st new s
-    groups c (cause_of st s) refl so_far served.going h.1
-
--- ---- A flush, from session to session.
-
-pub empty : (bytes : Bytes) → length bytes ≡ 0 → bytes ≡ []
-empty [] e = refl
-empty (b ∷ bytes) e = absurd (omega (arith, e))
-
--- where a flush goes on, as a number that is computed
-pub at_place : (x y : Shown) (old new : State) (from to place : ℕ) (next : Next) → place ≡ to
-    → GoesQuietly x (server old (flushing from next)) y (server new (flushing to next))
-    → GoesQuietly x (server old (flushing from next)) y (server new (flushing place next))
-at_place x y old new from to place next same goes = subst
-    (λ (k : ℕ). GoesQuietly x (server old (flushing from next)) y (server new (flushing k next))) (sym same) goes
-
--- all pending bytes were offered
-pub offers_all : (x y : Shown) (s : ℕ) (sent : Sent) (piece pending : Bytes) → piece ≡ pending
-    → HubTells x y (offering s piece sent ∷ [])
-    → HubTells x y (offering s pending sent ∷ [])
-offers_all x y s sent piece pending same told =
-    subst (λ (bytes : Bytes). HubTells x y (offering s bytes sent ∷ [])) same told
-
--- some of the pending bytes were taken
-pub takes_some : (x y : Shown) (old new : State) (s n : ℕ) (piece : Bytes) → piece ≡ pending_of old s → 1 ≤ n
-    → n ≤ length piece
-    → Makes old (took s (take n (pending_of old s))) new → HubTells x y (offering s piece (Took n) ∷ [])
-    → (from : ℕ) (next : Next) → first_due old from ≡ Some s
-    → GoesQuietly x (server old (flushing from next)) y (server new (flushing s next))
-takes_some x y old new s n piece is_piece some within makes told from next due =
-    visit_takes x y old new from next s n due some (omega (arith, within, ap length is_piece)) makes
-    (offers_all x y s (Took n) piece (pending_of old s) is_piece told)
-
--- What a flush keeps from its entry on.
-pub record Flushing (x y : Shown) (old now : State) (from : ℕ) : Type 0 where
-  pub agrees : Agrees now y.ids
-  pub goes : (next : Next) → GoesQuietly x (server old (flushing 0 next)) y (server now (flushing from next))
-  pub spares : Spares old now
-
-pub flush_begun : (x : Shown) (st : State) → Agrees st x.ids → Flushing x x st st 0
-flush_begun x st agrees = record {
-  agrees = agrees;
-  goes = λ next. quietly_none x (server st (flushing 0 next));
-  spares = spares_same st;
-}
-
--- a session was visited
-pub flush_more : (x y z : Shown) (old now new : State) (from s to : ℕ) → Flushing x y old now from → first_due now from
-    ≡ Some s
-    → ((at : ℕ) (next : Next) → first_due now at ≡ Some s
-    → GoesQuietly y (server now (flushing at next)) z (server new (flushing to next))) → Agrees new z.ids
-    → Spares now new → Flushing x z old new to
-flush_more x y z old now new from s to f due visited agrees spares = record {
-  agrees = agrees;
-  goes = λ next. quietly_then x (server old (flushing 0 next)) y (server now (flushing from next)) z
-      (server new (flushing to next)) (f.goes next) (visited from next due);
-  spares = spares_then old now new f.spares spares;
-}
-
--- none is left
-pub flush_done : (x y : Shown) (old now : State) (from : ℕ) → Flushing x y old now from → first_due now from ≡ None
-    → Flushes x old y now
-flush_done x y old now from f none = record {
-  goes =
-      λ next. quietly_then x (server old (flushing 0 next)) y (server now (flushing from next)) y
-      (server now (after now next))
-      (f.goes next) (flush_over y now from next none);
-}
-
--- behind a flush as the hub is over
-pub turn_flushed : (x y : Shown) (old now : State) → Flushes x old y now
-    → GoesQuietly x (server old (flushing 0 no_turn)) y (server now (closing Over))
-turn_flushed x y old now flushed = flushed.goes no_turn
-
--- behind a flush at the end of a turn
-pub turn_stopped : (x y : Shown) (old now : State) → now.stopped ≡ true → Flushes x old y now
-    → GoesQuietly x (server old (flushing 0 next_turn)) y (server now (closing Stopped))
-turn_stopped x y old now stopped flushed =
-    subst
-    (λ (b : Bool). GoesQuietly x (server old (flushing 0 next_turn)) y (server now (cond b (closing Stopped) waiting)))
-    stopped (flushed.goes next_turn)
-
-pub turn_done : (x y : Shown) (old now : State) → now.stopped ≡ false → Flushes x old y now
-    → GoesQuietly x (server old (flushing 0 next_turn)) y (server now waiting)
-turn_done x y old now going flushed =
-    subst
-    (λ (b : Bool). GoesQuietly x (server old (flushing 0 next_turn)) y (server now (cond b (closing Stopped) waiting)))
-    going (flushed.goes next_turn)
+-- no turn failed before one that may
+pub counts_then : (before rest : Rest) (a b c : ℕ) → before ≡ Nothing → RestCounts before a b → RestCounts rest b c
+    → RestCounts rest a c
+counts_then before rest a b c none p q =
+    let same : b ≡ a = subst (λ (r : Rest). RestCounts r a b) none p in
+    subst (λ (n : ℕ). RestCounts rest n c) same q

@@ -1,22 +1,25 @@
 -- How serving ends.
 use Rattle.std.specs.Prelude.{ℕ, List, [], ◌∷◌, ◌++◌, ◌==◌, ◌≡◌, ◌<◌, ◌≤◌, Bool, true, false, All, AllPairs}
+use Rattle.std.specs.List.{flat_map, list_any}
 use Rattle.djq_io.specs.Faults.{Counted}
 use Rattle.djq_io.specs.declared.hub.Turn.TheVariants.{Opened}
 use Rattle.djq_io.specs.declared.hub.Told.{Told}
 use Rattle.djq_io.specs.declared.hub.Told.TheVariants.{Turning, Sending}
 use Rattle.djq_machine.specs.State.{State}
-use Rattle.djq_machine.specs.Run.{Did, Run, Group, out, all_taken, pending_of}
+use Rattle.djq_journal.specs.Logging.{grouped}
+use Rattle.djq_machine.specs.Run.{Walk, Did, Run, Group, groups_of, lines_in, out, all_taken, pending_of}
 use Rattle.djq_machine.specs.Call.{Counts, state_ids}
 use Rattle.djq_machine.specs.Gives.{CursorsGive}
 use Rattle.djq_run_laws.specs.Moved.{SparesSession}
 use Rattle.djq_run_laws.specs.Lines.{TakesInOrder}
 use Rattle.djq_run_laws.specs.Sent.{all_dropped, all_opened}
 use Rattle.djq_serve.specs.declared.served.Served.{Served}
-use Rattle.djq_serve.specs.declared.served.Served.TheVariants.{Stopped, Over, TurnsUsed, HubFault}
+use Rattle.djq_serve.specs.declared.served.Served.TheVariants.{Stopped, Over, TurnsUsed, HubFault, DiskFault, LogFull}
 use Rattle.djq_io.specs.Calls.{sent_to}
 use Rattle.djq_serve.specs.Told.{Shown, has_over, turn_failed}
-use Rattle.djq_serve.specs.Server.{Move, waiting, closing, server, all_told, all_done}
-use Rattle.djq_serve.specs.Goes.{far, seen, Goes}
+use Rattle.djq_serve.specs.Server.{Server, Move, MakesMove, waiting, closing, server, all_told, all_done, all_logged}
+use Rattle.djq_serve.specs.Goes.{seen, Goes}
+use Rattle.djq_serve.specs.Fair.{RunsFairly, LeavesNoLine, TakesSingleTurns}
 
 -- All turns were taken, or fewer, as the answer says.
 abbrev pub TurnsTaken : Served → ℕ → ℕ → Type 0
@@ -25,7 +28,7 @@ TurnsTaken _ turns taken = taken ≤ turns
 
 -- a session opens at the hub, and isn't let in: a line is sent to it behind its turn
 abbrev pub refuses : ℕ → List Told → Bool
-refuses s (Turning (Opened t) piece ∷ Sending u offered sent taken ∷ more) = t == s
+refuses s (Turning (Opened t class) piece ∷ Sending u offered sent taken ∷ more) = t == s
 refuses s _ = false
 
 -- no move refuses this session
@@ -55,12 +58,37 @@ abbrev pub says_fault : Served → Bool
 says_fault HubFault = true
 says_fault _ = false
 
--- `Stopped` comes exactly where a session said `stop`, `Over` exactly where a turn said so, and
--- `HubFault` exactly where a turn failed.
+-- whether the answer is that the lines of a commit couldn't be logged
+abbrev pub says_lost : Served → Bool
+says_lost DiskFault = true
+says_lost LogFull = true
+says_lost _ = false
+
+-- `HubFault` comes exactly where a turn failed. Where the log doesn't end the serving, `Stopped` comes exactly
+-- where a session sent `stop`; and where none did, `Over` exactly where a turn said so.
 pub record IsCaused (answer : Served) (told : List Told) (st : State) : Type 0 where
-  pub stopped : st.stopped ≡ says_stopped answer
-  pub over : has_over told ≡ says_over answer
   pub failed : turn_failed told ≡ says_fault answer
+  pub stopped : says_lost answer ≡ false → st.stopped ≡ says_stopped answer
+  pub over : says_lost answer ≡ false → st.stopped ≡ false → has_over told ≡ says_over answer
+
+-- The groups that the steps log are cut into commits, in order, and the log is handed each commit as one
+-- group, of all its lines. A commit without lines asks nothing of the log.
+pub record IsCommitted (moves : List Move) : Type 0 where
+  pub commits : List (List Group)
+  pub cut : groups_of (all_done moves) ≡ flat_map (λ c. c) commits
+  pub logged : all_logged moves ≡ flat_map (λ c. grouped (lines_in c)) commits
+
+-- whether a call of the hub sends a session something
+abbrev pub sends_some : Told → Bool
+sends_some (Sending s offered sent taken) = true
+sends_some _ = false
+
+-- **Nothing is sent before it is logged**: as a move sends something, whatever it is, the log was handed all lines
+-- that the steps before it log.
+abbrev pub LogsFirst : ℕ → Server → List Move → Type 0
+LogsFirst most old moves = (before later : List Move) (m : Move) (at next : Server) → moves ≡ before ++ m ∷ later
+    → Walk (MakesMove most) old before at → MakesMove most at m next → list_any sends_some m.told ≡ true
+    → lines_in (groups_of (all_done before)) ≡ lines_in (all_logged before)
 
 -- The first fault of the hub ends the serving; under every other answer there was none.
 abbrev pub FaultsCount : Served → ℕ → ℕ → Type 0
@@ -72,9 +100,9 @@ abbrev pub RunsThrough : State → List Did → List Did → State → List Did 
 RunsThrough start done earlier mid later state = (done ≡ earlier ++ later) × Run start earlier mid
     × Run mid later state
 
--- What holds at each moment of a run on the way: of a session that wasn't closed yet the lines
+-- What holds of a run at each state that it passes through: of a session that wasn't closed yet the lines
 -- taken are those that its bytes are cut into, in order; and each open cursor gives what it should.
-pub record Moments (start : State) (done : List Did) (state : State) : Type 0 where
+pub record HoldsThroughout (start : State) (done : List Did) (state : State) : Type 0 where
   pub lines : (earlier : List Did) (mid : State) (later : List Did)
       → RunsThrough start done earlier mid later state
       → (s : ℕ) → All (λ d. SparesSession d.event s) earlier → TakesInOrder s start earlier mid
@@ -82,21 +110,25 @@ pub record Moments (start : State) (done : List Did) (state : State) : Type 0 wh
       → RunsThrough start done earlier mid later state
       → CursorsGive start → CursorsGive mid
 
--- **How serving ends.** The server went from its first turn to its answer, by moves of which the
--- hub
--- tells. Its steps are a run of the machine, in which sessions open with rising ids, so that none
--- opens twice. To each session was sent what is its. Each answer has its cause, and every session is
--- closed, in the machine and at the hub.
-pub record ServeEnds (answer : Served) (turns : ℕ) (hub : Shown) (counted : Counts) (old : State)
+-- **How serving ends.** The server went from its first turn to its answer, by moves of which the hub tells,
+-- with at most so many turns a round. Its steps are a run of the machine, in which sessions open with rising
+-- ids, so that none opens twice. What they log is cut into commits, and nothing is sent before it is logged. To
+-- each session was sent what is its. Lines are run by turns, none waits for a round, and a turn is a round of its
+-- own where a round has one. Each answer has its cause, and every session is closed, in the machine and at the hub.
+pub record ServeEnds (answer : Served) (turns most : ℕ) (hub : Shown) (counted : Counts) (old : State)
     (hub' : Shown) (counted' : Counts) (new : State) : Type 0 where
   pub taken : ℕ
-  pub kept : List Group
-  pub goes : Goes (seen hub counted (far 0 [])) (server old waiting) (seen hub' counted' (far taken kept))
+  pub goes : Goes most (seen hub counted 0) (server old waiting) (seen hub' counted' taken)
       (server new (closing answer))
   pub run : Run old (all_done goes.moves) new
   pub rising : AllPairs (λ s t. s < t) (all_opened (all_done goes.moves))
-  pub moments : Moments old (all_done goes.moves) new
+  pub throughout : HoldsThroughout old (all_done goes.moves) new
+  pub committed : IsCommitted goes.moves
   pub sent : (s : ℕ) → IsSent old goes.moves new s
+  pub fair : RunsFairly most (server old waiting) goes.moves (server new (closing answer))
+  pub prompt : LeavesNoLine most (server old waiting) goes.moves (server new (closing answer))
+  pub single : TakesSingleTurns most (server old waiting) goes.moves
+  pub first : LogsFirst most (server old waiting) goes.moves
   pub caused : IsCaused answer (all_told goes.moves) new
   pub none_open : state_ids new ≡ []
   pub none_at_hub : hub'.ids.open_ids ≡ []

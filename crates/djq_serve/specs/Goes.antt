@@ -1,50 +1,68 @@
 -- How the server goes from one place to another.
-use Rattle.std.specs.Prelude.{ℕ, List, ◌++◌, ◌≡◌, ◌+◌, ◌≤◌}
-use Rattle.djq_machine.specs.Run.{Walk, Group, cost_of, groups_of}
+use Rattle.std.specs.Prelude.{ℕ, List, [], ◌∷◌, ◌≡◌, ◌+◌, ◌-◌, Option}
+use Rattle.djq_disk.specs.File.{File}
+use Rattle.djq_disk.specs.History.{History, WhereHistoryTold}
+use Rattle.djq_journal.specs.Logging.{Keeps, FillsLog, PassesMoments}
+use Rattle.djq_journal.specs.declared.log.Kept.{Kept}
+use Rattle.djq_machine.specs.Run.{Walk, Group}
 use Rattle.djq_machine.specs.Call.{Counts}
 use Rattle.djq_serve.specs.Told.{Shown, HubTells, turns_in}
-use Rattle.djq_serve.specs.Server.{Server, Move, MakesMove, all_told, all_done}
+use Rattle.djq_serve.specs.Server.{Server, Move, MakesMove, all_told}
 
--- How far serving has come: how many turns were taken, and which groups of lines the steps kept.
-pub record Far : Type 0 where
-  pub turns : ℕ
-  pub kept : List Group
-
--- so many turns taken, and these groups kept
-abbrev pub far : ℕ → List Group → Far
-far turns kept = record { turns = turns; kept = kept }
-
--- a turn further
-abbrev pub one_turn : Far → Far
-one_turn f = far (f.turns + 1) f.kept
-
--- some groups further
-abbrev pub with_groups : List Group → Far → Far
-with_groups groups f = far f.turns (f.kept ++ groups)
-
--- All that is seen of the server beside its machine: what the hub shows, what was counted, and how
--- far it has come.
+-- All that is seen of the server beside its machine and its log: what the hub shows, what was counted, and
+-- how many turns were taken.
 pub record Seen : Type 0 where
   pub hub : Shown
   pub counted : Counts
-  pub far : Far
+  pub turns : ℕ
 
--- what is seen where the hub shows this, this was counted, and the server has come this far
-abbrev pub seen : Shown → Counts → Far → Seen
-seen hub counted f = record { hub = hub; counted = counted; far = f }
+-- what is seen where the hub shows this, this was counted, and so many turns were taken
+abbrev pub seen : Shown → Counts → ℕ → Seen
+seen hub counted turns = record { hub = hub; counted = counted; turns = turns }
 
--- What the server did from one place to another, what the hub tells of it, and what was counted: no
--- more lookups and links of listings than its steps may cost. It has come as many turns further as
--- the hub took, and by the groups that the steps kept.
-pub record Goes (o : Seen) (old : Server) (o' : Seen) (new : Server) : Type 0 where
+-- The count of lookups and links of listings rose in a move by as much as that says.
+abbrev pub ListsMove : ℕ → Move → ℕ → Type 0
+ListsMove before m now = m.listed ≡ now - before
+
+-- What the server did from one place to another, by moves whose rounds have at most so many turns; what the
+-- hub tells of it; and what was counted in each of them.
+pub record Goes (most : ℕ) (o : Seen) (old : Server) (o' : Seen) (new : Server) : Type 0 where
   pub moves : List Move
-  pub walk : Walk MakesMove old moves new
+  pub walk : Walk (MakesMove most) old moves new
   pub told : HubTells o.hub o'.hub (all_told moves)
-  pub listing : o'.counted.listing ≤ o.counted.listing + cost_of (all_done moves)
-  pub turned : o'.far.turns ≡ o.far.turns + turns_in (all_told moves)
-  pub kept : o'.far.kept ≡ o.far.kept ++ groups_of (all_done moves)
+  pub listing : Walk ListsMove o.counted.listing moves o'.counted.listing
+  pub turned : o'.turns ≡ o.turns + turns_in (all_told moves)
 
--- so it goes, whatever was counted before, and nothing is counted, taken or kept
-abbrev pub GoesQuietly : Shown → Server → Shown → Server → Type 0
-GoesQuietly hub old hub' new = (counted : Counts) (f : Far)
-    → Goes (seen hub counted f) old (seen hub' counted f) new
+-- Where a log stands: the place of its gate, where it is in a journal, and the history of the disk, where that
+-- is told.
+pub record LogPlace : Type 0 where
+  pub gate : Option ℕ
+  pub history : Option History
+
+-- the log with its gate here, on a disk that tells this
+abbrev pub log_place : Option ℕ → Option History → LogPlace
+log_place gate history = record { gate = gate; history = history }
+
+-- What handing groups to the log does: nothing, where there is none; and one is stored, as the log answers,
+-- while these moments end.
+abbrev pub LogsGroups : List Group → Kept → List File → LogPlace → LogPlace → Type 0
+LogsGroups [] answer moments old new = (new ≡ old) × (moments ≡ [])
+LogsGroups (group ∷ []) answer moments old new = FillsLog answer old.gate group
+    × WhereHistoryTold old.history new.history
+    (λ h h'. Keeps answer old.gate new.gate group h h' × PassesMoments moments h h')
+LogsGroups (group ∷ other ∷ more) answer moments old new = ⊥
+
+-- what a move does to the log
+abbrev pub LogsMove : LogPlace → Move → LogPlace → Type 0
+LogsMove old m new = LogsGroups m.logged m.stored m.moments old new
+
+-- The server went from one place to another, and each move did to the log what it says.
+pub record GoesLogging (most : ℕ) (o : Seen) (old : Server) (log : LogPlace) (o' : Seen) (new : Server)
+    (log' : LogPlace) : Type 0 where
+  pub goes : Goes most o old o' new
+  pub logs : Walk LogsMove log goes.moves log'
+
+-- so it goes, whatever was counted before, and nothing is counted, taken or logged
+abbrev pub GoesQuietly : ℕ → Shown → Server → Shown → Server → Type 0
+GoesQuietly most hub old hub' new = (counted : Counts) (turns : ℕ) (log : LogPlace)
+    → GoesLogging most (seen hub counted turns) old log (seen hub' counted turns) new log

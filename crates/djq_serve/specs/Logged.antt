@@ -1,4 +1,4 @@
--- What is kept of the groups of lines that the machine's steps keep.
+-- What is in the log of the groups of lines that it was handed.
 use Rattle.std.specs.Prelude.{ℕ, List, [], ◌∷◌, ◌++◌, ◌≡◌, Option, None, Some, All}
 use Rattle.djq_io.specs.Faults.{Counted}
 use Rattle.djq_io.specs.declared.hub.Told.{Told}
@@ -9,12 +9,13 @@ use Rattle.djq_journal.specs.Logging.{HasKeptGroups, Overfull}
 use Rattle.djq_model.specs.Data.{Bytes}
 use Rattle.djq_machine.specs.State.{State}
 use Rattle.djq_machine.specs.Step.{Event, closed}
-use Rattle.djq_machine.specs.Run.{Did, Group, groups_of}
+use Rattle.djq_machine.specs.Run.{Walk, Did, Group, groups_of, lines_in}
 use Rattle.djq_machine.specs.Call.{Counts}
 use Rattle.djq_serve.specs.declared.served.Served.{Served}
 use Rattle.djq_serve.specs.declared.served.Served.TheVariants.{Stopped, Over, TurnsUsed, HubFault, DiskFault, LogFull}
 use Rattle.djq_serve.specs.Told.{Shown}
-use Rattle.djq_serve.specs.Server.{Move, all_told, all_done}
+use Rattle.djq_serve.specs.Server.{Move, all_told, all_done, all_logged}
+use Rattle.djq_serve.specs.Goes.{log_place, LogsMove}
 use Rattle.djq_serve.specs.Ends.{ServeEnds}
 
 -- All these groups are kept behind those that were, whatever they were and since whenever.
@@ -61,10 +62,10 @@ IsNotOfDisk DiskFault = ⊥
 IsNotOfDisk LogFull = ⊥
 IsNotOfDisk _ = Unit {0}
 
--- so for a turn, which may end nothing
-abbrev pub IsPlainTurn : Option Served → Type 0
-IsPlainTurn None = Unit {0}
-IsPlainTurn (Some answer) = IsNotOfDisk answer
+-- so it is where serving may go on
+abbrev pub IsPlainAnswer : Option Served → Type 0
+IsPlainAnswer None = Unit {0}
+IsPlainAnswer (Some answer) = IsNotOfDisk answer
 
 -- a call of the hub that closes a session
 abbrev pub IsClose : Told → Type 0
@@ -76,16 +77,19 @@ abbrev pub IsClosed : Event → Type 0
 IsClosed (closed s bytes) = Unit {0}
 IsClosed _ = ⊥
 
--- **What isn't kept isn't answered.** The last group is that of one move's step. From this move on the
--- hub is asked for nothing but to close sessions, and behind it the machine makes no other step. So
--- nothing is sent any more, no turn is taken and no line is run.
+-- **What isn't logged isn't answered.** The last group is of the lines that the steps of the last commit log,
+-- and the log had been handed all others before. From the first step of this commit on the hub is asked for
+-- nothing but to close sessions, and after its last step the machine makes none but by these. So nothing that
+-- any of its steps queued is sent, of those that log nothing neither; no turn is taken and no line is run after
+-- it.
 pub record Unanswered (last : Group) (moves : List Move) : Type 0 where
   pub before : List Move
-  pub step : Move
+  pub commit : List Move
   pub behind : List Move
-  pub cut : moves ≡ before ++ step ∷ behind
-  pub keeps : groups_of step.done ≡ last ∷ []
-  pub told : All IsClose (all_told (step ∷ behind))
+  pub cut : moves ≡ before ++ (commit ++ behind)
+  pub keeps : lines_in (groups_of (all_done commit)) ≡ last
+  pub earlier : all_logged moves ≡ all_logged before ++ last ∷ []
+  pub told : All IsClose (all_told (commit ++ behind))
   pub done : All (λ (d : Did). IsClosed d.event) (all_done behind)
 
 -- So it is where the disk ends the serving.
@@ -94,16 +98,24 @@ Silent DiskFault last moves = Unanswered last moves
 Silent LogFull last moves = Unanswered last moves
 Silent _ last moves = Unit {0}
 
--- What the moves kept last, where the disk ends the serving, is silent.
+-- What the log was handed last, where the disk ends the serving, is silent.
 abbrev pub UnkeptIsSilent : Served → List Move → Type 0
 UnkeptIsSilent answer moves = (whole : List Group) (last : Group)
-    → groups_of (all_done moves) ≡ whole ++ last ∷ [] → Silent answer last moves
+    → all_logged moves ≡ whole ++ last ∷ [] → Silent answer last moves
 
--- **How serving with a log ends.** As without one; and of the groups of lines that the steps kept,
--- in order, all are in the log; or all but the last, and to that nothing was answered.
-pub record ServeLogs (answer : Served) (turns : ℕ) (hub : Shown) (counted : Counts) (old : State)
+-- What the log was handed in the first commits is what the first groups of the steps are.
+pub record FirstOf (groups whole : List Group) : Type 0 where
+  pub first : List Group
+  pub later : List Group
+  pub cut : groups ≡ first ++ later
+  pub lines : lines_in first ≡ lines_in whole
+
+-- **How serving with a log ends.** As without one; and of the groups that the log was handed, one a commit
+-- and in order, all are in the log; or all but the last, and to that commit nothing was answered.
+pub record ServeLogs (answer : Served) (turns most : ℕ) (hub : Shown) (counted : Counts) (old : State)
     (hub' : Shown) (counted' : Counts) (new : State) (gate gate' : Option ℕ)
     (disk disk' : Option History) : Type 0 where
-  pub ends : ServeEnds answer turns hub counted old hub' counted' new
-  pub kept : KeepsBy (Some answer) gate gate' (groups_of (all_done ends.goes.moves)) disk disk'
+  pub ends : ServeEnds answer turns most hub counted old hub' counted' new
+  pub logs : Walk LogsMove (log_place gate disk) ends.goes.moves (log_place gate' disk')
+  pub kept : KeepsBy (Some answer) gate gate' (all_logged ends.goes.moves) disk disk'
   pub silent : UnkeptIsSilent answer ends.goes.moves

@@ -1,34 +1,33 @@
 -- What the parts of the server promise.
-use Rattle.std.specs.Prelude.{ℕ, List, [], ◌∷◌, ◌≡◌, ◌⊎◌, true, false, Option, None, Some}
+use Rattle.std.specs.Prelude.{ℕ, List, [], ◌∷◌, ◌≡◌, ◌+◌, ◌-◌, ◌<◌, ◌≤◌, ◌⊎◌, true, false, Option, None, Some}
 use Rattle.djq_io.specs.Faults.{Counted}
-use Rattle.djq_disk.specs.History.{History}
 use Rattle.djq_io.specs.Hub.{Takes, without}
 use Rattle.djq_io.specs.declared.hub.Sent.{Sent}
 use Rattle.djq_io.specs.declared.hub.Told.{Told}
 use Rattle.djq_io.specs.declared.hub.Told.TheVariants.{Closing}
 use Rattle.djq_model.specs.Data.{Bytes}
 use Rattle.djq_machine.specs.State.{State}
-use Rattle.djq_machine.specs.Step.{opened}
-use Rattle.djq_machine.specs.Run.{Group}
-use Rattle.djq_machine.specs.Call.{IsOpen, Makes, Counts}
+use Rattle.djq_machine.specs.Step.{opened, ended}
+use Rattle.djq_machine.specs.Run.{Group, lines_in}
+use Rattle.djq_machine.specs.Call.{Makes, Counts}
 use Rattle.djq_serve.specs.declared.served.Served.{Served}
-use Rattle.djq_serve.specs.declared.served.Served.TheVariants.{Stopped, Over, TurnsUsed, HubFault, DiskFault, LogFull}
+use Rattle.djq_serve.specs.declared.served.Served.TheVariants.{TurnsUsed, HubFault, DiskFault, LogFull}
+use Rattle.djq_serve.specs.declared.rest.Rest.{Rest}
+use Rattle.djq_serve.specs.declared.rest.Rest.TheVariants.{Nothing, Ends, Over as HubOver, Failed}
 use Rattle.djq_serve.specs.Told.{Shown, HubTells}
-use Rattle.djq_serve.specs.Server.{Next, next_turn, Phase, waiting, lines, flushing, closing}
-use Rattle.djq_serve.specs.Server.{server, after, offering, LetsIn}
-use Rattle.djq_serve.specs.Goes.{Far, far, one_turn, with_groups, seen, Goes, GoesQuietly}
-use Rattle.djq_serve.specs.Kept.{AllSettled}
+use Rattle.djq_serve.specs.Server.{Last, next_round, input_over, no_turn, Next, Phase, waiting, gathering, running}
+use Rattle.djq_serve.specs.Server.{keeping, flushing, closing, server, after, offering, LetsIn, ends_input, next_ready}
+use Rattle.djq_serve.specs.Goes.{LogPlace, seen, GoesLogging, GoesQuietly}
 use Rattle.djq_serve.specs.Ends.{TurnsTaken}
-use Rattle.djq_serve.specs.Logged.{KeepsBy}
 
--- where the server stands behind a turn
+-- where the server stands after a round, which may end the serving
 abbrev pub phase_of : Option Served → Phase
 phase_of None = waiting
 phase_of (Some answer) = closing answer
 
 -- A flush went from the first session on until nothing was due to any, whatever follows it.
 pub record Flushes (hub : Shown) (old : State) (hub' : Shown) (new : State) : Type 0 where
-  pub goes : (next : Next) → GoesQuietly hub (server old (flushing 0 next)) hub'
+  pub goes : (most : ℕ) (next : Next) → GoesQuietly most hub (server old (flushing 0 next)) hub'
       (server new (after new next))
 
 -- A session that opened at the hub is let in, or refused.
@@ -45,78 +44,124 @@ pub record OffersAndCloses (hub : Shown) (s : ℕ) (text : Bytes) (hub' : Shown)
   pub told : HubTells hub hub' (offering s text sent ∷ Closing s ∷ [])
   pub ids : hub'.ids ≡ without hub.ids s
 
--- A session is open, and no session said `stop`.
-pub record IsServed (st : State) (s : ℕ) : Type 0 where
-  pub is_open : IsOpen st s
-  pub going : st.stopped ≡ false
+-- what the rest of a round is, as the phases have it
+abbrev pub rest_to_last : Rest → Last
+rest_to_last Nothing = next_round
+rest_to_last (Ends s) = input_over s
+rest_to_last HubOver = no_turn
+rest_to_last Failed = next_round
 
--- A session said `stop`, or this one isn't open.
-abbrev pub NotServed : State → ℕ → Type 0
-NotServed st s = (st.stopped ≡ true) ⊎ (IsOpen st s → ⊥)
+-- where the server stands after a turn, where so many of the round may follow
+abbrev pub after_turn : ℕ → Rest → Phase
+after_turn left Nothing = gathering left
+after_turn left (Ends s) = running 0 0 [] (input_over s)
+after_turn left HubOver = running 0 0 [] no_turn
+after_turn left Failed = closing HubFault
 
--- all sessions are settled, unless serving ends
-abbrev pub SettledUnless : Option Served → State → Type 0
-SettledUnless None st = AllSettled st
-SettledUnless (Some answer) st = Unit {0}
+-- A turn was taken, of which this is the rest.
+pub record TakesOne (rest : Rest) (hub : Shown) (old : State) (hub' : Shown) (new : State) : Type 0 where
+  pub first : (most : ℕ) (counted : Counts) (turns : ℕ) (log : LogPlace)
+      → GoesLogging most (seen hub counted turns) (server old waiting) log
+      (seen hub' counted (turns + 1)) (server new (after_turn (most - 1) rest)) log
+  pub further : (most left : ℕ) (counted : Counts) (turns : ℕ) (log : LogPlace) → 0 < left
+      → GoesLogging most (seen hub counted turns) (server old (gathering left)) log
+      (seen hub' counted (turns + 1)) (server new (after_turn (left - 1) rest)) log
 
--- where the server stands behind the lines of a session
-abbrev pub behind_lines : Option Served → Phase
-behind_lines None = flushing 0 next_turn
-behind_lines (Some answer) = closing answer
+-- where the server stands after the turns of a round
+abbrev pub after_turns : Rest → Phase
+after_turns Nothing = running 0 0 [] next_round
+after_turns (Ends s) = running 0 0 [] (input_over s)
+after_turns HubOver = running 0 0 [] no_turn
+after_turns Failed = closing HubFault
 
--- The lines of a session were run and kept, until none was left or one couldn't be kept.
-pub record RunsLines (result : Option Served) (hub : Shown) (counted : Counts) (old : State) (s : ℕ)
-    (hub' : Shown) (counted' : Counts) (new : State) (gate gate' : Option ℕ)
-    (disk disk' : Option History) : Type 0 where
+-- The turns of a round were taken, at most so many.
+pub record Gathers (limit taken : ℕ) (rest : Rest) (hub : Shown) (old : State) (hub' : Shown) (new : State) : Type 0
+  where
+    pub goes : (most : ℕ) → limit ≤ most → (counted : Counts) (turns : ℕ) (log : LogPlace)
+        → GoesLogging most (seen hub counted turns) (server old waiting) log
+        (seen hub' counted (turns + taken)) (server new (after_turns rest)) log
+    pub some : 0 < taken
+    pub within : taken ≤ limit
+
+-- where the server stands after a commit
+abbrev pub after_commit : Option Served → State → Next → Phase
+after_commit None st next = after st next
+after_commit (Some answer) st next = closing answer
+
+-- These lines were handed to the log, and a flush followed where they are stored.
+pub record MakesCommit (result : Option Served) (hub : Shown) (old : State) (lines : List Bytes) (hub' : Shown)
+    (new : State) (log log' : LogPlace) : Type 0 where
+  pub goes : (groups : List Group) → lines_in groups ≡ lines → (most : ℕ) (next : Next) (counted : Counts) (turns : ℕ)
+      → GoesLogging most (seen hub counted turns) (server old (keeping groups next)) log
+      (seen hub' counted turns) (server new (after_commit result new next)) log'
+
+-- where the server stands after lines
+abbrev pub after_lines : Option Served → ℕ → ℕ → List Group → Last → Phase
+after_lines None from count groups last = running from count groups last
+after_lines (Some answer) from count groups last = closing answer
+
+-- The lines of a round were run, until none was left or a commit couldn't be logged. These are the lines of
+-- the last commit.
+pub record RunsLines (result : Option Served) (hub : Shown) (counted : Counts) (old : State) (log : LogPlace)
+    (hub' : Shown) (counted' : Counts) (new : State) (log' : LogPlace) (lines : List Bytes) : Type 0 where
+  pub from : ℕ
+  pub count : ℕ
   pub groups : List Group
-  pub goes : (f : Far) → Goes (seen hub counted f) (server old (lines s))
-      (seen hub' counted' (with_groups groups f)) (server new (behind_lines result))
-  pub kept : KeepsBy result gate gate' groups disk disk'
+  pub goes : (most : ℕ) (last : Last) (turns : ℕ)
+      → GoesLogging most (seen hub counted turns) (server old (running 0 0 [] last)) log
+      (seen hub' counted' turns) (server new (after_lines result from count groups last)) log'
+  pub none_left : result ≡ None → (next_ready new from ≡ None) × (lines_in groups ≡ lines)
 
--- A turn was taken, and what it brought was done.
-pub record TakesTurn (result : Option Served) (hub : Shown) (counted : Counts) (old : State)
-    (hub' : Shown) (counted' : Counts) (new : State) (gate gate' : Option ℕ)
-    (disk disk' : Option History) : Type 0 where
-  pub groups : List Group
-  pub goes : (f : Far) → Goes (seen hub counted f) (server old waiting)
-      (seen hub' counted' (with_groups groups (one_turn f))) (server new (phase_of result))
-  pub kept : KeepsBy result gate gate' groups disk disk'
+-- The input of a session ends with the round, if it can be ended.
+abbrev pub EndsInputOf : Last → State → State → Type 0
+EndsInputOf next_round old new = new ≡ old
+EndsInputOf no_turn old new = new ≡ old
+EndsInputOf (input_over s) old new = ((ends_input old s ≡ true) × Makes old (ended s) new)
+    ⊎ ((ends_input old s ≡ false) × (new ≡ old))
 
--- all sessions are settled behind the lines of one, unless serving ends
-abbrev pub SettledBehind : Option Served → State → Type 0
-SettledBehind None st = st.stopped ≡ false → AllSettled st
-SettledBehind (Some answer) st = Unit {0}
+-- A round in which no line is left is finished, with the commit of these lines.
+pub record FinishesRound (result : Option Served) (rest : Rest) (hub : Shown) (old : State) (lines : List Bytes)
+    (log : LogPlace) (hub' : Shown) (new : State) (log' : LogPlace) : Type 0 where
+  pub goes : (groups : List Group) → lines_in groups ≡ lines → (from : ℕ) → next_ready old from ≡ None
+      → (most count : ℕ) (counted : Counts) (turns : ℕ)
+      → GoesLogging most (seen hub counted turns) (server old (running from count groups (rest_to_last rest))) log
+      (seen hub' counted turns) (server new (phase_of result)) log'
 
--- the answers of lines: those that come of the disk
+-- A round whose turns were taken is ended.
+pub record EndsRoundBy (result : Option Served) (rest : Rest) (hub : Shown) (counted : Counts) (old : State)
+    (log : LogPlace) (hub' : Shown) (counted' : Counts) (new : State) (log' : LogPlace) : Type 0 where
+  pub goes : (most turns : ℕ)
+      → GoesLogging most (seen hub counted turns) (server old (after_turns rest)) log
+      (seen hub' counted' turns) (server new (phase_of result)) log'
+
+-- the answers of lines and commits: those that come of the disk
 abbrev pub MayLose : Option Served → Type 0
 MayLose None = Unit {0}
 MayLose (Some DiskFault) = Unit {0}
 MayLose (Some LogFull) = Unit {0}
 MayLose (Some _) = ⊥
 
--- the answers of a turn that neither failed nor was the last
-abbrev pub MayAnswer : Option Served → Type 0
-MayAnswer None = Unit {0}
-MayAnswer (Some answer) = answer ≡ Stopped
+-- the answers of a round in which no turn failed
+abbrev pub MayFinish : Option Served → Type 0
+MayFinish None = Unit {0}
+MayFinish (Some TurnsUsed) = ⊥
+MayFinish (Some HubFault) = ⊥
+MayFinish (Some _) = Unit {0}
 
--- What a turn answers, by the hub's faults over it. That all turns were taken is no answer of a
--- turn.
-abbrev pub TurnAnswers : Option Served → ℕ → ℕ → Type 0
-TurnAnswers None before now = now ≡ before
-TurnAnswers (Some Stopped) before now = now ≡ before
-TurnAnswers (Some Over) before now = now ≡ before
-TurnAnswers (Some HubFault) before now = Counted before now
-TurnAnswers (Some DiskFault) before now = now ≡ before
-TurnAnswers (Some LogFull) before now = now ≡ before
-TurnAnswers (Some TurnsUsed) before now = ⊥
+-- the answers of a round: `HubFault` exactly where a turn failed
+abbrev pub MayEnd : Rest → Option Served → Type 0
+MayEnd Failed result = result ≡ Some HubFault
+MayEnd _ result = MayFinish result
 
--- Turns were taken, until serving ended.
-pub record Took (answer : Served) (turns : ℕ) (hub : Shown) (counted : Counts) (old : State)
-    (hub' : Shown) (counted' : Counts) (new : State) (gate gate' : Option ℕ)
-    (disk disk' : Option History) : Type 0 where
+-- the hub's faults over the turns of a round
+abbrev pub RestCounts : Rest → ℕ → ℕ → Type 0
+RestCounts Failed before now = Counted before now
+RestCounts _ before now = now ≡ before
+
+-- Rounds were served, until serving ended.
+pub record Took (answer : Served) (turns most : ℕ) (hub : Shown) (counted : Counts) (old : State) (log : LogPlace)
+    (hub' : Shown) (counted' : Counts) (new : State) (log' : LogPlace) : Type 0 where
   pub taken : ℕ
-  pub groups : List Group
-  pub goes : Goes (seen hub counted (far 0 [])) (server old waiting) (seen hub' counted' (far taken groups))
-      (server new (closing answer))
+  pub goes : GoesLogging most (seen hub counted 0) (server old waiting) log (seen hub' counted' taken)
+      (server new (closing answer)) log'
   pub has_taken : TurnsTaken answer turns taken
-  pub kept : KeepsBy (Some answer) gate gate' groups disk disk'

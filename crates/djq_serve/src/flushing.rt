@@ -33,8 +33,8 @@ pub(crate) fn close<M: Machine, H: Hub>(machine: &mut M, hub: &mut H, id: u64)
 fn visit<M: Machine, H: Hub>(machine: &mut M, hub: &mut H, id: u64) -> u128
     requires open { IsOpen (M.state machine.old) id }
     requires agrees { Agrees (M.state machine.old) (H.ids hub.old) }
-    ensures goes { (from : ℕ) (next : Next) → first_due (M.state machine.old) from ≡ Some id
-        → GoesQuietly (hub_shown (H.past hub.old) (H.script hub.old) (H.ids hub.old))
+    ensures goes { (most from : ℕ) (next : Next) → first_due (M.state machine.old) from ≡ Some id
+        → GoesQuietly most (hub_shown (H.past hub.old) (H.script hub.old) (H.ids hub.old))
         (server (M.state machine.old) (flushing from next))
         (hub_shown (H.past hub.new) (H.script hub.new) (H.ids hub.new))
         (server (M.state machine.new) (flushing result next)) }
@@ -44,21 +44,21 @@ fn visit<M: Machine, H: Hub>(machine: &mut M, hub: &mut H, id: u64) -> u128
     ensures spares { Spares (M.state machine.old) (M.state machine.new) }
     ensures faults { H.faults hub.new ≡ H.faults hub.old }
 {
-    let behind = u128::from(id) + 1;
+    let next = u128::from(id) + 1;
     let pending = machine.pending(id);
     if pending.is_empty() {
         close(machine, hub, id);
-        return behind;
+        return next;
     }
     match hub.send(id, pending) {
         Sent::Took(count) => {
             machine.took(id, count);
             u128::from(id)
         }
-        Sent::Again => behind,
+        Sent::Again => next,
         Sent::Gone => {
             close(machine, hub, id);
-            behind
+            next
         }
     }
 }

@@ -9,8 +9,8 @@ pub enum Served {
     TurnsUsed,
     /// The hub failed.
     HubFault,
-    /// The disk failed as a line was logged, or a batch. Nothing was sent after it.
+    /// The disk failed as a commit was logged. Nothing of it was sent.
     DiskFault,
-    /// The journal had no room for a line, or for a batch. Nothing was sent after it.
+    /// The journal had no room for a commit. Nothing of it was sent.
     LogFull,
 }

@@ -1,10 +1,11 @@
 -- What contracts see of a session, and what its calls do to it.
-use Rattle.std.specs.Prelude.{ℕ, List, [], ◌∷◌, ◌≡◌, ◌+◌, ◌++◌, ◌≤◌, ◌<◌, ◌||◌, Bool, false, nat_lt}
-use Rattle.std.specs.Prelude.{Option, None, Some, is_some, Result, Ok, Err, length, find, AllPairs}
+use Rattle.std.specs.Prelude.{ℕ, List, [], ◌∷◌, ◌≡◌, ◌+◌, ◌++◌, ◌≤◌, ◌<◌, ◌||◌, ◌&&◌, Bool, true, false, not, nat_lt}
+use Rattle.std.specs.Prelude.{Option, None, Some, is_some, is_none, Result, Ok, Err, length, find, AllPairs}
 use Rattle.djq_model.specs.Data.{Bytes, bytes_eq}
 use Rattle.djq_protocol.specs.declared.limits.TheConstants.{CURSORS, LAST_LINE_BYTES}
 use Rattle.djq_protocol.specs.declared.answer.EndCause.{EndCause}
 use Rattle.djq_protocol.specs.declared.held.HeldRow.{HeldRow}
+use Rattle.djq_protocol.specs.Line.{Front, dry, front_of}
 use Rattle.djq_session.specs.declared.named.NamedCursor.{NamedCursor}
 use Rattle.djq_session.specs.Keeps.{KeepsRoom}
 
@@ -42,6 +43,15 @@ pub record DialogIsKept {C : Type 0} (why : Option EndCause) (spare : ℕ) (name
 -- whether something is due to a session: bytes are pending for it, or it has ended
 abbrev pub dialog_is_due : {C Q : Type 0} → Dialog C Q → Bool
 dialog_is_due d = nat_lt 0 (length d.pending) || is_some d.cause
+
+-- whether bytes hold no whole line and aren't too long for one
+abbrev pub holds_no_line : Front → Bool
+holds_no_line dry = true
+holds_no_line _ = false
+
+-- whether a session's next line may be run: it goes on, and holds a whole line, or a front that is too long for one
+abbrev pub dialog_is_ready : {C Q : Type 0} → Dialog C Q → Bool
+dialog_is_ready d = is_none d.cause && not (holds_no_line (front_of d.held))
 
 -- Nothing came, nothing is queued, and nothing is named.
 pub record IsNewDialog {C Q : Type 0} (d : Dialog C Q) : Type 0 where

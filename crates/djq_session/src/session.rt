@@ -4,11 +4,13 @@ ghost use Rattle.djq_session.specs.Dialog.{IsNewDialog};
 use crate::named::NamedCursor;
 use bytes::BytesMut;
 use djq_model::{NoMem, Sequence};
+use djq_parser::Front;
 use djq_protocol::{EndCause, HeldRow};
 use std::alloc::Global;
 use std::marker::Model;
 
 mod batch;
+mod commit;
 mod cursors;
 mod end;
 mod input;
@@ -28,7 +30,14 @@ const OUTPUT_BYTES: usize = 4_096;
 #[derive(Drop)]
 pub struct Session<C, Q> {
     input: BytesMut,
+    // what stands in front of the input: it is looked for once for each line, and not at each call
+    front: Front,
     output: BytesMut,
+    // how many bytes of the output were taken so far, modulo 2^64
+    taken: u64,
+    // the commit that was begun last, and how many bytes had been queued by then, modulo 2^64
+    commit: u64,
+    queued_before: u64,
     cause: Option<EndCause>,
     cursors: Vec<NamedCursor<C>>,
     watches: Vec<Q>,
@@ -38,6 +47,7 @@ pub struct Session<C, Q> {
 }
 
 impl<C, Q> Model for Session<C, Q> {
+    ghost use Rattle.djq_parser.specs.Splitting.{IsFront};
     ghost use Rattle.djq_session.specs.Dialog.{Dialog, DialogIsKept};
 
     ghost Value = { Dialog C Q };
@@ -52,7 +62,7 @@ impl<C, Q> Model for Session<C, Q> {
       batch = s.batch;
     } };
 
-    ghost invariant = { λ s. DialogIsKept s.cause s.output.spare s.cursors.items };
+    ghost invariant = { λ s. DialogIsKept s.cause s.output.spare s.cursors.items × IsFront s.input.items s.front };
 }
 
 impl<C: Copy, Q: Copy + PartialEq> Session<C, Q> {
@@ -66,7 +76,11 @@ impl<C: Copy, Q: Copy + PartialEq> Session<C, Q> {
     {
         Ok(Session {
             input: BytesMut::new(alloc),
+            front: Front::Dry,
             output: BytesMut::with_capacity(alloc, OUTPUT_BYTES)?,
+            taken: 0,
+            commit: 0,
+            queued_before: 0,
             cause: None,
             cursors: Vec::new(alloc),
             watches: Vec::new(alloc),

@@ -14,8 +14,11 @@ use std::net::Shutdown;
 pub(crate) struct Conn {
     pub id: u64,
     stream: TcpStream,
-    /// Whether it may have bytes. A read that finds none clears it, and an event of the system sets it again.
+    /// Whether it may have bytes. A read that takes all that there is clears it, and an event of the system sets it
+    /// again.
     pub ready: bool,
+    /// Whether its input has ended, so that nothing is read any more.
+    ended: bool,
     /// Whether its first line was looked at, which is no request of HTTP.
     heard: bool,
     /// Whether the client sends no more, so that a line that isn't whole stays so.
@@ -45,6 +48,7 @@ impl Conn {
             id,
             stream,
             ready: true,
+            ended: false,
             heard: false,
             over: false,
             full: false,
@@ -55,20 +59,30 @@ impl Conn {
     pub(crate) fn read(&mut self, buf: &mut [u8]) -> Found
         ensures { FoundFits result (length buf.new) }
     {
-        if self.heard {
+        let found = if self.heard {
             self.take(buf)
         } else {
             self.begin(buf)
+        };
+        if found == Found::End || found == Found::Broken {
+            self.ended = true;
+            self.ready = false;
         }
+        found
     }
 
-    /// Reads what the client sent.
+    /// Reads what the client sent. Where that is less than there is room for, the system has no more, and reports what
+    /// arrives later: no further read finds that out. That the client sends no more is reported once, perhaps
+    /// before this read.
     fn take(&mut self, buf: &mut [u8]) -> Found
         ensures { FoundFits result (length buf.new) }
     {
         match self.stream.read(buf) {
             Ok(0) => Found::End,
-            Ok(n) => Found::Bytes(n),
+            Ok(n) => {
+                self.ready = n == buf.len() || self.over;
+                Found::Bytes(n)
+            }
             Err(error) => self.found_none(error),
         }
     }
@@ -138,7 +152,7 @@ impl Conn {
     /// Notes an event that the system reports of it.
     fn note(&mut self, event: &Event) {
         if event.is_readable() || event.is_read_closed() || event.is_error() {
-            self.ready = true;
+            self.ready = !self.ended;
         }
         if event.is_read_closed() || event.is_error() {
             self.over = true;

@@ -20,6 +20,10 @@
 //! a time, an idle server sleeps, and no reply waits for a clock: a client that accepts bytes again wakes
 //! the hub.
 //!
+//! A turn that is at hand asks the system for no events: it reads from a socket that was reported, until a read
+//! finds less than there is room for. Once in 64 turns or 65,536 bytes the next turn isn't at hand, and the system
+//! is asked without waiting. A hub is late if 5 ms have passed since its last turn, or since it last began to send.
+//!
 //! Nothing that a client does is a fault of the hub, only of its session. A read that fails is
 //! returned as the end of the input, and a send that fails as a session that is `Gone`. A connection that
 //! can't be accepted is only counted.
@@ -32,10 +36,10 @@
 //! whole. It remains with the system until it is whole, or is too long to be run, or the client sends no more.
 //!
 //! ```text
-//! a client connects              Opened(1)
+//! a client connects              Opened(1, Client)
 //! it sends rel r int             Bytes(1, 10), with the line's end
 //! it sends no more               Ended(1)
-//! another sends PO               Opened(2)
+//! another sends PO               Opened(2, Client)
 //! and then ST / HTTP/1.1         Ended(2)
 //! nobody sends anything          Idle, after a quarter of a second
 //! ```

@@ -1,18 +1,19 @@
 ghost use Rattle.std.specs.Prelude.{◌≡◌, ◌<◌, ◌≤◌, true, false, IfOk, IfSome, Contains, length};
 ghost use Rattle.djq_io.specs.Faults.{Counted};
 ghost use Rattle.djq_io.specs.Hub.{no_ids, Turns};
-ghost use Rattle.djq_io.specs.HubFaults.{CountsListen, SameCounts, CountsInTurn};
+ghost use Rattle.djq_io.specs.HubFaults.{CountsListen, CountsTurn, SameCounts, CountsInTurn};
 ghost use Rattle.djq_io.specs.Sessions.{faults_of};
 ghost use Rattle.djq_system.specs.Tcp.{TurnsAway};
 
 use crate::conn::{self, Conn, Found};
 use crate::listening::{LISTENER, Listening};
-use djq_io::{Hub, Listened, Sent, Sessions, Turn};
+use djq_io::{Class, Hub, Listened, Sent, Sessions, Turn};
 use mio::{Events, Token};
 use std::alloc::{AllocError, Global};
 use std::io::{self, Eprint, ErrorKind};
 use std::marker::Model;
 use std::net::{self, Net};
+use std::time::{Clock, Duration, Instant};
 
 /// How many connections a hub has at once: those of the 64 sessions that may be open, and one more,
 /// which is sent the reason and closed.
@@ -24,13 +25,24 @@ const VERSION: &str = "0.2.0";
 /// For how many milliseconds a turn waits at most.
 const LONGEST_WAIT: u64 = 250;
 
+/// How many turns there are at most before the system is asked for events again, so that no client waits to be noticed.
+const MOST_TURNS: u32 = 64;
+
+/// How many bytes these turns have before it is asked: a few thousand lines.
+const MOST_BYTES: usize = 65_536;
+
+/// After how many milliseconds without a turn or a flush the hub is late.
+const LATE: u64 = 5;
+
 /// A hub over TCP. It records no bytes, and shows the ids of its sessions and its counts of faults.
 ///
 /// Each call is a few lines over the system's. It prints to standard error its version and the address at which it
 /// listens, or why it can't, and once that connections can't be accepted, which it counts. A turn waits at most a
 /// quarter of a second, and then answers `Idle`. After the id 18446744073709551615 no connection is accepted any more.
 #[derive(Drop)]
-pub struct TcpHub<R: Net<Listener = net::TcpListener, Stream = net::TcpStream> + Eprint + Drop> {
+pub struct TcpHub<
+    R: Net<Listener = net::TcpListener, Stream = net::TcpStream> + Eprint + Clock + Drop,
+> {
     rt: R,
     listening: Option<Listening>,
     events: Events,
@@ -41,8 +53,17 @@ pub struct TcpHub<R: Net<Listener = net::TcpListener, Stream = net::TcpStream> +
     at: usize,
     /// Whether the listener may have a connection.
     knocks: bool,
-    /// Whether the last turn had something without asking the system, which may have more to report.
-    busy: bool,
+    /// Whether a connection couldn't be accepted. That is tried again after the system was asked for events.
+    refused: bool,
+    /// Whether a place may have something, as far as the system has reported.
+    some: bool,
+    /// How many turns there were since the system was asked for events, and how many bytes they had.
+    turns: u32,
+    bytes: usize,
+    /// When the last turn ended or the last flush began, if the clock could be read: lines are run after it.
+    since: Option<Instant>,
+    /// The session to which the last send was, or after a turn the greatest number.
+    flushed: u64,
     /// Whether it was printed that no connection can be accepted, and none has been since.
     said: bool,
     /// How many connections couldn't be accepted.
@@ -50,7 +71,7 @@ pub struct TcpHub<R: Net<Listener = net::TcpListener, Stream = net::TcpStream> +
     faults: u64,
 }
 
-impl<R: Net<Listener = net::TcpListener, Stream = net::TcpStream> + Eprint + Drop> Model
+impl<R: Net<Listener = net::TcpListener, Stream = net::TcpStream> + Eprint + Clock + Drop> Model
     for TcpHub<R> {
     ghost use Rattle.std.specs.Prelude.{is_some};
     ghost use Rattle.djq_system.specs.Tcp.{ShownByTcp};
@@ -66,7 +87,9 @@ impl<R: Net<Listener = net::TcpListener, Stream = net::TcpStream> + Eprint + Dro
     } };
 }
 
-impl<R: Net<Listener = net::TcpListener, Stream = net::TcpStream> + Eprint + Drop> TcpHub<R> {
+impl<R: Net<Listener = net::TcpListener, Stream = net::TcpStream> + Eprint + Clock + Drop> TcpHub<
+    R,
+> {
     /// A hub that doesn't listen yet, over the runtime. It allocates the memory for all places.
     pub fn new(rt: R, alloc: Global) -> Result<Self, AllocError>
         ensures listens { IfOk result (λ hub. hub.listens ≡ false) }
@@ -84,7 +107,12 @@ impl<R: Net<Listener = net::TcpListener, Stream = net::TcpStream> + Eprint + Dro
             sessions,
             at: 0,
             knocks: false,
-            busy: false,
+            refused: false,
+            some: false,
+            turns: 0,
+            bytes: 0,
+            since: None,
+            flushed: u64::MAX,
             said: false,
             turned_away: 0,
             faults: 0,
@@ -121,13 +149,14 @@ impl<R: Net<Listener = net::TcpListener, Stream = net::TcpStream> + Eprint + Dro
         ensures turned_away { TurnsAway result self.old.turned_away self.new.turned_away }
         ensures works { result ≡ Turn.Failed → ⊥ }
     {
-        let Some(listening) = &self.listening else {
-            return Turn::Idle;
-        };
-        if !self.knocks || self.conns.len() >= PLACES || !self.sessions.has_room() {
+        if !self.may_accept() || !self.sessions.has_room() {
             return Turn::Idle;
         }
         let Some(id) = self.sessions.next_id() else {
+            self.knocks = false;
+            return Turn::Idle;
+        };
+        let Some(listening) = &self.listening else {
             return Turn::Idle;
         };
         match listening.accept(id as usize) {
@@ -137,7 +166,7 @@ impl<R: Net<Listener = net::TcpListener, Stream = net::TcpStream> + Eprint + Dro
                 }
                 self.sessions.open(id);
                 self.said = false;
-                Turn::Opened(id)
+                Turn::Opened(id, Class::Client)
             }
             Err(error) => {
                 match error.kind() {
@@ -150,6 +179,11 @@ impl<R: Net<Listener = net::TcpListener, Stream = net::TcpStream> + Eprint + Dro
         }
     }
 
+    /// Whether a connection may be pending, and there is a place for it.
+    fn may_accept(&self) -> bool {
+        self.knocks && self.conns.len() < PLACES
+    }
+
     /// Counts a connection that can't be accepted, and prints why for the first since one was.
     fn turn_away(&mut self, error: io::Error)
         ensures shown { self.new ≡ record self.old { turned_away = self.new.turned_away } }
@@ -160,6 +194,8 @@ impl<R: Net<Listener = net::TcpListener, Stream = net::TcpStream> + Eprint + Dro
             let _ = eprintln!(self.rt; "djq: a connection can't be accepted: {error}");
         }
         self.turned_away = self.turned_away.saturating_add(1);
+        self.knocks = false;
+        self.refused = true;
     }
 
     /// Looks at the next place.
@@ -229,14 +265,24 @@ impl<R: Net<Listener = net::TcpListener, Stream = net::TcpStream> + Eprint + Dro
         Turn::Failed
     }
 
-    /// Waits until the system reports an event of a socket, or for so many milliseconds, and notes it.
-    fn wait(&mut self, millis: u64) -> io::Result<()>
+    /// Whether a connection may have bytes, or may be accepted.
+    fn has_some(&self) -> bool {
+        self.may_accept() || self.conns.iter().any(|conn| conn.ready)
+    }
+
+    /// Notes the events that the system reports. If no place may have something, it waits for one.
+    fn wait(&mut self) -> io::Result<()>
         ensures { self.new ≡ self.old }
     {
+        let millis = if self.some { 0 } else { LONGEST_WAIT };
         let Some(listening) = &mut self.listening else {
             return Ok(());
         };
         listening.wait(&mut self.events, millis)?;
+        self.turns = 0;
+        self.bytes = 0;
+        self.knocks |= self.refused;
+        self.refused = false;
         for event in self.events.iter() {
             let Token(token) = event.token();
             if token == LISTENER {
@@ -247,9 +293,34 @@ impl<R: Net<Listener = net::TcpListener, Stream = net::TcpStream> + Eprint + Dro
         }
         Ok(())
     }
+
+    /// Returns what a place has, after asking the system for events if the turn isn't at hand.
+    fn take_turn(&mut self, buf: &mut [u8]) -> Turn
+        requires { 0 < length buf.old }
+        ensures ids { Turns result (length buf.new) self.old.ids self.new.ids }
+        ensures faults { CountsTurn result self.old.faults self.new.faults }
+        ensures counts { CountsInTurn result self.old.ids.open_ids (faults_of self.old.counts)
+            (faults_of self.new.counts) }
+    {
+        if self.listening.is_none() {
+            return Turn::Over;
+        }
+        if !self.at_hand() {
+            if let Err(error) = self.wait() {
+                return self.fail(error);
+            }
+        }
+        let turn = self.go_round(buf);
+        self.some = self.has_some();
+        self.turns = self.turns.saturating_add(1);
+        if let Turn::Bytes(_, n) = turn {
+            self.bytes = self.bytes.saturating_add(n);
+        }
+        turn
+    }
 }
 
-impl<R: Net<Listener = net::TcpListener, Stream = net::TcpStream> + Eprint + Drop> Hub
+impl<R: Net<Listener = net::TcpListener, Stream = net::TcpStream> + Eprint + Clock + Drop> Hub
     for TcpHub<R> {
     ghost use Rattle.std.specs.Prelude.{None};
     ghost use Rattle.djq_io.specs.Sessions.{faults_of};
@@ -288,38 +359,42 @@ impl<R: Net<Listener = net::TcpListener, Stream = net::TcpStream> + Eprint + Dro
     }
 
     fn turn(&mut self, buf: &mut [u8]) -> Turn {
-        // A client that always has bytes doesn't prevent the others from being heard.
-        if self.busy {
-            if let Err(error) = self.wait(0) {
-                return self.fail(error);
-            }
-        }
-        match self.go_round(buf) {
-            Turn::Idle => self.busy = false,
-            turn => {
-                self.busy = true;
-                return turn;
-            }
-        }
-        if self.listening.is_none() {
-            return Turn::Over;
-        }
-        if let Err(error) = self.wait(LONGEST_WAIT) {
-            return self.fail(error);
-        }
-        self.go_round(buf)
+        let turn = self.take_turn(buf);
+        self.since = Instant::now(&self.rt).ok();
+        self.flushed = u64::MAX;
+        turn
     }
 
     fn send(&mut self, id: u64, piece: &[u8]) -> Sent {
         let sent = conn::send(&mut self.conns, id, piece);
+        // A flush sends by rising ids, so with this one another has begun. The clock isn't read for each session.
+        if id <= self.flushed {
+            self.since = Instant::now(&self.rt).ok();
+        }
+        self.flushed = id;
         if sent == Sent::Gone {
             self.sessions.count_fault(id);
         }
         sent
     }
 
+    fn at_hand(&self) -> bool {
+        self.some && self.turns < MOST_TURNS && self.bytes < MOST_BYTES
+    }
+
+    fn is_late(&self) -> bool {
+        match &self.since {
+            Some(since) => match since.elapsed(&self.rt) {
+                Ok(elapsed) => Duration::from_millis(LATE) <= elapsed,
+                Err(_) => false,
+            },
+            None => false,
+        }
+    }
+
     fn close(&mut self, id: u64) {
         conn::close(&mut self.conns, id);
         self.sessions.close(id);
+        self.some = self.has_some();
     }
 }

@@ -1,13 +1,13 @@
 //! What sessions do by turns, and what comes of it.
 use super::Move::{
-    self, Closes, Counts, Ended, Fills, HasMore, IsLast, IsShut, IsTold, Keeps, Loads, Opens, Says,
-    Steps,
+    self, Closes, Commits, Counts, Ended, Fills, HasMore, IsLast, IsShut, IsTold, Keeps, Loads,
+    Opens, Says, Steps,
 };
 use djq_machine::Loaded;
 use djq_protocol::EndCause;
 
 /// Each move beside its session; one that is of none stands beside 0.
-pub(super) const SCRIPTS: [(&str, &[(u64, Move)]); 6] = [
+pub(super) const SCRIPTS: [(&str, &[(u64, Move)]); 7] = [
     (
         "as many sessions are open as may be, and one more once one is closed",
         &[
@@ -79,7 +79,7 @@ pub(super) const SCRIPTS: [(&str, &[(u64, Move)]); 6] = [
         ],
     ),
     (
-        "a line that changes something is kept as it was said, until the next step",
+        "a line that changes something is logged as it was said",
         &[
             (1, Opens),
             (1, Keeps(&[])),
@@ -103,7 +103,7 @@ pub(super) const SCRIPTS: [(&str, &[(u64, Move)]); 6] = [
         ],
     ),
     (
-        "the lines of a batch are kept where it is done, and none of them before",
+        "the lines of a batch are logged where it is done, and none of them before",
         &[
             (1, Opens),
             (1, Says(b"rel r int\nbatch\n add  r 7\n")),
@@ -112,6 +112,20 @@ pub(super) const SCRIPTS: [(&str, &[(u64, Move)]); 6] = [
             (1, Keeps(&[b"batch", b" add  r 7", b"done"])),
             (1, Says(b"batch\n")),
             (1, Keeps(&[])),
+        ],
+    ),
+    (
+        "the lines of several steps are one commit, with a batch whole",
+        &[
+            (2, Fills),
+            (1, Commits(b"rel r int\nadd r 7\ndel r 9\nadd r 8\n")),
+            (1, Keeps(&[b"rel r int", b"add r 7", b"add r 8"])),
+            (1, Commits(b"batch\nadd r 1\n")),
+            (1, Keeps(&[])),
+            (2, Commits(b"add r 2\n")),
+            (2, Keeps(&[b"add r 2"])),
+            (1, Commits(b"done\nadd r 3\nhas q 3\n")),
+            (1, Keeps(&[b"batch", b"add r 1", b"done", b"add r 3"])),
         ],
     ),
     (

@@ -14,7 +14,7 @@ impl<C: Copy, Q: Copy + PartialEq> Session<C, Q> {
         self.batch.is_some()
     }
 
-    /// A batch is open, which holds no row. It takes no memory.
+    /// A batch is open, which holds no row. It asks for no memory.
     pub fn open_batch(&mut self)
         ensures { self.new ≡ record self.old { batch = Some [] } }
     {

@@ -1,5 +1,6 @@
 ghost use Rattle.std.specs.Prelude.{◌≡◌, ◌++◌, ◌≤◌, drop, length, OnOk, OnErr};
 ghost use Rattle.djq_parser.specs.Splitting.{IsFront};
+ghost use Rattle.djq_session.specs.Dialog.{dialog_is_ready};
 
 use super::{IDLE_BYTES, Session};
 use bytes::BytesMut;
@@ -18,6 +19,7 @@ impl<C: Copy, Q: Copy + PartialEq> Session<C, Q> {
         ensures stays { OnErr result (self.new ≡ self.old) }
     {
         self.input.extend_from_slice(piece)?;
+        self.front = Splitter::front(self.input.as_slice());
         Ok(())
     }
 
@@ -28,20 +30,30 @@ impl<C: Copy, Q: Copy + PartialEq> Session<C, Q> {
         self.input.as_slice()
     }
 
-    /// What stands in front of the bytes that are held. It looks at no more of them than a line may
-    /// have.
+    /// What stands in front of the bytes that are held. It is known since they came, or since the line
+    /// before was taken, so that nothing is searched.
     pub fn front(&self) -> Front
         ensures { IsFront self.now.held result }
     {
-        Splitter::front(self.input.as_slice())
+        self.front
     }
 
-    /// The first bytes that are held, a line with its end, are taken.
+    /// Whether its next line may be run: it goes on, and holds a whole line, or a front that is too long for
+    /// one. Nothing is searched.
+    pub fn is_ready(&self) -> bool
+        ensures { result ≡ dialog_is_ready self.now }
+    {
+        self.cause.is_none() && !matches!(self.front, Front::Dry)
+    }
+
+    /// The first bytes that are held, a line with its end, are taken, and the next line is looked for. It looks
+    /// at no more bytes than a line may have.
     pub fn take_line(&mut self, count: usize)
         requires { count ≤ length self.old.held }
         ensures { self.new ≡ record self.old { held = drop count self.old.held } }
     {
         self.input.advance(count);
+        self.front = Splitter::front(self.input.as_slice());
         if self.input.is_empty() && self.input.capacity() > IDLE_BYTES {
             self.let_go();
         }
@@ -55,5 +67,6 @@ impl<C: Copy, Q: Copy + PartialEq> Session<C, Q> {
         ensures { self.new ≡ self.old }
     {
         self.input = BytesMut::new(self.alloc);
+        self.front = Front::Dry;
     }
 }

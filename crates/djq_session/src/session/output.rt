@@ -57,6 +57,7 @@ impl<C: Copy, Q: Copy + PartialEq> Session<C, Q> {
         } }
     {
         self.output.advance(count);
+        self.taken = self.taken.wrapping_add(count as u64);
         if self.output.is_empty() && self.output.capacity() > IDLE_BYTES {
             self.shrink();
         }

@@ -42,9 +42,9 @@ answer_last-requires c =
     let l = place_still c.args.sessions.now c.if-is_accepted.sessions c.args.at x.0 spread.goes_on.ids x.1
     in
     owned_at c.if-is_accepted.engine c.if-is_accepted.sessions c.args.at (opened_at c.if-is_accepted.sessions c.args.at
-    c.get_mut.result.now)
+    c.get_mut-session.result.now)
     spread.goes_on.sound l (stands c.if-is_accepted.sessions c.args.at (opened_at c.if-is_accepted.sessions c.args.at
-    c.get_mut.result.now) c.get_mut.ensures.value)
+    c.get_mut-session.result.now) c.get_mut-session.ensures.value)
 
 pub returns : goal.returns
 returns c =
@@ -80,11 +80,11 @@ returns c =
     (opened_at c.if-is_accepted.sessions c.args.at c.answer_last.new.session)))) (sym x.1)
     (told_and_answered accepted (reply_of c.args.outcome.now c.args.engine.now.store.seq) c.args.engine.now
     c.if-is_accepted.engine c.answer_last.new.engine c.args.sessions.now c.if-is_accepted.sessions
-    c.args.at x.0 (opened_at c.if-is_accepted.sessions c.args.at c.get_mut.result.now) c.answer_last.new.session spread
+    c.args.at x.0 (opened_at c.if-is_accepted.sessions c.args.at c.get_mut-session.result.now) c.answer_last.new.session spread
     x.1 x.2 l (stands c.if-is_accepted.sessions c.args.at (opened_at c.if-is_accepted.sessions c.args.at
-    c.get_mut.result.now) c.get_mut.ensures.value)
+    c.get_mut-session.result.now) c.get_mut-session.ensures.value)
     (subst (λ (n : ℕ). Performs
-    (λ st s x e st'. AnswersLast (nat_le (REPLY_BYTES + LAST_LINE_BYTES) c.get_mut.result.now.room)
+    (λ st s x e st'. AnswersLast (nat_le (REPLY_BYTES + LAST_LINE_BYTES) c.get_mut-session.result.now.room)
     (reply_of c.args.outcome.now n) st s x e st') false
-    c.if-is_accepted.engine c.get_mut.result.now c.answer_last.new.engine c.answer_last.new.session 0 0) seq
+    c.if-is_accepted.engine c.get_mut-session.result.now c.answer_last.new.engine c.answer_last.new.session 0 0) seq
     c.answer_last.ensures))

@@ -11,8 +11,9 @@ use Rattle.djq_disk.proofs.Files.{told_none, told_both}
 use Rattle.djq_journal.specs.Format.{body_of, FileOpensTo}
 use Rattle.djq_journal.specs.Standing.{IsIdle}
 use Rattle.djq_journal.specs.Staging.{Stages, IsStaged, StagesLines}
+use Rattle.djq_journal.specs.Logging.{HasPassed}
 use Rattle.djq_journal.specs.declared.limits.TheConstants.{PIECE_BYTES}
-use Rattle.djq_journal.proofs.Appends.{staged_none, staged_write, staged_more, staged_all}
+use Rattle.djq_journal.proofs.Appends.{staged_none, staged_write, staged_more, staged_all, goes_none, goes_both, goes_write}
 use Rattle.djq_journal.proofs.Records.{line_at, few_lines, piece_within, gathers_none, gathers_end, gathers_written}
 use Rattle.djq_journal.proofs.Records.{gathers_still, gathers_line, gathers_all}
 use Rattle.djq_journal.proofs.appending.write_records.Goals as goal
@@ -28,6 +29,7 @@ loop-line-init g c = record {
   told = λ lines. told_none (g.D.Disk.told c.args.disk.now)
       (λ o n. IsIdle lines c.args.gate o.file → Stages lines c.args.gate [] o n)
       (λ o idle. staged_none lines c.args.gate o idle);
+  moments = told_none (g.D.Disk.told c.args.disk.now) HasPassed goes_none;
   faults = refl;
 }
 
@@ -107,6 +109,7 @@ loop-line-preserved g c =
     × ((lines : List (List ℕ))
     → WhereHistoryTold (told c.args.disk.now) (told disk)
     (λ o n. IsIdle lines gate o.file → Stages lines gate written o n))
+    × WhereHistoryTold (told c.args.disk.now) (told disk) HasPassed
     × (g.D.Disk.faults disk ≡ g.D.Disk.faults c.args.disk.now) = elim c.if-filled-size.branch [
       | then-filled-size+in-Done w ↦ (
         inv.written ++ take old buf,
@@ -120,12 +123,18 @@ loop-line-preserved g c =
             (λ o m n stages writes idle. staged_more c.loop-line.at (take old buf) lines gate inv.written o m n idle
             (stages idle) inv.gathers.place writes)
             (inv.told lines) w.in-Done.ensures.told)),
+        rw w.disk-is
+            (told_both (told c.args.disk.now) (told c.loop-line.disk) (told w.write_at.new.self) HasPassed
+            (DiskWrites Done c.loop-line.at (take old buf)) HasPassed
+            (λ o m n gone writes. goes_both o m n gone (goes_write Done c.loop-line.at (take old buf) m n writes))
+            inv.moments w.in-Done.ensures.told),
         ap g.D.Disk.faults w.disk-is ∙ w.in-Done.ensures.faults ∙ inv.faults,
       )
       | else-filled-size w ↦ (
         inv.written,
         gathers_still group i gate c.loop-line.at at old filled inv.written buf w.at-is w.filled-is inv.gathers,
         (λ lines. rw w.disk-is (inv.told lines)),
+        rw w.disk-is inv.moments,
         ap g.D.Disk.faults w.disk-is ∙ inv.faults,
       )
     ] in
@@ -166,7 +175,8 @@ loop-line-preserved g c =
           so_far.1);
       is_open = is_open;
       told = so_far.2;
-      faults = so_far.3;
+      moments = so_far.3;
+      faults = so_far.4;
     }
 
 pub write_at-requires-2-clause-place : goal.write_at-requires-2-clause-place
@@ -189,3 +199,21 @@ returns-clause-told g c lines =
     inv.gathers.place
     (gathers_all group c.loop-line.i gate at inv.written piece c.in_default.ensures inv.gathers) writes)
     (inv.told lines) c.write_at-2.ensures.told
+
+-- Each write is a moment.
+pub returns-clause-moments : goal.returns-clause-moments
+returns-clause-moments g c =
+    let at = c.loop-line.at in
+    let piece = take c.loop-line.filled c.loop-line.buf in
+    let did = c.write_at-2.result in
+    told_both _ _ _ HasPassed (DiskWrites did at piece) HasPassed
+    (λ o m n gone writes. goes_both o m n gone (goes_write did at piece m n writes))
+    c.loop-line.invariant.moments c.write_at-2.ensures.told
+
+pub returns-in-Failed-clause-moments : goal.returns-in-Failed-clause-moments
+returns-in-Failed-clause-moments g c =
+    let at = c.loop-line.at in
+    let piece = take c.loop-line.filled c.loop-line.buf in
+    told_both _ _ _ HasPassed (DiskWrites Failed at piece) HasPassed
+    (λ o m n gone writes. goes_both o m n gone (goes_write Failed at piece m n writes))
+    c.loop-line.invariant.moments c.in-Failed.ensures.told

@@ -2,6 +2,7 @@ use Rattle.std.proofs.Common.{◌≡◌, ◌-◌, ◌≤◌, ℕ, List, length, 
 use Rattle.djq_disk.specs.History.{WhereHistoryTold}
 use Rattle.djq_journal.specs.Standing.{IsIdle}
 use Rattle.djq_journal.specs.Staging.{Stages, StagesLines}
+use Rattle.djq_journal.specs.Logging.{HasPassed}
 use Rattle.djq_journal.specs.declared.limits.TheConstants.{PIECE_BYTES}
 use Rattle.djq_journal.proofs.appending.write_records.Given as goal
 
@@ -16,6 +17,7 @@ invariant-loop-line g l = record {
   is_open : g.D.Disk.is_open l.disk ≡ true;
   told : (lines : List (List ℕ)) → WhereHistoryTold (g.D.Disk.told l.fn.disk) (g.D.Disk.told l.disk)
       (λ o n. IsIdle lines l.gate o.file → Stages lines l.gate written o n);
+  moments : WhereHistoryTold (g.D.Disk.told l.fn.disk) (g.D.Disk.told l.disk) HasPassed;
   faults : g.D.Disk.faults l.disk ≡ g.D.Disk.faults l.fn.disk;
 }
 

@@ -5,7 +5,7 @@ use Rattle.djq_machine.specs.State.{State}
 use Rattle.djq_machine.specs.Call.{counts}
 use Rattle.djq_serve.specs.Told.{hub_shown}
 use Rattle.djq_program_laws.specs.Logged.{disk_seen}
-use Rattle.djq_program_laws.proofs.Logs.{logs_kept, never_began, begins_still}
+use Rattle.djq_program_laws.proofs.Logs.{logs_kept, is_stored, never_began, begins_still}
 use Rattle.djq_program_laws.proofs.ProgramRuns.{faults_from}
 use Rattle.djq_program.proofs.program.serve_hub.Goals as goal
 
@@ -65,6 +65,8 @@ returns-in-Ready g c =
       logs = logs_kept c.args.path begun.0 begun.1 c.serve_logged-served.result _ c.in-Ok-open_log.log
           c.serve_logged-served.new.log
           first then last begun.3 (served.logs).kept served.disk served.nowhere;
+      stored = is_stored c.args.path begun.0 begun.1 c.in-Ok-open_log.log c.serve_logged-served.new.log first then last
+          _ begun.3 (served.logs).logs;
       silent = (served.logs).silent;
       is = c.ended_status.ensures;
     })

@@ -16,6 +16,9 @@ run_session-requires-clause-most g c = omega (arith, c.in-Ok-vec.ensures.len, c.
 pub run_session-requires-clause-alone : goal.run_session-requires-clause-alone
 run_session-requires-clause-alone g c = ap (λ (st : State). st.sessions) c.in-Ok.ensures.state
 
+pub run_session-requires-clause-going : goal.run_session-requires-clause-going
+run_session-requires-clause-going g c = ap (λ (st : State). st.stopped) c.in-Ok.ensures.state
+
 pub returns : goal.returns
 returns g c = serves _ _ _ _ _ _ c.in-Ok.ensures.state refl c.run_session.ensures
 

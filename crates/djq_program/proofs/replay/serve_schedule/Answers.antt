@@ -4,7 +4,7 @@ use Rattle.std.specs.Prelude.{Ok}
 use Rattle.djq_machine.specs.State.{State}
 use Rattle.djq_machine.specs.Call.{counts}
 use Rattle.djq_program_laws.specs.Logged.{disk_seen, log_seen}
-use Rattle.djq_program_laws.proofs.Logs.{logs_kept, begins_still}
+use Rattle.djq_program_laws.proofs.Logs.{logs_kept, is_stored, begins_still}
 use Rattle.djq_program_laws.proofs.Replays.{made_steady, schedule_served, nothing_comes}
 use Rattle.djq_program.proofs.replay.serve_schedule.Goals as goal
 
@@ -50,10 +50,12 @@ returns g c =
     let kept = logs_kept c.args.path begun.0 begun.1 c.serve_logged-served.result _ c.in-Ok-open_log.log
     c.serve_logged-served.new.log first
     then last begun.3 (served.logs).kept served.disk served.nowhere in
+    let stored = is_stored c.args.path begun.0 begun.1 c.in-Ok-open_log.log c.serve_logged-served.new.log first then last
+    _ begun.3 (served.logs).logs in
     schedule_served c.tell_sent.result (λ made. made.0.items) (λ made. made.1) log begun.0 begun.1 c.args.bytes.now
     c.args.hub c.of-hub.result c.serve_logged-served.new.hub
     c.serve_logged-served.result _ counted loaded counted' c.open_log.new.machine.state
     c.serve_logged-served.new.machine.state c.ended_status.result begins c.requires c.of-hub.ensures
     (ap (λ (n : ℕ). n + 1) c.count_lines-most.ensures.counted)
-    (record { ends = (served.logs).ends; logs = kept; silent = (served.logs).silent }) served.faults
+    (record { ends = (served.logs).ends; logs = kept; stored = stored; silent = (served.logs).silent }) served.faults
     c.ended_status.ensures c.tell_sent.ensures

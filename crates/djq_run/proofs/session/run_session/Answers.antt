@@ -3,6 +3,7 @@ use Rattle.std.proofs.Common.{refl, sym, ◌∙◌, arith}
 use Rattle.djq_machine.specs.Call.{counts}
 use Rattle.djq_run_laws.specs.Course.{outside}
 use Rattle.djq_run.proofs.Runs.{run_ends, so_far_more, turns_used, not_opened, begun}
+use Rattle.djq_run.proofs.Alone.{begun_alone, alone_reads}
 use Rattle.djq_run.proofs.session.run_session.Goals as goal
 
 -- The session isn't opened.
@@ -17,7 +18,15 @@ loop-init g c =
     (counts c.args.steps.now.listing c.args.steps.now.update c.args.steps.now.rows) in
     let b = begun entry _ _ c.open_session.result (sym c.if-is_err.ensures.value) c.open_session.ensures
     c.requires.alone in
-    record { awaits = b.0; so_far = b.1; reads = refl; writes = refl; room = refl }
+    record {
+      awaits = b.0;
+      alone = begun_alone _ _ c.open_session.result (sym c.if-is_err.ensures.value) c.open_session.ensures c.requires.alone
+          c.requires.going;
+      so_far = b.1;
+      reads = refl;
+      writes = refl;
+      room = refl;
+    }
 
 -- The run so far, and a read that ends it.
 pub returns-in-Some : goal.returns-in-Some
@@ -30,6 +39,7 @@ loop-preserved g c =
     let read = c.in_default.ensures in
     record {
       awaits = read.goes_on.0;
+      alone = alone_reads _ _ _ _ _ read c.loop.invariant.alone;
       so_far = so_far_more _ _ _ _ _ _ c.loop.counter c.loop.invariant.so_far.0 c.loop.invariant.so_far.1
           c.loop.invariant.so_far.2 read;
       reads = read.goes_on.2 ∙ c.loop.invariant.reads;

@@ -3,6 +3,7 @@ use Rattle.djq_machine.specs.Run.{all_fed}
 use Rattle.djq_machine.specs.Call.{counts}
 use Rattle.djq_run_laws.specs.Course.{outside, Course}
 use Rattle.djq_run.specs.Ends.{Awaits}
+use Rattle.djq_run.specs.Parts.{IsAlone}
 use Rattle.djq_run.proofs.session.run_session.Given as goal
 
 -- The run went on from the entry to a state that awaits input, each read gave a byte at least, and no fault was met.
@@ -19,6 +20,7 @@ invariant-loop g l =
     (counts l.steps.listing l.steps.update l.steps.rows) in
     record {
       awaits : Awaits (state l.machine);
+      alone : IsAlone (state l.machine);
       so_far : (course : Course (state l.fn.machine) entry now (state l.machine)) × (course.failed ≡ false)
           × (l.counter ≤ length (all_fed 1 course.done));
       reads : reads l.source ≡ reads l.fn.source;

@@ -1,8 +1,9 @@
-use Rattle.std.proofs.Common.{◌≡◌, false, Some, length}
+use Rattle.std.proofs.Common.{◌≡◌, false, Some}
 use Rattle.djq_protocol.specs.declared.answer.EndCause.TheVariants.{Input}
-use Rattle.djq_machine.specs.Call.{IsOpen, counts, cause_of, held_of}
+use Rattle.djq_machine.specs.Call.{IsOpen, counts, cause_of}
 use Rattle.djq_run_laws.specs.Course.{Outside}
-use Rattle.djq_run.specs.Parts.{GoesTo, with_sink}
+use Rattle.djq_run.specs.Parts.{GoesTo, with_sink, IsAlone}
+use Rattle.djq_run.proofs.Runs.{work}
 use Rattle.djq_run.proofs.session.serve_held.Given as goal
 
 -- The run went on from the entry, no line ended the input, and no write failed.
@@ -13,6 +14,7 @@ invariant-lines g l =
     let faults = g.K.Sink.faults in
     record {
       is_open : IsOpen (state l.machine) 1;
+      alone : IsAlone (state l.machine);
       course : (o : Outside) → GoesTo false (state l.fn.machine)
           (with_sink o (told l.fn.sink) (faults l.fn.sink)
           (counts l.fn.steps.listing l.fn.steps.update l.fn.steps.rows))
@@ -23,4 +25,4 @@ invariant-lines g l =
     }
 
 abbrev pub decreases-lines : goal.decreases-lines
-decreases-lines g l = length (held_of (g.M.Machine.state l.machine) 1)
+decreases-lines g l = work (g.M.Machine.state l.machine)

@@ -9,13 +9,23 @@ use Rattle.djq_run.specs.declared.status.Status.{Status}
 use Rattle.djq_run.specs.Parts.{ReadEnds}
 use Rattle.djq_run.proofs.Runs.{by_piece, by_end, by_failure, goes_then, piece_open, piece_ends, end_open, input_ended}
 use Rattle.djq_run.proofs.Runs.{ends_done, still_at_end}
+use Rattle.djq_run.proofs.Alone.{alone_fed}
 use Rattle.djq_run.proofs.session.serve_read.Goals as goal
 
 pub serve_held-requires : goal.serve_held-requires
-serve_held-requires g c = piece_open _ _ _ (fed_facts _ 1 _ _ _ c.feed.ensures.makes.step)
+serve_held-requires g c =
+    let reads = c.in-Got.ensures.reads in
+    let some : 0 < length (take c.in-Got.count c.read.new.buf) = omega
+    (arith, length-take c.in-Got.count c.read.new.buf, reads.0, reads.1) in
+    let few : length (take c.in-Got.count c.read.new.buf) ≤ READ_BYTES = omega
+    (arith, length-take c.in-Got.count c.read.new.buf, reads.1, c.read.auto.buf, c.requires.most) in
+    record {
+      is_open = piece_open _ _ _ (fed_facts _ 1 _ _ _ c.feed.ensures.makes.step);
+      alone = alone_fed _ _ _ c.feed.ensures.makes (refl, some, few, c.requires.awaits) c.requires.alone;
+    }
 
 pub flush-requires : goal.flush-requires
-flush-requires g c = end_open _ _ (ended_facts _ 1 _ _ c.end_session.ensures.step)
+flush-requires g c = end_open _ _ (ended_facts _ 1 _ _ c.end_session.ensures.makes.step)
 
 -- A piece comes, and its lines are run.
 pub returns-in-Got : goal.returns-in-Got
@@ -68,7 +78,7 @@ returns-then-flush g c =
     let o' = outside (told c.read.new.self) (rf c.read.new.self) (wrote c.flush.new.sink)
     (wf c.flush.new.sink) counted in
     let reads = c.in-End.ensures.reads in
-    let m = c.end_session.ensures in
+    let m = c.end_session.ensures.makes in
     let at_end = still_at_end (told c.args.source.now) (told c.read.new.self) reads.0 reads.1 in
     let flushed = c.if-flush.ensures in
     let first = by_end (told c.args.source.now) (told c.read.new.self) (rf c.args.source.now) (rf c.read.new.self)
@@ -104,7 +114,7 @@ returns-else-flush g c =
     let o' = outside (told c.read.new.self) (rf c.read.new.self) (wrote c.flush.new.sink)
     (wf c.flush.new.sink) counted in
     let reads = c.in-End.ensures.reads in
-    let m = c.end_session.ensures in
+    let m = c.end_session.ensures.makes in
     let at_end = still_at_end (told c.args.source.now) (told c.read.new.self) reads.0 reads.1 in
     let flushed = c.if-flush.ensures in
     let first = by_end (told c.args.source.now) (told c.read.new.self) (rf c.args.source.now) (rf c.read.new.self)

@@ -1,7 +1,7 @@
 -- A visit goes to the first session to which something is due, and leaves fewer visits ahead.
 use Rattle.std.proofs.Common.{◌≡◌, ◌∙◌, None, refl, sym, rules}
 use Rattle.djq_serve.proofs.Sessions.{due_open, due_above}
-use Rattle.djq_serve.proofs.Turns.{flush_begun, flush_more, flush_done}
+use Rattle.djq_serve.proofs.Visits.{flush_begun, flush_more, flush_done}
 use Rattle.djq_serve.proofs.flushing.flush.Goals as goal
 
 pub visits-init : goal.visits-init

@@ -1,7 +1,7 @@
 use Rattle.std.proofs.Common.{◌≡◌}
 use Rattle.djq_serve.specs.Told.{hub_shown}
 use Rattle.djq_serve.specs.Kept.{flush_ahead}
-use Rattle.djq_serve.proofs.Turns.{Flushing}
+use Rattle.djq_serve.proofs.Visits.{Flushing}
 use Rattle.djq_serve.proofs.flushing.flush.Given as goal
 
 abbrev pub invariant-visits : goal.invariant-visits

@@ -1,14 +1,15 @@
 -- The first id is that of an open session, and without it one fewer is open, until none is.
 use Rattle.std.proofs.Common.{ℕ, List, ◌≡◌, ◌∙◌, None, Some, length, slice_get, refl, sym, ap, rules, arith}
 use Rattle.djq_serve.specs.Server.{closing, server, first_open}
-use Rattle.djq_serve.proofs.Moves.{quietly_none, quietly_then, closing_goes}
+use Rattle.djq_serve.proofs.Going.{quietly_none, quietly_then}
+use Rattle.djq_serve.proofs.Moving.{closing_goes}
 use Rattle.djq_serve.proofs.Sessions.{first_is_open, first_fewer, none_first, closed_ids}
 use Rattle.djq_serve.proofs.serving.close_all.Goals as goal
 
 pub closes-init : goal.closes-init
 closes-init g c = record {
   agrees = c.requires.agrees;
-  goes = λ answer. quietly_none _ (server (g.M.Machine.state c.args.machine.now) (closing answer));
+  goes = λ most answer. quietly_none most _ (server (g.M.Machine.state c.args.machine.now) (closing answer));
   faults = refl;
 }
 
@@ -40,8 +41,8 @@ closes-preserved g c =
     ∙ sym c.first.ensures.value ∙ sym c.copied.ensures ∙ c.in-Some.is in
     record {
       agrees = c.close.ensures.agrees;
-      goes = λ answer. quietly_then _ _ _ (server st (closing answer)) _ _ (c.closes.invariant.goes answer)
-          (closing_goes _ _ st (state c.close.new.machine) answer c.in-Some.id first c.close.ensures.makes
+      goes = λ most answer. quietly_then most _ _ _ (server st (closing answer)) _ _ (c.closes.invariant.goes most answer)
+          (closing_goes most _ _ st (state c.close.new.machine) answer c.in-Some.id first c.close.ensures.makes
           c.close.ensures.told);
       faults = c.close.ensures.faults ∙ c.closes.invariant.faults;
     }

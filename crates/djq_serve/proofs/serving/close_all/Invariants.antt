@@ -1,4 +1,4 @@
-use Rattle.std.proofs.Common.{◌≡◌, length}
+use Rattle.std.proofs.Common.{◌≡◌, ℕ, length}
 use Rattle.djq_machine.specs.Call.{state_ids}
 use Rattle.djq_serve.specs.declared.served.Served.{Served}
 use Rattle.djq_serve.specs.Told.{hub_shown}
@@ -15,8 +15,8 @@ invariant-closes g l =
     let ids = g.H.Hub.ids in
     record {
       agrees : Agrees (state l.machine) (ids l.hub);
-      goes : (answer : Served)
-          → GoesQuietly (hub_shown (past l.fn.hub) (script l.fn.hub) (ids l.fn.hub))
+      goes : (most : ℕ) (answer : Served)
+          → GoesQuietly most (hub_shown (past l.fn.hub) (script l.fn.hub) (ids l.fn.hub))
           (server (state l.fn.machine) (closing answer))
           (hub_shown (past l.hub) (script l.hub) (ids l.hub)) (server (state l.machine) (closing answer));
       faults : g.H.Hub.faults l.hub ≡ g.H.Hub.faults l.fn.hub;

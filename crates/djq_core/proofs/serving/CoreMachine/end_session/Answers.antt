@@ -54,8 +54,8 @@ invariant_of-self-in-None c =
           (suits_none (c.self.inside.engine).store c.end_input.new.session.batch c.end_input.ensures.closed),
     )
 
-pub returns-in-None : goal.returns-in-None
-returns-in-None c =
+pub returns-in-None-clause-makes : goal.returns-in-None-clause-makes
+returns-in-None-clause-makes c =
     let h = here c.self.inside.engine c.self.inside.sessions c.find-at.result c.args.id
     c.get_mut-found.result.now c.self.invariant.0 c.find-at.ensures.within c.find-at.ensures.there
     c.get_mut-found.ensures.value in
@@ -74,8 +74,8 @@ returns-in-None c =
     c.end_input.new.session c.self.inside.stopped
     h running dry c.end_input.ensures.performs).0
 
-pub returns-in-Some : goal.returns-in-Some
-returns-in-Some c =
+pub returns-in-Some-clause-makes : goal.returns-in-Some-clause-makes
+returns-in-Some-clause-makes c =
     let h = here c.self.inside.engine c.self.inside.sessions c.find-at.result c.args.id
     c.get_mut-found.result.now c.self.invariant.0 c.find-at.ensures.within c.find-at.ensures.there
     c.get_mut-found.ensures.value in

@@ -1,10 +1,11 @@
 -- Ids rise, so those in front of the place are lower; each one behind it is looked at in turn.
 use Rattle.std.proofs.Common.{ℕ, suc, ◌≡◌, ◌+◌, ◌<◌, ◌∙◌, List, find, drop, length, get_or, sym, ap, subst, arith}
 use Rattle.djq_commands.specs.Sound.{Rises}
-use Rattle.djq_core.proofs.Placed.{due_from, is_found, key_is, low_le, none_found, passed_low, passed_lower}
+use Rattle.djq_core.proofs.Placed.{passes_from, is_found, key_is, low_le, none_found, passed_low, passed_lower}
 use Rattle.djq_core.proofs.Placed.{passed_quiet, seen_ids, seen_length}
 use Rattle.djq_core.proofs.sessions.Sessions.first_due.Goals.{else-from-via-then-from+else-is_due}
 use Rattle.djq_core.proofs.sessions.Sessions.first_due.Goals.{else-from-via-else-from}
+use Rattle.djq_session.specs.Dialog.{dialog_is_due}
 use Rattle.djq_core.proofs.sessions.Sessions.first_due.Goals as goal
 
 pub place_from-at-requires : goal.place_from-at-requires
@@ -14,7 +15,7 @@ pub loop-at-init : goal.loop-at-init
 loop-at-init c =
     let same = seen_ids _ _ _ _ _ _ c.self.invariant c.self.view_is ∙ sym c.as_slice.ensures.value in
     let low = low_le c.try_from.result c.args.from c.try_from.ensures in
-    passed_low c.args.self.now c.args.from c.place_from-at.result
+    passed_low dialog_is_due c.args.self.now c.args.from c.place_from-at.result
     (λ at l. omega (
       arith,
       c.place_from-at.ensures.below at l,
@@ -44,7 +45,7 @@ returns-then-is_due c =
     (arith, c.loop-at-test.true, c.len-at-end.ensures, c.self.inside.ids.ok.0) in
     let same = ap (λ (ns : List ℕ). get_or ns c.loop-at.at 0) (seen_ids _ _ _ _ _ _ c.self.invariant c.self.view_is)
     ∙ key_is c.self.inside.ids.items c.loop-at.at c.index-id.result.now within c.index-id.ensures in
-    is_found c.args.self.now c.args.from c.loop-at.at c.index-id.result.now c.get.result.now c.loop-at.invariant
+    is_found dialog_is_due c.args.self.now c.args.from c.loop-at.at c.index-id.result.now c.get.result.now c.loop-at.invariant
     c.get.ensures same (omega (arith, c.if-from.true, c.from.ensures)) (sym c.is_due.ensures ∙ c.if-is_due.true)
 
 pub loop-at-preserved : goal.loop-at-preserved
@@ -54,20 +55,20 @@ loop-at-preserved c =
     let same = ap (λ (ns : List ℕ). get_or ns c.loop-at.at 0) (seen_ids _ _ _ _ _ _ c.self.invariant c.self.view_is)
     ∙ key_is c.self.inside.ids.items c.loop-at.at c.index-id.result.now within c.index-id.ensures in
     let next : suc c.loop-at.at ≡ c.loop-at.at + 1 = omega arith in
-    subst (λ (at : ℕ). find (due_from c.args.from) c.args.self.now
-    ≡ find (due_from c.args.from) (drop at c.args.self.now)) next
+    subst (λ (at : ℕ). find (passes_from dialog_is_due c.args.from) c.args.self.now
+    ≡ find (passes_from dialog_is_due c.args.from) (drop at c.args.self.now)) next
     (c.loop-at.invariant ∙ elim c.else-from.branch [
       | else-from-via-then-from+else-is_due w ↦
-          passed_quiet c.args.self.now c.args.from c.loop-at.at w.get.result.now w.get.ensures
+          passed_quiet dialog_is_due c.args.self.now c.args.from c.loop-at.at w.get.result.now w.get.ensures
           (sym w.is_due.ensures ∙ w.if-is_due.false)
       | else-from-via-else-from w ↦
-          passed_lower c.args.self.now c.args.from c.loop-at.at
+          passed_lower dialog_is_due c.args.self.now c.args.from c.loop-at.at
           (omega (arith, within, seen_length _ _ _ _ _ _ c.self.invariant c.self.view_is))
           (omega (arith, same, w.if-from.false, c.from.ensures))
     ])
 
 pub returns : goal.returns
-returns c = none_found c.args.self.now c.args.from c.loop-at.at c.loop-at.invariant (omega (
+returns c = none_found dialog_is_due c.args.self.now c.args.from c.loop-at.at c.loop-at.invariant (omega (
   arith,
   c.loop-at-test.false,
   c.len-at-end.ensures,

@@ -8,7 +8,7 @@ use Rattle.djq_journal.specs.Appending.{Appends}
 use Rattle.djq_journal.specs.Logging.{Keeps}
 use Rattle.djq_journal.specs.declared.journal.Appended.TheVariants.{Done, Failed as Unappended, Full as Overflows}
 use Rattle.djq_journal.specs.declared.log.Kept.TheVariants.{All, Failed, Full}
-use Rattle.djq_journal.proofs.Appends.{told_all, with_lines, keeps_all, keeps_failed, keeps_full}
+use Rattle.djq_journal.proofs.Appends.{told_all, with_lines, no_line, keeps_all, keeps_failed, keeps_full}
 use Rattle.djq_journal.proofs.log.Log.keep.Goals as goal
 
 pub returns-in-Done-clause-told : goal.returns-in-Done-clause-told
@@ -53,3 +53,16 @@ returns-in-Full-clause-told g c =
     (keeps_full gate c.take.new.self group)
     (told_all [] _ _ (λ lines o n. IsIdle lines gate o.file → Appends Overflows lines group o n)
     c.in-Full.ensures.told))
+
+-- A group with a first line isn't empty.
+pub returns-in-Done-clause-none : goal.returns-in-Done-clause-none
+returns-in-Done-clause-none g c none = absurd
+    (no_line (g.G.Group.lines c.args.group.now) c.in-Some._first.now c.in-Some.ensures none)
+
+pub returns-in-Failed-clause-none : goal.returns-in-Failed-clause-none
+returns-in-Failed-clause-none g c none = absurd
+    (no_line (g.G.Group.lines c.args.group.now) c.in-Some._first.now c.in-Some.ensures none)
+
+pub returns-in-Full-clause-none : goal.returns-in-Full-clause-none
+returns-in-Full-clause-none g c none = absurd
+    (no_line (g.G.Group.lines c.args.group.now) c.in-Some._first.now c.in-Some.ensures none)

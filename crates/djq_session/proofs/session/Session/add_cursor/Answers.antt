@@ -13,11 +13,13 @@ invariant_of-self-2 g c =
     let added : NamedCursor g.row.C.Denot = record { name = c.args.name.now; cursor = c.args.cursor } in
     let grown : c.push.new.self.items ≡ names ++ added ∷ [] = c.in_ok-push.ensures.items in
     let absent : named names c.args.name.now ≡ None = ap (λ d. named d.cursors c.args.name.now) c.self.view_is
-    ∙ c.requires.absent in
-    record {
-      room = c.self.invariant.room;
-      few = rw grown (omega
-          (arith, c.requires.few, length-append names (added ∷ []), ap (λ d. length d.cursors) c.self.view_is));
-      different = rw grown (all_pairs_push (λ a b. bytes_eq a.name b.name ≡ false) names added
-          c.self.invariant.different (none_passes (cursor_is_named c.args.name.now) names absent));
-    }
+    ∙ c.requires.absent in (
+      record {
+        room = c.self.invariant.0.room;
+        few = rw grown (omega
+            (arith, c.requires.few, length-append names (added ∷ []), ap (λ d. length d.cursors) c.self.view_is));
+        different = rw grown (all_pairs_push (λ a b. bytes_eq a.name b.name ≡ false) names added
+            c.self.invariant.0.different (none_passes (cursor_is_named c.args.name.now) names absent));
+      },
+      c.self.invariant.1,
+    )

@@ -14,14 +14,16 @@ invariant_of-self g c =
     ≡ Some c.in-Some.at = subst
     (λ (xs : List (NamedCursor g.row.C.Denot)). position (cursor_is_named c.args.name.now) xs ≡ Some c.in-Some.at)
     c.as_slice.ensures.value (sym c.in-Some.ensures) in
-    let within = position-Some (cursor_is_named c.args.name.now) names c.in-Some.at c.remove-gone.result place in
-    record {
-      room = c.self.invariant.room;
-      few = rw c.remove-gone.ensures.items (few_left names c.in-Some.at _ c.self.invariant.few);
-      different = rw c.remove-gone.ensures.items
-          (all_pairs_remove (λ a b. bytes_eq a.name b.name ≡ false) names c.in-Some.at within.0
-          c.self.invariant.different);
-    }
+    let within = position-Some (cursor_is_named c.args.name.now) names c.in-Some.at c.remove-gone.result place in (
+      record {
+        room = c.self.invariant.0.room;
+        few = rw c.remove-gone.ensures.items (few_left names c.in-Some.at _ c.self.invariant.0.few);
+        different = rw c.remove-gone.ensures.items
+            (all_pairs_remove (λ a b. bytes_eq a.name b.name ≡ false) names c.in-Some.at within.0
+            c.self.invariant.0.different);
+      },
+      c.self.invariant.1,
+    )
 
 pub returns-in-Some : goal.returns-in-Some
 returns-in-Some g c =

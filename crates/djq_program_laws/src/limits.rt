@@ -1,0 +1,4 @@
+//! The limits of `serve`.
+
+/// How many turns of the hub a round of `serve` takes at most.
+pub const ROUND_TURNS: u64 = 64;
