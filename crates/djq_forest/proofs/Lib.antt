@@ -10,5 +10,6 @@ pub mod Supports
 pub mod Reduction
 pub mod Tellings
 pub mod SlotChanges
+pub mod IndexChanges
 pub mod Checking
 pub mod Worked

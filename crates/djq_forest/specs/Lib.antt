@@ -4,6 +4,7 @@ pub mod Ties
 pub mod SlotEntries
 pub mod Slots
 pub mod Forest
+pub mod Index
 pub mod Shape
 pub mod Invariants
 pub mod Telling

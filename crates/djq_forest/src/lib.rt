@@ -43,10 +43,13 @@
 //! forest is whole again.
 //!
 //! Inside, entries lie in slots ([`Slots`]): the cells of all one after the other, and a note of twelve bytes for each. A
-//! [`Tie`] has twelve bytes, too: the slot that it leads to, and its neighbours in that one's list. Links are four bytes,
-//! slots of arrays, no pointers.
+//! [`Tie`] has twelve bytes, too: the slot that it leads to, and its neighbours in that one's list. A leaf's entries lie
+//! in their rows' slots; a view's are found by their tuples ([`Index`]), for four bytes a slot and as many a bucket,
+//! and one array links both the slots of a bucket and the free ones. Links are four bytes, slots of arrays, no pointers.
+//! Room for an entry is taken before it comes ([`Index::reserve`]), so that its coming can't fail.
 #![tactic(auto)]
 
+mod index;
 mod slots;
 mod ties;
 
@@ -54,6 +57,7 @@ ghost use Rattle.djq_forest.specs.Fold.{ForestsAreReducts};
 ghost use Rattle.djq_forest.specs.Telling.{TellingKeeps};
 ghost use Rattle.djq_forest.specs.Worked.{JoinIsWorked, CoverIsWorked};
 
+pub use index::Index;
 pub use slots::{Note, OUT, Slots};
 pub use ties::{Tie, Ties};
 
