@@ -1,6 +1,7 @@
 -- When a line that adds has its place.
-use Rattle.std.specs.Prelude.{ℕ, List, [], ◌∷◌, ◌≡◌, ◌≢◌, ◌==◌, ◌⊎◌, ◌+◌, ◌++◌, ◌&&◌, ◌||◌, ◌<◌, ◌≤◌, Bool, true, false, not, cond}
-use Rattle.std.specs.Prelude.{Option, None, Some, Err, length, fold, nat_le, is_some, All, AllPairs, Contains}
+use Rattle.std.specs.Prelude.{ℕ, List, [], ◌∷◌, ◌≡◌, ◌≢◌, ◌==◌, ◌⊎◌, ◌+◌, ◌++◌, ◌&&◌, ◌||◌, ◌<◌, ◌≤◌, Bool, true}
+use Rattle.std.specs.Prelude.{false, not, cond, Option, None, Some, Err, length, fold, nat_le, is_some, All, AllPairs}
+use Rattle.std.specs.Prelude.{Contains}
 use Rattle.std.specs.List.{list_any}
 use Rattle.std.proofs.Common.{refl, sym, ap, ap₂, ◌∙◌, subst, inl, inr, arith}
 use Rattle.std.proofs.lemmas.Bool.{eq-eqb, eqb-true, false_from_ne_true, le-leb, lt-leb}
@@ -22,13 +23,13 @@ use Rattle.djq_database.specs.Cells.{HaveCells, cells_of}
 use Rattle.djq_database.proofs.Cells.{Grown, have_grown, all_grown, grown_is}
 use Rattle.djq_transaction.specs.declared.lines.Verb.{Verb}
 use Rattle.djq_transaction.specs.declared.lines.Verb.TheVariants.{Add}
-use Rattle.djq_transaction.specs.declared.lines.HeldLine.{HeldLine}
+use Rattle.djq_transaction.specs.Held.{HeldLine}
 use Rattle.djq_transaction.specs.declared.net.Copies.{Copies}
 use Rattle.djq_transaction.specs.declared.net.Net.{Net}
 use Rattle.djq_transaction.specs.declared.judge.LineRefusal.TheVariants.{Limit, NoMemory}
 use Rattle.djq_transaction.specs.Lines.{same_row, with_naming, first_lines, after_verb, copies_before, copies_after}
-use Rattle.djq_transaction.specs.Judging.{texts_by, texts_added, is_new, rows_together, limit_if, refusal_by, line_refusal}
-use Rattle.djq_transaction.specs.Judging.{StopsAtLine, HasItsPlace}
+use Rattle.djq_transaction.specs.Judging.{texts_by, texts_added, names_row_before, is_new, rows_together, limit_if}
+use Rattle.djq_transaction.specs.Judging.{refusal_by, row_refusal, StopsAtLine, HasItsPlace}
 use Rattle.djq_transaction.specs.LookUp.{AreSame, Looked}
 use Rattle.djq_transaction.specs.Net.{key_cells, SuitsAt, SetsCopies, IsNet}
 use Rattle.djq_transaction.proofs.NamedRows.{same_are, are_same, keys_stay}
@@ -76,7 +77,7 @@ named_before relations lines h None c l =
 pub add_refusal : (relations : List Relation) (lines : List HeldLine) (h : HeldLine) (many new full : Bool)
     → h.verb ≡ Add → nat_le COPIES (copies_after relations lines h) ≡ many → is_new relations lines h ≡ new
     → nat_le ROWS (rows_together relations lines h.relation) ≡ full
-    → line_refusal relations lines h ≡ limit_if (many || (new && full))
+    → row_refusal relations lines h ≡ limit_if (many || (new && full))
 add_refusal relations lines h many new full e m n f =
     ap (λ (v : Verb). refusal_by v relations lines h) e
     ∙ ap₂ (λ (a b : Bool). limit_if (a || b)) m (ap₂ (λ (a b : Bool). a && b) n f)
@@ -84,7 +85,7 @@ add_refusal relations lines h many new full e m n f =
 -- as many copies as there may be
 pub add_many : (relations : List Relation) (lines : List HeldLine) (h : HeldLine) (place : Option ℕ) (c : Copies)
     → h.verb ≡ Add → Looked relations lines h place c → COPIES ≤ c.after
-    → line_refusal relations lines h ≡ limit_if true
+    → row_refusal relations lines h ≡ limit_if true
 add_many relations lines h place c e l many =
     add_refusal relations lines h true (is_new relations lines h)
     (nat_le ROWS (rows_together relations lines h.relation)) e
@@ -98,7 +99,7 @@ few_copies relations lines h place c l few =
 -- a row that isn't new
 pub add_further : (relations : List Relation) (lines : List HeldLine) (h : HeldLine) (place : Option ℕ) (c : Copies)
     → h.verb ≡ Add → Looked relations lines h place c → c.after < COPIES → (is_some place ≡ true) ⊎ (c.before ≢ 0)
-    → line_refusal relations lines h ≡ limit_if false
+    → row_refusal relations lines h ≡ limit_if false
 add_further relations lines h place c e l few old =
     add_refusal relations lines h false false (nat_le ROWS (rows_together relations lines h.relation)) e
     (few_copies relations lines h place c l few) (by old) refl
@@ -118,7 +119,7 @@ add_further relations lines h place c e l few old =
 pub add_first : (relations : List Relation) (lines : List HeldLine) (h : HeldLine) (place : Option ℕ) (c : Copies)
     (full : Bool) → h.verb ≡ Add → Looked relations lines h place c → c.after < COPIES → is_some place ≡ false
     → c.before ≡ 0 → full ≡ nat_le ROWS (rows_together relations lines h.relation)
-    → line_refusal relations lines h ≡ limit_if full
+    → row_refusal relations lines h ≡ limit_if full
 add_first relations lines h place c full e l few none zero f =
     add_refusal relations lines h false true full e (few_copies relations lines h place c l few)
     (ap₂ (λ (a b : Bool). a && not b) (eq-eqb (copies_before relations h) 0 (sym l.before ∙ zero))
@@ -139,7 +140,7 @@ pub add_learns : (h : HeldLine) → h.verb ≡ Add → texts_added h ≡ texts_i
 add_learns h e = ap (λ (v : Verb). texts_by v h.row) e
 
 pub known_placed : (c : Catalog) (lines : List HeldLine) (h : HeldLine) → h.verb ≡ Add → HaveCells c.texts h.row
-    → line_refusal c.relations lines h ≡ None → length c.texts ≤ TEXTS
+    → row_refusal c.relations lines h ≡ None → length c.texts ≤ TEXTS
     → HasItsPlace c.relations lines c.texts h c.texts
 known_placed c lines h e have passes few = record {
   passes = passes;
@@ -147,16 +148,17 @@ known_placed c lines h e have passes few = record {
   few = few;
 }
 
-pub known_stops : (c : Catalog) (lines : List HeldLine) (h : HeldLine) → line_refusal c.relations lines h ≡ None
-    → length c.texts ≤ TEXTS → StopsAtLine c.relations lines c.texts h c.texts NoMemory
-known_stops c lines h passes few = (
+pub known_stops : (c : Catalog) (lines : List HeldLine) (h : HeldLine) → row_refusal c.relations lines h ≡ None
+    → names_row_before lines h ≡ false → length c.texts ≤ TEXTS → StopsAtLine c.relations lines c.texts h c.texts NoMemory
+known_stops c lines h passes first few = (
   passes,
+  first,
   record { first = []; rest = texts_added h; parts = refl; learned = refl },
   few,
 )
 
 pub new_placed : (relations : List Relation) (old new : List Bytes) (lines : List HeldLine) (h : HeldLine)
-    → h.verb ≡ Add → line_refusal relations lines h ≡ None → new ≡ all_learned old (texts_in h.row)
+    → h.verb ≡ Add → row_refusal relations lines h ≡ None → new ≡ all_learned old (texts_in h.row)
     → length new ≤ TEXTS → HasItsPlace relations lines old h new
 new_placed relations old new lines h e passes is few = record {
   passes = passes;
@@ -165,10 +167,11 @@ new_placed relations old new lines h e passes is few = record {
 }
 
 pub new_stops : (relations : List Relation) (old new : List Bytes) (lines : List HeldLine) (h : HeldLine)
-    → h.verb ≡ Add → line_refusal relations lines h ≡ None → new ≡ all_learned old (texts_in h.row)
-    → length new ≤ TEXTS → StopsAtLine relations lines old h new NoMemory
-new_stops relations old new lines h e passes is few = (
+    → h.verb ≡ Add → row_refusal relations lines h ≡ None → names_row_before lines h ≡ false
+    → new ≡ all_learned old (texts_in h.row) → length new ≤ TEXTS → StopsAtLine relations lines old h new NoMemory
+new_stops relations old new lines h e passes first is few = (
   passes,
+  first,
   record {
     first = texts_in h.row;
     rest = [];
@@ -179,33 +182,35 @@ new_stops relations old new lines h e passes is few = (
 )
 
 pub some_learned : (relations : List Relation) (old new : List Bytes) (lines : List HeldLine) (h : HeldLine)
-    (read : Tuple) (r : InternRefusal) → h.verb ≡ Add → read ≡ h.row → line_refusal relations lines h ≡ None
-    → r ≡ NoMem → InternsRow old read (Err r) new → length new ≤ TEXTS → StopsAtLine relations lines old h new NoMemory
-some_learned relations old new lines h read r e same passes is i few =
-    let s : LearnsSome old (texts_in read) new = subst (λ (q : InternRefusal). InternsRow old read (Err q) new) is i in (
+    (r : InternRefusal) → h.verb ≡ Add → row_refusal relations lines h ≡ None → names_row_before lines h ≡ false → r ≡ NoMem
+    → InternsRow old h.row (Err r) new → length new ≤ TEXTS → StopsAtLine relations lines old h new NoMemory
+some_learned relations old new lines h r e passes first is i few =
+    let s : LearnsSome old (texts_in h.row) new =
+    subst (λ (q : InternRefusal). InternsRow old h.row (Err q) new) is i in (
       passes,
+      first,
       record {
         first = s.first;
         rest = s.rest;
-        parts = add_learns h e ∙ ap (λ (r : Tuple). texts_in r) (sym same) ∙ s.parts;
+        parts = add_learns h e ∙ s.parts;
         learned = s.learned;
       },
       few,
     )
 
 pub no_place_for : (relations : List Relation) (old new : List Bytes) (lines : List HeldLine) (h : HeldLine)
-    (read : Tuple) (r : InternRefusal) → h.verb ≡ Add → read ≡ h.row → line_refusal relations lines h ≡ None
-    → r ≡ Full → InternsRow old read (Err r) new → StopsAtLine relations lines old h new Limit
-no_place_for relations old new lines h read r e same passes is i =
-    let s : FindsNoPlaceFor old (texts_in read) new =
-    (subst (λ (q : InternRefusal). InternsRow old read (Err q) new) is i).1 in
+    (r : InternRefusal) → h.verb ≡ Add → row_refusal relations lines h ≡ None → r ≡ Full
+    → InternsRow old h.row (Err r) new → StopsAtLine relations lines old h new Limit
+no_place_for relations old new lines h r e passes is i =
+    let s : FindsNoPlaceFor old (texts_in h.row) new =
+    (subst (λ (q : InternRefusal). InternsRow old h.row (Err q) new) is i).1 in
     inr (
       passes,
       record {
         first = s.first;
         next = s.next;
         rest = s.rest;
-        parts = add_learns h e ∙ ap (λ (r : Tuple). texts_in r) (sym same) ∙ s.parts;
+        parts = add_learns h e ∙ s.parts;
         learned = s.learned;
         unknown = s.unknown;
         full = s.full;
@@ -224,12 +229,25 @@ unknown_looked c lines h at width net n s unknown absent = record {
   at = unknown_unnamed c lines h width net n unknown;
 }
 
+pub unknown_first : (c : Catalog) (lines : List HeldLine) (h : HeldLine) (at width : ℕ) (net : Net)
+    → IsNet c.relations c.texts width lines net → SuitsAt c.relations h at
+    → knows_all c.texts (texts_in h.row) ≡ false → has_row (rows_at c.relations at) h.row ≡ false
+    → names_row_before lines h ≡ false
+unknown_first c lines h at width net n s unknown absent = named_before c.relations lines h None (copies_with 0 0)
+    (unknown_looked c lines h at width net n s unknown absent)
+
+-- a row that has no place among those that lines name is named by no line
+pub looked_first : (relations : List Relation) (lines : List HeldLine) (h : HeldLine) (place : Option ℕ) (c : Copies)
+    → Looked relations lines h place c → place ≡ None → names_row_before lines h ≡ false
+looked_first relations lines h place c l none =
+    named_before relations lines h place c l ∙ ap (λ (p : Option ℕ). is_some p) none
+
 pub unknown_judged : (c : Catalog) (lines : List HeldLine) (h : HeldLine) (at width : ℕ) (net : Net) (full b : Bool)
     → ((ls : List HeldLine) (g : HeldLine) → IsNet c.relations c.texts width ls net → SuitsAt c.relations g at
-    → g.verb ≡ Add → Looked c.relations ls g None (copies_with 0 0) → line_refusal c.relations ls g ≡ limit_if full)
+    → g.verb ≡ Add → Looked c.relations ls g None (copies_with 0 0) → row_refusal c.relations ls g ≡ limit_if full)
     → full ≡ b → IsNet c.relations c.texts width lines net → SuitsAt c.relations h at → h.verb ≡ Add
     → knows_all c.texts (texts_in h.row) ≡ false → has_row (rows_at c.relations at) h.row ≡ false
-    → line_refusal c.relations lines h ≡ limit_if b
+    → row_refusal c.relations lines h ≡ limit_if b
 unknown_judged c lines h at width net full b refuses is n s e unknown absent =
     refuses lines h n s e (unknown_looked c lines h at width net n s unknown absent) ∙ ap (λ (t : Bool). limit_if t) is
 
@@ -265,11 +283,12 @@ pub new_judged : (c d : Catalog) (lines : List HeldLine) (h : HeldLine) (at : �
     → h.verb ≡ Add → IsNet c.relations c.texts width lines old → SuitsAt c.relations h at
     → knows_all c.texts (texts_in h.row) ≡ false → has_row (rows_at c.relations at) h.row ≡ false
     → SetsCopies width (key_cells width at cells) old None (copies_with 0 1) new
-    → IsNet d.relations d.texts width (lines ++ h ∷ []) new
+    → IsNet c.relations d.texts width (lines ++ h ∷ []) new
 new_judged c d lines h at cells width old new differ same is have cells_are e n s unknown absent set =
     let l = unknown_looked c lines h at width old n s unknown absent in
-    judged d lines h at cells width old new None (copies_with 0 0) (copies_with 0 1) differ
+    subst (λ (rs : List Relation). IsNet rs d.texts width (lines ++ h ∷ []) new) same
+    (judged d lines h at cells width old new None (copies_with 0 0) (copies_with 0 1) differ
     (net_learned c d (texts_in h.row) width lines old same is n)
     (row_at d h at cells (subst (λ (rs : List Relation). SuitsAt rs h at) (sym same) s) have cells_are)
     (subst (λ (rs : List Relation). Looked rs lines h None (copies_with 0 0)) (sym same) l)
-    (one_copy_more h e (copies_with 0 0)) set
+    (one_copy_more h e (copies_with 0 0)) set)

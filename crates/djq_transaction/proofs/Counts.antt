@@ -1,11 +1,12 @@
 -- How many of the rows of a net come, and how many go.
-use Rattle.std.specs.Prelude.{ℕ, List, [], ◌∷◌, ◌≡◌, ◌+◌, ◌<◌, ◌≤◌, Bool, cond, length, map, filter, take, slice_index_or}
+use Rattle.std.specs.Prelude.{ℕ, List, [], ◌∷◌, ◌≡◌, ◌+◌, ◌<◌, ◌≤◌, Bool, cond, length, map, filter, take}
+use Rattle.std.specs.Prelude.{slice_index_or}
 use Rattle.std.proofs.Common.{refl, sym, ap, ap₂, ◌∙◌}
 use Rattle.std.proofs.lemmas.List.{take_all}
 use Rattle.std.proofs.lemmas.List.Filters.{length-filter_more}
 use Rattle.djq_model.specs.declared.relation.Relation.{Relation}
 use Rattle.djq_model.specs.Data.{Bytes}
-use Rattle.djq_transaction.specs.declared.lines.HeldLine.{HeldLine}
+use Rattle.djq_transaction.specs.Held.{HeldLine}
 use Rattle.djq_transaction.specs.declared.net.Copies.{Copies}
 use Rattle.djq_transaction.specs.declared.net.Net.{Net}
 use Rattle.djq_transaction.specs.Lines.{first_lines}

@@ -1,6 +1,6 @@
 -- The lines that name rows first: no two of them are of the same row, and each line is of the row of one.
-use Rattle.std.specs.Prelude.{ℕ, zero, suc, List, [], ◌∷◌, ◌≡◌, ◌⊎◌, ◌++◌, Bool, true, false, cond, Some, map}
-use Rattle.std.specs.Prelude.{fold, slice_get, slice_set, All, AllPairs, Contains}
+use Rattle.std.specs.Prelude.{ℕ, zero, suc, List, [], ◌∷◌, ◌≡◌, ◌⊎◌, ◌++◌, Bool, true, false, cond, Some, map, fold}
+use Rattle.std.specs.Prelude.{slice_get, slice_set, All, AllPairs, Contains}
 use Rattle.std.specs.List.{list_any}
 use Rattle.std.proofs.Common.{refl, sym, ap, ap₂, ◌∙◌, subst, inl, inr, arith}
 use Rattle.std.proofs.lemmas.List.Elements.{All-head, All-tail, All-nil, All-cons, All-contains, Contains-append_left}
@@ -10,7 +10,7 @@ use Rattle.std.proofs.lemmas.List.Folds.{Any-from_list_any, list_any-from_Any}
 use Rattle.djq_model.specs.declared.relation.Relation.{Relation}
 use Rattle.djq_answer_laws.proofs.Lists.{nothing_there, first_or_later, first_there, later_there, some_one, one_there}
 use Rattle.djq_answer_laws.proofs.Lists.{hold_each, pairs_head, pairs_tail, pairs_join}
-use Rattle.djq_transaction.specs.declared.lines.HeldLine.{HeldLine}
+use Rattle.djq_transaction.specs.Held.{HeldLine}
 use Rattle.djq_transaction.specs.declared.net.Copies.{Copies}
 use Rattle.djq_transaction.specs.Lines.{same_row, with_naming, first_lines, after_verb, copies_before, copies_after}
 use Rattle.djq_transaction.specs.LookUp.{AreSame, IsRowNamed}
@@ -21,13 +21,15 @@ use Rattle.djq_transaction.proofs.NamedRows.{same_are, are_same, copies_step}
 abbrev pub AreApart : List HeldLine → Type 0
 AreApart firsts = AllPairs (λ g h. AreSame g h → ⊥) firsts
 
-pub named_of : (firsts : List HeldLine) (h : HeldLine) → list_any (λ g. same_row g h) firsts ≡ true → IsRowNamed firsts h
+pub named_of : (firsts : List HeldLine) (h : HeldLine) → list_any (λ g. same_row g h) firsts ≡ true
+    → IsRowNamed firsts h
 named_of firsts h e =
     let o = some_one (λ (g : HeldLine). same_row g h ≡ true) firsts
     (Any-from_list_any (λ (g : HeldLine). same_row g h) firsts e) in
     one_there (λ (g : HeldLine). AreSame g h) firsts o.0 o.1 (same_are o.0 h o.2)
 
-pub not_named : (firsts : List HeldLine) (h : HeldLine) → list_any (λ g. same_row g h) firsts ≡ false → IsRowNamed firsts h
+pub not_named : (firsts : List HeldLine) (h : HeldLine) → list_any (λ g. same_row g h) firsts ≡ false
+    → IsRowNamed firsts h
     → ⊥
 not_named firsts h e n =
     let o = some_one (λ (g : HeldLine). AreSame g h) firsts n in

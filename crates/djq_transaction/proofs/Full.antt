@@ -1,6 +1,6 @@
 -- When a relation has as many rows as it may, together with those that lines have added.
-use Rattle.std.specs.Prelude.{ℕ, List, [], ◌∷◌, ◌≡◌, ◌≢◌, ◌==◌, ◌+◌, ◌-◌, ◌&&◌, ◌<◌, ◌≤◌, Bool, true, false, cond, Option, Some, length}
-use Rattle.std.specs.Prelude.{map, filter, nat_le, slice_get, All, AllPairs}
+use Rattle.std.specs.Prelude.{ℕ, List, [], ◌∷◌, ◌≡◌, ◌≢◌, ◌==◌, ◌+◌, ◌-◌, ◌&&◌, ◌<◌, ◌≤◌, Bool, true, false, cond}
+use Rattle.std.specs.Prelude.{Option, Some, length, map, filter, nat_le, slice_get, All, AllPairs}
 use Rattle.std.specs.List.{zip}
 use Rattle.std.proofs.Common.{refl, sym, ap, ap₂, ◌∙◌, arith}
 use Rattle.std.proofs.lemmas.Bool.{eq-eqb, eqb-true, false_from_ne_true, le-leb, lt-leb, leb-true, leb-false}
@@ -13,7 +13,7 @@ use Rattle.djq_model.specs.Equality.{bytes_eq-decides}
 use Rattle.djq_protocol.specs.declared.limits.TheConstants.{ROWS}
 use Rattle.djq_answer_laws.proofs.Lists.{hold_each}
 use Rattle.djq_database.specs.Catalog.{Catalog, no_relation, relation_at, rows_at}
-use Rattle.djq_transaction.specs.declared.lines.HeldLine.{HeldLine}
+use Rattle.djq_transaction.specs.Held.{HeldLine}
 use Rattle.djq_transaction.specs.declared.net.Copies.{Copies}
 use Rattle.djq_transaction.specs.declared.net.Net.{Net}
 use Rattle.djq_transaction.specs.Lines.{first_lines, copies_before}
@@ -35,7 +35,8 @@ place_tells relations at name g differ below named s = by (bytes_eq g.relation n
         ap (λ (i : ℕ). slice_get relations i) (sym (eqb-true (relation_place relations g.relation) at k))
         ∙ sym (find_at (λ (r : Relation). bytes_eq r.name g.relation) relations) ∙ s.found in
         let same : g.relation ≡ name = sym (found_named relations g.relation s.relation s.found)
-        ∙ ap (λ (r : Relation). r.name) (sym (get_or_from_slice_get relations at s.relation no_relation there)) ∙ named in
+        ∙ ap (λ (r : Relation). r.name) (sym (get_or_from_slice_get relations at s.relation no_relation there))
+        ∙ named in
         let yes : bytes_eq g.relation name ≡ true = (bytes_eq-decides g.relation name).1 same in
         cc (yes, e))
 

@@ -1,6 +1,6 @@
 -- Why a line is refused, and when it has its place.
-use Rattle.std.specs.Prelude.{ℕ, zero, suc, List, [], ◌≡◌, ◌==◌, ◌⊎◌, ◌-◌, ◌<◌, ◌≤◌, Bool, true, false, Option, None, Some}
-use Rattle.std.specs.Prelude.{if◌then◌else◌, length, IfSome, IfNone, pred}
+use Rattle.std.specs.Prelude.{ℕ, zero, suc, List, [], ◌≡◌, ◌==◌, ◌⊎◌, ◌-◌, ◌<◌, ◌≤◌, Bool, true, false, Option, None}
+use Rattle.std.specs.Prelude.{Some, if◌then◌else◌, length, IfSome, IfNone, pred}
 use Rattle.std.proofs.Common.{refl, sym, ap, ◌∙◌, subst, inl, inr, arith}
 use Rattle.std.proofs.lemmas.Bool.{eqb-true, cases_lt}
 use Rattle.std.proofs.lemmas.List.Elements.{All-contains}
@@ -17,12 +17,13 @@ use Rattle.djq_database.specs.Changes.{TellsRowCells, told_cells}
 use Rattle.djq_database.proofs.Cells.{unknown_row}
 use Rattle.djq_transaction.specs.declared.lines.Verb.{Verb}
 use Rattle.djq_transaction.specs.declared.lines.Verb.TheVariants.{Delete}
-use Rattle.djq_transaction.specs.declared.lines.HeldLine.{HeldLine}
+use Rattle.djq_transaction.specs.Held.{HeldLine}
 use Rattle.djq_transaction.specs.declared.net.Copies.{Copies}
 use Rattle.djq_transaction.specs.declared.net.Net.{Net}
 use Rattle.djq_transaction.specs.declared.judge.LineRefusal.TheVariants.{Absent, NoMemory}
 use Rattle.djq_transaction.specs.Lines.{first_lines, after_verb, copies_before, copies_after}
-use Rattle.djq_transaction.specs.Judging.{texts_by, texts_added, refusal_by, line_refusal, StopsAtLine, HasItsPlace}
+use Rattle.djq_transaction.specs.Judging.{texts_by, texts_added, names_row_before, refusal_by, row_refusal, StopsAtLine}
+use Rattle.djq_transaction.specs.Judging.{HasItsPlace}
 use Rattle.djq_transaction.specs.Net.{keys, key_cells, SuitsAt, LooksUp, IsNet}
 use Rattle.djq_transaction.specs.LookUp.{AreSame, IsRowNamed, Looked}
 use Rattle.djq_transaction.proofs.FirstLines.{unnamed_copies}
@@ -64,12 +65,12 @@ unknown_copies c lines h at width net n s unknown absent =
 -- ---- a line that deletes
 
 pub delete_absent : (relations : List Relation) (lines : List HeldLine) (h : HeldLine) → h.verb ≡ Delete
-    → copies_after relations lines h ≡ 0 → line_refusal relations lines h ≡ Some Absent
+    → copies_after relations lines h ≡ 0 → row_refusal relations lines h ≡ Some Absent
 delete_absent relations lines h e none = ap (λ (v : Verb). refusal_by v relations lines h) e
     ∙ ap (λ (n : ℕ). if n == 0 then Some Absent else None) none
 
 pub delete_passes : (relations : List Relation) (lines : List HeldLine) (h : HeldLine) → h.verb ≡ Delete
-    → 0 < copies_after relations lines h → line_refusal relations lines h ≡ None
+    → 0 < copies_after relations lines h → row_refusal relations lines h ≡ None
 delete_passes relations lines h e some = ap (λ (v : Verb). refusal_by v relations lines h) e
     ∙ by (copies_after relations lines h == 0) refl
   where
@@ -90,10 +91,11 @@ delete_placed c lines h e some few = record {
 }
 
 pub delete_stops : (c : Catalog) (lines : List HeldLine) (h : HeldLine) → h.verb ≡ Delete
-    → 0 < copies_after c.relations lines h → length c.texts ≤ TEXTS
+    → 0 < copies_after c.relations lines h → names_row_before lines h ≡ false → length c.texts ≤ TEXTS
     → StopsAtLine c.relations lines c.texts h c.texts NoMemory
-delete_stops c lines h e some few = (
+delete_stops c lines h e some first few = (
   delete_passes c.relations lines h e some,
+  first,
   record { first = []; rest = texts_added h; parts = refl; learned = refl },
   few,
 )

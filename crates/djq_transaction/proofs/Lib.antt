@@ -8,3 +8,6 @@ mod Full
 mod Adding
 mod Transactions
 mod Counts
+mod Slotted
+mod Answering
+mod Buffers

@@ -1,6 +1,6 @@
 -- Lines of the same row, their keys, and their copies.
-use Rattle.std.specs.Prelude.{ℕ, suc, List, [], ◌∷◌, ◌≡◌, ◌≢◌, ◌-◌, ◌++◌, ◌&&◌, ◌<◌, Bool, true, false, cond}
-use Rattle.std.specs.Prelude.{Some, length, map, replicate, slice_get, All, AllPairs, pred}
+use Rattle.std.specs.Prelude.{ℕ, suc, List, [], ◌∷◌, ◌≡◌, ◌≢◌, ◌-◌, ◌++◌, ◌&&◌, ◌<◌, Bool, true, false, cond, Some}
+use Rattle.std.specs.Prelude.{length, map, replicate, slice_get, All, AllPairs, pred}
 use Rattle.std.proofs.Common.{refl, sym, ap, ap₂, ◌∙◌, subst, arith}
 use Rattle.std.proofs.lemmas.List.{append_cancel_right}
 use Rattle.std.proofs.lemmas.List.Elements.{All-head, All-tail}
@@ -14,7 +14,7 @@ use Rattle.djq_model.specs.Typed.{is_of, fits}
 use Rattle.djq_database.specs.Catalog.{relation_at}
 use Rattle.djq_database.specs.Cells.{HaveCells, cells_of}
 use Rattle.djq_database.proofs.Cells.{Grown, cells_grown, cells_long, differ}
-use Rattle.djq_transaction.specs.declared.lines.HeldLine.{HeldLine}
+use Rattle.djq_transaction.specs.Held.{HeldLine}
 use Rattle.djq_transaction.specs.Lines.{same_row, with_naming, first_lines, after_verb, copies_before, copies_after}
 use Rattle.djq_transaction.specs.LookUp.{AreSame}
 use Rattle.djq_transaction.specs.Net.{Suits, key_cells, row_key, relation_place}
@@ -104,7 +104,8 @@ pub key_tells : (relations : List Relation) (texts : List Bytes) (width : ℕ) (
     → Suits relations h → HaveCells texts g.row → HaveCells texts h.row
     → row_key relations texts width g ≡ row_key relations texts width h → AreSame g h
 key_tells relations texts width g h s t hg hh e =
-    let place : relation_place relations g.relation ≡ relation_place relations h.relation = ap (λ (k : List ℕ). first k) e in
+    let place : relation_place relations g.relation ≡ relation_place relations h.relation =
+    ap (λ (k : List ℕ). first k) e in
     let one : s.relation ≡ t.relation = one_relation relations g h s t place in
     let fits_h : fits s.relation.types h.row ≡ true =
     subst (λ (r : Relation). fits r.types h.row ≡ true) (sym one) t.suits in
@@ -133,13 +134,15 @@ key_tells relations texts width g h s t hg hh e =
 pub same_key : (relations : List Relation) (texts : List Bytes) (width : ℕ) (g h : HeldLine) → AreSame g h
     → row_key relations texts width g ≡ row_key relations texts width h
 same_key relations texts width g h s =
-    ap₂ (λ (name : Bytes) (row : Tuple). key_cells width (relation_place relations name) (cells_of texts row)) s.relation s.row
+    ap₂ (λ (name : Bytes) (row : Tuple). key_cells width (relation_place relations name) (cells_of texts row))
+    s.relation s.row
 
 -- the keys stay as more texts are known
 pub key_stays : (relations : List Relation) (old new : List Bytes) (width : ℕ) (h : HeldLine) → Grown old new
     → HaveCells old h.row → row_key relations new width h ≡ row_key relations old width h
 key_stays relations old new width h grown have =
-    ap (λ (cells : List ℕ). key_cells width (relation_place relations h.relation) cells) (cells_grown old new h.row grown have)
+    ap (λ (cells : List ℕ). key_cells width (relation_place relations h.relation) cells)
+    (cells_grown old new h.row grown have)
 
 pub keys_stay : (relations : List Relation) (old new : List Bytes) (width : ℕ) (hs : List HeldLine) → Grown old new
     → All (λ (h : HeldLine). HaveCells old h.row) hs

@@ -1,6 +1,6 @@
 -- The place of a line's row among the rows that lines name.
-use Rattle.std.specs.Prelude.{ℕ, zero, suc, List, [], ◌∷◌, ◌≡◌, ◌≢◌, ◌++◌, ◌&&◌, ◌<◌, Bool, true, false, cond, Option, None, Some, length}
-use Rattle.std.specs.Prelude.{map, fold, slice_get, slice_set, AllPairs, Contains}
+use Rattle.std.specs.Prelude.{ℕ, zero, suc, List, [], ◌∷◌, ◌≡◌, ◌≢◌, ◌++◌, ◌&&◌, ◌<◌, Bool, true, false, cond, Option}
+use Rattle.std.specs.Prelude.{None, Some, length, map, fold, slice_get, slice_set, AllPairs, Contains}
 use Rattle.std.specs.List.{list_any}
 use Rattle.std.proofs.Common.{refl, sym, ap, ap₂, ◌∙◌, subst, arith}
 use Rattle.std.proofs.lemmas.Option.{slice_get_within, get_or_from_slice_get}
@@ -12,15 +12,15 @@ use Rattle.djq_model.specs.Data.{Bytes, Tuple, bytes_eq, tuple_eq, relation_of, 
 use Rattle.djq_answer_laws.proofs.Lists.{some_one, one_there, mapped_there, hold_each}
 use Rattle.djq_database.specs.Catalog.{Catalog, relation_at, StandForRow}
 use Rattle.djq_database.specs.Cells.{HaveCells}
-use Rattle.djq_transaction.specs.declared.lines.HeldLine.{HeldLine}
+use Rattle.djq_transaction.specs.Held.{HeldLine}
 use Rattle.djq_transaction.specs.declared.net.Copies.{Copies}
 use Rattle.djq_transaction.specs.declared.net.Net.{Net}
 use Rattle.djq_transaction.specs.Lines.{same_row, with_naming, first_lines, after_verb, copies_before, copies_after}
 use Rattle.djq_transaction.specs.LookUp.{AreSame, IsRowNamed, Looked}
 use Rattle.djq_transaction.specs.Net.{key_cells, row_key, copies_by, Suits, LooksUp, SetsCopies, RowsStand, IsNet}
 use Rattle.djq_transaction.proofs.NamedRows.{are_same, place_is, firsts_step, key_tells, same_key}
-use Rattle.djq_transaction.proofs.FirstLines.{AreApart, named_of, firsts_apart, unnamed_copies, same_back}
-use Rattle.djq_transaction.proofs.FirstLines.{copies_set, copies_others, copies_here}
+use Rattle.djq_transaction.proofs.FirstLines.{AreApart, named_of, firsts_apart, unnamed_copies, same_back, copies_set}
+use Rattle.djq_transaction.proofs.FirstLines.{copies_others, copies_here}
 
 -- a line whose row has these cells in the relation at a place
 pub record IsRowAt (c : Catalog) (h : HeldLine) (at : ℕ) (cells : List ℕ) : Type 0 where

@@ -1,6 +1,7 @@
 -- Keys in slots by their places.
-use Rattle.std.specs.Prelude.{ℕ, zero, suc, List, [], ◌∷◌, ◌≡◌, ◌≢◌, ◌⊎◌, ◌+◌, ◌++◌, ◌<◌, ◌≤◌, Option, None, Some, length, map, max}
-use Rattle.std.specs.Prelude.{◌==◌, ◌&&◌, Bool, cond, filter, min, slice_get, slice_index_or, take, Contains}
+use Rattle.std.specs.Prelude.{ℕ, zero, suc, List, [], ◌∷◌, ◌≡◌, ◌≢◌, ◌⊎◌, ◌+◌, ◌++◌, ◌<◌, ◌≤◌, Option, None, Some}
+use Rattle.std.specs.Prelude.{length, map, max, ◌==◌, ◌&&◌, Bool, cond, filter, min, slice_get, slice_index_or, take}
+use Rattle.std.specs.Prelude.{Contains}
 use Rattle.std.specs.List.{zip}
 use Rattle.std.proofs.Common.{refl, sym, ap, ap₂, ◌∙◌, subst, inl, inr, arith, length-append}
 use Rattle.std.proofs.lemmas.Bool.{cases_lt}
@@ -134,7 +135,8 @@ wide_row width (q ∷ rows) [] back r e h = ap (λ (rs : List Row). long rs) (sy
     long : List Row → ℕ
     long [] = 0
     long (k ∷ ks) = length k.cells
-wide_row width (q ∷ rows) (f ∷ front) back r e h = wide_row width rows front back r (ap (λ (rs : List Row). rest rs) e) h.1
+wide_row width (q ∷ rows) (f ∷ front) back r e h =
+    wide_row width rows front back r (ap (λ (rs : List Row). rest rs) e) h.1
   where
     rest : List Row → List Row
     rest [] = []

@@ -4,12 +4,12 @@ use Rattle.std.specs.Prelude.{nat_lt, pred}
 use Rattle.std.specs.List.{list_any}
 use Rattle.djq_model.specs.declared.relation.Relation.{Relation}
 use Rattle.djq_model.specs.declared.relation.CountedRow.{CountedRow}
-use Rattle.djq_model.specs.Data.{Tuple, bytes_eq, tuple_eq, counted_of, has_row, copies_among}
-use Rattle.djq_model.specs.Data.{with_copies, without_copies, plain_of}
+use Rattle.djq_model.specs.Data.{Tuple, bytes_eq, tuple_eq, counted_of, has_row, copies_among, with_copies}
+use Rattle.djq_model.specs.Data.{without_copies, plain_of}
 use Rattle.djq_store_spec.specs.Relations.{with_rows}
 use Rattle.djq_transaction.specs.declared.lines.Verb.{Verb}
 use Rattle.djq_transaction.specs.declared.lines.Verb.TheVariants.{Add, Delete}
-use Rattle.djq_transaction.specs.declared.lines.HeldLine.{HeldLine}
+use Rattle.djq_transaction.specs.Held.{HeldLine}
 
 -- whether two lines are of the same row of the same relation
 abbrev pub same_row : HeldLine → HeldLine → Bool

@@ -1,16 +1,21 @@
 -- The rows that lines name, each once, found by a key: the place of the relation, the row's cells, and zeros.
-use Rattle.std.specs.Prelude.{ℕ, List, [], ◌∷◌, ◌≡◌, ◌+◌, ◌-◌, ◌++◌, ◌==◌, ◌&&◌, ◌<◌, Bool, true, length, map, replicate, slice_get, slice_set, Contains}
-use Rattle.std.specs.Prelude.{nat_lt, All, pred, Option, None, Some}
+use Rattle.std.specs.Prelude.{ℕ, List, [], ◌∷◌, ◌≡◌, ◌+◌, ◌-◌, ◌++◌, ◌==◌, ◌&&◌, ◌<◌, ◌≤◌, Bool, true, length, map}
+use Rattle.std.specs.Prelude.{replicate, slice_get, slice_set, Contains, nat_lt, All, pred, Option, None, Some}
 use Rattle.std.specs.List.{position_or_len}
 use Rattle.djq_model.specs.declared.relation.Relation.{Relation}
 use Rattle.djq_model.specs.Data.{Bytes, Tuple, bytes_eq, relation_of, copies_among}
 use Rattle.djq_model.specs.Typed.{fits}
 use Rattle.djq_arena.specs.Rows.{Row}
+use Rattle.djq_arena.specs.declared.link.TheConstants.{SLOTS}
 use Rattle.djq_database.specs.Cells.{HaveCells, cells_of}
 use Rattle.djq_database.specs.Catalog.{Catalog, StandForRow, relation_at, counted_at}
-use Rattle.djq_transaction.specs.declared.lines.HeldLine.{HeldLine}
+use Rattle.djq_transaction.specs.declared.key.TheConstants.{KEY_CELLS}
+use Rattle.djq_transaction.specs.declared.lines.Verb.{Verb}
+use Rattle.djq_transaction.specs.Held.{HeldLine}
 use Rattle.djq_transaction.specs.declared.net.Copies.{Copies}
 use Rattle.djq_transaction.specs.declared.net.Net.{Net}
+use Rattle.djq_transaction.specs.declared.judge.LineRefusal.{LineRefusal}
+use Rattle.djq_transaction.specs.Judging.{StopsAtLine, HasItsPlace}
 use Rattle.djq_transaction.specs.Lines.{first_lines, copies_before, copies_after}
 
 -- the keys that are there, in the order in which they came
@@ -104,9 +109,37 @@ pub record RowsStand (relations : List Relation) (texts : List Bytes) (width : �
 abbrev pub IsNet : List Relation → List Bytes → ℕ → List HeldLine → Net → Type 0
 IsNet relations texts width lines net = RowsStand relations texts width lines (first_lines lines) net
 
+-- a line of a row of the relation at a place
+abbrev pub line_at : Verb → List Relation → ℕ → Tuple → HeldLine
+line_at verb relations at row = record {
+  verb = verb;
+  relation = (relation_at relations at).name;
+  row = row;
+}
+
 -- A line's row suits the relation that stands at a place under the line's name.
 pub record SuitsAt (relations : List Relation) (h : HeldLine) (at : ℕ) : Type 0 where
   pub below : at < length relations
   pub named : (relation_at relations at).name ≡ h.relation
   pub found : relation_of relations h.relation ≡ Some (relation_at relations at)
   pub suits : fits (relation_at relations at).types h.row ≡ true
+
+-- A line can be judged: its relation stands at a place, its row's cells and its key are short enough, and
+-- there is a slot for one key more.
+pub record CanBeJudged (relations : List Relation) (width : ℕ) (net : Net) (h : HeldLine) (at : ℕ) : Type 0 where
+  pub suits : SuitsAt relations h at
+  pub wide : 1 + length h.row ≤ width
+  pub narrow : width ≤ KEY_CELLS
+  pub table : IsNetTable width net
+  pub few : length (keys net) < SLOTS
+
+-- Over whatever lines a table has, it has one more.
+abbrev pub PassesLine : List Relation → List Bytes → ℕ → Net → HeldLine → List Bytes → Net → Type 0
+PassesLine relations texts width old h known new = (front : List HeldLine)
+    → IsNet relations texts width front old
+    → IsNet relations known width (front ++ h ∷ []) new × HasItsPlace relations front texts h known
+
+-- Over whatever lines a table has, they go no further than one more.
+abbrev pub RefusesLine : List Relation → List Bytes → ℕ → Net → HeldLine → List Bytes → LineRefusal → Type 0
+RefusesLine relations texts width old h known r = (front : List HeldLine)
+    → IsNet relations texts width front old → StopsAtLine relations front texts h known r

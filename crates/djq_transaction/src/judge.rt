@@ -1,29 +1,27 @@
 //! Whether a line has its place over what the lines before it leave, and what it leaves.
-ghost use Rattle.std.specs.Prelude.{◌≡◌, ◌+◌, ◌++◌, [], ◌∷◌, ◌<◌, ◌≤◌, List, false, length, nat_le, IfOk, IfErr, vec_capacity};
-ghost use Rattle.djq_transaction.specs.declared.lines.HeldLine as spec;
+ghost use Rattle.std.specs.Prelude.{◌≡◌, ◌++◌, ◌∷◌, ◌<◌, List, false, length, nat_le, IfOk, IfErr};
+ghost use Rattle.djq_transaction.specs.Held as spec;
 ghost use Rattle.djq_transaction.specs.declared.lines.Verb.TheVariants.{Add as Adds, Delete as Deletes};
-ghost use Rattle.djq_transaction.specs.Judging.{StopsAtLine, HasItsPlace, rows_together, line_refusal, limit_if};
+ghost use Rattle.djq_transaction.specs.Judging.{rows_together, row_refusal, limit_if};
 ghost use Rattle.djq_transaction.specs.LookUp.{Looked};
-ghost use Rattle.djq_transaction.specs.Net.{IsNetTable, IsNet, SuitsAt, keys};
+ghost use Rattle.djq_transaction.specs.Net.{IsNetTable, IsNet, SuitsAt, line_at, CanBeJudged, PassesLine, RefusesLine};
 ghost use Rattle.djq_model.specs.Data.{has_row};
 ghost use Rattle.djq_model.specs.Known.{knows_all, texts_in};
 ghost use Rattle.djq_protocol.specs.declared.limits.TheConstants.{ROWS, COPIES};
 ghost use Rattle.djq_database.specs.Cells.{HaveCells, cells_of};
 ghost use Rattle.djq_database.specs.Catalog.{rows_at};
-ghost use Rattle.djq_arena.specs.declared.link.TheConstants.{SLOTS};
-ghost use Rattle.djq_index.specs.declared.cells.TheConstants.{CELLS};
 
-use crate::key::write_key;
-use crate::lines::HeldLine;
+use crate::key::Key;
 use crate::net::{Copies, Net, look_up};
 use djq_counters::Tally;
 use djq_database::{Catalog, RelationId};
 use djq_dictionary::InternRefusal;
 use djq_index::Cells;
+use djq_model::Value;
 use djq_protocol::limits::{COPIES, ROWS};
 use std::sync::ledger::Ledger;
 
-/// Why held lines can't be done.
+/// Why a line is refused.
 #[derive(Clone, Copy, Debug, PartialEq, Eq)]
 pub enum LineRefusal {
     /// A limit is reached: of copies of a row, of rows of a relation, or of texts.
@@ -34,14 +32,23 @@ pub enum LineRefusal {
     NoMemory,
 }
 
-/// Room for the cells of a row, and for its key.
+/// A line that is refused.
+#[derive(Clone, Copy, Debug, PartialEq, Eq)]
+pub struct RefusedLine {
+    /// Its place among the lines, from 0.
+    pub at: usize,
+    /// Why.
+    pub refusal: LineRefusal,
+}
+
+/// Room for the cells of a row, and for its key. It asks for no memory.
 #[derive(Drop)]
 pub(crate) struct Room {
     pub(crate) cells: Cells,
-    pub(crate) key: Vec<u64>,
+    pub(crate) key: Key,
 }
 
-/// A line that deletes a copy of a row, of the relation at a place.
+/// A line that deletes a copy of a row of a relation.
 ///
 /// # Errors
 ///
@@ -51,28 +58,19 @@ pub(crate) fn judge_delete<L: Ledger>(
     net: &mut Net,
     width: usize,
     id: RelationId,
-    line: &HeldLine,
+    row: &[Value],
     room: &mut Room,
     tally: &mut Tally<L>,
 ) -> Result<(), LineRefusal>
-    requires table { IsNetTable width net.old }
-    requires few { length (keys net.old) < SLOTS }
-    requires deletes { line.now.verb ≡ Deletes }
-    requires suits { SuitsAt catalog.now.relations line.now id.at }
-    requires wide { 1 + length line.now.row ≤ width }
-    requires narrow { width ≤ 1 + CELLS }
-    requires room { width ≤ vec_capacity room.old.key }
-    ensures ok { IfOk result (λ _. (lines : List spec.HeldLine)
-        → IsNet catalog.now.relations catalog.now.texts width lines net.old
-        → IsNet catalog.now.relations catalog.now.texts width (lines ++ line.now ∷ []) net.new
-        × HasItsPlace catalog.now.relations lines catalog.now.texts line.now catalog.now.texts) }
-    ensures err { IfErr result (λ r. (lines : List spec.HeldLine)
-        → IsNet catalog.now.relations catalog.now.texts width lines net.old
-        → StopsAtLine catalog.now.relations lines catalog.now.texts line.now catalog.now.texts r) }
-    ensures room { width ≤ vec_capacity room.new.key }
+    requires line { CanBeJudged catalog.now.relations width net.old
+        (line_at Deletes catalog.now.relations id.at row.now) id.at }
+    ensures ok { IfOk result (λ _. PassesLine catalog.now.relations catalog.now.texts width net.old
+        (line_at Deletes catalog.now.relations id.at row.now) catalog.now.texts net.new) }
+    ensures err { IfErr result (RefusesLine catalog.now.relations catalog.now.texts width net.old
+        (line_at Deletes catalog.now.relations id.at row.now) catalog.now.texts) }
 {
     catalog.laws();
-    if !catalog.write_cells(line.row.as_slice(), &mut room.cells) {
+    if !catalog.write_cells(row, &mut room.cells) {
         return Err(LineRefusal::Absent);
     }
     let (place, copies) = look_up(
@@ -134,7 +132,7 @@ fn has_no_place(
     ensures refuses { (lines : List spec.HeldLine) (h : spec.HeldLine)
         → IsNet catalog.now.relations catalog.now.texts width lines net.now → SuitsAt catalog.now.relations h id.at
         → h.verb ≡ Adds → Looked catalog.now.relations lines h place copies
-        → line_refusal catalog.now.relations lines h ≡ limit_if result }
+        → row_refusal catalog.now.relations lines h ≡ limit_if result }
     ensures few { result ≡ false → copies.after < COPIES }
 {
     if copies.after >= COPIES {
@@ -156,26 +154,18 @@ fn add_known_row<L: Ledger>(
     net: &mut Net,
     width: usize,
     id: RelationId,
-    line: &HeldLine,
+    row: &[Value],
     room: &mut Room,
     tally: &mut Tally<L>,
 ) -> Result<(), LineRefusal>
-    requires table { IsNetTable width net.old }
-    requires few { length (keys net.old) < SLOTS }
-    requires adds { line.now.verb ≡ Adds }
-    requires suits { SuitsAt catalog.now.relations line.now id.at }
-    requires wide { 1 + length line.now.row ≤ width }
-    requires room { width ≤ vec_capacity room.old.key }
-    requires have { HaveCells catalog.now.texts line.now.row }
-    requires cells { room.old.cells ≡ cells_of catalog.now.texts line.now.row }
-    ensures ok { IfOk result (λ _. (lines : List spec.HeldLine)
-        → IsNet catalog.now.relations catalog.now.texts width lines net.old
-        → IsNet catalog.now.relations catalog.now.texts width (lines ++ line.now ∷ []) net.new
-        × HasItsPlace catalog.now.relations lines catalog.now.texts line.now catalog.now.texts) }
-    ensures err { IfErr result (λ r. (lines : List spec.HeldLine)
-        → IsNet catalog.now.relations catalog.now.texts width lines net.old
-        → StopsAtLine catalog.now.relations lines catalog.now.texts line.now catalog.now.texts r) }
-    ensures room { width ≤ vec_capacity room.new.key }
+    requires line { CanBeJudged catalog.now.relations width net.old
+        (line_at Adds catalog.now.relations id.at row.now) id.at }
+    requires have { HaveCells catalog.now.texts row.now }
+    requires cells { room.old.cells ≡ cells_of catalog.now.texts row.now }
+    ensures ok { IfOk result (λ _. PassesLine catalog.now.relations catalog.now.texts width net.old
+        (line_at Adds catalog.now.relations id.at row.now) catalog.now.texts net.new) }
+    ensures err { IfErr result (RefusesLine catalog.now.relations catalog.now.texts width net.old
+        (line_at Adds catalog.now.relations id.at row.now) catalog.now.texts) }
 {
     catalog.laws();
     let (place, copies) = look_up(
@@ -210,26 +200,17 @@ fn add_unknown_row(
     net: &mut Net,
     width: usize,
     id: RelationId,
-    line: &HeldLine,
+    row: &[Value],
     room: &mut Room,
 ) -> Result<(), LineRefusal>
-    requires table { IsNetTable width net.old }
-    requires few { length (keys net.old) < SLOTS }
-    requires adds { line.now.verb ≡ Adds }
-    requires suits { SuitsAt catalog.old.relations line.now id.at }
-    requires wide { 1 + length line.now.row ≤ width }
-    requires narrow { width ≤ 1 + CELLS }
-    requires room { width ≤ vec_capacity room.old.key }
-    requires unknown { knows_all catalog.old.texts (texts_in line.now.row) ≡ false }
-    requires absent { has_row (rows_at catalog.old.relations id.at) line.now.row ≡ false }
-    ensures ok { IfOk result (λ _. (lines : List spec.HeldLine)
-        → IsNet catalog.old.relations catalog.old.texts width lines net.old
-        → IsNet catalog.new.relations catalog.new.texts width (lines ++ line.now ∷ []) net.new
-        × HasItsPlace catalog.old.relations lines catalog.old.texts line.now catalog.new.texts) }
-    ensures err { IfErr result (λ r. (lines : List spec.HeldLine)
-        → IsNet catalog.old.relations catalog.old.texts width lines net.old
-        → StopsAtLine catalog.old.relations lines catalog.old.texts line.now catalog.new.texts r) }
-    ensures room { width ≤ vec_capacity room.new.key }
+    requires line { CanBeJudged catalog.old.relations width net.old
+        (line_at Adds catalog.old.relations id.at row.now) id.at }
+    requires unknown { knows_all catalog.old.texts (texts_in row.now) ≡ false }
+    requires absent { has_row (rows_at catalog.old.relations id.at) row.now ≡ false }
+    ensures ok { IfOk result (λ _. PassesLine catalog.old.relations catalog.old.texts width net.old
+        (line_at Adds catalog.old.relations id.at row.now) catalog.new.texts net.new) }
+    ensures err { IfErr result (RefusesLine catalog.old.relations catalog.old.texts width net.old
+        (line_at Adds catalog.old.relations id.at row.now) catalog.new.texts) }
     ensures relations { catalog.new.relations ≡ catalog.old.relations }
 {
     let none = Copies {
@@ -239,7 +220,7 @@ fn add_unknown_row(
     if has_no_place(catalog, net, width, id, None, none) {
         return Err(LineRefusal::Limit);
     }
-    match catalog.intern_cells(line.row.as_slice(), &mut room.cells) {
+    match catalog.intern_cells(row, &mut room.cells) {
         Ok(()) => {}
         Err(InternRefusal::Full) => return Err(LineRefusal::Limit),
         Err(InternRefusal::NoMem) => {
@@ -248,7 +229,7 @@ fn add_unknown_row(
         }
     }
     catalog.laws();
-    write_key(&mut room.key, width, id.at, room.cells.as_slice());
+    room.key.write(width, id.at, room.cells.as_slice());
     let first = Copies {
         before: 0,
         after: 1,
@@ -259,7 +240,7 @@ fn add_unknown_row(
     }
 }
 
-/// A line that adds a copy of a row, of the relation at a place.
+/// A line that adds a copy of a row of a relation.
 ///
 /// # Errors
 ///
@@ -270,30 +251,21 @@ pub(crate) fn judge_add<L: Ledger>(
     net: &mut Net,
     width: usize,
     id: RelationId,
-    line: &HeldLine,
+    row: &[Value],
     room: &mut Room,
     tally: &mut Tally<L>,
 ) -> Result<(), LineRefusal>
-    requires table { IsNetTable width net.old }
-    requires few { length (keys net.old) < SLOTS }
-    requires adds { line.now.verb ≡ Adds }
-    requires suits { SuitsAt catalog.old.relations line.now id.at }
-    requires wide { 1 + length line.now.row ≤ width }
-    requires narrow { width ≤ 1 + CELLS }
-    requires room { width ≤ vec_capacity room.old.key }
-    ensures ok { IfOk result (λ _. (lines : List spec.HeldLine)
-        → IsNet catalog.old.relations catalog.old.texts width lines net.old
-        → IsNet catalog.new.relations catalog.new.texts width (lines ++ line.now ∷ []) net.new
-        × HasItsPlace catalog.old.relations lines catalog.old.texts line.now catalog.new.texts) }
-    ensures err { IfErr result (λ r. (lines : List spec.HeldLine)
-        → IsNet catalog.old.relations catalog.old.texts width lines net.old
-        → StopsAtLine catalog.old.relations lines catalog.old.texts line.now catalog.new.texts r) }
-    ensures room { width ≤ vec_capacity room.new.key }
+    requires line { CanBeJudged catalog.old.relations width net.old
+        (line_at Adds catalog.old.relations id.at row.now) id.at }
+    ensures ok { IfOk result (λ _. PassesLine catalog.old.relations catalog.old.texts width net.old
+        (line_at Adds catalog.old.relations id.at row.now) catalog.new.texts net.new) }
+    ensures err { IfErr result (RefusesLine catalog.old.relations catalog.old.texts width net.old
+        (line_at Adds catalog.old.relations id.at row.now) catalog.new.texts) }
     ensures relations { catalog.new.relations ≡ catalog.old.relations }
 {
-    if catalog.write_cells(line.row.as_slice(), &mut room.cells) {
-        add_known_row(catalog, net, width, id, line, room, tally)
+    if catalog.write_cells(row, &mut room.cells) {
+        add_known_row(catalog, net, width, id, row, room, tally)
     } else {
-        add_unknown_row(catalog, net, width, id, line, room)
+        add_unknown_row(catalog, net, width, id, row, room)
     }
 }

@@ -1,9 +1,10 @@
 //! Transactions: lines that add and delete copies of rows, done as one change or not at all.
 //!
-//! [`judge_all`] tests held lines in their order, each over the rows that are there and what the lines before it
-//! leave. It returns the [`Net`] of a transaction that isn't refused: each row that the lines name, once, with its
-//! copies before the transaction and after it. A row is inserted if it had no copy before and has one after; it is
-//! removed if it had one before and has none after.
+//! A [`Transaction`] holds lines in one buffer: each with its row, and its bytes for the log. [`judge_done`] judges
+//! `done`: the number that it names; then the held lines in their order, each over the rows that are there and what the
+//! lines before it leave (this is [`judge_all`]); then the number of changes. It returns the [`Net`] of a transaction
+//! that isn't refused: each row that the lines name, once, with its copies before the transaction and after it. A row
+//! is inserted if it had no copy before and has one after; it is removed if it had one before and has none after.
 //!
 //! ```text
 //! r int int         rows, copies    (1, 10) 1   (2, 5) 1
@@ -14,7 +15,7 @@
 //!   add r 2 5                       (2, 5)                1      2   neither
 //! ```
 //!
-//! It changes no row, updates no query and parses no line, and a line's relation and types are tested when the line
+//! It changes no row, updates no query and parses no line, and a line's relation and types are tested before the line
 //! is held. No command uses it yet: batches of inserts are in `djq_engine`.
 //!
 //! What surprises: a refused transaction leaves the texts of the lines before the refused one known. A row that is
@@ -22,17 +23,23 @@
 //! of its relation's rows.
 //!
 //! Inside, a row is found by its key: its relation's place, its cells, and zeros up to one width for all relations.
-//! The keys are in an arena of `djq_arena`; no row is ever taken out, so the slot of a key is its place, and its
-//! copies are at the same place of a list.
+//! The keys are in an arena of `djq_arena`, which is made with the first key; no row is ever removed, so the slot of
+//! a key is its place, and its copies are at the same place of a list.
 #![tactic(auto)]
 
+mod done;
+mod held;
 mod judge;
 mod key;
+mod keys;
 mod lines;
 mod net;
 mod transaction;
 
-pub use judge::LineRefusal;
-pub use lines::{HeldLine, Verb};
+pub use done::{DoneRefusal, judge_done};
+pub use held::{HELD_BYTES, HELD_LINES, Transaction};
+pub use judge::{LineRefusal, RefusedLine};
+pub use keys::Keys;
+pub use lines::Verb;
 pub use net::{Copies, Net};
-pub use transaction::{HELD_LINES, judge_all};
+pub use transaction::judge_all;

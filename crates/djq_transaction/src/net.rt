@@ -1,16 +1,18 @@
 //! The rows that lines name, each once, with their copies.
-ghost use Rattle.std.specs.Prelude.{◌≡◌, ◌++◌, [], ◌∷◌, ◌<◌, ◌≤◌, ◌+◌, ℕ, List, Some, length, filter, slice_get, slice_index_or, IfOk, IfSome, MatchOption, Contains, vec_capacity};
+ghost use Rattle.std.specs.Prelude.{◌≡◌, ◌++◌, [], ◌∷◌, ◌<◌, ◌≤◌, ◌+◌, ℕ, List, None, Some, length, filter};
+ghost use Rattle.std.specs.Prelude.{slice_get, slice_index_or, IfOk, IfSome, OnErr, MatchOption, Contains};
 ghost use Rattle.std.specs.List.{zip};
 ghost use Rattle.djq_transaction.specs.Net.{IsNetTable, LooksUp, SetsCopies, keys, key_cells, is_new_in, no_entry};
 ghost use Rattle.djq_arena.specs.declared.link.TheConstants.{SLOTS};
+ghost use Rattle.djq_transaction.specs.declared.key.TheConstants.{KEY_CELLS};
 ghost use Rattle.djq_transaction.specs.Net.{IsNet, copies_came, copies_went};
 ghost use Rattle.djq_transaction.specs.Lines.{lines_come, lines_go};
-ghost use Rattle.djq_transaction.specs.declared.lines.HeldLine as spec;
+ghost use Rattle.djq_transaction.specs.Held as spec;
 ghost use Rattle.djq_model.specs.declared.relation.Relation.{Relation};
 ghost use Rattle.djq_model.specs.Data.{Bytes};
 
-use crate::key::write_key;
-use djq_arena::Arena;
+use crate::key::Key;
+use crate::keys::Keys;
 use djq_counters::Tally;
 use djq_database::{Catalog, RelationId};
 use djq_model::NoMem;
@@ -47,29 +49,25 @@ impl Copies {
 #[derive(Drop)]
 pub struct Net {
     /// The keys. Each lies in the slot of its place among the rows.
-    pub keys: Arena,
+    pub keys: Keys,
     /// The copies of the row in each slot.
     pub copies: Vec<Copies>,
 }
 
 impl Net {
-    /// No row yet, with keys of this many cells.
-    ///
-    /// # Errors
-    ///
-    /// `NoMem` out of memory.
-    pub(crate) fn new(alloc: Global, width: usize) -> Result<Net, NoMem>
-        ensures table { IfOk result (λ net. IsNetTable width net) }
-        ensures empty { IfOk result (λ net. keys net ≡ []) }
-        ensures bare { IfOk result (λ net. net.copies.items ≡ []) }
+    /// No row yet, with keys of this many cells. It asks for no memory.
+    pub(crate) fn new(alloc: Global, width: usize) -> Net
+        ensures table { IsNetTable width result }
+        ensures empty { keys result ≡ [] }
+        ensures bare { result.copies.items ≡ [] }
     {
-        Ok(Net {
-            keys: Arena::new(alloc, width)?,
+        Net {
+            keys: Keys::new(alloc, width),
             copies: Vec::new(alloc),
-        })
+        }
     }
 
-    /// The place of a key; none exactly if it isn't there.
+    /// The place of a key; none if and only if it isn't there.
     pub(crate) fn find(&self, width: usize, key: &[u64]) -> Option<usize>
         requires { IsNetTable width self.now }
         ensures { MatchOption result (Contains (keys self.now) key.now → ⊥)
@@ -97,7 +95,8 @@ impl Net {
         requires table { IsNetTable width self.now }
         requires some { 0 < width }
         requires within { place < length (keys self.now) }
-        ensures { result ≡ is_new_in relation (slice_index_or (zip (keys self.now) self.now.copies.items) place no_entry) }
+        ensures { result ≡ is_new_in relation
+            (slice_index_or (zip (keys self.now) self.now.copies.items) place no_entry) }
     {
         self.key(width, place)[0] == relation as u64 && self.copies[place].before == 0
     }
@@ -161,7 +160,8 @@ impl Net {
         requires wide { length key.now ≡ width }
         requires few { length (keys self.old) < SLOTS }
         requires within { IfSome place (λ p. p < length (keys self.old)) }
-        ensures { IfOk result (λ _. SetsCopies width key.now self.old place copies self.new) }
+        ensures ok { IfOk result (λ _. SetsCopies width key.now self.old place copies self.new) }
+        ensures err { OnErr result (place ≡ None) }
     {
         if let Some(at) = place {
             self.copies[at] = copies;
@@ -182,18 +182,17 @@ pub(crate) fn look_up<L: Ledger>(
     width: usize,
     id: RelationId,
     cells: &[u64],
-    key: &mut Vec<u64>,
+    key: &mut Key,
     tally: &mut Tally<L>,
 ) -> (Option<usize>, Copies)
     requires table { IsNetTable width net.now }
     requires wide { 1 + length cells.now ≤ width }
-    requires room { width ≤ vec_capacity key.old }
+    requires narrow { width ≤ KEY_CELLS }
     requires below { id.at < length catalog.now.relations }
     ensures found { LooksUp catalog.now id.at cells.now width net.now result.0 result.1 }
-    ensures key { key.new.items ≡ key_cells width id.at cells.now }
-    ensures room { width ≤ vec_capacity key.new }
+    ensures key { key.new ≡ key_cells width id.at cells.now }
 {
-    write_key(key, width, id.at, cells);
+    key.write(width, id.at, cells);
     if let Some(place) = net.find(width, key.as_slice()) {
         return (Some(place), net.copies[place]);
     }

@@ -1,24 +1,23 @@
 //! All lines of a transaction, judged one after another.
-ghost use Rattle.std.specs.Prelude.{◌≡◌, ◌+◌, ◌++◌, [], ◌∷◌, ◌<◌, ◌≤◌, ℕ, List, All, length, IfOk, IfErr, vec_capacity};
-ghost use Rattle.djq_transaction.specs.declared.lines.HeldLine as spec;
-ghost use Rattle.djq_transaction.specs.Judging.{StopsAtLine, HasItsPlace, LinesPass, RefusesLines, RefusesTransaction, texts_after};
-ghost use Rattle.djq_transaction.specs.Net.{IsNetTable, IsNet, Suits, keys};
+ghost use Rattle.std.specs.Prelude.{◌≡◌, ◌+◌, [], ◌<◌, ◌≤◌, ℕ, All, None, length, IfOk, IfErr};
+ghost use Rattle.djq_transaction.specs.Judging.{AnswersAs, RefusesLines, lines_refusal, texts_after};
+ghost use Rattle.djq_transaction.specs.Net.{IsNetTable, IsNet, Suits, PassesLine, RefusesLine, keys};
+ghost use Rattle.djq_transaction.specs.declared.key.TheConstants.{KEY_CELLS};
 ghost use Rattle.djq_arena.specs.declared.link.TheConstants.{SLOTS};
 ghost use Rattle.djq_index.specs.declared.cells.TheConstants.{CELLS};
 ghost use Rattle.djq_database.specs.Catalog.{relation_at};
-ghost use Rattle.djq_transaction.specs.declared.transaction.TheConstants.{HELD_LINES};
+ghost use Rattle.djq_transaction.specs.Held.{transaction_line};
 
-use crate::judge::{LineRefusal, Room, judge_add, judge_delete};
-use crate::lines::{HeldLine, Verb};
+use crate::held::Transaction;
+use crate::judge::{LineRefusal, RefusedLine, Room, judge_add, judge_delete};
+use crate::key::Key;
+use crate::lines::Verb;
 use crate::net::Net;
 use djq_counters::Tally;
 use djq_database::{Catalog, RelationId};
 use djq_index::Cells;
 use std::alloc::Global;
 use std::sync::ledger::Ledger;
-
-/// The most lines of a transaction.
-pub const HELD_LINES: usize = 65_536;
 
 /// The most columns of a relation.
 fn most_columns(catalog: &Catalog) -> usize
@@ -37,7 +36,7 @@ fn most_columns(catalog: &Catalog) -> usize
     most
 }
 
-/// One line, whose relation is found by its name.
+/// The line at a place. Its relation is found by its name.
 ///
 /// # Errors
 ///
@@ -46,33 +45,32 @@ fn judge_line<L: Ledger>(
     catalog: &mut Catalog,
     net: &mut Net,
     width: usize,
-    line: &HeldLine,
+    transaction: &Transaction,
+    at: usize,
     room: &mut Room,
     tally: &mut Tally<L>,
 ) -> Result<(), LineRefusal>
     requires table { IsNetTable width net.old }
     requires few { length (keys net.old) < SLOTS }
-    requires suits { Suits catalog.old.relations line.now }
+    requires within { at < length transaction.now.lines }
+    requires suits { Suits catalog.old.relations (transaction_line transaction.now at) }
     requires wide { (i : ℕ) → i < length catalog.old.relations
         → 1 + length (relation_at catalog.old.relations i).types ≤ width }
-    requires narrow { width ≤ 1 + CELLS }
-    requires room { width ≤ vec_capacity room.old.key }
-    ensures ok { IfOk result (λ _. (lines : List spec.HeldLine)
-        → IsNet catalog.old.relations catalog.old.texts width lines net.old
-        → IsNet catalog.new.relations catalog.new.texts width (lines ++ line.now ∷ []) net.new
-        × HasItsPlace catalog.old.relations lines catalog.old.texts line.now catalog.new.texts) }
-    ensures err { IfErr result (λ r. (lines : List spec.HeldLine)
-        → IsNet catalog.old.relations catalog.old.texts width lines net.old
-        → StopsAtLine catalog.old.relations lines catalog.old.texts line.now catalog.new.texts r) }
-    ensures room { width ≤ vec_capacity room.new.key }
+    requires narrow { width ≤ KEY_CELLS }
+    ensures ok { IfOk result (λ _. PassesLine catalog.old.relations catalog.old.texts width net.old
+        (transaction_line transaction.now at) catalog.new.texts net.new) }
+    ensures err { IfErr result (RefusesLine catalog.old.relations catalog.old.texts width net.old
+        (transaction_line transaction.now at) catalog.new.texts) }
     ensures relations { catalog.new.relations ≡ catalog.old.relations }
 {
-    let Some(id) = catalog.id(&line.relation) else {
+    let name = transaction.relation(at);
+    let Some(id) = catalog.id(&name) else {
         unreachable!()
     };
-    match line.verb {
-        Verb::Add => judge_add(catalog, net, width, id, line, room, tally),
-        Verb::Delete => judge_delete(catalog, net, width, id, line, room, tally),
+    let row = transaction.row(at);
+    match transaction.verb(at) {
+        Verb::Add => judge_add(catalog, net, width, id, row, room, tally),
+        Verb::Delete => judge_delete(catalog, net, width, id, row, room, tally),
     }
 }
 
@@ -80,32 +78,31 @@ fn judge_line<L: Ledger>(
 ///
 /// # Errors
 ///
-/// `Limit`, `Absent`, `NoMemory`: at the first line that is refused.
+/// The first line that is refused.
 fn judge_lines<L: Ledger>(
     catalog: &mut Catalog,
     net: &mut Net,
     width: usize,
-    lines: &[HeldLine],
+    transaction: &Transaction,
     room: &mut Room,
     tally: &mut Tally<L>,
-) -> Result<(), LineRefusal>
+) -> Result<(), RefusedLine>
     requires empty { IsNet catalog.old.relations catalog.old.texts width [] net.old }
-    requires suit { All (Suits catalog.old.relations) lines.now }
-    requires few { length lines.now < SLOTS }
+    requires suit { All (Suits catalog.old.relations) transaction.now.lines }
     requires wide { (i : ℕ) → i < length catalog.old.relations
         → 1 + length (relation_at catalog.old.relations i).types ≤ width }
-    requires narrow { width ≤ 1 + CELLS }
-    requires room { width ≤ vec_capacity room.old.key }
-    ensures ok { IfOk result (λ _. LinesPass catalog.old.relations catalog.old.texts lines.now
-        × (catalog.new.texts ≡ texts_after catalog.old.texts lines.now)
-        × IsNet catalog.old.relations catalog.new.texts width lines.now net.new) }
-    ensures err { IfErr result (RefusesLines catalog.old.relations catalog.old.texts lines.now catalog.new.texts) }
+    requires narrow { width ≤ KEY_CELLS }
+    ensures ok { IfOk result (λ _. (lines_refusal catalog.old.relations catalog.old.texts transaction.now.lines ≡ None)
+        × (catalog.new.texts ≡ texts_after catalog.old.texts transaction.now.lines)
+        × IsNet catalog.old.relations catalog.new.texts width transaction.now.lines net.new) }
+    ensures err { IfErr result (RefusesLines catalog.old.relations catalog.old.texts
+        transaction.now.lines catalog.new.texts) }
     ensures relations { catalog.new.relations ≡ catalog.old.relations }
 {
-    for at in 0..lines.len() {
-        match judge_line(catalog, net, width, &lines[at], room, tally) {
+    for at in 0..transaction.len() {
+        match judge_line(catalog, net, width, transaction, at, room, tally) {
             Ok(()) => {}
-            Err(refusal) => return Err(refusal),
+            Err(refusal) => return Err(RefusedLine { at, refusal }),
         }
     }
     Ok(())
@@ -116,37 +113,31 @@ fn judge_lines<L: Ledger>(
 ///
 /// # Errors
 ///
-/// At the first line that is refused: `Limit` if a row that it adds has as many copies as it may, or is new and its
-/// relation is full, or a text of it finds no place; `Absent` if it deletes a row without a copy; `NoMemory` out of
-/// memory. The texts of the lines before it are known. `NoMemory` too before the first line, if there is no room for the
-/// net.
+/// The first line that has a refusal: `Limit` exactly if a row that it adds has as many copies as it may, or is new
+/// and its relation is full, or a text of it finds no place; `Absent` exactly if it deletes a row without a copy. Or
+/// `NoMemory`, out of memory, at a line before which no line names its row. The texts of the lines before it are known.
 pub fn judge_all<L: Ledger>(
     catalog: &mut Catalog,
     alloc: Global,
-    lines: &[HeldLine],
+    transaction: &Transaction,
     tally: &mut Tally<L>,
-) -> Result<Net, LineRefusal>
-    requires suit { All (Suits catalog.old.relations) lines.now }
-    requires few { length lines.now ≤ HELD_LINES }
-    ensures ok { IfOk result (λ net. LinesPass catalog.old.relations catalog.old.texts lines.now
-        × (catalog.new.texts ≡ texts_after catalog.old.texts lines.now)
-        × ((width : ℕ) × IsNet catalog.old.relations catalog.new.texts width lines.now net)) }
-    ensures err { IfErr result (RefusesTransaction catalog.old.relations catalog.old.texts lines.now catalog.new.texts) }
+) -> Result<Net, RefusedLine>
+    requires suit { All (Suits catalog.old.relations) transaction.now.lines }
+    ensures answer { AnswersAs (lines_refusal catalog.old.relations catalog.old.texts transaction.now.lines) result }
+    ensures ok { IfOk result (λ net. (catalog.new.texts ≡ texts_after catalog.old.texts transaction.now.lines)
+        × ((width : ℕ) × IsNet catalog.old.relations catalog.new.texts width transaction.now.lines net)) }
+    ensures err { IfErr result (RefusesLines catalog.old.relations catalog.old.texts
+        transaction.now.lines catalog.new.texts) }
     ensures relations { catalog.new.relations ≡ catalog.old.relations }
 {
     let width = 1 + most_columns(catalog);
-    let Ok(mut net) = Net::new(alloc, width) else {
-        return Err(LineRefusal::NoMemory);
-    };
-    let Ok(key) = Vec::with_capacity(alloc, width) else {
-        return Err(LineRefusal::NoMemory);
-    };
+    let mut net = Net::new(alloc, width);
     let mut room = Room {
         cells: Cells::new(0),
-        key,
+        key: Key::new(),
     };
-    match judge_lines(catalog, &mut net, width, lines, &mut room, tally) {
+    match judge_lines(catalog, &mut net, width, transaction, &mut room, tally) {
         Ok(()) => Ok(net),
-        Err(refusal) => Err(refusal),
+        Err(refused) => Err(refused),
     }
 }

@@ -21,7 +21,9 @@ returns-else-key-relation c =
     let no : nat_eq (slice_index_or c.key.result.now 0 0) c.args.relation ≡ false =
     false_from_ne_true (nat_eq (slice_index_or c.key.result.now 0 0) c.args.relation)
     (λ e. c.if-key-relation.false (eqb-true (slice_index_or c.key.result.now 0 0) c.args.relation e)) in
-    no ∙ ap (λ (b : Bool). b && nat_eq (slice_index_or c.args.self.now.copies.items c.args.place no_entry.1).before 0) (sym no)
+    no
+    ∙ ap (λ (b : Bool). b && nat_eq (slice_index_or c.args.self.now.copies.items c.args.place no_entry.1).before 0)
+    (sym no)
     ∙ entry_new c.args.relation (cells_in c.args.self.now.keys.rows) c.args.self.now.copies.items c.args.place
     c.key.result.now _ c.key.ensures.key (omega (arith, c.key.ensures.wide, c.requires.some))
     (slice_get-get_or c.args.self.now.copies.items c.args.place no_entry.1
