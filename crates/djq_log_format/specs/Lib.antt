@@ -1,0 +1,6 @@
+pub mod Digest
+pub mod Format
+pub mod Laws
+pub mod Example
+pub mod Encoding
+pub mod Window

@@ -1,0 +1,28 @@
+-- A window over a file: a part of it that is held, and a look ahead from a place on.
+use Rattle.std.specs.Prelude.{◌≡◌, ℕ, ◌+◌, ◌≤◌, List, [], length, take, drop}
+use Rattle.djq_disk.specs.History.{History}
+use Rattle.djq_disk.specs.declared.disk.DiskRead.{DiskRead}
+use Rattle.djq_disk.specs.declared.disk.DiskRead.TheVariants.{Got, End, Failed}
+
+-- a part of a file: the place of its first byte, and its bytes
+pub record FilePart : Type 0 where
+  pub start : ℕ
+  pub held : List ℕ
+
+-- it holds what a file of these bytes has there
+abbrev pub WindowHolds : FilePart → List ℕ → Type 0
+WindowHolds part bytes = part.held ≡ take (length part.held) (drop part.start bytes)
+
+-- A look ahead changes nothing of the file. What is held is the file's, as it was before; and the file ends exactly
+-- where no byte stands ahead.
+abbrev pub LooksAhead : DiskRead → ℕ → FilePart → FilePart → History → History → Type 0
+LooksAhead (Got n) at old new o h = (h ≡ o) × (WindowHolds old o.file.bytes → WindowHolds new o.file.bytes)
+LooksAhead End at old new o h = (h ≡ o) × (length o.file.bytes ≤ at)
+LooksAhead Failed at old new o h = h ≡ o
+
+-- So many bytes are held from a place on, up to the end of the part.
+abbrev pub ReachesAhead : DiskRead → ℕ → FilePart → Type 0
+ReachesAhead (Got n) at part =
+    (1 ≤ n) × (part.start ≤ at) × (at + n ≡ part.start + length part.held) × (at + n ≤ 18446744073709551615)
+ReachesAhead End at part = part.held ≡ []
+ReachesAhead Failed at part = part.held ≡ []

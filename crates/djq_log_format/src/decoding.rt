@@ -1,0 +1,15 @@
+ghost use Rattle.std.specs.Prelude.{◌≡◌, ◌*◌, ℕ, IfSome, IfNone};
+ghost use Rattle.std.specs.Int.{from_be_bytes, w64};
+
+/// The length that eight bytes store, or `None` if they store none: then the record is damaged.
+pub fn decode_length(stored: [u8; 8]) -> Option<u64>
+    ensures some { IfSome result (λ n. from_be_bytes w64 stored ≡ n * 257) }
+    ensures none { IfNone result ((n : ℕ) → from_be_bytes w64 stored ≡ n * 257 → ⊥) }
+{
+    let number = u64::from_be_bytes(stored);
+    if number % 257 == 0 {
+        Some(number / 257)
+    } else {
+        None
+    }
+}

@@ -1,0 +1,6 @@
+mod Numbers
+mod Known
+mod Index
+mod Search
+mod InUse
+mod Example

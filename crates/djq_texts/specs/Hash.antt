@@ -1,0 +1,7 @@
+-- The hash of a text.
+use Rattle.std.specs.Prelude.{ℕ, List}
+use Rattle.std.specs.Hash.FoldHasher.{initial, write, finish}
+
+-- what the hasher of std computes
+unfoldable pub text_hash : List ℕ → ℕ
+text_hash text = finish (write initial text)
