@@ -107,9 +107,9 @@ def test_a_listing_that_is_overtaken_says_so(program):
         grid(client, "q", 100)
         turn, rows = client._turn, iter(range(10**9))
 
-        def overtaken(said, until):
+        def overtaken(said, until, lead=0):
             """A turn, behind which a row comes."""
-            replies = turn(said, until)
+            replies = turn(said, until, lead)
             other.add("q_c", 8, next(rows))
             return replies
 

@@ -9,6 +9,7 @@ Ports of the pages become free ones, and their absolute paths folders. Last `N p
 none failed.
 """
 
+import contextlib
 import os
 import re
 import select
@@ -282,7 +283,24 @@ def sizes():
         expect(further.makefile().read(), "end full\n")
     for client in clients:
         client.close()
-    until(lambda: PLACE.talk("7007", []) == [], "a place after sessions ended")
+    until(lambda: serves_at_once(address, 32), "places after sessions ended")
+
+
+def serves_at_once(address, count):
+    """Whether so many sessions more are let in together."""
+    with contextlib.ExitStack() as stack:
+        clients = [stack.enter_context(socket.create_connection(address, PATIENCE)) for _ in range(count)]
+        for client in clients:
+            with contextlib.suppress(ConnectionError):
+                client.sendall(b"has n0 1\n")
+        return all(heard(client) == b"yes\n" for client in clients)
+
+
+def heard(client):
+    try:
+        return client.recv(64)
+    except ConnectionError:
+        return b""
 
 
 def durable():
@@ -298,7 +316,7 @@ def networks():
 
 
 NOT_FOR = {
-    "Cyclic joins": joins, "Aggregates": questions, "Transactions": transactions, "More than 64": sizes, "Many small": durable,
+    "Cyclic joins": joins, "Aggregates": questions, "Transactions": transactions, "More than 64": sizes, "Fast single": durable,
     "Open networks": networks,
 }
 

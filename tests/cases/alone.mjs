@@ -162,6 +162,7 @@ async function tooSlow() {
 async function staleListing() {
   let [opened, pages] = [0, 0];
   const speak = (socket) => (line) => {
+    if (line === "") return; // a blank line isn't answered
     const [word] = line.split(" ");
     opened += word === "open" ? 1 : 0;
     pages += word === "next" ? 1 : 0;
