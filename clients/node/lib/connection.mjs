@@ -251,9 +251,10 @@ export class Connection {
 
   /**
    * Sends commands in one write, and gives a promise for each. With `opens` they open a batch, and nothing but its own is
-   * sent until it is over. With `holds` none of the replies is parsed before all have arrived.
+   * sent until it is over. With `holds` none of the replies is parsed before all have arrived. `lead` is how many blank lines
+   * are sent before them, which aren't answered.
    */
-  _together(lines, readers, { queue = this._queue, opens = false, holds = false, handlers = [] } = {}) {
+  _together(lines, readers, { queue = this._queue, opens = false, holds = false, handlers = [], lead = 0 } = {}) {
     if (this.ended !== null) return lines.map(() => Promise.reject(this.ended));
     const commands = [];
     const replies = lines.map((line, at) => new Promise((resolve, reject) => {
@@ -261,7 +262,7 @@ export class Connection {
       commands.push({ line, read: readers[at], resolve: (result) => resolve(first(result) ?? result), reject });
     }));
     for (const reply of replies) reply.catch(() => {}); // a refusal that nobody awaits yet doesn't end the process
-    queue.push({ commands, opens, holds });
+    queue.push({ commands, opens, holds, lead });
     this._schedule();
     return replies;
   }
@@ -283,6 +284,7 @@ export class Connection {
       const next = queue.first;
       if (next === undefined || this._protocol.due >= MOST_DUE || (next.holds && this._protocol.due > 0)) break;
       queue.shift();
+      for (let blank = 0; blank < next.lead; blank += 1) text.push("");
       for (const { line, read, resolve, reject } of next.commands) {
         text.push(line);
         this._protocol.expect(line, read, resolve, reject);

@@ -1,8 +1,10 @@
 // All answers of a query at one moment, also while rows change.
 //
-// The server runs the lines that it reads at once in one turn, and reads at most 8,192 bytes at once. So a cursor is opened
-// and asked for many pages in one write, and the replies are parsed once all have arrived: the server ends a session that
-// reads more slowly than it lists. A first turn asks for a few pages; the next one asks for all that a turn can return.
+// The server reads at most 8,192 bytes of a session at once, and runs all lines that it has read before it reads again, one
+// line of each session in turn. So a cursor is opened and asked for many pages in one write, and the replies are parsed
+// once all have arrived: the server ends a session that reads more slowly than it lists. A first write asks for a few pages;
+// the next one asks for all that a write can return. After a listing was overtaken the next write begins with blank lines:
+// changes that were read together with it are run between these, and none is left as the cursor is opened.
 
 import { Overtaken, Stale } from "./errors.mjs";
 import { READ } from "./protocol.mjs";
@@ -12,6 +14,8 @@ export const MOST_PAGES = 670; // as many lines as are read at once
 const WITHIN = 60_000;
 const LONGEST_PAUSE = 500;
 const CURSOR = "l"; // a name that no other cursor of a connection has
+const READ_BYTES = 8192; // that are read at once
+const [FIRST_LEAD, MOST_LEAD] = [128, 2048]; // blank lines before a try that follows one that was overtaken
 
 const pauseFor = (milliseconds) => new Promise((resolve) => setTimeout(resolve, milliseconds));
 
@@ -39,26 +43,33 @@ class Listing {
     this.texts = new Set();
     this.last = false;
     this.stale = true; // whether the next turn opens a cursor
+    this.lead = 0; // blank lines before the next turn
     this._query = query;
     this._whole = whole;
   }
 
-  async turn(connection, pages) {
-    const lines = Array(pages).fill(`next ${CURSOR} 1000`);
+  async turn(connection, most) {
+    const page = `next ${CURSOR} 1000`;
+    const open = `open ${CURSOR} ${this._query}`;
+    const room = Math.floor((READ_BYTES - this.lead - open.length - 2) / (page.length + 1));
+    const pages = this.lead > 0 ? Math.min(most, room) : most;
+    const lines = Array(pages).fill(page);
+    const lead = this.stale ? this.lead : 0;
     const readers = Array(pages).fill(READ.page);
     const handlers = Array(pages).fill((page) => this._page(page));
     if (this.stale) {
       this.stale = false;
       this.texts.clear();
-      lines.unshift(`open ${CURSOR} ${this._query}`);
+      lines.unshift(open);
       readers.unshift(READ.ok);
       handlers.unshift(() => {});
     }
-    const replies = await Promise.allSettled(connection._together(lines, readers, { holds: true, handlers }));
+    const replies = await Promise.allSettled(connection._together(lines, readers, { holds: true, handlers, lead }));
     for (const { reason } of replies.filter((reply) => reply.status === "rejected")) {
       if (!(reason instanceof Stale)) throw reason; // the first refusal is the cause of those after it
       this.stale = true;
     }
+    if (this.stale) this.lead = Math.min(MOST_LEAD, Math.max(FIRST_LEAD, 4 * this.lead));
   }
 
   /** Runs as the page is read, before any later line is. */

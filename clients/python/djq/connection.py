@@ -348,13 +348,15 @@ class Connection:
         if not self._move_bytes(timeout, hold):
             self._lose(Disconnected(f"nothing came in {timeout:g} s"))
 
-    def _turn(self, lines: Sequence[Said], until: float) -> list[Pending[Any]] | None:
-        """Sends lines in one write, and reads their replies once all are there. None where that took too long."""
+    def _turn(self, lines: Sequence[Said], until: float, lead: int = 0) -> list[Pending[Any]] | None:
+        """Sends lines in one write, after so many blank ones, and reads their replies once all are there. None if that
+        took too long."""
         with self._using:
-            return self._turn_of(lines, until)
+            return self._turn_of(lines, until, lead)
 
-    def _turn_of(self, lines: Sequence[Said], until: float) -> list[Pending[Any]] | None:
+    def _turn_of(self, lines: Sequence[Said], until: float, lead: int) -> list[Pending[Any]] | None:
         self._drain(0, 0)
+        self._protocol.lead(lead)
         pending = [self._queue(line, read) for line, read in lines]
         self._whole(self._protocol.hold)
         while self._protocol.ended is None and self._protocol.kept() < len(pending):

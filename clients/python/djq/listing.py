@@ -1,13 +1,17 @@
 """All answers of a query at one moment, also while rows change.
 
-The server runs the lines that it reads at once in one turn, with nothing of other sessions between, and it reads at
-most 8,192 bytes at once. So a cursor is opened and asked for many pages in one write. What is told is parsed only once
-it is all there: who parses as it comes is slower than the server, which ends a session that doesn't read. The first
-turn asks for a few pages, which is enough for most; else the next one asks for all that one turn can tell. Where that
-wasn't all, a further turn goes on; where a change came between, it begins again.
+The server reads at most 8,192 bytes of a session at once, and runs all lines that it has read before it reads again, one
+line of each session in turn. So a cursor is opened and asked for many pages in one write. The replies are parsed only
+once all have arrived: a client that parses them one by one is slower than the server, which ends a session that doesn't
+read. The first write asks for a few pages, which is enough for most; else the next one asks for all that one write can
+list. If that wasn't all, a further write goes on; if a change overtook it, it begins again.
 
-That one write comes in one read is likely and no promise. Nothing rests on it: a cursor that isn't stale at its end has
-listed the answers of one moment, however the bytes were cut.
+Changes of other sessions that were read together with such a write are run between its lines. So after a listing was
+overtaken the next write begins with blank lines: the changes are run between these, and none is left as the cursor is
+opened.
+
+That one write arrives in one read is likely and not promised. Nothing depends on it: a cursor that isn't stale at its
+end has listed the answers of one moment, however the bytes were cut.
 """
 
 from __future__ import annotations
@@ -23,6 +27,8 @@ if TYPE_CHECKING:
     from .connection import Connection
 
 MOST_PAGES = 670  # that are asked for in one turn: as many lines as are read at once
+READ_BYTES = 8192  # that are read at once
+FIRST_LEAD, MOST_LEAD = 128, 2048  # blank lines before a try that follows one that was overtaken
 FIRST_PAGES = 8  # that are asked for in the first turn
 WITHIN = 60.0  # seconds in which a listing has to come to its end
 LONGEST_PAUSE = 0.5  # seconds between two tries
@@ -49,12 +55,18 @@ class Listing:
         self.is_open = False  # whether its cursor is
         self.until = time.monotonic() + within
         self.pause = 0.0  # seconds to wait before the next turn
+        self._lead = 0  # blank lines before a turn that opens the cursor
         self._query, self._within, self._most = protocol.checked(query), within, most
         self._watches = watch
         self._pages = min(FIRST_PAGES, most)  # that the next turn asks for
         self._is_first = True
         self._tries = self._told = 0
         self._rest = 0.0  # seconds that the last try was waited for
+
+    @property
+    def lead(self) -> int:
+        """How many blank lines the next turn begins with."""
+        return 0 if self.is_open else self._lead
 
     def turn(self) -> list[Said]:
         """What the next turn says."""
@@ -87,6 +99,7 @@ class Listing:
                     self.whole, self.at = True, page.at
                     return
         except Stale:
+            self._lead = min(MOST_LEAD, max(FIRST_LEAD, 4 * self._lead))
             self._begin_again()
             return
         if self._is_first:
@@ -94,7 +107,9 @@ class Listing:
 
     def _begin(self) -> None:
         """The next try asks for all that one turn can tell, which costs little more than what there is."""
-        self.answers, self._pages, self._is_first, self.is_open = set(), self._most, False, False
+        front = self._lead + len(f"watch {self._query} close {CURSOR} open {CURSOR} {self._query} ".encode())
+        room = (READ_BYTES - front) // len(f"{PAGE[0]} ") if self._lead else self._most
+        self.answers, self._pages, self._is_first, self.is_open = set(), min(self._most, room), False, False
 
     def _begin_again(self) -> None:
         """Rows changed before the end, or it took too long."""
@@ -117,7 +132,7 @@ def list_whole(
     listing = Listing(query, within, most, watch)
     try:
         while not listing.whole:
-            listing.take(connection._turn(listing.turn(), listing.until))
+            listing.take(connection._turn(listing.turn(), listing.until, listing.lead))
             time.sleep(listing.pause)
         if listing.is_open:
             connection._do(*CLOSE)

@@ -516,6 +516,10 @@ class Protocol:
         self._queue(pending, line.encode() + b"\n", 1)
         return pending
 
+    def lead(self, lines: int) -> None:
+        """Queues so many blank lines, which the server runs without a reply."""
+        self.outgoing += b"\n" * lines
+
     def say_rows(self, lines: list[str], text: bytes) -> Rows:
         """Queues commands that are each answered by one line; `text` is their bytes."""
         if self.ended is not None:

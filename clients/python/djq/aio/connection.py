@@ -371,10 +371,12 @@ class Connection:
         await asyncio.wait([future], timeout=left)
         return future.done()
 
-    async def _turn(self, lines: Sequence[Said], until: float) -> list[Pending[Any]] | None:
-        """Sends lines in one write, and reads their replies once all are there. None where that took too long."""
+    async def _turn(self, lines: Sequence[Said], until: float, lead: int = 0) -> list[Pending[Any]] | None:
+        """Sends lines in one write, after so many blank ones, and reads their replies once all are there. None if that
+        took too long."""
         async with self._order:
             await self._settle()
+            self._protocol.lead(lead)
             pending: list[Pending[Any]] = [self._say(line, read) for line, read in lines]
             self._protocol.hold()
             try:
@@ -616,7 +618,7 @@ async def list_whole(
         listing = Listing(query, within, most, watch)
         try:
             while not listing.whole:
-                listing.take(await connection._turn(listing.turn(), listing.until))
+                listing.take(await connection._turn(listing.turn(), listing.until, listing.lead))
                 if listing.pause:
                     await asyncio.sleep(listing.pause)
             if listing.is_open:
