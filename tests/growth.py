@@ -502,21 +502,26 @@ def session_of(server, port, text):
 
 def each_refused(run, text, most):
     """For each N up to the number of growths, but not many more than `most` of them: N, what was written, the status, whether
-    it is met at the start, and whether it was made good: the program asked again, and went on as if nothing was refused."""
+    it is met at the start, and how it was made good, if it was: the program asked again, or it had wanted room for a further
+    line of a commit, which then ends earlier, and went on as if nothing was refused."""
     whole, _, met, _ = run(text, 0)
     started = run(b"", 0)[2]
     expect(10 < started < met, True, f"{started} growths at the start, {met} in all")
     for number in [*range(1, started + 1), *range(started + 1, met + 1, max(1, (met - started) // most))]:
         output, status, asked, refused = run(text, number)
         expect(refused, 1, f"refusals of growth {number}")
-        again = number <= started and (output, status, asked) == (whole, 0, met + 1)
-        yield number, output, status, number <= started, again
+        good = None
+        if number <= started and (output, status, asked) == (whole, 0, met + 1):
+            good = "asked again"
+        elif number > started and (output, status) == (whole, 0):
+            good = "commit ended"
+        yield number, output, status, number <= started, good
 
 
-def refusal_of(number, output, status, again):
+def refusal_of(number, output, status, good):
     """How the refusal of a growth was reported. Fails unless exactly one refusal followed, or it was made good."""
-    if again:
-        return "asked again"
+    if good is not None:
+        return good
     if (output, status) == (b"", NO_MEMORY):
         return "ended"
     found = REFUSAL.findall(output)
@@ -529,11 +534,11 @@ def one_growth_refused_to_run_is_one_refusal():
     refusable()
     session, kinds, ways = Refused(SESSION.split(b"\n")[:-1]), {}, {}
     with memory.Refusing() as refusing:
-        for number, output, status, starting, again in each_refused(run_with(refusing, "run"), SESSION, 1000):
-            way = refusal_of(number, output, status, again)
+        for number, output, status, starting, good in each_refused(run_with(refusing, "run"), SESSION, 1000):
+            way = refusal_of(number, output, status, good)
             ways[way] = ways.get(way, 0) + 1
-            if way in ("asked again", "ended"):
-                expect(starting, True, f"growth {number}: {way}, after the start")
+            if way in ("asked again", "ended", "commit ended"):
+                expect((starting, way == "commit ended"), (True, False), f"growth {number}: {way}, after the start")
             else:
                 kinds.setdefault(way, set()).add(session.follow(number, output, status))
     missed = REFUSED_WORDS - kinds["err 12 memory"], ENDED_WORDS - kinds["end memory"]
@@ -546,16 +551,18 @@ def one_growth_refused_to_serve_is_one_refusal():
     refusable()
     session, ways = Refused(SESSION.split(b"\n")[:-1]), {}
     with memory.Refusing() as refusing:
-        for number, output, status, starting, again in each_refused(serve_with(refusing), SESSION, 150):
-            way = refusal_of(number, output, status, again)
+        for number, output, status, starting, good in each_refused(serve_with(refusing), SESSION, 150):
+            way = refusal_of(number, output, status, good)
             ways[way] = ways.get(way, 0) + 1
+            if way == "commit ended":
+                continue
             if way in ("asked again", "ended"):
                 expect(starting, True, f"growth {number}: {way}, after the start")
                 continue
             # the server goes on: another session stops it, or the one after that if the refusal is to this one
             expect((output[-4:], status), (b"bye\n", 0), f"growth {number}: the last reply and the status")
             session.follow(number, output[:-4], NO_MEMORY if output[:-4].endswith(b"end memory\n") else status)
-    expect(ways.get("err 12 memory", 0) > 50 and "end memory" in ways, True, ways)
+    expect(ways.get("err 12 memory", 0) > 50 and "end memory" in ways and ways.get("commit ended", 0) < 5, True, ways)
     print(f"serve, one growth refused: {ways}")
 
 
@@ -564,14 +571,14 @@ def one_growth_refused_to_replay_is_one_refusal():
     refusable()
     ways = {}
     with memory.Refusing() as refusing:
-        for number, output, status, _, again in each_refused(run_with(refusing, "replay"), memory.SCHEDULE, 300):
-            way = refusal_of(number, output, status, again)
+        for number, output, status, _, good in each_refused(run_with(refusing, "replay"), memory.SCHEDULE, 300):
+            way = refusal_of(number, output, status, good)
             ways[way] = ways.get(way, 0) + 1
             try:
                 model.follow_replay(memory.SCHEDULE, output, status, memory=True)
             except model.Difference as difference:
                 raise AssertionError(f"growth {number} refused: {difference}") from None
-    expect(ways.get("err 12 memory", 0) > 50 and ways.get("end memory", 0) > 5, True, ways)
+    expect(ways.get("err 12 memory", 0) > 50 and ways.get("end memory", 0) > 5 and ways.get("commit ended", 0) < 5, True, ways)
     print(f"replay, one growth refused: {ways}")
 
 
