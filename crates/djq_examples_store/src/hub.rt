@@ -63,16 +63,25 @@ fn a_failed_listen_ends_the_server(rt: HostRuntime) -> Result<(), Fail> {
     Ok(())
 }
 
-/// No line of the round of a failed turn is run. What was sent in an earlier round stays sent.
+/// No line of the round of a failed turn is run.
 #[test]
 fn a_failed_turn_ends_the_server(rt: HostRuntime) -> Result<(), Fail> {
-    for (turn, sent) in [(6, b"".as_slice()), (9, FIRST_ROUND)] {
-        let mut hub = schedule_hub(rt.alloc(), ROUNDS).or(Err("the schedule is refused"))?;
-        hub.fail(HubCall::Turn(turn))?;
-        let (status, lines) = serve(&rt, hub)?;
-        assert_eq!(rt; status, Status::HubFault);
-        assert_eq!(rt; lines.as_slice(), sent, "at {turn}");
-    }
+    let mut hub = schedule_hub(rt.alloc(), ROUNDS).or(Err("the schedule is refused"))?;
+    hub.fail(HubCall::Turn(6))?;
+    let (status, lines) = serve(&rt, hub)?;
+    assert_eq!(rt; status, Status::HubFault);
+    assert_eq!(rt; lines.as_slice(), b"".as_slice());
+    Ok(())
+}
+
+/// What was sent in an earlier round than that of a failed turn stays sent.
+#[test]
+fn a_failed_turn_leaves_what_was_sent(rt: HostRuntime) -> Result<(), Fail> {
+    let mut hub = schedule_hub(rt.alloc(), ROUNDS).or(Err("the schedule is refused"))?;
+    hub.fail(HubCall::Turn(9))?;
+    let (status, lines) = serve(&rt, hub)?;
+    assert_eq!(rt; status, Status::HubFault);
+    assert_eq!(rt; lines.as_slice(), FIRST_ROUND);
     Ok(())
 }
 
