@@ -5,7 +5,6 @@ use Rattle.std.proofs.Common.{sym, ap, ap₂, ◌∙◌, arith, refl, subst, inl
 use Rattle.std.proofs.lemmas.List.{nil_from_length, replicate_more}
 use Rattle.std.proofs.lemmas.Grind.{flat_map-append}
 use Rattle.std.proofs.lemmas.List.Elements.{All-nil, All-cons, All-append}
-use Rattle.std.proofs.lemmas.List.Sums.{sum_by-append}
 use Rattle.djq_io.specs.declared.limits.TheConstants.{READ_BYTES}
 use Rattle.djq_model.specs.Data.{Bytes, Tuple, bytes_eq}
 use Rattle.djq_protocol.specs.declared.answer.Refusal.TheVariants.{NoMemory}
@@ -20,7 +19,7 @@ use Rattle.djq_machine.specs.Step.{Event, fed, stepped, took, is_dry, Step}
 use Rattle.djq_machine.specs.Run.{Did, piece_of, pending_of, pending_in, to_session}
 use Rattle.djq_machine.specs.Call.{IsOpen, Makes, MakesCounted, StepsLine, Counts, cause_of, may_run}
 use Rattle.djq_machine.specs.Call.{cause_in, held_of, held_in}
-use Rattle.djq_run_laws.specs.Course.{RunNext, AwaitsInput}
+use Rattle.djq_run_laws.specs.Course.{RunNext, ListsStep, AwaitsInput}
 use Rattle.djq_run_laws.specs.Sent.{gone_by}
 use Rattle.djq_run_laws.specs.Moved.{SessionTakes, InputComes, is_held, out_of_memory, is_dropped, LineIsStepped}
 use Rattle.djq_run_laws.proofs.Courses.{walk_then, took_facts, fed_facts, stepped_facts}
@@ -220,7 +219,7 @@ queued_none old new e h none =
 
 -- Runs that lines make, one after another.
 pub loads_none : (st : State) (counted : Counts) → FeedsLines [] st counted st counted
-loads_none st counted = record { done = []; walk = refl; fed = refl; served = All-nil HadMemory; listing = omega arith }
+loads_none st counted = record { done = []; walk = refl; fed = refl; served = All-nil HadMemory; listing = refl }
 
 pub loads_one : (d : Did) (old : State) (before : Counts) (new : State) (now : Counts) → RunNext old d new → HadMemory d
     → now.listing ≤ before.listing + d.effect.cost → FeedsLines (piece_of d.event) old before new now
@@ -229,7 +228,7 @@ loads_one d old before new now next served listing = record {
   walk = (new, next, refl);
   fed = append-nil (piece_of d.event);
   served = All-cons HadMemory d [] served (All-nil HadMemory);
-  listing = omega (arith, listing);
+  listing = (now.listing, listing, refl);
 }
 
 pub loads_then : (lines more : List Bytes) (old : State) (before : Counts) (mid : State) (between : Counts)
@@ -241,7 +240,7 @@ loads_then lines more old before mid between new now c d = record {
   walk = walk_then RunNext old c.done mid d.done new c.walk d.walk;
   fed = flat_map-append (λ (x : Did). piece_of x.event) c.done d.done ∙ ap₂ (λ (a b : List Bytes). a ++ b) c.fed d.fed;
   served = All-append HadMemory c.done d.done c.served d.served;
-  listing = omega (arith, c.listing, d.listing, sum_by-append (λ (x : Did). x.effect.cost) c.done d.done);
+  listing = walk_then ListsStep before.listing c.done between.listing d.done now.listing c.listing d.listing;
 }
 
 -- what is known of an open session's parts holds of the session
@@ -335,7 +334,7 @@ feeds_one d old before new now next listing = record {
   done = d ∷ [];
   walk = (new, next, refl);
   fed = append-nil (piece_of d.event);
-  listing = omega (arith, listing);
+  listing = (now.listing, listing, refl);
 }
 
 feeds_then : (lines more : List Bytes) (old : State) (before : Counts) (mid : State) (between : Counts) (new : State)
@@ -345,7 +344,7 @@ feeds_then lines more old before mid between new now c d = record {
   done = c.done ++ d.done;
   walk = walk_then RunNext old c.done mid d.done new c.walk d.walk;
   fed = flat_map-append (λ (x : Did). piece_of x.event) c.done d.done ∙ ap₂ (λ (a b : List Bytes). a ++ b) c.fed d.fed;
-  listing = omega (arith, c.listing, d.listing, sum_by-append (λ (x : Did). x.effect.cost) c.done d.done);
+  listing = walk_then ListsStep before.listing c.done between.listing d.done now.listing c.listing d.listing;
 }
 
 -- the line comes

@@ -1,5 +1,5 @@
 -- What lines that come to session 1 of a machine make of it.
-use Rattle.std.specs.Prelude.{List, [], ◌∷◌, ◌≡◌, ◌≢◌, ◌+◌, ◌++◌, ◌<◌, ◌≤◌, ◌⊎◌, None, Option, Some}
+use Rattle.std.specs.Prelude.{List, [], ◌∷◌, ◌≡◌, ◌≢◌, ◌++◌, ◌<◌, ◌⊎◌, None, Option, Some}
 use Rattle.std.specs.Prelude.{length, codes, Bool, false, All}
 use Rattle.djq_model.specs.Data.{Bytes, Tuple}
 use Rattle.djq_protocol.specs.declared.answer.Refusal.TheVariants.{NoMemory}
@@ -8,9 +8,9 @@ use Rattle.djq_machine.specs.State.{State, Session, Cursor, session_of, cursor_o
 use Rattle.djq_store_spec.specs.Store.{open_at}
 use Rattle.djq_machine.specs.LineStep.{LineOutcome}
 use Rattle.djq_machine.specs.Step.{fed, stepped, took}
-use Rattle.djq_machine.specs.Run.{Did, Walk, pieces_of, cost_of, pending_of, to_session}
+use Rattle.djq_machine.specs.Run.{Did, Walk, pieces_of, pending_of, to_session}
 use Rattle.djq_machine.specs.Call.{IsOpen, Makes, MakesCounted, Counts, cause_of, held_of}
-use Rattle.djq_run_laws.specs.Course.{RunNext}
+use Rattle.djq_run_laws.specs.Course.{RunNext, ListsStep}
 use Rattle.djq_run_laws.specs.Watched.{batch_of}
 
 -- What was done didn't tell session 1 that memory is wanting.
@@ -19,24 +19,24 @@ HadMemory d = to_session 1 d.effect.queued ≢ refusal_line NoMemory
 
 -- **A run of the join machine in which one session, of id 1, is fed these lines**, one after
 -- another: each comes where none is left to be run and nothing is pending. No line is answered that
--- memory is wanting, so each did what it says or was refused for what it says. It counts no more of
--- listings than it may cost.
+-- memory is wanting, so each did what it says or was refused for what it says. Each step of it counts no
+-- more of listings than that step may cost.
 pub record FeedsLines (lines : List Bytes) (old : State) (before : Counts) (new : State)
     (now : Counts) : Type 0 where
   pub done : List Did
   pub walk : Walk RunNext old done new
   pub fed : pieces_of done ≡ lines
   pub served : All HadMemory done
-  pub listing : now.listing ≤ before.listing + cost_of done
+  pub listing : Walk ListsStep before.listing done now.listing
 
 -- **A run in which session 1 is fed these lines**, whatever it is answered, and whether or not the
--- last of them is run to its end. It counts no more of listings than it may cost.
+-- last of them is run to its end. Each step of it counts no more of listings than that step may cost.
 pub record Feeds (lines : List Bytes) (old : State) (before : Counts) (new : State)
     (now : Counts) : Type 0 where
   pub done : List Did
   pub walk : Walk RunNext old done new
   pub fed : pieces_of done ≡ lines
-  pub listing : now.listing ≤ before.listing + cost_of done
+  pub listing : Walk ListsStep before.listing done now.listing
 
 -- Of these lines a first part was fed, each run and answered, and one line more, at which memory
 -- was wanting.

@@ -226,7 +226,7 @@ by_failure reading reading' rf rf' told wf counted old same = (
     failed = false;
     read = subst (λ (r : Option SourceReading). SourceGives reading r []) (sym same) (gives_none reading);
     written = gains_none told;
-    listing = omega arith;
+    listing = refl;
   },
   refl,
 )
@@ -257,7 +257,7 @@ pub by_fault : (o : Outside) (told told' : Option (List Write)) (wf wf' : ℕ) (
     → GoesTo true old (with_sink o told wf o.counted) (with_sink o told' wf' o.counted) old
 by_fault o told told' wf wf' old piece same gains =
     let last = subst (λ (p : Bytes). Gains told told' (record { piece = p; answer = WriteFailed } ∷ [])) same gains in
-    let none : o.counted.listing ≤ o.counted.listing = omega arith in (
+    let none : o.counted.listing ≡ o.counted.listing = refl in (
       course_failed (with_sink o told wf o.counted) (with_sink o told' wf' o.counted) old
           (gives_none o.reading) last none,
       course_failed_so (with_sink o told wf o.counted) (with_sink o told' wf' o.counted) old

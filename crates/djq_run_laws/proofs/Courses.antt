@@ -5,7 +5,7 @@ use Rattle.std.proofs.Common.{length, take, append_assoc, arith}
 use Rattle.std.proofs.lemmas.Grind.{flat_map-append}
 use Rattle.std.proofs.lemmas.List.{take-append-le, take_all}
 use Rattle.std.proofs.lemmas.List.Elements.{All-nil, All-cons, All-append}
-use Rattle.std.proofs.lemmas.List.Sums.{sum_by-append}
+use Rattle.std.proofs.lemmas.List.Sums.{sum_by-cons}
 use Rattle.djq_io.specs.declared.sink.Write.{Write}
 use Rattle.djq_io.specs.declared.sink.Wrote.TheVariants.{Took, Failed}
 use Rattle.djq_io.specs.Source.{SourceGives}
@@ -21,12 +21,12 @@ use Rattle.djq_machine.specs.LineStep.{LineOutcome, FrontStep}
 use Rattle.djq_machine.specs.Step.{Event, fed, stepped, took, ended, Step, is_dry, FedStep, TookStep, EndedStep, opened}
 use Rattle.djq_machine.specs.Step.{closed}
 use Rattle.djq_machine.specs.Run.{to_session, pending_of, pending_in, Did, Walk, all_taken, taken_from, pieces_of}
-use Rattle.djq_machine.specs.Run.{piece_of, out}
+use Rattle.djq_machine.specs.Run.{piece_of, out, cost_of}
 use Rattle.djq_machine.specs.Call.{IsOpen, cause_of, held_of, cause_in, held_in}
 use Rattle.djq_machine.specs.Gives.{CursorsGive}
 pub use Rattle.djq_run_laws.specs.Moved.{SessionTakes, InputComes, is_held, out_of_memory, is_dropped, InputIsOver}
 pub use Rattle.djq_run_laws.specs.Moved.{input_ends, had_ended, LineIsStepped, CausedBy, LeavesHeldBytes}
-use Rattle.djq_run_laws.specs.Course.{Outside, Course, RunNext, MayRun, RunDoes, writes_by, last_write}
+use Rattle.djq_run_laws.specs.Course.{Outside, Course, RunNext, MayRun, RunDoes, ListsStep, writes_by, last_write}
 use Rattle.djq_run_laws.specs.Moved.{SparesSession}
 use Rattle.djq_run_laws.specs.Given.{CoursesGive}
 use Rattle.djq_run_laws.proofs.Lists.{stepped_open, stepped_cause, stepped_held, stepped_pending}
@@ -150,7 +150,7 @@ course_begun o st = record {
   failed = false;
   read = gives_none o.reading;
   written = gains_none o.writing;
-  listing = omega arith;
+  listing = refl;
 }
 
 -- one thing that may be done, with what it reads, writes and counts
@@ -166,13 +166,13 @@ course_one o o' old new d next gives gains listing = record {
   read = subst (λ pieces. SourceGives o.reading o'.reading pieces) (sym (append-nil (piece_of d.event))) gives;
   written = subst (λ writes. Gains o.writing o'.writing writes)
       (sym (append-nil (writes_by old d.event ++ []) ∙ append-nil (writes_by old d.event))) gains;
-  listing = omega (arith, listing);
+  listing = (o'.counted.listing, listing, refl);
 }
 
 -- a write that failed, behind which nothing is done
 pub course_failed : (o o' : Outside) (st : State) → SourceGives o.reading o'.reading []
     → Gains o.writing o'.writing (last_write true st)
-    → o'.counted.listing ≤ o.counted.listing → Course st o o' st
+    → o'.counted.listing ≡ o.counted.listing → Course st o o' st
 course_failed o o' st gives gains listing = record {
   done = [];
   writes = [];
@@ -180,7 +180,7 @@ course_failed o o' st gives gains listing = record {
   failed = true;
   read = gives;
   written = gains;
-  listing = omega (arith, listing);
+  listing = listing;
 }
 
 -- one walk, and then another
@@ -277,7 +277,8 @@ course_then o o' o'' old mid new c well d =
           (sym (append_assoc c.writes d.writes (last_write d.failed new)))
           (gains_more o.writing o'.writing o''.writing c.writes
           (d.writes ++ last_write d.failed new) first d.written);
-      listing = omega (arith, c.listing, d.listing, sum_by-append (λ (x : Did). x.effect.cost) c.done d.done);
+      listing = walk_then ListsStep o.counted.listing c.done o'.counted.listing d.done o''.counted.listing c.listing
+          d.listing;
     }
 
 -- what was done along them, and whether a write failed
@@ -303,7 +304,7 @@ course_begun_well o st = refl
 
 pub course_failed_so : (o o' : Outside) (st : State) (gives : SourceGives o.reading o'.reading [])
     (gains : Gains o.writing o'.writing (last_write true st))
-    (listing : o'.counted.listing ≤ o.counted.listing) → (course_failed o o' st gives gains listing).failed ≡ true
+    (listing : o'.counted.listing ≡ o.counted.listing) → (course_failed o o' st gives gains listing).failed ≡ true
 unfolding course_failed
 course_failed_so o o' st gives gains listing = refl
 
@@ -345,6 +346,12 @@ none_give : (st : State) → st.sessions ≡ [] → CursorsGive st
 none_give st none = subst (λ (xs : List Session). All (SessionGives st.store.relations st.store.queries) xs) (sym none)
     (All-nil (SessionGives st.store.relations st.store.queries))
 
+-- what was counted in all
+counted_all : (before : ℕ) (done : List Did) (now : ℕ) → Walk ListsStep before done now → now ≤ before + cost_of done
+counted_all before [] now w = omega (arith, w)
+counted_all before (d ∷ done) now w =
+    omega (arith, w.1, counted_all w.0 done now w.2, sum_by-cons (λ (x : Did). x.effect.cost) d done)
+
 pub headline : CoursesGive
 headline start before now st c none =
     let walk = walk_of start c.done c.writes st c.does in
@@ -354,6 +361,7 @@ headline start before now st c none =
           ∙ run_bytes 1 start c.done st (next_runs start c.done st walk)
           ∙ ap (λ p. p ++ out 1 c.done) (none_pending start none);
       lines = in_order 1 start c.done st (next_runs start c.done st walk) (walk_spares start c.done st walk);
+      listing = counted_all before.counted.listing c.done now.counted.listing c.listing;
       cursors = λ mid passed. runs_give start passed.0 mid (next_runs start passed.0 mid passed.3)
           (none_give start none);
     }

@@ -7,7 +7,7 @@ use Rattle.djq_io.specs.declared.sink.Write.{Write}
 use Rattle.djq_io.specs.declared.sink.Wrote.TheVariants.{Took, Failed}
 use Rattle.djq_machine.specs.State.{State, Session, session_of}
 use Rattle.djq_machine.specs.Step.{Event, opened, fed, stepped, took, ended, closed, Step, is_dry}
-use Rattle.djq_machine.specs.Run.{Did, pieces_of, cost_of, pending_of}
+use Rattle.djq_machine.specs.Run.{Did, Walk, pieces_of, pending_of}
 use Rattle.djq_machine.specs.Call.{Counts}
 use Rattle.djq_io.specs.declared.limits.TheConstants.{READ_BYTES}
 
@@ -45,6 +45,11 @@ RunDoes old [] writes new = (new ≡ old) × (writes ≡ [])
 RunDoes old (d ∷ done) writes new = (mid : State) × RunNext old d mid × (later : List Write)
     × (writes ≡ writes_by old d.event ++ later) × RunDoes mid done later new
 
+-- In one thing that was done the count of lookups and links of listings rose by no more than that thing
+-- may cost.
+abbrev pub ListsStep : ℕ → Did → ℕ → Type 0
+ListsStep before d now = now ≤ before + d.effect.cost
+
 -- The write that failed behind all that was done, where one did: it was offered all that is pending.
 abbrev pub last_write : Bool → State → List Write
 last_write false st = []
@@ -74,7 +79,8 @@ outside reading read_faults writing write_faults counted =
 -- that the source gave, in order: what was read is fed, and what it brings about is done before the
 -- next read. The sink tells one write for each time that bytes of the session were taken; and behind
 -- them at most one that failed, of what is pending still, so that nothing was done and nothing
--- written behind it. And no more lookups and links of listings were counted than the run may cost.
+-- written behind it. And each thing that was done has its own count of lookups and links of listings, and
+-- its own bound.
 pub record Course (start : State) (before now : Outside) (state : State) : Type 0 where
   pub done : List Did
   pub writes : List Write
@@ -83,4 +89,4 @@ pub record Course (start : State) (before now : Outside) (state : State) : Type 
   pub failed : Bool
   pub read : SourceGives before.reading now.reading (pieces_of done)
   pub written : Gains before.writing now.writing (writes ++ last_write failed state)
-  pub listing : now.counted.listing ≤ before.counted.listing + cost_of done
+  pub listing : Walk ListsStep before.counted.listing done now.counted.listing

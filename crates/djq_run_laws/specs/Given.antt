@@ -1,8 +1,8 @@
 -- What open cursors have given along runs, and the headline of a course.
-use Rattle.std.specs.Prelude.{List, [], ◌≡◌, ◌++◌}
+use Rattle.std.specs.Prelude.{List, [], ◌≡◌, ◌++◌, ◌+◌, ◌≤◌}
 use Rattle.djq_io.specs.Sink.{bytes_of}
 use Rattle.djq_machine.specs.State.{State}
-use Rattle.djq_machine.specs.Run.{Did, Run, Walk, out, all_taken, pending_of}
+use Rattle.djq_machine.specs.Run.{Did, Run, Walk, out, all_taken, cost_of, pending_of}
 use Rattle.djq_machine.specs.Gives.{CursorsGive}
 use Rattle.djq_run_laws.specs.Lines.{TakesInOrder}
 use Rattle.djq_run_laws.specs.Course.{RunNext, Outside, Course}
@@ -20,12 +20,14 @@ PassedThrough start done mid state = (earlier : List Did) × (later : List Did)
 
 -- **The headline** of a course, as far as it went. What the sink took and what is pending still is
 -- all that the run queued, in order. The lines that were taken are those that the bytes fed are
--- cut into, in order. And at each moment each open cursor gives what it should.
+-- cut into, in order. What was counted of listings in all is no more than the run may cost. And at each
+-- moment each open cursor gives what it should.
 pub record Headline (start : State) (before now : Outside) (state : State)
     (course : Course start before now state) : Type 0 where
   pub written : bytes_of course.writes ≡ all_taken 1 course.done
   pub sent : all_taken 1 course.done ++ pending_of state 1 ≡ out 1 course.done
   pub lines : TakesInOrder 1 start course.done state
+  pub listing : now.counted.listing ≤ before.counted.listing + cost_of course.done
   pub cursors : (mid : State) → PassedThrough start course.done mid state → CursorsGive mid
 
 -- Every course from a state in which no session is open has the headline.
