@@ -161,8 +161,8 @@ pub fn given_is_told()
     ensures listed { ListedIsTold }
 {}
 
-/// Every course of the program has the headline: the bytes sent, the lines consumed, and what the
-/// cursors gave.
+/// Every course of the program has the headline: the bytes sent, the lines consumed, what was counted of
+/// listings in all, and what the cursors gave.
 pub fn courses_give()
     ensures { CoursesGive }
 {}
