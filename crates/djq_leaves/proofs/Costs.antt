@@ -12,7 +12,7 @@ use Rattle.djq_tree.specs.Tree.{Tree}
 use Rattle.djq_reduct.specs.Tables.{entries_at}
 use Rattle.djq_reduct.specs.Reducts.{Reducts, IsReducts}
 use Rattle.djq_reduct.proofs.Assignments.{apart_at}
-use Rattle.djq_propagate.specs.Touches.{HaveFew}
+use Rattle.djq_propagate.specs.Touches.{HaveFew, HaveMarksUpTo}
 use Rattle.djq_propagate.specs.Updates.{HasInserted, HasMarked, HasKept, HasGained, HasAtMost, paths}
 use Rattle.djq_propagate.specs.Batches.{HasInsertedAll, HasGainedAll}
 use Rattle.djq_propagate.proofs.Updates.{inserted_gained, inserted_gained_all}
@@ -105,7 +105,7 @@ pub insertion_counts : (j : ℕ) (u : List ℕ) (old mid new : Reducts) (x y z :
     → ((n : ℕ) → HasAtMost mid n → z ≤ y + paths mid.tree * (1 + n))
     → (HasEqualMeets old.tree → HaveFew mid.tables)
     → (HasEqualMeets old.tree → y ≤ x + 10 * (paths old.tree * 1))
-    → (HaveFew mid.tables → z ≤ y + paths mid.tree * (1 + 1)) → CountsLeaf old j 1 x z
+    → ((n : ℕ) → HaveMarksUpTo n mid.tables → z ≤ y + paths mid.tree * (1 + n)) → CountsLeaf old j 1 x z
 insertion_counts j u old mid new x y z came kept first second marked flat cleared = λ n b room bounds.
     elim bounds [
       | inl linear ↦
@@ -118,7 +118,7 @@ insertion_counts j u old mid new x y z came kept first second marked flat cleare
           let a = flat even.0 in
           let c : z ≤ y + paths old.tree * (1 + 1) =
           subst (λ (t : Tree). z ≤ y + paths t * (1 + 1)) (sym came.without.tree)
-          (cleared (marked even.0)) in
+          (cleared 1 (marked even.0)) in
           let d = even.1 in
           omega arith
     ]
@@ -144,8 +144,8 @@ pub removal_counts : (j : ℕ) (u : List ℕ) (old mid : Reducts) (x y z : ℕ) 
     → z ≤ y + 1 + 5 * (paths mid.tree * n) + paths mid.tree * (1 + n))
     → (HasEqualMeets old.tree → HaveFew mid.tables)
     → (HasEqualMeets old.tree → y ≤ x + 6 * (paths old.tree * 1))
-    → (HasEqualMeets mid.tree → HaveFew mid.tables
-    → z ≤ y + 1 + 5 * (paths mid.tree * 1) + paths mid.tree * (1 + 1))
+    → ((n : ℕ) → HasEqualMeets mid.tree → HaveMarksUpTo n mid.tables
+    → z ≤ y + 1 + 5 * (paths mid.tree * n) + paths mid.tree * (1 + n))
     → CountsLeaves old 1 x z
 removal_counts j u old mid x y z sound marked first second few_marks flat dropped = λ n b few bounds.
     let some = some_path old sound in
@@ -165,7 +165,7 @@ removal_counts j u old mid x y z sound marked first second few_marks flat droppe
           let a = flat even.0 in
           let c : z ≤ y + 1 + 5 * (paths old.tree * 1) + paths old.tree * (1 + 1) =
           subst (λ (t : Tree). z ≤ y + 1 + 5 * (paths t * 1) + paths t * (1 + 1)) marked.tree
-          (dropped (subst HasEqualMeets (sym marked.tree) even.0) (few_marks even.0)) in
+          (dropped 1 (subst HasEqualMeets (sym marked.tree) even.0) (few_marks even.0)) in
           let d = even.1 in
           omega arith
     ]

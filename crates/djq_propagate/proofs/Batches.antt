@@ -7,7 +7,7 @@ use Rattle.std.proofs.lemmas.List.{take_more, take-take}
 use Rattle.std.specs.Prelude.{◌==◌}
 use Rattle.djq_index.specs.Tuple.{same, one_if, pick}
 use Rattle.djq_index.specs.Entries.{Entry, count_of, group_size, marks, unmarked}
-use Rattle.djq_index.specs.Table.{Table}
+use Rattle.djq_index.specs.Table.{Table, TuplesDiffer}
 use Rattle.djq_index.proofs.Tuples.{stands, cnt_supp, cnt_middle, cnt_cons, cnt_split, one_same, same_cases, same_is}
 use Rattle.djq_index.proofs.Tuples.{true_from_one, one_other}
 use Rattle.djq_index.proofs.Groups.{inserted_cnt, removed_cnt, length_middle, unmarked_marks}
@@ -23,9 +23,9 @@ use Rattle.djq_propagate.specs.Sizes.{size, AreAtMost}
 use Rattle.djq_propagate.specs.Walks.{InsertedUpwards, RemovedUpwards, Refused, Fewer, CameAs, ChangedOneTable}
 use Rattle.djq_propagate.specs.Updates.{HasAtMost, HasKept, paths, HasTaken}
 use Rattle.djq_propagate.specs.Batches.{times, AreNew, AreThere, HaveCome, HaveGone, HasGainedAll, HasLostAll}
-use Rattle.djq_propagate.specs.Touches.{IsTouched, IsTouchedUp, HaveFew, CanWalk, IsWalked, IsStepUp, reach, cost}
+use Rattle.djq_propagate.specs.Touches.{IsTouched, IsTouchedUp, HaveFew, HaveMarksUpTo, CanWalk, IsWalked, IsStepUp, reach, cost}
 use Rattle.djq_propagate.proofs.Families.{tuples_same, once, reduced_same}
-use Rattle.djq_propagate.proofs.Costs.{length_even, sized, length_less}
+use Rattle.djq_propagate.proofs.Costs.{length_even, sized, length_less, keys_length}
 use Rattle.djq_propagate.proofs.PathMarks.{back_same, still_bare, fewer_bare, inner_high}
 use Rattle.djq_propagate.proofs.RefusedCosts.{same_size, few_nodes, spread, OneMore, whole_key, group_single, one_more}
 use Rattle.djq_propagate.proofs.Updates.{both, leaf_below, reducts_lived, reducts_died, reducts_same, bare_same}
@@ -294,14 +294,11 @@ cnt_nothing : (v : List ℕ) → count_of [] v ≡ 0
 unfolding count_of
 cnt_nothing v = refl
 
-few_less : (es fs : List Entry) → ((v : List ℕ) → count_of es v ≤ count_of fs v) → length fs ≤ 1 → length es ≤ 1
-few_less es fs h few = omega (arith, length_less es fs h)
+pub few_none : (n : ℕ) (es : List Entry) → ((v : List ℕ) → count_of es v ≡ 0) → length es ≤ n
+few_none n [] h = omega arith
+few_none n (e ∷ es) h = absurd (omega (arith, h e.tuple, cnt_cons e es e.tuple, one_same e.tuple))
 
-few_none : (es : List Entry) → ((v : List ℕ) → count_of es v ≡ 0) → length es ≤ 1
-few_none [] h = omega arith
-few_none (e ∷ es) h = absurd (omega (arith, h e.tuple, cnt_cons e es e.tuple, one_same e.tuple))
-
-marks_once : (t : Tree) (ts : List Table) (k : ℕ) → IsFamily t ts → (v : List ℕ) → count_of (marks (entries_at ts k))
+pub marks_once : (t : Tree) (ts : List Table) (k : ℕ) → IsFamily t ts → (v : List ℕ) → count_of (marks (entries_at ts k))
     v ≤ 1
 marks_once t ts k f v = omega (arith, once t ts f k v, cnt_split (entries_at ts k) v)
 
@@ -367,40 +364,58 @@ few_marked t old new a u bare x = record {
         in
         subst (λ (k : ℕ). length (marks (entries_at new k)) ≤ 1) (sym here)
         (few_same (marks (entries_at new a)) (marks_once t new a x.family) (λ v w p q. sym (only v p) ∙ only w q))
-    | inr apart ↦ few_none (marks (entries_at new i))
+    | inr apart ↦ few_none 1 (marks (entries_at new i))
         (λ v. ap (λ (es : List Entry). count_of (marks es) v) (x.others i apart) ∙ bare.none i v)
   ];
 }
 
 -- ---- a step
 
--- what agrees with one tuple is one tuple
-agree_lone : (n : Node) (j : ℕ) (ts : List Table) (es : List Entry) (u v : List ℕ) → length es ≤ 1
-    → ((g d : ℕ) → n ≡ Meet g d → (pick (key_at ts g) u ≡ u) × (pick (key_at ts g) v ≡ v))
-    → 0 < agreeing n j ts es u → 0 < agreeing n j ts es v → u ≡ v
-unfolding agreeing
-agree_lone (Leaf a) j ts es u v few whole p q = absurd (omega arith)
-agree_lone (Trim c) j ts es u v few whole p q = lone_many (key_at ts c) es u v few p q
-agree_lone (Meet g d) j ts es u v few whole p q = by_side (g == j) p q
-  where
-    by_side : (b : Bool) → 0 < cond b (count_of es u) (count_of es (pick (key_at ts g) u))
-        → 0 < cond b (count_of es v) (count_of es (pick (key_at ts g) v)) → u ≡ v
-    by_side true x y = lone es u v few x y
-    by_side false x y = let w = whole g d refl in sym w.0
-        ∙ lone es (pick (key_at ts g) u) (pick (key_at ts g) v) few x y ∙ w.1
+apart_once : (es : List Entry) → ((v : List ℕ) → count_of es v ≤ 1) → TuplesDiffer es
+unfolding TuplesDiffer
+apart_once [] h = tt
+apart_once (e ∷ es) h = (
+  omega (arith, h e.tuple, cnt_cons e es e.tuple, one_same e.tuple),
+  apart_once es (λ v. omega (arith, h v, cnt_cons e es v)),
+)
 
-few_touched : (t : Tree) (mid new : List Table) (j k : ℕ) (f : List ℕ → ℕ) → HasEqualMeets t → IsFamily t mid
+among : (es fs : List Entry) → ((v : List ℕ) → count_of es v ≤ 1) → ((v : List ℕ) → 0 < count_of es v
+    → 0 < count_of fs v) → length es ≤ length fs
+among es fs most h = length_less es fs (λ v. elim (cases_lt 0 (count_of es v)) [
+  | inl some ↦ omega (arith, most v, h v some)
+  | inr none ↦ omega arith
+])
+
+-- what agrees with some tuples is no more than they are
+agree_few : (n : Node) (j : ℕ) (ts : List Table) (es fs : List Entry) → ((v : List ℕ) → count_of fs v ≤ 1)
+    → ((v : List ℕ) → 0 < count_of fs v → 0 < agreeing n j ts es v)
+    → ((g d : ℕ) → n ≡ Meet g d → (v : List ℕ) → 0 < count_of fs v → pick (key_at ts g) v ≡ v)
+    → length fs ≤ length es
+unfolding agreeing
+agree_few (Leaf a) j ts es fs most agrees whole = among fs es most (λ v some. absurd (let z = agrees v some in omega
+    arith))
+agree_few (Trim c) j ts es fs most agrees whole = keys_length (key_at ts c) fs es (apart_once fs most) agrees
+agree_few (Meet g d) j ts es fs most agrees whole = among fs es most (λ v some. by_side (g == j) v some (agrees v some))
+  where
+    by_side : (b : Bool) (v : List ℕ) → 0 < count_of fs v → 0 < cond b (count_of es v) (count_of es
+        (pick (key_at ts g) v)) → 0 < count_of es v
+    by_side true v some x = x
+    by_side false v some x = subst (λ (w : List ℕ). 0 < count_of es w) (whole g d refl v some) x
+
+few_touched : (n : ℕ) (t : Tree) (mid new : List Table) (j k : ℕ) (f : List ℕ → ℕ) → HasEqualMeets t → IsFamily t mid
     → k < length t.nodes → IsReductOf (node_at t.nodes k) mid k → IsTouched t mid new k f
     → ((w : List ℕ) → 0 < count_of (marks (entries_at new k)) w
-    → 0 < agreeing (node_at t.nodes k) j mid (marks (entries_at mid j)) w) → HaveFew mid → HaveFew new
-few_touched t mid new j k f meets family within law x agrees few = record {
+    → 0 < agreeing (node_at t.nodes k) j mid (marks (entries_at mid j)) w)
+    → HaveMarksUpTo n mid → HaveMarksUpTo n new
+few_touched n t mid new j k f meets family within law x agrees few = record {
   each = λ i. elim (cases_eq i k) [
-    | inr apart ↦ let m = few.each i in subst (λ (es : List Entry). length (marks es) ≤ 1) (sym (x.others i apart)) m
+    | inr apart ↦ let m = few.each i in subst (λ (es : List Entry). length (marks es) ≤ n) (sym (x.others i apart)) m
     | inl here ↦
-        subst (λ (q : ℕ). length (marks (entries_at new q)) ≤ 1) (sym here)
-        (few_same (marks (entries_at new k)) (marks_once t new k x.family)
-        (λ u v p q. agree_lone (node_at t.nodes k) j mid (marks (entries_at mid j)) u v (few.each j)
-        (λ g d e. (whole u g d e p, whole v g d e q)) (agrees u p) (agrees v q)))
+        subst (λ (q : ℕ). length (marks (entries_at new q)) ≤ n) (sym here)
+        (let a = agree_few (node_at t.nodes k) j mid (marks (entries_at mid j)) (marks (entries_at new k))
+        (marks_once t new k x.family) agrees (λ g d e w some. whole w g d e some) in
+        let m = few.each j in
+        omega arith)
   ];
 }
   where
@@ -412,7 +427,7 @@ few_touched t mid new j k f meets family within law x agrees few = record {
         whole_key t mid k g d w meets family e within
         (guard_some (node_at t.nodes k) mid k w law (cnt_supp (entries_at mid k) w (family.supported k) was) g d e)
 
-pub few_more : (t : Tree) (old mid new : List Table) (a k j : ℕ) (removal : Bool) → HasEqualMeets t → IsFamily t old
+pub few_more : (n : ℕ) (t : Tree) (old mid new : List Table) (a k j : ℕ) (removal : Bool) → HasEqualMeets t → IsFamily t old
     → a < t.leaves → CanWalk t old a removal → k < length t.nodes → IsTouchedUp t old mid a
     → IsWalked t old mid a removal k → j ≡ path_at t.nodes a k
     → (has_child (node_at t.nodes k) j ≡ true → t.second_stage ≤ k
@@ -420,17 +435,17 @@ pub few_more : (t : Tree) (old mid new : List Table) (a k j : ℕ) (removal : Bo
     → (has_child (node_at t.nodes k) j ≡ true → k < t.second_stage → removal ≡ true
     → IsTouched t mid new k (λ v. reach (node_at t.nodes k) true j mid (marks (entries_at mid j)) v))
     → (k < t.second_stage → removal ≡ false → new ≡ mid) → (has_child (node_at t.nodes k) j ≡ false → new ≡ mid)
-    → HaveFew mid → HaveFew new
-few_more t old mid new a k j removal meets f leaf can within up x at above below idle apart few =
+    → HaveMarksUpTo n mid → HaveMarksUpTo n new
+few_more n t old mid new a k j removal meets f leaf can within up x at above below idle apart few =
     elim (cases_Bool (has_child (node_at t.nodes k) j)) [
-      | inr none ↦ subst HaveFew (sym (apart none)) few
+      | inr none ↦ subst (λ (ts : List Table). HaveMarksUpTo n ts) (sym (apart none)) few
       | inl child ↦ elim (cases_lt k t.second_stage) [
         | inl low ↦ elim (cases_Bool removal) [
-          | inr coming ↦ subst HaveFew (sym (idle low coming)) few
+          | inr coming ↦ subst (λ (ts : List Table). HaveMarksUpTo n ts) (sym (idle low coming)) few
           | inl going ↦
               let y = below child low going in
               let other : k ≢ a = λ (e : k ≡ a). let h = inner_high t k j f.is_tree child in absurd (omega arith) in
-              few_touched t mid new j k (λ v. reach (node_at t.nodes k) true j mid (marks (entries_at mid j)) v) meets
+              few_touched n t mid new j k (λ v. reach (node_at t.nodes k) true j mid (marks (entries_at mid j)) v) meets
               up.family within law y
               (λ w some. reach_agrees (node_at t.nodes k) true j mid (marks (entries_at mid j)) w
               (let o = y.only w some in let b = bare_mid t old mid a k k removal x can other going (omega arith) w
@@ -439,7 +454,7 @@ few_more t old mid new a k j removal meets f leaf can within up x at above below
         | inr high ↦
             let y = above child high in
             let c = covered_mid t old mid a k j removal f up x can at child high in
-            few_touched t mid new j k (λ v. reach (node_at t.nodes k) false j mid (marks (entries_at mid j)) v) meets
+            few_touched n t mid new j k (λ v. reach (node_at t.nodes k) false j mid (marks (entries_at mid j)) v) meets
             up.family within law y
             (λ w some. elim (cases_lt 0 (count_of (marks (entries_at mid k)) w)) [
               | inl before ↦ c.each w before
@@ -453,18 +468,18 @@ few_more t old mid new a k j removal meets f leaf can within up x at above below
     law = (reduced_same t old mid 0 f up.family up.supports can.reduced).at k (omega arith) within
 
 -- what it counts
-few_groups : (ks : List ℕ) (gs es : List Entry) → ((u : List ℕ) → group_size ks gs u ≤ 1) → length es ≤ 1
-    → groups ks gs es ≤ 1
+few_groups : (ks : List ℕ) (gs es : List Entry) → ((u : List ℕ) → group_size ks gs u ≤ 1)
+    → groups ks gs es ≤ length es
 unfolding groups
-few_groups ks gs [] h few = omega arith
-few_groups ks gs (e ∷ []) h few = omega (arith, h e.tuple)
-few_groups ks gs (e ∷ f ∷ es) h few = absurd (omega arith)
+few_groups ks gs [] h = omega arith
+few_groups ks gs (e ∷ es) h = omega (arith, h e.tuple, few_groups ks gs es h)
 
-few_cost : (t : Tree) (ts : List Table) (n : Node) (j k : ℕ) → HasEqualMeets t → IsFamily t ts → node_at t.nodes k ≡ n
-    → k < length t.nodes → length (marks (entries_at ts j)) ≤ 1 → cost n j ts (marks (entries_at ts j)) ≤ 5
-few_cost t ts (Leaf b) j k meets f e within few = omega (arith, cost_leaf_all b j ts (marks (entries_at ts j)))
-few_cost t ts (Trim c) j k meets f e within few = omega (arith, cost_trim_all c j ts (marks (entries_at ts j)))
-few_cost t ts (Meet g d) j k meets f e within few =
+few_cost : (m : ℕ) (t : Tree) (ts : List Table) (n : Node) (j k : ℕ) → HasEqualMeets t → IsFamily t ts
+    → node_at t.nodes k ≡ n → k < length t.nodes → length (marks (entries_at ts j)) ≤ m
+    → cost n j ts (marks (entries_at ts j)) ≤ 5 * m
+few_cost m t ts (Leaf b) j k meets f e within few = omega (arith, cost_leaf_all b j ts (marks (entries_at ts j)))
+few_cost m t ts (Trim c) j k meets f e within few = omega (arith, cost_trim_all c j ts (marks (entries_at ts j)))
+few_cost m t ts (Meet g d) j k meets f e within few =
     elim (cases_eq g j) [
       | inl here ↦ omega (arith, cost_guard_all g d j ts (marks (entries_at ts j)) here)
       | inr other ↦
@@ -472,65 +487,46 @@ few_cost t ts (Meet g d) j k meets f e within few =
             arith,
             cost_side_all g d j ts (marks (entries_at ts j)) other,
             few_groups (key_at ts g) (entries_at ts g) (marks (entries_at ts j))
-                (λ u. group_single t ts k g d u meets f e within) few,
+                (λ u. group_single t ts k g d u meets f e within),
           )
     ]
 
-pub step_few : (t : Tree) (ts : List Table) (j k : ℕ) → HasEqualMeets t → IsStepUp t ts j k
-    → length (marks (entries_at ts j)) ≤ 1 → cost (node_at t.nodes k) j ts (marks (entries_at ts j)) ≤ 5
-step_few t ts j k meets s few = few_cost t ts (node_at t.nodes k) j k meets s.family refl s.within few
+pub step_few : (m : ℕ) (t : Tree) (ts : List Table) (j k : ℕ) → HasEqualMeets t → IsStepUp t ts j k
+    → length (marks (entries_at ts j)) ≤ m → cost (node_at t.nodes k) j ts (marks (entries_at ts j)) ≤ 5 * m
+step_few m t ts j k meets s few = few_cost m t ts (node_at t.nodes k) j k meets s.family refl s.within few
 
 -- ---- the marks go
 
 bare_marks : (es : List Entry) → length (marks (unmarked es)) ≡ 0
 bare_marks es = ap (λ (xs : List Entry). length xs) (unmarked_marks es)
 
-pub few_cleared : (old new : List Table) (k : ℕ) → ChangedOneTable old new k
+pub few_cleared : (n : ℕ) (old new : List Table) (k : ℕ) → ChangedOneTable old new k
     → entries_at new k ≡ unmarked (entries_at old k)
-    → HaveFew old → HaveFew new
-few_cleared old new k c e few = record {
+    → HaveMarksUpTo n old → HaveMarksUpTo n new
+few_cleared n old new k c e few = record {
   each = λ i. elim (cases_eq i k) [
-    | inl here ↦ subst (λ (q : ℕ). length (marks (entries_at new q)) ≤ 1) (sym here)
+    | inl here ↦ subst (λ (q : ℕ). length (marks (entries_at new q)) ≤ n) (sym here)
         (let b = bare_marks (entries_at old k) in let l = ap (λ (es : List Entry). length (marks es)) e in omega arith)
-    | inr apart ↦ subst (λ (es : List Entry). length (marks es) ≤ 1) (sym (c.others i apart)) (few.each i)
+    | inr apart ↦ subst (λ (es : List Entry). length (marks es) ≤ n) (sym (c.others i apart)) (few.each i)
   ];
 }
 
-pub few_clear_more : (n : Node) (mid new : List Table) (j k : ℕ)
+pub few_clear_more : (m : ℕ) (n : Node) (mid new : List Table) (j k : ℕ)
     → (has_child n j ≡ true → entries_at new k ≡ unmarked (entries_at mid k))
     → (has_child n j ≡ true → ChangedOneTable mid new k) → (has_child n j ≡ false → new ≡ mid)
-    → HaveFew mid → HaveFew new
-few_clear_more n mid new j k clear change apart few =
+    → HaveMarksUpTo m mid → HaveMarksUpTo m new
+few_clear_more m n mid new j k clear change apart few =
     elim (cases_Bool (has_child n j)) [
-      | inl child ↦ few_cleared mid new k (change child) (clear child) few
-      | inr none ↦ subst HaveFew (sym (apart none)) few
+      | inl child ↦ few_cleared m mid new k (change child) (clear child) few
+      | inr none ↦ subst (λ (ts : List Table). HaveMarksUpTo m ts) (sym (apart none)) few
     ]
 
-pub few_taken : (t : Tree) (old new : List Table) (a : ℕ) → HasTaken (both t old) (both t new) a → HaveFew old
-    → HaveFew new
-few_taken t old new a x few = record
-    { each = λ i. few_less (marks (entries_at new i)) (marks (entries_at old i)) (x.fewer.marked i) (few.each i) }
-
--- what is taken out of the leaf is one tuple
-pub one_taken : (t : Tree) (old new : List Table) (a : ℕ) → HasTaken (both t old) (both t new) a → HaveFew old
-    → OneMore (entries_at new a) (entries_at old a)
-one_taken t old new a x few = from_marks (marks (entries_at old a)) refl
-  where
-    marked : (v : List ℕ) → 0 < count_of (entries_at old a) v → count_of (entries_at new a) v ≡ 0
-        → 0 < count_of (marks (entries_at old a)) v
-    marked v some none = omega (arith, x.without.leaf v, cnt_split (entries_at old a) v)
-
-    from_marks : (es : List Entry) → marks (entries_at old a) ≡ es → OneMore (entries_at new a) (entries_at old a)
-    from_marks [] e = record {
-      tuple = [];
-      only = λ v some none. absurd
-          (let m = marked v some none in let z = ap (λ (xs : List Entry). count_of xs v) e in omega
-          (arith, cnt_nothing v));
-    }
-    from_marks (m ∷ es) e = record {
-      tuple = m.tuple;
-      only = λ v some none.
-          lone (marks (entries_at old a)) v m.tuple (few.each a) (marked v some none)
-          (let z = ap (λ (xs : List Entry). count_of xs m.tuple) e in omega
-          (arith, cnt_cons m es m.tuple, one_same m.tuple));
-    }
+pub few_taken : (n : ℕ) (t : Tree) (old new : List Table) (a : ℕ) → HasTaken (both t old) (both t new) a
+    → HaveMarksUpTo n old → HaveMarksUpTo n new
+few_taken n t old new a x few = record {
+  each = λ i. omega (
+    arith,
+    length_less (marks (entries_at new i)) (marks (entries_at old i)) (x.fewer.marked i),
+    few.each i,
+  );
+}

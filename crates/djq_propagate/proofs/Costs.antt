@@ -373,7 +373,7 @@ lengths_off t ts us a r s leaves i off =
     (off_same t ts us a r.family s.family r.reduced s.reduced leaves (suc i) i (omega arith) off))
 
 -- the tables of two families of one tree that differ in the leaf a alone, each by n tuples at most
-path_size : (t : Tree) (ts us : List Table) (a n : ℕ) → IsReducts (both t ts) → IsReducts (both t us)
+pub path_size : (t : Tree) (ts us : List Table) (a n : ℕ) → IsReducts (both t ts) → IsReducts (both t us)
     → ((j : ℕ) (v : List ℕ) → j < t.leaves → j ≢ a → count_of (entries_at us j) v ≡ count_of (entries_at ts j) v)
     → ((i : ℕ) → length (entries_at us i) ≤ length (entries_at ts i) + n)
     → size us ≤ size ts + (1 + steps t.nodes a (length t.nodes)) * n
@@ -505,6 +505,28 @@ take_by t old mid a n x y z r w grows first second =
     count_take (steps t.nodes a (length t.nodes)) (paths t) n x y z (size old) (size mid)
     (path_short t a r.family.is_tree) first
     (path_size t mid old a n w.sound r (λ j v low apart. sym (w.without.others j v low apart)) grows) second
+
+turn : (a b : ℕ) → a * b ≡ b * a
+turn a b = omega arith
+
+-- where it has lost no more than the marked tuples of the leaf brought
+pub take_flat : (t : Tree) (old mid : List Table) (a n m x y z : ℕ) → IsTree t → m ≤ n
+    → size old ≤ size mid + m * (1 + steps t.nodes a (length t.nodes)) → y + 5 * size mid ≤ x + 1 + 5 * size old
+    → z ≤ y + (1 + steps t.nodes a (length t.nodes)) * (1 + n) → z ≤ x + 1 + 5 * (paths t * n) + paths t * (1 + n)
+take_flat t old mid a n m x y z is_tree few grows first second =
+    count_take (steps t.nodes a (length t.nodes)) (paths t) n x y z (size old) (size mid)
+    (path_short t a is_tree) first
+    (let k = mul-le-mul_right (1 + steps t.nodes a (length t.nodes)) few in
+    let e = turn n (1 + steps t.nodes a (length t.nodes)) in
+    omega arith) second
+
+-- what the walk above marked tuples counts
+pub above_by : (t : Tree) (a n x z : ℕ) → IsTree t → z ≤ x + steps t.nodes a (length t.nodes) * (1 + 5 * n)
+    → z ≤ x + paths t * (1 + 5 * n)
+above_by t a n x z is_tree first =
+    let k : steps t.nodes a (length t.nodes) * (1 + 5 * n) ≤ paths t * (1 + 5 * n) = mul-le-mul_right (1 + 5 * n)
+    (let p = path_short t a is_tree in omega arith) in
+    omega arith
 
 pub take_counted : (t : Tree) (old mid : List Table) (a n x y z : ℕ) → IsReducts (both t old)
     → HasTaken (both t old) (both t mid) a → HasAtMost (both t old) n → y + 5 * size mid ≤ x + 1 + 5 * size old

@@ -9,3 +9,5 @@ pub mod Costs
 pub mod RefusedCosts
 pub mod Marks
 pub mod Batches
+pub mod Removals
+pub mod Additions

@@ -6,7 +6,7 @@ use Rattle.djq_index.specs.declared.place.Place.{Place}
 use Rattle.djq_index.specs.Tuple.{one_if, same}
 use Rattle.djq_index.specs.Entries.{Entry, supports_of, count_of, marks, plain, head_at}
 use Rattle.djq_index.specs.Table.{Table, IsAt}
-use Rattle.djq_index.proofs.Tuples.{cnt_split, cnt_length, cnt_cons, same_cases, one_true, one_other, one_same, is_same}
+use Rattle.djq_index.proofs.Tuples.{cnt_split, cnt_length, cnt_cons, same_cases, one_other, one_same}
 use Rattle.djq_index.proofs.Groups.{inserted_cnt, inserted_supp, removed_cnt, removed_supp}
 use Rattle.djq_tree.specs.declared.node.Node.{Node}
 use Rattle.djq_tree.specs.declared.node.Node.TheVariants.{Leaf}
@@ -17,12 +17,12 @@ use Rattle.djq_reduct.specs.Reducts.{Reducts, IsReducts, IsReductOf, IsFamily, A
 use Rattle.djq_reduct.specs.Marks.{on_path, IsOff, IsBare, AreOnPath, IsWithout}
 use Rattle.djq_reduct.proofs.Assignments.{leaf_law, one_family}
 use Rattle.djq_propagate.specs.Walks.{Ready, InsertedUpwards, RemovedUpwards, Refused, Fewer, CameAs, IsBelowParent}
-use Rattle.djq_propagate.specs.Touches.{IsTouched, IsTouchedUp, CanWalk, IsWalked}
+use Rattle.djq_propagate.specs.Touches.{IsTouchedUp, CanWalk, IsWalked}
 use Rattle.djq_propagate.specs.Batches.{times, HaveCome, HasInsertedAll, HasGainedAll}
 use Rattle.djq_propagate.specs.Updates.{HasInserted, HasMarked, HasKept, HasDropped, HasTaken, HasCleared, HasGained}
 use Rattle.djq_propagate.specs.Updates.{HasLost}
 use Rattle.djq_propagate.proofs.Families.{once, apart_of, tuples_same, reduced_same}
-use Rattle.djq_propagate.proofs.PathMarks.{cond_one, fewer_refl, fewer_trans, inner_high, off_same, on_within, on_high}
+use Rattle.djq_propagate.proofs.PathMarks.{cond_one, fewer_refl, fewer_trans, inner_high, off_same, on_within}
 use Rattle.djq_propagate.proofs.Walks.{mark_at}
 use Rattle.djq_propagate.proofs.Marks.{covered_new, plain_new}
 
@@ -204,22 +204,6 @@ pub can_insert : (t : Tree) (old mid : List Table) (a : ℕ) (u : List ℕ) → 
     → IsBare old → InsertedUpwards t old mid a u → CameAs true old mid → CanWalk t mid a false
 can_insert t old mid a u r h b l p = can_come t old mid a (u ∷ []) r b (lived_come t old mid a u r h l) p
 
-pub can_remove : (t : Tree) (old mid : List Table) (a : ℕ) (f : List ℕ → ℕ) → IsReducts (both t old) → a < t.leaves
-    → IsBare old → IsTouched t old mid a f → CanWalk t mid a true
-can_remove t old mid a f r h b y = record {
-  reduced = reduced_same t old mid 0 r.family y.family (λ i v. elim (cases_eq i a) [
-    | inl here ↦ subst (λ (z : ℕ). supports_of (entries_at mid z) v ≡ supports_of (entries_at old z) v) (sym here)
-        (y.supports v)
-    | inr apart ↦ ap (λ (es : List Entry). supports_of es v) (y.others i apart)
-  ]) r.reduced;
-  covered = λ k high on. record {
-    each = λ w some. absurd
-        (let up = on_high t a k r.family.is_tree on in omega
-        (arith, b.none k w, ap (λ (es : List Entry). count_of (marks es) w) (y.others k (omega arith))));
-  };
-  bare = λ e i apart v. ap (λ (es : List Entry). count_of (marks es) v) (y.others i apart) ∙ b.none i v;
-}
-
 -- an insertion
 pub all_inserted : (t : Tree) (old mid new : List Table) (a : ℕ) (us : List (List ℕ)) → IsReducts (both t old)
     → a < t.leaves → IsBare old → HaveCome t old mid a us → CameAs true old mid → IsTouchedUp t mid new a
@@ -287,50 +271,6 @@ pub inserted_all : (t : Tree) (old mid new : List Table) (a : ℕ) (u : List ℕ
     → IsWalked t mid new a false (length t.nodes) → HasInserted (both t old) (both t new) a u
 inserted_all t old mid new a u r h b l p x walk = inserted_one (both t old) (both t new) a u
     (all_inserted t old mid new a (u ∷ []) r h b (lived_come t old mid a u r h l) p x walk)
-
--- a tuple is marked for a removal
-pub marked_all : (t : Tree) (old mid new : List Table) (a : ℕ) (u : List ℕ) → IsReducts (both t old) → a < t.leaves
-    → IsBare old → 0 < count_of (entries_at old a) u → IsTouched t old mid a (λ v. one_if (same u v))
-    → IsTouchedUp t mid new a
-    → IsWalked t mid new a true (length t.nodes) → HasMarked (both t old) (both t new) a u
-marked_all t old mid new a u r h b there y x walk = record {
-  sound = reducts_same t old new r x.family all;
-  tree = refl;
-  tables = tables_same t old new r.family x.family all;
-  marked = λ v. ap (λ (es : List Entry). count_of (marks es) v) (x.leaves a h) ∙ mark v;
-  are_marks = record {
-    path = record {
-      off = λ i off v. ap (λ (es : List Entry). count_of (marks es) v) (x.off i off ∙ y.others i off.0)
-          ∙ b.none i v;
-    };
-    low = λ k second on. walk.low k (on_within t a k on) second refl on;
-    high = λ k second on. walk.high k (on_within t a k on) second on;
-  };
-}
-  where
-    all : (i : ℕ) (v : List ℕ) → supports_of (entries_at new i) v ≡ supports_of (entries_at old i) v
-    all i v = x.supports i v ∙ elim (cases_eq i a) [
-      | inl here ↦ subst (λ (z : ℕ). supports_of (entries_at mid z) v ≡ supports_of (entries_at old z) v) (sym here)
-          (y.supports v)
-      | inr apart ↦ ap (λ (es : List Entry). supports_of es v) (y.others i apart)
-    ]
-
-    mark : (v : List ℕ) → count_of (marks (entries_at mid a)) v ≡ one_if (same u v)
-    mark v =
-        elim (same_cases u v) [
-          | inl here ↦ (
-              let test = one_true (same u v) (is_same u v here) in
-              let some : 0 < count_of (entries_at old a) v = subst (λ (w : List ℕ). 0 < count_of (entries_at old a) w)
-              here there
-              in
-              omega (arith, y.comes v some (omega arith), once t mid y.family a v, cnt_split (entries_at mid a) v))
-          | inr other ↦ (
-              let test = one_other u v other in
-              elim (cases_lt 0 (count_of (marks (entries_at mid a)) v)) [
-                | inl some ↦ absurd (omega (arith, y.only v some, b.none a v))
-                | inr none ↦ omega arith
-              ])
-        ]
 
 -- the marked tuples go, one after another
 pub record IsTaking (t : Tree) (old new : List Table) (a : ℕ) : Type 0 where

@@ -18,6 +18,10 @@ after_refusal t n x = x + 18 * (paths t * n)
 abbrev pub after_mark : Tree → ℕ → ℕ → ℕ
 after_mark t n x = x + 6 * (paths t * n)
 
+-- what goes with the marked tuples of a leaf is marked
+abbrev pub after_mark_above : Tree → ℕ → ℕ → ℕ
+after_mark_above t n x = x + paths t * (1 + 5 * n)
+
 -- an insertion ends: its marks are cleared
 abbrev pub after_keep : Tree → ℕ → ℕ → ℕ
 after_keep t n x = x + paths t * (1 + n)

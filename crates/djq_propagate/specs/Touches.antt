@@ -80,9 +80,17 @@ pub record CanWalk (t : Tree) (ts : List Table) (a : ℕ) (removal : Bool) : Typ
       → IsCovered (node_at t.nodes k) ts (path_at t.nodes a k) k
   pub bare : removal ≡ true → (i : ℕ) → i ≢ a → (v : List ℕ) → count_of (marks (entries_at ts i)) v ≡ 0
 
--- at most one tuple is marked in each table
-pub record HaveFew (ts : List Table) : Type 0 where
-  pub each : (i : ℕ) → length (marks (entries_at ts i)) ≤ 1
+-- at most n tuples are marked in each table
+pub record HaveMarksUpTo (n : ℕ) (ts : List Table) : Type 0 where
+  pub each : (i : ℕ) → length (marks (entries_at ts i)) ≤ n
+
+-- at most one is
+abbrev pub HaveFew : List Table → Type 0
+HaveFew ts = HaveMarksUpTo 1 ts
+
+-- no tuple of another node than a is marked
+pub record HaveMarksOnlyAt (ts : List Table) (a : ℕ) : Type 0 where
+  pub none : (i : ℕ) → i ≢ a → (v : List ℕ) → count_of (marks (entries_at ts i)) v ≡ 0
 
 -- those tuples of the nodes with numbers below k are marked that are to be, and no others
 pub record IsWalked (t : Tree) (old new : List Table) (a : ℕ) (removal : Bool) (k : ℕ) : Type 0 where

@@ -1,5 +1,5 @@
 -- What the calls of an update leave.
-use Rattle.std.specs.Prelude.{◌≡◌, ◌≢◌, ℕ, zero, suc, ◌+◌, ◌<◌, ◌≤◌, true, List, length}
+use Rattle.std.specs.Prelude.{◌≡◌, ◌≢◌, ◌↔◌, ◌⊎◌, ℕ, zero, suc, ◌+◌, ◌<◌, ◌≤◌, true, List, length}
 use Rattle.djq_index.specs.Tuple.{same, one_if}
 use Rattle.djq_index.specs.Entries.{supports_of, count_of, marks}
 use Rattle.djq_index.specs.Table.{Table}
@@ -10,6 +10,7 @@ use Rattle.djq_reduct.specs.Tables.{entries_at}
 use Rattle.djq_reduct.specs.Reducts.{Reducts, IsReducts, IsFamily, SameTables}
 use Rattle.djq_reduct.specs.Marks.{on_path, IsOff, IsBare, AreMarks, IsWithout}
 use Rattle.djq_propagate.specs.Walks.{Fewer}
+use Rattle.djq_propagate.specs.Touches.{HaveMarksOnlyAt}
 
 -- the tuple u came to the leaf a, and is the marked one there
 pub record HasInserted (old new : Reducts) (a : ℕ) (u : List ℕ) : Type 0 where
@@ -24,6 +25,27 @@ pub record HasMarked (old new : Reducts) (a : ℕ) (u : List ℕ) : Type 0 where
   pub tree : new.tree ≡ old.tree
   pub tables : SameTables old new
   pub marked : (v : List ℕ) → count_of (marks (entries_at new.tables a)) v ≡ one_if (same u v)
+  pub are_marks : AreMarks new.tree new.tables a
+
+-- the tuple u of the leaf a is marked, too, and all tables hold what they held
+pub record HasMarkedMore (old new : Reducts) (a : ℕ) (u : List ℕ) : Type 0 where
+  pub sound : IsReducts new
+  pub tree : new.tree ≡ old.tree
+  pub tables : SameTables old new
+  pub marked : (v : List ℕ) → (0 < count_of (marks (entries_at new.tables a)) v)
+      ↔ ((0 < count_of (marks (entries_at old.tables a)) v) ⊎ (u ≡ v))
+  pub few : length (marks (entries_at new.tables a)) ≤ length (marks (entries_at old.tables a)) + 1
+  pub more : count_of (marks (entries_at old.tables a)) u ≡ 0
+      → length (marks (entries_at old.tables a)) + 1 ≤ length (marks (entries_at new.tables a))
+  pub only : HaveMarksOnlyAt new.tables a
+
+-- what goes with the marked tuples of the leaf a is marked, and all tables hold what they held
+pub record HasMarkedAbove (old new : Reducts) (a : ℕ) : Type 0 where
+  pub sound : IsReducts new
+  pub tree : new.tree ≡ old.tree
+  pub tables : SameTables old new
+  pub marked : (v : List ℕ) → count_of (marks (entries_at new.tables a)) v
+      ≡ count_of (marks (entries_at old.tables a)) v
   pub are_marks : AreMarks new.tree new.tables a
 
 -- all tables hold what they held, without a mark

@@ -1,11 +1,13 @@
 //! The calls of an update of many tuples of one leaf.
 
 ghost use Rattle.std.specs.Prelude.{ℕ, ◌+◌, ◌<◌, ◌≤◌, length, IfOk, OnErr};
+ghost use Rattle.djq_tree.specs.Flat.{HasEqualMeets};
 ghost use Rattle.djq_tree.specs.Labels.{label_at};
 ghost use Rattle.djq_reduct.specs.Tables.{entries_at};
 ghost use Rattle.djq_reduct.specs.Marks.{IsBare};
 ghost use Rattle.djq_propagate.specs.Batches.{AreNew, AreThere, HasInsertedAll, HasGainedAll, HasLostAll};
 ghost use Rattle.djq_propagate.specs.Bounds.{after_insert, after_refusal, after_add, after_take};
+ghost use Rattle.djq_propagate.specs.Touches.{HaveMarksUpTo};
 ghost use Rattle.djq_propagate.specs.Updates.{HasKept, HasAtMost};
 ghost use Rattle.djq_index.specs.declared.table.TheConstants.{TUPLES};
 
@@ -21,7 +23,8 @@ use std::sync::ledger::Ledger;
 /// by [`undo_insertion`](crate::undo_insertion). Without tuples it marks nothing, and is to be ended, too. It
 /// fails only for want of memory, and then all tables hold what they held, without marks.
 ///
-/// Its bound is that of [`insert_leaf`](crate::insert_leaf), with all tuples that are to come counted in.
+/// Its bound is that of [`insert_leaf`](crate::insert_leaf), with all tuples that are to come counted in. Over a tree of
+/// equal meets it is what it would be if no leaf had more tuples than come.
 pub fn insert_leaf_many<L: Ledger>(
     reducts: &mut Reducts,
     leaf: usize,
@@ -40,6 +43,9 @@ pub fn insert_leaf_many<L: Ledger>(
     ensures bounded { OnErr result ((n : ℕ) → HasAtMost reducts.old n
         → length (entries_at reducts.old.tables leaf) + length tuples.now ≤ n
         → tally.new ≤ after_refusal reducts.old.tree n tally.old) }
+    ensures few { IfOk result (λ _. HasEqualMeets reducts.old.tree → HaveMarksUpTo (length tuples.now) reducts.new.tables) }
+    ensures flat { IfOk result (λ _. (n : ℕ) → 0 < n → length tuples.now ≤ n → HasEqualMeets reducts.old.tree
+        → tally.new ≤ after_insert reducts.old.tree n tally.old) }
 {
     insert_all(
         &reducts.tree,
@@ -73,6 +79,8 @@ pub fn add_leaf_many<L: Ledger>(
     ensures bounded { OnErr result ((n : ℕ) → HasAtMost reducts.old n
         → length (entries_at reducts.old.tables leaf) + length tuples.now ≤ n
         → tally.new ≤ after_refusal reducts.old.tree n tally.old) }
+    ensures flat { IfOk result (λ _. (n : ℕ) → length tuples.now ≤ n → HasEqualMeets reducts.old.tree
+        → tally.new ≤ after_add reducts.old.tree n tally.old) }
 {
     insert_all(
         &reducts.tree,

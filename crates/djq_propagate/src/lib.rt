@@ -22,7 +22,9 @@
 //! by the same steps, and mark nothing.
 //!
 //! Many tuples of one leaf may come in one update: [`insert_leaf_many`] puts them in, and it ends as
-//! that of one tuple does; [`add_leaf_many`] and [`drop_leaf_many`] mark nothing.
+//! that of one tuple does; [`add_leaf_many`] and [`drop_leaf_many`] mark nothing. Many go where
+//! [`mark_tuple`] marks them one by one, [`mark_above`] then marks what goes with them all, and
+//! [`finish_removal`] takes them out.
 //!
 //! It lists no answer, and it knows no relation: a self-join's row goes into its leaves one after
 //! another.
@@ -50,6 +52,6 @@ mod update;
 
 pub use batch::{add_leaf_many, drop_leaf_many, insert_leaf_many};
 pub use update::{
-    add_leaf, counts_add_up, drop_leaf, finish_insertion, finish_removal, insert_leaf,
-    mark_removal, undo_insertion,
+    add_leaf, counts_add_up, drop_leaf, finish_insertion, finish_removal, insert_leaf, mark_above,
+    mark_removal, mark_tuple, undo_insertion,
 };

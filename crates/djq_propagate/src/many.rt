@@ -1,6 +1,7 @@
 //! Many tuples come to a leaf, one after another, or go from it.
 
 ghost use Rattle.std.specs.Prelude.{◌≡◌, ℕ, ◌+◌, ◌*◌, ◌<◌, ◌≤◌, length, take, IfOk, OnErr};
+ghost use Rattle.djq_tree.specs.Flat.{HasEqualMeets};
 ghost use Rattle.djq_tree.specs.Labels.{label_at};
 ghost use Rattle.djq_reduct.specs.Tables.{entries_at};
 ghost use Rattle.djq_reduct.specs.Reducts.{IsReducts};
@@ -40,6 +41,8 @@ pub(crate) fn insert_all<L: Ledger>(
     ensures refused { OnErr result (HasKept (record { tree = tree.now; tables = tables.old.items })
         (record { tree = tree.now; tables = tables.new.items })) }
     ensures counted { IfOk result (λ _. tally.new + 4 * size tables.old.items ≤ tally.old + 4 * size tables.new.items) }
+    ensures grows { IfOk result (λ _. HasEqualMeets tree.now → (j : ℕ) → length (entries_at tables.new.items j)
+        ≤ length (entries_at tables.old.items j) + length tuples.now) }
     ensures bounded { OnErr result ((n : ℕ) → HasAtMost
         (record { tree = tree.now; tables = tables.old.items }) n
         → length (entries_at tables.old.items leaf) + length tuples.now ≤ n

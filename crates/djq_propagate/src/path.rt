@@ -8,7 +8,7 @@ ghost use Rattle.djq_tree.specs.Tree.{node_at, has_child};
 ghost use Rattle.djq_reduct.specs.Tables.{entries_at};
 ghost use Rattle.djq_reduct.specs.Reducts.{IsFamily, IsReducts};
 ghost use Rattle.djq_propagate.specs.Sizes.{size};
-ghost use Rattle.djq_propagate.specs.Touches.{CanWalk, HaveFew, IsTouched, IsTouchedUp, IsWalked, reach};
+ghost use Rattle.djq_propagate.specs.Touches.{CanWalk, HaveMarksUpTo, IsTouched, IsTouchedUp, IsWalked, reach};
 ghost use Rattle.djq_propagate.specs.Walks.{ChangedOneTable};
 ghost use Rattle.djq_propagate.specs.Updates.{HasCleared, HasTaken, steps};
 
@@ -46,8 +46,8 @@ fn touch_above<L: Ledger>(
     ensures apart { has_child (node_at tree.now.nodes up) at ≡ false → tables.new.items ≡ tables.old.items }
     ensures counted { (n : ℕ) → ((i : ℕ) → length (entries_at tables.old.items i) ≤ n)
         → tally.new ≤ tally.old + one_if (has_child (node_at tree.now.nodes up) at) * (1 + 5 * n) }
-    ensures flat { HasEqualMeets tree.now → length (marks (entries_at tables.old.items at)) ≤ 1
-        → tally.new ≤ tally.old + one_if (has_child (node_at tree.now.nodes up) at) * 6 }
+    ensures flat { (n : ℕ) → HasEqualMeets tree.now → length (marks (entries_at tables.old.items at)) ≤ n
+        → tally.new ≤ tally.old + one_if (has_child (node_at tree.now.nodes up) at) * (1 + 5 * n) }
 {
     if tree.node(up).has_child(at) {
         if up >= tree.second_stage() {
@@ -78,9 +78,10 @@ pub(crate) fn touch_path<L: Ledger>(
     ensures walked { IsWalked tree.now tables.old.items tables.new.items leaf removal (length tree.now.nodes) }
     ensures counted { (n : ℕ) → ((i : ℕ) → length (entries_at tables.old.items i) ≤ n)
         → tally.new ≤ tally.old + steps tree.now.nodes leaf (length tree.now.nodes) * (1 + 5 * n) }
-    ensures few { HasEqualMeets tree.now → HaveFew tables.old.items → HaveFew tables.new.items }
-    ensures flat { HasEqualMeets tree.now → HaveFew tables.old.items
-        → tally.new ≤ tally.old + steps tree.now.nodes leaf (length tree.now.nodes) * 6 }
+    ensures few { (n : ℕ) → HasEqualMeets tree.now → HaveMarksUpTo n tables.old.items
+        → HaveMarksUpTo n tables.new.items }
+    ensures flat { (n : ℕ) → HasEqualMeets tree.now → HaveMarksUpTo n tables.old.items
+        → tally.new ≤ tally.old + steps tree.now.nodes leaf (length tree.now.nodes) * (1 + 5 * n) }
 {
     let mut at = leaf;
     for up in 0..tree.len() {
@@ -105,8 +106,8 @@ fn clear_above<L: Ledger>(
     ensures apart { has_child (node_at tree.now.nodes up) at ≡ false → tables.new.items ≡ tables.old.items }
     ensures counted { (n : ℕ) → ((i : ℕ) → length (entries_at tables.old.items i) ≤ n)
         → tally.new ≤ tally.old + one_if (has_child (node_at tree.now.nodes up) at) * (1 + n) }
-    ensures flat { HaveFew tables.old.items → tally.new ≤ tally.old + one_if
-        (has_child (node_at tree.now.nodes up) at) * 2 }
+    ensures flat { (n : ℕ) → HaveMarksUpTo n tables.old.items → tally.new ≤ tally.old + one_if
+        (has_child (node_at tree.now.nodes up) at) * (1 + n) }
 {
     if tree.node(up).has_child(at) {
         tables[up].clear_marks(tally);
@@ -128,8 +129,8 @@ pub(crate) fn clear_path<L: Ledger>(
     ensures counted { (n : ℕ) → ((i : ℕ) → length (entries_at tables.old.items i) ≤ n)
         → tally.new ≤ tally.old + (1 + steps tree.now.nodes leaf (length tree.now.nodes))
         * (1 + n) }
-    ensures flat { HaveFew tables.old.items → tally.new ≤ tally.old + (1 + steps tree.now.nodes leaf
-        (length tree.now.nodes)) * 2 }
+    ensures flat { (n : ℕ) → HaveMarksUpTo n tables.old.items → tally.new ≤ tally.old
+        + (1 + steps tree.now.nodes leaf (length tree.now.nodes)) * (1 + n) }
 {
     tables[leaf].clear_marks(tally);
     let mut at = leaf;
@@ -150,6 +151,8 @@ pub(crate) fn take_marked<L: Ledger>(
     ensures taken { HasTaken (record { tree = tree.now; tables = tables.old.items })
         (record { tree = tree.now; tables = tables.new.items }) leaf }
     ensures counted { tally.new + 5 * size tables.new.items ≤ tally.old + 1 + 5 * size tables.old.items }
+    ensures flat { HasEqualMeets tree.now → size tables.old.items ≤ size tables.new.items
+        + length (marks (entries_at tables.old.items leaf)) * (1 + steps tree.now.nodes leaf (length tree.now.nodes)) }
 {
     let count = tables[leaf].len();
     let mut tuple = Cells::new(0);

@@ -176,8 +176,8 @@ pub(crate) fn touch_step<L: Ledger>(
         (marks (entries_at tables.old.items at)) v) }
     ensures counted { (n : ℕ) → ((i : ℕ) → length (entries_at tables.old.items i) ≤ n)
         → tally.new ≤ tally.old + 1 + 5 * n }
-    ensures flat { HasEqualMeets tree.now → length (marks (entries_at tables.old.items at)) ≤ 1
-        → tally.new ≤ tally.old + 6 }
+    ensures flat { (n : ℕ) → HasEqualMeets tree.now → length (marks (entries_at tables.old.items at)) ≤ n
+        → tally.new ≤ tally.old + 1 + 5 * n }
 {
     let table = &tables[at];
     let count = table.len();

@@ -1,7 +1,7 @@
 //! The calls of an update. Over a tree of equal meets each of them counts at most what it would if no leaf
 //! had more than one tuple.
 
-ghost use Rattle.std.specs.Prelude.{◌≡◌, ℕ, ◌<◌, ◌≤◌, List, length, IfOk, OnErr};
+ghost use Rattle.std.specs.Prelude.{◌≡◌, ℕ, ◌+◌, ◌<◌, ◌≤◌, List, length, IfOk, OnErr};
 ghost use Rattle.djq_index.specs.Entries.{count_of};
 ghost use Rattle.djq_tree.specs.Flat.{HasEqualMeets};
 ghost use Rattle.djq_tree.specs.Labels.{label_at};
@@ -9,12 +9,12 @@ ghost use Rattle.djq_reduct.specs.Tables.{entries_at};
 ghost use Rattle.djq_reduct.specs.Reducts.{IsReducts, SameTables};
 ghost use Rattle.djq_reduct.specs.Reducts as spec;
 ghost use Rattle.djq_reduct.specs.Marks.{IsBare, AreOnPath, IsWithout};
-ghost use Rattle.djq_propagate.specs.Touches.{HaveFew};
-ghost use Rattle.djq_propagate.specs.Updates.{HasInserted, HasMarked, HasKept, HasDropped};
+ghost use Rattle.djq_propagate.specs.Touches.{HaveFew, HaveMarksUpTo, HaveMarksOnlyAt};
+ghost use Rattle.djq_propagate.specs.Updates.{HasInserted, HasMarked, HasMarkedMore, HasMarkedAbove, HasKept, HasDropped};
 ghost use Rattle.djq_propagate.specs.Updates.{HasGained, HasLost, HasAtMost};
 ghost use Rattle.djq_propagate.specs.Bounds.{after_insert, after_refusal, after_mark, after_keep};
 ghost use Rattle.djq_propagate.specs.Bounds.{after_drop, after_add, after_take, HasVariables};
-ghost use Rattle.djq_propagate.specs.Bounds.{AddUp};
+ghost use Rattle.djq_propagate.specs.Bounds.{AddUp, after_mark_above};
 ghost use Rattle.djq_index.specs.declared.table.TheConstants.{TUPLES};
 
 use crate::insertion::insert_tuple;
@@ -128,13 +128,44 @@ pub fn mark_removal<L: Ledger>(
     touch_path(&reducts.tree, &mut reducts.tables, leaf, true, tally);
 }
 
+/// Marks one tuple more of a leaf for a removal of many, where no other node has marks. It takes no memory.
+pub fn mark_tuple<L: Ledger>(
+    reducts: &mut Reducts,
+    leaf: usize,
+    tuple: &[u64],
+    tally: &mut Tally<L>,
+)
+    requires leaf { leaf < reducts.old.tree.leaves }
+    requires there { 0 < count_of (entries_at reducts.old.tables leaf) tuple.now }
+    requires only { HaveMarksOnlyAt reducts.old.tables leaf }
+    ensures marked { HasMarkedMore reducts.old reducts.new leaf tuple.now }
+    ensures counted { tally.new ≤ tally.old + 2 }
+{
+    touch_tuple(&reducts.tree, &mut reducts.tables, leaf, tuple, tally);
+}
+
+/// Marks what goes with the marked tuples of a leaf, however many, for a removal that [`finish_removal`] ends.
+/// It takes no memory.
+pub fn mark_above<L: Ledger>(reducts: &mut Reducts, leaf: usize, tally: &mut Tally<L>)
+    requires leaf { leaf < reducts.old.tree.leaves }
+    requires only { HaveMarksOnlyAt reducts.old.tables leaf }
+    ensures marked { HasMarkedAbove reducts.old reducts.new leaf }
+    ensures counted { (n : ℕ) → HasAtMost reducts.old n → tally.new ≤ after_mark_above reducts.old.tree n tally.old }
+    ensures few { (n : ℕ) → HasEqualMeets reducts.old.tree → HaveMarksUpTo n reducts.old.tables
+        → HaveMarksUpTo n reducts.new.tables }
+    ensures flat { (n : ℕ) → HasEqualMeets reducts.old.tree → HaveMarksUpTo n reducts.old.tables
+        → tally.new ≤ after_mark_above reducts.old.tree n tally.old }
+{
+    touch_path(&reducts.tree, &mut reducts.tables, leaf, true, tally);
+}
+
 /// Ends an insertion into a leaf: the marks are cleared. It takes no memory.
 pub fn finish_insertion<L: Ledger>(reducts: &mut Reducts, leaf: usize, tally: &mut Tally<L>)
     requires leaf { leaf < reducts.old.tree.leaves }
     requires path { AreOnPath reducts.old.tree reducts.old.tables leaf }
     ensures kept { HasKept reducts.old reducts.new }
     ensures counted { (n : ℕ) → HasAtMost reducts.old n → tally.new ≤ after_keep reducts.old.tree n tally.old }
-    ensures flat { HaveFew reducts.old.tables → tally.new ≤ after_keep reducts.old.tree 1 tally.old }
+    ensures flat { (n : ℕ) → HaveMarksUpTo n reducts.old.tables → tally.new ≤ after_keep reducts.old.tree n tally.old }
 {
     clear_path(&reducts.tree, &mut reducts.tables, leaf, tally);
 }
@@ -145,8 +176,8 @@ pub fn finish_removal<L: Ledger>(reducts: &mut Reducts, leaf: usize, tally: &mut
     requires path { AreOnPath reducts.old.tree reducts.old.tables leaf }
     ensures dropped { HasDropped reducts.old reducts.new leaf }
     ensures counted { (n : ℕ) → HasAtMost reducts.old n → tally.new ≤ after_drop reducts.old.tree n tally.old }
-    ensures flat { HasEqualMeets reducts.old.tree → HaveFew reducts.old.tables
-        → tally.new ≤ after_drop reducts.old.tree 1 tally.old }
+    ensures flat { (n : ℕ) → HasEqualMeets reducts.old.tree → HaveMarksUpTo n reducts.old.tables
+        → tally.new ≤ after_drop reducts.old.tree n tally.old }
 {
     take_marked(&reducts.tree, &mut reducts.tables, leaf, tally);
     clear_path(&reducts.tree, &mut reducts.tables, leaf, tally);
@@ -161,8 +192,8 @@ pub fn undo_insertion<L: Ledger>(reducts: &mut Reducts, leaf: usize, tally: &mut
     ensures back { (before : spec.Reducts) → IsReducts before → IsWithout reducts.old before leaf
         → SameTables before reducts.new }
     ensures counted { (n : ℕ) → HasAtMost reducts.old n → tally.new ≤ after_drop reducts.old.tree n tally.old }
-    ensures flat { HasEqualMeets reducts.old.tree → HaveFew reducts.old.tables
-        → tally.new ≤ after_drop reducts.old.tree 1 tally.old }
+    ensures flat { (n : ℕ) → HasEqualMeets reducts.old.tree → HaveMarksUpTo n reducts.old.tables
+        → tally.new ≤ after_drop reducts.old.tree n tally.old }
 {
     finish_removal(reducts, leaf, tally);
 }

@@ -25,6 +25,17 @@ returns-clause-counted g c = rw (← c.reducts.view_is) (
     (λ i. let s = sized c.reducts.inside.tree c.insert_all.new.tables.items n come.sound few i in omega arith)
     c.in_ok-insert_all.ensures.counted)
 
+pub returns-clause-flat : goal.returns-clause-flat
+returns-clause-flat g c = rw (← c.reducts.view_is) (
+    λ n room meets.
+    come_by c.reducts.inside.tree c.reducts.inside.tables.items c.insert_all.new.tables.items c.args.leaf
+    c.args.tuples.now n c.args.tally.now c.insert_all.new.tally c.reducts.invariant.0 c.in_ok-insert_all.ensures.come
+    (λ i. omega (arith, room, c.in_ok-insert_all.ensures.grows meets i))
+    c.in_ok-insert_all.ensures.counted)
+
+pub returns-in_err-insert_all-clause-flat : goal.returns-in_err-insert_all-clause-flat
+returns-in_err-insert_all-clause-flat g c = search rules
+
 pub returns-in_err-insert_all-clause-refused : goal.returns-in_err-insert_all-clause-refused
 returns-in_err-insert_all-clause-refused g c = rw (← c.reducts.view_is) (
     on_err c.from_residual.result

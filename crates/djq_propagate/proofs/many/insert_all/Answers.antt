@@ -5,6 +5,7 @@ use Rattle.djq_reduct.specs.Tables.{entries_at}
 use Rattle.djq_propagate.specs.Batches.{HaveCome}
 use Rattle.djq_propagate.proofs.Batches.{read_as, come_none, come_more, come_refused, come_there, come_length}
 use Rattle.djq_propagate.proofs.Batches.{next_absent, next_wide, back_kept, refused_counted}
+use Rattle.djq_propagate.proofs.Additions.{one_come}
 use Rattle.djq_propagate.proofs.PathMarks.{plain_refl, plain_trans, still_bare}
 use Rattle.djq_propagate.proofs.Updates.{leaf_within, ready_leaf}
 use Rattle.djq_propagate.proofs.many.insert_all.Goals as goal
@@ -13,6 +14,7 @@ pub loop-i-init : goal.loop-i-init
 loop-i-init g c = record {
   come = come_none c.args.tree.now c.args.tables.now.items c.args.leaf c.args.tuples.now c.requires.reducts;
   unchanged = plain_refl c.args.tables.now.items;
+  grows = λ meets j. omega arith;
   counted = omega arith;
 }
 
@@ -58,6 +60,12 @@ loop-i-preserved g c = record {
       c.index-tuples-i.is) c.loop-i.invariant.come c.in-Ok.ensures.ok;
   unchanged = plain_trans c.args.tables.now.items c.loop-i.tables.items c.insert_tuple.new.tables.items
       c.loop-i.invariant.unchanged c.insert_tuple.ensures.plain;
+  grows = λ meets j. omega (
+    arith,
+    c.loop-i.invariant.grows meets j,
+    one_come c.args.tree.now c.loop-i.tables.items c.insert_tuple.new.tables.items c.args.leaf _ meets
+        c.loop-i.invariant.come.sound c.requires.leaf c.in-Ok.ensures.ok j,
+  );
   counted = omega (arith, c.loop-i.invariant.counted, c.in-Ok.ensures.counted);
 }
 
@@ -111,6 +119,13 @@ returns-clause-come g c =
 
 pub returns-clause-plain : goal.returns-clause-plain
 returns-clause-plain g c = c.loop-i.invariant.unchanged
+
+pub returns-clause-grows : goal.returns-clause-grows
+returns-clause-grows g c = λ meets j. omega (
+  arith,
+  c.loop-i.invariant.grows meets j,
+  c.loop-i.auto.i-end,
+)
 
 pub returns-clause-counted : goal.returns-clause-counted
 returns-clause-counted g c = c.loop-i.invariant.counted

@@ -42,9 +42,9 @@ returns-then-has_child g c =
         length_read r,
         h c.args.up,
       );
-      flat = λ few. omega (
+      flat = λ n few. omega (
         arith,
-        ap (λ (x : ℕ). x * 2) (one_true (has_child (node_at c.args.tree.now.nodes c.args.up) c.args.at) yes),
+        ap (λ (x : ℕ). x * (1 + n)) (one_true (has_child (node_at c.args.tree.now.nodes c.args.up) c.args.at) yes),
         c.clear_marks.ensures.counted,
         ap (λ (es : List Entry). length es) (marks_read r),
         few.each c.args.up,
@@ -61,5 +61,5 @@ returns g c =
       changed = λ child. absurd (false≢true (sym no ∙ child));
       apart = λ none. refl;
       counted = λ n h. omega arith;
-      flat = λ few. omega arith;
+      flat = λ n few. omega arith;
     }

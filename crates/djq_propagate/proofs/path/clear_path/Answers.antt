@@ -27,13 +27,13 @@ pub loop-up-init : goal.loop-up-init
 loop-up-init g c =
     let r = family_read c.args.tree.now c.args.tables.now.items c.args.leaf c.index_mut.result.now c.requires.family
     (leaf_within c.args.tree.now c.args.leaf c.requires.family.is_tree c.requires.leaf) c.index_mut.ensures.value in
-    let n = cleared_into r c.clear_marks.ensures.table c.clear_marks.ensures.key c.clear_marks.ensures.width
+    let y = cleared_into r c.clear_marks.ensures.table c.clear_marks.ensures.key c.clear_marks.ensures.width
     c.clear_marks.ensures.cleared in
     record {
       at = sym (path_zero c.args.tree.now.nodes c.args.leaf);
       cleared = cleared_leaf c.args.tree.now c.args.tables.now.items
           (slice_set c.args.tables.now.items c.args.leaf c.clear_marks.new.self) c.args.leaf
-          c.requires.family n.changed n.cleared;
+          c.requires.family y.changed y.cleared;
       counted = λ n h. let s : (1 + steps c.args.tree.now.nodes c.args.leaf 0) * (1 + n)
           ≡ 1 * (1 + n) = ap (λ (x : ℕ). (1 + x) * (1 + n)) (steps_none c.args.tree.now.nodes c.args.leaf) in omega (
             arith,
@@ -43,11 +43,11 @@ loop-up-init g c =
             h
                 c.args.leaf,
           );
-      few = few_cleared c.args.tables.now.items (slice_set c.args.tables.now.items c.args.leaf c.clear_marks.new.self)
-          c.args.leaf n.changed
-          n.cleared;
-      flat = λ few. let s : (1 + steps c.args.tree.now.nodes c.args.leaf 0) * 2
-          ≡ 1 * 2 = ap (λ (x : ℕ). (1 + x) * 2) (steps_none c.args.tree.now.nodes c.args.leaf) in omega (
+      few = λ n few. few_cleared n c.args.tables.now.items (slice_set c.args.tables.now.items c.args.leaf c.clear_marks.new.self)
+          c.args.leaf y.changed
+          y.cleared few;
+      flat = λ n few. let s : (1 + steps c.args.tree.now.nodes c.args.leaf 0) * (1 + n)
+          ≡ 1 * (1 + n) = ap (λ (x : ℕ). (1 + x) * (1 + n)) (steps_none c.args.tree.now.nodes c.args.leaf) in omega (
             arith,
             c.clear_marks.ensures.counted,
             ap (λ (es : List Entry). length es) (marks_read r),
@@ -84,17 +84,17 @@ loop-up-preserved g c =
           (c.loop-up.invariant.counted n h)
           (c.clear_above-at.ensures.counted n
           (λ i. let e = c.loop-up.invariant.cleared.long i in let b = h i in omega arith));
-      few = λ few. few_clear_more (node_at c.args.tree.now.nodes c.loop-up.up) c.loop-up.tables.items
+      few = λ n few. few_clear_more n (node_at c.args.tree.now.nodes c.loop-up.up) c.loop-up.tables.items
           c.clear_above-at.new.tables.items c.loop-up.at c.loop-up.up c.clear_above-at.ensures.cleared
-          c.clear_above-at.ensures.changed c.clear_above-at.ensures.apart (c.loop-up.invariant.few few);
-      flat = λ few. steps_count (1 + steps c.args.tree.now.nodes c.args.leaf (c.loop-up.up + 1))
+          c.clear_above-at.ensures.changed c.clear_above-at.ensures.apart (c.loop-up.invariant.few n few);
+      flat = λ n few. steps_count (1 + steps c.args.tree.now.nodes c.args.leaf (c.loop-up.up + 1))
           (1 + steps c.args.tree.now.nodes c.args.leaf c.loop-up.up)
-          (one_if (has_child (node_at c.args.tree.now.nodes c.loop-up.up) c.loop-up.at)) 2 c.loop-up.tally
+          (one_if (has_child (node_at c.args.tree.now.nodes c.loop-up.up) c.loop-up.at)) (1 + n) c.loop-up.tally
           c.args.tally.now
           c.clear_above-at.new.tally
           (let s = steps_more c.args.tree.now.nodes c.args.leaf c.loop-up.up c.loop-up.at c.loop-up.invariant.at in
           omega arith)
-          (c.loop-up.invariant.flat few) (c.clear_above-at.ensures.flat (c.loop-up.invariant.few few));
+          (c.loop-up.invariant.flat n few) (c.clear_above-at.ensures.flat n (c.loop-up.invariant.few n few));
     }
 
 pub returns-clause-cleared : goal.returns-clause-cleared
@@ -121,5 +121,5 @@ returns-clause-flat g c =
     let h = c.loop-up-test.false in
     let x = c.loop-up.auto.up-end in
     let e : c.loop-up.up ≡ length c.args.tree.now.nodes = omega arith in
-    λ few. subst (λ (k : ℕ). c.loop-up.tally ≤ c.args.tally.now + (1 + steps c.args.tree.now.nodes c.args.leaf k) * 2) e
-    (c.loop-up.invariant.flat few)
+    λ n few. subst (λ (k : ℕ). c.loop-up.tally ≤ c.args.tally.now + (1 + steps c.args.tree.now.nodes c.args.leaf k) *
+    (1 + n)) e (c.loop-up.invariant.flat n few)

@@ -1,7 +1,7 @@
 use Rattle.std.proofs.Common.{◌≡◌, ℕ, ◌+◌, ◌*◌, ◌≤◌, length}
 use Rattle.djq_reduct.specs.Tables.{entries_at}
 use Rattle.djq_reduct.specs.Marks.{path_at}
-use Rattle.djq_propagate.specs.Touches.{HaveFew}
+use Rattle.djq_propagate.specs.Touches.{HaveMarksUpTo}
 use Rattle.djq_propagate.specs.Updates.{HasCleared, steps}
 use Rattle.djq_propagate.proofs.path.clear_path.Given as goal
 
@@ -11,6 +11,7 @@ invariant-loop-up g l = record {
   cleared : HasCleared l.tree l.fn.tables.items l.tables.items l.leaf l.up;
   counted : (n : ℕ) → ((i : ℕ) → length (entries_at l.fn.tables.items i) ≤ n)
       → l.tally ≤ l.fn.tally + (1 + steps l.tree.nodes l.leaf l.up) * (1 + n);
-  few : HaveFew l.fn.tables.items → HaveFew l.tables.items;
-  flat : HaveFew l.fn.tables.items → l.tally ≤ l.fn.tally + (1 + steps l.tree.nodes l.leaf l.up) * 2;
+  few : (n : ℕ) → HaveMarksUpTo n l.fn.tables.items → HaveMarksUpTo n l.tables.items;
+  flat : (n : ℕ) → HaveMarksUpTo n l.fn.tables.items
+      → l.tally ≤ l.fn.tally + (1 + steps l.tree.nodes l.leaf l.up) * (1 + n);
 }

@@ -1,10 +1,13 @@
 -- The first marked tuple lies in the leaf, so each round makes the leaf shorter until it has no mark.
-use Rattle.std.proofs.Common.{ℕ, List, ap, sym, subst, ◌∙◌, arith}
+use Rattle.std.proofs.Common.{ℕ, List, length, ap, sym, subst, ◌∙◌, arith}
 use Rattle.djq_index.specs.Table.{IsAt}
 use Rattle.djq_index.specs.Entries.{Entry, marks, head_at}
 use Rattle.djq_index.proofs.Groups.{removed_length}
 use Rattle.djq_reduct.specs.Tables.{entries_at}
+use Rattle.djq_propagate.specs.Sizes.{size}
+use Rattle.djq_propagate.specs.Updates.{steps}
 use Rattle.djq_propagate.specs.Walks.{RemovedUpwards}
+use Rattle.djq_propagate.proofs.Removals.{mark_gone, size_done, size_gone, size_next}
 use Rattle.djq_propagate.proofs.Gains.{width_narrow}
 use Rattle.djq_propagate.proofs.PathMarks.{head_none}
 use Rattle.djq_propagate.proofs.Walks.{has_table, as_live}
@@ -28,6 +31,8 @@ loop-done-init g c =
       taking = taking_none c.args.tree.now c.args.tables.now.items c.args.leaf c.requires.reducts;
       few = omega
           arith;
+      gone = omega arith;
+      flat = λ meets. omega arith;
       counted = omega arith;
     }
 
@@ -101,6 +106,18 @@ loop-done-preserved g c =
         removed_length (entries_at c.loop-done.tables.items c.args.leaf)
             (entries_at c.remove_tuple.new.tables.items c.args.leaf) m.tuple died.loses,
       );
+      gone = omega (
+        arith,
+        c.loop-done.invariant.gone,
+        mark_gone c.args.tree.now c.loop-done.tables.items c.remove_tuple.new.tables.items c.args.leaf m.tuple
+            c.loop-done.invariant.taking.sound died c.remove_tuple.ensures.fewer m.some,
+      );
+      flat = λ meets. size_next c.loop-done._done
+          (steps c.args.tree.now.nodes c.args.leaf (length c.args.tree.now.nodes)) (size c.args.tables.now.items)
+          (size c.loop-done.tables.items) (size c.remove_tuple.new.tables.items)
+          (c.loop-done.invariant.flat meets)
+          (size_gone c.args.tree.now c.loop-done.tables.items c.remove_tuple.new.tables.items c.args.leaf m.tuple meets
+          c.loop-done.invariant.taking.sound c.requires.leaf died);
       counted = omega (
         arith,
         c.loop-done.invariant.counted,
@@ -121,6 +138,13 @@ returns-in-None-clause-taken g c =
     (leaf_within c.args.tree.now c.args.leaf c.requires.reducts.family.is_tree c.requires.leaf)
     c.index-in-loop-done.ensures))) ∙ c.in-None.is)))
 
+pub returns-in-None-clause-flat : goal.returns-in-None-clause-flat
+returns-in-None-clause-flat g c =
+    λ meets. size_done c.loop-done._done _
+    (steps c.args.tree.now.nodes c.args.leaf (length c.args.tree.now.nodes)) (size c.args.tables.now.items)
+    (size c.loop-done.tables.items) (let k = c.loop-done.invariant.gone in omega arith)
+    (c.loop-done.invariant.flat meets)
+
 pub returns-in-None-clause-counted : goal.returns-in-None-clause-counted
 returns-in-None-clause-counted g c =
     omega (arith, c.loop-done.invariant.counted, c.first_marked.ensures.counted)
@@ -137,6 +161,13 @@ returns-clause-taken g c =
     c.loop-done.invariant.taking
     (λ v. no_entry (entries_at c.loop-done.tables.items c.args.leaf) v
     (omega (arith, c.loop-done.invariant.few, c.len-count.ensures, length_read r)))
+
+pub returns-clause-flat : goal.returns-clause-flat
+returns-clause-flat g c =
+    λ meets. size_done c.loop-done._done _
+    (steps c.args.tree.now.nodes c.args.leaf (length c.args.tree.now.nodes)) (size c.args.tables.now.items)
+    (size c.loop-done.tables.items) (let k = c.loop-done.invariant.gone in omega arith)
+    (c.loop-done.invariant.flat meets)
 
 pub returns-clause-counted : goal.returns-clause-counted
 returns-clause-counted g c =

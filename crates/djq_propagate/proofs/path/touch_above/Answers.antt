@@ -150,24 +150,24 @@ returns-clause-counted g c =
 
 pub returns-then-up-second_stage-clause-flat : goal.returns-then-up-second_stage-clause-flat
 returns-then-up-second_stage-clause-flat g c =
-    λ meets few. let b : one_if (has_child (node_at c.args.tree.now.nodes c.args.up) c.args.at) * 6
-    ≡ 1 * 6 = ap (λ (x : ℕ). x * 6)
+    λ n meets few. let b : one_if (has_child (node_at c.args.tree.now.nodes c.args.up) c.args.at) * (1 + 5 * n)
+    ≡ 1 * (1 + 5 * n) = ap (λ (x : ℕ). x * (1 + 5 * n))
     (one_true (has_child (node_at c.args.tree.now.nodes c.args.up) c.args.at)
     (ap (λ n. has_child n c.args.at) (sym c.node.ensures) ∙ sym c.has_child.ensures ∙ c.if-has_child.true)) in omega
-    (arith, c.touch_step.ensures.flat meets few)
+    (arith, c.touch_step.ensures.flat n meets few)
 
 pub returns-then-removal-clause-flat : goal.returns-then-removal-clause-flat
 returns-then-removal-clause-flat g c =
-    λ meets few. let b : one_if (has_child (node_at c.args.tree.now.nodes c.args.up) c.args.at) * 6
-    ≡ 1 * 6 = ap (λ (x : ℕ). x * 6)
+    λ n meets few. let b : one_if (has_child (node_at c.args.tree.now.nodes c.args.up) c.args.at) * (1 + 5 * n)
+    ≡ 1 * (1 + 5 * n) = ap (λ (x : ℕ). x * (1 + 5 * n))
     (one_true (has_child (node_at c.args.tree.now.nodes c.args.up) c.args.at)
     (ap (λ n. has_child n c.args.at) (sym c.node.ensures) ∙ sym c.has_child.ensures ∙ c.if-has_child.true)) in omega
-    (arith, c.touch_step-then-removal.ensures.flat meets few)
+    (arith, c.touch_step-then-removal.ensures.flat n meets few)
 
 pub returns-then-has_child-clause-flat : goal.returns-then-has_child-clause-flat
 returns-then-has_child-clause-flat g c =
-    λ meets few. omega arith
+    λ n meets few. omega arith
 
 pub returns-clause-flat : goal.returns-clause-flat
 returns-clause-flat g c =
-    λ meets few. omega arith
+    λ n meets few. omega arith

@@ -21,9 +21,9 @@ loop-up-init g c =
       walked = walk_none c.args.tree.now
           c.args.tables.now.items c.args.leaf c.args.removal;
       counted = λ n h. omega arith;
-      few = λ meets few. few;
+      few = λ n meets few. few;
       flat =
-          λ meets few. omega arith;
+          λ n meets few. omega arith;
     }
 
 pub touch_above-at-requires-clause-family : goal.touch_above-at-requires-clause-family
@@ -63,21 +63,21 @@ loop-up-preserved g c =
           (c.loop-up.invariant.counted n h)
           (c.touch_above-at.ensures.counted n
           (λ i. let e = c.loop-up.invariant.touched.long i in let b = h i in omega arith));
-      few = λ meets few. few_more c.args.tree.now c.args.tables.now.items c.loop-up.tables.items
+      few = λ n meets few. few_more n c.args.tree.now c.args.tables.now.items c.loop-up.tables.items
           c.touch_above-at.new.tables.items c.args.leaf c.loop-up.up c.loop-up.at c.args.removal meets c.requires.family
           c.requires.leaf c.requires.can
           (let len = c.len-up-end.ensures.count in let h = c.loop-up-test.true in omega arith)
           c.loop-up.invariant.touched c.loop-up.invariant.walked c.loop-up.invariant.at c.touch_above-at.ensures.above
           c.touch_above-at.ensures.below c.touch_above-at.ensures.idle c.touch_above-at.ensures.apart
-          (c.loop-up.invariant.few meets few);
-      flat = λ meets few. steps_count (steps c.args.tree.now.nodes c.args.leaf (c.loop-up.up + 1))
+          (c.loop-up.invariant.few n meets few);
+      flat = λ n meets few. steps_count (steps c.args.tree.now.nodes c.args.leaf (c.loop-up.up + 1))
           (steps c.args.tree.now.nodes c.args.leaf c.loop-up.up)
-          (one_if (has_child (node_at c.args.tree.now.nodes c.loop-up.up) c.loop-up.at)) 6 c.loop-up.tally
+          (one_if (has_child (node_at c.args.tree.now.nodes c.loop-up.up) c.loop-up.at)) (1 + 5 * n) c.loop-up.tally
           c.args.tally.now
           c.touch_above-at.new.tally
           (steps_more c.args.tree.now.nodes c.args.leaf c.loop-up.up c.loop-up.at c.loop-up.invariant.at)
-          (c.loop-up.invariant.flat meets few)
-          (c.touch_above-at.ensures.flat meets ((c.loop-up.invariant.few meets few).each c.loop-up.at));
+          (c.loop-up.invariant.flat n meets few)
+          (c.touch_above-at.ensures.flat n meets ((c.loop-up.invariant.few n meets few).each c.loop-up.at));
     }
 
 pub returns-clause-touched : goal.returns-clause-touched
@@ -112,5 +112,5 @@ returns-clause-flat g c =
     let h = c.loop-up-test.false in
     let x = c.loop-up.auto.up-end in
     let e : c.loop-up.up ≡ length c.args.tree.now.nodes = omega arith in
-    λ meets few. subst (λ (k : ℕ). c.loop-up.tally ≤ c.args.tally.now + steps c.args.tree.now.nodes c.args.leaf k * 6) e
-    (c.loop-up.invariant.flat meets few)
+    λ n meets few. subst (λ (k : ℕ). c.loop-up.tally ≤ c.args.tally.now + steps c.args.tree.now.nodes c.args.leaf k *
+    (1 + 5 * n)) e (c.loop-up.invariant.flat n meets few)

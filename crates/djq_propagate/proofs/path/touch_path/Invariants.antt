@@ -2,7 +2,7 @@ use Rattle.std.proofs.Common.{◌≡◌, ℕ, ◌+◌, ◌*◌, ◌≤◌, lengt
 use Rattle.djq_tree.specs.Flat.{HasEqualMeets}
 use Rattle.djq_reduct.specs.Tables.{entries_at}
 use Rattle.djq_reduct.specs.Marks.{path_at}
-use Rattle.djq_propagate.specs.Touches.{HaveFew, IsTouchedUp, IsWalked}
+use Rattle.djq_propagate.specs.Touches.{HaveMarksUpTo, IsTouchedUp, IsWalked}
 use Rattle.djq_propagate.specs.Updates.{steps}
 use Rattle.djq_propagate.proofs.path.touch_path.Given as goal
 
@@ -13,6 +13,7 @@ invariant-loop-up g l = record {
   walked : IsWalked l.tree l.fn.tables.items l.tables.items l.leaf l.removal l.up;
   counted : (n : ℕ) → ((i : ℕ) → length (entries_at l.fn.tables.items i) ≤ n)
       → l.tally ≤ l.fn.tally + steps l.tree.nodes l.leaf l.up * (1 + 5 * n);
-  few : HasEqualMeets l.tree → HaveFew l.fn.tables.items → HaveFew l.tables.items;
-  flat : HasEqualMeets l.tree → HaveFew l.fn.tables.items → l.tally ≤ l.fn.tally + steps l.tree.nodes l.leaf l.up * 6;
+  few : (n : ℕ) → HasEqualMeets l.tree → HaveMarksUpTo n l.fn.tables.items → HaveMarksUpTo n l.tables.items;
+  flat : (n : ℕ) → HasEqualMeets l.tree → HaveMarksUpTo n l.fn.tables.items
+      → l.tally ≤ l.fn.tally + steps l.tree.nodes l.leaf l.up * (1 + 5 * n);
 }

@@ -270,20 +270,20 @@ returns-clause-counted g c =
 
 pub returns-in-None-clause-flat : goal.returns-in-None-clause-flat
 returns-in-None-clause-flat g c =
-    λ meets few. omega (
+    λ n meets few. omega (
       arith,
       c.loop-done.invariant.counted,
       cost_le (node_at c.args.tree.now.nodes c.args.up)
           c.args.at c.args.tables.now.items (marks (entries_at c.args.tables.now.items c.args.at)) c.loop-done.done,
-      step_few c.args.tree.now c.args.tables.now.items c.args.at c.args.up meets c.requires.step few,
+      step_few n c.args.tree.now c.args.tables.now.items c.args.at c.args.up meets c.requires.step few,
     )
 
 pub returns-clause-flat : goal.returns-clause-flat
 returns-clause-flat g c =
-    λ meets few. omega (
+    λ n meets few. omega (
       arith,
       c.loop-done.invariant.counted,
       cost_le (node_at c.args.tree.now.nodes c.args.up)
           c.args.at c.args.tables.now.items (marks (entries_at c.args.tables.now.items c.args.at)) c.loop-done.done,
-      step_few c.args.tree.now c.args.tables.now.items c.args.at c.args.up meets c.requires.step few,
+      step_few n c.args.tree.now c.args.tables.now.items c.args.at c.args.up meets c.requires.step few,
     )

@@ -23,8 +23,8 @@ returns-clause-counted g c = rw (← c.reducts.view_is) (
 
 pub returns-clause-flat : goal.returns-clause-flat
 returns-clause-flat g c = rw (← c.reducts.view_is) (
-    λ few. keep_by c.reducts.inside.tree c.args.leaf 1 c.args.tally.now c.clear_path.new.tally
-    c.reducts.invariant.0.family.is_tree (c.clear_path.ensures.flat few))
+    λ n few. keep_by c.reducts.inside.tree c.args.leaf n c.args.tally.now c.clear_path.new.tally
+    c.reducts.invariant.0.family.is_tree (c.clear_path.ensures.flat n few))
 
 pub invariant_of-reducts : goal.invariant_of-reducts
 invariant_of-reducts g c =

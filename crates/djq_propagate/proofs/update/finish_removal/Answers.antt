@@ -1,8 +1,9 @@
 -- What went leaves marks on the path alone, which is then cleared; counts go by how tables shrank.
-use Rattle.std.proofs.Common.{sym}
-use Rattle.djq_propagate.proofs.Batches.{few_taken, one_taken}
-use Rattle.djq_propagate.proofs.Costs.{take_by, take_counted}
-use Rattle.djq_propagate.proofs.RefusedCosts.{more_length}
+use Rattle.std.proofs.Common.{length}
+use Rattle.djq_index.specs.Entries.{marks}
+use Rattle.djq_reduct.specs.Tables.{entries_at}
+use Rattle.djq_propagate.proofs.Batches.{few_taken}
+use Rattle.djq_propagate.proofs.Costs.{take_flat, take_counted}
 use Rattle.djq_propagate.proofs.Updates.{rest_kept, dropped_all}
 use Rattle.djq_propagate.proofs.update.finish_removal.Goals as goal
 
@@ -38,15 +39,14 @@ returns-clause-counted g c = rw (← c.reducts.view_is) (
 
 pub returns-clause-flat : goal.returns-clause-flat
 returns-clause-flat g c = rw (← c.reducts.view_is) (
-    λ meets few.
-    let w = c.take_marked.ensures.taken in
-    take_by c.reducts.inside.tree c.reducts.inside.tables.items c.take_marked.new.tables.items c.args.leaf 1
-    c.args.tally.now c.take_marked.new.tally c.clear_path.new.tally c.reducts.invariant.0 w
-    (more_length c.reducts.inside.tree c.take_marked.new.tables.items c.reducts.inside.tables.items c.args.leaf meets
-    w.sound c.reducts.invariant.0 (λ j v low apart. sym (w.without.others j v low apart))
-    (one_taken c.reducts.inside.tree c.reducts.inside.tables.items c.take_marked.new.tables.items c.args.leaf w few))
-    c.take_marked.ensures.counted (c.clear_path.ensures.flat
-    (few_taken c.reducts.inside.tree c.reducts.inside.tables.items c.take_marked.new.tables.items c.args.leaf w few)))
+    λ n meets few.
+    take_flat c.reducts.inside.tree c.reducts.inside.tables.items c.take_marked.new.tables.items c.args.leaf n
+    (length (marks (entries_at c.reducts.inside.tables.items c.args.leaf)))
+    c.args.tally.now c.take_marked.new.tally c.clear_path.new.tally c.reducts.invariant.0.family.is_tree
+    (few.each c.args.leaf) (c.take_marked.ensures.flat meets) c.take_marked.ensures.counted
+    (c.clear_path.ensures.flat n
+    (few_taken n c.reducts.inside.tree c.reducts.inside.tables.items c.take_marked.new.tables.items c.args.leaf
+    c.take_marked.ensures.taken few)))
 
 pub invariant_of-reducts : goal.invariant_of-reducts
 invariant_of-reducts g c =

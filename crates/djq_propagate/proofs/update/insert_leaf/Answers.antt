@@ -100,7 +100,7 @@ returns-in_err-insert_tuple-clause-counted g c =
 
 pub returns-clause-few : goal.returns-clause-few
 returns-clause-few g c = rw (← c.reducts.view_is) (
-    λ meets. c.touch_path.ensures.few meets
+    λ meets. c.touch_path.ensures.few 1 meets
     (few_lived c.reducts.inside.tree c.reducts.inside.tables.items c.insert_tuple.new.tables.items c.args.leaf
     c.args.tuple.now meets
     c.reducts.invariant.0 (rw (← c.reducts.view_is) at c.requires.leaf) (rw (← c.reducts.view_is) at c.requires.bare)
@@ -120,7 +120,7 @@ returns-clause-flat g c = rw (← c.reducts.view_is) (
     (rw (← c.reducts.view_is) at c.requires.leaf) l) (λ j v low apart. ap (λ (es : List Entry). count_of es v)
     (l.below j (leaf_below t c.args.leaf j c.reducts.invariant.0.family.is_tree low apart)))
     (one_lived t old mid c.args.leaf c.args.tuple.now l)) c.in_ok-insert_tuple.ensures.counted
-    (c.touch_path.ensures.flat meets (few_lived t old mid c.args.leaf c.args.tuple.now meets c.reducts.invariant.0
+    (c.touch_path.ensures.flat 1 meets (few_lived t old mid c.args.leaf c.args.tuple.now meets c.reducts.invariant.0
     (rw (← c.reducts.view_is) at c.requires.leaf) (rw (← c.reducts.view_is) at c.requires.bare) l
     c.insert_tuple.ensures.plain)))
 

@@ -4,7 +4,8 @@ use Rattle.std.proofs.Common.{arith, length}
 use Rattle.djq_propagate.specs.Updates.{steps, paths}
 use Rattle.djq_propagate.proofs.Batches.{few_marked}
 use Rattle.djq_propagate.proofs.Costs.{count_mark, mark_counted, path_short}
-use Rattle.djq_propagate.proofs.Updates.{rest_kept, leaf_within, can_remove, marked_all}
+use Rattle.djq_propagate.proofs.Updates.{rest_kept, leaf_within}
+use Rattle.djq_propagate.proofs.Removals.{can_remove, marked_all}
 use Rattle.djq_propagate.proofs.update.mark_removal.Goals as goal
 
 pub touch_tuple-requires-clause-family : goal.touch_tuple-requires-clause-family
@@ -23,8 +24,9 @@ touch_path-requires-clause-family g c =
 pub touch_path-requires-clause-can : goal.touch_path-requires-clause-can
 touch_path-requires-clause-can g c =
     can_remove c.reducts.inside.tree c.reducts.inside.tables.items c.touch_tuple.new.tables.items c.args.leaf
-    (λ v. one_if (same c.args.tuple.now v)) c.reducts.invariant.0 (rw (← c.reducts.view_is) at c.requires.leaf)
-    (rw (← c.reducts.view_is) at c.requires.bare) c.touch_tuple.ensures.touched
+    c.args.tuple.now c.reducts.invariant.0 (rw (← c.reducts.view_is) at c.requires.leaf)
+    (rw (← c.reducts.view_is) at c.requires.bare) (rw (← c.reducts.view_is) at c.requires.there)
+    c.touch_tuple.ensures.touched
 
 pub touch_path-requires-clause-leaf : goal.touch_path-requires-clause-leaf
 touch_path-requires-clause-leaf g c =
@@ -47,7 +49,7 @@ returns-clause-counted g c = rw (← c.reducts.view_is) (
 
 pub returns-clause-few : goal.returns-clause-few
 returns-clause-few g c = rw (← c.reducts.view_is) (
-    λ meets. c.touch_path.ensures.few meets
+    λ meets. c.touch_path.ensures.few 1 meets
     (few_marked c.reducts.inside.tree c.reducts.inside.tables.items c.touch_tuple.new.tables.items c.args.leaf
     c.args.tuple.now (rw (← c.reducts.view_is) at c.requires.bare) c.touch_tuple.ensures.touched))
 
@@ -56,7 +58,7 @@ returns-clause-flat g c = rw (← c.reducts.view_is) (
     λ meets. count_mark (steps c.reducts.inside.tree.nodes c.args.leaf (length c.reducts.inside.tree.nodes))
     (paths c.reducts.inside.tree) 1 c.args.tally.now c.touch_tuple.new.tally c.touch_path.new.tally
     (path_short c.reducts.inside.tree c.args.leaf c.reducts.invariant.0.family.is_tree) (omega arith)
-    c.touch_tuple.ensures.counted (c.touch_path.ensures.flat meets
+    c.touch_tuple.ensures.counted (c.touch_path.ensures.flat 1 meets
     (few_marked c.reducts.inside.tree c.reducts.inside.tables.items c.touch_tuple.new.tables.items c.args.leaf
     c.args.tuple.now (rw (← c.reducts.view_is) at c.requires.bare) c.touch_tuple.ensures.touched)))
 
