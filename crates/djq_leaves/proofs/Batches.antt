@@ -22,7 +22,7 @@ use Rattle.djq_propagate.proofs.Updates.{times_one}
 use Rattle.djq_query.specs.declared.numbered.NumberedAtom.{NumberedAtom}
 use Rattle.djq_query.specs.Pattern.{Shape}
 use Rattle.djq_binder.proofs.EdgeOrder.{in_cons, in_rest, in_left, in_last, in_pushed}
-use Rattle.djq_leaves.specs.Changes.{GainsAll, Loses, KeepsTuples}
+use Rattle.djq_leaves.specs.Changes.{GainsAll, LosesAll, KeepsTuples}
 use Rattle.djq_leaves.specs.Stepping.{HasMore, ChangesAt, ChangesBelow, HoldBelow}
 use Rattle.djq_leaves.specs.Batching.{AreDistinct, AreTuplesOf, AreTuples, HasFew, CanTake, GainsTuples, LosesTuples}
 use Rattle.djq_leaves.specs.Batching.{row_tuples, batch_tuples}
@@ -52,8 +52,8 @@ gains_stable rows p ds es fs gs early g late = λ u.
           ],
     )
 
-pub loses_stable : (cells : List ℕ) → IsStable (λ p old new. Loses p cells old new)
-loses_stable cells p ds es fs gs early g late = λ u.
+pub loses_stable : (rows : List (List ℕ)) → IsStable (λ p old new. LosesAll p rows old new)
+loses_stable rows p ds es fs gs early g late = λ u.
     let a = early u in
     let b = late u in (
       λ there.
@@ -194,9 +194,9 @@ gains_more rows p k s t step = record {
       ];
 }
 
-pub loses_more : (cells : List ℕ) (p : Shape) (k : ℕ) (s t : Reducts)
-    → ChangesAt (λ q es fs. Loses q cells es fs) p k s t → HasMore t s
-loses_more cells p k s t step = record {
+pub loses_more : (rows : List (List ℕ)) (p : Shape) (k : ℕ) (s t : Reducts)
+    → ChangesAt (λ q es fs. LosesAll q rows es fs) p k s t → HasMore t s
+loses_more rows p k s t step = record {
   tree = sym step.tree;
   more = λ j u low there.
       let lower = subst (λ (x : Tree). j < x.leaves) step.tree low in
@@ -237,7 +237,7 @@ times_in (r ∷ rows) x h =
       | inr other ↦ in_rest r x rows (times_in rows x (omega (arith, one_other r x other)))
     ]
 
-fresh_row : (rows : List (List ℕ)) (i : ℕ) (row : List ℕ) → AreDistinct rows → i < length rows
+pub fresh_row : (rows : List (List ℕ)) (i : ℕ) (row : List ℕ) → AreDistinct rows → i < length rows
     → row ≡ slice_index_or rows i row → Contains (take i rows) row → ⊥
 fresh_row rows i row distinct low e c =
     let a = in_times (take i rows) row c in
@@ -330,7 +330,7 @@ tuples_passed front us row p only h = record {
   few = (let b = length-append front (row ∷ []) in let few = h.few in omega arith);
 }
 
-rows_next : (rows : List (List ℕ)) (i : ℕ) (row : List ℕ) → i < length rows
+pub rows_next : (rows : List (List ℕ)) (i : ℕ) (row : List ℕ) → i < length rows
     → row ≡ slice_index_or rows i row → take i rows ++ row ∷ [] ≡ take (i + 1) rows
 rows_next rows i row low e =
     ap (λ (x : List ℕ). take i rows ++ x ∷ []) e ∙ sym (take_more rows i row low)
@@ -453,6 +453,19 @@ all_gained us j old new came = record {
   leaf = came.leaf;
   others = λ i low apart u. came.others i u low apart;
 }
+
+-- no tuple came
+pub none_gained : (us : List (List ℕ)) (j : ℕ) (r : Reducts) → length us ≡ 0 → IsReducts r → IsBare r.tables
+    → HasGainedAll r r j us
+unfolding times
+none_gained [] j r none sound bare = record {
+  sound = sound;
+  tree = refl;
+  leaf = λ v. omega arith;
+  others = λ i v low apart. refl;
+  bare = bare;
+}
+none_gained (u ∷ us) j r none sound bare = absurd (omega arith)
 
 pub all_lost : (us : List (List ℕ)) (j : ℕ) (old new : Reducts) → HasLostAll old new j us
     → ChangesAt (λ x es fs. LosesTuples x es fs) us j old new

@@ -22,6 +22,7 @@ use Rattle.djq_query.specs.declared.numbered.NumberedAtom.{NumberedAtom}
 use Rattle.djq_leaves.specs.Stepping.{HasMore, ChangesBelow, LeavesHaveRoom, GrowsAt, GrowsByOne, CountsLeaf}
 use Rattle.djq_leaves.specs.Stepping.{CountsLeaves, BoundsLeaf, atoms_below}
 use Rattle.djq_leaves.specs.Batching.{HasFew, GainsTuples, GrowsBy, CountsTuples, CountsMany, CountsGiven}
+use Rattle.djq_leaves.specs.Batching.{CountsFlatTuples, CountsFlatMany}
 use Rattle.djq_leaves.proofs.LeafUpdates.{counts_over, part_few}
 
 -- ---- How long leaves get in an update, and how much it counts.
@@ -134,7 +135,7 @@ addition_counts j u old new x z came counted flat = λ n b room bounds.
       | inr even ↦ (let a = flat even.0 in let d = even.1 in omega arith)
     ]
 
-some_path : (r : Reducts) → IsReducts r → 0 < paths r.tree
+pub some_path : (r : Reducts) → IsReducts r → 0 < paths r.tree
 some_path r h = let some = h.family.is_tree.some in omega arith
 
 pub removal_counts : (j : ℕ) (u : List ℕ) (old mid : Reducts) (x y z : ℕ) → IsReducts old
@@ -374,6 +375,36 @@ refusals_count j more old x y bounded = λ n b some most room bounds.
     let a = bounded n most room in
     omega arith
 
+-- ---- over equal meets
+
+sum_flat_tuples : (p k m b x y z : ℕ) → 0 < m → m ≤ k → 16 * (k * p) ≤ b → y ≤ x + 10 * (p * k) → z ≤ y + p * (1 + m)
+    → z ≤ x + b
+sum_flat_tuples p k m b x y z some room bounds first second =
+    let a : k * p ≡ p * k = omega arith in
+    let c : p * (1 + m) ≡ p + p * m = omega arith in
+    let d = mul-le-mul_left p room in
+    let e = mul-le-mul_left p some in
+    let f : p * 1 ≡ p = omega arith in
+    omega arith
+
+pub insertions_flat : (j : ℕ) (us : List (List ℕ)) (old mid : Reducts) (x y z : ℕ) → 0 < length us
+    → HasInsertedAll old mid j us
+    → ((n : ℕ) → 0 < n → length us ≤ n → HasEqualMeets old.tree → y ≤ x + 10 * (paths old.tree * n))
+    → (HasEqualMeets old.tree → HaveMarksUpTo (length us) mid.tables)
+    → ((n : ℕ) → HaveMarksUpTo n mid.tables → z ≤ y + paths mid.tree * (1 + n))
+    → CountsFlatTuples old (length us) x z
+insertions_flat j us old mid x y z some came first few second = λ k b room meets bounds.
+    sum_flat_tuples (paths old.tree) k (length us) b x y z some room bounds (first k (omega arith) room meets)
+    (subst (λ (t : Tree). z ≤ y + paths t * (1 + length us)) (sym came.without.tree) (second (length us) (few meets)))
+
+pub additions_flat : (us : List (List ℕ)) (old : Reducts) (x z : ℕ)
+    → ((n : ℕ) → length us ≤ n → HasEqualMeets old.tree → z ≤ x + 4 * (paths old.tree * n))
+    → CountsFlatTuples old (length us) x z
+additions_flat us old x z counted = λ k b room meets bounds.
+    let a = counted k room meets in
+    let c : k * paths old.tree ≡ paths old.tree * k = omega arith in
+    omega arith
+
 pub droppings_count : (old : Reducts) (x z : ℕ)
     → ((n : ℕ) → HasAtMost old n → z ≤ x + 5 * (paths old.tree * n)) → CountsGiven old 1 x z
 droppings_count old x z counted = λ n b most bounds. (let a = counted n most in omega arith)
@@ -435,7 +466,7 @@ pub counted_as : (more : ℕ) (r : Reducts) (i j x y : ℕ) → i ≡ j → Coun
     → CountsMany more r j x y
 counted_as more r i j x y e h = subst (λ (k : ℕ). CountsMany more r k x y) e h
 
-sum_next_crowding : (i j b c x y z : ℕ) → i + c ≡ j → y ≤ x + i * b → z ≤ y + c * b → z ≤ x + j * b
+pub sum_next_crowding : (i j b c x y z : ℕ) → i + c ≡ j → y ≤ x + i * b → z ≤ y + c * b → z ≤ x + j * b
 sum_next_crowding i j b c x y z e first second =
     subst (λ (k : ℕ). z ≤ x + k * b) e
     (let a : (i + c) * b ≡ i * b + c * b = omega arith in omega arith)
@@ -456,6 +487,21 @@ counted_more at atoms batch k more m us r s c i j x y z e f few low h grows sums
     (second (n + more + 1) b (omega arith)
     (one_larger s (n + more) (all_grown_crowding more r s n h.tree grows most)) (omega arith)
     (subst (λ (t : Tree). 16 * (paths t * (n + more + 1)) ≤ b) (sym h.tree) bounds))
+
+pub flat_none : (more : ℕ) (r : Reducts) (i x : ℕ) → CountsFlatMany more r i x x
+flat_none more r i x = λ b meets bounds. omega arith
+
+pub flat_as : (more : ℕ) (r : Reducts) (i j x y : ℕ) → i ≡ j → CountsFlatMany more r i x y
+    → CountsFlatMany more r j x y
+flat_as more r i j x y e h = subst (λ (k : ℕ). CountsFlatMany more r k x y) e h
+
+pub flat_more : (batch : List (List (List ℕ))) (k more : ℕ) (us : List (List ℕ)) (r s : Reducts) (i j x y z : ℕ)
+    → slice_get batch k ≡ Some us → HasFew more batch → s.tree ≡ r.tree → i + 1 ≡ j → CountsFlatMany more r i x y
+    → CountsFlatTuples s (length us) y z → CountsFlatMany more r j x z
+flat_more batch k more us r s i j x y z f few tree sums first second = λ b meets bounds.
+    let last = second more b (few.each k us f) (subst HasEqualMeets (sym tree) meets)
+    (subst (λ (t : Tree). 16 * (more * paths t) ≤ b) (sym tree) bounds) in
+    sum_next_crowding i j b 1 x y z sums (first b meets bounds) (omega arith)
 
 -- ---- giving back
 

@@ -14,7 +14,7 @@ use Rattle.djq_model.specs.declared.query.Query.{Query}
 use Rattle.djq_model.specs.declared.relation.ColumnType.{ColumnType}
 use Rattle.djq_model.specs.declared.relation.Relation.{Relation}
 use Rattle.djq_model.specs.declared.relation.CountedRow.{CountedRow}
-use Rattle.djq_model.specs.Data.{Bytes, Tuple, plain_of, tuples_in, with_row, with_copies, without_copies}
+use Rattle.djq_model.specs.Data.{Bytes, Tuple, plain_of, tuples_in, with_row, with_copies, without_copies, without_row}
 use Rattle.djq_model.proofs.Copies.{tuples_with_row, tuples_with_copies, tuples_without}
 use Rattle.djq_tree.specs.Labels.{label_at}
 use Rattle.djq_tree.specs.Tree.{Tree, IsTree, leaf_labels}
@@ -33,7 +33,8 @@ use Rattle.djq_binder.specs.Asked.{HasConstant, HaveConstants, constants_in}
 use Rattle.djq_binder.proofs.EdgeOrder.{in_only}
 use Rattle.djq_leaves.specs.Leaves.{GivesOne, IsOver, AreCellsOfTerms, IsCellOf, IsPatternOf}
 use Rattle.djq_leaves.specs.Building.{ArePatternsOf}
-use Rattle.djq_leaves.specs.Changes.{IsLater, CameAll, StandForRows, AddedCame, DeletedWent, CopiesKeepRows}
+use Rattle.djq_leaves.specs.Changes.{IsLater, CameAll, StandForRows, AddedCame, DeletedWent, FurtherWent}
+use Rattle.djq_leaves.specs.Changes.{CopiesKeepRows, without_rows}
 
 -- ---- Rows that tuples give.
 
@@ -318,10 +319,41 @@ deleted_went c d at cells row h low stand texts e =
     let l = later c d at rows h low texts e in
     record {
       later = l;
-      stand = stands c d at cells row l low texts stand;
+      stand = (stands c d at cells row l low texts stand, tt);
       rows = rows_here c d at rows low e ∙ tuples_without old row;
       others = λ k within other. rows_elsewhere c d at k rows other e;
     }
+
+-- a further row that went
+without_more : (gone rows : List Tuple) (row : Tuple)
+    → without_row (without_rows rows gone) row ≡ without_rows rows (gone ++ row ∷ [])
+without_more [] rows row = refl
+without_more (g ∷ gone) rows row = without_more gone (without_row rows g) row
+
+stand_more : (c : Catalog) (at : ℕ) (cells : List (List ℕ)) (gone : List Tuple) (k : List ℕ) (row : Tuple)
+    → StandForRows c at cells gone → StandForRow c at k row
+    → StandForRows c at (cells ++ k ∷ []) (gone ++ row ∷ [])
+stand_more c at [] [] k row h one = (one, tt)
+stand_more c at [] (g ∷ gone) k row h one = absurd h
+stand_more c at (x ∷ cells) [] k row h one = absurd h
+stand_more c at (x ∷ cells) (g ∷ gone) k row h one = (h.0, stand_more c at cells gone k row h.1 one)
+
+pub further_went : FurtherWent
+further_went c d e at cells gone k row low texts h w = record {
+  later = record {
+    catalog = w.later.catalog;
+    more = h.later.more;
+    texts = texts ∙ h.later.texts;
+    long = (let a = h.later.long in let b = w.later.long in omega arith);
+    named = λ i within. w.later.named i (let a = h.later.long in omega arith) ∙ h.later.named i within;
+    typed = λ i within. w.later.typed i (let a = h.later.long in omega arith) ∙ h.later.typed i within;
+  };
+  stand = stand_more e at cells gone k row
+      (all_stand d e at cells gone w.later (let a = h.later.long in omega arith) texts h.stand) w.stand.0;
+  rows = w.rows ∙ ap (λ (rows : List Tuple). without_row rows row) h.rows
+      ∙ without_more gone (rows_at c.relations at) row;
+  others = λ i within other. w.others i (let a = h.later.long in omega arith) other ∙ h.others i within other;
+}
 
 -- another number of copies leaves the rows
 pub copies_keep_rows : CopiesKeepRows

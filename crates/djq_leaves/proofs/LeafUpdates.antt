@@ -15,7 +15,7 @@ use Rattle.djq_index.proofs.Tuples.{cnt_once, same_cases, is_same, one_true, one
 use Rattle.djq_tree.specs.Tree.{Tree, is_out}
 use Rattle.djq_tree.specs.Labels.{label_at}
 use Rattle.djq_reduct.specs.Tables.{entries_at}
-use Rattle.djq_reduct.specs.Reducts.{Reducts, IsReducts}
+use Rattle.djq_reduct.specs.Reducts.{Reducts, IsReducts, SameTables}
 use Rattle.djq_reduct.specs.Answers.{on_node, IsAnswerOf}
 use Rattle.djq_reduct.proofs.Assignments.{apart_at}
 use Rattle.djq_enumeration.specs.declared.log.Line.{Line}
@@ -322,13 +322,13 @@ lost_loses cells u p j old new only sound went = record {
         λ there. (
           omega arith,
           λ e.
-              let is = same_Some u v ((only v).1 e) in
+              let is = same_Some u v ((only v).1 (only_one p v cells e)) in
               let o = one_true (same u v) (is_same u v is) in
               omega arith,
         ),
         λ both.
             elim (same_cases u v) [
-              | inl is ↦ absurd (both.1 ((only v).0 (ap (λ (w : List ℕ). Some w) is)))
+              | inl is ↦ absurd (both.1 (one_of p v cells ((only v).0 (ap (λ (w : List ℕ). Some w) is))))
               | inr other ↦
                   let o = one_other u v other in
                   let before = both.0 in
@@ -399,18 +399,26 @@ pub inserted_lists : (came : Bool) (j : ℕ) (u : List ℕ) (old mid new : Reduc
 inserted_lists came j u old mid new log told before now came_in kept l =
     kept_lists came old mid new log told before now came_in.without.tree came_in.sound kept l
 
+-- the listing of the marks, once the marked tuples are gone: before, all tables held what they held
+pub same_lists : (came : Bool) (old mid new : Reducts) (log told : Log) (before now : ℕ) → IsReducts old
+    → IsReducts mid → mid.tree ≡ old.tree → SameTables old mid
+    → ListsAll came (IsGained mid new) (length mid.tree.head) 1 log told before now
+    → ListsAll came (IsGained old new) (length old.tree.head) 1 log told before now
+same_lists came old mid new log told before now sound middle tree tables l =
+    lists_as true came (IsGained mid new) (IsGained old new) (length mid.tree.head)
+    (length old.tree.head) 1 log told before now
+    (ap (λ (t : Tree). length t.head) tree)
+    (λ v. gained_same new mid old v middle sound
+    (same_more mid old (sym tree) (λ k w. sym (tables.tuples k w)))
+    (same_more old mid tree tables.tuples))
+    l
+
 pub marked_lists : (came : Bool) (j : ℕ) (u : List ℕ) (old mid new : Reducts)
     (log told : Log) (before now : ℕ) → IsReducts old → HasMarked old mid j u
     → ListsAll came (IsGained mid new) (length mid.tree.head) 1 log told before now
     → ListsAll came (IsGained old new) (length old.tree.head) 1 log told before now
 marked_lists came j u old mid new log told before now sound marked l =
-    lists_as true came (IsGained mid new) (IsGained old new) (length mid.tree.head)
-    (length old.tree.head) 1 log told before now
-    (ap (λ (t : Tree). length t.head) marked.tree)
-    (λ v. gained_same new mid old v marked.sound sound
-    (same_more mid old (sym marked.tree) (λ k w. sym (marked.tables.tuples k w)))
-    (same_more old mid marked.tree marked.tables.tuples))
-    l
+    same_lists came old mid new log told before now sound marked.sound marked.tree marked.tables l
 
 -- ---- From one leaf to the next.
 

@@ -4,3 +4,4 @@ pub mod Fills
 pub mod LeafUpdates
 pub mod Batches
 pub mod Costs
+pub mod Removals

@@ -2,6 +2,7 @@
 use Rattle.std.specs.Prelude.{
   ◌≡◌,
   ◌↔◌,
+  ◌⊎◌,
   ◌+◌,
   ◌*◌,
   ℕ,
@@ -16,10 +17,13 @@ use Rattle.std.specs.Prelude.{
   None,
   map,
 }
-use Rattle.djq_index.specs.Entries.{Entry, count_of}
+use Rattle.djq_index.specs.Entries.{Entry, count_of, marks}
+use Rattle.djq_tree.specs.Flat.{HasEqualMeets}
+use Rattle.djq_tree.specs.Tree.{Tree}
 use Rattle.djq_tree.specs.Labels.{label_at}
 use Rattle.djq_reduct.specs.Tables.{entries_at}
-use Rattle.djq_reduct.specs.Reducts.{Reducts}
+use Rattle.djq_reduct.specs.Reducts.{Reducts, IsReducts, SameTables}
+use Rattle.djq_propagate.specs.Touches.{HaveMarksOnlyAt}
 use Rattle.djq_propagate.specs.Batches.{times, AreNew}
 use Rattle.djq_propagate.specs.Updates.{HasAtMost, paths}
 use Rattle.djq_query.specs.declared.numbered.NumberedAtom.{NumberedAtom}
@@ -83,6 +87,16 @@ GainsTuples us old new = (u : List ℕ) → count_of new u ≡ count_of old u + 
 abbrev pub LosesTuples : List (List ℕ) → List Entry → List Entry → Type 0
 LosesTuples us old new = (u : List ℕ) → count_of old u ≡ count_of new u + times us u
 
+-- The tuples of rows are the marked ones of the leaf j, which no other table has, and all tables hold what they
+-- held: rows that are about to go.
+pub record HasMarkedRows (rows : List (List ℕ)) (p : Shape) (j : ℕ) (r s : Reducts) : Type 0 where
+  pub sound : IsReducts s
+  pub tree : s.tree ≡ r.tree
+  pub tables : SameTables r s
+  pub marked : (u : List ℕ) → (0 < count_of (marks (entries_at s.tables j)) u) ↔ GivesOne (Contains rows) p u
+  pub few : length (marks (entries_at s.tables j)) ≤ length rows
+  pub only : HaveMarksOnlyAt s.tables j
+
 -- no leaf has more than so many tuples more
 pub record GrowsBy (more : ℕ) (r s : Reducts) : Type 0 where
   pub each : (j : ℕ) → j < r.tree.leaves
@@ -100,6 +114,27 @@ CountsTuples r j more times before now = (n b : ℕ) → 0 < n → HasAtMost r n
 abbrev pub CountsMany : ℕ → Reducts → ℕ → ℕ → ℕ → Type 0
 CountsMany more r times before now = (n b : ℕ) → HasAtMost r n
     → 16 * (paths r.tree * (n + more + 1)) ≤ b → now ≤ before + times * b
+
+-- Over equal meets so many tuples that came into a leaf count such a bound at most, whatever the number of tuples
+-- there.
+abbrev pub CountsFlatTuples : Reducts → ℕ → ℕ → ℕ → Type 0
+CountsFlatTuples r more before now = (k b : ℕ) → more ≤ k → HasEqualMeets r.tree → 16 * (k * paths r.tree) ≤ b
+    → now ≤ before + b
+
+-- Over equal meets updates count so many times such a bound at most, where so many tuples come into a leaf.
+abbrev pub CountsFlatMany : ℕ → Reducts → ℕ → ℕ → ℕ → Type 0
+CountsFlatMany more r times before now = (b : ℕ) → HasEqualMeets r.tree → 16 * (more * paths r.tree) ≤ b
+    → now ≤ before + times * b
+
+-- b bounds what so many rows that go from one leaf count, where no leaf has more than n tuples before; over equal
+-- meets it is the same whatever n is.
+abbrev pub BoundsRows : ℕ → Tree → ℕ → ℕ → Type 0
+BoundsRows k t n b = (16 * (paths t * (n + 1)) ≤ b) ⊎ (HasEqualMeets t × (16 * (k * paths t) ≤ b))
+
+-- So many rows that go count so many times such a bound at most.
+abbrev pub CountsGone : ℕ → Reducts → ℕ → ℕ → ℕ → Type 0
+CountsGone k r times before now = (n b : ℕ) → HasAtMost r n → BoundsRows k r.tree n b
+    → now ≤ before + times * b
 
 -- Tuples that go count so many times a bound at most, where no leaf has more than n before.
 abbrev pub CountsGiven : Reducts → ℕ → ℕ → ℕ → Type 0

@@ -25,7 +25,7 @@ use Rattle.djq_reduct.specs.Tables.{entries_at}
 use Rattle.djq_reduct.specs.Reducts.{Reducts, IsReducts}
 use Rattle.djq_query.specs.declared.numbered.NumberedAtom.{NumberedAtom}
 use Rattle.djq_query.specs.Numbered.{Numbered}
-use Rattle.djq_query.specs.Pattern.{Shape, GivesRow}
+use Rattle.djq_query.specs.Pattern.{Shape}
 use Rattle.djq_database.specs.Cells.{cells_of}
 use Rattle.djq_database.specs.Catalog.{
   Catalog,
@@ -75,13 +75,23 @@ pub record CameAll (c d : Catalog) (at : ℕ) (cells : List (List ℕ)) (new : L
 abbrev pub Came : Catalog → Catalog → ℕ → List ℕ → Tuple → Type 0
 Came c d at cells row = CameAll c d at (cells ∷ []) (row ∷ [])
 
--- a row with these cells went out of the relation at a place
-pub record Went (c d : Catalog) (at : ℕ) (cells : List ℕ) (row : Tuple) : Type 0 where
-  pub later : IsLater c d
-  pub stand : StandForRow d at cells row
-  pub rows : rows_at d.relations at ≡ without_row (rows_at c.relations at) row
-  pub others : (k : ℕ) → k < length c.relations → k ≢ at
-      → rows_at d.relations k ≡ rows_at c.relations k
+-- the rows without these, one after another
+abbrev pub without_rows : List Tuple → List Tuple → List Tuple
+without_rows rows [] = rows
+without_rows rows (row ∷ gone) = without_rows (without_row rows row) gone
+
+-- rows with these cells, one for one, went out of the relation at a place
+pub record WentAll (c d : Catalog) (at : ℕ) (cells : List (List ℕ)) (gone : List Tuple) : Type 0
+  where
+    pub later : IsLater c d
+    pub stand : StandForRows d at cells gone
+    pub rows : rows_at d.relations at ≡ without_rows (rows_at c.relations at) gone
+    pub others : (k : ℕ) → k < length c.relations → k ≢ at
+        → rows_at d.relations k ≡ rows_at c.relations k
+
+-- one row with these cells went
+abbrev pub Went : Catalog → Catalog → ℕ → List ℕ → Tuple → Type 0
+Went c d at cells row = WentAll c d at (cells ∷ []) (row ∷ [])
 
 -- the entries gained the tuples that put into the atom give one of these rows of cells
 abbrev pub GainsAll : Shape → List (List ℕ) → List Entry → List Entry → Type 0
@@ -92,10 +102,14 @@ GainsAll p rows old new = (u : List ℕ)
 abbrev pub GainsTuple : Shape → List ℕ → List Entry → List Entry → Type 0
 GainsTuple p cells old new = GainsAll p (cells ∷ []) old new
 
--- the entries lost the tuple that gives these cells, of which there is one at most
+-- the entries lost the tuples that put into the atom give one of these rows of cells
+abbrev pub LosesAll : Shape → List (List ℕ) → List Entry → List Entry → Type 0
+LosesAll p rows old new = (u : List ℕ)
+    → (0 < count_of new u) ↔ ((0 < count_of old u) × (GivesOne (Contains rows) p u → ⊥))
+
+-- they lost the tuple that gives these cells, of which there is one at most
 abbrev pub Loses : Shape → List ℕ → List Entry → List Entry → Type 0
-Loses p cells old new = (u : List ℕ)
-    → (0 < count_of new u) ↔ ((0 < count_of old u) × (GivesRow p u cells → ⊥))
+Loses p cells old new = LosesAll p (cells ∷ []) old new
 
 -- the entries hold the same tuples
 abbrev pub KeepsTuples : List Entry → List Entry → Type 0
@@ -123,11 +137,11 @@ OverGains = (c d : Catalog) (q : Query) (n : Numbered) (ps : List Shape) (r s : 
     (cells : List (List ℕ)) (new : List Tuple) → IsOver c q n ps r → CameAll c d at cells new
     → EachLeafChanges (λ p old new. GainsAll p cells old new) at n ps r s → IsOver d q n ps s
 
--- Where a row went, they are once the leaves have lost its tuples.
+-- Where rows went, they are once the leaves have lost their tuples.
 abbrev pub OverLoses : Type 0
 OverLoses = (c d : Catalog) (q : Query) (n : Numbered) (ps : List Shape) (r s : Reducts) (at : ℕ)
-    (cells : List ℕ) (row : Tuple) → IsOver c q n ps r → Went c d at cells row
-    → EachLeafChanges (λ p old new. Loses p cells old new) at n ps r s → IsOver d q n ps s
+    (cells : List (List ℕ)) (gone : List Tuple) → IsOver c q n ps r → WentAll c d at cells gone
+    → EachLeafChanges (λ p old new. LosesAll p cells old new) at n ps r s → IsOver d q n ps s
 
 -- A row that is added to a catalog, where it wasn't, came; one whose copies are deleted went.
 abbrev pub AddedCame : Type 0
@@ -142,6 +156,12 @@ DeletedWent = (c d : Catalog) (at : ℕ) (cells : List ℕ) (row : Tuple) → Is
     → at < length c.relations → StandForRow c at cells row → d.texts ≡ c.texts
     → d.relations ≡ with_rows_at c.relations at (without_copies (counted_at c.relations at) row)
     → Went c d at cells row
+
+-- A row that goes behind others went together with them.
+abbrev pub FurtherWent : Type 0
+FurtherWent = (c d e : Catalog) (at : ℕ) (cells : List (List ℕ)) (gone : List Tuple) (k : List ℕ)
+    (row : Tuple) → at < length c.relations → e.texts ≡ d.texts → WentAll c d at cells gone
+    → Went d e at k row → WentAll c e at (cells ++ k ∷ []) (gone ++ row ∷ [])
 
 -- Where a row only has another number of copies, no relation has other rows.
 abbrev pub CopiesKeepRows : Type 0

@@ -52,6 +52,10 @@ LacksCells cells p es = (u : List ℕ) → GivesRow p u cells → count_of es u 
 abbrev pub Has : List ℕ → Shape → List Entry → Type 0
 Has cells p es = (u : List ℕ) → GivesRow p u cells → 0 < count_of es u
 
+-- each tuple that gives one of these rows of cells, put into the atom, is there
+abbrev pub HasAll : List (List ℕ) → Shape → List Entry → Type 0
+HasAll rows p es = (u : List ℕ) → GivesOne (Contains rows) p u → 0 < count_of es u
+
 -- One leaf changed so, each other one holds what it held, and no update is unfinished.
 pub record ChangesAt {A : Type 0} (Changes : A → List Entry → List Entry → Type 0) (p : A) (j : ℕ)
     (r s : Reducts) : Type 0 where

@@ -20,7 +20,9 @@ ghost use Rattle.djq_leaves.specs.Batching.{
   LosesTuples,
   GrowsBy,
   CountsTuples,
+  CountsFlatTuples,
   CountsMany,
+  CountsFlatMany,
   CountsGiven,
   row_tuples,
   batch_tuples,
@@ -156,6 +158,7 @@ fn add_all_and_tell<L: Ledgers>(
     requires fresh { AreNew (length (label_at reducts.old.tree.labels leaf))
         (entries_at reducts.old.tables leaf) tuples.now }
     requires few { length (entries_at reducts.old.tables leaf) + length tuples.now ≤ TUPLES }
+    requires some { 0 < length tuples.now }
     requires bare { IsBare reducts.old.tables }
     ensures gained { OnOk result (HasGainedAll reducts.old reducts.new leaf tuples.now) }
     ensures listed { OnOk result (ListsAll true (IsGained reducts.new reducts.old)
@@ -164,6 +167,8 @@ fn add_all_and_tell<L: Ledgers>(
     ensures log { OnErr result (log.new ≡ log.old) }
     ensures listing { OnErr result (steps.new.listing ≡ steps.old.listing) }
     ensures updates { OnOk result (CountsTuples reducts.old leaf (length tuples.now) 1
+        steps.old.update steps.new.update) }
+    ensures flat { OnOk result (CountsFlatTuples reducts.old (length tuples.now)
         steps.old.update steps.new.update) }
     ensures refusal { OnErr result (CountsTuples reducts.old leaf (length tuples.now) 2
         steps.old.update steps.new.update) }
@@ -198,11 +203,16 @@ fn add_all_to_leaf<L: Ledgers>(
     ensures listing { OnErr result (steps.new.listing ≡ steps.old.listing) }
     ensures updates { OnOk result (CountsTuples reducts.old leaf (length tuples.now) 1
         steps.old.update steps.new.update) }
+    ensures flat { OnOk result (CountsFlatTuples reducts.old (length tuples.now)
+        steps.old.update steps.new.update) }
     ensures refusal { OnErr result (CountsTuples reducts.old leaf (length tuples.now) 2
         steps.old.update steps.new.update) }
     ensures rows { steps.new.rows ≡ steps.old.rows }
 {
     reducts.laws();
+    if tuples.is_empty() {
+        return Ok(());
+    }
     if wanted {
         add_all_and_tell(reducts, leaf, tuples, log, steps)?;
         return Ok(());
@@ -237,6 +247,10 @@ pub fn add_all_to_leaves<L: Ledgers>(
     ensures updates { result ≡ length atoms.now → (more : ℕ)
         → HasFew more (batch_tuples rows.now batch.now)
         → CountsMany more reducts.old (atoms_below relation atoms.now result)
+        steps.old.update steps.new.update }
+    ensures flat { result ≡ length atoms.now → (more : ℕ)
+        → HasFew more (batch_tuples rows.now batch.now)
+        → CountsFlatMany more reducts.old (atoms_below relation atoms.now result)
         steps.old.update steps.new.update }
     ensures refusal { result < length atoms.now → (more : ℕ)
         → HasFew more (batch_tuples rows.now batch.now)

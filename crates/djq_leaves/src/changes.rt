@@ -1,5 +1,5 @@
 //! What calls of a catalog come to as changes, and what leaves hold behind them.
-ghost use Rattle.djq_leaves.specs.Changes.{AddedCame, DeletedWent, CopiesKeepRows};
+ghost use Rattle.djq_leaves.specs.Changes.{AddedCame, DeletedWent, FurtherWent, CopiesKeepRows};
 ghost use Rattle.djq_leaves.specs.Changes.{LeafIsEmpty, LeafGains, LeafIsFilled};
 
 /// A row that a catalog added, with one copy, came.
@@ -10,6 +10,11 @@ pub fn added_came()
 /// A row that a catalog deleted, with its last copy, went.
 pub fn deleted_went()
     ensures { DeletedWent }
+{}
+
+/// A row that goes behind others of its relation went together with them.
+pub fn further_went()
+    ensures { FurtherWent }
 {}
 
 /// Where a catalog added a further copy of a row, or deleted one of several, no relation has other

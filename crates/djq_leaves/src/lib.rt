@@ -3,8 +3,9 @@
 //! A leaf holds the tuples that put into its atom give a row of the atom's relation and pass the
 //! comparisons of the atom's variables. [`bind_atoms`] makes the patterns by which rows give tuples,
 //! and [`fill_leaves`] fills the leaves from a catalog. [`add_to_leaves`] takes a row in leaf after
-//! leaf, [`delete_from_leaves`] takes it out, and [`add_all_to_leaves`] takes in many at once; each
-//! lists, leaf by leaf, which answers of the tree came or went, where that is wanted.
+//! leaf, [`delete_from_leaves`] takes it out, and [`add_all_to_leaves`] takes in many at once, which
+//! [`delete_all_from_leaves`] takes out; each lists, leaf by leaf, which answers of the tree came or
+//! went, where that is wanted.
 //!
 //! ```text
 //! q(x,z) <- r(x,z,3), s(z,y)   x is 0, z is 1, y is 2
@@ -26,13 +27,16 @@
 pub use batch::{add_all_to_leaves, give_all_from_leaves, tuples_of_all};
 pub use bind::bind_atoms;
 pub use changes::{
-    added_came, copies_keep_rows, deleted_went, leaf_gains, leaf_is_empty, leaf_is_filled,
+    added_came, copies_keep_rows, deleted_went, further_went, leaf_gains, leaf_is_empty,
+    leaf_is_filled,
 };
 pub use fill::fill_leaves;
+pub use removing::delete_all_from_leaves;
 pub use stepping::{add_to_leaves, delete_from_leaves};
 
 mod batch;
 mod bind;
 mod changes;
 mod fill;
+mod removing;
 mod stepping;

@@ -1,18 +1,22 @@
 -- A query over a later catalog, and its leaves once rows have changed.
 use Rattle.std.proofs.Common.{◌≡◌, ℕ, zero, suc, ◌<◌, List, [], ◌∷◌, ◌++◌, length, refl, ap, ◌∙◌, arith, sym, subst}
 use Rattle.std.proofs.Common.{true, inl, inr}
-use Rattle.std.specs.Prelude.{⊤, All, Option, None, Some, IsSomeAnd, option_to_list, slice_index, slice_get, Contains}
+use Rattle.std.specs.Prelude.{⊤, All, Option, None, Some, IsSomeAnd, option_to_list, slice_index, slice_get}
+use Rattle.std.specs.Prelude.{slice_index_or, Contains}
 use Rattle.std.specs.List.{AllByRecursion}
 use Rattle.std.proofs.lemmas.List.Elements.{All-nil, All-cons, Contains-append_cases, Contains-append_left}
-use Rattle.std.proofs.lemmas.List.Elements.{Contains-append_right, All-contains}
+use Rattle.std.proofs.lemmas.List.Elements.{Contains-append_right, All-contains, All-contains_itself}
+use Rattle.std.proofs.lemmas.List.Kept.{AllPairs-cons}
 use Rattle.std.proofs.lemmas.Option.{same_Some}
-use Rattle.std.proofs.lemmas.Bool.{cases_eq}
+use Rattle.std.proofs.lemmas.Bool.{cases_eq, cases_Bool}
 use Rattle.djq_hypergraph.specs.Hypergraph.{member}
 use Rattle.djq_model.specs.declared.relation.ColumnType.{ColumnType}
 use Rattle.djq_model.specs.declared.query.Query.{Query}
 use Rattle.djq_model.specs.declared.query.Atom.{Atom}
 use Rattle.djq_model.specs.declared.query.Comparison.{Comparison}
-use Rattle.djq_model.specs.Data.{Bytes, Tuple}
+use Rattle.djq_model.specs.Answer.{AreDifferent}
+use Rattle.djq_model.specs.Data.{Bytes, Tuple, tuple_eq, without_row}
+use Rattle.djq_model.proofs.Copies.{rest_differ}
 use Rattle.djq_model.specs.Typed.{fits}
 use Rattle.djq_index.specs.Entries.{Entry}
 use Rattle.djq_tree.specs.Labels.{label_at}
@@ -31,10 +35,10 @@ use Rattle.djq_query.specs.declared.numbered.NumberedComparison.{NumberedCompari
 use Rattle.djq_query.specs.Numbered.{Numbered}
 use Rattle.djq_query.specs.Pattern.{Shape, tests_of}
 use Rattle.djq_binder.specs.Asked.{TermsSuit, IsAtomOf, AreAtomsOf, AreComparisonsOf, IsAsked, constants_in}
-use Rattle.djq_binder.proofs.EdgeOrder.{in_rest, in_cons, in_without, still_in}
+use Rattle.djq_binder.proofs.EdgeOrder.{first_different, in_rest, in_cons, in_without, still_in}
 use Rattle.djq_leaves.specs.Leaves.{AreCellsOfTerms, IsPatternOf, Holds, IsLeafOf, IsOver}
-use Rattle.djq_leaves.specs.Changes.{IsLater, CameAll, StandForRows, Went, GainsAll, Loses, KeepsTuples, OverStays}
-use Rattle.djq_leaves.specs.Changes.{OverGains, OverLoses}
+use Rattle.djq_leaves.specs.Changes.{IsLater, CameAll, StandForRows, WentAll, GainsAll, LosesAll, KeepsTuples}
+use Rattle.djq_leaves.specs.Changes.{OverStays, OverGains, OverLoses, without_rows}
 use Rattle.djq_leaves.specs.Cells.{AreRowOf}
 use Rattle.djq_leaves.proofs.LeafRows.{gives_once, gives_same, one_as}
 use Rattle.djq_live_query.specs.declared.live.LiveQuery.TheInside.{Inside}
@@ -377,19 +381,58 @@ came_rows c d at cells new p es fs h low came gains holds = record {
   );
 }
 
--- a row that went has other cells than those that are left
-other_cells : (c d : Catalog) (at : ℕ) (cells : List ℕ) (row x : Tuple) → Went c d at cells row
-    → at < length d.relations → Contains (rows_at d.relations at) x
-    → cells_of d.texts x ≡ cells → row ≡ x
-other_cells c d at cells row x went low there e =
-    cells_differ d.texts (relation_at d.relations at).types row x went.stand.of
-    (row_fits d at x went.later.catalog low there) went.stand.have
-    (have_cells d at x went.later.catalog low there) (sym went.stand.are ∙ sym e)
+-- ---- without rows
 
-went_rows : (c d : Catalog) (at : ℕ) (cells : List ℕ) (row : Tuple) (p : Shape)
-    (es fs : List Entry) → IsCatalog c → at < length c.relations → Went c d at cells row
-    → Loses p cells es fs → Holds c at p es → Holds d at p fs
-went_rows c d at cells row p es fs h low went loses holds =
+differ_less : (rows : List Tuple) (row : Tuple) → AreDifferent rows → AreDifferent (without_row rows row)
+differ_less [] row d = d
+differ_less (r ∷ rows) row d =
+    let rest = rest_differ r rows d in
+    elim (cases_Bool (tuple_eq r row)) [
+      | inl same ↦ rw same rest
+      | inr other ↦ rw other
+          (AllPairs-cons (λ s t. s ≡ t → ⊥) r (without_row rows row)
+          (λ i x below e. first_different r (slice_index_or (without_row rows row) i x) rows d
+          (in_without rows row (slice_index_or (without_row rows row) i x) rest (All-contains_itself (without_row rows row) i x below)).0 e)
+          (differ_less rows row rest))
+    ]
+
+-- what is left was there, and is none of those that went
+in_without_all : (gone rows : List Tuple) (x : Tuple) → AreDifferent rows
+    → Contains (without_rows rows gone) x
+    → Contains rows x × ((row : Tuple) → Contains gone row → row ≡ x → ⊥)
+in_without_all [] rows x d c = (c, λ row is e. none_contained row is)
+in_without_all (g ∷ gone) rows x d c =
+    let k = in_without_all gone (without_row rows g) x (differ_less rows g d) c in
+    let first = in_without rows g x d k.0 in (
+      first.0,
+      λ row is e.
+          elim (in_cons g row gone is) [
+            | inl here ↦ first.1 (here ∙ e)
+            | inr later ↦ k.1 row later e
+          ],
+    )
+
+still_in_all : (gone rows : List Tuple) (x : Tuple) → Contains rows x
+    → ((row : Tuple) → Contains gone row → row ≡ x → ⊥) → Contains (without_rows rows gone) x
+still_in_all [] rows x c other = c
+still_in_all (g ∷ gone) rows x c other =
+    still_in_all gone (without_row rows g) x
+    (still_in rows g x c (λ e. other g (at_head g gone) e))
+    (λ row is e. other row (in_rest g row gone is) e)
+
+-- a row that went has other cells than those that are left
+other_cells : (d : Catalog) (at : ℕ) (cells : List ℕ) (row x : Tuple) → IsCatalog d
+    → StandForRow d at cells row → at < length d.relations → Contains (rows_at d.relations at) x
+    → cells_of d.texts x ≡ cells → row ≡ x
+other_cells d at cells row x catalog stand low there e =
+    cells_differ d.texts (relation_at d.relations at).types row x stand.of
+    (row_fits d at x catalog low there) stand.have
+    (have_cells d at x catalog low there) (sym stand.are ∙ sym e)
+
+went_rows : (c d : Catalog) (at : ℕ) (cells : List (List ℕ)) (gone : List Tuple) (p : Shape)
+    (es fs : List Entry) → IsCatalog c → at < length c.relations → WentAll c d at cells gone
+    → LosesAll p cells es fs → Holds c at p es → Holds d at p fs
+went_rows c d at cells gone p es fs h low went loses holds =
     let later : at < length d.relations = (let long = went.later.long in omega arith) in
     record {
       exact = λ u. (
@@ -401,21 +444,23 @@ went_rows c d at cells row p es fs h low went loses holds =
               cells = one.cells;
               row = row_on c d at one.cells h went.later low is
                   (subst (λ (rows : List Tuple). Contains rows is.row) (sym went.rows)
-                  (still_in (rows_at c.relations at) row is.row is.there
-                  (λ (same : row ≡ is.row). both.1
-                  (gives_same p u one.cells cells
-                  (is.are ∙ ap (λ (r : Tuple). cells_of c.texts r) (sym same)
-                  ∙ sym (cells_later c d row went.later
-                  (have_cells c at row h low
-                  (subst (λ (r : Tuple). Contains (rows_at c.relations at) r) (sym same)
-                  is.there)))
-                  ∙ sym went.stand.are)
-                  one.gives))));
+                  (still_in_all gone (rows_at c.relations at) is.row is.there
+                  (λ row among same. both.1 (record {
+                    cells = cells_of d.texts row;
+                    row = cells_in d at cells gone row went.stand among;
+                    gives = gives_same p u one.cells (cells_of d.texts row)
+                        (is.are ∙ ap (λ (r : Tuple). cells_of c.texts r) (sym same)
+                        ∙ sym (cells_later c d row went.later
+                        (have_cells c at row h low
+                        (subst (λ (r : Tuple). Contains (rows_at c.relations at) r) (sym same)
+                        is.there))))
+                        one.gives;
+                  }))));
               gives = one.gives;
             },
         λ one.
             let is = one.row in
-            let left = in_without (rows_at c.relations at) row is.row
+            let left = in_without_all gone (rows_at c.relations at) is.row
             (h.kept at no_relation low).differ
             (subst (λ (rows : List Tuple). Contains rows is.row) went.rows is.there) in
             (loses u).1 (
@@ -424,9 +469,11 @@ went_rows c d at cells row p es fs h low went loses holds =
                 row = row_back c d at one.cells h went.later low is left.0;
                 gives = one.gives;
               }),
-              λ gives. left.1
-                  (other_cells c d at cells row is.row went later is.there
-                  (sym is.are ∙ gives_once p u one.cells cells one.gives gives)),
+              λ given.
+                  let s = stands_in d at cells gone given.cells went.stand given.row in
+                  left.1 s.row s.there
+                  (other_cells d at given.cells s.row is.row went.later.catalog s.stand later is.there
+                  (sym is.are ∙ gives_once p u one.cells given.cells one.gives given.gives)),
             ),
       );
     }

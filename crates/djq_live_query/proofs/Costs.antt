@@ -1,6 +1,6 @@
 -- How much an update of a registered query counts, measured by its atoms and variables.
 use Rattle.std.proofs.Common.{◌≡◌, ℕ, zero, suc, ◌+◌, ◌*◌, ◌<◌, ◌≤◌, true, List, [], ◌∷◌, length, ap, sym, subst, inl}
-use Rattle.std.proofs.Common.{inr, arith, mul-le-mul_right}
+use Rattle.std.proofs.Common.{inr, arith, mul-le-mul_left, mul-le-mul_right}
 use Rattle.std.specs.Prelude.{◌==◌, None, Some}
 use Rattle.std.specs.List.{list_any}
 use Rattle.std.proofs.lemmas.Bool.{cases_eq, eqb-true, false≢true, or_cases}
@@ -34,12 +34,13 @@ use Rattle.djq_binder.specs.Asked.{IsAsked}
 use Rattle.djq_binder.proofs.Hypergraphs.{below_has}
 use Rattle.djq_leaves.specs.Leaves.{IsOver}
 use Rattle.djq_leaves.specs.Stepping.{GrowsByOne, CountsLeaves, BoundsLeaf, atoms_below}
-use Rattle.djq_leaves.specs.Batching.{GrowsBy, CountsMany, CountsGiven}
+use Rattle.djq_leaves.specs.Batching.{GrowsBy, CountsMany, CountsFlatMany, CountsGiven, CountsGone}
 use Rattle.djq_leaves.proofs.LeafRows.{InAtom, leaf_with, leaf_atom}
 use Rattle.djq_leaves.proofs.LeafUpdates.{part_few}
 use Rattle.djq_leaves.proofs.Costs.{one_larger, all_grown_crowding as many_grown, all_grown}
 use Rattle.djq_live_query.specs.Live.{Live, IsKept, IsKeptSomewhere}
-use Rattle.djq_live_query.specs.Updating.{CountsBatchAt, CountsUpdate, CountsFlat, FlatMeetsAreEqual, atoms_over}
+use Rattle.djq_live_query.specs.Updating.{CountsBatchAt, CountsUpdate, CountsFlat, CountsFlatRows}
+use Rattle.djq_live_query.specs.Updating.{FlatMeetsAreEqual, atoms_over}
 use Rattle.djq_live_query.specs.Updating.{update_bound, flat_bound}
 use Rattle.djq_live_query.proofs.Catalogs.{atom_at}
 
@@ -256,3 +257,49 @@ batch_back l self s at atoms k more x y z e a kept tree grows left first second 
     (first n u few bounds)
     (second (n + more + 1) u (one_larger s (n + more) most)
     (subst (λ (t : Tree). 16 * (paths t * (n + more + 1)) ≤ u) (sym tree) bounds)))
+
+-- ---- many rows go at once
+
+pub counts_gone : (l self : Live) (at : ℕ) (atoms : List NumberedAtom) (rows k x y : ℕ) → l ≡ self
+    → atoms ≡ (l.numbered).atoms → IsKeptSomewhere l
+    → CountsGone rows l.reducts (atoms_below at atoms k) x y → CountsUpdate 1 self at x y
+counts_gone l self at atoms rows k x y e a kept counts =
+    subst (λ (z : Live). CountsUpdate 1 z at x y) e
+    (λ n few. sum_all (atoms_below at atoms k) (atoms_over l at) (update_bound l n) x y
+    (below_over l at atoms k a)
+    (counts n (update_bound l n) few (inl (path_bounds kept.0 l n kept.1))))
+
+scaled : (p q : ℕ) → p * (16 * q) ≡ 16 * (p * q)
+scaled p q = omega arith
+
+-- b bounds what so many rows of a flat query count at a leaf
+rows_bound : (c : Catalog) (l : Live) (rows : ℕ) → IsKept c l
+    → 16 * (rows * paths (l.reducts).tree) ≤ rows * flat_bound l
+rows_bound c l rows h =
+    let few = few_paths c l.query l.numbered l.patterns l.reducts h.over in
+    let most = mul-le-mul_left rows few in
+    let turn = scaled rows (length (l.numbered).atoms + length (l.numbered).variables) in
+    omega arith
+
+pub flat_gone : (l self : Live) (at : ℕ) (atoms : List NumberedAtom) (rows k x y : ℕ) → l ≡ self
+    → atoms ≡ (l.numbered).atoms → IsKeptSomewhere l
+    → CountsGone rows l.reducts (atoms_below at atoms k) x y → CountsFlatRows rows self at x y
+flat_gone l self at atoms rows k x y e a kept counts =
+    subst (λ (z : Live). CountsFlatRows rows z at x y) e
+    (λ flat.
+    let u = rows * flat_bound l in
+    let sum = sum_all (atoms_below at atoms k) (atoms_over l at) u x y (below_over l at atoms k a)
+    (counts (part (l.reducts).tables (l.reducts).tree.leaves) u (all_most l.reducts)
+    (inr (flat_meets kept.0 l kept.1 flat, rows_bound kept.0 l rows kept.1))) in
+    omega arith)
+
+pub flat_come : (l self : Live) (at : ℕ) (atoms : List NumberedAtom) (rows k x y : ℕ) → l ≡ self
+    → atoms ≡ (l.numbered).atoms → IsKeptSomewhere l
+    → CountsFlatMany rows l.reducts (atoms_below at atoms k) x y → CountsFlatRows rows self at x y
+flat_come l self at atoms rows k x y e a kept counts =
+    subst (λ (z : Live). CountsFlatRows rows z at x y) e
+    (λ flat.
+    let u = rows * flat_bound l in
+    let sum = sum_all (atoms_below at atoms k) (atoms_over l at) u x y (below_over l at atoms k a)
+    (counts u (flat_meets kept.0 l kept.1 flat) (rows_bound kept.0 l rows kept.1)) in
+    omega arith)

@@ -41,8 +41,9 @@ use Rattle.djq_query.specs.Pattern.{Shape, bound, filled}
 use Rattle.djq_binder.specs.Asked.{TermsSuit}
 use Rattle.djq_binder.proofs.EdgeOrder.{in_left, in_cons}
 use Rattle.djq_leaves.specs.Leaves.{AreCellsOfTerms, IsLeafOf, IsOver, IsPatternOf, GivesOne}
-use Rattle.djq_leaves.specs.Changes.{IsLater, CameAll, Went, GainsTuple, GainsAll, Loses, EachLeafChanges}
-use Rattle.djq_leaves.specs.Stepping.{LacksCells, LacksAll, Has, ChangesBelow, AreLeaves, HoldBelow}
+use Rattle.djq_leaves.specs.Changes.{IsLater, CameAll, Went, WentAll, GainsTuple, GainsAll, Loses, LosesAll}
+use Rattle.djq_leaves.specs.Changes.{EachLeafChanges}
+use Rattle.djq_leaves.specs.Stepping.{LacksCells, LacksAll, Has, HasAll, ChangesBelow, AreLeaves, HoldBelow}
 use Rattle.djq_leaves.specs.Cells.{AreRowOf, cell_under}
 use Rattle.djq_leaves.proofs.LeafRows.{has_at, gives_once, one_of, only_one}
 use Rattle.djq_leaves.proofs.Fills.{fits_long, in_row}
@@ -165,26 +166,40 @@ none_there c d q n ps r at cells new k h came = record {
       ];
 }
 
+pub rows_there : (c d : Catalog) (q : Query) (n : Numbered) (ps : List Shape) (r : Reducts)
+    (at : ℕ) (cells : List (List ℕ)) (gone : List Tuple) (k : ℕ) → IsOver c q n ps r
+    → ((row : Tuple) → Contains gone row → Contains (rows_at c.relations at) row)
+    → WentAll c d at cells gone → HoldBelow (λ p es. HasAll cells p es) at n.atoms ps k r
+rows_there c d q n ps r at cells gone k h there went = record {
+  each = λ j m p low e f on u given.
+      let a = atom_at c n.variables q.atoms n.atoms j m h.asked.atoms e in
+      let s = stands_in d at cells gone given.cells went.stand given.row in
+      let here : Contains (rows_at c.relations m.relation) s.row =
+      subst (λ (i : ℕ). Contains (rows_at c.relations i) s.row) (sym on) (there s.row s.there) in
+      ((h.leaves j m p e f).holds.exact u).1 (record {
+        cells = given.cells;
+        row = record {
+          row = s.row;
+          there = here;
+          are = s.stand.are
+              ∙ cells_later c d s.row went.later
+              (row_cells c n.variables a.atom m s.row h.asked.catalog a.is here);
+        };
+        gives = given.gives;
+      });
+}
+
 pub all_there : (c d : Catalog) (q : Query) (n : Numbered) (ps : List Shape) (r : Reducts)
     (at : ℕ) (cells : List ℕ) (row : Tuple) (k : ℕ) → IsOver c q n ps r
     → Contains (rows_at c.relations at) row → Went c d at cells row
     → HoldBelow (λ p es. Has cells p es) at n.atoms ps k r
 all_there c d q n ps r at cells row k h there went = record {
   each = λ j m p low e f on u gives.
-      let a = atom_at c n.variables q.atoms n.atoms j m h.asked.atoms e in
-      let here : Contains (rows_at c.relations m.relation) row =
-      subst (λ (i : ℕ). Contains (rows_at c.relations i) row) (sym on) there in
-      ((h.leaves j m p e f).holds.exact u).1 (record {
-        cells = cells;
-        row = record {
-          row = row;
-          there = here;
-          are = went.stand.are
-              ∙ cells_later c d row went.later
-              (row_cells c n.variables a.atom m row h.asked.catalog a.is here);
-        };
-        gives = gives;
-      });
+      (rows_there c d q n ps r at (cells ∷ []) (row ∷ []) k h
+      (λ x is. elim (in_cons row x [] is) [
+        | inl here ↦ subst (λ (y : Tuple). Contains (rows_at c.relations at) y) here there
+        | inr past ↦ absurd (none_contained x past)
+      ]) went).each j m p low e f on u (one_of p u cells gives);
 }
 
 -- what was put in is there
@@ -225,14 +240,14 @@ added_kept c d l s at cells new h came change = record {
   bare = change.bare;
 }
 
-pub lost_kept : (c d : Catalog) (l : Live) (s : Reducts) (at : ℕ) (cells : List ℕ) (row : Tuple)
-    → IsKept c l → Went c d at cells row
-    → ChangesBelow (λ p old new. Loses p cells old new) at (l.numbered).atoms l.patterns
+pub lost_kept : (c d : Catalog) (l : Live) (s : Reducts) (at : ℕ) (cells : List (List ℕ))
+    (gone : List Tuple) → IsKept c l → WentAll c d at cells gone
+    → ChangesBelow (λ p old new. LosesAll p cells old new) at (l.numbered).atoms l.patterns
     (length (l.numbered).atoms) l.reducts s
     → IsKept d (record l { reducts = s })
-lost_kept c d l s at cells row h went change = record {
-  over = over_loses c d l.query l.numbered l.patterns l.reducts s at cells row h.over went
-      (leaves_change (λ p old new. Loses p cells old new) at l.numbered l.patterns l.reducts s
+lost_kept c d l s at cells gone h went change = record {
+  over = over_loses c d l.query l.numbered l.patterns l.reducts s at cells gone h.over went
+      (leaves_change (λ p old new. LosesAll p cells old new) at l.numbered l.patterns l.reducts s
       change);
   named = tree_named l s change.tree h.named;
   bare = change.bare;
@@ -249,10 +264,10 @@ back_again cells p es fs gs u lacks gains loses = (
       let k = (loses u).0 there in
       elim ((gains u).0 k.0) [
         | inl before ↦ before
-        | inr one ↦ absurd (k.1 (only_one p u cells one))
+        | inr one ↦ absurd (k.1 one)
       ],
   λ there. (loses u).1
-      ((gains u).1 (inl there), λ gives. let none = lacks u gives in omega arith),
+      ((gains u).1 (inl there), λ one. let none = lacks u (only_one p u cells one) in omega arith),
 )
 
 back_leaf : (cells : List ℕ) (at : ℕ) (atoms : List NumberedAtom) (ps : List Shape) (k : ℕ)

@@ -9,6 +9,7 @@ pub mod HeadTuples
 pub mod LeafRows
 pub mod Deltas
 pub mod Updates
+pub mod Removals
 pub mod Costs
 pub mod BuiltQueries
 pub mod HeadAnswers

@@ -530,5 +530,5 @@ came_lives c d at cells row l came low none live =
 pub went_lives : WentPasses
 went_lives c d at cells row l went low none live =
     kept_so c d l went.later live
-    (over_loses c d l.query l.numbered l.patterns l.reducts l.reducts at cells row live.kept.over
+    (over_loses c d l.query l.numbered l.patterns l.reducts l.reducts at (cells ∷ []) (row ∷ []) live.kept.over
     went (unchanged (λ p old new. Loses p cells old new) c at l none live))

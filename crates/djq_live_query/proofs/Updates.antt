@@ -35,7 +35,7 @@ use Rattle.djq_store_spec.specs.Delta.{Change}
 use Rattle.djq_store_spec.specs.Registering.{most_steps}
 use Rattle.djq_binder.proofs.EdgeOrder.{in_cons, first_different}
 use Rattle.djq_leaves.specs.Leaves.{IsOver}
-use Rattle.djq_leaves.specs.Changes.{IsLater, Came, CameAll, Went, GainsTuple, GainsAll, Loses, StandForRows}
+use Rattle.djq_leaves.specs.Changes.{IsLater, CameAll, WentAll, GainsTuple, GainsAll, Loses, LosesAll, StandForRows}
 use Rattle.djq_leaves.specs.Stepping.{LacksCells, Has, HasMore, ChangesBelow, AreLeaves, HoldBelow, ListsWhere}
 use Rattle.djq_leaves.specs.Stepping.{atoms_below, answer_lines}
 use Rattle.djq_leaves.specs.Batching.{AreDistinct, AreTuples, RowsFit, CanTake, GainsTuples, LosesTuples}
@@ -47,8 +47,8 @@ use Rattle.djq_live_query.specs.Live.{Live, IsKept, SameQuery, values_of}
 use Rattle.djq_live_query.specs.Updating.{CanAdd, CanDelete, KeptAfter, IsDeltaOf, LogsWhere, CountsDelta, atoms_over}
 use Rattle.djq_live_query.specs.Updating.{change_of, CanAddAll}
 use Rattle.djq_live_query.proofs.TreeAnswers.{tree_answer}
-use Rattle.djq_live_query.proofs.LeafRows.{leaf_few, leaves_of, none_there, all_there, added_kept, lost_kept, back_kept}
-use Rattle.djq_live_query.proofs.LeafRows.{back_tables, same_kept}
+use Rattle.djq_live_query.proofs.LeafRows.{leaf_few, leaves_of, none_there, all_there, added_kept, lost_kept}
+use Rattle.djq_live_query.proofs.LeafRows.{back_kept, back_tables, same_kept}
 use Rattle.djq_live_query.proofs.ShownAnswers.{new_lines, old_lines}
 use Rattle.djq_live_query.proofs.Deltas.{IsPart, whole_part, some_part, part_answer, part_differ, shown_later, Shows}
 use Rattle.djq_live_query.proofs.Deltas.{ShowsAll, came_delta, went_delta, few_changes, lines_came, lines_went}
@@ -85,7 +85,7 @@ pub delete_leaves : (l : Live) (at : ℕ) (cells : List ℕ) (atoms : List Numbe
 delete_leaves l at cells atoms ps e f can =
     inside (λ a p. AreLeaves at cells a p l.reducts) atoms (l.numbered).atoms ps l.patterns e f
     (leaves_of can.before can.after l.query l.numbered l.patterns l.reducts at cells can.row
-    can.kept.over can.went.later can.went.stand)
+    can.kept.over can.went.later can.went.stand.0)
 
 pub delete_there : (l : Live) (at : ℕ) (cells : List ℕ) (atoms : List NumberedAtom)
     (ps : List Shape) → atoms ≡ (l.numbered).atoms → ps ≡ l.patterns → CanDelete l at cells
@@ -173,14 +173,14 @@ follows_came l self s at cells atoms ps e a p change = λ c d rows h came.
     l.reducts s)
     atoms (l.numbered).atoms ps l.patterns a p change)
 
-pub follows_went : (l self : Live) (s : Reducts) (at : ℕ) (cells : List ℕ)
+pub follows_went : (l self : Live) (s : Reducts) (at : ℕ) (cells : List (List ℕ))
     (atoms : List NumberedAtom) (ps : List Shape) → l ≡ self → atoms ≡ (l.numbered).atoms
     → ps ≡ l.patterns
-    → ChangesBelow (λ p old new. Loses p cells old new) at atoms ps (length atoms) l.reducts s
-    → KeptAfter (λ c d. Went c d at cells) self (record l { reducts = s })
-follows_went l self s at cells atoms ps e a p change = λ c d row h went.
-    lost_kept c d l s at cells row (subst (λ (x : Live). IsKept c x) (sym e) h) went
-    (outside (λ x y. ChangesBelow (λ q old new. Loses q cells old new) at x y (length x) l.reducts
+    → ChangesBelow (λ p old new. LosesAll p cells old new) at atoms ps (length atoms) l.reducts s
+    → KeptAfter (λ c d. WentAll c d at cells) self (record l { reducts = s })
+follows_went l self s at cells atoms ps e a p change = λ c d gone h went.
+    lost_kept c d l s at cells gone (subst (λ (x : Live). IsKept c x) (sym e) h) went
+    (outside (λ x y. ChangesBelow (λ q old new. LosesAll q cells old new) at x y (length x) l.reducts
     s)
     atoms (l.numbered).atoms ps l.patterns a p change)
 
@@ -286,17 +286,17 @@ gains_log l s at cells us c d rows more change listing h came =
     (part_later c d q n r (whole_part c q n l.patterns r h.over) came.later)
     (all_later c d q n l.patterns r h.over came.later) listing)
 
-loses_log : (l : Live) (s : Reducts) (at : ℕ) (cells : List ℕ) (us : List (List ℕ))
-    (c d : Catalog) (row : Tuple) → HasMore s l.reducts
-    → ChangesBelow (λ p old new. Loses p cells old new) at (l.numbered).atoms l.patterns
+loses_log : (l : Live) (s : Reducts) (at : ℕ) (cells : List (List ℕ)) (us : List (List ℕ))
+    (c d : Catalog) (gone : List Tuple) → HasMore s l.reducts
+    → ChangesBelow (λ p old new. LosesAll p cells old new) at (l.numbered).atoms l.patterns
     (length (l.numbered).atoms) l.reducts s
-    → ListsTuples (IsGained l.reducts s) us → IsKept c l → Went c d at cells row
+    → ListsTuples (IsGained l.reducts s) us → IsKept c l → WentAll c d at cells gone
     → IsDeltaOf l c d (map (change_of d.texts l) (answer_lines false us))
-loses_log l s at cells us c d row more change listing h went =
+loses_log l s at cells us c d gone more change listing h went =
     let q = l.query in
     let n = l.numbered in
     let r = l.reducts in
-    let over = (lost_kept c d l s at cells row h went change).over in
+    let over = (lost_kept c d l s at cells gone h went change).over in
     subst (λ (cs : List Change). IsDeltaOf l c d cs) (sym (lines_went d.texts l us))
     (went_delta (IsAnswer c.relations q) (IsAnswer d.relations q) r s (values_of d.texts l) us
     h.over.reducts change.sound more
@@ -325,18 +325,18 @@ came_logged true l s at cells h calls log new x y more change k = record {
 }
 came_logged false l s at cells h calls log new x y more change k = k.0
 
-went_logged : (wanted : Bool) (l : Live) (s : Reducts) (at : ℕ) (cells : List ℕ) (h calls : ℕ)
-    (log new : Log) (x y : ℕ) → HasMore s l.reducts
-    → ChangesBelow (λ p old new. Loses p cells old new) at (l.numbered).atoms l.patterns
+went_logged : (wanted : Bool) (l : Live) (s : Reducts) (at : ℕ) (cells : List (List ℕ))
+    (h calls : ℕ) (log new : Log) (x y : ℕ) → HasMore s l.reducts
+    → ChangesBelow (λ p old new. LosesAll p cells old new) at (l.numbered).atoms l.patterns
     (length (l.numbered).atoms) l.reducts s
     → ListsWhere wanted false (IsGained l.reducts s) h calls log new x y
-    → LogsWhere wanted (λ c d. Went c d at cells) l log new
+    → LogsWhere wanted (λ c d. WentAll c d at cells) l log new
 went_logged true l s at cells h calls log new x y more change k = record {
   lines = answer_lines false k.answers;
   behind = k.tells.behind;
-  tells = λ whole c d row kept went. loses_log l s at cells k.answers c d row more change
+  tells = λ whole c d gone kept went. loses_log l s at cells k.answers c d gone more change
       k.listing kept went;
-  shown = λ whole c d row kept went. old_lines c d l k.answers kept went.later
+  shown = λ whole c d gone kept went. old_lines c d l k.answers kept went.later
       (λ i u low. (k.listing.all i u low).is);
   stays = k.tells.stays;
 }
@@ -376,18 +376,18 @@ came_counted true l s at cells k log new x y more change lists = λ c d rows cha
     (head_narrow c q n l.patterns r h.over)
 came_counted false l s at cells k log new x y more change lists = lists.1
 
-went_counted : (wanted : Bool) (l : Live) (s : Reducts) (at : ℕ) (cells : List ℕ) (k : ℕ)
+went_counted : (wanted : Bool) (l : Live) (s : Reducts) (at : ℕ) (cells : List (List ℕ)) (k : ℕ)
     (log new : Log) (x y : ℕ) → HasMore s l.reducts
-    → ChangesBelow (λ p old new. Loses p cells old new) at (l.numbered).atoms l.patterns
+    → ChangesBelow (λ p old new. LosesAll p cells old new) at (l.numbered).atoms l.patterns
     (length (l.numbered).atoms) l.reducts s
     → ListsWhere wanted false (IsGained l.reducts s) (length (l.reducts).tree.head)
     (atoms_below at (l.numbered).atoms k) log new x y
-    → CountsDelta wanted (λ c d. Went c d at cells) l at x y
-went_counted true l s at cells k log new x y more change lists = λ c d row changes h went delta.
+    → CountsDelta wanted (λ c d. WentAll c d at cells) l at x y
+went_counted true l s at cells k log new x y more change lists = λ c d gone changes h went delta.
     let q = l.query in
     let n = l.numbered in
     let r = l.reducts in
-    let over = (lost_kept c d l s at cells row h went change).over in
+    let over = (lost_kept c d l s at cells gone h went change).over in
     within x y (length lists.answers) (length changes) (atoms_below at n.atoms k)
     (atoms_over l at) (length r.tree.head) (length q.head) lists.counted
     (few_changes (IsAnswer c.relations q) (IsAnswer d.relations q) (IsAnswer c.relations q)
@@ -416,16 +416,16 @@ logs_came wanted l self s at cells atoms ps h calls log new x y e a p more chang
     l.reducts s)
     atoms (l.numbered).atoms ps l.patterns a p change) lists)
 
-pub logs_went : (wanted : Bool) (l self : Live) (s : Reducts) (at : ℕ) (cells : List ℕ)
+pub logs_went : (wanted : Bool) (l self : Live) (s : Reducts) (at : ℕ) (cells : List (List ℕ))
     (atoms : List NumberedAtom) (ps : List Shape) (h calls : ℕ) (log new : Log) (x y : ℕ)
     → l ≡ self → atoms ≡ (l.numbered).atoms → ps ≡ l.patterns → HasMore s l.reducts
-    → ChangesBelow (λ p old new. Loses p cells old new) at atoms ps (length atoms) l.reducts s
+    → ChangesBelow (λ p old new. LosesAll p cells old new) at atoms ps (length atoms) l.reducts s
     → ListsWhere wanted false (IsGained l.reducts s) h calls log new x y
-    → LogsWhere wanted (λ c d. Went c d at cells) self log new
+    → LogsWhere wanted (λ c d. WentAll c d at cells) self log new
 logs_went wanted l self s at cells atoms ps h calls log new x y e a p more change lists =
-    subst (λ (z : Live). LogsWhere wanted (λ c d. Went c d at cells) z log new) e
+    subst (λ (z : Live). LogsWhere wanted (λ c d. WentAll c d at cells) z log new) e
     (went_logged wanted l s at cells h calls log new x y more
-    (outside (λ v w. ChangesBelow (λ q old new. Loses q cells old new) at v w (length v) l.reducts
+    (outside (λ v w. ChangesBelow (λ q old new. LosesAll q cells old new) at v w (length v) l.reducts
     s)
     atoms (l.numbered).atoms ps l.patterns a p change) lists)
 
@@ -444,17 +444,17 @@ counts_came wanted l self s at cells atoms ps k log new x y e a p more change li
     (subst (λ (v : List NumberedAtom). ListsWhere wanted true (IsGained s l.reducts)
     (length (l.reducts).tree.head) (atoms_below at v k) log new x y) a lists))
 
-pub counts_went : (wanted : Bool) (l self : Live) (s : Reducts) (at : ℕ) (cells : List ℕ)
+pub counts_went : (wanted : Bool) (l self : Live) (s : Reducts) (at : ℕ) (cells : List (List ℕ))
     (atoms : List NumberedAtom) (ps : List Shape) (log new : Log) (x y : ℕ) → l ≡ self
     → atoms ≡ (l.numbered).atoms → ps ≡ l.patterns → HasMore s l.reducts
-    → ChangesBelow (λ p old new. Loses p cells old new) at atoms ps (length atoms) l.reducts s
+    → ChangesBelow (λ p old new. LosesAll p cells old new) at atoms ps (length atoms) l.reducts s
     → ListsWhere wanted false (IsGained l.reducts s) (length (l.reducts).tree.head)
     (atoms_below at atoms (length atoms)) log new x y
-    → CountsDelta wanted (λ c d. Went c d at cells) self at x y
+    → CountsDelta wanted (λ c d. WentAll c d at cells) self at x y
 counts_went wanted l self s at cells atoms ps log new x y e a p more change lists =
-    subst (λ (z : Live). CountsDelta wanted (λ c d. Went c d at cells) z at x y) e
+    subst (λ (z : Live). CountsDelta wanted (λ c d. WentAll c d at cells) z at x y) e
     (went_counted wanted l s at cells (length (l.numbered).atoms) log new x y more
-    (outside (λ v w. ChangesBelow (λ q old new. Loses q cells old new) at v w (length v) l.reducts
+    (outside (λ v w. ChangesBelow (λ q old new. LosesAll q cells old new) at v w (length v) l.reducts
     s)
     atoms (l.numbered).atoms ps l.patterns a p change)
     (subst (λ (v : List NumberedAtom). ListsWhere wanted false (IsGained l.reducts s)
@@ -462,34 +462,32 @@ counts_went wanted l self s at cells atoms ps log new x y e a p more change list
 
 -- ---- one row
 
-pub follows_one : (l m : Live) (at : ℕ) (cells : List ℕ)
-    → KeptAfter (λ c d. CameAll c d at (cells ∷ [])) l m → KeptAfter (λ c d. Came c d at cells) l m
-follows_one l m at cells h = λ c d row kept came. h c d (row ∷ []) kept came
+pub follows_one : (Changed : Catalog → Catalog → List Tuple → Type 0) (l m : Live) → KeptAfter Changed l m
+    → KeptAfter (λ c d row. Changed c d (row ∷ [])) l m
+follows_one Changed l m h = λ c d row kept changed. h c d (row ∷ []) kept changed
 
-pub logs_one : (wanted : Bool) (l : Live) (at : ℕ) (cells : List ℕ) (log new : Log)
-    → LogsWhere wanted (λ c d. CameAll c d at (cells ∷ [])) l log new
-    → LogsWhere wanted (λ c d. Came c d at cells) l log new
-logs_one true l at cells log new h = record {
+pub logs_one : (Changed : Catalog → Catalog → List Tuple → Type 0) (wanted : Bool) (l : Live) (log new : Log)
+    → LogsWhere wanted Changed l log new → LogsWhere wanted (λ c d row. Changed c d (row ∷ [])) l log new
+logs_one Changed true l log new h = record {
   lines = h.lines;
   behind = h.behind;
-  tells = λ whole c d row kept came. h.tells whole c d (row ∷ []) kept came;
-  shown = λ whole c d row kept came. h.shown whole c d (row ∷ []) kept came;
+  tells = λ whole c d row kept changed. h.tells whole c d (row ∷ []) kept changed;
+  shown = λ whole c d row kept changed. h.shown whole c d (row ∷ []) kept changed;
   stays = h.stays;
 }
-logs_one false l at cells log new h = h
+logs_one Changed false l log new h = h
 
-pub counts_one : (wanted : Bool) (l : Live) (at : ℕ) (cells : List ℕ) (x y : ℕ)
-    → CountsDelta wanted (λ c d. CameAll c d at (cells ∷ [])) l at x y
-    → CountsDelta wanted (λ c d. Came c d at cells) l at x y
-counts_one true l at cells x y h = λ c d row changes kept came delta.
-    h c d (row ∷ []) changes kept came delta
-counts_one false l at cells x y h = h
+pub counts_one : (Changed : Catalog → Catalog → List Tuple → Type 0) (wanted : Bool) (l : Live) (at x y : ℕ)
+    → CountsDelta wanted Changed l at x y → CountsDelta wanted (λ c d row. Changed c d (row ∷ [])) l at x y
+counts_one Changed true l at x y h = λ c d row changes kept changed delta.
+    h c d (row ∷ []) changes kept changed delta
+counts_one Changed false l at x y h = h
 
 -- ---- What a registered query is where many rows come at once.
 
 -- ---- rows that came
 
-distinct_at : (d : Catalog) (at : ℕ) (cells : List (List ℕ)) (new : List Tuple) (v : List ℕ)
+pub distinct_at : (d : Catalog) (at : ℕ) (cells : List (List ℕ)) (new : List Tuple) (v : List ℕ)
     → StandForRows d at cells new → AreDifferent new → times cells v ≤ 1
 unfolding times
 distinct_at d at [] [] v h differ = omega arith

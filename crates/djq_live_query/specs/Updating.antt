@@ -3,7 +3,7 @@ use Rattle.std.specs.Prelude.{ℕ, List, [], ◌++◌, ◌≡◌, ◌+◌, ◌*�
 use Rattle.std.specs.Prelude.{Contains, filter, length, map, if◌then◌else◌}
 use Rattle.djq_model.specs.declared.query.Atom.{Atom}
 use Rattle.djq_model.specs.Data.{Bytes, Tuple, rows_of}
-use Rattle.djq_model.specs.Answer.{IsAnswer}
+use Rattle.djq_model.specs.Answer.{IsAnswer, AreDifferent}
 use Rattle.djq_protocol.specs.declared.answer.Sign.TheVariants.{Came as HasCome, Went as HasGone}
 use Rattle.djq_store_spec.specs.Delta.{Change, IsDelta}
 use Rattle.djq_store_spec.specs.Registering.{most_steps}
@@ -14,7 +14,7 @@ use Rattle.djq_propagate.specs.Updates.{HasAtMost}
 use Rattle.djq_enumeration.specs.declared.log.Line.{Line}
 use Rattle.djq_enumeration.specs.Log.{Log}
 use Rattle.djq_database.specs.Catalog.{Catalog, rows_at}
-use Rattle.djq_leaves.specs.Changes.{Came, CameAll, Went}
+use Rattle.djq_leaves.specs.Changes.{Came, CameAll, Went, WentAll}
 use Rattle.djq_live_query.specs.Live.{Live, IsKept, IsShowable, values_of}
 
 -- A row with these cells came into a relation, whose catalog the query was kept over.
@@ -41,6 +41,16 @@ pub record CanDelete (l : Live) (at : ℕ) (cells : List ℕ) : Type 0 where
   pub kept : IsKept before l
   pub there : Contains (rows_at before.relations at) row
   pub went : Went before after at cells row
+
+-- Rows with these cells, one for one, were there, each once, and went out.
+pub record CanDeleteAll (l : Live) (at : ℕ) (cells : List (List ℕ)) : Type 0 where
+  pub before : Catalog
+  pub after : Catalog
+  pub rows : List Tuple
+  pub kept : IsKept before l
+  pub there : (row : Tuple) → Contains rows row → Contains (rows_at before.relations at) row
+  pub differ : AreDifferent rows
+  pub went : WentAll before after at cells rows
 
 -- The query is kept over the later catalog, too, whatever changed: a row or some rows.
 abbrev pub KeptAfter : {R : Type 0} → (Catalog → Catalog → R → Type 0) → Live → Live → Type 0
@@ -123,6 +133,11 @@ flat_bound l = 16 * (length l.numbered.atoms + length l.numbered.variables)
 abbrev pub CountsFlat : ℕ → Live → ℕ → ℕ → ℕ → Type 0
 CountsFlat times l at before now = IsFlat (edges_of l.query) (head_of l.query)
     → now ≤ before + times * (atoms_over l at * flat_bound l)
+
+-- Where so many rows come or go at once, the update count of a flat query is this at most for each row and atom.
+abbrev pub CountsFlatRows : ℕ → Live → ℕ → ℕ → ℕ → Type 0
+CountsFlatRows rows l at before now = IsFlat (edges_of l.query) (head_of l.query)
+    → now ≤ before + atoms_over l at * (rows * flat_bound l)
 
 -- The meets of the tree of a flat query that is kept have equal labels.
 abbrev pub FlatMeetsAreEqual : Type 0

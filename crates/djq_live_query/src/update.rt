@@ -4,7 +4,7 @@ ghost use Rattle.djq_model.specs.Data.{Tuple};
 ghost use Rattle.djq_reduct.specs.Reducts.{SameTables};
 ghost use Rattle.djq_database.specs.Catalog.{Catalog as CatalogModel};
 ghost use Rattle.djq_leaves.specs.Batching.{GrowsBy};
-ghost use Rattle.djq_leaves.specs.Changes.{Came, CameAll, Went};
+ghost use Rattle.djq_leaves.specs.Changes.{Came, CameAll, Went, WentAll};
 ghost use Rattle.djq_live_query.specs.Cursors.{outdated_slots};
 ghost use Rattle.djq_live_query.specs.Live.{IsKept, IsLive, SameQuery};
 ghost use Rattle.djq_leaves.specs.Stepping.{GrowsByOne, HasMore};
@@ -12,12 +12,14 @@ ghost use Rattle.djq_live_query.specs.Updating.{
   CanAdd,
   CanAddAll,
   CanDelete,
+  CanDeleteAll,
   KeptAfter,
   LogsWhere,
   IsEmpty,
   CountsBatchAt,
   CountsDelta,
   CountsFlat,
+  CountsFlatRows,
   CountsUpdate,
 };
 
@@ -26,7 +28,8 @@ use djq_counters::{Ledgers, Steps};
 use djq_database::RelationId;
 use djq_enumeration::DeltaLog;
 use djq_leaves::{
-    add_all_to_leaves, add_to_leaves, delete_from_leaves, give_all_from_leaves, tuples_of_all,
+    add_all_to_leaves, add_to_leaves, delete_all_from_leaves, delete_from_leaves,
+    give_all_from_leaves, tuples_of_all,
 };
 use djq_model::{Name, NoMem};
 use djq_reduct::Cells;
@@ -113,7 +116,8 @@ impl LiveQuery {
     ///
     /// For each atom over the relation the update count rises by at most 16(m + v)(n + k + 1), where
     /// the query has m atoms and v variables, holes counted in, no leaf more than n tuples before, and
-    /// k rows come: by no more than one row may count where so many are there.
+    /// k rows come: by no more than one row may count where so many are there. Where the query is flat,
+    /// by at most 16(m + v) for each row, whatever the number of tuples.
     ///
     /// # Errors
     ///
@@ -144,6 +148,8 @@ impl LiveQuery {
         ensures updates { OnOk result (CountsBatchAt (length rows.now) 1 self.old relation.at
             steps.old.update steps.new.update) }
         ensures refusal { OnErr result (CountsBatchAt (length rows.now) 2 self.old relation.at
+            steps.old.update steps.new.update) }
+        ensures flat { OnOk result (CountsFlatRows (length rows.now) self.old relation.at
             steps.old.update steps.new.update) }
         ensures rows { steps.new.rows ≡ steps.old.rows }
     {
@@ -216,6 +222,52 @@ impl LiveQuery {
             end,
             relation.at,
             cells,
+            wanted,
+            log,
+            steps,
+        );
+    }
+
+    /// Takes out rows that went out of a relation at once, each given by its cells; they go out of the
+    /// leaves over the relation one leaf after another, all tuples of a leaf at once. Where the delta
+    /// is wanted, the log tells behind what it told which answers went by all of them together, each
+    /// once. It takes no memory but the log's. [`outdate`](LiveQuery::outdate) is to be called before
+    /// a cursor is read.
+    ///
+    /// For each atom over the relation the update count rises by at most 16(m + v)(n + 1), where the
+    /// query has m atoms and v variables, holes counted in, and no leaf more than n tuples before,
+    /// however many rows go. Where the query is flat, by at most 16(m + v) for each row, whatever the
+    /// number of tuples.
+    pub fn delete_many<L: Ledgers>(
+        &mut self,
+        relation: RelationId,
+        rows: &[Cells],
+        wanted: bool,
+        log: &mut DeltaLog,
+        steps: &mut Steps<L>,
+    )
+        requires { CanDeleteAll self.old relation.at rows.now }
+        ensures deleted { KeptAfter (λ c d. WentAll c d relation.at rows.now) self.old self.new }
+        ensures same { SameQuery self.old self.new }
+        ensures fewer { HasMore self.new.reducts self.old.reducts }
+        ensures log { LogsWhere wanted (λ c d. WentAll c d relation.at rows.now)
+            self.old log.old log.new }
+        ensures counted { CountsDelta wanted (λ c d. WentAll c d relation.at rows.now)
+            self.old relation.at steps.old.listing steps.new.listing }
+        ensures updates { CountsUpdate 1 self.old relation.at
+            steps.old.update steps.new.update }
+        ensures flat { CountsFlatRows (length rows.now) self.old relation.at
+            steps.old.update steps.new.update }
+        ensures rows { steps.new.rows ≡ steps.old.rows }
+    {
+        let atoms = self.numbered.atoms();
+        let patterns = self.patterns.as_slice();
+        delete_all_from_leaves(
+            &mut self.reducts,
+            atoms,
+            patterns,
+            relation.at,
+            rows,
             wanted,
             log,
             steps,

@@ -1,7 +1,7 @@
 -- Clearing the marks keeps all tuples, so what the marks listed is what the reducts gained since the start.
 use Rattle.std.proofs.Common.{true}
 use Rattle.djq_propagate.proofs.Updates.{inserted_gained_all}
-use Rattle.djq_leaves.proofs.Costs.{insertions_count}
+use Rattle.djq_leaves.proofs.Costs.{insertions_count, insertions_flat}
 use Rattle.djq_leaves.proofs.LeafUpdates.{kept_lists}
 use Rattle.djq_leaves.proofs.batch.add_all_and_tell.Goals as goal
 
@@ -24,3 +24,10 @@ returns-clause-updates g c =
     c.finish_insertion.new.reducts c.args.steps.now.update c.insert_leaf_many.new.tally c.finish_insertion.new.tally
     c.in_ok-insert_leaf_many.ensures.inserted c.finish_insertion.ensures.kept c.in_ok-insert_leaf_many.ensures.counted
     c.finish_insertion.ensures.counted
+
+pub returns-clause-flat : goal.returns-clause-flat
+returns-clause-flat g c =
+    insertions_flat c.args.leaf c.args.tuples.now c.args.reducts.now c.insert_leaf_many.new.reducts
+    c.args.steps.now.update c.insert_leaf_many.new.tally c.finish_insertion.new.tally c.requires.some
+    c.in_ok-insert_leaf_many.ensures.inserted c.in_ok-insert_leaf_many.ensures.flat
+    c.in_ok-insert_leaf_many.ensures.few c.finish_insertion.ensures.flat

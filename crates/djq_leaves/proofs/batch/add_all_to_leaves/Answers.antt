@@ -6,7 +6,7 @@ use Rattle.djq_tree.specs.Tree.{Tree}
 use Rattle.djq_enumeration.specs.Changed.{IsGained}
 use Rattle.djq_leaves.proofs.Batches.{got_in, all_gained, adds_stable, adds_more, next_fresh, next_room, below_skip}
 use Rattle.djq_leaves.proofs.Batches.{below_step, below_kept, below_at}
-use Rattle.djq_leaves.proofs.Costs.{grown_next, grown_kept, counted_as, counted_more, one_more}
+use Rattle.djq_leaves.proofs.Costs.{grown_next, grown_kept, counted_as, counted_more, flat_as, flat_more, one_more}
 use Rattle.djq_leaves.proofs.LeafUpdates.{more_both, got, on_as, off_as, counts_over, counts_past, calls_as}
 use Rattle.djq_leaves.proofs.LeafUpdates.{lists_gained, lists_refused, kept_more}
 use Rattle.djq_leaves.proofs.batch.add_all_to_leaves.Goals as goal
@@ -31,6 +31,9 @@ leaves-preserved-then-atoms-leaf g c =
       updates = λ more few. counted_as more c.args.reducts.now
           (atoms_below c.args.relation c.args.atoms.now c.leaves.leaf) _ c.args.steps.now.update c.leaves.steps.update
           past (c.leaves.invariant.updates more few);
+      flat = λ more few. flat_as more c.args.reducts.now
+          (atoms_below c.args.relation c.args.atoms.now c.leaves.leaf) _ c.args.steps.now.update c.leaves.steps.update
+          past (c.leaves.invariant.flat more few);
       rows = c.leaves.invariant.rows;
     }
 
@@ -110,6 +113,15 @@ leaves-preserved g c =
           few (subst (λ (n : ℕ). c.leaves.leaf < n) (sym c.requires.can.leaves) c.leaves-test.true)
           c.leaves.invariant.changed (c.leaves.invariant.grows more few) over (c.leaves.invariant.updates more few)
           c.in-Ok.ensures.updates;
+      flat = λ more few. flat_more (batch_tuples c.args.rows.now c.args.batch.now) c.leaves.leaf more
+          c.tuples_in-tuples.result.now c.args.reducts.now c.leaves.reducts
+          (atoms_below c.args.relation c.args.atoms.now c.leaves.leaf)
+          (atoms_below c.args.relation c.args.atoms.now (c.leaves.leaf + 1))
+          c.args.steps.now.update c.leaves.steps.update c.add_all_to_leaf.new.steps.update
+          (got_in c.args.rows.now c.args.batch.now c.leaves.leaf c.index-batch-leaf.result
+          c.tuples_in-tuples.result.now c.tuples_in-tuples.ensures
+          (subst (λ (n : ℕ). c.leaves.leaf < n) (sym c.requires.can.long) c.leaves-test.true) c.index-batch-leaf.is)
+          few c.leaves.invariant.changed.tree over (c.leaves.invariant.flat more few) c.in-Ok.ensures.flat;
       rows = c.add_all_to_leaf.ensures.rows ∙ c.leaves.invariant.rows;
     }
 

@@ -1,8 +1,8 @@
 -- Leaves from the index on still have the tuple, and what goes with each stands in the log behind the last.
-use Rattle.std.proofs.Common.{false, ◌+◌, ◌<◌, length, ℕ, sym, subst, ◌∙◌}
+use Rattle.std.proofs.Common.{false, [], ◌∷◌, ◌+◌, ◌<◌, length, ℕ, sym, subst, ◌∙◌}
 use Rattle.djq_leaves.specs.Changes.{Loses}
 use Rattle.djq_leaves.specs.Stepping.{Has, atoms_below}
-use Rattle.djq_leaves.proofs.Batches.{below_skip, below_step, loses_stable, loses_more, leaves_stay}
+use Rattle.djq_leaves.proofs.Batches.{below_at, below_skip, below_step, loses_stable, loses_more, leaves_stay}
 use Rattle.djq_leaves.proofs.LeafUpdates.{more_both, got, on_as, off_as, below_end, counts_over, counts_past, calls_as}
 use Rattle.djq_leaves.proofs.LeafUpdates.{lists_lost, has_stay, wide_stays}
 use Rattle.djq_leaves.proofs.Costs.{counts_as, counts_fewer}
@@ -81,13 +81,13 @@ delete_from_leaf-requires-clause-there g c =
 
 pub leaves-preserved : goal.leaves-preserved
 leaves-preserved g c =
-    let more = loses_more c.args.cells.now c.index-patterns-leaf.result c.leaves.leaf
+    let more = loses_more (c.args.cells.now ∷ []) c.index-patterns-leaf.result c.leaves.leaf
     c.leaves.reducts c.delete_from_leaf.new.reducts c.delete_from_leaf.ensures.lost in
     record {
       changed = below_step (λ p old new. Loses p c.args.cells.now old new) c.args.relation
           c.args.atoms.now c.args.patterns.now c.leaves.leaf c.index-atoms-leaf.result
           c.index-patterns-leaf.result c.args.reducts.now c.leaves.reducts
-          c.delete_from_leaf.new.reducts (loses_stable c.args.cells.now) c.requires.leaves.long
+          c.delete_from_leaf.new.reducts (loses_stable (c.args.cells.now ∷ [])) c.requires.leaves.long
           (got c.args.atoms.now c.leaves.leaf c.index-atoms-leaf.result (below_end c.leaves.leaf
           c.args.end (length c.args.atoms.now) c.leaves-test.true c.requires.end)
           c.index-atoms-leaf.is)
@@ -122,3 +122,9 @@ leaves-preserved g c =
           c.leaves.invariant.updates c.delete_from_leaf.ensures.updates;
       rows = c.delete_from_leaf.ensures.rows ∙ c.leaves.invariant.rows;
     }
+
+pub returns-clause-lost : goal.returns-clause-lost
+returns-clause-lost g c =
+    below_at (λ p old new. Loses p c.args.cells.now old new) c.args.relation c.args.atoms.now c.args.patterns.now
+    c.leaves.leaf c.args.end c.args.reducts.now c.leaves.reducts c.leaves.auto.leaf-end c.leaves-test.false
+    c.leaves.invariant.changed

@@ -1,6 +1,6 @@
 -- The row is new, so its leaves lack its tuple and have room; what was put in can be given back.
 use Rattle.std.proofs.Common.{ℕ, [], ◌∷◌, ◌<◌, length, sym, subst, ◌∙◌, arith}
-use Rattle.djq_leaves.specs.Changes.{Came, GainsTuple}
+use Rattle.djq_leaves.specs.Changes.{Came, CameAll, GainsTuple}
 use Rattle.djq_live_query.specs.Live.{Live}
 use Rattle.djq_live_query.proofs.Catalogs.{live_of}
 use Rattle.djq_leaves.specs.Stepping.{GrowsByOne}
@@ -46,7 +46,7 @@ add_to_leaves-done-requires-clause-bare g c =
 pub returns-then-done-atoms-clause-added : goal.returns-then-done-atoms-clause-added
 returns-then-done-atoms-clause-added g c =
     let l = live_of c.self.inside in
-    follows_one c.args.self.now _ c.args.relation.at c.args.cells.now
+    follows_one (λ x y. CameAll x y c.args.relation.at (c.args.cells.now ∷ [])) c.args.self.now _
     (follows_came l c.args.self.now c.add_to_leaves-done.new.reducts c.args.relation.at
     (c.args.cells.now ∷ []) c.atoms-atoms.result.now c.as_slice-patterns.result.now c.self.view_is
     c.atoms-atoms.ensures c.as_slice-patterns.ensures.value
@@ -65,7 +65,7 @@ returns-then-done-atoms-clause-same g c =
 pub returns-then-done-atoms-clause-log : goal.returns-then-done-atoms-clause-log
 returns-then-done-atoms-clause-log g c =
     let l = live_of c.self.inside in
-    logs_one c.args.wanted c.args.self.now c.args.relation.at c.args.cells.now c.args.log.now
+    logs_one (λ x y. CameAll x y c.args.relation.at (c.args.cells.now ∷ [])) c.args.wanted c.args.self.now c.args.log.now
     c.add_to_leaves-done.new.log
     (logs_came c.args.wanted l c.args.self.now c.add_to_leaves-done.new.reducts c.args.relation.at
     (c.args.cells.now ∷ []) c.atoms-atoms.result.now c.as_slice-patterns.result.now
@@ -83,7 +83,7 @@ returns-then-done-atoms-clause-log g c =
 pub returns-then-done-atoms-clause-counted : goal.returns-then-done-atoms-clause-counted
 returns-then-done-atoms-clause-counted g c =
     let l = live_of c.self.inside in
-    counts_one c.args.wanted c.args.self.now c.args.relation.at c.args.cells.now
+    counts_one (λ x y. CameAll x y c.args.relation.at (c.args.cells.now ∷ [])) c.args.wanted c.args.self.now c.args.relation.at
     c.args.steps.now.listing c.add_to_leaves-done.new.steps.listing
     (counts_came c.args.wanted l c.args.self.now c.add_to_leaves-done.new.reducts c.args.relation.at
     (c.args.cells.now ∷ []) c.atoms-atoms.result.now c.as_slice-patterns.result.now
@@ -151,7 +151,8 @@ returns-clause-counted g c =
     subst (λ (n : ℕ). CountsDelta c.args.wanted (λ x y. Came x y c.args.relation.at
     c.args.cells.now) c.args.self.now c.args.relation.at c.args.steps.now.listing n)
     (sym c.delete_from_leaves.ensures.listed.1)
-    (counts_one c.args.wanted c.args.self.now c.args.relation.at c.args.cells.now
+    (counts_one (λ x y. CameAll x y c.args.relation.at (c.args.cells.now ∷ [])) c.args.wanted c.args.self.now
+    c.args.relation.at
     c.args.steps.now.listing c.add_to_leaves-done.new.steps.listing
     (counts_came c.args.wanted l c.args.self.now c.add_to_leaves-done.new.reducts c.args.relation.at
     (c.args.cells.now ∷ []) c.atoms-atoms.result.now c.as_slice-patterns.result.now

@@ -9,7 +9,7 @@ use Rattle.djq_live_query.specs.Updating.{CountsDelta}
 use Rattle.djq_leaves.proofs.Batches.{all_gains, all_there, below_at}
 use Rattle.djq_live_query.proofs.Updates.{can_add_all, came_distinct, in_hand, tuples_as, batch_kept, batch_same}
 use Rattle.djq_live_query.proofs.Updates.{follows_came, same_query, logs_came, counts_came}
-use Rattle.djq_live_query.proofs.Costs.{counts_batch, batch_back}
+use Rattle.djq_live_query.proofs.Costs.{counts_batch, batch_back, flat_come}
 use Rattle.djq_live_query.proofs.live.LiveQuery.add_many.Goals as goal
 
 pub tuples_of_all-requires-clause-long : goal.tuples_of_all-requires-clause-long
@@ -129,6 +129,19 @@ returns-then-done-atoms-clause-updates g c =
     (length c.args.rows.now) c.args.steps.now.update c.add_all_to_leaves-done.new.steps.update c.self.view_is
     c.atoms-atoms.ensures (can.before, can.kept)
     (c.add_all_to_leaves-done.ensures.updates (let e = c.if-done-atoms.true in omega arith) (length c.args.rows.now)
+    of.few)
+
+pub returns-then-done-atoms-clause-flat : goal.returns-then-done-atoms-clause-flat
+returns-then-done-atoms-clause-flat g c =
+    let l = live_of c.self.inside in
+    let can = can_add_all l c.args.self.now c.args.relation.at c.args.rows.now c.self.view_is c.requires in
+    let of = tuples_as c.args.relation.at c.args.rows.now c.atoms-atoms.result.now c.as_slice-patterns.result.now
+    (batch_tuples c.args.rows.now c.in-Ok.batch.items) (batch_tuples c.args.rows.now c.as_slice-tuples.result.now)
+    (ap (batch_tuples c.args.rows.now) c.as_slice-tuples.ensures.value) c.in-Ok.ensures in
+    flat_come l c.args.self.now c.args.relation.at c.atoms-atoms.result.now (length c.args.rows.now)
+    c.add_all_to_leaves-done.result c.args.steps.now.update c.add_all_to_leaves-done.new.steps.update c.self.view_is
+    c.atoms-atoms.ensures (can.before, can.kept)
+    (c.add_all_to_leaves-done.ensures.flat (let e = c.if-done-atoms.true in omega arith) (length c.args.rows.now)
     of.few)
 
 pub give_all_from_leaves-requires-clause-leaves : goal.give_all_from_leaves-requires-clause-leaves
