@@ -198,7 +198,7 @@ impl<R: Net<Listener = net::TcpListener, Stream = net::TcpStream> + Eprint + Clo
         self.refused = true;
     }
 
-    /// Looks at the next place.
+    /// Looks at the next place that may have something: a connection that is ready, or the listener.
     fn look(&mut self, buf: &mut [u8]) -> Turn
         requires { 0 < length buf.old }
         ensures ids { Turns result (length buf.new) self.old.ids self.new.ids }
@@ -209,6 +209,7 @@ impl<R: Net<Listener = net::TcpListener, Stream = net::TcpStream> + Eprint + Clo
         ensures turned_away { TurnsAway result self.old.turned_away self.new.turned_away }
         ensures works { result ≡ Turn.Failed → ⊥ }
     {
+        self.at = conn::next_ready(&self.conns, self.at);
         if self.at >= self.conns.len() {
             self.at = 0;
             return self.accept();
@@ -216,7 +217,7 @@ impl<R: Net<Listener = net::TcpListener, Stream = net::TcpStream> + Eprint + Clo
         let conn = &mut self.conns[self.at];
         self.at += 1;
         let id = conn.id;
-        if !conn.ready || !self.sessions.is_running(id) {
+        if !self.sessions.is_running(id) {
             return Turn::Idle;
         }
         match conn.read(buf) {
@@ -234,7 +235,7 @@ impl<R: Net<Listener = net::TcpListener, Stream = net::TcpStream> + Eprint + Clo
         }
     }
 
-    /// Visits the places in a circle until one has something, each once.
+    /// Visits the places that may have something, in a circle, until one has or none may.
     fn go_round(&mut self, buf: &mut [u8]) -> Turn
         requires { 0 < length buf.old }
         ensures ids { Turns result (length buf.new) self.old.ids self.new.ids }
@@ -247,7 +248,11 @@ impl<R: Net<Listener = net::TcpListener, Stream = net::TcpStream> + Eprint + Clo
     {
         for _ in 0..=self.conns.len() {
             match self.look(buf) {
-                Turn::Idle => {}
+                Turn::Idle => {
+                    if !self.has_some() {
+                        return Turn::Idle;
+                    }
+                }
                 turn => return turn,
             }
         }
@@ -287,8 +292,11 @@ impl<R: Net<Listener = net::TcpListener, Stream = net::TcpStream> + Eprint + Clo
             let Token(token) = event.token();
             if token == LISTENER {
                 self.knocks = true;
-            } else {
-                conn::note(&mut self.conns, token as u64, event);
+            } else if let Some(at) = conn::note(&mut self.conns, token as u64, event) {
+                // Where no place had anything, the next visit is here, so that none that has nothing is passed.
+                if !self.some {
+                    self.at = at;
+                }
             }
         }
         Ok(())
@@ -366,6 +374,11 @@ impl<R: Net<Listener = net::TcpListener, Stream = net::TcpStream> + Eprint + Clo
     }
 
     fn send(&mut self, id: u64, piece: &[u8]) -> Sent {
+        // Beside clients that don't read a flush comes to many that are full, one after the other.
+        if self.flushed < id && conn::is_full(&self.conns, id) {
+            self.flushed = id;
+            return Sent::Again;
+        }
         let sent = conn::send(&mut self.conns, id, piece);
         // A flush sends by rising ids, so with this one another has begun. The clock isn't read for each session.
         if id <= self.flushed {
