@@ -210,14 +210,16 @@ pub(crate) fn is_full(conns: &[Conn], id: u64) -> bool {
     }
 }
 
-/// The first place from this one on of a connection that may have bytes, or else the place behind them all.
-pub(crate) fn next_ready(conns: &[Conn], from: usize) -> usize {
-    for at in from..conns.len() {
+/// The first place from one up to another of a connection that may have bytes.
+pub(crate) fn next_ready(conns: &[Conn], from: usize, to: usize) -> Option<usize>
+    ensures { IfSome result (λ at. at < length conns.now) }
+{
+    for at in from..conns.len().min(to) {
         if conns[at].ready {
-            return at;
+            return Some(at);
         }
     }
-    conns.len()
+    None
 }
 
 /// Notes an event that the system reports of the connection with this id, and returns its place, if there is one.
