@@ -239,9 +239,19 @@ fn clear_bytes(alloc: Global, bytes: &mut BytesMut)
 {
     bytes.clear();
     if bytes.capacity() > BUFFER_BYTES {
-        if let Ok(small) = BytesMut::with_capacity(alloc, LINE_BYTES) {
-            *bytes = small;
-        }
+        shrink_bytes(alloc, bytes);
+    }
+}
+
+/// Gives a large buffer back that is empty. It stands apart so that the way of a small commit is free of it.
+#[cold]
+#[inline(never)]
+fn shrink_bytes(alloc: Global, bytes: &mut BytesMut)
+    requires { (bytes.old.items ≡ []) × (LINE_BYTES ≤ bytes.old.spare) }
+    ensures { (bytes.new.items ≡ []) × (LINE_BYTES ≤ bytes.new.spare) }
+{
+    if let Ok(small) = BytesMut::with_capacity(alloc, LINE_BYTES) {
+        *bytes = small;
     }
 }
 
@@ -252,9 +262,19 @@ fn clear_items<T: Drop>(alloc: Global, items: &mut Vec<T>)
 {
     items.clear();
     if items.capacity() > ENTRIES {
-        if let Ok(few) = Vec::with_capacity(alloc, ENTRIES) {
-            *items = few;
-        }
+        shrink_items(alloc, items);
+    }
+}
+
+/// The same of a list that is empty.
+#[cold]
+#[inline(never)]
+fn shrink_items<T: Drop>(alloc: Global, items: &mut Vec<T>)
+    requires { (items.old.items ≡ []) × (0 < vec_capacity items.old) }
+    ensures { (items.new.items ≡ []) × (0 < vec_capacity items.new) }
+{
+    if let Ok(few) = Vec::with_capacity(alloc, ENTRIES) {
+        *items = few;
     }
 }
 

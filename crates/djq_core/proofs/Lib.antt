@@ -8,3 +8,4 @@ pub mod Deltas
 pub mod ChangeReplies
 pub mod BatchRows
 pub mod Loads
+pub mod Quiet

@@ -42,6 +42,13 @@ parts_here xs s i r l e = record {
   above = λ k le more. omega (arith, rises_up xs r i k le more, e);
 }
 
+pub parts_first : (xs : List ℕ) (s : ℕ) → Rises xs → s ≤ get_or xs 0 0 → PartsAt xs s 0
+parts_first xs s r e = record {
+  within = omega arith;
+  below = λ k less. absurd (omega (arith, less));
+  above = λ k le more. omega (arith, rises_up xs r 0 k le more, e);
+}
+
 pub parts_missed : (xs : List ℕ) (s i : ℕ) → Rises xs → IsBinarySearchResult (λ y. nat_cmp y s) xs (Err i) → PartsAt xs s
     i
 parts_missed xs s i r h =

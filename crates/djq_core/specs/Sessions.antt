@@ -1,8 +1,9 @@
 -- The open sessions, as they lie in a slab beside the rising list of their ids.
-use Rattle.std.specs.Prelude.{ℕ, List, [], ◌∷◌, ◌≡◌, ◌≢◌, ◌<◌, ◌≤◌, ⊤, Option, None, Some, IsSome, length, map}
-use Rattle.std.specs.Prelude.{slice_index, slice_index_or}
+use Rattle.std.specs.Prelude.{ℕ, List, [], ◌∷◌, ◌≡◌, ◌≢◌, ◌<◌, ◌≤◌, ◌⊎◌, ⊤, Option, None, Some, IsSome, length, map, false}
+use Rattle.std.specs.Prelude.{slice_get, slice_index, slice_index_or}
 use Rattle.slab.specs.Slab.{Slab, slab_len}
 use Rattle.djq_protocol.specs.declared.limits.TheConstants.{SESSIONS}
+use Rattle.djq_session.specs.Dialog.{dialog_is_ready}
 use Rattle.djq_commands.specs.declared.open.OpenSession.{OpenSession}
 use Rattle.djq_commands.specs.Views.{Talk}
 use Rattle.djq_commands.specs.Sound.{Rises}
@@ -56,3 +57,8 @@ pub record HasKeys (ids keys : List ℕ) (slab : Slab Talk) (id_room key_room : 
   pub room_for_ids : SESSIONS ≤ id_room
   pub room_for_keys : SESSIONS ≤ key_room
   pub room_in_slab : SESSIONS ≤ slab.capacity
+
+-- No session at a place outside of those from one up to another has a line that may be run.
+abbrev pub QuietOutside : List OpenSession → ℕ → ℕ → Type 0
+QuietOutside xs from to = (at : ℕ) (x : OpenSession) → slice_get xs at ≡ Some x → (at < from) ⊎ (to ≤ at)
+    → dialog_is_ready x.session ≡ false

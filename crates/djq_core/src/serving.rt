@@ -131,6 +131,7 @@ impl Machine for Core {
         }
     }
 
+    #[inline]
     fn ready(&self, from: u128) -> Option<u64> {
         if self.stopped {
             None
@@ -180,9 +181,10 @@ impl Machine for Core {
     fn clear_commit(&mut self) {
         self.commit.clear();
         self.queued.begin();
+        self.sessions.settle();
     }
 
-    #[inline]
+    #[inline(always)]
     fn pending(&self, id: u64) -> &[u8] {
         let at = self.sessions.find(id);
         self.sessions.get(at).pending()
@@ -219,6 +221,7 @@ impl Machine for Core {
         self.sessions.get(at).cause()
     }
 
+    #[inline(always)]
     fn due(&self, from: u128) -> Option<u64> {
         self.sessions.first_due(from)
     }

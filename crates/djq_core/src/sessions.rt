@@ -1,5 +1,5 @@
 //! The open sessions: each lies in a slab, and is found by its id.
-ghost use Rattle.std.specs.Prelude.{◌≡◌, ◌<◌, ◌++◌, ◌∷◌, ◌&&◌, [], Some, IfOk, Contains, find, length, nat_le};
+ghost use Rattle.std.specs.Prelude.{◌≡◌, ◌<◌, ◌≤◌, ◌++◌, ◌∷◌, ◌&&◌, [], Some, IfOk, Contains, find, length, nat_le};
 ghost use Rattle.std.specs.Prelude.{All, option_map, slice_get, slice_index};
 ghost use Rattle.std.specs.List.{remove};
 ghost use Rattle.std.specs.Borrow.{sem};
@@ -29,6 +29,9 @@ pub(crate) struct Sessions {
     ids: Vec<u64>,
     keys: Vec<usize>,
     slab: Slab<Session<CursorId, Name>>,
+    // outside of the places from the one up to the other no session has a line that may be run
+    ready_from: usize,
+    ready_to: usize,
 }
 
 impl Model for Sessions {
@@ -38,11 +41,12 @@ impl Model for Sessions {
     ghost Value = { List OpenSession };
 
     ghost use Rattle.std.specs.Prelude.{vec_capacity};
-    ghost use Rattle.djq_core.specs.Sessions.{HasKeys, lying_in};
+    ghost use Rattle.djq_core.specs.Sessions.{HasKeys, QuietOutside, lying_in};
 
     ghost view = { λ s. lying_in s.ids.items s.keys.items s.slab.slots };
 
-    ghost invariant = { λ s. HasKeys s.ids.items s.keys.items s.slab (vec_capacity s.ids) (vec_capacity s.keys) };
+    ghost invariant = { λ s. HasKeys s.ids.items s.keys.items s.slab (vec_capacity s.ids) (vec_capacity s.keys)
+        × QuietOutside (lying_in s.ids.items s.keys.items s.slab.slots) s.ready_from s.ready_to };
 }
 
 impl Sessions {
@@ -60,6 +64,8 @@ impl Sessions {
             ids: Vec::with_capacity(alloc, SESSIONS)?,
             keys: Vec::with_capacity(alloc, SESSIONS)?,
             slab: Slab::with_capacity(alloc, SESSIONS)?,
+            ready_from: usize::MAX,
+            ready_to: 0,
         })
     }
 
@@ -97,13 +103,15 @@ impl Sessions {
         &self.slab[key]
     }
 
-    /// The session at a place, to go on with it.
+    /// The session at a place, to go on with it. It counts as one that may have a line, until
+    /// [`settle`](Sessions::settle) finds otherwise.
     #[inline]
     pub(crate) fn get_mut(&mut self, at: usize) -> &mut Session<CursorId, Name>
         requires { at < length self.old }
         ensures* writes_back { sem 𝓛 (LendsSession self.entry at result) }
         ensures value { slice_get self.old at ≡ Some (opened_at self.old at result.now) }
     {
+        include(&mut self.ready_from, &mut self.ready_to, at);
         let key = self.keys[at];
         &mut self.slab[key]
     }
@@ -114,6 +122,7 @@ impl Sessions {
         requires last { All (λ x. x.id < opened.id) self.old }
         ensures { self.new ≡ self.old ++ opened ∷ [] }
     {
+        include(&mut self.ready_from, &mut self.ready_to, self.ids.len());
         let OpenSession { id, session } = opened;
         let key = self.slab.insert_reserved(session);
         self.ids.push_reserved(id);
@@ -125,6 +134,8 @@ impl Sessions {
         requires { at < length self.old }
         ensures { self.new ≡ remove self.old at }
     {
+        // The places behind it move down by one.
+        self.ready_from = self.ready_from.saturating_sub(1);
         let _id = self.ids.remove(at);
         let key = self.keys.remove(at);
         let _closed = self.slab.remove(key);
@@ -132,6 +143,7 @@ impl Sessions {
 
     /// The first session of at least this id to which something is due. The search begins at the place
     /// of the id: whoever goes on from session to session doesn't pay for those that are behind.
+    #[inline(always)]
     pub(crate) fn first_due(&self, from: u128) -> Option<u64>
         ensures { result ≡ option_map (λ x. x.id)
             (find (λ x. nat_le from x.id && dialog_is_due x.session) self.now) }
@@ -146,14 +158,16 @@ impl Sessions {
         None
     }
 
-    /// The first session of at least this id of which the next line may be run, looked for as the first to which
-    /// something is due.
+    /// The first session of at least this id of which the next line may be run. Those that have none cost nothing,
+    /// but for those between two that may have one.
     pub(crate) fn first_ready(&self, from: u128) -> Option<u64>
         ensures { result ≡ option_map (λ x. x.id)
             (find (λ x. nat_le from x.id && dialog_is_ready x.session) self.now) }
     {
         let low = u64::try_from(from).unwrap_or(u64::MAX);
-        for at in place_from(self.ids.as_slice(), low)..self.ids.len() {
+        let start = place_from(self.ids.as_slice(), low).max(self.ready_from);
+        let end = self.ids.len().min(self.ready_to);
+        for at in start..end {
             let id = self.ids[at];
             if from <= u128::from(id) && self.get(at).is_ready() {
                 return Some(id);
@@ -161,6 +175,31 @@ impl Sessions {
         }
         None
     }
+
+    /// Sees whether any session has a line that may be run, so that if none has, none is looked at for one before it
+    /// is lent again. One session alone is as soon looked at.
+    pub(crate) fn settle(&mut self)
+        ensures { self.new ≡ self.old }
+    {
+        if self.ids.len() > 1 && self.first_ready(0).is_none() {
+            self.ready_from = usize::MAX;
+            self.ready_to = 0;
+        }
+    }
+}
+
+/// Includes a place in those from one up to another. Mostly it is one of them.
+#[inline]
+fn include(from: &mut usize, to: &mut usize, at: usize)
+    requires { at < 18446744073709551615 }
+    ensures low { (from.new ≤ from.old) × (from.new ≤ at) }
+    ensures high { (to.old ≤ to.new) × (at < to.new) }
+{
+    if *from <= at && at < *to {
+        return;
+    }
+    *from = (*from).min(at);
+    *to = (*to).max(at + 1);
 }
 
 /// At which place the ids of at least this begin. Ids are given one after the other. So a session is most often as many
@@ -173,10 +212,23 @@ fn place_from(ids: &[u64], id: u64) -> usize
     if ids.is_empty() {
         return 0;
     }
+    if id <= ids[0] {
+        return 0;
+    }
     let guess = id.wrapping_sub(ids[0]) as usize;
     if guess < ids.len() && ids[guess] == id {
         return guess;
     }
+    search_from(ids, id)
+}
+
+/// The same by a search. It stands apart so that the way of an id that is where it is guessed is free of it.
+#[cold]
+#[inline(never)]
+fn search_from(ids: &[u64], id: u64) -> usize
+    requires { Rises ids.now }
+    ensures { PartsAt ids.now id result }
+{
     match ids.binary_search(&id) {
         Ok(at) => at,
         Err(at) => at,

@@ -178,6 +178,7 @@ impl Conn {
 
 /// The index of the connection with this id among those with rising ids. Ids are given one after the other. So it is most
 /// often as many places behind the first as its id is above the first's, and is looked for there before it is searched.
+#[inline]
 fn place_of(conns: &[Conn], id: u64) -> Option<usize>
     ensures { IfSome result (λ at. at < length conns.now) }
 {
@@ -188,17 +189,50 @@ fn place_of(conns: &[Conn], id: u64) -> Option<usize>
     if guess < conns.len() && conns[guess].id == id {
         return Some(guess);
     }
+    search(conns, id)
+}
+
+/// The same by a search. It stands apart so that the way of a connection that is full is free of it.
+#[cold]
+#[inline(never)]
+fn search(conns: &[Conn], id: u64) -> Option<usize>
+    ensures { IfSome result (λ at. at < length conns.now) }
+{
     conns.binary_search_by_key(&id, |conn| conn.id).ok()
 }
 
-/// Notes an event that the system reports of the connection with this id.
-pub(crate) fn note(conns: &mut [Conn], id: u64, event: &Event) {
-    if let Some(at) = place_of(conns, id) {
-        conns[at].note(event);
+/// Whether the connection with this id is full, so that a send would write nothing.
+#[inline]
+pub(crate) fn is_full(conns: &[Conn], id: u64) -> bool {
+    match place_of(conns, id) {
+        Some(at) => conns[at].full,
+        None => false,
     }
 }
 
+/// The first place from one up to another of a connection that may have bytes.
+pub(crate) fn next_ready(conns: &[Conn], from: usize, to: usize) -> Option<usize>
+    ensures { IfSome result (λ at. at < length conns.now) }
+{
+    for at in from..conns.len().min(to) {
+        if conns[at].ready {
+            return Some(at);
+        }
+    }
+    None
+}
+
+/// Notes an event that the system reports of the connection with this id, and returns its place, if there is one.
+pub(crate) fn note(conns: &mut [Conn], id: u64, event: &Event) -> Option<usize> {
+    let place = place_of(conns, id);
+    if let Some(at) = place {
+        conns[at].note(event);
+    }
+    place
+}
+
 /// Sends a first part of the piece over the connection with this id.
+#[inline(never)]
 pub(crate) fn send(conns: &mut [Conn], id: u64, piece: &[u8]) -> Sent
     ensures { Takes result piece.now }
 {

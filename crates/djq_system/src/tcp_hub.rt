@@ -51,6 +51,9 @@ pub struct TcpHub<
     sessions: Sessions,
     /// The place that is visited next: of a connection, or after them all of the listener.
     at: usize,
+    /// Outside of the places from the one up to the other no connection has bytes, as far as the system has reported.
+    ready_from: usize,
+    ready_to: usize,
     /// Whether the listener may have a connection.
     knocks: bool,
     /// Whether a connection couldn't be accepted. That is tried again after the system was asked for events.
@@ -106,6 +109,8 @@ impl<R: Net<Listener = net::TcpListener, Stream = net::TcpStream> + Eprint + Clo
             conns: Vec::with_capacity(alloc, PLACES)?,
             sessions,
             at: 0,
+            ready_from: usize::MAX,
+            ready_to: 0,
             knocks: false,
             refused: false,
             some: false,
@@ -161,9 +166,12 @@ impl<R: Net<Listener = net::TcpListener, Stream = net::TcpStream> + Eprint + Clo
         };
         match listening.accept(id as usize) {
             Ok(stream) => {
+                let place = self.conns.len();
                 if self.conns.push(Conn::new(id, stream)).is_err() {
                     return Turn::Idle;
                 }
+                self.ready_from = self.ready_from.min(place);
+                self.ready_to = self.conns.len();
                 self.sessions.open(id);
                 self.said = false;
                 Turn::Opened(id, Class::Client)
@@ -198,7 +206,7 @@ impl<R: Net<Listener = net::TcpListener, Stream = net::TcpStream> + Eprint + Clo
         self.refused = true;
     }
 
-    /// Looks at the next place.
+    /// Looks at the next place that may have something: a connection that is ready, or the listener.
     fn look(&mut self, buf: &mut [u8]) -> Turn
         requires { 0 < length buf.old }
         ensures ids { Turns result (length buf.new) self.old.ids self.new.ids }
@@ -209,14 +217,15 @@ impl<R: Net<Listener = net::TcpListener, Stream = net::TcpStream> + Eprint + Clo
         ensures turned_away { TurnsAway result self.old.turned_away self.new.turned_away }
         ensures works { result ≡ Turn.Failed → ⊥ }
     {
-        if self.at >= self.conns.len() {
+        let from = self.at.max(self.ready_from);
+        let Some(at) = conn::next_ready(&self.conns, from, self.ready_to) else {
             self.at = 0;
             return self.accept();
-        }
-        let conn = &mut self.conns[self.at];
-        self.at += 1;
+        };
+        self.at = at + 1;
+        let conn = &mut self.conns[at];
         let id = conn.id;
-        if !conn.ready || !self.sessions.is_running(id) {
+        if !self.sessions.is_running(id) {
             return Turn::Idle;
         }
         match conn.read(buf) {
@@ -234,7 +243,7 @@ impl<R: Net<Listener = net::TcpListener, Stream = net::TcpStream> + Eprint + Clo
         }
     }
 
-    /// Visits the places in a circle until one has something, each once.
+    /// Visits the places that may have something, in a circle, until one has or none may.
     fn go_round(&mut self, buf: &mut [u8]) -> Turn
         requires { 0 < length buf.old }
         ensures ids { Turns result (length buf.new) self.old.ids self.new.ids }
@@ -247,7 +256,11 @@ impl<R: Net<Listener = net::TcpListener, Stream = net::TcpStream> + Eprint + Clo
     {
         for _ in 0..=self.conns.len() {
             match self.look(buf) {
-                Turn::Idle => {}
+                Turn::Idle => {
+                    if !self.has_some() {
+                        return Turn::Idle;
+                    }
+                }
                 turn => return turn,
             }
         }
@@ -267,7 +280,7 @@ impl<R: Net<Listener = net::TcpListener, Stream = net::TcpStream> + Eprint + Clo
 
     /// Whether a connection may have bytes, or may be accepted.
     fn has_some(&self) -> bool {
-        self.may_accept() || self.conns.iter().any(|conn| conn.ready)
+        self.may_accept() || conn::next_ready(&self.conns, self.ready_from, self.ready_to).is_some()
     }
 
     /// Notes the events that the system reports. If no place may have something, it waits for one.
@@ -287,8 +300,9 @@ impl<R: Net<Listener = net::TcpListener, Stream = net::TcpStream> + Eprint + Clo
             let Token(token) = event.token();
             if token == LISTENER {
                 self.knocks = true;
-            } else {
-                conn::note(&mut self.conns, token as u64, event);
+            } else if let Some(at) = conn::note(&mut self.conns, token as u64, event) {
+                self.ready_from = self.ready_from.min(at);
+                self.ready_to = self.ready_to.max(at.saturating_add(1));
             }
         }
         Ok(())
@@ -312,6 +326,10 @@ impl<R: Net<Listener = net::TcpListener, Stream = net::TcpStream> + Eprint + Clo
         }
         let turn = self.go_round(buf);
         self.some = self.has_some();
+        if !self.some {
+            self.ready_from = usize::MAX;
+            self.ready_to = 0;
+        }
         self.turns = self.turns.saturating_add(1);
         if let Turn::Bytes(_, n) = turn {
             self.bytes = self.bytes.saturating_add(n);
@@ -365,7 +383,13 @@ impl<R: Net<Listener = net::TcpListener, Stream = net::TcpStream> + Eprint + Clo
         turn
     }
 
+    #[inline(always)]
     fn send(&mut self, id: u64, piece: &[u8]) -> Sent {
+        // Beside clients that don't read a flush comes to many that are full, one after the other.
+        if self.flushed < id && conn::is_full(&self.conns, id) {
+            self.flushed = id;
+            return Sent::Again;
+        }
         let sent = conn::send(&mut self.conns, id, piece);
         // A flush sends by rising ids, so with this one another has begun. The clock isn't read for each session.
         if id <= self.flushed {
@@ -394,6 +418,8 @@ impl<R: Net<Listener = net::TcpListener, Stream = net::TcpStream> + Eprint + Clo
 
     fn close(&mut self, id: u64) {
         conn::close(&mut self.conns, id);
+        // The places behind it move down by one.
+        self.ready_from = self.ready_from.saturating_sub(1);
         self.sessions.close(id);
         self.some = self.has_some();
     }

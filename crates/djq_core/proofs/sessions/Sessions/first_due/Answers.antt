@@ -9,11 +9,11 @@ use Rattle.djq_session.specs.Dialog.{dialog_is_due}
 use Rattle.djq_core.proofs.sessions.Sessions.first_due.Goals as goal
 
 pub place_from-at-requires : goal.place_from-at-requires
-place_from-at-requires c = subst Rises (sym c.as_slice.ensures.value) c.self.invariant.rising
+place_from-at-requires c = subst Rises (sym c.as_slice.ensures.value) c.self.invariant.0.rising
 
 pub loop-at-init : goal.loop-at-init
 loop-at-init c =
-    let same = seen_ids _ _ _ _ _ _ c.self.invariant c.self.view_is ∙ sym c.as_slice.ensures.value in
+    let same = seen_ids _ _ _ _ _ _ c.self.invariant.0 c.self.view_is ∙ sym c.as_slice.ensures.value in
     let low = low_le c.try_from.result c.args.from c.try_from.ensures in
     passed_low dialog_is_due c.args.self.now c.args.from c.place_from-at.result
     (λ at l. omega (
@@ -27,7 +27,7 @@ loop-at-init c =
       arith,
       c.place_from-at.ensures.within,
       ap length c.as_slice.ensures.value,
-      seen_length _ _ _ _ _ _ c.self.invariant c.self.view_is,
+      seen_length _ _ _ _ _ _ c.self.invariant.0 c.self.view_is,
     ))
 
 pub get-requires : goal.get-requires
@@ -36,14 +36,14 @@ get-requires c = omega (
   c.loop-at-test.true,
   c.len-at-end.ensures,
   c.self.inside.ids.ok.0,
-  seen_length _ _ _ _ _ _ c.self.invariant c.self.view_is,
+  seen_length _ _ _ _ _ _ c.self.invariant.0 c.self.view_is,
 )
 
 pub returns-then-is_due : goal.returns-then-is_due
 returns-then-is_due c =
     let within : c.loop-at.at < length c.self.inside.ids.items = omega
     (arith, c.loop-at-test.true, c.len-at-end.ensures, c.self.inside.ids.ok.0) in
-    let same = ap (λ (ns : List ℕ). get_or ns c.loop-at.at 0) (seen_ids _ _ _ _ _ _ c.self.invariant c.self.view_is)
+    let same = ap (λ (ns : List ℕ). get_or ns c.loop-at.at 0) (seen_ids _ _ _ _ _ _ c.self.invariant.0 c.self.view_is)
     ∙ key_is c.self.inside.ids.items c.loop-at.at c.index-id.result.now within c.index-id.ensures in
     is_found dialog_is_due c.args.self.now c.args.from c.loop-at.at c.index-id.result.now c.get.result.now c.loop-at.invariant
     c.get.ensures same (omega (arith, c.if-from.true, c.from.ensures)) (sym c.is_due.ensures ∙ c.if-is_due.true)
@@ -52,7 +52,7 @@ pub loop-at-preserved : goal.loop-at-preserved
 loop-at-preserved c =
     let within : c.loop-at.at < length c.self.inside.ids.items = omega
     (arith, c.loop-at-test.true, c.len-at-end.ensures, c.self.inside.ids.ok.0) in
-    let same = ap (λ (ns : List ℕ). get_or ns c.loop-at.at 0) (seen_ids _ _ _ _ _ _ c.self.invariant c.self.view_is)
+    let same = ap (λ (ns : List ℕ). get_or ns c.loop-at.at 0) (seen_ids _ _ _ _ _ _ c.self.invariant.0 c.self.view_is)
     ∙ key_is c.self.inside.ids.items c.loop-at.at c.index-id.result.now within c.index-id.ensures in
     let next : suc c.loop-at.at ≡ c.loop-at.at + 1 = omega arith in
     subst (λ (at : ℕ). find (passes_from dialog_is_due c.args.from) c.args.self.now
@@ -63,7 +63,7 @@ loop-at-preserved c =
           (sym w.is_due.ensures ∙ w.if-is_due.false)
       | else-from-via-else-from w ↦
           passed_lower dialog_is_due c.args.self.now c.args.from c.loop-at.at
-          (omega (arith, within, seen_length _ _ _ _ _ _ c.self.invariant c.self.view_is))
+          (omega (arith, within, seen_length _ _ _ _ _ _ c.self.invariant.0 c.self.view_is))
           (omega (arith, same, w.if-from.false, c.from.ensures))
     ])
 
@@ -73,5 +73,5 @@ returns c = none_found dialog_is_due c.args.self.now c.args.from c.loop-at.at c.
   c.loop-at-test.false,
   c.len-at-end.ensures,
   c.self.inside.ids.ok.0,
-  seen_length _ _ _ _ _ _ c.self.invariant c.self.view_is,
+  seen_length _ _ _ _ _ _ c.self.invariant.0 c.self.view_is,
 ))

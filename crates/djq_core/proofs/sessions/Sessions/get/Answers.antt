@@ -6,14 +6,14 @@ use Rattle.djq_core.proofs.sessions.Sessions.get.Goals as goal
 pub index-key-requires : goal.index-key-requires
 index-key-requires c = omega (
   arith,
-  key_within _ _ _ _ _ _ c.args.at c.self.invariant c.self.view_is c.requires,
+  key_within _ _ _ _ _ _ c.args.at c.self.invariant.0 c.self.view_is c.requires,
   c.self.inside.keys.ok.0,
 )
 
 pub index-requires : goal.index-requires
-index-requires c = key_holds _ _ _ _ _ _ c.args.at c.index-key.result.now c.self.invariant c.self.view_is c.requires
+index-requires c = key_holds _ _ _ _ _ _ c.args.at c.index-key.result.now c.self.invariant.0 c.self.view_is c.requires
     c.index-key.ensures
 
 pub returns : goal.returns
-returns c = get_placed _ _ _ _ _ _ c.args.at c.index-key.result.now c.index.result.now c.self.invariant c.self.view_is
+returns c = get_placed _ _ _ _ _ _ c.args.at c.index-key.result.now c.index.result.now c.self.invariant.0 c.self.view_is
     c.requires c.index-key.ensures c.index.ensures

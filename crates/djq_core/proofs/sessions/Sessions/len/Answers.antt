@@ -8,5 +8,5 @@ returns c = omega (
   arith,
   c.len.ensures,
   c.self.inside.ids.ok.0,
-  seen_length _ _ _ _ _ _ c.self.invariant c.self.view_is,
+  seen_length _ _ _ _ _ _ c.self.invariant.0 c.self.view_is,
 )
