@@ -64,11 +64,10 @@ net come gone new h t = (
 )
 
 -- Whether two lines are the same.
-line_eq : SignedLine → SignedLine → Bool
+abbrev pub line_eq : SignedLine → SignedLine → Bool
 line_eq = eq_of_both (on (λ (l : SignedLine). l.came) beq) (on (λ (l : SignedLine). l.cells) (pointwise nat_eq))
 
 line_eq_equiv : IsEquivalence line_eq
-unfolding line_eq
 line_eq_equiv = and_equiv (on_equiv (λ (l : SignedLine). l.came) bool_eq_equiv) (on_equiv (λ (l : SignedLine). l.cells) nat_list_eq_equiv)
 
 both_decide : (k l : SignedLine) (b c : Bool) → Decides b (k.came ≡ l.came) → Decides c (k.cells ≡ l.cells) → Decides (b && c) (k ≡ l)
@@ -76,8 +75,7 @@ both_decide k l true true f g = (λ _. same_line k l (f.0 refl) (g.0 refl), λ _
 both_decide k l true false f g = (λ e. cc e, λ e. g.1 (ap (λ (m : SignedLine). m.cells) e))
 both_decide k l false c f g = (λ e. cc e, λ e. f.1 (ap (λ (m : SignedLine). m.came) e))
 
-line_eq_decides : (k l : SignedLine) → Decides (line_eq k l) (k ≡ l)
-unfolding line_eq
+pub line_eq_decides : (k l : SignedLine) → Decides (line_eq k l) (k ≡ l)
 line_eq_decides k l = both_decide k l (beq k.came l.came) (pointwise nat_eq k.cells l.cells) (booleans_Decides k.came l.came) (bytes_eq-Decides k.cells l.cells)
 
 -- lines that are different stay so in another order
@@ -96,7 +94,7 @@ settled_permuted xs ys new moved h = record {
 }
 
 -- lines of different answers are different lines
-distinct_by_cells : (ls : List SignedLine) → AllPairs (λ s t. s ≡ t → ⊥) (map (λ l. l.cells) ls) → AreDistinctLines ls
+pub distinct_by_cells : (ls : List SignedLine) → AllPairs (λ s t. s ≡ t → ⊥) (map (λ l. l.cells) ls) → AreDistinctLines ls
 distinct_by_cells ls h i j d below within e =
     let cells = λ (l : SignedLine). l.cells in
     h i j (cells d) below (omega (arith, length-map ls cells))
