@@ -11,14 +11,16 @@
 //! What this crate is not: it has no function of its own. What surprises: without its tests it is
 //! empty.
 //!
-//! Inside, `arena`, `index`, `dict`, `rows`, `reduct`, `propagate`, `cursor`, `query` and `slots` test
-//! the library of that name.
+//! Inside, `arena`, `index`, `dict`, `rows`, `reduct`, `propagate`, `cursor`, `delta`, `query` and
+//! `slots` test the library of that name.
 #![tactic(auto)]
 
 #[cfg(test)]
 mod arena;
 #[cfg(test)]
 mod cursor;
+#[cfg(test)]
+mod delta;
 #[cfg(test)]
 mod dict;
 #[cfg(test)]

@@ -1,0 +1,245 @@
+//! A delta: lines, each with a sign and the cells of an answer.
+ghost use Rattle.std.specs.Prelude.{◌≡◌, ◌+◌, ◌/◌, ◌≤◌, ◌<◌, ◌++◌, [], ◌∷◌, length, IsTrue, true, ◌↔◌, ◌≢◌, slice_index_or};
+ghost use Rattle.std.specs.Vec.{vec_len, vec_capacity};
+ghost use Rattle.djq_delta.specs.Lines.{AreDistinctLines, HaveOneSign, SettlesTo};
+
+use crate::place::{Place, cells_of};
+use crate::settle::{have_one_sign, settle_places};
+use std::alloc::Global;
+use std::marker::Model;
+
+/// The most lines that a delta takes until it is cleared: with one more it is large.
+pub const DELTA_LINES: usize = 1_000_000;
+
+/// The most cells of an answer.
+pub const MOST_WIDTH: usize = 16;
+
+/// The most words that a delta has memory for once it is cleared.
+pub const RETAINED_WORDS: usize = 128;
+
+/// Whether a delta has all of its lines, and why not.
+#[derive(Clone, Copy, Debug, PartialEq, Eq)]
+pub enum DeltaStatus {
+    /// All lines are there.
+    Whole,
+    /// Memory was refused for a line.
+    Lost,
+    /// There were more lines than a delta may have.
+    Large,
+}
+
+/// The answers of one query that came or went during one change of rows, line by line.
+///
+/// A delta that is lost or large has no line, and takes none until it is cleared.
+#[derive(Drop)]
+pub struct Delta {
+    width: usize,
+    // the cells of all lines that were pushed, one line after another
+    cells: Vec<u64>,
+    // the lines
+    places: Vec<Place>,
+    // so many were pushed
+    pushed: usize,
+    status: DeltaStatus,
+}
+
+impl Model for Delta {
+    ghost use Rattle.std.specs.Prelude.{◌≡◌, ◌≤◌, ◌+◌, ◌*◌, length, All, []};
+    ghost use Rattle.std.specs.Vec.{vec_len, vec_capacity};
+    ghost use Rattle.djq_delta.specs.declared.delta.TheConstants.{DELTA_LINES, MOST_WIDTH};
+    ghost use Rattle.djq_delta.specs.declared.delta.DeltaStatus.TheVariants.{Whole};
+    ghost use Rattle.djq_delta.specs.Delta.{DeltaSeen, placed_lines};
+
+    ghost Value = { DeltaSeen };
+
+    ghost view = { λ d. record {
+      width = d.width;
+      lines = placed_lines d.width d.cells.items d.places.items;
+      status = d.status;
+      pushed = d.pushed;
+      capacity = vec_capacity d.cells + vec_capacity d.places;
+    } };
+
+    ghost invariant = { λ d. (d.width ≤ MOST_WIDTH) × (d.pushed ≤ DELTA_LINES)
+        × (vec_len d.cells ≤ MOST_WIDTH * d.pushed) × (vec_len d.places ≤ d.pushed)
+        × All (λ l. length l.cells ≡ d.width) (placed_lines d.width d.cells.items d.places.items)
+        × ((d.status ≡ Whole → ⊥) → d.places.items ≡ []) };
+}
+
+/// Takes all items out of a list, and gives its memory back if it is more than half of what a
+/// delta retains.
+fn give_back<T: Drop>(list: &mut Vec<T>)
+    ensures items { list.new.items ≡ [] }
+    ensures capacity { vec_capacity list.new ≤ RETAINED_WORDS / 2 }
+{
+    list.clear();
+    if list.capacity() > RETAINED_WORDS / 2 {
+        list.shrink_to_fit();
+    }
+}
+
+/// Takes all lines out.
+fn drop_lines(cells: &mut Vec<u64>, places: &mut Vec<Place>)
+    ensures cells { cells.new.items ≡ [] }
+    ensures places { places.new.items ≡ [] }
+    ensures capacity { vec_capacity cells.new + vec_capacity places.new ≤ RETAINED_WORDS }
+{
+    give_back(cells);
+    give_back(places);
+}
+
+/// Puts a line after the others, and returns whether there was memory for it.
+fn pack(cells: &mut Vec<u64>, places: &mut Vec<Place>, came: bool, line: &[u64]) -> bool
+    requires { vec_len cells.old < 4294967296 }
+    ensures place { result ≡ true → places.new.items ≡ places.old.items ++ record { at = vec_len cells.old; came = came } ∷ [] }
+    ensures cells { result ≡ true → cells.new.items ≡ cells.old.items ++ line.now }
+{
+    let at = cells.len() as u32;
+    places.push(Place { at, came }).is_ok() && cells.extend_from_slice(line).is_ok()
+}
+
+impl Delta {
+    ghost use Rattle.djq_delta.specs.declared.delta.DeltaStatus.TheVariants.{Whole, Lost, Large};
+
+    /// A delta without lines, of answers of so many cells.
+    pub fn new(alloc: Global, width: usize) -> Self
+        requires { width ≤ MOST_WIDTH }
+        ensures { result ≡ record { width = width; lines = []; status = Whole; pushed = 0; capacity = 0 } }
+    {
+        Delta {
+            width,
+            cells: Vec::new(alloc),
+            places: Vec::new(alloc),
+            pushed: 0,
+            status: DeltaStatus::Whole,
+        }
+    }
+
+    /// How many lines there are.
+    pub fn len(&self) -> usize
+        ensures { result ≡ length self.now.lines }
+    {
+        self.places.len()
+    }
+
+    /// Whether there is no line.
+    pub fn is_empty(&self) -> bool
+        ensures { IsTrue result ↔ (self.now.lines ≡ []) }
+    {
+        self.places.is_empty()
+    }
+
+    /// A line: whether its answer came, and the answer's cells.
+    pub fn line(&self, index: usize) -> (bool, &[u64])
+        requires { index < length self.now.lines }
+        ensures line { slice_index_or self.now.lines index record { came = result.0; cells = result.1.now }
+            ≡ record { came = result.0; cells = result.1.now } }
+        ensures width { length result.1.now ≡ self.now.width }
+    {
+        let place = self.places[index];
+        (place.came, cells_of(&self.cells, self.width, place))
+    }
+
+    /// Whether it has all of its lines.
+    pub fn status(&self) -> DeltaStatus
+        ensures status { result ≡ self.now.status }
+        ensures none { result ≢ Whole → self.now.lines ≡ [] }
+    {
+        self.status
+    }
+
+    /// Whether memory was refused for a line.
+    pub fn is_lost(&self) -> bool
+        ensures lost { IsTrue result ↔ (self.now.status ≡ Lost) }
+        ensures none { IsTrue result → self.now.lines ≡ [] }
+    {
+        matches!(self.status, DeltaStatus::Lost)
+    }
+
+    /// Whether there were more lines than a delta may have.
+    pub fn is_large(&self) -> bool
+        ensures large { IsTrue result ↔ (self.now.status ≡ Large) }
+        ensures none { IsTrue result → self.now.lines ≡ [] }
+    {
+        matches!(self.status, DeltaStatus::Large)
+    }
+
+    /// Puts in a line after the others: whether its answer came, and the answer's cells.
+    ///
+    /// Out of memory the delta is lost. If [`DELTA_LINES`] lines were pushed before this one it is
+    /// large. Either way all its lines are dropped. A delta that isn't whole stays as it is.
+    pub fn push(&mut self, came: bool, cells: &[u64])
+        requires { length cells.now ≡ self.old.width }
+        ensures stays { self.old.status ≢ Whole → self.new ≡ self.old }
+        ensures whole { self.new.status ≡ Whole → self.old.status ≡ Whole }
+        ensures line { self.new.status ≡ Whole
+            → self.new.lines ≡ self.old.lines ++ record { came = came; cells = cells.now } ∷ [] }
+        ensures counted { self.new.status ≡ Whole → self.new.pushed ≡ self.old.pushed + 1 }
+        ensures large { self.old.status ≡ Whole → (self.new.status ≡ Large ↔ self.old.pushed ≡ DELTA_LINES) }
+        ensures none { self.new.status ≢ Whole → self.new.lines ≡ [] }
+        ensures width { self.new.width ≡ self.old.width }
+    {
+        if !matches!(self.status, DeltaStatus::Whole) {
+            return;
+        }
+        if self.pushed >= DELTA_LINES {
+            self.end(DeltaStatus::Large);
+        } else if pack(&mut self.cells, &mut self.places, came, cells) {
+            self.pushed += 1;
+        } else {
+            drop_lines(&mut self.cells, &mut self.places);
+            self.pushed = 0;
+            self.status = DeltaStatus::Lost;
+        }
+    }
+
+    /// Drops the lines that cancel out: those stay whose opposite isn't among them.
+    ///
+    /// It takes no memory. If all lines came, or all went, nothing changes; else the lines are sorted
+    /// by their cells, in time proportional to k log k for k lines.
+    pub fn settle(&mut self)
+        requires { AreDistinctLines self.old.lines }
+        ensures settled { SettlesTo self.old.lines self.new.lines }
+        ensures one_way { HaveOneSign self.old.lines → self.new ≡ self.old }
+        ensures fewer { length self.new.lines ≤ length self.old.lines }
+        ensures rest { self.new ≡ record self.old { lines = self.new.lines } }
+    {
+        if !have_one_sign(&self.places) {
+            settle_places(&mut self.places, &self.cells, self.width);
+        }
+    }
+
+    /// Loses all lines: whoever pushes them can't go on.
+    pub fn lose(&mut self)
+        ensures lost { self.new.status ≡ Lost }
+        ensures lines { self.new.lines ≡ [] }
+        ensures width { self.new.width ≡ self.old.width }
+        ensures capacity { self.new.capacity ≤ RETAINED_WORDS }
+    {
+        self.end(DeltaStatus::Lost);
+    }
+
+    /// Drops all lines, to begin anew, and gives memory back.
+    pub fn clear(&mut self)
+        ensures whole { self.new.status ≡ Whole }
+        ensures lines { self.new.lines ≡ [] }
+        ensures pushed { self.new.pushed ≡ 0 }
+        ensures width { self.new.width ≡ self.old.width }
+        ensures capacity { self.new.capacity ≤ RETAINED_WORDS }
+    {
+        self.end(DeltaStatus::Whole);
+    }
+
+    /// Drops all lines, with this status.
+    fn end(&mut self, status: DeltaStatus)
+        ensures status { self.new.status ≡ status }
+        ensures lines { self.new.lines ≡ [] }
+        ensures pushed { self.new.pushed ≡ 0 }
+        ensures width { self.new.width ≡ self.old.width }
+        ensures capacity { self.new.capacity ≤ RETAINED_WORDS }
+    {
+        drop_lines(&mut self.cells, &mut self.places);
+        self.pushed = 0;
+        self.status = status;
+    }
+}

@@ -1,0 +1,32 @@
+//! The delta of one registered query during one change of rows: which answers came, and which went.
+//!
+//! A [`Delta`] takes lines, each with a sign and the cells of an answer. [`Delta::settle`] drops the lines that cancel
+//! out: an answer that came and went during one change did neither. A delta that was refused memory is lost, and one of
+//! more than [`DELTA_LINES`] lines is large; either has no line until it is cleared.
+//!
+//! ```text
+//! push + (1, 2)     + (1, 2)
+//! push + (1, 3)     + (1, 2)   + (1, 3)
+//! push - (1, 2)     + (1, 2)   + (1, 3)   - (1, 2)
+//! push - (4, 4)     + (1, 2)   + (1, 3)   - (1, 2)   - (4, 4)
+//! settle            + (1, 3)   - (4, 4)
+//! ```
+//!
+//! It lists no answers, and doesn't know its query: whoever lists the answers pushes the lines. The program doesn't use
+//! it yet; its deltas are logs of `djq_enumeration`, which this crate is to replace.
+//!
+//! What surprises: lines of both signs are in another order once they are settled. The cells of a line that was dropped
+//! take memory until the delta is cleared, and the line still counts among those that were pushed.
+//!
+//! Inside, the cells of all lines are in one array, line after line. A second array has for each line its sign and the
+//! place of its first cell, in the memory of one cell. Settling sorts this array alone and drops pairs from it, both in
+//! place, so it can't fail.
+#![tactic(auto)]
+
+mod delta;
+mod laws;
+mod place;
+mod settle;
+
+pub use delta::{DELTA_LINES, Delta, DeltaStatus, MOST_WIDTH, RETAINED_WORDS};
+pub use laws::{settling_is_net, settling_shortens, settling_twice_is_once};
