@@ -1,0 +1,32 @@
+-- The first of the free numbers is the first of their bucket; where that is empty, all numbers are in use.
+use Rattle.std.proofs.Common.{◌∙◌, sym, arith}
+use Rattle.djq_texts.proofs.Index.{first_free, all_used}
+use Rattle.djq_texts.proofs.Counting.{counted_all}
+use Rattle.djq_texts.proofs.texts.Texts.enter.Goals as goal
+
+pub reuse-requires-clause-given : goal.reuse-requires-clause-given
+reuse-requires-clause-given c = rw (← c.self.view_is)
+    (first_free c.self.inside.store.entries.items c.self.inside.store.links.items c.self.inside.store.heads.items
+    c.in-Some.number c.self.invariant.index (sym c.link_of.ensures ∙ sym c.in-Some.ensures)).given
+
+pub reuse-requires-clause-free : goal.reuse-requires-clause-free
+reuse-requires-clause-free c = rw (← c.self.view_is)
+    (first_free c.self.inside.store.entries.items c.self.inside.store.links.items c.self.inside.store.heads.items
+    c.in-Some.number c.self.invariant.index (sym c.link_of.ensures ∙ sym c.in-Some.ensures)).free
+
+pub extend-requires-clause-few : goal.extend-requires-clause-few
+extend-requires-clause-few c =
+    let known = c.self.inside.store.entries.items in
+    let few = rw (← c.self.view_is) at c.requires.few in
+    rw (← c.self.view_is)
+    (omega (
+      arith,
+      few,
+      counted_all known (all_used known c.self.inside.store.links.items c.self.inside.store.heads.items
+          c.self.invariant.index (sym c.link_of.ensures ∙ sym c.in-None.ensures)),
+    ))
+
+pub extend-requires-clause-full : goal.extend-requires-clause-full
+extend-requires-clause-full c = rw (← c.self.view_is)
+    (all_used c.self.inside.store.entries.items c.self.inside.store.links.items c.self.inside.store.heads.items
+    c.self.invariant.index (sym c.link_of.ensures ∙ sym c.in-None.ensures))
