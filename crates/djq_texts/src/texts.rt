@@ -1,6 +1,6 @@
 //! The texts in use.
-ghost use Rattle.std.specs.Prelude.{◌≡◌, ◌≢◌, ◌↔◌, ℕ, ◌+◌, ◌≤◌, ◌<◌, ◌++◌, ◌∷◌, [], length, IsSome, Some, None};
-ghost use Rattle.std.specs.Prelude.{MatchOption, IfOk, OnOk, OnErr, IsOk, Err, List, Option};
+ghost use Rattle.std.specs.Prelude.{◌≡◌, ◌↔◌, ℕ, ◌<◌, ◌≤◌, ◌==◌, [], length, IsSome, Some, None};
+ghost use Rattle.std.specs.Prelude.{MatchOption, IfOk, OnOk, OnErr, IsOk, Err};
 ghost use Rattle.djq_arena.specs.declared.link.TheConstants.{SLOTS};
 ghost use Rattle.djq_texts.specs.Known.{Known, known_at, uses_of, texts_in_use, with_more, with_less, HasNumber};
 ghost use Rattle.djq_texts.specs.Known.{HasNoNumber, IsOneToOne, IsTight, Sets, Enters, TakesUse, HasMost, IsFullFor};
@@ -74,6 +74,13 @@ impl Texts {
         ensures { result ≡ texts_in_use self.now }
     {
         self.used
+    }
+
+    /// Whether no text is in use.
+    pub fn is_empty(&self) -> bool
+        ensures { result ≡ (texts_in_use self.now == 0) }
+    {
+        self.used == 0
     }
 
     /// The number of a text; none if and only if it isn't in use.
