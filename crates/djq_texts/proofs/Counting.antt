@@ -2,7 +2,7 @@
 use Rattle.std.proofs.Common.{◌≡◌, ℕ, zero, suc, ◌+◌, ◌-◌, ◌<◌, ◌≤◌, List, [], ◌∷◌, ◌++◌, length, Option, Some, None, IsSome, inl, inr}
 use Rattle.std.proofs.Common.{refl, sym, ◌∙◌, subst, arith, ap, slice_set, take}
 use Rattle.std.proofs.lemmas.Bool.{cases_lt}
-use Rattle.djq_texts.specs.Known.{Known, known_at, one_if_used, in_use_from}
+use Rattle.djq_texts.specs.Known.{Known, known_at, one_if_used, in_use_from, HasFree}
 use Rattle.djq_texts.specs.Index.{quarter, AreFewBuckets}
 
 -- a number before those that are counted counts nothing
@@ -212,3 +212,7 @@ few_by_top known top buckets free used h = elim h [
         counted_used (quarter buckets) (top - 1) known from (used (omega (arith, some))),
       ))
 ]
+
+-- where all numbers that have a place are in use, none of them is free
+pub none_left : (known : List (Option Known)) → ((n : ℕ) → n < length known → IsSome (known_at known n)) → HasFree known → ⊥
+none_left known full f = not_none (subst (λ (o : Option Known). IsSome o) f.2 (full f.0 f.1))

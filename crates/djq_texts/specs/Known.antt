@@ -84,6 +84,14 @@ pub record AddsUse (old : List (Option Known)) (text : List ℕ) (n : ℕ) (new 
 abbrev pub TakesUse : List (Option Known) → List ℕ → ℕ → List (Option Known) → Type 0
 TakesUse old text n new = Enters old text n new ⊎ AddsUse old text n new
 
+-- a number is free that has a place
+abbrev pub HasFree : List (Option Known) → Type 0
+HasFree known = (n : ℕ) × (n < length known) × (known_at known n ≡ None)
+
+-- a number has a place, or is the next one where no number that has a place is free
+abbrev pub TakesPlace : List (Option Known) → ℕ → Type 0
+TakesPlace known n = (n ≤ length known) × (HasFree known → n < length known)
+
 -- a text has as many uses as can be counted
 abbrev pub HasMost : List (Option Known) → List ℕ → Type 0
 HasMost known text = (n : ℕ) × (known_at known n ≡ Some (record { bytes = text; uses = MOST_USES }))

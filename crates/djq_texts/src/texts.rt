@@ -3,7 +3,7 @@ ghost use Rattle.std.specs.Prelude.{◌≡◌, ◌↔◌, ℕ, ◌<◌, ◌≤�
 ghost use Rattle.std.specs.Prelude.{MatchOption, IfOk, OnOk, OnErr, IsOk, Err};
 ghost use Rattle.djq_arena.specs.declared.link.TheConstants.{SLOTS};
 ghost use Rattle.djq_texts.specs.Known.{Known, known_at, uses_of, texts_in_use, with_more, with_less, HasNumber};
-ghost use Rattle.djq_texts.specs.Known.{HasNoNumber, IsOneToOne, IsTight, Sets, Enters, TakesUse, HasMost, IsFullFor};
+ghost use Rattle.djq_texts.specs.Known.{HasNoNumber, IsOneToOne, IsTight, Sets, Enters, TakesUse, TakesPlace, HasMost, IsFullFor};
 ghost use Rattle.djq_texts.specs.Hash.{text_hash};
 ghost use Rattle.djq_texts.specs.declared.entry.TheConstants.{MOST_USES};
 
@@ -18,8 +18,8 @@ use std::marker::Model;
 
 /// The texts in use, each with its number and its uses.
 ///
-/// Contracts see a list with a place for each number: the text that has it with its uses, or nothing. How long the list
-/// is says nothing of the texts: behind it no number is in use.
+/// Contracts see a list with a place for each number: the text that has it with its uses, or nothing. A number past the
+/// list's end is free.
 #[derive(Drop)]
 pub struct Texts {
     store: Store,
@@ -117,7 +117,8 @@ impl Texts {
         self.store.entries[number as usize].uses()
     }
 
-    /// Takes a use of a text, and returns its number. A text that isn't in use is given a free number, or the next one.
+    /// Takes a use of a text, and returns its number. A text that isn't in use is given a free number, or the next one where
+    /// none is free.
     ///
     /// # Errors
     ///
@@ -126,6 +127,7 @@ impl Texts {
     pub fn take_use(&mut self, text: &[u8]) -> Result<u32, TextsRefusal>
         ensures ok { IfOk result (λ n. TakesUse self.old text.now n self.new) }
         ensures number { IfOk result (λ n. HasNumber self.new n text.now) }
+        ensures place { IfOk result (λ n. TakesPlace self.old n) }
         ensures known { (n : ℕ) → HasNumber self.old n text.now → (HasMost self.old text.now → ⊥) → IsOk result }
         ensures full { (result ≡ Err TextsRefusal.Full) ↔ IsFullFor self.old text.now }
         ensures err { OnErr result (self.new ≡ self.old) }
@@ -194,6 +196,7 @@ impl Texts {
         requires unknown { HasNoNumber self.old text.now }
         requires few { texts_in_use self.old < SLOTS }
         ensures ok { IfOk result (λ n. Enters self.old text.now n self.new) }
+        ensures place { IfOk result (λ n. TakesPlace self.old n) }
         ensures err { OnErr result (self.new ≡ self.old) }
     {
         match link_of(&self.store.heads, 0).get() {
@@ -235,6 +238,7 @@ impl Texts {
         requires few { length self.old < SLOTS }
         requires full { (n : ℕ) → n < length self.old → IsSome (known_at self.old n) }
         ensures ok { IfOk result (λ n. Enters self.old text.now n self.new) }
+        ensures place { IfOk result (λ n. n ≡ length self.old) }
         ensures err { OnErr result (self.new ≡ self.old) }
     {
         self.high = widen(&mut self.store, self.high)?;

@@ -80,3 +80,8 @@ invariant_of-self-2 c =
     (subst
     (λ (l : List (Option Known)). IsTextIndex l c.append-number.new.store.links.items c.append-number.new.store.heads.items)
     now c.append-number.ensures.index))
+
+pub returns-clause-place : goal.returns-clause-place
+returns-clause-place c = rw (← c.self.view_is)
+    (c.append-number.ensures.number
+    ∙ ap (λ (l : List (Option Known)). length l) (c.reserve.ensures.items ∙ c.in_ok-self-inside.ensures.entries))

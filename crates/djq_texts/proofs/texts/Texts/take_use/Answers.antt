@@ -1,8 +1,9 @@
 -- A text in use has a number, which is its only one; one that isn't has none.
-use Rattle.std.proofs.Common.{◌≢◌, ◌∙◌, ◌+◌, ap, arith, Option}
+use Rattle.std.proofs.Common.{◌≢◌, ◌∙◌, ◌+◌, ◌<◌, ap, arith, Option, IsSome, length, refl, subst, sym}
 use Rattle.std.proofs.lemmas.Result.{err_from_is_err_and}
 use Rattle.djq_arena.specs.declared.link.TheConstants.{SLOTS}
 use Rattle.djq_texts.specs.Known.{Known, texts_in_use, with_more}
+use Rattle.djq_texts.proofs.InUse.{in_use_within}
 use Rattle.djq_texts.proofs.Uses.{few_texts}
 use Rattle.djq_texts.proofs.Found.{not_full_used, not_full_unknown, out_of_memory}
 use Rattle.djq_texts.proofs.texts.Texts.take_use.Goals as goal
@@ -47,3 +48,10 @@ returns-else-uses-clause-number c = (
 
 pub returns-in_ok-enter-in-None-clause-number : goal.returns-in_ok-enter-in-None-clause-number
 returns-in_ok-enter-in-None-clause-number c = (1, c.in_ok-enter-in-None.ensures.ok.sets.here)
+
+pub returns-else-uses-clause-place : goal.returns-else-uses-clause-place
+returns-else-uses-clause-place c =
+    let has = c.in-Some.ensures.found in
+    let within : c.in-Some.number < length c.args.self.now = in_use_within c.args.self.now c.in-Some.number
+    (subst (λ (o : Option Known). IsSome o) (sym has.1) refl) in
+    (omega (arith, within), λ free. within)
