@@ -11,8 +11,8 @@
 //! What this crate is not: it has no function of its own. What surprises: without its tests it is
 //! empty.
 //!
-//! Inside, `arena`, `index`, `dict`, `rows`, `reduct`, `propagate`, `cursor`, `delta`, `query` and
-//! `slots` test the library of that name.
+//! Inside, `arena`, `index`, `dict`, `texts`, `rows`, `reduct`, `propagate`, `cursor`, `delta`, `query`
+//! and `slots` test the library of that name.
 #![tactic(auto)]
 
 #[cfg(test)]
@@ -35,3 +35,5 @@ mod reduct;
 mod rows;
 #[cfg(test)]
 mod slots;
+#[cfg(test)]
+mod texts;

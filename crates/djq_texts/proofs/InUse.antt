@@ -1,11 +1,7 @@
 -- Texts in use as one finds them: none at first, and what was read of one.
-use Rattle.std.proofs.Common.{◌≡◌, ℕ, zero, suc, ◌+◌, ◌<◌, ◌≤◌, List, [], ◌∷◌, length, Option, Some, None, IsSome, replicate}
+use Rattle.std.proofs.Common.{◌≡◌, ℕ, zero, suc, ◌<◌, List, [], ◌∷◌, length, Option, Some, None, IsSome}
 use Rattle.std.proofs.Common.{refl, sym, ◌∙◌, subst, arith, ap}
-use Rattle.std.proofs.lemmas.List.{length-replicate}
-use Rattle.djq_texts.specs.Known.{Known, known_at, HasNumber, IsOneToOne, uses_of}
-use Rattle.djq_texts.specs.Index.{IsTextIndex}
-use Rattle.djq_texts.proofs.Known.{known_within}
-use Rattle.djq_texts.proofs.Index.{none_listed, all_listed}
+use Rattle.djq_texts.specs.Known.{Known, known_at, HasNumber, uses_of}
 
 -- what is in use is something with a number that was given
 pub in_use_within : (known : List (Option Known)) (n : ℕ) → IsSome (known_at known n) → n < length known

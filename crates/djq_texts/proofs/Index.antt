@@ -1,19 +1,20 @@
 -- How the index of the numbers changes: one moves from a bucket to another, or comes.
-use Rattle.std.proofs.Common.{◌≡◌, ◌≢◌, ℕ, zero, suc, ◌+◌, ◌-◌, ◌<◌, ◌≤◌, List, [], ◌∷◌, ◌++◌, length, Option, Some, None}
-use Rattle.std.proofs.Common.{refl, sym, ◌∙◌, subst, arith, inl, inr, ap, slice_set, get_or-set_same, get_or-set_other}
+use Rattle.std.proofs.Common.{◌≡◌, ℕ, suc, ◌+◌, ◌-◌, ◌<◌, ◌≤◌, List, [], ◌∷◌, ◌++◌, length, Option, Some, None, IsSome}
+use Rattle.std.proofs.Common.{refl, sym, ◌∙◌, subst, arith, inl, inr, ap, slice_set}
 use Rattle.std.proofs.Common.{length-set, length-append, replicate}
 use Rattle.std.proofs.lemmas.Bool.{cases_eq}
 use Rattle.std.proofs.lemmas.Nat.{and_le_r}
 use Rattle.djq_arena.specs.Chains.{IsOut}
-use Rattle.djq_arena.specs.Buckets.{link_at, AreBuckets, StandsInChain, IsUnlisted}
+use Rattle.djq_arena.specs.Buckets.{link_at, AreBuckets, StandsInChain, IsUnlisted, Chained}
 use Rattle.djq_arena.specs.declared.link.TheConstants.{SLOTS}
 use Rattle.djq_arena.proofs.Buckets.{buckets_same, buckets_kept, keeps_self, keeps_append, bucket_stands, listed_buckets}
-use Rattle.djq_arena.proofs.Buckets.{unlisted_buckets, unlisted_links, unlisted_heads, empty_buckets}
+use Rattle.djq_arena.proofs.Buckets.{unlisted_buckets, unlisted_links, unlisted_heads, empty_buckets, chained_over, ahead}
+use Rattle.djq_arena.proofs.Chains.{not_first_out}
 use Rattle.djq_texts.specs.Known.{Known, known_at}
 use Rattle.djq_texts.specs.Hash.{text_hash}
 use Rattle.djq_texts.specs.Index.{text_bucket, place, falls, numbers, IsTextIndex}
-use Rattle.djq_texts.proofs.Numbers.{numbers_out, numbers_in, numbers_below, length-numbers, not_out_below, Others, others}
-use Rattle.djq_texts.proofs.Known.{last_known, set_sets, append_sets}
+use Rattle.djq_texts.proofs.Numbers.{numbers_out, numbers_in, numbers_below, length-numbers, not_out_below, others}
+use Rattle.djq_texts.proofs.Known.{set_sets, append_sets}
 
 pub bucket_inside : (m hash : ℕ) → 1 < m → text_bucket m hash < m
 unfolding text_bucket
@@ -121,3 +122,65 @@ pub all_listed : (known : List (Option Known)) (links heads : List (Option ℕ))
     → length links ≡ length known → 1 < length heads → length known ≤ SLOTS → IsTextIndex known links heads
 unfolding AreListed
 all_listed known links heads b linked some few = record { buckets = b; linked = linked; some = some; few = few }
+
+-- the bucket of what was read
+pub read_falls : (known : List (Option Known)) (heads : List (Option ℕ)) (m j k : ℕ) (o : Option Known)
+    → m ≡ length heads → known_at known j ≡ o → k ≡ place m o → k ≡ falls (length heads) known j
+read_falls known heads m j k o many read is =
+    is ∙ ap (λ (x : ℕ). place x o) many ∙ ap (λ (e : Option Known). place (length heads) e) (sym read)
+
+-- where all numbers fall into the buckets that they are in, the index is theirs
+pub reindexed : (known new : List (Option Known)) (links heads : List (Option ℕ)) → IsTextIndex known links heads
+    → length new ≡ length known → ((j : ℕ) → falls (length heads) new j ≡ falls (length heads) known j)
+    → IsTextIndex new links heads
+reindexed known new links heads x long same = record {
+  buckets = rw long (buckets_kept (falls (length heads) known) (falls (length heads) new) links links heads
+      (numbers (length known)) x.buckets (λ j held. same j) (keeps_self links (numbers (length known))));
+  linked = omega (arith, x.linked, long);
+  some = x.some;
+  few = omega (arith, x.few, long);
+}
+
+-- ---- The free numbers.
+
+out_of_none : (i : ℕ) → IsOut i []
+unfolding IsOut
+out_of_none i = tt
+
+-- where the first bucket is empty, all numbers are in use
+pub all_used : (known : List (Option Known)) (links heads : List (Option ℕ)) → IsTextIndex known links heads
+    → link_at heads 0 ≡ None → (n : ℕ) → n < length known → IsSome (known_at known n)
+all_used known links heads x empty n within = used (known_at known n) refl
+  where
+    used : (o : Option Known) → known_at known n ≡ o → IsSome o
+    used (Some k) at = refl
+    used None at =
+        let b = x.buckets.each 0 (omega (arith, x.some)) in
+        let nothing = chained_over links b.slots (subst (λ (h : Option ℕ). Chained links h b.slots) empty b.chained) in
+        let out : IsOut n b.slots = subst (IsOut n) (sym nothing) (out_of_none n) in
+        absurd (numbers_in n (length known) within
+        (b.all n (ap (λ (e : Option Known). place (length heads) e) at) out))
+
+-- the first number of the first bucket is free
+pub record IsFreeNumber (known : List (Option Known)) (n : ℕ) : Type 0 where
+  pub given : n < length known
+  pub free : known_at known n ≡ None
+
+text_buckets : (m : ℕ) (o : Option Known) → place m o ≡ 0 → o ≡ None
+unfolding text_bucket
+text_buckets m None h = refl
+text_buckets m (Some k) h = absurd (omega (arith, h))
+
+pub first_free : (known : List (Option Known)) (links heads : List (Option ℕ)) (n : ℕ) → IsTextIndex known links heads
+    → link_at heads 0 ≡ Some n → IsFreeNumber known n
+first_free known links heads n x first =
+    let b = x.buckets.each 0 (omega (arith, x.some)) in
+    let a = ahead links n b.slots (subst (λ (h : Option ℕ). Chained links h b.slots) first b.chained) in
+    let held : IsOut n b.slots → ⊥ = λ out. not_first_out n a.rest (subst (IsOut n) a.is out) in
+    record {
+      given = not_out_below n (length known) (λ out. held (b.only n out));
+      free = text_buckets (length heads) (known_at known n) (elim (cases_eq (falls (length heads) known n) 0) [
+        | inl here ↦ here
+        | inr other ↦ absurd (held (b.its n other))
+      ]);
+    }

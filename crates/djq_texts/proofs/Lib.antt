@@ -1,6 +1,9 @@
 mod Numbers
 mod Known
 mod Index
+mod Counting
 mod Search
 mod InUse
+mod Uses
+mod Found
 mod Example

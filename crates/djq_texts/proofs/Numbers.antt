@@ -1,13 +1,10 @@
 -- All numbers below one, and one of them as the first.
-use Rattle.std.proofs.Common.{◌≡◌, ◌≢◌, ℕ, zero, suc, ◌+◌, ◌<◌, ◌≤◌, List, [], ◌∷◌, ◌++◌, length, Option}
+use Rattle.std.proofs.Common.{◌≡◌, ℕ, zero, suc, ◌<◌, ◌≤◌, List, ◌∷◌, ◌++◌, length}
 use Rattle.std.proofs.Common.{refl, sym, subst, arith, inl, inr}
 use Rattle.std.proofs.lemmas.Bool.{cases_eq}
 use Rattle.djq_arena.specs.Chains.{IsOut, AreDistinctSlots, AreBelow}
-use Rattle.djq_arena.specs.Store.{HoldsSlot}
-use Rattle.djq_arena.specs.Buckets.{AreBuckets}
 use Rattle.djq_arena.proofs.Chains.{below_more, below_at, holds_in, different_here, out_to_front, out_middle}
 use Rattle.djq_arena.proofs.Chains.{out_first, out_rest}
-use Rattle.djq_arena.proofs.Buckets.{buckets_same}
 use Rattle.djq_texts.specs.Index.{numbers}
 
 pub numbers_out : (j n : ℕ) → n ≤ j → IsOut j (numbers n)

@@ -1,12 +1,12 @@
 -- The walk through a bucket to the number of a text.
-use Rattle.std.proofs.Common.{◌≡◌, ◌≢◌, ℕ, zero, suc, ◌+◌, ◌<◌, ◌≤◌, List, [], ◌∷◌, length, Option, Some, None}
-use Rattle.std.proofs.Common.{refl, sym, ◌∙◌, subst, arith, inl, inr, ap}
+use Rattle.std.proofs.Common.{◌≡◌, ℕ, zero, suc, ◌+◌, ◌<◌, ◌≤◌, List, [], ◌∷◌, length, Option, Some, None}
+use Rattle.std.proofs.Common.{refl, sym, subst, arith, inl, inr, ap}
 use Rattle.std.proofs.lemmas.Bool.{cases_eq}
 use Rattle.djq_arena.specs.Chains.{IsOut}
 use Rattle.djq_arena.specs.Buckets.{link_at, Chained}
 use Rattle.djq_arena.proofs.Chains.{not_first_out, out_more, out_rest}
 use Rattle.djq_arena.proofs.Buckets.{chained_over, ahead, bucket_short}
-use Rattle.djq_texts.specs.Known.{Known, known_at, HasNumber, HasNoNumber}
+use Rattle.djq_texts.specs.Known.{Known, HasNumber, HasNoNumber}
 use Rattle.djq_texts.specs.Hash.{text_hash}
 use Rattle.djq_texts.specs.Index.{text_bucket, place, falls, numbers, IsTextIndex}
 use Rattle.djq_texts.proofs.Numbers.{numbers_in, length-numbers, not_out_below}

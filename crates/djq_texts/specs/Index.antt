@@ -1,10 +1,11 @@
 -- How the numbers hang together in buckets: the first is of the free ones, the others of the texts by their hashes.
-use Rattle.std.specs.Prelude.{◌≡◌, ℕ, zero, suc, ◌+◌, ◌-◌, ◌<◌, ◌≤◌, List, [], ◌∷◌, length, bit_and}
-use Rattle.std.specs.Prelude.{Option, Some, None}
+use Rattle.std.specs.Prelude.{◌≡◌, ℕ, zero, suc, ◌+◌, ◌-◌, ◌/◌, ◌<◌, ◌≤◌, List, [], ◌∷◌, length, bit_and}
+use Rattle.std.specs.Prelude.{Option, Some, None, ◌⊎◌}
 use Rattle.djq_arena.specs.Buckets.{AreBuckets}
 use Rattle.djq_arena.specs.declared.link.TheConstants.{SLOTS}
-use Rattle.djq_texts.specs.Known.{Known, known_at}
+use Rattle.djq_texts.specs.Known.{Known, known_at, IsOneToOne, in_use_from}
 use Rattle.djq_texts.specs.Hash.{text_hash}
+use Rattle.djq_texts.specs.declared.store.TheConstants.{FIRST_BUCKETS}
 
 -- the bucket of a hash, of so many
 unfoldable pub text_bucket : ℕ → ℕ → ℕ
@@ -30,3 +31,20 @@ pub record IsTextIndex (known : List (Option Known)) (links heads : List (Option
   pub linked : length links ≡ length known
   pub some : 1 < length heads
   pub few : length known ≤ SLOTS
+
+-- where the numbers begin that so many buckets are for: a text with one of these keeps them from being fewer
+abbrev pub quarter : ℕ → ℕ
+quarter buckets = (buckets - 1) / 4
+
+-- there are as few buckets as at first, or some texts have a number that they are for
+abbrev pub AreFewBuckets : ℕ → ℕ → Type 0
+AreFewBuckets buckets high = (buckets ≤ FIRST_BUCKETS) ⊎ (0 < high)
+
+-- the texts in use with their index, and how many there are of them: of all, and of those that the buckets are for
+pub record AreTexts (known : List (Option Known)) (links heads : List (Option ℕ)) (count upper : ℕ) : Type 0 where
+  pub index : IsTextIndex known links heads
+  pub one : IsOneToOne known
+  pub used : count ≡ in_use_from 0 known
+  pub high : upper ≡ in_use_from (quarter (length heads)) known
+  pub room : length known < length heads
+  pub tight : AreFewBuckets (length heads) upper

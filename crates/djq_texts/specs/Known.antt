@@ -1,6 +1,6 @@
 -- Which texts are in use, how often, and under which numbers.
-use Rattle.std.specs.Prelude.{◌≡◌, ◌≢◌, ℕ, zero, suc, ◌+◌, ◌-◌, ◌==◌, ◌<◌, List, length, cond}
-use Rattle.std.specs.Prelude.{slice_index_or, Option, Some, None, ◌⊎◌}
+use Rattle.std.specs.Prelude.{◌≡◌, ◌≢◌, ℕ, zero, suc, ◌+◌, ◌-◌, ◌*◌, ◌==◌, ◌<◌, ◌≤◌, List, [], ◌∷◌, length, cond}
+use Rattle.std.specs.Prelude.{slice_index_or, Option, Some, None, IsSome, ◌⊎◌}
 use Rattle.djq_arena.specs.declared.link.TheConstants.{SLOTS}
 use Rattle.djq_texts.specs.declared.entry.TheConstants.{MOST_USES}
 
@@ -25,9 +25,24 @@ HasNoNumber known text = (n : ℕ) → HasNumber known n text → ⊥
 abbrev pub IsOneToOne : List (Option Known) → Type 0
 IsOneToOne known = (text : List ℕ) (m n : ℕ) → HasNumber known m text → HasNumber known n text → m ≡ n
 
--- a number that was given before is free
-abbrev pub HasFree : List (Option Known) → Type 0
-HasFree known = (n : ℕ) × (n < length known) × (known_at known n ≡ None)
+-- one for a text, none for a number that is free
+abbrev pub one_if_used : Option Known → ℕ
+one_if_used None = 0
+one_if_used (Some k) = 1
+
+-- how many texts have a number from b on
+unfoldable pub in_use_from : ℕ → List (Option Known) → ℕ
+in_use_from b [] = 0
+in_use_from zero (o ∷ known) = one_if_used o + in_use_from zero known
+in_use_from (suc b) (o ∷ known) = in_use_from b known
+
+-- how many texts are in use
+abbrev pub texts_in_use : List (Option Known) → ℕ
+texts_in_use known = in_use_from 0 known
+
+-- there are at most sixteen places for numbers, or fewer than four times as many as up to one that is in use
+abbrev pub IsTight : List (Option Known) → Type 0
+IsTight known = (length known ≤ 16) ⊎ ((n : ℕ) × IsSome (known_at known n) × (length known < 4 * (n + 1)))
 
 -- a number has this now, and all others have what they had
 pub record Sets (old : List (Option Known)) (n : ℕ) (now : Option Known) (new : List (Option Known)) : Type 0 where
@@ -69,15 +84,24 @@ pub record AddsUse (old : List (Option Known)) (text : List ℕ) (n : ℕ) (new 
 abbrev pub TakesUse : List (Option Known) → List ℕ → ℕ → List (Option Known) → Type 0
 TakesUse old text n new = Enters old text n new ⊎ AddsUse old text n new
 
--- all numbers are in use
-abbrev pub BucketsFilled : List (Option Known) → Type 0
-BucketsFilled known = (length known ≡ SLOTS) × (HasFree known → ⊥)
+-- a number is free that has a place
+abbrev pub HasFree : List (Option Known) → Type 0
+HasFree known = (n : ℕ) × (n < length known) × (known_at known n ≡ None)
+
+-- a number has a place, or is the next one where no number that has a place is free
+abbrev pub TakesPlace : List (Option Known) → ℕ → Type 0
+TakesPlace known n = (n ≤ length known) × (HasFree known → n < length known)
 
 -- a text has as many uses as can be counted
 abbrev pub HasMost : List (Option Known) → List ℕ → Type 0
 HasMost known text = (n : ℕ) × (known_at known n ≡ Some (record { bytes = text; uses = MOST_USES }))
 
--- why no use of a text can be taken whatever memory there is: it has as many as can be counted, or it is unknown and
--- all numbers are in use
+-- why no use of a text can be taken whatever memory there is: it has as many as can be counted, or it isn't in use and as
+-- many texts are as there may be
 abbrev pub IsFullFor : List (Option Known) → List ℕ → Type 0
-IsFullFor known text = HasMost known text ⊎ (HasNoNumber known text × BucketsFilled known)
+IsFullFor known text = HasMost known text ⊎ ((texts_in_use known ≡ SLOTS) × HasNoNumber known text)
+
+-- the number that a search for a text finds, or none
+abbrev pub FindsText : List (Option Known) → List ℕ → Option ℕ → Type 0
+FindsText known text None = HasNoNumber known text
+FindsText known text (Some n) = HasNumber known n text

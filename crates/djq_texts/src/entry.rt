@@ -1,6 +1,6 @@
 //! What has a number: a text with its uses, or nothing.
-ghost use Rattle.std.specs.Prelude.{◌≡◌, ◌<◌, IsTrue, IsSome, Some, None};
-ghost use Rattle.djq_texts.specs.Known.{Known, uses_of, with_more, with_less};
+ghost use Rattle.std.specs.Prelude.{◌≡◌, ◌<◌, IsTrue, IsSome, Some, None, is_some};
+ghost use Rattle.djq_texts.specs.Known.{Known, uses_of, one_if_used, with_more, with_less};
 ghost use Rattle.djq_texts.specs.declared.entry.TheConstants.{MOST_USES};
 
 use std::alloc::Global;
@@ -41,6 +41,20 @@ impl Entry {
         ensures { result ≡ Some (record { bytes = bytes.items; uses = 1 }) }
     {
         Entry { uses: 1, bytes }
+    }
+
+    /// Whether it is a text.
+    pub(crate) fn is_used(&self) -> bool
+        ensures { result ≡ is_some self.now }
+    {
+        self.uses != 0
+    }
+
+    /// One for a text, none for a number that is free.
+    pub(crate) fn count(&self) -> usize
+        ensures { result ≡ one_if_used self.now }
+    {
+        if self.uses == 0 { 0 } else { 1 }
     }
 
     /// How often the text is used; never, where the number is free.

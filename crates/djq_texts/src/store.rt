@@ -12,6 +12,10 @@ use crate::links::{link_of, push_bucket, unlist};
 use djq_arena::Link;
 use std::hash::{FoldHasher, Hasher};
 
+/// How many buckets there are at first: sixteen for texts, and the one of the free numbers. The number of those for
+/// texts stays a power of two.
+pub(crate) const FIRST_BUCKETS: usize = 17;
+
 /// What has each number, and the chains of the buckets.
 #[derive(Drop)]
 pub(crate) struct Store {
@@ -40,6 +44,19 @@ pub(crate) fn text_bucket(buckets: usize, hash: u64) -> usize
     (hash as usize & (buckets - 2)) + 1
 }
 
+/// The bucket of what has a number, of so many.
+pub(crate) fn entry_bucket(entry: &Entry, buckets: usize) -> usize
+    requires { 1 < buckets }
+    ensures value { result ≡ place buckets entry.now }
+    ensures within { result < buckets }
+{
+    if entry.is_used() {
+        text_bucket(buckets, text_hash(entry.bytes()))
+    } else {
+        0
+    }
+}
+
 /// The number of a text, by a walk through its bucket from the head on.
 pub(crate) fn find_from(store: &Store, head: Link, text: &[u8]) -> Option<u32>
     requires index { IsTextIndex store.now.entries.items store.now.links.items store.now.heads.items }
@@ -64,6 +81,7 @@ pub(crate) fn replace(store: &mut Store, number: u32, from: usize, entry: Entry,
     requires from { from ≡ falls (length store.old.heads.items) store.old.entries.items number }
     requires to { to ≡ place (length store.old.heads.items) entry }
     ensures entries { store.new.entries.items ≡ slice_set store.old.entries.items number entry }
+    ensures heads { length store.new.heads.items ≡ length store.old.heads.items }
     ensures index { IsTextIndex store.new.entries.items store.new.links.items store.new.heads.items }
 {
     unlist(&mut store.links, &mut store.heads, from, number);
@@ -80,6 +98,7 @@ pub(crate) fn append(store: &mut Store, entry: Entry, to: usize) -> u32
     requires to { to ≡ place (length store.old.heads.items) entry }
     ensures number { result ≡ length store.old.entries.items }
     ensures entries { store.new.entries.items ≡ store.old.entries.items ++ entry ∷ [] }
+    ensures heads { length store.new.heads.items ≡ length store.old.heads.items }
     ensures index { IsTextIndex store.new.entries.items store.new.links.items store.new.heads.items }
 {
     let number = store.entries.len() as u32;

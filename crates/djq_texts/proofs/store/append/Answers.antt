@@ -1,5 +1,5 @@
 -- The number that comes is in no chain yet, and comes to be the first of its bucket's.
-use Rattle.std.proofs.Common.{◌≡◌, ◌<◌, length, sym, subst, arith, ℕ}
+use Rattle.std.proofs.Common.{◌≡◌, ◌<◌, ◌∙◌, length, length-set, ap, sym, subst, arith, ℕ, List, Option}
 use Rattle.djq_texts.proofs.Index.{place_inside, came}
 use Rattle.djq_texts.proofs.store.append.Goals as goal
 
@@ -21,3 +21,6 @@ returns-clause-index c =
     )
     (came c.args.store.now.entries.items c.args.entry c.args.store.now.links.items c.args.store.now.heads.items
     c.args.to c.requires.index c.requires.few c.requires.to)
+
+pub returns-clause-heads : goal.returns-clause-heads
+returns-clause-heads c = ap (λ (l : List (Option ℕ)). length l) c.push_bucket.ensures.heads ∙ length-set _ _ _

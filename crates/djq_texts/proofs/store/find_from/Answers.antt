@@ -1,5 +1,5 @@
 -- By the walk's invariant, what isn't ahead is another text; what is ahead gets shorter.
-use Rattle.std.proofs.Common.{◌≡◌, ◌<◌, ◌∙◌, sym, refl, length, Some, rules, arith}
+use Rattle.std.proofs.Common.{◌∙◌, sym, refl, rules, arith}
 use Rattle.djq_texts.specs.Known.{HasNumber}
 use Rattle.djq_texts.proofs.Known.{read_known}
 use Rattle.djq_texts.proofs.Search.{seeking, over, stop_within, onward, nearer}

@@ -1,5 +1,5 @@
 -- The number stands in the chain of its bucket; out of it, it comes to be the first of the other's.
-use Rattle.std.proofs.Common.{◌≡◌, ◌<◌, length, sym, subst, arith, ℕ}
+use Rattle.std.proofs.Common.{◌<◌, ◌∙◌, length, length-set, ap, sym, subst, arith, ℕ, List, Option}
 use Rattle.djq_arena.proofs.Buckets.{unlisted_links, unlisted_heads}
 use Rattle.djq_texts.proofs.Index.{falls_inside, place_inside, stands, moved}
 use Rattle.djq_texts.proofs.store.replace.Goals as goal
@@ -36,3 +36,7 @@ returns-clause-index c = rw (c.push_bucket.ensures.links, c.push_bucket.ensures.
     (moved c.args.store.now.entries.items c.args.entry c.args.store.now.links.items _ c.args.store.now.heads.items _
     c.args.number c.args.from c.args.to c.requires.index c.requires.number c.requires.from c.requires.to
     c.unlist.ensures.unlisted)
+
+pub returns-clause-heads : goal.returns-clause-heads
+returns-clause-heads c = ap (λ (l : List (Option ℕ)). length l) c.push_bucket.ensures.heads
+    ∙ (length-set _ _ _ ∙ unlisted_heads _ _ _ _ c.args.from c.args.number c.unlist.ensures.unlisted)
