@@ -1,6 +1,6 @@
 -- What has been told of a forest, and what one more telling, or one that is taken back, leaves of it.
-use Rattle.std.specs.Prelude.{◌≡◌, ◌≢◌, ◌⊎◌, ℕ, zero, suc, ◌+◌, ◌-◌, ◌<◌, ◌≤◌, Bool, true, false, cond, not, ◌==◌, ◌&&◌, ◌||◌}
-use Rattle.std.specs.Prelude.{List, [], ◌∷◌, ◌++◌, length, slice_index, slice_index_or, slice_set, is_some, Option, None}
+use Rattle.std.specs.Prelude.{◌≡◌, ◌≢◌, ℕ, zero, suc, ◌+◌, ◌-◌, ◌<◌, Bool, true, false, cond, not, ◌==◌, ◌&&◌, ◌||◌}
+use Rattle.std.specs.Prelude.{List, [], ◌∷◌, length, slice_index, slice_index_or, is_some, Option, None}
 use Rattle.std.specs.List.{count_by}
 use Rattle.std.proofs.lemmas.List.Sums.{sum_by-cons}
 use Rattle.std.proofs.lemmas.List.{set_past}
@@ -11,9 +11,9 @@ use Rattle.djq_hypergraph.specs.Hypergraph.{member, one}
 use Rattle.djq_tree.specs.Counts.{how_many}
 use Rattle.djq_forest.specs.TieLists.{list_less}
 use Rattle.djq_forest.specs.Forest.{Knot, Edge, Forest, nth_knot, nth_edge, slot_at, has_entry, missing_at, lives, tie_of, list_of}
-use Rattle.djq_forest.specs.Shape.{AreAlong, is_need}
+use Rattle.djq_forest.specs.Shape.{is_need}
 use Rattle.djq_forest.specs.Invariants.{AreEntries, IsForest, gives, is_empty, is_to_list, unmet}
-use Rattle.djq_forest.specs.Telling.{told_gives, lacks, IsToldSoFar, to_tell, also_told, told_less, with_missing, put_missing}
+use Rattle.djq_forest.specs.Telling.{lacks, IsToldSoFar, to_tell, also_told, told_less, with_missing, put_missing}
 use Rattle.djq_forest.specs.Telling.{with_list, put_list, target, relist, tell_fed, untell_fed, tell_side, untell_side, CanBeTold, TellingKeeps}
 use Rattle.djq_forest.proofs.Checking.{slot_within, knot_within}
 use Rattle.djq_forest.proofs.TieChanges.{member_not, not_member}

@@ -1,12 +1,11 @@
 -- The worked examples are as they are said to be: each of their slots is looked at.
-use Rattle.std.specs.Prelude.{◌≡◌, ◌⊎◌, ℕ, zero, suc, ◌<◌, Bool, true, false, not, ◌==◌, ◌&&◌, nat_lt, List, [], ◌∷◌, length}
-use Rattle.std.proofs.Common.{refl, subst, arith, inl, inr, eqb-true, eq-eqb}
-use Rattle.std.proofs.lemmas.Bool.{ltb-true}
+use Rattle.std.specs.Prelude.{◌≡◌, ◌⊎◌, ℕ, zero, suc, ◌<◌, true, false, List, [], ◌∷◌, length}
+use Rattle.std.proofs.Common.{refl, subst, arith, inl, inr}
 use Rattle.djq_arena.specs.Chains.{AreDistinctSlots, IsOut, AreBelow}
 use Rattle.djq_forest.specs.Tuple.{same_tuple, projection, variable_column, label_columns}
-use Rattle.djq_forest.specs.Forest.{nth_knot, nth_edge, entry_tuple, has_entry, missing_at, refs_at, tie_of, list_of}
-use Rattle.djq_forest.specs.Shape.{IsShape, AreAlong, upper, lower, is_need}
-use Rattle.djq_forest.specs.Invariants.{IsForest, unmet, tied_to}
+use Rattle.djq_forest.specs.Forest.{nth_knot, nth_edge}
+use Rattle.djq_forest.specs.Shape.{is_need}
+use Rattle.djq_forest.specs.Invariants.{IsForest}
 use Rattle.djq_forest.specs.Fold.{IsFoldOf, IsTrimFold, AreAllNeeds, HasSide, IsOne, knot_of, needs_of, reducts_of}
 use Rattle.djq_tree.specs.declared.node.Node.TheVariants.{Leaf, Trim, Meet}
 use Rattle.djq_tree.specs.Labels.{label_at}
@@ -15,8 +14,7 @@ use Rattle.djq_hypergraph.specs.Hypergraph.{member}
 use Rattle.djq_forest.specs.Worked.{join_forest, join_knots, join_edges, join_fold, join_tree, join_tables}
 use Rattle.djq_forest.specs.Worked.{cover_forest, cover_knots, cover_edges, cover_fold, cover_tree, cover_tables}
 use Rattle.djq_forest.specs.Worked.{JoinIsWorked, CoverIsWorked}
-use Rattle.djq_forest.proofs.Checking.{forest_by, agree, agreed, all_below, all_passed, given, at_entries, at_edges, at_ties, at_lists, implied, slot_within}
-use Rattle.djq_forest.proofs.Tuples.{same_is, is_same}
+use Rattle.djq_forest.proofs.Checking.{forest_by, agree, agreed, all_below, all_passed, at_edges}
 
 join_reducts : (reducts_of join_tree join_forest join_fold).tables ≡ join_tables
 join_reducts = refl
