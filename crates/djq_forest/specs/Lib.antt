@@ -5,6 +5,8 @@ pub mod SlotEntries
 pub mod Slots
 pub mod Forest
 pub mod Index
+pub mod KnotSlots
+pub mod EdgeTies
 pub mod Shape
 pub mod Invariants
 pub mod Telling

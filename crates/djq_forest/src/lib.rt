@@ -46,10 +46,12 @@
 //! [`Tie`] has twelve bytes, too: the slot that it leads to, and its neighbours in that one's list. A leaf's entries lie
 //! in their rows' slots; a view's are found by their tuples ([`Index`]), for four bytes a slot and as many a bucket,
 //! and one array links both the slots of a bucket and the free ones. Links are four bytes, slots of arrays, no pointers.
-//! Room for an entry is taken before it comes ([`Index::reserve`]), so that its coming can't fail.
+//! Room for an entry is taken before it comes ([`Knot::grow`]), so that its coming can't fail.
 #![tactic(auto)]
 
+mod edge;
 mod index;
+mod knot;
 mod slots;
 mod ties;
 
@@ -57,7 +59,9 @@ ghost use Rattle.djq_forest.specs.Fold.{ForestsAreReducts};
 ghost use Rattle.djq_forest.specs.Telling.{TellingKeeps};
 ghost use Rattle.djq_forest.specs.Worked.{JoinIsWorked, CoverIsWorked};
 
+pub use edge::Edge;
 pub use index::Index;
+pub use knot::Knot;
 pub use slots::{Note, OUT, Slots};
 pub use ties::{Tie, Ties};
 
