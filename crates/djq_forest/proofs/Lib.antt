@@ -12,4 +12,7 @@ pub mod Tellings
 pub mod SlotChanges
 pub mod IndexChanges
 pub mod Checking
+pub mod Rooms
+pub mod Alike
+pub mod Roomy
 pub mod Worked

@@ -20,7 +20,7 @@ use Rattle.djq_forest.proofs.TieChanges.{member_not, not_member}
 
 -- ---- how many of the first numbers pass a test
 
-many_same : (p q : ℕ → Bool) (n : ℕ) → ((i : ℕ) → i < n → p i ≡ q i) → how_many p n ≡ how_many q n
+pub many_same : (p q : ℕ → Bool) (n : ℕ) → ((i : ℕ) → i < n → p i ≡ q i) → how_many p n ≡ how_many q n
 many_same p q zero h = refl
 many_same p q (suc n) h =
     ap₂ (λ (a b : ℕ). a + b) (many_same p q n (λ i l. h i (omega arith))) (ap one (h n (omega arith)))

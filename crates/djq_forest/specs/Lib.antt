@@ -12,4 +12,6 @@ pub mod Invariants
 pub mod Telling
 pub mod Reducts
 pub mod Fold
+pub mod Room
+pub mod TreeForest
 pub mod Worked

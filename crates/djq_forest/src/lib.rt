@@ -46,20 +46,24 @@
 //! [`Tie`] has twelve bytes, too: the slot that it leads to, and its neighbours in that one's list. A leaf's entries lie
 //! in their rows' slots; a view's are found by their tuples ([`Index`]), for four bytes a slot and as many a bucket,
 //! and one array links both the slots of a bucket and the free ones. Links are four bytes, slots of arrays, no pointers.
-//! Room for an entry is taken before it comes ([`Knot::grow`]), so that its coming can't fail.
+//! Room for an entry is taken before it comes ([`Forest::reserve`]), so that its coming can't fail.
 #![tactic(auto)]
 
 mod edge;
+mod forest;
 mod index;
 mod knot;
+mod room;
 mod slots;
 mod ties;
 
 ghost use Rattle.djq_forest.specs.Fold.{ForestsAreReducts};
+ghost use Rattle.djq_forest.specs.Room.{RoomKeeps};
 ghost use Rattle.djq_forest.specs.Telling.{TellingKeeps};
 ghost use Rattle.djq_forest.specs.Worked.{JoinIsWorked, CoverIsWorked};
 
 pub use edge::Edge;
+pub use forest::{Forest, Needs};
 pub use index::Index;
 pub use knot::Knot;
 pub use slots::{Note, OUT, Slots};
@@ -81,4 +85,9 @@ pub fn forests_are_reducts()
 /// which some were. It does nothing.
 pub fn telling_keeps()
     ensures { TellingKeeps }
+{}
+
+/// A forest with more room for entries is one over the same tree, and stands for the same reducts. It does nothing.
+pub fn room_keeps()
+    ensures { RoomKeeps }
 {}
