@@ -15,4 +15,5 @@ pub mod Checking
 pub mod Rooms
 pub mod Alike
 pub mod Roomy
+pub mod StepChanges
 pub mod Worked

@@ -1,5 +1,5 @@
 -- A forest with more room is folded alike, and stands for the same reducts.
-use Rattle.std.specs.Prelude.{◌≡◌, ℕ, zero, suc, Bool, cond, ◌&&◌, List, [], ◌∷◌, ◌++◌, length, replicate}
+use Rattle.std.specs.Prelude.{true, ◌≡◌, ◌<◌, ℕ, zero, suc, Bool, cond, ◌&&◌, List, [], ◌∷◌, ◌++◌, length, replicate}
 use Rattle.std.specs.Prelude.{Option, Some, None}
 use Rattle.std.proofs.Common.{refl, sym, ◌∙◌, ap, ap₂, subst, arith, inl, inr}
 use Rattle.djq_arena.specs.Chains.{AreBelow}
@@ -70,6 +70,7 @@ fold_alike t f g o r h = record {
   long = h.long;
   width = λ k l. r.width (knot_of o k) ∙ h.width k l;
   leaf = h.leaf;
+  leaf_knot = λ k a l is. r.leaf (knot_of o k) ∙ h.leaf_knot k a l is;
   trim = λ k c l is. let fold = h.trim k c l is in (fold.0, fed_alike f g o c fold.0 (knot_of o k) _ r fold.1, fold.2);
   meet = λ k a b l is. elim (h.meet k a b l is) [
     | inl side ↦ inl (side_alike t f g o k a b r side)
@@ -156,3 +157,11 @@ sound_still x g more along h = record {
   forest = roomier_forest x.forest g more along h.forest;
   fold = fold_alike x.tree x.forest g x.fold (roomier_alike x.forest g h.forest.entries.along more) h.fold;
 }
+
+-- the knot with a leaf's number is a leaf
+pub leaf_knot_at : (x : TreeForest) (j : ℕ) → IsTreeForest x → j < x.tree.leaves → (nth_knot x.forest.knots j).leaf ≡ true
+leaf_knot_at x j h l =
+    let inside : j < length x.tree.nodes = let fits = h.is_tree.fits in omega arith in
+    let is = h.is_tree.leaf j l in
+    subst (λ (k : ℕ). (nth_knot x.forest.knots k).leaf ≡ true) (h.fold.leaf j j inside is).0
+    (h.fold.leaf_knot j j inside is)

@@ -42,7 +42,7 @@ many_but_one p q (suc n) j l h =
           omega (arith, rest, last)
     ]
 
-many_some : (p : ℕ → Bool) (n j : ℕ) → j < n → p j ≡ true → 0 < how_many p n
+pub many_some : (p : ℕ → Bool) (n j : ℕ) → j < n → p j ≡ true → 0 < how_many p n
 many_some p zero j l h = absurd (omega arith)
 many_some p (suc n) j l h =
     elim (cases_eq j n) [
@@ -219,7 +219,7 @@ missing_other ks k x m i z within away =
       | inr other ↦ ap (λ (n : Knot). slice_index n.missing z) (get_or-set_other ks k i changed _ other)
     ]
 
-same_part : {B : Type 0} (g : Edge → B) (es : List Edge) (j y : ℕ) (xs : List ℕ) (i : ℕ)
+pub same_part : {B : Type 0} (g : Edge → B) (es : List Edge) (j y : ℕ) (xs : List ℕ) (i : ℕ)
     → ((e : Edge) → g (with_list e y xs) ≡ g e) → g (nth_edge (put_list es j y xs) i) ≡ g (nth_edge es i)
 same_part g es j y xs i h =
     let changed = with_list (nth_edge es j) y xs in

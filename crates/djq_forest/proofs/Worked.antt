@@ -71,6 +71,14 @@ leaves (suc (suc (suc zero))) a l h = absurd cc
 leaves (suc (suc (suc (suc zero)))) a l h = absurd cc
 leaves (suc (suc (suc (suc (suc k))))) a l h = absurd (omega arith)
 
+leaf_knots : (k a : ℕ) → k < 5 → node_at join_tree.nodes k ≡ Leaf a → (nth_knot join_knots (knot_of join_fold k)).leaf ≡ true
+leaf_knots zero a l h = refl
+leaf_knots (suc zero) a l h = refl
+leaf_knots (suc (suc zero)) a l h = absurd cc
+leaf_knots (suc (suc (suc zero))) a l h = absurd cc
+leaf_knots (suc (suc (suc (suc zero)))) a l h = absurd cc
+leaf_knots (suc (suc (suc (suc (suc k))))) a l h = absurd (omega arith)
+
 trims : (k c : ℕ) → k < 5 → node_at join_tree.nodes k ≡ Trim c → IsTrimFold join_tree join_forest join_fold k c
 unfolding label_columns variable_column
 trims zero c l h = absurd cc
@@ -138,7 +146,7 @@ widths (suc (suc (suc (suc zero)))) l = refl
 widths (suc (suc (suc (suc (suc k))))) l = absurd (omega arith)
 
 join_folded : IsFoldOf join_tree join_forest join_fold
-join_folded = record { long = refl; width = widths; leaf = leaves; trim = trims; meet = meets }
+join_folded = record { long = refl; width = widths; leaf = leaves; leaf_knot = leaf_knots; trim = trims; meet = meets }
 
 pub join_worked : JoinIsWorked
 join_worked = record { forest = join_is_forest; folded = join_folded; reducts = join_reducts }
@@ -199,6 +207,14 @@ cover_leaves (suc (suc zero)) a l h = absurd cc
 cover_leaves (suc (suc (suc zero))) a l h = absurd cc
 cover_leaves (suc (suc (suc (suc k)))) a l h = absurd (omega arith)
 
+cover_leaf_knots : (k a : ℕ) → k < 4 → node_at cover_tree.nodes k ≡ Leaf a
+    → (nth_knot cover_knots (knot_of cover_fold k)).leaf ≡ true
+cover_leaf_knots zero a l h = refl
+cover_leaf_knots (suc zero) a l h = refl
+cover_leaf_knots (suc (suc zero)) a l h = absurd cc
+cover_leaf_knots (suc (suc (suc zero))) a l h = absurd cc
+cover_leaf_knots (suc (suc (suc (suc k)))) a l h = absurd (omega arith)
+
 cover_trims : (k c : ℕ) → k < 4 → node_at cover_tree.nodes k ≡ Trim c → IsTrimFold cover_tree cover_forest cover_fold k c
 unfolding label_columns variable_column
 cover_trims zero c l h = absurd cc
@@ -254,7 +270,7 @@ cover_widths (suc (suc (suc zero))) l = refl
 cover_widths (suc (suc (suc (suc k)))) l = absurd (omega arith)
 
 cover_folded : IsFoldOf cover_tree cover_forest cover_fold
-cover_folded = record { long = refl; width = cover_widths; leaf = cover_leaves; trim = cover_trims; meet = cover_meets }
+cover_folded = record { long = refl; width = cover_widths; leaf = cover_leaves; leaf_knot = cover_leaf_knots; trim = cover_trims; meet = cover_meets }
 
 cover_reducts : (reducts_of cover_tree cover_forest cover_fold).tables ≡ cover_tables
 cover_reducts = refl

@@ -10,6 +10,7 @@ pub mod EdgeTies
 pub mod Shape
 pub mod Invariants
 pub mod Telling
+pub mod Steps
 pub mod Reducts
 pub mod Fold
 pub mod Room

@@ -43,7 +43,7 @@ pub struct Forest {
     edges: Vec<Edge>,
     // the number of the present change
     stamp: u32,
-    // for each node of the tree its knot, and what it needs
+    // for each node of the tree its knot, a leaf's being its own, and what it needs
     node_knots: Vec<usize>,
     node_needs: Vec<Needs>,
 }
@@ -101,7 +101,7 @@ impl Forest {
     /// Makes sure that there is room for a tuple of a leaf's row in a slot, and for an entry of each view: here alone
     /// memory is asked for. It fails only out of memory, or if there can't be more slots. The reducts stay in any case.
     pub fn reserve(&mut self, alloc: Global, leaf: usize, slot: u32) -> Result<(), AllocError>
-        requires { (nth_knot self.old.forest.knots leaf).leaf ≡ true }
+        requires { leaf < self.old.tree.leaves }
         ensures room { OnOk result (HasRoomFor leaf slot self.new.forest.knots) }
         ensures roomier { IsRoomier self.old.forest self.new.forest }
         ensures tree { self.new.tree ≡ self.old.tree }

@@ -55,10 +55,12 @@ mod index;
 mod knot;
 mod room;
 mod slots;
+mod steps;
 mod ties;
 
 ghost use Rattle.djq_forest.specs.Fold.{ForestsAreReducts};
 ghost use Rattle.djq_forest.specs.Room.{RoomKeeps};
+ghost use Rattle.djq_forest.specs.Steps.{StepsCanBeTaken};
 ghost use Rattle.djq_forest.specs.Telling.{TellingKeeps};
 ghost use Rattle.djq_forest.specs.Worked.{JoinIsWorked, CoverIsWorked};
 
@@ -85,6 +87,11 @@ pub fn forests_are_reducts()
 /// which some were. It does nothing.
 pub fn telling_keeps()
     ensures { TellingKeeps }
+{}
+
+/// What is to be propagated next meets the conditions of the step that does it. It does nothing.
+pub fn steps_can_be_taken()
+    ensures { StepsCanBeTaken }
 {}
 
 /// A forest with more room for entries is one over the same tree, and stands for the same reducts. It does nothing.

@@ -1,10 +1,19 @@
 -- The forest has more room, or as much, so it is one over the same tree.
 use Rattle.std.proofs.Common.{refl}
-use Rattle.djq_forest.proofs.Roomy.{sound_still, reducts_alike}
+use Rattle.djq_forest.proofs.Roomy.{sound_still, reducts_alike, leaf_knot_at}
 use Rattle.djq_forest.proofs.forest.Forest.reserve.Goals as goal
 
 pub reserve-requires-clause-is_leaf : goal.reserve-requires-clause-is_leaf
-reserve-requires-clause-is_leaf c = rw (← c.self.view_is) at c.requires
+reserve-requires-clause-is_leaf c = leaf_knot_at
+    (record {
+      tree = c.self.inside.tree;
+      forest = record {
+        knots = c.self.inside.knots.items;
+        edges = c.self.inside.edges.items;
+        stamp = c.self.inside.stamp;
+      };
+      fold = record { knots = c.self.inside.node_knots.items; needs = c.self.inside.node_needs.items };
+    }) c.args.leaf c.self.invariant (rw (← c.self.view_is) at c.requires)
 
 pub reserve-requires-clause-along : goal.reserve-requires-clause-along
 reserve-requires-clause-along c = c.self.invariant.forest.entries.along
