@@ -16,4 +16,5 @@ pub mod Rooms
 pub mod Alike
 pub mod Roomy
 pub mod StepChanges
+pub mod Pendings
 pub mod Worked

@@ -198,16 +198,16 @@ same_slots ks k x m i z =
       | inr past ↦ ap (λ (ls : List Knot). slot_at ls i z) (set_past ks k changed past)
     ]
 
-same_entry : (ks : List Knot) (k x m i z : ℕ) → has_entry (put_missing ks k x m) i z ≡ has_entry ks i z
+pub same_entry : (ks : List Knot) (k x m i z : ℕ) → has_entry (put_missing ks k x m) i z ≡ has_entry ks i z
 same_entry ks k x m i z = ap (λ (o : Option (List ℕ)). is_some o) (same_slots ks k x m i z)
 
-missing_here : (ks : List Knot) (k x m : ℕ) → k < length ks → x < length (nth_knot ks k).missing
+pub missing_here : (ks : List Knot) (k x m : ℕ) → k < length ks → x < length (nth_knot ks k).missing
     → missing_at (put_missing ks k x m) k x ≡ m
 missing_here ks k x m within inside =
     ap (λ (n : Knot). slice_index n.missing x) (get_or-set_same ks k (with_missing (nth_knot ks k) x m) _ within)
     ∙ get_or-set_same (nth_knot ks k).missing x m 0 inside
 
-missing_other : (ks : List Knot) (k x m i z : ℕ) → k < length ks → (i ≡ k → z ≡ x → ⊥)
+pub missing_other : (ks : List Knot) (k x m i z : ℕ) → k < length ks → (i ≡ k → z ≡ x → ⊥)
     → missing_at (put_missing ks k x m) i z ≡ missing_at ks i z
 missing_other ks k x m i z within away =
     let changed = with_missing (nth_knot ks k) x m in
@@ -252,7 +252,7 @@ list_other es j y xs i z within away =
       | inr other ↦ ap (λ (d : Edge). list_of d z) (get_or-set_other es j i changed _ other)
     ]
 
-turned_entry : (b : Bool) (ks : List Knot) (k x m i z : ℕ) → has_entry (cond b (put_missing ks k x m) ks) i z ≡ has_entry ks i z
+pub turned_entry : (b : Bool) (ks : List Knot) (k x m i z : ℕ) → has_entry (cond b (put_missing ks k x m) ks) i z ≡ has_entry ks i z
 turned_entry true ks k x m i z = same_entry ks k x m i z
 turned_entry false ks k x m i z = refl
 
@@ -362,7 +362,7 @@ turned_counts true ks k x m n was is within inside now on off =
 turned_counts false ks k x m n was is within inside now on off =
     let same = ap one (off refl) in omega (arith, now, same)
 
-turned_other : (turns : Bool) (ks : List Knot) (k x m i z : ℕ) → k < length ks → (i ≡ k → z ≡ x → ⊥)
+pub turned_other : (turns : Bool) (ks : List Knot) (k x m i z : ℕ) → k < length ks → (i ≡ k → z ≡ x → ⊥)
     → missing_at (cond turns (put_missing ks k x m) ks) i z ≡ missing_at ks i z
 turned_other true ks k x m i z within away = missing_other ks k x m i z within away
 turned_other false ks k x m i z within away = refl

@@ -11,6 +11,7 @@ pub mod Shape
 pub mod Invariants
 pub mod Telling
 pub mod Steps
+pub mod Pending
 pub mod Reducts
 pub mod Fold
 pub mod Room

@@ -59,6 +59,7 @@ mod steps;
 mod ties;
 
 ghost use Rattle.djq_forest.specs.Fold.{ForestsAreReducts};
+ghost use Rattle.djq_forest.specs.Pending.{PendingMoves};
 ghost use Rattle.djq_forest.specs.Room.{RoomKeeps};
 ghost use Rattle.djq_forest.specs.Steps.{StepsCanBeTaken};
 ghost use Rattle.djq_forest.specs.Telling.{TellingKeeps};
@@ -92,6 +93,12 @@ pub fn telling_keeps()
 /// What is to be propagated next meets the conditions of the step that does it. It does nothing.
 pub fn steps_can_be_taken()
     ensures { StepsCanBeTaken }
+{}
+
+/// While entries come to live, or cease to, what a step propagates is pending no more, and what came to live by it is, or
+/// what ceased to; without anything pending the forest is whole. It does nothing.
+pub fn pending_moves()
+    ensures { PendingMoves }
 {}
 
 /// A forest with more room for entries is one over the same tree, and stands for the same reducts. It does nothing.

@@ -5,6 +5,7 @@ ghost use Rattle.djq_hypergraph.specs.Hypergraph.{member};
 ghost use Rattle.djq_forest.specs.declared.slots.TheConstants.{OUT};
 ghost use Rattle.djq_forest.specs.Forest.{nth_edge, has_entry, missing_at, tie_of, list_of};
 ghost use Rattle.djq_forest.specs.Invariants.{is_empty};
+ghost use Rattle.djq_forest.specs.Pending.{comes_by_fed, comes_by_side, goes_by_fed, goes_by_side};
 ghost use Rattle.djq_forest.specs.Steps.{forest_with, CanTellFed, CanUntellFed, CanTellSide, CanUntellSide};
 ghost use Rattle.djq_forest.specs.Telling.{put_missing, put_list, target, tell_fed, untell_fed, tell_side, untell_side};
 ghost use Rattle.djq_forest.specs.TieLists.{list_less};
@@ -92,9 +93,7 @@ fn big_at(edges: &Vec<Edge>, at: usize) -> usize
 pub(crate) fn tell_fed(knots: &mut Vec<Knot>, edges: &mut Vec<Edge>, edge: usize, slot: u32) -> bool
     requires { CanTellFed (forest_with knots.old.items edges.old.items) edge slot }
     ensures told { forest_with knots.new.items edges.new.items ≡ tell_fed (forest_with knots.old.items edges.old.items) edge slot }
-    ensures lives { result ≡ (is_empty (list_of (nth_edge edges.old.items edge) (tie_of (nth_edge edges.old.items edge) slot))
-        && (missing_at knots.old.items (nth_edge edges.old.items edge).small (tie_of (nth_edge edges.old.items edge) slot) - 1
-        == 0)) }
+    ensures lives { result ≡ comes_by_fed (forest_with knots.old.items edges.old.items) edge slot }
 {
     let to = to_at(edges, edge, slot);
     if !enter_at(edges, edge, slot) {
@@ -114,10 +113,7 @@ pub(crate) fn untell_fed(
 ) -> bool
     requires { CanUntellFed (forest_with knots.old.items edges.old.items) edge slot }
     ensures told { forest_with knots.new.items edges.new.items ≡ untell_fed (forest_with knots.old.items edges.old.items) edge slot }
-    ensures lived { result ≡ (is_empty (list_less slot (list_of (nth_edge edges.old.items edge)
-        (tie_of (nth_edge edges.old.items edge) slot)))
-        && (missing_at knots.old.items (nth_edge edges.old.items edge).small (tie_of (nth_edge edges.old.items edge) slot)
-        == 0)) }
+    ensures lived { result ≡ goes_by_fed (forest_with knots.old.items edges.old.items) edge slot }
 {
     let to = to_at(edges, edge, slot);
     if !leave_at(edges, edge, slot) {
@@ -131,7 +127,7 @@ pub(crate) fn untell_fed(
 pub(crate) fn tell_side(knots: &mut Vec<Knot>, edges: &Vec<Edge>, edge: usize, slot: u32) -> bool
     requires { CanTellSide (forest_with knots.old.items edges.now.items) edge slot }
     ensures told { forest_with knots.new.items edges.now.items ≡ tell_side (forest_with knots.old.items edges.now.items) edge slot }
-    ensures lives { result ≡ (missing_at knots.old.items (nth_edge edges.now.items edge).big slot - 1 == 0) }
+    ensures lives { result ≡ comes_by_side (forest_with knots.old.items edges.now.items) edge slot }
 {
     let big = big_at(edges, edge);
     lower_at(knots, big, slot)
@@ -142,7 +138,7 @@ pub(crate) fn untell_side(knots: &mut Vec<Knot>, edges: &Vec<Edge>, edge: usize,
     requires { CanUntellSide (forest_with knots.old.items edges.now.items) edge slot }
     ensures told { forest_with knots.new.items edges.now.items
         ≡ untell_side (forest_with knots.old.items edges.now.items) edge slot }
-    ensures lived { result ≡ (missing_at knots.old.items (nth_edge edges.now.items edge).big slot == 0) }
+    ensures lived { result ≡ goes_by_side (forest_with knots.old.items edges.now.items) edge slot }
 {
     let big = big_at(edges, edge);
     raise_at(knots, big, slot)
