@@ -17,4 +17,5 @@ pub mod Alike
 pub mod Roomy
 pub mod StepChanges
 pub mod Pendings
+pub mod Rises
 pub mod Worked

@@ -1,5 +1,5 @@
 -- One step tells what was pending, and what came to live by it is pending then.
-use Rattle.std.specs.Prelude.{◌≡◌, ℕ, ◌+◌, ◌-◌, ◌<◌, Bool, true, false, cond, not, ◌==◌, ◌&&◌, ◌||◌, List, ◌∷◌, length}
+use Rattle.std.specs.Prelude.{◌≡◌, ℕ, zero, suc, ◌+◌, ◌-◌, ◌<◌, Bool, true, false, cond, not, ◌==◌, ◌&&◌, ◌||◌, List, ◌∷◌, length}
 use Rattle.std.proofs.Common.{refl, sym, ◌∙◌, ap, ap₂, arith, eqb-true, eq-eqb, length-set}
 use Rattle.std.proofs.lemmas.Bool.{ne_eqb}
 use Rattle.djq_forest.specs.Forest.{Knot, Edge, Forest, nth_knot, nth_edge, has_entry, missing_at, lives, tie_of, list_of}
@@ -32,14 +32,14 @@ told_same g t u same h = record {
       ∙ many_same (lacks g t k z) (lacks g u k z) (length g.edges) (λ j l. sym (lacks_same g t u k z j (same j z l)));
 }
 
-and_all : (b : Bool) → (b && not false) ≡ b
+pub and_all : (b : Bool) → (b && not false) ≡ b
 and_all true = refl
 and_all false = refl
 
 -- ---- what there is to tell
 
 -- of what the edge i tells slot z lives
-abbrev of_life : Forest → ℕ → ℕ → Bool
+abbrev pub of_life : Forest → ℕ → ℕ → Bool
 of_life f i z = cond (nth_edge f.edges i).feeds (lives f.knots (nth_edge f.edges i).big z)
     (lives f.knots (nth_edge f.edges i).small (target f i z))
 
@@ -52,22 +52,22 @@ life_source f i z = cond_in (nth_edge f.edges i).feeds (lives f.knots) (nth_edge
     (target f i z)
 
 -- the forest g is f, but for which of them the entry in slot y of the knot k lives in
-record Moves (f g : Forest) (k y : ℕ) : Type 0 where
-  edges : length g.edges ≡ length f.edges
-  entry : (i z : ℕ) → has_entry g.knots i z ≡ has_entry f.knots i z
-  tie : (i z : ℕ) → tie_of (nth_edge g.edges i) z ≡ tie_of (nth_edge f.edges i) z
-  feeds : (i : ℕ) → (nth_edge g.edges i).feeds ≡ (nth_edge f.edges i).feeds
-  big : (i : ℕ) → (nth_edge g.edges i).big ≡ (nth_edge f.edges i).big
-  small : (i : ℕ) → (nth_edge g.edges i).small ≡ (nth_edge f.edges i).small
-  others : (i z : ℕ) → (i ≡ k → z ≡ y → ⊥) → lives g.knots i z ≡ lives f.knots i z
+pub record Moves (f g : Forest) (k y : ℕ) : Type 0 where
+  pub edges : length g.edges ≡ length f.edges
+  pub entry : (i z : ℕ) → has_entry g.knots i z ≡ has_entry f.knots i z
+  pub tie : (i z : ℕ) → tie_of (nth_edge g.edges i) z ≡ tie_of (nth_edge f.edges i) z
+  pub feeds : (i : ℕ) → (nth_edge g.edges i).feeds ≡ (nth_edge f.edges i).feeds
+  pub big : (i : ℕ) → (nth_edge g.edges i).big ≡ (nth_edge f.edges i).big
+  pub small : (i : ℕ) → (nth_edge g.edges i).small ≡ (nth_edge f.edges i).small
+  pub others : (i z : ℕ) → (i ≡ k → z ≡ y → ⊥) → lives g.knots i z ≡ lives f.knots i z
 
 choice_same : (a b : Bool) (m n i j : ℕ) → b ≡ a → m ≡ n → i ≡ j → cond b m i ≡ cond a n j
 choice_same a b m n i j e h l = rw (e, h, l) refl
 
-moved_knot : (f g : Forest) (k y i : ℕ) → Moves f g k y → source_knot g i ≡ source_knot f i
+pub moved_knot : (f g : Forest) (k y i : ℕ) → Moves f g k y → source_knot g i ≡ source_knot f i
 moved_knot f g k y i m = choice_same (nth_edge f.edges i).feeds (nth_edge g.edges i).feeds _ _ _ _ (m.feeds i) (m.big i) (m.small i)
 
-moved_slot : (f g : Forest) (k y i z : ℕ) → Moves f g k y → source_slot g i z ≡ source_slot f i z
+pub moved_slot : (f g : Forest) (k y i z : ℕ) → Moves f g k y → source_slot g i z ≡ source_slot f i z
 moved_slot f g k y i z m =
     choice_same (nth_edge f.edges i).feeds (nth_edge g.edges i).feeds z z _ _ (m.feeds i) refl (m.tie i z)
 
@@ -85,27 +85,27 @@ off_source a k b y h e l =
     let not : true ≡ false = sym both ∙ h in
     cc
 
-left_is : (a b : Bool) → (a && b) ≡ true → a ≡ true
+pub left_is : (a b : Bool) → (a && b) ≡ true → a ≡ true
 left_is true b h = refl
 left_is false b h = absurd cc
 
-right_is : (a b : Bool) → (a && b) ≡ true → b ≡ true
+pub right_is : (a b : Bool) → (a && b) ≡ true → b ≡ true
 right_is true b h = h
 right_is false b h = absurd cc
 
-life_others : (f g : Forest) (k y i z : ℕ) → Moves f g k y → is_source f k y i z ≡ false → of_life g i z ≡ of_life f i z
+pub life_others : (f g : Forest) (k y i z : ℕ) → Moves f g k y → is_source f k y i z ≡ false → of_life g i z ≡ of_life f i z
 life_others f g k y i z m off = moved_life f g k y i z m
     ∙ m.others (source_knot f i) (source_slot f i z) (off_source (source_knot f i) k (source_slot f i z) y off)
     ∙ sym (life_source f i z)
 
-life_there : (f : Forest) (k y i z : ℕ) → is_source f k y i z ≡ true → of_life f i z ≡ lives f.knots k y
+pub life_there : (f : Forest) (k y i z : ℕ) → is_source f k y i z ≡ true → of_life f i z ≡ lives f.knots k y
 life_there f k y i z on = life_source f i z
     ∙ ap₂ (λ (a b : ℕ). lives f.knots a b)
     (eqb-true (source_knot f i) k (left_is (source_knot f i == k) (source_slot f i z == y) on))
     (eqb-true (source_slot f i z) y (right_is (source_knot f i == k) (source_slot f i z == y) on))
 
 -- what has become of that entry
-life_here : (f g : Forest) (k y i z : ℕ) (change : Bool → Bool) → Moves f g k y
+pub life_here : (f g : Forest) (k y i z : ℕ) (change : Bool → Bool) → Moves f g k y
     → lives g.knots k y ≡ change (lives f.knots k y) → is_source f k y i z ≡ true → of_life g i z ≡ change (of_life f i z)
 life_here f g k y i z change m here on = moved_life f g k y i z m
     ∙ ap₂ (λ (a b : ℕ). lives g.knots a b)
@@ -120,15 +120,15 @@ or_none true c = refl
 or_none false true = refl
 or_none false false = refl
 
-or_no : (b : Bool) → (b || false) ≡ b
+pub or_no : (b : Bool) → (b || false) ≡ b
 or_no true = refl
 or_no false = refl
 
-or_yes : (b : Bool) → (b || true) ≡ true
+pub or_yes : (b : Bool) → (b || true) ≡ true
 or_yes true = refl
 or_yes false = refl
 
-and_no : (b : Bool) → (b && false) ≡ false
+pub and_no : (b : Bool) → (b && false) ≡ false
 and_no true = refl
 and_no false = refl
 
@@ -143,7 +143,7 @@ moved false e l n p true true ho he hl off on new =
     rw (on refl, new refl refl, or_yes p, and_no e, and_no (e && true)) refl
 moved false e l n p true false ho he hl off on new = rw (on refl, or_no l, or_no p) refl
 
-at_step : (p : ℕ → ℕ → Bool) (i z j x : ℕ) (b : Bool) → p j x ≡ b → ((i == j) && (z == x)) ≡ true → p i z ≡ b
+pub at_step : (p : ℕ → ℕ → Bool) (i z j x : ℕ) (b : Bool) → p j x ≡ b → ((i == j) && (z == x)) ≡ true → p i z ≡ b
 at_step p i z j x b h at =
     ap₂ p (eqb-true i j (left_is (i == j) (z == x) at)) (eqb-true z x (right_is (i == j) (z == x) at)) ∙ h
 
@@ -201,10 +201,14 @@ life_same e d a b h l = rw (h, l) refl
 one_less : (m : ℕ) → 0 < m → (m == 0) ≡ false
 one_less m some = ne_eqb m 0 (λ e. omega arith)
 
+less_zero : (m : ℕ) → (m - 1 == 0) ≡ ((m == 0) || (m - 1 == 0))
+less_zero zero = refl
+less_zero (suc m) = sym (ap (λ (b : Bool). b || (suc m - 1 == 0)) (ne_eqb (suc m) 0 (λ e. omega arith)))
+
 here_by : (e d : Bool) (m n : ℕ) (turns : Bool) → d ≡ true → e ≡ d → (turns ≡ true → n ≡ m - 1) → (turns ≡ false → n ≡ m)
-    → (turns ≡ true → 0 < m) → (e && (n == 0)) ≡ ((d && (m == 0)) || (turns && (m - 1 == 0)))
-here_by e d m n true h k now old some = rw (k, h, now refl, one_less m (some refl)) refl
-here_by e d m n false h k now old some = rw (k, h, old refl, or_no (m == 0)) refl
+    → (e && (n == 0)) ≡ ((d && (m == 0)) || (turns && (m - 1 == 0)))
+here_by e d m n true h k now old = rw (k, h, now refl) (less_zero m)
+here_by e d m n false h k now old = rw (k, h, old refl, or_no (m == 0)) refl
 
 fresh_by : (d : Bool) (m : ℕ) (turns : Bool) → (turns ≡ true → 0 < m) → (turns && (m - 1 == 0)) ≡ true
     → (d && (m == 0)) ≡ false
@@ -243,7 +247,7 @@ ranks_apart f j a l same =
     let ranks = ap (λ (n : ℕ). (nth_knot f.knots n).rank) same in
     omega (arith, rises, ranks)
 
-no_source : (a b s y : ℕ) → (a ≡ b → ⊥) → ((a == b) && (s == y)) ≡ false
+pub no_source : (a b s y : ℕ) → (a ≡ b → ⊥) → ((a == b) && (s == y)) ≡ false
 no_source a b s y apart = rw (ne_eqb a b apart) refl
 
 apart_by_feeds : (f : Forest) (j k : ℕ) → AreEntries f → j < length f.edges → upper (nth_edge f.edges j) ≡ k
@@ -251,7 +255,7 @@ apart_by_feeds : (f : Forest) (j k : ℕ) → AreEntries f → j < length f.edge
 apart_by_feeds f j k a l up same = ranks_apart f j a l (same ∙ sym up)
 
 -- how forests differ in which one edge that feeds lists something else, and one count may have changed
-moves_fed : (f : Forest) (j x m : ℕ) (xs : List ℕ) (turns : Bool) → (nth_edge f.edges j).small < length f.knots
+pub moves_fed : (f : Forest) (j x m : ℕ) (xs : List ℕ) (turns : Bool) → (nth_edge f.edges j).small < length f.knots
     → Moves f (relist f j x xs turns m) (nth_edge f.edges j).small (target f j x)
 moves_fed f j x m xs turns within =
     let e = nth_edge f.edges j in
@@ -268,7 +272,7 @@ moves_fed f j x m xs turns within =
     }
 
 -- the same where one count has changed
-moves_side : (f : Forest) (j x m : ℕ) → (nth_edge f.edges j).big < length f.knots
+pub moves_side : (f : Forest) (j x m : ℕ) → (nth_edge f.edges j).big < length f.knots
     → Moves f (record { knots = put_missing f.knots (nth_edge f.edges j).big x m; edges = f.edges; stamp = f.stamp })
     (nth_edge f.edges j).big x
 moves_side f j x m within =
@@ -287,45 +291,86 @@ moves_side f j x m within =
 count_inside : (f : Forest) (k x : ℕ) → AreEntries f → has_entry f.knots k x ≡ true → x < length (nth_knot f.knots k).missing
 count_inside f k x a i = let s = slot_within f.knots k x i in let n = a.along.missing k in omega (arith, s, n)
 
-pending_fed : (f : Forest) (pending : ℕ → ℕ → Bool) (j x : ℕ) → AreEntries f → IsToldBut f pending → j < length f.edges
+-- what a step moves, what becomes of the entry that it tells, and that this isn't the one of which it tells
+pub fed_moves : (f : Forest) (j x : ℕ) → AreEntries f → j < length f.edges → to_tell f j x ≡ true
+    → Moves f (tell_fed f j x) (nth_edge f.edges j).small (target f j x)
+fed_moves f j x a l tell = moves_fed f j x (missing_at f.knots (nth_edge f.edges j).small (target f j x) - 1)
+    (x ∷ list_of (nth_edge f.edges j) (target f j x)) (is_empty (list_of (nth_edge f.edges j) (target f j x)))
+    (knot_within f.knots (nth_edge f.edges j).small (target f j x)
+    (a.tied j x l (left_is (has_entry f.knots (nth_edge f.edges j).big x) (of_life f j x) tell)))
+
+pub life_fed : (f : Forest) (j x : ℕ) → AreEntries f → j < length f.edges → to_tell f j x ≡ true
+    → lives (tell_fed f j x).knots (nth_edge f.edges j).small (target f j x)
+    ≡ (lives f.knots (nth_edge f.edges j).small (target f j x) || comes_by_fed f j x)
+life_fed f j x a l tell =
+    let k = (nth_edge f.edges j).small in
+    let t = target f j x in
+    let turns = is_empty (list_of (nth_edge f.edges j) t) in
+    let m = missing_at f.knots k t in
+    let tied = a.tied j x l (left_is (has_entry f.knots (nth_edge f.edges j).big x) (of_life f j x) tell) in
+    here_by _ (has_entry f.knots k t) m _ turns tied (turned_entry turns f.knots k t (m - 1) k t)
+    (turned_now turns f.knots k t (m - 1) (knot_within f.knots k t tied) (count_inside f k t a tied))
+    (turned_not turns f.knots k t (m - 1))
+
+pub fresh_fed : (f : Forest) (pending : ℕ → ℕ → Bool) (j x : ℕ) → AreEntries f → IsToldBut f pending → j < length f.edges
+    → (nth_edge f.edges j).feeds ≡ true → to_tell f j x ≡ true → pending j x ≡ true → comes_by_fed f j x ≡ true
+    → lives f.knots (nth_edge f.edges j).small (target f j x) ≡ false
+fresh_fed f pending j x a h l feeds tell p = fresh_by (has_entry f.knots (nth_edge f.edges j).small (target f j x))
+    (missing_at f.knots (nth_edge f.edges j).small (target f j x)) (is_empty (list_of (nth_edge f.edges j) (target f j x)))
+    (steps.fed f (told_but f pending) j x h (can_be f pending j x a l tell p) feeds).unmet
+
+pub apart_fed : (f : Forest) (j x : ℕ) → AreEntries f → j < length f.edges → (nth_edge f.edges j).feeds ≡ true
+    → is_source f (nth_edge f.edges j).small (target f j x) j x ≡ false
+apart_fed f j x a l feeds = no_source (source_knot f j) (nth_edge f.edges j).small (source_slot f j x) (target f j x)
+    (apart_by_feeds f j (nth_edge f.edges j).small a l
+    (ap (λ (b : Bool). cond b (nth_edge f.edges j).small (nth_edge f.edges j).big) feeds))
+
+pub pending_fed : (f : Forest) (pending : ℕ → ℕ → Bool) (j x : ℕ) → AreEntries f → IsToldBut f pending
+    → j < length f.edges
     → (nth_edge f.edges j).feeds ≡ true → to_tell f j x ≡ true → pending j x ≡ true
     → IsToldBut (tell_fed f j x)
     (pending_after f pending j x (comes_by_fed f j x) (nth_edge f.edges j).small (target f j x))
-pending_fed f pending j x a h l feeds tell p =
-    let e = nth_edge f.edges j in
-    let t = target f j x in
-    let c = can_be f pending j x a l tell p in
-    let can = steps.fed f (told_but f pending) j x h c feeds in
-    let turns = is_empty (list_of e t) in
-    let m = missing_at f.knots e.small t in
-    let within = knot_within f.knots e.small t c.tied in
-    move_step f (tell_fed f j x) pending j x e.small t (comes_by_fed f j x)
-    (moves_fed f j x (m - 1) (x ∷ list_of e t) turns within)
-    (here_by _ (has_entry f.knots e.small t) m _ turns c.tied (turned_entry turns f.knots e.small t (m - 1) e.small t)
-    (turned_now turns f.knots e.small t (m - 1) within (count_inside f e.small t a c.tied))
-    (turned_not turns f.knots e.small t (m - 1)) can.unmet)
-    (fresh_by (has_entry f.knots e.small t) m turns can.unmet)
-    (tellings.fed f (told_but f pending) j x h c feeds)
-    (no_source (source_knot f j) e.small (source_slot f j x) t
-    (apart_by_feeds f j e.small a l (ap (λ (b : Bool). cond b e.small e.big) feeds))) tell
+pending_fed f pending j x a h l feeds tell p = move_step f (tell_fed f j x) pending j x (nth_edge f.edges j).small
+    (target f j x) (comes_by_fed f j x) (fed_moves f j x a l tell) (life_fed f j x a l tell)
+    (fresh_fed f pending j x a h l feeds tell p)
+    (tellings.fed f (told_but f pending) j x h (can_be f pending j x a l tell p) feeds) (apart_fed f j x a l feeds) tell
 
-pending_side : (f : Forest) (pending : ℕ → ℕ → Bool) (j x : ℕ) → AreEntries f → IsToldBut f pending → j < length f.edges
+pub side_moves : (f : Forest) (j x : ℕ) → to_tell f j x ≡ true → Moves f (tell_side f j x) (nth_edge f.edges j).big x
+side_moves f j x tell = moves_side f j x (missing_at f.knots (nth_edge f.edges j).big x - 1)
+    (knot_within f.knots (nth_edge f.edges j).big x
+    (left_is (has_entry f.knots (nth_edge f.edges j).big x) (of_life f j x) tell))
+
+pub life_side : (f : Forest) (j x : ℕ) → AreEntries f → to_tell f j x ≡ true
+    → lives (tell_side f j x).knots (nth_edge f.edges j).big x
+    ≡ (lives f.knots (nth_edge f.edges j).big x || comes_by_side f j x)
+life_side f j x a tell =
+    let k = (nth_edge f.edges j).big in
+    let m = missing_at f.knots k x in
+    let entry = left_is (has_entry f.knots k x) (of_life f j x) tell in
+    here_by _ (has_entry f.knots k x) m _ true entry (same_entry f.knots k x (m - 1) k x)
+    (λ now. missing_here f.knots k x (m - 1) (knot_within f.knots k x entry) (count_inside f k x a entry))
+    (λ no. absurd cc)
+
+pub fresh_side : (f : Forest) (pending : ℕ → ℕ → Bool) (j x : ℕ) → AreEntries f → IsToldBut f pending → j < length f.edges
+    → (nth_edge f.edges j).feeds ≡ false → to_tell f j x ≡ true → pending j x ≡ true → comes_by_side f j x ≡ true
+    → lives f.knots (nth_edge f.edges j).big x ≡ false
+fresh_side f pending j x a h l side tell p = fresh_by (has_entry f.knots (nth_edge f.edges j).big x)
+    (missing_at f.knots (nth_edge f.edges j).big x) true
+    (λ now. (steps.side f (told_but f pending) j x h (can_be f pending j x a l tell p) side).unmet)
+
+pub apart_side : (f : Forest) (j x : ℕ) → AreEntries f → j < length f.edges → (nth_edge f.edges j).feeds ≡ false
+    → is_source f (nth_edge f.edges j).big x j x ≡ false
+apart_side f j x a l side = no_source (source_knot f j) (nth_edge f.edges j).big (source_slot f j x) x
+    (apart_by_feeds f j (nth_edge f.edges j).big a l
+    (ap (λ (b : Bool). cond b (nth_edge f.edges j).small (nth_edge f.edges j).big) side))
+
+pub pending_side : (f : Forest) (pending : ℕ → ℕ → Bool) (j x : ℕ) → AreEntries f → IsToldBut f pending
+    → j < length f.edges
     → (nth_edge f.edges j).feeds ≡ false → to_tell f j x ≡ true → pending j x ≡ true
     → IsToldBut (tell_side f j x) (pending_after f pending j x (comes_by_side f j x) (nth_edge f.edges j).big x)
-pending_side f pending j x a h l side tell p =
-    let e = nth_edge f.edges j in
-    let c = can_be f pending j x a l tell p in
-    let can = steps.side f (told_but f pending) j x h c side in
-    let m = missing_at f.knots e.big x in
-    let within = knot_within f.knots e.big x c.entry in
-    move_step f (tell_side f j x) pending j x e.big x (comes_by_side f j x) (moves_side f j x (m - 1) within)
-    (here_by _ (has_entry f.knots e.big x) m _ true c.entry (same_entry f.knots e.big x (m - 1) e.big x)
-    (λ now. missing_here f.knots e.big x (m - 1) within (count_inside f e.big x a c.entry)) (λ no. absurd cc)
-    (λ now. can.unmet))
-    (fresh_by (has_entry f.knots e.big x) m true (λ now. can.unmet))
-    (tellings.side f (told_but f pending) j x h c side)
-    (no_source (source_knot f j) e.big (source_slot f j x) x
-    (apart_by_feeds f j e.big a l (ap (λ (b : Bool). cond b e.small e.big) side))) tell
+pending_side f pending j x a h l side tell p = move_step f (tell_side f j x) pending j x (nth_edge f.edges j).big x
+    (comes_by_side f j x) (side_moves f j x tell) (life_side f j x a tell) (fresh_side f pending j x a h l side tell p)
+    (tellings.side f (told_but f pending) j x h (can_be f pending j x a l tell p) side) (apart_side f j x a l side) tell
 
 -- ---- taken back
 

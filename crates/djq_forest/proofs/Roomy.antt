@@ -13,17 +13,17 @@ use Rattle.djq_forest.specs.Fold.{Fold, IsFoldOf, IsFed, Represents, HasSide, Is
 use Rattle.djq_forest.specs.Fold.{meets_needs, supports_at, entries_from, node_entries, tables_of, reducts_of}
 use Rattle.djq_forest.specs.Room.{IsRoomier, RoomKeeps}
 use Rattle.djq_forest.specs.TreeForest.{TreeForest, IsTreeForest}
-use Rattle.djq_forest.proofs.Alike.{ReadsAlike, roomier_alike, roomier_forest, same_is_need, same_gift}
+use Rattle.djq_forest.proofs.Alike.{EntriesAlike, ReadsAlike, roomier_alike, roomier_forest, same_is_need, same_gift}
 
 -- ---- the fold
 
-needs_alike : (f g : Forest) (k : ℕ) (ns : List ℕ) → ReadsAlike f g → AreAllNeeds f.edges k ns → AreAllNeeds g.edges k ns
+needs_alike : (f g : Forest) (k : ℕ) (ns : List ℕ) → EntriesAlike f g → AreAllNeeds f.edges k ns → AreAllNeeds g.edges k ns
 needs_alike f g k ns r h = record {
   all = λ j l. same_is_need f g j k r ∙ h.all j (let e = r.edges in omega arith);
   below = subst (λ (n : ℕ). AreBelow n ns) (sym r.edges) h.below;
 }
 
-fed_alike : (f g : Forest) (o : Fold) (c e v : ℕ) (columns : List ℕ) → ReadsAlike f g → IsFed f o c e v columns
+fed_alike : (f g : Forest) (o : Fold) (c e v : ℕ) (columns : List ℕ) → EntriesAlike f g → IsFed f o c e v columns
     → IsFed g o c e v columns
 fed_alike f g o c e v columns r h = record {
   edge = let k = r.edges in let l = h.edge in omega arith;
@@ -34,12 +34,12 @@ fed_alike f g o c e v columns r h = record {
   whole = needs_alike f g (knot_of o c) (needs_of o c) r h.whole;
 }
 
-represents_alike : (t : Tree) (f g : Forest) (o : Fold) (j k : ℕ) (ns : List ℕ) → ReadsAlike f g → Represents t f o j k ns
+represents_alike : (t : Tree) (f g : Forest) (o : Fold) (j k : ℕ) (ns : List ℕ) → EntriesAlike f g → Represents t f o j k ns
     → Represents t g o j k ns
 represents_alike t f g o j k ns r h =
     elim h [ inl own ↦ inl own | inr fed ↦ inr (fed.0, fed.1, fed_alike f g o j fed.0 k _ r fed.2) ]
 
-side_alike : (t : Tree) (f g : Forest) (o : Fold) (k a b : ℕ) → ReadsAlike f g → HasSide t f o k a b → HasSide t g o k a b
+side_alike : (t : Tree) (f g : Forest) (o : Fold) (k a b : ℕ) → EntriesAlike f g → HasSide t f o k a b → HasSide t g o k a b
 side_alike t f g o k a b r h = record {
   edge = h.edge;
   within = let e = r.edges in let l = h.within in omega arith;
@@ -55,7 +55,7 @@ side_alike t f g o k a b r h = record {
   needs = h.needs;
 }
 
-one_alike : (t : Tree) (f g : Forest) (o : Fold) (k a b : ℕ) → ReadsAlike f g → IsOne t f o k a b → IsOne t g o k a b
+one_alike : (t : Tree) (f g : Forest) (o : Fold) (k a b : ℕ) → EntriesAlike f g → IsOne t f o k a b → IsOne t g o k a b
 one_alike t f g o k a b r h = record {
   labels = h.labels;
   guard_needs = h.guard_needs;
@@ -65,7 +65,7 @@ one_alike t f g o k a b r h = record {
   needs = h.needs;
 }
 
-pub fold_alike : (t : Tree) (f g : Forest) (o : Fold) → ReadsAlike f g → IsFoldOf t f o → IsFoldOf t g o
+pub fold_alike : (t : Tree) (f g : Forest) (o : Fold) → EntriesAlike f g → IsFoldOf t f o → IsFoldOf t g o
 fold_alike t f g o r h = record {
   long = h.long;
   width = λ k l. r.width (knot_of o k) ∙ h.width k l;
@@ -145,7 +145,7 @@ reducts_alike t f g o more along = ap (λ (ts : List (List TableEntry)). record 
 pub room_keeps : RoomKeeps
 room_keeps = record {
   forest = roomier_forest;
-  fold = λ t f g o more along h. fold_alike t f g o (roomier_alike f g along more) h;
+  fold = λ t f g o more along h. fold_alike t f g o (roomier_alike f g along more).entries h;
   reducts = reducts_alike;
 }
 
@@ -155,7 +155,7 @@ pub sound_still : (x : TreeForest) (g : Forest) → IsRoomier x.forest g → Are
 sound_still x g more along h = record {
   is_tree = h.is_tree;
   forest = roomier_forest x.forest g more along h.forest;
-  fold = fold_alike x.tree x.forest g x.fold (roomier_alike x.forest g h.forest.entries.along more) h.fold;
+  fold = fold_alike x.tree x.forest g x.fold (roomier_alike x.forest g h.forest.entries.along more).entries h.fold;
 }
 
 -- the knot with a leaf's number is a leaf

@@ -12,6 +12,7 @@ pub mod Invariants
 pub mod Telling
 pub mod Steps
 pub mod Pending
+pub mod Rising
 pub mod Reducts
 pub mod Fold
 pub mod Room

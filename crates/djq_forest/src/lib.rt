@@ -60,6 +60,7 @@ mod ties;
 
 ghost use Rattle.djq_forest.specs.Fold.{ForestsAreReducts};
 ghost use Rattle.djq_forest.specs.Pending.{PendingMoves};
+ghost use Rattle.djq_forest.specs.Rising.{RisingSteps};
 ghost use Rattle.djq_forest.specs.Room.{RoomKeeps};
 ghost use Rattle.djq_forest.specs.Steps.{StepsCanBeTaken};
 ghost use Rattle.djq_forest.specs.Telling.{TellingKeeps};
@@ -99,6 +100,12 @@ pub fn steps_can_be_taken()
 /// what ceased to; without anything pending the forest is whole. It does nothing.
 pub fn pending_moves()
     ensures { PendingMoves }
+{}
+
+/// Steps by which all is propagated that hangs on an entry that came to live, while what is pending besides stays so. It
+/// does nothing.
+pub fn rising_steps()
+    ensures { RisingSteps }
 {}
 
 /// A forest with more room for entries is one over the same tree, and stands for the same reducts. It does nothing.
