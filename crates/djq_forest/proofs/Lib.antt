@@ -18,4 +18,5 @@ pub mod Roomy
 pub mod StepChanges
 pub mod Pendings
 pub mod Rises
+pub mod Climbs
 pub mod Worked

@@ -228,7 +228,7 @@ turned_not : (b : Bool) (ks : List Knot) (k x m : ℕ) → b ≡ false
 turned_not true ks k x m h = absurd cc
 turned_not false ks k x m h = refl
 
-can_be : (f : Forest) (pending : ℕ → ℕ → Bool) (j x : ℕ) → AreEntries f → j < length f.edges → to_tell f j x ≡ true
+pub can_be : (f : Forest) (pending : ℕ → ℕ → Bool) (j x : ℕ) → AreEntries f → j < length f.edges → to_tell f j x ≡ true
     → pending j x ≡ true → CanBeTold f (told_but f pending) j x false
 can_be f pending j x a l tell p =
     let i = left_is (has_entry f.knots (nth_edge f.edges j).big x) (of_life f j x) tell in

@@ -10,7 +10,7 @@ use Rattle.djq_forest.specs.Shape.{AreAlong, lower}
 use Rattle.djq_forest.specs.Invariants.{AreEntries}
 use Rattle.djq_forest.specs.Telling.{to_tell, target, tell_fed, tell_side, with_missing, put_missing, put_list, with_list, relist}
 use Rattle.djq_forest.specs.Pending.{source_knot, source_slot, is_source, told_but, IsToldBut, pending_after, comes_by_fed, comes_by_side}
-use Rattle.djq_forest.specs.Rising.{HasSameEntries, LivesOn, IsDue, IsPendingOf, less_at, less_of, HasTold, HasRisen, RisingSteps}
+use Rattle.djq_forest.specs.Rising.{IsPendingAt, HasSameEntries, LivesOn, IsDue, IsPendingOf, less_at, less_of, HasTold, HasRisen, RisingSteps}
 use Rattle.djq_forest.proofs.Alike.{EntriesAlike, entries_alike, edge_entry}
 use Rattle.djq_forest.proofs.Tellings.{same_part}
 use Rattle.djq_forest.proofs.Pendings.{Moves, moved_knot, moved_slot, of_life, life_there, life_others, life_here, told_same}
@@ -270,7 +270,7 @@ to_tell_by : (f : Forest) (i z : ℕ) → has_entry f.knots (nth_edge f.edges i)
     → to_tell f i z ≡ true
 to_tell_by f i z e l = both_true (has_entry f.knots (nth_edge f.edges i).big z) (of_life f i z) e l
 
-pending_came : (f g : Forest) (pending : ℕ → ℕ → Bool) (j x k y : ℕ) → Moves f g k y
+pub pending_came : (f g : Forest) (pending : ℕ → ℕ → Bool) (j x k y : ℕ) → Moves f g k y
     → lives g.knots k y ≡ (lives f.knots k y || true) → is_source f k y j x ≡ false → IsDue f pending
     → IsToldBut g (pending_after f pending j x true k y) → IsPendingOf g (pending_after f pending j x true k y) k y
 pending_came f g pending j x k y m here apart due told = record {
@@ -393,22 +393,26 @@ at_source f j y i z a l m feeds =
           (same ∙ sym (ap (λ (b : Bool). cond b (nth_edge f.edges j).big (nth_edge f.edges j).small) feeds)))))
     ]
 
+pub pending_at : (f : Forest) (pending : ℕ → ℕ → Bool) (j y : ℕ) → AreEntries f → j < length f.edges
+    → (nth_edge f.edges j).feeds ≡ true → IsPendingOf f pending (nth_edge f.edges j).big y → IsPendingAt f pending j y
+pending_at f pending j y a l feeds h =
+    let entry = left_is (has_entry f.knots (nth_edge f.edges j).big y)
+    (missing_at f.knots (nth_edge f.edges j).big y == 0) h.lives in
+    let life : of_life f j y ≡ true = ap (λ (b : Bool). cond b (lives f.knots (nth_edge f.edges j).big y)
+    (lives f.knots (nth_edge f.edges j).small (target f j y))) feeds ∙ h.lives in
+    let tell = to_tell_by f j y entry life in
+    let own : is_source f (nth_edge f.edges j).big y j y ≡ true = own_source f j y y feeds ∙ eq-eqb y y refl in
+    record { told = h.told; due = h.due; tell = tell; is = h.all j y l own tell }
+
 risen_up : (f g : Forest) (j y : ℕ) → AreEntries f → j < length f.edges → (nth_edge f.edges j).feeds ≡ true
     → HasTold f g j y → HasRisen f g (nth_edge f.edges j).big y
 risen_up f g j y a l feeds told = record {
   same = told.same;
   on = told.on;
-  told = λ pending h.
-      let entry = left_is (has_entry f.knots (nth_edge f.edges j).big y)
-      (missing_at f.knots (nth_edge f.edges j).big y == 0) h.lives in
-      let life : of_life f j y ≡ true = ap (λ (b : Bool). cond b (lives f.knots (nth_edge f.edges j).big y)
-      (lives f.knots (nth_edge f.edges j).small (target f j y))) feeds ∙ h.lives in
-      let tell = to_tell_by f j y entry life in
-      let own : is_source f (nth_edge f.edges j).big y j y ≡ true = own_source f j y y feeds ∙ eq-eqb y y refl in
-      but_same g (less_at pending j y) (less_of f pending (nth_edge f.edges j).big y)
+  told = λ pending h. but_same g (less_at pending j y) (less_of f pending (nth_edge f.edges j).big y)
       (λ i z m. ap (λ (b : Bool). pending i z && not b)
       (at_source f j y i z a l (let e = told.same.edges in omega arith) feeds))
-      (told.told pending (record { told = h.told; due = h.due; tell = tell; is = h.all j y l own tell }));
+      (told.told pending (pending_at f pending j y a l feeds h));
 }
 
 risen_top : (f : Forest) (k y : ℕ) → ((j : ℕ) → j < length f.edges → lower (nth_edge f.edges j) ≡ k → ⊥) → HasRisen f f k y

@@ -1,5 +1,5 @@
 -- What is told of an entry that came to live, and of all that comes to live by it.
-use Rattle.std.specs.Prelude.{◌≡◌, ℕ, ◌<◌, Bool, true, false, not, ◌==◌, ◌&&◌, length}
+use Rattle.std.specs.Prelude.{◌≡◌, ℕ, ◌<◌, ◌≤◌, Bool, true, false, not, ◌==◌, ◌&&◌, List, length, slice_index_or, Option, Some, None}
 use Rattle.djq_forest.specs.Forest.{Forest, nth_knot, nth_edge, has_entry, lives}
 use Rattle.djq_forest.specs.Shape.{lower}
 use Rattle.djq_forest.specs.Invariants.{AreEntries}
@@ -67,6 +67,20 @@ pub record HasRisen (f g : Forest) (k y : ℕ) : Type 0 where
   pub same : HasSameEntries f g
   pub on : LivesOn f g
   pub told : (pending : ℕ → ℕ → Bool) → IsPendingOf f pending k y → IsToldBut g (less_of f pending k y)
+
+-- an entry that came to live is to rise
+abbrev pub MayRise : Forest → ℕ → ℕ → Type 0
+MayRise f k y = (pending : ℕ → ℕ → Bool) × IsPendingOf f pending k y
+
+-- for each knot the edge that leads up from it, if there is one
+pub record AreUps (ups : List (Option ℕ)) (f : Forest) : Type 0 where
+  pub long : length f.knots ≤ length ups
+  pub edge : (k j : ℕ) → slice_index_or ups k None ≡ Some j → (j < length f.edges) × (lower (nth_edge f.edges j) ≡ k)
+  pub none : (k j : ℕ) → slice_index_or ups k None ≡ None → j < length f.edges → lower (nth_edge f.edges j) ≡ k → ⊥
+
+-- once the entry in slot z of the knot h has risen, the one in slot y of the knot k has
+abbrev pub RisesWith : Forest → Forest → ℕ → ℕ → ℕ → ℕ → Type 0
+RisesWith f g k y h z = (e : Forest) → HasRisen g e h z → HasRisen f e k y
 
 -- a step tells all that hangs on it if nothing comes to live by it; else what came to live has to rise; and an entry has
 -- risen once the edge that leads up from its knot has told it, or if there is none

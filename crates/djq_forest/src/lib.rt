@@ -40,7 +40,9 @@
 //!
 //! In the midst of a change some of what lives isn't known everywhere yet: `IsToldSoFar` (`specs/Telling.antt`) defines
 //! lists and counts by the steps that were propagated. Each step preserves it, done or undone; after the last one the
-//! forest is whole again.
+//! forest is whole again. What is still to be propagated is *pending* (`specs/Pending.antt`): a step takes what it
+//! propagates out of that, and adds what is to be propagated of an entry that came to live by it, or ceased to. An entry
+//! has *risen* once nothing that hangs on it is pending any more (`specs/Rising.antt`).
 //!
 //! Inside, entries lie in slots ([`Slots`]): the cells of all one after the other, and a note of twelve bytes for each. A
 //! [`Tie`] has twelve bytes, too: the slot that it leads to, and its neighbours in that one's list. A leaf's entries lie
@@ -49,6 +51,7 @@
 //! Room for an entry is taken before it comes ([`Forest::reserve`]), so that its coming can't fail.
 #![tactic(auto)]
 
+mod climb;
 mod edge;
 mod forest;
 mod index;

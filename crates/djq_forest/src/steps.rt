@@ -65,7 +65,7 @@ fn leave_at(edges: &mut Vec<Edge>, at: usize, slot: u32) -> bool
 }
 
 /// The slot that a slot is tied to by an edge.
-fn to_at(edges: &Vec<Edge>, at: usize, slot: u32) -> u32
+pub(crate) fn to_at(edges: &Vec<Edge>, at: usize, slot: u32) -> u32
     requires within { at < length edges.now.items }
     requires ties { slot < length (nth_edge edges.now.items at).ties }
     ensures { result ≡ tie_of (nth_edge edges.now.items at) slot }
@@ -73,8 +73,16 @@ fn to_at(edges: &Vec<Edge>, at: usize, slot: u32) -> u32
     edges[at].to(slot)
 }
 
+/// Whether an edge feeds its small knot.
+pub(crate) fn feeds_at(edges: &Vec<Edge>, at: usize) -> bool
+    requires { at < length edges.now.items }
+    ensures { result ≡ (nth_edge edges.now.items at).feeds }
+{
+    edges[at].feeds()
+}
+
 /// The small knot of an edge.
-fn small_at(edges: &Vec<Edge>, at: usize) -> usize
+pub(crate) fn small_at(edges: &Vec<Edge>, at: usize) -> usize
     requires { at < length edges.now.items }
     ensures { result ≡ (nth_edge edges.now.items at).small }
 {
