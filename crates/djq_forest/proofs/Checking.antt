@@ -1,5 +1,5 @@
 -- A forest is one where each of its slots passes what can be tested of it.
-use Rattle.std.specs.Prelude.{◌≡◌, ℕ, zero, suc, ◌<◌, ◌≤◌, Bool, true, false, cond, not, ◌==◌, ◌&&◌, ◌||◌, nat_lt}
+use Rattle.std.specs.Prelude.{◌≡◌, ℕ, zero, suc, ◌<◌, ◌≤◌, Bool, true, false, cond, not, ◌==◌, ◌&&◌, ◌||◌, nat_lt, nat_le}
 use Rattle.std.specs.Prelude.{List, [], ◌∷◌, length, Option, None, is_some, slice_index_or}
 use Rattle.std.proofs.Common.{refl, sym, ◌∙◌, ap, subst, arith, inl, inr, eqb-true, eq-eqb}
 use Rattle.std.proofs.lemmas.List.{get_or_past}
@@ -10,7 +10,7 @@ use Rattle.djq_forest.specs.Shape.{upper, lower}
 use Rattle.djq_forest.specs.Invariants.{IsForest, tied_to, unmet}
 use Rattle.djq_forest.proofs.Tuples.{same_is, is_same}
 use Rattle.djq_forest.proofs.TieChanges.{member_not}
-use Rattle.std.proofs.lemmas.Bool.{cases_eq, cases_lt, ltb-true, ne_eqb}
+use Rattle.std.proofs.lemmas.Bool.{cases_eq, cases_lt, ltb-true, leb-true, ne_eqb}
 use Rattle.djq_hypergraph.specs.Hypergraph.{member}
 use Rattle.djq_forest.specs.Forest.{Knot, Edge, Forest, nth_knot, nth_edge, has_entry}
 use Rattle.djq_forest.specs.Forest.{missing_at, tie_of, list_of}
@@ -154,8 +154,8 @@ lists_right f j = all_below (length (nth_edge f.edges j).lists)
 pub at_lists : (f : Forest)
     → ((j x : ℕ) → j < length f.edges → has_entry f.knots (nth_edge f.edges j).big x ≡ true
     → has_entry f.knots (nth_edge f.edges j).small (tie_of (nth_edge f.edges j) x) ≡ true)
-    → ((j : ℕ) → j < length f.edges → length (nth_edge f.edges j).lists
-    ≡ length (nth_knot f.knots (nth_edge f.edges j).small).tuples)
+    → ((j : ℕ) → j < length f.edges → length (nth_knot f.knots (nth_edge f.edges j).small).tuples
+    ≤ length (nth_edge f.edges j).lists)
     → all_below (length f.edges) (lists_below f) ≡ true → all_below (length f.edges) (lists_right f) ≡ true
     → (j x y : ℕ) → j < length f.edges → member x (list_of (nth_edge f.edges j) y)
     ≡ is_to_list f.knots (nth_edge f.edges j) x y
@@ -230,10 +230,10 @@ pub record Passes (f : Forest) : Type 0 where
   pub counts : all_below (length f.knots) (λ k. length (nth_knot f.knots k).missing == length (nth_knot f.knots k).tuples) ≡ true
   pub holds : all_below (length f.knots) (λ k. length (nth_knot f.knots k).refs == length (nth_knot f.knots k).tuples) ≡ true
   pub marks : all_below (length f.knots) (λ k. length (nth_knot f.knots k).marks == length (nth_knot f.knots k).tuples) ≡ true
-  pub ties : all_below (length f.edges) (λ j. length (nth_edge f.edges j).ties
-      == length (nth_knot f.knots (nth_edge f.edges j).big).tuples) ≡ true
-  pub lists : all_below (length f.edges) (λ j. length (nth_edge f.edges j).lists
-      == length (nth_knot f.knots (nth_edge f.edges j).small).tuples) ≡ true
+  pub ties : all_below (length f.edges) (λ j. nat_le (length (nth_knot f.knots (nth_edge f.edges j).big).tuples)
+      (length (nth_edge f.edges j).ties)) ≡ true
+  pub lists : all_below (length f.edges) (λ j. nat_le (length (nth_knot f.knots (nth_edge f.edges j).small).tuples)
+      (length (nth_edge f.edges j).lists)) ≡ true
   pub wide : each_entry f (λ k x. length (entry_tuple f.knots k x) == (nth_knot f.knots k).width) ≡ true
   pub differ : each_entry f (is_alone f) ≡ true
   pub tied : each_tie f (λ j x. has_entry f.knots (nth_edge f.edges j).small (tie_of (nth_edge f.edges j) x)) ≡ true
@@ -270,9 +270,9 @@ apart_at f p j y l =
 pub forest_by : (f : Forest) → Passes f → IsForest f
 forest_by f p =
     let tied = at_ties f (λ j x. has_entry f.knots (nth_edge f.edges j).small (tie_of (nth_edge f.edges j) x)) p.tied in
-    let long = λ (j : ℕ) (l : j < length f.edges). eqb-true (length (nth_edge f.edges j).lists) _
-    (at_edges f.edges (λ j. length (nth_edge f.edges j).lists
-    == length (nth_knot f.knots (nth_edge f.edges j).small).tuples) p.lists j l) in
+    let long = λ (j : ℕ) (l : j < length f.edges). leb-true (length (nth_knot f.knots (nth_edge f.edges j).small).tuples) _
+    (at_edges f.edges (λ j. nat_le (length (nth_knot f.knots (nth_edge f.edges j).small).tuples)
+    (length (nth_edge f.edges j).lists)) p.lists j l) in
     record {
       entries = record {
         shape = record {
@@ -298,8 +298,8 @@ forest_by f p =
           marks = λ k. past_knot f.knots k (λ n. length n.marks) (λ n. length n.tuples)
               (λ l. eqb-true _ _ (all_passed (length f.knots) (λ k. length (nth_knot f.knots k).marks
               == length (nth_knot f.knots k).tuples) p.marks k l)) refl;
-          ties = λ j l. eqb-true _ _ (at_edges f.edges (λ j. length (nth_edge f.edges j).ties
-              == length (nth_knot f.knots (nth_edge f.edges j).big).tuples) p.ties j l);
+          ties = λ j l. leb-true _ _ (at_edges f.edges (λ j. nat_le (length (nth_knot f.knots (nth_edge f.edges j).big).tuples)
+              (length (nth_edge f.edges j).ties)) p.ties j l);
           lists = long;
         };
         wide = λ k x i. eqb-true _ _ (at_entries f.knots

@@ -12,4 +12,11 @@ pub mod Tellings
 pub mod SlotChanges
 pub mod IndexChanges
 pub mod Checking
+pub mod Rooms
+pub mod Alike
+pub mod Roomy
+pub mod StepChanges
+pub mod Pendings
+pub mod Rises
+pub mod Climbs
 pub mod Worked

@@ -325,6 +325,7 @@ laws w cells ns s = record {
       let t = taken w cells ns x (ap (λ (o : Option (List ℕ)). is_some o) h) in
       let same : cells_at w cells x ≡ u = let k = sym t.is ∙ h in cc in
       ap (λ (v : List ℕ). length v) (sym same) ∙ wide_at w cells (length ns) x s.long t.within;
+  few = omega (arith, s.few, length-tuples w cells ns);
 }
 
 -- ---- no slots

@@ -1,6 +1,6 @@
 -- What has been told of a forest, and what one more telling, or one that is taken back, leaves of it.
-use Rattle.std.specs.Prelude.{◌≡◌, ◌≢◌, ◌⊎◌, ℕ, zero, suc, ◌+◌, ◌-◌, ◌<◌, ◌≤◌, Bool, true, false, cond, not, ◌==◌, ◌&&◌, ◌||◌}
-use Rattle.std.specs.Prelude.{List, [], ◌∷◌, ◌++◌, length, slice_index, slice_index_or, slice_set, is_some, Option, None}
+use Rattle.std.specs.Prelude.{◌≡◌, ◌≢◌, ℕ, zero, suc, ◌+◌, ◌-◌, ◌<◌, Bool, true, false, cond, not, ◌==◌, ◌&&◌, ◌||◌}
+use Rattle.std.specs.Prelude.{List, [], ◌∷◌, length, slice_index, slice_index_or, is_some, Option, None}
 use Rattle.std.specs.List.{count_by}
 use Rattle.std.proofs.lemmas.List.Sums.{sum_by-cons}
 use Rattle.std.proofs.lemmas.List.{set_past}
@@ -11,16 +11,16 @@ use Rattle.djq_hypergraph.specs.Hypergraph.{member, one}
 use Rattle.djq_tree.specs.Counts.{how_many}
 use Rattle.djq_forest.specs.TieLists.{list_less}
 use Rattle.djq_forest.specs.Forest.{Knot, Edge, Forest, nth_knot, nth_edge, slot_at, has_entry, missing_at, lives, tie_of, list_of}
-use Rattle.djq_forest.specs.Shape.{AreAlong, is_need}
+use Rattle.djq_forest.specs.Shape.{is_need}
 use Rattle.djq_forest.specs.Invariants.{AreEntries, IsForest, gives, is_empty, is_to_list, unmet}
-use Rattle.djq_forest.specs.Telling.{told_gives, lacks, IsToldSoFar, to_tell, also_told, told_less, with_missing, put_missing}
+use Rattle.djq_forest.specs.Telling.{lacks, IsToldSoFar, to_tell, also_told, told_less, with_missing, put_missing}
 use Rattle.djq_forest.specs.Telling.{with_list, put_list, target, relist, tell_fed, untell_fed, tell_side, untell_side, CanBeTold, TellingKeeps}
 use Rattle.djq_forest.proofs.Checking.{slot_within, knot_within}
 use Rattle.djq_forest.proofs.TieChanges.{member_not, not_member}
 
 -- ---- how many of the first numbers pass a test
 
-many_same : (p q : ℕ → Bool) (n : ℕ) → ((i : ℕ) → i < n → p i ≡ q i) → how_many p n ≡ how_many q n
+pub many_same : (p q : ℕ → Bool) (n : ℕ) → ((i : ℕ) → i < n → p i ≡ q i) → how_many p n ≡ how_many q n
 many_same p q zero h = refl
 many_same p q (suc n) h =
     ap₂ (λ (a b : ℕ). a + b) (many_same p q n (λ i l. h i (omega arith))) (ap one (h n (omega arith)))
@@ -42,7 +42,7 @@ many_but_one p q (suc n) j l h =
           omega (arith, rest, last)
     ]
 
-many_some : (p : ℕ → Bool) (n j : ℕ) → j < n → p j ≡ true → 0 < how_many p n
+pub many_some : (p : ℕ → Bool) (n j : ℕ) → j < n → p j ≡ true → 0 < how_many p n
 many_some p zero j l h = absurd (omega arith)
 many_some p (suc n) j l h =
     elim (cases_eq j n) [
@@ -198,16 +198,16 @@ same_slots ks k x m i z =
       | inr past ↦ ap (λ (ls : List Knot). slot_at ls i z) (set_past ks k changed past)
     ]
 
-same_entry : (ks : List Knot) (k x m i z : ℕ) → has_entry (put_missing ks k x m) i z ≡ has_entry ks i z
+pub same_entry : (ks : List Knot) (k x m i z : ℕ) → has_entry (put_missing ks k x m) i z ≡ has_entry ks i z
 same_entry ks k x m i z = ap (λ (o : Option (List ℕ)). is_some o) (same_slots ks k x m i z)
 
-missing_here : (ks : List Knot) (k x m : ℕ) → k < length ks → x < length (nth_knot ks k).missing
+pub missing_here : (ks : List Knot) (k x m : ℕ) → k < length ks → x < length (nth_knot ks k).missing
     → missing_at (put_missing ks k x m) k x ≡ m
 missing_here ks k x m within inside =
     ap (λ (n : Knot). slice_index n.missing x) (get_or-set_same ks k (with_missing (nth_knot ks k) x m) _ within)
     ∙ get_or-set_same (nth_knot ks k).missing x m 0 inside
 
-missing_other : (ks : List Knot) (k x m i z : ℕ) → k < length ks → (i ≡ k → z ≡ x → ⊥)
+pub missing_other : (ks : List Knot) (k x m i z : ℕ) → k < length ks → (i ≡ k → z ≡ x → ⊥)
     → missing_at (put_missing ks k x m) i z ≡ missing_at ks i z
 missing_other ks k x m i z within away =
     let changed = with_missing (nth_knot ks k) x m in
@@ -219,7 +219,7 @@ missing_other ks k x m i z within away =
       | inr other ↦ ap (λ (n : Knot). slice_index n.missing z) (get_or-set_other ks k i changed _ other)
     ]
 
-same_part : {B : Type 0} (g : Edge → B) (es : List Edge) (j y : ℕ) (xs : List ℕ) (i : ℕ)
+pub same_part : {B : Type 0} (g : Edge → B) (es : List Edge) (j y : ℕ) (xs : List ℕ) (i : ℕ)
     → ((e : Edge) → g (with_list e y xs) ≡ g e) → g (nth_edge (put_list es j y xs) i) ≡ g (nth_edge es i)
 same_part g es j y xs i h =
     let changed = with_list (nth_edge es j) y xs in
@@ -252,7 +252,7 @@ list_other es j y xs i z within away =
       | inr other ↦ ap (λ (d : Edge). list_of d z) (get_or-set_other es j i changed _ other)
     ]
 
-turned_entry : (b : Bool) (ks : List Knot) (k x m i z : ℕ) → has_entry (cond b (put_missing ks k x m) ks) i z ≡ has_entry ks i z
+pub turned_entry : (b : Bool) (ks : List Knot) (k x m i z : ℕ) → has_entry (cond b (put_missing ks k x m) ks) i z ≡ has_entry ks i z
 turned_entry true ks k x m i z = same_entry ks k x m i z
 turned_entry false ks k x m i z = refl
 
@@ -362,7 +362,7 @@ turned_counts true ks k x m n was is within inside now on off =
 turned_counts false ks k x m n was is within inside now on off =
     let same = ap one (off refl) in omega (arith, now, same)
 
-turned_other : (turns : Bool) (ks : List Knot) (k x m i z : ℕ) → k < length ks → (i ≡ k → z ≡ x → ⊥)
+pub turned_other : (turns : Bool) (ks : List Knot) (k x m i z : ℕ) → k < length ks → (i ≡ k → z ≡ x → ⊥)
     → missing_at (cond turns (put_missing ks k x m) ks) i z ≡ missing_at ks i z
 turned_other true ks k x m i z within away = missing_other ks k x m i z within away
 turned_other false ks k x m i z within away = refl

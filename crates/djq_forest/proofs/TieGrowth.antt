@@ -120,11 +120,11 @@ tos_more ts n = map-append (λ (t : Tie). t.to) ts (replicate n no_tie)
     map-replicate (suc n) = ap (λ (ns : List ℕ). 0 ∷ ns) (map-replicate n)
 
 pub more_ties_sound : (ts us : List Tie) (heads : List (Option ℕ)) (n : ℕ) → TiesAreSound ts heads → n ≤ SLOTS
-    → length ts ≤ n → us ≡ ts ++ replicate (n - length ts) no_tie → TiesAreSound us heads
-more_ties_sound ts us heads n s few more is = rw is
+    → us ≡ ts ++ replicate (n - length ts) no_tie → TiesAreSound us heads
+more_ties_sound ts us heads n s few is = rw is
     (seen (ts ++ replicate (n - length ts) no_tie) heads (lists_in ts heads)
     (more_ties ts (replicate (n - length ts) no_tie) heads s)
-    (omega (arith, few, more, length-append ts (replicate (n - length ts) no_tie), length-replicate (n - length ts) no_tie)))
+    (omega (arith, few, s.few, length-append ts (replicate (n - length ts) no_tie), length-replicate (n - length ts) no_tie)))
 
 pub more_ties_seen : (ts us : List Tie) (heads : List (Option ℕ)) (n : ℕ) → TiesAreSound ts heads
     → us ≡ ts ++ replicate (n - length ts) no_tie → value us heads ≡ with_ties (value ts heads) n

@@ -1,12 +1,11 @@
 -- The worked examples are as they are said to be: each of their slots is looked at.
-use Rattle.std.specs.Prelude.{◌≡◌, ◌⊎◌, ℕ, zero, suc, ◌<◌, Bool, true, false, not, ◌==◌, ◌&&◌, nat_lt, List, [], ◌∷◌, length}
-use Rattle.std.proofs.Common.{refl, subst, arith, inl, inr, eqb-true, eq-eqb}
-use Rattle.std.proofs.lemmas.Bool.{ltb-true}
+use Rattle.std.specs.Prelude.{◌≡◌, ◌⊎◌, ℕ, zero, suc, ◌<◌, true, false, List, [], ◌∷◌, length}
+use Rattle.std.proofs.Common.{refl, subst, arith, inl, inr}
 use Rattle.djq_arena.specs.Chains.{AreDistinctSlots, IsOut, AreBelow}
 use Rattle.djq_forest.specs.Tuple.{same_tuple, projection, variable_column, label_columns}
-use Rattle.djq_forest.specs.Forest.{nth_knot, nth_edge, entry_tuple, has_entry, missing_at, refs_at, tie_of, list_of}
-use Rattle.djq_forest.specs.Shape.{IsShape, AreAlong, upper, lower, is_need}
-use Rattle.djq_forest.specs.Invariants.{IsForest, unmet, tied_to}
+use Rattle.djq_forest.specs.Forest.{nth_knot, nth_edge}
+use Rattle.djq_forest.specs.Shape.{is_need}
+use Rattle.djq_forest.specs.Invariants.{IsForest}
 use Rattle.djq_forest.specs.Fold.{IsFoldOf, IsTrimFold, AreAllNeeds, HasSide, IsOne, knot_of, needs_of, reducts_of}
 use Rattle.djq_tree.specs.declared.node.Node.TheVariants.{Leaf, Trim, Meet}
 use Rattle.djq_tree.specs.Labels.{label_at}
@@ -15,8 +14,7 @@ use Rattle.djq_hypergraph.specs.Hypergraph.{member}
 use Rattle.djq_forest.specs.Worked.{join_forest, join_knots, join_edges, join_fold, join_tree, join_tables}
 use Rattle.djq_forest.specs.Worked.{cover_forest, cover_knots, cover_edges, cover_fold, cover_tree, cover_tables}
 use Rattle.djq_forest.specs.Worked.{JoinIsWorked, CoverIsWorked}
-use Rattle.djq_forest.proofs.Checking.{forest_by, agree, agreed, all_below, all_passed, given, at_entries, at_edges, at_ties, at_lists, implied, slot_within}
-use Rattle.djq_forest.proofs.Tuples.{same_is, is_same}
+use Rattle.djq_forest.proofs.Checking.{forest_by, agree, agreed, all_below, all_passed, at_edges}
 
 join_reducts : (reducts_of join_tree join_forest join_fold).tables ≡ join_tables
 join_reducts = refl
@@ -72,6 +70,14 @@ leaves (suc (suc zero)) a l h = absurd cc
 leaves (suc (suc (suc zero))) a l h = absurd cc
 leaves (suc (suc (suc (suc zero)))) a l h = absurd cc
 leaves (suc (suc (suc (suc (suc k))))) a l h = absurd (omega arith)
+
+leaf_knots : (k a : ℕ) → k < 5 → node_at join_tree.nodes k ≡ Leaf a → (nth_knot join_knots (knot_of join_fold k)).leaf ≡ true
+leaf_knots zero a l h = refl
+leaf_knots (suc zero) a l h = refl
+leaf_knots (suc (suc zero)) a l h = absurd cc
+leaf_knots (suc (suc (suc zero))) a l h = absurd cc
+leaf_knots (suc (suc (suc (suc zero)))) a l h = absurd cc
+leaf_knots (suc (suc (suc (suc (suc k))))) a l h = absurd (omega arith)
 
 trims : (k c : ℕ) → k < 5 → node_at join_tree.nodes k ≡ Trim c → IsTrimFold join_tree join_forest join_fold k c
 unfolding label_columns variable_column
@@ -140,7 +146,7 @@ widths (suc (suc (suc (suc zero)))) l = refl
 widths (suc (suc (suc (suc (suc k))))) l = absurd (omega arith)
 
 join_folded : IsFoldOf join_tree join_forest join_fold
-join_folded = record { long = refl; width = widths; leaf = leaves; trim = trims; meet = meets }
+join_folded = record { long = refl; width = widths; leaf = leaves; leaf_knot = leaf_knots; trim = trims; meet = meets }
 
 pub join_worked : JoinIsWorked
 join_worked = record { forest = join_is_forest; folded = join_folded; reducts = join_reducts }
@@ -201,6 +207,14 @@ cover_leaves (suc (suc zero)) a l h = absurd cc
 cover_leaves (suc (suc (suc zero))) a l h = absurd cc
 cover_leaves (suc (suc (suc (suc k)))) a l h = absurd (omega arith)
 
+cover_leaf_knots : (k a : ℕ) → k < 4 → node_at cover_tree.nodes k ≡ Leaf a
+    → (nth_knot cover_knots (knot_of cover_fold k)).leaf ≡ true
+cover_leaf_knots zero a l h = refl
+cover_leaf_knots (suc zero) a l h = refl
+cover_leaf_knots (suc (suc zero)) a l h = absurd cc
+cover_leaf_knots (suc (suc (suc zero))) a l h = absurd cc
+cover_leaf_knots (suc (suc (suc (suc k)))) a l h = absurd (omega arith)
+
 cover_trims : (k c : ℕ) → k < 4 → node_at cover_tree.nodes k ≡ Trim c → IsTrimFold cover_tree cover_forest cover_fold k c
 unfolding label_columns variable_column
 cover_trims zero c l h = absurd cc
@@ -256,7 +270,7 @@ cover_widths (suc (suc (suc zero))) l = refl
 cover_widths (suc (suc (suc (suc k)))) l = absurd (omega arith)
 
 cover_folded : IsFoldOf cover_tree cover_forest cover_fold
-cover_folded = record { long = refl; width = cover_widths; leaf = cover_leaves; trim = cover_trims; meet = cover_meets }
+cover_folded = record { long = refl; width = cover_widths; leaf = cover_leaves; leaf_knot = cover_leaf_knots; trim = cover_trims; meet = cover_meets }
 
 cover_reducts : (reducts_of cover_tree cover_forest cover_fold).tables ≡ cover_tables
 cover_reducts = refl

@@ -76,6 +76,8 @@ pub record IsFoldOf (t : Tree) (f : Forest) (o : Fold) : Type 0 where
   pub long : length o.knots ≡ length t.nodes
   pub width : (k : ℕ) → k < length t.nodes → (nth_knot f.knots (knot_of o k)).width ≡ length (label_at t.labels k)
   pub leaf : (k a : ℕ) → k < length t.nodes → node_at t.nodes k ≡ Leaf a → (knot_of o k ≡ k) × (needs_of o k ≡ [])
+  pub leaf_knot : (k a : ℕ) → k < length t.nodes → node_at t.nodes k ≡ Leaf a
+      → (nth_knot f.knots (knot_of o k)).leaf ≡ true
   pub trim : (k c : ℕ) → k < length t.nodes → node_at t.nodes k ≡ Trim c → IsTrimFold t f o k c
   pub meet : (k g s : ℕ) → k < length t.nodes → node_at t.nodes k ≡ Meet g s
       → HasSide t f o k g s ⊎ IsOne t f o k g s

@@ -28,6 +28,13 @@ HasFreeSlot ts = (x : ℕ) × IsFreeSlot ts x
 abbrev pub AreAllTaken : List (Option (List ℕ)) → Type 0
 AreAllTaken ts = (x : ℕ) → x < length ts → tuple_in_slot ts x ≢ None
 
+-- so many slots are to be there for one to be free: all that there are, if one is, else more
+pub record IsWanted (ts : List (Option (List ℕ))) (count : ℕ) : Type 0 where
+  pub room : count ≡ length ts → HasFreeSlot ts
+  pub full : count ≢ length ts → AreAllTaken ts
+  pub more : length ts ≤ count
+  pub few : count ≤ SLOTS
+
 -- the bucket, of m, into which slot x falls by the tuple in it
 abbrev pub key_bucket : ℕ → List (Option (List ℕ)) → ℕ → ℕ
 key_bucket m ts x = class m (tuple_cells (tuple_in_slot ts x))

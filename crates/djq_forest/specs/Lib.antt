@@ -5,9 +5,16 @@ pub mod SlotEntries
 pub mod Slots
 pub mod Forest
 pub mod Index
+pub mod KnotSlots
+pub mod EdgeTies
 pub mod Shape
 pub mod Invariants
 pub mod Telling
+pub mod Steps
+pub mod Pending
+pub mod Rising
 pub mod Reducts
 pub mod Fold
+pub mod Room
+pub mod TreeForest
 pub mod Worked

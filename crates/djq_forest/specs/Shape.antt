@@ -1,5 +1,5 @@
 -- How knots and edges hang together: as a tree, whose edges lead from a knot up to the one that rests on it.
-use Rattle.std.specs.Prelude.{◌≡◌, ℕ, ◌<◌, Bool, false, cond, ◌==◌, List, length}
+use Rattle.std.specs.Prelude.{◌≡◌, ℕ, ◌<◌, ◌≤◌, Bool, false, cond, ◌==◌, List, length}
 use Rattle.djq_forest.specs.Forest.{Knot, Edge, nth_knot, nth_edge}
 
 -- the knot that rests on the other one: the one that is fed, or the one that has a side
@@ -26,10 +26,11 @@ pub record IsShape (ks : List Knot) (es : List Edge) : Type 0 where
   -- the small one has a column for each that the edge takes
   pub columns : (j : ℕ) → j < length es → length (nth_edge es j).columns ≡ (nth_knot ks (nth_edge es j).small).width
 
--- arrays that go side by side are equally long
+-- a knot's arrays are equally long, and those of an edge have a place for each slot of its knots: they grow first, and
+-- may be longer if memory ran out before a knot grew
 pub record AreAlong (ks : List Knot) (es : List Edge) : Type 0 where
   pub missing : (k : ℕ) → length (nth_knot ks k).missing ≡ length (nth_knot ks k).tuples
   pub refs : (k : ℕ) → length (nth_knot ks k).refs ≡ length (nth_knot ks k).tuples
   pub marks : (k : ℕ) → length (nth_knot ks k).marks ≡ length (nth_knot ks k).tuples
-  pub ties : (j : ℕ) → j < length es → length (nth_edge es j).ties ≡ length (nth_knot ks (nth_edge es j).big).tuples
-  pub lists : (j : ℕ) → j < length es → length (nth_edge es j).lists ≡ length (nth_knot ks (nth_edge es j).small).tuples
+  pub ties : (j : ℕ) → j < length es → length (nth_knot ks (nth_edge es j).big).tuples ≤ length (nth_edge es j).ties
+  pub lists : (j : ℕ) → j < length es → length (nth_knot ks (nth_edge es j).small).tuples ≤ length (nth_edge es j).lists

@@ -1,6 +1,7 @@
 -- The entries of a knot in their slots.
-use Rattle.std.specs.Prelude.{◌≡◌, ℕ, ◌-◌, List, ◌++◌, length, replicate, slice_index_or}
+use Rattle.std.specs.Prelude.{◌≡◌, ℕ, ◌-◌, ◌≤◌, List, ◌++◌, length, replicate, slice_index_or}
 use Rattle.std.specs.Prelude.{slice_set, Option, Some, None, is_some, true}
+use Rattle.djq_arena.specs.declared.link.TheConstants.{SLOTS}
 use Rattle.djq_forest.specs.declared.slots.TheConstants.{OUT}
 
 -- how many cells a tuple has; for each slot the tuple of the entry in it, if there is one; and for each slot how many of
@@ -90,9 +91,10 @@ marked_by s x mark = record {
   marks = slice_set s.marks x mark;
 }
 
--- what holds of all slots: each has its numbers, and its tuple the width
+-- what holds of all slots: each has its numbers, and its tuple the width; no slot's number is too high
 pub record AreSlotEntries (s : SlotEntries) : Type 0 where
   pub missing : length s.missing ≡ length s.tuples
   pub refs : length s.refs ≡ length s.tuples
   pub marks : length s.marks ≡ length s.tuples
   pub wide : (x : ℕ) (u : List ℕ) → tuple_of_slot s x ≡ Some u → length u ≡ s.width
+  pub few : length s.tuples ≤ SLOTS

@@ -39,11 +39,11 @@ put_in_front t x = relisted t x (x ∷ list_at t (tie_at t x))
 abbrev pub taken_out : TieLists → ℕ → TieLists
 taken_out t x = relisted t x (list_less x (list_at t (tie_at t x)))
 
--- so many slots on the big knot's side, the new ones tied to slot 0
+-- so many slots at least on the big knot's side, the new ones tied to slot 0
 abbrev pub with_ties : TieLists → ℕ → TieLists
 with_ties t n = record { ties = t.ties ++ replicate (n - length t.ties) 0; lists = t.lists }
 
--- so many slots on the small knot's side, the new ones with empty lists
+-- so many slots at least on the small knot's side, the new ones with empty lists
 abbrev pub with_lists : TieLists → ℕ → TieLists
 with_lists t n = record { ties = t.ties; lists = t.lists ++ replicate (n - length t.lists) [] }
 

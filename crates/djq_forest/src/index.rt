@@ -3,7 +3,7 @@ ghost use Rattle.std.specs.Prelude.{IsTrue, false, Some, None, IfOk, OnErr, Matc
 ghost use Rattle.djq_arena.specs.Buckets.{link_at, StandsInChain, IsBehind, IsUnlisted};
 ghost use Rattle.djq_arena.specs.Store.{class, hash};
 ghost use Rattle.djq_arena.specs.declared.link.TheConstants.{SLOTS};
-ghost use Rattle.djq_forest.specs.Index.{HasNoEntry, IsFreeSlot, HasFreeSlot, AreAllTaken, IsIndexOf, AreListed};
+ghost use Rattle.djq_forest.specs.Index.{HasNoEntry, IsFreeSlot, HasFreeSlot, AreAllTaken, IsIndexOf, AreListed, IsWanted};
 ghost use Rattle.djq_forest.specs.Index.{key_bucket, first_free, free_after, used_after};
 ghost use Rattle.djq_forest.specs.SlotEntries.{tuple_of_slot, IsTaken, with_slots, with_entry, with_free};
 ghost use Rattle.djq_forest.specs.declared.slots.TheConstants.{OUT};
@@ -138,7 +138,7 @@ fn take_free(links: &Vec<Link>, free: &mut Link, used: &mut u32) -> u32
 }
 
 /// An eighth more slots than so many, and a few, if there can be so many.
-fn longer(len: usize) -> Result<usize, AllocError>
+pub(crate) fn longer(len: usize) -> Result<usize, AllocError>
     requires { len ≤ SLOTS }
     ensures { IfOk result (λ count. (len < count) × (count ≤ SLOTS)) }
 {
@@ -278,33 +278,32 @@ impl Index {
         Ok(())
     }
 
-    /// Makes an eighth more slots, and a few. It fails only out of memory, or if there
-    /// can't be so many, and then no slot has changed.
-    fn add_slots(&mut self, slots: &mut Slots) -> Result<(), AllocError>
-        requires { IsIndexOf self.old slots.old.tuples }
-        ensures index { IsIndexOf self.new slots.new.tuples }
-        ensures room { IfOk result (λ _. HasFreeSlot slots.new.tuples) }
-        ensures grown { slots.new ≡ with_slots slots.old (length slots.new.tuples) }
-        ensures refused { OnErr result (slots.new ≡ slots.old) }
-    {
-        let count = longer(slots.len())?;
-        resize_links(&mut self.links, count)?;
-        slots.grow(count)
-    }
-
-    /// Makes sure that a slot is free: it may make more slots. It fails only out of memory, or if there can't be more, and
-    /// then no slot has changed.
-    pub fn reserve(&mut self, alloc: Global, slots: &mut Slots) -> Result<(), AllocError>
-        requires { IsIndexOf self.old slots.old.tuples }
-        ensures index { IsIndexOf self.new slots.new.tuples }
-        ensures room { IfOk result (λ _. HasFreeSlot slots.new.tuples) }
-        ensures grown { slots.new ≡ with_slots slots.old (length slots.new.tuples) }
-        ensures refused { OnErr result (slots.new ≡ slots.old) }
+    /// How many slots there are to be for one to be free: as many as there are if one is, else an eighth more, and a few.
+    /// It fails only if there can't be so many.
+    pub fn wanted(&self, slots: &Slots) -> Result<usize, AllocError>
+        requires { IsIndexOf self.now slots.now.tuples }
+        ensures { IfOk result (λ count. IsWanted slots.now.tuples count) }
     {
         if self.has_free(slots) {
+            return Ok(slots.len());
+        }
+        longer(slots.len())
+    }
+
+    /// Makes as many slots as are wanted. It fails only out of memory, and then no slot has changed.
+    pub fn grow(&mut self, alloc: Global, slots: &mut Slots, count: usize) -> Result<(), AllocError>
+        requires index { IsIndexOf self.old slots.old.tuples }
+        requires wanted { IsWanted slots.old.tuples count }
+        ensures index { IsIndexOf self.new slots.new.tuples }
+        ensures room { IfOk result (λ _. HasFreeSlot slots.new.tuples) }
+        ensures grown { IfOk result (λ _. slots.new ≡ with_slots slots.old count) }
+        ensures refused { OnErr result (slots.new ≡ slots.old) }
+    {
+        if count == slots.len() {
             return Ok(());
         }
         self.add_buckets(alloc, slots)?;
-        self.add_slots(slots)
+        resize_links(&mut self.links, count)?;
+        slots.grow(count)
     }
 }

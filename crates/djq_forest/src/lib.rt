@@ -40,24 +40,39 @@
 //!
 //! In the midst of a change some of what lives isn't known everywhere yet: `IsToldSoFar` (`specs/Telling.antt`) defines
 //! lists and counts by the steps that were propagated. Each step preserves it, done or undone; after the last one the
-//! forest is whole again.
+//! forest is whole again. What is still to be propagated is *pending* (`specs/Pending.antt`): a step takes what it
+//! propagates out of that, and adds what is to be propagated of an entry that came to live by it, or ceased to. An entry
+//! has *risen* once nothing that hangs on it is pending any more (`specs/Rising.antt`).
 //!
 //! Inside, entries lie in slots ([`Slots`]): the cells of all one after the other, and a note of twelve bytes for each. A
 //! [`Tie`] has twelve bytes, too: the slot that it leads to, and its neighbours in that one's list. A leaf's entries lie
 //! in their rows' slots; a view's are found by their tuples ([`Index`]), for four bytes a slot and as many a bucket,
 //! and one array links both the slots of a bucket and the free ones. Links are four bytes, slots of arrays, no pointers.
-//! Room for an entry is taken before it comes ([`Index::reserve`]), so that its coming can't fail.
+//! Room for an entry is taken before it comes ([`Forest::reserve`]), so that its coming can't fail.
 #![tactic(auto)]
 
+mod climb;
+mod edge;
+mod forest;
 mod index;
+mod knot;
+mod room;
 mod slots;
+mod steps;
 mod ties;
 
 ghost use Rattle.djq_forest.specs.Fold.{ForestsAreReducts};
+ghost use Rattle.djq_forest.specs.Pending.{PendingMoves};
+ghost use Rattle.djq_forest.specs.Rising.{RisingSteps};
+ghost use Rattle.djq_forest.specs.Room.{RoomKeeps};
+ghost use Rattle.djq_forest.specs.Steps.{StepsCanBeTaken};
 ghost use Rattle.djq_forest.specs.Telling.{TellingKeeps};
 ghost use Rattle.djq_forest.specs.Worked.{JoinIsWorked, CoverIsWorked};
 
+pub use edge::Edge;
+pub use forest::{Forest, Needs};
 pub use index::Index;
+pub use knot::Knot;
 pub use slots::{Note, OUT, Slots};
 pub use ties::{Tie, Ties};
 
@@ -77,4 +92,26 @@ pub fn forests_are_reducts()
 /// which some were. It does nothing.
 pub fn telling_keeps()
     ensures { TellingKeeps }
+{}
+
+/// What is to be propagated next meets the conditions of the step that does it. It does nothing.
+pub fn steps_can_be_taken()
+    ensures { StepsCanBeTaken }
+{}
+
+/// While entries come to live, or cease to, what a step propagates is pending no more, and what came to live by it is, or
+/// what ceased to; without anything pending the forest is whole. It does nothing.
+pub fn pending_moves()
+    ensures { PendingMoves }
+{}
+
+/// Steps by which all is propagated that hangs on an entry that came to live, while what is pending besides stays so. It
+/// does nothing.
+pub fn rising_steps()
+    ensures { RisingSteps }
+{}
+
+/// A forest with more room for entries is one over the same tree, and stands for the same reducts. It does nothing.
+pub fn room_keeps()
+    ensures { RoomKeeps }
 {}

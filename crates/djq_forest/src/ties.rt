@@ -90,12 +90,14 @@ fn set_to(ties: &mut Vec<Tie>, slot: u32, to: u32)
     ties[slot as usize].to = to;
 }
 
-/// Makes so many ties, the new ones to slot 0 and in no list.
+/// Makes so many ties at least, the new ones to slot 0 and in no list.
 fn resize_ties(ties: &mut Vec<Tie>, slots: usize) -> Result<(), AllocError>
-    requires { length ties.old.items ≤ slots }
     ensures more { IfOk result (λ _. ties.new.items ≡ ties.old.items ++ replicate (slots - length ties.old.items) no_tie) }
     ensures refused { OnErr result (ties.new.items ≡ ties.old.items) }
 {
+    if slots <= ties.len() {
+        return Ok(());
+    }
     let beside = Pair {
         prev: Link::none(),
         next: Link::none(),
@@ -103,12 +105,14 @@ fn resize_ties(ties: &mut Vec<Tie>, slots: usize) -> Result<(), AllocError>
     ties.resize(slots, Tie { to: 0, beside })
 }
 
-/// Makes so many heads, the new ones of empty lists.
+/// Makes so many heads at least, the new ones of empty lists.
 fn resize_heads(heads: &mut Vec<Link>, slots: usize) -> Result<(), AllocError>
-    requires { length heads.old.items ≤ slots }
     ensures more { IfOk result (λ _. heads.new.items ≡ heads.old.items ++ replicate (slots - length heads.old.items) None) }
     ensures refused { OnErr result (heads.new.items ≡ heads.old.items) }
 {
+    if slots <= heads.len() {
+        return Ok(());
+    }
     heads.resize(slots, Link::none())
 }
 
@@ -130,20 +134,18 @@ impl Ties {
         let _ = &self.ties;
     }
 
-    /// Makes so many slots on the big knot's side. It fails only out of memory, and then all stays as it was.
+    /// Makes so many slots at least on the big knot's side. It fails only out of memory, and then all stays as it was.
     pub fn grow_ties(&mut self, slots: usize) -> Result<(), AllocError>
-        requires few { slots ≤ SLOTS }
-        requires more { length self.old.ties ≤ slots }
+        requires { slots ≤ SLOTS }
         ensures grown { IfOk result (λ _. self.new ≡ with_ties self.old slots) }
         ensures refused { OnErr result (self.new ≡ self.old) }
     {
         resize_ties(&mut self.ties, slots)
     }
 
-    /// Makes so many slots on the small knot's side, with empty lists. It fails only out of memory, and then all stays
-    /// as it was.
+    /// Makes so many slots at least on the small knot's side, the new ones with empty lists. It fails only out of memory,
+    /// and then all stays as it was.
     pub fn grow_lists(&mut self, slots: usize) -> Result<(), AllocError>
-        requires { length self.old.lists ≤ slots }
         ensures grown { IfOk result (λ _. self.new ≡ with_lists self.old slots) }
         ensures refused { OnErr result (self.new ≡ self.old) }
     {

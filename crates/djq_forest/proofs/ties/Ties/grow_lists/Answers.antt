@@ -3,12 +3,8 @@ use Rattle.std.proofs.Common.{ℕ, List, Option, sym, subst}
 use Rattle.std.proofs.lemmas.Result.{IfOk-weaker, on_err_weaker}
 use Rattle.djq_arena.proofs.Slots.{either}
 use Rattle.djq_forest.specs.Ties.{TiesAreSound}
-use Rattle.djq_forest.proofs.TieChanges.{length-lists}
 use Rattle.djq_forest.proofs.TieGrowth.{more_lists_sound, more_lists_seen, same_heads_seen}
 use Rattle.djq_forest.proofs.ties.Ties.grow_lists.Goals as goal
-
-pub resize_heads-requires : goal.resize_heads-requires
-resize_heads-requires c = rw (← c.self.view_is, length-lists) at c.requires
 
 pub invariant_of-self : goal.invariant_of-self
 invariant_of-self c =

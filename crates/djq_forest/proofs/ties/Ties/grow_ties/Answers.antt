@@ -4,12 +4,8 @@ use Rattle.std.proofs.lemmas.Result.{IfOk-weaker, on_err_weaker}
 use Rattle.djq_arena.proofs.Slots.{either}
 use Rattle.djq_forest.specs.declared.ties.Tie.{Tie}
 use Rattle.djq_forest.specs.Ties.{TiesAreSound}
-use Rattle.djq_forest.proofs.Links.{length-tos}
 use Rattle.djq_forest.proofs.TieGrowth.{more_ties_sound, more_ties_seen, same_ties_seen}
 use Rattle.djq_forest.proofs.ties.Ties.grow_ties.Goals as goal
-
-pub resize_ties-requires : goal.resize_ties-requires
-resize_ties-requires c = rw (← c.self.view_is, length-tos) at c.requires.more
 
 pub invariant_of-self : goal.invariant_of-self
 invariant_of-self c =
@@ -17,8 +13,7 @@ invariant_of-self c =
     let heads = c.self.inside.heads.items in
     either c.resize_ties.result _ _ (TiesAreSound c.resize_ties.new.ties.items heads) c.resize_ties.ensures.more
     c.resize_ties.ensures.refused
-    (λ _ is. more_ties_sound ts c.resize_ties.new.ties.items heads c.args.slots c.self.invariant c.requires.few
-    (rw (← c.self.view_is, length-tos) at c.requires.more) is)
+    (λ _ is. more_ties_sound ts c.resize_ties.new.ties.items heads c.args.slots c.self.invariant c.requires is)
     (λ same. subst (λ (us : List Tie). TiesAreSound us heads) (sym same) c.self.invariant)
 
 pub returns-clause-grown : goal.returns-clause-grown
