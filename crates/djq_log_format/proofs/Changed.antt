@@ -3,13 +3,12 @@ use Rattle.std.proofs.Common.{◌≡◌, ℕ, ◌*◌, ◌/◌, ◌%◌, ◌<◌
 use Rattle.std.proofs.Common.{refl, sym, ap, ap₂, ◌∙◌, arith, length-append, append_assoc, subst}
 use Rattle.std.specs.List.{AllByRecursion}
 use Rattle.std.specs.Int.{from_be_bytes, to_be_bytes, w64}
-use Rattle.djq_disk.proofs.Files.{all_append}
 use Rattle.std.proofs.lemmas.Nat.{from_be_bytes-to_be_bytes_8}
 use Rattle.std.proofs.lemmas.List.{append_cancel_left}
 use Rattle.djq_log_format.specs.Digest.{chained}
 use Rattle.djq_log_format.specs.Format.{IsLogLine, record_body, IsGroup, content_of}
 use Rattle.djq_log_format.specs.Laws.{ChangeIsSeen}
-use Rattle.djq_log_format.proofs.Seen.{byte_seen, chained_small}
+use Rattle.djq_log_format.proofs.Seen.{byte_seen, chained_small, bytes_append}
 use Rattle.djq_log_format.proofs.Once.{head_same, tail_same, parts_same, number_once, length_bytes, digest_bytes, content_parts}
 use Rattle.djq_log_format.proofs.Once.{length_once}
 
@@ -100,7 +99,7 @@ body_bytes [] all = tt
 body_bytes (l ∷ ls) all =
     let high : length l / 256 < 256 = omega (arith, all.0.short) in
     let low : length l % 256 < 256 = omega arith in
-    (high, (low, all_append (λ b. b < 256) l (record_body ls) all.0.are_bytes (body_bytes ls all.1)))
+    (high, (low, bytes_append l (record_body ls) all.0.are_bytes (body_bytes ls all.1)))
 
 -- Where a record stands in which one byte was another, it is the same byte.
 same_byte : (d : ℕ) (lines others : List (List ℕ)) (xs : List ℕ) (y z : ℕ) (ys behind behind' : List ℕ)

@@ -11,7 +11,7 @@ use Rattle.djq_log_format.proofs.Digesting.{digests_in_pieces}
 made : ℕ → Digesting → Measured
 made size digesting = record { size = size; digesting = digesting }
 
-body_next : (lines : List (List ℕ)) (line : List ℕ) → record_body (lines ++ line ∷ []) ≡ record_body lines ++ line_entry line
+pub body_next : (lines : List (List ℕ)) (line : List ℕ) → record_body (lines ++ line ∷ []) ≡ record_body lines ++ line_entry line
 body_next lines line = flat_map-append line_entry lines (line ∷ [])
     ∙ ap (λ (xs : List ℕ). record_body lines ++ xs) (append-nil (line_entry line))
 

@@ -26,11 +26,11 @@ parts_same a b xs ys size e = (
 )
 
 -- a number by its two parts
-by_parts : (a b : ℕ) → a / 256 ≡ b / 256 → a % 256 ≡ b % 256 → a ≡ b
+pub by_parts : (a b : ℕ) → a / 256 ≡ b / 256 → a % 256 ≡ b % 256 → a ≡ b
 by_parts a b high low = sym (div-add-mod a 256) ∙ ap₂ (λ (x y : ℕ). 256 * x + y) high low ∙ div-add-mod b 256
 
 -- two entries that stand at one place are one
-entry_once : (a b xs ys : List ℕ) → line_entry a ++ xs ≡ line_entry b ++ ys → a ≡ b
+pub entry_once : (a b xs ys : List ℕ) → line_entry a ++ xs ≡ line_entry b ++ ys → a ≡ b
 entry_once a b xs ys e =
     let low = tail_same (length a / 256) (length b / 256) (length a % 256 ∷ (a ++ xs)) (length b % 256 ∷ (b ++ ys)) e in
     (parts_same a b xs ys

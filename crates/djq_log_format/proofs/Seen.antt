@@ -7,14 +7,17 @@ use Rattle.std.proofs.lemmas.Nat.{be_bytes_8, mul-mod_first, mod-mul-add}
 use Rattle.std.proofs.lemmas.Bool.{cases_eq}
 use Rattle.std.proofs.lemmas.List.{append_cancel_left, append_cancel_right}
 use Rattle.std.proofs.lemmas.List.Sums.{fold-append}
-use Rattle.djq_disk.proofs.Files.{all_append}
 use Rattle.djq_log_format.specs.Digest.{Digesting, carried, chained, begun, absorbed, finished, words_of, digest_word, ByteIsSeen}
 use Rattle.djq_log_format.proofs.Digesting.{digests_in_pieces, absorbs_full, absorbs_part, ends_none, ends_some, length_zeros}
 
-abbrev IsBytes : List ℕ → Type 0
+abbrev pub IsBytes : List ℕ → Type 0
 IsBytes bytes = AllByRecursion (λ b. b < 256) bytes
 
-byte_at : (bytes : List ℕ) → IsBytes bytes → (i : ℕ) → get_or bytes i 0 < 256
+pub bytes_append : (xs ys : List ℕ) → IsBytes xs → IsBytes ys → IsBytes (xs ++ ys)
+bytes_append [] ys all all' = all'
+bytes_append (x ∷ xs) ys all all' = (all.0, bytes_append xs ys all.1 all')
+
+pub byte_at : (bytes : List ℕ) → IsBytes bytes → (i : ℕ) → get_or bytes i 0 < 256
 byte_at [] all i = omega arith
 byte_at (b ∷ bs) all zero = all.0
 byte_at (b ∷ bs) all (suc i) = byte_at bs all.1 i
@@ -24,12 +27,12 @@ zeros_small zero = tt
 zeros_small (suc n) = (omega arith, zeros_small n)
 
 filled_small : (bytes : List ℕ) → IsBytes bytes → IsBytes (bytes ++ replicate (8 - length bytes) 0)
-filled_small bytes all = all_append (λ b. b < 256) bytes (replicate (8 - length bytes) 0) all (zeros_small (8 - length bytes))
+filled_small bytes all = bytes_append bytes (replicate (8 - length bytes) 0) all (zeros_small (8 - length bytes))
 
 filled_eight : (bytes : List ℕ) → length bytes ≤ 8 → length (bytes ++ replicate (8 - length bytes) 0) ≡ 8
 filled_eight bytes few = omega (arith, length-append bytes (replicate (8 - length bytes) 0), length_zeros (8 - length bytes))
 
-number_small : (bytes : List ℕ) → IsBytes bytes → from_be_bytes w64 bytes < 18446744073709551616
+pub number_small : (bytes : List ℕ) → IsBytes bytes → from_be_bytes w64 bytes < 18446744073709551616
 number_small bytes all = omega (
   arith,
   byte_at bytes all 0,
@@ -113,7 +116,7 @@ longer : (xs : List ℕ) (y : ℕ) → length (xs ++ y ∷ []) ≡ suc (length x
 longer xs y = omega (arith, length-append xs (y ∷ []))
 
 bytes_more : (xs : List ℕ) (y : ℕ) → IsBytes xs → y < 256 → IsBytes (xs ++ y ∷ [])
-bytes_more xs y all small = all_append (λ b. b < 256) xs (y ∷ []) all (small, tt)
+bytes_more xs y all small = bytes_append xs (y ∷ []) all (small, tt)
 
 -- words of pending bytes that differ, carried on from one digest
 words_apart : (d : ℕ) (p q : List ℕ) → length p ≡ length q → length p ≤ 8 → IsBytes p → IsBytes q → (p ≡ q → ⊥)

@@ -3,4 +3,3 @@ pub mod Format
 pub mod Laws
 pub mod Example
 pub mod Encoding
-pub mod Window

@@ -18,11 +18,10 @@
 //! leaves it a multiple of 257: so a reader refuses a wrong length before it goes by it.
 //!
 //! [`Measure`] measures the lines of a group and encodes the head of its record, [`encode_line`] encodes a line,
-//! and [`Digest`] is the digest over pieces. [`decode_length`] reads a stored length. None of them allocates. A
-//! window, which has one buffer of 64 KiB, reads a file of a disk in pieces.
+//! and [`Digest`] is the digest over pieces. [`decode_length`] and [`decode_digest`] read what a head stores. None of them allocates.
 //!
-//! This crate is being built; the program doesn't use it yet. What reads the records is still to come. It is to
-//! replace the format of `djq_journal`.
+//! This crate is being built; the program doesn't use it yet. `djq_log_file` reads and appends the records over a
+//! disk. It is to replace the format of `djq_journal`.
 //!
 //! What it isn't for: it doesn't say what a line means. A digest is no protection against somebody who writes the
 //! log on purpose.
@@ -36,17 +35,15 @@
 mod decoding;
 mod digest;
 mod encoding;
-mod window;
 
 ghost use Rattle.std.specs.Prelude.{ℕ, List};
 ghost use Rattle.djq_log_format.specs.Digest.{DigestsInPieces, ByteIsSeen};
 ghost use Rattle.djq_log_format.specs.Laws.{LogOpensOnce, RecordStandsOnce, CutIsSeen, ChangeIsSeen, OpenGateIsFree};
 ghost use Rattle.djq_log_format.specs.Example.{ExampleIsClosedWhole};
 
-pub use decoding::decode_length;
+pub use decoding::{decode_digest, decode_length};
 pub use digest::Digest;
 pub use encoding::{Measure, encode_line};
-pub use window::Window;
 
 /// A digest over pieces is that of all their bytes.
 pub fn a_digest_is_of_all_bytes()

@@ -1,9 +1,10 @@
 ghost use Rattle.std.specs.Prelude.{◌≡◌, ◌+◌, ◌-◌, ◌≤◌, [], length, drop, true, IfOk};
 ghost use Rattle.djq_disk.specs.History.{WhereHistoryTold};
-ghost use Rattle.djq_disk.specs.DiskFaults.{CountsDiskRead};
-ghost use Rattle.djq_log_format.specs.Window.{LooksAhead, ReachesAhead};
+ghost use Rattle.djq_disk.specs.DiskFaults.{CountsDiskRead, CountsFill};
+ghost use Rattle.djq_disk.specs.Filling.{FillsWithin};
+ghost use Rattle.djq_log_file.specs.Window.{LooksAhead, ReachesAhead, ReadsThrough, FillsPart};
 
-use djq_disk::{Disk, DiskRead};
+use djq_disk::{Disk, DiskRead, Filled};
 use std::alloc::{AllocError, Global};
 use std::marker::Model;
 
@@ -20,7 +21,7 @@ pub struct Window {
 
 impl Model for Window {
     ghost use Rattle.std.specs.Prelude.{◌+◌, ◌<◌, ◌≤◌, length, take};
-    ghost use Rattle.djq_log_format.specs.Window.{FilePart};
+    ghost use Rattle.djq_log_file.specs.Window.{FilePart};
 
     ghost Value = { FilePart };
 
@@ -71,5 +72,29 @@ impl Window {
         ensures { result.now ≡ drop (at - self.now.start) self.now.held }
     {
         &self.bytes[(at - self.start) as usize..self.filled]
+    }
+
+    /// Fills the whole buffer with the bytes of the file from the place on.
+    pub fn fill<D: Disk>(&mut self, disk: &mut D, at: u64, buf: &mut [u8]) -> Filled
+        requires { D.is_open disk.old ≡ true }
+        ensures is_open { D.is_open disk.new ≡ true }
+        ensures told { WhereHistoryTold (D.told disk.old) (D.told disk.new)
+            (ReadsThrough (FillsPart result at buf.new) self.old self.new) }
+        ensures within { FillsWithin result at buf.new }
+        ensures faults { CountsFill result (D.faults disk.old) (D.faults disk.new) }
+    {
+        let mut done = 0;
+        while done < buf.len() {
+            match self.look(disk, at + done as u64) {
+                DiskRead::Got(n) => {
+                    let end = done + n.min(buf.len() - done);
+                    buf[done..end].copy_from_slice(&self.from(at + done as u64)[..end - done]);
+                    done = end;
+                }
+                DiskRead::End => return Filled::Short,
+                DiskRead::Failed => return Filled::Failed,
+            }
+        }
+        Filled::Whole
     }
 }

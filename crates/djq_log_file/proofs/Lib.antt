@@ -1,0 +1,12 @@
+pub mod Through
+pub mod Damages
+pub mod Bodies
+pub mod Heads
+pub mod Reading
+pub mod Opens
+pub mod Parts
+pub mod Laid
+pub mod Lines
+pub mod Appends
+pub mod Ends
+pub mod Keeps

@@ -1,0 +1,9 @@
+pub mod Window
+pub mod Damaged
+pub mod Entries
+pub mod Places
+pub mod Standing
+pub mod Opening
+pub mod Laying
+pub mod Appending
+pub mod Keeping
