@@ -11,3 +11,12 @@ mod Counts
 mod Slotted
 mod Answering
 mod Buffers
+mod Headings
+mod NamedRelations
+mod Grouping
+mod Entries
+mod SoManyCopies
+mod SetCopies
+mod Applying
+mod AppliedRows
+mod SettledLines
