@@ -10,6 +10,7 @@ use Rattle.djq_model.specs.Data.{Bytes, has_row, plain_of, rows_of, copies_among
 use Rattle.djq_answer_laws.proofs.Lists.{first_holds, kept_hold, kept_there, hold_each}
 use Rattle.djq_database.specs.Cells.{HaveCells, cells_of}
 use Rattle.djq_database.specs.Catalog.{Catalog, IsCatalog, counted_at, rows_at}
+use Rattle.djq_protocol.specs.declared.limits.TheConstants.{ROWS}
 use Rattle.djq_transaction.specs.Held.{HeldLine}
 use Rattle.djq_transaction.specs.declared.net.Copies.{Copies}
 use Rattle.djq_transaction.specs.declared.net.Net.{Net}
@@ -23,6 +24,7 @@ use Rattle.djq_transaction.proofs.Headings.{headings_all, row_at}
 use Rattle.djq_transaction.proofs.Entries.{HasLine}
 use Rattle.djq_transaction.proofs.Places.{at_contains, same_copies}
 use Rattle.djq_transaction.proofs.SetCopies.{counted_some}
+use Rattle.djq_transaction.proofs.Room.{all_long, come_before, room_for}
 use Rattle.djq_transaction.proofs.Applying.{copies_stay, row_stays, row_counted, row_left, row_back, came_counted}
 use Rattle.djq_transaction.proofs.Applying.{one_passes, none_passes}
 
@@ -101,6 +103,21 @@ module _ (base : List Relation) (lines : List HeldLine) (net : Net) (now : Catal
         (ap (λ (rs : List Relation). copies_among (counted_of rs l.line.relation) l.line.row) f.here
         ∙ copies_stay base lines l.line base (filter (line_comes base lines) (take place firsts))
         (apart_from (line_comes base lines)) ∙ before_none came)
+
+    -- There is room for it.
+    pub first_room : HasFirst base lines place now net → copies_came copies ≡ true
+        → length (rows_at now.relations at) < ROWS
+    first_room f came =
+        let name = l.line.relation in
+        let its : length (rows_at now.relations at) ≡ length (rows_of now.relations name) =
+        ap (λ (o : Option Relation). length (plain_of (counted_in o))) (sym r.found) in
+        let here : length (rows_of now.relations name) ≡ length (rows_of (fold (with_copies_left base lines) base
+        (filter (line_comes base lines) (take place firsts))) name) =
+        ap (λ (rs : List Relation). length (rows_of rs name)) f.here in
+        let long = all_long base lines base (filter (line_comes base lines) (take place firsts)) name in
+        let fewer = come_before base lines place l.line l.more (before_none came) in
+        let room = room_for base f.judged.before lines f.judged.passed name (omega (arith, fewer)) in
+        omega (arith, its, here, long, fewer, room)
 
     pub first_more : HasFirst base lines place now net → copies_came copies ≡ true → (new : Catalog)
         → SetsCopiesAt now at cells copies.after new.relations → new.texts ≡ now.texts

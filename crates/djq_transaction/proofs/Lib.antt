@@ -20,3 +20,4 @@ mod SetCopies
 mod Applying
 mod AppliedRows
 mod SettledLines
+mod Room

@@ -1,12 +1,12 @@
 -- The copies of the row that cells stand for, set one by one.
-use Rattle.std.specs.Prelude.{ℕ, zero, suc, List, [], ◌∷◌, ◌≡◌, ◌+◌, ◌≤◌, ◌<◌, true, length, Result, Ok, Err}
+use Rattle.std.specs.Prelude.{ℕ, zero, suc, List, [], ◌∷◌, ◌≡◌, ◌+◌, ◌≤◌, ◌<◌, Bool, true, false, length, Result, Ok, Err}
 use Rattle.std.proofs.Common.{refl, sym, ap, ◌∙◌, subst, arith}
 use Rattle.std.proofs.lemmas.List.Elements.{All-weaker}
 use Rattle.djq_model.specs.declared.relation.Relation.{Relation}
 use Rattle.djq_model.specs.declared.relation.CountedRow.{CountedRow}
 use Rattle.djq_model.specs.Data.{Tuple, has_row, plain_of, copies_among, with_copies}
 use Rattle.djq_model.proofs.Copies.{copies_hold}
-use Rattle.djq_protocol.specs.declared.limits.TheConstants.{COPIES}
+use Rattle.djq_protocol.specs.declared.limits.TheConstants.{ROWS, COPIES}
 use Rattle.djq_protocol.specs.declared.answer.AddOutcome.{AddOutcome}
 use Rattle.djq_protocol.specs.declared.answer.AddOutcome.TheVariants.{First, More}
 use Rattle.djq_protocol.specs.declared.answer.DeleteOutcome.{DeleteOutcome}
@@ -16,7 +16,7 @@ use Rattle.djq_database.specs.declared.refusal.RowsRefusal.TheVariants.{NameTake
 use Rattle.djq_database.specs.Cells.{StandFor}
 use Rattle.djq_database.specs.Catalog.{Catalog, IsCatalog, CopiesAreInRange, StandForRow, AreCellsOf, no_relation}
 use Rattle.djq_database.specs.Catalog.{relation_at, counted_at, rows_at, with_rows_at}
-use Rattle.djq_database.specs.Changes.{AddsRowAt, DeletesRowAt}
+use Rattle.djq_database.specs.Changes.{HasNoPlace, AddsRowAt, DeletesRowAt}
 use Rattle.djq_transaction.specs.Lines.{with_so_many}
 use Rattle.djq_transaction.specs.Applied.{HasCopiesAt, SetsCopiesAt}
 use Rattle.djq_transaction.proofs.SoManyCopies.{many_has, many_among, many_again, many_same, many_new, many_there}
@@ -176,6 +176,15 @@ first_one c at cells row new (More n) laws h s a =
     let some = counted_some c at row laws h.below a.0 in
     let none = h.copies row s in
     absurd (omega (arith, some, none))
+
+-- a row that isn't there has its place in a relation that isn't full
+pub no_place : (c : Catalog) (at : ℕ) (cells : List ℕ) (row : Tuple) → HasCopiesAt c at cells 0
+    → StandForRow c at cells row → length (rows_at c.relations at) < ROWS → HasNoPlace c.relations at row → ⊥
+no_place c at cells row h s few none = by (has_row (rows_at c.relations at) row) refl
+  where
+    by : (b : Bool) → has_row (rows_at c.relations at) row ≡ b → ⊥
+    by true e = let many = none.copies e in let zero_copies = h.copies row s in omega (arith, many, zero_copies)
+    by false e = let many = none.rows e in omega (arith, many, few)
 
 -- the row has as many copies as were set
 pub counted_now : (old now : Catalog) (at : ℕ) (cells : List ℕ) (k n : ℕ) → HasCopiesAt old at cells n

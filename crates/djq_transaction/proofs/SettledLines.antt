@@ -24,7 +24,7 @@ abbrev has : List Relation → Bytes → Tuple → Bool
 has relations name row = has_row (rows_of relations name) row
 
 -- where rows of one relation are others: a property of the rows of each
-elsewhere_or_here : (P : List CountedRow → Type 0) (now : List Relation) (n name : Bytes) (rows : List CountedRow)
+pub elsewhere_or_here : (P : List CountedRow → Type 0) (now : List Relation) (n name : Bytes) (rows : List CountedRow)
     → P (counted_of now name) → (n ≡ name → P rows) → P (counted_of (with_rows now n rows) name)
 elsewhere_or_here P now n name rows old new = by (bytes_eq name n) refl
   where
@@ -84,7 +84,7 @@ all_keep base lines now (h ∷ hs) name row some k =
     (All-tail (λ (g : HeldLine). 0 < copies_after base lines g) h hs some)
     (step_keeps base lines now h name row (All-head (λ (g : HeldLine). 0 < copies_after base lines g) h hs some) k)
 
-second_true : (a b : Bool) → (a && b) ≡ true → b ≡ true
+pub second_true : (a b : Bool) → (a && b) ≡ true → b ≡ true
 second_true true b h = h
 second_true false b h = absurd (false≢true h)
 

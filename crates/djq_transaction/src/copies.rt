@@ -1,10 +1,12 @@
 //! The copies of one row of a catalog.
-ghost use Rattle.std.specs.Prelude.{◌≡◌, ◌≤◌, OnOk, OnErr};
+ghost use Rattle.std.specs.Prelude.{◌≡◌, ◌<◌, ◌≤◌, length, OnOk, OnErr};
+ghost use Rattle.djq_database.specs.Catalog.{rows_at};
+ghost use Rattle.djq_protocol.specs.declared.limits.TheConstants.{ROWS};
 ghost use Rattle.djq_transaction.specs.Applied.{HasCopiesAt, SetsCopiesAt};
 
 use crate::net::Copies;
 use djq_counters::Tally;
-use djq_database::{Catalog, RelationId};
+use djq_database::{Catalog, RelationId, RowsRefusal};
 use djq_model::NoMem;
 use std::sync::ledger::Ledger;
 
@@ -65,6 +67,7 @@ pub(crate) fn insert_row<L: Ledger>(
     tally: &mut Tally<L>,
 ) -> Result<(), NoMem>
     requires counted { HasCopiesAt catalog.old id.at cells.now 0 }
+    requires few { length (rows_at catalog.old.relations id.at) < ROWS }
     requires some { 1 ≤ copies }
     ensures set { OnOk result (SetsCopiesAt catalog.old id.at cells.now copies catalog.new.relations) }
     ensures err { OnErr result (catalog.new.relations ≡ catalog.old.relations) }
@@ -73,7 +76,9 @@ pub(crate) fn insert_row<L: Ledger>(
     catalog.laws();
     match catalog.add_row(id, cells, tally) {
         Ok(_first) => {}
-        Err(_refused) => return Err(NoMem),
+        Err(RowsRefusal::NoMem) => return Err(NoMem),
+        Err(RowsRefusal::Full) => unreachable!(),
+        Err(RowsRefusal::NameTaken) => unreachable!(),
     }
     add_copies(catalog, id, cells, 1, copies, tally);
     Ok(())

@@ -2,7 +2,7 @@
 use Rattle.std.proofs.Common.{ℕ, List, ◌∙◌, sym, subst}
 use Rattle.djq_transaction.specs.Applied.{HasCopiesAt, SetsCopiesAt}
 use Rattle.djq_transaction.proofs.Entries.{line_of}
-use Rattle.djq_transaction.proofs.AppliedRows.{first_headings, first_passed, first_counted, first_more}
+use Rattle.djq_transaction.proofs.AppliedRows.{first_headings, first_passed, first_counted, first_room, first_more}
 use Rattle.djq_transaction.proofs.apply.insert_at.Goals as goal
 
 pub row-cells-requires-clause-net : goal.row-cells-requires-clause-net
@@ -28,6 +28,20 @@ insert_row-requires-clause-counted g c =
     subst (λ (us : List ℕ). HasCopiesAt now c.row-cells.result.0.at us 0) (sym c.as_slice.ensures)
     (first_counted base lines net now place c.index.result.now l c.laws.ensures.names c.row-cells.result.0.at
     c.row-cells.result.1 r.0 f (sym c.came.ensures ∙ c.if-not-came.false))
+
+pub insert_row-requires-clause-few : goal.insert_row-requires-clause-few
+insert_row-requires-clause-few g c =
+    let f = c.requires.first.2 in
+    let base = c.requires.first.0 in
+    let lines = c.requires.first.1 in
+    let now = c.args.catalog.now in
+    let net = c.args.net.now in
+    let place = c.args.place in
+    let l = line_of base now.texts net.keys.width lines net place c.index.result.now f.judged.rows c.requires.within
+    c.index.ensures in
+    let r = c.row-cells.ensures.row base lines l.line f.judged.rows (first_headings base lines place now net f) l.there in
+    first_room base lines net now place c.index.result.now l c.laws.ensures.names c.row-cells.result.0.at
+    c.row-cells.result.1 r.0 f (sym c.came.ensures ∙ c.if-not-came.false)
 
 pub returns-then-not-came-clause-ok : goal.returns-then-not-came-clause-ok
 returns-then-not-came-clause-ok g c = λ base lines f.
