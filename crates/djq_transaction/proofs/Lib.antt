@@ -11,3 +11,13 @@ mod Counts
 mod Slotted
 mod Answering
 mod Buffers
+mod Headings
+mod NamedRelations
+mod Grouping
+mod Entries
+mod SoManyCopies
+mod SetCopies
+mod Applying
+mod AppliedRows
+mod SettledLines
+mod Room

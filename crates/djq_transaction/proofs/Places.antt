@@ -1,5 +1,5 @@
 -- The place of a line's row among the rows that lines name.
-use Rattle.std.specs.Prelude.{ℕ, zero, suc, List, [], ◌∷◌, ◌≡◌, ◌≢◌, ◌++◌, ◌&&◌, ◌<◌, Bool, true, false, cond, Option}
+use Rattle.std.specs.Prelude.{ℕ, zero, suc, List, [], ◌∷◌, ◌≡◌, ◌≢◌, ◌++◌, ◌&&◌, Bool, true, false, cond, Option}
 use Rattle.std.specs.Prelude.{None, Some, length, map, fold, slice_get, slice_set, AllPairs, Contains}
 use Rattle.std.specs.List.{list_any}
 use Rattle.std.proofs.Common.{refl, sym, ap, ap₂, ◌∙◌, subst, arith}
@@ -8,9 +8,9 @@ use Rattle.std.proofs.lemmas.List.{map-append}
 use Rattle.std.proofs.lemmas.List.Folds.{list_any-from_Any}
 use Rattle.std.proofs.lemmas.List.Elements.{All-append, All-cons, All-nil, All-contains}
 use Rattle.djq_model.specs.declared.relation.Relation.{Relation}
-use Rattle.djq_model.specs.Data.{Bytes, Tuple, bytes_eq, tuple_eq, relation_of, counted_in, counted_of, copies_among}
+use Rattle.djq_model.specs.Data.{Bytes, Tuple, bytes_eq, tuple_eq, counted_in, counted_of, copies_among}
 use Rattle.djq_answer_laws.proofs.Lists.{some_one, one_there, mapped_there, hold_each}
-use Rattle.djq_database.specs.Catalog.{Catalog, relation_at, StandForRow}
+use Rattle.djq_database.specs.Catalog.{Catalog}
 use Rattle.djq_database.specs.Cells.{HaveCells}
 use Rattle.djq_transaction.specs.Held.{HeldLine}
 use Rattle.djq_transaction.specs.declared.net.Copies.{Copies}
@@ -18,20 +18,13 @@ use Rattle.djq_transaction.specs.declared.net.Net.{Net}
 use Rattle.djq_transaction.specs.Lines.{same_row, with_naming, first_lines, after_verb, copies_before, copies_after}
 use Rattle.djq_transaction.specs.LookUp.{AreSame, IsRowNamed, Looked}
 use Rattle.djq_transaction.specs.Net.{key_cells, row_key, copies_by, Suits, LooksUp, SetsCopies, RowsStand, IsNet}
+pub use Rattle.djq_transaction.specs.Net.{IsRowAt}
 use Rattle.djq_transaction.proofs.NamedRows.{are_same, place_is, firsts_step, key_tells, same_key}
 use Rattle.djq_transaction.proofs.FirstLines.{AreApart, named_of, firsts_apart, unnamed_copies, same_back, copies_set}
 use Rattle.djq_transaction.proofs.FirstLines.{copies_others, copies_here}
 
--- a line whose row has these cells in the relation at a place
-pub record IsRowAt (c : Catalog) (h : HeldLine) (at : ℕ) (cells : List ℕ) : Type 0 where
-  pub suits : Suits c.relations h
-  pub below : at < length c.relations
-  pub named : (relation_at c.relations at).name ≡ h.relation
-  pub found : relation_of c.relations h.relation ≡ Some (relation_at c.relations at)
-  pub stand : StandForRow c at cells h.row
-
 -- an element of a mapped list
-mapped_at : {A B : Type 0} (f : A → B) (xs : List A) (i : ℕ) (y : B) → slice_get (map f xs) i ≡ Some y
+pub mapped_at : {A B : Type 0} (f : A → B) (xs : List A) (i : ℕ) (y : B) → slice_get (map f xs) i ≡ Some y
     → (x : A) × (slice_get xs i ≡ Some x) × (f x ≡ y)
 mapped_at f [] i y e = absurd (cc e)
 mapped_at f (x ∷ xs) zero y e = (x, refl, cc e)
@@ -41,7 +34,7 @@ last_at : {A : Type 0} (xs : List A) (x : A) → slice_get (xs ++ x ∷ []) (len
 last_at [] x = refl
 last_at (y ∷ xs) x = last_at xs x
 
-at_contains : {A : Type 0} (xs : List A) (i : ℕ) (x : A) → slice_get xs i ≡ Some x → Contains xs x
+pub at_contains : {A : Type 0} (xs : List A) (i : ℕ) (x : A) → slice_get xs i ≡ Some x → Contains xs x
 at_contains xs i x e = (i, slice_get_within xs i x e, get_or_from_slice_get xs i x x e)
 
 -- the lines that name rows first, with one more, by whether its row is named
@@ -75,7 +68,7 @@ key_written c h at cells width differ r =
     r.stand.are
 
 -- the copies of a row by another line of it
-same_copies : (relations : List Relation) (lines : List HeldLine) (g h : HeldLine) → AreSame g h
+pub same_copies : (relations : List Relation) (lines : List HeldLine) (g h : HeldLine) → AreSame g h
     → copies_by relations lines g ≡ copies_by relations lines h
 same_copies relations lines g h s =
     ap₂ (λ (name : Bytes) (row : Tuple). copies_of_row relations lines name row) s.relation s.row

@@ -27,6 +27,7 @@ use Rattle.djq_transaction.specs.declared.net.Net.{Net}
 use Rattle.djq_transaction.specs.declared.judge.LineRefusal.{LineRefusal}
 use Rattle.djq_transaction.specs.declared.judge.RefusedLine.{RefusedLine}
 use Rattle.djq_transaction.specs.declared.judge.LineRefusal.TheVariants.{Limit, Absent, NoMemory}
+use Rattle.djq_transaction.specs.Applied.{IsJudged}
 use Rattle.djq_transaction.specs.Lines.{same_row, with_naming, first_lines}
 use Rattle.djq_transaction.specs.Judging.{texts_added, texts_after, limit_if, texts_refusal, line_refusal, refused_at}
 use Rattle.djq_transaction.specs.Judging.{refusal_behind, lines_refusal, AnswersAs, StopsAtLine, HasItsPlace}
@@ -248,3 +249,13 @@ judged_more relations texts known new width lines h old net j passes =
       learned = q.learned ∙ sym (after_more texts lines h);
       net_is = n.0;
     }
+
+-- what was judged, by its net
+pub judged_net : (relations : List Relation) (texts known : List Bytes) (width : ℕ) (lines : List HeldLine) (net : Net)
+    → lines_refusal relations texts lines ≡ None → IsNet relations known width lines net
+    → IsJudged relations known lines net
+judged_net relations texts known width lines net passed n = record {
+  rows = subst (λ (w : ℕ). IsNet relations known w lines net) (sym n.table.wide) n;
+  before = texts;
+  passed = passed;
+}

@@ -6,3 +6,6 @@ pub mod Keys
 pub mod Net
 pub mod LookUp
 pub mod Done
+pub mod Grouped
+pub mod Applied
+pub mod Settled

@@ -143,3 +143,11 @@ PassesLine relations texts width old h known new = (front : List HeldLine)
 abbrev pub RefusesLine : List Relation → List Bytes → ℕ → Net → HeldLine → List Bytes → LineRefusal → Type 0
 RefusesLine relations texts width old h known r = (front : List HeldLine)
     → IsNet relations texts width front old → StopsAtLine relations front texts h known r
+
+-- A line's row has these cells in the relation that stands at a place under the line's name.
+pub record IsRowAt (c : Catalog) (h : HeldLine) (at : ℕ) (cells : List ℕ) : Type 0 where
+  pub suits : Suits c.relations h
+  pub below : at < length c.relations
+  pub named : (relation_at c.relations at).name ≡ h.relation
+  pub found : relation_of c.relations h.relation ≡ Some (relation_at c.relations at)
+  pub stand : StandForRow c at cells h.row

@@ -7,6 +7,7 @@ ghost use Rattle.djq_transaction.specs.Held as spec;
 ghost use Rattle.djq_transaction.specs.Done.{AnswersDone, RefusesDone, done_refusal, is_other, rows_changed};
 ghost use Rattle.djq_transaction.specs.Judging.{texts_after};
 ghost use Rattle.djq_transaction.specs.Net.{IsNet, Suits};
+ghost use Rattle.djq_transaction.specs.Applied.{IsJudged};
 
 use crate::held::Transaction;
 use crate::judge::RefusedLine;
@@ -74,7 +75,7 @@ pub fn judge_done<L: Ledger>(
     ensures answer { AnswersDone (is_other given (length transaction.now.lines))
         (done_refusal catalog.old.relations catalog.old.texts seq transaction.now.lines given) result }
     ensures ok { IfOk result (λ net. (catalog.new.texts ≡ texts_after catalog.old.texts transaction.now.lines)
-        × ((width : ℕ) × IsNet catalog.old.relations catalog.new.texts width transaction.now.lines net)) }
+        × IsJudged catalog.old.relations catalog.new.texts transaction.now.lines net) }
     ensures err { IfErr result (RefusesDone catalog.old.relations catalog.old.texts
         transaction.now.lines catalog.new.texts) }
     ensures relations { catalog.new.relations ≡ catalog.old.relations }

@@ -49,6 +49,13 @@ impl Keys {
         }
     }
 
+    /// The width of the keys.
+    pub(crate) fn width(&self) -> usize
+        ensures { result ≡ self.now.width }
+    {
+        self.width
+    }
+
     /// The slot of a key; none if and only if it isn't there.
     pub(crate) fn find(&self, key: &[u64]) -> Option<u32>
         ensures { MatchOption result (IsAbsent self.now.rows key.now) (λ slot. IsRow self.now.rows slot key.now) }

@@ -6,7 +6,9 @@ ghost use Rattle.djq_transaction.specs.Net.{IsNetTable, LooksUp, SetsCopies, key
 ghost use Rattle.djq_arena.specs.declared.link.TheConstants.{SLOTS};
 ghost use Rattle.djq_transaction.specs.declared.key.TheConstants.{KEY_CELLS};
 ghost use Rattle.djq_transaction.specs.Net.{IsNet, copies_came, copies_went};
-ghost use Rattle.djq_transaction.specs.Lines.{lines_come, lines_go};
+ghost use Rattle.djq_transaction.specs.Lines.{first_lines, lines_come, lines_go};
+ghost use Rattle.djq_transaction.specs.Applied.{headings};
+ghost use Rattle.djq_transaction.specs.Net.{IsRowAt, relation_place};
 ghost use Rattle.djq_transaction.specs.Held as spec;
 ghost use Rattle.djq_model.specs.declared.relation.Relation.{Relation};
 ghost use Rattle.djq_model.specs.Data.{Bytes};
@@ -15,6 +17,7 @@ use crate::key::Key;
 use crate::keys::Keys;
 use djq_counters::Tally;
 use djq_database::{Catalog, RelationId};
+use djq_index::Cells;
 use djq_model::NoMem;
 use std::alloc::Global;
 use std::sync::ledger::Ledger;
@@ -88,6 +91,26 @@ impl Net {
     {
         self.keys.laws();
         self.keys.cells(place as u32)
+    }
+
+    /// The row at a place: its relation, and its cells, which are as many as the relation has columns.
+    pub(crate) fn row(&self, catalog: &Catalog, place: usize) -> (RelationId, Cells)
+        requires net { (relations : List Relation) × (lines : List spec.HeldLine)
+            × IsNet relations catalog.now.texts self.now.keys.width lines self.now
+            × (headings catalog.now.relations ≡ headings relations) }
+        requires within { place < length self.now.copies.items }
+        ensures row { (relations : List Relation) (lines : List spec.HeldLine) (h : spec.HeldLine)
+            → IsNet relations catalog.now.texts self.now.keys.width lines self.now
+            → headings catalog.now.relations ≡ headings relations → slice_get (first_lines lines) place ≡ Some h
+            → IsRowAt catalog.now h result.0.at result.1 × (result.0.at ≡ relation_place relations h.relation) }
+    {
+        catalog.laws();
+        let key = self.key(self.keys.width(), place);
+        let relation = RelationId {
+            at: key[0] as usize,
+        };
+        let columns = catalog.columns(relation).len();
+        (relation, Cells::from_slice(&key[1..1 + columns]))
     }
 
     /// Whether the row at a place is of a relation that didn't have it before.

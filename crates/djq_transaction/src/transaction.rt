@@ -2,6 +2,7 @@
 ghost use Rattle.std.specs.Prelude.{◌≡◌, ◌+◌, [], ◌<◌, ◌≤◌, ℕ, All, None, length, IfOk, IfErr};
 ghost use Rattle.djq_transaction.specs.Judging.{AnswersAs, RefusesLines, lines_refusal, texts_after};
 ghost use Rattle.djq_transaction.specs.Net.{IsNetTable, IsNet, Suits, PassesLine, RefusesLine, keys};
+ghost use Rattle.djq_transaction.specs.Applied.{IsJudged};
 ghost use Rattle.djq_transaction.specs.declared.key.TheConstants.{KEY_CELLS};
 ghost use Rattle.djq_arena.specs.declared.link.TheConstants.{SLOTS};
 ghost use Rattle.djq_index.specs.declared.cells.TheConstants.{CELLS};
@@ -125,7 +126,7 @@ pub fn judge_all<L: Ledger>(
     requires suit { All (Suits catalog.old.relations) transaction.now.lines }
     ensures answer { AnswersAs (lines_refusal catalog.old.relations catalog.old.texts transaction.now.lines) result }
     ensures ok { IfOk result (λ net. (catalog.new.texts ≡ texts_after catalog.old.texts transaction.now.lines)
-        × ((width : ℕ) × IsNet catalog.old.relations catalog.new.texts width transaction.now.lines net)) }
+        × IsJudged catalog.old.relations catalog.new.texts transaction.now.lines net) }
     ensures err { IfErr result (RefusesLines catalog.old.relations catalog.old.texts
         transaction.now.lines catalog.new.texts) }
     ensures relations { catalog.new.relations ≡ catalog.old.relations }

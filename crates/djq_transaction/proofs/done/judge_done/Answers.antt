@@ -26,8 +26,8 @@ returns-then-is_past_last-clause-answer g c =
     c.args.given true
     (subst (λ (n : ℕ). is_other c.args.given n ≡ false) c.len.ensures.value
     (sym c.names_other.ensures ∙ c.if-names_other.false)) c.in-Ok.ensures.answer
-    (sym (c.is_past_last.ensures c.args.catalog.now.relations c.judge_all.new.catalog.texts c.in-Ok.ensures.ok.1.0
-    c.args.transaction.now.lines c.in-Ok.ensures.ok.1.1) ∙ c.if-is_past_last.true)
+    (sym (c.is_past_last.ensures c.args.catalog.now.relations c.judge_all.new.catalog.texts _
+    c.args.transaction.now.lines c.in-Ok.ensures.ok.1.rows) ∙ c.if-is_past_last.true)
 
 pub returns-clause-answer : goal.returns-clause-answer
 returns-clause-answer g c =
@@ -35,5 +35,5 @@ returns-clause-answer g c =
     c.args.given false
     (subst (λ (n : ℕ). is_other c.args.given n ≡ false) c.len.ensures.value
     (sym c.names_other.ensures ∙ c.if-names_other.false)) c.in-Ok.ensures.answer
-    (sym (c.is_past_last.ensures c.args.catalog.now.relations c.judge_all.new.catalog.texts c.in-Ok.ensures.ok.1.0
-    c.args.transaction.now.lines c.in-Ok.ensures.ok.1.1) ∙ c.if-is_past_last.false)
+    (sym (c.is_past_last.ensures c.args.catalog.now.relations c.judge_all.new.catalog.texts _
+    c.args.transaction.now.lines c.in-Ok.ensures.ok.1.rows) ∙ c.if-is_past_last.false)

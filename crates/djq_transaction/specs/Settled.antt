@@ -1,0 +1,28 @@
+-- What lines do to answers: answers only come up to the relations between, and from there only go.
+use Rattle.std.specs.Prelude.{List, ◌++◌}
+use Rattle.djq_model.specs.declared.relation.Relation.{Relation}
+use Rattle.djq_model.specs.Listed.{Listed, AnswersOf}
+use Rattle.djq_store_spec.specs.Delta.{Change, IsDelta}
+use Rattle.djq_answer_laws.specs.Growing.{HaveRows}
+use Rattle.djq_answer_laws.specs.Net.{CancelsOut}
+use Rattle.djq_transaction.specs.Held.{HeldLine}
+use Rattle.djq_transaction.specs.Lines.{relations_between, relations_after}
+
+-- Up to the relations between, rows only come.
+abbrev pub LinesInsert : Type 0
+LinesInsert = (relations : List Relation) (lines : List HeldLine)
+    → HaveRows relations (relations_between relations lines)
+
+-- From there they only go.
+abbrev pub LinesRemove : Type 0
+LinesRemove = (relations : List Relation) (lines : List HeldLine)
+    → HaveRows (relations_after relations lines) (relations_between relations lines)
+
+-- So the answers that come up to the relations between, and those that go from there, settled, are the delta of the
+-- lines.
+abbrev pub LinesDelta : Type 0
+LinesDelta = (relations : List Relation) (lines : List HeldLine) (q : Listed) (come gone new : List Change)
+    → IsDelta (AnswersOf relations q) (AnswersOf (relations_between relations lines) q) come
+    → IsDelta (AnswersOf (relations_between relations lines) q) (AnswersOf (relations_after relations lines) q) gone
+    → CancelsOut (come ++ gone) new
+    → IsDelta (AnswersOf relations q) (AnswersOf (relations_after relations lines) q) new
