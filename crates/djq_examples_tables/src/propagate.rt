@@ -2,12 +2,14 @@ ghost use Rattle.std.specs.Prelude.{◌≡◌, ◌<◌, true, length, IfOk, IfSo
 ghost use Rattle.djq_index.specs.Entries.{count_of};
 ghost use Rattle.djq_reduct.specs.Marks.{IsBare};
 ghost use Rattle.djq_reduct.specs.Tables.{entries_at};
+ghost use Rattle.djq_propagate.specs.Touches.{HaveMarksOnlyAt};
 
 use djq_counters::{Blanks, Ledgers, Steps, Tally};
 use djq_hypergraph::{Edges, VarSet};
 use djq_plan::plan;
 use djq_propagate::{
-    finish_insertion, finish_removal, insert_leaf, insert_leaf_many, mark_removal, undo_insertion,
+    finish_insertion, finish_removal, insert_leaf, insert_leaf_many, mark_above, mark_removal,
+    mark_tuple, undo_insertion,
 };
 use djq_reduct::{Cells, Reducts, is_narrow};
 use std::alloc::{AllocError, Global};
@@ -150,6 +152,44 @@ fn take<L: Ledger>(reducts: &mut Reducts, leaf: usize, tuple: &[u64], tally: &mu
     }
 }
 
+/// Marks a tuple of a leaf for a removal of many; says whether it was there.
+fn mark<L: Ledger>(reducts: &mut Reducts, leaf: usize, tuple: &[u64], tally: &mut Tally<L>) -> bool
+    requires leaf { leaf < reducts.old.tree.leaves }
+    requires within { leaf < length reducts.old.tree.nodes }
+    requires only { HaveMarksOnlyAt reducts.old.tables leaf }
+    ensures tree { reducts.new.tree ≡ reducts.old.tree }
+    ensures only { HaveMarksOnlyAt reducts.new.tables leaf }
+{
+    match reducts.table(leaf).find(tuple, tally) {
+        Some(_place) => {
+            mark_tuple(reducts, leaf, tuple, tally);
+            true
+        }
+        None => false,
+    }
+}
+
+/// Takes two tuples of one cell out of a leaf at once; says whether both were there.
+fn take_both<L: Ledger>(
+    reducts: &mut Reducts,
+    leaf: usize,
+    first: u64,
+    second: u64,
+    tally: &mut Tally<L>,
+) -> bool
+    requires { IsBare reducts.old.tables }
+    ensures { IsBare reducts.new.tables }
+{
+    if leaf >= reducts.tree().leaves() || leaf >= reducts.tree().len() {
+        return false;
+    }
+    let one = mark(reducts, leaf, &[first], tally);
+    let other = mark(reducts, leaf, &[second], tally);
+    mark_above(reducts, leaf, tally);
+    finish_removal(reducts, leaf, tally);
+    one && other
+}
+
 /// How many supports a tuple has at a node, 0 where it isn't there.
 fn supports<L: Ledger>(reducts: &Reducts, node: usize, tuple: &[u64], tally: &mut Tally<L>) -> u32 {
     if node >= reducts.tree().len() {
@@ -185,12 +225,13 @@ fn fill<L: Ledger>(reducts: &mut Reducts, tally: &mut Tally<L>) -> Result<bool, 
     Ok(one && two && three && five && nine)
 }
 
-/// What is seen as the rows come, as 7 comes to s and is taken back, as it comes with 8, and as 5 goes from s.
+/// What is seen as the rows come, as 7 comes to s and is taken back, as it comes with 8, as 5 goes from s, and as
+/// 7 goes with 8.
 fn updated<L: Ledger>(
     alloc: Global,
     reducts: &mut Reducts,
     tally: &mut Tally<L>,
-) -> Result<(bool, [[u32; 4]; 4]), AllocError>
+) -> Result<(bool, [[u32; 4]; 5]), AllocError>
     requires { IsBare reducts.old.tables }
 {
     let filled = fill(reducts, tally)?;
@@ -201,9 +242,11 @@ fn updated<L: Ledger>(
     let kept = seen(reducts, tally);
     let went = take(reducts, 1, &[5], tally);
     let after = seen(reducts, tally);
+    let gone = take_both(reducts, 1, 7, 8, tally);
+    let empty = seen(reducts, tally);
     Ok((
-        filled && came && both && went,
-        [before, undone, kept, after],
+        filled && came && both && went && gone,
+        [before, undone, kept, after, empty],
     ))
 }
 
@@ -211,7 +254,7 @@ fn updated<L: Ledger>(
 fn on_ledgers<L: Ledgers>(
     rt: &HostRuntime,
     blanks: Blanks,
-) -> Result<(bool, [[u32; 4]; 4]), AllocError>
+) -> Result<(bool, [[u32; 4]; 5]), AllocError>
     requires listing { blanks.listing.name ≡ L.listing }
     requires update { blanks.update.name ≡ L.update }
     requires rows { blanks.rows.name ≡ L.rows }
@@ -223,7 +266,7 @@ fn on_ledgers<L: Ledgers>(
     edges.push(y)?;
     match planned(rt.alloc(), &edges, y.insert(0))? {
         Some(mut reducts) => updated(rt.alloc(), &mut reducts, &mut steps.update),
-        None => Ok((false, [[0; 4]; 4])),
+        None => Ok((false, [[0; 4]; 5])),
     }
 }
 
@@ -231,8 +274,9 @@ fn on_ledgers<L: Ledgers>(
 fn keeps_reducts(rt: HostRuntime) -> Result<(), Fail> {
     let (done, tables) = on_ledgers::<Brand>(&rt, Blanks::new(&rt))?;
     assert!(rt; done);
-    let [before, undone, kept, after] = tables;
+    let [before, undone, kept, after, empty] = tables;
     assert!(rt; before == [2, 1, 0, 1] && undone == [2, 1, 0, 1]);
     assert!(rt; kept == [2, 1, 1, 2] && after == [2, 0, 1, 1]);
+    assert!(rt; empty == [2, 0, 0, 0]);
     Ok(())
 }
