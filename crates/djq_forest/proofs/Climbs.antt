@@ -14,7 +14,8 @@ use Rattle.djq_forest.proofs.Checking.{knot_within}
 use Rattle.djq_forest.proofs.Alike.{same_lower}
 use Rattle.djq_forest.proofs.StepChanges.{steps}
 use Rattle.djq_forest.proofs.Pendings.{can_be, fed_moves, life_fed, apart_fed, pending_fed, left_is}
-use Rattle.djq_forest.proofs.Rises.{same_alike, same_fed, same_sound, pending_at, pending_came, risings}
+use Rattle.djq_forest.proofs.Rises.{same_alike, same_fed, same_sound, pending_at, pending_came}
+use Rattle.djq_forest.proofs.Sides.{risings}
 
 -- ---- what stays
 

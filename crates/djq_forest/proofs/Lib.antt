@@ -18,5 +18,6 @@ pub mod Roomy
 pub mod StepChanges
 pub mod Pendings
 pub mod Rises
+pub mod Sides
 pub mod Climbs
 pub mod Worked

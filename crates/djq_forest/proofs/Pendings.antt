@@ -47,7 +47,7 @@ cond_in : (d : Bool) (p : ℕ → ℕ → Bool) (a b x y : ℕ) → cond d (p a 
 cond_in true p a b x y = refl
 cond_in false p a b x y = refl
 
-life_source : (f : Forest) (i z : ℕ) → of_life f i z ≡ lives f.knots (source_knot f i) (source_slot f i z)
+pub life_source : (f : Forest) (i z : ℕ) → of_life f i z ≡ lives f.knots (source_knot f i) (source_slot f i z)
 life_source f i z = cond_in (nth_edge f.edges i).feeds (lives f.knots) (nth_edge f.edges i).big (nth_edge f.edges i).small z
     (target f i z)
 
@@ -61,7 +61,7 @@ pub record Moves (f g : Forest) (k y : ℕ) : Type 0 where
   pub small : (i : ℕ) → (nth_edge g.edges i).small ≡ (nth_edge f.edges i).small
   pub others : (i z : ℕ) → (i ≡ k → z ≡ y → ⊥) → lives g.knots i z ≡ lives f.knots i z
 
-choice_same : (a b : Bool) (m n i j : ℕ) → b ≡ a → m ≡ n → i ≡ j → cond b m i ≡ cond a n j
+pub choice_same : (a b : Bool) (m n i j : ℕ) → b ≡ a → m ≡ n → i ≡ j → cond b m i ≡ cond a n j
 choice_same a b m n i j e h l = rw (e, h, l) refl
 
 pub moved_knot : (f g : Forest) (k y i : ℕ) → Moves f g k y → source_knot g i ≡ source_knot f i

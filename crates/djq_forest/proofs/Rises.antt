@@ -10,7 +10,7 @@ use Rattle.djq_forest.specs.Shape.{AreAlong, lower}
 use Rattle.djq_forest.specs.Invariants.{AreEntries}
 use Rattle.djq_forest.specs.Telling.{to_tell, target, tell_fed, tell_side, with_missing, put_missing, put_list, with_list, relist}
 use Rattle.djq_forest.specs.Pending.{source_knot, source_slot, is_source, told_but, IsToldBut, pending_after, comes_by_fed, comes_by_side}
-use Rattle.djq_forest.specs.Rising.{IsPendingAt, HasSameEntries, LivesOn, IsDue, IsPendingOf, less_at, less_of, HasTold, HasRisen, RisingSteps}
+use Rattle.djq_forest.specs.Rising.{IsPendingAt, HasSameEntries, LivesOn, IsDue, IsPendingOf, less_at, less_of, HasTold, HasRisen}
 use Rattle.djq_forest.proofs.Alike.{EntriesAlike, entries_alike, edge_entry}
 use Rattle.djq_forest.proofs.Tellings.{same_part}
 use Rattle.djq_forest.proofs.Pendings.{Moves, moved_knot, moved_slot, of_life, life_there, life_others, life_here, told_same}
@@ -251,7 +251,7 @@ not_pending : (p : Bool) → (p ≡ true → ⊥) → p ≡ false
 not_pending true h = absurd (h refl)
 not_pending false h = refl
 
-entry_same : (f g : Forest) (i z : ℕ) → HasSameEntries f g
+pub entry_same : (f g : Forest) (i z : ℕ) → HasSameEntries f g
     → has_entry g.knots (nth_edge g.edges i).big z ≡ has_entry f.knots (nth_edge f.edges i).big z
 entry_same f g i z h = edge_entry f g (nth_edge f.edges i).big (nth_edge g.edges i).big z z (same_alike f g h) (h.big i) refl
 
@@ -266,7 +266,7 @@ on_life f g k y i z m here alive = by_source (is_source f k y i z) refl
 both_true : (a b : Bool) → a ≡ true → b ≡ true → (a && b) ≡ true
 both_true a b h k = rw (h, k) refl
 
-to_tell_by : (f : Forest) (i z : ℕ) → has_entry f.knots (nth_edge f.edges i).big z ≡ true → of_life f i z ≡ true
+pub to_tell_by : (f : Forest) (i z : ℕ) → has_entry f.knots (nth_edge f.edges i).big z ≡ true → of_life f i z ≡ true
     → to_tell f i z ≡ true
 to_tell_by f i z e l = both_true (has_entry f.knots (nth_edge f.edges i).big z) (of_life f i z) e l
 
@@ -309,7 +309,7 @@ rise_on f g h pending j x k y m same fresh due told =
 
 -- ---- the steps
 
-told_fed : (f : Forest) (j x : ℕ) → AreEntries f → j < length f.edges → (nth_edge f.edges j).feeds ≡ true
+pub told_fed : (f : Forest) (j x : ℕ) → AreEntries f → j < length f.edges → (nth_edge f.edges j).feeds ≡ true
     → to_tell f j x ≡ true → comes_by_fed f j x ≡ false → HasTold f (tell_fed f j x) j x
 told_fed f j x a l feeds tell none = record {
   same = same_fed f j x _ _ _ feeds;
@@ -319,7 +319,7 @@ told_fed f j x a l feeds tell none = record {
       (pending_fed f pending j x a h.told l feeds h.tell h.is);
 }
 
-told_side : (f : Forest) (j x : ℕ) → AreEntries f → j < length f.edges → (nth_edge f.edges j).feeds ≡ false
+pub told_side : (f : Forest) (j x : ℕ) → AreEntries f → j < length f.edges → (nth_edge f.edges j).feeds ≡ false
     → to_tell f j x ≡ true → comes_by_side f j x ≡ false → HasTold f (tell_side f j x) j x
 told_side f j x a l side tell none = record {
   same = same_side f (nth_edge f.edges j).big x _;
@@ -329,7 +329,7 @@ told_side f j x a l side tell none = record {
       (pending_side f pending j x a h.told l side h.tell h.is);
 }
 
-told_fed_on : (f g : Forest) (j x : ℕ) → AreEntries f → j < length f.edges → (nth_edge f.edges j).feeds ≡ true
+pub told_fed_on : (f g : Forest) (j x : ℕ) → AreEntries f → j < length f.edges → (nth_edge f.edges j).feeds ≡ true
     → to_tell f j x ≡ true → comes_by_fed f j x ≡ true
     → HasRisen (tell_fed f j x) g (nth_edge f.edges j).small (target f j x) → HasTold f g j x
 told_fed_on f g j x a l feeds tell came risen =
@@ -350,7 +350,7 @@ told_fed_on f g j x a l feeds tell came risen =
           (pending_fed f pending j x a h.told l feeds tell h.is))));
     }
 
-told_side_on : (f g : Forest) (j x : ℕ) → AreEntries f → j < length f.edges → (nth_edge f.edges j).feeds ≡ false
+pub told_side_on : (f g : Forest) (j x : ℕ) → AreEntries f → j < length f.edges → (nth_edge f.edges j).feeds ≡ false
     → to_tell f j x ≡ true → comes_by_side f j x ≡ true → HasRisen (tell_side f j x) g (nth_edge f.edges j).big x
     → HasTold f g j x
 told_side_on f g j x a l side tell came risen =
@@ -404,7 +404,7 @@ pending_at f pending j y a l feeds h =
     let own : is_source f (nth_edge f.edges j).big y j y ≡ true = own_source f j y y feeds ∙ eq-eqb y y refl in
     record { told = h.told; due = h.due; tell = tell; is = h.all j y l own tell }
 
-risen_up : (f g : Forest) (j y : ℕ) → AreEntries f → j < length f.edges → (nth_edge f.edges j).feeds ≡ true
+pub risen_up : (f g : Forest) (j y : ℕ) → AreEntries f → j < length f.edges → (nth_edge f.edges j).feeds ≡ true
     → HasTold f g j y → HasRisen f g (nth_edge f.edges j).big y
 risen_up f g j y a l feeds told = record {
   same = told.same;
@@ -415,22 +415,11 @@ risen_up f g j y a l feeds told = record {
       (told.told pending (pending_at f pending j y a l feeds h));
 }
 
-risen_top : (f : Forest) (k y : ℕ) → ((j : ℕ) → j < length f.edges → lower (nth_edge f.edges j) ≡ k → ⊥) → HasRisen f f k y
+pub risen_top : (f : Forest) (k y : ℕ) → ((j : ℕ) → j < length f.edges → lower (nth_edge f.edges j) ≡ k → ⊥) → HasRisen f f k y
 risen_top f k y none = record {
   same = same_self f;
   on = λ i z alive. alive;
   told = λ pending h. but_same f pending (less_of f pending k y)
       (λ i z l. sym (ap (λ (b : Bool). pending i z && not b) (no_source (source_knot f i) k (source_slot f i z) y (none i l))
       ∙ and_all (pending i z))) h.told;
-}
-
-pub risings : RisingSteps
-risings = record {
-  entries = same_sound;
-  fed = told_fed;
-  fed_on = told_fed_on;
-  side = told_side;
-  side_on = told_side_on;
-  up = risen_up;
-  top = risen_top;
 }

@@ -1,6 +1,6 @@
 -- What is told of an entry that came to live, and of all that comes to live by it.
-use Rattle.std.specs.Prelude.{◌≡◌, ℕ, ◌<◌, ◌≤◌, Bool, true, false, not, ◌==◌, ◌&&◌, List, length, slice_index_or, Option, Some, None}
-use Rattle.djq_forest.specs.Forest.{Forest, nth_knot, nth_edge, has_entry, lives}
+use Rattle.std.specs.Prelude.{◌≡◌, ℕ, ◌<◌, ◌≤◌, Bool, true, false, not, ◌==◌, ◌&&◌, List, [], ◌∷◌, length, slice_index_or, Option, Some, None}
+use Rattle.djq_forest.specs.Forest.{Forest, nth_knot, nth_edge, has_entry, lives, list_of}
 use Rattle.djq_forest.specs.Shape.{lower}
 use Rattle.djq_forest.specs.Invariants.{AreEntries}
 use Rattle.djq_forest.specs.Telling.{to_tell, target, tell_fed, tell_side}
@@ -82,8 +82,14 @@ pub record AreUps (ups : List (Option ℕ)) (f : Forest) : Type 0 where
 abbrev pub RisesWith : Forest → Forest → ℕ → ℕ → ℕ → ℕ → Type 0
 RisesWith f g k y h z = (e : Forest) → HasRisen g e h z → HasRisen f e k y
 
+-- g is f once the edge j has told these slots, one after the other, and all has been told that hangs on it
+abbrev pub HaveTold : Forest → Forest → ℕ → List ℕ → Type 0
+HaveTold f g j [] = f ≡ g
+HaveTold f g j (x ∷ xs) = (h : Forest) × HasTold f h j x × HaveTold h g j xs
+
 -- a step tells all that hangs on it if nothing comes to live by it; else what came to live has to rise; and an entry has
--- risen once the edge that leads up from its knot has told it, or if there is none
+-- risen once the edge that leads up from its knot has told it, or, where its knot is a side, all that are tied to it; or
+-- if no edge leads up
 pub record RisingSteps : Type 0 where
   pub entries : (f g : Forest) → AreEntries f → HasSameEntries f g → AreEntries g
   pub fed : (f : Forest) (j x : ℕ) → AreEntries f → j < length f.edges → (nth_edge f.edges j).feeds ≡ true
@@ -98,4 +104,6 @@ pub record RisingSteps : Type 0 where
       → HasTold f g j x
   pub up : (f g : Forest) (j y : ℕ) → AreEntries f → j < length f.edges → (nth_edge f.edges j).feeds ≡ true
       → HasTold f g j y → HasRisen f g (nth_edge f.edges j).big y
+  pub side_up : (f g : Forest) (j y : ℕ) → AreEntries f → j < length f.edges → (nth_edge f.edges j).feeds ≡ false
+      → HaveTold f g j (list_of (nth_edge f.edges j) y) → HasRisen f g (nth_edge f.edges j).small y
   pub top : (f : Forest) (k y : ℕ) → ((j : ℕ) → j < length f.edges → lower (nth_edge f.edges j) ≡ k → ⊥) → HasRisen f f k y

@@ -3,7 +3,8 @@ use Rattle.std.proofs.Common.{sym, arith}
 use Rattle.djq_forest.specs.Rising.{HasRisen, RisesWith}
 use Rattle.djq_forest.specs.Steps.{forest_with}
 use Rattle.djq_forest.proofs.StepChanges.{tied_tie}
-use Rattle.djq_forest.proofs.Rises.{same_on, risings}
+use Rattle.djq_forest.proofs.Rises.{same_on}
+use Rattle.djq_forest.proofs.Sides.{risings}
 use Rattle.djq_forest.proofs.Climbs.{ups_same, lead_by, next_by, stop_same, stop_risen, climb_can, may_within, option_on}
 use Rattle.djq_forest.proofs.climb.+climb.Goals as goal
 
