@@ -18,6 +18,7 @@ mod Entries
 mod SoManyCopies
 mod SetCopies
 mod Applying
+mod AnyOrder
 mod AppliedRows
 mod SettledLines
 mod Room
