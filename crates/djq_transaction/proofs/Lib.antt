@@ -21,4 +21,5 @@ mod Applying
 mod AnyOrder
 mod AppliedRows
 mod SettledLines
+mod InsertedRows
 mod Room

@@ -89,7 +89,7 @@ pub second_true : (a b : Bool) → (a && b) ≡ true → b ≡ true
 second_true true b h = h
 second_true false b h = absurd (false≢true h)
 
-come_some : (base : List Relation) (lines : List HeldLine)
+pub come_some : (base : List Relation) (lines : List HeldLine)
     → All (λ h. 0 < copies_after base lines h) (lines_come base lines)
 come_some base lines =
     kept_hold (Contains (first_lines lines)) (λ (h : HeldLine). 0 < copies_after base lines h) (line_comes base lines)
