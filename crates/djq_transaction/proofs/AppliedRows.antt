@@ -24,6 +24,7 @@ use Rattle.djq_transaction.proofs.Headings.{headings_all, row_at}
 use Rattle.djq_transaction.proofs.Entries.{HasLine}
 use Rattle.djq_transaction.proofs.Places.{at_contains, same_copies}
 use Rattle.djq_transaction.proofs.SetCopies.{counted_some}
+use Rattle.djq_transaction.proofs.AnyOrder.{after_is}
 use Rattle.djq_transaction.proofs.Room.{all_long, come_before, room_for}
 use Rattle.djq_transaction.proofs.Applying.{copies_stay, row_stays, row_counted, row_left, row_back, came_counted}
 use Rattle.djq_transaction.proofs.Applying.{one_passes, none_passes}
@@ -66,8 +67,8 @@ module _ (base : List Relation) (lines : List HeldLine) (net : Net) (now : Catal
       (second_holds (copies_before base l.line == 0) (nat_lt 0 (copies_after base lines l.line)) (sym comes ∙ came)) in
       omega (arith, some)
 
-  after_is : copies.after ≡ copies_after base lines l.line
-  after_is = ap (λ (k : Copies). k.after) l.copies_are
+  left_is : copies.after ≡ copies_after base lines l.line
+  left_is = ap (λ (k : Copies). k.after) l.copies_are
 
   abbrev firsts : List HeldLine
   firsts = first_lines lines
@@ -125,7 +126,7 @@ module _ (base : List Relation) (lines : List HeldLine) (net : Net) (now : Catal
     first_more f came new set texts = record {
       judged = judged_on base now.texts new.texts lines net texts f.judged;
       absent = f.absent;
-      here = row_left now l.line at cells names r base lines copies.after new.relations after_is set
+      here = row_left now l.line at cells names r base lines copies.after new.relations left_is set
           ∙ ap (λ (rs : List Relation). with_copies_left base lines rs l.line) f.here
           ∙ sym (one_passes base lines (line_comes base lines) base (take place firsts)
           (take (place + 1) firsts) l.line l.more (sym comes ∙ came));
@@ -140,7 +141,7 @@ module _ (base : List Relation) (lines : List HeldLine) (net : Net) (now : Catal
     pub last_counted : HasFirst base lines (place + 1) now net → copies_came copies ≡ true
         → HasCopiesAt now at cells copies.after
     last_counted f came =
-        subst (λ (n : ℕ). HasCopiesAt now at cells n) (sym (after_is ∙ after_some came))
+        subst (λ (n : ℕ). HasCopiesAt now at cells n) (sym (left_is ∙ after_some came))
         (came_counted now l.line at cells names r base lines
         (fold (with_copies_left base lines) base (filter (line_comes base lines) (take place firsts)))
         (copies_after base lines l.line - 1) (came_last f came) (after_some came))
@@ -194,7 +195,7 @@ module _ (base : List Relation) (lines : List HeldLine) (net : Net) (now : Catal
         → HasChangedFirst base lines (place + 1) new net
     changed_more f none new set texts = record {
       judged = judged_on base now.texts new.texts lines net texts f.judged;
-      here = row_left now l.line at cells names r base lines copies.after new.relations after_is set
+      here = row_left now l.line at cells names r base lines copies.after new.relations left_is set
           ∙ ap (λ (rs : List Relation). with_copies_left base lines rs l.line) f.here
           ∙ sym (one_passes base lines (λ h. not (line_comes base lines h)) (relations_between base lines)
           (take place firsts) (take (place + 1) firsts) l.line l.more (ap (λ (b : Bool). not b) (sym comes ∙ none)));
@@ -258,4 +259,4 @@ module _ (base : List Relation) (lines : List HeldLine) (net : Net) (now : Catal
 
   pub all_changed : HasChangedFirst base lines place now net → now.relations ≡ relations_after base lines
   all_changed f = f.here ∙ ap (λ (hs : List HeldLine). fold (with_copies_left base lines) (relations_between base lines)
-      (filter (λ h. not (line_comes base lines h)) hs)) (all_taken f.judged)
+      (filter (λ h. not (line_comes base lines h)) hs)) (all_taken f.judged) ∙ sym (after_is base lines)

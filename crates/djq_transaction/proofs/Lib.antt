@@ -18,6 +18,8 @@ mod Entries
 mod SoManyCopies
 mod SetCopies
 mod Applying
+mod AnyOrder
 mod AppliedRows
 mod SettledLines
+mod InsertedRows
 mod Room

@@ -18,6 +18,7 @@ use Rattle.djq_transaction.specs.Held.{HeldLine}
 use Rattle.djq_transaction.specs.Lines.{copies_before, copies_after, line_comes, lines_come, first_lines, with_so_many}
 use Rattle.djq_transaction.specs.Lines.{with_copies_left, relations_between, relations_after}
 use Rattle.djq_transaction.specs.Settled.{LinesInsert, LinesRemove}
+use Rattle.djq_transaction.proofs.AnyOrder.{after_is}
 use Rattle.djq_transaction.proofs.SoManyCopies.{many_has, many_has_others}
 
 abbrev has : List Relation → Bytes → Tuple → Bool
@@ -88,7 +89,7 @@ pub second_true : (a b : Bool) → (a && b) ≡ true → b ≡ true
 second_true true b h = h
 second_true false b h = absurd (false≢true h)
 
-come_some : (base : List Relation) (lines : List HeldLine)
+pub come_some : (base : List Relation) (lines : List HeldLine)
     → All (λ h. 0 < copies_after base lines h) (lines_come base lines)
 come_some base lines =
     kept_hold (Contains (first_lines lines)) (λ (h : HeldLine). 0 < copies_after base lines h) (line_comes base lines)
@@ -195,4 +196,5 @@ lines_remove base lines name row k =
     (kept_hold (Contains (first_lines lines)) (λ (h : HeldLine). not (line_comes base lines h) ≡ true)
     (λ h. not (line_comes base lines h)) (first_lines lines) (λ h e k. e)
     (hold_each (Contains (first_lines lines)) (first_lines lines) (λ h k. k)))
-    (λ e. e) (row_found (rows_of (relations_after base lines) name) row k))
+    (λ e. e) (ap (λ (rs : List Relation). has rs name row) (sym (after_is base lines))
+    ∙ row_found (rows_of (relations_after base lines) name) row k))

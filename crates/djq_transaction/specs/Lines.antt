@@ -1,6 +1,6 @@
 -- What held lines, one after another, leave of the rows.
 use Rattle.std.specs.Prelude.{ℕ, zero, suc, List, [], ◌∷◌, ◌+◌, ◌++◌, ◌==◌, ◌&&◌, Bool, if◌then◌else◌, filter, fold}
-use Rattle.std.specs.Prelude.{nat_lt, not, pred}
+use Rattle.std.specs.Prelude.{nat_lt, pred}
 use Rattle.std.specs.List.{list_any}
 use Rattle.djq_model.specs.declared.relation.Relation.{Relation}
 use Rattle.djq_model.specs.declared.relation.CountedRow.{CountedRow}
@@ -69,8 +69,6 @@ with_copies_left relations lines now h = with_rows now h.relation
 abbrev pub relations_between : List Relation → List HeldLine → List Relation
 relations_between relations lines = fold (with_copies_left relations lines) relations (lines_come relations lines)
 
--- The relations after lines: each row that they name has the copies that they leave of it. Those that come are last,
--- in the order in which lines first name them.
+-- The relations after lines: each row that they name has the copies that they leave of it.
 abbrev pub relations_after : List Relation → List HeldLine → List Relation
-relations_after relations lines = fold (with_copies_left relations lines) (relations_between relations lines)
-    (filter (λ h. not (line_comes relations lines h)) (first_lines lines))
+relations_after relations lines = fold (with_copies_left relations lines) relations (first_lines lines)

@@ -1,17 +1,27 @@
 -- What lines do to answers: answers only come up to the relations between, and from there only go.
-use Rattle.std.specs.Prelude.{List, ◌++◌}
+use Rattle.std.specs.Prelude.{List, ◌≡◌, ◌++◌, Some, filter, map}
 use Rattle.djq_model.specs.declared.relation.Relation.{Relation}
+use Rattle.djq_model.specs.Data.{Bytes, bytes_eq, relation_of, rows_of}
 use Rattle.djq_model.specs.Listed.{Listed, AnswersOf}
 use Rattle.djq_store_spec.specs.Delta.{Change, IsDelta}
 use Rattle.djq_answer_laws.specs.Growing.{HaveRows}
 use Rattle.djq_answer_laws.specs.Net.{CancelsOut}
+use Rattle.djq_database.specs.Catalog.{Catalog, IsCatalog}
 use Rattle.djq_transaction.specs.Held.{HeldLine}
-use Rattle.djq_transaction.specs.Lines.{relations_between, relations_after}
+use Rattle.djq_transaction.specs.Lines.{lines_come, relations_between, relations_after}
 
 -- Up to the relations between, rows only come.
 abbrev pub LinesInsert : Type 0
 LinesInsert = (relations : List Relation) (lines : List HeldLine)
     → HaveRows relations (relations_between relations lines)
+
+-- There a relation has its rows, and behind them those of it that come, in the order of their first lines.
+abbrev pub RowsInserted : Type 0
+RowsInserted = (c : Catalog) (lines : List HeldLine) (name : Bytes) (r : Relation) → IsCatalog c
+    → relation_of c.relations name ≡ Some r
+    → rows_of (relations_between c.relations lines) name
+    ≡ rows_of c.relations name
+    ++ map (λ (h : HeldLine). h.row) (filter (λ h. bytes_eq h.relation name) (lines_come c.relations lines))
 
 -- From there they only go.
 abbrev pub LinesRemove : Type 0

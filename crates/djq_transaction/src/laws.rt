@@ -1,5 +1,5 @@
 //! What lines do to answers.
-ghost use Rattle.djq_transaction.specs.Settled.{LinesInsert, LinesRemove, LinesDelta};
+ghost use Rattle.djq_transaction.specs.Settled.{LinesInsert, RowsInserted, LinesRemove, LinesDelta};
 
 use djq_answer_laws::net_deltas;
 
@@ -8,6 +8,7 @@ use djq_answer_laws::net_deltas;
 /// those that go on the second, without what comes and goes, are the delta of the transaction.
 pub fn lines_settle()
     ensures insert { LinesInsert }
+    ensures rows { RowsInserted }
     ensures remove { LinesRemove }
     ensures delta { LinesDelta }
 {

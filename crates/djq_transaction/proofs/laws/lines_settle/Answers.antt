@@ -1,10 +1,14 @@
 -- By the law of changes by which rows come and others go at once.
 use Rattle.djq_transaction.specs.Lines.{relations_between, relations_after}
 use Rattle.djq_transaction.proofs.SettledLines.{lines_insert, lines_remove}
+use Rattle.djq_transaction.proofs.InsertedRows.{rows_inserted}
 use Rattle.djq_transaction.proofs.laws.lines_settle.Goals as goal
 
 pub returns-clause-insert : goal.returns-clause-insert
 returns-clause-insert c = lines_insert
+
+pub returns-clause-rows : goal.returns-clause-rows
+returns-clause-rows c = rows_inserted
 
 pub returns-clause-remove : goal.returns-clause-remove
 returns-clause-remove c = lines_remove
