@@ -32,15 +32,15 @@ pub record IsTextIndex (known : List (Option Known)) (links heads : List (Option
   pub some : 1 < length heads
   pub few : length known ≤ SLOTS
 
--- where the numbers begin that so many buckets are for: a text with one of these keeps them from being fewer
+-- the first upper number for so many buckets: fewer are enough where no text has an upper number
 abbrev pub quarter : ℕ → ℕ
 quarter buckets = (buckets - 1) / 4
 
--- there are as few buckets as at first, or some texts have a number that they are for
+-- there are as few buckets as at first, or some texts have an upper number
 abbrev pub AreFewBuckets : ℕ → ℕ → Type 0
 AreFewBuckets buckets high = (buckets ≤ FIRST_BUCKETS) ⊎ (0 < high)
 
--- the texts in use with their index, and how many there are of them: of all, and of those that the buckets are for
+-- the texts in use with their index, how many there are, and how many of them have an upper number
 pub record AreTexts (known : List (Option Known)) (links heads : List (Option ℕ)) (count upper : ℕ) : Type 0 where
   pub index : IsTextIndex known links heads
   pub one : IsOneToOne known

@@ -23,9 +23,10 @@
 //! has the head of each chain. The free numbers are a bucket of their own, the first one, so that each number is in exactly
 //! one chain, and giving a text back moves its number from one chain to another. That asks for no memory.
 //!
-//! There are as many buckets for texts as places for numbers, or more; they are doubled once all places are in use. How many
-//! texts have a number from a quarter of the buckets on is counted, and where none has, places and buckets become as few as
-//! leave room for as many numbers again. So making them anew takes as long as it took for the numbers to come.
+//! There are as many buckets for texts as places for numbers, or more; they are doubled once all places are in use. Numbers
+//! from a quarter of the buckets on are the upper ones, and it is counted how many texts have one. If none has, places and
+//! buckets become fewer, with room for as many numbers again. So all rebuilding together takes time in proportion to the texts
+//! that came.
 #![tactic(auto)]
 
 mod entry;

@@ -20,7 +20,7 @@ pub(crate) fn first_buckets(alloc: Global) -> Result<Vec<Link>, AllocError>
     Ok(heads)
 }
 
-/// Where the numbers begin that so many buckets are for.
+/// The first upper number for so many buckets.
 pub(crate) fn quarter(buckets: usize) -> usize
     requires { 0 < buckets }
     ensures { result ≡ quarter buckets }
@@ -28,7 +28,7 @@ pub(crate) fn quarter(buckets: usize) -> usize
     (buckets - 1) / 4
 }
 
-/// Whether so many buckets are for a number: one where they are, and else none.
+/// What a number counts among the upper ones: one where it is one of them, and else nothing.
 pub(crate) fn share(number: u32, buckets: usize) -> usize
     requires { 0 < buckets }
     ensures most { result ≤ 1 }
@@ -53,7 +53,7 @@ fn count_from(entries: &Vec<Entry>, from: usize) -> usize
     count
 }
 
-/// The number behind the highest one that is in use.
+/// One more than the highest number in use; 0 if none is.
 fn top_of(entries: &Vec<Entry>) -> usize
     ensures within { result ≤ length entries.now.items }
     ensures free { (n : ℕ) → result ≤ n → known_at entries.now.items n ≡ None }
@@ -117,8 +117,8 @@ fn relist(store: &mut Store)
 }
 
 /// Room in the buckets for one more number, where all are in use: twice as many buckets for texts where there are no
-/// more of them than numbers. It returns how many texts have a number that the buckets are for, and is given how many
-/// had. Where there is no memory, all stays as it was.
+/// more of them than numbers. It is given how many texts have an upper number, and returns how many have one afterwards.
+/// Where there is no memory, all stays as it was.
 pub(crate) fn widen(store: &mut Store, high: usize) -> Result<usize, AllocError>
     requires index { IsTextIndex store.old.entries.items store.old.links.items store.old.heads.items }
     requires full { (n : ℕ) → n < length store.old.entries.items → IsSome (known_at store.old.entries.items n) }
@@ -141,7 +141,7 @@ pub(crate) fn widen(store: &mut Store, high: usize) -> Result<usize, AllocError>
     Ok(count_from(&store.entries, quarter(buckets)))
 }
 
-/// Leaves out all behind so many items, and gives the memory back of what is behind so many.
+/// Drops all items but so many, and gives memory back so that there is room for a given number of them.
 fn cut<T: Drop>(items: &mut Vec<T>, len: usize, room: usize)
     ensures { items.new.items ≡ take len items.old.items }
 {
@@ -149,9 +149,9 @@ fn cut<T: Drop>(items: &mut Vec<T>, len: usize, room: usize)
     items.shrink_to(room);
 }
 
-/// As few places for numbers and as few buckets as the highest number that is in use allows, where no text has a number
-/// that the buckets are for. It returns how many texts have one then, and is given how many had. It asks for no memory;
-/// what the allocator refuses to take back stays.
+/// Leaves as few places for numbers and as few buckets as the highest number in use allows, if no text has an upper number.
+/// It is given how many have one, and returns how many have one afterwards. It asks for no memory; what the allocator
+/// refuses to take back stays.
 pub(crate) fn narrow(store: &mut Store, high: usize) -> usize
     requires index { IsTextIndex store.old.entries.items store.old.links.items store.old.heads.items }
     requires room { length store.old.entries.items < length store.old.heads.items }

@@ -25,7 +25,7 @@ pub struct Texts {
     store: Store,
     /// How many texts are in use.
     used: usize,
-    /// How many of them have a number that the buckets are for. With the last of these the store becomes smaller.
+    /// How many of them have an upper number. When the last of these is forgotten, the store becomes smaller.
     high: usize,
     alloc: Global,
 }
@@ -162,10 +162,9 @@ impl Texts {
     /// Gives a use back of the text with a number that is in use. With its last use the text is forgotten, and its number
     /// is free. It asks for no memory.
     ///
-    /// The memory of a text that is forgotten is given back. Where texts are left only among a quarter of the numbers, the
-    /// store is made smaller, so that it has at most sixteen places or fewer than four times as many as up to the highest
-    /// number in use ([`Texts::laws`]); this takes as long as it took for the numbers to come. Where the allocator refuses to
-    /// take memory back, it stays.
+    /// The memory of a text that is forgotten is given back. If texts are left only among the lowest quarter of the places,
+    /// the store is made smaller, so that it has at most sixteen places or fewer than four times as many as up to the
+    /// highest number in use ([`Texts::laws`]). Memory that the allocator refuses to take back stays.
     pub fn give_back(&mut self, number: u32)
         requires { IsSome (known_at self.old number) }
         ensures { Sets self.old number (with_less (known_at self.old number)) self.new }
