@@ -12,6 +12,8 @@
 //! settle            + (1, 3)   - (4, 4)
 //! ```
 //!
+//! Of a union, [`is_reported`] decides by the settled deltas of its members which answers came to it or went from it.
+//!
 //! It lists no answers, and doesn't know its query: whoever lists the answers pushes the lines. The program doesn't use
 //! it yet; its deltas are logs of `djq_enumeration`, which this crate is to replace.
 //!
@@ -25,8 +27,10 @@
 
 mod delta;
 mod laws;
+mod members;
 mod place;
 mod settle;
 
 pub use delta::{DELTA_LINES, Delta, DeltaStatus, MOST_WIDTH, RETAINED_WORDS};
 pub use laws::{settling_is_net, settling_shortens, settling_twice_is_once};
+pub use members::{has_line, is_reported};

@@ -1,6 +1,4 @@
-ghost use Rattle.std.specs.Prelude.{◌≡◌, length};
-
-use djq_delta::{DELTA_LINES, Delta, DeltaStatus};
+use djq_delta::{DELTA_LINES, Delta, DeltaStatus, is_reported};
 use std::test::Fail;
 
 /// A row was replaced, and the query doesn't show what is new in it.
@@ -56,4 +54,16 @@ fn is_large_until_it_is_cleared(rt: HostRuntime) {
     assert!(rt; delta.is_large() && delta.is_empty());
     delta.clear();
     assert!(rt; !delta.is_large());
+}
+
+/// An answer comes to a union unless another member has had it.
+#[test]
+fn reports_what_no_other_member_has(rt: HostRuntime) {
+    let mut first = Delta::new(rt.alloc(), 1);
+    first.push(true, &[5]);
+    let second = Delta::new(rt.alloc(), 1);
+    let deltas = [first, second];
+    assert!(rt; is_reported(&deltas, &[true, false], true, &[5]));
+    assert!(rt; !is_reported(&deltas, &[true, true], true, &[5]));
+    assert!(rt; !is_reported(&deltas, &[true, false], false, &[5]));
 }
