@@ -186,14 +186,14 @@ change_same l m texts (k ∷ lines) same =
         same.numbered
         ∙ ap (λ (t : Tree). record (change_of texts m k) { answer = shown texts l.numbered t.head k.answer }) same.tree
 
-delta_same : (l m : Live) (c d : Catalog) (lines : List Line) → SameQuery l m
+pub delta_same : (l m : Live) (c d : Catalog) (lines : List Line) → SameQuery l m
     → IsDeltaOf m c d (map (change_of d.texts m) lines) → IsDeltaOf l c d (map (change_of d.texts l) lines)
 delta_same l m c d lines same h =
     subst (λ (xs : List Change). IsDeltaOf l c d xs) (change_same l m d.texts lines same)
     (subst (λ (q : Query). IsDelta (IsAnswer c.relations q) (IsAnswer d.relations q) (map (change_of d.texts m) lines))
     same.query h)
 
-showable_same : (l m : Live) (texts : List Bytes) (u : List ℕ) → SameQuery l m → IsShowable texts m u
+pub showable_same : (l m : Live) (texts : List Bytes) (u : List ℕ) → SameQuery l m → IsShowable texts m u
     → IsShowable texts l u
 showable_same l m texts u same s = record {
   wide = s.wide ∙ ap (λ (t : Tree). length t.head) same.tree;

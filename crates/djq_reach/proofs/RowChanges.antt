@@ -504,8 +504,10 @@ one_less c d at cells cell rows h = record {
   };
   went = record {
     later = later_fewer d at fs within d catalog (later_itself d h.came.later.catalog);
-    stand = subst (λ (ts : List ColumnType). StandFor d.texts ts cell ends.last) (sym (types_here d at fs within))
-        ends.there;
+    stand = (
+      subst (λ (ts : List ColumnType). StandFor d.texts ts cell ends.last) (sym (types_here d at fs within)) ends.there,
+      tt,
+    );
     rows = rows_here d at fs within ∙ counted.before
         ∙ sym (ap (λ (ts : List Tuple). without_row ts ends.last) shape
         ∙ without_last (rows_at c.relations at ++ ends.front) ends.last

@@ -41,8 +41,13 @@ fn clear_watched(logs: &mut Vec<DeltaLog>, watchers: &[u32], places: &[usize])
     }
 }
 
-/// So are those of the watched queries that read a relation of the groups.
-fn clear_logs(logs: &mut Vec<DeltaLog>, watchers: &[u32], readers: &[QueryPlaces], groups: &[Group])
+/// Empties the logs of the watched queries that read a relation of the groups.
+pub fn clear_logs(
+    logs: &mut Vec<DeltaLog>,
+    watchers: &[u32],
+    readers: &[QueryPlaces],
+    groups: &[Group],
+)
     requires within { All (λ g. g.relation.at < length readers.now) groups.now }
     requires logged { HaveLogs (reached readers.now groups.now) logs.old.items }
     requires watched { length watchers.now ≡ length logs.old.items }

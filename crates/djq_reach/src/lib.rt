@@ -30,7 +30,7 @@
 //! go again along a chain with one row less at each step.
 #![tactic(auto)]
 
-pub use batch::insert_batch_into_readers;
+pub use batch::{clear_logs, insert_batch_into_readers};
 pub use group::{Group, GroupRows};
 pub use places::is_watched;
 pub use query_places::QueryPlaces;
