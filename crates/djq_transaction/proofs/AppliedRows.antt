@@ -18,7 +18,7 @@ use Rattle.djq_transaction.specs.Lines.{first_lines, copies_before, copies_after
 use Rattle.djq_transaction.specs.Lines.{relations_between, relations_after}
 use Rattle.djq_transaction.specs.LookUp.{AreSame}
 use Rattle.djq_transaction.specs.Net.{IsNet, IsRowAt, Suits, relation_place, copies_by, copies_came}
-use Rattle.djq_transaction.specs.Applied.{IsJudged, headings, HasCopiesAt, SetsCopiesAt, HasFirst, HasInserted}
+use Rattle.djq_transaction.specs.Applied.{IsJudged, headings, HasCopiesAt, SetsCopiesAt, HasFirst, HasAllInserted}
 use Rattle.djq_transaction.specs.Applied.{HasChangedFirst}
 use Rattle.djq_transaction.proofs.Headings.{headings_all, row_at}
 use Rattle.djq_transaction.proofs.Entries.{HasLine}
@@ -250,7 +250,7 @@ module _ (base : List Relation) (lines : List HeldLine) (net : Net) (now : Catal
     length-map (first_lines lines) (copies_by base lines),
   ))
 
-  pub all_inserted : HasFirst base lines place now net → HasInserted base lines now net
+  pub all_inserted : HasFirst base lines place now net → HasAllInserted base lines now net
   all_inserted f = record {
     judged = f.judged;
     here = f.here ∙ ap (λ (hs : List HeldLine). fold (with_copies_left base lines) base (filter (line_comes base lines) hs))

@@ -115,7 +115,7 @@ module _ (base : List Relation) (lines : List HeldLine) (name : Bytes) where
           ∙ one_behind (rows_of now name) g.row (map (λ (h : HeldLine). h.row) (filter its gs))
 
 -- a row that a catalog has has a copy
-some_copies : (c : Catalog) (name : Bytes) (row : Tuple) → IsCatalog c → has_row (rows_of c.relations name) row ≡ true
+pub some_copies : (c : Catalog) (name : Bytes) (row : Tuple) → IsCatalog c → has_row (rows_of c.relations name) row ≡ true
     → 1 ≤ copies_among (counted_of c.relations name) row
 some_copies c name row laws h = by (relation_of c.relations name) refl h
   where
@@ -144,7 +144,7 @@ come_absent c lines laws =
     omega (arith, none, some))) (All-contains_itself (first_lines lines))
 
 -- the lines that come are of different rows
-come_apart : (p : HeldLine → Bool) (hs : List HeldLine) → AreApart hs → AreApart (filter p hs)
+pub come_apart : (p : HeldLine → Bool) (hs : List HeldLine) → AreApart hs → AreApart (filter p hs)
 come_apart p [] apart = apart
 come_apart p (h ∷ hs) apart = by (p h) (come_apart p hs (pairs_tail (λ (x y : HeldLine). AreSame x y → ⊥) h hs apart))
   where

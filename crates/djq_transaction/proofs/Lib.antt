@@ -22,4 +22,5 @@ mod AnyOrder
 mod AppliedRows
 mod SettledLines
 mod InsertedRows
+mod RemovedRows
 mod Room

@@ -1,15 +1,18 @@
 -- The relations that lines name: each once, and each line's is among them.
 use Rattle.std.specs.Prelude.{List, [], ◌∷◌, ◌≡◌, ◌≢◌, ◌++◌, ◌||◌, Bool, true, false, cond, fold, All, AllPairs, Contains}
 use Rattle.std.specs.List.{list_any}
-use Rattle.std.proofs.Common.{refl, ap, ◌∙◌, arith}
-use Rattle.std.proofs.lemmas.List.Elements.{All-nil, All-cons, All-head, All-tail, All-append, Contains-append_right}
+use Rattle.std.proofs.Common.{refl, sym, ap, ◌∙◌, arith}
+use Rattle.std.proofs.lemmas.List.Elements.{All-nil, All-cons, All-head, All-tail, All-append, All-contains, Contains-append_right}
 use Rattle.std.proofs.lemmas.List.Folds.{list_any-append, list_any-from_Any}
 use Rattle.std.proofs.lemmas.List.Sums.{fold-append}
 use Rattle.djq_model.specs.Data.{Bytes, bytes_eq}
 use Rattle.djq_model.specs.Equality.{bytes_eq-decides}
-use Rattle.djq_answer_laws.proofs.Lists.{first_there, one_there, hold_each, pairs_join}
+use Rattle.djq_answer_laws.proofs.Lists.{first_there, one_there, some_one, hold_each, pairs_join}
 use Rattle.djq_transaction.specs.Held.{HeldLine}
+use Rattle.djq_transaction.specs.Lines.{same_row, with_naming, first_lines}
+use Rattle.djq_transaction.specs.LookUp.{AreSame}
 use Rattle.djq_transaction.specs.Grouped.{with_relation_named, relations_named}
+use Rattle.djq_transaction.proofs.FirstLines.{named_of}
 
 abbrev pub is_named : Bytes → List Bytes → Bool
 is_named name names = list_any (λ m. bytes_eq m name) names
@@ -78,3 +81,29 @@ each_named names (h ∷ rest) =
 pub named_step : (some : List HeldLine) (h : HeldLine)
     → relations_named (some ++ h ∷ []) ≡ with_relation_named (relations_named some) h
 named_step some h = fold-append with_relation_named [] some (h ∷ [])
+
+-- ---- the lines that name rows first name all relations, in the same order
+
+one_names : (firsts : List HeldLine) (h : HeldLine)
+    → with_relation_named (relations_named firsts) h ≡ relations_named (with_naming firsts h)
+one_names firsts h = by (list_any (λ (g : HeldLine). same_row g h) firsts) refl
+  where
+    by : (b : Bool) → list_any (λ (g : HeldLine). same_row g h) firsts ≡ b
+        → with_relation_named (relations_named firsts) h ≡ relations_named (cond b firsts (firsts ++ h ∷ []))
+    by true e =
+        let o = some_one (λ (g : HeldLine). AreSame g h) firsts (named_of firsts h e) in
+        let yes : is_named h.relation (relations_named firsts) ≡ true =
+        ap (λ (n : Bytes). is_named n (relations_named firsts)) (sym o.2.relation)
+        ∙ All-contains (λ (g : HeldLine). is_named g.relation (relations_named firsts) ≡ true) firsts o.0
+        (each_named [] firsts) o.1 in
+        ap (λ (b : Bool). cond b (relations_named firsts) (relations_named firsts ++ h.relation ∷ [])) yes
+    by false e = sym (named_step firsts h)
+
+names_on : (firsts rest : List HeldLine)
+    → fold with_relation_named (relations_named firsts) rest ≡ relations_named (fold with_naming firsts rest)
+names_on firsts [] = refl
+names_on firsts (h ∷ rest) = ap (λ (ns : List Bytes). fold with_relation_named ns rest) (one_names firsts h)
+    ∙ names_on (with_naming firsts h) rest
+
+pub named_by_firsts : (lines : List HeldLine) → relations_named (first_lines lines) ≡ relations_named lines
+named_by_firsts lines = sym (names_on [] lines)

@@ -13,7 +13,7 @@ so_many row n = record { row = row; copies = n }
 
 -- ---- a row that isn't there, and one that is last
 
-without_absent : (rows : List CountedRow) (row : Tuple) → has_row (plain_of rows) row ≡ false
+pub without_absent : (rows : List CountedRow) (row : Tuple) → has_row (plain_of rows) row ≡ false
     → without_copies rows row ≡ rows
 without_absent [] row e = refl
 without_absent (c ∷ rows) row e = by (tuple_eq c.row row) e (λ k. without_absent rows row k)

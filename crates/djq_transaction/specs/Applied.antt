@@ -39,7 +39,7 @@ pub record HasFirst (relations : List Relation) (lines : List HeldLine) (count :
       (filter (line_comes relations lines) (take count (first_lines lines)))
 
 -- All rows that come are inserted.
-pub record HasInserted (relations : List Relation) (lines : List HeldLine) (c : Catalog) (net : Net) : Type 0 where
+pub record HasAllInserted (relations : List Relation) (lines : List HeldLine) (c : Catalog) (net : Net) : Type 0 where
   pub judged : IsJudged relations c.texts lines net
   pub here : c.relations ≡ relations_between relations lines
 

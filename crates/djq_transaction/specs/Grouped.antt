@@ -39,7 +39,8 @@ groups_among relations texts lines some = map (group_among relations texts lines
 -- The rows that come and the rows that go by lines, each once, as `lines_come` and `lines_go` have them: a group of
 -- each relation that lines name, in the order in which they first do.
 abbrev pub grouped_rows : List Relation → List Bytes → List HeldLine → List RowGroup
-grouped_rows relations texts lines = groups_among relations texts lines (first_lines lines)
+grouped_rows relations texts lines =
+    map (group_among relations texts lines (first_lines lines)) (relations_named lines)
 
 -- a group without rows
 abbrev pub bare_group : RelationId → RowGroup

@@ -1,14 +1,14 @@
 -- What lines do to answers: answers only come up to the relations between, and from there only go.
-use Rattle.std.specs.Prelude.{List, ◌≡◌, ◌++◌, Some, filter, map}
+use Rattle.std.specs.Prelude.{List, ◌≡◌, ◌++◌, Some, filter, fold, map}
 use Rattle.djq_model.specs.declared.relation.Relation.{Relation}
-use Rattle.djq_model.specs.Data.{Bytes, bytes_eq, relation_of, rows_of}
+use Rattle.djq_model.specs.Data.{Bytes, bytes_eq, relation_of, rows_of, without_row}
 use Rattle.djq_model.specs.Listed.{Listed, AnswersOf}
 use Rattle.djq_store_spec.specs.Delta.{Change, IsDelta}
 use Rattle.djq_answer_laws.specs.Growing.{HaveRows}
 use Rattle.djq_answer_laws.specs.Net.{CancelsOut}
 use Rattle.djq_database.specs.Catalog.{Catalog, IsCatalog}
 use Rattle.djq_transaction.specs.Held.{HeldLine}
-use Rattle.djq_transaction.specs.Lines.{lines_come, relations_between, relations_after}
+use Rattle.djq_transaction.specs.Lines.{lines_come, lines_go, relations_between, relations_after}
 
 -- Up to the relations between, rows only come.
 abbrev pub LinesInsert : Type 0
@@ -27,6 +27,13 @@ RowsInserted = (c : Catalog) (lines : List HeldLine) (name : Bytes) (r : Relatio
 abbrev pub LinesRemove : Type 0
 LinesRemove = (relations : List Relation) (lines : List HeldLine)
     → HaveRows (relations_after relations lines) (relations_between relations lines)
+
+-- Afterwards a relation has these rows but for those that go.
+abbrev pub RowsRemoved : Type 0
+RowsRemoved = (c : Catalog) (lines : List HeldLine) (name : Bytes) → IsCatalog c
+    → rows_of (relations_after c.relations lines) name
+    ≡ fold without_row (rows_of (relations_between c.relations lines) name)
+    (map (λ (h : HeldLine). h.row) (filter (λ h. bytes_eq h.relation name) (lines_go c.relations lines)))
 
 -- So the answers that come up to the relations between, and those that go from there, settled, are the delta of the
 -- lines.

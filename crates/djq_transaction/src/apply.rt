@@ -3,7 +3,7 @@ ghost use Rattle.std.specs.Prelude.{◌≡◌, ◌<◌, ◌≤◌, ◌+◌, List
 ghost use Rattle.djq_model.specs.declared.relation.Relation.{Relation};
 ghost use Rattle.djq_transaction.specs.Held as spec;
 ghost use Rattle.djq_transaction.specs.Lines.{relations_after};
-ghost use Rattle.djq_transaction.specs.Applied.{IsJudged, HasFirst, HasInserted, HasChangedFirst};
+ghost use Rattle.djq_transaction.specs.Applied.{IsJudged, HasFirst, HasAllInserted, HasChangedFirst};
 
 use crate::copies::{change_copies, delete_copies, insert_row};
 use crate::net::Net;
@@ -92,7 +92,7 @@ pub fn insert_rows<L: Ledger>(
         × IsJudged catalog.old.relations catalog.old.texts lines net.now }
     ensures ok { OnOk result ((lines : List spec.HeldLine)
         → IsJudged catalog.old.relations catalog.old.texts lines net.now
-        → HasInserted catalog.old.relations lines catalog.new net.now) }
+        → HasAllInserted catalog.old.relations lines catalog.new net.now) }
     ensures err { OnErr result (catalog.new.relations ≡ catalog.old.relations) }
     ensures texts { catalog.new.texts ≡ catalog.old.texts }
 {
@@ -132,9 +132,9 @@ fn change_at<L: Ledger>(catalog: &mut Catalog, net: &Net, place: usize, tally: &
 /// the copies that lines leave of them. It takes no memory.
 pub fn remove_rows<L: Ledger>(catalog: &mut Catalog, net: &Net, tally: &mut Tally<L>)
     requires inserted { (relations : List Relation) × (lines : List spec.HeldLine)
-        × HasInserted relations lines catalog.old net.now }
+        × HasAllInserted relations lines catalog.old net.now }
     ensures after { (relations : List Relation) (lines : List spec.HeldLine)
-        → HasInserted relations lines catalog.old net.now
+        → HasAllInserted relations lines catalog.old net.now
         → catalog.new.relations ≡ relations_after relations lines }
     ensures texts { catalog.new.texts ≡ catalog.old.texts }
 {

@@ -1,11 +1,15 @@
 -- One more row joins its group.
 use Rattle.std.proofs.Common.{◌∙◌, ap, sym, refl, arith}
-use Rattle.std.specs.Prelude.{List, take}
+use Rattle.std.specs.Prelude.{List, take, map, length}
+use Rattle.std.proofs.lemmas.List.{take_all, length-map}
+use Rattle.djq_model.specs.Data.{Bytes}
+use Rattle.djq_transaction.specs.declared.net.Copies.{Copies}
+use Rattle.djq_transaction.proofs.NamedRelations.{named_by_firsts}
 use Rattle.std.proofs.lemmas.List.Elements.{All-take}
 use Rattle.djq_transaction.specs.Held.{HeldLine}
 use Rattle.djq_transaction.specs.Lines.{first_lines}
-use Rattle.djq_transaction.specs.Net.{Suits}
-use Rattle.djq_transaction.specs.Grouped.{groups_among}
+use Rattle.djq_transaction.specs.Net.{Suits, copies_by}
+use Rattle.djq_transaction.specs.Grouped.{group_among, groups_among}
 use Rattle.djq_transaction.proofs.Entries.{line_of}
 use Rattle.djq_transaction.proofs.groups.group_rows.Goals as goal
 
@@ -24,3 +28,18 @@ loop-place-preserved c = record {
       (c.loop-place.invariant.made lines j)
       ∙ ap (λ (hs : List HeldLine). groups_among relations texts lines hs) (sym l.more);
 }
+
+pub returns : goal.returns
+returns c = λ lines j.
+    let relations = c.args.catalog.now.relations in
+    let texts = c.args.catalog.now.texts in
+    let firsts = first_lines lines in
+    c.loop-place.invariant.made lines j
+    ∙ ap (λ (hs : List HeldLine). groups_among relations texts lines hs) (take_all c.loop-place.place firsts (omega (
+      arith,
+      c.loop-place-test.false,
+      c.len-place-end.ensures,
+      ap (λ (cs : List Copies). length cs) j.rows.copies,
+      length-map firsts (copies_by relations lines),
+    )))
+    ∙ ap (λ (ns : List Bytes). map (group_among relations texts lines firsts) ns) (named_by_firsts lines)

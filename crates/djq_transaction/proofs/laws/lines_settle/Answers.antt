@@ -2,16 +2,20 @@
 use Rattle.djq_transaction.specs.Lines.{relations_between, relations_after}
 use Rattle.djq_transaction.proofs.SettledLines.{lines_insert, lines_remove}
 use Rattle.djq_transaction.proofs.InsertedRows.{rows_inserted}
+use Rattle.djq_transaction.proofs.RemovedRows.{rows_removed}
 use Rattle.djq_transaction.proofs.laws.lines_settle.Goals as goal
 
 pub returns-clause-insert : goal.returns-clause-insert
 returns-clause-insert c = lines_insert
 
-pub returns-clause-rows : goal.returns-clause-rows
-returns-clause-rows c = rows_inserted
+pub returns-clause-inserted : goal.returns-clause-inserted
+returns-clause-inserted c = rows_inserted
 
 pub returns-clause-remove : goal.returns-clause-remove
 returns-clause-remove c = lines_remove
+
+pub returns-clause-removed : goal.returns-clause-removed
+returns-clause-removed c = rows_removed
 
 pub returns-clause-delta : goal.returns-clause-delta
 returns-clause-delta c = λ relations lines q come gone new d e s.
