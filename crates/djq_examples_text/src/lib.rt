@@ -17,6 +17,7 @@
 //! load       djq_load        the lines of a generated load
 //! io         djq_io         sources, sinks and hubs in memory
 //! journal    djq_journal    files of lines, and what a crash leaves of them
+//! log_file   djq_log_file    logs of the second format: read, damaged, appended, after a crash
 //! file       djq_system       a file as a disk
 //! net        djq_system        a hub over TCP
 //! ```
@@ -32,6 +33,8 @@ mod io;
 mod journal;
 #[cfg(test)]
 mod load;
+#[cfg(test)]
+mod log_file;
 #[cfg(test)]
 mod mirror;
 #[cfg(test)]

@@ -12,7 +12,7 @@ use Rattle.djq_log_format.specs.Format.{log_header, seed, records, digest_after}
 use Rattle.djq_log_file.specs.declared.opening.LogOpened.{LogOpened}
 use Rattle.djq_log_file.specs.declared.opening.LogOpened.TheVariants.{Unbegun, First, Second, Unknown, Failed}
 use Rattle.djq_log_file.specs.Standing.{HasRead}
-use Rattle.djq_log_file.specs.Opening.{IsUnbegun, BeginsWith, OneLogAlone, Identifies, OpensFile, first_log_header}
+use Rattle.djq_log_file.specs.Opening.{IsUnbegun, BeginsWith, OneLogAlone, Identifies, OpensLogFile, first_log_header}
 
 pub one_log : (file : List ℕ) → OneLogAlone file
 one_log file = record {
@@ -138,7 +138,7 @@ long_unknown buf o n long size no_second no_first fills =
 same_bytes : (o m : History) → Syncs Done o m → m.file.bytes ≡ o.file.bytes
 same_bytes o m syncs = ap (λ (h : History). h.file.bytes) syncs
 
-pub opened_by : (answer : LogOpened) (o m n : History) → Syncs Done o m → Identifies answer m n → OpensFile answer o n
+pub opened_by : (answer : LogOpened) (o m n : History) → Syncs Done o m → Identifies answer m n → OpensLogFile answer o n
 opened_by Unbegun o m n syncs is =
     (is.0 ∙ syncs, subst (λ (bytes : List ℕ). IsUnbegun bytes) (same_bytes o m syncs) is.1)
 opened_by First o m n syncs is =
@@ -156,14 +156,14 @@ opened_by Failed o m n syncs is = inr (is.0 ∙ syncs)
 
 -- The length was told before.
 pub sized_short : (answer : LogOpened) (size : ℕ) (o k m n : History) → Syncs Done o k → Sizes (Len size) k m
-    → (size ≡ length m.file.bytes → Identifies answer m n) → OpensFile answer o n
+    → (size ≡ length m.file.bytes → Identifies answer m n) → OpensLogFile answer o n
 sized_short answer size o k m n syncs sizes is =
     let same : m ≡ k = sizes.1 in
     let answered = is (sizes.0 ∙ sym (ap (λ (h : History). length h.file.bytes) same)) in
     opened_by answer o k n syncs (subst (λ (h : History). Identifies answer h n) same answered)
 
 pub sized_long : (answer : LogOpened) (size : ℕ) (o k m n : History) → Syncs Done o k → Sizes (Len size) k m → 8 < size
-    → (8 < length m.file.bytes → Identifies answer m n) → OpensFile answer o n
+    → (8 < length m.file.bytes → Identifies answer m n) → OpensLogFile answer o n
 sized_long answer size o k m n syncs sizes long is =
     let same : m ≡ k = sizes.1 in
     let bytes : length m.file.bytes ≡ length k.file.bytes = ap (λ (h : History). length h.file.bytes) same in

@@ -37,9 +37,9 @@ abbrev pub synced_history : History → History
 synced_history h = moved_to (settled h.file.bytes) h
 
 -- A log is opened after a sync, so that what is read outlives a crash. Where the disk failed nothing else changed.
-abbrev pub OpensFile : LogOpened → History → History → Type 0
-OpensFile Failed old new = (new ≡ old) ⊎ (new ≡ synced_history old)
-OpensFile answer old new = (new ≡ synced_history old) × IsLogOf answer old.file.bytes
+abbrev pub OpensLogFile : LogOpened → History → History → Type 0
+OpensLogFile Failed old new = (new ≡ old) ⊎ (new ≡ synced_history old)
+OpensLogFile answer old new = (new ≡ synced_history old) × IsLogOf answer old.file.bytes
 
 -- Which log the file is, and nothing changes.
 abbrev pub Identifies : LogOpened → History → History → Type 0

@@ -74,12 +74,12 @@ ReadsLine (Damaged at reason) lines place buf file = HasRead lines place file ×
 ReadsLine Failed lines place buf file = HasRead lines place file
 
 -- So it is where a reader has come before the next line of a record that is whole.
-abbrev pub Enters : Found → List (List ℕ) → ReadingPlace → List ℕ → Type 0
-Enters (Group size after) lines place file = HasRead lines place file
-Enters Ends lines place file =
+abbrev pub EntersRecord : Found → List (List ℕ) → ReadingPlace → List ℕ → Type 0
+EntersRecord (Group size after) lines place file = HasRead lines place file
+EntersRecord Ends lines place file =
     HasRead lines place file × EndsRead lines (record { at = place.at; digest = place.digest }) file
-Enters (Bad reason) lines place file = HasRead lines place file × IsDamagedAt lines place.at reason file
-Enters Unfound lines place file = HasRead lines place file
+EntersRecord (Bad reason) lines place file = HasRead lines place file × IsDamagedAt lines place.at reason file
+EntersRecord Unfound lines place file = HasRead lines place file
 
 -- where a line follows, bytes of a body are left
 abbrev pub EntersFits : Found → ReadingPlace → Type 0

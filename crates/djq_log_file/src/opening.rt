@@ -1,6 +1,6 @@
 ghost use Rattle.std.specs.Prelude.{◌≡◌, ◌<◌, ◌≤◌, length, true};
 ghost use Rattle.djq_disk.specs.History.{WhereHistoryTold};
-ghost use Rattle.djq_log_file.specs.Opening.{OpensFile, Identifies, CountsLogOpened};
+ghost use Rattle.djq_log_file.specs.Opening.{OpensLogFile, Identifies, CountsLogOpened};
 
 use crate::reader::LogReader;
 use djq_disk::{Disk, DiskDid, DiskLen, Filled, fill};
@@ -70,7 +70,7 @@ fn identify_long<D: Disk>(disk: &mut D) -> LogOpened
 pub fn open_log<D: Disk>(disk: &mut D) -> LogOpened
     requires { D.is_open disk.old ≡ true }
     ensures is_open { D.is_open disk.new ≡ true }
-    ensures told { WhereHistoryTold (D.told disk.old) (D.told disk.new) (OpensFile result) }
+    ensures told { WhereHistoryTold (D.told disk.old) (D.told disk.new) (OpensLogFile result) }
     ensures faults { CountsLogOpened result (D.faults disk.old) (D.faults disk.new) }
 {
     match disk.sync() {

@@ -3,7 +3,7 @@ ghost use Rattle.djq_disk.specs.History.{WhereHistoryTold};
 ghost use Rattle.djq_log_format.specs.Format.{seed};
 ghost use Rattle.djq_log_file.specs.Window.{ReadsThrough};
 ghost use Rattle.djq_log_file.specs.Entries.{CountsFound};
-ghost use Rattle.djq_log_file.specs.Standing.{HasRead, ReadsLine, Enters, EntersFits, LogLineFits, CountsLogLine};
+ghost use Rattle.djq_log_file.specs.Standing.{HasRead, ReadsLine, EntersRecord, EntersFits, LogLineFits, CountsLogLine};
 
 use crate::damage::Damage;
 use crate::entry::{Entry, read_entry};
@@ -62,7 +62,7 @@ impl LogReader {
         requires room { 65535 ≤ length buf.old }
         ensures is_open { D.is_open disk.new ≡ true }
         ensures told { WhereHistoryTold (D.told disk.old) (D.told disk.new)
-            (ReadsThrough (λ file. (lines : List (List ℕ)) → HasRead lines self.old file → Enters result lines self.new file)
+            (ReadsThrough (λ file. (lines : List (List ℕ)) → HasRead lines self.old file → EntersRecord result lines self.new file)
             window.old window.new) }
         ensures fits { EntersFits result self.new }
         ensures faults { CountsFound result (D.faults disk.old) (D.faults disk.new) }

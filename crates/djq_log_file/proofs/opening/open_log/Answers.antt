@@ -4,7 +4,7 @@ use Rattle.djq_disk.specs.History.{History, Syncs, Sizes}
 use Rattle.djq_disk.specs.declared.disk.DiskDid.TheVariants.{Done}
 use Rattle.djq_disk.specs.declared.disk.DiskLen.TheVariants.{Len}
 use Rattle.djq_disk.proofs.Files.{told_both}
-use Rattle.djq_log_file.specs.Opening.{OpensFile, Identifies}
+use Rattle.djq_log_file.specs.Opening.{OpensLogFile, Identifies}
 use Rattle.djq_log_file.proofs.Opens.{sized_short, sized_long}
 use Rattle.djq_log_file.proofs.opening.open_log.Goals as goal
 
@@ -13,7 +13,7 @@ returns-then-size-le8-clause-told g c =
     let size = c.in-Len.size in
     let answer = c.identify_short.result in
     told_both _ _ _ (λ o m. (k : History) × Syncs Done o k × Sizes (Len size) k m)
-    (λ o n. size ≡ length o.file.bytes → Identifies answer o n) (OpensFile answer)
+    (λ o n. size ≡ length o.file.bytes → Identifies answer o n) (OpensLogFile answer)
     (λ o m n before is. sized_short answer size o before.0 m n before.1 before.2 is)
     (told_both _ _ _ (Syncs Done) (Sizes (Len size)) (λ o m. (k : History) × Syncs Done o k × Sizes (Len size) k m)
     (λ o k m syncs sizes. (k, syncs, sizes)) c.in-Done.ensures.told c.in-Len.ensures.told)
@@ -24,7 +24,7 @@ returns-else-size-le8-clause-told g c =
     let size = c.in-Len.size in
     let answer = c.identify_long.result in
     told_both _ _ _ (λ o m. (k : History) × Syncs Done o k × Sizes (Len size) k m)
-    (λ o n. 8 < length o.file.bytes → Identifies answer o n) (OpensFile answer)
+    (λ o n. 8 < length o.file.bytes → Identifies answer o n) (OpensLogFile answer)
     (λ o m n before is. sized_long answer size o before.0 m n before.1 before.2 c.if-size-le8.false is)
     (told_both _ _ _ (Syncs Done) (Sizes (Len size)) (λ o m. (k : History) × Syncs Done o k × Sizes (Len size) k m)
     (λ o k m syncs sizes. (k, syncs, sizes)) c.in-Done.ensures.told c.in-Len.ensures.told)

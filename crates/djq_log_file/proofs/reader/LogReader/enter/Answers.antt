@@ -2,7 +2,7 @@
 use Rattle.std.proofs.Common.{◌+◌, ℕ, List, drop, sym, subst, arith}
 use Rattle.djq_log_file.specs.Entries.{StandsAtGate}
 use Rattle.djq_log_file.specs.Places.{ReadingPlace}
-use Rattle.djq_log_file.specs.Standing.{HasRead, Enters}
+use Rattle.djq_log_file.specs.Standing.{HasRead, EntersRecord}
 use Rattle.djq_log_file.specs.declared.record.Found.TheVariants.{Group, End, Bad}
 use Rattle.djq_log_file.proofs.Through.{reads_so}
 use Rattle.djq_log_file.proofs.Reading.{record_entered, log_ended, log_damaged}
@@ -29,8 +29,8 @@ returns-in-End-clause-told g c =
     let digest = c.self.inside.digest in
     let place : ReadingPlace = record { at = at; left = c.self.inside.left; digest = digest } in
     reads_so _ _ _ _ (λ file. StandsAtGate End digest (drop at file))
-    (λ file. (lines : List (List ℕ)) → HasRead lines c.args.self.now file → Enters End lines c.args.self.now file)
-    (λ file found lines. subst (λ (w : ReadingPlace). HasRead lines w file → Enters End lines w file) c.self.view_is
+    (λ file. (lines : List (List ℕ)) → HasRead lines c.args.self.now file → EntersRecord End lines c.args.self.now file)
+    (λ file found lines. subst (λ (w : ReadingPlace). HasRead lines w file → EntersRecord End lines w file) c.self.view_is
     (λ read. (read, log_ended lines place file read (omega (arith, c.if-self-ne0.false)) found)))
     c.in-End.ensures.told
 
@@ -41,7 +41,7 @@ returns-in-Bad-clause-told g c =
     let reason = c.in-Bad.reason in
     let place : ReadingPlace = record { at = at; left = c.self.inside.left; digest = digest } in
     reads_so _ _ _ _ (λ file. StandsAtGate (Bad reason) digest (drop at file))
-    (λ file. (lines : List (List ℕ)) → HasRead lines c.args.self.now file → Enters (Bad reason) lines c.args.self.now file)
-    (λ file found lines. subst (λ (w : ReadingPlace). HasRead lines w file → Enters (Bad reason) lines w file) c.self.view_is
+    (λ file. (lines : List (List ℕ)) → HasRead lines c.args.self.now file → EntersRecord (Bad reason) lines c.args.self.now file)
+    (λ file found lines. subst (λ (w : ReadingPlace). HasRead lines w file → EntersRecord (Bad reason) lines w file) c.self.view_is
     (λ read. (read, log_damaged lines place reason file read (omega (arith, c.if-self-ne0.false)) found.0 found.1)))
     c.in-Bad.ensures.told

@@ -1,7 +1,7 @@
 -- What was found at the gate, or the next line of the record.
 use Rattle.std.proofs.Common.{ℕ, List, sym, ap, subst, ◌∙◌}
 use Rattle.djq_log_file.specs.Places.{ReadingPlace, LogEndPlace}
-use Rattle.djq_log_file.specs.Standing.{HasRead, Enters, EndsRead, IsDamagedAt}
+use Rattle.djq_log_file.specs.Standing.{HasRead, EntersRecord, EndsRead, IsDamagedAt}
 use Rattle.djq_log_file.specs.declared.record.Found.TheVariants.{End as Ends, Bad}
 use Rattle.djq_log_file.proofs.Through.{reads_so}
 use Rattle.djq_log_file.proofs.Reading.{end_of_reading}
@@ -12,7 +12,7 @@ returns-in-End-clause-told g c =
     let old = c.args.self.now in
     let new = c.enter.new.self in
     let end = c.new.result in
-    reads_so _ _ _ _ (λ file. (lines : List (List ℕ)) → HasRead lines old file → Enters Ends lines new file)
+    reads_so _ _ _ _ (λ file. (lines : List (List ℕ)) → HasRead lines old file → EntersRecord Ends lines new file)
     (λ file. (lines : List (List ℕ)) → HasRead lines old file → HasRead lines new file × EndsRead lines end file)
     (λ file found lines read.
     let got = found lines read in (
@@ -28,7 +28,7 @@ returns-in-Bad-clause-told g c =
     let new = c.enter.new.self in
     let reason = c.in-Bad.reason in
     let at = c.self-in-Bad.inside.at in
-    reads_so _ _ _ _ (λ file. (lines : List (List ℕ)) → HasRead lines old file → Enters (Bad reason) lines new file)
+    reads_so _ _ _ _ (λ file. (lines : List (List ℕ)) → HasRead lines old file → EntersRecord (Bad reason) lines new file)
     (λ file. (lines : List (List ℕ)) → HasRead lines old file → HasRead lines new file × IsDamagedAt lines at reason file)
     (λ file found lines read.
     let got = found lines read in (
