@@ -20,7 +20,7 @@ const COMMIT_BYTES: usize = 1_048_576;
 /// And where more bytes than these were queued for one session since it began.
 const QUEUED_BYTES: u64 = 65_536;
 
-/// A number of lines that no commit comes to, by their bytes.
+/// A number of lines that no commit reaches, by their bytes.
 const MOST_LINES: u128 = 1 << 64;
 
 /// Memory for more bytes of lines than these is given back once the commit is cleared.

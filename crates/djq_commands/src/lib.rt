@@ -7,7 +7,7 @@
 //! who watch is djq_core's.
 //!
 //! ```text
-//! the session holds   add r 7      Left::Telling: one row came, and is to be published and answered
+//! the session holds   add r 7      Left::Telling: one row is new, and is to be published and answered
 //!                     watch q      Left::Nothing: `ok watch 1` is queued
 //!                     stop         Left::Stopping: `bye` is queued, and the session has ended
 //! ```

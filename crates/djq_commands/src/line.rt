@@ -202,7 +202,7 @@ fn is_for_batch(command: &Command) -> bool
     matches!(command, Command::Done | Command::Abandon)
 }
 
-/// Runs the line in front of a session that goes on, in the order of checks, and returns what is left to do.
+/// Runs the line in front of a session that hasn't ended, in the order of checks, and returns what is left to do.
 fn step_line<L: Ledgers>(
     alloc: Global,
     engine: &mut Store,
@@ -241,7 +241,7 @@ fn step_line<L: Ledgers>(
     }
 }
 
-/// Runs the line in front of a session that goes on and holds one, or ends it where its front is too long for a line,
+/// Runs the line in front of a session that hasn't ended and holds one, or ends it where its front is too long for a line,
 /// and returns what is left to do. The line is copied to the commit before, since the session lets go of it.
 fn step_front<L: Ledgers>(
     alloc: Global,
@@ -274,7 +274,7 @@ fn step_front<L: Ledgers>(
     }
 }
 
-/// Runs the next line of a session, to which the commit comes before, and returns what is left to do.
+/// Runs the next line of a session, which the commit has reached before, and returns what is left to do.
 pub fn step_session<L: Ledgers>(
     alloc: Global,
     engine: &mut Store,

@@ -25,7 +25,7 @@ impl Queued {
         self.most = 0;
     }
 
-    /// The commit comes to a session, before anything is queued for it.
+    /// The commit reaches a session, before anything is queued for it.
     #[inline]
     pub fn enter(&self, session: &mut Session<CursorId, Name>)
         ensures { session.new ≡ session.old }
@@ -33,7 +33,7 @@ impl Queued {
         session.begin_commit(self.commit);
     }
 
-    /// Counts what was queued for a session to which the commit came.
+    /// Counts what was queued for a session that the commit has reached.
     #[inline]
     pub fn count(&mut self, session: &Session<CursorId, Name>) {
         self.most = self.most.max(session.queued_in_commit());

@@ -7,7 +7,7 @@
 //! What surprises: a cursor's name belongs to its session, and stands for a cursor of the store;
 //! so two sessions may use one name, and a change outdates cursors in the store alone, whatever
 //! sessions they are of. A session's end gives up its cursors and its watches, and nothing else. A
-//! change is told to all who watch before the session that made it is answered.
+//! change is sent to all who watch before the session that made it is answered.
 //!
 //! ```text
 //! 1 says  query q(x) <- r(x)      pending for 1                   pending for 2
@@ -24,7 +24,7 @@
 //!
 //! A step logs its line, where the line is one that, loaded into a core without sessions, does there what
 //! it did here: it is appended to the open commit, from a copy that was made before the session let go of
-//! it, and `load` takes it in again. Of a batch that is done the lines are logged, which stay where they were
+//! it, and `load` reads it again. Of a batch that is done the lines are logged, which stay where they were
 //! held until the commit is cleared.
 //!
 //! Inside: `sessions` has the sessions by id, `serving` the calls, `serving/load` the lines that are

@@ -57,7 +57,7 @@ impl Model for Core {
 }
 
 impl Core {
-    /// The state in which nothing has happened. It takes the memory for all sessions, for what a step
+    /// The state in which nothing has happened. It allocates the memory for all sessions, for what a step
     /// logs, and for a row.
     ///
     /// # Errors

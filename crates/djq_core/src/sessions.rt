@@ -103,7 +103,7 @@ impl Sessions {
         &self.slab[key]
     }
 
-    /// The session at a place, to go on with it. It counts as one that may have a line, until
+    /// The session at a place, to continue it. It counts as one that may have a line, until
     /// [`settle`](Sessions::settle) finds otherwise.
     #[inline]
     pub(crate) fn get_mut(&mut self, at: usize) -> &mut Session<CursorId, Name>
@@ -142,7 +142,7 @@ impl Sessions {
     }
 
     /// The first session of at least this id to which something is due. The search begins at the place
-    /// of the id: whoever goes on from session to session doesn't pay for those that are behind.
+    /// of the id: whoever visits session after session doesn't pay for those before.
     #[inline(always)]
     pub(crate) fn first_due(&self, from: u128) -> Option<u64>
         ensures { result ≡ option_map (λ x. x.id)

@@ -1,4 +1,4 @@
-//! A change that is told to all who watch, and answered last.
+//! A change that is published to all who watch, and answered last.
 ghost use Rattle.std.specs.Prelude.{◌≡◌, ◌+◌, ◌≤◌, ◌<◌, [], false, true, None, All, IsSomeAnd, nat_le, slice_get};
 ghost use Rattle.djq_model.specs.Listed.{listed_name};
 ghost use Rattle.djq_protocol.specs.declared.limits.TheConstants.{LAST_LINE_BYTES, REPLY_BYTES};
@@ -28,7 +28,7 @@ use djq_reply::{put_at, put_change};
 use djq_session::Session;
 use djq_store::{CursorId, QueryId, Store};
 
-/// Whether a change was accepted: rows came that weren't there, or one went with its last copy.
+/// Whether a change was accepted: rows were inserted that weren't there, or one was deleted with its last copy.
 fn is_accepted(outcome: &Outcome) -> bool
     ensures { result ≡ is_accepted outcome.now }
 {
@@ -46,7 +46,7 @@ fn is_accepted(outcome: &Outcome) -> bool
     }
 }
 
-/// Prints the delta of a query behind what is printed, and tells whether it is there whole: its log
+/// Prints the delta of a query after what is printed, and returns whether it is there whole: its log
 /// may be lost, or there is no memory for the text.
 fn print_delta(engine: &Store, id: QueryId, query: &Name, text: &mut BytesMut) -> bool
     requires { IsRegistered engine.now id }
@@ -106,9 +106,9 @@ fn tell_watcher(
     queued.count(session);
 }
 
-/// A delta is told to all sessions that watch its query. It is printed once. The query is looked for at
+/// A delta is sent to all sessions that watch its query. It is printed once. The query is looked for at
 /// a place of what a session watches first, and the answer is the one behind that where it stood last:
-/// queries are told in order of registration, in which most are watched too.
+/// queries are published in order of registration, in which most are watched too.
 fn tell_query(
     engine: &mut Store,
     sessions: &mut Sessions,
@@ -152,7 +152,7 @@ fn some_watched(engine: &Store) -> bool
     false
 }
 
-/// The deltas of the queries that a change affected are told, in order of registration. It stands apart
+/// The deltas of the queries that a change affected are published, in order of registration. It stands apart
 /// from the way of a change that nobody watches.
 #[inline(never)]
 fn tell_affected(
@@ -188,7 +188,7 @@ fn tell_watched(
     }
 }
 
-/// The own session is answered, where it goes on. Behind a delta room is made anew.
+/// The own session is answered, if it hasn't ended. After a delta room is made anew.
 fn answer_last(engine: &mut Store, session: &mut Session<CursorId, Name>, outcome: &Outcome)
     requires { IsOwn engine.old session.old }
     ensures { Performs (λ st s x e st'. AnswersLast (nat_le (REPLY_BYTES + LAST_LINE_BYTES)

@@ -8,7 +8,7 @@ use crate::settle::{have_one_sign, settle_places};
 use std::alloc::Global;
 use std::marker::Model;
 
-/// The most lines that a delta takes until it is cleared: with one more it is large.
+/// The most lines of a delta until it is cleared: with one more it is large.
 pub const DELTA_LINES: usize = 1_000_000;
 
 /// The most cells of an answer.
@@ -28,9 +28,9 @@ pub enum DeltaStatus {
     Large,
 }
 
-/// The answers of one query that came or went during one change of rows, line by line.
+/// The answers of one query that were added or removed during one change of rows, line by line.
 ///
-/// A delta that is lost or large has no line, and takes none until it is cleared.
+/// A delta that is lost or large has no line, and gets none until it is cleared.
 #[derive(Drop)]
 pub struct Delta {
     width: usize,
@@ -129,7 +129,7 @@ impl Delta {
         self.places.is_empty()
     }
 
-    /// A line: whether its answer came, and the answer's cells.
+    /// A line: whether its answer was added, and the answer's cells.
     pub fn line(&self, index: usize) -> (bool, &[u64])
         requires { index < length self.now.lines }
         ensures line { slice_index_or self.now.lines index record { came = result.0; cells = result.1.now }
@@ -164,7 +164,7 @@ impl Delta {
         matches!(self.status, DeltaStatus::Large)
     }
 
-    /// Puts in a line after the others: whether its answer came, and the answer's cells.
+    /// Appends a line: whether its answer was added, and the answer's cells.
     ///
     /// Out of memory the delta is lost. If [`DELTA_LINES`] lines were pushed before this one it is
     /// large. Either way all its lines are dropped. A delta that isn't whole stays as it is.
@@ -195,7 +195,7 @@ impl Delta {
 
     /// Drops the lines that cancel out: those stay whose opposite isn't among them.
     ///
-    /// It takes no memory. If all lines came, or all went, nothing changes; else the lines are sorted
+    /// It allocates nothing. If all lines were added, or all removed, nothing changes; else the lines are sorted
     /// by their cells, in time proportional to k log k for k lines.
     pub fn settle(&mut self)
         requires { AreDistinctLines self.old.lines }
@@ -209,7 +209,7 @@ impl Delta {
         }
     }
 
-    /// Loses all lines: whoever pushes them can't go on.
+    /// Loses all lines: whoever pushes them can't continue.
     pub fn lose(&mut self)
         ensures lost { self.new.status ≡ Lost }
         ensures lines { self.new.lines ≡ [] }

@@ -1,13 +1,13 @@
 //! Laws of settling.
 ghost use Rattle.djq_delta.specs.Lines.{SettlingIsNet, SettlingTwiceIsOnce, SettlingShortens};
 
-/// The law of the net: of answers that came and then answers that went, those came in all that didn't go, and those
-/// went in all that hadn't come.
+/// The law of the net: of answers that were added and then answers that were removed, those were added in all that
+/// weren't removed, and those removed in all that weren't added.
 pub fn settling_is_net()
     ensures { SettlingIsNet }
 {}
 
-/// The law that settling twice comes to settling once.
+/// The law that settling twice is settling once.
 pub fn settling_twice_is_once()
     ensures { SettlingTwiceIsOnce }
 {}

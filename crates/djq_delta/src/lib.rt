@@ -1,7 +1,7 @@
-//! The delta of one registered query during one change of rows: which answers came, and which went.
+//! The delta of one registered query during one change of rows: which answers were added, and which removed.
 //!
-//! A [`Delta`] takes lines, each with a sign and the cells of an answer. [`Delta::settle`] drops the lines that cancel
-//! out: an answer that came and went during one change did neither. A delta that was refused memory is lost, and one of
+//! A [`Delta`] has lines, each with a sign and the cells of an answer. [`Delta::settle`] drops the lines that cancel
+//! out: an answer that one change adds and removes is no change. A delta that was refused memory is lost, and one of
 //! more than [`DELTA_LINES`] lines is large; either has no line until it is cleared.
 //!
 //! ```text
@@ -12,13 +12,13 @@
 //! settle            + (1, 3)   - (4, 4)
 //! ```
 //!
-//! Of a union, [`is_reported`] decides by the settled deltas of its members which answers came to it or went from it.
+//! Of a union, [`is_reported`] decides by the settled deltas of its members which answers it gained or lost.
 //!
 //! It lists no answers, and doesn't know its query: whoever lists the answers pushes the lines. The program doesn't use
 //! it yet; its deltas are logs of `djq_enumeration`, which this crate is to replace.
 //!
 //! What surprises: lines of both signs are in another order once they are settled. The cells of a line that was dropped
-//! take memory until the delta is cleared, and the line still counts among those that were pushed.
+//! use memory until the delta is cleared, and the line still counts among those that were pushed.
 //!
 //! Inside, the cells of all lines are in one array, line after line. A second array has for each line its sign and the
 //! place of its first cell, in the memory of one cell. Settling sorts this array alone and drops pairs from it, both in

@@ -1,4 +1,4 @@
-//! What the deltas of a union's members come to.
+//! What the deltas of a union's members mean for the union.
 ghost use Rattle.std.specs.Prelude.{◌≡◌, ◌<◌, ◌↔◌, length, Contains, IsTrue, slice_index_or};
 ghost use Rattle.djq_delta.specs.Members.{IsReportedLine};
 
@@ -26,7 +26,7 @@ pub fn has_line(delta: &Delta, came: bool, cells: &[u64]) -> bool
     false
 }
 
-/// Whether an answer came to a union, or went from it, by the settled deltas of its members, which are whole, and by
+/// Whether a union gained or lost an answer, by the settled deltas of its members, which are whole, and by
 /// which members have the answer now: the delta of a member has the line, none has the opposite, and no member without
 /// the line has the answer. It looks through all lines.
 pub fn is_reported(deltas: &[Delta], have: &[bool], came: bool, cells: &[u64]) -> bool

@@ -1,7 +1,7 @@
 //! One line of a delta, as it is packed: its sign, and the place of its cells.
 ghost use Rattle.std.specs.Prelude.{◌≡◌, ◌↔◌, IsTrue, take, drop};
 
-/// The sign of a line, and the place of its first cell. It takes the memory of one cell.
+/// The sign of a line, and the place of its first cell. It has the size of one cell.
 #[derive(Clone, Copy, Debug)]
 pub struct Place {
     pub at: u32,

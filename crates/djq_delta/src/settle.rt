@@ -17,14 +17,14 @@ fn has_sign(places: &[Place], came: bool) -> bool
     places.iter().any(|place| place.came == came)
 }
 
-/// Whether all lines came, or all of them went.
+/// Whether all lines were added, or all of them removed.
 pub fn have_one_sign(places: &[Place]) -> bool
     ensures { IsTrue result ↔ (All (λ p. p.came ≡ true) places.now ⊎ All (λ p. p.came ≡ false) places.now) }
 {
     !(has_sign(places, true) && has_sign(places, false))
 }
 
-/// Sorts places by the cells that are there. It takes no memory.
+/// Sorts places by the cells that are there. It allocates nothing.
 fn sort_by_cells(places: &mut [Place], cells: &[u64], width: usize)
     ensures permutation { IsPermutation places.old places.new }
     ensures sorted { IsSortedByKey (λ p. (placed_line width cells.now p).cells) (slice_cmp nat_cmp) places.new }

@@ -23,7 +23,7 @@ pub fn settled_lines_cancel_out()
     ensures { SettledLinesCancelOut }
 {}
 
-/// The law that lines of answers that came as rows came, and then of answers that went as rows went, are the delta of
+/// The law that lines of answers added as rows were inserted, and then of answers removed as rows were, are the delta of
 /// the whole change once they are settled.
 pub fn settled_lines_are_the_delta()
     ensures { SettledLinesAreDelta }

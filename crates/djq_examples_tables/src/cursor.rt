@@ -45,7 +45,7 @@ fn asked<L: Ledgers>(
     (is_answer, left, first, second)
 }
 
-/// Reducts with rows are tested where rows come in.
+/// Reducts with rows are tested with inserts.
 #[test]
 fn lists_nothing_where_there_is_no_row(rt: HostRuntime) -> Result<(), Fail> {
     let reducts = no_rows(rt.alloc())?;

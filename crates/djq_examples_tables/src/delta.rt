@@ -56,7 +56,7 @@ fn is_large_until_it_is_cleared(rt: HostRuntime) {
     assert!(rt; !delta.is_large());
 }
 
-/// An answer comes to a union unless another member has had it.
+/// A union gains an answer unless another member has had it.
 #[test]
 fn reports_what_no_other_member_has(rt: HostRuntime) {
     let mut first = Delta::new(rt.alloc(), 1);

@@ -66,7 +66,7 @@ fn marked<L: Ledger>(table: &Table, tally: &mut Tally<L>) -> u64 {
     sum
 }
 
-/// Puts in a tuple of the table's width that isn't there, and says whether it came.
+/// Puts in a tuple of the table's width that isn't there, and returns whether it was inserted.
 fn put<L: Ledger>(table: &mut Table, tuple: &[u64], tally: &mut Tally<L>) -> bool {
     if tuple.len() != table.width() || table.len() >= u32::MAX as usize {
         return false;
@@ -180,7 +180,7 @@ fn look_at<L: Ledger>(table: &mut Table, tally: &mut Tally<L>) -> Seen {
     }
 }
 
-/// Puts 1,000 pairs into an empty table, in 10 groups, and says whether each came and is found.
+/// Puts 1,000 pairs into an empty table, in 10 groups, and returns whether each was inserted and is found.
 fn grows<L: Ledger>(table: &mut Table, tally: &mut Tally<L>) -> bool {
     let mut found = true;
     for number in 0..1_000u64 {

@@ -37,7 +37,7 @@ fn planned(alloc: Global, edges: &Edges, head: VarSet) -> Result<Option<Reducts>
     Ok(Some(reducts))
 }
 
-/// Puts a tuple into a leaf, and keeps it or takes it back; says whether it was a tuple to come.
+/// Puts a tuple into a leaf, and leaves it there or removes it again; returns whether it was new.
 fn put<L: Ledger>(
     reducts: &mut Reducts,
     leaf: usize,
@@ -225,8 +225,8 @@ fn fill<L: Ledger>(reducts: &mut Reducts, tally: &mut Tally<L>) -> Result<bool, 
     Ok(one && two && three && five && nine)
 }
 
-/// What is seen as the rows come, as 7 comes to s and is taken back, as it comes with 8, as 5 goes from s, and as
-/// 7 goes with 8.
+/// What is seen as rows are inserted, as 7 is inserted into s and undone, as it is with 8, as 5 is deleted from s, and
+/// as 7 is with 8.
 fn updated<L: Ledger>(
     alloc: Global,
     reducts: &mut Reducts,

@@ -3,7 +3,7 @@ use djq_reduct::Reducts;
 use djq_tree::{Node, Tree};
 use std::test::Fail;
 
-/// Larger trees are tested where rows come in.
+/// Larger trees are tested with inserts.
 #[test]
 fn starts_without_tuples(rt: HostRuntime) -> Result<(), Fail> {
     let alloc = rt.alloc();

@@ -2,9 +2,9 @@
 ghost use Rattle.std.specs.Prelude.{◌≡◌, ℕ, ◌<◌, List, Option, Some, None};
 ghost use Rattle.djq_texts.specs.Known.{Known, known_at, with_less, HasNumber, IsOneToOne, Sets, TakesUse, FindsText};
 
-/// What [`Texts::find`](crate::Texts::find) returns after a use was taken or given back. It does nothing.
+/// What [`Texts::find`](crate::Texts::find) returns after a use was added or given back. It does nothing.
 ///
-/// A text of which a use was taken is found, under the number that was returned. One whose last use was given back isn't
+/// A text of which a use was added is found, under the number that was returned. One whose last use was given back isn't
 /// found. Any other text is found as before, or not at all as before.
 pub fn finding()
     ensures taken { (old new : List (Option Known)) (text : List ℕ) (n : ℕ) (r : Option ℕ) → IsOneToOne new

@@ -1,8 +1,8 @@
-//! Why no use of a text is taken.
+//! Why no use of a text is added.
 use std::alloc::AllocError;
 use thiserror::Error;
 
-/// Why no use of a text is taken.
+/// Why no use of a text is added.
 #[derive(Clone, Copy, Debug, PartialEq, Eq, Error)]
 pub enum TextsRefusal {
     /// The text isn't in use, and as many texts are as there may be.

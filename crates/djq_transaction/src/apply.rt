@@ -1,4 +1,4 @@
-//! A judged net is applied to a catalog: first all rows that come are inserted, then the others change.
+//! A judged net is applied to a catalog: first all new rows are inserted, then the others change.
 ghost use Rattle.std.specs.Prelude.{◌≡◌, ◌<◌, ◌≤◌, ◌+◌, List, length, OnOk, OnErr};
 ghost use Rattle.djq_model.specs.declared.relation.Relation.{Relation};
 ghost use Rattle.djq_transaction.specs.Held as spec;
@@ -12,7 +12,7 @@ use djq_database::Catalog;
 use djq_model::NoMem;
 use std::sync::ledger::Ledger;
 
-/// Inserts the row at a place of a net if it comes, with its copies.
+/// Inserts the row at a place of a net if it is new, with its copies.
 ///
 /// # Errors
 ///
@@ -42,7 +42,7 @@ fn insert_at<L: Ledger>(
     Ok(())
 }
 
-/// Removes the row at a place of a net again if it came, where it is the last one that did. It takes no memory.
+/// Removes the row at a place of a net again if it was inserted, as the last one. It allocates nothing.
 fn take_at<L: Ledger>(catalog: &mut Catalog, net: &Net, place: usize, tally: &mut Tally<L>)
     requires first { (relations : List Relation) × (lines : List spec.HeldLine)
         × HasFirst relations lines (place + 1) catalog.old net.now }
@@ -61,7 +61,7 @@ fn take_at<L: Ledger>(catalog: &mut Catalog, net: &Net, place: usize, tally: &mu
     delete_copies(catalog, id, cells.as_slice(), copies.after, 0, tally);
 }
 
-/// Removes the rows that came, of the first so many of a net, the last one first. It takes no memory.
+/// Removes the inserted rows, of the first so many of a net, the last one first. It allocates nothing.
 fn take_back<L: Ledger>(catalog: &mut Catalog, net: &Net, count: usize, tally: &mut Tally<L>)
     requires first { (relations : List Relation) × (lines : List spec.HeldLine)
         × HasFirst relations lines count catalog.old net.now }
@@ -77,7 +77,7 @@ fn take_back<L: Ledger>(catalog: &mut Catalog, net: &Net, count: usize, tally: &
     }
 }
 
-/// Inserts the rows of a judged net that come, each with its copies. Every other row stays as it is until
+/// Inserts the new rows of a judged net, each with its copies. Every other row stays as it is until
 /// [`remove_rows`].
 ///
 /// # Errors
@@ -109,7 +109,7 @@ pub fn insert_rows<L: Ledger>(
     Ok(())
 }
 
-/// Gives the row at a place of a net its copies if it doesn't come; without any it is removed. It takes no memory.
+/// Gives the row at a place of a net its copies if it isn't new; without any it is removed. It allocates nothing.
 fn change_at<L: Ledger>(catalog: &mut Catalog, net: &Net, place: usize, tally: &mut Tally<L>)
     requires first { (relations : List Relation) × (lines : List spec.HeldLine)
         × HasChangedFirst relations lines place catalog.old net.now }
@@ -128,8 +128,8 @@ fn change_at<L: Ledger>(catalog: &mut Catalog, net: &Net, place: usize, tally: &
     change_copies(catalog, id, cells.as_slice(), copies, tally);
 }
 
-/// Removes the rows of a net that go, with all copies, once those that come are inserted; and gives those that stay
-/// the copies that lines leave of them. It takes no memory.
+/// Removes the rows of a net that have no copy left, once the new ones are inserted; and gives those that stay
+/// the copies that lines leave of them. It allocates nothing.
 pub fn remove_rows<L: Ledger>(catalog: &mut Catalog, net: &Net, tally: &mut Tally<L>)
     requires inserted { (relations : List Relation) × (lines : List spec.HeldLine)
         × HasAllInserted relations lines catalog.old net.now }

@@ -10,7 +10,7 @@ use djq_database::{Catalog, RelationId, RowsRefusal};
 use djq_model::NoMem;
 use std::sync::ledger::Ledger;
 
-/// Adds copies of a row that is there, from one number of them to another. It takes no memory.
+/// Adds copies of a row that is there, from one number of them to another. It allocates nothing.
 fn add_copies<L: Ledger>(
     catalog: &mut Catalog,
     id: RelationId,
@@ -32,7 +32,7 @@ fn add_copies<L: Ledger>(
     }
 }
 
-/// Deletes copies of a row, from one number of them to another; with the last one the row goes. It takes no memory.
+/// Deletes copies of a row, from one number of them to another; with the last one the row is removed. It allocates nothing.
 pub(crate) fn delete_copies<L: Ledger>(
     catalog: &mut Catalog,
     id: RelationId,
@@ -84,7 +84,7 @@ pub(crate) fn insert_row<L: Ledger>(
     Ok(())
 }
 
-/// Sets the copies of a row that isn't inserted. It takes no memory.
+/// Sets the copies of a row that isn't inserted. It allocates nothing.
 pub(crate) fn change_copies<L: Ledger>(
     catalog: &mut Catalog,
     id: RelationId,

@@ -45,7 +45,7 @@ pub struct Buffer {
     pub bytes: Vec<u8>,
 }
 
-/// Lines that are held until `done`, in one buffer: each with its row, and its bytes as they came. Contracts see the
+/// Lines that are held until `done`, in one buffer: each with its row, and its bytes as they were received. Contracts see the
 /// lines, and their bytes.
 #[derive(Drop)]
 pub struct Transaction {
@@ -184,7 +184,7 @@ impl Transaction {
             && line <= HELD_BYTES - self.buffer.bytes.len()
     }
 
-    /// Appends a line: what it does, to a row of which relation, and its bytes as they came.
+    /// Appends a line: what it does, to a row of which relation, and its bytes as received.
     ///
     /// # Errors
     ///
@@ -231,7 +231,7 @@ impl Transaction {
         &self.buffer.values[entry.row_start..entry.row_end]
     }
 
-    /// The line of the log at a place, from 0: `batch`, the held lines as they came, `done`. None exactly from their
+    /// The line of the log at a place, from 0: `batch`, the held lines as received, `done`. None exactly from their
     /// number on.
     pub fn line(&self, at: usize) -> Option<&[u8]>
         ensures { option_copied result ≡ slice_get (log_lines self.now) at }

@@ -1,4 +1,4 @@
-//! Lines that were kept, loaded while no session is open: nobody is answered or told.
+//! Lines of the log, loaded while no session is open: nobody is answered or sent a delta.
 ghost use Rattle.std.specs.Prelude.{◌≡◌, [], is_some, None, Some};
 ghost use Rattle.djq_machine.specs.Loading.{LoadStep, StoreLoads, refused_by};
 ghost use Rattle.djq_commands.specs.Views.{loading_in};
@@ -169,7 +169,7 @@ fn load_row(held: Sequence<HeldRow>, made: Result<HeldRow, Refusal>) -> (Loaded,
     }
 }
 
-/// What a result comes to, by whether its line would be kept.
+/// What a result means, by whether its line would be logged.
 fn loaded<A>(outcome: &Result<A, Refusal>, kept: bool) -> Loaded
     ensures { result ≡ comes_to outcome.now kept }
 {
@@ -179,7 +179,7 @@ fn loaded<A>(outcome: &Result<A, Refusal>, kept: bool) -> Loaded
     }
 }
 
-/// What a line that is refused comes to.
+/// What a line that is refused means.
 fn refused(refusal: Refusal) -> Loaded
     ensures { result ≡ refused_by refusal }
 {
