@@ -4,8 +4,8 @@
 //! told. With `--log PATH` the second and the third begin with what the lines of that file give, and
 //! keep in it what changes that.
 //!
-//! `main` makes the real source, sink, hub and disk, which tell no bytes, and calls [`run_program`],
-//! which is the program over any of them.
+//! `main` makes the real source, sink, hub and disk, of which the sink and the hub note their calls for the
+//! proofs, and calls [`run_program`], which is the program over any of them.
 //!
 //! What surprises: a failed call of the system is said on standard error, with the system's reason, by
 //! the stream, the hub or the disk that it failed. Why the program ends otherwise `main` says there.

@@ -13,8 +13,8 @@
 //!
 //! What surprises: help and version words are no command, and are answered by the usage line. Under `serve`
 //! replies come a commit at a time: to all sessions, once what its lines log is in the log. What the
-//! theorem states of bytes holds if the source, sink or hub records them; of the real ones it states
-//! which calls were made and what their answers did.
+//! theorem states of bytes holds if the source, sink or hub records them, as the real sink and hub do; of
+//! the real source and disk it states which calls were made and what their answers did.
 //!
 //! What this crate is not: it opens no file and no socket, and reads no command line. The program's
 //! `main` makes the real source, sink, hub and disk. A server of another kind is another

@@ -4,3 +4,5 @@ pub mod Tcp
 pub mod Found
 pub mod Request
 pub mod FileDisk
+pub mod Notes
+pub mod HubNotes

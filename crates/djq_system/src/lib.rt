@@ -3,8 +3,12 @@
 //!
 //! [`TcpHub`] is a hub of sessions over TCP, [`FileDisk`] a file as a disk, [`StdSource`] and
 //! [`StdSink`] a reader and a writer of `std::io`, such as [`StandardInput`] and [`StandardOutput`]. Each
-//! is a few lines over std, `mio` or `libc`. None records what bytes it was given (its record is `None`), and
-//! each counts its faults.
+//! is a few lines over std, `mio` or `libc`, and each counts its faults.
+//!
+//! [`StdSink`] and [`TcpHub`] note each call with its answer, in a list that exists in the proofs alone and takes no
+//! memory. So what is proved of the bytes that are written, brought and sent holds of them. That they make the calls
+//! that they note has to be read. [`StdSource`] and [`FileDisk`] show no record (it is `None`): it would contain what
+//! no call answers, the bytes that are left to read and what a crash leaves of a file.
 //!
 //! What this crate is not: it runs no lines, has no authentication and no encryption, and buffers
 //! nothing. What a client doesn't read remains with the server, which ends such a session by its
@@ -64,7 +68,9 @@
 
 mod conn;
 mod file_disk;
+mod hub_notes;
 mod listening;
+mod notes;
 mod request;
 mod size_limit;
 mod standard;

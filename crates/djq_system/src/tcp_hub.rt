@@ -1,12 +1,16 @@
-ghost use Rattle.std.specs.Prelude.{◌≡◌, ◌<◌, ◌≤◌, true, false, IfOk, IfSome, Contains, length};
+ghost use Rattle.std.specs.Prelude.{◌≡◌, ◌<◌, ◌≤◌, true, false, [], ◌∷◌, Some, IfOk, IfSome, Contains, length};
 ghost use Rattle.djq_io.specs.Faults.{Counted};
 ghost use Rattle.djq_io.specs.Hub.{no_ids, Turns};
 ghost use Rattle.djq_io.specs.HubFaults.{CountsListen, CountsTurn, SameCounts, CountsInTurn};
 ghost use Rattle.djq_io.specs.Sessions.{faults_of};
+ghost use Rattle.djq_io.specs.Sink.{Gains};
+ghost use Rattle.djq_io.specs.declared.hub.Told.{Told};
 ghost use Rattle.djq_system.specs.Tcp.{TurnsAway};
 
 use crate::conn::{self, Conn, Found};
+use crate::hub_notes::{note_close, note_listen, note_send, note_turn};
 use crate::listening::{LISTENER, Listening};
+use crate::notes::Notes;
 use djq_io::{Class, Hub, Listened, Sent, Sessions, Turn};
 use mio::{Events, Token};
 use std::alloc::{AllocError, Global};
@@ -34,7 +38,7 @@ const MOST_BYTES: usize = 65_536;
 /// After how many milliseconds without a turn or a flush the hub is late.
 const LATE: u64 = 5;
 
-/// A hub over TCP. It records no bytes, and shows the ids of its sessions and its counts of faults.
+/// A hub over TCP, seen as its calls so far with their answers, the ids of its sessions and its counts of faults.
 ///
 /// Each call is a few lines over the system's. It prints to standard error its version and the address at which it
 /// listens, or why it can't, and once that connections can't be accepted, which it counts. A turn waits at most a
@@ -72,16 +76,19 @@ pub struct TcpHub<
     /// How many connections couldn't be accepted.
     turned_away: u64,
     faults: u64,
+    notes: Notes,
 }
 
 impl<R: Net<Listener = net::TcpListener, Stream = net::TcpStream> + Eprint + Clock + Drop> Model
     for TcpHub<R> {
-    ghost use Rattle.std.specs.Prelude.{is_some};
+    ghost use Rattle.std.specs.Prelude.{is_some, map};
+    ghost use Rattle.djq_system.specs.HubNotes.{told_noted};
     ghost use Rattle.djq_system.specs.Tcp.{ShownByTcp};
 
     ghost Value = { ShownByTcp };
 
     ghost view = { λ h. record {
+      past = map told_noted h.notes.calls;
       listens = is_some h.listening;
       ids = h.sessions.ids;
       faults = h.faults;
@@ -95,6 +102,7 @@ impl<R: Net<Listener = net::TcpListener, Stream = net::TcpStream> + Eprint + Clo
 > {
     /// A hub that doesn't listen yet, over the runtime. It allocates the memory for all places.
     pub fn new(rt: R, alloc: Global) -> Result<Self, AllocError>
+        ensures past { IfOk result (λ hub. hub.past ≡ []) }
         ensures listens { IfOk result (λ hub. hub.listens ≡ false) }
         ensures ids { IfOk result (λ hub. hub.ids ≡ no_ids) }
         ensures faults { IfOk result (λ hub. hub.faults ≡ 0) }
@@ -121,6 +129,7 @@ impl<R: Net<Listener = net::TcpListener, Stream = net::TcpStream> + Eprint + Clo
             said: false,
             turned_away: 0,
             faults: 0,
+            notes: Notes::new(),
         })
     }
 
@@ -146,6 +155,7 @@ impl<R: Net<Listener = net::TcpListener, Stream = net::TcpStream> + Eprint + Clo
     /// accepted is left to the system: it may be closed, or the system may be out of descriptors. That
     /// has a count of its own, since a fault of the hub would end the serving of all others.
     fn accept(&mut self) -> Turn
+        ensures past { self.new.past ≡ self.old.past }
         ensures ids { Turns result 0 self.old.ids self.new.ids }
         ensures faults { self.new.faults ≡ self.old.faults }
         ensures counts { CountsInTurn result self.old.ids.open_ids (faults_of self.old.counts)
@@ -209,6 +219,7 @@ impl<R: Net<Listener = net::TcpListener, Stream = net::TcpStream> + Eprint + Clo
     /// Looks at the next place that may have something: a connection that is ready, or the listener.
     fn look(&mut self, buf: &mut [u8]) -> Turn
         requires { 0 < length buf.old }
+        ensures past { self.new.past ≡ self.old.past }
         ensures ids { Turns result (length buf.new) self.old.ids self.new.ids }
         ensures faults { self.new.faults ≡ self.old.faults }
         ensures counts { CountsInTurn result self.old.ids.open_ids (faults_of self.old.counts)
@@ -246,6 +257,7 @@ impl<R: Net<Listener = net::TcpListener, Stream = net::TcpStream> + Eprint + Clo
     /// Visits the places that may have something, in a circle, until one has or none may.
     fn go_round(&mut self, buf: &mut [u8]) -> Turn
         requires { 0 < length buf.old }
+        ensures past { self.new.past ≡ self.old.past }
         ensures ids { Turns result (length buf.new) self.old.ids self.new.ids }
         ensures faults { self.new.faults ≡ self.old.faults }
         ensures counts { CountsInTurn result self.old.ids.open_ids (faults_of self.old.counts)
@@ -311,6 +323,7 @@ impl<R: Net<Listener = net::TcpListener, Stream = net::TcpStream> + Eprint + Clo
     /// Returns what a place has, after asking the system for events if the turn isn't at hand.
     fn take_turn(&mut self, buf: &mut [u8]) -> Turn
         requires { 0 < length buf.old }
+        ensures past { self.new.past ≡ self.old.past }
         ensures ids { Turns result (length buf.new) self.old.ids self.new.ids }
         ensures faults { CountsTurn result self.old.faults self.new.faults }
         ensures counts { CountsInTurn result self.old.ids.open_ids (faults_of self.old.counts)
@@ -340,12 +353,12 @@ impl<R: Net<Listener = net::TcpListener, Stream = net::TcpStream> + Eprint + Clo
 
 impl<R: Net<Listener = net::TcpListener, Stream = net::TcpStream> + Eprint + Clock + Drop> Hub
     for TcpHub<R> {
-    ghost use Rattle.std.specs.Prelude.{None};
+    ghost use Rattle.std.specs.Prelude.{Some, None};
     ghost use Rattle.djq_io.specs.Sessions.{faults_of};
 
     ghost script = { λ _. None };
 
-    ghost past = { λ _. None };
+    ghost past = { λ h. Some h.past };
 
     ghost ids = { λ h. h.ids };
 
@@ -354,6 +367,7 @@ impl<R: Net<Listener = net::TcpListener, Stream = net::TcpStream> + Eprint + Clo
     ghost session_faults = { λ h. faults_of h.counts };
 
     fn listen(&mut self, addr: &str) -> Listened
+        ensures past { Gains (Some self.old.past) (Some self.new.past) (Told.Listening addr.now result ∷ []) }
         ensures listens { result ≡ Listened.Ready → self.new.listens ≡ true }
         ensures ids { self.new.ids ≡ self.old.ids }
         ensures faults { CountsListen result self.old.faults self.new.faults }
@@ -366,11 +380,13 @@ impl<R: Net<Listener = net::TcpListener, Stream = net::TcpStream> + Eprint + Clo
                 }
                 self.listening = Some(listening);
                 self.knocks = true;
+                note_listen(&mut self.notes, addr, Listened::Ready);
                 Listened::Ready
             }
             Err(error) => {
                 let _ = eprintln!(self.rt; "djq: can't listen on {addr}: {error}");
                 self.faults = self.faults.saturating_add(1);
+                note_listen(&mut self.notes, addr, Listened::Failed);
                 Listened::Failed
             }
         }
@@ -378,6 +394,7 @@ impl<R: Net<Listener = net::TcpListener, Stream = net::TcpStream> + Eprint + Clo
 
     fn turn(&mut self, buf: &mut [u8]) -> Turn {
         let turn = self.take_turn(buf);
+        note_turn(&mut self.notes, turn, buf);
         self.since = Instant::now(&self.rt).ok();
         self.flushed = u64::MAX;
         turn
@@ -388,9 +405,11 @@ impl<R: Net<Listener = net::TcpListener, Stream = net::TcpStream> + Eprint + Clo
         // Beside clients that don't read a flush comes to many that are full, one after the other.
         if self.flushed < id && conn::is_full(&self.conns, id) {
             self.flushed = id;
+            note_send(&mut self.notes, id, piece, Sent::Again);
             return Sent::Again;
         }
         let sent = conn::send(&mut self.conns, id, piece);
+        note_send(&mut self.notes, id, piece, sent);
         // A flush sends by rising ids, so with this one another has begun. The clock isn't read for each session.
         if id <= self.flushed {
             self.since = Instant::now(&self.rt).ok();
@@ -418,6 +437,7 @@ impl<R: Net<Listener = net::TcpListener, Stream = net::TcpStream> + Eprint + Clo
 
     fn close(&mut self, id: u64) {
         conn::close(&mut self.conns, id);
+        note_close(&mut self.notes, id);
         // The places behind it move down by one.
         self.ready_from = self.ready_from.saturating_sub(1);
         self.sessions.close(id);
