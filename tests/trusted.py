@@ -26,6 +26,9 @@ from marked import Pages  # noqa: E402
 WHOLE = ("TcpHub", "FileDisk")
 ALONE = ("StdSource", "StdSink", "Telling")
 
+# The functions that are proved by hand: they alone set the ghost list of calls.
+BY_HAND = {f"crates/djq_system/proofs/notes/Notes/{name}/Proof.antt" for name in ("new", "note")}
+
 # Words that assume a statement or leave one open, in definitions and proofs; and that only trust covers, in code.
 ASSUMING = re.compile(r"\b(?:axiom|Prim\.Axiom)\b|(?:^|[\s(,])\?")
 TRUSTING = re.compile(r"\b(?:unsafe|extern|Abort|Wait|forever|transmute)\b")
@@ -139,6 +142,14 @@ def hold_assumptions(held):
         held.check(not places, "\n".join(f"{place}: assumes something, or uses what only trust covers" for place in places))
 
 
+def hold_proofs_by_hand(held):
+    """No function is proved by hand but those that set a ghost list of calls, whose text TRUST.md asks to be read."""
+    found = {os.path.relpath(path, ROOT) for path in sources("proofs/**/Proof.antt")}
+    for path in sorted(found ^ BY_HAND):
+        held.check(False, f"{path}: proved by hand, and TRUST.md doesn't say so" if path in found else f"{path}: isn't there")
+    held.check(found == BY_HAND, "the proofs by hand aren't those that TRUST.md names")
+
+
 def calls(program):
     """The functions of the C library that a program calls, or None where that can't be told."""
     if not shutil.which("nm"):
@@ -205,6 +216,7 @@ def main():
         held.write()
     held.hold()
     hold_assumptions(held)
+    hold_proofs_by_hand(held)
     held.check(files, "no file meets the system")
     print(f"{held.passed} passed, {held.failed} failed")
     return 1 if held.failed else 0
