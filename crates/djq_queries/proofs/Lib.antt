@@ -4,3 +4,6 @@ pub mod Chains
 pub mod Works
 pub mod Logs
 pub mod Costs
+pub mod Changes
+pub mod ChangedLogs
+pub mod ChangeCosts
