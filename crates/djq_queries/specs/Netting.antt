@@ -1,0 +1,26 @@
+-- Groups that come, and after them groups that go: the rows of the relations, and the answers.
+use Rattle.std.specs.Prelude.{List, ◌++◌}
+use Rattle.djq_model.specs.Listed.{Listed, AnswersOf}
+use Rattle.djq_store_spec.specs.Delta.{Change, IsDelta}
+use Rattle.djq_database.specs.Catalog.{Catalog}
+use Rattle.djq_answer_laws.specs.Growing.{HaveRows}
+use Rattle.djq_answer_laws.specs.Net.{CancelsOut}
+use Rattle.djq_reach.specs.declared.group.Group.{Group}
+use Rattle.djq_reach.specs.Grouping.{ComesBy}
+use Rattle.djq_queries.specs.Going.{GoesBy}
+
+-- Where groups come, rows only come.
+abbrev pub GroupsOnlyCome : Type 0
+GroupsOnlyCome = (c d : Catalog) (groups : List Group) → ComesBy c groups d → HaveRows c.relations d.relations
+
+-- Where groups go, rows only go.
+abbrev pub GroupsOnlyGo : Type 0
+GroupsOnlyGo = (c d : Catalog) (groups : List Group) → GoesBy c groups d → HaveRows d.relations c.relations
+
+-- Groups come, and from there groups go: the answers that came and those that went, settled, are the
+-- delta of the whole change.
+abbrev pub GroupsSettle : Type 0
+GroupsSettle = (c e d : Catalog) (come gone : List Group) (q : Listed) → ComesBy c come e → GoesBy e gone d
+    → (came went new : List Change) → IsDelta (AnswersOf c.relations q) (AnswersOf e.relations q) came
+    → IsDelta (AnswersOf e.relations q) (AnswersOf d.relations q) went
+    → CancelsOut (came ++ went) new → IsDelta (AnswersOf c.relations q) (AnswersOf d.relations q) new

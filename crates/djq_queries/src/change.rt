@@ -1,0 +1,75 @@
+//! What a change by which groups of rows come, and after them groups of rows go, does to the queries
+//! that read one of the relations.
+ghost use Rattle.std.specs.Prelude.{◌≡◌, ◌≤◌, ℕ, OnOk, OnErr, length};
+ghost use Rattle.djq_database.specs.Catalog.{Catalog as CatalogModel};
+ghost use Rattle.djq_live_query.specs.Live.{IsKept};
+ghost use Rattle.djq_reach.specs.Places.{readers_at, AreOnce};
+ghost use Rattle.djq_reach.specs.Reaching.{Reach, AllAt, Renews};
+ghost use Rattle.djq_reach.specs.Tending.{Tends, AreUnwatched};
+ghost use Rattle.djq_reach.specs.Grouping.{group_relations, rows_of_groups, times_back, WorksBy};
+ghost use Rattle.djq_queries.specs.Changing.{touched, CanChangeBy, GroupsChange, TellsChangeAt};
+ghost use Rattle.djq_queries.specs.Changing.{EmptiesWatched, CostsChange, WorksChange};
+
+use crate::gone::delete_batch_from_readers;
+use djq_counters::{Ledgers, Steps};
+use djq_enumeration::DeltaLog;
+use djq_live_query::LiveQuery;
+use djq_model::NoMem;
+use djq_reach::{Group, QueryPlaces, clear_logs, insert_batch_into_readers};
+
+/// The queries that read a relation of either list take in the rows of the groups that come, and then
+/// let out those of the groups that go. The readers say in which places the queries stand that read a
+/// relation. The log of each of these queries that is watched has then the answers that came by all
+/// groups that come, and after them those that went by all groups that go, or is lost. What came and
+/// went again was an answer neither before nor after.
+///
+/// # Errors
+///
+/// `NoMem` out of memory, before any row goes; answers are as before, and the logs of all these queries
+/// that are watched are empty. Updates count what a refusal of the groups that come does.
+pub fn change_readers<L: Ledgers>(
+    queries: &mut Vec<Option<LiveQuery>>,
+    watchers: &[u32],
+    logs: &mut Vec<DeltaLog>,
+    readers: &[QueryPlaces],
+    come: &[Group],
+    gone: &[Group],
+    steps: &mut Steps<L>,
+) -> Result<(), NoMem>
+    requires once { (r : ℕ) → AreOnce (readers_at readers.now r) }
+    requires come_differ { AreOnce (group_relations come.now) }
+    requires gone_differ { AreOnce (group_relations gone.now) }
+    requires can { CanChangeBy readers.now come.now gone.now queries.old.items }
+    requires watched { length watchers.now ≡ length queries.old.items }
+    requires logged { length logs.old.items ≡ length queries.old.items }
+    ensures changed { OnOk result ((c e d : CatalogModel)
+        → GroupsChange readers.now come.now gone.now queries.old.items c e d
+        → AllAt (touched readers.now come.now gone.now) queries.old.items (λ l. IsKept c l)
+        → Reach (touched readers.now come.now gone.now) (Renews d)
+        queries.old.items queries.new.items) }
+    ensures given { OnErr result ((c e d : CatalogModel)
+        → GroupsChange readers.now come.now gone.now queries.old.items c e d
+        → AllAt (touched readers.now come.now gone.now) queries.old.items (λ l. IsKept c l)
+        → Reach (touched readers.now come.now gone.now) (Renews c)
+        queries.old.items queries.new.items) }
+    ensures tells { OnOk result ((c e d : CatalogModel)
+        → GroupsChange readers.now come.now gone.now queries.old.items c e d
+        → AllAt (touched readers.now come.now gone.now) queries.old.items (λ l. IsKept c l)
+        → Tends (touched readers.now come.now gone.now) (TellsChangeAt watchers.now c e d)
+        queries.old.items logs.old.items logs.new.items) }
+    ensures emptied { OnErr result (EmptiesWatched (touched readers.now come.now gone.now) watchers.now
+        logs.old.items logs.new.items) }
+    ensures counted { CostsChange readers.now come.now gone.now watchers.now queries.old.items
+        steps.old.listing steps.new.listing }
+    ensures unlisted { AreUnwatched watchers.now (touched readers.now come.now gone.now)
+        → steps.new.listing ≡ steps.old.listing }
+    ensures updates { OnOk result (WorksChange readers.now come.now gone.now queries.old.items
+        steps.old.update steps.new.update) }
+    ensures refusal { OnErr result (WorksBy readers.now come.now queries.old.items
+        (rows_of_groups come.now) times_back steps.old.update steps.new.update) }
+{
+    clear_logs(logs, watchers, readers, gone);
+    insert_batch_into_readers(queries, watchers, logs, readers, come, steps)?;
+    delete_batch_from_readers(queries, watchers, logs, readers, gone, steps);
+    Ok(())
+}
