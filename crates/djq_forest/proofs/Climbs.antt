@@ -1,6 +1,6 @@
 -- On its way up an entry that came to live is told by one edge after the other.
-use Rattle.std.specs.Prelude.{◌≡◌, ℕ, ◌-◌, ◌<◌, ◌≤◌, Bool, true, false, cond, ◌==◌, ◌||◌, List, [], ◌∷◌, zero, suc, length, slice_index_or}
-use Rattle.std.specs.Prelude.{Option, Some, None, MatchOption}
+use Rattle.std.specs.Prelude.{◌≡◌, ℕ, ◌<◌, ◌≤◌, Bool, true, false, cond, ◌==◌, ◌||◌, List, [], ◌∷◌, zero, suc, length, slice_index_or}
+use Rattle.std.specs.Prelude.{Option, Some, None, MatchOption, IfSome}
 use Rattle.std.specs.List.{sum_by}
 use Rattle.std.proofs.Common.{refl, sym, ◌∙◌, ap, subst, arith}
 use Rattle.std.proofs.lemmas.List.Sums.{sum_by-cons}
@@ -8,7 +8,7 @@ use Rattle.djq_forest.specs.Forest.{Knot, Forest, nth_knot, nth_edge, has_entry,
 use Rattle.djq_forest.specs.Invariants.{AreEntries}
 use Rattle.djq_forest.specs.Telling.{target, tell_fed}
 use Rattle.djq_forest.specs.Pending.{told_but, pending_after, IsToldBut, comes_by_fed}
-use Rattle.djq_forest.specs.Rising.{HasSameEntries, IsPendingOf, HasRisen, MayRise, AreUps, RisesWith}
+use Rattle.djq_forest.specs.Rising.{HasSameEntries, IsPendingOf, HasRisen, MayRise, AreUps, RisesWith, RiseStopsAt, height_left}
 use Rattle.djq_forest.specs.Steps.{CanTellFed}
 use Rattle.djq_forest.proofs.Checking.{knot_within}
 use Rattle.djq_forest.proofs.Alike.{same_lower}
@@ -102,17 +102,13 @@ climb_sound f k y j u = same_sound f (tell_fed f j y) u.entries (climb_same f k 
 
 -- ---- how far it is
 
--- how much higher than a knot others may be
-abbrev pub height_left : List Knot → ℕ → ℕ
-height_left ks k = sum_by (λ a. a.rank) ks - (nth_knot ks k).rank
-
-rank_low : (ks : List Knot) (k : ℕ) → (nth_knot ks k).rank ≤ sum_by (λ a. a.rank) ks
+pub rank_low : (ks : List Knot) (k : ℕ) → (nth_knot ks k).rank ≤ sum_by (λ a. a.rank) ks
 rank_low [] k = omega arith
 rank_low (a ∷ ks) zero = let s = sum_by-cons (λ b. b.rank) a ks in omega (arith, s)
 rank_low (a ∷ ks) (suc k) =
     let s = sum_by-cons (λ b. b.rank) a ks in let low = rank_low ks k in omega (arith, s, low)
 
-ranks_same : (ks hs : List Knot) → length hs ≡ length ks → ((k : ℕ) → (nth_knot hs k).rank ≡ (nth_knot ks k).rank)
+pub ranks_same : (ks hs : List Knot) → length hs ≡ length ks → ((k : ℕ) → (nth_knot hs k).rank ≡ (nth_knot ks k).rank)
     → sum_by (λ a. a.rank) hs ≡ sum_by (λ a. a.rank) ks
 ranks_same [] [] l h = refl
 ranks_same [] (b ∷ hs) l h = absurd (omega arith)
@@ -171,3 +167,39 @@ pub stop_risen : (f g : Forest) (k y j : ℕ) (came : Bool) → LeadsUp f k j �
     → came ≡ comes_by_fed f j y → came ≡ false → HasRisen f g k y
 stop_risen f g k y j came u rise is comes not = subst (λ (d : Forest). HasRisen f d k y) (sym is)
     (climb_stop f k y j u rise (sym comes ∙ not))
+
+-- ---- where it stops
+
+pub stop_here : (ups : List (Option ℕ)) (f : Forest) (k y j : ℕ) (feeds : Bool) → AreUps ups f
+    → Some j ≡ slice_index_or ups k None → feeds ≡ (nth_edge f.edges j).feeds → feeds ≡ false → MayRise f k y
+    → RiseStopsAt f f k k j y
+stop_here ups f k y j feeds u here fed not rise =
+    let up = u.edge k j (sym here) in
+    let side = sym fed ∙ not in
+    record {
+      rise = rise;
+      edge = up.0;
+      side = side;
+      small = sym (ap (λ (b : Bool). cond b (nth_edge f.edges j).big (nth_edge f.edges j).small) side) ∙ up.1;
+      higher = omega arith;
+    }
+
+stop_from : (f e g : Forest) (k s h j z : ℕ) → height_left e.knots s < height_left f.knots k → RiseStopsAt e g s h j z
+    → RiseStopsAt f g k h j z
+stop_from f e g k s h j z near at = record {
+  rise = at.rise;
+  edge = at.edge;
+  side = at.side;
+  small = at.small;
+  higher = let high = at.higher in omega (arith, near, high);
+}
+
+pub some_on : {A : Type 0} (o : Option A) (R S : A → Type 0) → ((a : A) → R a → S a) → IfSome o R → IfSome o S
+some_on None R S h i = i
+some_on (Some a) R S h i = h a i
+
+pub stops_from : {A : Type 0} (o : Option A) (knot edge slot : A → ℕ) (f e g : Forest) (k y s t : ℕ) → Next f e k y s t
+    → IfSome o (λ a. RiseStopsAt e g s (knot a) (edge a) (slot a)) → IfSome o (λ a. RiseStopsAt f g k (knot a) (edge a) (slot a))
+stops_from o knot edge slot f e g k y s t next = some_on o (λ a. RiseStopsAt e g s (knot a) (edge a) (slot a))
+    (λ a. RiseStopsAt f g k (knot a) (edge a) (slot a))
+    (λ a at. stop_from f e g k s (knot a) (edge a) (slot a) next.nearer at)

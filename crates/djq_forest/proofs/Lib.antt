@@ -20,4 +20,5 @@ pub mod Pendings
 pub mod Rises
 pub mod Sides
 pub mod Climbs
+pub mod SideWalks
 pub mod Worked

@@ -5,13 +5,13 @@ use Rattle.std.proofs.lemmas.Bool.{cases_eq, ne_eqb}
 use Rattle.djq_arena.specs.Chains.{AreDistinctSlots, IsOut}
 use Rattle.djq_hypergraph.specs.Hypergraph.{member}
 use Rattle.djq_forest.specs.Forest.{Forest, nth_edge, has_entry, lives, list_of}
-use Rattle.djq_forest.specs.Invariants.{AreEntries}
+use Rattle.djq_forest.specs.Invariants.{AreEntries, IsForest}
 use Rattle.djq_forest.specs.Telling.{to_tell, target}
-use Rattle.djq_forest.specs.Pending.{source_knot, source_slot, is_source, told_but, IsToldBut}
+use Rattle.djq_forest.specs.Pending.{source_knot, source_slot, is_source, told_but, no_pending, IsToldBut}
 use Rattle.djq_forest.specs.Rising.{HasSameEntries, LivesOn, IsDue, IsPendingOf, less_at, less_of, HaveTold, HasRisen, RisingSteps}
 use Rattle.djq_forest.proofs.TieChanges.{not_member}
 use Rattle.djq_forest.proofs.Alike.{same_lower}
-use Rattle.djq_forest.proofs.Pendings.{of_life, life_source, choice_same, told_same, left_is, right_is, and_no, no_source}
+use Rattle.djq_forest.proofs.Pendings.{pendings, of_life, life_source, choice_same, told_same, left_is, right_is, and_no, no_source}
 use Rattle.djq_forest.proofs.Rises.{same_alike, same_self, same_on, same_sound, entry_same, to_tell_by}
 use Rattle.djq_forest.proofs.Rises.{told_fed, told_fed_on, told_side, told_side_on, risen_up, risen_top}
 
@@ -26,7 +26,7 @@ have_on f g j [] t = subst (λ (e : Forest). LivesOn f e) t (λ k y alive. alive
 have_on f g j (x ∷ xs) t = λ k y alive. have_on t.0 g j xs t.2 k y (t.1.on k y alive)
 
 -- what is to be told stays so
-tell_on : (f h : Forest) (i z : ℕ) → HasSameEntries f h → LivesOn f h → to_tell f i z ≡ true → to_tell h i z ≡ true
+pub tell_on : (f h : Forest) (i z : ℕ) → HasSameEntries f h → LivesOn f h → to_tell f i z ≡ true → to_tell h i z ≡ true
 tell_on f h i z same on tell =
     let entry = left_is (has_entry f.knots (nth_edge f.edges i).big z) (of_life f i z) tell in
     let life = right_is (has_entry f.knots (nth_edge f.edges i).big z) (of_life f i z) tell in
@@ -38,7 +38,7 @@ tell_on f h i z same on tell =
     (life_source h i z ∙ ap₂ (λ (a b : ℕ). lives h.knots a b) knot slot
     ∙ on (source_knot f i) (source_slot f i z) (sym (life_source f i z) ∙ life))
 
-due_on : (f h : Forest) (pending : ℕ → ℕ → Bool) (j x : ℕ) → HasSameEntries f h → LivesOn f h → IsDue f pending
+pub due_on : (f h : Forest) (pending : ℕ → ℕ → Bool) (j x : ℕ) → HasSameEntries f h → LivesOn f h → IsDue f pending
     → IsDue h (less_at pending j x)
 due_on f h pending j x same on due = λ i z l e p. tell_on f h i z same on
     (due i z (let k = same.edges in omega arith) (sym (entry_same f h i z same) ∙ e)
@@ -49,24 +49,24 @@ abbrev less_all : (ℕ → ℕ → Bool) → ℕ → List ℕ → ℕ → ℕ �
 less_all pending j [] i z = pending i z
 less_all pending j (x ∷ xs) i z = less_all (less_at pending j x) j xs i z
 
-less_true : (p a b : Bool) → p ≡ true → b ≡ false → (p && not (a && b)) ≡ true
+pub less_true : (p a b : Bool) → p ≡ true → b ≡ false → (p && not (a && b)) ≡ true
 less_true p a b h k = rw (h, k, and_no a) refl
 
-distinct_parts : (x : ℕ) (xs : List ℕ) → AreDistinctSlots (x ∷ xs) → IsOut x xs × AreDistinctSlots xs
+pub distinct_parts : (x : ℕ) (xs : List ℕ) → AreDistinctSlots (x ∷ xs) → IsOut x xs × AreDistinctSlots xs
 unfolding AreDistinctSlots
 distinct_parts x xs d = d
 
-first_in : (x : ℕ) (xs : List ℕ) → member x (x ∷ xs) ≡ true
+pub first_in : (x : ℕ) (xs : List ℕ) → member x (x ∷ xs) ≡ true
 first_in x xs = rw (eq-eqb x x refl) refl
 
-later_in : (z x : ℕ) (xs : List ℕ) → member z xs ≡ true → member z (x ∷ xs) ≡ true
+pub later_in : (z x : ℕ) (xs : List ℕ) → member z xs ≡ true → member z (x ∷ xs) ≡ true
 later_in z x xs h = or_true (z == x) (member z xs) h
   where
     or_true : (a b : Bool) → b ≡ true → (a || b) ≡ true
     or_true true b h = refl
     or_true false b h = h
 
-later_other : (z x : ℕ) (xs : List ℕ) → IsOut x xs → member z xs ≡ true → z ≡ x → ⊥
+pub later_other : (z x : ℕ) (xs : List ℕ) → IsOut x xs → member z xs ≡ true → z ≡ x → ⊥
 later_other z x xs out m same =
     let here : member x xs ≡ true = ap (λ (n : ℕ). member n xs) (sym same) ∙ m in
     let both : true ≡ false = sym here ∙ not_member x xs out in
@@ -126,7 +126,7 @@ both_none true p q h = rw (h refl) refl
 both_none false p q h = refl
 
 -- which slots are listed for it
-listed_for : (f : Forest) (pending : ℕ → ℕ → Bool) (j y z : ℕ) → IsToldBut f pending → j < length f.edges
+pub listed_for : (f : Forest) (pending : ℕ → ℕ → Bool) (j y z : ℕ) → IsToldBut f pending → j < length f.edges
     → (nth_edge f.edges j).feeds ≡ false → has_entry f.knots (nth_edge f.edges j).big z ≡ true
     → member z (list_of (nth_edge f.edges j) y) ≡ (target f j z == y)
 listed_for f pending j y z told l side e = told.listed j z y l
@@ -158,7 +158,7 @@ source_life : (f : Forest) (a k b y : ℕ) → ((a == k) && (b == y)) ≡ true �
 source_life f a k b y is = ap₂ (λ (m n : ℕ). lives f.knots m n) (eqb-true a k (left_is (a == k) (b == y) is))
     (eqb-true b y (right_is (a == k) (b == y) is))
 
-listed_pending : (f : Forest) (pending : ℕ → ℕ → Bool) (j y x : ℕ) → j < length f.edges
+pub listed_pending : (f : Forest) (pending : ℕ → ℕ → Bool) (j y x : ℕ) → j < length f.edges
     → (nth_edge f.edges j).feeds ≡ false → IsPendingOf f pending (nth_edge f.edges j).small y
     → member x (list_of (nth_edge f.edges j) y) ≡ true → (to_tell f j x ≡ true) × (pending j x ≡ true)
 listed_pending f pending j y x l side h is =
@@ -191,6 +191,19 @@ risen_side f g j y a l side t =
           (λ x in_list. listed_pending f pending j y x l side h in_list));
     }
 
+-- ---- at the end
+
+less_none : (p s : Bool) → (p ≡ true → s ≡ true) → (p && not s) ≡ false
+less_none true s h = rw (h refl) refl
+less_none false s h = refl
+
+risen_whole : (f g : Forest) (pending : ℕ → ℕ → Bool) (k y : ℕ) → AreEntries f → IsPendingOf f pending k y
+    → ((i z : ℕ) → pending i z ≡ true → is_source f k y i z ≡ true) → HasRisen f g k y → IsForest g
+risen_whole f g pending k y a h own risen = pendings.settled g (same_sound f g a risen.same)
+    (told_same g (told_but g (less_of f pending k y)) (told_but g no_pending)
+    (λ i z l. ap (λ (b : Bool). to_tell g i z && not b) (less_none (pending i z) (is_source f k y i z) (own i z)))
+    (risen.told pending h))
+
 -- ---- all steps
 
 pub risings : RisingSteps
@@ -203,4 +216,5 @@ risings = record {
   up = risen_up;
   side_up = risen_side;
   top = risen_top;
+  whole = risen_whole;
 }

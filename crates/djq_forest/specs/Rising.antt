@@ -1,8 +1,9 @@
 -- What is told of an entry that came to live, and of all that comes to live by it.
-use Rattle.std.specs.Prelude.{◌≡◌, ℕ, ◌<◌, ◌≤◌, Bool, true, false, not, ◌==◌, ◌&&◌, List, [], ◌∷◌, length, slice_index_or, Option, Some, None}
-use Rattle.djq_forest.specs.Forest.{Forest, nth_knot, nth_edge, has_entry, lives, list_of}
+use Rattle.std.specs.Prelude.{◌≡◌, ℕ, ◌-◌, ◌<◌, ◌≤◌, Bool, true, false, not, ◌==◌, ◌&&◌, List, [], ◌∷◌, length, slice_index_or, Option, Some, None}
+use Rattle.std.specs.List.{sum_by}
+use Rattle.djq_forest.specs.Forest.{Knot, Forest, nth_knot, nth_edge, has_entry, lives, list_of}
 use Rattle.djq_forest.specs.Shape.{lower}
-use Rattle.djq_forest.specs.Invariants.{AreEntries}
+use Rattle.djq_forest.specs.Invariants.{AreEntries, IsForest}
 use Rattle.djq_forest.specs.Telling.{to_tell, target, tell_fed, tell_side}
 use Rattle.djq_forest.specs.Pending.{is_source, IsToldBut, comes_by_fed, comes_by_side}
 
@@ -82,6 +83,19 @@ pub record AreUps (ups : List (Option ℕ)) (f : Forest) : Type 0 where
 abbrev pub RisesWith : Forest → Forest → ℕ → ℕ → ℕ → ℕ → Type 0
 RisesWith f g k y h z = (e : Forest) → HasRisen g e h z → HasRisen f e k y
 
+-- how much higher than a knot others may be
+abbrev pub height_left : List Knot → ℕ → ℕ
+height_left ks k = sum_by (λ a. a.rank) ks - (nth_knot ks k).rank
+
+-- the way up in f from the knot k comes in g to the entry in slot z of the knot h, which is to rise and is a side by the
+-- edge j
+pub record RiseStopsAt (f g : Forest) (k h j z : ℕ) : Type 0 where
+  pub rise : MayRise g h z
+  pub edge : j < length g.edges
+  pub side : (nth_edge g.edges j).feeds ≡ false
+  pub small : (nth_edge g.edges j).small ≡ h
+  pub higher : height_left g.knots h ≤ height_left f.knots k
+
 -- g is f once the edge j has told these slots, one after the other, and all has been told that hangs on it
 abbrev pub HaveTold : Forest → Forest → ℕ → List ℕ → Type 0
 HaveTold f g j [] = f ≡ g
@@ -89,7 +103,7 @@ HaveTold f g j (x ∷ xs) = (h : Forest) × HasTold f h j x × HaveTold h g j xs
 
 -- a step tells all that hangs on it if nothing comes to live by it; else what came to live has to rise; and an entry has
 -- risen once the edge that leads up from its knot has told it, or, where its knot is a side, all that are tied to it; or
--- if no edge leads up
+-- if no edge leads up. If nothing else was pending the forest is whole then
 pub record RisingSteps : Type 0 where
   pub entries : (f g : Forest) → AreEntries f → HasSameEntries f g → AreEntries g
   pub fed : (f : Forest) (j x : ℕ) → AreEntries f → j < length f.edges → (nth_edge f.edges j).feeds ≡ true
@@ -107,3 +121,5 @@ pub record RisingSteps : Type 0 where
   pub side_up : (f g : Forest) (j y : ℕ) → AreEntries f → j < length f.edges → (nth_edge f.edges j).feeds ≡ false
       → HaveTold f g j (list_of (nth_edge f.edges j) y) → HasRisen f g (nth_edge f.edges j).small y
   pub top : (f : Forest) (k y : ℕ) → ((j : ℕ) → j < length f.edges → lower (nth_edge f.edges j) ≡ k → ⊥) → HasRisen f f k y
+  pub whole : (f g : Forest) (pending : ℕ → ℕ → Bool) (k y : ℕ) → AreEntries f → IsPendingOf f pending k y
+      → ((i z : ℕ) → pending i z ≡ true → is_source f k y i z ≡ true) → HasRisen f g k y → IsForest g

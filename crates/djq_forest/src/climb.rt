@@ -1,20 +1,21 @@
-//! The way up from an entry that came to live, along edges that feed.
+//! What an entry's coming to live makes known: the way up along edges that feed, and all that hangs on a side.
 
 ghost use Rattle.std.specs.Prelude.{◌≡◌, ◌<◌, ℕ, false, length, slice_index_or, Some, None, IfSome, MatchOption};
 ghost use Rattle.djq_forest.specs.Forest.{nth_edge};
 ghost use Rattle.djq_forest.specs.Invariants.{AreEntries};
-ghost use Rattle.djq_forest.specs.Rising.{MayRise, AreUps, HasSameEntries, HasRisen, RisesWith};
+ghost use Rattle.djq_forest.specs.Rising.{MayRise, AreUps, HasSameEntries, HasRisen, RisesWith, RiseStopsAt};
 ghost use Rattle.djq_forest.specs.Steps.{forest_with};
 
 use crate::edge::Edge;
 use crate::knot::Knot;
-use crate::steps::{feeds_at, small_at, tell_fed, to_at};
+use crate::steps::{big_at, feeds_at, first_at, next_at, small_at, tell_fed, tell_side, to_at};
 use djq_arena::Link;
 
-/// An entry at which the way up stops: its knot is a side.
+/// An entry at which the way up stops: its knot is a side by an edge.
 #[derive(Clone, Copy)]
 pub(crate) struct Stop {
     pub knot: usize,
+    pub edge: usize,
     pub slot: u32,
 }
 
@@ -43,14 +44,19 @@ pub(crate) fn climb(
         (HasRisen (forest_with knots.old.items edges.old.items) (forest_with knots.new.items edges.new.items) knot slot)
         (λ stop. RisesWith (forest_with knots.old.items edges.old.items) (forest_with knots.new.items edges.new.items)
         knot slot stop.knot stop.slot) }
-    ensures left { IfSome result (λ stop. MayRise (forest_with knots.new.items edges.new.items) stop.knot stop.slot) }
+    ensures left { IfSome result (λ stop. RiseStopsAt (forest_with knots.old.items edges.old.items)
+        (forest_with knots.new.items edges.new.items) knot stop.knot stop.edge stop.slot) }
 {
     let up = match up_from(ups, knot) {
         None => return None,
         Some(edge) => edge as usize,
     };
     if !feeds_at(edges, up) {
-        return Some(Stop { knot, slot });
+        return Some(Stop {
+            knot,
+            edge: up,
+            slot,
+        });
     }
     let small = small_at(edges, up);
     let to = to_at(edges, up, slot);
@@ -58,4 +64,32 @@ pub(crate) fn climb(
         return None;
     }
     climb(knots, edges, ups, small, to)
+}
+
+/// Tells all that hangs on an entry that came to live. Where the way up stops at a side, each entry that is tied to that is
+/// told, and rises in its turn if it comes to live.
+pub(crate) fn rise(
+    knots: &mut Vec<Knot>,
+    edges: &mut Vec<Edge>,
+    ups: &Vec<Link>,
+    knot: usize,
+    slot: u32,
+)
+    requires entries { AreEntries (forest_with knots.old.items edges.old.items) }
+    requires ups { AreUps ups.now.items (forest_with knots.old.items edges.old.items) }
+    requires rise { MayRise (forest_with knots.old.items edges.old.items) knot slot }
+    ensures { HasRisen (forest_with knots.old.items edges.old.items) (forest_with knots.new.items edges.new.items) knot slot }
+{
+    let stop = match climb(knots, edges, ups, knot, slot) {
+        None => return,
+        Some(stop) => stop,
+    };
+    let big = big_at(edges, stop.edge);
+    let mut rest = first_at(edges, stop.edge, stop.slot);
+    while let Some(tied) = rest {
+        rest = next_at(edges, stop.edge, tied);
+        if tell_side(knots, edges, stop.edge, tied) {
+            rise(knots, edges, ups, big, tied);
+        }
+    }
 }

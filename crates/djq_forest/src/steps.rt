@@ -1,6 +1,7 @@
 //! The steps of a change: an entry is told, or told no more, that another one lives.
 
-ghost use Rattle.std.specs.Prelude.{◌≡◌, ◌+◌, ◌-◌, ◌<◌, ◌==◌, ◌&&◌, true, false, ◌∷◌, length};
+ghost use Rattle.std.specs.Prelude.{◌≡◌, ◌+◌, ◌-◌, ◌<◌, ◌==◌, ◌&&◌, ℕ, true, false, List, ◌∷◌, ◌++◌, length};
+ghost use Rattle.djq_arena.specs.Chains.{first_of};
 ghost use Rattle.djq_hypergraph.specs.Hypergraph.{member};
 ghost use Rattle.djq_forest.specs.declared.slots.TheConstants.{OUT};
 ghost use Rattle.djq_forest.specs.Forest.{nth_edge, has_entry, missing_at, tie_of, list_of};
@@ -89,8 +90,27 @@ pub(crate) fn small_at(edges: &Vec<Edge>, at: usize) -> usize
     edges[at].small()
 }
 
+/// The first slot that an edge lists for a slot of its small knot, if there is one.
+pub(crate) fn first_at(edges: &Vec<Edge>, at: usize, to: u32) -> Option<u32>
+    requires within { at < length edges.now.items }
+    requires lists { to < length (nth_edge edges.now.items at).lists }
+    ensures { result ≡ first_of (list_of (nth_edge edges.now.items at) to) }
+{
+    edges[at].first(to)
+}
+
+/// The slot after a slot of an edge's list, if there is one.
+pub(crate) fn next_at(edges: &Vec<Edge>, at: usize, slot: u32) -> Option<u32>
+    requires within { at < length edges.now.items }
+    requires listed { member slot (list_of (nth_edge edges.now.items at) (tie_of (nth_edge edges.now.items at) slot)) ≡ true }
+    ensures { (xs ys : List ℕ) → list_of (nth_edge edges.now.items at) (tie_of (nth_edge edges.now.items at) slot)
+        ≡ xs ++ slot ∷ ys → result ≡ first_of ys }
+{
+    edges[at].next(slot)
+}
+
 /// The big knot of an edge.
-fn big_at(edges: &Vec<Edge>, at: usize) -> usize
+pub(crate) fn big_at(edges: &Vec<Edge>, at: usize) -> usize
     requires { at < length edges.now.items }
     ensures { result ≡ (nth_edge edges.now.items at).big }
 {

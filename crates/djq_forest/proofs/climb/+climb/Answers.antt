@@ -2,10 +2,11 @@
 use Rattle.std.proofs.Common.{sym, arith}
 use Rattle.djq_forest.specs.Rising.{HasRisen, RisesWith}
 use Rattle.djq_forest.specs.Steps.{forest_with}
+use Rattle.djq_forest.specs.declared.climb.Stop.{Stop}
 use Rattle.djq_forest.proofs.StepChanges.{tied_tie}
 use Rattle.djq_forest.proofs.Rises.{same_on}
 use Rattle.djq_forest.proofs.Sides.{risings}
-use Rattle.djq_forest.proofs.Climbs.{ups_same, lead_by, next_by, stop_same, stop_risen, climb_can, may_within, option_on}
+use Rattle.djq_forest.proofs.Climbs.{ups_same, lead_by, next_by, stop_same, stop_risen, climb_can, may_within, option_on, stop_here, stops_from}
 use Rattle.djq_forest.proofs.climb.+climb.Goals as goal
 
 pub up_from-requires : goal.up_from-requires
@@ -64,3 +65,11 @@ returns-clause-risen t c =
     (λ stop. RisesWith (forest_with c.tell_fed.new.knots.items c.tell_fed.new.edges.items) (forest_with c.climb.new.knots.items c.climb.new.edges.items) c.small_at-small.result c.to_at-to.result stop.knot stop.slot)
     (λ stop. RisesWith (forest_with c.args.knots.now.items c.args.edges.now.items) (forest_with c.climb.new.knots.items c.climb.new.edges.items) c.args.knot c.args.slot stop.knot stop.slot)
     (λ risen. next.on (forest_with c.climb.new.knots.items c.climb.new.edges.items) risen) (λ stop rises e done. next.on e (rises e done)) c.climb.ensures.risen
+
+pub returns-then-not-feeds_at-clause-left : goal.returns-then-not-feeds_at-clause-left
+returns-then-not-feeds_at-clause-left t c = stop_here c.args.ups.now.items (forest_with c.args.knots.now.items c.args.edges.now.items) c.args.knot c.args.slot c.in-Some.edge c.feeds_at.result c.requires.ups c.in-Some.ensures c.feeds_at.ensures (grind (arith, c.if-not-feeds_at.true)) c.requires.rise
+
+pub returns-clause-left : goal.returns-clause-left
+returns-clause-left t c =
+    let next = next_by (forest_with c.args.knots.now.items c.args.edges.now.items) (forest_with c.tell_fed.new.knots.items c.tell_fed.new.edges.items) c.args.knot c.args.slot c.in-Some.edge c.small_at-small.result c.to_at-to.result c.tell_fed.result (lead_by c.args.ups.now.items (forest_with c.args.knots.now.items c.args.edges.now.items) c.args.knot c.in-Some.edge c.feeds_at.result c.requires.entries c.requires.ups c.in-Some.ensures c.feeds_at.ensures (grind (arith, c.if-not-feeds_at.false))) c.requires.rise c.tell_fed.ensures.told c.small_at-small.ensures c.to_at-to.ensures c.tell_fed.ensures.lives (grind (arith, c.if-not-tell_fed.false)) in
+    stops_from c.climb.result (λ (s : Stop). s.knot) (λ (s : Stop). s.edge) (λ (s : Stop). s.slot) (forest_with c.args.knots.now.items c.args.edges.now.items) (forest_with c.tell_fed.new.knots.items c.tell_fed.new.edges.items) (forest_with c.climb.new.knots.items c.climb.new.edges.items) c.args.knot c.args.slot c.small_at-small.result c.to_at-to.result next c.climb.ensures.left

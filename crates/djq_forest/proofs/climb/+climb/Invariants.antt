@@ -1,5 +1,5 @@
 -- Each step leads to a knot of a higher rank.
-use Rattle.djq_forest.proofs.Climbs.{height_left}
+use Rattle.djq_forest.specs.Rising.{height_left}
 use Rattle.djq_forest.proofs.climb.+climb.Given as goal
 
 abbrev pub decreases-climb : goal.decreases-climb
