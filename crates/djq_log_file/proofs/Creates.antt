@@ -1,8 +1,8 @@
 -- How far the creation of a log in an unbegun file came.
-use Rattle.std.proofs.Common.{◌≡◌, ℕ, suc, zero, ◌+◌, ◌≤◌, ◌<◌, ◌⊎◌, inl, inr, List, [], ◌∷◌, ◌++◌, length, take, drop}
+use Rattle.std.proofs.Common.{◌≡◌, ℕ, suc, zero, ◌≤◌, ◌<◌, ◌⊎◌, inl, inr, List, [], ◌∷◌, ◌++◌, length, take, drop}
 use Rattle.std.proofs.Common.{refl, sym, ap, ◌∙◌, arith, append_assoc, append-nil, length-append, length-take, length-drop}
 use Rattle.std.proofs.lemmas.List.{take-append-drop}
-use Rattle.djq_log_format.specs.Format.{log_header, seed, records}
+use Rattle.djq_log_format.specs.Format.{log_header, records}
 use Rattle.djq_log_file.specs.Standing.{HoldsGroups}
 use Rattle.djq_log_file.specs.Opening.{IsUnbegun, first_log_header}
 use Rattle.djq_log_file.specs.Making.{HalfCreatedIsTaken, created_up_to}

@@ -174,16 +174,19 @@ impl LogMaker {
     }
 }
 
-/// Creates a log without groups in the file of the disk, from its first byte on. The file is to be unbegun: what it has
-/// is lost.
+/// Creates a log without groups in the file of the disk, by one write from its first byte on and a sync. The file is to be
+/// unbegun: what it has is lost.
 pub fn create_log<D: Disk>(disk: &mut D) -> LogMade
     requires { D.is_open disk.old ≡ true }
     ensures is_open { D.is_open disk.new ≡ true }
     ensures told { WhereHistoryTold (D.told disk.old) (D.told disk.new) (CreatesLog result) }
     ensures faults { CountsLogMade result (D.faults disk.old) (D.faults disk.new) }
 {
-    match LogMaker::begin(disk) {
-        LogBegun::Begun(maker) => maker.finish(disk),
-        LogBegun::Failed => LogMade::Failed,
+    match disk.write_at(0, b"DJQLOG2\n\0") {
+        DiskDid::Done => match disk.sync() {
+            DiskDid::Done => LogMade::Made(LogWriter::new(8, SEED)),
+            DiskDid::Failed => LogMade::Failed,
+        },
+        DiskDid::Failed => LogMade::Failed,
     }
 }

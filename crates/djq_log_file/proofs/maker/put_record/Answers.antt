@@ -1,5 +1,5 @@
 -- The open gate, the head and the body are laid one behind another.
-use Rattle.std.proofs.Common.{ℕ, List, [], ◌∷◌, ◌++◌, refl}
+use Rattle.std.proofs.Common.{ℕ, List, [], ◌∷◌, refl}
 use Rattle.djq_disk.specs.declared.disk.DiskDid.TheVariants.{Done, Failed}
 use Rattle.djq_disk.proofs.Files.{told_so, told_both}
 use Rattle.djq_log_format.specs.Format.{record_head, record_body, content_of}
