@@ -1,6 +1,7 @@
 -- Bytes that are laid from a place on, piece behind piece.
 use Rattle.std.proofs.Common.{◌≡◌, ℕ, ◌+◌, ◌≤◌, List, [], ◌++◌, length, take, drop, refl, sym, ap, subst, ◌∙◌, arith}
 use Rattle.std.proofs.Common.{append_assoc, append-nil, length-append}
+use Rattle.std.proofs.Math.Seq.{drop-drop}
 use Rattle.djq_disk.specs.declared.disk.DiskDid.{DiskDid}
 use Rattle.djq_disk.specs.declared.disk.DiskDid.TheVariants.{Done, Failed}
 use Rattle.djq_disk.specs.File.{IsSettled}
@@ -21,6 +22,7 @@ lays_none start a h is_at none still long =
       place = omega (arith, is_at);
       rest = drop start h.file.bytes;
       is = refl;
+      later = let same : start ≡ start + 0 = omega arith in ap (λ (n : ℕ). drop n h.file.bytes) same;
       leaves = leaves_none (BeginsAs start h.file.bytes) h (fixed_leaves start h.file.bytes h.file fixed);
     }
 
@@ -37,6 +39,7 @@ lays_gathered piece a b h is_at more = record {
     place = is_at ∙ l.place;
     rest = l.rest;
     is = l.is;
+    later = l.later;
     leaves = l.leaves;
   };
 }
@@ -56,6 +59,10 @@ lays_flushed a b old new writes is_at none = record {
         place = omega (arith, is_at, l.place, length-append l.written a.gathered);
         rest = drop (length a.gathered) l.rest;
         is = written_there a.at start a.gathered l.written l.rest first old new l.fixed l.place l.is writes;
+        later = ap (λ (xs : List ℕ). drop (length a.gathered) xs) l.later
+            ∙ drop-drop (length a.gathered) (start + length l.written) first.file.bytes
+            ∙ (let place : (start + length l.written) + length a.gathered ≡ start + length (l.written ++ a.gathered) = omega
+            (arith, length-append l.written a.gathered) in ap (λ (n : ℕ). drop n first.file.bytes) place);
         leaves = wrote.1;
       };
 }

@@ -10,3 +10,5 @@ pub mod Lines
 pub mod Appends
 pub mod Ends
 pub mod Keeps
+pub mod Makes
+pub mod Creates

@@ -29,8 +29,8 @@ pub record Gathering : Type 0 where
   pub at : ℕ
   pub gathered : List ℕ
 
--- These bytes are laid from a place on: the first of them are written, the others gathered. What precedes the place is
--- as it was, and at each moment a crash leaves it so.
+-- These bytes are laid from a place on: the first of them are written, the others gathered. What precedes the place and
+-- what follows the bytes is as it was, and at each moment a crash leaves what precedes it so.
 pub record Lays (start : ℕ) (laid : List ℕ) (writer : Gathering) (old new : History) : Type 0 where
   pub fixed : IsFixed start old.file.bytes new.file
   pub written : List ℕ
@@ -38,6 +38,7 @@ pub record Lays (start : ℕ) (laid : List ℕ) (writer : Gathering) (old new : 
   pub place : writer.at ≡ start + length written
   pub rest : List ℕ
   pub is : drop start new.file.bytes ≡ written ++ rest
+  pub later : rest ≡ drop (start + length written) old.file.bytes
   pub leaves : LeavesSince (BeginsAs start old.file.bytes) old new
 
 -- so it is where it was done; where it failed, what precedes the place is as it was

@@ -7,3 +7,4 @@ pub mod Opening
 pub mod Laying
 pub mod Appending
 pub mod Keeping
+pub mod Making

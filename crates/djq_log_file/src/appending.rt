@@ -48,7 +48,11 @@ pub(crate) fn measure<G: Group>(gate: u64, digest: u64, group: &G) -> Option<(u6
 }
 
 /// Lays the entries of the lines of a group.
-fn put_lines<D: Disk, G: Group>(writer: &mut PieceWriter, disk: &mut D, group: &G) -> DiskDid
+pub(crate) fn put_lines<D: Disk, G: Group>(
+    writer: &mut PieceWriter,
+    disk: &mut D,
+    group: &G,
+) -> DiskDid
     requires is_open { D.is_open disk.old ≡ true }
     requires lines { AllByRecursion FitsLogLine (G.lines group.now) }
     requires place { end_of_gathering writer.old + length (record_body (G.lines group.now)) ≤ 18446744073709551615 }
@@ -69,7 +73,11 @@ fn put_lines<D: Disk, G: Group>(writer: &mut PieceWriter, disk: &mut D, group: &
 }
 
 /// Lays the head of a record.
-fn put_head<D: Disk>(writer: &mut PieceWriter, disk: &mut D, measure: &Measure) -> DiskDid
+pub(crate) fn put_head<D: Disk>(
+    writer: &mut PieceWriter,
+    disk: &mut D,
+    measure: &Measure,
+) -> DiskDid
     requires is_open { D.is_open disk.old ≡ true }
     requires short { measure.now.size * 257 < 18446744073709551616 }
     requires place { end_of_gathering writer.old + 16 ≤ 18446744073709551615 }

@@ -14,7 +14,7 @@ use djq_disk::Disk;
 use std::marker::Model;
 
 /// The digest before the first record.
-const SEED: u64 = 1_442_695_040_888_963_407;
+pub(crate) const SEED: u64 = 1_442_695_040_888_963_407;
 
 /// The answer to a question for the next line.
 #[derive(Debug, Drop)]

@@ -1,0 +1,124 @@
+-- A log that is made record by record, in a file whose bytes don't count until it is finished.
+use Rattle.std.specs.Prelude.{◌≡◌, ℕ, ◌+◌, ◌<◌, ◌≤◌, ◌⊎◌, List, [], ◌∷◌, ◌++◌, length, take, drop}
+use Rattle.std.specs.List.{AllByRecursion}
+use Rattle.djq_io.specs.Faults.{Counted}
+use Rattle.djq_disk.specs.File.{File}
+use Rattle.djq_disk.specs.History.{History}
+use Rattle.djq_disk.specs.declared.disk.DiskDid.{DiskDid}
+use Rattle.djq_disk.specs.declared.disk.DiskDid.TheVariants.{Done as Did, Failed as Failing}
+use Rattle.djq_log_format.specs.Format.{RecordStored, IsRecordStored, IsClosedWhole, log_header, log_front}
+use Rattle.djq_log_format.specs.Format.{record_body, seed, digest_after}
+use Rattle.djq_log_file.specs.Places.{LogEndPlace}
+use Rattle.djq_log_file.specs.Standing.{HoldsGroups, stored_groups}
+use Rattle.djq_log_file.specs.Laying.{HasGoneOn}
+use Rattle.djq_log_file.specs.Appending.{IsIdleLog, end_behind}
+use Rattle.djq_log_file.specs.Opening.{IsUnbegun}
+use Rattle.djq_log_file.specs.declared.maker.LogBegun.{LogBegun}
+use Rattle.djq_log_file.specs.declared.maker.LogBegun.TheVariants.{Begun, Failed as Unbegun}
+use Rattle.djq_log_file.specs.declared.maker.GroupPut.{GroupPut}
+use Rattle.djq_log_file.specs.declared.maker.GroupPut.TheVariants.{Put, Failed as Unput, Full}
+use Rattle.djq_log_file.specs.declared.maker.LogMade.{LogMade}
+use Rattle.djq_log_file.specs.declared.maker.LogMade.TheVariants.{Made, Failed as Unmade}
+use Rattle.djq_log_file.specs.declared.limits.TheConstants.{LAST_LOG_GATE}
+
+-- A file begins as a log of these groups does, up to the place of the gate after them. That gate isn't there yet: the rest
+-- is what the file had.
+pub record IsMadeUpTo (groups : List (List (List ℕ))) (place : LogEndPlace) (rest file : List ℕ) : Type 0 where
+  pub stored : List RecordStored
+  pub are_stored : AllByRecursion IsRecordStored stored
+  pub are : groups ≡ stored_groups stored
+  pub is : file ≡ log_front stored ++ rest
+  pub is_at : place.at ≡ length (log_front stored)
+  pub is_digest : place.digest ≡ digest_after seed stored
+
+-- where the first record of a log begins
+abbrev pub first_record_place : LogEndPlace
+first_record_place = record { at = 8; digest = seed }
+
+-- A log without groups is begun, whatever the file has.
+abbrev pub BeginsLog : LogBegun → History → History → Type 0
+BeginsLog (Begun place) old new =
+    HasGoneOn old new × (place ≡ first_record_place) × IsMadeUpTo [] place (drop 8 old.file.bytes) new.file.bytes
+BeginsLog Unbegun old new = HasGoneOn old new
+
+-- These bytes are written after some others and over the first of the rest.
+abbrev pub StandsBehind : DiskDid → List ℕ → List ℕ → List ℕ → List ℕ → Type 0
+StandsBehind Did before bytes rest file = file ≡ (before ++ bytes) ++ drop (length bytes) rest
+StandsBehind Failing before bytes rest file = Unit {0}
+
+pub record WritesBehind (did : DiskDid) (start : ℕ) (bytes : List ℕ) (old new : History) : Type 0 where
+  pub passed : HasGoneOn old new
+  pub stands : (before rest : List ℕ) → old.file.bytes ≡ before ++ rest → start ≡ length before
+      → StandsBehind did before bytes rest new.file.bytes
+
+-- A group more is in a log that is being made. Where there is no room for it, nothing changes.
+abbrev pub PutsGroup : GroupPut → List (List (List ℕ)) → List (List ℕ) → List ℕ → History → History → Type 0
+PutsGroup (Put place) groups group rest old new =
+    IsMadeUpTo (groups ++ group ∷ []) place (drop (17 + length (record_body group)) rest) new.file.bytes
+PutsGroup Unput groups group rest old new = Unit {0}
+PutsGroup Full groups group rest old new = new ≡ old
+
+-- So it is whatever groups were put before.
+pub record PutsAfter (answer : GroupPut) (place : LogEndPlace) (group : List (List ℕ)) (old new : History) : Type 0
+  where
+    pub passed : HasGoneOn old new
+    pub puts : (groups : List (List (List ℕ))) (rest : List ℕ) → IsMadeUpTo groups place rest old.file.bytes
+        → PutsGroup answer groups group rest old new
+
+-- There is no room exactly where the gate after the group would stand past the last place.
+abbrev pub HasRoomToPut : GroupPut → LogEndPlace → List (List ℕ) → Type 0
+HasRoomToPut (Put next) place group = (next ≡ end_behind place group) × (next.at ≤ LAST_LOG_GATE)
+HasRoomToPut Unput place group = (end_behind place group).at ≤ LAST_LOG_GATE
+HasRoomToPut Full place group = LAST_LOG_GATE < (end_behind place group).at
+
+-- A log of these groups is closed whole.
+pub record IsWholeLogOf (groups : List (List (List ℕ))) (file : List ℕ) : Type 0 where
+  pub stored : List RecordStored
+  pub closed : IsClosedWhole stored file
+  pub are : groups ≡ stored_groups stored
+
+-- A log that was made is one of all the groups that were put, and ends after them; a crash leaves just these from then on.
+-- It is closed whole where no bytes were left after its end.
+abbrev pub MakesLog : LogMade → List (List (List ℕ)) → LogEndPlace → List ℕ → History → Type 0
+MakesLog (Made end) groups place left new = (end ≡ place) × IsIdleLog groups end new.file
+    × (left ≡ [] → IsWholeLogOf groups new.file.bytes)
+MakesLog Unmade groups place left new = Unit {0}
+
+pub record MakesAfter (answer : LogMade) (place : LogEndPlace) (old new : History) : Type 0 where
+  pub passed : HasGoneOn old new
+  pub makes : (groups : List (List (List ℕ))) (rest : List ℕ) → IsMadeUpTo groups place rest old.file.bytes
+      → MakesLog answer groups place (drop 1 rest) new
+
+-- the first so many bytes of a log without groups, and after them what a file had there
+abbrev pub created_up_to : ℕ → List ℕ → List ℕ
+created_up_to n file = take n (log_header ++ 0 ∷ []) ++ drop n file
+
+-- A log without groups is created, whatever the file has. Until then the file reads as it did, or with all the new bytes
+-- from its first one on: no moment lies between.
+pub record CreatesLog (answer : LogMade) (old new : History) : Type 0 where
+  pub passed : HasGoneOn old new
+  pub each : AllByRecursion
+      (λ (file : File). (file.bytes ≡ old.file.bytes) ⊎ (file.bytes ≡ created_up_to 9 old.file.bytes)) passed.moments
+  pub makes : MakesLog answer [] first_record_place (drop 9 old.file.bytes) new
+
+-- However many of the new bytes stand in an unbegun file, it is unbegun still, or a log without groups: so the next start
+-- takes it.
+abbrev pub HalfCreatedIsTaken : Type 0
+HalfCreatedIsTaken = (n : ℕ) (file : List ℕ) → IsUnbegun file
+    → IsUnbegun (created_up_to n file) ⊎ HoldsGroups [] (created_up_to n file)
+
+-- The disk's count of faults rises where a log isn't begun, and stays elsewhere;
+abbrev pub CountsLogBegun : LogBegun → ℕ → ℕ → Type 0
+CountsLogBegun (Begun place) old new = new ≡ old
+CountsLogBegun Unbegun old new = Counted old new
+
+-- so it is for a group that is put,
+abbrev pub CountsGroupPut : GroupPut → ℕ → ℕ → Type 0
+CountsGroupPut (Put place) old new = new ≡ old
+CountsGroupPut Unput old new = Counted old new
+CountsGroupPut Full old new = new ≡ old
+
+-- and for a log that is made.
+abbrev pub CountsLogMade : LogMade → ℕ → ℕ → Type 0
+CountsLogMade (Made end) old new = new ≡ old
+CountsLogMade Unmade old new = Counted old new
