@@ -66,19 +66,22 @@ pub falls_by : (c d : Catalog) (groups : List Group) (q : Query) → GoesBy c gr
     → Grows (IsAnswer d.relations q) (IsAnswer c.relations q)
 falls_by c d groups q h t is = answer_stays d.relations c.relations (a_query q) t (rows_fall c d groups h) is
 
--- a query that reads none of the relations is kept
+-- a query that reads none of the relations reads none of those of the groups after the first
+pub next_none : (q : Query) (c e : Catalog) (g : Group) (groups : List Group) → Names c e → ReadsNone q c (g ∷ groups)
+    → ReadsNone q e groups
+next_none q c e g groups n none = λ j x low.
+    let one = none (suc j) x (omega (arith, low)) in
+    (omega (arith, one.0, n.long), ap (reads q) (n.named (slice_index_or groups j x).relation.at one.0) ∙ one.1)
+
+-- it is kept
 pub past_gone : (c d : Catalog) (groups : List Group) (l : Live) → GoesBy c groups d → ReadsNone l.query c groups
     → IsKept c l → IsKept d l
 past_gone c d [] l h none k = subst (λ (x : Catalog). IsKept x l) (sym h) k
 past_gone c d (g ∷ groups) l h none k =
-    let e : Catalog = h.0 in
-    let n : Names c e = names_went c e g.relation.at g.rows h.1 h.2 in
     let first = none 0 g (omega arith) in
-    past_gone e d groups l h.3
-    (λ j x low.
-    let one = none (suc j) x (omega (arith, low)) in
-    (omega (arith, one.0, n.long), ap (reads l.query) (n.named (slice_index_or groups j x).relation.at one.0) ∙ one.1))
-    (went_past c e g.relation.at g.rows h.1 l h.2.went first.1 k)
+    past_gone h.0 d groups l h.3
+    (next_none l.query c h.0 g groups (names_went c h.0 g.relation.at g.rows h.1 h.2) none)
+    (went_past c h.0 g.relation.at g.rows h.1 l h.2.went first.1 k)
 
 -- the last step
 record LastGone (c d : Catalog) (groups : List Group) (g : Group) : Type 0 where

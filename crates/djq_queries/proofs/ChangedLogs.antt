@@ -2,7 +2,7 @@
 use Rattle.std.proofs.Common.{ℕ, List, [], ◌++◌, ◌≡◌, ◌⊎◌, Bool, true, false, refl, sym, ap, ◌∙◌, subst, append-nil}
 use Rattle.std.proofs.Common.{inl, inr}
 use Rattle.std.specs.Prelude.{◌||◌, ◌&&◌, Option, None, Some, IsSomeAnd, All, ⊤, map}
-use Rattle.std.proofs.lemmas.Bool.{false≢true, or_parts}
+use Rattle.std.proofs.lemmas.Bool.{or_parts}
 use Rattle.std.proofs.lemmas.List.Elements.{All-append}
 use Rattle.djq_model.specs.Data.{Bytes}
 use Rattle.djq_model.specs.Answer.{IsAnswer}
@@ -27,11 +27,8 @@ use Rattle.djq_reach.proofs.RowChanges.{delta_none}
 use Rattle.djq_queries.specs.Going.{GroupsGo}
 use Rattle.djq_queries.specs.Changing.{EmptiesWatched, GroupsChange, LogTellsChange, TellsChangeAt, TellsChangeWhere, touched}
 use Rattle.djq_queries.proofs.Chains.{falls_by, names_gone, rows_rise}
+use Rattle.djq_queries.proofs.Logs.{not_lost}
 use Rattle.djq_queries.proofs.Changes.{mid_goes, past_came, rests_came, rests_gone, unread_going}
-
-not_lost : (a b : Bool) → (a ≡ true → b ≡ true) → b ≡ false → a ≡ false
-not_lost false b h e = refl
-not_lost true b h e = absurd (false≢true (sym e ∙ h refl))
 
 and_false : (a b : Bool) → b ≡ false → (a && b) ≡ false
 and_false true b e = e

@@ -1,6 +1,6 @@
 -- Groups that come, and after them groups that go: the queries in their places.
-use Rattle.std.proofs.Common.{ℕ, suc, List, [], ◌∷◌, ◌++◌, ◌≡◌, ◌<◌, Bool, true, false, refl, sym, ap, ◌∙◌, subst, length, arith}
-use Rattle.std.specs.Prelude.{◌||◌, Option, None, Some, All, slice_index_or}
+use Rattle.std.proofs.Common.{ℕ, List, [], ◌∷◌, ◌++◌, ◌≡◌, ◌<◌, Bool, true, false, refl, sym, ap, ◌∙◌, subst, length, arith}
+use Rattle.std.specs.Prelude.{◌||◌, Option, None, Some, All}
 use Rattle.std.proofs.lemmas.Bool.{or_parts}
 use Rattle.std.proofs.lemmas.List.Elements.{All-cons, All-head, All-tail}
 use Rattle.djq_model.specs.declared.query.Query.{Query}
@@ -17,21 +17,15 @@ use Rattle.djq_reach.specs.Places.{place_at, reads_place, is_reader, readers_at}
 use Rattle.djq_reach.specs.Reaching.{DoneAt, Reach, AllAt, Renews}
 use Rattle.djq_reach.specs.Grouping.{ComesBy, reached}
 use Rattle.djq_reach.specs.Growing.{Grows}
-use Rattle.djq_reach.proofs.CatalogChains.{Names, ReadsNone, all_on, came_past, renewed, same_all, unread_by}
+use Rattle.djq_reach.proofs.CatalogChains.{ReadsNone, all_on, came_past, renewed, same_all, unread_by}
 use Rattle.djq_reach.proofs.PlacedQueries.{or_true, reader_both, same_then}
 use Rattle.djq_reach.proofs.RowChanges.{came_stays}
 use Rattle.djq_queries.specs.Going.{GoesBy, GroupsGo}
 use Rattle.djq_queries.specs.Changing.{GroupsChange, touched}
 use Rattle.djq_queries.proofs.Catalogs.{names_same, names_went, went_rests}
-use Rattle.djq_queries.proofs.Chains.{past_gone}
+use Rattle.djq_queries.proofs.Chains.{next_none, past_gone}
 
 -- ---- a query that reads none of the relations
-
-next_none : (q : Query) (c e : Catalog) (g : Group) (groups : List Group) → Names c e → ReadsNone q c (g ∷ groups)
-    → ReadsNone q e groups
-next_none q c e g groups n none = λ j x low.
-    let one = none (suc j) x (omega (arith, low)) in
-    (omega (arith, one.0, n.long), ap (reads q) (n.named (slice_index_or groups j x).relation.at one.0) ∙ one.1)
 
 -- its answers stay where groups go
 pub rests_gone : (c d : Catalog) (groups : List Group) (q : Query) → GoesBy c groups d → ReadsNone q c groups

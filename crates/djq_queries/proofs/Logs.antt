@@ -32,7 +32,7 @@ use Rattle.djq_queries.proofs.Chains.{unread_gone}
 use Rattle.djq_queries.proofs.Deltas.{deltas_fall}
 
 -- a log that isn't lost wasn't
-not_lost : (a b : Bool) → (a ≡ true → b ≡ true) → b ≡ false → a ≡ false
+pub not_lost : (a b : Bool) → (a ≡ true → b ≡ true) → b ≡ false → a ≡ false
 not_lost false b h e = refl
 not_lost true b h e = absurd (false≢true (sym e ∙ h refl))
 

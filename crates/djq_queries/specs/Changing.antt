@@ -9,6 +9,7 @@ use Rattle.djq_propagate.specs.Updates.{HasAtMost}
 use Rattle.djq_enumeration.specs.declared.log.Line.{Line}
 use Rattle.djq_enumeration.specs.Log.{Log}
 use Rattle.djq_database.specs.Catalog.{Catalog}
+use Rattle.djq_answer_laws.specs.Net.{CancelsOut}
 use Rattle.djq_live_query.specs.Live.{Live, IsKept, IsShowable}
 use Rattle.djq_live_query.specs.Updating.{IsDeltaOf, IsEmpty, HasFewRows, change_of}
 use Rattle.djq_reach.specs.declared.group.Group.{Group}
@@ -100,3 +101,9 @@ WorksChange readers come gone gs before now = (c e d : Catalog) (n m : ℕ) (fla
     → IsSomeAnd (place_at gs i) (IsBoundedIn e m (flat i)))
     → now ≤ before + sum_by (group_work readers gs (n + rows_of_groups come) (λ g. 1)) come
     + sum_by (gone_group_work readers gs m flat) gone
+
+-- What a log tells of a change, once opposites cancel out, is the query's delta.
+abbrev pub ChangedLogsSettle : Type 0
+ChangedLogsSettle = (readers : List (List ℕ)) (come gone : List Group) (gs : List (Option Live)) (c e d : Catalog)
+    (l : Live) (log : Log) (new : List Change) → GroupsChange readers come gone gs c e d → LogTellsChange c e d l log
+    → log.lost ≡ false → CancelsOut (map (change_of d.texts l) log.lines) new → IsDeltaOf l c d new

@@ -1,4 +1,5 @@
 //! Laws of groups that come and go. Each function is empty: its contract is the law.
+ghost use Rattle.djq_queries.specs.Changing.{ChangedLogsSettle};
 ghost use Rattle.djq_queries.specs.Netting.{GroupsOnlyCome, GroupsOnlyGo, GroupsSettle};
 
 use djq_answer_laws::net_deltas;
@@ -15,4 +16,12 @@ pub fn groups_settle()
     ensures { GroupsSettle }
 {
     net_deltas();
+}
+
+/// So what a log that isn't lost tells of a change, without the opposites of one another, is the delta of its
+/// query.
+pub fn changed_logs_settle()
+    ensures { ChangedLogsSettle }
+{
+    groups_settle();
 }

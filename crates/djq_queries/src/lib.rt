@@ -3,8 +3,8 @@
 //! [`change_readers`] inserts the groups of rows that come, each of a relation, into the queries in their places
 //! (djq_reach's `insert_batch_into_readers`), and then lets those that go out of them
 //! ([`delete_batch_from_readers`]). The log of a watched query has then the answers that came, up to the rows with
-//! all of them, and after these the answers that went from there. [`groups_settle`] is the law that what is left
-//! once opposites cancel out is the delta of the whole change.
+//! all of them, and after these the answers that went from there. [`changed_logs_settle`] is the law that what is
+//! left once opposites cancel out is the delta of the whole change.
 //!
 //! It keeps nothing, and it knows no catalog: the caller's has all rows changed before the first query is asked.
 //! It settles no log. The program doesn't use it yet.
@@ -25,7 +25,7 @@
 
 pub use change::change_readers;
 pub use gone::delete_batch_from_readers;
-pub use laws::{groups_settle, rows_follow_groups};
+pub use laws::{changed_logs_settle, groups_settle, rows_follow_groups};
 
 mod change;
 mod gone;
