@@ -1,5 +1,4 @@
-//! What a change by which groups of rows come, and after them groups of rows go, does to the queries
-//! that read one of the relations.
+//! What a change does to the registered queries: groups of rows are inserted, and then others deleted.
 ghost use Rattle.std.specs.Prelude.{◌≡◌, ◌≤◌, ℕ, OnOk, OnErr, length};
 ghost use Rattle.djq_database.specs.Catalog.{Catalog as CatalogModel};
 ghost use Rattle.djq_live_query.specs.Live.{IsKept};
@@ -17,16 +16,15 @@ use djq_live_query::LiveQuery;
 use djq_model::NoMem;
 use djq_reach::{Group, QueryPlaces, clear_logs, insert_batch_into_readers};
 
-/// The queries that read a relation of either list take in the rows of the groups that come, and then
-/// let out those of the groups that go. The readers say in which places the queries stand that read a
-/// relation. The log of each of these queries that is watched has then the answers that came by all
-/// groups that come, and after them those that went by all groups that go, or is lost. What came and
-/// went again was an answer neither before nor after.
+/// Inserts groups of rows into the queries that read one of their relations, and then deletes others from
+/// them. The readers list in which places the queries are that read a relation. Each watched one of these
+/// queries has a log of the answers that all insertions added, and after them those that all deletions
+/// removed, or its log is lost. An answer that the change adds and removes is one neither before nor after.
 ///
 /// # Errors
 ///
-/// `NoMem` out of memory, before any row goes; answers are as before, and the logs of all these queries
-/// that are watched are empty. Updates count what a refusal of the groups that come does.
+/// `NoMem` out of memory, before any row is deleted; answers are as before, and the logs of all these queries
+/// that are watched are empty. Updates count what a refused insertion of the groups does.
 pub fn change_readers<L: Ledgers>(
     queries: &mut Vec<Option<LiveQuery>>,
     watchers: &[u32],

@@ -1,5 +1,5 @@
-//! What groups of rows that go, each of a relation, do to the queries that read one of the relations,
-//! one group after another. It takes no memory but the logs', so it can't be refused.
+//! Deletes groups of rows, each of a relation, from the queries that read one of the relations, one group
+//! after another. It asks for no memory but the logs', so it can't be refused.
 ghost use Rattle.std.specs.Prelude.{◌≡◌, ◌<◌, ℕ, ◌∷◌, [], false, IsSomeAnd, length, ⊤};
 ghost use Rattle.djq_database.specs.Catalog.{Catalog as CatalogModel};
 ghost use Rattle.djq_leaves.specs.Changes.{WentAll};
@@ -28,8 +28,8 @@ fn places_of<'a>(readers: &'a [QueryPlaces], group: &Group) -> &'a [usize]
     readers[group.relation.at].as_slice()
 }
 
-/// The query in a place lets rows go that went. Where it is watched, its log tells, behind what it
-/// told, which answers went.
+/// Deletes rows from the query in a place. If it is watched, its log says, after what it said, which
+/// answers were removed.
 fn delete_rows_at<L: Ledgers>(
     queries: &mut Vec<Option<LiveQuery>>,
     watchers: &[u32],
@@ -62,8 +62,8 @@ fn delete_rows_at<L: Ledgers>(
     }
 }
 
-/// The queries in these places let rows go that went out of a relation at once, each given by its
-/// cells. The logs of those that are watched tell, behind what they told, which answers went.
+/// Deletes rows of a relation at once, each given by its cells, from the queries in these places. The logs
+/// of those that are watched say, after what they said, which answers were removed.
 fn delete_all_from_readers<L: Ledgers>(
     queries: &mut Vec<Option<LiveQuery>>,
     watchers: &[u32],
@@ -94,13 +94,13 @@ fn delete_all_from_readers<L: Ledgers>(
     }
 }
 
-/// The queries that read one of these relations let the groups' rows go, group after group. The
-/// readers say in which places the queries stand that read a relation. The log of each of these
-/// queries that is watched tells, behind what it told, which answers went by all groups together,
-/// each once. It takes no memory but the logs', and can't be refused.
+/// Deletes the groups' rows from the queries that read one of their relations, group after group. The
+/// readers list in which places the queries are that read a relation. The log of each watched one of these
+/// queries says, after what it said, which answers all groups together removed, each once. It asks for no
+/// memory but the logs', and can't be refused.
 ///
 /// For each group and each query that reads its relation the update count rises by at most as much as
-/// one row may count where no leaf has more tuples than before all groups; where the query is flat, by
+/// one row may count if no leaf has more tuples than before all groups; if the query is flat, by
 /// at most as much as a row may count for each of them, whatever the number of tuples.
 pub fn delete_batch_from_readers<L: Ledgers>(
     queries: &mut Vec<Option<LiveQuery>>,
