@@ -58,7 +58,7 @@ below_none : (n : ℕ) → AreBelow n []
 unfolding AreBelow
 below_none n = tt
 
-none_distinct : AreDistinctSlots []
+pub none_distinct : AreDistinctSlots []
 unfolding AreDistinctSlots
 none_distinct = tt
 

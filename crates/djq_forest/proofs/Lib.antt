@@ -21,4 +21,5 @@ pub mod Rises
 pub mod Sides
 pub mod Climbs
 pub mod SideWalks
+pub mod Beginnings
 pub mod Worked

@@ -2,11 +2,16 @@ ghost use Rattle.std.specs.Prelude.{◌≡◌, ◌<◌, true, length, OnOk};
 ghost use Rattle.djq_forest.specs.Forest.{nth_knot, nth_edge};
 ghost use Rattle.djq_forest.specs.Reducts.{AreReducts};
 ghost use Rattle.djq_forest.specs.Room.{IsRoomier, HasRoomFor};
-ghost use Rattle.djq_forest.specs.TreeForest.{IsTreeForest, reducts_in};
+ghost use Rattle.djq_forest.specs.Fold.{IsFoldOf};
+ghost use Rattle.djq_forest.specs.Rising.{AreUps};
+ghost use Rattle.djq_forest.specs.Shape.{IsShape};
+ghost use Rattle.djq_forest.specs.TreeForest.{IsTreeForest, HasNoSlots, reducts_in};
+ghost use Rattle.djq_tree.specs.Tree.{IsTree};
 
 use crate::edge::Edge;
 use crate::knot::Knot;
 use crate::room;
+use djq_arena::Link;
 use djq_tree::Tree;
 use std::alloc::{AllocError, Global};
 use std::marker::Model;
@@ -46,6 +51,8 @@ pub struct Forest {
     // for each node of the tree its knot, a leaf's being its own, and what it needs
     node_knots: Vec<usize>,
     node_needs: Vec<Needs>,
+    // for each knot the edge that leads up from it
+    ups: Vec<Link>,
 }
 
 impl Model for Forest {
@@ -59,7 +66,7 @@ impl Model for Forest {
       fold = record { knots = x.node_knots.items; needs = x.node_needs.items };
     } };
 
-    ghost invariant = { λ x. spec.IsTreeForest (record {
+    ghost invariant = { λ x. spec.IsForestWithUps x.ups.items (record {
       tree = x.tree;
       forest = record { knots = x.knots.items; edges = x.edges.items; stamp = x.stamp };
       fold = record { knots = x.node_knots.items; needs = x.node_needs.items };
@@ -67,6 +74,38 @@ impl Model for Forest {
 }
 
 impl Forest {
+    /// The forest of a tree before any row: these are its knots and edges, and how the tree's nodes are folded into them.
+    pub(crate) fn of_parts(
+        tree: Tree,
+        knots: Vec<Knot>,
+        edges: Vec<Edge>,
+        ups: Vec<Link>,
+        node_knots: Vec<usize>,
+        node_needs: Vec<Needs>,
+    ) -> Forest
+        requires is_tree { IsTree tree }
+        requires shape { IsShape knots.items edges.items }
+        requires none { HasNoSlots (record { knots = knots.items; edges = edges.items; stamp = 0 }) }
+        requires ups { AreUps ups.items (record { knots = knots.items; edges = edges.items; stamp = 0 }) }
+        requires fold { IsFoldOf tree (record { knots = knots.items; edges = edges.items; stamp = 0 })
+            (record { knots = node_knots.items; needs = node_needs.items }) }
+        ensures { result ≡ record {
+          tree = tree;
+          forest = record { knots = knots.items; edges = edges.items; stamp = 0 };
+          fold = record { knots = node_knots.items; needs = node_needs.items };
+        } }
+    {
+        Forest {
+            tree,
+            knots,
+            edges,
+            stamp: 0,
+            node_knots,
+            node_needs,
+            ups,
+        }
+    }
+
     /// What holds of it, and of the reducts that it stands for. It does nothing.
     pub fn laws(&self)
         ensures sound { IsTreeForest self.now }

@@ -1,6 +1,7 @@
 -- The forest has more room, or as much, so it is one over the same tree.
 use Rattle.std.proofs.Common.{refl}
-use Rattle.djq_forest.proofs.Roomy.{sound_still, reducts_alike, leaf_knot_at}
+use Rattle.djq_forest.proofs.Beginnings.{with_ups_still}
+use Rattle.djq_forest.proofs.Roomy.{reducts_alike, leaf_knot_at}
 use Rattle.djq_forest.proofs.forest.Forest.reserve.Goals as goal
 
 pub reserve-requires-clause-is_leaf : goal.reserve-requires-clause-is_leaf
@@ -13,13 +14,13 @@ reserve-requires-clause-is_leaf c = leaf_knot_at
         stamp = c.self.inside.stamp;
       };
       fold = record { knots = c.self.inside.node_knots.items; needs = c.self.inside.node_needs.items };
-    }) c.args.leaf c.self.invariant (rw (← c.self.view_is) at c.requires)
+    }) c.args.leaf c.self.invariant.sound (rw (← c.self.view_is) at c.requires)
 
 pub reserve-requires-clause-along : goal.reserve-requires-clause-along
-reserve-requires-clause-along c = c.self.invariant.forest.entries.along
+reserve-requires-clause-along c = c.self.invariant.sound.forest.entries.along
 
 pub invariant_of-self : goal.invariant_of-self
-invariant_of-self c = sound_still
+invariant_of-self c = with_ups_still c.self.inside.ups.items
     (record {
       tree = c.self.inside.tree;
       forest = record {
@@ -56,4 +57,4 @@ returns-clause-reducts c = rw (← c.self.view_is)
     })
     (record { knots = c.self.inside.node_knots.items; needs = c.self.inside.node_needs.items })
     (record { knots = c.reserve.ensures.knots; edges = c.reserve.ensures.edges; stamp = refl })
-    c.self.invariant.forest.entries.along)
+    c.self.invariant.sound.forest.entries.along)
