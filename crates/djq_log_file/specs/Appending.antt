@@ -65,10 +65,10 @@ pub record AppendsHere (did : DiskDid) (place : LogEndPlace) (group : List (List
   pub appends : (groups : List (List (List ℕ))) → IsIdleLog groups place old.file → AppendsBy did place groups group old new
 
 -- A log is full exactly where the gate behind the group would stand past the last place.
-abbrev pub HasRoomFor : LogAppended → LogEndPlace → List (List ℕ) → Type 0
-HasRoomFor (Done next) place group = (next ≡ end_behind place group) × (next.at ≤ LAST_LOG_GATE)
-HasRoomFor Failed place group = (end_behind place group).at ≤ LAST_LOG_GATE
-HasRoomFor Full place group = LAST_LOG_GATE < (end_behind place group).at
+abbrev pub HasRoomToAppend : LogAppended → LogEndPlace → List (List ℕ) → Type 0
+HasRoomToAppend (Done next) place group = (next ≡ end_behind place group) × (next.at ≤ LAST_LOG_GATE)
+HasRoomToAppend Failed place group = (end_behind place group).at ≤ LAST_LOG_GATE
+HasRoomToAppend Full place group = LAST_LOG_GATE < (end_behind place group).at
 
 -- The disk's count of faults rises where an append fails, and stays elsewhere.
 abbrev pub CountsLogAppended : LogAppended → ℕ → ℕ → Type 0

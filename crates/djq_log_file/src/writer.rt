@@ -1,7 +1,7 @@
 ghost use Rattle.std.specs.Prelude.{◌≡◌, ◌≤◌, length, true};
 ghost use Rattle.std.specs.List.{AllByRecursion};
 ghost use Rattle.djq_disk.specs.History.{WhereHistoryTold};
-ghost use Rattle.djq_log_file.specs.Appending.{FitsLogLine, AppendsAfter, HasRoomFor, CountsLogAppended};
+ghost use Rattle.djq_log_file.specs.Appending.{FitsLogLine, AppendsAfter, HasRoomToAppend, CountsLogAppended};
 
 use crate::appending::{append_at, measure};
 use crate::group::Group;
@@ -58,7 +58,7 @@ impl LogWriter {
         requires some { 1 ≤ length (G.lines group.now) }
         requires lines { AllByRecursion FitsLogLine (G.lines group.now) }
         ensures is_open { D.is_open disk.new ≡ true }
-        ensures room { HasRoomFor result self (G.lines group.now) }
+        ensures room { HasRoomToAppend result self (G.lines group.now) }
         ensures told { WhereHistoryTold (D.told disk.old) (D.told disk.new) (AppendsAfter result self (G.lines group.now)) }
         ensures faults { CountsLogAppended result (D.faults disk.old) (D.faults disk.new) }
     {
