@@ -5,7 +5,7 @@ ghost use Rattle.djq_journal.specs.Format.{IsJournalLine};
 ghost use Rattle.djq_journal.specs.Standing.{IsAtGate, IsIdle};
 ghost use Rattle.djq_journal.specs.Calls.{MakesJournal, JournalOpens, JournalReads, LineFits, CountsMade, CountsOpened};
 ghost use Rattle.djq_journal.specs.Calls.{CountsLine};
-ghost use Rattle.djq_journal.specs.Logging.{HasPassed};
+ghost use Rattle.djq_journal.specs.Passing.{HasPassed};
 ghost use Rattle.djq_journal.specs.Appending.{Appends, HasGroupRoom, CountsAppended};
 ghost use Rattle.djq_journal.specs.Reading.{place_after, EndsWithin};
 ghost use Rattle.djq_journal.specs.declared.limits.TheConstants.{LINE_BYTES};

@@ -2,7 +2,8 @@
 use Rattle.std.specs.Prelude.{◌≡◌, ℕ, ◌≤◌, List, [], ◌∷◌, ◌++◌, length, take, map}
 use Rattle.std.specs.List.{flat_map, AllByRecursion}
 use Rattle.djq_io.specs.Faults.{Counted}
-use Rattle.djq_log_format.specs.Format.{RecordStored, IsRecordStored, IsLogLine, LogOpensTo, IsBadLog, log_front, record_body}
+use Rattle.djq_log_format.specs.Format.{RecordStored, IsRecordStored, IsLogLine, LogOpensTo, IsLogRecord, IsBadLog, log_front}
+use Rattle.djq_log_format.specs.Format.{record_body}
 use Rattle.djq_log_format.specs.Format.{seed, digest_after}
 use Rattle.djq_log_file.specs.Damaged.{HasDamage}
 use Rattle.djq_log_file.specs.Places.{ReadingPlace, LogEndPlace}
@@ -48,6 +49,22 @@ pub record HasRead (lines : List (List ℕ)) (place : ReadingPlace) (file : List
   pub is_at : place.at ≡ length before
   pub is_left : place.left ≡ length (record_body to_come)
   pub is_digest : place.digest ≡ digest_after seed stored
+
+-- The last of these lines stands in the record whose gate is at a place, and those before it are those of the records
+-- before, and the first of this one.
+pub record IsLastInRecord (lines : List (List ℕ)) (at : ℕ) (file : List ℕ) : Type 0 where
+  pub stored : List RecordStored
+  pub are_stored : AllByRecursion IsRecordStored stored
+  pub rest : List ℕ
+  pub is : file ≡ log_front stored ++ rest
+  pub is_at : at ≡ length (log_front stored)
+  pub group : List (List ℕ)
+  pub stands : IsLogRecord (digest_after seed stored) group rest
+  pub part : List (List ℕ)
+  pub line : List ℕ
+  pub later : List (List ℕ)
+  pub cut : group ≡ part ++ line ∷ later
+  pub are : lines ≡ stored_lines stored ++ (part ++ line ∷ [])
 
 -- The log ends here, and these lines are all of its groups.
 pub record EndsRead (lines : List (List ℕ)) (place : LogEndPlace) (file : List ℕ) : Type 0 where

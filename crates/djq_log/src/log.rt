@@ -2,11 +2,14 @@ ghost use Rattle.std.specs.Prelude.{◌≡◌, ◌≤◌, ℕ, List, [], None, S
 ghost use Rattle.std.specs.List.{AllByRecursion};
 ghost use Rattle.djq_disk.specs.History.{WhereHistoryTold};
 ghost use Rattle.djq_journal.specs.Format.{IsJournalLine};
-ghost use Rattle.djq_journal.specs.Logging.{Keeps, FillsLog, CountsKept, HasPassed};
+ghost use Rattle.djq_journal.specs.Passing.{HasPassed};
+ghost use Rattle.djq_log.specs.Logging.{Keeps, FillsLog, CountsKept};
 
-use crate::group::Group;
-use crate::journal::{Appended, Journal};
+use crate::end::LogEnd;
+use crate::record::Record;
 use djq_disk::Disk;
+use djq_journal::{Appended, Group};
+use djq_log_file::LogAppended;
 use std::marker::Model;
 
 /// Whether a group was stored.
@@ -14,24 +17,25 @@ use std::marker::Model;
 pub enum Kept {
     /// All of it is, or the log stores no lines.
     All,
-    /// The disk failed. A stop leaves the whole group or nothing of it.
+    /// The disk failed. A crash leaves the whole group or nothing of it.
     Failed,
-    /// The journal is full. Nothing was written.
+    /// The log is full. Nothing was written.
     Full,
 }
 
-/// A log of lines: in a journal, or nowhere. It is seen as the place of the journal's gate.
+/// A log of lines: in a file, or nowhere. It is seen as its end.
 #[derive(Debug, Drop)]
 pub struct Log {
-    journal: Option<Journal>,
+    end: Option<LogEnd>,
 }
 
 impl Model for Log {
-    ghost use Rattle.std.specs.Prelude.{ℕ, Option};
+    ghost use Rattle.std.specs.Prelude.{Option};
+    ghost use Rattle.djq_log.specs.declared.end.LogEnd.{LogEnd as LogEndModel};
 
-    ghost Value = { Option ℕ };
+    ghost Value = { Option LogEndModel };
 
-    ghost view = { λ l. l.journal };
+    ghost view = { λ l. l.end };
 }
 
 impl Log {
@@ -39,21 +43,19 @@ impl Log {
     pub fn nowhere() -> Self
         ensures { result ≡ None }
     {
-        Log { journal: None }
+        Log { end: None }
     }
 
-    /// A log that stores lines in this journal, which is idle.
-    pub fn of(journal: Journal) -> Self
-        ensures { result ≡ Some journal }
+    /// A log that stores lines in the file whose log ends here.
+    pub fn of(end: LogEnd) -> Self
+        ensures { result ≡ Some end }
     {
-        Log {
-            journal: Some(journal),
-        }
+        Log { end: Some(end) }
     }
 
     /// Appends a group of lines, as a whole. A group without lines makes no call of the disk.
     ///
-    /// If it isn't stored the journal is lost, and lines are stored nowhere from then on: a caller that wants them
+    /// If it isn't stored the end is lost, and lines are stored nowhere from then on: a caller that wants them
     /// stored doesn't continue.
     pub fn keep<D: Disk, G: Group>(&mut self, disk: &mut D, group: &G) -> Kept
         requires is_open { IfSome self.old (λ _. D.is_open disk.old ≡ true) }
@@ -70,16 +72,24 @@ impl Log {
         let Some(_first) = group.line(0) else {
             return Kept::All;
         };
-        let Some(journal) = self.journal.take() else {
-            return Kept::All;
-        };
-        match journal.append_all(disk, group) {
-            Appended::Done(next) => {
-                self.journal = Some(next);
-                Kept::All
-            }
-            Appended::Failed => Kept::Failed,
-            Appended::Full => Kept::Full,
+        match self.end.take() {
+            None => Kept::All,
+            Some(LogEnd::First(journal)) => match journal.append_all(disk, group) {
+                Appended::Done(next) => {
+                    self.end = Some(LogEnd::First(next));
+                    Kept::All
+                }
+                Appended::Failed => Kept::Failed,
+                Appended::Full => Kept::Full,
+            },
+            Some(LogEnd::Second(writer)) => match writer.append(disk, &Record { group }) {
+                LogAppended::Done(next) => {
+                    self.end = Some(LogEnd::Second(next));
+                    Kept::All
+                }
+                LogAppended::Failed => Kept::Failed,
+                LogAppended::Full => Kept::Full,
+            },
         }
     }
 }
