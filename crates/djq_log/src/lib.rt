@@ -33,7 +33,7 @@ ghost use Rattle.djq_log.specs.Keeping.{KeepsOn};
 pub use djq_journal::Group;
 pub use end::LogEnd;
 pub use log::{Kept, Log};
-pub use opening::{LogFound, find_log};
+pub use opening::LogFound;
 pub use source::{LogSource, NextLine};
 
 /// What an idle log has outlives a crash.
