@@ -17,7 +17,7 @@ use Rattle.djq_log_file.specs.Appending.{FitsLogLine, IsIdleLog, HasOldOrNew, Ap
 use Rattle.djq_log_file.specs.declared.writer.LogAppended.TheVariants.{Done as Did, Failed as Failing, Full as Overflowing}
 use Rattle.djq_log.specs.Lines.{whole_lines, IsIdleAt}
 use Rattle.djq_log.specs.Keeping.{IsKeeping, OpensToOldOrNew, AppendsTo}
-use Rattle.djq_log.specs.Logging.{grouped, Keeps}
+use Rattle.djq_log.specs.Logging.{grouped, Keeps, FullChangesNothing}
 use Rattle.djq_log.specs.declared.end.LogEnd.{LogEnd}
 use Rattle.djq_log.specs.declared.end.LogEnd.TheVariants.{First, Second}
 use Rattle.djq_log.specs.declared.log.Kept.TheVariants.{All, Failed, Full}
@@ -121,6 +121,11 @@ first_full gate end group old new appends found groups start kept =
     subst (λ (h : History). IsKeeping found groups (First gate) start h)
     (sym (appends (found ++ whole_lines groups) kept.idle)) kept
 
+pub first_unchanged : (gate : ℕ) (group : List (List ℕ)) (old new : History)
+    → ((lines : List (List ℕ)) → IsIdle lines gate old.file → Appends Overflows lines group old new)
+    → FullChangesNothing (Some (First gate)) old new
+first_unchanged gate group old new appends found groups start kept = appends (found ++ whole_lines groups) kept.idle
+
 pub second_all : (place next : LogEndPlace) (group : List (List ℕ)) (old new : History) → 1 ≤ length group
     → AppendsAfter (Did next) place group old new
     → Keeps All (Some (Second place)) (Some (Second next)) group old new
@@ -155,6 +160,11 @@ second_full place end group old new appends found groups start kept =
     let read = kept.idle.0 in
     subst (λ (h : History). IsKeeping found groups (Second place) start h)
     (sym (appends.appends read.groups (record { ends = read.ends; still = kept.idle.1 }))) kept
+
+pub second_unchanged : (place : LogEndPlace) (group : List (List ℕ)) (old new : History)
+    → AppendsAfter Overflowing place group old new → FullChangesNothing (Some (Second place)) old new
+second_unchanged place group old new appends found groups start kept =
+    appends.appends kept.idle.0.groups (record { ends = kept.idle.0.ends; still = kept.idle.1 })
 
 -- A log of the second format goes on by moments.
 pub passed : (old new : History) → HasGoneOn old new → HasPassed old new

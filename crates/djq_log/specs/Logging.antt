@@ -56,6 +56,11 @@ FillsLog All end lines = Overfull end lines → ⊥
 FillsLog Failed end lines = (Overfull end lines → ⊥) × (lines ≡ [] → ⊥)
 FillsLog Full end lines = Overfull end lines
 
+-- If there is no room nothing of the file changes, whatever the log has.
+abbrev pub FullChangesNothing : Option LogEnd → History → History → Type 0
+FullChangesNothing end old new = (found : List (List ℕ)) (groups : List (List (List ℕ))) (start : History)
+    → HasKeptGroups end found groups start old → new ≡ old
+
 -- The disk's count of faults rises where lines fail to be kept, and stays elsewhere.
 abbrev pub CountsKept : Kept → ℕ → ℕ → Type 0
 CountsKept All old new = new ≡ old

@@ -1,9 +1,9 @@
-ghost use Rattle.std.specs.Prelude.{◌≡◌, ◌≤◌, ℕ, List, [], None, Some, IfSome, length, true};
+ghost use Rattle.std.specs.Prelude.{◌≡◌, ◌≤◌, ℕ, List, [], None, Some, IfSome, IsSome, length, true};
 ghost use Rattle.std.specs.List.{AllByRecursion};
 ghost use Rattle.djq_disk.specs.History.{WhereHistoryTold};
 ghost use Rattle.djq_journal.specs.Format.{IsJournalLine};
 ghost use Rattle.djq_journal.specs.Passing.{HasPassed};
-ghost use Rattle.djq_log.specs.Logging.{Keeps, FillsLog, CountsKept};
+ghost use Rattle.djq_log.specs.Logging.{Keeps, FillsLog, FullChangesNothing, CountsKept};
 
 use crate::end::LogEnd;
 use crate::record::Record;
@@ -62,10 +62,13 @@ impl Log {
         requires lines { AllByRecursion IsJournalLine (G.lines group.now) }
         ensures is_open { D.is_open disk.new ≡ D.is_open disk.old }
         ensures nowhere { self.old ≡ None → (result ≡ Kept.All) × (self.new ≡ None) }
+        ensures ends { result ≡ Kept.All → IsSome self.old → IsSome self.new }
         ensures none { G.lines group.now ≡ [] → (self.new ≡ self.old) × (D.told disk.new ≡ D.told disk.old) }
         ensures room { FillsLog result self.old (G.lines group.now) }
         ensures told { WhereHistoryTold (D.told disk.old) (D.told disk.new) (Keeps result self.old self.new
             (G.lines group.now)) }
+        ensures full { result ≡ Kept.Full → WhereHistoryTold (D.told disk.old) (D.told disk.new)
+            (FullChangesNothing self.old) }
         ensures moments { WhereHistoryTold (D.told disk.old) (D.told disk.new) HasPassed }
         ensures faults { CountsKept result (D.faults disk.old) (D.faults disk.new) }
     {

@@ -17,7 +17,7 @@ use Rattle.djq_disk.proofs.Files.{told_both, told_so, told_none}
 use Rattle.djq_log.specs.Lines.{LogOpensToLines, IsIdleAt, whole_lines}
 use Rattle.djq_log.specs.Reading.{OpensLogLines}
 use Rattle.djq_log.specs.Keeping.{OpensWithin, IsKeeping, WasKeeping}
-use Rattle.djq_log.specs.Logging.{HasKeptGroups, Keeps, Overfull, grouped}
+use Rattle.djq_log.specs.Logging.{HasKeptGroups, Keeps, FullChangesNothing, Overfull, grouped}
 use Rattle.djq_log.specs.declared.end.LogEnd.{LogEnd}
 use Rattle.djq_log.specs.declared.log.Kept.TheVariants.{All as Stored, Failed as Unstored}
 use Rattle.djq_log.specs.declared.source.LogSource.{LogSource}
@@ -106,20 +106,15 @@ fails_to_end ends log old before now is_open counted appended = (
       (λ o n p start keeping. p found [] start keeping) appended,
 )
 
--- what a log without room does, whatever it has: nothing
-abbrev pub StaysAsItIs : Option LogEnd → History → History → Type 0
-StaysAsItIs end o n = (found : List Bytes) (groups : List Group) (start : History)
-    → HasKeptGroups end found groups start o → n ≡ o
-
 -- There was no room for it.
 pub has_no_room : (ends : LogEnd) (old : Loading) (before now : DiskSeen) → IsSome old.batch
     → now.faults ≡ before.faults → Overfull (Some ends) abandoning
-    → WhereHistoryTold before.told now.told (StaysAsItIs (Some ends)) → CantEnd StatusLogFull ends old before now
+    → WhereHistoryTold before.told now.told (FullChangesNothing (Some ends)) → CantEnd StatusLogFull ends old before now
 has_no_room ends old before now is_open same full stays = (
   is_open,
   same,
   full,
-  λ found. told_so before.told now.told (StaysAsItIs (Some ends))
+  λ found. told_so before.told now.told (FullChangesNothing (Some ends))
       (λ o n. (start : History) → IsKeeping found [] ends start o → n ≡ o)
       (λ o n p start keeping. p found [] start keeping) stays,
 )

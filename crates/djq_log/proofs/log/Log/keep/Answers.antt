@@ -8,12 +8,12 @@ use Rattle.djq_journal.specs.Appending.{Appends}
 use Rattle.djq_journal.specs.declared.journal.Appended.TheVariants.{Done, Failed as Unappended, Full as Overflows}
 use Rattle.djq_log_file.specs.Appending.{AppendsAfter}
 use Rattle.djq_log_file.specs.declared.writer.LogAppended.TheVariants.{Done as Did, Failed as Failing, Full as Overflowing}
-use Rattle.djq_log.specs.Logging.{Keeps}
+use Rattle.djq_log.specs.Logging.{Keeps, FullChangesNothing}
 use Rattle.djq_log.specs.declared.end.LogEnd.{LogEnd}
 use Rattle.djq_log.specs.declared.end.LogEnd.TheVariants.{First, Second}
 use Rattle.djq_log.specs.declared.log.Kept.TheVariants.{All, Failed, Full}
 use Rattle.djq_log.proofs.Appends.{told_all, with_lines, first_all, first_failed, first_full}
-use Rattle.djq_log.proofs.Appends.{second_all, second_failed, second_full}
+use Rattle.djq_log.proofs.Appends.{first_unchanged, second_all, second_failed, second_full, second_unchanged}
 use Rattle.djq_log.proofs.log.Log.keep.Goals as goal
 
 -- A log of the first format.
@@ -95,3 +95,28 @@ returns-in-Full-append-clause-told g c =
     (Keeps Full at c.take.new.self group)) (sym is)
     (told_so _ _ (AppendsAfter Overflowing place group) (Keeps Full (Some (Second place)) c.take.new.self group)
     (second_full place c.take.new.self group) c.in-Full-append.ensures.told)
+
+-- Without room nothing changes.
+pub returns-in-Full-clause-full : goal.returns-in-Full-clause-full
+returns-in-Full-clause-full g c = λ full.
+    let told = g.D.Disk.told in
+    let group = g.G.Group.lines c.args.group.now in
+    let gate = c.in-Some-First.journal in
+    let is : c.args.self.now ≡ Some (First gate) = search rules in
+    subst (λ (at : Option LogEnd). WhereHistoryTold (told c.args.disk.now) (told c.append_all.new.disk)
+    (FullChangesNothing at)) (sym is)
+    (told_so _ _ (λ o n. (lines : List (List ℕ)) → IsIdle lines gate o.file → Appends Overflows lines group o n)
+    (FullChangesNothing (Some (First gate))) (first_unchanged gate group)
+    (told_all [] _ _ (λ lines o n. IsIdle lines gate o.file → Appends Overflows lines group o n)
+    c.in-Full.ensures.told))
+
+pub returns-in-Full-append-clause-full : goal.returns-in-Full-append-clause-full
+returns-in-Full-append-clause-full g c = λ full.
+    let told = g.D.Disk.told in
+    let group = g.G.Group.lines c.args.group.now in
+    let place = c.in-Some-Second.writer in
+    let is : c.args.self.now ≡ Some (Second place) = search rules in
+    subst (λ (at : Option LogEnd). WhereHistoryTold (told c.args.disk.now) (told c.append.new.disk)
+    (FullChangesNothing at)) (sym is)
+    (told_so _ _ (AppendsAfter Overflowing place group) (FullChangesNothing (Some (Second place)))
+    (second_unchanged place group) c.in-Full-append.ensures.told)
