@@ -1,5 +1,5 @@
 -- Which log a file is, and what is read of its lines.
-use Rattle.std.specs.Prelude.{◌≡◌, ◌≢◌, ℕ, ◌≤◌, ◌⊎◌, List, [], ◌∷◌, ◌++◌, take, drop, length}
+use Rattle.std.specs.Prelude.{◌≡◌, ◌≢◌, ℕ, ◌<◌, ◌≤◌, ◌⊎◌, List, [], ◌∷◌, ◌++◌, take, drop, length}
 use Rattle.djq_io.specs.Faults.{Counted}
 use Rattle.djq_disk.specs.File.{File, IsSettled}
 use Rattle.djq_disk.specs.History.{History}
@@ -49,6 +49,19 @@ NextLineFits (Got source n at) buf = (1 ≤ n) × (n ≤ length buf)
 NextLineFits (End end) buf = Unit {0}
 NextLineFits (Bad at) buf = Unit {0}
 NextLineFits Failed buf = Unit {0}
+
+-- the place of the next gate or line of a source
+abbrev pub source_place : LogSource → ℕ
+source_place (First gate) = gate
+source_place (Second place part) = place.at
+
+-- A line that was read ends after the place of the source, at a place that a number names.
+abbrev pub SourceGoesOn : NextLine → LogSource → Type 0
+SourceGoesOn (Got next n at) source =
+    (source_place source < source_place next) × (source_place next ≤ 18446744073709551615)
+SourceGoesOn (End end) source = Unit {0}
+SourceGoesOn (Bad at) source = Unit {0}
+SourceGoesOn Failed source = Unit {0}
 
 -- The disk's count of faults rises where a line can't be read, and stays elsewhere.
 abbrev pub CountsNextLine : NextLine → ℕ → ℕ → Type 0

@@ -1,5 +1,5 @@
 -- Where a reader is in a log and what it has read, and where a log ends.
-use Rattle.std.specs.Prelude.{◌≡◌, ℕ, ◌≤◌, List, [], ◌∷◌, ◌++◌, length, take, map}
+use Rattle.std.specs.Prelude.{◌≡◌, ℕ, ◌<◌, ◌≤◌, List, [], ◌∷◌, ◌++◌, length, take, map}
 use Rattle.std.specs.List.{flat_map, AllByRecursion}
 use Rattle.djq_io.specs.Faults.{Counted}
 use Rattle.djq_log_format.specs.Format.{RecordStored, IsRecordStored, IsLogLine, LogOpensTo, IsLogRecord, IsBadLog, log_front}
@@ -111,6 +111,13 @@ LogLineFits (Got n) buf = IsLogLine (take n buf) × (n ≤ length buf)
 LogLineFits (End end) buf = Unit {0}
 LogLineFits (Damaged at reason) buf = Unit {0}
 LogLineFits Failed buf = Unit {0}
+
+-- A line that was read ends after the place of the reader, at a place that a number names.
+abbrev pub ReadsOnward : LogLine → ℕ → ℕ → Type 0
+ReadsOnward (Got n) old new = (old < new) × (new ≤ 18446744073709551615)
+ReadsOnward (End end) old new = Unit {0}
+ReadsOnward (Damaged at reason) old new = Unit {0}
+ReadsOnward Failed old new = Unit {0}
 
 -- The disk's count of faults rises where a line can't be read, and stays elsewhere.
 abbrev pub CountsLogLine : LogLine → ℕ → ℕ → Type 0

@@ -4,6 +4,7 @@ ghost use Rattle.djq_log_format.specs.Format.{seed};
 ghost use Rattle.djq_log_file.specs.Window.{ReadsThrough};
 ghost use Rattle.djq_log_file.specs.Entries.{CountsFound};
 ghost use Rattle.djq_log_file.specs.Standing.{HasRead, ReadsLine, EntersRecord, EntersFits, LogLineFits, CountsLogLine};
+ghost use Rattle.djq_log_file.specs.Standing.{ReadsOnward};
 
 use crate::damage::Damage;
 use crate::entry::{Entry, read_entry};
@@ -65,6 +66,7 @@ impl LogReader {
             (ReadsThrough (λ file. (lines : List (List ℕ)) → HasRead lines self.old file → EntersRecord result lines self.new file)
             window.old window.new) }
         ensures fits { EntersFits result self.new }
+        ensures onward { self.old.at ≤ self.new.at }
         ensures faults { CountsFound result (D.faults disk.old) (D.faults disk.new) }
     {
         if self.left != 0 {
@@ -93,6 +95,7 @@ impl LogReader {
             (ReadsThrough (λ file. (lines : List (List ℕ)) → HasRead lines self.old file
             → ReadsLine result lines self.new buf.new file) window.old window.new) }
         ensures fits { LogLineFits result buf.new }
+        ensures onward { ReadsOnward result self.old.at self.new.at }
         ensures faults { CountsLogLine result (D.faults disk.old) (D.faults disk.new) }
     {
         match read_entry(disk, window, self.at, self.left, buf) {
@@ -124,6 +127,7 @@ impl LogReader {
             (ReadsThrough (λ file. (lines : List (List ℕ)) → HasRead lines self.old file
             → ReadsLine result lines self.new buf.new file) window.old window.new) }
         ensures fits { LogLineFits result buf.new }
+        ensures onward { ReadsOnward result self.old.at self.new.at }
         ensures faults { CountsLogLine result (D.faults disk.old) (D.faults disk.new) }
     {
         match self.enter(disk, window, buf) {
