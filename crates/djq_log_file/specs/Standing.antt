@@ -35,6 +35,16 @@ pub record IsLogEndAt (groups : List (List (List ℕ))) (place : LogEndPlace) (f
   pub is_at : place.at ≡ length (log_front stored)
   pub is_digest : place.digest ≡ digest_after seed stored
 
+-- These lines are those of all records before the last one, whose gate is at a place, and the first of that one.
+pub record IsWithinRecord (stored : List RecordStored) (lines to_come : List (List ℕ)) (gate : ℕ) : Type 0 where
+  pub earlier : List RecordStored
+  pub current : RecordStored
+  pub part : List (List ℕ)
+  pub are_records : stored ≡ earlier ++ current ∷ []
+  pub are_lines : current.lines ≡ part ++ to_come
+  pub are_read : lines ≡ stored_lines earlier ++ part
+  pub is_gate : gate ≡ length (log_front earlier)
+
 -- A reader has read these lines of a log: those of whole records, but for the last lines of the last record, which
 -- are still to come.
 pub record HasRead (lines : List (List ℕ)) (place : ReadingPlace) (file : List ℕ) : Type 0 where
@@ -49,6 +59,7 @@ pub record HasRead (lines : List (List ℕ)) (place : ReadingPlace) (file : List
   pub is_at : place.at ≡ length before
   pub is_left : place.left ≡ length (record_body to_come)
   pub is_digest : place.digest ≡ digest_after seed stored
+  pub within : 1 ≤ place.left → IsWithinRecord stored lines to_come place.gate
 
 -- The last of these lines stands in the record whose gate is at a place, and those before it are those of the records
 -- before, and the first of this one.
@@ -83,9 +94,10 @@ pub record IsDamagedAt (lines : List (List ℕ)) (at : ℕ) (reason : Damage) (f
   pub bad : IsBadLog (digest_after seed stored) rest
   pub damage : HasDamage reason (digest_after seed stored) rest
 
--- What comes after these lines: the next one, which is read then; or the end of the log; or a gate at which it is bad.
+-- What comes after these lines: the next one, which is read then, and the gate of whose record the reader knows; or the end of the log; or a gate at which it is bad.
 abbrev pub ReadsLine : LogLine → List (List ℕ) → ReadingPlace → List ℕ → List ℕ → Type 0
 ReadsLine (Got n) lines place buf file = HasRead (lines ++ take n buf ∷ []) place file
+    × IsLastInRecord (lines ++ take n buf ∷ []) place.gate file
 ReadsLine (End end) lines place buf file = HasRead lines place file × EndsRead lines end file
 ReadsLine (Damaged at reason) lines place buf file = HasRead lines place file × IsDamagedAt lines at reason file
 ReadsLine Failed lines place buf file = HasRead lines place file

@@ -35,6 +35,7 @@ pub struct LogReader {
     at: u64,
     left: u64,
     digest: u64,
+    gate: u64,
 }
 
 impl Model for LogReader {
@@ -42,19 +43,27 @@ impl Model for LogReader {
 
     ghost Value = { ReadingPlace };
 
-    ghost view = { λ r. record { at = r.at; left = r.left; digest = r.digest } };
+    ghost view = { λ r. record { at = r.at; left = r.left; digest = r.digest; gate = r.gate } };
 }
 
 impl LogReader {
     /// At the first gate.
     pub(crate) fn first() -> Self
-        ensures { result ≡ record { at = 8; left = 0; digest = seed } }
+        ensures { result ≡ record { at = 8; left = 0; digest = seed; gate = 8 } }
     {
         LogReader {
             at: 8,
             left: 0,
             digest: SEED,
+            gate: 8,
         }
+    }
+
+    /// The place of the gate of the record that the last line was read from, in bytes.
+    pub fn gate(&self) -> u64
+        ensures { result ≡ self.now.gate }
+    {
+        self.gate
     }
 
     /// Goes to the next line of the record, or into the record at the gate, all of which is read before its first line.
@@ -74,6 +83,7 @@ impl LogReader {
         }
         match read_record(disk, window, self.at, self.digest, buf) {
             Found::Group(size, digest) => {
+                self.gate = self.at;
                 self.at += 17;
                 self.left = size;
                 self.digest = digest;
