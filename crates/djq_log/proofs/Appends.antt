@@ -1,21 +1,17 @@
 -- A group that is appended to a log of either format.
 use Rattle.std.proofs.Common.{◌≡◌, ℕ, ◌≤◌, inl, inr, List, [], ◌∷◌, ◌++◌, length, sym, ap, subst, ◌∙◌, arith, refl}
 use Rattle.std.specs.Prelude.{Option, None, Some, slice_get}
-use Rattle.std.specs.List.{AllByRecursion}
 use Rattle.djq_disk.specs.History.{History, WhereHistoryTold}
 use Rattle.djq_disk.specs.Leaving.{LeavesSince}
-use Rattle.djq_disk.proofs.Files.{leaves_so, all_so}
-use Rattle.djq_journal.specs.Format.{IsJournalLine}
+use Rattle.djq_disk.proofs.Files.{leaves_so}
 use Rattle.djq_journal.specs.Standing.{IsIdle}
 use Rattle.djq_journal.specs.Appending.{IsBeforeOrAfter, Appends}
-use Rattle.djq_journal.specs.Passing.{HasPassed}
 use Rattle.djq_journal.specs.declared.journal.Appended.TheVariants.{Done, Failed as Unappended, Full as Overflows}
 use Rattle.djq_log_file.specs.Places.{LogEndPlace}
-use Rattle.djq_log_file.specs.Standing.{EndsRead}
-use Rattle.djq_log_file.specs.Laying.{HasGoneOn}
-use Rattle.djq_log_file.specs.Appending.{FitsLogLine, IsIdleLog, HasOldOrNew, AppendsAfter}
-use Rattle.djq_log_file.specs.declared.writer.LogAppended.TheVariants.{Done as Did, Failed as Failing, Full as Overflowing}
-use Rattle.djq_log.specs.Lines.{whole_lines, IsIdleAt}
+use Rattle.djq_log_file.specs.Appending.{HasOldOrNew, AppendsAfter}
+use Rattle.djq_log_file.specs.declared.writer.LogAppended.TheVariants.{Done as Did, Failed as Failing}
+use Rattle.djq_log_file.specs.declared.writer.LogAppended.TheVariants.{Full as Overflowing}
+use Rattle.djq_log.specs.Lines.{whole_lines}
 use Rattle.djq_log.specs.Keeping.{IsKeeping, OpensToOldOrNew, AppendsTo}
 use Rattle.djq_log.specs.Logging.{grouped, Keeps, FullChangesNothing}
 use Rattle.djq_log.specs.declared.end.LogEnd.{LogEnd}
@@ -29,23 +25,9 @@ pub with_lines : (lines : List (List ℕ)) (line : List ℕ) → Some line ≡ s
 with_lines [] line is = cc
 with_lines (l ∷ ls) line is = omega arith
 
--- a group with a first line has one
-pub no_line : (group : List (List ℕ)) (line : List ℕ) → Some line ≡ slice_get group 0 → group ≡ [] → ⊥
-no_line [] line is none = cc
-no_line (l ∷ ls) line is none = cc
-
--- and one without it is empty
-pub none_first : (group : List (List ℕ)) → None ≡ slice_get group 0 → group ≡ []
-none_first [] is = refl
-none_first (l ∷ ls) is = cc
-
 group_one : (lines : List (List ℕ)) → 1 ≤ length lines → grouped lines ≡ lines ∷ []
 group_one [] some = let wrong : ⊥ = omega (arith, some) in absurd wrong
 group_one (line ∷ lines) some = refl
-
--- a line of the first format is one of the second
-pub lines_fit : (lines : List (List ℕ)) → AllByRecursion IsJournalLine lines → AllByRecursion FitsLogLine lines
-lines_fit lines all = all_so IsJournalLine FitsLogLine lines (λ line is. (is.0, omega (arith, is.1))) all
 
 -- what is told of each is told of all
 pub told_all : {X : Type 0} (x : X) (old new : Option History) (P : X → History → History → Type 0)
@@ -69,8 +51,8 @@ first_leaves lines group old new leaves =
 
 -- ---- An append to one of the second.
 
-lines_next : (lines : List (List ℕ)) (groups : List (List (List ℕ))) (group : List (List ℕ)) → lines ≡ whole_lines groups
-    → lines ++ group ≡ whole_lines (groups ++ group ∷ [])
+lines_next : (lines : List (List ℕ)) (groups : List (List (List ℕ))) (group : List (List ℕ))
+    → lines ≡ whole_lines groups → lines ++ group ≡ whole_lines (groups ++ group ∷ [])
 lines_next lines groups group are = ap (λ (ls : List (List ℕ)). ls ++ group) are ∙ lines_more [] groups group
 
 second_old_or_new : (lines : List (List ℕ)) (groups : List (List (List ℕ))) (group : List (List ℕ)) (image : List ℕ)
@@ -165,7 +147,3 @@ pub second_unchanged : (place : LogEndPlace) (group : List (List ℕ)) (old new 
     → AppendsAfter Overflowing place group old new → FullChangesNothing (Some (Second place)) old new
 second_unchanged place group old new appends found groups start kept =
     appends.appends kept.idle.0.groups (record { ends = kept.idle.0.ends; still = kept.idle.1 })
-
--- A log of the second format goes on by moments.
-pub passed : (old new : History) → HasGoneOn old new → HasPassed old new
-passed old new gone = (gone.moments, record { past = gone.past; paths = gone.paths })

@@ -1,5 +1,5 @@
 -- Which log a file is, and what is read of its lines.
-use Rattle.std.specs.Prelude.{◌≡◌, ◌≢◌, ℕ, ◌<◌, ◌≤◌, ◌⊎◌, List, [], ◌∷◌, ◌++◌, take, drop, length}
+use Rattle.std.specs.Prelude.{◌≡◌, ℕ, ◌<◌, ◌≤◌, ◌⊎◌, List, [], ◌∷◌, ◌++◌, take, drop, length}
 use Rattle.djq_io.specs.Faults.{Counted}
 use Rattle.djq_disk.specs.File.{File, IsSettled}
 use Rattle.djq_disk.specs.History.{History}
@@ -11,7 +11,6 @@ use Rattle.djq_log_file.specs.Standing.{HasRead, IsDamagedAt, IsLastInRecord}
 use Rattle.djq_log_file.specs.Window.{WindowHolds}
 use Rattle.djq_log_file.specs.declared.damage.Damage.{Damage}
 use Rattle.djq_log.specs.Lines.{IsIdleAt}
-use Rattle.djq_log.specs.declared.end.LogEnd.{LogEnd}
 use Rattle.djq_log.specs.declared.source.LogSource.{LogSource}
 use Rattle.djq_log.specs.declared.source.LogSource.TheVariants.{First, Second}
 use Rattle.djq_log.specs.declared.source.NextLine.{NextLine}
@@ -81,8 +80,8 @@ pub record MakesFirst (old new : History) : Type 0 where
   pub unbegun : IsUnbegun old.file.bytes
   pub paths : new.paths ≡ old.paths
 
--- A log is opened after a sync, so that what is read outlives a crash: it is made where none was begun, and has no lines
--- then; or it is ready before its first line, and nothing but the sync was done; or the file is none.
+-- A log is opened after a sync, so that what is read outlives a crash: it is made where none was begun, and has no
+-- lines then; or it is ready before its first line, and nothing but the sync was done; or the file is none.
 abbrev pub OpensLogLines : LogFound → History → History → Type 0
 OpensLogLines (Made end) old new = MakesFirst old new × IsIdleAt [] end new.file
 OpensLogLines (Ready source) old new = (new ≡ synced_history old) × (IsUnbegun old.file.bytes → ⊥)

@@ -1,7 +1,7 @@
 //! The log of a server: lines in a file, of either format, in groups that are whole at every moment.
 //!
-//! [`find_log`] opens the log that a file is, or makes one. [`LogSource::next_line`] reads line after line, and at the end
-//! gives the [`LogEnd`]. A [`Log`] appends groups there, or stores no lines.
+//! [`find_log`] opens the log that a file is, or makes one. [`LogSource::next_line`] reads line after line, and at the
+//! end gives the [`LogEnd`]. A [`Log`] appends groups there, or stores no lines.
 //!
 //! ```text
 //! find_log      no file begun             a new log, of the second format
@@ -17,8 +17,8 @@
 //! What surprises: after an append that failed the end is lost, and a log stores lines nowhere from then on. The next
 //! start tells whether the group is there.
 //!
-//! To read first: `specs/Lines.antt`, which lines a file opens to, and `specs/Keeping.antt`, what a crash leaves of groups
-//! that are appended one after another.
+//! To read first: `specs/Lines.antt`, which lines a file opens to, and `specs/Keeping.antt`, what a crash leaves of
+//! groups that are appended one after another.
 #![tactic(auto)]
 
 mod end;
@@ -33,7 +33,7 @@ ghost use Rattle.djq_log.specs.Keeping.{KeepsOn};
 pub use djq_journal::Group;
 pub use end::LogEnd;
 pub use log::{Kept, Log};
-pub use opening::LogFound;
+pub use opening::{LogFound, find_log};
 pub use source::{LogSource, NextLine};
 
 /// What an idle log has outlives a crash.

@@ -267,8 +267,11 @@ pub line_read : (lines : List (List ℕ)) (n : ℕ) (place : ReadingPlace) (buf 
     → HasRead (lines ++ take n buf ∷ [])
     (record { at = place.at + (2 + n); left = place.left - (2 + n); digest = place.digest; gate = place.gate }) file
     × IsLastInRecord (lines ++ take n buf ∷ []) place.gate file
-line_read lines n place buf file read some size entry = (has_read, last_in_record read.stored lines read.to_come next.0 line
-    place.gate read.rest file read.are_stored read.is next.1 (read.within some))
+line_read lines n place buf file read some size entry = (
+  has_read,
+  last_in_record read.stored lines read.to_come next.0 line
+      place.gate read.rest file read.are_stored read.is next.1 (read.within some),
+)
   where
     line : List ℕ
     line = take n buf

@@ -94,7 +94,8 @@ pub record IsDamagedAt (lines : List (List ℕ)) (at : ℕ) (reason : Damage) (f
   pub bad : IsBadLog (digest_after seed stored) rest
   pub damage : HasDamage reason (digest_after seed stored) rest
 
--- What comes after these lines: the next one, which is read then, and the gate of whose record the reader knows; or the end of the log; or a gate at which it is bad.
+-- What comes after these lines: the next one, which is read then, and the reader knows the gate of its record; or the
+-- end of the log; or a gate at which it is bad.
 abbrev pub ReadsLine : LogLine → List (List ℕ) → ReadingPlace → List ℕ → List ℕ → Type 0
 ReadsLine (Got n) lines place buf file = HasRead (lines ++ take n buf ∷ []) place file
     × IsLastInRecord (lines ++ take n buf ∷ []) place.gate file

@@ -7,7 +7,8 @@ use Rattle.djq_journal.specs.Standing.{IsIdle}
 use Rattle.djq_journal.specs.Appending.{Appends}
 use Rattle.djq_journal.specs.declared.journal.Appended.TheVariants.{Done, Failed as Unappended, Full as Overflows}
 use Rattle.djq_log_file.specs.Appending.{AppendsAfter}
-use Rattle.djq_log_file.specs.declared.writer.LogAppended.TheVariants.{Done as Did, Failed as Failing, Full as Overflowing}
+use Rattle.djq_log_file.specs.declared.writer.LogAppended.TheVariants.{Done as Did, Failed as Failing}
+use Rattle.djq_log_file.specs.declared.writer.LogAppended.TheVariants.{Full as Overflowing}
 use Rattle.djq_log.specs.Logging.{Keeps, FullChangesNothing}
 use Rattle.djq_log.specs.declared.end.LogEnd.{LogEnd}
 use Rattle.djq_log.specs.declared.end.LogEnd.TheVariants.{First, Second}
